@@ -1,0 +1,2 @@
+pub mod ContextBytes
+pub mod Numbers

@@ -1,0 +1,41 @@
+-- The 64 bytes of a context.
+use Rattle.std.specs.Prelude.{ℕ, List, [], ◌∷◌, ◌++◌, slice_index, replicate}
+use Rattle.std.specs.Int.{w16, w32, to_le_bytes}
+use Rattle.attrs.specs.declared.context.Context.{Context}
+
+-- little-endian; the byte at 19 and those from 32 on are zero
+unfoldable pub context_bytes : Context → List ℕ
+context_bytes c =
+    to_le_bytes w32 (slice_index c.version 0)
+    ++ to_le_bytes w32 (slice_index c.version 1)
+    ++ to_le_bytes w32 (slice_index c.version 2)
+    ++ to_le_bytes w32 (slice_index c.version 3)
+    ++ to_le_bytes w16 c.bucket
+    ++ c.flags ∷ 0 ∷ []
+    ++ to_le_bytes w32 c.install_day
+    ++ to_le_bytes w32 c.today
+    ++ to_le_bytes w32 c.seconds
+    ++ replicate 32 0
+
+-- what the flags are a sum of
+abbrev pub version_known : ℕ
+version_known = 1
+
+abbrev pub updatecheck : ℕ
+updatecheck = 2
+
+abbrev pub ping : ℕ
+ping = 4
+
+abbrev pub event : ℕ
+event = 8
+
+abbrev pub cohort_known : ℕ
+cohort_known = 16
+
+abbrev pub installdate_known : ℕ
+installdate_known = 32
+
+-- an install day that isn't known
+abbrev pub unknown_day : ℕ
+unknown_day = 4294967295

@@ -1,0 +1,134 @@
+// The attributes of an app: its context, and seven texts by number.
+
+ghost use Rattle.std.specs.Prelude.{◌≡◌, ◌<◌, ◌≤◌, length, [], slice_index_or, IfOk, string_bytes, option_copied};
+ghost use Rattle.attrs.specs.Attributes.{kept_text, plain_context, AreShort};
+
+use crate::context::Context;
+use crate::version::read_version;
+use std::alloc::Global;
+use std::marker::Model;
+use thiserror::Error;
+
+/// A text over this many bytes is kept as an empty one.
+const TEXT_LIMIT: usize = 1024;
+
+/// Why no attributes were made.
+#[derive(Clone, Copy, Debug, Error, PartialEq, Eq)]
+pub enum AttrFault {
+    /// Memory was refused.
+    #[error("out of memory")]
+    Memory,
+}
+
+/// The attributes of one app of a request at a moment.
+#[derive(Drop)]
+pub struct Attrs {
+    context: Context,
+    appid: String,
+    version: String,
+    brand: String,
+    ap: String,
+    lang: String,
+    cohort: String,
+    platform: String,
+}
+
+impl Model for Attrs {
+    ghost use Rattle.std.specs.Prelude.{◌∷◌, [], string_bytes};
+    ghost use Rattle.attrs.specs.Attributes.{Attributes, AreShort};
+
+    ghost Value = { Attributes };
+
+    ghost view = { λ a. record { context = a.context; texts = string_bytes a.appid ∷ string_bytes a.version ∷ string_bytes a.brand ∷ string_bytes a.ap ∷ string_bytes a.lang ∷ string_bytes a.cohort ∷ string_bytes a.platform ∷ [] } };
+
+    ghost invariant = { λ a. AreShort (string_bytes a.appid ∷ string_bytes a.version ∷ string_bytes a.brand ∷ string_bytes a.ap ∷ string_bytes a.lang ∷ string_bytes a.cohort ∷ string_bytes a.platform ∷ []) };
+}
+
+impl Attrs {
+    ghost use Rattle.attrs.specs.Attributes.{plain};
+
+    /// An app that asks for an update on day 0 at second 0, with no attributes but these. A version
+    /// text that is too long to be kept still gives its numbers.
+    pub fn plain(
+        alloc: Global,
+        appid: &str,
+        version: Option<&str>,
+        bucket: u16,
+    ) -> Result<Attrs, AttrFault>
+        requires { bucket < 10000 }
+        ensures { IfOk result (λ a. (in_range : bucket < 10000) → a ≡ plain appid.now (option_copied version.entry) bucket in_range) }
+    {
+        Ok(Attrs {
+            context: plain_context(version, bucket),
+            appid: keep_text(alloc, Some(appid))?,
+            version: keep_text(alloc, version)?,
+            brand: String::new(alloc),
+            ap: String::new(alloc),
+            lang: String::new(alloc),
+            cohort: String::new(alloc),
+            platform: String::new(alloc),
+        })
+    }
+
+    /// The context of these attributes.
+    pub fn context(&self) -> Context
+        ensures { result ≡ self.now.context }
+    {
+        self.context
+    }
+
+    /// The fact that the type keeps: no text is over 1024 bytes.
+    pub fn keeps(&self)
+        ensures { AreShort self.now.texts }
+    {
+        let _appid = &self.appid;
+    }
+
+    /// The text of a number, which is empty where no attribute has the number.
+    pub fn text(&self, number: u64) -> &str
+        ensures { result.now ≡ slice_index_or self.now.texts number [] }
+    {
+        match number {
+            0 => self.appid.as_str(),
+            1 => self.version.as_str(),
+            2 => self.brand.as_str(),
+            3 => self.ap.as_str(),
+            4 => self.lang.as_str(),
+            5 => self.cohort.as_str(),
+            6 => self.platform.as_str(),
+            _ => "",
+        }
+    }
+}
+
+// The context of an app that asks for an update on day 0 at second 0.
+fn plain_context(version: Option<&str>, bucket: u16) -> Context
+    requires { bucket < 10000 }
+    ensures { (in_range : bucket < 10000) → result ≡ plain_context (option_copied version.entry) bucket in_range }
+{
+    let (version, known) = match version.and_then(read_version) {
+        Some(numbers) => (numbers, Context::VERSION_KNOWN),
+        None => ([0; 4], 0),
+    };
+    Context {
+        version,
+        bucket,
+        flags: Context::UPDATECHECK + known,
+        install_day: Context::UNKNOWN_DAY,
+        today: 0,
+        seconds: 0,
+    }
+}
+
+// A text as it is kept: nothing of one that is absent or too long.
+fn keep_text(alloc: Global, text: Option<&str>) -> Result<String, AttrFault>
+    ensures value { IfOk result (λ t. string_bytes t ≡ kept_text (option_copied text.entry)) }
+    ensures short { IfOk result (λ t. length (string_bytes t) ≤ 1024) }
+{
+    match text {
+        Some(text) if text.len() <= TEXT_LIMIT => {
+            String::from_str(alloc, text).map_err(|_| AttrFault::Memory)
+        }
+        _ => Ok(String::new(alloc)),
+    }
+}

@@ -1,0 +1,71 @@
+// The context of an app: 64 bytes, little-endian, that a program may read at any offset.
+
+ghost use Rattle.std.specs.Prelude.{◌≡◌, ◌+◌, ◌<◌, ◌≤◌, length, All};
+ghost use Rattle.std.specs.List.{splice};
+
+/// The facts of one app of a request at a moment.
+#[derive(Clone, Copy, Debug, PartialEq, Eq)]
+pub struct Context {
+    /// The four numbers of the app's version, each 0 where the version isn't known.
+    pub version: [u32; 4],
+    /// Which of the 10000 buckets the app is in.
+    pub bucket: u16,
+    /// A sum of the flags below.
+    pub flags: u8,
+    /// Days from 2007-01-01 to the installation, or `UNKNOWN_DAY`.
+    pub install_day: u32,
+    /// Days from 2007-01-01 to the moment.
+    pub today: u32,
+    /// Seconds of that day.
+    pub seconds: u32,
+    pub ghost bucket_in_range: { bucket < 10000 },
+    pub ghost flags_in_range: { flags < 64 },
+    pub ghost seconds_in_range: { seconds < 86400 },
+}
+
+impl Context {
+    ghost use Rattle.attrs.specs.Context.{context_bytes};
+
+    /// The app sent a version, and it is one.
+    pub const VERSION_KNOWN: u8 = 1;
+    /// The app asks for an update.
+    pub const UPDATECHECK: u8 = 2;
+    /// The app sent a ping.
+    pub const PING: u8 = 4;
+    /// The app sent an event.
+    pub const EVENT: u8 = 8;
+    /// The app's cohort names its bucket.
+    pub const COHORT_KNOWN: u8 = 16;
+    /// The app sent its install day.
+    pub const INSTALLDATE_KNOWN: u8 = 32;
+
+    /// The install day of an app that sent none.
+    pub const UNKNOWN_DAY: u32 = u32::MAX;
+
+    /// The bytes of the context.
+    pub fn bytes(&self) -> [u8; 64]
+        ensures layout { result ≡ context_bytes self.now }
+        ensures length { length result ≡ 64 }
+        ensures bytes { All (λ b. b < 256) result }
+    {
+        let mut bytes = [0; 64];
+        put(&mut bytes, 0, &self.version[0].to_le_bytes());
+        put(&mut bytes, 4, &self.version[1].to_le_bytes());
+        put(&mut bytes, 8, &self.version[2].to_le_bytes());
+        put(&mut bytes, 12, &self.version[3].to_le_bytes());
+        put(&mut bytes, 16, &self.bucket.to_le_bytes());
+        bytes[18] = self.flags;
+        put(&mut bytes, 20, &self.install_day.to_le_bytes());
+        put(&mut bytes, 24, &self.today.to_le_bytes());
+        put(&mut bytes, 28, &self.seconds.to_le_bytes());
+        bytes
+    }
+}
+
+// Writes the bytes of a field at its offset.
+fn put(bytes: &mut [u8], offset: usize, field: &[u8])
+    requires { offset + length field.now ≤ length bytes.old }
+    ensures { bytes.new ≡ splice bytes.old offset (offset + length field.now) field.now }
+{
+    bytes[offset..offset + field.len()].copy_from_slice(field);
+}

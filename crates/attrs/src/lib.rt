@@ -1,0 +1,13 @@
+//! The facts of one app of an Omaha 3.1 request at a moment, as a rollout program may see them: a
+//! context of 64 bytes, and texts by number.
+#![tactic(auto)]
+
+mod attributes;
+mod context;
+#[cfg(test)]
+mod tests;
+mod version;
+
+pub use attributes::{AttrFault, Attrs};
+pub use context::Context;
+pub use version::read_version;
