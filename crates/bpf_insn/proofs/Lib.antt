@@ -1,0 +1,4 @@
+pub mod Bytes
+pub mod Halves
+pub mod Insns
+pub mod Exact

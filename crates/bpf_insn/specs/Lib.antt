@@ -1,0 +1,7 @@
+pub mod Table
+pub mod Spelling
+pub mod Words
+pub mod Arithmetic
+pub mod Conditions
+pub mod Program
+pub mod Halves

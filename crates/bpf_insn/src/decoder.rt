@@ -1,0 +1,83 @@
+// Reading the instruction that bytes spell: the fields of its first half are split, their row is
+// looked up by the opcode, and where the row finds no fault the instruction is put together. A wide
+// load reads its second half too.
+
+ghost use Rattle.std.specs.Prelude.{◌≡◌, ◌<◌, ◌≤◌, ◌+◌, ◌*◌, length, IfSome, IfNone, IfOk, IfErr};
+ghost use Rattle.bpf_insn.specs.declared.insn.Insn.{Insn};
+ghost use Rattle.bpf_insn.specs.declared.fields.InsnFault.{InsnFault};
+ghost use Rattle.bpf_insn.specs.Table.{opcode_of};
+ghost use Rattle.bpf_insn.specs.Spelling.{width_of, HasFields, Spells, IsLeastFault};
+
+use crate::build::{insn_in, wide_in};
+use crate::fault::has_second_fault;
+use crate::fields::{Fields, InsnFault};
+use crate::form::Form;
+use crate::insn::{Insn, Width};
+use crate::layout::split_fields;
+use crate::opcode::form_at;
+
+/// The fields of the half in this slot, if its eight bytes are there.
+fn half_at(bytes: &[u8], slot: usize) -> Option<Fields>
+    ensures some { IfSome result (λ f. HasFields bytes.now slot f) }
+    ensures room { IfSome result (λ f. 8 * slot + 8 ≤ length bytes.now) }
+    ensures none { IfNone result (length bytes.now < 8 * slot + 8) }
+{
+    if slot >= bytes.len() / 8 {
+        return None;
+    }
+    Some(split_fields(&bytes[8 * slot..8 * slot + 8]))
+}
+
+/// A wide load, whose first half stands in this slot.
+fn wide_at(bytes: &[u8], slot: usize, first: Fields) -> Result<(Insn, Width), InsnFault>
+    requires room { 8 * slot + 8 ≤ length bytes.now }
+    requires first { HasFields bytes.now slot first }
+    requires opcode { first.opcode ≡ opcode_of Form.Wide }
+    ensures spelled { IfOk result (λ d. Spells bytes.now slot d.0 × (d.1 ≡ width_of d.0)) }
+    ensures fault { IfErr result (λ e. IsLeastFault bytes.now slot e) }
+{
+    let Some(second) = half_at(bytes, slot + 1) else {
+        return Err(InsnFault::Truncated);
+    };
+    match Form::Wide.row().fault_in(first) {
+        Some(fault) => Err(fault),
+        None if has_second_fault(first.src, second) => Err(InsnFault::SecondHalf),
+        None => Ok((wide_in(first, second), Width::Two)),
+    }
+}
+
+/// The instruction of a row, whose first half stands in this slot.
+fn row_at(bytes: &[u8], slot: usize, form: Form, first: Fields) -> Result<(Insn, Width), InsnFault>
+    requires room { 8 * slot + 8 ≤ length bytes.now }
+    requires first { HasFields bytes.now slot first }
+    requires opcode { first.opcode ≡ opcode_of form }
+    requires wide { first.opcode ≡ opcode_of Form.Wide → form ≡ Form.Wide }
+    ensures spelled { IfOk result (λ d. Spells bytes.now slot d.0 × (d.1 ≡ width_of d.0)) }
+    ensures fault { IfErr result (λ e. IsLeastFault bytes.now slot e) }
+{
+    if let Form::Wide = form {
+        return wide_at(bytes, slot, first);
+    }
+    match form.row().fault_in(first) {
+        Some(fault) => Err(fault),
+        None => Ok((insn_in(form, first), Width::One)),
+    }
+}
+
+/// The instruction that the bytes from this slot on spell, and how many slots it takes; or the
+/// least fault of the bytes (RFC 9669, "Instruction Encoding"). Any slot may be asked: past the
+/// end the bytes are truncated.
+pub fn decode_at(bytes: &[u8], slot: usize) -> Result<(Insn, Width), InsnFault>
+    ensures spelled { IfOk result (λ d. Spells bytes.now slot d.0 × (d.1 ≡ width_of d.0)) }
+    ensures only { (i : Insn) → Spells bytes.now slot i → result ≡ Ok (i, width_of i) }
+    ensures fault { IfErr result (λ e. IsLeastFault bytes.now slot e) }
+    ensures fault_only { (e : InsnFault) → IsLeastFault bytes.now slot e → result ≡ Err e }
+{
+    let Some(first) = half_at(bytes, slot) else {
+        return Err(InsnFault::Truncated);
+    };
+    match form_at(first.opcode) {
+        Some(form) => row_at(bytes, slot, form, first),
+        None => Err(InsnFault::Opcode),
+    }
+}

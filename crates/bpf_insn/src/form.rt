@@ -1,0 +1,93 @@
+//! The table of opcodes. Each row has one opcode, and says of each field of the instruction whether
+//! the row uses it and what it may hold; the decoder and the encoder both read it.
+
+use crate::operand::{AluOp, AtomicSize, Bits, ByteOrder, Condition, LoadKind, Size};
+
+// The eight bytes of an instruction (RFC 9669, "Basic Instruction Encoding"), least byte first:
+//
+//     byte    0        1          2 3      4 5 6 7
+//          +--------+----+----+--------+------------+
+//          | opcode | dst| src| offset |    imm     |
+//          +--------+----+----+--------+------------+
+//                     low  high  signed    signed
+//
+// and of the opcode (bits 7 to 0):
+//
+//     arithmetic and jumps   code code code code  s  class class class      s: 0 is K, 1 is X
+//     loads and stores       mode mode mode size size class class class
+//
+// A wide instruction has a second half of eight bytes: four zeroes, and next_imm where imm stands.
+
+/// Where the second operand comes from: K is imm, X is the register src.
+#[derive(Clone, Copy, Debug, PartialEq, Eq)]
+pub enum Source {
+    K,
+    X,
+}
+
+/// A row of the table of opcodes. `Mov` with X has the opcode of MOVSX too, told apart by the
+/// offset.
+#[derive(Clone, Copy, Debug, PartialEq, Eq)]
+pub enum Form {
+    Alu(Bits, AluOp, Source),
+    Mov(Bits, Source),
+    Neg(Bits),
+    End(ByteOrder),
+    Jump,
+    JumpLong,
+    JumpIf(Bits, Condition, Source),
+    Call,
+    Exit,
+    Load(LoadKind),
+    StoreImm(Size),
+    Store(Size),
+    Atomic(AtomicSize),
+    Wide,
+}
+
+/// What a row allows in src.
+#[derive(Clone, Copy, Debug, PartialEq, Eq)]
+pub enum SrcField {
+    /// The row doesn't use it: 0.
+    Unused,
+    /// A register: 0 to 10.
+    Register,
+    /// What CALL calls: 0, a helper by its number.
+    Callee,
+    /// What a wide load gives: 0, 5 or 6.
+    WideSource,
+}
+
+/// What a row allows in offset.
+#[derive(Clone, Copy, Debug, PartialEq, Eq)]
+pub enum OffsetField {
+    /// The row doesn't use it: 0.
+    Unused,
+    /// Any number.
+    Any,
+    /// 0 of MOV, or the bits that MOVSX extends: 8 or 16, in 64 bits also 32.
+    Extension(Bits),
+}
+
+/// What a row allows in imm.
+#[derive(Clone, Copy, Debug, PartialEq, Eq)]
+pub enum ImmField {
+    /// The row doesn't use it: 0.
+    Unused,
+    /// Any number.
+    Any,
+    /// The bits that END keeps: 16, 32 or 64.
+    EndBits,
+    /// The code of an atomic operation.
+    AtomicCode,
+}
+
+/// A row: its opcode, and what it allows in each field.
+#[derive(Clone, Copy, Debug, PartialEq, Eq)]
+pub struct Row {
+    pub opcode: u8,
+    pub uses_dst: bool,
+    pub src: SrcField,
+    pub offset: OffsetField,
+    pub imm: ImmField,
+}

@@ -1,0 +1,32 @@
+//! BPF instructions and their encoding (RFC 9669): the conformance groups base32, base64, atomic32
+//! and atomic64. `decode_at` reads the instruction that bytes spell, and `encode` writes it.
+#![tactic(auto)]
+
+mod build;
+mod decoder;
+mod encoder;
+mod fault;
+mod fields;
+mod form;
+mod insn;
+mod layout;
+mod number;
+mod opcode;
+mod operand;
+mod parts;
+mod reg;
+mod row;
+
+pub use decoder::decode_at;
+pub use encoder::encode;
+pub use fields::{Fields, InsnFault};
+pub use form::{Form, ImmField, OffsetField, Row, Source, SrcField};
+pub use insn::{Insn, Width};
+pub use operand::{
+    AluOp, AtomicOp, AtomicSize, Bits, ByteOrder, Condition, Distance, EndSize, Extension,
+    LoadKind, Operand, Size, WideValue,
+};
+pub use reg::Reg;
+
+#[cfg(test)]
+mod tests;

@@ -1,0 +1,144 @@
+// The numbers that stand for the parts of an instruction in its fields.
+
+ghost use Rattle.std.specs.Prelude.{◌≡◌, ◌≤◌, ◌<◌, pos};
+ghost use Rattle.bpf_insn.specs.Table.{number_of};
+ghost use Rattle.bpf_insn.specs.Spelling.{source_of, src_field, imm_field, end_bits, extension_class, extension_bits, atomic_code, wide_source, wide_imm, next_imm};
+
+use crate::form::Source;
+use crate::operand::{AtomicOp, Bits, EndSize, Extension, Operand, WideValue};
+use crate::reg::Reg;
+
+impl Reg {
+    /// Its number, as it stands in dst or src.
+    pub(crate) fn number(self) -> u8
+        ensures number { result ≡ number_of self }
+        ensures in_range { result ≤ 10 }
+    {
+        self as u8
+    }
+}
+
+impl Operand {
+    /// K for an imm, X for a register.
+    pub(crate) fn source(self) -> Source
+        ensures { result ≡ source_of self }
+    {
+        match self {
+            Operand::Imm(_) => Source::K,
+            Operand::Register(_) => Source::X,
+        }
+    }
+
+    /// What stands in src.
+    pub(crate) fn src(self) -> u8
+        ensures src { result ≡ src_field self }
+        ensures in_range { result ≤ 10 }
+    {
+        match self {
+            Operand::Imm(_) => 0,
+            Operand::Register(register) => register.number(),
+        }
+    }
+
+    /// What stands in imm.
+    pub(crate) fn imm(self) -> i32
+        ensures { result ≡ imm_field self }
+    {
+        match self {
+            Operand::Imm(imm) => imm,
+            Operand::Register(_) => 0,
+        }
+    }
+}
+
+impl EndSize {
+    /// How many bits END keeps.
+    pub(crate) fn bits(self) -> i32
+        ensures { result ≡ pos (end_bits self) }
+    {
+        match self {
+            EndSize::Half => 16,
+            EndSize::Word => 32,
+            EndSize::Double => 64,
+        }
+    }
+}
+
+impl Extension {
+    /// The class to whose width it extends.
+    pub(crate) fn class(self) -> Bits
+        ensures { result ≡ extension_class self }
+    {
+        match self {
+            Extension::Byte64 | Extension::Half64 | Extension::Word64 => Bits::Bits64,
+            Extension::Byte32 | Extension::Half32 => Bits::Bits32,
+        }
+    }
+
+    /// How many low bits it extends.
+    pub(crate) fn bits(self) -> i16
+        ensures { result ≡ pos (extension_bits self) }
+    {
+        match self {
+            Extension::Byte64 | Extension::Byte32 => 8,
+            Extension::Half64 | Extension::Half32 => 16,
+            Extension::Word64 => 32,
+        }
+    }
+}
+
+impl AtomicOp {
+    /// What stands in imm.
+    pub(crate) fn code(self) -> i32
+        ensures { result ≡ pos (atomic_code self) }
+    {
+        match self {
+            AtomicOp::Add => 0x00,
+            AtomicOp::Or => 0x40,
+            AtomicOp::And => 0x50,
+            AtomicOp::Xor => 0xa0,
+            AtomicOp::FetchAdd => 0x01,
+            AtomicOp::FetchOr => 0x41,
+            AtomicOp::FetchAnd => 0x51,
+            AtomicOp::FetchXor => 0xa1,
+            AtomicOp::Exchange => 0xe1,
+            AtomicOp::CompareExchange => 0xf1,
+        }
+    }
+}
+
+impl WideValue {
+    /// What stands in src.
+    pub(crate) fn source(self) -> u8
+        ensures source { result ≡ wide_source self }
+        ensures in_range { result ≤ 10 }
+    {
+        match self {
+            WideValue::Number(_) => 0,
+            WideValue::Map(_) => 5,
+            WideValue::Cell { .. } => 6,
+        }
+    }
+
+    /// What stands in imm: of a number its low half.
+    pub(crate) fn imm(self) -> i32
+        ensures { result ≡ wide_imm self }
+    {
+        match self {
+            WideValue::Number(number) => ((number % (1 << 32)) as u32).cast_signed(),
+            WideValue::Map(map) => map,
+            WideValue::Cell { array, .. } => array,
+        }
+    }
+
+    /// What stands in the second half's imm: of a number its high half.
+    pub(crate) fn next_imm(self) -> i32
+        ensures { result ≡ next_imm self }
+    {
+        match self {
+            WideValue::Number(number) => ((number >> 32) as u32).cast_signed(),
+            WideValue::Map(_) => 0,
+            WideValue::Cell { offset, .. } => offset,
+        }
+    }
+}
