@@ -1,0 +1,2 @@
+pub mod ContextReads
+pub mod OneEnd

@@ -1,0 +1,11 @@
+use Rattle.std.proofs.Common.{refl}
+use Rattle.bpf_semantics.specs.Run.{now}
+use Rattle.bpf_semantics.proofs.traps.frame_writes.Goals as goal
+
+pub returns : goal.returns
+returns c = record {
+  mov = λ a. now refl refl;
+  add = λ a. now refl refl;
+  load = λ a. now refl refl;
+  wide = λ a. now refl refl;
+}

@@ -1,0 +1,12 @@
+use Rattle.std.proofs.Common.{refl}
+use Rattle.bpf_semantics.specs.Run.{now, later}
+use Rattle.bpf_semantics.proofs.traps.no_instruction.Goals as goal
+
+pub returns : goal.returns
+returns c = record {
+  empty = λ a. now refl refl;
+  end = λ a. later refl (now refl refl);
+  past = λ a. later refl (now refl refl);
+  before = λ a. now refl refl;
+  second_half = λ a. later refl (now refl refl);
+}
