@@ -1,0 +1,119 @@
+//! The places that an instruction leads to, and the rules F1 to F4 of one place. A jump counts slots
+//! from the instruction after it (RFC 9669, "Jump Instructions"). Of a place that breaks several
+//! rules the lowest is answered: a conditional jump at the last place breaks F1 or F2 before F4.
+
+ghost use Rattle.std.specs.Prelude.{◌≡◌, ℕ, ◌<◌, ◌≤◌, IfSome, IfNone, length, if◌then◌else◌};
+ghost use Rattle.bpf_insn.specs.Program as program;
+ghost use Rattle.flow_check.specs.Flow.{jump_of, target_of, goes_on, next_of};
+ghost use Rattle.flow_check.specs.Fault.{KeepsJump, KeepsEdges, IsEdgeFault};
+
+use crate::fault::FlowRule;
+use bpf_insn::{Distance, Insn};
+
+/// How far the instruction jumps, if it is a jump.
+fn distance_of(insn: Insn) -> Option<i32>
+    ensures { result ≡ jump_of insn }
+{
+    match insn {
+        Insn::Jump {
+            distance: Distance::Short(offset),
+        } => Some(offset as i32),
+        Insn::Jump {
+            distance: Distance::Long(offset),
+        } => Some(offset),
+        Insn::JumpIf { offset, .. } => Some(offset as i32),
+        _ => None,
+    }
+}
+
+/// The slot that a jump over this distance leads to.
+fn landing(slot: usize, distance: i32) -> Option<usize>
+    requires { slot < 4096 }
+    ensures { result ≡ program.landing slot distance }
+{
+    if distance >= 0 {
+        Some(slot + 1 + distance as usize)
+    } else {
+        let back = distance.unsigned_abs() as usize;
+        (slot + 1).checked_sub(back)
+    }
+}
+
+/// Where the instruction jumps, if it is a jump onto a slot.
+pub fn jump_target(slot: usize, insn: Insn) -> Option<usize>
+    requires { slot < 4096 }
+    ensures { result ≡ target_of slot insn }
+{
+    match distance_of(insn) {
+        Some(distance) => landing(slot, distance),
+        None => None,
+    }
+}
+
+/// The place after the instruction, where the instruction may go on.
+pub fn next_place(slot: usize, insn: Insn) -> Option<usize>
+    requires { slot < 4096 }
+    ensures { result ≡ (if goes_on insn then Some (next_of slot insn) else None) }
+{
+    match insn {
+        Insn::Jump { .. } | Insn::Exit => None,
+        Insn::Wide { .. } => Some(slot + 2),
+        _ => Some(slot + 1),
+    }
+}
+
+/// The lowest rule of the jump that is broken.
+fn jump_fault(code: &[Option<Insn>], slot: usize, insn: Insn) -> Option<FlowRule>
+    requires short { length code.now ≤ 4096 }
+    requires at { program.at code.now slot ≡ Some insn }
+    ensures fault { IfSome result (λ rule. IsEdgeFault code.now slot rule) }
+    ensures none { IfNone result (KeepsJump code.now slot) }
+{
+    let Some(distance) = distance_of(insn) else {
+        return None;
+    };
+    let Some(target) = landing(slot, distance) else {
+        return Some(FlowRule::BackJump);
+    };
+    if target <= slot {
+        return Some(FlowRule::BackJump);
+    }
+    match code.get(target) {
+        None => Some(FlowRule::Outside),
+        Some(None) => Some(FlowRule::InsideWide),
+        Some(Some(_)) => None,
+    }
+}
+
+/// The lowest of the rules F1 to F4 that the place breaks.
+pub fn edge_fault(code: &[Option<Insn>], slot: usize, insn: Insn) -> Option<FlowRule>
+    requires short { length code.now ≤ 4096 }
+    requires at { program.at code.now slot ≡ Some insn }
+    ensures fault { IfSome result (λ rule. IsEdgeFault code.now slot rule) }
+    ensures none { IfNone result (KeepsEdges code.now slot) }
+{
+    if let Some(rule) = jump_fault(code, slot, insn) {
+        return Some(rule);
+    }
+    match next_place(slot, insn) {
+        Some(next) if next == code.len() => Some(FlowRule::FallsOff),
+        _ => None,
+    }
+}
+
+/// The lowest place that breaks one of the rules F1 to F4, and the lowest of these.
+pub fn first_edge_fault(code: &[Option<Insn>]) -> Option<(usize, FlowRule)>
+    requires { length code.now ≤ 4096 }
+    ensures fault { IfSome result (λ f. IsEdgeFault code.now f.0 f.1) }
+    ensures before { IfSome result (λ f. (k : ℕ) → k < f.0 → KeepsEdges code.now k) }
+    ensures none { IfNone result ((k : ℕ) → KeepsEdges code.now k) }
+{
+    for (slot, place) in code.iter().enumerate() {
+        if let Some(insn) = *place
+            && let Some(rule) = edge_fault(code, slot, insn)
+        {
+            return Some((slot, rule));
+        }
+    }
+    None
+}

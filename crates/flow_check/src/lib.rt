@@ -1,0 +1,16 @@
+//! The first of the two gates before a program may run: `Flow::check` reads bytes as a program, and
+//! accepts it where every edge of its graph leads forward onto an instruction and every
+//! instruction is reached.
+#![tactic(auto)]
+
+mod edges;
+mod fault;
+mod flow;
+mod reach;
+mod read;
+
+pub use fault::{FlowFault, FlowRule};
+pub use flow::Flow;
+
+#[cfg(test)]
+mod tests;

@@ -1,0 +1,77 @@
+//! The places that are reached. Every edge leads forward, so one upward sweep finds them: when it
+//! comes to a place, all edges onto that place lie behind it.
+
+ghost use Rattle.std.specs.Prelude.{◌≡◌, true, false, ℕ, ◌<◌, ◌≤◌, ◌⊎◌, ◌∷◌, ◌-◌, IfOk, IfSome, IfNone, IsSome, All, Contains, length, replicate, slice_set};
+ghost use Rattle.bpf_insn.specs.Program.{at};
+ghost use Rattle.flow_check.specs.Fault.{IsUnreached};
+ghost use Rattle.flow_check.specs.Flow.{successors, Reached};
+ghost use Rattle.flow_check.specs.Sweep.{IsMarked, IsSwept, LeadsAhead, marked};
+
+use crate::edges::{jump_target, next_place};
+use bpf_insn::Insn;
+use std::alloc::{AllocError, Global};
+
+/// Marks a place, if there is one.
+fn mark(marks: &mut [bool], place: Option<usize>)
+    requires { IfSome place (λ t. t < length marks.old) }
+    ensures { marks.new ≡ marked marks.old place }
+{
+    if let Some(place) = place {
+        marks[place] = true;
+    }
+}
+
+/// Marks the places that an instruction leads to.
+fn mark_successors(marks: &mut [bool], slot: usize, insn: Insn)
+    requires slot { slot < 4096 }
+    requires within { All (λ t. t < length marks.old) (successors slot insn) }
+    ensures kept { (m : ℕ) → IsMarked marks.old m → IsMarked marks.new m }
+    ensures marked { (m : ℕ) → Contains (successors slot insn) m → IsMarked marks.new m }
+    ensures only { (m : ℕ) → IsMarked marks.new m → IsMarked marks.old m ⊎ Contains (successors slot insn) m }
+{
+    mark(marks, jump_target(slot, insn));
+    mark(marks, next_place(slot, insn));
+}
+
+/// Sweeps upwards, and stops at the first place that isn't reached.
+fn sweep(marks: &mut [bool], code: &[Option<Insn>]) -> Option<usize>
+    requires short { length code.now ≤ 4096 }
+    requires ahead { LeadsAhead code.now }
+    requires start { IsSwept code.now 0 marks.old }
+    ensures unreached { IfSome result (IsUnreached code.now) }
+    ensures before { IfSome result (λ s. (k : ℕ) → k < s → IsSome (at code.now k) → Reached code.now k) }
+    ensures none { IfNone result ((k : ℕ) → IsSome (at code.now k) → Reached code.now k) }
+{
+    for (slot, place) in code.iter().enumerate() {
+        if let Some(insn) = *place {
+            if !marks[slot] {
+                return Some(slot);
+            }
+            mark_successors(marks, slot, insn);
+        }
+    }
+    None
+}
+
+/// A mark for each slot, of which the first is set.
+fn opening(alloc: Global, count: usize) -> Result<Vec<bool>, AllocError>
+    requires { 0 < count }
+    ensures { IfOk result (λ v. v.items ≡ slice_set (replicate count false) 0 true) }
+{
+    let mut marks = vec![in alloc; false; count]?;
+    marks[0] = true;
+    Ok(marks)
+}
+
+/// The lowest place that isn't reached.
+pub fn first_unreached(alloc: Global, code: &[Option<Insn>]) -> Result<Option<usize>, AllocError>
+    requires some { 0 < length code.now }
+    requires short { length code.now ≤ 4096 }
+    requires ahead { LeadsAhead code.now }
+    ensures unreached { IfOk result (λ place. IfSome place (IsUnreached code.now)) }
+    ensures before { IfOk result (λ place. IfSome place (λ s. (k : ℕ) → k < s → IsSome (at code.now k) → Reached code.now k)) }
+    ensures none { IfOk result (λ place. IfNone place ((k : ℕ) → IsSome (at code.now k) → Reached code.now k)) }
+{
+    let mut marks = opening(alloc, code.len())?;
+    Ok(sweep(&mut marks, code))
+}
