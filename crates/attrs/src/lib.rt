@@ -4,8 +4,6 @@
 
 mod attributes;
 mod context;
-#[cfg(test)]
-mod tests;
 mod version;
 
 pub use attributes::{AttrFault, Attrs};

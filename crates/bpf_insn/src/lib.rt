@@ -27,6 +27,3 @@ pub use operand::{
     LoadKind, Operand, Size, WideValue,
 };
 pub use reg::Reg;
-
-#[cfg(test)]
-mod tests;

@@ -11,6 +11,3 @@ mod read;
 
 pub use fault::{FlowFault, FlowRule};
 pub use flow::Flow;
-
-#[cfg(test)]
-mod tests;

@@ -1,0 +1,13 @@
+//! Tests of the library crates' public calls: values from outside, and that a call with ample memory
+//! succeeds. They stand here, in one crate above all libraries, since a crate with tests is proved
+//! twice.
+#![tactic(auto)]
+
+#[cfg(test)]
+mod attributes;
+#[cfg(test)]
+mod encoding;
+#[cfg(test)]
+mod graph;
+#[cfg(test)]
+mod verifier;

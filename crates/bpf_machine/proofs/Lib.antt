@@ -1,0 +1,4 @@
+pub mod Agree
+pub mod Accesses
+pub mod Updates
+pub mod Steps

@@ -1,0 +1,120 @@
+// The memory of a run: reads of the context and the stack, and writes of the stack. An access of
+// 1, 2, 4 or 8 bytes is one load or store of that width.
+
+ghost use Rattle.std.specs.Prelude.{◌≡◌, ◌+◌, ◌≤◌, ◌-◌, ◌%◌, ◌^◌, length, IsTrue};
+ghost use Rattle.std.specs.List.{splice};
+ghost use Rattle.bpf_insn.specs.Words.{low_bytes};
+ghost use Rattle.bpf_semantics.specs.Memory.{context_start, stack_start, address_of, is_in_stack};
+ghost use Rattle.bpf_semantics.specs.Step.{byte_count, load_count, filled};
+ghost use Rattle.bpf_machine.specs.Words.{number_in, number_at, IsReadable};
+
+use crate::arithmetic::{extend_byte, extend_half, extend_word, low_byte, low_half, low_word};
+use crate::words::Words;
+use bpf_insn::{LoadKind, Size};
+
+/// The address of the first byte of the context.
+pub const CONTEXT_START: u64 = 0x1000_0000;
+/// The address of the first byte of the stack.
+pub const STACK_START: u64 = 0x1FFF_FE00;
+/// The address after the last byte of the stack.
+pub const STACK_TOP: u64 = 0x2000_0000;
+
+/// A base and an offset, modulo 2^64.
+#[inline]
+pub fn add_offset(base: u64, offset: i16) -> u64
+    ensures { result ≡ address_of base offset }
+{
+    base.wrapping_add((offset as i64).cast_unsigned())
+}
+
+#[inline]
+fn read_half(bytes: &[u8], place: usize) -> u16
+    requires { place + 2 ≤ length bytes.now }
+    ensures { result ≡ number_in bytes.now place 2 }
+{
+    u16::from_le_bytes([bytes[place], bytes[place + 1]])
+}
+
+#[inline]
+fn read_word(bytes: &[u8], place: usize) -> u32
+    requires { place + 4 ≤ length bytes.now }
+    ensures { result ≡ number_in bytes.now place 4 }
+{
+    u32::from_le_bytes([
+        bytes[place],
+        bytes[place + 1],
+        bytes[place + 2],
+        bytes[place + 3],
+    ])
+}
+
+#[inline]
+fn read_double(bytes: &[u8], place: usize) -> u64
+    requires { place + 8 ≤ length bytes.now }
+    ensures { result ≡ number_in bytes.now place 8 }
+{
+    u64::from_le_bytes([
+        bytes[place],
+        bytes[place + 1],
+        bytes[place + 2],
+        bytes[place + 3],
+        bytes[place + 4],
+        bytes[place + 5],
+        bytes[place + 6],
+        bytes[place + 7],
+    ])
+}
+
+/// What a load reads at a place of a region.
+#[inline]
+fn read(bytes: &[u8], place: usize, kind: LoadKind) -> u64
+    requires { place + load_count kind ≤ length bytes.now }
+    ensures { result ≡ filled kind (number_in bytes.now place (load_count kind)) }
+{
+    match kind {
+        LoadKind::Byte => bytes[place] as u64,
+        LoadKind::Half => read_half(bytes, place) as u64,
+        LoadKind::Word => read_word(bytes, place) as u64,
+        LoadKind::Double => read_double(bytes, place),
+        LoadKind::SignedByte => extend_byte(bytes[place]),
+        LoadKind::SignedHalf => extend_half(read_half(bytes, place)),
+        LoadKind::SignedWord => extend_word(read_word(bytes, place)),
+    }
+}
+
+/// What a load reads at an address. The stack lies above the context.
+#[inline]
+pub fn load(words: &Words, kind: LoadKind, address: u64) -> u64
+    requires { IsReadable address (load_count kind) }
+    ensures { result ≡ filled kind (number_at words.now address (load_count kind)) }
+{
+    if address < STACK_START {
+        read(&words.context, (address - CONTEXT_START) as usize, kind)
+    } else {
+        read(&words.stack, (address - STACK_START) as usize, kind)
+    }
+}
+
+/// The place in the stack of an address in it.
+#[inline]
+pub fn stack_place(address: u64, size: Size) -> usize
+    requires { IsTrue (is_in_stack address (byte_count size)) }
+    ensures place { result ≡ address - stack_start }
+    ensures in_range { result + byte_count size ≤ 512 }
+{
+    (address - STACK_START) as usize
+}
+
+/// Writes the low bytes of a number at a place, the least first.
+#[inline]
+pub fn write(stack: &mut [u8; 512], place: usize, size: Size, value: u64)
+    requires { place + byte_count size ≤ 512 }
+    ensures { stack.new ≡ splice stack.old place (place + byte_count size) (low_bytes (byte_count size) value) }
+{
+    match size {
+        Size::Byte => stack[place..place + 1].copy_from_slice(&low_byte(value).to_le_bytes()),
+        Size::Half => stack[place..place + 2].copy_from_slice(&low_half(value).to_le_bytes()),
+        Size::Word => stack[place..place + 4].copy_from_slice(&low_word(value).to_le_bytes()),
+        Size::Double => stack[place..place + 8].copy_from_slice(&value.to_le_bytes()),
+    }
+}

@@ -1,0 +1,10 @@
+pub mod Ranges
+pub mod Values
+pub mod Entries
+pub mod Loads
+pub mod Outcomes
+pub mod Jumps
+pub mod Steps
+pub mod Incoming
+pub mod Sound
+pub mod Swept

@@ -1,0 +1,67 @@
+-- The entry of each place, and which programs are accepted.
+use Rattle.std.specs.Prelude.{◌≡◌, ℕ, zero, suc, ◌<◌, List, [], ◌∷◌, ◌++◌, Option, Some, None, ◌==◌, if◌then◌else◌}
+use Rattle.bpf_insn.specs.declared.insn.Insn.{Insn}
+use Rattle.bpf_insn.specs.Program.{Program, at}
+use Rattle.bpf_verify.specs.declared.shape.Shape.{Shape}
+use Rattle.bpf_verify.specs.declared.entry.Entry.{Entry}
+use Rattle.bpf_verify.specs.declared.edge.Edge.{Edge}
+use Rattle.bpf_verify.specs.declared.refusal.Rule.{Rule}
+use Rattle.bpf_verify.specs.declared.refusal.Refusal.{Refusal}
+use Rattle.bpf_verify.specs.declared.refusal.Refusal.TheVariants as refusal
+use Rattle.bpf_verify.specs.Entries.{join_entries, opening_entry}
+use Rattle.bpf_verify.specs.Rules.{first_rule}
+use Rattle.bpf_verify.specs.Transfer.{edges}
+
+-- ---- the entry of a place: the join over its incoming edges, in the order of their slots
+
+-- the entries on the edges that lead to a place
+abbrev pub to_place : ℕ → List Edge → List Entry
+to_place m [] = []
+to_place m (d ∷ ds) = if d.target == m then d.entry ∷ to_place m ds else to_place m ds
+
+abbrev pub joined : Entry → List Entry → Entry
+joined e [] = e
+joined e (f ∷ fs) = joined (join_entries e f) fs
+
+-- none where nothing comes
+abbrev pub join_all : List Entry → Option Entry
+join_all [] = None
+join_all (e ∷ es) = Some (joined e es)
+
+abbrev pub edges_of : ℕ → Option Entry → Option Insn → List Edge
+edges_of s (Some e) (Some i) = edges s e i
+edges_of s e i = []
+
+-- the entries on the edges that lead to place m from places before k; a run starts at place 0
+unfoldable pub incoming : Program → ℕ → ℕ → List Entry
+incoming p zero m = if m == 0 then opening_entry ∷ [] else []
+incoming p (suc k) m = incoming p k m ++ to_place m (edges_of k (join_all (incoming p k k)) (at p k))
+
+abbrev pub entry_of : Program → ℕ → Option Entry
+entry_of p s = join_all (incoming p s s)
+
+-- ---- accepted and refused
+
+-- no rule fails at the place; without an entry it isn't judged
+abbrev pub IsFine : Program → Shape → ℕ → Type 0
+IsFine p shape s = (e : Entry) (i : Insn) → entry_of p s ≡ Some e → at p s ≡ Some i → first_rule shape e i ≡ None
+
+abbrev pub IsAccepted : Program → Shape → Type 0
+IsAccepted p shape = (s : ℕ) → IsFine p shape s
+
+abbrev pub Fails : Program → Shape → ℕ → Rule → Type 0
+Fails p shape s rule = (e : Entry) × (i : Insn) × (entry_of p s ≡ Some e) × (at p s ≡ Some i) × (first_rule shape e i ≡ Some rule)
+
+-- the first place that fails, and its first rule
+pub record IsRefused (p : Program) (shape : Shape) (s : ℕ) (rule : Rule) : Type 0 where
+  pub before : (k : ℕ) → k < s → IsFine p shape k
+  pub fails : Fails p shape s rule
+
+abbrev pub IsRefusal : Program → Shape → Refusal → Type 0
+IsRefusal p shape (refusal.Rule s rule) = IsRefused p shape s rule
+IsRefusal p shape refusal.Memory = Unit {0}
+
+-- what a verified program is seen as
+pub record Accepted : Type 0 where
+  pub code : Program
+  pub shape : Shape

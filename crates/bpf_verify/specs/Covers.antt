@@ -1,0 +1,40 @@
+-- What an entry stands for, and what is promised of a step from there.
+use Rattle.std.specs.Prelude.{◌≡◌, ℕ, ◌+◌, ◌<◌, ◌≤◌, Option, Some, None, IsSome}
+use Rattle.bpf_insn.specs.Program.{Program, at}
+use Rattle.bpf_semantics.specs.Memory.{context_start, stack_top}
+use Rattle.bpf_semantics.specs.State.{State}
+use Rattle.bpf_semantics.specs.Step.{Outcome, Going, Done, Trap}
+use Rattle.bpf_verify.specs.declared.value.Value.{Value}
+use Rattle.bpf_verify.specs.declared.value.Value.TheVariants.{Unusable, Num, Ctx, Stk}
+use Rattle.bpf_verify.specs.declared.entry.Entry.{Entry}
+use Rattle.bpf_verify.specs.Entries.{value_at}
+use Rattle.bpf_verify.specs.Accepted.{entry_of}
+
+-- the numbers and addresses that a value stands for
+abbrev pub Includes : Value → ℕ → Type 0
+Includes Unusable x = Unit {0}
+Includes (Num numbers) x = (numbers.lo ≤ x) × (x ≤ numbers.hi)
+Includes (Ctx places) x = (context_start + places.lo ≤ x) × (x ≤ context_start + places.hi)
+Includes (Stk below) x = x + below ≡ stack_top
+
+-- an unset register is covered only where the value is unusable
+abbrev pub CoversValue : Value → Option ℕ → Type 0
+CoversValue Unusable v = Unit {0}
+CoversValue a None = ⊥
+CoversValue a (Some x) = Includes a x
+
+abbrev pub Covers : Entry → State → Type 0
+Covers e s = (r : ℕ) → CoversValue (value_at e r) (s.registers r)
+
+-- the state stands at a place whose entry covers it
+pub record IsCovered (p : Program) (s : State) : Type 0 where
+  pub entry : Entry
+  pub entry_is : entry_of p s.slot ≡ Some entry
+  pub covers : Covers entry s
+  pub place : IsSome (at p s.slot)
+
+-- a step is no trap, and leads ahead to a covered state or ends with a choice among the releases
+abbrev pub IsSafe : Program → ℕ → State → Outcome → Type 0
+IsSafe p releases s (Going t) = (s.slot < t.slot) × IsCovered p t
+IsSafe p releases s (Done n) = n ≤ releases
+IsSafe p releases s Trap = ⊥
