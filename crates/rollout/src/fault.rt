@@ -1,0 +1,50 @@
+//! Why the program refuses, and what it answers otherwise.
+
+use bpf_verify::Refusal;
+use flow_check::FlowFault;
+use std::fmt;
+
+/// Why a request is refused.
+#[derive(Debug, Drop)]
+pub enum Fault {
+    /// B3: a file can't be read.
+    File,
+    /// B4: memory that the command itself wants is refused.
+    Memory,
+    /// F1 to F9: the bytes are no program, or its graph isn't one that ends.
+    Flow(FlowFault),
+    /// V1 to V15: the verifier doesn't accept the program.
+    Rule(Refusal),
+}
+
+impl fmt::Display for Fault {
+    fn fmt<W: fmt::Write>(&self, f: &mut fmt::Formatter<W>) -> fmt::Result {
+        match self {
+            Fault::File => f.write_str("B3 File"),
+            Fault::Memory => f.write_str("B4 Memory"),
+            Fault::Flow(fault) => write!(f, "{fault}"),
+            Fault::Rule(refusal) => write!(f, "{refusal}"),
+        }
+    }
+}
+
+/// What a request is answered.
+#[derive(Clone, Copy, Debug, PartialEq, Eq)]
+pub enum Answer {
+    /// The program is accepted; its length in slots.
+    Accepted { slots: usize },
+    /// The program chose a release, or none, and did so many instructions.
+    Chosen { choice: u8, instructions: u32 },
+}
+
+impl fmt::Display for Answer {
+    fn fmt<W: fmt::Write>(&self, f: &mut fmt::Formatter<W>) -> fmt::Result {
+        match self {
+            Answer::Accepted { slots } => write!(f, "accepted {slots} slots"),
+            Answer::Chosen {
+                choice,
+                instructions,
+            } => write!(f, "choice {choice} after {instructions} instructions"),
+        }
+    }
+}
