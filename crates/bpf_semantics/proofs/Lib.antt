@@ -1,2 +1,3 @@
 pub mod ContextReads
 pub mod OneEnd
+pub mod Next

@@ -7,6 +7,7 @@
 mod arithmetic;
 mod conditions;
 mod context;
+mod count;
 mod memory;
 mod run;
 mod traps;
@@ -18,6 +19,7 @@ pub use arithmetic::{
 };
 pub use conditions::{equalities, low_halves, signed_orders, unsigned_orders};
 pub use context::{buckets, context_end, versions};
+pub use count::going_on;
 pub use memory::{
     extended_store, negative_loads, partial_stores, places, positive_loads, round_trips,
 };

@@ -8,3 +8,4 @@ pub mod Steps
 pub mod Incoming
 pub mod Sound
 pub mod Swept
+pub mod Whole

@@ -1,14 +1,15 @@
 -- What an entry stands for, and what is promised of a step from there.
-use Rattle.std.specs.Prelude.{◌≡◌, ℕ, ◌+◌, ◌<◌, ◌≤◌, Option, Some, None, IsSome}
+use Rattle.std.specs.Prelude.{◌≡◌, ℕ, ◌+◌, ◌<◌, ◌≤◌, length, Option, Some, None, IsSome}
 use Rattle.bpf_insn.specs.Program.{Program, at}
 use Rattle.bpf_semantics.specs.Memory.{context_start, stack_top}
 use Rattle.bpf_semantics.specs.State.{State}
+use Rattle.bpf_semantics.specs.Run.{Ends}
 use Rattle.bpf_semantics.specs.Step.{Outcome, Going, Done, Trap}
 use Rattle.bpf_verify.specs.declared.value.Value.{Value}
 use Rattle.bpf_verify.specs.declared.value.Value.TheVariants.{Unusable, Num, Ctx, Stk}
 use Rattle.bpf_verify.specs.declared.entry.Entry.{Entry}
 use Rattle.bpf_verify.specs.Entries.{value_at}
-use Rattle.bpf_verify.specs.Accepted.{entry_of}
+use Rattle.bpf_verify.specs.Accepted.{Accepted, entry_of}
 
 -- the numbers and addresses that a value stands for
 abbrev pub Includes : Value → ℕ → Type 0
@@ -38,3 +39,7 @@ abbrev pub IsSafe : Program → ℕ → State → Outcome → Type 0
 IsSafe p releases s (Going t) = (s.slot < t.slot) × IsCovered p t
 IsSafe p releases s (Done n) = n ≤ releases
 IsSafe p releases s Trap = ⊥
+
+-- from the state on nothing traps: the run ends, with 0 or a release, after at most as many instructions in all as the program has slots
+abbrev pub EndsWell : Accepted → State → Type 0
+EndsWell program s = (choice : ℕ) × (count : ℕ) × Ends program.code s choice count × (choice ≤ program.shape.releases) × (count ≤ length program.code)

@@ -4,11 +4,12 @@
 ghost use Rattle.std.specs.Prelude.{◌≡◌, ◌<◌, ◌++◌, option_to_list};
 ghost use Rattle.bpf_verify.specs.Transfer as transfers;
 
-use crate::edge::{Edges, edge_to, jump_target, next_target};
+use crate::edge::{Edges, edge_to};
 use crate::entry::Entry;
 use crate::narrow::narrowed;
 use crate::value::Value;
 use bpf_insn::Insn;
+use flow_check::{jump_target, next_place};
 
 /// The entry on the edge that jumps; none where it is dropped.
 fn jumping(e: &Entry, insn: Insn) -> Option<Entry>
@@ -56,6 +57,6 @@ pub fn transfer(slot: usize, e: &Entry, insn: Insn) -> Edges
 {
     Edges {
         jump: edge_to(jump_target(slot, insn), jumping(e, insn)),
-        next: edge_to(next_target(slot, insn), going_on(e, insn)),
+        next: edge_to(next_place(slot, insn), going_on(e, insn)),
     }
 }

@@ -39,7 +39,7 @@ fn landing(slot: usize, distance: i32) -> Option<usize>
     }
 }
 
-/// Where the instruction jumps, if it is a jump onto a slot.
+/// The slot that the instruction jumps to, if it is a jump and no slot below 0 is named.
 pub fn jump_target(slot: usize, insn: Insn) -> Option<usize>
     requires { slot < 4096 }
     ensures { result ≡ target_of slot insn }
@@ -50,7 +50,7 @@ pub fn jump_target(slot: usize, insn: Insn) -> Option<usize>
     }
 }
 
-/// The place after the instruction, where the instruction may go on.
+/// The slot of the next instruction, where this one may go on to it.
 pub fn next_place(slot: usize, insn: Insn) -> Option<usize>
     requires { slot < 4096 }
     ensures { result ≡ (if goes_on insn then Some (next_of slot insn) else None) }

@@ -9,5 +9,6 @@ mod flow;
 mod reach;
 mod read;
 
+pub use edges::{jump_target, next_place};
 pub use fault::{FlowFault, FlowRule};
 pub use flow::Flow;
