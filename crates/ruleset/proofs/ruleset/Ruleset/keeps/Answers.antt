@@ -1,0 +1,6 @@
+use Rattle.std.proofs.lemmas.List.Elements.{All-contains}
+use Rattle.ruleset.specs.Rules.{AlwaysEndsWell}
+use Rattle.ruleset.proofs.ruleset.Ruleset.keeps.Goals as goal
+
+pub returns-clause-ends : goal.returns-clause-ends
+returns-clause-ends c = rw (← c.self.view_is) (λ appid program offers. All-contains (λ app. AlwaysEndsWell app.program) c.self.inside.apps.items _ c.self.invariant.ends offers)

@@ -1,0 +1,9 @@
+//! Rulesets: the apps that a server knows, each with a verified program and its releases.
+#![tactic(auto)]
+
+mod app;
+mod ruleset;
+mod twice;
+
+pub use app::App;
+pub use ruleset::{LoadFault, Ruleset};
