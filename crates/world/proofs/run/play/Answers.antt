@@ -1,0 +1,17 @@
+use Rattle.std.proofs.Common.{rules}
+use Rattle.world.proofs.Plays.{plays_longer}
+use Rattle.world.proofs.run.play.Goals as goal
+
+pub loop-event-preserved : goal.loop-event-preserved
+loop-event-preserved c = record {
+  many = search rules;
+  room = search rules;
+  run = λ w stands.
+      let come = c.loop-event.invariant.run w stands in
+      let next = c.apply-answer.ensures come.0 come.2 in (
+        next.0,
+        plays_longer w come.0 next.0 c.args.events.now c.loop-event.event-index c.event-item.result c.loop-event.answers.items c.push.new.self.items c.apply-answer.result c.loop-event-test.true c.event-item.is
+            c.in-Ok-push.ensures.items come.1 next.1,
+        next.2,
+      );
+}

@@ -1,0 +1,4 @@
+pub mod World
+pub mod Seats
+pub mod StandsFor
+pub mod Safe

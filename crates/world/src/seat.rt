@@ -1,0 +1,102 @@
+// The seat of a worker: empty, or taken by a run. What a step and a finish make of a seat is said for
+// every worker that the seat stands for.
+
+ghost use Rattle.std.specs.Prelude.{◌≡◌, ◌≤◌, IfOk, IfErr, IsTrue, IsFalse};
+
+use crate::event::{Effect, WorldFault};
+use bpf_machine::{Choice, Progress, Run};
+
+/// A seat, whose run has started under the ruleset of a number, and has a choice once it has ended.
+#[derive(Drop)]
+pub enum Seat {
+    Empty,
+    Taken {
+        run: Run,
+        number: usize,
+        choice: Option<Choice>,
+    },
+}
+
+impl Seat {
+    ghost use Rattle.ruleset.specs.Rules.{Rules};
+    ghost use Rattle.std.specs.Prelude.{List};
+    ghost use Rattle.world.specs.World.{Worker, Idle, IsIdle};
+    ghost use Rattle.world.specs.Seats.{SeatStandsFor, SeatKeeps, SeatIsOffered, WorkerSteps, WorkerFinishes};
+
+    /// Whether a run is there, be it one that has ended.
+    pub fn is_taken(&self) -> bool
+        ensures taken { IsTrue result → (x : Worker) → SeatStandsFor self.now x → ¬ IsIdle x }
+        ensures empty { IsFalse result → self.now ≡ Seat.Empty }
+    {
+        match self {
+            Seat::Empty => false,
+            Seat::Taken { .. } => true,
+        }
+    }
+
+    /// One instruction. E3 where no run goes on.
+    pub fn step(&mut self) -> Result<Effect, WorldFault>
+        requires { SeatKeeps self.old }
+        ensures steps { (x : Worker) → SeatStandsFor self.old x → (y : Worker) × WorkerSteps x result y × SeatStandsFor self.new y }
+        ensures keeps { SeatKeeps self.new }
+        ensures offered { (rulesets : List Rules) → SeatIsOffered rulesets self.old → SeatIsOffered rulesets self.new }
+    {
+        match self {
+            Seat::Taken {
+                run,
+                choice: choice @ None,
+                ..
+            } => {
+                run.keeps();
+                match run.step() {
+                    Progress::Going => {
+                        run.keeps();
+                        Ok(Effect::Stepped)
+                    }
+                    Progress::Done(chosen) => {
+                        *choice = Some(chosen);
+                        Ok(Effect::Ended { choice: chosen })
+                    }
+                }
+            }
+            _ => Err(WorldFault::Idle),
+        }
+    }
+
+    /// Gives the choice of a run that has ended, and leaves the seat empty. E3 where it was empty,
+    /// and E5 where the run hasn't ended.
+    pub fn finish(&mut self) -> Result<Effect, WorldFault>
+        requires { SeatKeeps self.old }
+        ensures finishes { (x : Worker) → SeatStandsFor self.old x → (y : Worker) × WorkerFinishes x result y × SeatStandsFor self.new y }
+        ensures keeps { SeatKeeps self.new }
+        ensures offered { (rulesets : List Rules) → SeatIsOffered rulesets self.old → SeatIsOffered rulesets self.new }
+    {
+        let finished = self.finished()?;
+        *self = Seat::Empty;
+        Ok(finished)
+    }
+
+    // What a finish gives.
+    fn finished(&self) -> Result<Effect, WorldFault>
+        requires { SeatKeeps self.now }
+        ensures done { IfOk result (λ e. (x : Worker) → SeatStandsFor self.now x → WorkerFinishes x (Ok e) Idle) }
+        ensures refused { IfErr result (λ e. (x : Worker) → SeatStandsFor self.now x → WorkerFinishes x (Err e) x) }
+    {
+        match self {
+            Seat::Empty => Err(WorldFault::Idle),
+            Seat::Taken { choice: None, .. } => Err(WorldFault::NotDone),
+            Seat::Taken {
+                run,
+                number,
+                choice: Some(choice),
+            } => {
+                run.keeps();
+                Ok(Effect::Finished {
+                    choice: *choice,
+                    instructions: run.count() + 1,
+                    ruleset: *number,
+                })
+            }
+        }
+    }
+}
