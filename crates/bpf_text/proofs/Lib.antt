@@ -1,0 +1,12 @@
+pub mod Reading
+pub mod Tokenizing
+pub mod Spelled
+pub mod Splitting
+pub mod Placing
+pub mod Passes
+pub mod Named
+pub mod Lexing
+pub mod Arguments
+pub mod Again
+pub mod Rereading
+pub mod Back

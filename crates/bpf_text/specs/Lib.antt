@@ -1,0 +1,11 @@
+pub mod Words
+pub mod Arguments
+pub mod Listing
+pub mod Tokens
+pub mod Ranges
+pub mod Vocabulary
+pub mod Items
+pub mod Drafts
+pub mod Lines
+pub mod Labels
+pub mod Assembly

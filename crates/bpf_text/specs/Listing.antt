@@ -1,0 +1,85 @@
+-- The text that a listing gives: a line an instruction, and which bytes have a listing.
+use Rattle.std.specs.Prelude.{◌≡◌, ℕ, ◌+◌, ◌*◌, ◌<◌, ℤ, pos, negsuc, suc, List, [], ◌∷◌, ◌++◌, length, take, Option, Some, None, codes}
+use Rattle.std.specs.List.{AllByRecursion}
+use Rattle.std.specs.Fmt.{decimal, signed_decimal}
+use Rattle.bpf_insn.specs.declared.reg.Reg.{Reg}
+use Rattle.bpf_insn.specs.declared.reg.Reg.TheVariants.{R0, R1, R2, R3, R4, R5, R6, R7, R8, R9, R10}
+use Rattle.bpf_insn.specs.declared.insn.Insn.{Insn}
+use Rattle.bpf_insn.specs.declared.fields.InsnFault.{InsnFault}
+use Rattle.bpf_insn.specs.Spelling.{IsEncodable, IsLeastFault, Spells, width_of, slots_of}
+use Rattle.bpf_insn.specs.Program.{encodings, layout}
+use Rattle.bpf_text.specs.declared.fault.ListFault.{ListFault}
+use Rattle.bpf_text.specs.declared.fault.ListFault.TheVariants as list_fault
+use Rattle.bpf_text.specs.declared.argument.Argument.{Argument}
+use Rattle.bpf_text.specs.declared.argument.Argument.TheVariants.{Register, Imm, Number, Memory, Distance}
+use Rattle.bpf_text.specs.Arguments.{mnemonic_of, arguments_of}
+use Rattle.bpf_text.specs.Words.{word_of}
+
+abbrev pub register_text : Reg → List ℕ
+register_text R0 = codes "r0"
+register_text R1 = codes "r1"
+register_text R2 = codes "r2"
+register_text R3 = codes "r3"
+register_text R4 = codes "r4"
+register_text R5 = codes "r5"
+register_text R6 = codes "r6"
+register_text R7 = codes "r7"
+register_text R8 = codes "r8"
+register_text R9 = codes "r9"
+register_text R10 = codes "r10"
+
+-- an offset or a distance has its sign, + before 0 too
+abbrev pub with_sign : ℤ → List ℕ
+with_sign (pos n) = codes "+" ++ decimal n
+with_sign (negsuc n) = codes "-" ++ decimal (suc n)
+
+abbrev pub argument_text : Argument → List ℕ
+argument_text (Register r) = register_text r
+argument_text (Imm k) = signed_decimal k
+argument_text (Number n) = decimal n
+argument_text (Memory r k) = codes "[" ++ register_text r ++ with_sign k ++ codes "]"
+argument_text (Distance k) = with_sign k
+
+-- an argument, if it is there, behind what divides it from the word or the one before
+abbrev pub text_behind : List ℕ → Option Argument → List ℕ
+text_behind divider None = []
+text_behind divider (Some a) = divider ++ argument_text a
+
+-- the line of an instruction
+abbrev pub line_of : Insn → List ℕ
+line_of i =
+    word_of (mnemonic_of i)
+    ++ text_behind (codes " ") ((arguments_of i).first)
+    ++ text_behind (codes ", ") ((arguments_of i).second)
+    ++ text_behind (codes ", ") ((arguments_of i).third)
+    ++ codes "\n"
+
+abbrev pub listing_of : List Insn → List ℕ
+listing_of [] = []
+listing_of (i ∷ rest) = line_of i ++ listing_of rest
+
+-- these bytes are the encodings of instructions, and this is their listing
+abbrev pub Lists : List ℕ → List ℕ → Type 0
+Lists bytes text = (is : List Insn) × AllByRecursion IsEncodable is × (bytes ≡ encodings is) × (text ≡ listing_of is)
+
+-- instructions fill the slots before this one, and what is there is none
+abbrev pub IsFirstFault : List ℕ → ℕ → InsnFault → Type 0
+IsFirstFault bytes slot e =
+    (is : List Insn) × AllByRecursion IsEncodable is × (slot ≡ length (layout is)) × (take (8 * slot) bytes ≡ encodings is)
+    × (8 * slot < length bytes) × IsLeastFault bytes slot e
+
+-- no claim is made of a growth that was refused
+abbrev pub IsListFault : List ℕ → ListFault → Type 0
+IsListFault bytes (list_fault.Insn slot e) = IsFirstFault bytes slot e
+IsListFault bytes list_fault.Memory = Unit {0}
+
+-- ---- one line of the listing
+
+-- an instruction begins at this slot, the next slot is the one after it, and the text grows by its line
+abbrev pub IsNext : List ℕ → ℕ → List ℕ → List ℕ → ℕ → Type 0
+IsNext bytes slot before after next =
+    (i : Insn) × Spells bytes slot i × (next ≡ slot + slots_of (width_of i)) × (after ≡ before ++ line_of i)
+
+abbrev pub IsFaultAt : List ℕ → ℕ → ListFault → Type 0
+IsFaultAt bytes slot (list_fault.Insn at e) = (at ≡ slot) × IsLeastFault bytes slot e
+IsFaultAt bytes slot list_fault.Memory = Unit {0}

@@ -1,0 +1,112 @@
+-- The tokens of a line. A comment goes from ; to the line's end, and blanks are spaces and tabs.
+use Rattle.std.specs.Prelude.{ℕ, ◌+◌, ◌^◌, List, [], ◌∷◌, length, drop, Option, Some, None, Bool, false, ◌&&◌, ◌||◌, not, nat_le, nat_lt, ◌==◌, if◌then◌else◌, slice_index_or}
+use Rattle.std.specs.List.{list_all, prefix_len}
+use Rattle.std.specs.Char.{is_ascii_alphabetic, is_ascii_digit, digit_value}
+use Rattle.std.specs.Str.Parse.{digits_value}
+use Rattle.bpf_insn.specs.Program.{◌>>=◌}
+use Rattle.bpf_text.specs.declared.token.Sign.{Sign}
+use Rattle.bpf_text.specs.declared.token.Sign.TheVariants.{Absent, Minus, Plus}
+use Rattle.bpf_text.specs.declared.token.Figure.{Figure}
+use Rattle.bpf_text.specs.declared.token.Token as code
+use Rattle.bpf_text.specs.declared.token.Token.TheVariants as code_token
+
+pub data Token : Type 0 where
+  Word : List ℕ → Token
+  Number : Figure → Token
+  Comma : Token
+  Colon : Token
+  Open : Token
+  Close : Token
+
+-- the token that a value of the reader stands for
+abbrev pub seen : code.Token → Token
+seen (code_token.Word w) = Word w.now
+seen (code_token.Number n) = Number n
+seen code_token.Comma = Comma
+seen code_token.Colon = Colon
+seen code_token.Open = Open
+seen code_token.Close = Close
+
+abbrev pub is_blank : ℕ → Bool
+is_blank c = (c == 32) || (c == 9)
+
+abbrev pub is_letter : ℕ → Bool
+is_letter c = is_ascii_alphabetic c || (c == 95)
+
+abbrev pub is_name_byte : ℕ → Bool
+is_name_byte c = is_letter c || is_ascii_digit c
+
+abbrev pub mark_of : ℕ → Option Token
+mark_of c =
+    if c == 44 then Some Comma
+    else if c == 58 then Some Colon
+    else if c == 91 then Some Open
+    else if c == 93 then Some Close else None
+
+abbrev pub is_mark : ℕ → Bool
+is_mark c = ((c == 44) || (c == 58)) || ((c == 91) || (c == 93))
+
+-- ---- the pieces of a line
+
+-- a letter, a digit or _ goes on with the piece before it
+abbrev pub goes_on : List ℕ → Bool
+goes_on [] = false
+goes_on (c ∷ rest) = is_name_byte c
+
+abbrev pub onto_piece : ℕ → List (List ℕ) → List (List ℕ)
+onto_piece c [] = (c ∷ []) ∷ []
+onto_piece c (p ∷ ps) = (c ∷ p) ∷ ps
+
+-- a mark, or any other character with the letters, digits and _ that follow it
+abbrev pub pieces : List ℕ → List (List ℕ)
+pieces [] = []
+pieces (c ∷ rest) =
+    if c == 59 then []
+    else if is_blank c then pieces rest
+    else if is_mark c || not (goes_on rest) then (c ∷ []) ∷ pieces rest
+    else onto_piece c (pieces rest)
+
+-- how long the piece is that begins with c, which is no blank
+abbrev pub piece_len : ℕ → List ℕ → ℕ
+piece_len c rest = if is_mark c then 1 else 1 + prefix_len is_name_byte rest
+
+-- ---- the token that a piece is
+
+abbrev pub is_numeral : ℕ → List ℕ → Bool
+is_numeral radix digits = not (length digits == 0) && list_all (λ c. nat_lt (digit_value c) radix) digits
+
+-- a number that 64 bits hold
+abbrev pub number_if_small : ℕ → Option ℕ
+number_if_small n = if nat_lt n (2 ^ 64) then Some n else None
+
+abbrev pub magnitude : ℕ → List ℕ → Option ℕ
+magnitude radix digits = number_if_small (digits_value radix digits)
+
+abbrev pub numeral : Sign → ℕ → List ℕ → Option Token
+numeral sign radix digits =
+    if is_numeral radix digits then Some (Number (record { sign = sign; magnitude = magnitude radix digits })) else None
+
+-- 0x and 1 to 16 hexadecimal digits, or decimal digits
+abbrev pub unsigned_number : List ℕ → Option Token
+unsigned_number piece =
+    if (slice_index_or piece 0 0 == 48) && (slice_index_or piece 1 0 == 120)
+    then (if nat_le (length piece) 18 then numeral Absent 16 (drop 2 piece) else None)
+    else numeral Absent 10 piece
+
+-- a word has at most 32 characters
+abbrev pub token_of : List ℕ → Option Token
+token_of [] = None
+token_of (c ∷ rest) =
+    if is_mark c then mark_of c
+    else if is_letter c then (if nat_le (length (c ∷ rest)) 32 then Some (Word (c ∷ rest)) else None)
+    else if c == 45 then numeral Minus 10 rest
+    else if c == 43 then numeral Plus 10 rest
+    else unsigned_number (c ∷ rest)
+
+abbrev pub tokens_in : List (List ℕ) → Option (List Token)
+tokens_in [] = Some []
+tokens_in (p ∷ ps) = token_of p >>= λ t. tokens_in ps >>= λ ts. Some (t ∷ ts)
+
+-- the tokens of a line; None where one of its pieces is none
+abbrev pub tokens_of : List ℕ → Option (List Token)
+tokens_of line = tokens_in (pieces line)

@@ -1,0 +1,100 @@
+//! Why a text has no bytes, and bytes no text.
+
+ghost use Rattle.std.specs.Prelude.{◌≡◌};
+ghost use Rattle.bpf_text.specs.declared.fault.ListFault.{ListFault};
+ghost use Rattle.bpf_text.specs.declared.fault.AsmFaultKind.{AsmFaultKind};
+
+use bpf_insn::InsnFault;
+use std::alloc::AllocError;
+use std::fmt;
+
+/// Why bytes have no listing.
+#[derive(Clone, Copy, Debug, PartialEq, Eq)]
+pub enum ListFault {
+    /// At this slot begins no instruction.
+    Insn { slot: usize, fault: InsnFault },
+    /// A growth of the text was refused.
+    Memory,
+}
+
+impl fmt::Display for ListFault {
+    fn fmt<W: fmt::Write>(&self, f: &mut fmt::Formatter<W>) -> fmt::Result {
+        match self {
+            ListFault::Insn { slot, fault } => write!(f, "{fault} at slot {slot}"),
+            ListFault::Memory => write!(f, "Memory"),
+        }
+    }
+}
+
+impl std::error::Error for ListFault {}
+
+impl From<AllocError> for ListFault {
+    ghost from_gives = { λ _ fault. fault ≡ ListFault.Memory };
+
+    fn from(_error: AllocError) -> ListFault {
+        ListFault::Memory
+    }
+}
+
+/// Why a text has no bytes.
+#[derive(Clone, Copy, Debug, PartialEq, Eq)]
+pub enum AsmFaultKind {
+    /// A1: a character or a number that is no token.
+    Token,
+    /// A2: an unknown instruction word.
+    Mnemonic,
+    /// A3: a wrong number or kind of operands.
+    Operand,
+    /// A4: a label that stands nowhere, or twice.
+    Label,
+    /// A5: a number outside its field.
+    Range,
+    /// A6: an instruction past slot 4096.
+    TooLong,
+    /// A7: a growth was refused. It has no line.
+    Memory,
+}
+
+/// The first fault of a text.
+#[derive(Clone, Copy, Debug, PartialEq, Eq)]
+pub struct AsmFault {
+    /// From 1; 0 for `Memory`, which has no line.
+    pub line: usize,
+    pub kind: AsmFaultKind,
+}
+
+fn asm_fault_name(kind: AsmFaultKind) -> &'static str {
+    match kind {
+        AsmFaultKind::Token => "A1 Token",
+        AsmFaultKind::Mnemonic => "A2 Mnemonic",
+        AsmFaultKind::Operand => "A3 Operand",
+        AsmFaultKind::Label => "A4 Label",
+        AsmFaultKind::Range => "A5 Range",
+        AsmFaultKind::TooLong => "A6 TooLong",
+        AsmFaultKind::Memory => "A7 Memory",
+    }
+}
+
+impl fmt::Display for AsmFault {
+    fn fmt<W: fmt::Write>(&self, f: &mut fmt::Formatter<W>) -> fmt::Result {
+        let name = asm_fault_name(self.kind);
+        let line = self.line;
+        match self.kind {
+            AsmFaultKind::Memory => write!(f, "{name}"),
+            _ => write!(f, "{name} at line {line}"),
+        }
+    }
+}
+
+impl std::error::Error for AsmFault {}
+
+impl From<AllocError> for AsmFault {
+    ghost from_gives = { λ _ fault. fault ≡ record { line = 0; kind = AsmFaultKind.Memory } };
+
+    fn from(_error: AllocError) -> AsmFault {
+        AsmFault {
+            line: 0,
+            kind: AsmFaultKind::Memory,
+        }
+    }
+}

@@ -1,0 +1,26 @@
+//! Where labels stand.
+
+ghost use Rattle.std.specs.Prelude.{◌≡◌, ℕ, List, Option, Some, OnOk, if◌then◌else◌};
+ghost use Rattle.std.specs.Str.{bytes_eq};
+ghost use Rattle.bpf_text.specs.Labels.{slot_at};
+
+use std::alloc::{AllocError, Global};
+use std::collections::BTreeMap;
+
+/// The slot of each label.
+pub type Labels<'a> = BTreeMap<&'a [u8], u16>;
+
+/// The slot of a label.
+pub fn label_slot<'a>(labels: &Labels<'a>, name: &'a [u8]) -> Option<u16>
+    ensures { result ≡ slot_at labels.now name.now }
+{
+    labels.get(&name).copied()
+}
+
+/// One label more.
+pub fn add_label<'a>(labels: &mut Labels<'a>, name: &'a [u8], slot: u16) -> Result<(), AllocError>
+    ensures { OnOk result ((q : List ℕ) → slot_at labels.new q ≡ (if bytes_eq name.now q then Some slot else slot_at labels.old q)) }
+{
+    labels.insert(name, slot)?;
+    Ok(())
+}

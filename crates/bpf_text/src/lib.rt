@@ -1,0 +1,23 @@
+//! The text of BPF instructions: `assemble` reads it into bytes, and `listing` writes it of bytes.
+//! Both go by one table of words and one set of arguments (see `mnemonic` and `argument`).
+#![tactic(auto)]
+
+mod argument;
+mod assembler;
+mod draft;
+mod fault;
+mod item;
+mod label;
+mod line;
+mod lister;
+mod mnemonic;
+mod operand;
+mod operands;
+mod range;
+mod scan;
+mod token;
+mod vocabulary;
+
+pub use assembler::assemble;
+pub use fault::{AsmFault, AsmFaultKind, ListFault};
+pub use lister::listing;

@@ -1,0 +1,145 @@
+//! The listing: a line an instruction, from the bytes' first slot to their end.
+
+ghost use Rattle.std.specs.Prelude.{◌≡◌, ◌*◌, ◌<◌, ◌≤◌, ◌++◌, length, OnOk, IfOk, IfErr, codes};
+ghost use Rattle.std.specs.String.{string_bytes};
+ghost use Rattle.std.specs.Fmt.{decimal, signed_decimal};
+ghost use Rattle.bpf_text.specs.Listing.{
+  register_text,
+  with_sign,
+  argument_text,
+  text_behind,
+  line_of,
+  Lists,
+  IsListFault,
+  IsNext,
+  IsFaultAt,
+};
+ghost use Rattle.bpf_text.specs.Assembly.{assembly_of};
+
+use crate::argument::{Argument, arguments_of, mnemonic_of};
+use crate::fault::ListFault;
+use bpf_insn::{Insn, Reg, Width, decode_at};
+use std::alloc::{AllocError, Global};
+use std::fmt::Write;
+
+/// The name of a register, `r0` to `r10`.
+pub fn register_name(register: Reg) -> &'static str
+    ensures { result.now ≡ register_text register }
+{
+    match register {
+        Reg::R0 => "r0",
+        Reg::R1 => "r1",
+        Reg::R2 => "r2",
+        Reg::R3 => "r3",
+        Reg::R4 => "r4",
+        Reg::R5 => "r5",
+        Reg::R6 => "r6",
+        Reg::R7 => "r7",
+        Reg::R8 => "r8",
+        Reg::R9 => "r9",
+        Reg::R10 => "r10",
+    }
+}
+
+fn push_number(out: &mut String, n: u64) -> Result<(), AllocError>
+    ensures { OnOk result (string_bytes out.new ≡ string_bytes out.old ++ decimal n) }
+{
+    write!(out, "{n}")
+}
+
+fn push_signed(out: &mut String, n: i32) -> Result<(), AllocError>
+    ensures { OnOk result (string_bytes out.new ≡ string_bytes out.old ++ signed_decimal n) }
+{
+    write!(out, "{n}")
+}
+
+fn push_with_sign(out: &mut String, n: i32) -> Result<(), AllocError>
+    ensures { OnOk result (string_bytes out.new ≡ string_bytes out.old ++ with_sign n) }
+{
+    if n >= 0 {
+        out.push_str("+")?;
+    }
+    push_signed(out, n)
+}
+
+fn push_argument(out: &mut String, argument: Argument) -> Result<(), AllocError>
+    ensures { OnOk result (string_bytes out.new ≡ string_bytes out.old ++ argument_text argument) }
+{
+    match argument {
+        Argument::Register(r) => out.push_str(register_name(r)),
+        Argument::Imm(k) => push_signed(out, k),
+        Argument::Number(n) => push_number(out, n),
+        Argument::Memory(r, k) => {
+            out.push_str("[")?;
+            out.push_str(register_name(r))?;
+            push_with_sign(out, i32::from(k))?;
+            out.push_str("]")
+        }
+        Argument::Distance(k) => push_with_sign(out, k),
+    }
+}
+
+fn push_behind(
+    out: &mut String,
+    divider: &str,
+    argument: Option<Argument>,
+) -> Result<(), AllocError>
+    ensures { OnOk result (string_bytes out.new ≡ string_bytes out.old ++ text_behind divider.now argument) }
+{
+    if let Some(argument) = argument {
+        out.push_str(divider)?;
+        push_argument(out, argument)?;
+    }
+    Ok(())
+}
+
+fn push_line(out: &mut String, insn: Insn) -> Result<(), AllocError>
+    ensures { OnOk result (string_bytes out.new ≡ string_bytes out.old ++ line_of insn) }
+{
+    let mnemonic = mnemonic_of(insn);
+    let arguments = arguments_of(insn);
+    out.push_str(mnemonic.stem())?;
+    out.push_str(mnemonic.suffix())?;
+    push_behind(out, " ", arguments.first)?;
+    push_behind(out, ", ", arguments.second)?;
+    push_behind(out, ", ", arguments.third)?;
+    out.push_str("\n")
+}
+
+// Writes the line of the instruction that begins at a slot, and answers the slot after it.
+fn push_next(out: &mut String, bytes: &[u8], slot: usize) -> Result<usize, ListFault>
+    requires { 8 * slot < length bytes.now }
+    ensures next { IfOk result (IsNext bytes.now slot (string_bytes out.old) (string_bytes out.new)) }
+    ensures fault { IfErr result (IsFaultAt bytes.now slot) }
+{
+    match decode_at(bytes, slot) {
+        Ok((insn, width)) => {
+            push_line(out, insn)?;
+            match width {
+                Width::One => Ok(slot + 1),
+                Width::Two => Ok(slot + 2),
+            }
+        }
+        Err(fault) => Err(ListFault::Insn { slot, fault }),
+    }
+}
+
+/// The listing of bytes: one line an instruction, ended by LF. Numbers are decimal and signed, but
+/// that of `lddw` unsigned; offsets and distances always have a sign.
+///
+/// The text of at most 4096 slots assembles to the same bytes.
+///
+/// Refused with the first slot where no instruction begins and its fault, or with `Memory` where a
+/// growth of the text was refused.
+pub fn listing(alloc: Global, bytes: &[u8]) -> Result<String, ListFault>
+    ensures text { IfOk result (λ text. Lists bytes.now (string_bytes text)) }
+    ensures assembles { IfOk result (λ text. length bytes.now ≤ 8 * 4096 → assembly_of (string_bytes text) ≡ Ok bytes.now) }
+    ensures fault { IfErr result (λ e. IsListFault bytes.now e) }
+{
+    let mut out = String::new(alloc);
+    let mut slot = 0;
+    while 8 * slot < bytes.len() {
+        slot = push_next(&mut out, bytes, slot)?;
+    }
+    Ok(out)
+}

@@ -1,0 +1,244 @@
+//! The tokens of a line: words, numbers with their sign, and the marks `,` `:` `[` `]`. Blanks
+//! stand between tokens, and a comment goes from `;` to the line's end.
+
+ghost use Rattle.std.specs.Prelude.{
+  ◌≡◌,
+  ◌∷◌,
+  ◌+◌,
+  ◌*◌,
+  [],
+  ◌≤◌,
+  ◌<◌,
+  length,
+  map,
+  IfOk,
+  Some,
+  None,
+  Option,
+  if◌then◌else◌,
+  option_map,
+  nat_lt,
+};
+ghost use Rattle.std.specs.Char.{digit_value};
+ghost use Rattle.std.specs.List.{list_all, prefix_len};
+ghost use Rattle.bpf_text.specs.Tokens.{
+  seen,
+  is_blank,
+  is_letter,
+  is_name_byte,
+  is_mark,
+  mark_of,
+  goes_on,
+  pieces,
+  is_numeral,
+  magnitude,
+  numeral,
+  unsigned_number,
+  token_of,
+  tokens_of,
+  piece_len,
+  number_if_small,
+};
+
+use std::alloc::AllocError;
+
+/// The sign that stands before a number.
+#[derive(Clone, Copy, Debug, PartialEq, Eq)]
+pub enum Sign {
+    Absent,
+    Minus,
+    Plus,
+}
+
+/// A number as it is written. Its magnitude is `None` where 64 bits don't hold it.
+#[derive(Clone, Copy, Debug, PartialEq, Eq)]
+pub struct Figure {
+    pub sign: Sign,
+    pub magnitude: Option<u64>,
+}
+
+/// One token of a line.
+#[derive(Clone, Copy, Debug)]
+pub enum Token<'a> {
+    Word(&'a [u8]),
+    Number(Figure),
+    Comma,
+    Colon,
+    Open,
+    Close,
+}
+
+fn is_blank(c: u8) -> bool
+    ensures { result ≡ is_blank c }
+{
+    c == b' ' || c == b'\t'
+}
+
+fn is_letter(c: u8) -> bool
+    ensures { result ≡ is_letter c }
+{
+    c.is_ascii_alphabetic() || c == b'_'
+}
+
+fn is_name_byte(c: u8) -> bool
+    ensures { result ≡ is_name_byte c }
+{
+    is_letter(c) || c.is_ascii_digit()
+}
+
+fn is_mark(c: u8) -> bool
+    ensures { result ≡ is_mark c }
+{
+    c == b',' || c == b':' || c == b'[' || c == b']'
+}
+
+fn mark_of<'a>(c: u8) -> Option<Token<'a>>
+    ensures { option_map seen result ≡ mark_of c }
+{
+    match c {
+        b',' => Some(Token::Comma),
+        b':' => Some(Token::Colon),
+        b'[' => Some(Token::Open),
+        b']' => Some(Token::Close),
+        _ => None,
+    }
+}
+
+// The value of a digit or letter, 36 for any other byte.
+fn digit_value(c: u8) -> u8
+    ensures { result ≡ digit_value c }
+{
+    match c {
+        b'0'..=b'9' => c - b'0',
+        b'A'..=b'Z' => c - b'A' + 10,
+        b'a'..=b'z' => c - b'a' + 10,
+        _ => 36,
+    }
+}
+
+fn are_digits(radix: u8, bytes: &[u8]) -> bool
+    ensures { result ≡ list_all (λ c. nat_lt (digit_value c) radix) bytes.now }
+{
+    bytes.iter().all(|c| digit_value(*c) < radix)
+}
+
+fn is_numeral(radix: u8, digits: &[u8]) -> bool
+    ensures { result ≡ is_numeral radix digits.now }
+{
+    !digits.is_empty() && are_digits(radix, digits)
+}
+
+// The number with one digit more, if 64 bits hold it.
+fn with_digit(n: u64, radix: u8, digit: u8) -> Option<u64>
+    ensures { result ≡ number_if_small (n * radix + digit) }
+{
+    n.checked_mul(u64::from(radix))?
+        .checked_add(u64::from(digit))
+}
+
+fn magnitude(radix: u8, digits: &[u8]) -> Option<u64>
+    requires { 1 ≤ radix }
+    ensures { result ≡ magnitude radix digits.now }
+{
+    let mut n = 0u64;
+    for c in digits {
+        n = with_digit(n, radix, digit_value(*c))?;
+    }
+    Some(n)
+}
+
+fn numeral<'a>(sign: Sign, radix: u8, digits: &[u8]) -> Option<Token<'a>>
+    requires { 1 ≤ radix }
+    ensures { option_map seen result ≡ numeral sign radix digits.now }
+{
+    if is_numeral(radix, digits) {
+        let magnitude = magnitude(radix, digits);
+        Some(Token::Number(Figure { sign, magnitude }))
+    } else {
+        None
+    }
+}
+
+fn unsigned_number<'a>(piece: &[u8]) -> Option<Token<'a>>
+    ensures { option_map seen result ≡ unsigned_number piece.now }
+{
+    if piece.len() >= 2 && piece[0] == b'0' && piece[1] == b'x' {
+        if piece.len() <= 18 {
+            numeral(Sign::Absent, 16, &piece[2..])
+        } else {
+            None
+        }
+    } else {
+        numeral(Sign::Absent, 10, piece)
+    }
+}
+
+fn token_of<'a>(piece: &'a [u8]) -> Option<Token<'a>>
+    ensures { option_map seen result ≡ token_of piece.now }
+{
+    let (first, rest) = piece.split_first()?;
+    let first = *first;
+    if is_mark(first) {
+        mark_of(first)
+    } else if is_letter(first) {
+        if piece.len() <= 32 {
+            Some(Token::Word(piece))
+        } else {
+            None
+        }
+    } else if first == b'-' {
+        numeral(Sign::Minus, 10, rest)
+    } else if first == b'+' {
+        numeral(Sign::Plus, 10, rest)
+    } else {
+        unsigned_number(piece)
+    }
+}
+
+// How many letters, digits and underscores stand at the front.
+fn name_length(s: &[u8]) -> usize
+    ensures is { result ≡ prefix_len is_name_byte s.now }
+    ensures within { result ≤ length s.now }
+{
+    let mut n = 0;
+    while n < s.len() && is_name_byte(s[n]) {
+        n += 1;
+    }
+    n
+}
+
+// How long the piece at the front is.
+fn piece_length(first: u8, rest: &[u8]) -> usize
+    ensures is { result ≡ piece_len first rest.now }
+    ensures within { result ≤ length rest.now + 1 }
+{
+    if is_mark(first) {
+        1
+    } else {
+        1 + name_length(rest)
+    }
+}
+
+/// Reads the tokens of a line, in place of what was there, and answers whether all of it is tokens.
+pub fn read_tokens<'a>(tokens: &mut Vec<Token<'a>>, line: &'a [u8]) -> Result<bool, AllocError>
+    ensures { IfOk result (λ whole. tokens_of line.now ≡ (if whole then Some (map seen tokens.new.items) else None)) }
+{
+    tokens.clear();
+    let mut rest = line;
+    while let Some((first, after)) = rest.split_first() {
+        if *first == b';' {
+            return Ok(true);
+        }
+        if is_blank(*first) {
+            rest = after;
+            continue;
+        }
+        let (piece, behind) = rest.split_at(piece_length(*first, after));
+        let Some(token) = token_of(piece) else {
+            return Ok(false);
+        };
+        tokens.push(token)?;
+        rest = behind;
+    }
+    Ok(true)
+}
