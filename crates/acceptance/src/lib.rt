@@ -10,4 +10,12 @@ mod encoding;
 #[cfg(test)]
 mod graph;
 #[cfg(test)]
+mod mnemonics;
+#[cfg(test)]
+mod rulesets;
+#[cfg(test)]
+mod text;
+#[cfg(test)]
 mod verifier;
+#[cfg(test)]
+mod world_rows;

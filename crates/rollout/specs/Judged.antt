@@ -6,11 +6,13 @@ use Rattle.flow_check.specs.Fault.{IsFlowFault}
 use Rattle.bpf_verify.specs.declared.shape.Shape.{Shape}
 use Rattle.bpf_verify.specs.Accepted.{IsRefusal}
 use Rattle.rollout.specs.declared.fault.Fault.{Fault}
-use Rattle.rollout.specs.declared.fault.Fault.TheVariants.{File, Memory, Flow, Rule}
+use Rattle.rollout.specs.declared.fault.Fault.TheVariants.{File, Memory, Text, Bytes, Flow, Rule}
 
 -- the graph's fault, or the verifier's refusal of the program that the bytes are
 abbrev pub IsJudged : List ℕ → Shape → Fault → Type 0
 IsJudged bytes shape (Flow fault) = IsFlowFault bytes fault
 IsJudged bytes shape (Rule refusal) = (p : Program) × (program_bytes p ≡ bytes) × IsFlow p × IsRefusal p shape refusal
+IsJudged bytes shape (Text fault) = ⊥
+IsJudged bytes shape (Bytes fault) = ⊥
 IsJudged bytes shape File = ⊥
 IsJudged bytes shape Memory = ⊥

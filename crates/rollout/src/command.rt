@@ -2,14 +2,12 @@
 
 ghost use Rattle.std.specs.Prelude.{◌≡◌, ◌≤◌, if◌then◌else◌};
 
-use crate::fault::{Answer, Fault};
-use crate::program::{choose, verified};
-use crate::request::{ProgramFile, Request, grammar, request_of};
-use bpf_verify::{Shape, Verified};
+use crate::answer::answer;
+use crate::fault::Fault;
+use crate::request::{grammar, request_of};
 use clap::Error;
 use std::convert::AsStr;
-use std::fs;
-use std::io::{ErrorKind, Read, Write};
+use std::io::{self, ErrorKind, Write};
 use std::rt::Files;
 
 /// The command did what it was asked.
@@ -18,9 +16,6 @@ const DONE: u8 = 0;
 const REFUSED: u8 = 1;
 /// The words are wrong.
 const USAGE: u8 = 2;
-
-/// One byte more than a program can have, so that one that is too long shows.
-const READ_LIMIT: u64 = 32769;
 
 /// Does what the words ask, the first of which is the program's name. Results go to `out`, and
 /// refusals and usage to `err`. The status is 0 done, 1 refused or after a failed write, 2 usage.
@@ -43,49 +38,18 @@ pub fn command<R: Files + AllocGlobal, S: AsStr, O: Write, E: Write>(
         return USAGE;
     };
     match answer(rt, &request) {
-        Ok(answer) => status_of(writeln!(out, "{answer}").is_ok(), DONE),
+        Ok(answer) => status_of(write!(out, "{answer}").is_ok(), DONE),
         Err(fault) => refused(err, &fault),
     }
 }
 
-fn answer<R: Files + AllocGlobal>(rt: &R, request: &Request<'_>) -> Result<Answer, Fault> {
-    match request {
-        Request::Verify { program } => Ok(Answer::Accepted {
-            slots: verified_file(rt, program)?.len(),
-        }),
-        Request::Run {
-            program,
-            version,
-            bucket,
-        } => {
-            let program = verified_file(rt, program)?;
-            let (choice, instructions) = choose(rt.alloc(), program, *version, *bucket)?;
-            Ok(Answer::Chosen {
-                choice,
-                instructions,
-            })
-        }
-    }
-}
-
-fn verified_file<R: Files + AllocGlobal>(
-    rt: &R,
-    program: &ProgramFile<'_>,
-) -> Result<Verified, Fault> {
-    let bytes = read_file(rt, program.path)?;
-    verified(rt.alloc(), &bytes, &Shape::of(program.releases))
-}
-
-fn read_file<R: Files + AllocGlobal>(rt: &R, path: &str) -> Result<Vec<u8>, Fault> {
-    let mut bytes = Vec::new(rt.alloc());
-    let read = match fs::open(rt, path) {
-        Ok(file) => file.take(READ_LIMIT).read_to_end(&mut bytes),
-        Err(error) => Err(error),
-    };
-    match read {
-        Ok(_) => Ok(bytes),
-        Err(error) if error.kind() == ErrorKind::OutOfMemory => Err(Fault::Memory),
-        Err(_) => Err(Fault::File),
+/// What words are answered that can't be read: their memory was refused, or one isn't UTF-8.
+pub fn unreadable_words<E: Write>(error: &io::Error, err: &mut E) -> u8
+    ensures { result ≤ 2 }
+{
+    match error.kind() {
+        ErrorKind::OutOfMemory => refused(err, &Fault::Memory),
+        _ => status_of(writeln!(err, "error: a word isn't UTF-8").is_ok(), USAGE),
     }
 }
 

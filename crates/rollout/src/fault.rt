@@ -1,5 +1,6 @@
 //! Why the program refuses, and what it answers otherwise.
 
+use bpf_text::{AsmFault, ListFault};
 use bpf_verify::Refusal;
 use flow_check::FlowFault;
 use std::fmt;
@@ -11,6 +12,10 @@ pub enum Fault {
     File,
     /// B4: memory that the command itself wants is refused.
     Memory,
+    /// A1 to A7: the text stands for no bytes.
+    Text(AsmFault),
+    /// I1 to I7: the bytes spell no instructions.
+    Bytes(ListFault),
     /// F1 to F9: the bytes are no program, or its graph isn't one that ends.
     Flow(FlowFault),
     /// V1 to V15: the verifier doesn't accept the program.
@@ -22,15 +27,21 @@ impl fmt::Display for Fault {
         match self {
             Fault::File => f.write_str("B3 File"),
             Fault::Memory => f.write_str("B4 Memory"),
+            Fault::Text(fault) => write!(f, "{fault}"),
+            Fault::Bytes(fault) => write!(f, "{fault}"),
             Fault::Flow(fault) => write!(f, "{fault}"),
             Fault::Rule(refusal) => write!(f, "{refusal}"),
         }
     }
 }
 
-/// What a request is answered.
-#[derive(Clone, Copy, Debug, PartialEq, Eq)]
+/// What a request is answered, by lines that are each ended by LF.
+#[derive(Debug, Drop)]
 pub enum Answer {
+    /// The text was assembled; the number of slots of its bytes.
+    Assembled { slots: usize },
+    /// The listing of the bytes: a line an instruction.
+    Listed { text: String },
     /// The program is accepted; its length in slots.
     Accepted { slots: usize },
     /// The program chose a release, or none, and did so many instructions.
@@ -40,11 +51,13 @@ pub enum Answer {
 impl fmt::Display for Answer {
     fn fmt<W: fmt::Write>(&self, f: &mut fmt::Formatter<W>) -> fmt::Result {
         match self {
-            Answer::Accepted { slots } => write!(f, "accepted {slots} slots"),
+            Answer::Assembled { slots } => writeln!(f, "{slots} slots"),
+            Answer::Listed { text } => f.write_str(text),
+            Answer::Accepted { slots } => writeln!(f, "accepted {slots} slots"),
             Answer::Chosen {
                 choice,
                 instructions,
-            } => write!(f, "choice {choice} after {instructions} instructions"),
+            } => writeln!(f, "choice {choice} after {instructions} instructions"),
         }
     }
 }

@@ -2,21 +2,29 @@
 //! ask, over any two writers.
 #![tactic(auto)]
 
+mod answer;
 mod command;
 mod fault;
+mod files;
 mod program;
 mod request;
 #[cfg(test)]
 mod tests;
 
-use crate::command::command;
-use std::env;
+use crate::command::{command, unreadable_words};
 use std::process::ExitCode;
+use std::{env, io};
 
-fn main(rt: HostRuntime) -> anyhow::Result<ExitCode> {
-    let words: Vec<String> = env::args(&rt)?.collect(rt.alloc())?;
+fn words_of(rt: &HostRuntime) -> io::Result<Vec<String>> {
+    Ok(env::args(rt)?.collect(rt.alloc())?)
+}
+
+fn main(rt: HostRuntime) -> ExitCode {
     let mut out = rt.stdout();
     let mut err = rt.stderr();
-    let status = command(&rt, words.as_slice(), &mut out, &mut err);
-    Ok(ExitCode::from(status))
+    let status = match words_of(&rt) {
+        Ok(words) => command(&rt, words.as_slice(), &mut out, &mut err),
+        Err(error) => unreadable_words(&error, &mut err),
+    };
+    ExitCode::from(status)
 }

@@ -16,6 +16,15 @@ pub struct ProgramFile<'a> {
 /// One request of the command line.
 #[derive(Drop)]
 pub enum Request<'a> {
+    /// Assemble the text of one file into another.
+    Assemble {
+        text: &'a str,
+        out: &'a str,
+    },
+    /// List the instructions of a file's bytes.
+    List {
+        path: &'a str,
+    },
     /// Verify the program.
     Verify {
         program: ProgramFile<'a>,
@@ -70,6 +79,27 @@ fn version_option<'a>(alloc: Global) -> Arg<'a> {
         .help("Version of the app: one to four numbers joined by dots; absent by default")
 }
 
+fn assemble_command<'a>(alloc: Global) -> Result<Command<'a>, AllocError> {
+    let text = Arg::new(alloc, "IN")
+        .required(true)
+        .action(ArgAction::Set)
+        .help("File of assembly text");
+    let out = Arg::new(alloc, "OUT")
+        .required(true)
+        .action(ArgAction::Set)
+        .help("File that gets the program's bytes");
+    Command::new(alloc, "asm")
+        .about("Assemble a text into a program's bytes: `N slots`")
+        .arg(text)?
+        .arg(out)
+}
+
+fn list_command<'a>(alloc: Global) -> Result<Command<'a>, AllocError> {
+    Command::new(alloc, "list")
+        .about("List a program's instructions, one a line")
+        .arg(program_argument(alloc))
+}
+
 fn verify_command<'a>(alloc: Global) -> Result<Command<'a>, AllocError> {
     Command::new(alloc, "verify")
         .about("Tell whether a program is accepted: `accepted N slots`, or its refusal")
@@ -91,6 +121,8 @@ pub fn grammar<'a>(alloc: Global) -> Result<Command<'a>, AllocError> {
     Command::new(alloc, "rollout")
         .about("Decide by verified BPF programs which release an app is offered")
         .subcommand_required(true)
+        .subcommand(assemble_command(alloc)?)?
+        .subcommand(list_command(alloc)?)?
         .subcommand(run_command(alloc)?)?
         .subcommand(verify_command(alloc)?)
 }
@@ -98,6 +130,13 @@ pub fn grammar<'a>(alloc: Global) -> Result<Command<'a>, AllocError> {
 /// The request that the matches hold. The grammar gives each value in its range, so there is one.
 pub fn request_of<'a>(matches: &ArgMatches<'a>) -> Option<Request<'a>> {
     match matches.subcommand() {
+        Some(("asm", found)) => Some(Request::Assemble {
+            text: found.get_str("IN")?,
+            out: found.get_str("OUT")?,
+        }),
+        Some(("list", found)) => Some(Request::List {
+            path: found.get_str("IN")?,
+        }),
         Some(("verify", found)) => Some(Request::Verify {
             program: program_of(found)?,
         }),

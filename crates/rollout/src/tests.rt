@@ -3,6 +3,7 @@
 
 mod programs;
 mod refusals;
+mod texts;
 mod usage;
 
 use crate::command::command;

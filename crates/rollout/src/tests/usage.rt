@@ -4,9 +4,10 @@ use crate::command::command;
 use std::test::Fail;
 use std::{fs, process};
 
-const WRONG: [&[&str]; 11] = [
+const WRONG: [&[&str]; 12] = [
     &["rollout"],
     &["rollout", "frob"],
+    &["rollout", "asm", "a.txt"],
     &["rollout", "run", "--releases", "0"],
     &["rollout", "run", "a.bin"],
     &["rollout", "run", "a.bin", "--releases", "65"],

@@ -1,0 +1,60 @@
+//! That a ruleset is made where there is memory, and which fault is printed.
+
+ghost use Rattle.std.specs.Prelude.{◌≤◌};
+
+use bpf_verify::{Shape, Verified, verify};
+use flow_check::Flow;
+use ruleset::{LoadFault, Ruleset};
+use std::alloc::Global;
+use std::sync::Arc;
+use std::test::Fail;
+
+// mov r0, 0 / exit
+const NONE: [u8; 16] = [0xb7, 0, 0, 0, 0, 0, 0, 0, 0x95, 0, 0, 0, 0, 0, 0, 0];
+
+fn app(alloc: Global, appid: &str, releases: u8) -> Result<(String, Arc<Verified>), Fail>
+    requires { releases ≤ 64 }
+{
+    let flow = Flow::check(alloc, &NONE)?;
+    let program = verify(alloc, flow, &Shape::of(releases))?;
+    Ok((String::from_str(alloc, appid)?, Arc::new(alloc, program)?))
+}
+
+#[test]
+fn apps_are_found(rt: HostRuntime) -> Result<(), Fail> {
+    let apps = vec![in rt.alloc(); app(rt.alloc(), "x", 3)?, app(rt.alloc(), "y", 64)?]?;
+    let rules = Ruleset::of(rt.alloc(), apps)?;
+    assert_eq!(rt; rules.apps().len(), 2);
+    assert_eq!(rt; rules.server(), "");
+    assert_eq!(rt; rules.find("x").ok_or("no x")?.releases(), 3);
+    assert_eq!(rt; rules.find("y").ok_or("no y")?.releases(), 64);
+    assert!(rt; rules.find("z").is_none());
+    Ok(())
+}
+
+#[test]
+fn appids_stand_once(rt: HostRuntime) -> Result<(), Fail> {
+    let apps = vec![in rt.alloc();
+        app(rt.alloc(), "x", 1)?,
+        app(rt.alloc(), "y", 1)?,
+        app(rt.alloc(), "x", 2)?,
+    ]?;
+    assert_eq!(rt;
+        Ruleset::of(rt.alloc(), apps).err(),
+        Some(LoadFault::Duplicate)
+    );
+    Ok(())
+}
+
+#[test]
+fn faults_are_printed(rt: HostRuntime) -> Result<(), Fail> {
+    assert_eq!(rt;
+        format!(in rt.alloc(); "{}", LoadFault::Duplicate)?.as_str(),
+        "M3 Duplicate"
+    );
+    assert_eq!(rt;
+        format!(in rt.alloc(); "{}", LoadFault::Memory)?.as_str(),
+        "M8 Memory"
+    );
+    Ok(())
+}
