@@ -18,6 +18,21 @@ end:
 
 const LISTED: &str = "ldxh r2, [r1+16]\nmov r0, 0\njge r2, 100, +1\nmov r0, 1\nexit\n";
 
+/// A choice by the version: from 2 on, where it is known.
+const BY_VERSION: &str = "    mov r0, 0
+    ldxb r2, [r1+18]
+    and r2, 1
+    jge r2, 1, known
+    exit
+known:
+    ldxb r2, [r1+0]
+    jge r2, 2, newer
+    exit
+newer:
+    mov r0, 1
+    exit
+";
+
 /// Does the command and compares.
 fn answers<R: Files + AllocGlobal + Abort>(
     rt: &R,
@@ -60,6 +75,53 @@ fn text_to_choice(rt: HostRuntime) -> Result<(), Fail> {
         words.as_slice(),
         0,
         "choice 1 after 5 instructions\n",
+        "",
+    );
+    fs::remove_file(&rt, text)?;
+    fs::remove_file(&rt, bytes)?;
+    Ok(())
+}
+
+/// The same of a text whose paths end at several exits.
+#[test]
+fn version_to_choice(rt: HostRuntime) -> Result<(), Fail> {
+    let id = process::id(rt.process());
+    let text = format!(in rt.alloc(); "/tmp/rollout-{id}-version.txt")?;
+    let bytes = format!(in rt.alloc(); "/tmp/rollout-{id}-version.bin")?;
+    let (text, bytes) = (text.as_str(), bytes.as_str());
+    fs::write(&rt, text, BY_VERSION.as_bytes())?;
+    let words = vec![in rt.alloc(); "rollout", "asm", text, bytes]?;
+    answers(&rt, words.as_slice(), 0, "10 slots\n", "");
+    let words = vec![in rt.alloc();
+        "rollout",
+        "run",
+        bytes,
+        "--releases",
+        "1",
+        "--version",
+        "2.0",
+    ]?;
+    answers(
+        &rt,
+        words.as_slice(),
+        0,
+        "choice 1 after 8 instructions\n",
+        "",
+    );
+    let words = vec![in rt.alloc();
+        "rollout",
+        "run",
+        bytes,
+        "--releases",
+        "1",
+        "--version",
+        "1.9",
+    ]?;
+    answers(
+        &rt,
+        words.as_slice(),
+        0,
+        "choice 0 after 7 instructions\n",
         "",
     );
     fs::remove_file(&rt, text)?;
