@@ -119,6 +119,17 @@ fn operand_argument(operand: Operand) -> Argument
     }
 }
 
+// What a jump compares, and how far it goes.
+fn jump_arguments(left: Reg, right: Operand, offset: i16) -> Arguments
+    ensures { result ≡ record { first = Some (Argument.Register left); second = Some (operand_argument right); third = Some (Argument.Distance offset) } }
+{
+    three(
+        Argument::Register(left),
+        operand_argument(right),
+        Argument::Distance(i32::from(offset)),
+    )
+}
+
 fn wide_arguments(dst: Reg, value: WideValue) -> Arguments
     ensures { result ≡ wide_arguments dst value }
 {
@@ -153,11 +164,7 @@ pub fn arguments_of(insn: Insn) -> Arguments
             right,
             offset,
             ..
-        } => three(
-            Argument::Register(left),
-            operand_argument(right),
-            Argument::Distance(i32::from(offset)),
-        ),
+        } => jump_arguments(left, right, offset),
         Insn::Call { helper } => one(Argument::Imm(helper)),
         Insn::Exit => none(),
         Insn::Load {
