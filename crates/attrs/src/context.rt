@@ -6,7 +6,7 @@ ghost use Rattle.std.specs.List.{splice};
 /// The facts of one app of a request at a moment.
 #[derive(Clone, Copy, Debug, PartialEq, Eq)]
 pub struct Context {
-    /// The four numbers of the app's version, each 0 where the version isn't known.
+    /// The four numbers of the app's version; `Attrs` gives 0 where it isn't known.
     pub version: [u32; 4],
     /// Which of the 10000 buckets the app is in.
     pub bucket: u16,
@@ -24,7 +24,7 @@ pub struct Context {
 }
 
 impl Context {
-    ghost use Rattle.attrs.specs.Context.{context_bytes};
+    ghost use Rattle.attrs.specs.Context.{context_bytes, version_known, updatecheck, ping, event, cohort_known, installdate_known, unknown_day};
 
     /// The app sent a version, and it is one.
     pub const VERSION_KNOWN: u8 = 1;
@@ -41,6 +41,13 @@ impl Context {
 
     /// The install day of an app that sent none.
     pub const UNKNOWN_DAY: u32 = u32::MAX;
+
+    /// Each flag has the number that the layout gives it, and so has the unknown day.
+    pub fn flag_numbers()
+        ensures known { (Self.VERSION_KNOWN ≡ version_known) × (Self.COHORT_KNOWN ≡ cohort_known) × (Self.INSTALLDATE_KNOWN ≡ installdate_known) }
+        ensures asked { (Self.UPDATECHECK ≡ updatecheck) × (Self.PING ≡ ping) × (Self.EVENT ≡ event) }
+        ensures day { Self.UNKNOWN_DAY ≡ unknown_day }
+    {}
 
     /// The bytes of the context.
     pub fn bytes(&self) -> [u8; 64]
