@@ -1,7 +1,7 @@
 -- Bytes spell one instruction or have one least fault: whoever answers either answers all.
 use Rattle.std.proofs.Common.{◌≡◌, ◌≢◌, ℕ, ◌+◌, ◌*◌, ◌<◌, ◌≤◌, inl, inr, List, length, Option, Some, None, IfSome, Result, Ok, Err, IfOk, IfErr, Bool, true, false, not, ◌&&◌, nat_le, if◌then◌else◌, refl, sym, ap, subst, ◌∙◌, arith, rules, tests}
 use Rattle.std.proofs.lemmas.Bool.{le-leb}
-use Rattle.std.proofs.lemmas.Option.{same_Some}
+use Rattle.std.proofs.lemmas.Option.{same_Some, none-some}
 use Rattle.bpf_insn.specs.declared.operand.WideValue.{WideValue}
 use Rattle.bpf_insn.specs.declared.operand.Distance.TheVariants as operand
 use Rattle.bpf_insn.specs.declared.reg.Reg.{Reg}
@@ -19,9 +19,6 @@ use Rattle.bpf_insn.specs.Spelling.{form_of, fields_of, second_of, second_half, 
 use Rattle.bpf_insn.proofs.Halves.{same_half, half_length, first_half, later_half, read_half, read_half_is}
 use Rattle.bpf_insn.proofs.Insns.{same_insn, opcode-form, no_fault, no_second_fault}
 
-none_is_some : {A : Type 0} (x : A) → ◌≡◌ {A = Option A} None (Some x) → ⊥
-none_is_some x e = cc
-
 -- ---- the least fault, from the row's
 
 IsRowFault : InsnFault → Type 0
@@ -37,7 +34,7 @@ row_faults false b c d e h = subst IsRowFault (same_Some _ _ h) tt
 row_faults true false c d e h = subst IsRowFault (same_Some _ _ h) tt
 row_faults true true false d e h = subst IsRowFault (same_Some _ _ h) tt
 row_faults true true true false e h = subst IsRowFault (same_Some _ _ h) tt
-row_faults true true true true e h = absurd (none_is_some e h)
+row_faults true true true true e h = absurd (none-some e h)
 
 row_least : (b : List ℕ) (s : ℕ) (f : Fields) (e : InsnFault) → IsRowFault e → HasFields b s f → HasRowFault f e → (f.opcode ≡ opcode_of Wide → 8 * s + 16 ≤ length b) → IsLeastFault b s e
 unfolding IsRowFault
@@ -83,7 +80,7 @@ pub record IsFound (opcode : ℕ) (found : Option Form) : Type 0 where
   pub only : (form : Form) → opcode_of form ≡ opcode → found ≡ Some form
 
 pub no_form_least : (b : List ℕ) (s : ℕ) (f : Fields) (found : Option Form) → HasFields b s f → IsFound f.opcode found → found ≡ None → IsLeastFault b s faults.Opcode
-no_form_least b s f found has k none = (f, has, λ form op. none_is_some form (sym none ∙ k.only form op))
+no_form_least b s f found has k none = (f, has, λ form op. none-some form (sym none ∙ k.only form op))
 
 row_outcome : (form : Form) (there : Bool) (f : Fields) (second : Bool) (e : InsnFault) → fault_in (row_of form) f ≡ Some e → (f.opcode ≡ opcode_of Wide → there ≡ true) → opcode_of form ≡ f.opcode → fault_at form there f second ≡ Some e
 unfolding fault_at is_wide wide_fault
@@ -191,10 +188,10 @@ pub exact_only : (b : List ℕ) (s : ℕ) (f : Fields) (found : Option Form) (r 
 exact_only b s f found (Ok d) has k ok err i p =
     let same : d.0 ≡ i = one_insn b s f found has k d.0 i ok.0 p in
     ap (λ (w : Width). Ok (d.0, w)) ok.1 ∙ ap (λ (j : Insn). Ok (j, width_of j)) same
-exact_only b s f found (Err e) has k ok err i p = absurd (none_is_some e (sym (spelled_none b s f found has k i p) ∙ least_some b s f found has k e err))
+exact_only b s f found (Err e) has k ok err i p = absurd (none-some e (sym (spelled_none b s f found has k i p) ∙ least_some b s f found has k e err))
 
 pub exact_fault : (b : List ℕ) (s : ℕ) (f : Fields) (found : Option Form) (r : Result (Insn × Width) InsnFault) → HasFields b s f → IsFound f.opcode found → IfOk r (λ d. Spells b s d.0 × (d.1 ≡ width_of d.0)) → IfErr r (λ e. IsLeastFault b s e) → (e : InsnFault) → IsLeastFault b s e → r ≡ Err e
-exact_fault b s f found (Ok d) has k ok err e h = absurd (none_is_some e (sym (spelled_none b s f found has k d.0 ok.0) ∙ least_some b s f found has k e h))
+exact_fault b s f found (Ok d) has k ok err e h = absurd (none-some e (sym (spelled_none b s f found has k d.0 ok.0) ∙ least_some b s f found has k e h))
 exact_fault b s f found (Err x) has k ok err e h = ap (λ (y : InsnFault). Err y) (same_Some _ _ (sym (least_some b s f found has k x err) ∙ least_some b s f found has k e h))
 
 -- ---- where eight bytes aren't there

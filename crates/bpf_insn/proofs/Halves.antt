@@ -4,7 +4,7 @@ use Rattle.std.specs.Int.{w16, w32, to_le_bytes, from_le_bytes}
 use Rattle.std.proofs.lemmas.Nat.{from_le_bytes-to_le_bytes_2, from_le_bytes-to_le_bytes_4}
 use Rattle.std.proofs.lemmas.Int.{to_z-of_z, ints}
 use Rattle.std.proofs.lemmas.List.{take-take, drop-drop, drop-take, take-append-drop}
-use Rattle.std.proofs.lemmas.Option.{same_Some}
+use Rattle.std.proofs.lemmas.Option.{same_Some, none-some}
 use Rattle.bpf_insn.specs.declared.operand.WideValue.{WideValue}
 use Rattle.bpf_insn.specs.declared.reg.Reg.{Reg}
 use Rattle.bpf_insn.specs.declared.insn.Insn.{Insn}
@@ -84,22 +84,19 @@ wide_half b s dst value p = record {
   bytes_are = ap (take 8) (next_slot b s) ∙ sym (drop-take 8 8 (drop (8 * s) b)) ∙ ap (drop 8) p.bytes_are;
 }
 
-none_is_some : {A : Type 0} (x : A) → ◌≡◌ {A = Option A} None (Some x) → ⊥
-none_is_some x e = cc
-
 pub later_half : (b : List ℕ) (s : ℕ) (i : Insn) (g : Fields) → second_of i ≡ Some g → Spells b s i → HasFields b (s + 1) g
 later_half b s (Wide dst value) g e p = subst (λ (f : Fields). HasFields b (s + 1) f) (same_Some _ _ e) (wide_half b s dst value p)
-later_half b s i g e p = absurd (none_is_some g e)
+later_half b s i g e p = absurd (none-some g e)
 
 -- ---- the spelling, from the halves
 
 pub width_one : (i : Insn) → second_of i ≡ None → width_of i ≡ One
-width_one (Wide dst value) e = absurd (none_is_some _ (sym e))
+width_one (Wide dst value) e = absurd (none-some _ (sym e))
 width_one i e = refl
 
 pub width_two : (i : Insn) (g : Fields) → second_of i ≡ Some g → width_of i ≡ Two
 width_two (Wide dst value) g e = refl
-width_two i g e = absurd (none_is_some g e)
+width_two i g e = absurd (none-some g e)
 
 -- ---- the half that a slot would hold
 
