@@ -41,7 +41,7 @@ with_edges-to_place m (d ∷ ds) es = one_edge m d.entry ds es (d.target == m) (
 none_at : (p : Program) (s : ℕ) → slice_get p s ≡ None → IsSome (at p s) → ⊥
 none_at p s e h = let some : IsSome (◌>>=◌ {A = Option Insn} {B = Insn} None (λ i. i)) = rw e at h in absurd cc
 
-at_within : (p : Program) (s : ℕ) → IsSome (at p s) → s < length p
+pub at_within : (p : Program) (s : ℕ) → IsSome (at p s) → s < length p
 at_within p s h = elim (slice_get_cases p s).1 [
   | inl x ↦ x.1
   | inr x ↦ absurd (none_at p s x.1 h)

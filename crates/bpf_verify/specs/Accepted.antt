@@ -61,7 +61,7 @@ abbrev pub IsRefusal : Program → Shape → Refusal → Type 0
 IsRefusal p shape (refusal.Rule s rule) = IsRefused p shape s rule
 IsRefusal p shape refusal.Memory = Unit {0}
 
--- what a verified program is seen as
+-- a verified program as contracts see it; that it is accepted under its shape is kept by the type `Verified`
 pub record Accepted : Type 0 where
   pub code : Program
   pub shape : Shape

@@ -34,7 +34,7 @@ pub record IsCovered (p : Program) (s : State) : Type 0 where
   pub covers : Covers entry s
   pub place : IsSome (at p s.slot)
 
--- a step is no trap, and leads ahead to a covered state or ends with a choice among the releases
+-- a step is no trap, and leads ahead to a covered state or ends with 0 or one of the releases
 abbrev pub IsSafe : Program → ℕ → State → Outcome → Type 0
 IsSafe p releases s (Going t) = (s.slot < t.slot) × IsCovered p t
 IsSafe p releases s (Done n) = n ≤ releases

@@ -23,7 +23,7 @@ use Rattle.bpf_verify.specs.declared.refusal.Rule.TheVariants as rule
 use Rattle.bpf_verify.specs.Values.{is_unusable, is_pointer, is_number, pointer_result}
 use Rattle.bpf_verify.specs.Entries.{value_at, value_of, operand_value}
 
--- ---- V1: a register or a byte is read that may be unset
+-- ---- V1: a register is read that is unusable, or a byte of the stack that is unset
 
 -- n bytes from the place on, moved by the offset, of which one lies in the stack: no byte of the stack is ever set
 abbrev pub meets_stack : ℕ → ℤ → ℕ → Bool
@@ -122,7 +122,7 @@ abbrev pub wrong_result : Shape → Entry → Insn → Bool
 wrong_result shape e Exit = not (is_choice shape (value_at e 0))
 wrong_result shape e i = false
 
--- ---- the first rule that fails, in the order of their numbers
+-- ---- V10 where the instruction isn't judged; else the first rule that fails, in the order of their numbers
 
 unfoldable pub first_rule : Shape → Entry → Insn → Option Rule
 first_rule shape e i =

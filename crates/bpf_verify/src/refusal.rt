@@ -7,7 +7,8 @@ use thiserror::Error;
 /// A rule that an instruction breaks; of several the first is answered.
 #[derive(Clone, Copy, Debug, PartialEq, Eq, Error)]
 pub enum Rule {
-    /// It reads a register, or a byte of the stack, that may be unset.
+    /// It reads a register that may be unset or that holds different kinds on different paths, or a
+    /// byte of the stack that is unset.
     #[error("V1 Unusable")]
     Unusable,
     /// It writes R10, which holds the stack's top.
