@@ -21,7 +21,7 @@ use Rattle.world.proofs.Safe.{GoesOn, AllSafe, happens_safe, is_safe}
 abbrev Answer : Type 0
 Answer = Result Effect WorldFault
 
-same_worker : (w : WorldState) (k : ℕ) (x y : Worker) → IsWorker w k x → IsWorker w k y → x ≡ y
+pub same_worker : (w : WorldState) (k : ℕ) (x y : Worker) → IsWorker w k x → IsWorker w k y → x ≡ y
 same_worker w k x y here there = let both = sym here ∙ there in cc
 
 within : (w : WorldState) (k : ℕ) (x : Worker) → IsWorker w k x → length w.workers ≤ k → ⊥
@@ -35,7 +35,7 @@ steps_on w v k x (Err f) is running happens = absurd happens.0
 
 -- ---- a worker that has a run, and an event
 
-get_set_same : (ws : List Worker) (k : ℕ) (x y : Worker) → slice_get ws k ≡ Some x → slice_get (slice_set ws k y) k ≡ Some y
+pub get_set_same : (ws : List Worker) (k : ℕ) (x y : Worker) → slice_get ws k ≡ Some x → slice_get (slice_set ws k y) k ≡ Some y
 get_set_same [] k x y is = absurd cc
 get_set_same (a ∷ ws) zero x y is = refl
 get_set_same (a ∷ ws) (suc k) x y is = get_set_same ws k x y is
@@ -48,7 +48,7 @@ get_set_other (a ∷ ws) (suc j) zero y other = refl
 get_set_other (a ∷ ws) (suc j) (suc k) y other = get_set_other ws j k y (λ same. other (ap suc same))
 
 -- an event leaves the other workers as they are
-stays_other : (w u : WorldState) (k : ℕ) (x : Worker) (e : Event) (r : Answer) → worker_of e ≢ k → Happens w e r u → IsWorker w k x → IsWorker u k x
+pub stays_other : (w u : WorldState) (k : ℕ) (x : Worker) (e : Event) (r : Answer) → worker_of e ≢ k → Happens w e r u → IsWorker w k x → IsWorker u k x
 stays_other w u k x (Start j attrs) (Ok effect.Started) other h is = rw (h.3, get_set_other w.workers j k _ other) is
 stays_other w u k x (Step j) (Ok effect.Stepped) other h is = rw (h.6, get_set_other w.workers j k _ other) is
 stays_other w u k x (Step j) (Ok (effect.Ended choice)) other h is = rw (h.5, get_set_other w.workers j k _ other) is

@@ -4,3 +4,4 @@ pub mod Safe
 pub mod Plays
 pub mod Released
 pub mod InTime
+pub mod OwnRun

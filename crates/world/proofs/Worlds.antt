@@ -1,5 +1,5 @@
 -- An event of one worker, from what it makes of the worker's seat.
-use Rattle.std.proofs.Common.{◌≡◌, ℕ, zero, suc, [], ◌∷◌, replicate, lit<, ◌+◌, ◌-◌, Global, map, add-one, ◌<◌, ◌≤◌, List, length, get_or, set, Option, Some, None, Result, Ok, Err, refl, sym, ap, subst, ◌∙◌, arith, inl, inr, get_or-set_same, get_or-set_other, length-set}
+use Rattle.std.proofs.Common.{◌≡◌, ℕ, zero, suc, [], ◌∷◌, replicate, lit<, ◌+◌, ◌-◌, Global, map, add-one, ◌<◌, ◌≤◌, List, length, get_or, set, Option, Some, None, Result, Ok, Err, IfErr, refl, sym, ap, subst, ◌∙◌, arith, inl, inr, get_or-set_same, get_or-set_other, length-set}
 use Rattle.std.specs.Prelude.{slice_get, slice_set, slice_index_or}
 use Rattle.std.specs.Arc.{arc_value}
 use Rattle.std.specs.declared.sync.Arc.{Arc}
@@ -109,6 +109,11 @@ finished parts k before after r within found finishes w stands =
     let is = seat_found parts k before within found in
     let next = finishes (worker_at w k) (subst (λ (s : Seat). SeatStandsFor s (worker_at w k)) is (stands.each k)) in
     (with_worker w k next.0, finishes_of w k (worker_at w k) r next.0 (is_worker parts w k stands within) (same_worker w k next.0) next.1, stands_with parts w k after next.0 within stands next.2)
+
+-- a seat that stays as it was leaves the world as it was
+pub unchanged : (parts : Parts) (k : ℕ) (before after : Seat) (r : Result Effect WorldFault) → before ≡ get_or parts.seats k before → IfErr r (λ e. after ≡ before) → IfErr r (λ e. with_seat parts k after ≡ parts)
+unchanged parts k before after (Ok x) found same = tt
+unchanged parts k before after (Err e) found same = ap (λ (ss : List Seat). record parts { seats = ss }) (ap (slice_set parts.seats k) (same ∙ found) ∙ set-get_or parts.seats k before)
 
 -- ---- Start
 

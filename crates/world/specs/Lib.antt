@@ -2,3 +2,4 @@ pub mod World
 pub mod Seats
 pub mod StandsFor
 pub mod Safe
+pub mod OwnRun

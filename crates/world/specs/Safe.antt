@@ -7,7 +7,7 @@ use Rattle.bpf_verify.specs.Accepted.{Accepted}
 use Rattle.bpf_verify.specs.Covers.{EndsWell}
 use Rattle.ruleset.specs.Rules.{AlwaysEndsWell}
 use Rattle.world.specs.declared.event.Event.{Event}
-use Rattle.world.specs.declared.event.Event.TheVariants.{Step}
+use Rattle.world.specs.declared.event.Event.TheVariants.{Step, Finish}
 use Rattle.world.specs.declared.event.Effect.{Effect}
 use Rattle.world.specs.declared.event.Effect.TheVariants as effect
 use Rattle.world.specs.declared.event.WorldFault.{WorldFault}
@@ -33,11 +33,11 @@ pub record IsSafe (w : WorldState) : Type 0 where
   pub ended : (k number : ℕ) (program : Accepted) (a : Attributes) (choice instructions : ℕ) → IsWorker w k (Ended number program a choice instructions)
       → IsSafeEnd w number program a choice instructions
 
--- what a Finish answers is a release of the app that the program is offered for, in the ruleset of the number that it answers
-abbrev pub IsOfRuleset : WorldState → Result Effect WorldFault → Type 0
-IsOfRuleset w (Ok (effect.Finished choice instructions number)) =
-    (appid : List ℕ) × (program : Accepted) × HasProgram w.rulesets number appid program × (choice ≤ program.shape.releases) × (instructions ≤ length program.code)
-IsOfRuleset w answer = Unit {0}
+-- what a Finish answers is of the worker's own run, which has ended: none or a release of its app, in the ruleset of the number that is answered
+abbrev pub IsOfItsRun : WorldState → Event → Result Effect WorldFault → Type 0
+IsOfItsRun w (Finish k) (Ok (effect.Finished choice instructions number)) =
+    (program : Accepted) × (a : Attributes) × IsWorker w k (Ended number program a choice instructions) × IsSafeEnd w number program a choice instructions
+IsOfItsRun w event answer = Unit {0}
 
 -- ---- how long a run takes
 

@@ -30,15 +30,15 @@ pub record Goes (run : Held) : Type 0 where
   pub stands : (s : State) × machine.StandsFor run s
   pub ends : (s : State) → machine.StandsFor run s → EndsWell run.program s
 
--- a run that has ended with a release, in time
-pub record HasEnded (run : Held) (choice : ℕ) : Type 0 where
+-- a run that has ended with its choice, none or a release, in time
+pub record HasChosen (run : Held) (choice : ℕ) : Type 0 where
   pub release : choice ≤ run.program.shape.releases
   pub short : run.count + 1 ≤ length run.program.code
 
 abbrev pub SeatKeeps : Seat → Type 0
 SeatKeeps Empty = Unit {0}
 SeatKeeps (Taken run number None) = Goes run
-SeatKeeps (Taken run number (Some choice)) = HasEnded run choice
+SeatKeeps (Taken run number (Some choice)) = HasChosen run choice
 
 -- a seat's run is of the program that its ruleset has for the app
 abbrev pub SeatIsOffered : List Rules → Seat → Type 0

@@ -8,6 +8,6 @@ mod seat;
 mod world;
 
 pub use event::{Effect, Event, WorldFault};
-pub use laws::{ends_in_time, takes_its_step};
+pub use laws::{ends_in_time, finishes_its_run, takes_its_step};
 pub use run::play;
 pub use world::World;

@@ -1,9 +1,10 @@
 // A run of the world: events, one after the other, with their answers.
 
-ghost use Rattle.std.specs.Prelude.{◌≡◌, ℕ, List, take, Result, IfOk, IfErr, All};
-ghost use Rattle.world.specs.World.{WorldState, Plays};
-ghost use Rattle.world.specs.Safe.{IsSafe, IsOfRuleset};
+ghost use Rattle.std.specs.Prelude.{◌≡◌, ℕ, List, take, Result, IfOk, IfErr};
+ghost use Rattle.world.specs.World.{WorldState, Happens, Plays};
+ghost use Rattle.world.specs.Safe.{IsSafe, IsOfItsRun};
 ghost use Rattle.world.specs.StandsFor.{StandsFor};
+ghost use Rattle.world.specs.declared.event.Event.{Event};
 ghost use Rattle.world.specs.declared.event.Effect.{Effect};
 ghost use Rattle.world.specs.declared.event.WorldFault.{WorldFault};
 
@@ -24,8 +25,9 @@ pub fn play(
     // No world on the way has a run that traps, takes more instructions than its program has slots, or
     // chooses what isn't a release of its own ruleset.
     ensures safe { (w : WorldState) → StandsFor world.old w → (n : ℕ) (u : WorldState) → (answers : List (Result Effect WorldFault)) → Plays w (take n events.now) answers u → IsSafe u }
-    // What a Finish answers is none or a release of its app, in the ruleset of the number that it answers.
-    ensures releases { IfOk result (λ answers. (w : WorldState) → StandsFor world.old w → (v : WorldState) → Plays w events.now answers.items v → All (IsOfRuleset v) answers.items) }
+    // What a Finish answers on the way is of its worker's run: none or a release of its app, in the
+    // ruleset of the number that it answers.
+    ensures releases { (w : WorldState) → StandsFor world.old w → (n : ℕ) (u v : WorldState) (answers : List (Result Effect WorldFault)) (event : Event) (answer : Result Effect WorldFault) → Plays w (take n events.now) answers u → Happens u event answer v → IsOfItsRun u event answer }
     ensures memory { IfErr result (λ e. e ≡ WorldFault.Memory) }
     ensures unplayed { IfErr result (λ e. world.new ≡ world.old) }
 {

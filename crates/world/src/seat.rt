@@ -37,6 +37,7 @@ impl Seat {
     /// One instruction. E3 where no run goes on.
     pub fn step(&mut self) -> Result<Effect, WorldFault>
         requires { SeatKeeps self.old }
+        ensures same { IfErr result (λ e. self.new ≡ self.old) }
         ensures steps { (x : Worker) → SeatStandsFor self.old x → (y : Worker) × WorkerSteps x result y × SeatStandsFor self.new y }
         ensures keeps { SeatKeeps self.new }
         ensures offered { (rulesets : List Rules) → SeatIsOffered rulesets self.old → SeatIsOffered rulesets self.new }
@@ -67,6 +68,7 @@ impl Seat {
     /// and E5 where the run hasn't ended.
     pub fn finish(&mut self) -> Result<Effect, WorldFault>
         requires { SeatKeeps self.old }
+        ensures same { IfErr result (λ e. self.new ≡ self.old) }
         ensures finishes { (x : Worker) → SeatStandsFor self.old x → (y : Worker) × WorkerFinishes x result y × SeatStandsFor self.new y }
         ensures keeps { SeatKeeps self.new }
         ensures offered { (rulesets : List Rules) → SeatIsOffered rulesets self.old → SeatIsOffered rulesets self.new }

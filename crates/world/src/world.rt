@@ -2,7 +2,7 @@
 // of the definitions that this one stands for; the type keeps that it stands for at least one, and
 // that each of its runs is of the program that the ruleset of its number has for its app.
 
-ghost use Rattle.std.specs.Prelude.{◌≡◌, ◌<◌, ◌≤◌, ℕ, length, List, Result, All, IfOk, IfErr, Some};
+ghost use Rattle.std.specs.Prelude.{◌≡◌, ◌<◌, ◌≤◌, ℕ, length, List, Result, IfOk, IfErr, Some};
 ghost use Rattle.std.specs.Arc.{arc_value};
 ghost use Rattle.world.specs.Seats.{Opens};
 
@@ -38,7 +38,7 @@ impl Model for World {
 impl World {
     ghost use Rattle.world.specs.World.{WorldState, Happens, Plays, opening_world, ruleset_at, newest};
     ghost use Rattle.world.specs.StandsFor.{StandsFor};
-    ghost use Rattle.world.specs.Safe.{IsSafe, IsOfRuleset};
+    ghost use Rattle.world.specs.Safe.{IsSafe, IsOfItsRun};
     ghost use Rattle.world.specs.declared.event.Event.{Event};
     ghost use Rattle.world.specs.declared.event.Effect.{Effect};
     ghost use Rattle.world.specs.declared.event.WorldFault.{WorldFault};
@@ -67,8 +67,9 @@ impl World {
         ensures stands { (w : WorldState) × StandsFor self.now w }
         // Whatever is played from a world that it stands for, each world on the way is safe.
         ensures safe { (w : WorldState) → StandsFor self.now w → (events : List Event) (answers : List (Result Effect WorldFault)) (u : WorldState) → Plays w events answers u → IsSafe u }
-        // And what a Finish answers is none or a release of its app, in the ruleset of the number.
-        ensures releases { (w : WorldState) → StandsFor self.now w → (events : List Event) (answers : List (Result Effect WorldFault)) (v : WorldState) → Plays w events answers v → All (IsOfRuleset v) answers }
+        // And what a Finish answers then is of its worker's run: none or a release of its app, in the
+        // ruleset of the number.
+        ensures releases { (w : WorldState) → StandsFor self.now w → (events : List Event) (answers : List (Result Effect WorldFault)) (u v : WorldState) (event : Event) (answer : Result Effect WorldFault) → Plays w events answers u → Happens u event answer v → IsOfItsRun u event answer }
     {
         let _seats = &self.seats;
         going_on();
@@ -76,7 +77,8 @@ impl World {
 
     /// One event. One that is refused changes nothing.
     pub fn apply(&mut self, event: &Event) -> Result<Effect, WorldFault>
-        ensures { (w : WorldState) → StandsFor self.old w → (v : WorldState) × Happens w event.now result v × StandsFor self.new v }
+        ensures happens { (w : WorldState) → StandsFor self.old w → (v : WorldState) × Happens w event.now result v × StandsFor self.new v }
+        ensures same { IfErr result (λ e. self.new ≡ self.old) }
     {
         match event {
             Event::Start { worker, attrs } => self.start(*worker, attrs),
@@ -86,7 +88,8 @@ impl World {
     }
 
     fn start(&mut self, worker: usize, attrs: &Arc<Attrs>) -> Result<Effect, WorldFault>
-        ensures { (w : WorldState) → StandsFor self.old w → (v : WorldState) × Happens w (Event.Start worker attrs.now) result v × StandsFor self.new v }
+        ensures happens { (w : WorldState) → StandsFor self.old w → (v : WorldState) × Happens w (Event.Start worker attrs.now) result v × StandsFor self.new v }
+        ensures same { IfErr result (λ e. self.new ≡ self.old) }
     {
         if worker >= self.seats.len() {
             return Err(WorldFault::NoWorker);
@@ -108,7 +111,8 @@ impl World {
     }
 
     fn step(&mut self, worker: usize) -> Result<Effect, WorldFault>
-        ensures { (w : WorldState) → StandsFor self.old w → (v : WorldState) × Happens w (Event.Step worker) result v × StandsFor self.new v }
+        ensures happens { (w : WorldState) → StandsFor self.old w → (v : WorldState) × Happens w (Event.Step worker) result v × StandsFor self.new v }
+        ensures same { IfErr result (λ e. self.new ≡ self.old) }
     {
         if worker >= self.seats.len() {
             return Err(WorldFault::NoWorker);
@@ -117,7 +121,8 @@ impl World {
     }
 
     fn finish(&mut self, worker: usize) -> Result<Effect, WorldFault>
-        ensures { (w : WorldState) → StandsFor self.old w → (v : WorldState) × Happens w (Event.Finish worker) result v × StandsFor self.new v }
+        ensures happens { (w : WorldState) → StandsFor self.old w → (v : WorldState) × Happens w (Event.Finish worker) result v × StandsFor self.new v }
+        ensures same { IfErr result (λ e. self.new ≡ self.old) }
     {
         if worker >= self.seats.len() {
             return Err(WorldFault::NoWorker);

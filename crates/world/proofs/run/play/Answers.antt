@@ -8,7 +8,7 @@ loop-event-preserved c = record {
   room = search rules;
   run = λ w stands.
       let come = c.loop-event.invariant.run w stands in
-      let next = c.apply-answer.ensures come.0 come.2 in (
+      let next = c.apply-answer.ensures.happens come.0 come.2 in (
         next.0,
         plays_longer w come.0 next.0 c.args.events.now c.loop-event.event-index c.event-item.result c.loop-event.answers.items c.push.new.self.items c.apply-answer.result c.loop-event-test.true c.event-item.is
             c.in-Ok-push.ensures.items come.1 next.1,

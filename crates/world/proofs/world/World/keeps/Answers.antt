@@ -1,5 +1,5 @@
 use Rattle.world.proofs.Safe.{is_safe, plays_safe, stands_safe, some_world}
-use Rattle.world.proofs.Released.{answers_released}
+use Rattle.world.proofs.Released.{of_its_run}
 use Rattle.world.proofs.Worlds.{parts_of}
 use Rattle.world.proofs.world.World.keeps.Goals as goal
 
@@ -12,4 +12,4 @@ returns-clause-safe c = rw (← c.self.view_is)
 
 pub returns-clause-releases : goal.returns-clause-releases
 returns-clause-releases c = rw (← c.self.view_is)
-    (λ w stands es rs v plays. answers_released c.going_on.ensures w v es rs (stands_safe (parts_of c.self.inside) w c.self.invariant stands) plays)
+    (λ w stands es rs u v e r plays happens. of_its_run u v e r (is_safe c.going_on.ensures u (plays_safe c.going_on.ensures w u es rs (stands_safe (parts_of c.self.inside) w c.self.invariant stands) plays)) happens)
