@@ -5,3 +5,4 @@ pub mod Arithmetic
 pub mod Conditions
 pub mod Program
 pub mod Halves
+pub mod Faults

@@ -1,6 +1,9 @@
 //! The fields of eight bytes, and the faults of bytes that spell no instruction.
 
-use thiserror::Error;
+ghost use Rattle.std.specs.Prelude.{Some};
+ghost use Rattle.bpf_insn.specs.Faults.{fault_text};
+
+use std::fmt;
 
 /// The fields of an instruction's eight bytes, or of the second half of a wide one.
 #[derive(Clone, Copy, Debug, PartialEq, Eq)]
@@ -13,27 +16,38 @@ pub struct Fields {
 }
 
 /// Why bytes spell no instruction; of several the least is answered.
-#[derive(Clone, Copy, Debug, PartialEq, Eq, Error)]
+#[derive(Clone, Copy, Debug, PartialEq, Eq)]
 pub enum InsnFault {
     /// I1: a half isn't there in full.
-    #[error("I1 Truncated")]
     Truncated,
     /// I2: no row has the opcode.
-    #[error("I2 Opcode")]
     Opcode,
     /// I3: a register above 10, or src of CALL or of a wide load holds what it can't.
-    #[error("I3 Register")]
     Register,
     /// I4: a field that the row doesn't use isn't 0.
-    #[error("I4 UnusedField")]
     UnusedField,
     /// I5: an imm that END or the atomic operations don't have.
-    #[error("I5 Imm")]
     Imm,
     /// I6: an offset that MOV and MOVSX don't have.
-    #[error("I6 Offset")]
     Offset,
     /// I7: the second half's first four bytes aren't 0, or its imm isn't where a map is loaded.
-    #[error("I7 SecondHalf")]
     SecondHalf,
 }
+
+impl fmt::Display for InsnFault {
+    ghost output = { λ fault. Some (fault_text fault) };
+
+    fn fmt<W: fmt::Write>(&self, f: &mut fmt::Formatter<W>) -> fmt::Result {
+        f.write_str(match self {
+            InsnFault::Truncated => "I1 Truncated",
+            InsnFault::Opcode => "I2 Opcode",
+            InsnFault::Register => "I3 Register",
+            InsnFault::UnusedField => "I4 UnusedField",
+            InsnFault::Imm => "I5 Imm",
+            InsnFault::Offset => "I6 Offset",
+            InsnFault::SecondHalf => "I7 SecondHalf",
+        })
+    }
+}
+
+impl std::error::Error for InsnFault {}

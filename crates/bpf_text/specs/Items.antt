@@ -49,12 +49,13 @@ seen_after (Some p) = Some (seen_option p.0, map seen p.1.now)
 abbrev pub no_offset : Figure
 no_offset = record { sign = Plus; magnitude = Some 0 }
 
--- a register in brackets, with an offset that has a sign
+-- + or - stands before the number
 abbrev pub has_sign : Sign → Bool
 has_sign Absent = false
 has_sign Minus = true
 has_sign Plus = true
 
+-- a register in brackets, with an offset that has a sign
 abbrev pub memory_item : List ℕ → Figure → Option Item
 memory_item word n = register_named word >>= λ r. (if has_sign n.sign then Some (Memory r n) else None)
 

@@ -9,3 +9,4 @@ pub mod Drafts
 pub mod Lines
 pub mod Labels
 pub mod Assembly
+pub mod Faults

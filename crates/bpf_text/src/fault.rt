@@ -1,8 +1,9 @@
 //! Why a text has no bytes, and bytes no text.
 
-ghost use Rattle.std.specs.Prelude.{◌≡◌};
+ghost use Rattle.std.specs.Prelude.{◌≡◌, Some};
 ghost use Rattle.bpf_text.specs.declared.fault.ListFault.{ListFault};
 ghost use Rattle.bpf_text.specs.declared.fault.AsmFaultKind.{AsmFaultKind};
+ghost use Rattle.bpf_text.specs.Faults.{kind_text, asm_fault_text, list_fault_text};
 
 use bpf_insn::InsnFault;
 use std::alloc::AllocError;
@@ -18,10 +19,12 @@ pub enum ListFault {
 }
 
 impl fmt::Display for ListFault {
+    ghost output = { λ fault. Some (list_fault_text fault) };
+
     fn fmt<W: fmt::Write>(&self, f: &mut fmt::Formatter<W>) -> fmt::Result {
-        match self {
+        match *self {
             ListFault::Insn { slot, fault } => write!(f, "{fault} at slot {slot}"),
-            ListFault::Memory => write!(f, "Memory"),
+            ListFault::Memory => f.write_str("Memory"),
         }
     }
 }
@@ -63,7 +66,9 @@ pub struct AsmFault {
     pub kind: AsmFaultKind,
 }
 
-fn asm_fault_name(kind: AsmFaultKind) -> &'static str {
+fn asm_fault_name(kind: AsmFaultKind) -> &'static str
+    ensures { result.now ≡ kind_text kind }
+{
     match kind {
         AsmFaultKind::Token => "A1 Token",
         AsmFaultKind::Mnemonic => "A2 Mnemonic",
@@ -76,6 +81,8 @@ fn asm_fault_name(kind: AsmFaultKind) -> &'static str {
 }
 
 impl fmt::Display for AsmFault {
+    ghost output = { λ fault. Some (asm_fault_text fault) };
+
     fn fmt<W: fmt::Write>(&self, f: &mut fmt::Formatter<W>) -> fmt::Result {
         let name = asm_fault_name(self.kind);
         let line = self.line;

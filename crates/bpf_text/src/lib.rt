@@ -1,5 +1,6 @@
 //! The text of BPF instructions: `assemble` reads it into bytes, and `listing` writes it of bytes.
-//! Both go by one table of words and one set of arguments (see `mnemonic` and `argument`).
+//! Both go by one table of words (see `mnemonic`): the listing writes the arguments of `argument`, and
+//! the assembler reads those of `operands`.
 #![tactic(auto)]
 
 mod argument;

@@ -1,0 +1,34 @@
+-- The texts of faults, as they are printed: a code, a name, and where it is.
+use Rattle.std.specs.Prelude.{ℕ, List, ◌++◌, codes}
+use Rattle.std.specs.Fmt.{decimal}
+use Rattle.bpf_insn.specs.Faults.{fault_text}
+use Rattle.bpf_text.specs.declared.fault.AsmFaultKind.{AsmFaultKind}
+use Rattle.bpf_text.specs.declared.fault.AsmFaultKind.TheVariants as kind
+use Rattle.bpf_text.specs.declared.fault.AsmFault.{AsmFault}
+use Rattle.bpf_text.specs.declared.fault.ListFault.{ListFault}
+use Rattle.bpf_text.specs.declared.fault.ListFault.TheVariants as list_fault
+
+-- ---- a text that has no bytes
+
+abbrev pub kind_text : AsmFaultKind → List ℕ
+kind_text kind.Token = codes "A1 Token"
+kind_text kind.Mnemonic = codes "A2 Mnemonic"
+kind_text kind.Operand = codes "A3 Operand"
+kind_text kind.Label = codes "A4 Label"
+kind_text kind.Range = codes "A5 Range"
+kind_text kind.TooLong = codes "A6 TooLong"
+kind_text kind.Memory = codes "A7 Memory"
+
+-- a growth that was refused has no line
+abbrev pub text_at_line : AsmFaultKind → ℕ → List ℕ
+text_at_line kind.Memory line = kind_text kind.Memory
+text_at_line e line = kind_text e ++ codes " at line " ++ decimal line
+
+abbrev pub asm_fault_text : AsmFault → List ℕ
+asm_fault_text e = text_at_line e.kind e.line
+
+-- ---- bytes that have no text
+
+abbrev pub list_fault_text : ListFault → List ℕ
+list_fault_text (list_fault.Insn slot e) = fault_text e ++ codes " at slot " ++ decimal slot
+list_fault_text list_fault.Memory = codes "Memory"
