@@ -1,18 +1,19 @@
 //! The commands, over any two writers.
 
 ghost use Rattle.std.specs.Prelude.{◌≡◌, ◌≤◌, if◌then◌else◌};
+ghost use Rattle.clap.specs.Values.{kind_of};
 
 use crate::answer::answer;
 use crate::fault::Fault;
 use crate::request::{grammar, request_of};
-use clap::Error;
+use clap::error::{Error, ErrorKind};
 use std::convert::AsStr;
-use std::io::{self, ErrorKind, Write};
+use std::io::{self, Write};
 use std::rt::Files;
 
 /// The command did what it was asked.
 const DONE: u8 = 0;
-/// The program was refused, or its answer couldn't be written.
+/// What was asked is refused, or its answer couldn't be written.
 const REFUSED: u8 = 1;
 /// The words are wrong.
 const USAGE: u8 = 2;
@@ -48,15 +49,20 @@ pub fn unreadable_words<E: Write>(error: &io::Error, err: &mut E) -> u8
     ensures { result ≤ 2 }
 {
     match error.kind() {
-        ErrorKind::OutOfMemory => refused(err, &Fault::Memory),
+        io::ErrorKind::OutOfMemory => refused(err, &Fault::Memory),
         _ => status_of(writeln!(err, "error: a word isn't UTF-8").is_ok(), USAGE),
     }
 }
 
-fn usage<O: Write, E: Write>(error: &Error, out: &mut O, err: &mut E) -> u8
-    ensures { result ≤ 2 }
+/// What is answered in place of a request: help, what is wrong with the words, or B4 where the memory
+/// that reading them wants was refused.
+pub fn usage<O: Write, E: Write>(error: &Error, out: &mut O, err: &mut E) -> u8
+    ensures within { result ≤ 2 }
+    ensures memory { kind_of error.now ≡ ErrorKind.OutOfMemory → result ≡ 1 }
 {
-    if error.exit_code() == 0 {
+    if error.kind() == ErrorKind::OutOfMemory {
+        refused(err, &Fault::Memory)
+    } else if error.exit_code() == 0 {
         status_of(write!(out, "{error}").is_ok(), DONE)
     } else {
         status_of(write!(err, "{error}").is_ok(), USAGE)

@@ -8,7 +8,7 @@ use std::fmt;
 /// Why a request is refused.
 #[derive(Debug, Drop)]
 pub enum Fault {
-    /// B3: a file can't be read.
+    /// B3: a file can't be read or written.
     File,
     /// B4: memory that the command itself wants is refused.
     Memory,

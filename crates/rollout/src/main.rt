@@ -1,5 +1,5 @@
-//! The program `rollout`: it verifies rollout programs and runs them. `command` does what the words
-//! ask, over any two writers.
+//! The program `rollout`: it assembles, lists, verifies and runs rollout programs. `command` does
+//! what the words ask, over any two writers.
 #![tactic(auto)]
 
 mod answer;

@@ -5,7 +5,7 @@ ghost use Rattle.flow_check.specs.Flow.{program_bytes};
 ghost use Rattle.bpf_semantics.specs.State.{opening};
 ghost use Rattle.bpf_semantics.specs.Run.{Ends};
 ghost use Rattle.attrs.specs.Attributes.{plain};
-ghost use Rattle.rollout.specs.Judged.{IsJudged};
+ghost use Rattle.rollout.specs.Faults.{IsProgramFault};
 
 use crate::fault::Fault;
 use crate::request::Bucket;
@@ -20,7 +20,7 @@ use std::sync::Arc;
 pub fn verified(alloc: Global, bytes: &[u8], shape: &Shape) -> Result<Verified, Fault>
     ensures bytes { IfOk result (λ v. program_bytes v.code ≡ bytes.now) }
     ensures shape { IfOk result (λ v. v.shape ≡ shape.now) }
-    ensures fault { IfErr result (λ e. IsJudged bytes.now shape.now e) }
+    ensures fault { IfErr result (λ e. IsProgramFault bytes.now shape.now e) }
 {
     let flow = match Flow::check(alloc, bytes) {
         Ok(flow) => flow,

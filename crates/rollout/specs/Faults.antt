@@ -9,10 +9,10 @@ use Rattle.rollout.specs.declared.fault.Fault.{Fault}
 use Rattle.rollout.specs.declared.fault.Fault.TheVariants.{File, Memory, Text, Bytes, Flow, Rule}
 
 -- the graph's fault, or the verifier's refusal of the program that the bytes are
-abbrev pub IsJudged : List ℕ → Shape → Fault → Type 0
-IsJudged bytes shape (Flow fault) = IsFlowFault bytes fault
-IsJudged bytes shape (Rule refusal) = (p : Program) × (program_bytes p ≡ bytes) × IsFlow p × IsRefusal p shape refusal
-IsJudged bytes shape (Text fault) = ⊥
-IsJudged bytes shape (Bytes fault) = ⊥
-IsJudged bytes shape File = ⊥
-IsJudged bytes shape Memory = ⊥
+abbrev pub IsProgramFault : List ℕ → Shape → Fault → Type 0
+IsProgramFault bytes shape (Flow fault) = IsFlowFault bytes fault
+IsProgramFault bytes shape (Rule refusal) = (p : Program) × (program_bytes p ≡ bytes) × IsFlow p × IsRefusal p shape refusal
+IsProgramFault bytes shape (Text fault) = ⊥
+IsProgramFault bytes shape (Bytes fault) = ⊥
+IsProgramFault bytes shape File = ⊥
+IsProgramFault bytes shape Memory = ⊥
