@@ -10,6 +10,8 @@ mod encoding;
 #[cfg(test)]
 mod graph;
 #[cfg(test)]
+mod memory;
+#[cfg(test)]
 mod mnemonics;
 #[cfg(test)]
 mod rulesets;
