@@ -1,0 +1,4 @@
+pub mod Patterns
+pub mod Fnv
+pub mod Judged
+pub mod Runs

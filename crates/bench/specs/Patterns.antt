@@ -1,0 +1,83 @@
+-- The programs of the benchmark: two instructions that open a program, blocks of four, and two that close it.
+use Rattle.std.specs.Prelude.{ℕ, zero, suc, ◌+◌, ◌-◌, ◌*◌, ◌%◌, pos, List, [], ◌∷◌, ◌++◌}
+use Rattle.bpf_insn.specs.declared.reg.Reg.{Reg}
+use Rattle.bpf_insn.specs.declared.reg.Reg.TheVariants.{R0, R1, R2, R3, R4, R5}
+use Rattle.bpf_insn.specs.declared.operand.Bits.TheVariants.{Bits64}
+use Rattle.bpf_insn.specs.declared.operand.AluOp.TheVariants.{Add, And}
+use Rattle.bpf_insn.specs.declared.operand.Condition.TheVariants.{Ge}
+use Rattle.bpf_insn.specs.declared.operand.Distance.TheVariants.{Short}
+use Rattle.bpf_insn.specs.declared.operand.LoadKind.{LoadKind}
+use Rattle.bpf_insn.specs.declared.operand.LoadKind.TheVariants.{Byte, Half, Double}
+use Rattle.bpf_insn.specs.declared.operand.Operand.TheVariants.{Imm, Register}
+use Rattle.bpf_insn.specs.declared.insn.Insn.{Insn}
+use Rattle.bpf_insn.specs.declared.insn.Insn.TheVariants.{Alu, Mov, Jump, JumpIf, Exit, Load}
+use Rattle.bench.specs.declared.pattern.Pattern.{Pattern}
+use Rattle.bench.specs.declared.pattern.Pattern.TheVariants.{Straight, OneTarget, Diamonds, Loads}
+
+-- ---- the instructions that are used
+
+abbrev pub mov : Reg → ℕ → Insn
+mov dst imm = Mov Bits64 dst (Imm (pos imm))
+
+abbrev pub and : Reg → ℕ → Insn
+and dst imm = Alu Bits64 And dst (Imm (pos imm))
+
+abbrev pub add : Reg → Reg → Insn
+add dst src = Alu Bits64 Add dst (Register src)
+
+-- of the context, at whose first byte R1 points
+abbrev pub load : LoadKind → Reg → ℕ → Insn
+load kind dst place = Load kind dst R1 (pos place)
+
+-- over so many slots, from this bucket on
+abbrev pub jump_from : ℕ → ℕ → Insn
+jump_from imm slots = JumpIf Bits64 Ge R2 (Imm (pos imm)) (pos slots)
+
+abbrev pub skip : Insn
+skip = Jump (Short (pos 1))
+
+-- ---- the blocks
+
+-- R2 is the bucket, and R0 is 0
+abbrev pub opening : List Insn
+opening = load Half R2 16 ∷ mov R0 0 ∷ []
+
+-- the choice is the low six bits of R0
+abbrev pub closing : List Insn
+closing = and R0 63 ∷ Exit ∷ []
+
+abbrev pub straight_block : List Insn
+straight_block = add R0 R2 ∷ and R2 0x7fff ∷ add R2 R0 ∷ and R0 0xffff ∷ []
+
+-- block k of count: no bucket is as high as these numbers, and each jump leads to the first instruction that closes
+abbrev pub one_target_block : ℕ → ℕ → List Insn
+one_target_block count k =
+    jump_from (0xffff - 4 * k) (4 * (count - k) - 1)
+    ∷ jump_from (0xffff - 4 * k - 1) (4 * (count - k) - 2)
+    ∷ jump_from (0xffff - 4 * k - 2) (4 * (count - k) - 3)
+    ∷ jump_from (0xffff - 4 * k - 3) (4 * (count - k) - 4)
+    ∷ []
+
+-- a branch, a side of two instructions, and a side of one
+abbrev pub diamond : ℕ → List Insn
+diamond k = jump_from (1000 * (k % 10 + 1)) 2 ∷ add R0 R2 ∷ skip ∷ and R0 0x7fff ∷ []
+
+abbrev pub load_block : ℕ → List Insn
+load_block k = load Byte R3 (k % 32) ∷ load Half R4 (k % 16 * 2) ∷ load Double R5 (k % 5 * 8) ∷ add R0 R5 ∷ []
+
+abbrev pub block : Pattern → ℕ → ℕ → List Insn
+block Straight count k = straight_block
+block OneTarget count k = one_target_block count k
+block Diamonds count k = diamond k
+block Loads count k = load_block k
+
+-- ---- the programs
+
+-- the first n of count blocks
+abbrev pub blocks : Pattern → ℕ → ℕ → List Insn
+blocks pattern count zero = []
+blocks pattern count (suc n) = blocks pattern count n ++ block pattern count n
+
+-- the program of count blocks
+abbrev pub program : Pattern → ℕ → List Insn
+program pattern count = opening ++ blocks pattern count count ++ closing

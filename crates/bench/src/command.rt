@@ -1,0 +1,131 @@
+//! The commands, over any two writers.
+
+ghost use Rattle.std.specs.Prelude.{◌≡◌, ◌≤◌};
+
+use crate::fault::Fault;
+use crate::fnv::hash_of;
+use crate::judge::{verified, verify_times};
+use crate::pattern::Pattern;
+use crate::program::program;
+use crate::request::{Request, Size, request_of};
+use crate::runs::{apps, run_times};
+use std::alloc::Global;
+use std::convert::AsStr;
+use std::io::{self, Write};
+use std::sync::Arc;
+
+/// It did what it was asked.
+const DONE: u8 = 0;
+/// A program was refused, memory was, or a line couldn't be written.
+const REFUSED: u8 = 1;
+/// The words are wrong.
+const USAGE: u8 = 2;
+
+const USAGE_LINE: &str =
+    "usage: bench bytes SLOTS PATTERN, or bench verify|run SLOTS TIMES PATTERN.., of straight one-target diamonds loads";
+
+/// Does what the words ask, the first of which is the program's name.
+pub fn command<S: AsStr, O: Write, E: Write>(
+    alloc: Global,
+    words: &[S],
+    out: &mut O,
+    err: &mut E,
+) -> u8
+    ensures { result ≤ 2 }
+{
+    let done = match request_of(alloc, words) {
+        Ok(Some(request)) => answer(alloc, &request, out),
+        Ok(None) => return usage(err),
+        Err(_) => Err(Fault::Memory),
+    };
+    match done {
+        Ok(()) => DONE,
+        Err(fault) => {
+            let _ = writeln!(err, "bench: {fault}");
+            REFUSED
+        }
+    }
+}
+
+fn answer<O: Write>(alloc: Global, request: &Request, out: &mut O) -> Result<(), Fault> {
+    match request {
+        Request::Bytes { size, pattern } => {
+            let bytes = program(alloc, *pattern, size.blocks)?;
+            out.write_all(&bytes)?;
+        }
+        Request::Verify {
+            size,
+            times,
+            patterns,
+        } => {
+            for pattern in patterns {
+                verify_one(alloc, *size, *times, *pattern, out)?;
+            }
+        }
+        Request::Run {
+            size,
+            times,
+            patterns,
+        } => {
+            for pattern in patterns {
+                run_one(alloc, *size, *times, *pattern, out)?;
+            }
+        }
+    }
+    Ok(())
+}
+
+fn verify_one<O: Write>(
+    alloc: Global,
+    size: Size,
+    times: u32,
+    pattern: Pattern,
+    out: &mut O,
+) -> Result<(), Fault> {
+    let bytes = program(alloc, pattern, size.blocks)?;
+    verify_times(alloc, &bytes, times)?;
+    let slots = bytes.len() / 8;
+    let hash = hash_of(&bytes);
+    writeln!(
+        out,
+        "{pattern} slots={slots} bytes={hash:016x} verifications={times}"
+    )?;
+    Ok(())
+}
+
+fn run_one<O: Write>(
+    alloc: Global,
+    size: Size,
+    times: u32,
+    pattern: Pattern,
+    out: &mut O,
+) -> Result<(), Fault> {
+    let bytes = program(alloc, pattern, size.blocks)?;
+    let Ok(program) = Arc::new(alloc, verified(alloc, &bytes)?) else {
+        return Err(Fault::Memory);
+    };
+    let tally = run_times(&program, &apps(alloc)?, times)?;
+    let slots = bytes.len() / 8;
+    let hash = hash_of(&bytes);
+    let instructions = tally.instructions;
+    let choices = tally.choices;
+    writeln!(
+        out,
+        "{pattern} slots={slots} bytes={hash:016x} runs={times} instructions={instructions} choices={choices:016x}"
+    )?;
+    Ok(())
+}
+
+/// What words are answered that can't be read: their memory was refused, or one isn't UTF-8.
+pub fn unreadable_words<E: Write>(err: &mut E) -> u8
+    ensures { result ≡ 2 }
+{
+    usage(err)
+}
+
+fn usage<E: Write>(err: &mut E) -> u8
+    ensures { result ≡ 2 }
+{
+    let _ = writeln!(err, "{USAGE_LINE}");
+    USAGE
+}

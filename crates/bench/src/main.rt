@@ -1,0 +1,32 @@
+//! The benchmark's program: it builds one of four programs of up to 4096 slots, verifies it and runs it
+//! as often as it is asked, and prints counts and hashes that are the same on every machine. It reads
+//! no clock: `bench/run` times whole processes from outside.
+#![tactic(auto)]
+
+mod blocks;
+mod command;
+mod fault;
+mod fnv;
+mod judge;
+mod pattern;
+mod program;
+mod request;
+mod runs;
+
+use crate::command::{command, unreadable_words};
+use std::process::ExitCode;
+use std::{env, io};
+
+fn words_of(rt: &HostRuntime) -> io::Result<Vec<String>> {
+    Ok(env::args(rt)?.collect(rt.alloc())?)
+}
+
+fn main(rt: HostRuntime) -> ExitCode {
+    let mut out = rt.stdout();
+    let mut err = rt.stderr();
+    let status = match words_of(&rt) {
+        Ok(words) => command(rt.alloc(), words.as_slice(), &mut out, &mut err),
+        Err(_) => unreadable_words(&mut err),
+    };
+    ExitCode::from(status)
+}

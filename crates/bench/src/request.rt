@@ -1,0 +1,105 @@
+//! The words of the command line.
+
+ghost use Rattle.std.specs.Prelude.{◌<◌};
+
+use crate::pattern::Pattern;
+use std::alloc::{AllocError, Global};
+use std::convert::AsStr;
+
+/// How long a program is: so many blocks, of four slots each, and four slots more.
+#[derive(Clone, Copy)]
+pub struct Size {
+    pub blocks: u16,
+    pub ghost in_range: { blocks < 1024 },
+}
+
+/// What is asked for.
+#[derive(Drop)]
+pub enum Request {
+    /// The bytes of one program.
+    Bytes {
+        size: Size,
+        pattern: Pattern,
+    },
+    /// To verify each of some programs so many times.
+    Verify {
+        size: Size,
+        times: u32,
+        patterns: Vec<Pattern>,
+    },
+    /// To verify each of some programs once, and to run it so many times.
+    Run {
+        size: Size,
+        times: u32,
+        patterns: Vec<Pattern>,
+    },
+}
+
+/// The size of a word: a number of slots, 4 to 4096, that four divides.
+fn size_of(word: &str) -> Option<Size> {
+    let slots: u16 = word.parse().ok()?;
+    if slots < 4 || slots > 4096 || slots % 4 != 0 {
+        return None;
+    }
+    Some(Size {
+        blocks: slots / 4 - 1,
+    })
+}
+
+/// The patterns that words name, if each names one and there is at least one.
+fn patterns_of<S: AsStr>(alloc: Global, words: &[S]) -> Result<Option<Vec<Pattern>>, AllocError> {
+    let mut patterns = Vec::new(alloc);
+    for word in words {
+        match Pattern::named(word.as_str()) {
+            Some(pattern) => patterns.push(pattern)?,
+            None => return Ok(None),
+        }
+    }
+    Ok(if patterns.is_empty() {
+        None
+    } else {
+        Some(patterns)
+    })
+}
+
+/// The request of the words, of which the first is the program's name; none where they are wrong.
+pub fn request_of<S: AsStr>(alloc: Global, words: &[S]) -> Result<Option<Request>, AllocError> {
+    let [_, verb, size, rest @ ..] = words else {
+        return Ok(None);
+    };
+    let Some(size) = size_of(size.as_str()) else {
+        return Ok(None);
+    };
+    match (verb.as_str(), rest) {
+        ("bytes", [word]) => match Pattern::named(word.as_str()) {
+            Some(pattern) => Ok(Some(Request::Bytes { size, pattern })),
+            None => Ok(None),
+        },
+        (verb, [times, words @ ..]) => {
+            let Ok(times) = times.as_str().parse::<u32>() else {
+                return Ok(None);
+            };
+            let Some(patterns) = patterns_of(alloc, words)? else {
+                return Ok(None);
+            };
+            Ok(timed_request(verb, size, times, patterns))
+        }
+        _ => Ok(None),
+    }
+}
+
+fn timed_request(verb: &str, size: Size, times: u32, patterns: Vec<Pattern>) -> Option<Request> {
+    match verb {
+        "verify" => Some(Request::Verify {
+            size,
+            times,
+            patterns,
+        }),
+        "run" => Some(Request::Run {
+            size,
+            times,
+            patterns,
+        }),
+        _ => None,
+    }
+}

@@ -1,0 +1,79 @@
+//! Running a program over and over, for ten apps in turn. A run allocates nothing.
+
+ghost use Rattle.std.specs.Prelude.{◌≡◌, ◌<◌, ◌≤◌, map, length, IfOk};
+ghost use Rattle.bpf_semantics.specs.State.{opening};
+ghost use Rattle.bpf_semantics.specs.Run.{Ends};
+ghost use Rattle.bench.specs.Runs.{AreApps, IsApp, Runs};
+
+use crate::fault::Fault;
+use crate::fnv::{BASIS, hash_more};
+use attrs::Attrs;
+use bpf_machine::Run;
+use bpf_verify::Verified;
+use std::alloc::Global;
+use std::sync::Arc;
+
+/// What runs come to: the instructions of all of them, and the hash of their choices.
+#[derive(Clone, Copy, Debug, PartialEq, Eq)]
+pub struct Tally {
+    pub instructions: u64,
+    pub choices: u64,
+}
+
+/// App `k` of the ten.
+fn app_at(alloc: Global, k: u16) -> Result<Arc<Attrs>, Fault>
+    requires { k < 10 }
+    ensures { IfOk result (λ app. IsApp k app.value) }
+{
+    let Ok(attrs) = Attrs::plain(alloc, "", None, 1000 * k + 500) else {
+        return Err(Fault::Memory);
+    };
+    let Ok(attrs) = Arc::new(alloc, attrs) else {
+        return Err(Fault::Memory);
+    };
+    Ok(attrs)
+}
+
+/// The ten apps: their buckets are 500, 1500 and so on.
+pub fn apps(alloc: Global) -> Result<Vec<Arc<Attrs>>, Fault>
+    ensures { IfOk result (λ apps. AreApps (map (λ a. a.value) apps.items)) }
+{
+    let mut apps = Vec::new(alloc);
+    for k in 0..10 {
+        let Ok(()) = apps.push(app_at(alloc, k)?) else {
+            return Err(Fault::Memory);
+        };
+    }
+    Ok(apps)
+}
+
+/// One run of the program for an app: its choice, and the number of its instructions.
+fn run_once(program: &Arc<Verified>, app: &Arc<Attrs>) -> Result<(u8, u32), Fault>
+    ensures ends { IfOk result (λ c. Ends program.now.value.code (opening app.now.value) c.0 c.1) }
+    ensures short { IfOk result (λ c. c.1 ≤ 4096) }
+{
+    let accepted: &Verified = program;
+    accepted.keeps();
+    let program = Arc::try_clone(program)?;
+    let app = Arc::try_clone(app)?;
+    Ok(Run::start(program, app).run())
+}
+
+/// Runs the program so many times, for each app in turn.
+pub fn run_times(program: &Arc<Verified>, apps: &[Arc<Attrs>], times: u32) -> Result<Tally, Fault>
+    requires { length apps.now ≡ 10 }
+    ensures { IfOk result (λ tally. Runs program.now.value.code (map (λ a. a.value) apps.now) times tally) }
+{
+    let mut tally = Tally {
+        instructions: 0,
+        choices: BASIS,
+    };
+    for n in 0..times {
+        let (choice, count) = run_once(program, &apps[n as usize % 10])?;
+        tally = Tally {
+            instructions: tally.instructions + count as u64,
+            choices: hash_more(tally.choices, choice),
+        };
+    }
+    Ok(tally)
+}
