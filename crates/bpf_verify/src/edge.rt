@@ -1,9 +1,6 @@
 //! The edges of an instruction: where it leads, and with which entry. There are at most two, one that
 //! jumps and one that goes on to the instruction after it; an edge that no run takes is dropped.
 
-ghost use Rattle.std.specs.Prelude.{◌≡◌, option_to_list};
-ghost use Rattle.bpf_verify.specs.Transfer as transfer;
-
 use crate::entry::Entry;
 
 /// An edge to the slot `target`, and what is known on it.
@@ -18,14 +15,4 @@ pub struct Edge {
 pub struct Edges {
     pub jump: Option<Edge>,
     pub next: Option<Edge>,
-}
-
-/// An edge where both the target and the entry are there.
-pub fn edge_to(target: Option<usize>, entry: Option<Entry>) -> Option<Edge>
-    ensures { option_to_list result ≡ transfer.edge target entry }
-{
-    match (target, entry) {
-        (Some(target), Some(entry)) => Some(Edge { target, entry }),
-        _ => None,
-    }
 }

@@ -60,16 +60,16 @@ pub fn visit(entries: &mut [Option<Entry>], flow: &Flow, shape: &Shape, slot: us
     ensures fails { IfSome result (λ rule. Fails flow.now shape.now slot rule) }
 {
     flow.keeps();
-    let Some(entry) = entries[slot] else {
+    let Some(entry) = &entries[slot] else {
         return None;
     };
     let Some(insn) = flow.at(slot) else {
         return None;
     };
-    if let Some(rule) = first_rule(shape, &entry, insn) {
+    if let Some(rule) = first_rule(shape, entry, insn) {
         return Some(rule);
     }
-    let edges = transfer(slot, &entry, insn);
+    let edges = transfer(slot, entry, insn);
     put_if_any(entries, &edges.jump);
     put_if_any(entries, &edges.next);
     None

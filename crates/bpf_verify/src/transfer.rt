@@ -2,9 +2,10 @@
 //! entry on the edge that goes on.
 
 ghost use Rattle.std.specs.Prelude.{◌≡◌, ◌<◌, ◌++◌, option_to_list};
+ghost use Rattle.flow_check.specs.Flow.{target_of};
 ghost use Rattle.bpf_verify.specs.Transfer as transfers;
 
-use crate::edge::{Edges, edge_to};
+use crate::edge::{Edge, Edges};
 use crate::entry::Entry;
 use crate::narrow::narrowed;
 use crate::value::Value;
@@ -49,6 +50,26 @@ fn going_on(e: &Entry, insn: Insn) -> Option<Entry>
     }
 }
 
+/// The edge that jumps, if there is one.
+fn jump_edge(slot: usize, e: &Entry, insn: Insn) -> Option<Edge>
+    requires { slot < 4096 }
+    ensures { option_to_list result ≡ transfers.edge (target_of slot insn) (transfers.jumping e.now insn) }
+{
+    let target = jump_target(slot, insn)?;
+    let entry = jumping(e, insn)?;
+    Some(Edge { target, entry })
+}
+
+/// The edge that goes on, if there is one.
+fn next_edge(slot: usize, e: &Entry, insn: Insn) -> Option<Edge>
+    requires { slot < 4096 }
+    ensures { option_to_list result ≡ transfers.edge (transfers.next_target slot insn) (transfers.going_on e.now insn) }
+{
+    let target = next_place(slot, insn)?;
+    let entry = going_on(e, insn)?;
+    Some(Edge { target, entry })
+}
+
 /// The edges of the instruction at the slot.
 #[tactic(auto, unfolding(crate::specs::Transfer::edges))]
 pub fn transfer(slot: usize, e: &Entry, insn: Insn) -> Edges
@@ -56,7 +77,7 @@ pub fn transfer(slot: usize, e: &Entry, insn: Insn) -> Edges
     ensures { option_to_list result.jump ++ option_to_list result.next ≡ transfers.edges slot e.now insn }
 {
     Edges {
-        jump: edge_to(jump_target(slot, insn), jumping(e, insn)),
-        next: edge_to(next_place(slot, insn), going_on(e, insn)),
+        jump: jump_edge(slot, e, insn),
+        next: next_edge(slot, e, insn),
     }
 }
