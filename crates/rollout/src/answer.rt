@@ -1,4 +1,21 @@
-//! What each request is answered, from the files that it names.
+//! What each request is answered: from the bytes of its file, and with files.
+
+ghost use Rattle.std.specs.Prelude.{◌≡◌, ◌⊎◌, ℕ, List, length, IfOk, IfErr, Ok};
+ghost use Rattle.std.specs.Str.{IsUtf8};
+ghost use Rattle.std.specs.String.{string_bytes};
+ghost use Rattle.bpf_insn.specs.Program.{Program};
+ghost use Rattle.bpf_text.specs.Assembly.{assembly_of};
+ghost use Rattle.bpf_text.specs.Listing.{Lists};
+ghost use Rattle.rollout.specs.Answers.{
+  IsAcceptedProgram,
+  IsAnswer,
+  IsAssemblyRefusal,
+  IsListingRefusal,
+  IsFileRefusal,
+  IsRefusedProgram,
+  IsRefusal,
+  IsWithinLimit,
+};
 
 use crate::fault::{Answer, Fault};
 use crate::files::{read_file, write_file};
@@ -6,29 +23,83 @@ use crate::program::{choose, verified};
 use crate::request::{ProgramFile, Request};
 use bpf_text::{AsmFault, AsmFaultKind, ListFault, assemble, listing};
 use bpf_verify::{Shape, Verified};
+use std::alloc::Global;
 use std::rt::Files;
 use std::str;
 
-/// One byte more than a program can have, so that one that is too long shows.
-const PROGRAM_LIMIT: u64 = 32769;
-/// The most bytes that are read of a text, or to be listed: 16 MiB.
+/// The most bytes that a program can have.
+const PROGRAM_LIMIT: u64 = 32768;
+/// The most bytes of a text, or to be listed: 16 MiB.
 const TEXT_LIMIT: usize = 0x100_0000;
 
-/// Does what is asked.
-pub fn answer<R: Files + AllocGlobal>(rt: &R, request: &Request<'_>) -> Result<Answer, Fault> {
+fn assembled(alloc: Global, bytes: &[u8]) -> Result<Vec<u8>, Fault>
+    ensures program { IfOk result (λ v. IsWithinLimit bytes.now × IsUtf8 bytes.now × (assembly_of bytes.now ≡ Ok v.items)) }
+    ensures fault { IfErr result (IsAssemblyRefusal bytes.now) }
+{
+    if bytes.len() > TEXT_LIMIT {
+        return Err(Fault::File);
+    }
+    let Ok(text) = str::from_utf8(bytes) else {
+        return Err(Fault::Text(AsmFault {
+            line: 1,
+            kind: AsmFaultKind::Token,
+        }));
+    };
+    match assemble(alloc, text) {
+        Ok(program) => Ok(program),
+        Err(fault) => Err(Fault::Text(fault)),
+    }
+}
+
+fn listed(alloc: Global, bytes: &[u8]) -> Result<String, Fault>
+    ensures text { IfOk result (λ text. IsWithinLimit bytes.now × Lists bytes.now (string_bytes text)) }
+    ensures fault { IfErr result (IsListingRefusal bytes.now) }
+{
+    if bytes.len() > TEXT_LIMIT {
+        return Err(Fault::File);
+    }
+    match listing(alloc, bytes) {
+        Ok(text) => Ok(text),
+        Err(ListFault::Memory) => Err(Fault::Memory),
+        Err(fault) => Err(Fault::Bytes(fault)),
+    }
+}
+
+fn verified_for(alloc: Global, file: &ProgramFile<'_>, bytes: &[u8]) -> Result<Verified, Fault>
+    ensures program { IfOk result (λ v. IsAcceptedProgram bytes.now file.now.releases v.code) }
+    ensures fault { IfErr result (IsRefusedProgram bytes.now file.now.releases) }
+{
+    match verified(alloc, bytes, &Shape::of(file.releases)) {
+        Ok(program) => {
+            program.keeps();
+            Ok(program)
+        }
+        Err(fault) => Err(fault),
+    }
+}
+
+/// What a request is answered from the bytes of the file that it reads.
+pub fn answer_from(alloc: Global, request: &Request<'_>, bytes: &[u8]) -> Result<Answer, Fault>
+    ensures answer { IfOk result (IsAnswer request.now bytes.now) }
+    ensures fault { IfErr result (IsRefusal request.now bytes.now) }
+{
     match request {
-        Request::Assemble { text, out } => assemble_file(rt, text, out),
-        Request::List { path } => list_file(rt, path),
+        Request::Assemble { .. } => Ok(Answer::Assembled {
+            program: assembled(alloc, bytes)?,
+        }),
+        Request::List { .. } => Ok(Answer::Listed {
+            text: listed(alloc, bytes)?,
+        }),
         Request::Verify { program } => Ok(Answer::Accepted {
-            slots: verified_file(rt, program)?.len(),
+            slots: verified_for(alloc, program, bytes)?.len(),
         }),
         Request::Run {
             program,
             version,
             bucket,
         } => {
-            let program = verified_file(rt, program)?;
-            let (choice, instructions) = choose(rt.alloc(), program, *version, *bucket)?;
+            let program = verified_for(alloc, program, bytes)?;
+            let (choice, instructions) = choose(alloc, program, *version, *bucket)?;
             Ok(Answer::Chosen {
                 choice,
                 instructions,
@@ -37,48 +108,23 @@ pub fn answer<R: Files + AllocGlobal>(rt: &R, request: &Request<'_>) -> Result<A
     }
 }
 
-// The file is written only where the whole text has bytes.
-fn assemble_file<R: Files + AllocGlobal>(rt: &R, text: &str, out: &str) -> Result<Answer, Fault> {
-    let text = read_text(rt, text)?;
-    let Ok(text) = str::from_utf8(&text) else {
-        return Err(Fault::Text(AsmFault {
-            line: 1,
-            kind: AsmFaultKind::Token,
-        }));
-    };
-    match assemble(rt.alloc(), text) {
-        Ok(bytes) => {
-            write_file(rt, out, &bytes)?;
-            Ok(Answer::Assembled {
-                slots: bytes.len() / 8,
-            })
-        }
-        Err(fault) => Err(Fault::Text(fault)),
+// One byte more than is allowed, so that a file that is too long shows.
+fn limit_of(request: &Request<'_>) -> u64 {
+    match request {
+        Request::Assemble { .. } | Request::List { .. } => TEXT_LIMIT as u64 + 1,
+        Request::Verify { .. } | Request::Run { .. } => PROGRAM_LIMIT + 1,
     }
 }
 
-fn list_file<R: Files + AllocGlobal>(rt: &R, path: &str) -> Result<Answer, Fault> {
-    let bytes = read_text(rt, path)?;
-    match listing(rt.alloc(), &bytes) {
-        Ok(text) => Ok(Answer::Listed { text }),
-        Err(ListFault::Memory) => Err(Fault::Memory),
-        Err(fault) => Err(Fault::Bytes(fault)),
+/// Does what is asked. A text's bytes are written only where the whole text has bytes.
+pub fn answer<R: Files + AllocGlobal>(rt: &R, request: &Request<'_>) -> Result<Answer, Fault>
+    ensures answer { IfOk result (λ a. (bytes : List ℕ) × IsAnswer request.now bytes a) }
+    ensures fault { IfErr result (λ e. IsFileRefusal e ⊎ ((bytes : List ℕ) × IsRefusal request.now bytes e)) }
+{
+    let bytes = read_file(rt, request.path(), limit_of(request))?;
+    let answer = answer_from(rt.alloc(), request, &bytes)?;
+    if let (Request::Assemble { out, .. }, Answer::Assembled { program }) = (request, &answer) {
+        write_file(rt, out, program)?;
     }
-}
-
-// A file over the limit counts as one that can't be read.
-fn read_text<R: Files + AllocGlobal>(rt: &R, path: &str) -> Result<Vec<u8>, Fault> {
-    let bytes = read_file(rt, path, TEXT_LIMIT as u64 + 1)?;
-    if bytes.len() > TEXT_LIMIT {
-        return Err(Fault::File);
-    }
-    Ok(bytes)
-}
-
-fn verified_file<R: Files + AllocGlobal>(
-    rt: &R,
-    program: &ProgramFile<'_>,
-) -> Result<Verified, Fault> {
-    let bytes = read_file(rt, program.path, PROGRAM_LIMIT)?;
-    verified(rt.alloc(), &bytes, &Shape::of(program.releases))
+    Ok(answer)
 }

@@ -1,14 +1,19 @@
 //! The commands, over any two writers.
 
-ghost use Rattle.std.specs.Prelude.{◌≡◌, ◌≤◌, if◌then◌else◌};
+ghost use Rattle.std.specs.Prelude.{◌≡◌, ◌≤◌, map, IfSome, OnOk, if◌then◌else◌};
 ghost use Rattle.clap.specs.Values.{kind_of};
+ghost use Rattle.std.specs.IoError.{error_kind};
+ghost use Rattle.std.specs.Io.KnownBytes.{Appends};
+ghost use Rattle.rollout.specs.Commands.{IsDone};
+ghost use Rattle.rollout.specs.Texts.{fault_text, refused_line};
 
 use crate::answer::answer;
 use crate::fault::Fault;
-use crate::request::{grammar, request_of};
-use clap::error::{Error, ErrorKind};
+use crate::words::{grammar, request_of};
+use clap::Error;
+use clap::error::ErrorKind as ParseFault;
 use std::convert::AsStr;
-use std::io::{self, Write};
+use std::io::{self, ErrorKind, Write};
 use std::rt::Files;
 
 /// The command did what it was asked.
@@ -26,7 +31,10 @@ pub fn command<R: Files + AllocGlobal, S: AsStr, O: Write, E: Write>(
     out: &mut O,
     err: &mut E,
 ) -> u8
-    ensures { result ≤ 2 }
+    ensures within { result ≤ 2 }
+    ensures done { result ≡ 0 → IsDone (map S.text words.now) (O.contents out.old) (O.contents out.new) }
+    ensures silent { result ≡ 0 → err.new ≡ err.old }
+    ensures usage { result ≡ 2 → out.new ≡ out.old }
 {
     let Ok(grammar) = grammar(rt.alloc()) else {
         return refused(err, &Fault::Memory);
@@ -46,33 +54,40 @@ pub fn command<R: Files + AllocGlobal, S: AsStr, O: Write, E: Write>(
 
 /// What words are answered that can't be read: their memory was refused, or one isn't UTF-8.
 pub fn unreadable_words<E: Write>(error: &io::Error, err: &mut E) -> u8
-    ensures { result ≤ 2 }
+    ensures within { (1 ≤ result) × (result ≤ 2) }
+    ensures memory { error_kind error.now ≡ ErrorKind.OutOfMemory → result ≡ 1 }
 {
     match error.kind() {
-        io::ErrorKind::OutOfMemory => refused(err, &Fault::Memory),
+        ErrorKind::OutOfMemory => refused(err, &Fault::Memory),
         _ => status_of(writeln!(err, "error: a word isn't UTF-8").is_ok(), USAGE),
     }
 }
 
-/// What is answered in place of a request: help, what is wrong with the words, or B4 where the memory
-/// that reading them wants was refused.
+/// What words are answered that ask for help or are wrong: the usage; or that memory was refused.
 pub fn usage<O: Write, E: Write>(error: &Error, out: &mut O, err: &mut E) -> u8
     ensures within { result ≤ 2 }
-    ensures memory { kind_of error.now ≡ ErrorKind.OutOfMemory → result ≡ 1 }
+    ensures memory { kind_of error.now ≡ ParseFault.OutOfMemory → result ≡ 1 }
+    ensures help { result ≡ 0 → kind_of error.now ≡ ParseFault.DisplayHelp }
+    ensures silent { result ≡ 0 → err.new ≡ err.old }
+    ensures wrong { result ≡ 2 → out.new ≡ out.old }
 {
-    if error.kind() == ErrorKind::OutOfMemory {
-        refused(err, &Fault::Memory)
-    } else if error.exit_code() == 0 {
-        status_of(write!(out, "{error}").is_ok(), DONE)
-    } else {
-        status_of(write!(err, "{error}").is_ok(), USAGE)
+    match error.kind() {
+        ParseFault::DisplayHelp => status_of(write!(out, "{error}").is_ok(), DONE),
+        ParseFault::OutOfMemory => refused(err, &Fault::Memory),
+        _ => status_of(write!(err, "{error}").is_ok(), USAGE),
     }
 }
 
 fn refused<E: Write>(err: &mut E, fault: &Fault) -> u8
     ensures { result ≡ 1 }
 {
-    status_of(writeln!(err, "refused {fault}").is_ok(), REFUSED)
+    status_of(print_refusal(err, fault).is_ok(), REFUSED)
+}
+
+fn print_refusal<E: Write>(err: &mut E, fault: &Fault) -> io::Result<()>
+    ensures { OnOk result (IfSome (fault_text fault.now) (λ text. Appends (E.contents err.old) (E.contents err.new) (refused_line text))) }
+{
+    writeln!(err, "refused {fault}")
 }
 
 // The status of what was written, or after a failed write.

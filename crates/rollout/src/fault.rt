@@ -1,5 +1,8 @@
 //! Why the program refuses, and what it answers otherwise.
 
+ghost use Rattle.std.specs.Prelude.{Some};
+ghost use Rattle.rollout.specs.Texts.{answer_text, fault_text};
+
 use bpf_text::{AsmFault, ListFault};
 use bpf_verify::Refusal;
 use flow_check::FlowFault;
@@ -23,6 +26,8 @@ pub enum Fault {
 }
 
 impl fmt::Display for Fault {
+    ghost output = { fault_text };
+
     fn fmt<W: fmt::Write>(&self, f: &mut fmt::Formatter<W>) -> fmt::Result {
         match self {
             Fault::File => f.write_str("B3 File"),
@@ -38,8 +43,8 @@ impl fmt::Display for Fault {
 /// What a request is answered, by lines that are each ended by LF.
 #[derive(Debug, Drop)]
 pub enum Answer {
-    /// The text was assembled; the number of slots of its bytes.
-    Assembled { slots: usize },
+    /// The text was assembled into these bytes, of which the number of slots is printed.
+    Assembled { program: Vec<u8> },
     /// The listing of the bytes: a line an instruction.
     Listed { text: String },
     /// The program is accepted; its length in slots.
@@ -49,9 +54,14 @@ pub enum Answer {
 }
 
 impl fmt::Display for Answer {
+    ghost output = { λ answer. Some (answer_text answer) };
+
     fn fmt<W: fmt::Write>(&self, f: &mut fmt::Formatter<W>) -> fmt::Result {
         match self {
-            Answer::Assembled { slots } => writeln!(f, "{slots} slots"),
+            Answer::Assembled { program } => {
+                let slots = program.len() / 8;
+                writeln!(f, "{slots} slots")
+            }
             Answer::Listed { text } => f.write_str(text),
             Answer::Accepted { slots } => writeln!(f, "accepted {slots} slots"),
             Answer::Chosen {

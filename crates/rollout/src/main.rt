@@ -10,6 +10,7 @@ mod program;
 mod request;
 #[cfg(test)]
 mod tests;
+mod words;
 
 use crate::command::{command, unreadable_words};
 use std::process::ExitCode;

@@ -1,0 +1,30 @@
+-- The texts that the program prints for an answer and for a refusal.
+use Rattle.std.specs.Prelude.{ℕ, ◌/◌, List, ◌++◌, length, codes, Option, Some, None}
+use Rattle.std.specs.Fmt.{decimal}
+use Rattle.std.specs.String.{string_bytes}
+use Rattle.bpf_text.specs.Faults.{asm_fault_text, list_fault_text}
+use Rattle.rollout.specs.declared.fault.Answer.{Answer}
+use Rattle.rollout.specs.declared.fault.Answer.TheVariants.{Assembled, Listed, Accepted, Chosen}
+use Rattle.rollout.specs.declared.fault.Fault.{Fault}
+use Rattle.rollout.specs.declared.fault.Fault.TheVariants.{File, Memory, Text, Bytes}
+
+-- a text, ended by LF
+abbrev pub line : List ℕ → List ℕ
+line text = text ++ codes "\n"
+
+abbrev pub answer_text : Answer → List ℕ
+answer_text (Assembled program) = line (decimal (length program.items / 8) ++ codes " slots")
+answer_text (Listed text) = string_bytes text
+answer_text (Accepted slots) = line (codes "accepted " ++ decimal slots ++ codes " slots")
+answer_text (Chosen choice instructions) = line (codes "choice " ++ decimal choice ++ codes " after " ++ decimal instructions ++ codes " instructions")
+
+-- no text is stated of the graph's faults and the verifier's refusals
+abbrev pub fault_text : Fault → Option (List ℕ)
+fault_text File = Some (codes "B3 File")
+fault_text Memory = Some (codes "B4 Memory")
+fault_text (Text fault) = Some (asm_fault_text fault)
+fault_text (Bytes fault) = Some (list_fault_text fault)
+fault_text fault = None
+
+abbrev pub refused_line : List ℕ → List ℕ
+refused_line text = line (codes "refused " ++ text)
