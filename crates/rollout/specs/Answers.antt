@@ -22,6 +22,13 @@ use Rattle.rollout.specs.declared.request.Request.{Request}
 use Rattle.rollout.specs.declared.request.Request.TheVariants as request
 use Rattle.rollout.specs.Faults.{IsProgramFault}
 
+-- the file that is read
+abbrev pub path_of : Request → List ℕ
+path_of (request.Assemble text out) = text.now
+path_of (request.List path) = path.now
+path_of (request.Verify program) = program.path.now
+path_of (request.Run program version bucket) = program.path.now
+
 -- ---- answers
 
 -- at most 16 MiB of a text or to be listed; more counts as a file that can't be read

@@ -15,6 +15,7 @@ ghost use Rattle.rollout.specs.Answers.{
   IsRefusedProgram,
   IsRefusal,
   IsWithinLimit,
+  path_of,
 };
 
 use crate::fault::{Answer, Fault};
@@ -108,6 +109,17 @@ pub fn answer_from(alloc: Global, request: &Request<'_>, bytes: &[u8]) -> Result
     }
 }
 
+// The file that is read.
+fn path_of<'a>(request: &'a Request<'_>) -> &'a str
+    ensures { result.now ≡ path_of request.now }
+{
+    match request {
+        Request::Assemble { text, .. } => text,
+        Request::List { path } => path,
+        Request::Verify { program } | Request::Run { program, .. } => program.path,
+    }
+}
+
 // One byte more than is allowed, so that a file that is too long shows.
 fn limit_of(request: &Request<'_>) -> u64 {
     match request {
@@ -121,7 +133,7 @@ pub fn answer<R: Files + AllocGlobal>(rt: &R, request: &Request<'_>) -> Result<A
     ensures answer { IfOk result (λ a. (bytes : List ℕ) × IsAnswer request.now bytes a) }
     ensures fault { IfErr result (λ e. IsFileRefusal e ⊎ ((bytes : List ℕ) × IsRefusal request.now bytes e)) }
 {
-    let bytes = read_file(rt, request.path(), limit_of(request))?;
+    let bytes = read_file(rt, path_of(request), limit_of(request))?;
     let answer = answer_from(rt.alloc(), request, &bytes)?;
     if let (Request::Assemble { out, .. }, Answer::Assembled { program }) = (request, &answer) {
         write_file(rt, out, program)?;

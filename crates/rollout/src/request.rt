@@ -34,17 +34,6 @@ pub enum Request<'a> {
     },
 }
 
-impl Request<'_> {
-    /// The file that is read.
-    pub fn path(&self) -> &str {
-        match self {
-            Request::Assemble { text, .. } => text,
-            Request::List { path } => path,
-            Request::Verify { program } | Request::Run { program, .. } => program.path,
-        }
-    }
-}
-
 /// A bucket: 0 to 9999.
 #[derive(Clone, Copy)]
 pub struct Bucket {
