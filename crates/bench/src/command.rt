@@ -1,6 +1,7 @@
 //! The commands, over any two writers.
 
 ghost use Rattle.std.specs.Prelude.{◌≡◌, ◌≤◌};
+ghost use Rattle.std.specs.IoError.{error_kind};
 
 use crate::fault::Fault;
 use crate::fnv::hash_of;
@@ -11,7 +12,7 @@ use crate::request::{Request, Size, request_of};
 use crate::runs::{apps, run_times};
 use std::alloc::Global;
 use std::convert::AsStr;
-use std::io::{self, Write};
+use std::io::{self, ErrorKind, Write};
 use std::sync::Arc;
 
 /// It did what it was asked.
@@ -40,10 +41,7 @@ pub fn command<S: AsStr, O: Write, E: Write>(
     };
     match done {
         Ok(()) => DONE,
-        Err(fault) => {
-            let _ = writeln!(err, "bench: {fault}");
-            REFUSED
-        }
+        Err(fault) => refused(&fault, err),
     }
 }
 
@@ -117,10 +115,21 @@ fn run_one<O: Write>(
 }
 
 /// What words are answered that can't be read: their memory was refused, or one isn't UTF-8.
-pub fn unreadable_words<E: Write>(err: &mut E) -> u8
-    ensures { result ≡ 2 }
+pub fn unreadable_words<E: Write>(error: &io::Error, err: &mut E) -> u8
+    ensures within { (1 ≤ result) × (result ≤ 2) }
+    ensures memory { error_kind error.now ≡ ErrorKind.OutOfMemory → result ≡ 1 }
 {
-    usage(err)
+    match error.kind() {
+        ErrorKind::OutOfMemory => refused(&Fault::Memory, err),
+        _ => usage(err),
+    }
+}
+
+fn refused<E: Write>(fault: &Fault, err: &mut E) -> u8
+    ensures { result ≡ 1 }
+{
+    let _ = writeln!(err, "bench: {fault}");
+    REFUSED
 }
 
 fn usage<E: Write>(err: &mut E) -> u8

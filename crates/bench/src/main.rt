@@ -26,7 +26,7 @@ fn main(rt: HostRuntime) -> ExitCode {
     let mut err = rt.stderr();
     let status = match words_of(&rt) {
         Ok(words) => command(rt.alloc(), words.as_slice(), &mut out, &mut err),
-        Err(_) => unreadable_words(&mut err),
+        Err(error) => unreadable_words(&error, &mut err),
     };
     ExitCode::from(status)
 }

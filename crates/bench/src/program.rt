@@ -9,8 +9,8 @@ use crate::pattern::Pattern;
 use bpf_insn::{Insn, encode};
 use std::alloc::{AllocError, Global};
 
-#[tactic(auto, using(crate::proofs::Building::insn_added))]
 /// Adds the encodings of instructions.
+#[tactic(auto, using(crate::proofs::Building::insn_added))]
 fn push_all(bytes: &mut Vec<u8>, insns: &[Insn]) -> Result<(), AllocError>
     ensures { OnOk result (bytes.new.items ≡ bytes.old.items ++ encodings insns.now) }
 {
