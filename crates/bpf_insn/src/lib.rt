@@ -2,13 +2,16 @@
 //! and atomic64. `decode_at` reads the instruction that bytes spell, and `encode` writes it.
 #![tactic(auto)]
 
+mod arithmetic;
 mod build;
+mod conditions;
 mod decoder;
 mod encoder;
 mod fault;
 mod fields;
 mod form;
 mod insn;
+mod jumps;
 mod layout;
 mod number;
 mod opcode;
@@ -16,6 +19,7 @@ mod operand;
 mod parts;
 mod reg;
 mod row;
+mod words;
 
 pub use decoder::decode_at;
 pub use encoder::encode;
@@ -27,3 +31,4 @@ pub use operand::{
     LoadKind, Operand, Size, WideValue,
 };
 pub use reg::Reg;
+pub use words::{low_byte, low_half, low_word};

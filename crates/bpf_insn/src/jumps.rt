@@ -1,0 +1,50 @@
+//! Where a jump lands (RFC 9669, "Jump Instructions"), and how many slots an instruction takes. A
+//! slot is a plain `usize`; a jump counts slots from the instruction after it.
+
+ghost use Rattle.std.specs.Prelude.{◌≡◌, ◌<◌, ◌≤◌};
+ghost use Rattle.bpf_insn.specs.Program.{landing, slots_moved};
+ghost use Rattle.bpf_insn.specs.Spelling.{slots_of};
+
+use crate::insn::Width;
+use crate::operand::Distance;
+
+impl Distance {
+    /// The slots that it moves, from the instruction after the jump.
+    #[inline]
+    pub fn slots(self) -> i32
+        ensures { result ≡ slots_moved self }
+    {
+        match self {
+            Distance::Short(slots) => slots as i32,
+            Distance::Long(slots) => slots,
+        }
+    }
+
+    /// The slot that a jump at this slot lands on; none below slot 0.
+    #[inline]
+    pub fn target(self, slot: usize) -> Option<usize>
+        requires { slot < 4096 }
+        ensures { result ≡ landing slot (slots_moved self) }
+    {
+        let target = slot as i64 + 1 + self.slots() as i64;
+        if target < 0 {
+            None
+        } else {
+            Some(target as usize)
+        }
+    }
+}
+
+impl Width {
+    /// One slot or two.
+    #[inline]
+    pub fn slots(self) -> usize
+        ensures slots { result ≡ slots_of self }
+        ensures in_range { result ≤ 2 }
+    {
+        match self {
+            Width::One => 1,
+            Width::Two => 2,
+        }
+    }
+}
