@@ -1,0 +1,4 @@
+pub mod Events
+pub mod Grown
+pub mod Names
+pub mod Arrays

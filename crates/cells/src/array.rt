@@ -1,0 +1,68 @@
+//! Arrays of cells, as they are declared: by name, each over cells of one width.
+
+ghost use Rattle.std.specs.Prelude.{◌≡◌, IfOk};
+ghost use Rattle.cells.specs.Names.{IsName};
+
+use std::alloc::{AllocError, Global};
+use std::marker::Model;
+
+/// How wide the cells of an array are.
+#[derive(Clone, Copy, Debug, PartialEq, Eq)]
+pub enum CellWidth {
+    Bits32,
+    Bits64,
+}
+
+/// The name of an array: a letter or `_`, then letters, digits and `_`, at most 32 in all. Letters
+/// and digits are ASCII.
+#[derive(Debug, Drop)]
+pub struct ArrayName {
+    text: String,
+}
+
+impl Model for ArrayName {
+    ghost use Rattle.std.specs.Prelude.{List, ℕ, string_bytes};
+    ghost use Rattle.cells.specs.Names.{IsName};
+
+    ghost Value = { List ℕ };
+
+    ghost view = { λ n. string_bytes n.text };
+
+    ghost invariant = { λ n. IsName (string_bytes n.text) };
+}
+
+impl ArrayName {
+    /// A text as a name.
+    pub fn of(alloc: Global, text: &str) -> Result<ArrayName, AllocError>
+        requires { IsName text.now }
+        ensures { IfOk result (λ n. n ≡ text.now) }
+    {
+        let text = String::from_str(alloc, text)?;
+        Ok(ArrayName { text })
+    }
+
+    /// The text of the name.
+    pub fn as_str(&self) -> &str
+        ensures text { result.now ≡ self.now }
+        ensures name { IsName result.now }
+    {
+        self.text.as_str()
+    }
+}
+
+/// The number of an array in its directory, from 0.
+#[derive(Clone, Copy, Debug, PartialEq, Eq)]
+pub struct ArrayNo {
+    pub number: usize,
+}
+
+/// An array of cells: the `length` cells from number `base` on. One with a quota grants so many
+/// takes of each cell.
+#[derive(Debug, Drop)]
+pub struct CellArray {
+    pub name: ArrayName,
+    pub width: CellWidth,
+    pub base: u16,
+    pub length: u16,
+    pub quota: Option<u64>,
+}
