@@ -1,8 +1,7 @@
 -- A context is 64 bytes.
 use Rattle.std.proofs.Common.{◌≡◌, ◌%◌, ◌<◌, ℕ, All, length, refl, arith, rules}
 use Rattle.std.proofs.lemmas.List.Elements.{All-from_recursion}
-use Rattle.attrs.specs.declared.context.Context.{Context}
-use Rattle.attrs.specs.Context.{context_bytes}
+use Rattle.attrs.specs.Context.{Context, context_bytes}
 
 pub length-context_bytes : (c : Context) → length (context_bytes c) ≡ 64
 unfolding context_bytes
@@ -13,6 +12,4 @@ low_byte n = omega arith
 
 pub All-context_bytes : (c : Context) → All (λ b. b < 256) (context_bytes c)
 unfolding context_bytes
-All-context_bytes c =
-    let flags : c.flags < 256 = omega (arith, c.flags_in_range) in
-    All-from_recursion (λ b. b < 256) (context_bytes c) (search (rules, low_byte, flags))
+All-context_bytes c = All-from_recursion (λ b. b < 256) (context_bytes c) (search (rules, low_byte))

@@ -9,19 +9,19 @@ use Rattle.std.proofs.lemmas.Str.Parse.{IsNumeralModel, parse_plain, numerals_by
 use Rattle.std.proofs.lemmas.Option.{cond_some, none-some}
 use Rattle.std.proofs.lemmas.List.Folds.{list_all-append}
 use Rattle.std.proofs.lemmas.Grind.{common_steps}
-use Rattle.attrs.specs.Version.{number_of, is_number, parts_of, version_of}
+use Rattle.attrs.specs.Version.{decimal_number, is_number, parts_of, version_of}
 
-number_of-None : (b : Bool) (n : ℕ) → cond b (Some n) None ≡ None → b ≡ false
-number_of-None true n h = absurd (none-some n (sym h))
-number_of-None false n h = refl
+decimal_number-None : (b : Bool) (n : ℕ) → cond b (Some n) None ≡ None → b ≡ false
+decimal_number-None true n h = absurd (none-some n (sym h))
+decimal_number-None false n h = refl
 
 digits_are : IsNumeralModel (λ ds. all_ascii_digits ds ≡ true) (digits_value 10)
 digits_are = numerals_by_value _ tells_all_ascii_digits
 
 -- with no plus in front, `parse` reads what is a number, and nothing else
-pub number_of-parse : {E : Type 0} (part : List ℕ) (r : Result ℕ E) → (get_or part 0 0 == 43) ≡ false → ParsesUnsigned 32 10 part r → result_ok r ≡ number_of part
-number_of-parse {E} part (Ok n) plain h = let k = parse_plain digits_are {E = E} 32 part (Ok n) h (grind (arith, common_steps)) in grind (arith, common_steps)
-number_of-parse {E} part (Err e) plain h = let k = parse_plain digits_are {E = E} 32 part (Err e) h (grind (arith, common_steps)) in grind (arith, common_steps)
+pub decimal_number-parse : {E : Type 0} (part : List ℕ) (r : Result ℕ E) → (get_or part 0 0 == 43) ≡ false → ParsesUnsigned 32 10 part r → result_ok r ≡ decimal_number part
+decimal_number-parse {E} part (Ok n) plain h = let k = parse_plain digits_are {E = E} 32 part (Ok n) h (grind (arith, common_steps)) in grind (arith, common_steps)
+decimal_number-parse {E} part (Err e) plain h = let k = parse_plain digits_are {E = E} 32 part (Err e) h (grind (arith, common_steps)) in grind (arith, common_steps)
 
 -- ---- a version, part by part
 
@@ -58,14 +58,14 @@ module _ {S A : Type 0} {steps : S → Option A → S → Type 0} {v : A → Lis
       let n = h.count_is in
       grind (arith, common_steps)
 
-  pub read-not_number : {s : S} {count : ℕ} {numbers : List ℕ} (t : S) (x : A) → IsRead steps v text s count numbers → steps s (Some x) t → number_of (v x) ≡ None → version_of text ≡ None
+  pub read-not_number : {s : S} {count : ℕ} {numbers : List ℕ} (t : S) (x : A) → IsRead steps v text s count numbers → steps s (Some x) t → decimal_number (v x) ≡ None → version_of text ≡ None
   read-not_number {s} t x h step none =
       let k = next t x h.rest h.yields step in
-      let wrong : is_number (v x) ≡ false = number_of-None (is_number (v x)) _ none in
+      let wrong : is_number (v x) ≡ false = decimal_number-None (is_number (v x)) _ none in
       let some : list_all is_number (parts_of text) ≡ false = rw (h.parts, k.1, list_all-append, h.each, wrong) refl in
       grind (arith, common_steps)
 
-  pub read-number : {s : S} {count : ℕ} {numbers : List ℕ} (t : S) (x : A) (n : ℕ) → IsRead steps v text s count numbers → steps s (Some x) t → count < 4 → number_of (v x) ≡ Some n → IsRead steps v text t (count + 1) (set numbers count n)
+  pub read-number : {s : S} {count : ℕ} {numbers : List ℕ} (t : S) (x : A) (n : ℕ) → IsRead steps v text s count numbers → steps s (Some x) t → count < 4 → decimal_number (v x) ≡ Some n → IsRead steps v text t (count + 1) (set numbers count n)
   read-number {s} {count} t x n h step room is =
       let k = next t x h.rest h.yields step in
       let good = cond_some (is_number (v x)) (digits_value 10 (v x)) n is in

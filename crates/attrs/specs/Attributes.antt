@@ -1,8 +1,6 @@
 -- The attributes of one app of a request at a moment: its context, and its texts by number.
-use Rattle.std.specs.Prelude.{ℕ, ◌+◌, ◌<◌, ◌≤◌, All, List, [], ◌∷◌, length, replicate, Bool, true, false, nat_le, Option, Some, None, is_some, option_and_then, unwrap_or, if◌then◌else◌}
-use Rattle.std.proofs.Common.{lit<}
-use Rattle.attrs.specs.declared.context.Context.{Context}
-use Rattle.attrs.specs.Context.{updatecheck, version_known, unknown_day}
+use Rattle.std.specs.Prelude.{ℕ, ◌+◌, ◌≤◌, All, List, [], ◌∷◌, length, replicate, Bool, nat_le, Option, Some, None, is_some, option_and_then, unwrap_or, if◌then◌else◌}
+use Rattle.attrs.specs.Context.{Context, IsInRange, updatecheck, version_known, unknown_day}
 use Rattle.attrs.specs.Version.{version_of}
 
 -- the texts in their order: 0 appid, 1 version, 2 brand, 3 ap, 4 lang, 5 cohort, 6 platform
@@ -21,27 +19,20 @@ AreShort texts = All (λ text. length text ≤ 1024) texts
 abbrev pub plain_flags : Bool → ℕ
 plain_flags has_version = updatecheck + (if has_version then version_known else 0)
 
-pub plain_flags-lt : (has_version : Bool) → plain_flags has_version < 64
-plain_flags-lt true = lit< tt
-plain_flags-lt false = lit< tt
-
--- an app that asks for an update on day 0 at second 0; the last argument keeps the bucket's range
-abbrev pub plain_context : (version : Option (List ℕ)) (bucket : ℕ) → bucket < 10000 → Context
-plain_context version bucket in_range = let numbers = option_and_then version_of version in record {
+-- an app that asks for an update on day 0 at second 0
+abbrev pub plain_context : (version : Option (List ℕ)) (bucket : ℕ) → Context
+plain_context version bucket = let numbers = option_and_then version_of version in record {
   version = unwrap_or numbers (replicate 4 0);
   bucket = bucket;
   flags = plain_flags (is_some numbers);
   install_day = unknown_day;
   today = 0;
   seconds = 0;
-  bucket_in_range = in_range;
-  flags_in_range = plain_flags-lt (is_some numbers);
-  seconds_in_range = lit< tt;
 }
 
 -- such an app, with no texts but these
-abbrev pub plain : (appid : List ℕ) (version : Option (List ℕ)) (bucket : ℕ) → bucket < 10000 → Attributes
-plain appid version bucket in_range = record {
-  context = plain_context version bucket in_range;
+abbrev pub plain : (appid : List ℕ) (version : Option (List ℕ)) (bucket : ℕ) → Attributes
+plain appid version bucket = record {
+  context = plain_context version bucket;
   texts = kept_text (Some appid) ∷ kept_text version ∷ replicate 5 [];
 }

@@ -1,7 +1,20 @@
--- The 64 bytes of a context.
-use Rattle.std.specs.Prelude.{ℕ, List, [], ◌∷◌, ◌++◌, slice_index, replicate}
-use Rattle.std.specs.Int.{w16, w32, to_le_bytes}
-use Rattle.attrs.specs.declared.context.Context.{Context}
+-- The context of an app: its fields, and the 64 bytes in which a program reads them.
+use Rattle.std.specs.Prelude.{ℕ, ◌<◌, List, [], ◌∷◌, ◌++◌, slice_index, replicate}
+use Rattle.std.specs.Int.{w8, w16, w32, to_le_bytes}
+
+pub record Context : Type 0 where
+  pub version : List ℕ
+  pub bucket : ℕ
+  pub flags : ℕ
+  pub install_day : ℕ
+  pub today : ℕ
+  pub seconds : ℕ
+
+-- the ranges that the type of a context keeps
+pub record IsInRange (c : Context) : Type 0 where
+  pub bucket : c.bucket < 10000
+  pub flags : c.flags < 64
+  pub seconds : c.seconds < 86400
 
 -- little-endian; the byte at 19 and those from 32 on are zero
 unfoldable pub context_bytes : Context → List ℕ
@@ -11,7 +24,8 @@ context_bytes c =
     ++ to_le_bytes w32 (slice_index c.version 2)
     ++ to_le_bytes w32 (slice_index c.version 3)
     ++ to_le_bytes w16 c.bucket
-    ++ c.flags ∷ 0 ∷ []
+    ++ to_le_bytes w8 c.flags
+    ++ 0 ∷ []
     ++ to_le_bytes w32 c.install_day
     ++ to_le_bytes w32 c.today
     ++ to_le_bytes w32 c.seconds

@@ -9,8 +9,8 @@ use Rattle.std.specs.Str.Parse.{digits_value}
 abbrev pub is_number : List ℕ → Bool
 is_number part = all_ascii_digits part && nat_lt 0 (length part) && nat_lt (digits_value 10 part) (2 ^ 32)
 
-abbrev pub number_of : List ℕ → Option ℕ
-number_of part = if is_number part then Some (digits_value 10 part) else None
+abbrev pub decimal_number : List ℕ → Option ℕ
+decimal_number part = if is_number part then Some (digits_value 10 part) else None
 
 -- the parts between the dots
 abbrev pub parts_of : List ℕ → List (List ℕ)

@@ -1,6 +1,7 @@
 // The attributes of an app: its context, and seven texts by number.
 
 ghost use Rattle.std.specs.Prelude.{◌≡◌, ◌<◌, ◌≤◌, length, [], slice_index_or, IfOk, string_bytes, option_copied};
+ghost use Rattle.attrs.specs.Context.{IsInRange};
 ghost use Rattle.attrs.specs.Attributes.{kept_text, plain_context, AreShort};
 
 use crate::context::Context;
@@ -56,7 +57,7 @@ impl Attrs {
         bucket: u16,
     ) -> Result<Attrs, AttrFault>
         requires { bucket < 10000 }
-        ensures { IfOk result (λ a. (in_range : bucket < 10000) → a ≡ plain appid.now (option_copied version.entry) bucket in_range) }
+        ensures { IfOk result (λ a. a ≡ plain appid.now (option_copied version.entry) bucket) }
     {
         Ok(Attrs {
             context: plain_context(version, bucket),
@@ -77,11 +78,12 @@ impl Attrs {
         self.context
     }
 
-    /// The fact that the type keeps: no text is over 1024 bytes.
+    /// The facts that the type keeps: the context is in its ranges, and no text is over 1024 bytes.
     pub fn keeps(&self)
-        ensures { AreShort self.now.texts }
+        ensures context { IsInRange self.now.context }
+        ensures texts { AreShort self.now.texts }
     {
-        let _appid = &self.appid;
+        self.context.keeps();
     }
 
     /// The text of a number, which is empty where no attribute has the number.
@@ -104,7 +106,7 @@ impl Attrs {
 // The context of an app that asks for an update on day 0 at second 0.
 fn plain_context(version: Option<&str>, bucket: u16) -> Context
     requires { bucket < 10000 }
-    ensures { (in_range : bucket < 10000) → result ≡ plain_context (option_copied version.entry) bucket in_range }
+    ensures { result ≡ plain_context (option_copied version.entry) bucket }
 {
     let (version, known) = match version.and_then(read_version) {
         Some(numbers) => (numbers, Context::VERSION_KNOWN),

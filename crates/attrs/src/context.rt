@@ -3,7 +3,9 @@
 ghost use Rattle.std.specs.Prelude.{◌≡◌, ◌+◌, ◌<◌, ◌≤◌, length, All};
 ghost use Rattle.std.specs.List.{splice};
 
-/// The facts of one app of a request at a moment.
+use std::marker::Model;
+
+/// The facts of one app of a request at a moment. Its type keeps the ranges.
 #[derive(Clone, Copy, Debug, PartialEq, Eq)]
 pub struct Context {
     /// The four numbers of the app's version; `Attrs` gives 0 where it isn't known.
@@ -18,13 +20,23 @@ pub struct Context {
     pub today: u32,
     /// Seconds of that day.
     pub seconds: u32,
-    pub ghost bucket_in_range: { bucket < 10000 },
-    pub ghost flags_in_range: { flags < 64 },
-    pub ghost seconds_in_range: { seconds < 86400 },
+}
+
+impl Model for Context {
+    ghost use Rattle.std.specs.Prelude.{◌<◌};
+    ghost use Rattle.attrs.specs.Context as specs;
+
+    ghost Value = { specs.Context };
+
+    ghost view = { λ c. record { version = c.version; bucket = c.bucket; flags = c.flags; install_day = c.install_day; today = c.today; seconds = c.seconds } };
+
+    ghost inverse = { λ c. record { version = c.version; bucket = c.bucket; flags = c.flags; install_day = c.install_day; today = c.today; seconds = c.seconds } };
+
+    ghost invariant = { λ c. (c.bucket < 10000) × (c.flags < 64) × (c.seconds < 86400) };
 }
 
 impl Context {
-    ghost use Rattle.attrs.specs.Context.{context_bytes, version_known, updatecheck, ping, event, cohort_known, installdate_known, unknown_day};
+    ghost use Rattle.attrs.specs.Context.{context_bytes, IsInRange, version_known, updatecheck, ping, event, cohort_known, installdate_known, unknown_day};
 
     /// The app sent a version, and it is one.
     pub const VERSION_KNOWN: u8 = 1;
@@ -49,6 +61,13 @@ impl Context {
         ensures day { Self.UNKNOWN_DAY ≡ unknown_day }
     {}
 
+    /// The fact that the type keeps: bucket, flags and seconds lie in their ranges.
+    pub fn keeps(&self)
+        ensures { IsInRange self.now }
+    {
+        let _bucket = &self.bucket;
+    }
+
     /// The bytes of the context.
     pub fn bytes(&self) -> [u8; 64]
         ensures layout { result ≡ context_bytes self.now }
@@ -61,7 +80,7 @@ impl Context {
         put(&mut bytes, 8, &self.version[2].to_le_bytes());
         put(&mut bytes, 12, &self.version[3].to_le_bytes());
         put(&mut bytes, 16, &self.bucket.to_le_bytes());
-        bytes[18] = self.flags;
+        put(&mut bytes, 18, &self.flags.to_le_bytes());
         put(&mut bytes, 20, &self.install_day.to_le_bytes());
         put(&mut bytes, 24, &self.today.to_le_bytes());
         put(&mut bytes, 28, &self.seconds.to_le_bytes());

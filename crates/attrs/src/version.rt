@@ -2,7 +2,7 @@
 // split at its dots, and each part is read as one number.
 
 ghost use Rattle.std.specs.Prelude.{◌≡◌};
-ghost use Rattle.attrs.specs.Version.{version_of, number_of};
+ghost use Rattle.attrs.specs.Version.{version_of, decimal_number};
 
 /// The four numbers of a version, of which the missing ones are 0, or `None` where the text is no
 /// version. Leading zeros are allowed; a number has ASCII digits alone, and is at most 4294967295.
@@ -23,7 +23,7 @@ pub fn read_version(text: &str) -> Option<[u32; 4]>
 
 // One number. `parse` alone would allow a plus in front.
 fn read_number(part: &str) -> Option<u32>
-    ensures { result ≡ number_of part.now }
+    ensures { result ≡ decimal_number part.now }
 {
     if part.starts_with('+') {
         return None;

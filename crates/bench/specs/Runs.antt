@@ -1,5 +1,5 @@
 -- Runs of one program, one after the other, for ten apps in turn.
-use Rattle.std.specs.Prelude.{◌≡◌, ℕ, ◌+◌, ◌*◌, ◌%◌, ◌<◌, List, [], length, Some, None, slice_get}
+use Rattle.std.specs.Prelude.{◌≡◌, ℕ, ◌+◌, ◌*◌, ◌%◌, List, [], length, Some, None, slice_get}
 use Rattle.attrs.specs.Attributes.{Attributes, plain}
 use Rattle.bpf_insn.specs.Program.{Program}
 use Rattle.bpf_semantics.specs.State.{opening}
@@ -12,7 +12,7 @@ bucket_of k = 1000 * k + 500
 
 -- app k is in its bucket, and has no attributes but this
 abbrev pub IsApp : ℕ → Attributes → Type 0
-IsApp k a = (in_range : bucket_of k < 10000) → a ≡ plain [] None (bucket_of k) in_range
+IsApp k a = a ≡ plain [] None (bucket_of k)
 
 -- the ten apps, in order
 pub record AreApps (apps : List Attributes) : Type 0 where

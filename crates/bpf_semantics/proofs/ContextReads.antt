@@ -4,12 +4,12 @@ use Rattle.attrs.specs.Attributes.{Attributes}
 use Rattle.attrs.specs.Context.{context_bytes}
 use Rattle.bpf_semantics.specs.State.{opening, read_at}
 
-two_bytes : (n : ℕ) → n < 10000 → n % 256 + 256 * (n / 256 ^ 1 % 256 + 256 * 0) ≡ n
+two_bytes : (n : ℕ) → n < 2 ^ 16 → n % 256 + 256 * (n / 256 ^ 1 % 256 + 256 * 0) ≡ n
 two_bytes n h = omega (arith, h)
 
-pub bucket_read : (a : Attributes) → read_at (opening a) 0x10000010 2 ≡ Some a.context.bucket
+pub bucket_read : (a : Attributes) → a.context.bucket < 2 ^ 16 → read_at (opening a) 0x10000010 2 ≡ Some a.context.bucket
 unfolding context_bytes
-bucket_read a = ap Some (two_bytes a.context.bucket a.context.bucket_in_range)
+bucket_read a h = ap Some (two_bytes a.context.bucket h)
 
 -- the number that its low four bytes make
 abbrev four_bytes : ℕ → ℕ

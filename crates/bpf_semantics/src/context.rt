@@ -1,6 +1,6 @@
 //! Whole programs that read the context, over all attributes.
 
-ghost use Rattle.std.specs.Prelude.{◌≡◌, ◌<◌, ◌≤◌, slice_index};
+ghost use Rattle.std.specs.Prelude.{◌≡◌, ◌^◌, ◌<◌, ◌≤◌, slice_index};
 ghost use Rattle.attrs.specs.Attributes.{Attributes};
 ghost use Rattle.bpf_semantics.specs.State.{opening};
 ghost use Rattle.bpf_semantics.specs.Run.{Ends, AlwaysEnds};
@@ -10,7 +10,7 @@ ghost use Rattle.bpf_semantics.specs.WorkedContext as worked;
 /// buckets below 100 after five instructions, and no release for the others after four.
 pub fn buckets()
     ensures below { (a : Attributes) → a.context.bucket < 100 → Ends worked.bucket_program (opening a) 1 5 }
-    ensures from_limit { (a : Attributes) → 100 ≤ a.context.bucket → Ends worked.bucket_program (opening a) 0 4 }
+    ensures from_limit { (a : Attributes) → 100 ≤ a.context.bucket → a.context.bucket < 2 ^ 16 → Ends worked.bucket_program (opening a) 0 4 }
 {}
 
 /// `ldxw r2, [r1+0] / mov r0, 0 / jslt32 r2, 0, +1 / mov r0, 1 / exit` takes the first number of the

@@ -6,8 +6,7 @@ use Rattle.std.proofs.Math.Nat.{pow-succ'}
 use Rattle.std.proofs.lemmas.Bool.{not-false}
 use Rattle.std.proofs.lemmas.Int.{ints}
 use Rattle.std.proofs.lemmas.List.{length-take, length-drop}
-use Rattle.attrs.specs.declared.context.Context.{Context}
-use Rattle.attrs.specs.Context.{context_bytes}
+use Rattle.attrs.specs.Context.{Context, context_bytes}
 use Rattle.bpf_insn.specs.declared.operand.LoadKind.{LoadKind}
 use Rattle.bpf_insn.specs.declared.operand.LoadKind.TheVariants as load
 use Rattle.bpf_insn.specs.declared.reg.Reg.{Reg}
@@ -76,7 +75,7 @@ context_are_bytes : (c : Context) → AreBytes (context_bytes c)
 unfolding context_bytes
 context_are_bytes c =
     bytes_4 (slice_index c.version 0) (bytes_4 (slice_index c.version 1) (bytes_4 (slice_index c.version 2) (bytes_4 (slice_index c.version 3)
-    (bytes_2 c.bucket (byte (omega (arith, c.flags_in_range)) (byte {b = 0} (omega arith)
+    (bytes_2 c.bucket (byte (omega arith) (byte {b = 0} (omega arith)
     (bytes_4 c.install_day (bytes_4 c.today (bytes_4 c.seconds (zeros 32))))))))))
 
 -- ---- reading the context

@@ -52,7 +52,7 @@ IsAnswer (request.List path) bytes (Listed text) = IsWithinLimit bytes × Lists 
 IsAnswer (request.Verify program) bytes (Accepted slots) = (p : Program) × IsAcceptedProgram bytes program.releases p × (slots ≡ length p)
 IsAnswer (request.Run program version bucket) bytes (Chosen choice instructions) =
     (p : Program) × IsAcceptedProgram bytes program.releases p
-    × Ends p (opening (plain [] (option_copied version) bucket.number bucket.in_range)) choice instructions
+    × Ends p (opening (plain [] (option_copied version) bucket.number)) choice instructions
 IsAnswer asked bytes answer = ⊥
 
 -- ---- refusals; no claim is made of memory that was refused

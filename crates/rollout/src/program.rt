@@ -40,7 +40,7 @@ pub fn choose(
     version: Option<&str>,
     bucket: Bucket,
 ) -> Result<(u8, u32), Fault>
-    ensures run { IfOk result (λ c. Ends program.code (opening (plain [] (option_copied version.entry) bucket.number bucket.in_range)) c.0 c.1) }
+    ensures run { IfOk result (λ c. Ends program.code (opening (plain [] (option_copied version.entry) bucket.number)) c.0 c.1) }
     ensures release { IfOk result (λ c. c.0 ≤ program.shape.releases) }
     ensures ends { IfOk result (λ c. c.1 ≤ length program.code) }
     ensures fault { IfErr result (λ e. e ≡ Fault.Memory) }

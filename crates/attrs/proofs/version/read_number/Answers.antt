@@ -1,8 +1,8 @@
 use Rattle.std.proofs.Common.{sym, ◌∙◌, lit<}
-use Rattle.attrs.proofs.Numbers.{number_of-parse}
+use Rattle.attrs.proofs.Numbers.{decimal_number-parse}
 use Rattle.attrs.proofs.version.read_number.Goals as goal
 
 pub returns : goal.returns
 returns c =
     let plain = sym (c.starts_with.ensures.byte (lit< tt) (lit< tt) (λ w o h. h)) ∙ c.if-starts_with.false in
-    c.ok.ensures.value ∙ number_of-parse c.args.part.now c.parse.result plain c.parse.ensures.value.0
+    c.ok.ensures.value ∙ decimal_number-parse c.args.part.now c.parse.result plain c.parse.ensures.value.0

@@ -1,8 +1,8 @@
 use Rattle.attrs.proofs.attributes.Attrs.plain.Goals as goal
 
 pub returns : goal.returns
-returns c in_range = rw (
-  c.plain_context.ensures in_range,
+returns c = rw (
+  c.plain_context.ensures,
   c.in_ok-keep_text.ensures.value,
   c.in_ok-keep_text-2.ensures.value,
   c.new.ensures.bytes,

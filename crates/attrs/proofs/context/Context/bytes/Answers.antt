@@ -1,11 +1,12 @@
-use Rattle.std.proofs.Common.{refl}
+use Rattle.std.proofs.Common.{◌≡◌, ◌%◌, refl, arith}
 use Rattle.attrs.specs.Context.{context_bytes}
 use Rattle.attrs.proofs.ContextBytes.{All-context_bytes}
 use Rattle.attrs.proofs.context.Context.bytes.Goals as goal
 
 laid_out : goal.returns-clause-layout
 unfolding context_bytes
-laid_out c = rw (
+laid_out c = let flags : c.self.inside.flags % 256 ≡ c.self.inside.flags = omega (arith, c.self.invariant) in rw (
+  c.put-9.ensures,
   c.put-8.ensures,
   c.put-7.ensures,
   c.put-6.ensures,
@@ -22,7 +23,9 @@ laid_out c = rw (
   c.to_le_bytes-6.ensures,
   c.to_le_bytes-7.ensures,
   c.to_le_bytes-8.ensures,
-) refl
+  c.to_le_bytes-9.ensures,
+  ← c.self.view_is,
+) (rw flags refl)
 
 pub returns-clause-layout : goal.returns-clause-layout
 returns-clause-layout c = laid_out c
