@@ -1,3 +1,5 @@
 pub mod Attributes
 pub mod Context
+pub mod Hash
+pub mod Helpers
 pub mod Version

@@ -47,6 +47,7 @@ impl Model for Attrs {
 
 impl Attrs {
     ghost use Rattle.attrs.specs.Attributes.{plain};
+    ghost use Rattle.attrs.specs.Helpers.{attribute};
 
     /// An app that asks for an update on day 0 at second 0, with no attributes but these. A version
     /// text that is too long to be kept still gives its numbers.
@@ -90,15 +91,25 @@ impl Attrs {
     pub fn text(&self, number: u64) -> &str
         ensures { result.now ≡ slice_index_or self.now.texts number [] }
     {
+        match self.attribute(number) {
+            Some(text) => text,
+            None => "",
+        }
+    }
+
+    // The text of a number, if an attribute has it.
+    pub(crate) fn attribute(&self, number: u64) -> Option<&str>
+        ensures { option_copied result ≡ attribute self.now number }
+    {
         match number {
-            0 => self.appid.as_str(),
-            1 => self.version.as_str(),
-            2 => self.brand.as_str(),
-            3 => self.ap.as_str(),
-            4 => self.lang.as_str(),
-            5 => self.cohort.as_str(),
-            6 => self.platform.as_str(),
-            _ => "",
+            0 => Some(&self.appid),
+            1 => Some(&self.version),
+            2 => Some(&self.brand),
+            3 => Some(&self.ap),
+            4 => Some(&self.lang),
+            5 => Some(&self.cohort),
+            6 => Some(&self.platform),
+            _ => None,
         }
     }
 }

@@ -4,8 +4,12 @@
 
 mod attributes;
 mod context;
+mod hash;
+mod helpers;
 mod version;
 
 pub use attributes::{AttrFault, Attrs};
 pub use context::Context;
+pub use hash::fnv1a;
+pub use helpers::{helper_attr_is, helper_attr_len, helper_bucket};
 pub use version::read_version;

@@ -1,0 +1,62 @@
+// What a program may ask of its app by CALL: whether an attribute has some bytes, its length, and a
+// bucket by a salt of the program's own. Each answers for any arguments, and takes no memory.
+
+ghost use Rattle.std.specs.Prelude.{◌≡◌, ◌+◌, ◌%◌, ◌/◌, ◌<◌, length};
+ghost use Rattle.attrs.specs.Helpers.{attr_is, attr_len, last_digit, four_digits, bucket_of};
+
+use crate::attributes::Attrs;
+use crate::hash::fnv1a;
+
+/// How many buckets there are.
+const BUCKETS: u64 = 10000;
+
+/// CALL 2: 1 where attribute `number` has exactly these bytes, else 0. No attribute has a number
+/// from 7 on, which is compared as a whole 64-bit number.
+pub fn helper_attr_is(attrs: &Attrs, number: u64, bytes: &[u8]) -> u64
+    ensures { result ≡ attr_is attrs.now number bytes.now }
+{
+    match attrs.attribute(number) {
+        Some(text) if text.as_bytes() == bytes => 1,
+        _ => 0,
+    }
+}
+
+/// CALL 3: the length of attribute `number` in bytes, 0 to 1024; 0 where the number is unknown.
+pub fn helper_attr_len(attrs: &Attrs, number: u64) -> u64
+    ensures { result ≡ attr_len attrs.now number }
+{
+    match attrs.attribute(number) {
+        Some(text) => text.len() as u64,
+        None => 0,
+    }
+}
+
+/// CALL 4: a bucket from 0 to 9999 that depends on the app's bucket and the salt alone. Programs
+/// with different salts divide the apps independently.
+pub fn helper_bucket(attrs: &Attrs, salt: u64) -> u64
+    ensures { result ≡ bucket_of attrs.now salt }
+{
+    let mut bytes = [0; 12];
+    bytes[..4].copy_from_slice(&digits(attrs.context().bucket));
+    bytes[4..].copy_from_slice(&salt.to_le_bytes());
+    fnv1a(&bytes) % BUCKETS
+}
+
+// A number below 10000 as four ASCII digits.
+fn digits(number: u16) -> [u8; 4]
+    ensures { result ≡ four_digits number }
+{
+    [
+        last_digit(number / 1000),
+        last_digit(number / 100),
+        last_digit(number / 10),
+        last_digit(number),
+    ]
+}
+
+// The last digit of a number, in ASCII.
+fn last_digit(number: u16) -> u8
+    ensures { result ≡ last_digit number }
+{
+    b'0' + (number % 10) as u8
+}
