@@ -4,7 +4,11 @@ ghost use Rattle.std.specs.Prelude.{◌≡◌, ◌<◌, ◌≤◌, length, [], s
 ghost use Rattle.attrs.specs.Context.{IsInRange};
 ghost use Rattle.attrs.specs.Attributes.{kept_text, plain_context, AreShort};
 
+use crate::app_context::context_of;
 use crate::context::Context;
+use crate::facts::{AppFacts, RequestFacts};
+use crate::moment::Moment;
+use crate::text::lent;
 use crate::version::read_version;
 use std::alloc::Global;
 use std::marker::Model;
@@ -47,6 +51,7 @@ impl Model for Attrs {
 
 impl Attrs {
     ghost use Rattle.attrs.specs.Attributes.{plain};
+    ghost use Rattle.attrs.specs.Facts.{attributes_of};
     ghost use Rattle.attrs.specs.Helpers.{attribute};
 
     /// An app that asks for an update on day 0 at second 0, with no attributes but these. A version
@@ -69,6 +74,27 @@ impl Attrs {
             lang: String::new(alloc),
             cohort: String::new(alloc),
             platform: String::new(alloc),
+        })
+    }
+
+    /// The attributes of an app at a moment, from what its request says.
+    pub fn of(
+        alloc: Global,
+        app: &AppFacts,
+        request: &RequestFacts,
+        moment: Moment,
+    ) -> Result<Attrs, AttrFault>
+        ensures { IfOk result (λ a. a ≡ attributes_of app.now request.now moment) }
+    {
+        Ok(Attrs {
+            context: context_of(app, request, moment),
+            appid: keep_text(alloc, Some(app.appid.as_str()))?,
+            version: keep_text(alloc, lent(&app.version))?,
+            brand: keep_text(alloc, lent(&app.brand))?,
+            ap: keep_text(alloc, lent(&app.ap))?,
+            lang: keep_text(alloc, lent(&app.lang))?,
+            cohort: keep_text(alloc, lent(&app.cohort))?,
+            platform: keep_text(alloc, lent(&request.platform))?,
         })
     }
 

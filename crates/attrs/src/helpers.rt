@@ -5,10 +5,8 @@ ghost use Rattle.std.specs.Prelude.{◌≡◌, ◌+◌, ◌%◌, ◌/◌, ◌<�
 ghost use Rattle.attrs.specs.Helpers.{attr_is, attr_len, last_digit, four_digits, bucket_of};
 
 use crate::attributes::Attrs;
+use crate::bucket::BUCKETS;
 use crate::hash::fnv1a;
-
-/// How many buckets there are.
-const BUCKETS: u64 = 10000;
 
 /// CALL 2: 1 where attribute `number` has exactly these bytes, else 0. No attribute has a number
 /// from 7 on, which is compared as a whole 64-bit number.

@@ -2,14 +2,23 @@
 //! context of 64 bytes, and texts by number.
 #![tactic(auto)]
 
+mod app_context;
 mod attributes;
+mod bucket;
 mod context;
+mod facts;
 mod hash;
 mod helpers;
+mod moment;
+mod text;
 mod version;
 
 pub use attributes::{AttrFault, Attrs};
+pub use bucket::app_bucket;
 pub use context::Context;
+pub use facts::{AppFacts, RequestFacts};
 pub use hash::fnv1a;
 pub use helpers::{helper_attr_is, helper_attr_len, helper_bucket};
+pub use moment::{Elapsed, Moment};
+pub use text::Text;
 pub use version::read_version;

@@ -22,7 +22,7 @@ pub fn read_version(text: &str) -> Option<[u32; 4]>
 }
 
 // One number. `parse` alone would allow a plus in front.
-fn read_number(part: &str) -> Option<u32>
+pub(crate) fn read_number(part: &str) -> Option<u32>
     ensures { result ≡ decimal_number part.now }
 {
     if part.starts_with('+') {

@@ -1,0 +1,15 @@
+use Rattle.std.proofs.Common.{◌<◌, ◌≤◌, length, sym, ◌∙◌, arith}
+use Rattle.std.proofs.lemmas.Grind.{common_steps}
+use Rattle.attrs.proofs.Numbers.{decimal_number-short}
+use Rattle.attrs.proofs.bucket.cohort_bucket.Goals as goal
+
+in_range : (c : goal.In-Some) → c.in-Some.bucket < 10000
+in_range c =
+    let short : length c.in_ok-strip_prefix.field-0.now ≤ 4 = grind (arith, common_steps, c.in_ok-strip_prefix.ensures.cases, c.if-cohort-ne-COHORT_LENGTH.false) in
+    decimal_number-short c.in_ok-strip_prefix.field-0.now c.in-Some.bucket short (sym c.read_number.ensures ∙ c.in-Some.is)
+
+pub overflow_cast-result : goal.overflow_cast-result
+overflow_cast-result c = omega (arith, in_range c)
+
+pub returns-in-Some-clause-range : goal.returns-in-Some-clause-range
+returns-in-Some-clause-range c = in_range c

@@ -1,0 +1,28 @@
+-- Which bucket an app is in: the one that its cohort names, or else a hash of who asks.
+use Rattle.std.specs.Prelude.{ℕ, ◌%◌, List, [], ◌∷◌, length, drop, codes, nat_eq, ◌&&◌, ◌==◌, Option, Some, None, option_and_then, unwrap_or, if◌then◌else◌}
+use Rattle.std.specs.List.{starts_with}
+use Rattle.attrs.specs.declared.facts.AppFacts.{AppFacts}
+use Rattle.attrs.specs.declared.facts.RequestFacts.{RequestFacts}
+use Rattle.attrs.specs.Hash.{fnv1a}
+use Rattle.attrs.specs.Version.{decimal_number}
+
+-- a cohort of `b:` and exactly four ASCII digits names a bucket
+abbrev pub cohort_bucket : List ℕ → Option ℕ
+cohort_bucket cohort = if starts_with nat_eq cohort (codes "b:") && length cohort == 6 then decimal_number (drop 2 cohort) else None
+
+abbrev pub named_bucket : AppFacts → Option ℕ
+named_bucket app = option_and_then cohort_bucket app.cohort
+
+abbrev pub text_or : List ℕ → List ℕ → List ℕ
+text_or [] other = other
+text_or (first ∷ rest) other = first ∷ rest
+
+-- the request's id, or its session's where that is empty or absent, or the empty text
+abbrev pub asker : RequestFacts → List ℕ
+asker request = text_or (unwrap_or request.requestid []) (unwrap_or request.sessionid [])
+
+abbrev pub hashed_bucket : RequestFacts → ℕ
+hashed_bucket request = fnv1a (asker request) % 10000
+
+abbrev pub app_bucket : AppFacts → RequestFacts → ℕ
+app_bucket app request = unwrap_or (named_bucket app) (hashed_bucket request)

@@ -1,0 +1,53 @@
+-- The attributes of an app, from what its request says of it and the moment at which it asks.
+use Rattle.std.specs.Prelude.{ℕ, ◌+◌, ℤ, List, [], ◌∷◌, map, replicate, Bool, nat_lt, Option, Some, None, is_some, option_and_then, unwrap_or, if◌then◌else◌}
+use Rattle.attrs.specs.declared.facts.AppFacts.{AppFacts}
+use Rattle.attrs.specs.declared.facts.RequestFacts.{RequestFacts}
+use Rattle.attrs.specs.Attributes.{Attributes, kept_text}
+use Rattle.attrs.specs.Bucket.{named_bucket, app_bucket}
+use Rattle.attrs.specs.Context.{Context, version_known, updatecheck, ping, event, cohort_known, installdate_known, unknown_day}
+use Rattle.attrs.specs.Moment.{elapsed_days, elapsed_seconds}
+use Rattle.attrs.specs.Version.{version_of}
+
+-- a version text over 1024 bytes gives its numbers too
+abbrev pub app_version : AppFacts → Option (List ℕ)
+app_version app = option_and_then version_of app.version
+
+-- 4294967295 stands for a day that isn't known, so no day is that number
+abbrev pub known_day : Option ℕ → Option ℕ
+known_day (Some day) = if nat_lt day unknown_day then Some day else None
+known_day None = None
+
+abbrev pub flag : Bool → ℕ → ℕ
+flag holds number = if holds then number else 0
+
+-- what the request says of the app, where it can be read
+abbrev pub known_flags : AppFacts → ℕ
+known_flags app =
+    flag (is_some (app_version app)) version_known
+    + flag (is_some (named_bucket app)) cohort_known
+    + flag (is_some (known_day app.installdate)) installdate_known
+
+-- what the app asks for
+abbrev pub asked_flags : AppFacts → ℕ
+asked_flags app = flag app.updatecheck updatecheck + flag app.ping ping + flag app.event event
+
+abbrev pub context_of : AppFacts → RequestFacts → ℤ → Context
+context_of app request moment = record {
+  version = unwrap_or (app_version app) (replicate 4 0);
+  bucket = app_bucket app request;
+  flags = known_flags app + asked_flags app;
+  install_day = unwrap_or (known_day app.installdate) unknown_day;
+  today = elapsed_days moment;
+  seconds = elapsed_seconds moment;
+}
+
+-- the texts in their order; of those given here, one that is absent or too long is empty
+abbrev pub texts_of : AppFacts → RequestFacts → List (List ℕ)
+texts_of app request = map kept_text (
+    Some app.appid ∷ app.version ∷ app.brand ∷ app.ap ∷ app.lang ∷ app.cohort ∷ request.platform ∷ [])
+
+abbrev pub attributes_of : AppFacts → RequestFacts → ℤ → Attributes
+attributes_of app request moment = record {
+  context = context_of app request moment;
+  texts = texts_of app request;
+}

@@ -1,0 +1,67 @@
+// The context of an app, from what its request says and the moment at which it asks.
+
+ghost use Rattle.std.specs.Prelude.{◌≡◌, ◌<◌, ◌≤◌};
+ghost use Rattle.attrs.specs.Facts as specs;
+
+use crate::bucket::{bucket_or_hash, named_bucket};
+use crate::context::Context;
+use crate::facts::{AppFacts, RequestFacts};
+use crate::moment::{Elapsed, Moment};
+use crate::text::lent;
+use crate::version::read_version;
+
+/// The context of an app of a request at a moment.
+pub(crate) fn context_of(app: &AppFacts, request: &RequestFacts, moment: Moment) -> Context
+    ensures { result ≡ specs.context_of app.now request.now moment }
+{
+    let version = app_version(app);
+    let named = named_bucket(app);
+    let installed = known_day(app.installdate);
+    let known = flag(version.is_some(), Context::VERSION_KNOWN)
+        + flag(named.is_some(), Context::COHORT_KNOWN)
+        + flag(installed.is_some(), Context::INSTALLDATE_KNOWN);
+    let elapsed = Elapsed::at(moment);
+    Context {
+        version: version.unwrap_or([0; 4]),
+        bucket: bucket_or_hash(named, request),
+        flags: known + asked_flags(app),
+        install_day: installed.unwrap_or(Context::UNKNOWN_DAY),
+        today: elapsed.days,
+        seconds: elapsed.seconds,
+    }
+}
+
+// The numbers of the app's version.
+fn app_version(app: &AppFacts) -> Option<[u32; 4]>
+    ensures { result ≡ specs.app_version app.now }
+{
+    read_version(lent(&app.version)?)
+}
+
+// An install day, where it isn't the number that stands for an unknown one, or above.
+fn known_day(installdate: Option<u64>) -> Option<u32>
+    ensures { result ≡ specs.known_day installdate }
+{
+    match installdate {
+        Some(day) if day < Context::UNKNOWN_DAY as u64 => Some(day as u32),
+        _ => None,
+    }
+}
+
+// A sum of the flags of what the app asks for.
+fn asked_flags(app: &AppFacts) -> u8
+    ensures value { result ≡ specs.asked_flags app.now }
+    ensures limit { result ≤ 14 }
+{
+    flag(app.updatecheck, Context::UPDATECHECK)
+        + flag(app.ping, Context::PING)
+        + flag(app.event, Context::EVENT)
+}
+
+// A flag's number, where it is set.
+fn flag(holds: bool, number: u8) -> u8
+    ensures value { result ≡ specs.flag holds number }
+    ensures limit { result ≤ number }
+{
+    if holds { number } else { 0 }
+}

@@ -1,0 +1,76 @@
+// Which of 10000 buckets an app is in: the one that its cohort names, or else a hash of the
+// request's id or its session's, so that all apps of one request are in one bucket.
+
+ghost use Rattle.std.specs.Prelude.{◌≡◌, ◌<◌, IfSome, unwrap_or};
+ghost use Rattle.attrs.specs.Bucket as specs;
+
+use crate::facts::{AppFacts, RequestFacts};
+use crate::hash::fnv1a;
+use crate::text::lent;
+use crate::version::read_number;
+
+/// How many buckets there are.
+pub(crate) const BUCKETS: u64 = 10000;
+
+/// How long a cohort is that names a bucket.
+const COHORT_LENGTH: usize = 6;
+
+/// The bucket of an app, from 0 to 9999.
+pub fn app_bucket(app: &AppFacts, request: &RequestFacts) -> u16
+    ensures value { result ≡ specs.app_bucket app.now request.now }
+    ensures range { result < 10000 }
+{
+    bucket_or_hash(named_bucket(app), request)
+}
+
+/// The bucket that a cohort named, or else that of the request.
+pub(crate) fn bucket_or_hash(named: Option<u16>, request: &RequestFacts) -> u16
+    requires { IfSome named (λ bucket. bucket < 10000) }
+    ensures value { result ≡ unwrap_or named (specs.hashed_bucket request.now) }
+    ensures range { result < 10000 }
+{
+    match named {
+        Some(bucket) => bucket,
+        None => hashed_bucket(request),
+    }
+}
+
+/// The bucket that the app's cohort names, if it does.
+pub(crate) fn named_bucket(app: &AppFacts) -> Option<u16>
+    ensures value { result ≡ specs.named_bucket app.now }
+    ensures range { IfSome result (λ bucket. bucket < 10000) }
+{
+    cohort_bucket(lent(&app.cohort)?)
+}
+
+// The bucket that a cohort names: `b:` and exactly four ASCII digits.
+fn cohort_bucket(cohort: &str) -> Option<u16>
+    ensures value { result ≡ specs.cohort_bucket cohort.now }
+    ensures range { IfSome result (λ bucket. bucket < 10000) }
+{
+    if cohort.len() != COHORT_LENGTH {
+        return None;
+    }
+    match read_number(cohort.strip_prefix("b:")?) {
+        Some(bucket) => Some(bucket as u16),
+        None => None,
+    }
+}
+
+// The bucket of a request, by a hash of who asks.
+fn hashed_bucket(request: &RequestFacts) -> u16
+    ensures value { result ≡ specs.hashed_bucket request.now }
+    ensures range { result < 10000 }
+{
+    (fnv1a(asker(request).as_bytes()) % BUCKETS) as u16
+}
+
+// The request's id, or its session's where that is empty or absent.
+fn asker(request: &RequestFacts) -> &str
+    ensures { result.now ≡ specs.asker request.now }
+{
+    match lent(&request.requestid) {
+        Some(id) if !id.is_empty() => id,
+        _ => lent(&request.sessionid).unwrap_or(""),
+    }
+}

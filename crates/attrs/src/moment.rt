@@ -1,0 +1,47 @@
+// A moment, and the days and seconds of it from 2007-01-01 UTC on, where Omaha's count begins.
+
+ghost use Rattle.std.specs.Prelude.{◌≡◌, ◌<◌, ◌≤◌};
+ghost use Rattle.attrs.specs.Moment.{elapsed, elapsed_days, elapsed_seconds};
+
+/// A second by the Unix clock, which may lie before 1970.
+pub type Moment = i64;
+
+/// The first second of 2007.
+const FIRST_SECOND: i64 = 1167609600;
+/// The last second of the year 9999.
+const LAST_SECOND: i64 = 253402300799;
+
+const SECONDS_OF_A_DAY: u64 = 86400;
+
+/// The time from 2007-01-01 UTC to a moment.
+#[derive(Clone, Copy, Debug, PartialEq, Eq)]
+pub struct Elapsed {
+    /// Whole days.
+    pub days: u32,
+    /// Seconds of the day that has begun, 0 to 86399.
+    pub seconds: u32,
+}
+
+impl Elapsed {
+    /// The time to this moment. One before 2007 counts as the first second of that year, and one
+    /// after 9999 as the last of that.
+    pub fn at(moment: Moment) -> Elapsed
+        ensures days { result.days ≡ elapsed_days moment }
+        ensures seconds { result.seconds ≡ elapsed_seconds moment }
+        ensures range { result.seconds < 86400 }
+    {
+        let elapsed = seconds_until(moment);
+        Elapsed {
+            days: (elapsed / SECONDS_OF_A_DAY) as u32,
+            seconds: (elapsed % SECONDS_OF_A_DAY) as u32,
+        }
+    }
+}
+
+// Seconds from 2007-01-01 to a moment.
+fn seconds_until(moment: Moment) -> u64
+    ensures value { result ≡ elapsed moment }
+    ensures limit { result ≤ 252234691199 }
+{
+    (moment.clamp(FIRST_SECOND, LAST_SECOND) - FIRST_SECOND) as u64
+}
