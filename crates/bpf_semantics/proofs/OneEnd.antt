@@ -1,9 +1,12 @@
--- A run has one end, and a run that ends does not trap: a step has one outcome.
-use Rattle.std.proofs.Common.{◌≡◌, ℕ, ap, sym, ◌∙◌, subst}
-use Rattle.bpf_insn.specs.Program.{Program}
+-- A run has one end on given replies, and a run that ends does not trap: a step has one outcome.
+use Rattle.std.proofs.Common.{◌≡◌, ℕ, List, [], ◌∷◌, refl, ap, sym, ◌∙◌, subst}
+use Rattle.cells.specs.declared.event.CellOp.{CellOp}
+use Rattle.cells.specs.declared.event.CellEvent.{CellEvent}
+use Rattle.bpf_semantics.specs.Program.{ShapedProgram}
 use Rattle.bpf_semantics.specs.State.{State}
-use Rattle.bpf_semantics.specs.Step.{Outcome, Going, Done, Trap}
-use Rattle.bpf_semantics.specs.Run.{Ends, last, more, Traps, now, later}
+use Rattle.bpf_semantics.specs.Step.{step}
+use Rattle.bpf_semantics.specs.Outcome.{Outcome, Going, Asks, Done, Trap}
+use Rattle.bpf_semantics.specs.Run.{Ends, last, more, asked, Traps, now, later, replied, replies, IsSameEnd}
 
 abbrev choice_of : Outcome → ℕ
 choice_of (Done choice) = choice
@@ -13,22 +16,82 @@ abbrev state_of : State → Outcome → State
 state_of s (Going t) = t
 state_of s outcome = s
 
-abbrev IsGoing : Outcome → Type 0
-IsGoing (Going t) = Unit {0}
-IsGoing outcome = ⊥
+abbrev cell_of : Outcome → ℕ
+cell_of (Asks cell op next) = cell
+cell_of outcome = 0
 
-abbrev IsTrap : Outcome → Type 0
-IsTrap Trap = Unit {0}
-IsTrap outcome = ⊥
+abbrev op_of : CellOp → Outcome → CellOp
+op_of other (Asks cell op next) = op
+op_of other outcome = other
 
-pub one_end : {p : Program} {s : State} {choice count : ℕ} (choice' count' : ℕ) → Ends p s choice count → Ends p s choice' count' → (choice ≡ choice') × (count ≡ count')
-one_end choice' count' (last e q) (last e' q') = (ap choice_of (sym e ∙ e'), q ∙ sym q')
-one_end choice' count' (last e q) (more e' r') = absurd (subst IsGoing (sym e' ∙ e) tt)
-one_end choice' count' (more e r) (last e' q') = absurd (subst IsGoing (sym e ∙ e') tt)
-one_end {p} {s} choice' count' (more e r) (more e' r') = one_end choice' count' r (subst (λ t. Ends p t choice' count') (ap (state_of s) (sym e' ∙ e)) r')
+abbrev next_of : (ℕ → State) → Outcome → ℕ → State
+next_of other (Asks cell op next) = next
+next_of other outcome = other
 
-pub no_trap : {p : Program} {s : State} {choice count : ℕ} (count' : ℕ) → Ends p s choice count → Traps p s count' → ⊥
-no_trap count' (last e q) (now e' q') = subst IsTrap (sym e' ∙ e) tt
-no_trap count' (last e q) (later e' r') = subst IsGoing (sym e' ∙ e) tt
-no_trap count' (more e r) (now e' q') = subst IsTrap (sym e' ∙ e) tt
-no_trap {p} {s} count' (more e r) (later e' r') = no_trap count' r (subst (λ t. Traps p t count') (ap (state_of s) (sym e' ∙ e)) r')
+abbrev head_of : List ℕ → ℕ
+head_of [] = 0
+head_of (x ∷ xs) = x
+
+abbrev tail_of : List ℕ → List ℕ
+tail_of [] = []
+tail_of (x ∷ xs) = xs
+
+-- the kind of an outcome: two outcomes of one step have one kind
+data Kind : Type 0 where
+  goes : Kind
+  asks : Kind
+  ends : Kind
+  traps : Kind
+
+abbrev kind_of : Outcome → Kind
+kind_of (Going t) = goes
+kind_of (Asks cell op next) = asks
+kind_of (Done choice) = ends
+kind_of Trap = traps
+
+differs : {A : Type 0} (o p q : Outcome) → o ≡ p → o ≡ q → (kind_of p ≡ kind_of q → A) → A
+differs o p q e e' f = f (ap kind_of (sym e ∙ e'))
+
+abbrev event : ℕ → CellOp → ℕ → CellEvent
+event cell op reply = record { cell = cell; op = op; reply = reply }
+
+events_are : {e e' : CellEvent} {es es' : List CellEvent} → e.cell ≡ e'.cell → e.op ≡ e'.op → e.reply ≡ e'.reply → es ≡ es' → e ∷ es ≡ e' ∷ es'
+events_are {e} {e'} {es} {es'} cell op reply rest =
+    ap (λ c. event c e.op e.reply ∷ es) cell ∙ ap (λ o. event e'.cell o e.reply ∷ es) op ∙ ap (λ r. event e'.cell e'.op r ∷ es) reply ∙ ap (λ rest. e' ∷ rest) rest
+
+pub one_end : {p : ShapedProgram} {s : State} {es : List CellEvent} {choice count : ℕ} (es' : List CellEvent) (choice' count' : ℕ) → replies es ≡ replies es'
+    → Ends p s es choice count → Ends p s es' choice' count' → IsSameEnd es es' choice choice' count count'
+one_end es' choice' count' same (last e q) (last e' q') = record { same_events = refl; same_choice = ap choice_of (sym e ∙ e'); same_count = q ∙ sym q' }
+one_end es' choice' count' same (last e q) (more e' r') = differs _ _ _ e e' (λ k. absurd cc)
+one_end es' choice' count' same (last e q) (asked e' r') = absurd cc
+one_end es' choice' count' same (more e r) (last e' q') = differs _ _ _ e e' (λ k. absurd cc)
+one_end {p} {s} es' choice' count' same (more e r) (more e' r') =
+    one_end es' choice' count' same r (subst (λ u. Ends p u es' choice' count') (ap (state_of s) (sym e' ∙ e)) r')
+one_end es' choice' count' same (more e r) (asked e' r') = differs _ _ _ e e' (λ k. absurd cc)
+one_end es' choice' count' same (asked e r) (last e' q') = absurd cc
+one_end es' choice' count' same (asked e r) (more e' r') = differs _ _ _ e e' (λ k. absurd cc)
+one_end {p} {s} _ choice' count' same (asked {next} {e = d} {es} e r) (asked {next = next'} {e = d'} {es = es'} e' r') =
+    let reply : d.reply ≡ d'.reply = ap head_of same in
+    let after : next' d'.reply ≡ next d.reply = ap (λ o. next_of next o d'.reply) (sym e' ∙ e) ∙ ap next (sym reply) in
+    let rest = one_end es' choice' count' (ap tail_of same) r (subst (λ u. Ends p u es' choice' count') after r') in
+    record {
+      same_events = events_are (ap cell_of (sym e ∙ e')) (ap (op_of d.op) (sym e ∙ e')) reply rest.same_events;
+      same_choice = rest.same_choice;
+      same_count = rest.same_count;
+    }
+
+pub no_trap : {p : ShapedProgram} {s : State} {es : List CellEvent} {choice count : ℕ} (es' : List CellEvent) (count' : ℕ) → replies es ≡ replies es'
+    → Ends p s es choice count → Traps p s es' count' → ⊥
+no_trap es' count' same (last e q) (now e' q') = differs _ _ _ e e' (λ k. absurd cc)
+no_trap es' count' same (last e q) (later e' r') = differs _ _ _ e e' (λ k. absurd cc)
+no_trap es' count' same (last e q) (replied e' r') = absurd cc
+no_trap es' count' same (more e r) (now e' q') = differs _ _ _ e e' (λ k. absurd cc)
+no_trap {p} {s} es' count' same (more e r) (later e' r') =
+    no_trap es' count' same r (subst (λ u. Traps p u es' count') (ap (state_of s) (sym e' ∙ e)) r')
+no_trap es' count' same (more e r) (replied e' r') = differs _ _ _ e e' (λ k. absurd cc)
+no_trap es' count' same (asked e r) (now e' q') = absurd cc
+no_trap es' count' same (asked e r) (later e' r') = differs _ _ _ e e' (λ k. absurd cc)
+no_trap {p} {s} _ count' same (asked {next} {e = d} {es} e r) (replied {next = next'} {e = d'} {es = es'} e' r') =
+    let reply : d.reply ≡ d'.reply = ap head_of same in
+    let after : next' d'.reply ≡ next d.reply = ap (λ o. next_of next o d'.reply) (sym e' ∙ e) ∙ ap next (sym reply) in
+    no_trap es' count' (ap tail_of same) r (subst (λ u. Traps p u es' count') after r')

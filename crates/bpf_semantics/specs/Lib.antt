@@ -1,8 +1,16 @@
+pub mod Program
 pub mod Memory
 pub mod State
+pub mod Outcome
+pub mod Reads
+pub mod Counters
+pub mod Calls
 pub mod Step
 pub mod Run
+pub mod Laws
 pub mod Worked
 pub mod WorkedMemory
 pub mod WorkedContext
+pub mod WorkedCells
 pub mod Trapping
+pub mod TrappingCells

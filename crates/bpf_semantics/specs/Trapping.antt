@@ -2,8 +2,6 @@
 use Rattle.std.specs.Prelude.{[], ◌∷◌, pos, negsuc}
 use Rattle.bpf_insn.specs.declared.reg.Reg.TheVariants.{R0, R2, R3, R10}
 use Rattle.bpf_insn.specs.declared.operand.AluOp.TheVariants as alu
-use Rattle.bpf_insn.specs.declared.operand.AtomicOp.TheVariants as atomic_op
-use Rattle.bpf_insn.specs.declared.operand.AtomicSize.TheVariants as atomic_size
 use Rattle.bpf_insn.specs.declared.operand.Bits.TheVariants.{Bits64}
 use Rattle.bpf_insn.specs.declared.operand.ByteOrder.TheVariants.{Little}
 use Rattle.bpf_insn.specs.declared.operand.Condition.TheVariants.{Eq}
@@ -15,7 +13,7 @@ use Rattle.bpf_insn.specs.declared.operand.Operand.TheVariants.{Imm, Register}
 use Rattle.bpf_insn.specs.declared.operand.Size.TheVariants as size
 use Rattle.bpf_insn.specs.declared.operand.WideValue.TheVariants.{Number}
 use Rattle.bpf_insn.specs.declared.insn.Insn.{Insn}
-use Rattle.bpf_insn.specs.declared.insn.Insn.TheVariants.{Alu, Mov, MovSx, Neg, End, Jump, JumpIf, Exit, Load, StoreImm, Store, Atomic, Wide}
+use Rattle.bpf_insn.specs.declared.insn.Insn.TheVariants.{Alu, Mov, MovSx, Neg, End, Jump, JumpIf, Exit, Load, StoreImm, Store, Wide}
 use Rattle.bpf_insn.specs.Program.{Program, layout}
 
 -- one instruction, from the opening state
@@ -107,9 +105,3 @@ before_program = layout (Jump (Short (negsuc 1)) ∷ Exit ∷ [])
 -- ja +1 / lddw r0, 5 / exit
 abbrev pub half_program : Program
 half_program = layout (Jump (Short (pos 1)) ∷ Wide R0 (Number 5) ∷ Exit ∷ [])
-
--- ---- an atomic operation on the stack
-
--- stdw [r10-8], 0 / mov r2, 1 / aadddw [r10-8], r2
-abbrev pub atomic_program : Program
-atomic_program = layout (StoreImm size.Double R10 (negsuc 7) (pos 0) ∷ Mov Bits64 R2 (Imm (pos 1)) ∷ Atomic atomic_op.Add atomic_size.Double R10 R2 (negsuc 7) ∷ [])

@@ -1,23 +1,25 @@
 //! Whole programs that read the context, over all attributes.
 
-ghost use Rattle.std.specs.Prelude.{◌≡◌, ◌^◌, ◌<◌, ◌≤◌, slice_index};
+ghost use Rattle.std.specs.Prelude.{◌≡◌, ◌<◌, ◌≤◌, slice_index};
 ghost use Rattle.attrs.specs.Attributes.{Attributes};
-ghost use Rattle.bpf_semantics.specs.State.{opening};
-ghost use Rattle.bpf_semantics.specs.Run.{Ends, AlwaysEnds};
+ghost use Rattle.bpf_semantics.specs.Run.{EndsWith, AlwaysEnds};
 ghost use Rattle.bpf_semantics.specs.WorkedContext as worked;
 
 /// `ldxh r2, [r1+16] / mov r0, 0 / jge r2, 100, +1 / mov r0, 1 / exit` chooses release 1 for the
 /// buckets below 100 after five instructions, and no release for the others after four.
 pub fn buckets()
-    ensures below { (a : Attributes) → a.context.bucket < 100 → Ends worked.bucket_program (opening a) 1 5 }
-    ensures from_limit { (a : Attributes) → 100 ≤ a.context.bucket → a.context.bucket < 2 ^ 16 → Ends worked.bucket_program (opening a) 0 4 }
+    ensures below { (a : Attributes) → a.context.bucket < 100 → EndsWith worked.bucket_program a 1 5 }
+    ensures from_limit { (a : Attributes) → 100 ≤ a.context.bucket → a.context.bucket < 10000
+        → EndsWith worked.bucket_program a 0 4 }
 {}
 
 /// `ldxw r2, [r1+0] / mov r0, 0 / jslt32 r2, 0, +1 / mov r0, 1 / exit` takes the first number of the
 /// version as a signed one of 32 bits.
 pub fn versions()
-    ensures small { (a : Attributes) → slice_index a.context.version 0 ≡ 1 → Ends worked.version_program (opening a) 1 5 }
-    ensures largest { (a : Attributes) → slice_index a.context.version 0 ≡ 4294967295 → Ends worked.version_program (opening a) 0 4 }
+    ensures small { (a : Attributes) → slice_index a.context.version 0 ≡ 1
+        → EndsWith worked.version_program a 1 5 }
+    ensures largest { (a : Attributes) → slice_index a.context.version 0 ≡ 4294967295
+        → EndsWith worked.version_program a 0 4 }
 {}
 
 /// The last bytes of the context are zero: `ldxb r0, [r1+63] / exit` and

@@ -1,11 +1,12 @@
 //! What each step of a run keeps.
 
-ghost use Rattle.std.specs.Prelude.{◌≡◌, ◌+◌};
-ghost use Rattle.bpf_insn.specs.Program.{Program};
+ghost use Rattle.bpf_semantics.specs.Program.{ShapedProgram};
 ghost use Rattle.bpf_semantics.specs.State.{State};
-ghost use Rattle.bpf_semantics.specs.Step.{Going, step};
+ghost use Rattle.bpf_semantics.specs.Step.{step};
+ghost use Rattle.bpf_semantics.specs.Laws.{IsNext};
 
-/// A step that goes on counts one instruction, and keeps the attributes.
-pub fn going_on()
-    ensures { (p : Program) (s t : State) → step p s ≡ Going t → (t.count ≡ s.count + 1) × (t.attributes ≡ s.attributes) }
+/// A step that goes on, at once or with a counter's reply, counts one instruction and keeps the
+/// attributes.
+pub fn counts_instructions()
+    ensures { (p : ShapedProgram) (s : State) → IsNext s (step p s) }
 {}

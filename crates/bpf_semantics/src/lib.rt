@@ -8,6 +8,8 @@ mod arithmetic;
 mod conditions;
 mod context;
 mod count;
+mod counter_traps;
+mod counters;
 mod memory;
 mod run;
 mod traps;
@@ -19,13 +21,18 @@ pub use arithmetic::{
 };
 pub use conditions::{equalities, low_halves, signed_orders, unsigned_orders};
 pub use context::{buckets, context_end, versions};
-pub use count::going_on;
+pub use count::counts_instructions;
+pub use counter_traps::{
+    atomics_of_memory, beside_counters, compared_bytes, frame_writes_of_counters, other_widths,
+    signed_load, unknown_arrays, unknown_helpers, unset_arguments,
+};
+pub use counters::{compared_texts, loads_of_counters, lookups, narrow_counters, takes};
 pub use memory::{
     extended_store, negative_loads, partial_stores, places, positive_loads, round_trips,
 };
 pub use run::one_end;
 pub use traps::{
-    frame_writes, loads_outside, no_instruction, no_meaning, stores_outside, unset_bytes,
-    unset_operands, unset_places,
+    frame_writes, loads_outside, no_instruction, stores_outside, unset_bytes, unset_operands,
+    unset_places,
 };
 pub use worked::{choices, halves, jumps, one_operand, operands, signs, wide_load, wrapping};

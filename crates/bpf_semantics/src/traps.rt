@@ -7,8 +7,8 @@ ghost use Rattle.bpf_insn.specs.declared.operand.Bits.TheVariants.{Bits64};
 ghost use Rattle.bpf_insn.specs.declared.operand.LoadKind.TheVariants as load;
 ghost use Rattle.bpf_insn.specs.declared.operand.Operand.TheVariants.{Imm};
 ghost use Rattle.bpf_insn.specs.declared.operand.Size.TheVariants as size;
-ghost use Rattle.bpf_insn.specs.declared.operand.WideValue.TheVariants.{Number, Map, Cell};
-ghost use Rattle.bpf_insn.specs.declared.insn.Insn.TheVariants.{Alu, Mov, Load, StoreImm, Store, Wide, Call};
+ghost use Rattle.bpf_insn.specs.declared.operand.WideValue.TheVariants.{Number};
+ghost use Rattle.bpf_insn.specs.declared.insn.Insn.TheVariants.{Alu, Mov, Load, StoreImm, Store, Wide};
 ghost use Rattle.bpf_semantics.specs.Run.{AlwaysTraps};
 ghost use Rattle.bpf_semantics.specs.Trapping as traps;
 
@@ -81,13 +81,4 @@ pub fn no_instruction()
     ensures past { AlwaysTraps traps.past_program 1 }
     ensures before { AlwaysTraps traps.before_program 0 }
     ensures second_half { AlwaysTraps traps.half_program 1 }
-{}
-
-/// `call 9`, `ldmap r2, 0` and `ldcell r2, 0, 0` name no helper and no array, and an atomic operation
-/// has no place on the stack: `stdw [r10-8], 0 / mov r2, 1 / aadddw [r10-8], r2`.
-pub fn no_meaning()
-    ensures call { AlwaysTraps (traps.single (Call (pos 9))) 0 }
-    ensures map { AlwaysTraps (traps.single (Wide R2 (Map (pos 0)))) 0 }
-    ensures cell { AlwaysTraps (traps.single (Wide R2 (Cell (pos 0) (pos 0)))) 0 }
-    ensures atomic { AlwaysTraps traps.atomic_program 2 }
 {}

@@ -3,4 +3,4 @@ use Rattle.bpf_semantics.specs.Run.{last, more}
 use Rattle.bpf_semantics.proofs.memory.extended_store.Goals as goal
 
 pub returns : goal.returns
-returns c = λ a. more refl (more refl (last refl refl))
+returns c = λ a shape. more refl (more refl (last refl refl))

@@ -4,11 +4,11 @@ use Rattle.bpf_semantics.proofs.memory.negative_loads.Goals as goal
 
 pub returns : goal.returns
 returns c = record {
-  ldxb = λ a. more refl (more refl (last refl refl));
-  ldxh = λ a. more refl (more refl (last refl refl));
-  ldxw = λ a. more refl (more refl (last refl refl));
-  ldxdw = λ a. more refl (more refl (last refl refl));
-  ldsxb = λ a. more refl (more refl (last refl refl));
-  ldsxh = λ a. more refl (more refl (last refl refl));
-  ldsxw = λ a. more refl (more refl (last refl refl));
+  ldxb = λ a shape. more refl (more refl (last refl refl));
+  ldxh = λ a shape. more refl (more refl (last refl refl));
+  ldxw = λ a shape. more refl (more refl (last refl refl));
+  ldxdw = λ a shape. more refl (more refl (last refl refl));
+  ldsxb = λ a shape. more refl (more refl (last refl refl));
+  ldsxh = λ a shape. more refl (more refl (last refl refl));
+  ldsxw = λ a shape. more refl (more refl (last refl refl));
 }

@@ -4,6 +4,6 @@ use Rattle.bpf_semantics.proofs.memory.partial_stores.Goals as goal
 
 pub returns : goal.returns
 returns c = record {
-  half = λ a. more refl (more refl (more refl (more refl (last refl refl))));
-  byte = λ a. more refl (more refl (more refl (last refl refl)));
+  half = λ a shape. more refl (more refl (more refl (more refl (last refl refl))));
+  byte = λ a shape. more refl (more refl (more refl (last refl refl)));
 }

@@ -4,6 +4,6 @@ use Rattle.bpf_semantics.proofs.memory.places.Goals as goal
 
 pub returns : goal.returns
 returns c = record {
-  unaligned = λ a. more refl (more refl (last refl refl));
-  lowest = λ a. more refl (more refl (last refl refl));
+  unaligned = λ a shape. more refl (more refl (last refl refl));
+  lowest = λ a shape. more refl (more refl (last refl refl));
 }

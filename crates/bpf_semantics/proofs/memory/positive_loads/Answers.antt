@@ -4,7 +4,7 @@ use Rattle.bpf_semantics.proofs.memory.positive_loads.Goals as goal
 
 pub returns : goal.returns
 returns c = record {
-  ldsxb = λ a. more refl (more refl (last refl refl));
-  ldsxh = λ a. more refl (more refl (last refl refl));
-  ldsxw = λ a. more refl (more refl (last refl refl));
+  ldsxb = λ a shape. more refl (more refl (last refl refl));
+  ldsxh = λ a shape. more refl (more refl (last refl refl));
+  ldsxw = λ a shape. more refl (more refl (last refl refl));
 }

@@ -4,6 +4,6 @@ use Rattle.bpf_semantics.proofs.memory.round_trips.Goals as goal
 
 pub returns : goal.returns
 returns c = record {
-  whole = λ a. more refl (more refl (more refl (last refl refl)));
-  joined = λ a. more refl (more refl (more refl (more refl (more refl (last refl refl)))));
+  whole = λ a shape. more refl (more refl (more refl (last refl refl)));
+  joined = λ a shape. more refl (more refl (more refl (more refl (more refl (last refl refl)))));
 }

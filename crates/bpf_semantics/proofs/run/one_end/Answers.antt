@@ -3,6 +3,6 @@ use Rattle.bpf_semantics.proofs.run.one_end.Goals as goal
 
 pub returns : goal.returns
 returns c = record {
-  same = λ p s choice count choice' count' r r'. one_end choice' count' r r';
-  no_trap = λ p s choice count count' r r'. no_trap count' r r';
+  same = λ p s es es' choice choice' count count' e r r'. one_end es' choice' count' e r r';
+  no_trap = λ p s es es' choice count count' e r r'. no_trap es' count' e r r';
 }

@@ -4,8 +4,8 @@ use Rattle.bpf_semantics.proofs.traps.frame_writes.Goals as goal
 
 pub returns : goal.returns
 returns c = record {
-  mov = λ a. now refl refl;
-  add = λ a. now refl refl;
-  load = λ a. now refl refl;
-  wide = λ a. now refl refl;
+  mov = λ a shape. now refl refl;
+  add = λ a shape. now refl refl;
+  load = λ a shape. now refl refl;
+  wide = λ a shape. now refl refl;
 }

@@ -4,9 +4,9 @@ use Rattle.bpf_semantics.proofs.traps.loads_outside.Goals as goal
 
 pub returns : goal.returns
 returns c = record {
-  past_context = λ a. now refl refl;
-  across_end = λ a. now refl refl;
-  before_context = λ a. now refl refl;
-  above_stack = λ a. now refl refl;
-  below_stack = λ a. now refl refl;
+  past_context = λ a shape. now refl refl;
+  across_end = λ a shape. now refl refl;
+  before_context = λ a shape. now refl refl;
+  above_stack = λ a shape. now refl refl;
+  below_stack = λ a shape. now refl refl;
 }

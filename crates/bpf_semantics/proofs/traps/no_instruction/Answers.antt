@@ -4,9 +4,9 @@ use Rattle.bpf_semantics.proofs.traps.no_instruction.Goals as goal
 
 pub returns : goal.returns
 returns c = record {
-  empty = λ a. now refl refl;
-  end = λ a. later refl (now refl refl);
-  past = λ a. later refl (now refl refl);
-  before = λ a. now refl refl;
-  second_half = λ a. later refl (now refl refl);
+  empty = λ a shape. now refl refl;
+  end = λ a shape. later refl (now refl refl);
+  past = λ a shape. later refl (now refl refl);
+  before = λ a shape. now refl refl;
+  second_half = λ a shape. later refl (now refl refl);
 }

@@ -4,9 +4,9 @@ use Rattle.bpf_semantics.proofs.traps.stores_outside.Goals as goal
 
 pub returns : goal.returns
 returns c = record {
-  context_imm = λ a. now refl refl;
-  context_register = λ a. now refl refl;
-  above_stack = λ a. now refl refl;
-  across_top = λ a. now refl refl;
-  below_stack = λ a. now refl refl;
+  context_imm = λ a shape. now refl refl;
+  context_register = λ a shape. now refl refl;
+  above_stack = λ a shape. now refl refl;
+  across_top = λ a shape. now refl refl;
+  below_stack = λ a shape. now refl refl;
 }

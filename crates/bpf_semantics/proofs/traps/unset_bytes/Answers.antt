@@ -4,7 +4,7 @@ use Rattle.bpf_semantics.proofs.traps.unset_bytes.Goals as goal
 
 pub returns : goal.returns
 returns c = record {
-  word = λ a. later refl (later refl (now refl refl));
-  low_unset = λ a. later refl (now refl refl);
-  high_unset = λ a. later refl (now refl refl);
+  word = λ a shape. later refl (later refl (now refl refl));
+  low_unset = λ a shape. later refl (now refl refl);
+  high_unset = λ a shape. later refl (now refl refl);
 }

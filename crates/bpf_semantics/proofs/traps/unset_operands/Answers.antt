@@ -4,11 +4,11 @@ use Rattle.bpf_semantics.proofs.traps.unset_operands.Goals as goal
 
 pub returns : goal.returns
 returns c = record {
-  exit = λ a. now refl refl;
-  add = λ a. now refl refl;
-  add_register = λ a. later refl (now refl refl);
-  mov = λ a. now refl refl;
-  movsx = λ a. now refl refl;
-  neg = λ a. now refl refl;
-  end = λ a. now refl refl;
+  exit = λ a shape. now refl refl;
+  add = λ a shape. now refl refl;
+  add_register = λ a shape. later refl (now refl refl);
+  mov = λ a shape. now refl refl;
+  movsx = λ a shape. now refl refl;
+  neg = λ a shape. now refl refl;
+  end = λ a shape. now refl refl;
 }

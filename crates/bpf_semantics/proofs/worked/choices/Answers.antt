@@ -4,6 +4,6 @@ use Rattle.bpf_semantics.proofs.worked.choices.Goals as goal
 
 pub returns : goal.returns
 returns c = record {
-  none = λ a. more refl (last refl refl);
-  third = λ a. more refl (last refl refl);
+  none = λ a shape. more refl (last refl refl);
+  third = λ a shape. more refl (last refl refl);
 }

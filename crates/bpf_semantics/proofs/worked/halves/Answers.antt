@@ -4,6 +4,6 @@ use Rattle.bpf_semantics.proofs.worked.halves.Goals as goal
 
 pub returns : goal.returns
 returns c = record {
-  whole = λ a. more refl (more refl (more refl (more refl (last refl refl))));
-  low = λ a. more refl (more refl (more refl (last refl refl)));
+  whole = λ a shape. more refl (more refl (more refl (more refl (last refl refl))));
+  low = λ a shape. more refl (more refl (more refl (last refl refl)));
 }

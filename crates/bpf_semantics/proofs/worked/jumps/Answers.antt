@@ -4,8 +4,8 @@ use Rattle.bpf_semantics.proofs.worked.jumps.Goals as goal
 
 pub returns : goal.returns
 returns c = record {
-  short = λ a. more refl (more refl (last refl refl));
-  long = λ a. more refl (more refl (last refl refl));
-  back = λ a. more refl (more refl (more refl (last refl refl)));
-  over_wide = λ a. more refl (more refl (last refl refl));
+  short = λ a shape. more refl (more refl (last refl refl));
+  long = λ a shape. more refl (more refl (last refl refl));
+  back = λ a shape. more refl (more refl (more refl (last refl refl)));
+  over_wide = λ a shape. more refl (more refl (last refl refl));
 }

@@ -4,8 +4,8 @@ use Rattle.bpf_semantics.proofs.worked.one_operand.Goals as goal
 
 pub returns : goal.returns
 returns c = record {
-  movsx8 = λ a. more refl (more refl (more refl (last refl refl)));
-  movsx8w = λ a. more refl (more refl (last refl refl));
-  neg32 = λ a. more refl (more refl (last refl refl));
-  be16 = λ a. more refl (more refl (last refl refl));
+  movsx8 = λ a shape. more refl (more refl (more refl (last refl refl)));
+  movsx8w = λ a shape. more refl (more refl (last refl refl));
+  neg32 = λ a shape. more refl (more refl (last refl refl));
+  be16 = λ a shape. more refl (more refl (last refl refl));
 }

@@ -4,8 +4,8 @@ use Rattle.bpf_semantics.proofs.worked.operands.Goals as goal
 
 pub returns : goal.returns
 returns c = record {
-  extended = λ a. more refl (more refl (more refl (last refl refl)));
-  not_extended = λ a. more refl (more refl (last refl refl));
-  moved = λ a. more refl (last refl refl);
-  cut = λ a. more refl (more refl (last refl refl));
+  extended = λ a shape. more refl (more refl (more refl (last refl refl)));
+  not_extended = λ a shape. more refl (more refl (last refl refl));
+  moved = λ a shape. more refl (last refl refl);
+  cut = λ a shape. more refl (more refl (last refl refl));
 }

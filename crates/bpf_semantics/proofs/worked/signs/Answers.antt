@@ -4,6 +4,6 @@ use Rattle.bpf_semantics.proofs.worked.signs.Goals as goal
 
 pub returns : goal.returns
 returns c = record {
-  signed = λ a. more refl (more refl (more refl (last refl refl)));
-  unsigned = λ a. more refl (more refl (more refl (more refl (last refl refl))));
+  signed = λ a shape. more refl (more refl (more refl (last refl refl)));
+  unsigned = λ a shape. more refl (more refl (more refl (more refl (last refl refl))));
 }

@@ -1,0 +1,6 @@
+use Rattle.std.proofs.Common.{refl, ap}
+use Rattle.bpf_semantics.specs.Run.{last, more, asked, now, later}
+use Rattle.bpf_semantics.proofs.counters.loads_of_counters.Goals as goal
+
+pub returns : goal.returns
+returns c = λ value b. more refl (more refl (more refl (more refl (more refl (asked refl (more refl (last refl refl)))))))
