@@ -1,1 +1,4 @@
+pub mod Directories
 pub mod Growing
+pub mod Shapes
+pub mod Values

@@ -50,9 +50,9 @@ pub record AreCells (values : List ℕ) : Type 0 where
   pub count : length values ≡ 8192
   pub fit : (c : ℕ) → slice_index values c < limit c
 
--- how the cells open: all are 0
-pub record AreOpening (values : List ℕ) : Type 0 where
-  pub count : length values ≡ 8192
+-- so many zeros: how the cells open
+pub record AreZeros (n : ℕ) (values : List ℕ) : Type 0 where
+  pub count : length values ≡ n
   pub zero : (c : ℕ) → slice_index values c ≡ 0
 
 -- the value of the event's cell after it, where the cells had these values

@@ -2,3 +2,4 @@ pub mod Events
 pub mod Grown
 pub mod Names
 pub mod Arrays
+pub mod Directory

@@ -1,6 +1,7 @@
 //! Arrays of cells, as they are declared: by name, each over cells of one width.
 
 ghost use Rattle.std.specs.Prelude.{◌≡◌, IfOk};
+ghost use Rattle.cells.specs.Arrays as array;
 ghost use Rattle.cells.specs.Names.{IsName};
 
 use std::alloc::{AllocError, Global};
@@ -11,6 +12,16 @@ use std::marker::Model;
 pub enum CellWidth {
     Bits32,
     Bits64,
+}
+
+/// The first of the 4096 cells of a width.
+pub fn first_cell(width: CellWidth) -> u16
+    ensures { result ≡ array.first_cell width }
+{
+    match width {
+        CellWidth::Bits64 => 0,
+        CellWidth::Bits32 => 4096,
+    }
 }
 
 /// The name of an array: a letter or `_`, then letters, digits and `_`, at most 32 in all. Letters
@@ -65,4 +76,20 @@ pub struct CellArray {
     pub base: u16,
     pub length: u16,
     pub quota: Option<u64>,
+}
+
+impl CellArray {
+    /// The same array once more, with a name of its own.
+    pub fn copy(&self, alloc: Global) -> Result<CellArray, AllocError>
+        ensures { IfOk result (λ a. a ≡ self.now) }
+    {
+        let name = ArrayName::of(alloc, self.name.as_str())?;
+        Ok(CellArray {
+            name,
+            width: self.width,
+            base: self.base,
+            length: self.length,
+            quota: self.quota,
+        })
+    }
 }

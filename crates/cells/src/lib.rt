@@ -3,9 +3,17 @@
 #![tactic(auto)]
 
 mod array;
+mod directory;
 mod event;
+mod fault;
+mod plain;
+mod shape;
 mod steps;
 
 pub use array::{ArrayName, ArrayNo, CellArray, CellWidth};
+pub use directory::Directory;
 pub use event::{CellEvent, CellNo, CellOp};
+pub use fault::CellsFault;
+pub use plain::{PlainCells, PlainPass};
+pub use shape::Shape;
 pub use steps::{CellSteps, growth};

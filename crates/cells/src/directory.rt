@@ -1,0 +1,153 @@
+//! The arrays of a server, by name. An array is laid behind the earlier ones of its width, and stays
+//! where it is: the directory only grows.
+
+ghost use Rattle.std.specs.Prelude.{◌≡◌, ◌≢◌, ◌↔◌, ◌+◌, ◌≤◌, [], IfOk, IfErr, OnErr, IfSome, IfNone, IsTrue, All, slice_get, Some};
+ghost use Rattle.cells.specs.Directory.{declaration, IsDeclaration, IsNew, Declares, IsRefusedDeclaration, IsDirectory};
+ghost use Rattle.cells.specs.declared.array.CellArray.{CellArray};
+
+use crate::array::{ArrayName, ArrayNo, CellArray, CellWidth, first_cell};
+use crate::fault::CellsFault;
+use std::alloc::{AllocError, Global};
+use std::marker::Model;
+
+/// How many cells there are of each width.
+const CELLS_OF_A_WIDTH: u16 = 4096;
+
+/// Declared arrays with distinct names, in the order of their declarations.
+#[derive(Debug, Drop)]
+pub struct Directory {
+    arrays: Vec<CellArray>,
+    /// How many cells of each width the arrays have.
+    taken_64: u16,
+    taken_32: u16,
+}
+
+impl Model for Directory {
+    ghost use Rattle.std.specs.Prelude.{List};
+    ghost use Rattle.cells.specs.declared.array.CellArray.{CellArray};
+    ghost use Rattle.cells.specs.Directory.{IsKept};
+
+    ghost Value = { List CellArray };
+
+    ghost view = { λ d. d.arrays.items };
+
+    ghost invariant = { λ d. IsKept d.arrays.items d.taken_64 d.taken_32 };
+}
+
+impl Directory {
+    ghost use Rattle.cells.specs.Directory.{taken};
+
+    /// A directory of no arrays.
+    pub fn new(alloc: Global) -> Directory
+        ensures { result ≡ [] }
+    {
+        Directory {
+            arrays: Vec::new(alloc),
+            taken_64: 0,
+            taken_32: 0,
+        }
+    }
+
+    /// Declares an array of 1 to 4096 cells, with a quota of 1 to 2^63 - 1 over 64-bit cells alone.
+    ///
+    /// One that stands with these same values is given again. N2 where the name stands with others,
+    /// N1 where the name is new and fewer cells of the width are left, N3 where memory is refused.
+    /// Of a new array the cells are the lowest of its width that no array has.
+    pub fn declare(
+        &mut self,
+        alloc: Global,
+        name: &str,
+        width: CellWidth,
+        length: u16,
+        quota: Option<u64>,
+    ) -> Result<ArrayNo, CellsFault>
+        requires { IsDeclaration (declaration name.now width length quota) }
+        ensures declares { IfOk result (λ no. Declares (declaration name.now width length quota) self.old no.number self.new) }
+        ensures refused { IfErr result (λ e. IsRefusedDeclaration (declaration name.now width length quota) self.old e) }
+        ensures same { OnErr result (self.new ≡ self.old) }
+    {
+        if let Some(number) = number_of(&self.arrays, name) {
+            if is_as_declared(&self.arrays[number], width, length, quota) {
+                return Ok(ArrayNo { number });
+            }
+            return Err(CellsFault::Redefined);
+        }
+        if length > CELLS_OF_A_WIDTH - self.taken(width) {
+            return Err(CellsFault::CellsFull);
+        }
+        let name = ArrayName::of(alloc, name)?;
+        self.add(name, width, length, quota)
+    }
+
+    /// The arrays, in the order of their numbers.
+    pub fn arrays(&self) -> &[CellArray]
+        ensures arrays { result.now ≡ self.now }
+        ensures directory { IsDirectory result.now }
+    {
+        &self.arrays
+    }
+
+    // Adds an array behind the earlier ones of its width.
+    fn add(
+        &mut self,
+        name: ArrayName,
+        width: CellWidth,
+        length: u16,
+        quota: Option<u64>,
+    ) -> Result<ArrayNo, CellsFault>
+        requires declaration { IsDeclaration (declaration name width length quota) }
+        requires new { IsNew (declaration name width length quota) self.old }
+        requires room { taken width self.old + length ≤ 4096 }
+        ensures declares { IfOk result (λ no. Declares (declaration name width length quota) self.old no.number self.new) }
+        ensures memory { IfErr result (λ e. e ≡ CellsFault.Memory) }
+        ensures same { OnErr result (self.new ≡ self.old) }
+    {
+        let number = self.arrays.len();
+        let array = CellArray {
+            name,
+            width,
+            base: first_cell(width) + self.taken(width),
+            length,
+            quota,
+        };
+        let Ok(()) = self.arrays.push(array) else {
+            return Err(CellsFault::Memory);
+        };
+        match width {
+            CellWidth::Bits64 => self.taken_64 += length,
+            CellWidth::Bits32 => self.taken_32 += length,
+        }
+        Ok(ArrayNo { number })
+    }
+
+    // How many cells of a width the arrays have.
+    fn taken(&self, width: CellWidth) -> u16
+        ensures value { result ≡ taken width self.now }
+        ensures room { result ≤ 4096 }
+    {
+        match width {
+            CellWidth::Bits64 => self.taken_64,
+            CellWidth::Bits32 => self.taken_32,
+        }
+    }
+}
+
+// The number of the array of this name.
+fn number_of(arrays: &[CellArray], name: &str) -> Option<usize>
+    ensures found { IfSome result (λ i. (a : CellArray) × (slice_get arrays.now i ≡ Some a) × (a.name ≡ name.now)) }
+    ensures none { IfNone result (All (λ a. a.name ≢ name.now) arrays.now) }
+{
+    for (number, array) in arrays.iter().enumerate() {
+        if array.name.as_str() == name {
+            return Some(number);
+        }
+    }
+    None
+}
+
+// Whether an array has this width, length and quota.
+fn is_as_declared(array: &CellArray, width: CellWidth, length: u16, quota: Option<u64>) -> bool
+    ensures { IsTrue result ↔ ((array.now.width ≡ width) × (array.now.length ≡ length) × (array.now.quota ≡ quota)) }
+{
+    array.width == width && array.length == length && array.quota == quota
+}
