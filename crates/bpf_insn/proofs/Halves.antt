@@ -11,6 +11,7 @@ use Rattle.bpf_insn.specs.declared.insn.Insn.{Insn}
 use Rattle.bpf_insn.specs.declared.insn.Insn.TheVariants.{Wide}
 use Rattle.bpf_insn.specs.declared.insn.Width.{Width}
 use Rattle.bpf_insn.specs.declared.insn.Width.TheVariants.{One, Two}
+use Rattle.bpf_insn.specs.declared.form.Form.{Form}
 use Rattle.bpf_insn.specs.declared.fields.Fields.{Fields}
 use Rattle.bpf_insn.specs.Halves.{HasHalves}
 use Rattle.bpf_insn.specs.Spelling.{bytes_of, bytes_if, IsFields, HasFields, fields_of, second_of, second_half, next_imm, width_of, slots_of, encoding, IsEncodable, Spells}
@@ -98,19 +99,10 @@ pub width_two : (i : Insn) (g : Fields) → second_of i ≡ Some g → width_of 
 width_two (Wide dst value) g e = refl
 width_two i g e = absurd (none-some g e)
 
--- ---- the half that a slot would hold
-
-pub read_half : List ℕ → ℕ → Fields
-read_half b s = read (take 8 (drop (8 * s) b))
-
-pub read_half_is : (b : List ℕ) (s : ℕ) (f : Fields) → HasFields b s f → read_half b s ≡ f
-unfolding read_half
-read_half_is b s f p = ap read p.bytes_are ∙ read-bytes_of f p.fits
-
 -- ---- the spelling, from its halves
 
-pub spelled_one : (b : List ℕ) (s : ℕ) (f : Fields) (i : Insn) → HasFields b s f → HasHalves f None i → Spells b s i
-spelled_one b s f i has h = record {
+pub spelled_one : (b : List ℕ) (s : ℕ) (form : Form) (f : Fields) (i : Insn) → HasFields b s f → HasHalves form f None i → Spells b s i
+spelled_one b s form f i has h = record {
   fits = h.fits;
   bytes_are = ap (λ (w : Width). take (8 * slots_of w) (drop (8 * s) b)) (width_one i h.second_is) ∙ has.bytes_are
       ∙ sym (ap (λ (x : Fields). bytes_of x ++ bytes_if (second_of i)) h.first_is ∙ ap (λ (x : Option Fields). bytes_of f ++ bytes_if x) h.second_is);
@@ -119,8 +111,8 @@ spelled_one b s f i has h = record {
 two_halves : (bs : List ℕ) → take 16 bs ≡ take 8 bs ++ take 8 (drop 8 bs)
 two_halves bs = sym (take-append-drop 8 (take 16 bs)) ∙ ap (λ (xs : List ℕ). xs ++ drop 8 (take 16 bs)) (take-take 8 16 bs (omega arith)) ∙ ap (λ (xs : List ℕ). take 8 bs ++ xs) (drop-take 8 8 bs)
 
-pub spelled_two : (b : List ℕ) (s : ℕ) (f g : Fields) (i : Insn) → HasFields b s f → HasFields b (s + 1) g → HasHalves f (Some g) i → Spells b s i
-spelled_two b s f g i has next h = record {
+pub spelled_two : (b : List ℕ) (s : ℕ) (form : Form) (f g : Fields) (i : Insn) → HasFields b s f → HasFields b (s + 1) g → HasHalves form f (Some g) i → Spells b s i
+spelled_two b s form f g i has next h = record {
   fits = h.fits;
   bytes_are = ap (λ (w : Width). take (8 * slots_of w) (drop (8 * s) b)) (width_two i g h.second_is)
       ∙ two_halves (drop (8 * s) b)

@@ -1,4 +1,4 @@
 pub mod Bytes
 pub mod Halves
-pub mod Insns
+pub mod Rules
 pub mod Exact

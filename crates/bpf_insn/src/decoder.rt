@@ -5,11 +5,11 @@
 ghost use Rattle.std.specs.Prelude.{◌≡◌, ◌<◌, ◌≤◌, ◌+◌, ◌*◌, length, IfSome, IfNone, IfOk, IfErr};
 ghost use Rattle.bpf_insn.specs.declared.insn.Insn.{Insn};
 ghost use Rattle.bpf_insn.specs.declared.fields.InsnFault.{InsnFault};
-ghost use Rattle.bpf_insn.specs.Table.{opcode_of};
 ghost use Rattle.bpf_insn.specs.Spelling.{width_of, HasFields, Spells, IsLeastFault};
+ghost use Rattle.bpf_insn.specs.Halves.{IsOfRow, IsSpelled, SpellsOrHasFault};
 
-use crate::build::{insn_in, wide_in};
-use crate::fault::has_second_fault;
+use crate::build::{common_fault, insn_in, wide_in};
+use crate::fault::is_second_half;
 use crate::fields::{Fields, InsnFault};
 use crate::form::Form;
 use crate::insn::{Insn, Width};
@@ -29,38 +29,52 @@ fn half_at(bytes: &[u8], slot: usize) -> Option<Fields>
 }
 
 /// A wide load, whose first half stands in this slot.
-fn wide_at(bytes: &[u8], slot: usize, first: Fields) -> Result<(Insn, Width), InsnFault>
+fn wide_at(bytes: &[u8], slot: usize, first: Fields) -> Result<Insn, InsnFault>
     requires room { 8 * slot + 8 ≤ length bytes.now }
     requires first { HasFields bytes.now slot first }
-    requires opcode { first.opcode ≡ opcode_of Form.Wide }
-    ensures spelled { IfOk result (λ d. Spells bytes.now slot d.0 × (d.1 ≡ width_of d.0)) }
+    requires row { IsOfRow Form.Wide first }
+    ensures insn { IfOk result (λ i. IsSpelled bytes.now slot i) }
     ensures fault { IfErr result (λ e. IsLeastFault bytes.now slot e) }
 {
     let Some(second) = half_at(bytes, slot + 1) else {
         return Err(InsnFault::Truncated);
     };
-    match Form::Wide.row().fault_in(first) {
-        Some(fault) => Err(fault),
-        None if has_second_fault(first.src, second) => Err(InsnFault::SecondHalf),
-        None => Ok((wide_in(first, second), Width::Two)),
+    if let Some(fault) = common_fault(Form::Wide, first) {
+        return Err(fault);
     }
+    if !is_second_half(first.src, second) {
+        return Err(InsnFault::SecondHalf);
+    }
+    Ok(wide_in(first, second))
 }
 
 /// The instruction of a row, whose first half stands in this slot.
-fn row_at(bytes: &[u8], slot: usize, form: Form, first: Fields) -> Result<(Insn, Width), InsnFault>
+fn row_at(bytes: &[u8], slot: usize, form: Form, first: Fields) -> Result<Insn, InsnFault>
     requires room { 8 * slot + 8 ≤ length bytes.now }
     requires first { HasFields bytes.now slot first }
-    requires opcode { first.opcode ≡ opcode_of form }
-    requires wide { first.opcode ≡ opcode_of Form.Wide → form ≡ Form.Wide }
-    ensures spelled { IfOk result (λ d. Spells bytes.now slot d.0 × (d.1 ≡ width_of d.0)) }
+    requires row { IsOfRow form first }
+    ensures insn { IfOk result (λ i. IsSpelled bytes.now slot i) }
     ensures fault { IfErr result (λ e. IsLeastFault bytes.now slot e) }
+    ensures exclusive { SpellsOrHasFault bytes.now slot }
 {
-    if let Form::Wide = form {
-        return wide_at(bytes, slot, first);
+    match form {
+        Form::Wide => wide_at(bytes, slot, first),
+        _ => insn_in(form, first),
     }
-    match form.row().fault_in(first) {
-        Some(fault) => Err(fault),
-        None => Ok((insn_in(form, first), Width::One)),
+}
+
+/// The instruction that the bytes from this slot on spell.
+fn insn_at(bytes: &[u8], slot: usize) -> Result<Insn, InsnFault>
+    ensures insn { IfOk result (λ i. IsSpelled bytes.now slot i) }
+    ensures fault { IfErr result (λ e. IsLeastFault bytes.now slot e) }
+    ensures exclusive { SpellsOrHasFault bytes.now slot }
+{
+    let Some(first) = half_at(bytes, slot) else {
+        return Err(InsnFault::Truncated);
+    };
+    match form_at(first.opcode) {
+        Some(form) => row_at(bytes, slot, form, first),
+        None => Err(InsnFault::Opcode),
     }
 }
 
@@ -73,11 +87,8 @@ pub fn decode_at(bytes: &[u8], slot: usize) -> Result<(Insn, Width), InsnFault>
     ensures fault { IfErr result (λ e. IsLeastFault bytes.now slot e) }
     ensures fault_only { (e : InsnFault) → IsLeastFault bytes.now slot e → result ≡ Err e }
 {
-    let Some(first) = half_at(bytes, slot) else {
-        return Err(InsnFault::Truncated);
-    };
-    match form_at(first.opcode) {
-        Some(form) => row_at(bytes, slot, form, first),
-        None => Err(InsnFault::Opcode),
+    match insn_at(bytes, slot) {
+        Ok(insn) => Ok((insn, insn.width())),
+        Err(fault) => Err(fault),
     }
 }

@@ -2,7 +2,8 @@
 // stand one after the other.
 
 ghost use Rattle.std.specs.Prelude.{◌≡◌, ℕ, ◌≤◌, length, take, slice_index, IfSome};
-ghost use Rattle.bpf_insn.specs.Spelling.{fields_of, second_of, encoding, HasWideNumber, IsEncodable, IsFields, Spells};
+ghost use Rattle.bpf_insn.specs.Spelling.{fields_of, second_of, encoding, HasWideNumber};
+ghost use Rattle.bpf_insn.specs.Spelling.{IsEncodable, IsFields, Spells};
 
 use crate::fields::Fields;
 use crate::insn::Insn;

@@ -1,48 +1,13 @@
-// The faults of fields, by what their row allows: one test a rule, and the least of those that hold.
+// The rules of a row's fields that don't read a part of the instruction: which registers and which
+// other numbers in src the row allows, and that a field that it doesn't use is 0.
 
-ghost use Rattle.std.specs.Prelude.{◌≡◌};
-ghost use Rattle.bpf_insn.specs.Spelling as spelling;
-ghost use Rattle.bpf_insn.specs.Spelling.{fault_in, has_second_fault, leaves_unused, uses_src, uses_offset, uses_imm};
+ghost use Rattle.std.specs.Prelude.{◌≡◌, ◌↔◌, IsTrue, false};
+ghost use Rattle.bpf_insn.specs.Faults.{Keeps, AllowsDst, AllowsSrc, LeavesUnused, IsSecondHalf};
+ghost use Rattle.bpf_insn.specs.Faults.{uses_src, uses_offset, uses_imm};
 
 use crate::fields::{Fields, InsnFault};
 use crate::form::{ImmField, OffsetField, Row, SrcField};
-use crate::operand::Bits;
-
-impl Row {
-    fn allows_dst(self, dst: u8) -> bool
-        ensures { result ≡ spelling.allows_dst self.uses_dst dst }
-    {
-        !self.uses_dst || dst <= 10
-    }
-
-    /// No field that the row doesn't use is set.
-    fn leaves_unused(self, fields: Fields) -> bool
-        ensures { result ≡ leaves_unused self fields }
-    {
-        let dst = self.uses_dst || fields.dst == 0;
-        let src = self.src.is_used() || fields.src == 0;
-        let offset = self.offset.is_used() || fields.offset == 0;
-        let imm = self.imm.is_used() || fields.imm == 0;
-        dst && src && offset && imm
-    }
-
-    /// The least fault that the fields of one half have by themselves.
-    pub(crate) fn fault_in(self, fields: Fields) -> Option<InsnFault>
-        ensures { result ≡ fault_in self fields }
-    {
-        if !(self.allows_dst(fields.dst) && self.src.allows(fields.src)) {
-            Some(InsnFault::Register)
-        } else if !self.leaves_unused(fields) {
-            Some(InsnFault::UnusedField)
-        } else if !self.imm.allows(fields) {
-            Some(InsnFault::Imm)
-        } else if !self.offset.allows(fields) {
-            Some(InsnFault::Offset)
-        } else {
-            None
-        }
-    }
-}
+use crate::lookup::wide_source_in;
 
 impl SrcField {
     fn is_used(self) -> bool
@@ -51,14 +16,14 @@ impl SrcField {
         !matches!(self, SrcField::Unused)
     }
 
-    fn allows(self, src: u8) -> bool
-        ensures { result ≡ spelling.allows_src self src }
+    fn allows(self, fields: Fields) -> bool
+        ensures { IsTrue result ↔ AllowsSrc self fields.src }
     {
         match self {
             SrcField::Unused => true,
-            SrcField::Register => src <= 10,
-            SrcField::Callee => src == 0,
-            SrcField::WideSource => src == 0 || src == 5 || src == 6,
+            SrcField::Register => fields.src <= 10,
+            SrcField::Callee => fields.src == 0,
+            SrcField::WideSource => wide_source_in(fields).is_some(),
         }
     }
 }
@@ -69,16 +34,6 @@ impl OffsetField {
     {
         !matches!(self, OffsetField::Unused)
     }
-
-    fn allows(self, fields: Fields) -> bool
-        ensures { result ≡ spelling.allows_offset self fields.offset }
-    {
-        match self {
-            OffsetField::Extension(Bits::Bits64) => matches!(fields.offset, 0 | 8 | 16 | 32),
-            OffsetField::Extension(Bits::Bits32) => matches!(fields.offset, 0 | 8 | 16),
-            _ => true,
-        }
-    }
 }
 
 impl ImmField {
@@ -87,29 +42,38 @@ impl ImmField {
     {
         !matches!(self, ImmField::Unused)
     }
+}
 
-    fn allows(self, fields: Fields) -> bool
-        ensures { result ≡ spelling.allows_imm self fields.imm }
+impl Row {
+    fn allows_dst(self, fields: Fields) -> bool
+        ensures { IsTrue result ↔ AllowsDst self.uses_dst fields.dst }
     {
-        match self {
-            ImmField::EndBits => matches!(fields.imm, 16 | 32 | 64),
-            ImmField::AtomicCode => is_atomic_code(fields),
-            _ => true,
-        }
+        !self.uses_dst || fields.dst <= 10
+    }
+
+    /// No register is above 10, and in src CALL and a wide load have what they can.
+    pub fn allows_registers(self, fields: Fields) -> bool
+        ensures { IsTrue result ↔ Keeps self fields InsnFault.Register }
+    {
+        self.allows_dst(fields) && self.src.allows(fields)
+    }
+
+    /// No field that the row doesn't use is set.
+    pub fn leaves_unused(self, fields: Fields) -> bool
+        ensures { IsTrue result ↔ LeavesUnused self fields }
+    {
+        let dst = self.uses_dst || fields.dst == 0;
+        let src = self.src.is_used() || fields.src == 0;
+        let offset = self.offset.is_used() || fields.offset == 0;
+        let imm = self.imm.is_used() || fields.imm == 0;
+        dst && src && offset && imm
     }
 }
 
-fn is_atomic_code(fields: Fields) -> bool
-    ensures { result ≡ spelling.allows_imm ImmField.AtomicCode fields.imm }
-{
-    matches!(fields.imm, 0x00 | 0x40 | 0x50 | 0xa0)
-        || matches!(fields.imm, 0x01 | 0x41 | 0x51 | 0xa1 | 0xe1 | 0xf1)
-}
-
-/// Whether a second half has a fault, after a first half with this src.
-pub fn has_second_fault(source: u8, fields: Fields) -> bool
-    ensures { result ≡ has_second_fault source fields }
+/// Whether these are the fields of a second half, after a first half with this src.
+pub fn is_second_half(source: u8, fields: Fields) -> bool
+    ensures { IsTrue result ↔ IsSecondHalf source fields }
 {
     let zeroes = fields.opcode == 0 && fields.dst == 0 && fields.src == 0 && fields.offset == 0;
-    !(zeroes && (source != 5 || fields.imm == 0))
+    zeroes && (source != 5 || fields.imm == 0)
 }

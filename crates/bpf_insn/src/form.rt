@@ -45,6 +45,14 @@ pub enum Form {
     Wide,
 }
 
+/// What src of a wide load says that it loads: a number, a map by its index, or a cell of a map.
+#[derive(Clone, Copy, Debug, PartialEq, Eq)]
+pub enum WideSource {
+    Number,
+    Map,
+    Cell,
+}
+
 /// What a row allows in src.
 #[derive(Clone, Copy, Debug, PartialEq, Eq)]
 pub enum SrcField {
@@ -54,7 +62,7 @@ pub enum SrcField {
     Register,
     /// What CALL calls: 0, a helper by its number.
     Callee,
-    /// What a wide load gives: 0, 5 or 6.
+    /// What a wide load loads: 0, 5 or 6.
     WideSource,
 }
 

@@ -11,20 +11,20 @@ mod fault;
 mod fields;
 mod form;
 mod insn;
-mod jumps;
 mod layout;
+mod lookup;
 mod number;
 mod opcode;
 mod operand;
 mod parts;
 mod reg;
 mod row;
+mod slots;
 mod words;
 
 pub use decoder::decode_at;
 pub use encoder::encode;
-pub use fields::{Fields, InsnFault};
-pub use form::{Form, ImmField, OffsetField, Row, Source, SrcField};
+pub use fields::InsnFault;
 pub use insn::{Insn, Width};
 pub use operand::{
     AluOp, AtomicOp, AtomicSize, Bits, ByteOrder, Condition, Distance, EndSize, Extension,

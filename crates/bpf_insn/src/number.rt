@@ -2,7 +2,10 @@
 
 ghost use Rattle.std.specs.Prelude.{◌≡◌, ◌≤◌, ◌<◌, pos};
 ghost use Rattle.bpf_insn.specs.Table.{number_of};
-ghost use Rattle.bpf_insn.specs.Spelling.{source_of, src_field, imm_field, end_bits, extension_class, extension_bits, atomic_code, wide_source, wide_imm, next_imm};
+ghost use Rattle.bpf_insn.specs.Table.{end_bits, atomic_code, source_code};
+ghost use Rattle.bpf_insn.specs.Table.{extension_class, extension_bits};
+ghost use Rattle.bpf_insn.specs.Spelling.{source_of, src_field, imm_field};
+ghost use Rattle.bpf_insn.specs.Spelling.{wide_source, wide_imm, next_imm};
 
 use crate::form::Source;
 use crate::operand::{AtomicOp, Bits, EndSize, Extension, Operand, WideValue};
@@ -110,7 +113,7 @@ impl AtomicOp {
 impl WideValue {
     /// What stands in src.
     pub(crate) fn source(self) -> u8
-        ensures source { result ≡ wide_source self }
+        ensures source { result ≡ source_code (wide_source self) }
         ensures in_range { result ≤ 10 }
     {
         match self {

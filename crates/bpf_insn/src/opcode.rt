@@ -1,13 +1,14 @@
 // The rows by their opcodes: an opcode is divided into its class, its code and its source, and each
 // part is looked up by itself (RFC 9669, "Instruction Encoding").
 
-ghost use Rattle.std.specs.Prelude.{◌≡◌, ◌≢◌, ◌≤◌, ◌⊎◌, ◌/◌, ◌%◌, IfSome};
+ghost use Rattle.std.specs.Prelude.{◌≡◌, ◌≢◌, ◌⊎◌, ◌/◌, ◌%◌, IfSome};
 ghost use Rattle.bpf_insn.specs.declared.operand.AluOp.{AluOp};
 ghost use Rattle.bpf_insn.specs.declared.operand.Condition.{Condition};
 ghost use Rattle.bpf_insn.specs.declared.operand.Size.{Size};
 ghost use Rattle.bpf_insn.specs.declared.operand.LoadKind.{LoadKind};
 ghost use Rattle.bpf_insn.specs.declared.form.Form.{Form};
-ghost use Rattle.bpf_insn.specs.Table.{opcode_of, alu_code, condition_code, size_code, load_code, source_bit, alu_class, jump_class};
+ghost use Rattle.bpf_insn.specs.Table.{opcode_of, alu_code, condition_code, size_code};
+ghost use Rattle.bpf_insn.specs.Table.{load_code, source_bit, alu_class, jump_class};
 
 use crate::form::{Form, Source};
 use crate::operand::{AluOp, AtomicSize, Bits, ByteOrder, Condition, LoadKind, Size};
@@ -33,7 +34,7 @@ fn alu_op_at(code: u8) -> Option<AluOp>
 /// The condition that has this code.
 fn condition_at(code: u8) -> Option<Condition>
     ensures some { IfSome result (λ condition. condition_code condition ≡ code) }
-    ensures only { (condition : Condition) → condition_code condition ≡ code → result ≡ Some condition }
+    ensures only { (c : Condition) → condition_code c ≡ code → result ≡ Some c }
 {
     match code {
         0x1 => Some(Condition::Eq),
@@ -146,9 +147,10 @@ fn jump_at(opcode: u8, bits: Bits, source: Source) -> Option<Form>
 
 /// The atomic rows, of mode ATOMIC in class STX.
 fn atomic_at(opcode: u8) -> Option<Form>
-    requires { opcode / 32 ≡ 6 }
+    requires mode { opcode / 32 ≡ 6 }
+    requires class { (opcode % 8 ≡ 2) ⊎ (opcode % 8 ≡ 3) }
     ensures some { IfSome result (λ form. opcode_of form ≡ opcode) }
-    ensures only { (form : Form) → opcode_of form ≡ opcode → opcode % 8 ≢ 0 → opcode % 8 ≤ 3 → result ≡ Some form }
+    ensures only { (form : Form) → opcode_of form ≡ opcode → result ≡ Some form }
 {
     match opcode {
         0xc3 => Some(Form::Atomic(AtomicSize::Word)),

@@ -1,6 +1,7 @@
 //! The eleven registers.
 
 ghost use Rattle.std.specs.Prelude.{◌≡◌, ◌<◌, ◌≤◌};
+ghost use Rattle.bpf_insn.specs.declared.reg.Reg.{Reg};
 ghost use Rattle.bpf_insn.specs.Table.{number_of};
 
 /// A register, R0 to R10: R0 is the result, R1 to R5 are arguments, R6 to R9 are kept over calls,
@@ -24,7 +25,8 @@ impl Reg {
     /// The register of this number.
     pub fn at(number: u8) -> Reg
         requires { number ≤ 10 }
-        ensures { number_of result ≡ number }
+        ensures some { number_of result ≡ number }
+        ensures only { (r : Reg) → number_of r ≡ number → result ≡ r }
     {
         match number {
             0 => Reg::R0,

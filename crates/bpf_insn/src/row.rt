@@ -2,9 +2,12 @@
 // the faults of bytes by them, and the encoder writes their opcodes.
 
 ghost use Rattle.std.specs.Prelude.{◌≡◌};
-ghost use Rattle.bpf_insn.specs.Table.{opcode_of, row_of, alu_code, condition_code, size_code, load_code, atomic_size_code, end_opcode, source_bit, alu_class, jump_class, src_use, imm_use, move_offset};
+ghost use Rattle.bpf_insn.specs.Table.{alu_code, condition_code, size_code, load_code};
+ghost use Rattle.bpf_insn.specs.Table.{atomic_size_code, end_opcode, source_bit};
+ghost use Rattle.bpf_insn.specs.Table.{alu_class, jump_class, src_use, imm_use, move_offset};
+ghost use Rattle.bpf_insn.specs.Table.{opcode_of, row_of};
 
-use crate::form::{Form, ImmField, OffsetField, Row, Source, SrcField};
+use crate::form::{Form, ImmField as Imm, OffsetField as Offset, Row, Source, SrcField as Src};
 use crate::operand::{AluOp, AtomicSize, Bits, ByteOrder, Condition, LoadKind, Size};
 
 impl AluOp {
@@ -128,31 +131,31 @@ impl Source {
         }
     }
 
-    fn src_use(self) -> SrcField
+    fn src_use(self) -> Src
         ensures { result ≡ src_use self }
     {
         match self {
-            Source::K => SrcField::Unused,
-            Source::X => SrcField::Register,
+            Source::K => Src::Unused,
+            Source::X => Src::Register,
         }
     }
 
-    fn imm_use(self) -> ImmField
+    fn imm_use(self) -> Imm
         ensures { result ≡ imm_use self }
     {
         match self {
-            Source::K => ImmField::Any,
-            Source::X => ImmField::Unused,
+            Source::K => Imm::Any,
+            Source::X => Imm::Unused,
         }
     }
 
     /// Of MOV: with X the offset tells it from MOVSX.
-    fn move_offset(self, bits: Bits) -> OffsetField
+    fn move_offset(self, bits: Bits) -> Offset
         ensures { result ≡ move_offset bits self }
     {
         match self {
-            Source::K => OffsetField::Unused,
-            Source::X => OffsetField::Extension(bits),
+            Source::K => Offset::Unused,
+            Source::X => Offset::Extension(bits),
         }
     }
 }
@@ -181,60 +184,33 @@ impl Form {
         }
     }
 
-    fn uses_dst(self) -> bool
-        ensures { result ≡ (row_of self).uses_dst }
-    {
-        !matches!(self, Form::Jump | Form::JumpLong | Form::Call | Form::Exit)
-    }
-
-    fn src(self) -> SrcField
-        ensures { result ≡ (row_of self).src }
-    {
-        match self {
-            Form::Alu(_, _, source) | Form::Mov(_, source) | Form::JumpIf(_, _, source) =>
-                source.src_use(),
-            Form::Load(_) | Form::Store(_) | Form::Atomic(_) => SrcField::Register,
-            Form::Call => SrcField::Callee,
-            Form::Wide => SrcField::WideSource,
-            _ => SrcField::Unused,
-        }
-    }
-
-    fn offset(self) -> OffsetField
-        ensures { result ≡ (row_of self).offset }
-    {
-        match self {
-            Form::Mov(bits, source) => source.move_offset(bits),
-            Form::Jump | Form::JumpIf(_, _, _) => OffsetField::Any,
-            Form::Load(_) | Form::StoreImm(_) | Form::Store(_) | Form::Atomic(_) =>
-                OffsetField::Any,
-            _ => OffsetField::Unused,
-        }
-    }
-
-    fn imm(self) -> ImmField
-        ensures { result ≡ (row_of self).imm }
-    {
-        match self {
-            Form::Alu(_, _, source) | Form::Mov(_, source) | Form::JumpIf(_, _, source) =>
-                source.imm_use(),
-            Form::JumpLong | Form::Call | Form::StoreImm(_) | Form::Wide => ImmField::Any,
-            Form::End(_) => ImmField::EndBits,
-            Form::Atomic(_) => ImmField::AtomicCode,
-            _ => ImmField::Unused,
-        }
-    }
-
-    /// Its row of the table.
+    /// Its row of the table: whether it uses dst, and what it allows in src, offset and imm. DIV and
+    /// MOD, whose offset tells the signed from the unsigned, would have an `OffsetField` of theirs.
     pub fn row(self) -> Row
         ensures { result ≡ row_of self }
     {
+        let (uses_dst, src, offset, imm) = match self {
+            Form::Alu(_, _, s) => (true, s.src_use(), Offset::Unused, s.imm_use()),
+            Form::Mov(bits, s) => (true, s.src_use(), s.move_offset(bits), s.imm_use()),
+            Form::Neg(_) => (true, Src::Unused, Offset::Unused, Imm::Unused),
+            Form::End(_) => (true, Src::Unused, Offset::Unused, Imm::EndBits),
+            Form::Jump => (false, Src::Unused, Offset::Any, Imm::Unused),
+            Form::JumpLong => (false, Src::Unused, Offset::Unused, Imm::Any),
+            Form::JumpIf(_, _, s) => (true, s.src_use(), Offset::Any, s.imm_use()),
+            Form::Call => (false, Src::Callee, Offset::Unused, Imm::Any),
+            Form::Exit => (false, Src::Unused, Offset::Unused, Imm::Unused),
+            Form::Load(_) => (true, Src::Register, Offset::Any, Imm::Unused),
+            Form::StoreImm(_) => (true, Src::Unused, Offset::Any, Imm::Any),
+            Form::Store(_) => (true, Src::Register, Offset::Any, Imm::Unused),
+            Form::Atomic(_) => (true, Src::Register, Offset::Any, Imm::AtomicCode),
+            Form::Wide => (true, Src::WideSource, Offset::Unused, Imm::Any),
+        };
         Row {
             opcode: self.opcode(),
-            uses_dst: self.uses_dst(),
-            src: self.src(),
-            offset: self.offset(),
-            imm: self.imm(),
+            uses_dst,
+            src,
+            offset,
+            imm,
         }
     }
 }

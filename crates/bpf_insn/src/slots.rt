@@ -1,11 +1,11 @@
-//! Where a jump lands (RFC 9669, "Jump Instructions"), and how many slots an instruction takes. A
-//! slot is a plain `usize`; a jump counts slots from the instruction after it.
+//! Slots of eight bytes: how many an instruction takes, and where a jump lands (RFC 9669, "Jump
+//! Instructions"). A slot's number is a plain `usize`; a jump counts from the slot after its own.
 
 ghost use Rattle.std.specs.Prelude.{◌≡◌, ◌<◌, ◌≤◌};
 ghost use Rattle.bpf_insn.specs.Program.{landing, slots_moved};
-ghost use Rattle.bpf_insn.specs.Spelling.{slots_of};
+ghost use Rattle.bpf_insn.specs.Spelling.{width_of, slots_of};
 
-use crate::insn::Width;
+use crate::insn::{Insn, Width};
 use crate::operand::Distance;
 
 impl Distance {
@@ -31,6 +31,19 @@ impl Distance {
             None
         } else {
             Some(target as usize)
+        }
+    }
+}
+
+impl Insn {
+    /// One slot, or two of a wide load.
+    #[inline]
+    pub fn width(&self) -> Width
+        ensures { result ≡ width_of self.now }
+    {
+        match self {
+            Insn::Wide { .. } => Width::Two,
+            _ => Width::One,
         }
     }
 }
