@@ -13,7 +13,7 @@ use Rattle.bpf_insn.specs.declared.operand.Operand.TheVariants.{Imm, Register}
 use Rattle.bpf_insn.specs.Table.{number_of}
 use Rattle.bpf_insn.specs.Words.{immediate}
 use Rattle.bpf_semantics.specs.State.{State, with_register, opening}
-use Rattle.bpf_semantics.specs.Step.{operand}
+use Rattle.bpf_semantics.specs.Reads.{operand}
 use Rattle.attrs.specs.Attributes.{Attributes}
 use Rattle.bpf_verify.specs.declared.value.Value.{Value}
 use Rattle.bpf_verify.specs.declared.value.Value.TheVariants.{Unusable, Num, Ctx, Stk}

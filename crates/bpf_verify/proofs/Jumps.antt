@@ -13,12 +13,14 @@ use Rattle.bpf_insn.specs.Table.{number_of}
 use Rattle.bpf_insn.specs.Conditions.{holds}
 use Rattle.bpf_insn.specs.Program.{landing}
 use Rattle.bpf_semantics.specs.State.{State}
-use Rattle.bpf_semantics.specs.Step.{act, branch, register, operand}
+use Rattle.bpf_semantics.specs.Outcome.{branch}
+use Rattle.bpf_semantics.specs.Reads.{register, operand}
+use Rattle.bpf_semantics.specs.Step.{act}
 use Rattle.bpf_verify.specs.declared.range.Range.{Range}
 use Rattle.bpf_verify.specs.declared.value.Value.{Value}
 use Rattle.bpf_verify.specs.declared.value.Value.TheVariants.{Num}
 use Rattle.bpf_verify.specs.declared.entry.Entry.{Entry}
-use Rattle.bpf_verify.specs.declared.shape.Shape.{Shape}
+use Rattle.cells.specs.Arrays.{AppShape}
 use Rattle.bpf_verify.specs.Values.{is_unusable}
 use Rattle.bpf_verify.specs.Entries.{value_of, operand_value, with_value}
 use Rattle.bpf_verify.specs.Rules.{reads_unusable}
@@ -72,8 +74,8 @@ branch_is releases s (pos m) j n w true forward is hj hn = let l = hj refl in rw
 branch_is releases s (pos m) None n w false forward is hj hn = let l = hn refl in rw (is, l.is) (l.entry, inl refl, l.covers)
 branch_is releases s (pos m) (Some f) n w false forward is hj hn = let l = hn refl in rw (is, l.is) (l.entry, inr (inl refl), l.covers)
 
-pub jump_if_is : (releases : ℕ) (shape : Shape) (e : Entry) (s : State) (left : Reg) (right : Operand) (offset : ℤ) → pos 0 ≤ℤ offset → Covers e s → reads_unusable e (JumpIf Bits64 jump.Ge left right offset) ≡ false
-    → IsOutcome releases (edges s.slot e (JumpIf Bits64 jump.Ge left right offset)) (act s (JumpIf Bits64 jump.Ge left right offset))
+pub jump_if_is : (releases : ℕ) (shape : AppShape) (e : Entry) (s : State) (left : Reg) (right : Operand) (offset : ℤ) → pos 0 ≤ℤ offset → Covers e s → reads_unusable e (JumpIf Bits64 jump.Ge left right offset) ≡ false
+    → IsOutcome releases (edges s.slot e (JumpIf Bits64 jump.Ge left right offset)) (act shape s (JumpIf Bits64 jump.Ge left right offset))
 unfolding edges
 jump_if_is releases shape e s left right offset forward h usable =
     let u = false_or (is_unusable (value_of e left)) (is_unusable (operand_value e Bits64 right)) usable in
@@ -83,7 +85,7 @@ jump_if_is releases shape e s left right offset forward h usable =
     (λ t. narrowed_leads e s left right (kept Bits64 jump.Ge true) (value_of e left) (operand_value e Bits64 right) a.number b.number h a.is b.is a.included b.included (taken_keeps a.number b.number (leb-true b.number a.number t)))
     (λ t. narrowed_leads e s left right (kept Bits64 jump.Ge false) (value_of e left) (operand_value e Bits64 right) a.number b.number h a.is b.is a.included b.included (passed_keeps a.number b.number (leb-false b.number a.number t)))
 
-pub jump_is : (releases : ℕ) (e : Entry) (s : State) (offset : ℤ) → pos 0 ≤ℤ offset → Covers e s → IsOutcome releases (edges s.slot e (Jump (Short offset))) (act s (Jump (Short offset)))
+pub jump_is : (releases : ℕ) (shape : AppShape) (e : Entry) (s : State) (offset : ℤ) → pos 0 ≤ℤ offset → Covers e s → IsOutcome releases (edges s.slot e (Jump (Short offset))) (act shape s (Jump (Short offset)))
 unfolding edges IsOutcome HasEdge
-jump_is releases e s (pos n) forward h = (e, inl refl, h)
-jump_is releases e s (negsuc n) forward h = absurd (grind (arith, ints))
+jump_is releases shape e s (pos n) forward h = (e, inl refl, h)
+jump_is releases shape e s (negsuc n) forward h = absurd (grind (arith, ints))

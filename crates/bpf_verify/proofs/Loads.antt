@@ -1,5 +1,5 @@
 -- A load that the rules let pass reads bytes of the context, and gives a number of its width.
-use Rattle.std.proofs.Common.{◌≡◌, ℕ, zero, suc, ◌+◌, ◌-◌, ◌*◌, ◌^◌, ◌<◌, ◌≤◌, ℤ, pos, negsuc, List, [], ◌∷◌, ◌++◌, length, take, drop, replicate, Some, true, false, refl, arith, FitsSigned}
+use Rattle.std.proofs.Common.{◌≡◌, ℕ, zero, suc, ◌+◌, ◌-◌, ◌*◌, ◌^◌, ◌<◌, ◌≤◌, ℤ, pos, negsuc, List, [], ◌∷◌, ◌++◌, length, take, drop, replicate, Some, None, true, false, refl, arith, FitsSigned}
 use Rattle.std.specs.Prelude.{slice_index, nat_le}
 use Rattle.std.specs.Int.{w16, w32, to_le_bytes, bytes_low_first, byte_at}
 use Rattle.std.proofs.Math.Nat.{pow-succ'}
@@ -12,9 +12,10 @@ use Rattle.bpf_insn.specs.declared.operand.LoadKind.TheVariants as load
 use Rattle.bpf_insn.specs.declared.reg.Reg.{Reg}
 use Rattle.bpf_insn.specs.declared.insn.Insn.TheVariants.{Load}
 use Rattle.bpf_insn.specs.Words.{little_endian}
-use Rattle.bpf_semantics.specs.Memory.{context_start, context_size, address_of}
+use Rattle.bpf_semantics.specs.Memory.{context_start, context_size, cell_start, cell_number, is_cell_address, cell_at, address_of}
+use Rattle.bpf_semantics.specs.Counters.{load_cell}
 use Rattle.bpf_semantics.specs.State.{State, read_at, context_part}
-use Rattle.bpf_semantics.specs.Step.{load_count, filled, loaded}
+use Rattle.bpf_semantics.specs.Reads.{load_count, filled, loaded}
 use Rattle.bpf_verify.specs.declared.range.Range.{Range}
 use Rattle.bpf_verify.specs.declared.value.Value.{Value}
 use Rattle.bpf_verify.specs.declared.value.Value.TheVariants.{Unusable, Num, Ctx, Stk}
@@ -84,6 +85,7 @@ record Reads (s : State) (address n : ℕ) : Type 0 where
   number : ℕ
   is : read_at s address n ≡ Some number
   small : number < 256 ^ n
+  low : address < cell_start
 
 reads : (s : State) (address n : ℕ) → context_start ≤ address → address + n ≤ context_start + context_size → Reads s address n
 reads s address n low high =
@@ -92,7 +94,7 @@ reads s address n low high =
     let len : length (context_part s (address - context_start) n) ≡ n =
     omega (arith, length-take n (drop (address - context_start) (context_bytes s.attributes.context)), length-drop (address - context_start) (context_bytes s.attributes.context), context_length s.attributes.context) in
     let small = little_endian-lt (context_part s (address - context_start) n) (take_bytes n (drop (address - context_start) (context_bytes s.attributes.context)) (drop_bytes (address - context_start) (context_bytes s.attributes.context) (context_are_bytes s.attributes.context))) in
-    record { number = little_endian (context_part s (address - context_start) n); is = rw (a, b) refl; small = rw len at small }
+    record { number = little_endian (context_part s (address - context_start) n); is = rw (a, b) refl; small = rw len at small; low = omega (arith, high) }
 
 address_in_context : (places : Range) (x n : ℕ) (offset : ℤ) → FitsSigned w16 offset → lies_in_context places offset n ≡ true → context_start + places.lo ≤ x → x ≤ context_start + places.hi
     → (context_start ≤ address_of x offset) × (address_of x offset + n ≤ context_start + context_size)
@@ -130,13 +132,26 @@ loaded_includes load.Half dst src offset n j h = (omega arith, omega arith)
 loaded_includes load.Double dst src offset n j h = (omega arith, omega arith)
 loaded_includes kind dst src offset n j h = absurd cc
 
+-- below the counters is none
+no_cell_at : (address n : ℕ) → address < cell_start → cell_at address n ≡ None
+no_cell_at address n low =
+    let first : cell_number address ≡ 0 = grind arith in
+    let other : is_cell_address address ≡ false = grind arith in
+    rw other refl
+
+no_load_cell : (kind : LoadKind) (base : ℕ) (offset : ℤ) → address_of base offset < cell_start → load_cell kind (Some base) offset ≡ None
+no_load_cell load.Word base offset low = no_cell_at (address_of base offset) 4 low
+no_load_cell load.Double base offset low = no_cell_at (address_of base offset) 8 low
+no_load_cell kind base offset low = refl
+
 pub record Loads (s : State) (kind : LoadKind) (base : ℕ) (offset : ℤ) : Type 0 where
   pub number : ℕ
   pub is : loaded s kind (Some base) offset ≡ Some number
   pub included : Includes (loaded_value kind) number
+  pub no_cell : load_cell kind (Some base) offset ≡ None
 
 pub loads : (a : Value) (x : ℕ) (s : State) (kind : LoadKind) (dst src : Reg) (offset : ℤ) → is_judged (Load kind dst src offset) ≡ true → FitsSigned w16 offset → Includes a x
     → is_unusable a ≡ false → is_number a ≡ false → reads_unset a offset (load_count kind) ≡ false → is_outside a offset (load_count kind) ≡ false → Loads s kind x offset
 loads a x s kind dst src offset j f h u m unset out =
     let r = address_read a x (load_count kind) s offset f (some_bytes kind) h u m unset out in
-    record { number = filled kind r.number; is = rw r.is refl; included = loaded_includes kind dst src offset r.number j r.small }
+    record { number = filled kind r.number; is = rw r.is refl; included = loaded_includes kind dst src offset r.number j r.small; no_cell = no_load_cell kind x offset r.low }

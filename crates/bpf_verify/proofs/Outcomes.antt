@@ -6,11 +6,12 @@ use Rattle.bpf_insn.specs.declared.reg.Reg.{Reg}
 use Rattle.bpf_insn.specs.declared.insn.Insn.{Insn}
 use Rattle.bpf_insn.specs.Table.{number_of}
 use Rattle.bpf_semantics.specs.State.{State}
-use Rattle.bpf_semantics.specs.Step.{Outcome, Going, Done, Trap, write, both, only}
+use Rattle.bpf_semantics.specs.Outcome.{Outcome, Going, Asks, Done, Trap, write}
+use Rattle.bpf_semantics.specs.Reads.{both, only}
 use Rattle.bpf_verify.specs.declared.value.Value.{Value}
 use Rattle.bpf_verify.specs.declared.entry.Entry.{Entry}
 use Rattle.bpf_verify.specs.declared.edge.Edge.{Edge}
-use Rattle.bpf_verify.specs.declared.shape.Shape.{Shape}
+use Rattle.cells.specs.Arrays.{AppShape}
 use Rattle.bpf_verify.specs.declared.refusal.Rule.{Rule}
 use Rattle.bpf_verify.specs.declared.refusal.Rule.TheVariants as rule
 use Rattle.bpf_verify.specs.Entries.{with_value}
@@ -20,7 +21,7 @@ use Rattle.bpf_verify.proofs.Entries.{covers_write}
 
 -- ---- rules that passed
 
-pub record Passes (shape : Shape) (e : Entry) (i : Insn) : Type 0 where
+pub record Passes (shape : AppShape) (e : Entry) (i : Insn) : Type 0 where
   pub judged : is_judged i ≡ true
   pub usable : reads_unusable e i ≡ false
   pub frame : writes_frame i ≡ false
@@ -32,7 +33,7 @@ none_cond : (b : Bool) (r : Rule) (x : Option Rule) → cond b (Some r) x ≡ No
 none_cond true r x h = absurd cc
 none_cond false r x h = (refl, h)
 
-pub passes : (shape : Shape) (e : Entry) (i : Insn) → first_rule shape e i ≡ None → Passes shape e i
+pub passes : (shape : AppShape) (e : Entry) (i : Insn) → first_rule shape e i ≡ None → Passes shape e i
 unfolding first_rule
 passes shape e i h =
     let j = none_cond (not (is_judged i)) rule.Helper _ h in
@@ -54,6 +55,7 @@ HasEdge (d ∷ ds) t f = (d ≡ record { target = t; entry = f }) ⊎ HasEdge ds
 
 unfoldable pub IsOutcome : ℕ → List Edge → Outcome → Type 0
 IsOutcome releases ds (Going s) = (f : Entry) × HasEdge ds s.slot f × Covers f s
+IsOutcome releases ds (Asks cell op next) = ⊥
 IsOutcome releases ds (Done n) = n ≤ releases
 IsOutcome releases ds Trap = ⊥
 

@@ -7,7 +7,7 @@ use Rattle.std.proofs.lemmas.Option.{slice_get_cases}
 use Rattle.bpf_insn.specs.declared.insn.Insn.{Insn}
 use Rattle.bpf_insn.specs.Program.{Program, at, ◌>>=◌}
 use Rattle.flow_check.specs.Flow.{IsFlow}
-use Rattle.bpf_verify.specs.declared.shape.Shape.{Shape}
+use Rattle.cells.specs.Arrays.{AppShape}
 use Rattle.bpf_verify.specs.declared.entry.Entry.{Entry}
 use Rattle.bpf_verify.specs.declared.edge.Edge.{Edge}
 use Rattle.bpf_verify.specs.Entries.{join_entries, opening_entry}
@@ -127,5 +127,5 @@ swept_start p entries lt is = record {
   each = λ m below. ap (λ (es : List (Option Entry)). get_or es m None) is ∙ start_at p (length p - 1) m;
 }
 
-pub fine_all : (p : Program) (shape : Shape) → ((j : ℕ) → j < length p → IsFine p shape j) → IsAccepted p shape
+pub fine_all : (p : Program) (shape : AppShape) → ((j : ℕ) → j < length p → IsFine p shape j) → IsAccepted p shape
 fine_all p shape each s e i is what = each s (at_within p s (rw what refl)) e i is what

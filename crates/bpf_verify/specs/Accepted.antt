@@ -2,7 +2,7 @@
 use Rattle.std.specs.Prelude.{◌≡◌, ℕ, zero, suc, ◌<◌, List, [], ◌∷◌, ◌++◌, Option, Some, None, ◌==◌, if◌then◌else◌}
 use Rattle.bpf_insn.specs.declared.insn.Insn.{Insn}
 use Rattle.bpf_insn.specs.Program.{Program, at}
-use Rattle.bpf_verify.specs.declared.shape.Shape.{Shape}
+use Rattle.cells.specs.Arrays.{AppShape}
 use Rattle.bpf_verify.specs.declared.entry.Entry.{Entry}
 use Rattle.bpf_verify.specs.declared.edge.Edge.{Edge}
 use Rattle.bpf_verify.specs.declared.refusal.Rule.{Rule}
@@ -43,25 +43,22 @@ entry_of p s = join_all (incoming p s s)
 -- ---- accepted and refused
 
 -- no rule fails at the place; without an entry it isn't judged
-abbrev pub IsFine : Program → Shape → ℕ → Type 0
+abbrev pub IsFine : Program → AppShape → ℕ → Type 0
 IsFine p shape s = (e : Entry) (i : Insn) → entry_of p s ≡ Some e → at p s ≡ Some i → first_rule shape e i ≡ None
 
-abbrev pub IsAccepted : Program → Shape → Type 0
+abbrev pub IsAccepted : Program → AppShape → Type 0
 IsAccepted p shape = (s : ℕ) → IsFine p shape s
 
-abbrev pub Fails : Program → Shape → ℕ → Rule → Type 0
+abbrev pub Fails : Program → AppShape → ℕ → Rule → Type 0
 Fails p shape s rule = (e : Entry) × (i : Insn) × (entry_of p s ≡ Some e) × (at p s ≡ Some i) × (first_rule shape e i ≡ Some rule)
 
 -- the first place that fails, and its first rule
-pub record IsRefused (p : Program) (shape : Shape) (s : ℕ) (rule : Rule) : Type 0 where
+pub record IsRefused (p : Program) (shape : AppShape) (s : ℕ) (rule : Rule) : Type 0 where
   pub before : (k : ℕ) → k < s → IsFine p shape k
   pub fails : Fails p shape s rule
 
-abbrev pub IsRefusal : Program → Shape → Refusal → Type 0
+abbrev pub IsRefusal : Program → AppShape → Refusal → Type 0
 IsRefusal p shape (refusal.Rule s rule) = IsRefused p shape s rule
 IsRefusal p shape refusal.Memory = Unit {0}
 
--- a verified program as contracts see it; that it is accepted under its shape is kept by the type `Verified`
-pub record Accepted : Type 0 where
-  pub code : Program
-  pub shape : Shape
+

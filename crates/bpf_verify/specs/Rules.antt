@@ -12,8 +12,8 @@ use Rattle.bpf_insn.specs.declared.insn.Insn.{Insn}
 use Rattle.bpf_insn.specs.declared.insn.Insn.TheVariants.{Alu, Mov, Jump, JumpIf, Exit, Load}
 use Rattle.bpf_insn.specs.Table.{number_of}
 use Rattle.bpf_semantics.specs.Memory.{context_size, stack_size}
-use Rattle.bpf_semantics.specs.Step.{load_count}
-use Rattle.bpf_verify.specs.declared.shape.Shape.{Shape}
+use Rattle.bpf_semantics.specs.Reads.{load_count}
+use Rattle.cells.specs.Arrays.{AppShape}
 use Rattle.bpf_verify.specs.declared.range.Range.{Range}
 use Rattle.bpf_verify.specs.declared.value.Value.{Value}
 use Rattle.bpf_verify.specs.declared.value.Value.TheVariants.{Num, Ctx, Stk}
@@ -114,17 +114,17 @@ is_judged i = false
 
 -- ---- V13: the run may end with a number above the releases, or with no number
 
-abbrev pub is_choice : Shape → Value → Bool
+abbrev pub is_choice : AppShape → Value → Bool
 is_choice shape (Num numbers) = nat_le numbers.hi shape.releases
 is_choice shape v = false
 
-abbrev pub wrong_result : Shape → Entry → Insn → Bool
+abbrev pub wrong_result : AppShape → Entry → Insn → Bool
 wrong_result shape e Exit = not (is_choice shape (value_at e 0))
 wrong_result shape e i = false
 
 -- ---- V10 where the instruction isn't judged; else the first rule that fails, in the order of their numbers
 
-unfoldable pub first_rule : Shape → Entry → Insn → Option Rule
+unfoldable pub first_rule : AppShape → Entry → Insn → Option Rule
 first_rule shape e i =
     if not (is_judged i) then Some rule.Helper
     else if reads_unusable e i then Some rule.Unusable

@@ -8,7 +8,7 @@ use Rattle.bpf_insn.specs.declared.operand.LoadKind.{LoadKind}
 use Rattle.bpf_insn.specs.declared.operand.LoadKind.TheVariants.{SignedByte, SignedHalf, SignedWord}
 use Rattle.bpf_insn.specs.Program.{◌>>=◌}
 use Rattle.bpf_semantics.specs.Memory.{context_size, stack_size}
-use Rattle.bpf_semantics.specs.Step.{load_count}
+use Rattle.bpf_semantics.specs.Reads.{load_count}
 use Rattle.bpf_verify.specs.declared.range.Range.{Range}
 use Rattle.bpf_verify.specs.declared.value.Value.{Value}
 use Rattle.bpf_verify.specs.declared.value.Value.TheVariants.{Unusable, Num, Ctx, Stk}

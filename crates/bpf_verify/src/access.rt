@@ -2,7 +2,7 @@
 //! and the stack, the 512 bytes below its top. An access lies within one of them.
 
 ghost use Rattle.std.specs.Prelude.{◌≡◌, ◌≤◌};
-ghost use Rattle.bpf_semantics.specs.Step as step;
+ghost use Rattle.bpf_semantics.specs.Reads as step;
 ghost use Rattle.bpf_verify.specs.Rules as rules;
 
 use crate::range::Range;

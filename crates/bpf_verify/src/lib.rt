@@ -28,12 +28,11 @@ mod narrow;
 mod range;
 mod refusal;
 mod rules;
-mod shape;
 mod sweep;
 mod transfer;
 mod value;
 mod verified;
 
 pub use refusal::{Refusal, Rule};
-pub use shape::Shape;
+pub use cells::Shape;
 pub use verified::{Verified, verify};

@@ -7,7 +7,7 @@ ghost use Rattle.bpf_verify.specs.Rules as rules;
 use crate::access::{is_outside, load_count, reads_unset};
 use crate::entry::Entry;
 use crate::refusal::Rule;
-use crate::shape::Shape;
+use cells::Shape;
 use crate::value::Value;
 use bpf_insn::{AluOp, Bits, Condition, Distance, Insn, LoadKind, Operand, Reg};
 

@@ -10,7 +10,7 @@ use crate::edge::Edge;
 use crate::entry::Entry;
 use crate::refusal::Rule;
 use crate::rules::first_rule;
-use crate::shape::Shape;
+use cells::Shape;
 use crate::transfer::transfer;
 use flow_check::Flow;
 use std::alloc::{AllocError, Global};
