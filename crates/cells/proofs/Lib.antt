@@ -2,3 +2,4 @@ pub mod Directories
 pub mod Growing
 pub mod Shapes
 pub mod Values
+mod Fitting

@@ -3,3 +3,4 @@ pub mod Grown
 pub mod Names
 pub mod Arrays
 pub mod Directory
+pub mod Widths

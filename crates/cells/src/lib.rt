@@ -9,6 +9,7 @@ mod fault;
 mod plain;
 mod shape;
 mod steps;
+mod widths;
 
 pub use array::{ArrayName, ArrayNo, CellArray, CellWidth};
 pub use directory::Directory;
@@ -17,3 +18,4 @@ pub use fault::CellsFault;
 pub use plain::{PlainCells, PlainPass};
 pub use shape::Shape;
 pub use steps::{CellSteps, growth};
+pub use widths::events_fit;

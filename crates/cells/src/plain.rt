@@ -1,7 +1,7 @@
 //! Cells of one thread. The pass holds their values, so it is what an operation changes.
 
 ghost use Rattle.std.specs.Prelude.{◌≡◌, ◌%◌, ◌<◌, slice_index, IfOk, IfErr};
-ghost use Rattle.cells.specs.Events.{limit, after, reply_of, CanReply, IsEvent, AreZeros};
+ghost use Rattle.cells.specs.Events.{limit, after, reply_of, CanReply, IsEvent, AreCells, AreZeros};
 
 use crate::event::{CellNo, CellOp};
 use crate::fault::CellsFault;
@@ -47,6 +47,13 @@ impl PlainCells {
 }
 
 impl PlainPass {
+    /// What the type keeps. It does nothing: a proof calls it for its clause.
+    pub fn keeps(&self)
+        ensures { AreCells self.now }
+    {
+        let _values = &self.values;
+    }
+
     /// The value of a cell.
     pub fn value(&self, cell: CellNo) -> u64
         ensures value { result ≡ slice_index self.now cell.number }

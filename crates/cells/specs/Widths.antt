@@ -1,0 +1,12 @@
+-- What an event keeps: values within their cells' widths, and a reply that fits.
+use Rattle.std.specs.Prelude.{List, ℕ}
+use Rattle.cells.specs.declared.event.CellEvent.{CellEvent}
+use Rattle.cells.specs.Events.{AreCells, CanReply, IsEvent}
+
+-- the cells after an event on cells, and its reply
+pub record Fits (e : CellEvent) (new : List ℕ) : Type 0 where
+  pub cells : AreCells new
+  pub reply : CanReply e.cell e.op e.reply
+
+abbrev pub EventsFit : Type 0
+EventsFit = (old new : List ℕ) (e : CellEvent) → AreCells old → IsEvent old e new → Fits e new
