@@ -6,6 +6,8 @@
 #[cfg(test)]
 mod attributes;
 #[cfg(test)]
+mod counters;
+#[cfg(test)]
 mod encoding;
 #[cfg(test)]
 mod graph;

@@ -1,5 +1,7 @@
--- Arrays of cells, and the shape of an app: how many releases its programs choose among, and the arrays that they use.
-use Rattle.std.specs.Prelude.{◌≡◌, ℕ, ◌+◌, ◌^◌, ◌<◌, ◌≤◌, ◌⊎◌, List, Option, Some, Contains, All, map, slice_get}
+-- Arrays of cells, and the shape of an app: how many releases its programs choose among, and the
+-- arrays that they use.
+use Rattle.std.specs.Prelude.{◌≡◌, ℕ, ◌+◌, ◌^◌, ◌<◌, ◌≤◌, ◌⊎◌, Option, Some}
+use Rattle.std.specs.Prelude.{List, Contains, All, map, slice_get}
 use Rattle.cells.specs.declared.array.ArrayNo.{ArrayNo}
 use Rattle.cells.specs.declared.array.CellWidth.{CellWidth}
 use Rattle.cells.specs.declared.array.CellWidth.TheVariants.{Bits32, Bits64}
@@ -44,8 +46,10 @@ pub record AppShape : Type 0 where
 pub record IsShape (s : AppShape) : Type 0 where
   pub releases : s.releases ≤ 64
   pub arrays : All IsArray s.arrays
-  pub apart : (a b : CellArray) → Contains s.arrays a → Contains s.arrays b → (a ≡ b) ⊎ SharesNoCell a b
+  pub apart : (a b : CellArray)
+      → Contains s.arrays a → Contains s.arrays b → (a ≡ b) ⊎ SharesNoCell a b
 
 -- the arrays are those of these numbers in the directory, in this order
 abbrev pub AreNumbered : List CellArray → List ArrayNo → List CellArray → Type 0
-AreNumbered directory numbers arrays = map (λ a. Some a) arrays ≡ map (λ n. slice_get directory n.number) numbers
+AreNumbered directory numbers arrays =
+    map (λ a. Some a) arrays ≡ map (λ n. slice_get directory n.number) numbers

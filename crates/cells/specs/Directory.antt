@@ -1,5 +1,7 @@
 -- Directories of arrays, and what a declaration does to one.
-use Rattle.std.specs.Prelude.{◌≡◌, ◌≢◌, ℕ, ◌+◌, ◌<◌, ◌≤◌, Bool, true, false, if◌then◌else◌, List, [], ◌∷◌, ◌++◌, length, take, Option, Some, slice_get, sum_by, All, Contains}
+use Rattle.std.specs.Prelude.{◌≡◌, ◌≢◌, ℕ, ◌+◌, ◌<◌, ◌≤◌, Bool, true, false, if◌then◌else◌}
+use Rattle.std.specs.Prelude.{List, [], ◌∷◌, ◌++◌, length, take, slice_get, sum_by, All, Contains}
+use Rattle.std.specs.Prelude.{Option, Some}
 use Rattle.cells.specs.declared.array.CellWidth.{CellWidth}
 use Rattle.cells.specs.declared.array.CellWidth.TheVariants.{Bits32, Bits64}
 use Rattle.cells.specs.declared.array.CellArray.{CellArray}
@@ -26,8 +28,10 @@ next_cell w arrays = first_cell w + taken w arrays
 
 -- arrays with distinct names, each after the earlier ones of its width, without gaps
 pub record IsDirectory (arrays : List CellArray) : Type 0 where
-  pub names : (i j : ℕ) (a b : CellArray) → slice_get arrays i ≡ Some a → slice_get arrays j ≡ Some b → a.name ≡ b.name → i ≡ j
-  pub places : (i : ℕ) (a : CellArray) → slice_get arrays i ≡ Some a → a.base ≡ next_cell a.width (take i arrays)
+  pub names : (i j : ℕ) (a b : CellArray)
+      → slice_get arrays i ≡ Some a → slice_get arrays j ≡ Some b → a.name ≡ b.name → i ≡ j
+  pub places : (i : ℕ) (a : CellArray)
+      → slice_get arrays i ≡ Some a → a.base ≡ next_cell a.width (take i arrays)
   pub room : (w : CellWidth) → taken w arrays ≤ 4096
   pub ranges : All (λ a. HasRanges a.width a.length a.quota) arrays
 
@@ -46,7 +50,8 @@ pub record Declaration : Type 0 where
   pub quota : Option ℕ
 
 abbrev pub declaration : List ℕ → CellWidth → ℕ → Option ℕ → Declaration
-declaration name width length quota = record { name = name; width = width; length = length; quota = quota }
+declaration name width length quota =
+    record { name = name; width = width; length = length; quota = quota }
 
 pub record IsDeclaration (d : Declaration) : Type 0 where
   pub name : IsName d.name
@@ -59,23 +64,35 @@ pub record IsAsDeclared (d : Declaration) (a : CellArray) : Type 0 where
   pub length : a.length ≡ d.length
   pub quota : a.quota ≡ d.quota
 
+-- the array of this number has the name
+abbrev pub IsNamed : List CellArray → List ℕ → ℕ → Type 0
+IsNamed arrays name n = (a : CellArray) × (slice_get arrays n ≡ Some a) × (a.name ≡ name)
+
+abbrev pub HasValues : CellArray → CellWidth → ℕ → Option ℕ → Type 0
+HasValues a width length quota = (a.width ≡ width) × (a.length ≡ length) × (a.quota ≡ quota)
+
 -- no array has the name
 abbrev pub IsNew : Declaration → List CellArray → Type 0
 IsNew d arrays = All (λ a. a.name ≢ d.name) arrays
 
 -- the declared array, after these ones
 abbrev pub next_array : Declaration → List CellArray → CellArray
-next_array d arrays = record { name = d.name; width = d.width; base = next_cell d.width arrays; length = d.length; quota = d.quota }
+next_array d arrays =
+    let base = next_cell d.width arrays in
+    record { name = d.name; width = d.width; base = base; length = d.length; quota = d.quota }
 
 -- a declaration gives the array of this number, in the directory after it
 pub data Declares (d : Declaration) (old : List CellArray) : ℕ → List CellArray → Type 0 where
   -- it stands already
-  again : {n : ℕ} {a : CellArray} → slice_get old n ≡ Some a → IsAsDeclared d a → Declares d old n old
+  again : {n : ℕ} {a : CellArray}
+      → slice_get old n ≡ Some a → IsAsDeclared d a → Declares d old n old
   -- there is room, and it is added at the end
-  anew : IsNew d old → taken d.width old + d.length ≤ 4096 → Declares d old (length old) (old ++ next_array d old ∷ [])
+  anew : IsNew d old → taken d.width old + d.length ≤ 4096
+      → Declares d old (length old) (old ++ next_array d old ∷ [])
 
 -- when each fault is the answer; of want of memory nothing is said
 abbrev pub IsRefusedDeclaration : Declaration → List CellArray → CellsFault → Type 0
-IsRefusedDeclaration d old Redefined = (a : CellArray) × Contains old a × (a.name ≡ d.name) × ¬ IsAsDeclared d a
+IsRefusedDeclaration d old Redefined =
+    (a : CellArray) × Contains old a × (a.name ≡ d.name) × ¬ IsAsDeclared d a
 IsRefusedDeclaration d old CellsFull = IsNew d old × (4096 < taken d.width old + d.length)
 IsRefusedDeclaration d old Memory = Unit {0}

@@ -1,8 +1,13 @@
 -- Cells: how wide each is, and what an operation replies and leaves.
-use Rattle.std.specs.Prelude.{ℕ, ◌+◌, ◌%◌, ◌^◌, ◌<◌, ◌==◌, nat_lt, if◌then◌else◌, bit_and, bit_or, bit_xor, List, length, slice_index, slice_set, ◌≡◌}
+use Rattle.std.specs.Prelude.{◌≡◌, ℕ, ◌+◌, ◌%◌, ◌^◌, ◌<◌, ◌==◌, nat_lt, if◌then◌else◌}
+use Rattle.std.specs.Prelude.{bit_and, bit_or, bit_xor, List, length, slice_index, slice_set}
 use Rattle.cells.specs.declared.event.CellOp.{CellOp}
-use Rattle.cells.specs.declared.event.CellOp.TheVariants.{Load, Store, Add, Or, And, Xor, Swap, CompareExchange}
+use Rattle.cells.specs.declared.event.CellOp.TheVariants.{Load, Store, Add, Or, And, Xor}
+use Rattle.cells.specs.declared.event.CellOp.TheVariants.{Swap, CompareExchange}
 use Rattle.cells.specs.declared.event.CellEvent.{CellEvent}
+
+abbrev pub event : ℕ → CellOp → ℕ → CellEvent
+event cell op reply = record { cell = cell; op = op; reply = reply }
 
 -- how many bits a cell has: the first 4096 cells have 64, the others 32
 abbrev pub width : ℕ → ℕ

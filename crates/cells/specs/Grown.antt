@@ -1,5 +1,5 @@
--- A pass that grew by a list of events, one after the other. How it grows by one is a relation of a pass, an event and
--- the pass after it.
+-- A pass that grew by a list of events, one after the other. How it grows by one is a relation of a
+-- pass, an event and the pass after it.
 use Rattle.std.specs.Prelude.{◌≡◌, List, [], ◌∷◌, ◌++◌}
 use Rattle.cells.specs.declared.event.CellEvent.{CellEvent}
 
@@ -10,8 +10,10 @@ module _ {P : Type 0} (grew : P → CellEvent → P → Type 0) where
 
   -- a pass that grew by a list, and then by one event more
   abbrev pub GrowsBySnoc : Type 0
-  GrowsBySnoc = (p : P) (es : List CellEvent) (m : P) (e : CellEvent) (q : P) → GrewBy p es m → grew m e q → GrewBy p (es ++ e ∷ []) q
+  GrowsBySnoc = (p : P) (es : List CellEvent) (m : P) (e : CellEvent) (q : P)
+      → GrewBy p es m → grew m e q → GrewBy p (es ++ e ∷ []) q
 
   -- a pass that grew by a list, and then by another
   abbrev pub GrowsByAppend : Type 0
-  GrowsByAppend = (p : P) (es : List CellEvent) (m : P) (ds : List CellEvent) (q : P) → GrewBy p es m → GrewBy m ds q → GrewBy p (es ++ ds) q
+  GrowsByAppend = (p : P) (es : List CellEvent) (m : P) (ds : List CellEvent) (q : P)
+      → GrewBy p es m → GrewBy m ds q → GrewBy p (es ++ ds) q

@@ -1,11 +1,16 @@
 //! Arrays of cells, as they are declared: by name, each over cells of one width.
 
-ghost use Rattle.std.specs.Prelude.{◌≡◌, IfOk};
+ghost use Rattle.std.specs.Prelude.{◌≡◌, ◌↔◌, IfOk, IsTrue};
+ghost use Rattle.std.specs.List.{list_all};
 ghost use Rattle.cells.specs.Arrays as array;
 ghost use Rattle.cells.specs.Names.{IsName};
+ghost use Rattle.cells.specs.Names as names;
 
 use std::alloc::{AllocError, Global};
 use std::marker::Model;
+
+/// The most bytes that a name has.
+const MAX_NAME: usize = 32;
 
 /// How wide the cells of an array are.
 #[derive(Clone, Copy, Debug, PartialEq, Eq)]
@@ -43,6 +48,14 @@ impl Model for ArrayName {
 }
 
 impl ArrayName {
+    /// Whether a text has the form of a name.
+    pub fn is_name(text: &str) -> bool
+        ensures { IsTrue result ↔ IsName text.now }
+    {
+        let bytes = text.as_bytes();
+        bytes.len() <= MAX_NAME && is_spelled(bytes)
+    }
+
     /// A text as a name.
     pub fn of(alloc: Global, text: &str) -> Result<ArrayName, AllocError>
         requires { IsName text.now }
@@ -76,6 +89,34 @@ pub struct CellArray {
     pub base: u16,
     pub length: u16,
     pub quota: Option<u64>,
+}
+
+// A letter or `_`, and then letters, digits and `_`.
+fn is_spelled(bytes: &[u8]) -> bool
+    ensures { result ≡ names.is_spelled bytes.now }
+{
+    match bytes {
+        [first, rest @ ..] => is_letter(*first) && goes_on(rest),
+        [] => false,
+    }
+}
+
+fn goes_on(bytes: &[u8]) -> bool
+    ensures { result ≡ list_all names.is_name_byte bytes.now }
+{
+    bytes.iter().all(|byte| is_name_byte(*byte))
+}
+
+fn is_letter(byte: u8) -> bool
+    ensures { result ≡ names.is_letter byte }
+{
+    byte.is_ascii_alphabetic() || byte == b'_'
+}
+
+fn is_name_byte(byte: u8) -> bool
+    ensures { result ≡ names.is_name_byte byte }
+{
+    is_letter(byte) || byte.is_ascii_digit()
 }
 
 impl CellArray {

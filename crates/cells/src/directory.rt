@@ -1,9 +1,10 @@
-//! The arrays of a server, by name. An array is laid behind the earlier ones of its width, and stays
-//! where it is: the directory only grows.
+//! The arrays of a server, by name. An array is laid behind the earlier ones of its width, and
+//! stays where it is: the directory only grows.
 
-ghost use Rattle.std.specs.Prelude.{◌≡◌, ◌≢◌, ◌↔◌, ◌+◌, ◌≤◌, [], IfOk, IfErr, OnErr, IfSome, IfNone, IsTrue, All, slice_get, Some};
-ghost use Rattle.cells.specs.Directory.{declaration, IsDeclaration, IsNew, Declares, IsRefusedDeclaration, IsDirectory};
-ghost use Rattle.cells.specs.declared.array.CellArray.{CellArray};
+ghost use Rattle.std.specs.Prelude.{◌≡◌, ◌≢◌, ◌↔◌, ◌+◌, ◌≤◌, [], All};
+ghost use Rattle.std.specs.Prelude.{IfOk, IfErr, OnErr, IfSome, IfNone, IsTrue};
+ghost use Rattle.cells.specs.Directory.{declaration, IsDeclaration, IsDirectory, IsNamed};
+ghost use Rattle.cells.specs.Directory.{HasValues, IsNew, Declares, IsRefusedDeclaration};
 
 use crate::array::{ArrayName, ArrayNo, CellArray, CellWidth, first_cell};
 use crate::fault::CellsFault;
@@ -62,8 +63,10 @@ impl Directory {
         quota: Option<u64>,
     ) -> Result<ArrayNo, CellsFault>
         requires { IsDeclaration (declaration name.now width length quota) }
-        ensures declares { IfOk result (λ no. Declares (declaration name.now width length quota) self.old no.number self.new) }
-        ensures refused { IfErr result (λ e. IsRefusedDeclaration (declaration name.now width length quota) self.old e) }
+        ensures declares { let d = declaration name.now width length quota in
+            IfOk result (λ no. Declares d self.old no.number self.new) }
+        ensures refused { let d = declaration name.now width length quota in
+            IfErr result (λ e. IsRefusedDeclaration d self.old e) }
         ensures same { OnErr result (self.new ≡ self.old) }
     {
         if let Some(number) = number_of(&self.arrays, name) {
@@ -98,7 +101,8 @@ impl Directory {
         requires declaration { IsDeclaration (declaration name width length quota) }
         requires new { IsNew (declaration name width length quota) self.old }
         requires room { taken width self.old + length ≤ 4096 }
-        ensures declares { IfOk result (λ no. Declares (declaration name width length quota) self.old no.number self.new) }
+        ensures declares { let d = declaration name width length quota in
+            IfOk result (λ no. Declares d self.old no.number self.new) }
         ensures memory { IfErr result (λ e. e ≡ CellsFault.Memory) }
         ensures same { OnErr result (self.new ≡ self.old) }
     {
@@ -134,7 +138,7 @@ impl Directory {
 
 // The number of the array of this name.
 fn number_of(arrays: &[CellArray], name: &str) -> Option<usize>
-    ensures found { IfSome result (λ i. (a : CellArray) × (slice_get arrays.now i ≡ Some a) × (a.name ≡ name.now)) }
+    ensures found { IfSome result (IsNamed arrays.now name.now) }
     ensures none { IfNone result (All (λ a. a.name ≢ name.now) arrays.now) }
 {
     for (number, array) in arrays.iter().enumerate() {
@@ -147,7 +151,7 @@ fn number_of(arrays: &[CellArray], name: &str) -> Option<usize>
 
 // Whether an array has this width, length and quota.
 fn is_as_declared(array: &CellArray, width: CellWidth, length: u16, quota: Option<u64>) -> bool
-    ensures { IsTrue result ↔ ((array.now.width ≡ width) × (array.now.length ≡ length) × (array.now.quota ≡ quota)) }
+    ensures { IsTrue result ↔ HasValues array.now width length quota }
 {
     array.width == width && array.length == length && array.quota == quota
 }

@@ -1,7 +1,8 @@
 //! Cells of one thread. The pass holds their values, so it is what an operation changes.
 
 ghost use Rattle.std.specs.Prelude.{◌≡◌, ◌%◌, ◌<◌, slice_index, IfOk, IfErr};
-ghost use Rattle.cells.specs.Events.{limit, after, reply_of, CanReply, IsEvent, AreCells, AreZeros};
+ghost use Rattle.cells.specs.Events.{limit, after, reply_of, event, CanReply, IsEvent};
+ghost use Rattle.cells.specs.Events.{AreCells, AreZeros};
 
 use crate::event::{CellNo, CellOp};
 use crate::fault::CellsFault;
@@ -64,7 +65,7 @@ impl PlainPass {
 
     // One operation on a cell.
     fn step(&mut self, cell: CellNo, op: CellOp) -> u64
-        ensures grew { IsEvent self.old (record { cell = cell.number; op = op; reply = result }) self.new }
+        ensures grew { IsEvent self.old (event cell.number op result) self.new }
         ensures fits { CanReply cell.number op result }
     {
         let at = cell.index();

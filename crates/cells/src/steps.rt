@@ -1,8 +1,8 @@
-//! What every keeper of the cells offers. A pass is one user's leave to act on them; how it grows by
-//! an event is for each keeper to say.
+//! What every keeper of the cells offers. A pass is one user's leave to act on them; how it grows
+//! by an event is for each keeper to say.
 
 ghost use Rattle.std.specs.Prelude.{ℕ};
-ghost use Rattle.cells.specs.Events.{CanReply};
+ghost use Rattle.cells.specs.Events.{event, CanReply};
 ghost use Rattle.cells.specs.Grown.{GrowsBySnoc, GrowsByAppend};
 
 use crate::event::{CellNo, CellOp};
@@ -23,7 +23,7 @@ pub trait CellSteps {
     fn act(&self, pass: &mut Self::Pass, cell: CellNo, op: CellOp) -> u64
         requires { belongs self.now pass.old }
         ensures belongs { belongs self.now pass.new }
-        ensures grew { grew pass.old (record { cell = cell.number; op = op; reply = result }) pass.new }
+        ensures grew { grew pass.old (event cell.number op result) pass.new }
         ensures fits { CanReply cell.number op result };
 }
 

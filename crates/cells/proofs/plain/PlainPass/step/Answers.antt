@@ -12,4 +12,6 @@ invariant_of-self c =
     let count = c.self.invariant.count in
     let is = get_or_read c.self.inside.values.items at old (omega arith) c.index-value.ensures 0 in
     AreCells-set c.self.inside.values.items at c.value_after.result within c.self.invariant
-    (subst (λ (x : ℕ). x < limit at) (sym c.value_after.ensures) (after_small (width at) old c.args.op (subst (λ (x : ℕ). x < limit at) (sym is) (c.self.invariant.fit at))))
+    (subst (λ (x : ℕ). x < limit at) (sym c.value_after.ensures)
+    (after_small (width at) old c.args.op
+    (subst (λ (x : ℕ). x < limit at) (sym is) (c.self.invariant.fit at))))

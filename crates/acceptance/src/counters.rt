@@ -1,0 +1,208 @@
+//! Counters: what the definitions give, worked out by hand, and that each call with ample memory
+//! succeeds. Each call that takes memory is asked again where it answered its own refusal of memory.
+
+ghost use Rattle.std.specs.Prelude.{None};
+ghost use Rattle.cells.specs.Directory.{declaration, IsDeclaration};
+
+use cells::{
+    ArrayName, ArrayNo, CellNo, CellOp, CellSteps, CellWidth, CellsFault, Directory, PlainCells,
+    PlainPass, Shape,
+};
+use std::alloc::Global;
+use std::test::Fail;
+
+const HALF: u64 = 4294967295;
+
+/// The answer of a call, or of a second one where memory was refused.
+fn again<T, F: FnMut() -> Result<T, CellsFault>>(mut call: F) -> Result<T, CellsFault>
+    requires { F.IsAlwaysCallable call }
+{
+    match call() {
+        Err(CellsFault::Memory) => call(),
+        answer => answer,
+    }
+}
+
+/// One operation on a cell, with the reply and the value after.
+#[derive(Clone, Copy)]
+struct Act {
+    cell: u16,
+    op: CellOp,
+    reply: u64,
+    value: u64,
+}
+
+/// The acts in turn, from cells that are 0.
+fn acts_in_turn(alloc: Global, acts: &[Act]) -> Result<Option<usize>, CellsFault> {
+    let (cells, mut pass): (PlainCells, PlainPass) = again(|| PlainCells::new(alloc))?;
+    for (place, act) in acts.iter().enumerate() {
+        if act.cell >= 8192 {
+            return Ok(Some(place));
+        }
+        let cell = CellNo::new(act.cell);
+        let reply = cells.act(&mut pass, cell, act.op);
+        if reply != act.reply || pass.value(cell) != act.value {
+            return Ok(Some(place));
+        }
+    }
+    Ok(None)
+}
+
+fn on(cell: u16, op: CellOp, reply: u64, value: u64) -> Act {
+    Act {
+        cell,
+        op,
+        reply,
+        value,
+    }
+}
+
+#[test]
+fn narrow_counters(rt: HostRuntime) -> Result<(), Fail> {
+    let acts = [
+        on(4096, CellOp::Add(HALF), 0, HALF),
+        on(4096, CellOp::Add(2), HALF, 1),
+        on(4096, CellOp::Load, 1, 1),
+        on(4096, CellOp::CompareExchange(1, 9), 1, 9),
+        on(4096, CellOp::Load, 9, 9),
+        on(4096, CellOp::CompareExchange(1, 3), 9, 9),
+        on(
+            4096,
+            CellOp::CompareExchange(0x100000009, 0x200000005),
+            9,
+            5,
+        ),
+        on(4096, CellOp::Store(0x1234567890abcdef), 0, 0x90abcdef),
+        on(4096, CellOp::Swap(0xf0000000f), 0x90abcdef, 15),
+        on(4096, CellOp::Or(0xff00000030), 15, 63),
+        on(4096, CellOp::And(0xff0000003c), 63, 60),
+        on(4096, CellOp::Xor(0xff000000ff), 60, 195),
+        on(8191, CellOp::Load, 0, 0),
+        on(4095, CellOp::Load, 0, 0),
+    ];
+    assert_eq!(rt; acts_in_turn(rt.alloc(), &acts)?, None);
+    Ok(())
+}
+
+#[test]
+fn wide_counters(rt: HostRuntime) -> Result<(), Fail> {
+    let acts = [
+        on(0, CellOp::Add(HALF), 0, HALF),
+        on(0, CellOp::Add(2), HALF, HALF + 2),
+        on(0, CellOp::Add(u64::MAX), HALF + 2, HALF + 1),
+        on(0, CellOp::Store(u64::MAX), 0, u64::MAX),
+        on(0, CellOp::Add(3), u64::MAX, 2),
+        on(0, CellOp::Or(0x100000001), 2, 0x100000003),
+        on(0, CellOp::And(0x100000002), 0x100000003, 0x100000002),
+        on(0, CellOp::Xor(0x300000003), 0x100000002, 0x200000001),
+        on(0, CellOp::Swap(7), 0x200000001, 7),
+        on(0, CellOp::CompareExchange(0x100000007, 1), 7, 7),
+        on(0, CellOp::CompareExchange(7, 0x100000000), 7, 0x100000000),
+        on(1, CellOp::Load, 0, 0),
+        on(4095, CellOp::Add(1), 0, 1),
+        on(4096, CellOp::Load, 0, 0),
+    ];
+    assert_eq!(rt; acts_in_turn(rt.alloc(), &acts)?, None);
+    Ok(())
+}
+
+/// What a declaration without a quota gives, asked again where memory was refused.
+fn declare(
+    directory: &mut Directory,
+    alloc: Global,
+    name: &str,
+    width: CellWidth,
+    length: u16,
+) -> Result<ArrayNo, CellsFault>
+    requires { IsDeclaration (declaration name.now width length None) }
+{
+    match directory.declare(alloc, name, width, length, None) {
+        Err(CellsFault::Memory) => directory.declare(alloc, name, width, length, None),
+        answer => answer,
+    }
+}
+
+#[test]
+fn declarations(rt: HostRuntime) -> Result<(), Fail> {
+    let alloc = rt.alloc();
+    let mut all = Directory::new(alloc);
+    let first = Ok(ArrayNo { number: 0 });
+    let second = Ok(ArrayNo { number: 1 });
+    assert_eq!(rt;
+        declare(&mut all, alloc, "a", CellWidth::Bits64, 4096),
+        first
+    );
+    let full = declare(&mut all, alloc, "b", CellWidth::Bits64, 1);
+    assert_eq!(rt; full, Err(CellsFault::CellsFull));
+    assert_eq!(rt;
+        declare(&mut all, alloc, "a", CellWidth::Bits64, 4096),
+        first
+    );
+    let other = declare(&mut all, alloc, "a", CellWidth::Bits32, 4096);
+    assert_eq!(rt; other, Err(CellsFault::Redefined));
+    assert_eq!(rt;
+        declare(&mut all, alloc, "c", CellWidth::Bits32, 4096),
+        second
+    );
+    assert_eq!(rt; all.arrays().len(), 2);
+    Ok(())
+}
+
+#[test]
+fn names(rt: HostRuntime) {
+    let rows = [
+        ("a", true),
+        ("_", true),
+        ("Quota_9", true),
+        ("", false),
+        ("9a", false),
+        ("a-b", false),
+        ("a b", false),
+        ("\u{e9}", false),
+        ("abcdefghijklmnopqrstuvwxyz012345", true),
+        ("abcdefghijklmnopqrstuvwxyz0123456", false),
+    ];
+    for (text, is_name) in rows {
+        assert_eq!(rt; ArrayName::is_name(text), is_name, "at {text:?}");
+    }
+}
+
+#[test]
+fn shapes(rt: HostRuntime) -> Result<(), Fail> {
+    let alloc = rt.alloc();
+    let mut all = Directory::new(alloc);
+    assert!(rt; declare(&mut all, alloc, "a", CellWidth::Bits64, 10).is_ok());
+    assert!(rt; declare(&mut all, alloc, "b", CellWidth::Bits32, 20).is_ok());
+    assert!(rt; declare(&mut all, alloc, "c", CellWidth::Bits64, 30).is_ok());
+    assert_eq!(rt; all.arrays().len(), 3);
+    let numbers = [
+        ArrayNo { number: 2 },
+        ArrayNo { number: 1 },
+        ArrayNo { number: 2 },
+    ];
+    let shape = again(|| Shape::of(alloc, 64, &all, &numbers))?;
+    let shape = again(|| shape.copy(alloc))?;
+    assert_eq!(rt; shape.releases(), 64);
+    let places = [("c", 10, 30), ("b", 4096, 20), ("c", 10, 30)];
+    assert_eq!(rt; shape.arrays().len(), 3);
+    for ((name, base, length), array) in places.iter().zip(shape.arrays()) {
+        assert_eq!(rt; array.name.as_str(), *name);
+        assert_eq!(rt; (array.base, array.length), (*base, *length));
+        assert_eq!(rt; array.quota, None);
+    }
+    assert!(rt; Shape::plain(alloc, 3).arrays().is_empty());
+    Ok(())
+}
+
+#[test]
+fn faults_are_printed(rt: HostRuntime) -> Result<(), Fail> {
+    let rows = [
+        (CellsFault::CellsFull, "N1 CellsFull"),
+        (CellsFault::Redefined, "N2 Redefined"),
+        (CellsFault::Memory, "N3 Memory"),
+    ];
+    for (fault, text) in rows {
+        assert_eq!(rt; format!(in rt.alloc(); "{fault}")?.as_str(), text);
+    }
+    Ok(())
+}
