@@ -41,12 +41,14 @@ impl App {
         App { appid, program }
     }
 
+    /// The text by which a client names the app.
     pub fn appid(&self) -> &str
         ensures { result.now ≡ self.now.appid }
     {
         self.appid.as_str()
     }
 
+    /// The program that its runs run, which any number of them share.
     pub fn program(&self) -> &Arc<Verified>
         ensures { arc_value result.now ≡ self.now.program }
     {

@@ -1,8 +1,7 @@
 //! The apps of a server, found by their appids.
 
-ghost use Rattle.std.specs.Prelude.{◌≡◌, ◌≢◌, ◌<◌, ◌↔◌, ℕ, List, [], length, IfOk, IfErr, IfSome, IfNone, All, Contains, IsTrue, map, slice_index_or, string_bytes};
-ghost use Rattle.std.specs.Arc.{arc_value};
-ghost use Rattle.ruleset.specs.Rules.{AlwaysEndsWell};
+ghost use Rattle.std.specs.Prelude.{◌≡◌, ◌≢◌, ◌↔◌, [], IfOk, IfErr, IfSome, IfNone, All, Contains};
+ghost use Rattle.ruleset.specs.Rules.{AlwaysEndsWell, rules_of};
 
 use crate::app::App;
 use crate::twice::has_twice;
@@ -43,14 +42,16 @@ impl Model for Ruleset {
 }
 
 impl Ruleset {
-    ghost use Rattle.bpf_verify.specs.Accepted.{Accepted};
-    ghost use Rattle.ruleset.specs.Rules.{HasTwice, Offers, AlwaysEndsWell, appids_of};
+    ghost use Rattle.bpf_semantics.specs.Program.{ShapedProgram};
+    ghost use Rattle.ruleset.specs.Rules.{HasTwice, Offers, OffersOne, OffersSafely};
+    ghost use Rattle.ruleset.specs.Rules.{appids_of, rules_of, texts_of};
 
-    /// The ruleset of these apps, for a server with no name. M3 exactly where an appid stands twice.
+    /// The ruleset of these apps, for a server with no name. M3 exactly where an appid stands
+    /// twice.
     pub fn of(alloc: Global, apps: Vec<(String, Arc<Verified>)>) -> Result<Ruleset, LoadFault>
-        ensures apps { IfOk result (λ r. r.apps ≡ map (λ a. record { appid = string_bytes a.0; program = arc_value a.1 }) apps.items) }
+        ensures apps { IfOk result (λ r. r.apps ≡ rules_of apps.items) }
         ensures server { IfOk result (λ r. r.server ≡ []) }
-        ensures duplicate { (result ≡ Err LoadFault.Duplicate) ↔ HasTwice (map (λ a. string_bytes a.0) apps.items) }
+        ensures duplicate { (result ≡ Err LoadFault.Duplicate) ↔ HasTwice (texts_of apps.items) }
     {
         if has_twice(apps.as_slice()) {
             return Err(LoadFault::Duplicate);
@@ -65,8 +66,10 @@ impl Ruleset {
     /// What the type keeps. It does nothing: a proof calls it for its clauses.
     pub fn keeps(&self)
         ensures once { ¬ HasTwice (appids_of self.now.apps) }
+        // So an appid has one program.
+        ensures one { OffersOne self.now }
         // A run of any of its programs ends, with 0 or a release of the app.
-        ensures ends { (appid : List ℕ) (program : Accepted) → Offers self.now appid program → AlwaysEndsWell program }
+        ensures ends { OffersSafely self.now }
     {
         let _apps = &self.apps;
     }
@@ -89,7 +92,7 @@ impl Ruleset {
     pub fn find(&self, appid: &str) -> Option<&App>
         ensures appid { IfSome result (λ a. a.now.appid ≡ appid.now) }
         ensures offers { IfSome result (λ a. Offers self.now appid.now a.now.program) }
-        ensures none { IfNone result ((program : Accepted) → ¬ Offers self.now appid.now program) }
+        ensures none { IfNone result ((program : ShapedProgram) → ¬ Offers self.now appid.now program) }
     {
         find_app(self.apps(), appid)
     }
@@ -106,7 +109,7 @@ fn find_app<'a>(apps: &'a [App], appid: &str) -> Option<&'a App>
 
 // The apps, each with its program.
 fn keep(alloc: Global, apps: Vec<(String, Arc<Verified>)>) -> Result<Vec<App>, LoadFault>
-    ensures apps { IfOk result (λ kept. kept.items ≡ map (λ a. record { appid = string_bytes a.0; program = arc_value a.1 }) apps.items) }
+    ensures apps { IfOk result (λ kept. kept.items ≡ rules_of apps.items) }
     ensures ends { IfOk result (λ kept. All (λ app. AlwaysEndsWell app.program) kept.items) }
     ensures memory { IfErr result (λ e. e ≡ LoadFault.Memory) }
 {

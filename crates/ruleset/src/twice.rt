@@ -1,14 +1,14 @@
 // Whether an appid stands twice in a list of apps: each place is compared with those before it.
 
-ghost use Rattle.std.specs.Prelude.{◌≡◌, ◌<◌, ◌↔◌, ℕ, [], length, IsTrue, map, slice_index_or, string_bytes};
-ghost use Rattle.ruleset.specs.Rules.{HasTwice};
+ghost use Rattle.std.specs.Prelude.{◌≡◌, ◌<◌, ◌↔◌, [], length, IsTrue, slice_index_or};
+ghost use Rattle.ruleset.specs.Rules.{HasTwice, StandsBefore, texts_of};
 
 use bpf_verify::Verified;
 use std::sync::Arc;
 
 /// Whether an appid stands twice.
 pub fn has_twice(apps: &[(String, Arc<Verified>)]) -> bool
-    ensures { IsTrue result ↔ HasTwice (map (λ a. string_bytes a.0) apps.now) }
+    ensures { IsTrue result ↔ HasTwice (texts_of apps.now) }
 {
     for i in 0..apps.len() {
         if stands_before(apps, i) {
@@ -21,7 +21,7 @@ pub fn has_twice(apps: &[(String, Arc<Verified>)]) -> bool
 /// Whether the appid of this place stands at one before it.
 fn stands_before(apps: &[(String, Arc<Verified>)], place: usize) -> bool
     requires { place < length apps.now }
-    ensures { IsTrue result ↔ ((k : ℕ) × (k < place) × (slice_index_or (map (λ a. string_bytes a.0) apps.now) k [] ≡ slice_index_or (map (λ a. string_bytes a.0) apps.now) place [])) }
+    ensures { IsTrue result ↔ StandsBefore (texts_of apps.now) place }
 {
     for k in 0..place {
         if appid_at(apps, k) == appid_at(apps, place) {
@@ -34,7 +34,7 @@ fn stands_before(apps: &[(String, Arc<Verified>)], place: usize) -> bool
 #[tactic(auto, using(crate::proofs::Listed::map_at))]
 fn appid_at(apps: &[(String, Arc<Verified>)], place: usize) -> &str
     requires { place < length apps.now }
-    ensures { result.now ≡ slice_index_or (map (λ a. string_bytes a.0) apps.now) place [] }
+    ensures { result.now ≡ slice_index_or (texts_of apps.now) place [] }
 {
     apps[place].0.as_str()
 }

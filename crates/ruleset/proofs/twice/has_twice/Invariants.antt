@@ -1,7 +1,9 @@
-use Rattle.std.proofs.Common.{◌≡◌, ◌<◌, ℕ, [], map}
-use Rattle.std.specs.Prelude.{slice_index_or, string_bytes}
+use Rattle.std.proofs.Common.{◌≡◌, ◌<◌, ℕ, []}
+use Rattle.std.specs.Prelude.{slice_index_or}
+use Rattle.ruleset.specs.Rules.{texts_of}
 use Rattle.ruleset.proofs.twice.has_twice.Given as goal
 
 -- none of the places so far has the appid of one before it
 abbrev pub invariant-loop-i : goal.invariant-loop-i
-invariant-loop-i l = (k i : ℕ) → k < i → i < l.i → slice_index_or (map (λ a. string_bytes a.0) l.apps) k [] ≡ slice_index_or (map (λ a. string_bytes a.0) l.apps) i [] → ⊥
+invariant-loop-i l = (k i : ℕ) → k < i → i < l.i
+    → slice_index_or (texts_of l.apps) k [] ≡ slice_index_or (texts_of l.apps) i [] → ⊥
