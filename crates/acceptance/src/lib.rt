@@ -6,6 +6,8 @@
 #[cfg(test)]
 mod attributes;
 #[cfg(test)]
+mod attrs_of;
+#[cfg(test)]
 mod counters;
 #[cfg(test)]
 mod encoding;

@@ -1,14 +1,28 @@
 -- Which bucket an app is in: the one that its cohort names, or else a hash of who asks.
-use Rattle.std.specs.Prelude.{ℕ, ◌%◌, List, [], ◌∷◌, length, drop, codes, nat_eq, ◌&&◌, ◌==◌, Option, Some, None, option_and_then, unwrap_or, if◌then◌else◌}
+use Rattle.std.specs.Prelude.{ℕ, ◌+◌, ◌/◌, ◌%◌, List, [], ◌∷◌, length, drop, codes, nat_eq, Bool, ◌&&◌, ◌==◌, Option, Some, None, option_and_then, unwrap_or, if◌then◌else◌}
 use Rattle.std.specs.List.{starts_with}
+use Rattle.std.specs.Str.{byte}
 use Rattle.attrs.specs.declared.facts.AppFacts.{AppFacts}
 use Rattle.attrs.specs.declared.facts.RequestFacts.{RequestFacts}
 use Rattle.attrs.specs.Hash.{fnv1a}
 use Rattle.attrs.specs.Version.{decimal_number}
 
+abbrev pub last_digit : ℕ → ℕ
+last_digit n = byte "0" + n % 10
+
+-- a bucket as four ASCII digits
+abbrev pub four_digits : ℕ → List ℕ
+four_digits n =
+    last_digit (n / 1000) ∷ last_digit (n / 100) ∷ last_digit (n / 10) ∷ last_digit n ∷ []
+
+-- `b:` and four more bytes
+abbrev pub is_bucket_cohort : List ℕ → Bool
+is_bucket_cohort cohort = starts_with nat_eq cohort (codes "b:") && length cohort == 6
+
 -- a cohort of `b:` and exactly four ASCII digits names a bucket
 abbrev pub cohort_bucket : List ℕ → Option ℕ
-cohort_bucket cohort = if starts_with nat_eq cohort (codes "b:") && length cohort == 6 then decimal_number (drop 2 cohort) else None
+cohort_bucket cohort =
+    if is_bucket_cohort cohort then decimal_number (drop 2 cohort) else None
 
 abbrev pub named_bucket : AppFacts → Option ℕ
 named_bucket app = option_and_then cohort_bucket app.cohort

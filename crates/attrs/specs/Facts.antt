@@ -41,10 +41,11 @@ context_of app request moment = record {
   seconds = elapsed_seconds moment;
 }
 
--- the texts in their order; of those given here, one that is absent or too long is empty
+-- the texts in their order
 abbrev pub texts_of : AppFacts → RequestFacts → List (List ℕ)
 texts_of app request = map kept_text (
-    Some app.appid ∷ app.version ∷ app.brand ∷ app.ap ∷ app.lang ∷ app.cohort ∷ request.platform ∷ [])
+    Some app.appid ∷ app.version ∷ app.brand ∷ app.ap ∷ app.lang ∷ app.cohort
+    ∷ request.platform ∷ [])
 
 abbrev pub attributes_of : AppFacts → RequestFacts → ℤ → Attributes
 attributes_of app request moment = record {

@@ -1,8 +1,8 @@
 -- What a program's helpers answer of an app: functions of its attributes alone.
-use Rattle.std.specs.Prelude.{ℕ, ◌+◌, ◌/◌, ◌%◌, List, [], ◌∷◌, ◌++◌, length, Option, Some, None, slice_get, bytes_eq, if◌then◌else◌}
+use Rattle.std.specs.Prelude.{ℕ, ◌%◌, List, ◌++◌, length, Option, Some, None, slice_get, bytes_eq, if◌then◌else◌}
 use Rattle.std.specs.Int.{w64, to_le_bytes}
-use Rattle.std.specs.Str.{byte}
 use Rattle.attrs.specs.Attributes.{Attributes}
+use Rattle.attrs.specs.Bucket.{four_digits}
 use Rattle.attrs.specs.Hash.{fnv1a}
 
 -- an attribute's text by its number, which may be unknown
@@ -25,13 +25,6 @@ text_length None = 0
 abbrev pub attr_len : Attributes → (number : ℕ) → ℕ
 attr_len a number = text_length (attribute a number)
 
-abbrev pub last_digit : ℕ → ℕ
-last_digit n = byte "0" + n % 10
-
--- a number below 10000 as four ASCII digits
-abbrev pub four_digits : ℕ → List ℕ
-four_digits n = last_digit (n / 1000) ∷ last_digit (n / 100) ∷ last_digit (n / 10) ∷ last_digit n ∷ []
-
--- a bucket of the salt's own: the hash of the app's bucket, as four digits, and the salt's bytes
+-- a bucket of the salt's own: a hash of the app's bucket, as four digits, and the salt's bytes
 abbrev pub bucket_of : Attributes → (salt : ℕ) → ℕ
 bucket_of a salt = fnv1a (four_digits a.context.bucket ++ to_le_bytes w64 salt) % 10000

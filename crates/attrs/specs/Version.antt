@@ -1,5 +1,5 @@
--- What a version text means: one to four decimal numbers from 0 to 4294967295, joined by single dots.
--- Leading zeros are allowed, and missing numbers are 0.
+-- What a version text means: one to four decimal numbers from 0 to 4294967295, joined by single
+-- dots. Leading zeros are allowed, and missing numbers are 0.
 use Rattle.std.specs.Prelude.{ℕ, ◌-◌, ◌^◌, List, ◌++◌, length, map, replicate, Bool, ◌&&◌, nat_lt, nat_le, ◌==◌, Option, Some, None, if◌then◌else◌}
 use Rattle.std.specs.List.{slice_split, list_all}
 use Rattle.std.specs.Str.{all_ascii_digits, byte}
@@ -7,7 +7,8 @@ use Rattle.std.specs.Str.Parse.{digits_value}
 
 -- one ASCII digit or more, which write a number of 32 bits
 abbrev pub is_number : List ℕ → Bool
-is_number part = all_ascii_digits part && nat_lt 0 (length part) && nat_lt (digits_value 10 part) (2 ^ 32)
+is_number part =
+    all_ascii_digits part && nat_lt 0 (length part) && nat_lt (digits_value 10 part) (2 ^ 32)
 
 abbrev pub decimal_number : List ℕ → Option ℕ
 decimal_number part = if is_number part then Some (digits_value 10 part) else None

@@ -44,9 +44,17 @@ impl Model for Attrs {
 
     ghost Value = { Attributes };
 
-    ghost view = { λ a. record { context = a.context; texts = string_bytes a.appid ∷ string_bytes a.version ∷ string_bytes a.brand ∷ string_bytes a.ap ∷ string_bytes a.lang ∷ string_bytes a.cohort ∷ string_bytes a.platform ∷ [] } };
+    ghost view = { λ a. record {
+      context = a.context;
+      texts = string_bytes a.appid ∷ string_bytes a.version ∷ string_bytes a.brand
+          ∷ string_bytes a.ap ∷ string_bytes a.lang ∷ string_bytes a.cohort
+          ∷ string_bytes a.platform ∷ [];
+    } };
 
-    ghost invariant = { λ a. AreShort (string_bytes a.appid ∷ string_bytes a.version ∷ string_bytes a.brand ∷ string_bytes a.ap ∷ string_bytes a.lang ∷ string_bytes a.cohort ∷ string_bytes a.platform ∷ []) };
+    ghost invariant = { λ a. AreShort (
+        string_bytes a.appid ∷ string_bytes a.version ∷ string_bytes a.brand
+        ∷ string_bytes a.ap ∷ string_bytes a.lang ∷ string_bytes a.cohort
+        ∷ string_bytes a.platform ∷ []) };
 }
 
 impl Attrs {

@@ -1,7 +1,7 @@
 // Which of 10000 buckets an app is in: the one that its cohort names, or else a hash of the
 // request's id or its session's, so that all apps of one request are in one bucket.
 
-ghost use Rattle.std.specs.Prelude.{◌≡◌, ◌<◌, IfSome, unwrap_or};
+ghost use Rattle.std.specs.Prelude.{◌≡◌, ℕ, ◌<◌, ◌++◌, codes, IfSome, unwrap_or};
 ghost use Rattle.attrs.specs.Bucket as specs;
 
 use crate::facts::{AppFacts, RequestFacts};
@@ -14,6 +14,31 @@ pub(crate) const BUCKETS: u64 = 10000;
 
 /// How long a cohort is that names a bucket.
 const COHORT_LENGTH: usize = 6;
+
+/// A bucket as four ASCII digits, as a cohort has them behind its `b:`.
+pub fn four_digits(bucket: u16) -> [u8; 4]
+    ensures { result ≡ specs.four_digits bucket }
+{
+    [
+        last_digit(bucket / 1000),
+        last_digit(bucket / 100),
+        last_digit(bucket / 10),
+        last_digit(bucket),
+    ]
+}
+
+// The last digit of a number, in ASCII.
+fn last_digit(number: u16) -> u8
+    ensures { result ≡ specs.last_digit number }
+{
+    b'0' + (number % 10) as u8
+}
+
+/// An app that sends back the cohort that it was told, `b:` and its bucket's digits, stays in that
+/// bucket.
+pub fn cohort_keeps_bucket()
+    ensures { (n : ℕ) → n < 10000 → specs.cohort_bucket (codes "b:" ++ specs.four_digits n) ≡ Some n }
+{}
 
 /// The bucket of an app, from 0 to 9999.
 pub fn app_bucket(app: &AppFacts, request: &RequestFacts) -> u16

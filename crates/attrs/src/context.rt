@@ -28,9 +28,23 @@ impl Model for Context {
 
     ghost Value = { specs.Context };
 
-    ghost view = { λ c. record { version = c.version; bucket = c.bucket; flags = c.flags; install_day = c.install_day; today = c.today; seconds = c.seconds } };
+    ghost view = { λ c. record {
+      version = c.version;
+      bucket = c.bucket;
+      flags = c.flags;
+      install_day = c.install_day;
+      today = c.today;
+      seconds = c.seconds;
+    } };
 
-    ghost inverse = { λ c. record { version = c.version; bucket = c.bucket; flags = c.flags; install_day = c.install_day; today = c.today; seconds = c.seconds } };
+    ghost inverse = { λ c. record {
+      version = c.version;
+      bucket = c.bucket;
+      flags = c.flags;
+      install_day = c.install_day;
+      today = c.today;
+      seconds = c.seconds;
+    } };
 
     ghost invariant = { λ c. (c.bucket < 10000) × (c.flags < 64) × (c.seconds < 86400) };
 }
@@ -56,8 +70,12 @@ impl Context {
 
     /// Each flag has the number that the layout gives it, and so has the unknown day.
     pub fn flag_numbers()
-        ensures known { (Self.VERSION_KNOWN ≡ version_known) × (Self.COHORT_KNOWN ≡ cohort_known) × (Self.INSTALLDATE_KNOWN ≡ installdate_known) }
-        ensures asked { (Self.UPDATECHECK ≡ updatecheck) × (Self.PING ≡ ping) × (Self.EVENT ≡ event) }
+        ensures version { Self.VERSION_KNOWN ≡ version_known }
+        ensures updatecheck { Self.UPDATECHECK ≡ updatecheck }
+        ensures ping { Self.PING ≡ ping }
+        ensures event { Self.EVENT ≡ event }
+        ensures cohort { Self.COHORT_KNOWN ≡ cohort_known }
+        ensures installdate { Self.INSTALLDATE_KNOWN ≡ installdate_known }
         ensures day { Self.UNKNOWN_DAY ≡ unknown_day }
     {}
 

@@ -1,11 +1,11 @@
 // What a program may ask of its app by CALL: whether an attribute has some bytes, its length, and a
 // bucket by a salt of the program's own. Each answers for any arguments, and takes no memory.
 
-ghost use Rattle.std.specs.Prelude.{◌≡◌, ◌+◌, ◌%◌, ◌/◌, ◌<◌, length};
-ghost use Rattle.attrs.specs.Helpers.{attr_is, attr_len, last_digit, four_digits, bucket_of};
+ghost use Rattle.std.specs.Prelude.{◌≡◌};
+ghost use Rattle.attrs.specs.Helpers.{attr_is, attr_len, bucket_of};
 
 use crate::attributes::Attrs;
-use crate::bucket::BUCKETS;
+use crate::bucket::{BUCKETS, four_digits};
 use crate::hash::fnv1a;
 
 /// CALL 2: 1 where attribute `number` has exactly these bytes, else 0. No attribute has a number
@@ -35,26 +35,7 @@ pub fn helper_bucket(attrs: &Attrs, salt: u64) -> u64
     ensures { result ≡ bucket_of attrs.now salt }
 {
     let mut bytes = [0; 12];
-    bytes[..4].copy_from_slice(&digits(attrs.context().bucket));
+    bytes[..4].copy_from_slice(&four_digits(attrs.context().bucket));
     bytes[4..].copy_from_slice(&salt.to_le_bytes());
     fnv1a(&bytes) % BUCKETS
-}
-
-// A number below 10000 as four ASCII digits.
-fn digits(number: u16) -> [u8; 4]
-    ensures { result ≡ four_digits number }
-{
-    [
-        last_digit(number / 1000),
-        last_digit(number / 100),
-        last_digit(number / 10),
-        last_digit(number),
-    ]
-}
-
-// The last digit of a number, in ASCII.
-fn last_digit(number: u16) -> u8
-    ensures { result ≡ last_digit number }
-{
-    b'0' + (number % 10) as u8
 }
