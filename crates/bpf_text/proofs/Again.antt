@@ -1,5 +1,5 @@
--- A listing's line is read as the instruction that it was written of.
-use Rattle.std.proofs.Common.{◌≡◌, ℕ, suc, ◌<◌, ◌^◌, ℤ, pos, negsuc, FitsSigned, w16, w32, List, [], ◌∷◌, ◌++◌, Option, Some, None, Ok, true, nat_lt, nat_le, if◌then◌else◌, option_map, refl, ap, ◌∙◌, arith}
+-- The arguments of a listing's line are read again as they were written.
+use Rattle.std.proofs.Common.{◌≡◌, ℕ, suc, ◌<◌, ◌^◌, ℤ, pos, negsuc, FitsSigned, w16, w32, [], ◌∷◌, ◌++◌, Option, Some, None, Result, Ok, true, nat_lt, nat_le, if◌then◌else◌, option_map, refl, ap, ◌∙◌, arith}
 use Rattle.std.proofs.lemmas.Int.{to_z_pos}
 use Rattle.std.specs.Int.{cast_signed}
 use Rattle.bpf_insn.specs.declared.operand.Operand as operands
@@ -10,20 +10,27 @@ use Rattle.bpf_insn.specs.declared.insn.Insn.{Insn}
 use Rattle.bpf_insn.specs.declared.insn.Insn.TheVariants as insn
 use Rattle.bpf_insn.specs.Program.{◌>>=◌}
 use Rattle.bpf_insn.specs.Spelling.{IsEncodable, imm_field}
-use Rattle.bpf_text.specs.declared.operand.Choice as choices
-use Rattle.bpf_text.specs.declared.operand.Choice.TheVariants as choice
-use Rattle.bpf_text.specs.declared.argument.Argument.{Argument}
+use Rattle.bpf_text.specs.declared.argument.Argument as arguments
 use Rattle.bpf_text.specs.declared.argument.Argument.TheVariants as argument
-use Rattle.bpf_text.specs.declared.argument.Arguments.{Arguments}
-use Rattle.bpf_text.specs.Arguments.{mnemonic_of, arguments_of, operand_argument, none, one, two, three}
+use Rattle.bpf_text.specs.declared.fault.AsmFaultKind.{AsmFaultKind}
+use Rattle.bpf_text.specs.declared.item.Item.{Item}
+use Rattle.bpf_text.specs.declared.operand.Given.{Given}
+use Rattle.bpf_text.specs.declared.operand.Given.TheVariants.{Argument}
+use Rattle.bpf_text.specs.declared.signature.Kind.{Kind}
+use Rattle.bpf_text.specs.declared.signature.Kind.TheVariants as kind
+use Rattle.bpf_text.specs.declared.three.UpToThree.{UpToThree}
+use Rattle.bpf_text.specs.declared.token.Token.TheVariants.{Comma}
+use Rattle.bpf_text.specs.Arguments.{mnemonic_of, arguments_of, operand_argument}
+use Rattle.bpf_text.specs.Items.{Items, Tokens, item_at_front, item_after_comma, items_of, if_at_end}
+use Rattle.bpf_text.specs.Operands.{item_as, item_if, items_as, arguments_from}
 use Rattle.bpf_text.specs.Ranges.{imm_of, short_of, long_of}
-use Rattle.bpf_text.specs.Tokens.{Token, Comma}
-use Rattle.bpf_text.specs.Items.{Item, Items, item_at_front, item_after_comma, items_of, if_at_end}
-use Rattle.bpf_text.specs.Items as item
-use Rattle.bpf_text.specs.Drafts.{Draft, draft_of, needs, register_in, value_in, value_from, choice_in, way_in, way_from, operand_of, Way}
-use Rattle.bpf_text.specs.Drafts as drafts
+use Rattle.bpf_text.specs.Results.{map_ok}
+use Rattle.bpf_text.specs.Signatures.{kinds_of}
+use Rattle.bpf_text.specs.Tables.{tables}
+use Rattle.bpf_text.specs.Three.{none, one, two, three, map_three}
+use Rattle.bpf_text.specs.Tokens.{Name}
 use Rattle.bpf_text.proofs.Named.{register_is_named}
-use Rattle.bpf_text.proofs.Arguments.{imm_figure, signed_figure, tokens_of_argument, item_of_argument, item_again}
+use Rattle.bpf_text.proofs.Arguments.{IsShort, HasShort, imm_figure, signed_figure, tokens_of_argument, item_of_argument, item_again}
 
 -- ---- numbers in their fields
 
@@ -54,84 +61,173 @@ long_again : (k : ℤ) → FitsSigned w32 k → long_of (signed_figure k) ≡ So
 long_again (pos n) h = plus_number 31 n h.sfits
 long_again (negsuc n) h = minus_number 31 n h.sfits
 
--- ---- operands of their kinds
+-- ---- arguments of the kinds that their instruction wants
 
-value_again : (k : ℤ) → value_in (Some (item.Number (imm_figure k))) ≡ Some (imm_figure k)
-value_again (pos n) = refl
-value_again (negsuc n) = refl
+-- an argument of this kind, whose numbers fit their fields
+abbrev pub Fits : Kind → arguments.Argument → Type 0
+Fits kind.Register (argument.Register r) = Unit {0}
+Fits kind.Source (argument.Register r) = Unit {0}
+Fits kind.Source (argument.Imm k) = FitsSigned w32 k
+Fits kind.Imm (argument.Imm k) = FitsSigned w32 k
+Fits kind.Number (argument.Number n) = n < 2 ^ 64
+Fits kind.Memory (argument.Memory r k) = FitsSigned w16 k
+Fits kind.ShortWay (argument.Distance (Short k)) = FitsSigned w16 k
+Fits kind.LongWay (argument.Distance (Long k)) = FitsSigned w32 k
+Fits k a = ⊥
 
-way_again : (k : ℤ) → way_in (Some (item.Number (signed_figure k))) ≡ Some (drafts.Distance (signed_figure k))
-way_again (pos n) = refl
-way_again (negsuc n) = refl
+abbrev pub FitsIf : Option Kind → Option arguments.Argument → Type 0
+FitsIf None None = Unit {0}
+FitsIf (Some k) (Some a) = Fits k a
+FitsIf k a = ⊥
 
-choice_of : operands.Operand → choices.Choice
-choice_of (operand.Imm k) = choice.Value (imm_figure k)
-choice_of (operand.Register r) = choice.Register r
+pub record AllFit (k : UpToThree Kind) (a : UpToThree arguments.Argument) : Type 0 where
+  pub first : FitsIf k.first a.first
+  pub second : FitsIf k.second a.second
+  pub third : FitsIf k.third a.third
 
-choice_again : (o : operands.Operand) → choice_in (Some (item_of_argument (operand_argument o))) ≡ Some (choice_of o)
-unfolding choice_of
-choice_again (operand.Imm (pos n)) = refl
-choice_again (operand.Imm (negsuc n)) = refl
-choice_again (operand.Register r) = let e = (register_is_named r).found in simp e refl
+operand_fits : (o : operands.Operand) → FitsSigned w32 (imm_field o) → Fits kind.Source (operand_argument o)
+operand_fits (operand.Imm k) h = h
+operand_fits (operand.Register r) h = tt
 
-operand_again : (o : operands.Operand) → FitsSigned w32 (imm_field o) → operand_of (choice_of o) ≡ Ok o
-unfolding choice_of
-operand_again (operand.Imm k) h = let e = imm_again k h in simp e refl
-operand_again (operand.Register r) h = refl
+pub all_fit : (i : Insn) → IsEncodable i → AllFit (kinds_of (mnemonic_of i)) (arguments_of i)
+all_fit (insn.Alu bits op dst s) p = record { first = tt; second = operand_fits s p.first.imm; third = tt }
+all_fit (insn.Mov bits dst s) p = record { first = tt; second = operand_fits s p.first.imm; third = tt }
+all_fit (insn.Jump (Short k)) p = record { first = p.first.offset; second = tt; third = tt }
+all_fit (insn.Jump (Long k)) p = record { first = p.first.imm; second = tt; third = tt }
+all_fit (insn.JumpIf bits condition left right k) p =
+    record { first = tt; second = operand_fits right p.first.imm; third = p.first.offset }
+all_fit (insn.Call helper) p = record { first = p.first.imm; second = tt; third = tt }
+all_fit (insn.Load kind dst s k) p = record { first = tt; second = p.first.offset; third = tt }
+all_fit (insn.StoreImm size dst k value) p = record { first = p.first.offset; second = p.first.imm; third = tt }
+all_fit (insn.Store size dst s k) p = record { first = p.first.offset; second = tt; third = tt }
+all_fit (insn.Atomic op size dst s k) p = record { first = p.first.offset; second = tt; third = tt }
+all_fit (insn.Wide dst (wide.Number n)) p = record { first = tt; second = p.number; third = tt }
+all_fit (insn.Wide dst (wide.Map i)) p = record { first = tt; second = p.first.imm; third = tt }
+all_fit (insn.Wide dst (wide.Cell i k)) p = record { first = tt; second = p.first.imm; third = p.second.imm }
+all_fit i p = record { first = tt; second = tt; third = tt }
+
+-- ---- their numbers are short
+
+short_31 : (k : ℤ) → FitsSigned w32 k → IsShort k
+short_31 (pos n) h = let e : n < 2 ^ 31 = h.sfits in omega (arith, e)
+short_31 (negsuc n) h = let e : n < 2 ^ 31 = h.sfits in omega (arith, e)
+
+short_15 : (k : ℤ) → FitsSigned w16 k → IsShort k
+short_15 (pos n) h = let e : n < 2 ^ 15 = h.sfits in omega (arith, e)
+short_15 (negsuc n) h = let e : n < 2 ^ 15 = h.sfits in omega (arith, e)
+
+is_short : (k : Kind) (a : arguments.Argument) → Fits k a → HasShort a
+is_short kind.Register (argument.Register r) h = tt
+is_short kind.Source (argument.Register r) h = tt
+is_short kind.Source (argument.Imm k) h = short_31 k h
+is_short kind.Imm (argument.Imm k) h = short_31 k h
+is_short kind.Number (argument.Number n) h = h
+is_short kind.Memory (argument.Memory r k) h = short_15 k h
+is_short kind.ShortWay (argument.Distance (Short k)) h = short_15 k h
+is_short kind.LongWay (argument.Distance (Long k)) h = short_31 k h
+is_short k a h = absurd h
+
+abbrev pub HasShortOption : Option arguments.Argument → Type 0
+HasShortOption None = Unit {0}
+HasShortOption (Some a) = HasShort a
+
+pub is_short_if : (k : Option Kind) (a : Option arguments.Argument) → FitsIf k a → HasShortOption a
+is_short_if None None h = tt
+is_short_if (Some k) (Some a) h = is_short k a h
+is_short_if k a h = absurd h
+
+-- ---- they are read again
+
+imm_read : (k : ℤ) → FitsSigned w32 k → item_as tables kind.Imm (item_of_argument (argument.Imm k)) ≡ Ok (Argument (argument.Imm k))
+imm_read (pos n) h = let e = imm_again (pos n) h in simp e refl
+imm_read (negsuc n) h = let e = imm_again (negsuc n) h in simp e refl
+
+memory_read : (r : _) (k : ℤ) → FitsSigned w16 k → item_as tables kind.Memory (item_of_argument (argument.Memory r k)) ≡ Ok (Argument (argument.Memory r k))
+memory_read r (pos n) h = let d = (register_is_named r).found in let e = short_again (pos n) h in simp (d, e) refl
+memory_read r (negsuc n) h = let d = (register_is_named r).found in let e = short_again (negsuc n) h in simp (d, e) refl
+
+short_read : (k : ℤ) → FitsSigned w16 k → item_as tables kind.ShortWay (item_of_argument (argument.Distance (Short k))) ≡ Ok (Argument (argument.Distance (Short k)))
+short_read (pos n) h = let e = short_again (pos n) h in simp e refl
+short_read (negsuc n) h = let e = short_again (negsuc n) h in simp e refl
+
+long_read : (k : ℤ) → FitsSigned w32 k → item_as tables kind.LongWay (item_of_argument (argument.Distance (Long k))) ≡ Ok (Argument (argument.Distance (Long k)))
+long_read (pos n) h = let e = long_again (pos n) h in simp e refl
+long_read (negsuc n) h = let e = long_again (negsuc n) h in simp e refl
+
+argument_again : (k : Kind) (a : arguments.Argument) → Fits k a → item_as tables k (item_of_argument a) ≡ Ok (Argument a)
+argument_again kind.Register (argument.Register r) h = let d = (register_is_named r).found in simp d refl
+argument_again kind.Source (argument.Register r) h = let d = (register_is_named r).found in simp d refl
+argument_again kind.Source (argument.Imm k) h = imm_read k h
+argument_again kind.Imm (argument.Imm k) h = imm_read k h
+argument_again kind.Number (argument.Number n) h = refl
+argument_again kind.Memory (argument.Memory r k) h = memory_read r k h
+argument_again kind.ShortWay (argument.Distance (Short k)) h = short_read k h
+argument_again kind.LongWay (argument.Distance (Long k)) h = long_read k h
+argument_again k a h = absurd h
+
+again_if : (k : Option Kind) (a : Option arguments.Argument) → FitsIf k a → item_if tables k (option_map item_of_argument a) ≡ Ok (option_map Argument a)
+again_if None None h = refl
+again_if (Some k) (Some a) h = ap (map_ok Some) (argument_again k a h)
+again_if k a h = absurd h
+
+pub arguments_again : (k : UpToThree Kind) (a : UpToThree arguments.Argument) → AllFit k a → items_as tables k (map_three item_of_argument a) ≡ Ok (map_three Argument a)
+arguments_again k a h =
+    let x = item_if tables k.first (option_map item_of_argument a.first) in
+    let y = item_if tables k.second (option_map item_of_argument a.second) in
+    let z = item_if tables k.third (option_map item_of_argument a.third) in
+    let b = option_map Argument a.first in
+    let c = option_map Argument a.second in
+    ap (λ (r : Result _ AsmFaultKind). arguments_from r y z) (again_if k.first a.first h.first)
+    ∙ ap (λ (r : Result _ AsmFaultKind). arguments_from (Ok b) r z) (again_if k.second a.second h.second)
+    ∙ ap (λ (r : Result _ AsmFaultKind). arguments_from (Ok b) (Ok c) r) (again_if k.third a.third h.third)
 
 -- ---- the operands of all arguments
 
-abbrev pub items_of_arguments : Arguments → Items
-items_of_arguments a = record { first = option_map item_of_argument a.first; second = option_map item_of_argument a.second; third = option_map item_of_argument a.third }
-
-abbrev pub behind : Option Argument → List Token → List Token
+abbrev pub behind : Option arguments.Argument → Tokens → Tokens
 behind None ts = ts
 behind (Some a) ts = Comma ∷ (tokens_of_argument a ++ ts)
 
-abbrev pub at_front : Option Argument → List Token → List Token
+abbrev pub at_front : Option arguments.Argument → Tokens → Tokens
 at_front None ts = ts
 at_front (Some a) ts = tokens_of_argument a ++ ts
 
-abbrev pub tokens_of_arguments : Arguments → List Token
+abbrev pub tokens_of_arguments : UpToThree arguments.Argument → Tokens
 tokens_of_arguments a = at_front a.first (behind a.second (behind a.third []))
 
-after_comma_again : (a : Argument) (rest : List Token) → item_after_comma (Comma ∷ (tokens_of_argument a ++ rest)) ≡ Some (Some (item_of_argument a), rest)
-after_comma_again a rest = let e = item_again a rest in ap (λ (o : Option (Item × List Token)). o >>= λ p. Some (Some p.0, p.1)) e
+after_comma_again : (a : arguments.Argument) (rest : Tokens) → item_after_comma (Comma ∷ (tokens_of_argument a ++ rest)) ≡ Some (Some (item_of_argument a), rest)
+after_comma_again a rest = let e = item_again a rest in ap (λ (o : Option (Item Name × Tokens)). o >>= λ p. Some (Some p.0, p.1)) e
 
-abbrev rest_of_items : Option (Item × List Token) → Option Items
+abbrev rest_of_items : Option (Item Name × Tokens) → Option Items
 rest_of_items o =
     o >>= λ a.
     item_after_comma a.1 >>= λ b.
     item_after_comma b.1 >>= λ c.
     if_at_end (record { first = Some a.0; second = b.0; third = c.0 }) c.1
 
-items_start : (a : Argument) (rest : List Token) → items_of (tokens_of_argument a ++ rest) ≡ rest_of_items (item_at_front (tokens_of_argument a ++ rest))
+items_start : (a : arguments.Argument) (rest : Tokens) → items_of (tokens_of_argument a ++ rest) ≡ rest_of_items (item_at_front (tokens_of_argument a ++ rest))
 items_start (argument.Register r) rest = refl
-items_start (argument.Imm k) rest = refl
-items_start (argument.Number n) rest = refl
-items_start (argument.Memory r k) rest = refl
-items_start (argument.Distance k) rest = refl
+items_start a rest = refl
 
-items_with : (a : Argument) (rest : List Token) → items_of (tokens_of_argument a ++ rest) ≡ rest_of_items (Some (item_of_argument a, rest))
+items_with : (a : arguments.Argument) (rest : Tokens) → items_of (tokens_of_argument a ++ rest) ≡ rest_of_items (Some (item_of_argument a, rest))
 items_with a rest = items_start a rest ∙ ap rest_of_items (item_again a rest)
 
-abbrev after_second : Item → Option (Option Item × List Token) → Option Items
+abbrev after_second : Item Name → Option (Option (Item Name) × Tokens) → Option Items
 after_second i o =
     o >>= λ b.
     item_after_comma b.1 >>= λ c.
     if_at_end (record { first = Some i; second = b.0; third = c.0 }) c.1
 
-abbrev after_third : Item → Option Item → Option (Option Item × List Token) → Option Items
+abbrev after_third : Item Name → Option (Item Name) → Option (Option (Item Name) × Tokens) → Option Items
 after_third i j o = o >>= λ c. if_at_end (record { first = Some i; second = j; third = c.0 }) c.1
 
 -- no argument, one, two or three
-pub data Shaped : Arguments → Type 0 where
+pub data Shaped : UpToThree arguments.Argument → Type 0 where
   Nothing : Shaped none
-  Single : (a : Argument) → Shaped (one a)
-  Pair : (a b : Argument) → Shaped (two a b)
-  Triple : (a b c : Argument) → Shaped (three a b c)
+  Single : (a : arguments.Argument) → Shaped (one a)
+  Pair : (a b : arguments.Argument) → Shaped (two a b)
+  Triple : (a b c : arguments.Argument) → Shaped (three a b c)
 
-pub items_again : (a : Arguments) → Shaped a → items_of (tokens_of_arguments a) ≡ Some (items_of_arguments a)
+pub items_again : (a : UpToThree arguments.Argument) → Shaped a → items_of (tokens_of_arguments a) ≡ Some (map_three item_of_argument a)
 items_again _ Nothing = refl
 items_again _ (Single a) = items_with a []
 items_again _ (Pair a b) =
@@ -142,53 +238,11 @@ items_again _ (Triple a b c) =
     ∙ ap (after_third (item_of_argument a) (Some (item_of_argument b))) (after_comma_again c [])
 
 pub shape_of : (i : Insn) → Shaped (arguments_of i)
-shape_of (insn.Alu bits op dst s) = Pair _ _
-shape_of (insn.Mov bits dst s) = Pair _ _
-shape_of (insn.MovSx extension dst s) = Pair _ _
 shape_of (insn.Neg bits dst) = Single _
 shape_of (insn.End order size dst) = Single _
-shape_of (insn.Jump (Short k)) = Single _
-shape_of (insn.Jump (Long k)) = Single _
+shape_of (insn.Jump distance) = Single _
 shape_of (insn.JumpIf bits condition left right k) = Triple _ _ _
 shape_of (insn.Call helper) = Single _
 shape_of insn.Exit = Nothing
-shape_of (insn.Load kind dst s k) = Pair _ _
-shape_of (insn.StoreImm size dst k value) = Pair _ _
-shape_of (insn.Store size dst s k) = Pair _ _
-shape_of (insn.Atomic op size dst s k) = Pair _ _
-shape_of (insn.Wide dst (wide.Number n)) = Pair _ _
-shape_of (insn.Wide dst (wide.Map i)) = Pair _ _
 shape_of (insn.Wide dst (wide.Cell i k)) = Triple _ _ _
-
--- ---- the instruction again
-
-abbrev pub Again : Insn → Type 0
-Again i = draft_of (mnemonic_of i) (items_of_arguments (arguments_of i)) ≡ Ok (record { insn = i; target = None })
-
-pub draft_again : (i : Insn) → IsEncodable i → Again i
-draft_again (insn.Alu bits op dst s) p =
-    let d = (register_is_named dst).found in let c = choice_again s in let o = operand_again s p.first.imm in simp (d, c, o) refl
-draft_again (insn.Mov bits dst s) p =
-    let d = (register_is_named dst).found in let c = choice_again s in let o = operand_again s p.first.imm in simp (d, c, o) refl
-draft_again (insn.MovSx extension dst s) p =
-    let d = (register_is_named dst).found in let e = (register_is_named s).found in simp (d, e) refl
-draft_again (insn.Neg bits dst) p = let d = (register_is_named dst).found in simp d refl
-draft_again (insn.End order size dst) p = let d = (register_is_named dst).found in simp d refl
-draft_again (insn.Jump (Short k)) p = let w = way_again k in let e = short_again k p.first.offset in simp (w, e) refl
-draft_again (insn.Jump (Long k)) p = let w = way_again k in let e = long_again k p.first.imm in simp (w, e) refl
-draft_again (insn.JumpIf bits condition left right k) p =
-    let d = (register_is_named left).found in let c = choice_again right in let o = operand_again right p.first.imm in
-    let w = way_again k in let e = short_again k p.first.offset in simp (d, c, o, w, e) refl
-draft_again (insn.Call helper) p = let v = value_again helper in let e = imm_again helper p.first.imm in simp (v, e) refl
-draft_again insn.Exit p = refl
-draft_again (insn.Load kind dst s k) p = let d = (register_is_named dst).found in let e = short_again k p.first.offset in simp (d, e) refl
-draft_again (insn.StoreImm size dst k value) p =
-    let v = value_again value in let e = short_again k p.first.offset in let f = imm_again value p.first.imm in simp (v, e, f) refl
-draft_again (insn.Store size dst s k) p = let d = (register_is_named s).found in let e = short_again k p.first.offset in simp (d, e) refl
-draft_again (insn.Atomic op size dst s k) p = let d = (register_is_named s).found in let e = short_again k p.first.offset in simp (d, e) refl
-draft_again (insn.Wide dst (wide.Number n)) p = let d = (register_is_named dst).found in simp d refl
-draft_again (insn.Wide dst (wide.Map i)) p =
-    let d = (register_is_named dst).found in let v = value_again i in let e = imm_again i p.first.imm in simp (d, v, e) refl
-draft_again (insn.Wide dst (wide.Cell i k)) p =
-    let d = (register_is_named dst).found in let v = value_again i in let w = value_again k in
-    let e = imm_again i p.first.imm in let f = imm_again k p.second.imm in simp (d, v, w, e, f) refl
+shape_of i = Pair _ _

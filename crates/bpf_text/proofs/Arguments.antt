@@ -2,14 +2,17 @@
 use Rattle.std.proofs.Common.{◌≡◌, ℕ, suc, ◌<◌, ◌^◌, ℤ, pos, negsuc, List, [], ◌∷◌, ◌++◌, Option, Some, None, false, option_map, refl, ap, ◌∙◌, append_assoc}
 use Rattle.std.specs.Fmt.{signed_decimal}
 use Rattle.bpf_insn.specs.declared.reg.Reg.{Reg}
-use Rattle.bpf_insn.specs.Program.{◌>>=◌}
+use Rattle.bpf_insn.specs.Program.{slots_moved}
 use Rattle.bpf_text.specs.declared.token.Sign.TheVariants.{Absent, Minus, Plus}
 use Rattle.bpf_text.specs.declared.token.Figure.{Figure}
+use Rattle.bpf_text.specs.declared.token.Token.{Token}
+use Rattle.bpf_text.specs.declared.token.Token.TheVariants.{Word, Number, Open, Close}
 use Rattle.bpf_text.specs.declared.argument.Argument.{Argument}
 use Rattle.bpf_text.specs.declared.argument.Argument.TheVariants as argument
-use Rattle.bpf_text.specs.Tokens.{Token, Word, Number, Open, Close, goes_on, tokens_of}
-use Rattle.bpf_text.specs.Items.{Item, Items, item_at_front, item_after_comma, items_of, memory_item, if_at_end}
-use Rattle.bpf_text.specs.Items as item
+use Rattle.bpf_text.specs.declared.item.Item.{Item}
+use Rattle.bpf_text.specs.declared.item.Item.TheVariants as item
+use Rattle.bpf_text.specs.Tokens.{Name, goes_on, tokens_of}
+use Rattle.bpf_text.specs.Items.{Tokens, item_at_front}
 use Rattle.bpf_text.specs.Listing.{register_text, with_sign, argument_text}
 use Rattle.bpf_text.proofs.Named.{register_is_named}
 use Rattle.bpf_text.proofs.Lexing.{front, figure, word_token, open_token, close_token, decimal_token, minus_token, plus_token}
@@ -24,19 +27,19 @@ abbrev pub signed_figure : ℤ → Figure
 signed_figure (pos n) = figure Plus n
 signed_figure (negsuc n) = figure Minus (suc n)
 
-abbrev pub tokens_of_argument : Argument → List Token
+abbrev pub tokens_of_argument : Argument → Tokens
 tokens_of_argument (argument.Register r) = Word (register_text r) ∷ []
 tokens_of_argument (argument.Imm k) = Number (imm_figure k) ∷ []
 tokens_of_argument (argument.Number n) = Number (figure Absent n) ∷ []
 tokens_of_argument (argument.Memory r k) = Open ∷ Word (register_text r) ∷ Number (signed_figure k) ∷ Close ∷ []
-tokens_of_argument (argument.Distance k) = Number (signed_figure k) ∷ []
+tokens_of_argument (argument.Distance d) = Number (signed_figure (slots_moved d)) ∷ []
 
-abbrev pub item_of_argument : Argument → Item
+abbrev pub item_of_argument : Argument → Item Name
 item_of_argument (argument.Register r) = item.Name (register_text r)
 item_of_argument (argument.Imm k) = item.Number (imm_figure k)
 item_of_argument (argument.Number n) = item.Number (figure Absent n)
-item_of_argument (argument.Memory r k) = item.Memory r (signed_figure k)
-item_of_argument (argument.Distance k) = item.Number (signed_figure k)
+item_of_argument (argument.Memory r k) = item.Memory (register_text r) (signed_figure k)
+item_of_argument (argument.Distance d) = item.Number (signed_figure (slots_moved d))
 
 -- 64 bits hold the number's magnitude
 abbrev pub IsShort : ℤ → Type 0
@@ -48,18 +51,18 @@ HasShort (argument.Register r) = Unit {0}
 HasShort (argument.Imm k) = IsShort k
 HasShort (argument.Number n) = n < 2 ^ 64
 HasShort (argument.Memory r k) = IsShort k
-HasShort (argument.Distance k) = IsShort k
+HasShort (argument.Distance d) = IsShort (slots_moved d)
 
 -- ---- from its text to its tokens
 
-abbrev pub onto : List Token → Option (List Token) → Option (List Token)
+abbrev pub onto : Tokens → Option Tokens → Option Tokens
 onto ts o = option_map (λ us. ts ++ us) o
 
-one_front : (t : Token) (o : Option (List Token)) → front t o ≡ onto (t ∷ []) o
+one_front : (t : Token Name) (o : Option Tokens) → front t o ≡ onto (t ∷ []) o
 one_front t None = refl
 one_front t (Some ts) = refl
 
-four_front : (a b c d : Token) (o : Option (List Token)) → front a (front b (front c (front d o))) ≡ onto (a ∷ b ∷ c ∷ d ∷ []) o
+four_front : (a b c d : Token Name) (o : Option Tokens) → front a (front b (front c (front d o))) ≡ onto (a ∷ b ∷ c ∷ d ∷ []) o
 four_front a b c d None = refl
 four_front a b c d (Some ts) = refl
 
@@ -85,7 +88,8 @@ argument_tokens (argument.Register r) rest short ends =
     word_token (register_text r) rest (register_is_named r).is_text ends ∙ one_front (Word (register_text r)) (tokens_of rest)
 argument_tokens (argument.Imm k) rest short ends = imm_token k rest short ends ∙ one_front (Number (imm_figure k)) (tokens_of rest)
 argument_tokens (argument.Number n) rest short ends = decimal_token n rest short ends ∙ one_front (Number (figure Absent n)) (tokens_of rest)
-argument_tokens (argument.Distance k) rest short ends = signed_token k rest short ends ∙ one_front (Number (signed_figure k)) (tokens_of rest)
+argument_tokens (argument.Distance d) rest short ends =
+    signed_token (slots_moved d) rest short ends ∙ one_front (Number (signed_figure (slots_moved d))) (tokens_of rest)
 argument_tokens (argument.Memory r k) rest short ends =
     ap tokens_of (memory_text r k rest)
     ∙ open_token (register_text r ++ (with_sign k ++ (93 ∷ rest)))
@@ -95,13 +99,6 @@ argument_tokens (argument.Memory r k) rest short ends =
 
 -- ---- from its tokens to the operand
 
-memory_again : (r : Reg) (k : ℤ) → memory_item (register_text r) (signed_figure k) ≡ Some (item.Memory r (signed_figure k))
-memory_again r (pos n) = let e = (register_is_named r).found in simp e refl
-memory_again r (negsuc n) = let e = (register_is_named r).found in simp e refl
-
-pub item_again : (a : Argument) (rest : List Token) → item_at_front (tokens_of_argument a ++ rest) ≡ Some (item_of_argument a, rest)
+pub item_again : (a : Argument) (rest : Tokens) → item_at_front (tokens_of_argument a ++ rest) ≡ Some (item_of_argument a, rest)
 item_again (argument.Register r) rest = refl
-item_again (argument.Imm k) rest = refl
-item_again (argument.Number n) rest = refl
-item_again (argument.Distance k) rest = refl
-item_again (argument.Memory r k) rest = let e = memory_again r k in ap (λ (o : Option Item). o >>= λ i. Some (i, rest)) e
+item_again a rest = refl

@@ -1,30 +1,44 @@
 -- A listing assembles to the bytes that it was written of.
-use Rattle.std.proofs.Common.{◌≡◌, ℕ, zero, suc, ◌+◌, ◌-◌, ◌*◌, ◌<◌, ◌≤◌, ◌^◌, ℤ, pos, negsuc, List, [], ◌∷◌, ◌++◌, length, map, Option, Some, None, Ok, Bool, true, false, ◌&&◌, ◌==◌, nat_le, slice_index, codes, refl, sym, ap, ◌∙◌, append_assoc, length-append, arith}
+use Rattle.std.proofs.Common.{◌≡◌, ℕ, zero, suc, ◌+◌, ◌-◌, ◌*◌, ◌<◌, ◌≤◌, ◌^◌, ℤ, pos, negsuc, List, [], ◌∷◌, ◌++◌, length, map, Option, Some, None, Result, Ok, option_map, Bool, true, false, ◌&&◌, ◌==◌, nat_le, slice_index, codes, refl, sym, ap, ◌∙◌, append_assoc, length-append, arith}
 use Rattle.std.proofs.lemmas.List.Folds.{list_all-append}
 use Rattle.std.proofs.lemmas.List.Splits.{slice_split-cons_no, length-slice_split}
 use Rattle.std.proofs.lemmas.Fmt.{decimal_is_IsNumeral}
 use Rattle.std.specs.Fmt.{decimal, signed_decimal}
 use Rattle.std.specs.List.{AllByRecursion, list_all, slice_split, onto_first}
 use Rattle.std.specs.Str.Lines.{lines, lines_of_parts, strip_carriage_return}
+use Rattle.bpf_insn.specs.declared.operand.Distance.TheVariants.{Short}
+use Rattle.bpf_insn.specs.declared.operand.WideValue.TheVariants as wide
 use Rattle.bpf_insn.specs.declared.insn.Insn.{Insn}
+use Rattle.bpf_insn.specs.declared.insn.Insn.TheVariants as insn
 use Rattle.bpf_insn.specs.Spelling.{IsEncodable, encoding, width_of, slots_of}
-use Rattle.bpf_insn.specs.Program.{encodings, layout, slots}
-use Rattle.bpf_text.specs.declared.fault.AsmFault.{AsmFault}
-use Rattle.bpf_text.specs.declared.argument.Argument.{Argument}
+use Rattle.bpf_insn.specs.Program.{encodings, layout, slots, slots_moved}
+use Rattle.bpf_text.specs.declared.argument.Argument as arguments
 use Rattle.bpf_text.specs.declared.argument.Argument.TheVariants as argument
-use Rattle.bpf_text.specs.Words.{word_of}
+use Rattle.bpf_text.specs.declared.fault.AsmFault.{AsmFault}
+use Rattle.bpf_text.specs.declared.fault.AsmFaultKind.{AsmFaultKind}
+use Rattle.bpf_text.specs.declared.fault.AsmFaultKind.TheVariants as kind
+use Rattle.bpf_text.specs.declared.operand.Given.TheVariants.{Argument}
+use Rattle.bpf_text.specs.declared.three.UpToThree.{UpToThree}
 use Rattle.bpf_text.specs.Arguments.{mnemonic_of, arguments_of}
-use Rattle.bpf_text.specs.Listing.{Lists, listing_of, line_of, register_text, with_sign, argument_text, text_behind}
-use Rattle.bpf_text.specs.Tokens.{is_letter, is_name_byte}
+use Rattle.bpf_text.specs.Assembly.{slots_in, slots_of_word, too_long, line_fault, fault_or, first_fault, placed, argument_if, arguments_at, insn_at, bytes_onto, bytes_of_placed, onto_bytes, unless_fault, label_slot, assembly_of, assembly_of_lines, Assembles}
 use Rattle.bpf_text.specs.Lines.{Line, lines_in, read_line}
-use Rattle.bpf_text.specs.Assembly.{slots_in, too_long, line_fault, fault_or, first_fault, placed, bytes_of_placed, onto_bytes, unless_fault, label_slot, assembly_of, assembly_of_lines}
+use Rattle.bpf_text.specs.Listing.{Lists, listing_of, line_of, register_text, with_sign, argument_text, text_behind}
+use Rattle.bpf_text.specs.Results.{needs, ◌>>?◌, in_turn}
+use Rattle.bpf_text.specs.Statements.{insn_of}
+use Rattle.bpf_text.specs.Tables.{tables}
+use Rattle.bpf_text.specs.Three.{map_three}
+use Rattle.bpf_text.specs.Tokens.{Name, is_letter, is_name_byte}
+use Rattle.bpf_text.specs.Words.{word_of}
 use Rattle.bpf_text.proofs.Named.{is_word_text, is_named, register_is_named}
 use Rattle.bpf_text.proofs.Lexing.{and_both, digit_names}
 use Rattle.bpf_text.proofs.Arguments.{IsShort, HasShort}
+use Rattle.bpf_text.proofs.Again.{HasShortOption}
+use Rattle.bpf_text.proofs.Exact.{by_tables}
 use Rattle.bpf_text.proofs.Placing.{slots_more}
-use Rattle.bpf_text.proofs.Splitting.{parts_cons}
 use Rattle.bpf_text.proofs.Reading.{length-slots, length-encoding}
-use Rattle.bpf_text.proofs.Rereading.{line_text, arguments_text, line_ends, HasShortOption, are_short, as_line, line_again}
+use Rattle.bpf_text.proofs.Rereading.{line_text, arguments_text, line_ends, are_short, stated, as_line, line_again}
+use Rattle.bpf_text.proofs.Splitting.{parts_cons}
+use Rattle.bpf_text.proofs.Statements.{insn_again}
 
 -- ---- no line of a listing has a control character
 
@@ -63,11 +77,11 @@ plain_with_sign : (k : ℤ) → IsShort k → is_plain (with_sign k) ≡ true
 plain_with_sign (pos n) h = plain_decimal n h
 plain_with_sign (negsuc n) h = plain_decimal (suc n) h
 
-plain_argument : (a : Argument) → HasShort a → is_plain (argument_text a) ≡ true
+plain_argument : (a : arguments.Argument) → HasShort a → is_plain (argument_text a) ≡ true
 plain_argument (argument.Register r) h = plain_word (register_text r) (register_is_named r).is_text
 plain_argument (argument.Imm k) h = plain_signed k h
 plain_argument (argument.Number n) h = plain_decimal n h
-plain_argument (argument.Distance k) h = plain_with_sign k h
+plain_argument (argument.Distance d) h = plain_with_sign (slots_moved d) h
 plain_argument (argument.Memory r k) h =
     plain_append ((codes "[" ++ register_text r) ++ with_sign k) (codes "]")
     (plain_append (codes "[" ++ register_text r) (with_sign k)
@@ -75,7 +89,7 @@ plain_argument (argument.Memory r k) h =
     (plain_with_sign k h))
     refl
 
-plain_behind : (divider : List ℕ) (o : Option Argument) → is_plain divider ≡ true → HasShortOption o → is_plain (text_behind divider o) ≡ true
+plain_behind : (divider : List ℕ) (o : Option arguments.Argument) → is_plain divider ≡ true → HasShortOption o → is_plain (text_behind divider o) ≡ true
 plain_behind divider None d h = refl
 plain_behind divider (Some a) d h = plain_append divider (argument_text a) d (plain_argument a h)
 
@@ -121,17 +135,22 @@ line_of_plain xs ys h =
     ap lines_of_parts (split_plain xs ys h) ∙ parts_cons xs (slice_split is_newline ys) some
     ∙ ap (λ (x : List ℕ). x ∷ lines ys) (keeps_plain xs h)
 
-lines_again : (is : List Insn) → AllByRecursion IsEncodable is → lines_in (listing_of is) ≡ map as_line is
+lines_again : (is : List Insn) → AllByRecursion IsEncodable is → lines_in tables (listing_of is) ≡ map as_line is
 lines_again [] all = refl
 lines_again (i ∷ is) all =
     let t = line_text i in
     let text : line_of i ++ listing_of is ≡ t ++ (10 ∷ listing_of is) =
     ap (λ (u : List ℕ). u ++ listing_of is) (line_ends i) ∙ append_assoc t (10 ∷ []) (listing_of is) in
-    ap lines_in text ∙ ap (map read_line) (line_of_plain t (listing_of is) (plain_line i all.0))
-    ∙ ap (λ (l : Line). l ∷ lines_in (listing_of is)) (line_again i all.0)
+    ap (lines_in tables) text ∙ ap (map (read_line tables)) (line_of_plain t (listing_of is) (plain_line i all.0))
+    ∙ ap (λ (l : Line). l ∷ lines_in tables (listing_of is)) (line_again i all.0)
     ∙ ap (λ (ls : List Line). as_line i ∷ ls) (lines_again is all.1)
 
 -- ---- its bytes
+
+width_again : (i : Insn) → slots_of (width_of i) ≡ slots_of_word (mnemonic_of i)
+width_again (insn.Jump (Short k)) = refl
+width_again (insn.Wide dst (wide.Number n)) = refl
+width_again i = refl
 
 not_too_long : (n : ℕ) → n ≤ 4096 → too_long n ≡ None
 not_too_long n h = grind arith
@@ -139,20 +158,40 @@ not_too_long n h = grind arith
 no_fault : (before : List Line) (is : List Insn) → slots_in before + length (layout is) ≤ 4096 → first_fault before (map as_line is) ≡ None
 no_fault before [] short = refl
 no_fault before (i ∷ is) short =
-    let n = slots_of (width_of i) in
-    let len : length (layout (i ∷ is)) ≡ n + length (layout is) = length-append (slots i) (layout is) ∙ ap (λ (m : ℕ). m + length (layout is)) (length-slots i) in
+    let n = slots_of_word (mnemonic_of i) in
+    let len : length (layout (i ∷ is)) ≡ n + length (layout is) = length-append (slots i) (layout is) ∙ ap (λ (m : ℕ). m + length (layout is)) (length-slots i ∙ width_again i) in
     let fine : line_fault before (as_line i) ≡ None = not_too_long (slots_in before + n) (omega (arith, short, len)) in
     let more = slots_more before (as_line i) in
     ap (λ (o : Option _). fault_or (length before + 1) o (first_fault (before ++ (as_line i ∷ [])) (map as_line is))) fine
     ∙ no_fault (before ++ (as_line i ∷ [])) is (omega (arith, short, len, more))
 
-bytes_again : (slot_of : List ℕ → Option ℕ) (n s : ℕ) (is : List Insn) → bytes_of_placed slot_of (placed n s (map as_line is)) ≡ Ok (encodings is)
-bytes_again slot_of n s [] = refl
-bytes_again slot_of n s (i ∷ is) = ap (onto_bytes (encoding i)) (bytes_again slot_of (n + 1) (s + slots_of (width_of i)) is)
+argument_again : (slot_of : Name → Option ℕ) (s : ℕ) (a : Option arguments.Argument) → argument_if slot_of s (option_map Argument a) ≡ Ok a
+argument_again slot_of s None = refl
+argument_again slot_of s (Some a) = refl
 
-lines_assemble : (is : List Insn) → length (layout is) ≤ 4096 → assembly_of_lines (map as_line is) ≡ Ok (encodings is)
+arguments_again : (slot_of : Name → Option ℕ) (s : ℕ) (a : UpToThree arguments.Argument) → arguments_at slot_of s (map_three Argument a) ≡ Ok a
+arguments_again slot_of s a =
+    let y = argument_if slot_of s (option_map Argument a.second) in
+    let z = argument_if slot_of s (option_map Argument a.third) in
+    ap (λ (r : Result (Option arguments.Argument) AsmFaultKind). in_turn r y z) (argument_again slot_of s a.first)
+    ∙ ap (λ (r : Result (Option arguments.Argument) AsmFaultKind). in_turn (Ok a.first) r z) (argument_again slot_of s a.second)
+    ∙ ap (λ (r : Result (Option arguments.Argument) AsmFaultKind). in_turn (Ok a.first) (Ok a.second) r) (argument_again slot_of s a.third)
+
+stated_again : (slot_of : Name → Option ℕ) (n s : ℕ) (i : Insn) → insn_at tables slot_of (record { line = n; slot = s; statement = stated i }) ≡ Ok i
+stated_again slot_of n s i =
+    ap (λ (r : Result (UpToThree arguments.Argument) AsmFaultKind). r >>? λ a. needs kind.Operand (insn_of (mnemonic_of i) a)) (arguments_again slot_of s (arguments_of i))
+    ∙ ap (needs kind.Operand) (insn_again i)
+
+bytes_again : (slot_of : Name → Option ℕ) (n s : ℕ) (is : List Insn) → bytes_of_placed tables slot_of (placed n s (map as_line is)) ≡ Ok (encodings is)
+bytes_again slot_of n s [] = refl
+bytes_again slot_of n s (i ∷ is) =
+    let more = bytes_of_placed tables slot_of (placed (n + 1) (s + slots_of_word (mnemonic_of i)) (map as_line is)) in
+    ap (λ (r : Result Insn AsmFaultKind). bytes_onto n r more) (stated_again slot_of n s i)
+    ∙ ap (onto_bytes (encoding i)) (bytes_again slot_of (n + 1) (s + slots_of_word (mnemonic_of i)) is)
+
+lines_assemble : (is : List Insn) → length (layout is) ≤ 4096 → assembly_of_lines tables (map as_line is) ≡ Ok (encodings is)
 lines_assemble is short =
-    ap (λ (o : Option AsmFault). unless_fault o (bytes_of_placed (label_slot 0 (map as_line is)) (placed 1 0 (map as_line is)))) (no_fault [] is (omega (arith, short)))
+    ap (λ (o : Option AsmFault). unless_fault o (bytes_of_placed tables (label_slot 0 (map as_line is)) (placed 1 0 (map as_line is)))) (no_fault [] is (omega (arith, short)))
     ∙ bytes_again (label_slot 0 (map as_line is)) 1 0 is
 
 length-encodings : (is : List Insn) → length (encodings is) ≡ 8 * length (layout is)
@@ -165,10 +204,13 @@ length-encodings (i ∷ is) =
     let e = length-encodings is in
     omega (arith, a, b, c, d, e)
 
--- the text that lists bytes stands for them
-pub listing_assembles : (bytes text : List ℕ) → Lists bytes text → length bytes ≤ 8 * 4096 → assembly_of text ≡ Ok bytes
+assembly_again : (bytes text : List ℕ) → Lists bytes text → length bytes ≤ 8 * 4096 → assembly_of tables text ≡ Ok bytes
 unfolding assembly_of
-listing_assembles bytes text h short =
+assembly_again bytes text h short =
     let is = h.0 in
     let len : length bytes ≡ 8 * length (layout is) = ap length h.2 ∙ length-encodings is in
-    ap assembly_of h.3 ∙ ap assembly_of_lines (lines_again is h.1) ∙ lines_assemble is (omega (arith, len, short)) ∙ ap Ok (sym h.2)
+    ap (assembly_of tables) h.3 ∙ ap (assembly_of_lines tables) (lines_again is h.1) ∙ lines_assemble is (omega (arith, len, short)) ∙ ap Ok (sym h.2)
+
+-- the text that lists bytes stands for them
+pub listing_assembles : (bytes text : List ℕ) → Lists bytes text → length bytes ≤ 8 * 4096 → Assembles text (Ok bytes)
+listing_assembles bytes text h short = by_tables text (Ok bytes) (assembly_again bytes text h short)

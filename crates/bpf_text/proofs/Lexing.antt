@@ -9,7 +9,9 @@ use Rattle.std.specs.Str.Parse.{digits_value, AllDigits, IsNumeral}
 use Rattle.bpf_text.specs.declared.token.Sign.{Sign}
 use Rattle.bpf_text.specs.declared.token.Sign.TheVariants.{Absent, Minus, Plus}
 use Rattle.bpf_text.specs.declared.token.Figure.{Figure}
-use Rattle.bpf_text.specs.Tokens.{Token, Word, Number, Comma, Open, Close, is_blank, is_letter, is_mark, is_name_byte, goes_on, pieces, onto_piece, token_of, tokens_in, tokens_of, is_numeral, numeral, unsigned_number, number_if_small}
+use Rattle.bpf_text.specs.declared.token.Token.{Token}
+use Rattle.bpf_text.specs.declared.token.Token.TheVariants.{Word, Number, Comma, Open, Close}
+use Rattle.bpf_text.specs.Tokens.{Name, is_blank, is_letter, is_mark, is_name_byte, goes_on, pieces, onto_piece, token_of, tokens_in, tokens_of, is_numeral, numeral, unsigned_number, number_if_small}
 use Rattle.bpf_text.proofs.Named.{is_word_text}
 use Rattle.bpf_text.proofs.Tokenizing.{name_plain, pieces_alone, pieces_onto, with_piece, small_number}
 
@@ -31,10 +33,10 @@ piece_whole c (d ∷ w) rest semicolon blank mark names ends =
     pieces_onto c ((d ∷ w) ++ rest) semicolon blank (simp (mark, both.0) refl)
     ∙ ap (onto_piece c) (piece_whole d w rest plain.0 plain.1 plain.2 both.1 ends)
 
-abbrev pub front : Token → Option (List Token) → Option (List Token)
+abbrev pub front : Token Name → Option (List (Token Name)) → Option (List (Token Name))
 front t o = option_map (λ ts. t ∷ ts) o
 
-token_piece : (c : ℕ) (w rest : List ℕ) (t : Token) → (c == 59) ≡ false → is_blank c ≡ false → is_mark c ≡ false → list_all is_name_byte w ≡ true → goes_on rest ≡ false → token_of (c ∷ w) ≡ Some t → tokens_of ((c ∷ w) ++ rest) ≡ front t (tokens_of rest)
+token_piece : (c : ℕ) (w rest : List ℕ) (t : Token Name) → (c == 59) ≡ false → is_blank c ≡ false → is_mark c ≡ false → list_all is_name_byte w ≡ true → goes_on rest ≡ false → token_of (c ∷ w) ≡ Some t → tokens_of ((c ∷ w) ++ rest) ≡ front t (tokens_of rest)
 token_piece c w rest t semicolon blank mark names ends is =
     ap tokens_in (piece_whole c w rest semicolon blank mark names ends) ∙ with_piece (c ∷ w) (pieces rest) t is (tokens_of rest) refl
 

@@ -7,6 +7,8 @@ pub mod Passes
 pub mod Named
 pub mod Lexing
 pub mod Arguments
+pub mod Statements
+pub mod Exact
 pub mod Again
 pub mod Rereading
 pub mod Back

@@ -1,24 +1,35 @@
--- Each mnemonic and each register is found by its text: a computation a word.
+-- Each mnemonic and each register is found by its text: a computation a word. The last line of a
+-- list takes each that is left in turn.
 use Rattle.std.proofs.Common.{◌≡◌, ℕ, List, [], ◌∷◌, length, Some, Bool, true, false, ◌&&◌, nat_le, refl}
 use Rattle.std.specs.List.{list_all}
 use Rattle.bpf_insn.specs.declared.reg.Reg.{Reg}
 use Rattle.bpf_insn.specs.declared.reg.Reg.TheVariants.{R0, R1, R2, R3, R4, R5, R6, R7, R8, R9, R10}
+use Rattle.bpf_insn.specs.declared.operand.AluOp.{AluOp}
 use Rattle.bpf_insn.specs.declared.operand.AluOp.TheVariants as alu
+use Rattle.bpf_insn.specs.declared.operand.Bits.{Bits}
 use Rattle.bpf_insn.specs.declared.operand.Bits.TheVariants.{Bits64, Bits32}
+use Rattle.bpf_insn.specs.declared.operand.ByteOrder.{ByteOrder}
 use Rattle.bpf_insn.specs.declared.operand.ByteOrder.TheVariants as order
+use Rattle.bpf_insn.specs.declared.operand.Condition.{Condition}
 use Rattle.bpf_insn.specs.declared.operand.Condition.TheVariants as jump
+use Rattle.bpf_insn.specs.declared.operand.Size.{Size}
 use Rattle.bpf_insn.specs.declared.operand.Size.TheVariants as size
+use Rattle.bpf_insn.specs.declared.operand.EndSize.{EndSize}
 use Rattle.bpf_insn.specs.declared.operand.EndSize.TheVariants as end
+use Rattle.bpf_insn.specs.declared.operand.Extension.{Extension}
 use Rattle.bpf_insn.specs.declared.operand.Extension.TheVariants as extend
+use Rattle.bpf_insn.specs.declared.operand.LoadKind.{LoadKind}
 use Rattle.bpf_insn.specs.declared.operand.LoadKind.TheVariants as load
+use Rattle.bpf_insn.specs.declared.operand.AtomicOp.{AtomicOp}
 use Rattle.bpf_insn.specs.declared.operand.AtomicOp.TheVariants as atomic
+use Rattle.bpf_insn.specs.declared.operand.AtomicSize.{AtomicSize}
 use Rattle.bpf_insn.specs.declared.operand.AtomicSize.TheVariants as atomics
 use Rattle.bpf_text.specs.declared.mnemonic.Mnemonic.{Mnemonic}
 use Rattle.bpf_text.specs.declared.mnemonic.Mnemonic.TheVariants as word
 use Rattle.bpf_text.specs.Words.{word_of}
 use Rattle.bpf_text.specs.Listing.{register_text}
 use Rattle.bpf_text.specs.Tokens.{is_letter, is_name_byte}
-use Rattle.bpf_text.specs.Vocabulary.{mnemonic_named, register_named}
+use Rattle.bpf_text.specs.Tables.{mnemonic_named, register_named}
 
 -- a letter, and then letters, digits and _, at most 32 in all
 abbrev pub is_word_text : List ℕ → Bool
@@ -36,114 +47,63 @@ pub record IsRegisterNamed (r : Reg) : Type 0 where
 pub register_is_named : (r : Reg) → IsRegisterNamed r
 unfolding register_named
 register_is_named R0 = record { found = refl; is_text = refl }
-register_is_named R1 = record { found = refl; is_text = refl }
-register_is_named R2 = record { found = refl; is_text = refl }
-register_is_named R3 = record { found = refl; is_text = refl }
-register_is_named R4 = record { found = refl; is_text = refl }
-register_is_named R5 = record { found = refl; is_text = refl }
-register_is_named R6 = record { found = refl; is_text = refl }
-register_is_named R7 = record { found = refl; is_text = refl }
-register_is_named R8 = record { found = refl; is_text = refl }
-register_is_named R9 = record { found = refl; is_text = refl }
-register_is_named R10 = record { found = refl; is_text = refl }
+register_is_named r = record { found = refl; is_text = refl }
+
+alu_named : (bits : Bits) (op : AluOp) → IsNamed (word.Alu bits op)
+unfolding mnemonic_named
+alu_named Bits64 alu.Add = record { found = refl; is_text = refl }
+alu_named Bits32 alu.Add = record { found = refl; is_text = refl }
+alu_named bits op = record { found = refl; is_text = refl }
+
+extension_named : (extension : Extension) → IsNamed (word.MovSx extension)
+unfolding mnemonic_named
+extension_named extend.Byte64 = record { found = refl; is_text = refl }
+extension_named extension = record { found = refl; is_text = refl }
+
+end_named : (order : ByteOrder) (size : EndSize) → IsNamed (word.End order size)
+unfolding mnemonic_named
+end_named order.Little end.Half = record { found = refl; is_text = refl }
+end_named order.Big end.Half = record { found = refl; is_text = refl }
+end_named order.Swap end.Half = record { found = refl; is_text = refl }
+end_named order size = record { found = refl; is_text = refl }
+
+condition_named : (bits : Bits) (condition : Condition) → IsNamed (word.JumpIf bits condition)
+unfolding mnemonic_named
+condition_named Bits64 jump.Eq = record { found = refl; is_text = refl }
+condition_named Bits32 jump.Eq = record { found = refl; is_text = refl }
+condition_named bits condition = record { found = refl; is_text = refl }
+
+load_named : (kind : LoadKind) → IsNamed (word.Load kind)
+unfolding mnemonic_named
+load_named load.Byte = record { found = refl; is_text = refl }
+load_named kind = record { found = refl; is_text = refl }
+
+store_imm_named : (size : Size) → IsNamed (word.StoreImm size)
+unfolding mnemonic_named
+store_imm_named size.Byte = record { found = refl; is_text = refl }
+store_imm_named size = record { found = refl; is_text = refl }
+
+store_named : (size : Size) → IsNamed (word.Store size)
+unfolding mnemonic_named
+store_named size.Byte = record { found = refl; is_text = refl }
+store_named size = record { found = refl; is_text = refl }
+
+atomic_named : (size : AtomicSize) (op : AtomicOp) → IsNamed (word.Atomic op size)
+unfolding mnemonic_named
+atomic_named atomics.Word atomic.Add = record { found = refl; is_text = refl }
+atomic_named atomics.Double atomic.Add = record { found = refl; is_text = refl }
+atomic_named size op = record { found = refl; is_text = refl }
 
 pub is_named : (m : Mnemonic) → IsNamed m
 unfolding mnemonic_named
-is_named (word.Alu Bits64 alu.Add) = record { found = refl; is_text = refl }
-is_named (word.Alu Bits64 alu.Sub) = record { found = refl; is_text = refl }
-is_named (word.Alu Bits64 alu.Or) = record { found = refl; is_text = refl }
-is_named (word.Alu Bits64 alu.And) = record { found = refl; is_text = refl }
-is_named (word.Alu Bits64 alu.Lsh) = record { found = refl; is_text = refl }
-is_named (word.Alu Bits64 alu.Rsh) = record { found = refl; is_text = refl }
-is_named (word.Alu Bits64 alu.Xor) = record { found = refl; is_text = refl }
-is_named (word.Alu Bits64 alu.Arsh) = record { found = refl; is_text = refl }
-is_named (word.Alu Bits32 alu.Add) = record { found = refl; is_text = refl }
-is_named (word.Alu Bits32 alu.Sub) = record { found = refl; is_text = refl }
-is_named (word.Alu Bits32 alu.Or) = record { found = refl; is_text = refl }
-is_named (word.Alu Bits32 alu.And) = record { found = refl; is_text = refl }
-is_named (word.Alu Bits32 alu.Lsh) = record { found = refl; is_text = refl }
-is_named (word.Alu Bits32 alu.Rsh) = record { found = refl; is_text = refl }
-is_named (word.Alu Bits32 alu.Xor) = record { found = refl; is_text = refl }
-is_named (word.Alu Bits32 alu.Arsh) = record { found = refl; is_text = refl }
+is_named (word.Alu bits op) = alu_named bits op
+is_named (word.MovSx extension) = extension_named extension
+is_named (word.End order size) = end_named order size
+is_named (word.JumpIf bits condition) = condition_named bits condition
+is_named (word.Load kind) = load_named kind
+is_named (word.StoreImm size) = store_imm_named size
+is_named (word.Store size) = store_named size
+is_named (word.Atomic op size) = atomic_named size op
 is_named (word.Mov Bits64) = record { found = refl; is_text = refl }
-is_named (word.Mov Bits32) = record { found = refl; is_text = refl }
-is_named (word.MovSx extend.Byte64) = record { found = refl; is_text = refl }
-is_named (word.MovSx extend.Half64) = record { found = refl; is_text = refl }
-is_named (word.MovSx extend.Word64) = record { found = refl; is_text = refl }
-is_named (word.MovSx extend.Byte32) = record { found = refl; is_text = refl }
-is_named (word.MovSx extend.Half32) = record { found = refl; is_text = refl }
 is_named (word.Neg Bits64) = record { found = refl; is_text = refl }
-is_named (word.Neg Bits32) = record { found = refl; is_text = refl }
-is_named (word.End order.Little end.Half) = record { found = refl; is_text = refl }
-is_named (word.End order.Little end.Word) = record { found = refl; is_text = refl }
-is_named (word.End order.Little end.Double) = record { found = refl; is_text = refl }
-is_named (word.End order.Big end.Half) = record { found = refl; is_text = refl }
-is_named (word.End order.Big end.Word) = record { found = refl; is_text = refl }
-is_named (word.End order.Big end.Double) = record { found = refl; is_text = refl }
-is_named (word.End order.Swap end.Half) = record { found = refl; is_text = refl }
-is_named (word.End order.Swap end.Word) = record { found = refl; is_text = refl }
-is_named (word.End order.Swap end.Double) = record { found = refl; is_text = refl }
-is_named word.Jump = record { found = refl; is_text = refl }
-is_named word.JumpLong = record { found = refl; is_text = refl }
-is_named (word.JumpIf Bits64 jump.Eq) = record { found = refl; is_text = refl }
-is_named (word.JumpIf Bits64 jump.Gt) = record { found = refl; is_text = refl }
-is_named (word.JumpIf Bits64 jump.Ge) = record { found = refl; is_text = refl }
-is_named (word.JumpIf Bits64 jump.Set) = record { found = refl; is_text = refl }
-is_named (word.JumpIf Bits64 jump.Ne) = record { found = refl; is_text = refl }
-is_named (word.JumpIf Bits64 jump.Sgt) = record { found = refl; is_text = refl }
-is_named (word.JumpIf Bits64 jump.Sge) = record { found = refl; is_text = refl }
-is_named (word.JumpIf Bits64 jump.Lt) = record { found = refl; is_text = refl }
-is_named (word.JumpIf Bits64 jump.Le) = record { found = refl; is_text = refl }
-is_named (word.JumpIf Bits64 jump.Slt) = record { found = refl; is_text = refl }
-is_named (word.JumpIf Bits64 jump.Sle) = record { found = refl; is_text = refl }
-is_named (word.JumpIf Bits32 jump.Eq) = record { found = refl; is_text = refl }
-is_named (word.JumpIf Bits32 jump.Gt) = record { found = refl; is_text = refl }
-is_named (word.JumpIf Bits32 jump.Ge) = record { found = refl; is_text = refl }
-is_named (word.JumpIf Bits32 jump.Set) = record { found = refl; is_text = refl }
-is_named (word.JumpIf Bits32 jump.Ne) = record { found = refl; is_text = refl }
-is_named (word.JumpIf Bits32 jump.Sgt) = record { found = refl; is_text = refl }
-is_named (word.JumpIf Bits32 jump.Sge) = record { found = refl; is_text = refl }
-is_named (word.JumpIf Bits32 jump.Lt) = record { found = refl; is_text = refl }
-is_named (word.JumpIf Bits32 jump.Le) = record { found = refl; is_text = refl }
-is_named (word.JumpIf Bits32 jump.Slt) = record { found = refl; is_text = refl }
-is_named (word.JumpIf Bits32 jump.Sle) = record { found = refl; is_text = refl }
-is_named word.Call = record { found = refl; is_text = refl }
-is_named word.Exit = record { found = refl; is_text = refl }
-is_named (word.Load load.Byte) = record { found = refl; is_text = refl }
-is_named (word.Load load.Half) = record { found = refl; is_text = refl }
-is_named (word.Load load.Word) = record { found = refl; is_text = refl }
-is_named (word.Load load.Double) = record { found = refl; is_text = refl }
-is_named (word.Load load.SignedByte) = record { found = refl; is_text = refl }
-is_named (word.Load load.SignedHalf) = record { found = refl; is_text = refl }
-is_named (word.Load load.SignedWord) = record { found = refl; is_text = refl }
-is_named (word.StoreImm size.Byte) = record { found = refl; is_text = refl }
-is_named (word.StoreImm size.Half) = record { found = refl; is_text = refl }
-is_named (word.StoreImm size.Word) = record { found = refl; is_text = refl }
-is_named (word.StoreImm size.Double) = record { found = refl; is_text = refl }
-is_named (word.Store size.Byte) = record { found = refl; is_text = refl }
-is_named (word.Store size.Half) = record { found = refl; is_text = refl }
-is_named (word.Store size.Word) = record { found = refl; is_text = refl }
-is_named (word.Store size.Double) = record { found = refl; is_text = refl }
-is_named (word.Atomic atomic.Add atomics.Word) = record { found = refl; is_text = refl }
-is_named (word.Atomic atomic.Add atomics.Double) = record { found = refl; is_text = refl }
-is_named (word.Atomic atomic.Or atomics.Word) = record { found = refl; is_text = refl }
-is_named (word.Atomic atomic.Or atomics.Double) = record { found = refl; is_text = refl }
-is_named (word.Atomic atomic.And atomics.Word) = record { found = refl; is_text = refl }
-is_named (word.Atomic atomic.And atomics.Double) = record { found = refl; is_text = refl }
-is_named (word.Atomic atomic.Xor atomics.Word) = record { found = refl; is_text = refl }
-is_named (word.Atomic atomic.Xor atomics.Double) = record { found = refl; is_text = refl }
-is_named (word.Atomic atomic.FetchAdd atomics.Word) = record { found = refl; is_text = refl }
-is_named (word.Atomic atomic.FetchAdd atomics.Double) = record { found = refl; is_text = refl }
-is_named (word.Atomic atomic.FetchOr atomics.Word) = record { found = refl; is_text = refl }
-is_named (word.Atomic atomic.FetchOr atomics.Double) = record { found = refl; is_text = refl }
-is_named (word.Atomic atomic.FetchAnd atomics.Word) = record { found = refl; is_text = refl }
-is_named (word.Atomic atomic.FetchAnd atomics.Double) = record { found = refl; is_text = refl }
-is_named (word.Atomic atomic.FetchXor atomics.Word) = record { found = refl; is_text = refl }
-is_named (word.Atomic atomic.FetchXor atomics.Double) = record { found = refl; is_text = refl }
-is_named (word.Atomic atomic.Exchange atomics.Word) = record { found = refl; is_text = refl }
-is_named (word.Atomic atomic.Exchange atomics.Double) = record { found = refl; is_text = refl }
-is_named (word.Atomic atomic.CompareExchange atomics.Word) = record { found = refl; is_text = refl }
-is_named (word.Atomic atomic.CompareExchange atomics.Double) = record { found = refl; is_text = refl }
-is_named word.LoadNumber = record { found = refl; is_text = refl }
-is_named word.LoadMap = record { found = refl; is_text = refl }
-is_named word.LoadCell = record { found = refl; is_text = refl }
+is_named m = record { found = refl; is_text = refl }

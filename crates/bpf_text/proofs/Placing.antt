@@ -9,9 +9,10 @@ use Rattle.bpf_text.specs.declared.fault.AsmFaultKind.{AsmFaultKind}
 use Rattle.bpf_text.specs.declared.fault.AsmFaultKind.TheVariants as kind
 use Rattle.bpf_text.specs.declared.scan.Reading as code
 use Rattle.bpf_text.specs.Labels.{slot_at}
-use Rattle.bpf_text.specs.Drafts.{Draft}
-use Rattle.bpf_text.specs.Lines.{Line}
-use Rattle.bpf_text.specs.Assembly.{slots_of_body, slots_of_draft, slots_in, is_label, label_slot, has_slot, has_label, too_long, fault_of_body, labels_after, Placed, placed, placed_body, seen_placed, ReadsOn}
+use Rattle.bpf_text.specs.Lines.{Line, Body}
+use Rattle.bpf_text.specs.Names.{placed_named}
+use Rattle.bpf_text.specs.Reading.{labels_after, ReadsOn}
+use Rattle.bpf_text.specs.Assembly.{slots_of_body, slots_of_word, slots_in, is_label, label_slot, has_slot, has_label, too_long, fault_of_body, Placed, placed, placed_body}
 
 -- ---- one line more at the end
 
@@ -66,7 +67,7 @@ placed_more n s (k ∷ ls) l =
 some_is_none : (e : AsmFaultKind) → ◌≡◌ {A = Option AsmFaultKind} (Some e) None → ⊥
 some_is_none e h = cc
 
-not_twice : (s : ℕ) (twice : Bool) (body : Result (Option Draft) AsmFaultKind) → fault_of_body s twice body ≡ None → twice ≡ false
+not_twice : (s : ℕ) (twice : Bool) (body : Body) → fault_of_body s twice body ≡ None → twice ≡ false
 not_twice s false body h = refl
 not_twice s true (Err kind.Range) h = absurd (some_is_none _ h)
 not_twice s true (Err e) h = absurd (some_is_none _ h)
@@ -75,10 +76,10 @@ not_twice s true (Ok body) h = absurd (some_is_none _ h)
 short_enough : (n : ℕ) → too_long n ≡ None → n ≤ 4096
 short_enough n h = grind arith
 
-still_short : (s : ℕ) (twice : Bool) (body : Result (Option Draft) AsmFaultKind) → s ≤ 4096 → fault_of_body s twice body ≡ None → s + slots_of_body body ≤ 4096
+still_short : (s : ℕ) (twice : Bool) (body : Body) → s ≤ 4096 → fault_of_body s twice body ≡ None → s + slots_of_body body ≤ 4096
 still_short s twice (Err e) small h = omega arith
 still_short s twice (Ok None) small h = omega arith
-still_short s false (Ok (Some d)) small h = short_enough (s + slots_of_draft d) h
+still_short s false (Ok (Some d)) small h = short_enough (s + slots_of_word d.mnemonic) h
 still_short s true (Ok (Some d)) small h = absurd (some_is_none _ h)
 
 same_has_slot : (f g : List ℕ → Option ℕ) → ((q : List ℕ) → f q ≡ g q) → (label : Option (List ℕ)) → has_slot f label ≡ has_slot g label
@@ -100,7 +101,7 @@ label_after : (f g : List ℕ → Option ℕ) (label : Option (List ℕ)) (s t :
 label_after f g None s t q h free e = h q ∙ sym (or_none (g q))
 label_after f g (Some name) s t q h free e = new_label f g name s t q (bytes_eq name q) h free e (bytes_eq-Decides name q)
 
-pub read_on : (before after : code.Reading) (l : Line) → before.slots ≤ 4096 → fault_of_body before.slots (has_slot (slot_at before.labels) l.label) l.body ≡ None → after.lines ≡ before.lines + 1 → after.slots ≡ before.slots + slots_of_body l.body → ((q : List ℕ) → slot_at after.labels q ≡ labels_after (slot_at before.labels) l.label before.slots q) → map seen_placed (vec_items after.placed) ≡ map seen_placed (vec_items before.placed) ++ placed_body (before.lines + 1) before.slots l.body → ReadsOn before after l
+pub read_on : (before after : code.Reading) (l : Line) → before.slots ≤ 4096 → fault_of_body before.slots (has_slot (slot_at before.labels) l.label) l.body ≡ None → after.lines ≡ before.lines + 1 → after.slots ≡ before.slots + slots_of_body l.body → ((q : List ℕ) → slot_at after.labels q ≡ labels_after (slot_at before.labels) l.label before.slots q) → map placed_named (vec_items after.placed) ≡ map placed_named (vec_items before.placed) ++ placed_body (before.lines + 1) before.slots l.body → ReadsOn before after l
 read_on before after l small fine lines slots labels placing ls h =
     let taken = same_has_slot (slot_at before.labels) (label_slot 0 ls) h.labels l.label in
     let free = not_twice before.slots (has_slot (slot_at before.labels) l.label) l.body fine in

@@ -1,33 +1,34 @@
 -- The line of an instruction is read as that instruction, with no label.
-use Rattle.std.proofs.Common.{◌≡◌, ℕ, ◌<◌, ◌^◌, ℤ, pos, negsuc, FitsSigned, w16, w32, List, [], ◌∷◌, ◌++◌, Option, Some, None, Result, Ok, false, option_map, codes, refl, sym, ap, ◌∙◌, append_assoc, arith}
+use Rattle.std.proofs.Common.{◌≡◌, ℕ, List, [], ◌∷◌, ◌++◌, Option, Some, None, Result, Ok, false, option_map, codes, refl, sym, ap, ◌∙◌, append_assoc}
 use Rattle.std.proofs.lemmas.List.{append-nil}
-use Rattle.bpf_insn.specs.declared.operand.Operand as operands
-use Rattle.bpf_insn.specs.declared.operand.Operand.TheVariants as operand
-use Rattle.bpf_insn.specs.declared.operand.Distance.TheVariants.{Short, Long}
-use Rattle.bpf_insn.specs.declared.operand.WideValue.TheVariants as wide
 use Rattle.bpf_insn.specs.declared.insn.Insn.{Insn}
-use Rattle.bpf_insn.specs.declared.insn.Insn.TheVariants as insn
-use Rattle.bpf_insn.specs.Spelling.{IsEncodable, imm_field}
-use Rattle.bpf_text.specs.declared.mnemonic.Mnemonic.{Mnemonic}
-use Rattle.bpf_text.specs.declared.argument.Argument.{Argument}
+use Rattle.bpf_insn.specs.Spelling.{IsEncodable}
+use Rattle.bpf_text.specs.declared.argument.Argument as arguments
 use Rattle.bpf_text.specs.declared.argument.Argument.TheVariants as argument
-use Rattle.bpf_text.specs.declared.argument.Arguments.{Arguments}
-use Rattle.bpf_text.specs.Words.{word_of}
-use Rattle.bpf_text.specs.Arguments.{mnemonic_of, arguments_of, operand_argument}
+use Rattle.bpf_text.specs.declared.mnemonic.Mnemonic.{Mnemonic}
+use Rattle.bpf_text.specs.declared.operand.Given.{Given}
+use Rattle.bpf_text.specs.declared.operand.Given.TheVariants.{Argument}
+use Rattle.bpf_text.specs.declared.signature.Kind.{Kind}
+use Rattle.bpf_text.specs.declared.three.UpToThree.{UpToThree}
+use Rattle.bpf_text.specs.declared.token.Token.TheVariants.{Word, Comma}
+use Rattle.bpf_text.specs.Arguments.{mnemonic_of, arguments_of}
+use Rattle.bpf_text.specs.Items.{Items, Tokens, items_of}
+use Rattle.bpf_text.specs.Lines.{Statement, Line, Body, body_of, split_label, line_of_tokens, line_if_tokens, read_line}
 use Rattle.bpf_text.specs.Listing.{argument_text, text_behind, line_of}
-use Rattle.bpf_text.specs.Tokens.{Token, Word, Comma, goes_on, tokens_of}
-use Rattle.bpf_text.specs.Items.{Items, items_of}
-use Rattle.bpf_text.specs.Drafts.{Draft, draft_of}
-use Rattle.bpf_text.specs.Vocabulary.{mnemonic_named}
-use Rattle.bpf_text.specs.Lines.{Line, body_of, line_of_tokens, line_if_tokens, read_line}
+use Rattle.bpf_text.specs.Operands.{items_as}
+use Rattle.bpf_text.specs.Signatures.{kinds_of}
+use Rattle.bpf_text.specs.Tables.{tables}
+use Rattle.bpf_text.specs.Three.{map_three}
+use Rattle.bpf_text.specs.Tokens.{Name, goes_on, tokens_of}
+use Rattle.bpf_text.specs.Words.{word_of}
 use Rattle.bpf_text.proofs.Named.{is_named}
 use Rattle.bpf_text.proofs.Lexing.{front, word_token, comma_token}
-use Rattle.bpf_text.proofs.Arguments.{IsShort, HasShort, onto, tokens_of_argument, argument_tokens}
-use Rattle.bpf_text.proofs.Again.{Shaped, Nothing, Single, Pair, Triple, shape_of, behind, at_front, tokens_of_arguments, items_of_arguments, items_again, draft_again}
+use Rattle.bpf_text.proofs.Arguments.{onto, tokens_of_argument, item_of_argument, argument_tokens}
+use Rattle.bpf_text.proofs.Again.{HasShortOption, AllFit, all_fit, is_short_if, arguments_again, Shaped, Nothing, Single, Pair, Triple, shape_of, behind, at_front, tokens_of_arguments, items_again}
 
 -- ---- the line's text, grouped from its end
 
-abbrev pub arguments_text : Arguments → List ℕ
+abbrev pub arguments_text : UpToThree arguments.Argument → List ℕ
 arguments_text a = text_behind (codes " ") a.first ++ (text_behind (codes ", ") a.second ++ (text_behind (codes ", ") a.third ++ []))
 
 abbrev pub line_text : Insn → List ℕ
@@ -45,74 +46,50 @@ line_ends i =
 
 -- ---- its numbers are short
 
-abbrev pub HasShortOption : Option Argument → Type 0
-HasShortOption None = Unit {0}
-HasShortOption (Some a) = HasShort a
-
-pub record AreShort (a : Arguments) : Type 0 where
+pub record AreShort (a : UpToThree arguments.Argument) : Type 0 where
   pub first : HasShortOption a.first
   pub second : HasShortOption a.second
   pub third : HasShortOption a.third
 
-short_31 : (k : ℤ) → FitsSigned w32 k → IsShort k
-short_31 (pos n) h = let e : n < 2 ^ 31 = h.sfits in omega (arith, e)
-short_31 (negsuc n) h = let e : n < 2 ^ 31 = h.sfits in omega (arith, e)
-
-short_15 : (k : ℤ) → FitsSigned w16 k → IsShort k
-short_15 (pos n) h = let e : n < 2 ^ 15 = h.sfits in omega (arith, e)
-short_15 (negsuc n) h = let e : n < 2 ^ 15 = h.sfits in omega (arith, e)
-
-short_operand : (o : operands.Operand) → FitsSigned w32 (imm_field o) → HasShort (operand_argument o)
-short_operand (operand.Imm k) h = short_31 k h
-short_operand (operand.Register r) h = tt
-
 pub are_short : (i : Insn) → IsEncodable i → AreShort (arguments_of i)
-are_short (insn.Alu bits op dst s) p = record { first = tt; second = short_operand s p.first.imm; third = tt }
-are_short (insn.Mov bits dst s) p = record { first = tt; second = short_operand s p.first.imm; third = tt }
-are_short (insn.MovSx extension dst s) p = record { first = tt; second = tt; third = tt }
-are_short (insn.Neg bits dst) p = record { first = tt; second = tt; third = tt }
-are_short (insn.End order size dst) p = record { first = tt; second = tt; third = tt }
-are_short (insn.Jump (Short k)) p = record { first = short_15 k p.first.offset; second = tt; third = tt }
-are_short (insn.Jump (Long k)) p = record { first = short_31 k p.first.imm; second = tt; third = tt }
-are_short (insn.JumpIf bits condition left right k) p = record { first = tt; second = short_operand right p.first.imm; third = short_15 k p.first.offset }
-are_short (insn.Call helper) p = record { first = short_31 helper p.first.imm; second = tt; third = tt }
-are_short insn.Exit p = record { first = tt; second = tt; third = tt }
-are_short (insn.Load kind dst s k) p = record { first = tt; second = short_15 k p.first.offset; third = tt }
-are_short (insn.StoreImm size dst k value) p = record { first = short_15 k p.first.offset; second = short_31 value p.first.imm; third = tt }
-are_short (insn.Store size dst s k) p = record { first = short_15 k p.first.offset; second = tt; third = tt }
-are_short (insn.Atomic op size dst s k) p = record { first = short_15 k p.first.offset; second = tt; third = tt }
-are_short (insn.Wide dst (wide.Number n)) p = record { first = tt; second = p.number; third = tt }
-are_short (insn.Wide dst (wide.Map i)) p = record { first = tt; second = short_31 i p.first.imm; third = tt }
-are_short (insn.Wide dst (wide.Cell i k)) p = record { first = tt; second = short_31 i p.first.imm; third = short_31 k p.second.imm }
+are_short i p =
+    let h = all_fit i p in
+    let k = kinds_of (mnemonic_of i) in
+    let a = arguments_of i in
+    record {
+      first = is_short_if k.first a.first h.first;
+      second = is_short_if k.second a.second h.second;
+      third = is_short_if k.third a.third h.third;
+    }
 
 -- ---- its tokens
 
-same_option : (o : Option (List Token)) → o ≡ option_map (λ ts. ts) o
+same_option : (o : Option Tokens) → o ≡ option_map (λ ts. ts) o
 same_option None = refl
 same_option (Some ts) = refl
 
-comma_onto : (a : Argument) (o : Option (List Token)) → front Comma (onto (tokens_of_argument a) o) ≡ option_map (behind (Some a)) o
+comma_onto : (a : arguments.Argument) (o : Option Tokens) → front Comma (onto (tokens_of_argument a) o) ≡ option_map (behind (Some a)) o
 comma_onto a None = refl
 comma_onto a (Some ts) = refl
 
-comma_tokens : (o : Option Argument) (rest : List ℕ) → HasShortOption o → goes_on rest ≡ false → tokens_of (text_behind (codes ", ") o ++ rest) ≡ option_map (behind o) (tokens_of rest)
+comma_tokens : (o : Option arguments.Argument) (rest : List ℕ) → HasShortOption o → goes_on rest ≡ false → tokens_of (text_behind (codes ", ") o ++ rest) ≡ option_map (behind o) (tokens_of rest)
 comma_tokens None rest short ends = same_option (tokens_of rest)
 comma_tokens (Some a) rest short ends =
     comma_token (32 ∷ (argument_text a ++ rest)) ∙ ap (front Comma) (argument_tokens a rest short ends) ∙ comma_onto a (tokens_of rest)
 
-space_tokens : (o : Option Argument) (rest : List ℕ) → HasShortOption o → goes_on rest ≡ false → tokens_of (text_behind (codes " ") o ++ rest) ≡ option_map (at_front o) (tokens_of rest)
+space_tokens : (o : Option arguments.Argument) (rest : List ℕ) → HasShortOption o → goes_on rest ≡ false → tokens_of (text_behind (codes " ") o ++ rest) ≡ option_map (at_front o) (tokens_of rest)
 space_tokens None rest short ends = same_option (tokens_of rest)
 space_tokens (Some a) rest short ends = argument_tokens a rest short ends
 
-comma_ends : (o : Option Argument) (rest : List ℕ) → goes_on rest ≡ false → goes_on (text_behind (codes ", ") o ++ rest) ≡ false
+comma_ends : (o : Option arguments.Argument) (rest : List ℕ) → goes_on rest ≡ false → goes_on (text_behind (codes ", ") o ++ rest) ≡ false
 comma_ends None rest h = h
 comma_ends (Some a) rest h = refl
 
-space_ends : (o : Option Argument) (rest : List ℕ) → goes_on rest ≡ false → goes_on (text_behind (codes " ") o ++ rest) ≡ false
+space_ends : (o : Option arguments.Argument) (rest : List ℕ) → goes_on rest ≡ false → goes_on (text_behind (codes " ") o ++ rest) ≡ false
 space_ends None rest h = h
 space_ends (Some a) rest h = refl
 
-arguments_tokens : (a : Arguments) → AreShort a → tokens_of (arguments_text a) ≡ Some (tokens_of_arguments a)
+arguments_tokens : (a : UpToThree arguments.Argument) → AreShort a → tokens_of (arguments_text a) ≡ Some (tokens_of_arguments a)
 arguments_tokens a short =
     let last = text_behind (codes ", ") a.third ++ [] in
     let more = text_behind (codes ", ") a.second ++ last in
@@ -122,7 +99,7 @@ arguments_tokens a short =
     ∙ ap (option_map (at_front a.first))
     (comma_tokens a.second last short.second last_ends ∙ ap (option_map (behind a.second)) (comma_tokens a.third [] short.third refl))
 
-line_tokens : (m : Mnemonic) (a : Arguments) → AreShort a → tokens_of (word_of m ++ arguments_text a) ≡ Some (Word (word_of m) ∷ tokens_of_arguments a)
+line_tokens : (m : Mnemonic) (a : UpToThree arguments.Argument) → AreShort a → tokens_of (word_of m ++ arguments_text a) ≡ Some (Word (word_of m) ∷ tokens_of_arguments a)
 line_tokens m a short =
     let last = text_behind (codes ", ") a.third ++ [] in
     let more = text_behind (codes ", ") a.second ++ last in
@@ -131,36 +108,36 @@ line_tokens m a short =
 
 -- ---- what the tokens say
 
-abbrev without_label : List Token → Line
-without_label tokens = record { label = None; body = body_of tokens }
-
-no_colon : (w : List ℕ) (a : Argument) (rest : List Token) → line_of_tokens (Word w ∷ (tokens_of_argument a ++ rest)) ≡ without_label (Word w ∷ (tokens_of_argument a ++ rest))
+no_colon : (w : Name) (a : arguments.Argument) (rest : Tokens) → split_label (Word w ∷ (tokens_of_argument a ++ rest)) ≡ (None, Word w ∷ (tokens_of_argument a ++ rest))
 no_colon w (argument.Register r) rest = refl
-no_colon w (argument.Imm k) rest = refl
-no_colon w (argument.Number n) rest = refl
-no_colon w (argument.Memory r k) rest = refl
-no_colon w (argument.Distance k) rest = refl
+no_colon w a rest = refl
 
-no_label : (w : List ℕ) (a : Arguments) → Shaped a → line_of_tokens (Word w ∷ tokens_of_arguments a) ≡ without_label (Word w ∷ tokens_of_arguments a)
+no_label : (w : Name) (a : UpToThree arguments.Argument) → Shaped a → split_label (Word w ∷ tokens_of_arguments a) ≡ (None, Word w ∷ tokens_of_arguments a)
 no_label w _ Nothing = refl
 no_label w _ (Single a) = no_colon w a []
 no_label w _ (Pair a b) = no_colon w a (Comma ∷ (tokens_of_argument b ++ []))
 no_label w _ (Triple a b c) = no_colon w a (Comma ∷ (tokens_of_argument b ++ (Comma ∷ (tokens_of_argument c ++ []))))
 
-body_again : (w : List ℕ) (ts : List Token) (m : Mnemonic) (items : Items) (d : Draft) → mnemonic_named w ≡ Some m → items_of ts ≡ Some items → draft_of m items ≡ Ok d → body_of (Word w ∷ ts) ≡ Ok (Some d)
-body_again w ts m items d named some is = simp (named, some, is) refl
+abbrev labelled : Option Name × Tokens → Line
+labelled p = record { label = p.0; body = body_of tables p.1 }
+
+-- the statement of an instruction
+abbrev pub stated : Insn → Statement
+stated i = record { mnemonic = mnemonic_of i; arguments = map_three Argument (arguments_of i) }
+
+body_again : (w : Name) (ts : Tokens) (m : Mnemonic) (items : Items) (a : UpToThree (Given Name)) → tables.mnemonic_named w ≡ Some m → items_of ts ≡ Some items → items_as tables (kinds_of m) items ≡ Ok a → body_of tables (Word w ∷ ts) ≡ Ok (Some (record { mnemonic = m; arguments = a }))
+body_again w ts m items a named some is = simp (named, some, is) refl
 
 -- the instruction alone
 abbrev pub as_line : Insn → Line
-as_line i = record { label = None; body = Ok (Some (record { insn = i; target = None })) }
+as_line i = record { label = None; body = Ok (Some (stated i)) }
 
-pub line_again : (i : Insn) → IsEncodable i → read_line (line_text i) ≡ as_line i
+pub line_again : (i : Insn) → IsEncodable i → read_line tables (line_text i) ≡ as_line i
 unfolding read_line
 line_again i p =
     let m = mnemonic_of i in
     let a = arguments_of i in
-    let d : Draft = record { insn = i; target = None } in
-    ap line_if_tokens (line_tokens m a (are_short i p))
-    ∙ no_label (word_of m) a (shape_of i)
-    ∙ ap (λ (b : Result (Option Draft) _). let l : Line = record { label = None; body = b } in l)
-    (body_again (word_of m) (tokens_of_arguments a) m (items_of_arguments a) d (is_named m).found (items_again a (shape_of i)) (draft_again i p))
+    ap (line_if_tokens tables) (line_tokens m a (are_short i p))
+    ∙ ap labelled (no_label (word_of m) a (shape_of i))
+    ∙ ap (λ (b : Body). let l : Line = record { label = None; body = b } in l)
+    (body_again (word_of m) (tokens_of_arguments a) m (map_three item_of_argument a) (map_three Argument a) (is_named m).found (items_again a (shape_of i)) (arguments_again (kinds_of m) a (all_fit i p)))

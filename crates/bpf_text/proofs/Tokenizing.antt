@@ -6,8 +6,9 @@ use Rattle.std.proofs.lemmas.List.{take_all}
 use Rattle.std.specs.List.{prefix_len}
 use Rattle.std.specs.Char.{digit_value}
 use Rattle.std.specs.Str.Parse.{digits_value}
-use Rattle.bpf_text.specs.declared.token.Token as code
-use Rattle.bpf_text.specs.Tokens.{Token, seen, is_blank, is_mark, is_name_byte, goes_on, onto_piece, pieces, piece_len, token_of, tokens_in, tokens_of, number_if_small, magnitude}
+use Rattle.bpf_text.specs.declared.token.Token.{Token}
+use Rattle.bpf_text.specs.Names.{Bytes, token_named, tokens_if}
+use Rattle.bpf_text.specs.Tokens.{Name, is_blank, is_mark, is_name_byte, goes_on, onto_piece, pieces, piece_len, token_of, tokens_in, tokens_of, number_if_small, magnitude}
 
 -- a letter, a digit or _ is no mark, no blank and no semicolon
 pub name_plain : (d : ℕ) → is_name_byte d ≡ true → (◌==◌ d 59 ≡ false) × (is_blank d ≡ false) × (is_mark d ≡ false)
@@ -63,30 +64,30 @@ pieces_first c rest semicolon blank = piece_by_mark c rest (is_mark c) semicolon
 
 -- ---- tokens
 
-pub with_piece : (p : List ℕ) (ps : List (List ℕ)) (t : Token) → token_of p ≡ Some t → (o : Option (List Token)) → tokens_in ps ≡ o → tokens_in (p ∷ ps) ≡ option_map (λ ts. t ∷ ts) o
+pub with_piece : (p : List ℕ) (ps : List (List ℕ)) (t : Token Name) → token_of p ≡ Some t → (o : Option (List (Token Name))) → tokens_in ps ≡ o → tokens_in (p ∷ ps) ≡ option_map (λ ts. t ∷ ts) o
 with_piece p ps t e None h = simp (e, h) refl
 with_piece p ps t e (Some ts) h = simp (e, h) refl
 
 no_piece : (p : List ℕ) (ps : List (List ℕ)) → token_of p ≡ None → tokens_in (p ∷ ps) ≡ None
 no_piece p ps e = simp e refl
 
-tokens_onto : (xs : List code.Token) (t : code.Token) (ts : List Token) → map seen (xs ++ (t ∷ [])) ++ ts ≡ map seen xs ++ (seen t ∷ ts)
+tokens_onto : (xs : List (Token Bytes)) (t : Token Bytes) (ts : List (Token Name)) → map token_named (xs ++ (t ∷ [])) ++ ts ≡ map token_named xs ++ (token_named t ∷ ts)
 tokens_onto [] t ts = refl
-tokens_onto (x ∷ xs) t ts = ap (λ (us : List Token). seen x ∷ us) (tokens_onto xs t ts)
+tokens_onto (x ∷ xs) t ts = ap (λ (us : List (Token Name)). token_named x ∷ us) (tokens_onto xs t ts)
 
-onto_option : (xs ys : List code.Token) (t : code.Token) (o : Option (List Token)) → ys ≡ xs ++ (t ∷ []) → option_map (λ ts. map seen xs ++ ts) (option_map (λ ts. seen t ∷ ts) o) ≡ option_map (λ ts. map seen ys ++ ts) o
+onto_option : (xs ys : List (Token Bytes)) (t : Token Bytes) (o : Option (List (Token Name))) → ys ≡ xs ++ (t ∷ []) → option_map (λ ts. map token_named xs ++ ts) (option_map (λ ts. token_named t ∷ ts) o) ≡ option_map (λ ts. map token_named ys ++ ts) o
 onto_option xs ys t None e = refl
-onto_option xs ys t (Some ts) e = ap Some (sym (ap (λ (zs : List code.Token). map seen zs ++ ts) e ∙ tokens_onto xs t ts))
+onto_option xs ys t (Some ts) e = ap Some (sym (ap (λ (zs : List (Token Bytes)). map token_named zs ++ ts) e ∙ tokens_onto xs t ts))
 
 -- a line whose tokens so far are xs, and one token more
-pub token_more : (line rest p after : List ℕ) (xs ys : List code.Token) (t : code.Token) → tokens_of line ≡ option_map (λ ts. map seen xs ++ ts) (tokens_of rest) → pieces rest ≡ p ∷ pieces after → Some (seen t) ≡ token_of p → ys ≡ xs ++ (t ∷ []) → tokens_of line ≡ option_map (λ ts. map seen ys ++ ts) (tokens_of after)
+pub token_more : (line rest p after : List ℕ) (xs ys : List (Token Bytes)) (t : Token Bytes) → tokens_of line ≡ option_map (λ ts. map token_named xs ++ ts) (tokens_of rest) → pieces rest ≡ p ∷ pieces after → Some (token_named t) ≡ token_of p → ys ≡ xs ++ (t ∷ []) → tokens_of line ≡ option_map (λ ts. map token_named ys ++ ts) (tokens_of after)
 token_more line rest p after xs ys t h first e more =
-    h ∙ ap (λ (o : Option (List Token)). option_map (λ ts. map seen xs ++ ts) o) (ap tokens_in first ∙ with_piece p (pieces after) (seen t) (sym e) (tokens_of after) refl)
+    h ∙ ap (λ (o : Option (List (Token Name))). option_map (λ ts. map token_named xs ++ ts) o) (ap tokens_in first ∙ with_piece p (pieces after) (token_named t) (sym e) (tokens_of after) refl)
     ∙ onto_option xs ys t (tokens_of after) more
 
-pub token_missing : (line rest p after : List ℕ) (xs : List code.Token) → tokens_of line ≡ option_map (λ ts. map seen xs ++ ts) (tokens_of rest) → pieces rest ≡ p ∷ pieces after → None ≡ token_of p → tokens_of line ≡ None
+pub token_missing : (line rest p after : List ℕ) (xs : List (Token Bytes)) → tokens_of line ≡ option_map (λ ts. map token_named xs ++ ts) (tokens_of rest) → pieces rest ≡ p ∷ pieces after → None ≡ token_of p → tokens_of line ≡ None
 token_missing line rest p after xs h first e =
-    h ∙ ap (λ (o : Option (List Token)). option_map (λ ts. map seen xs ++ ts) o) (ap tokens_in first ∙ no_piece p (pieces after) (sym e))
+    h ∙ ap (λ (o : Option (List (Token Name))). option_map (λ ts. map token_named xs ++ ts) o) (ap tokens_in first ∙ no_piece p (pieces after) (sym e))
 
 -- ---- numbers
 

@@ -1,5 +1,5 @@
 -- The word of each instruction and its arguments, in their order: one line a form.
-use Rattle.std.specs.Prelude.{Some, None}
+use Rattle.std.specs.Prelude.{ℤ}
 use Rattle.bpf_insn.specs.declared.reg.Reg.{Reg}
 use Rattle.bpf_insn.specs.declared.operand.Distance.TheVariants.{Short, Long}
 use Rattle.bpf_insn.specs.declared.operand.Operand as operands
@@ -10,9 +10,10 @@ use Rattle.bpf_insn.specs.declared.insn.Insn.{Insn}
 use Rattle.bpf_insn.specs.declared.insn.Insn.TheVariants as insn
 use Rattle.bpf_text.specs.declared.argument.Argument.{Argument}
 use Rattle.bpf_text.specs.declared.argument.Argument.TheVariants.{Register, Imm, Number, Memory, Distance}
-use Rattle.bpf_text.specs.declared.argument.Arguments.{Arguments}
+use Rattle.bpf_text.specs.declared.three.UpToThree.{UpToThree}
 use Rattle.bpf_text.specs.declared.mnemonic.Mnemonic.{Mnemonic}
 use Rattle.bpf_text.specs.declared.mnemonic.Mnemonic.TheVariants as word
+use Rattle.bpf_text.specs.Three.{none, one, two, three}
 
 abbrev pub mnemonic_of : Insn → Mnemonic
 mnemonic_of (insn.Alu bits op dst s) = word.Alu bits op
@@ -33,39 +34,31 @@ mnemonic_of (insn.Wide dst (wide.Number n)) = word.LoadNumber
 mnemonic_of (insn.Wide dst (wide.Map i)) = word.LoadMap
 mnemonic_of (insn.Wide dst (wide.Cell i k)) = word.LoadCell
 
-abbrev pub none : Arguments
-none = record { first = None; second = None; third = None }
-
-abbrev pub one : Argument → Arguments
-one a = record { first = Some a; second = None; third = None }
-
-abbrev pub two : Argument → Argument → Arguments
-two a b = record { first = Some a; second = Some b; third = None }
-
-abbrev pub three : Argument → Argument → Argument → Arguments
-three a b c = record { first = Some a; second = Some b; third = Some c }
-
 -- the second operand is a number (K) or a register (X)
 abbrev pub operand_argument : operands.Operand → Argument
 operand_argument (operand.Imm k) = Imm k
 operand_argument (operand.Register r) = Register r
 
+-- what a jump compares, and how far it goes
+abbrev pub jump_arguments : Reg → operands.Operand → ℤ → UpToThree Argument
+jump_arguments left right k =
+    three (Register left) (operand_argument right) (Distance (Short k))
+
 -- the number of lddw, the index of ldmap, and both parts of ldcell
-abbrev pub wide_arguments : Reg → WideValue → Arguments
+abbrev pub wide_arguments : Reg → WideValue → UpToThree Argument
 wide_arguments dst (wide.Number n) = two (Register dst) (Number n)
 wide_arguments dst (wide.Map i) = two (Register dst) (Imm i)
 wide_arguments dst (wide.Cell i k) = three (Register dst) (Imm i) (Imm k)
 
 -- dst comes first, also where it is the address that is stored to; a distance comes last
-abbrev pub arguments_of : Insn → Arguments
+abbrev pub arguments_of : Insn → UpToThree Argument
 arguments_of (insn.Alu bits op dst s) = two (Register dst) (operand_argument s)
 arguments_of (insn.Mov bits dst s) = two (Register dst) (operand_argument s)
 arguments_of (insn.MovSx extension dst s) = two (Register dst) (Register s)
 arguments_of (insn.Neg bits dst) = one (Register dst)
 arguments_of (insn.End order size dst) = one (Register dst)
-arguments_of (insn.Jump (Short k)) = one (Distance k)
-arguments_of (insn.Jump (Long k)) = one (Distance k)
-arguments_of (insn.JumpIf bits condition left right k) = three (Register left) (operand_argument right) (Distance k)
+arguments_of (insn.Jump distance) = one (Distance distance)
+arguments_of (insn.JumpIf bits condition left right k) = jump_arguments left right k
 arguments_of (insn.Call helper) = one (Imm helper)
 arguments_of insn.Exit = none
 arguments_of (insn.Load kind dst s k) = two (Register dst) (Memory s k)

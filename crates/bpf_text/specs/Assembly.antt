@@ -1,48 +1,59 @@
 -- The bytes that a text stands for, or its first fault: lines one by one, then jumps to labels.
-use Rattle.std.specs.Prelude.{◌≡◌, ℕ, ◌+◌, ◌≤◌, ◌⊎◌, ◌^◌, ℤ, pos, neg_ℤ, ◌-ℤ◌, int_le, int_lt, List, [], ◌∷◌, ◌++◌, length, map, Option, Some, None, is_some, Result, Ok, Err, Bool, true, false, nat_lt, ◌&&◌, if◌then◌else◌}
+use Rattle.std.specs.Prelude.{◌≡◌, ℕ, ◌+◌, ◌⊎◌, ◌^◌, ℤ, pos, neg_ℤ, ◌-ℤ◌, int_le, int_lt, List, [], ◌∷◌, ◌++◌, length, Option, Some, None, is_some, Result, Ok, Err, Bool, true, false, nat_lt, ◌&&◌, if◌then◌else◌}
 use Rattle.std.specs.Str.{bytes_eq}
 use Rattle.bpf_insn.specs.declared.operand.Distance.TheVariants.{Short, Long}
 use Rattle.bpf_insn.specs.declared.insn.Insn.{Insn}
-use Rattle.bpf_insn.specs.declared.insn.Insn.TheVariants.{Jump, JumpIf}
-use Rattle.bpf_insn.specs.Spelling.{encoding, width_of, slots_of}
+use Rattle.bpf_insn.specs.Spelling.{encoding}
 use Rattle.bpf_text.specs.declared.fault.AsmFaultKind.{AsmFaultKind}
 use Rattle.bpf_text.specs.declared.fault.AsmFaultKind.TheVariants as kind
 use Rattle.bpf_text.specs.declared.fault.AsmFault.{AsmFault}
-use Rattle.std.specs.Vec.{vec_items}
-use Rattle.bpf_text.specs.declared.scan.Placed as code
-use Rattle.bpf_text.specs.declared.scan.Reading as code_reading
-use Rattle.bpf_text.specs.Labels.{slot_at}
-use Rattle.bpf_text.specs.Drafts.{Draft, needs, ◌>>?◌, seen_draft}
-use Rattle.bpf_text.specs.Lines.{Line, lines_in}
+use Rattle.bpf_text.specs.declared.fault.AsmFault.TheVariants.{At, Memory}
+use Rattle.bpf_text.specs.declared.argument.Argument as arguments
+use Rattle.bpf_text.specs.declared.argument.Argument.TheVariants.{Distance}
+use Rattle.bpf_text.specs.declared.mnemonic.Mnemonic.{Mnemonic}
+use Rattle.bpf_text.specs.declared.mnemonic.Mnemonic.TheVariants.{LoadNumber, LoadMap, LoadCell}
+use Rattle.bpf_text.specs.declared.operand.Given.{Given}
+use Rattle.bpf_text.specs.declared.operand.Given.TheVariants.{Argument, ShortTo, LongTo}
+use Rattle.bpf_text.specs.declared.scan.Placed as the_placed
+use Rattle.bpf_text.specs.declared.three.UpToThree.{UpToThree}
+use Rattle.bpf_text.specs.Lines.{Line, Body, lines_in}
+use Rattle.bpf_text.specs.Results.{needs, ◌>>?◌, map_ok, in_turn}
+use Rattle.bpf_text.specs.Tokens.{Name}
+use Rattle.bpf_text.specs.Vocabulary.{Vocabulary, IsExact}
 
 -- ---- the slots of lines, and where each label stands
 
-abbrev pub slots_of_draft : Draft → ℕ
-slots_of_draft d = slots_of (width_of d.insn)
+-- a word says how many slots its instruction takes
+abbrev pub slots_of_word : Mnemonic → ℕ
+slots_of_word LoadNumber = 2
+slots_of_word LoadMap = 2
+slots_of_word LoadCell = 2
+slots_of_word m = 1
 
-abbrev pub slots_of_body : Result (Option Draft) AsmFaultKind → ℕ
-slots_of_body (Ok (Some d)) = slots_of_draft d
+abbrev pub slots_of_body : Body → ℕ
+slots_of_body (Ok (Some s)) = slots_of_word s.mnemonic
 slots_of_body body = 0
 
 abbrev pub slots_in : List Line → ℕ
 slots_in [] = 0
 slots_in (l ∷ ls) = slots_of_body l.body + slots_in ls
 
-abbrev pub is_label : List ℕ → Option (List ℕ) → Bool
+abbrev pub is_label : Name → Option Name → Bool
 is_label name None = false
 is_label name (Some label) = bytes_eq label name
 
 -- the slot of the first line with this label; the lines begin at slot s
-abbrev pub label_slot : ℕ → List Line → List ℕ → Option ℕ
+abbrev pub label_slot : ℕ → List Line → Name → Option ℕ
 label_slot s [] name = None
-label_slot s (l ∷ ls) name = if is_label name l.label then Some s else label_slot (s + slots_of_body l.body) ls name
+label_slot s (l ∷ ls) name =
+    if is_label name l.label then Some s else label_slot (s + slots_of_body l.body) ls name
 
-abbrev pub has_slot : (List ℕ → Option ℕ) → Option (List ℕ) → Bool
+abbrev pub has_slot : (Name → Option ℕ) → Option Name → Bool
 has_slot slot_of None = false
 has_slot slot_of (Some name) = is_some (slot_of name)
 
 -- one of these lines has the label
-abbrev pub has_label : List Line → Option (List ℕ) → Bool
+abbrev pub has_label : List Line → Option Name → Bool
 has_label ls label = has_slot (label_slot 0 ls) label
 
 -- ---- the first fault within a line
@@ -51,18 +62,18 @@ abbrev pub too_long : ℕ → Option AsmFaultKind
 too_long slots = if nat_lt 4096 slots then Some kind.TooLong else None
 
 -- what the line says, s slots being before it; twice: an earlier line has its label
-abbrev pub fault_of_body : ℕ → Bool → Result (Option Draft) AsmFaultKind → Option AsmFaultKind
+abbrev pub fault_of_body : ℕ → Bool → Body → Option AsmFaultKind
 fault_of_body s twice (Err kind.Range) = if twice then Some kind.Label else Some kind.Range
 fault_of_body s twice (Err e) = Some e
 fault_of_body s true (Ok body) = Some kind.Label
 fault_of_body s false (Ok None) = None
-fault_of_body s false (Ok (Some d)) = too_long (s + slots_of_draft d)
+fault_of_body s false (Ok (Some statement)) = too_long (s + slots_of_word statement.mnemonic)
 
 abbrev pub line_fault : List Line → Line → Option AsmFaultKind
 line_fault before l = fault_of_body (slots_in before) (has_label before l.label) l.body
 
 abbrev pub at_line : ℕ → AsmFaultKind → AsmFault
-at_line n e = record { line = n; kind = e }
+at_line n e = At n e
 
 abbrev pub fault_or : ℕ → Option AsmFaultKind → Option AsmFault → Option AsmFault
 fault_or n None later = later
@@ -71,21 +82,20 @@ fault_or n (Some e) later = Some (at_line n e)
 -- of the lines that follow these
 abbrev pub first_fault : List Line → List Line → Option AsmFault
 first_fault before [] = None
-first_fault before (l ∷ rest) = fault_or (length before + 1) (line_fault before l) (first_fault (before ++ (l ∷ [])) rest)
+first_fault before (l ∷ rest) =
+    fault_or (length before + 1) (line_fault before l) (first_fault (before ++ (l ∷ [])) rest)
 
 -- ---- jumps to labels
 
--- an instruction, with its line and its slot
-pub record Placed : Type 0 where
-  pub line : ℕ
-  pub slot : ℕ
-  pub draft : Draft
+-- a statement, with its line and its slot
+abbrev pub Placed : Type 0
+Placed = the_placed.Placed Name
 
-abbrev pub placed_body : ℕ → ℕ → Result (Option Draft) AsmFaultKind → List Placed
-placed_body n s (Ok (Some d)) = record { line = n; slot = s; draft = d } ∷ []
+abbrev pub placed_body : ℕ → ℕ → Body → List Placed
+placed_body n s (Ok (Some d)) = record { line = n; slot = s; statement = d } ∷ []
 placed_body n s body = []
 
--- the instructions of lines that begin at line n and slot s
+-- the statements of lines that begin at line n and slot s
 abbrev pub placed : ℕ → ℕ → List Line → List Placed
 placed n s [] = []
 placed n s (l ∷ ls) = placed_body n s l.body ++ placed (n + 1) (s + slots_of_body l.body) ls
@@ -94,25 +104,36 @@ placed n s (l ∷ ls) = placed_body n s l.body ++ placed (n + 1) (s + slots_of_b
 abbrev pub in_field : ℕ → ℤ → Bool
 in_field k z = int_le (neg_ℤ (pos (2 ^ k))) z && int_lt z (pos (2 ^ k))
 
-abbrev pub if_fits : ℕ → ℤ → Insn → Option Insn
-if_fits k z i = if in_field k z then Some i else None
+abbrev pub short_distance : ℤ → Option arguments.Argument
+short_distance z = if in_field 15 z then Some (Distance (Short z)) else None
 
--- a jump that goes this far
-abbrev pub with_distance : Insn → ℤ → Option Insn
-with_distance (Jump (Short k)) z = if_fits 15 z (Jump (Short z))
-with_distance (Jump (Long k)) z = if_fits 31 z (Jump (Long z))
-with_distance (JumpIf bits condition left right k) z = if_fits 15 z (JumpIf bits condition left right z)
-with_distance i z = Some i
+abbrev pub long_distance : ℤ → Option arguments.Argument
+long_distance z = if in_field 31 z then Some (Distance (Long z)) else None
 
--- a distance counts slots from the instruction after the jump
-abbrev pub with_target : (List ℕ → Option ℕ) → ℕ → Insn → Option (List ℕ) → Result Insn AsmFaultKind
-with_target slot_of s i None = Ok i
-with_target slot_of s i (Some name) =
-    needs kind.Label (slot_of name) >>? λ t.
-    needs kind.Range (with_distance i (pos t -ℤ pos (s + 1)))
+-- slots are counted from the instruction after the jump
+abbrev pub slots_to : (Name → Option ℕ) → ℕ → Name → Result ℤ AsmFaultKind
+slots_to slot_of s name = needs kind.Label (slot_of name) >>? λ t. Ok (pos t -ℤ pos (s + 1))
 
-abbrev pub resolved : (List ℕ → Option ℕ) → Placed → Result Insn AsmFaultKind
-resolved slot_of p = with_target slot_of p.slot p.draft.insn p.draft.target
+abbrev pub argument_at : (Name → Option ℕ) → ℕ → Given Name → Result arguments.Argument AsmFaultKind
+argument_at slot_of s (Argument a) = Ok a
+argument_at slot_of s (ShortTo name) =
+    slots_to slot_of s name >>? λ z. needs kind.Range (short_distance z)
+argument_at slot_of s (LongTo name) =
+    slots_to slot_of s name >>? λ z. needs kind.Range (long_distance z)
+
+abbrev pub argument_if : (Name → Option ℕ) → ℕ → Option (Given Name) → Result (Option arguments.Argument) AsmFaultKind
+argument_if slot_of s None = Ok None
+argument_if slot_of s (Some given) = map_ok Some (argument_at slot_of s given)
+
+abbrev pub arguments_at : (Name → Option ℕ) → ℕ → UpToThree (Given Name) → Result (UpToThree arguments.Argument) AsmFaultKind
+arguments_at slot_of s g =
+    in_turn (argument_if slot_of s g.first) (argument_if slot_of s g.second) (argument_if slot_of s g.third)
+
+-- the instruction with this word and these arguments
+abbrev pub insn_at : Vocabulary → (Name → Option ℕ) → Placed → Result Insn AsmFaultKind
+insn_at v slot_of p =
+    arguments_at slot_of p.slot p.statement.arguments >>? λ a.
+    needs kind.Operand (v.insn_of p.statement.mnemonic a)
 
 abbrev pub onto_bytes : List ℕ → Result (List ℕ) AsmFault → Result (List ℕ) AsmFault
 onto_bytes bs (Ok more) = Ok (bs ++ more)
@@ -122,10 +143,11 @@ abbrev pub bytes_onto : ℕ → Result Insn AsmFaultKind → Result (List ℕ) A
 bytes_onto n (Err e) later = Err (at_line n e)
 bytes_onto n (Ok i) later = onto_bytes (encoding i) later
 
--- the encodings of instructions, or the first that can't jump where it should
-abbrev pub bytes_of_placed : (List ℕ → Option ℕ) → List Placed → Result (List ℕ) AsmFault
-bytes_of_placed slot_of [] = Ok []
-bytes_of_placed slot_of (p ∷ ps) = bytes_onto p.line (resolved slot_of p) (bytes_of_placed slot_of ps)
+-- the encodings of the statements, or the first that can't jump where it should
+abbrev pub bytes_of_placed : Vocabulary → (Name → Option ℕ) → List Placed → Result (List ℕ) AsmFault
+bytes_of_placed v slot_of [] = Ok []
+bytes_of_placed v slot_of (p ∷ ps) =
+    bytes_onto p.line (insn_at v slot_of p) (bytes_of_placed v slot_of ps)
 
 -- ---- the whole text
 
@@ -133,58 +155,21 @@ abbrev pub unless_fault : Option AsmFault → Result (List ℕ) AsmFault → Res
 unless_fault None bytes = bytes
 unless_fault (Some e) bytes = Err e
 
-abbrev pub assembly_of_lines : List Line → Result (List ℕ) AsmFault
-assembly_of_lines ls = unless_fault (first_fault [] ls) (bytes_of_placed (label_slot 0 ls) (placed 1 0 ls))
+abbrev pub assembly_of_lines : Vocabulary → List Line → Result (List ℕ) AsmFault
+assembly_of_lines v ls =
+    unless_fault (first_fault [] ls) (bytes_of_placed v (label_slot 0 ls) (placed 1 0 ls))
 
 -- the bytes that the text stands for, or its fault
-unfoldable pub assembly_of : List ℕ → Result (List ℕ) AsmFault
-assembly_of text = assembly_of_lines (lines_in text)
+unfoldable pub assembly_of : Vocabulary → List ℕ → Result (List ℕ) AsmFault
+assembly_of v text = assembly_of_lines v (lines_in v text)
 
--- ---- what the reader's values stand for
-
--- what is found once a label stands at a slot
-abbrev pub labels_after : (List ℕ → Option ℕ) → Option (List ℕ) → ℕ → List ℕ → Option ℕ
-labels_after slot_of None s q = slot_of q
-labels_after slot_of (Some name) s q = if bytes_eq name q then Some s else slot_of q
-
-abbrev pub seen_placed : code.Placed → Placed
-seen_placed p = record { line = p.line; slot = p.slot; draft = seen_draft p.draft }
-
--- these lines have been read
-pub record HasRead (ls : List Line) (r : code_reading.Reading) : Type 0 where
-  pub count : r.lines ≡ length ls
-  pub slots : r.slots ≡ slots_in ls
-  pub small : r.slots ≤ 4096
-  pub labels : (q : List ℕ) → slot_at r.labels q ≡ label_slot 0 ls q
-  pub placed_are : map seen_placed (vec_items r.placed) ≡ placed 1 0 ls
-
--- one line more has been read, in which is no fault
-abbrev pub ReadsOn : code_reading.Reading → code_reading.Reading → Line → Type 0
-ReadsOn before after l = (ls : List Line) → HasRead ls before → (line_fault ls l ≡ None) × HasRead (ls ++ (l ∷ [])) after
-
--- the fault of one line more; none is named where a growth was refused
-abbrev pub IsLineFault : code_reading.Reading → Line → AsmFaultKind → Type 0
-IsLineFault before l kind.Memory = Unit {0}
-IsLineFault before l e = (ls : List Line) → HasRead ls before → line_fault ls l ≡ Some e
-
--- the faults of each pass, or a growth that was refused
-abbrev pub memory_fault : AsmFault
-memory_fault = at_line 0 kind.Memory
-
-abbrev pub IsByteFault : (List ℕ → Option ℕ) → List Placed → AsmFault → Type 0
-IsByteFault slot_of ps e = (e ≡ memory_fault) ⊎ (bytes_of_placed slot_of ps ≡ Err e)
-
-abbrev pub IsReadingFault : List ℕ → AsmFault → Type 0
-IsReadingFault text e = (e ≡ memory_fault) ⊎ (first_fault [] (lines_in text) ≡ Some e)
-
--- all lines have been read, and none has a fault
-abbrev pub IsWholeReading : List ℕ → code_reading.Reading → Type 0
-IsWholeReading text r = (first_fault [] (lines_in text) ≡ None) × HasRead (lines_in text) r
-
-abbrev pub reader_fault : ℕ → AsmFaultKind → AsmFault
-reader_fault n kind.Memory = memory_fault
-reader_fault n e = at_line n e
+-- the same, with words that stand for what is written so; there is one such vocabulary
+abbrev pub Assembles : List ℕ → Result (List ℕ) AsmFault → Type 0
+Assembles text verdict = (v : Vocabulary) × IsExact v × (assembly_of v text ≡ verdict)
 
 -- the text's fault, or a growth that was refused
 abbrev pub IsAsmFault : List ℕ → AsmFault → Type 0
-IsAsmFault text e = (e ≡ memory_fault) ⊎ (assembly_of text ≡ Err e)
+IsAsmFault text e = (e ≡ Memory) ⊎ Assembles text (Err e)
+
+abbrev pub HasOneAssembly : List ℕ → Type 0
+HasOneAssembly text = (a b : Result (List ℕ) AsmFault) → Assembles text a → Assembles text b → a ≡ b

@@ -5,6 +5,7 @@ use Rattle.bpf_insn.specs.Faults.{fault_text}
 use Rattle.bpf_text.specs.declared.fault.AsmFaultKind.{AsmFaultKind}
 use Rattle.bpf_text.specs.declared.fault.AsmFaultKind.TheVariants as kind
 use Rattle.bpf_text.specs.declared.fault.AsmFault.{AsmFault}
+use Rattle.bpf_text.specs.declared.fault.AsmFault.TheVariants.{At, Memory}
 use Rattle.bpf_text.specs.declared.fault.ListFault.{ListFault}
 use Rattle.bpf_text.specs.declared.fault.ListFault.TheVariants as list_fault
 
@@ -17,15 +18,10 @@ kind_text kind.Operand = codes "A3 Operand"
 kind_text kind.Label = codes "A4 Label"
 kind_text kind.Range = codes "A5 Range"
 kind_text kind.TooLong = codes "A6 TooLong"
-kind_text kind.Memory = codes "A7 Memory"
-
--- a growth that was refused has no line
-abbrev pub text_at_line : AsmFaultKind → ℕ → List ℕ
-text_at_line kind.Memory line = kind_text kind.Memory
-text_at_line e line = kind_text e ++ codes " at line " ++ decimal line
 
 abbrev pub asm_fault_text : AsmFault → List ℕ
-asm_fault_text e = text_at_line e.kind e.line
+asm_fault_text (At line e) = kind_text e ++ codes " at line " ++ decimal line
+asm_fault_text Memory = codes "A7 Memory"
 
 -- ---- bytes that have no text
 

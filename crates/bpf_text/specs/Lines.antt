@@ -1,50 +1,53 @@
--- What a line says: an optional label, and an optional instruction or the fault in its place.
-use Rattle.std.specs.Prelude.{ℕ, List, [], ◌∷◌, map, Option, Some, None, Result, Ok, Err}
+-- What a line says: an optional label, and an optional statement or the fault in its place.
+use Rattle.std.specs.Prelude.{List, [], ◌∷◌, ℕ, map, Option, Some, None, Result, Ok, Err}
 use Rattle.std.specs.Str.Lines.{lines}
 use Rattle.bpf_text.specs.declared.fault.AsmFaultKind.{AsmFaultKind}
-use Rattle.bpf_text.specs.declared.fault.AsmFaultKind.TheVariants as kind
-use Rattle.bpf_text.specs.declared.draft.Draft as code_draft
-use Rattle.bpf_text.specs.declared.line.Line as code
-use Rattle.bpf_text.specs.Tokens.{Token, Word, Colon, tokens_of}
-use Rattle.bpf_text.specs.Items.{items_of}
-use Rattle.bpf_text.specs.Drafts.{Draft, draft_of, needs, ◌>>?◌, seen_draft, seen_word}
-use Rattle.bpf_text.specs.Vocabulary.{mnemonic_named}
+use Rattle.bpf_text.specs.declared.fault.AsmFaultKind.TheVariants as fault
+use Rattle.bpf_text.specs.declared.line.Line as the_line
+use Rattle.bpf_text.specs.declared.line.Statement as the_statement
+use Rattle.bpf_text.specs.declared.token.Token.TheVariants.{Word, Colon}
+use Rattle.bpf_text.specs.Items.{Tokens, items_of}
+use Rattle.bpf_text.specs.Operands.{items_as}
+use Rattle.bpf_text.specs.Results.{needs, ◌>>?◌}
+use Rattle.bpf_text.specs.Signatures.{kinds_of}
+use Rattle.bpf_text.specs.Tokens.{Name, tokens_of}
+use Rattle.bpf_text.specs.Vocabulary.{Vocabulary}
 
--- a label at the front, and the instruction, if the line has one
-pub record Line : Type 0 where
-  pub label : Option (List ℕ)
-  pub body : Result (Option Draft) AsmFaultKind
+abbrev pub Statement : Type 0
+Statement = the_statement.Statement Name
 
--- what a value of the reader stands for
-abbrev pub seen_body : Result (Option code_draft.Draft) AsmFaultKind → Result (Option Draft) AsmFaultKind
-seen_body (Ok None) = Ok None
-seen_body (Ok (Some d)) = Ok (Some (seen_draft d))
-seen_body (Err e) = Err e
+abbrev pub Line : Type 0
+Line = the_line.Line Name
 
-abbrev pub seen_line : code.Line → Line
-seen_line l = record { label = seen_word l.label; body = seen_body l.body }
+abbrev pub Body : Type 0
+Body = Result (Option Statement) AsmFaultKind
 
--- an instruction's word and its operands
-abbrev pub body_of : List Token → Result (Option Draft) AsmFaultKind
-body_of [] = Ok None
-body_of (Word w ∷ rest) =
-    needs kind.Mnemonic (mnemonic_named w) >>? λ m.
-    needs kind.Operand (items_of rest) >>? λ i.
-    draft_of m i >>? λ d. Ok (Some d)
-body_of tokens = Err kind.Mnemonic
+-- an instruction's word, and its operands
+abbrev pub body_of : Vocabulary → Tokens → Body
+body_of v [] = Ok None
+body_of v (Word w ∷ rest) =
+    needs fault.Mnemonic (v.mnemonic_named w) >>? λ m.
+    needs fault.Operand (items_of rest) >>? λ items.
+    items_as v (kinds_of m) items >>? λ a.
+    Ok (Some (record { mnemonic = m; arguments = a }))
+body_of v tokens = Err fault.Mnemonic
 
--- a word before a colon at the front is a label
-abbrev pub line_of_tokens : List Token → Line
-line_of_tokens (Word w ∷ Colon ∷ rest) = record { label = Some w; body = body_of rest }
-line_of_tokens tokens = record { label = None; body = body_of tokens }
+-- a word before a colon at the front is a label; and the tokens behind it
+abbrev pub split_label : Tokens → Option Name × Tokens
+split_label (Word w ∷ Colon ∷ rest) = (Some w, rest)
+split_label tokens = (None, tokens)
 
-abbrev pub line_if_tokens : Option (List Token) → Line
-line_if_tokens None = record { label = None; body = Err kind.Token }
-line_if_tokens (Some tokens) = line_of_tokens tokens
+abbrev pub line_of_tokens : Vocabulary → Tokens → Line
+line_of_tokens v tokens =
+    record { label = (split_label tokens).0; body = body_of v (split_label tokens).1 }
 
-unfoldable pub read_line : List ℕ → Line
-read_line line = line_if_tokens (tokens_of line)
+abbrev pub line_if_tokens : Vocabulary → Option Tokens → Line
+line_if_tokens v None = record { label = None; body = Err fault.Token }
+line_if_tokens v (Some tokens) = line_of_tokens v tokens
+
+unfoldable pub read_line : Vocabulary → List ℕ → Line
+read_line v line = line_if_tokens v (tokens_of line)
 
 -- the lines of a text, which LF or CR LF ends
-abbrev pub lines_in : List ℕ → List Line
-lines_in text = map read_line (lines text)
+abbrev pub lines_in : Vocabulary → List ℕ → List Line
+lines_in v text = map (read_line v) (lines text)

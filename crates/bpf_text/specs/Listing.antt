@@ -7,7 +7,7 @@ use Rattle.bpf_insn.specs.declared.reg.Reg.TheVariants.{R0, R1, R2, R3, R4, R5, 
 use Rattle.bpf_insn.specs.declared.insn.Insn.{Insn}
 use Rattle.bpf_insn.specs.declared.fields.InsnFault.{InsnFault}
 use Rattle.bpf_insn.specs.Spelling.{IsEncodable, IsLeastFault, Spells, width_of, slots_of}
-use Rattle.bpf_insn.specs.Program.{encodings, layout}
+use Rattle.bpf_insn.specs.Program.{encodings, layout, slots_moved}
 use Rattle.bpf_text.specs.declared.fault.ListFault.{ListFault}
 use Rattle.bpf_text.specs.declared.fault.ListFault.TheVariants as list_fault
 use Rattle.bpf_text.specs.declared.argument.Argument.{Argument}
@@ -38,7 +38,7 @@ argument_text (Register r) = register_text r
 argument_text (Imm k) = signed_decimal k
 argument_text (Number n) = decimal n
 argument_text (Memory r k) = codes "[" ++ register_text r ++ with_sign k ++ codes "]"
-argument_text (Distance k) = with_sign k
+argument_text (Distance distance) = with_sign (slots_moved distance)
 
 -- an argument, if it is there, behind what divides it from the word or the one before
 abbrev pub text_behind : List ℕ → Option Argument → List ℕ

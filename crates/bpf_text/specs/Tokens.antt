@@ -7,25 +7,12 @@ use Rattle.bpf_insn.specs.Program.{◌>>=◌}
 use Rattle.bpf_text.specs.declared.token.Sign.{Sign}
 use Rattle.bpf_text.specs.declared.token.Sign.TheVariants.{Absent, Minus, Plus}
 use Rattle.bpf_text.specs.declared.token.Figure.{Figure}
-use Rattle.bpf_text.specs.declared.token.Token as code
-use Rattle.bpf_text.specs.declared.token.Token.TheVariants as code_token
+use Rattle.bpf_text.specs.declared.token.Token.{Token}
+use Rattle.bpf_text.specs.declared.token.Token.TheVariants.{Word, Number, Comma, Colon, Open, Close}
 
-pub data Token : Type 0 where
-  Word : List ℕ → Token
-  Number : Figure → Token
-  Comma : Token
-  Colon : Token
-  Open : Token
-  Close : Token
-
--- the token that a value of the reader stands for
-abbrev pub seen : code.Token → Token
-seen (code_token.Word w) = Word w.now
-seen (code_token.Number n) = Number n
-seen code_token.Comma = Comma
-seen code_token.Colon = Colon
-seen code_token.Open = Open
-seen code_token.Close = Close
+-- a name: a word's bytes
+abbrev pub Name : Type 0
+Name = List ℕ
 
 abbrev pub is_blank : ℕ → Bool
 is_blank c = (c == 32) || (c == 9)
@@ -36,7 +23,7 @@ is_letter c = is_ascii_alphabetic c || (c == 95)
 abbrev pub is_name_byte : ℕ → Bool
 is_name_byte c = is_letter c || is_ascii_digit c
 
-abbrev pub mark_of : ℕ → Option Token
+abbrev pub mark_of : ℕ → Option (Token Name)
 mark_of c =
     if c == 44 then Some Comma
     else if c == 58 then Some Colon
@@ -82,19 +69,19 @@ number_if_small n = if nat_lt n (2 ^ 64) then Some n else None
 abbrev pub magnitude : ℕ → List ℕ → Option ℕ
 magnitude radix digits = number_if_small (digits_value radix digits)
 
-abbrev pub numeral : Sign → ℕ → List ℕ → Option Token
+abbrev pub numeral : Sign → ℕ → List ℕ → Option (Token Name)
 numeral sign radix digits =
     if is_numeral radix digits then Some (Number (record { sign = sign; magnitude = magnitude radix digits })) else None
 
 -- 0x and 1 to 16 hexadecimal digits, or decimal digits
-abbrev pub unsigned_number : List ℕ → Option Token
+abbrev pub unsigned_number : List ℕ → Option (Token Name)
 unsigned_number piece =
     if (slice_index_or piece 0 0 == 48) && (slice_index_or piece 1 0 == 120)
     then (if nat_le (length piece) 18 then numeral Absent 16 (drop 2 piece) else None)
     else numeral Absent 10 piece
 
 -- a word has at most 32 characters
-abbrev pub token_of : List ℕ → Option Token
+abbrev pub token_of : List ℕ → Option (Token Name)
 token_of [] = None
 token_of (c ∷ rest) =
     if is_mark c then mark_of c
@@ -103,10 +90,10 @@ token_of (c ∷ rest) =
     else if c == 43 then numeral Plus 10 rest
     else unsigned_number (c ∷ rest)
 
-abbrev pub tokens_in : List (List ℕ) → Option (List Token)
+abbrev pub tokens_in : List (List ℕ) → Option (List (Token Name))
 tokens_in [] = Some []
 tokens_in (p ∷ ps) = token_of p >>= λ t. tokens_in ps >>= λ ts. Some (t ∷ ts)
 
 -- the tokens of a line; None where one of its pieces is none
-abbrev pub tokens_of : List ℕ → Option (List Token)
+abbrev pub tokens_of : List ℕ → Option (List (Token Name))
 tokens_of line = tokens_in (pieces line)

@@ -1,15 +1,25 @@
--- Words by their text: the first of a table that is written so.
-use Rattle.std.specs.Prelude.{ℕ, List, Option}
-use Rattle.std.specs.Str.{bytes_eq}
-use Rattle.std.specs.List.{find}
+-- What words stand for: the way back from the text of words and registers, and from a word with its
+-- arguments to the instruction.
+use Rattle.std.specs.Prelude.{◌≡◌, ◌↔◌, Option, Some}
 use Rattle.bpf_insn.specs.declared.reg.Reg.{Reg}
+use Rattle.bpf_insn.specs.declared.insn.Insn.{Insn}
+use Rattle.bpf_text.specs.declared.argument.Argument.{Argument}
 use Rattle.bpf_text.specs.declared.mnemonic.Mnemonic.{Mnemonic}
-use Rattle.bpf_text.specs.declared.vocabulary.TheConstants.{MNEMONICS, REGISTERS}
-use Rattle.bpf_text.specs.Words.{word_of}
+use Rattle.bpf_text.specs.declared.three.UpToThree.{UpToThree}
+use Rattle.bpf_text.specs.Arguments.{mnemonic_of, arguments_of}
 use Rattle.bpf_text.specs.Listing.{register_text}
+use Rattle.bpf_text.specs.Tokens.{Name}
+use Rattle.bpf_text.specs.Words.{word_of}
 
-unfoldable pub mnemonic_named : List ℕ → Option Mnemonic
-mnemonic_named word = find (λ m. bytes_eq word (word_of m)) MNEMONICS
+pub record Vocabulary : Type 0 where
+  pub mnemonic_named : Name → Option Mnemonic
+  pub register_named : Name → Option Reg
+  pub insn_of : Mnemonic → UpToThree Argument → Option Insn
 
-unfoldable pub register_named : List ℕ → Option Reg
-register_named word = find (λ r. bytes_eq word (register_text r)) REGISTERS
+-- what is written so is found, and nothing else
+pub record IsExact (v : Vocabulary) : Type 0 where
+  pub mnemonics : (w : Name) (m : Mnemonic) → (v.mnemonic_named w ≡ Some m) ↔ (w ≡ word_of m)
+  pub registers : (w : Name) (r : Reg) → (v.register_named w ≡ Some r) ↔ (w ≡ register_text r)
+  pub insns :
+      (m : Mnemonic) (a : UpToThree Argument) (i : Insn) →
+      (v.insn_of m a ≡ Some i) ↔ ((mnemonic_of i ≡ m) × (arguments_of i ≡ a))

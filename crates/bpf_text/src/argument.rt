@@ -1,9 +1,17 @@
 //! What stands behind an instruction's word: registers, numbers, memory and distances, by form.
 
 ghost use Rattle.std.specs.Prelude.{◌≡◌};
-ghost use Rattle.bpf_text.specs.Arguments.{mnemonic_of, arguments_of, operand_argument, wide_arguments};
+ghost use Rattle.bpf_text.specs.Three.{three};
+ghost use Rattle.bpf_text.specs.Arguments.{
+  mnemonic_of,
+  arguments_of,
+  operand_argument,
+  jump_arguments,
+  wide_arguments,
+};
 
 use crate::mnemonic::Mnemonic;
+use crate::three::{UpToThree, none, one, three, two};
 use bpf_insn::{Distance, Insn, Operand, Reg, WideValue};
 
 /// One argument of an instruction.
@@ -16,16 +24,8 @@ pub enum Argument {
     Number(u64),
     /// The bytes at a register's address plus an offset.
     Memory(Reg, i16),
-    /// How many slots a jump moves from the instruction after it.
-    Distance(i32),
-}
-
-/// The arguments of an instruction, in their order.
-#[derive(Clone, Copy, Debug, PartialEq, Eq)]
-pub struct Arguments {
-    pub first: Option<Argument>,
-    pub second: Option<Argument>,
-    pub third: Option<Argument>,
+    /// How many slots a jump moves from the instruction after it, in 16 or in 32 bits.
+    Distance(Distance),
 }
 
 /// The word of an instruction, as its parts.
@@ -70,46 +70,6 @@ pub fn mnemonic_of(insn: Insn) -> Mnemonic
     }
 }
 
-fn none() -> Arguments
-    ensures { result ≡ record { first = None; second = None; third = None } }
-{
-    Arguments {
-        first: None,
-        second: None,
-        third: None,
-    }
-}
-
-fn one(first: Argument) -> Arguments
-    ensures { result ≡ record { first = Some first; second = None; third = None } }
-{
-    Arguments {
-        first: Some(first),
-        second: None,
-        third: None,
-    }
-}
-
-fn two(first: Argument, second: Argument) -> Arguments
-    ensures { result ≡ record { first = Some first; second = Some second; third = None } }
-{
-    Arguments {
-        first: Some(first),
-        second: Some(second),
-        third: None,
-    }
-}
-
-fn three(first: Argument, second: Argument, third: Argument) -> Arguments
-    ensures { result ≡ record { first = Some first; second = Some second; third = Some third } }
-{
-    Arguments {
-        first: Some(first),
-        second: Some(second),
-        third: Some(third),
-    }
-}
-
 fn operand_argument(operand: Operand) -> Argument
     ensures { result ≡ operand_argument operand }
 {
@@ -120,17 +80,18 @@ fn operand_argument(operand: Operand) -> Argument
 }
 
 // What a jump compares, and how far it goes.
-fn jump_arguments(left: Reg, right: Operand, offset: i16) -> Arguments
-    ensures { result ≡ record { first = Some (Argument.Register left); second = Some (operand_argument right); third = Some (Argument.Distance offset) } }
+fn jump_arguments(left: Reg, right: Operand, offset: i16) -> UpToThree<Argument>
+    ensures { result ≡ jump_arguments left right offset }
 {
     three(
         Argument::Register(left),
         operand_argument(right),
-        Argument::Distance(i32::from(offset)),
+        Argument::Distance(Distance::Short(offset)),
     )
 }
 
-fn wide_arguments(dst: Reg, value: WideValue) -> Arguments
+// The number of `lddw`, the index of `ldmap`, and both numbers of `ldcell`.
+fn wide_arguments(dst: Reg, value: WideValue) -> UpToThree<Argument>
     ensures { result ≡ wide_arguments dst value }
 {
     let dst = Argument::Register(dst);
@@ -143,8 +104,9 @@ fn wide_arguments(dst: Reg, value: WideValue) -> Arguments
     }
 }
 
-/// The arguments of an instruction.
-pub fn arguments_of(insn: Insn) -> Arguments
+/// The arguments of an instruction: `dst` first, also where it is the address that is stored to, and
+/// a distance last.
+pub fn arguments_of(insn: Insn) -> UpToThree<Argument>
     ensures { result ≡ arguments_of insn }
 {
     match insn {
@@ -153,12 +115,7 @@ pub fn arguments_of(insn: Insn) -> Arguments
         }
         Insn::MovSx { dst, src, .. } => two(Argument::Register(dst), Argument::Register(src)),
         Insn::Neg { dst, .. } | Insn::End { dst, .. } => one(Argument::Register(dst)),
-        Insn::Jump {
-            distance: Distance::Short(k),
-        } => one(Argument::Distance(i32::from(k))),
-        Insn::Jump {
-            distance: Distance::Long(k),
-        } => one(Argument::Distance(k)),
+        Insn::Jump { distance } => one(Argument::Distance(distance)),
         Insn::JumpIf {
             left,
             right,
@@ -172,25 +129,25 @@ pub fn arguments_of(insn: Insn) -> Arguments
             src,
             offset,
             ..
-        } => { two(Argument::Register(dst), Argument::Memory(src, offset)) }
+        } => two(Argument::Register(dst), Argument::Memory(src, offset)),
         Insn::StoreImm {
             dst,
             offset,
             imm,
             ..
-        } => { two(Argument::Memory(dst, offset), Argument::Imm(imm)) }
+        } => two(Argument::Memory(dst, offset), Argument::Imm(imm)),
         Insn::Store {
             dst,
             src,
             offset,
             ..
-        }
-        | Insn::Atomic {
+        } => two(Argument::Memory(dst, offset), Argument::Register(src)),
+        Insn::Atomic {
             dst,
             src,
             offset,
             ..
-        } => { two(Argument::Memory(dst, offset), Argument::Register(src)) }
+        } => two(Argument::Memory(dst, offset), Argument::Register(src)),
         Insn::Wide { dst, value } => wide_arguments(dst, value),
     }
 }

@@ -1,131 +1,132 @@
 //! From a text to its bytes: the first pass reads each line and notes where labels and
 //! instructions stand, and the second gives each jump its distance and writes the encodings.
 
-ghost use Rattle.std.specs.Prelude.{
-  ◌≡◌,
-  Some,
-  None,
-  map,
-  IfOk,
-  IfErr,
-  Ok,
-  if◌then◌else◌,
+ghost use Rattle.std.specs.Prelude.{◌≡◌, Some, None, option_map, map, IfOk, IfErr, Ok};
+ghost use Rattle.bpf_text.specs.Assembly.{
+  short_distance,
+  slots_to,
+  argument_at,
+  argument_if,
+  arguments_at,
+  insn_at,
+  bytes_of_placed,
+  assembly_of,
+  Assembles,
+  IsAsmFault,
 };
 ghost use Rattle.bpf_text.specs.Labels.{slot_at};
-ghost use Rattle.bpf_text.specs.Assembly.{
-  in_field,
-  with_distance,
-  resolved,
-  seen_placed,
-  bytes_of_placed,
-  IsAsmFault,
-  assembly_of,
-  IsByteFault,
-  IsReadingFault,
-  IsWholeReading,
-  reader_fault,
-};
+ghost use Rattle.bpf_text.specs.Names.{given_named, placed_named};
+ghost use Rattle.bpf_text.specs.Reading.{IsByteFault, IsReadingFault, IsTableFault, IsWholeReading};
+ghost use Rattle.bpf_text.specs.Tables.{tables};
+ghost use Rattle.bpf_text.specs.Three.{map_three};
 
+use crate::argument::Argument;
 use crate::fault::{AsmFault, AsmFaultKind};
 use crate::label::{Labels, label_slot};
 use crate::line::{read_line, split_line};
+use crate::operand::Given;
 use crate::scan::{Placed, Reading, add_line};
+use crate::statement::insn_of;
+use crate::three::UpToThree;
 use bpf_insn::{Distance, Insn, encode};
 use std::alloc::Global;
 use std::collections::BTreeMap;
 
-fn short_distance(z: i32) -> Option<i16>
-    ensures { result ≡ (if in_field 15 z then Some z else None) }
+fn short_distance(z: i32) -> Option<Argument>
+    ensures { result ≡ short_distance z }
 {
     if -0x8000 <= z && z < 0x8000 {
-        Some(z as i16)
+        Some(Argument::Distance(Distance::Short(z as i16)))
     } else {
         None
     }
 }
 
-fn with_distance(insn: Insn, z: i32) -> Option<Insn>
-    ensures { result ≡ with_distance insn z }
+// How far it is from a slot to a label.
+fn slots_to<'a>(labels: &Labels<'a>, slot: u16, name: &'a [u8]) -> Result<i32, AsmFaultKind>
+    ensures { result ≡ slots_to (slot_at labels.now) slot name.now }
 {
-    match insn {
-        Insn::Jump {
-            distance: Distance::Short(_),
-        } => {
-            let k = short_distance(z)?;
-            Some(Insn::Jump {
-                distance: Distance::Short(k),
-            })
+    let to = label_slot(labels, name).ok_or(AsmFaultKind::Label)?;
+    Ok(i32::from(to) - (i32::from(slot) + 1))
+}
+
+fn argument_at<'a>(
+    labels: &Labels<'a>,
+    slot: u16,
+    given: Given<&'a [u8]>,
+) -> Result<Argument, AsmFaultKind>
+    ensures { result ≡ argument_at (slot_at labels.now) slot (given_named given.entry) }
+{
+    match given {
+        Given::Argument(argument) => Ok(argument),
+        Given::ShortTo(name) => {
+            let distance = slots_to(labels, slot, name)?;
+            short_distance(distance).ok_or(AsmFaultKind::Range)
         }
-        Insn::Jump {
-            distance: Distance::Long(_),
-        } => {
-            Some(Insn::Jump {
-                distance: Distance::Long(z),
-            })
+        Given::LongTo(name) => {
+            let distance = slots_to(labels, slot, name)?;
+            Ok(Argument::Distance(Distance::Long(distance)))
         }
-        Insn::JumpIf {
-            bits,
-            condition,
-            left,
-            right,
-            ..
-        } => {
-            let offset = short_distance(z)?;
-            Some(Insn::JumpIf {
-                bits,
-                condition,
-                left,
-                right,
-                offset,
-            })
-        }
-        _ => Some(insn),
     }
 }
 
-// The instruction, with its way to the label where it has a target.
-fn resolved<'a>(labels: &Labels<'a>, placed: Placed<'a>) -> Result<Insn, AsmFaultKind>
-    ensures { result ≡ resolved (slot_at labels.now) (seen_placed placed.entry) }
+fn argument_if<'a>(
+    labels: &Labels<'a>,
+    slot: u16,
+    given: Option<Given<&'a [u8]>>,
+) -> Result<Option<Argument>, AsmFaultKind>
+    ensures { result ≡ argument_if (slot_at labels.now) slot (option_map given_named given.entry) }
 {
-    let insn = placed.draft.insn;
-    match placed.draft.target {
-        None => Ok(insn),
-        Some(name) => {
-            let to = label_slot(labels, name).ok_or(AsmFaultKind::Label)?;
-            let distance = i32::from(to) - (i32::from(placed.slot) + 1);
-            with_distance(insn, distance).ok_or(AsmFaultKind::Range)
-        }
+    match given {
+        Some(given) => Ok(Some(argument_at(labels, slot, given)?)),
+        None => Ok(None),
     }
+}
+
+// The arguments, with the distance to each label in its place.
+fn arguments_at<'a>(
+    labels: &Labels<'a>,
+    slot: u16,
+    given: UpToThree<Given<&'a [u8]>>,
+) -> Result<UpToThree<Argument>, AsmFaultKind>
+    ensures { result ≡ arguments_at (slot_at labels.now) slot (map_three given_named given.entry) }
+{
+    let first = argument_if(labels, slot, given.first)?;
+    let second = argument_if(labels, slot, given.second)?;
+    let third = argument_if(labels, slot, given.third)?;
+    Ok(UpToThree {
+        first,
+        second,
+        third,
+    })
+}
+
+fn insn_at<'a>(labels: &Labels<'a>, placed: Placed<&'a [u8]>) -> Result<Insn, AsmFaultKind>
+    ensures { result ≡ insn_at tables (slot_at labels.now) (placed_named placed.entry) }
+{
+    let arguments = arguments_at(labels, placed.slot, placed.statement.arguments)?;
+    insn_of(placed.statement.mnemonic, arguments).ok_or(AsmFaultKind::Operand)
 }
 
 // The encodings of the instructions, one after the other.
 fn write_bytes<'a>(alloc: Global, reading: &Reading<'a>) -> Result<Vec<u8>, AsmFault>
-    ensures bytes { IfOk result (λ v. bytes_of_placed (slot_at reading.now.labels) (map seen_placed reading.now.placed.items) ≡ Ok v.items) }
-    ensures fault { IfErr result (IsByteFault (slot_at reading.now.labels) (map seen_placed reading.now.placed.items)) }
+    ensures bytes { IfOk result (λ v. bytes_of_placed tables (slot_at reading.now.labels) (map placed_named reading.now.placed.items) ≡ Ok v.items) }
+    ensures fault { IfErr result (IsByteFault (slot_at reading.now.labels) (map placed_named reading.now.placed.items)) }
 {
     let mut out = Vec::with_capacity(alloc, 8 * usize::from(reading.slots))?;
     for placed in &reading.placed {
-        match resolved(&reading.labels, *placed) {
+        match insn_at(&reading.labels, *placed) {
             Ok(insn) => {
                 let (bytes, length) = encode(&insn);
                 out.extend_from_slice(&bytes[..length])?;
             }
-            Err(kind) => return Err(AsmFault {
+            Err(kind) => return Err(AsmFault::At {
                 line: placed.line,
                 kind,
             }),
         }
     }
     Ok(out)
-}
-
-fn fault_at(line: usize, kind: AsmFaultKind) -> AsmFault
-    ensures { result ≡ reader_fault line kind }
-{
-    match kind {
-        AsmFaultKind::Memory => AsmFault { line: 0, kind },
-        _ => AsmFault { line, kind },
-    }
 }
 
 // The first pass.
@@ -144,13 +145,20 @@ fn read_text<'a>(alloc: Global, text: &'a [u8]) -> Result<Reading<'a>, AsmFault>
     while !rest.is_empty() {
         let (line, behind) = split_line(rest);
         let line = read_line(&mut tokens, line)?;
-        let number = reading.lines + 1;
-        if let Err(kind) = add_line(&mut reading, line) {
-            return Err(fault_at(number, kind));
-        }
+        add_line(&mut reading, line)?;
         rest = behind;
     }
     Ok(reading)
+}
+
+// By the reader's own tables.
+#[tactic(auto, unfolding(crate::specs::Assembly::assembly_of))]
+fn assembled(alloc: Global, text: &[u8]) -> Result<Vec<u8>, AsmFault>
+    ensures bytes { IfOk result (λ v. assembly_of tables text.now ≡ Ok v.items) }
+    ensures fault { IfErr result (IsTableFault text.now) }
+{
+    let reading = read_text(alloc, text)?;
+    write_bytes(alloc, &reading)
 }
 
 /// The bytes that a text stands for, in 8 bytes a slot: a line holds an optional label `name:` and
@@ -161,11 +169,9 @@ fn read_text<'a>(alloc: Global, text: &'a [u8]) -> Result<Reading<'a>, AsmFault>
 /// Refused with the first line that has a fault of its own (of several the lowest: `Token`,
 /// `Mnemonic`, `Operand`, `Label` for one given twice, `Range`, `TooLong` past slot 4096), else with
 /// the first jump to an unknown label; or with `Memory` where a growth was refused.
-#[tactic(auto, unfolding(crate::specs::Assembly::assembly_of))]
 pub fn assemble(alloc: Global, text: &str) -> Result<Vec<u8>, AsmFault>
-    ensures bytes { IfOk result (λ v. assembly_of text.now ≡ Ok v.items) }
+    ensures bytes { IfOk result (λ v. Assembles text.now (Ok v.items)) }
     ensures fault { IfErr result (IsAsmFault text.now) }
 {
-    let reading = read_text(alloc, text.as_bytes())?;
-    write_bytes(alloc, &reading)
+    assembled(alloc, text.as_bytes())
 }

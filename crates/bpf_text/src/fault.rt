@@ -2,7 +2,7 @@
 
 ghost use Rattle.std.specs.Prelude.{◌≡◌, Some};
 ghost use Rattle.bpf_text.specs.declared.fault.ListFault.{ListFault};
-ghost use Rattle.bpf_text.specs.declared.fault.AsmFaultKind.{AsmFaultKind};
+ghost use Rattle.bpf_text.specs.declared.fault.AsmFault.{AsmFault};
 ghost use Rattle.bpf_text.specs.Faults.{kind_text, asm_fault_text, list_fault_text};
 
 use bpf_insn::InsnFault;
@@ -54,16 +54,16 @@ pub enum AsmFaultKind {
     Range,
     /// A6: an instruction past slot 4096.
     TooLong,
-    /// A7: a growth was refused. It has no line.
-    Memory,
 }
 
-/// The first fault of a text.
+/// The first fault of a text, or the refusal of memory (A7).
 #[derive(Clone, Copy, Debug, PartialEq, Eq)]
-pub struct AsmFault {
-    /// From 1; 0 for `Memory`, which has no line.
-    pub line: usize,
-    pub kind: AsmFaultKind,
+pub enum AsmFault {
+    /// The fault of a line, from 1. `Range` speaks of a number that is written: a label can't be too
+    /// far for a jump, since distances lie within 4095 slots.
+    At { line: usize, kind: AsmFaultKind },
+    /// A7: a growth was refused.
+    Memory,
 }
 
 fn asm_fault_name(kind: AsmFaultKind) -> &'static str
@@ -76,7 +76,6 @@ fn asm_fault_name(kind: AsmFaultKind) -> &'static str
         AsmFaultKind::Label => "A4 Label",
         AsmFaultKind::Range => "A5 Range",
         AsmFaultKind::TooLong => "A6 TooLong",
-        AsmFaultKind::Memory => "A7 Memory",
     }
 }
 
@@ -84,11 +83,12 @@ impl fmt::Display for AsmFault {
     ghost output = { λ fault. Some (asm_fault_text fault) };
 
     fn fmt<W: fmt::Write>(&self, f: &mut fmt::Formatter<W>) -> fmt::Result {
-        let name = asm_fault_name(self.kind);
-        let line = self.line;
-        match self.kind {
-            AsmFaultKind::Memory => write!(f, "{name}"),
-            _ => write!(f, "{name} at line {line}"),
+        match *self {
+            AsmFault::At { line, kind } => {
+                let name = asm_fault_name(kind);
+                write!(f, "{name} at line {line}")
+            }
+            AsmFault::Memory => f.write_str("A7 Memory"),
         }
     }
 }
@@ -96,12 +96,9 @@ impl fmt::Display for AsmFault {
 impl std::error::Error for AsmFault {}
 
 impl From<AllocError> for AsmFault {
-    ghost from_gives = { λ _ fault. fault ≡ record { line = 0; kind = AsmFaultKind.Memory } };
+    ghost from_gives = { λ _ fault. fault ≡ AsmFault.Memory };
 
     fn from(_error: AllocError) -> AsmFault {
-        AsmFault {
-            line: 0,
-            kind: AsmFaultKind::Memory,
-        }
+        AsmFault::Memory
     }
 }

@@ -1,65 +1,30 @@
 //! The operands behind an instruction's word: words, numbers and memory, with commas between.
 
-ghost use Rattle.std.specs.Prelude.{◌≡◌, ◌∷◌, [], map, Option, Some, None, option_map};
-ghost use Rattle.bpf_text.specs.Tokens.{seen};
-ghost use Rattle.bpf_text.specs.Items.{
-  seen_item,
-  seen_option,
-  seen_items,
-  has_sign,
-  memory_item,
-  item_at_front,
-  item_after_comma,
-  items_of,
-  seen_front,
-  seen_after,
-  if_at_end,
-};
+ghost use Rattle.std.specs.Prelude.{◌≡◌, map, option_map};
+ghost use Rattle.bpf_text.specs.Three.{map_three};
+ghost use Rattle.bpf_text.specs.Items.{item_at_front, item_after_comma, items_of, if_at_end};
+ghost use Rattle.bpf_text.specs.Names.{token_named, item_named, front_named, after_named};
 
+use crate::three::{UpToThree, none};
 use crate::token::{Figure, Sign, Token};
-use crate::vocabulary::register_named;
-use bpf_insn::Reg;
 
 /// One operand as it is written.
 #[derive(Clone, Copy, Debug)]
-pub enum Item<'a> {
+pub enum Item<N> {
     /// A register or a label.
-    Name(&'a [u8]),
+    Name(N),
     Number(Figure),
-    /// A register in brackets, with an offset that has its sign.
-    Memory(Reg, Figure),
+    /// A name in brackets, with an offset; +0 where none is written.
+    Memory(N, Figure),
 }
 
 /// The operands, in their order.
-#[derive(Clone, Copy, Debug)]
-pub struct Items<'a> {
-    pub first: Option<Item<'a>>,
-    pub second: Option<Item<'a>>,
-    pub third: Option<Item<'a>>,
-}
+pub type Items<'a> = UpToThree<Item<&'a [u8]>>;
 
-fn has_sign(sign: Sign) -> bool
-    ensures { result ≡ has_sign sign }
-{
-    match sign {
-        Sign::Absent => false,
-        Sign::Minus | Sign::Plus => true,
-    }
-}
+type Tokens<'t, 'a> = &'t [Token<&'a [u8]>];
 
-fn memory_item<'a>(word: &[u8], offset: Figure) -> Option<Item<'a>>
-    ensures { seen_option result ≡ memory_item word.now offset }
-{
-    let register = register_named(word)?;
-    if has_sign(offset.sign) {
-        Some(Item::Memory(register, offset))
-    } else {
-        None
-    }
-}
-
-fn item_at_front<'a, 't>(tokens: &'t [Token<'a>]) -> Option<(Item<'a>, &'t [Token<'a>])>
-    ensures { seen_front result ≡ item_at_front (map seen tokens.now) }
+fn item_at_front<'a, 't>(tokens: Tokens<'t, 'a>) -> Option<(Item<&'a [u8]>, Tokens<'t, 'a>)>
+    ensures { option_map front_named result ≡ item_at_front (map token_named tokens.now) }
 {
     match tokens {
         [Token::Word(word), rest @ ..] => Some((Item::Name(word), rest)),
@@ -69,7 +34,7 @@ fn item_at_front<'a, 't>(tokens: &'t [Token<'a>]) -> Option<(Item<'a>, &'t [Toke
                 sign: Sign::Plus,
                 magnitude: Some(0),
             };
-            Some((memory_item(word, none)?, rest))
+            Some((Item::Memory(word, none), rest))
         }
         [
             Token::Open,
@@ -77,13 +42,15 @@ fn item_at_front<'a, 't>(tokens: &'t [Token<'a>]) -> Option<(Item<'a>, &'t [Toke
             Token::Number(n),
             Token::Close,
             rest @ ..,
-        ] => { Some((memory_item(word, *n)?, rest)) }
+        ] => Some((Item::Memory(word, *n), rest)),
         _ => None,
     }
 }
 
-fn item_after_comma<'a, 't>(tokens: &'t [Token<'a>]) -> Option<(Option<Item<'a>>, &'t [Token<'a>])>
-    ensures { seen_after result ≡ item_after_comma (map seen tokens.now) }
+fn item_after_comma<'a, 't>(
+    tokens: Tokens<'t, 'a>,
+) -> Option<(Option<Item<&'a [u8]>>, Tokens<'t, 'a>)>
+    ensures { option_map after_named result ≡ item_after_comma (map token_named tokens.now) }
 {
     match tokens {
         [] => Some((None, tokens)),
@@ -95,8 +62,8 @@ fn item_after_comma<'a, 't>(tokens: &'t [Token<'a>]) -> Option<(Option<Item<'a>>
     }
 }
 
-fn if_at_end<'a>(items: Items<'a>, rest: &[Token<'a>]) -> Option<Items<'a>>
-    ensures { option_map seen_items result ≡ if_at_end (seen_items items.entry) (map seen rest.now) }
+fn if_at_end<'a>(items: Items<'a>, rest: &[Token<&'a [u8]>]) -> Option<Items<'a>>
+    ensures { option_map (map_three item_named) result ≡ if_at_end (map_three item_named items.entry) (map token_named rest.now) }
 {
     match rest {
         [] => Some(items),
@@ -105,21 +72,17 @@ fn if_at_end<'a>(items: Items<'a>, rest: &[Token<'a>]) -> Option<Items<'a>>
 }
 
 /// The operands that tokens spell, or `None` where they spell none.
-pub fn items_of<'a>(tokens: &[Token<'a>]) -> Option<Items<'a>>
-    ensures { option_map seen_items result ≡ items_of (map seen tokens.now) }
+pub fn items_of<'a>(tokens: &[Token<&'a [u8]>]) -> Option<Items<'a>>
+    ensures { option_map (map_three item_named) result ≡ items_of (map token_named tokens.now) }
 {
     if tokens.is_empty() {
-        return Some(Items {
-            first: None,
-            second: None,
-            third: None,
-        });
+        return Some(none());
     }
     let (first, rest) = item_at_front(tokens)?;
     let (second, rest) = item_after_comma(rest)?;
     let (third, rest) = item_after_comma(rest)?;
     if_at_end(
-        Items {
+        UpToThree {
             first: Some(first),
             second,
             third,

@@ -5,20 +5,23 @@
 
 mod argument;
 mod assembler;
-mod draft;
 mod fault;
 mod item;
 mod label;
+mod law;
 mod line;
 mod lister;
 mod mnemonic;
 mod operand;
-mod operands;
 mod range;
 mod scan;
+mod signature;
+mod statement;
+mod three;
 mod token;
 mod vocabulary;
 
 pub use assembler::assemble;
 pub use fault::{AsmFault, AsmFaultKind, ListFault};
+pub use law::one_assembly;
 pub use lister::listing;

@@ -3,64 +3,77 @@
 ghost use Rattle.std.specs.Prelude.{◌≡◌, ◌==◌, ◌∷◌, ◌<◌, ◌≤◌, length, map, IfOk};
 ghost use Rattle.std.specs.Str.Lines.{lines, strip_carriage_return};
 ghost use Rattle.std.specs.List.{position_or_len};
-ghost use Rattle.bpf_text.specs.Tokens.{seen};
-ghost use Rattle.bpf_text.specs.Lines.{
-  seen_body,
-  seen_line,
-  body_of,
-  line_of_tokens,
-  line_if_tokens,
-  read_line,
-};
+ghost use Rattle.bpf_text.specs.Lines.{body_of, split_label, line_of_tokens, line_if_tokens, read_line};
+ghost use Rattle.bpf_text.specs.Names.{token_named, body_named, split_named, line_named};
+ghost use Rattle.bpf_text.specs.Tables.{tables};
 
-use crate::draft::{Draft, draft_of};
 use crate::fault::AsmFaultKind;
 use crate::item::items_of;
+use crate::mnemonic::Mnemonic;
+use crate::operand::{Given, items_as};
+use crate::signature::kinds_of;
+use crate::three::UpToThree;
 use crate::token::{Token, read_tokens};
 use crate::vocabulary::mnemonic_named;
 use std::alloc::AllocError;
 
-/// A line as it is read.
+/// An instruction as a line states it: its word, and arguments in which a label may stand for a
+/// distance.
 #[derive(Clone, Copy, Debug)]
-pub struct Line<'a> {
-    pub label: Option<&'a [u8]>,
-    pub body: Result<Option<Draft<'a>>, AsmFaultKind>,
+pub struct Statement<N> {
+    pub mnemonic: Mnemonic,
+    pub arguments: UpToThree<Given<N>>,
 }
 
-fn body_of<'a>(tokens: &[Token<'a>]) -> Result<Option<Draft<'a>>, AsmFaultKind>
-    ensures { seen_body result ≡ body_of (map seen tokens.now) }
+/// What a line says: a label, and a statement, nothing or a fault.
+#[derive(Clone, Copy, Debug)]
+pub struct Line<N> {
+    pub label: Option<N>,
+    pub body: Result<Option<Statement<N>>, AsmFaultKind>,
+}
+
+fn body_of<'a>(tokens: &[Token<&'a [u8]>]) -> Result<Option<Statement<&'a [u8]>>, AsmFaultKind>
+    ensures { body_named result ≡ body_of tables (map token_named tokens.now) }
 {
     match tokens {
         [] => Ok(None),
         [Token::Word(word), rest @ ..] => {
             let mnemonic = mnemonic_named(word).ok_or(AsmFaultKind::Mnemonic)?;
             let items = items_of(rest).ok_or(AsmFaultKind::Operand)?;
-            let draft = draft_of(mnemonic, items)?;
-            Ok(Some(draft))
+            let arguments = items_as(kinds_of(mnemonic), items)?;
+            Ok(Some(Statement { mnemonic, arguments }))
         }
         _ => Err(AsmFaultKind::Mnemonic),
     }
 }
 
-fn line_of_tokens<'a>(tokens: &[Token<'a>]) -> Line<'a>
-    ensures { seen_line result ≡ line_of_tokens (map seen tokens.now) }
+// The label at the front, and the tokens behind it.
+fn split_label<'a, 't>(tokens: &'t [Token<&'a [u8]>]) -> (Option<&'a [u8]>, &'t [Token<&'a [u8]>])
+    ensures { split_named result ≡ split_label (map token_named tokens.now) }
 {
     match tokens {
-        [Token::Word(word), Token::Colon, rest @ ..] => Line {
-            label: Some(word),
-            body: body_of(rest),
-        },
-        _ => Line {
-            label: None,
-            body: body_of(tokens),
-        },
+        [Token::Word(word), Token::Colon, rest @ ..] => (Some(word), rest),
+        _ => (None, tokens),
+    }
+}
+
+fn line_of_tokens<'a>(tokens: &[Token<&'a [u8]>]) -> Line<&'a [u8]>
+    ensures { line_named result ≡ line_of_tokens tables (map token_named tokens.now) }
+{
+    let (label, rest) = split_label(tokens);
+    Line {
+        label,
+        body: body_of(rest),
     }
 }
 
 /// Reads a line, with room for its tokens.
 #[tactic(auto, unfolding(crate::specs::Lines::read_line))]
-pub fn read_line<'a>(tokens: &mut Vec<Token<'a>>, line: &'a [u8]) -> Result<Line<'a>, AllocError>
-    ensures { IfOk result (λ l. seen_line l ≡ read_line line.now) }
+pub fn read_line<'a>(
+    tokens: &mut Vec<Token<&'a [u8]>>,
+    line: &'a [u8],
+) -> Result<Line<&'a [u8]>, AllocError>
+    ensures { IfOk result (λ l. line_named l ≡ read_line tables line.now) }
 {
     if read_tokens(tokens, line)? {
         Ok(line_of_tokens(tokens.as_slice()))

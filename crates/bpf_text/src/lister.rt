@@ -14,11 +14,11 @@ ghost use Rattle.bpf_text.specs.Listing.{
   IsNext,
   IsFaultAt,
 };
-ghost use Rattle.bpf_text.specs.Assembly.{assembly_of};
+ghost use Rattle.bpf_text.specs.Assembly.{Assembles};
 
 use crate::argument::{Argument, arguments_of, mnemonic_of};
 use crate::fault::ListFault;
-use bpf_insn::{Insn, Reg, Width, decode_at};
+use bpf_insn::{Distance, Insn, Reg, Width, decode_at};
 use std::alloc::{AllocError, Global};
 use std::fmt::Write;
 
@@ -75,7 +75,8 @@ fn push_argument(out: &mut String, argument: Argument) -> Result<(), AllocError>
             push_with_sign(out, i32::from(k))?;
             out.push_str("]")
         }
-        Argument::Distance(k) => push_with_sign(out, k),
+        Argument::Distance(Distance::Short(k)) => push_with_sign(out, i32::from(k)),
+        Argument::Distance(Distance::Long(k)) => push_with_sign(out, k),
     }
 }
 
@@ -133,7 +134,7 @@ fn push_next(out: &mut String, bytes: &[u8], slot: usize) -> Result<usize, ListF
 /// growth of the text was refused.
 pub fn listing(alloc: Global, bytes: &[u8]) -> Result<String, ListFault>
     ensures text { IfOk result (λ text. Lists bytes.now (string_bytes text)) }
-    ensures assembles { IfOk result (λ text. length bytes.now ≤ 8 * 4096 → assembly_of (string_bytes text) ≡ Ok bytes.now) }
+    ensures assembles { IfOk result (λ text. length bytes.now ≤ 8 * 4096 → Assembles (string_bytes text) (Ok bytes.now)) }
     ensures fault { IfErr result (λ e. IsListFault bytes.now e) }
 {
     let mut out = String::new(alloc);

@@ -1,129 +1,208 @@
-//! One operand of each kind (A3 where it is of another), and what its number becomes (A5 where it
-//! doesn't fit).
+//! An operand as the kind that its instruction wants: A3 where it is of another kind, and A5 where
+//! its number doesn't fit its field.
 
-ghost use Rattle.std.specs.Prelude.{◌≡◌};
-ghost use Rattle.bpf_text.specs.Items.{seen_option};
-ghost use Rattle.bpf_text.specs.Drafts.{
-  seen_way,
-  seen_ways,
-  seen_jump,
-  needs,
-  register_in,
-  value_in,
-  memory_in,
-  choice_in,
-  way_in,
-  absent,
-  operand_of,
-  short_jump,
-  long_jump,
+ghost use Rattle.std.specs.Prelude.{◌≡◌, option_map, not, Option, Result};
+ghost use Rattle.bpf_text.specs.Three.{map_three};
+ghost use Rattle.bpf_text.specs.Results.{map_ok};
+ghost use Rattle.bpf_text.specs.Operands.{
+  if_of_kind,
+  has_plus,
+  has_sign,
+  register_given,
+  imm_given,
+  number_given,
+  memory_given,
+  short_given,
+  long_given,
+  item_as,
+  item_if,
+  is_other_kind,
+  arguments_from,
+  items_as,
 };
+ghost use Rattle.bpf_text.specs.Names.{item_named, given_named};
+ghost use Rattle.bpf_text.specs.Tables.{tables};
 
+use crate::argument::Argument;
 use crate::fault::AsmFaultKind;
-use crate::item::Item;
-use crate::range::{imm_of, long_of, short_of};
+use crate::item::{Item, Items};
+use crate::range::{imm_of, long_of, short_of, wide_of};
+use crate::signature::Kind;
+use crate::three::UpToThree;
 use crate::token::{Figure, Sign};
 use crate::vocabulary::register_named;
-use bpf_insn::{Operand, Reg};
+use bpf_insn::Distance;
 
-/// Where a jump goes: to a label, or as far as is written.
+/// What an operand stands for: an argument, or a label in place of a distance.
 #[derive(Clone, Copy, Debug)]
-pub enum Way<'a> {
-    Label(&'a [u8]),
-    Distance(Figure),
+pub enum Given<N> {
+    Argument(Argument),
+    /// The label of a jump whose distance has 16 bits.
+    ShortTo(N),
+    /// The label of a jump whose distance has 32 bits.
+    LongTo(N),
 }
 
-/// A second operand: a register or a number.
-#[derive(Clone, Copy, Debug)]
-pub enum Choice {
-    Register(Reg),
-    Value(Figure),
-}
+type Reading<'a> = Result<Given<&'a [u8]>, AsmFaultKind>;
 
-pub fn register_in(item: Option<Item>) -> Result<Reg, AsmFaultKind>
-    ensures { result ≡ needs AsmFaultKind.Operand (register_in (seen_option item.entry)) }
+fn if_of_kind<'a>(is_of_kind: bool, argument: Option<Argument>) -> Reading<'a>
+    ensures { map_ok given_named result ≡ if_of_kind is_of_kind argument }
 {
-    match item {
-        Some(Item::Name(word)) => register_named(word).ok_or(AsmFaultKind::Operand),
-        _ => Err(AsmFaultKind::Operand),
+    if !is_of_kind {
+        return Err(AsmFaultKind::Operand);
+    }
+    match argument {
+        Some(argument) => Ok(Given::Argument(argument)),
+        None => Err(AsmFaultKind::Range),
     }
 }
 
-pub fn value_in(item: Option<Item>) -> Result<Figure, AsmFaultKind>
-    ensures { result ≡ needs AsmFaultKind.Operand (value_in (seen_option item.entry)) }
+fn has_plus(figure: Figure) -> bool
+    ensures { result ≡ has_plus figure.sign }
+{
+    match figure.sign {
+        Sign::Plus => true,
+        Sign::Absent | Sign::Minus => false,
+    }
+}
+
+fn has_sign(figure: Figure) -> bool
+    ensures { result ≡ has_sign figure.sign }
+{
+    match figure.sign {
+        Sign::Absent => false,
+        Sign::Minus | Sign::Plus => true,
+    }
+}
+
+fn register_given<'a>(word: &[u8]) -> Reading<'a>
+    ensures { map_ok given_named result ≡ register_given (tables.register_named word.now) }
+{
+    match register_named(word) {
+        Some(r) => Ok(Given::Argument(Argument::Register(r))),
+        None => Err(AsmFaultKind::Operand),
+    }
+}
+
+fn imm_given<'a>(figure: Figure) -> Reading<'a>
+    ensures { map_ok given_named result ≡ imm_given figure }
+{
+    let imm = imm_of(figure).map(Argument::Imm);
+    if_of_kind(!has_plus(figure), imm)
+}
+
+fn number_given<'a>(figure: Figure) -> Reading<'a>
+    ensures { map_ok given_named result ≡ number_given figure }
+{
+    let number = wide_of(figure).map(Argument::Number);
+    if_of_kind(!has_plus(figure), number)
+}
+
+fn memory_given<'a>(word: &[u8], offset: Figure) -> Reading<'a>
+    ensures { map_ok given_named result ≡ memory_given (tables.register_named word.now) offset }
+{
+    match register_named(word) {
+        Some(r) => {
+            let memory = short_of(offset).map(|k| Argument::Memory(r, k));
+            if_of_kind(has_sign(offset), memory)
+        }
+        None => Err(AsmFaultKind::Operand),
+    }
+}
+
+fn short_given<'a>(figure: Figure) -> Reading<'a>
+    ensures { map_ok given_named result ≡ short_given figure }
+{
+    let distance = short_of(figure).map(|k| Argument::Distance(Distance::Short(k)));
+    if_of_kind(has_sign(figure), distance)
+}
+
+fn long_given<'a>(figure: Figure) -> Reading<'a>
+    ensures { map_ok given_named result ≡ long_given figure }
+{
+    let distance = long_of(figure).map(|k| Argument::Distance(Distance::Long(k)));
+    if_of_kind(has_sign(figure), distance)
+}
+
+fn name_as<'a>(kind: Kind, word: &'a [u8]) -> Reading<'a>
+    ensures { map_ok given_named result ≡ item_as tables kind (Item.Name word.now) }
+{
+    match kind {
+        Kind::Register | Kind::Source => register_given(word),
+        Kind::ShortWay => Ok(Given::ShortTo(word)),
+        Kind::LongWay => Ok(Given::LongTo(word)),
+        Kind::Imm | Kind::Number | Kind::Memory => Err(AsmFaultKind::Operand),
+    }
+}
+
+fn number_as<'a>(kind: Kind, figure: Figure) -> Reading<'a>
+    ensures { map_ok given_named result ≡ item_as tables kind (Item.Number figure) }
+{
+    match kind {
+        Kind::Source | Kind::Imm => imm_given(figure),
+        Kind::Number => number_given(figure),
+        Kind::ShortWay => short_given(figure),
+        Kind::LongWay => long_given(figure),
+        Kind::Register | Kind::Memory => Err(AsmFaultKind::Operand),
+    }
+}
+
+fn item_as<'a>(kind: Kind, item: Item<&'a [u8]>) -> Reading<'a>
+    ensures { map_ok given_named result ≡ item_as tables kind (item_named item.entry) }
 {
     match item {
-        Some(Item::Number(n)) => match n.sign {
-            Sign::Absent | Sign::Minus => Ok(n),
-            Sign::Plus => Err(AsmFaultKind::Operand),
+        Item::Name(word) => name_as(kind, word),
+        Item::Number(figure) => number_as(kind, figure),
+        Item::Memory(word, offset) => match kind {
+            Kind::Memory => memory_given(word, offset),
+            _ => Err(AsmFaultKind::Operand),
         },
-        _ => Err(AsmFaultKind::Operand),
     }
 }
 
-pub fn memory_in(item: Option<Item>) -> Result<(Reg, Figure), AsmFaultKind>
-    ensures { result ≡ needs AsmFaultKind.Operand (memory_in (seen_option item.entry)) }
+fn item_if<'a>(
+    kind: Option<Kind>,
+    item: Option<Item<&'a [u8]>>,
+) -> Result<Option<Given<&'a [u8]>>, AsmFaultKind>
+    ensures { map_ok (option_map given_named) result ≡ item_if tables kind (option_map item_named item.entry) }
 {
-    match item {
-        Some(Item::Memory(register, offset)) => Ok((register, offset)),
-        _ => Err(AsmFaultKind::Operand),
-    }
-}
-
-pub fn choice_in(item: Option<Item>) -> Result<Choice, AsmFaultKind>
-    ensures { result ≡ needs AsmFaultKind.Operand (choice_in (seen_option item.entry)) }
-{
-    match item {
-        Some(Item::Name(_)) => Ok(Choice::Register(register_in(item)?)),
-        _ => Ok(Choice::Value(value_in(item)?)),
-    }
-}
-
-pub fn way_in<'a>(item: Option<Item<'a>>) -> Result<Way<'a>, AsmFaultKind>
-    ensures { seen_ways result ≡ needs AsmFaultKind.Operand (way_in (seen_option item.entry)) }
-{
-    match item {
-        Some(Item::Name(word)) => Ok(Way::Label(word)),
-        Some(Item::Number(n)) => match n.sign {
-            Sign::Absent => Err(AsmFaultKind::Operand),
-            Sign::Minus | Sign::Plus => Ok(Way::Distance(n)),
+    match kind {
+        Some(kind) => match item {
+            Some(item) => Ok(Some(item_as(kind, item)?)),
+            None => Err(AsmFaultKind::Operand),
         },
-        _ => Err(AsmFaultKind::Operand),
+        None => match item {
+            Some(_) => Err(AsmFaultKind::Operand),
+            None => Ok(None),
+        },
     }
 }
 
-pub fn absent(item: Option<Item>) -> Result<(), AsmFaultKind>
-    ensures { result ≡ needs AsmFaultKind.Operand (absent (seen_option item.entry)) }
+fn is_other_kind(given: Result<Option<Given<&[u8]>>, AsmFaultKind>) -> bool
+    ensures { result ≡ is_other_kind (map_ok (option_map given_named) given.entry) }
 {
-    match item {
-        None => Ok(()),
-        Some(_) => Err(AsmFaultKind::Operand),
+    match given {
+        Err(AsmFaultKind::Operand) => true,
+        _ => false,
     }
 }
 
-pub fn operand_of(choice: Choice) -> Result<Operand, AsmFaultKind>
-    ensures { result ≡ operand_of choice }
+/// The operands as their kinds: A3 of any comes before A5 of another.
+pub fn items_as<'a>(
+    kinds: UpToThree<Kind>,
+    items: Items<'a>,
+) -> Result<UpToThree<Given<&'a [u8]>>, AsmFaultKind>
+    ensures { map_ok (map_three given_named) result ≡ items_as tables kinds (map_three item_named items.entry) }
 {
-    match choice {
-        Choice::Register(r) => Ok(Operand::Register(r)),
-        Choice::Value(n) => Ok(Operand::Imm(imm_of(n).ok_or(AsmFaultKind::Range)?)),
+    let first = item_if(kinds.first, items.first);
+    let second = item_if(kinds.second, items.second);
+    let third = item_if(kinds.third, items.third);
+    if is_other_kind(first) || (is_other_kind(second) || is_other_kind(third)) {
+        return Err(AsmFaultKind::Operand);
     }
-}
-
-pub fn short_jump<'a>(way: Way<'a>) -> Result<(i16, Option<&'a [u8]>), AsmFaultKind>
-    ensures { seen_jump result ≡ short_jump (seen_way way.entry) }
-{
-    match way {
-        Way::Label(word) => Ok((0, Some(word))),
-        Way::Distance(n) => Ok((short_of(n).ok_or(AsmFaultKind::Range)?, None)),
-    }
-}
-
-pub fn long_jump<'a>(way: Way<'a>) -> Result<(i32, Option<&'a [u8]>), AsmFaultKind>
-    ensures { seen_jump result ≡ long_jump (seen_way way.entry) }
-{
-    match way {
-        Way::Label(word) => Ok((0, Some(word))),
-        Way::Distance(n) => Ok((long_of(n).ok_or(AsmFaultKind::Range)?, None)),
-    }
+    Ok(UpToThree {
+        first: first?,
+        second: second?,
+        third: third?,
+    })
 }

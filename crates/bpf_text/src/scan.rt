@@ -14,35 +14,31 @@ ghost use Rattle.std.specs.Prelude.{
   IfErr,
   OnOk,
 };
-ghost use Rattle.bpf_insn.specs.Spelling.{width_of, slots_of};
-ghost use Rattle.bpf_text.specs.Labels.{slot_at};
-ghost use Rattle.bpf_text.specs.Drafts.{seen_word};
-ghost use Rattle.bpf_text.specs.Lines.{seen_line, seen_body};
 ghost use Rattle.bpf_text.specs.Assembly.{
   fault_of_body,
   too_long,
-  seen_placed,
   has_slot,
-  labels_after,
+  slots_of_word,
   slots_of_body,
   placed_body,
-  ReadsOn,
-  IsLineFault,
 };
+ghost use Rattle.bpf_text.specs.Labels.{slot_at};
+ghost use Rattle.bpf_text.specs.Names.{name_of, body_named, line_named, placed_named};
+ghost use Rattle.bpf_text.specs.Tokens.{Name};
+ghost use Rattle.bpf_text.specs.Reading.{labels_after, ReadsOn, IsLineFault};
 
-use crate::draft::Draft;
-use crate::fault::AsmFaultKind;
+use crate::fault::{AsmFault, AsmFaultKind};
 use crate::label::{Labels, add_label, label_slot};
-use crate::line::Line;
-use bpf_insn::Insn;
+use crate::line::{Line, Statement};
+use crate::mnemonic::Mnemonic;
 use std::alloc::AllocError;
 
-/// An instruction with its line, from 1, and its slot.
+/// A statement with its line, from 1, and its slot.
 #[derive(Clone, Copy, Debug)]
-pub struct Placed<'a> {
+pub struct Placed<N> {
     pub line: usize,
     pub slot: u16,
-    pub draft: Draft<'a>,
+    pub statement: Statement<N>,
 }
 
 /// What the first pass has read.
@@ -51,22 +47,22 @@ pub struct Reading<'a> {
     pub lines: usize,
     pub slots: u16,
     pub labels: Labels<'a>,
-    pub placed: Vec<Placed<'a>>,
+    pub placed: Vec<Placed<&'a [u8]>>,
 }
 
-fn width_of(insn: Insn) -> u16
-    ensures is { result ≡ slots_of (width_of insn) }
+fn slots_of_word(mnemonic: Mnemonic) -> u16
+    ensures is { result ≡ slots_of_word mnemonic }
     ensures small { result ≤ 2 }
 {
-    match insn {
-        Insn::Wide { .. } => 2,
+    match mnemonic {
+        Mnemonic::LoadNumber | Mnemonic::LoadMap | Mnemonic::LoadCell => 2,
         _ => 1,
     }
 }
 
 // Whether the label stands on an earlier line.
 fn is_taken<'a>(labels: &Labels<'a>, label: Option<&'a [u8]>) -> bool
-    ensures { result ≡ has_slot (slot_at labels.now) (seen_word label.entry) }
+    ensures { result ≡ has_slot (slot_at labels.now) (name_of label.entry) }
 {
     match label {
         Some(name) => label_slot(labels, name).is_some(),
@@ -87,17 +83,17 @@ fn too_long(slots: u16) -> Option<AsmFaultKind>
 fn fault_of_body(
     slots: u16,
     twice: bool,
-    body: Result<Option<Draft>, AsmFaultKind>,
+    body: Result<Option<Statement<&[u8]>>, AsmFaultKind>,
 ) -> Option<AsmFaultKind>
     requires { slots ≤ 4096 }
-    ensures { result ≡ fault_of_body slots twice (seen_body body.entry) }
+    ensures { result ≡ fault_of_body slots twice (body_named body.entry) }
 {
     match body {
         Err(AsmFaultKind::Range) if twice => Some(AsmFaultKind::Label),
         Err(kind) => Some(kind),
         Ok(_) if twice => Some(AsmFaultKind::Label),
         Ok(None) => None,
-        Ok(Some(draft)) => too_long(slots + width_of(draft.insn)),
+        Ok(Some(statement)) => too_long(slots + slots_of_word(statement.mnemonic)),
     }
 }
 
@@ -106,7 +102,7 @@ fn note_label<'a>(
     label: Option<&'a [u8]>,
     slot: u16,
 ) -> Result<(), AllocError>
-    ensures { OnOk result ((q : List ℕ) → slot_at labels.new q ≡ labels_after (slot_at labels.old) (seen_word label.entry) slot q) }
+    ensures { OnOk result ((q : Name) → slot_at labels.new q ≡ labels_after (slot_at labels.old) (name_of label.entry) slot q) }
 {
     match label {
         Some(name) => add_label(labels, name, slot),
@@ -116,45 +112,41 @@ fn note_label<'a>(
 
 // Notes the instruction of a line, if it has one, and answers its slots.
 fn place<'a>(
-    placed: &mut Vec<Placed<'a>>,
+    placed: &mut Vec<Placed<&'a [u8]>>,
     line: usize,
     slot: u16,
-    body: Result<Option<Draft<'a>>, AsmFaultKind>,
+    body: Result<Option<Statement<&'a [u8]>>, AsmFaultKind>,
 ) -> Result<u16, AllocError>
-    ensures slots { IfOk result (λ n. n ≡ slots_of_body (seen_body body.entry)) }
+    ensures slots { IfOk result (λ n. n ≡ slots_of_body (body_named body.entry)) }
     ensures small { IfOk result (λ n. n ≤ 2) }
-    ensures placed { OnOk result (map seen_placed placed.new.items ≡ map seen_placed placed.old.items ++ placed_body line slot (seen_body body.entry)) }
+    ensures placed { OnOk result (map placed_named placed.new.items ≡ map placed_named placed.old.items ++ placed_body line slot (body_named body.entry)) }
 {
     match body {
-        Ok(Some(draft)) => {
-            placed.push(Placed { line, slot, draft })?;
-            Ok(width_of(draft.insn))
+        Ok(Some(statement)) => {
+            placed.push(Placed { line, slot, statement })?;
+            Ok(slots_of_word(statement.mnemonic))
         }
         _ => Ok(0),
     }
 }
 
 /// Reads one line more: its own fault, or its label and its instruction in their places.
-pub fn add_line<'a>(reading: &mut Reading<'a>, line: Line<'a>) -> Result<(), AsmFaultKind>
+pub fn add_line<'a>(reading: &mut Reading<'a>, line: Line<&'a [u8]>) -> Result<(), AsmFault>
     requires small { reading.old.slots ≤ 4096 }
     requires room { reading.old.lines + 1 < 2 ^ 64 }
-    ensures on { OnOk result (ReadsOn reading.old reading.new (seen_line line.entry)) }
-    ensures fault { IfErr result (IsLineFault reading.old (seen_line line.entry)) }
+    ensures on { OnOk result (ReadsOn reading.old reading.new (line_named line.entry)) }
+    ensures fault { IfErr result (IsLineFault reading.old (line_named line.entry)) }
     ensures counted { OnOk result (reading.new.lines ≡ reading.old.lines + 1) }
     ensures short { OnOk result (reading.new.slots ≤ 4096) }
 {
     let twice = is_taken(&reading.labels, line.label);
+    let number = reading.lines + 1;
     let slot = reading.slots;
     if let Some(kind) = fault_of_body(slot, twice, line.body) {
-        return Err(kind);
+        return Err(AsmFault::At { line: number, kind });
     }
-    let number = reading.lines + 1;
-    if note_label(&mut reading.labels, line.label, slot).is_err() {
-        return Err(AsmFaultKind::Memory);
-    }
-    let Ok(slots) = place(&mut reading.placed, number, slot, line.body) else {
-        return Err(AsmFaultKind::Memory);
-    };
+    note_label(&mut reading.labels, line.label, slot)?;
+    let slots = place(&mut reading.placed, number, slot, line.body)?;
     reading.lines = number;
     reading.slots = slot + slots;
     Ok(())

@@ -21,8 +21,8 @@ ghost use Rattle.std.specs.Prelude.{
 };
 ghost use Rattle.std.specs.Char.{digit_value};
 ghost use Rattle.std.specs.List.{list_all, prefix_len};
+ghost use Rattle.bpf_text.specs.Names.{token_named, tokens_if};
 ghost use Rattle.bpf_text.specs.Tokens.{
-  seen,
   is_blank,
   is_letter,
   is_name_byte,
@@ -57,10 +57,10 @@ pub struct Figure {
     pub magnitude: Option<u64>,
 }
 
-/// One token of a line.
+/// One token of a line, with names of type `N`: here bytes of the text, in definitions lists.
 #[derive(Clone, Copy, Debug)]
-pub enum Token<'a> {
-    Word(&'a [u8]),
+pub enum Token<N> {
+    Word(N),
     Number(Figure),
     Comma,
     Colon,
@@ -92,8 +92,8 @@ fn is_mark(c: u8) -> bool
     c == b',' || c == b':' || c == b'[' || c == b']'
 }
 
-fn mark_of<'a>(c: u8) -> Option<Token<'a>>
-    ensures { option_map seen result ≡ mark_of c }
+fn mark_of<'a>(c: u8) -> Option<Token<&'a [u8]>>
+    ensures { option_map token_named result ≡ mark_of c }
 {
     match c {
         b',' => Some(Token::Comma),
@@ -147,9 +147,9 @@ fn magnitude(radix: u8, digits: &[u8]) -> Option<u64>
     Some(n)
 }
 
-fn numeral<'a>(sign: Sign, radix: u8, digits: &[u8]) -> Option<Token<'a>>
+fn numeral<'a>(sign: Sign, radix: u8, digits: &[u8]) -> Option<Token<&'a [u8]>>
     requires { 1 ≤ radix }
-    ensures { option_map seen result ≡ numeral sign radix digits.now }
+    ensures { option_map token_named result ≡ numeral sign radix digits.now }
 {
     if is_numeral(radix, digits) {
         let magnitude = magnitude(radix, digits);
@@ -159,8 +159,8 @@ fn numeral<'a>(sign: Sign, radix: u8, digits: &[u8]) -> Option<Token<'a>>
     }
 }
 
-fn unsigned_number<'a>(piece: &[u8]) -> Option<Token<'a>>
-    ensures { option_map seen result ≡ unsigned_number piece.now }
+fn unsigned_number<'a>(piece: &[u8]) -> Option<Token<&'a [u8]>>
+    ensures { option_map token_named result ≡ unsigned_number piece.now }
 {
     if piece.len() >= 2 && piece[0] == b'0' && piece[1] == b'x' {
         if piece.len() <= 18 {
@@ -173,8 +173,8 @@ fn unsigned_number<'a>(piece: &[u8]) -> Option<Token<'a>>
     }
 }
 
-fn token_of<'a>(piece: &'a [u8]) -> Option<Token<'a>>
-    ensures { option_map seen result ≡ token_of piece.now }
+fn token_of<'a>(piece: &'a [u8]) -> Option<Token<&'a [u8]>>
+    ensures { option_map token_named result ≡ token_of piece.now }
 {
     let (first, rest) = piece.split_first()?;
     let first = *first;
@@ -220,8 +220,11 @@ fn piece_length(first: u8, rest: &[u8]) -> usize
 }
 
 /// Reads the tokens of a line, in place of what was there, and answers whether all of it is tokens.
-pub fn read_tokens<'a>(tokens: &mut Vec<Token<'a>>, line: &'a [u8]) -> Result<bool, AllocError>
-    ensures { IfOk result (λ whole. tokens_of line.now ≡ (if whole then Some (map seen tokens.new.items) else None)) }
+pub fn read_tokens<'a>(
+    tokens: &mut Vec<Token<&'a [u8]>>,
+    line: &'a [u8],
+) -> Result<bool, AllocError>
+    ensures { IfOk result (λ whole. tokens_of line.now ≡ tokens_if whole tokens.new.items) }
 {
     tokens.clear();
     let mut rest = line;

@@ -5,7 +5,7 @@ ghost use Rattle.std.specs.Str.{bytes_eq};
 ghost use Rattle.std.specs.List.{find};
 ghost use Rattle.bpf_text.specs.Words.{word_of};
 ghost use Rattle.bpf_text.specs.Listing.{register_text};
-ghost use Rattle.bpf_text.specs.Vocabulary.{mnemonic_named, register_named};
+ghost use Rattle.bpf_text.specs.Tables.{mnemonic_named, register_named};
 
 use crate::lister::register_name;
 use crate::mnemonic::Mnemonic;
@@ -147,7 +147,7 @@ fn find_mnemonic(table: &[Mnemonic], word: &[u8]) -> Option<Mnemonic>
 }
 
 /// The mnemonic of a word.
-#[tactic(auto, unfolding(crate::specs::Vocabulary::mnemonic_named))]
+#[tactic(auto, unfolding(crate::specs::Tables::mnemonic_named))]
 pub fn mnemonic_named(word: &[u8]) -> Option<Mnemonic>
     ensures { result ≡ mnemonic_named word.now }
 {
@@ -167,7 +167,7 @@ fn find_register(table: &[Reg], word: &[u8]) -> Option<Reg>
 }
 
 /// The register of a word.
-#[tactic(auto, unfolding(crate::specs::Vocabulary::register_named))]
+#[tactic(auto, unfolding(crate::specs::Tables::register_named))]
 pub fn register_named(word: &[u8]) -> Option<Reg>
     ensures { result ≡ register_named word.now }
 {

@@ -1,0 +1,78 @@
+-- The way back from a word and its arguments is exact: what it finds has them, and it finds each
+-- instruction. A list of all that are left takes each in turn.
+use Rattle.std.proofs.Common.{◌≡◌, ℤ, Option, Some, None, IfSome, refl}
+use Rattle.bpf_insn.specs.declared.reg.Reg.{Reg}
+use Rattle.bpf_insn.specs.declared.operand.Operand.TheVariants as operand
+use Rattle.bpf_insn.specs.declared.operand.Distance.TheVariants.{Short, Long}
+use Rattle.bpf_insn.specs.declared.operand.WideValue.TheVariants as wide
+use Rattle.bpf_insn.specs.declared.insn.Insn.{Insn}
+use Rattle.bpf_insn.specs.declared.insn.Insn.TheVariants as insn
+use Rattle.bpf_text.specs.declared.argument.Argument.{Argument}
+use Rattle.bpf_text.specs.declared.argument.Argument.TheVariants.{Register, Imm, Number, Memory, Distance}
+use Rattle.bpf_text.specs.declared.mnemonic.Mnemonic.{Mnemonic}
+use Rattle.bpf_text.specs.declared.mnemonic.Mnemonic.TheVariants as word
+use Rattle.bpf_text.specs.declared.three.UpToThree.{UpToThree}
+use Rattle.bpf_text.specs.Arguments.{mnemonic_of, arguments_of}
+use Rattle.bpf_text.specs.Three.{none, one, two, three}
+use Rattle.bpf_text.specs.Statements.{insn_of, insn_with, insn_of_none, insn_of_one, insn_of_two, insn_of_three, insn_of_register, insn_of_memory}
+
+abbrev pub Has : Mnemonic → UpToThree Argument → Insn → Type 0
+Has m a i = (mnemonic_of i ≡ m) × (arguments_of i ≡ a)
+
+of_none : (m : Mnemonic) → IfSome (insn_of_none m) (Has m none)
+of_none word.Exit = (refl, refl)
+of_none m = tt
+
+of_one : (m : Mnemonic) (a : Argument) → IfSome (insn_of_one m a) (Has m (one a))
+of_one (word.Neg bits) (Register r) = (refl, refl)
+of_one (word.End order size) (Register r) = (refl, refl)
+of_one word.Jump (Distance (Short k)) = (refl, refl)
+of_one word.JumpLong (Distance (Long k)) = (refl, refl)
+of_one word.Call (Imm k) = (refl, refl)
+of_one m a = tt
+
+of_register : (m : Mnemonic) (r : Reg) (a : Argument) → IfSome (insn_of_register m r a) (Has m (two (Register r) a))
+of_register (word.Alu bits op) r (Register s) = (refl, refl)
+of_register (word.Alu bits op) r (Imm k) = (refl, refl)
+of_register (word.Mov bits) r (Register s) = (refl, refl)
+of_register (word.Mov bits) r (Imm k) = (refl, refl)
+of_register (word.MovSx extension) r (Register s) = (refl, refl)
+of_register (word.Load kind) r (Memory s k) = (refl, refl)
+of_register word.LoadNumber r (Number n) = (refl, refl)
+of_register word.LoadMap r (Imm k) = (refl, refl)
+of_register m r a = tt
+
+of_memory : (m : Mnemonic) (r : Reg) (k : ℤ) (a : Argument) → IfSome (insn_of_memory m r k a) (Has m (two (Memory r k) a))
+of_memory (word.StoreImm size) r k (Imm i) = (refl, refl)
+of_memory (word.Store size) r k (Register s) = (refl, refl)
+of_memory (word.Atomic op size) r k (Register s) = (refl, refl)
+of_memory m r k a = tt
+
+of_two : (m : Mnemonic) (a b : Argument) → IfSome (insn_of_two m a b) (Has m (two a b))
+of_two m (Register r) b = of_register m r b
+of_two m (Memory r k) b = of_memory m r k b
+of_two m a b = tt
+
+of_three : (m : Mnemonic) (a b c : Argument) → IfSome (insn_of_three m a b c) (Has m (three a b c))
+of_three (word.JumpIf bits condition) (Register l) (Register r) (Distance (Short k)) = (refl, refl)
+of_three (word.JumpIf bits condition) (Register l) (Imm r) (Distance (Short k)) = (refl, refl)
+of_three word.LoadCell (Register r) (Imm i) (Imm k) = (refl, refl)
+of_three m a b c = tt
+
+with_arguments : (m : Mnemonic) (a b c : Option Argument) → IfSome (insn_with m a b c) (Has m (record { first = a; second = b; third = c }))
+with_arguments m None None None = of_none m
+with_arguments m (Some a) None None = of_one m a
+with_arguments m (Some a) (Some b) None = of_two m a b
+with_arguments m (Some a) (Some b) (Some c) = of_three m a b c
+with_arguments m a b c = tt
+
+pub insn_found : (m : Mnemonic) (a : UpToThree Argument) → IfSome (insn_of m a) (Has m a)
+insn_found m a = with_arguments m a.first a.second a.third
+
+pub insn_again : (i : Insn) → insn_of (mnemonic_of i) (arguments_of i) ≡ Some i
+insn_again (insn.Alu bits op dst (operand.Imm k)) = refl
+insn_again (insn.Mov bits dst (operand.Imm k)) = refl
+insn_again (insn.JumpIf bits condition left (operand.Imm k) offset) = refl
+insn_again (insn.Jump (Short k)) = refl
+insn_again (insn.Wide dst (wide.Number n)) = refl
+insn_again i = refl

@@ -1,0 +1,68 @@
+-- What the reader's values stand for: their names are the bytes that they point to.
+use Rattle.std.specs.Prelude.{ℕ, List, map, Option, Some, None, option_map, Result, Ok, Err, Bool, true, false}
+use Rattle.std.specs.Borrow.{Bor}
+use Rattle.bpf_text.specs.declared.fault.AsmFaultKind.{AsmFaultKind}
+use Rattle.bpf_text.specs.declared.token.Token.{Token}
+use Rattle.bpf_text.specs.declared.token.Token.TheVariants as token
+use Rattle.bpf_text.specs.declared.item.Item.{Item}
+use Rattle.bpf_text.specs.declared.item.Item.TheVariants as item
+use Rattle.bpf_text.specs.declared.operand.Given.{Given}
+use Rattle.bpf_text.specs.declared.operand.Given.TheVariants as given
+use Rattle.bpf_text.specs.declared.line.Statement as statements
+use Rattle.bpf_text.specs.declared.line.Line as the_line
+use Rattle.bpf_text.specs.declared.scan.Placed.{Placed}
+use Rattle.bpf_text.specs.Items.{Items}
+use Rattle.bpf_text.specs.Tokens.{Name}
+use Rattle.bpf_text.specs.Three.{map_three}
+use Rattle.bpf_text.specs.Lines.{Statement, Line, Body}
+
+abbrev pub Bytes : Type 0
+Bytes = Bor (List ℕ)
+
+abbrev pub name_of : Option Bytes → Option Name
+name_of o = option_map (λ w. w.now) o
+
+abbrev pub token_named : Token Bytes → Token Name
+token_named (token.Word w) = token.Word w.now
+token_named (token.Number n) = token.Number n
+token_named token.Comma = token.Comma
+token_named token.Colon = token.Colon
+token_named token.Open = token.Open
+token_named token.Close = token.Close
+
+-- all tokens, where the whole line was read
+abbrev pub tokens_if : Bool → List (Token Bytes) → Option (List (Token Name))
+tokens_if true tokens = Some (map token_named tokens)
+tokens_if false tokens = None
+
+abbrev pub item_named : Item Bytes → Item Name
+item_named (item.Name w) = item.Name w.now
+item_named (item.Number n) = item.Number n
+item_named (item.Memory w n) = item.Memory w.now n
+
+abbrev pub front_named : Item Bytes × Bor (List (Token Bytes)) → Item Name × List (Token Name)
+front_named p = (item_named p.0, map token_named p.1.now)
+
+abbrev pub after_named : Option (Item Bytes) × Bor (List (Token Bytes)) → Option (Item Name) × List (Token Name)
+after_named p = (option_map item_named p.0, map token_named p.1.now)
+
+abbrev pub split_named : Option Bytes × Bor (List (Token Bytes)) → Option Name × List (Token Name)
+split_named p = (name_of p.0, map token_named p.1.now)
+
+abbrev pub given_named : Given Bytes → Given Name
+given_named (given.Argument a) = given.Argument a
+given_named (given.ShortTo w) = given.ShortTo w.now
+given_named (given.LongTo w) = given.LongTo w.now
+
+abbrev pub statement_named : statements.Statement Bytes → Statement
+statement_named s = record { mnemonic = s.mnemonic; arguments = map_three given_named s.arguments }
+
+abbrev pub body_named : Result (Option (statements.Statement Bytes)) AsmFaultKind → Body
+body_named (Ok o) = Ok (option_map statement_named o)
+body_named (Err e) = Err e
+
+abbrev pub line_named : the_line.Line Bytes → Line
+line_named l = record { label = name_of l.label; body = body_named l.body }
+
+abbrev pub placed_named : Placed Bytes → Placed Name
+placed_named p = record { line = p.line; slot = p.slot; statement = statement_named p.statement }

@@ -1,0 +1,53 @@
+-- What the reader has read after each line, and the faults of its two passes.
+use Rattle.std.specs.Prelude.{◌≡◌, ℕ, ◌+◌, ◌≤◌, ◌⊎◌, List, [], ◌∷◌, ◌++◌, length, map, Option, Some, None, Err, if◌then◌else◌}
+use Rattle.std.specs.Str.{bytes_eq}
+use Rattle.std.specs.Vec.{vec_items}
+use Rattle.bpf_text.specs.declared.fault.AsmFault.{AsmFault}
+use Rattle.bpf_text.specs.declared.fault.AsmFault.TheVariants.{At, Memory}
+use Rattle.bpf_text.specs.declared.scan.Reading as reader
+use Rattle.bpf_text.specs.Assembly.{Placed, slots_in, label_slot, line_fault, first_fault, placed, bytes_of_placed, assembly_of}
+use Rattle.bpf_text.specs.Labels.{slot_at}
+use Rattle.bpf_text.specs.Lines.{Line, lines_in}
+use Rattle.bpf_text.specs.Names.{placed_named}
+use Rattle.bpf_text.specs.Tables.{tables}
+use Rattle.bpf_text.specs.Tokens.{Name}
+
+-- what is found once a label stands at a slot
+abbrev pub labels_after : (Name → Option ℕ) → Option Name → ℕ → Name → Option ℕ
+labels_after slot_of None s q = slot_of q
+labels_after slot_of (Some name) s q = if bytes_eq name q then Some s else slot_of q
+
+-- these lines have been read
+pub record HasRead (ls : List Line) (r : reader.Reading) : Type 0 where
+  pub count : r.lines ≡ length ls
+  pub slots : r.slots ≡ slots_in ls
+  pub small : r.slots ≤ 4096
+  pub labels : (q : Name) → slot_at r.labels q ≡ label_slot 0 ls q
+  pub placed_are : map placed_named (vec_items r.placed) ≡ placed 1 0 ls
+
+-- one line more has been read, in which is no fault
+abbrev pub ReadsOn : reader.Reading → reader.Reading → Line → Type 0
+ReadsOn before after l =
+    (ls : List Line) → HasRead ls before →
+    (line_fault ls l ≡ None) × HasRead (ls ++ (l ∷ [])) after
+
+-- the fault of one line more; none is named where a growth was refused
+abbrev pub IsLineFault : reader.Reading → Line → AsmFault → Type 0
+IsLineFault before l Memory = Unit {0}
+IsLineFault before l (At n e) =
+    (n ≡ before.lines + 1) × ((ls : List Line) → HasRead ls before → line_fault ls l ≡ Some e)
+
+-- the faults of each pass, or a growth that was refused
+abbrev pub IsByteFault : (Name → Option ℕ) → List Placed → AsmFault → Type 0
+IsByteFault slot_of ps e = (e ≡ Memory) ⊎ (bytes_of_placed tables slot_of ps ≡ Err e)
+
+abbrev pub IsReadingFault : List ℕ → AsmFault → Type 0
+IsReadingFault text e = (e ≡ Memory) ⊎ (first_fault [] (lines_in tables text) ≡ Some e)
+
+abbrev pub IsTableFault : List ℕ → AsmFault → Type 0
+IsTableFault text e = (e ≡ Memory) ⊎ (assembly_of tables text ≡ Err e)
+
+-- all lines have been read, and none has a fault
+abbrev pub IsWholeReading : List ℕ → reader.Reading → Type 0
+IsWholeReading text r =
+    (first_fault [] (lines_in tables text) ≡ None) × HasRead (lines_in tables text) r

@@ -1,0 +1,52 @@
+//! Up to three of a kind, in their order: what stands behind an instruction's word.
+
+ghost use Rattle.std.specs.Prelude.{◌≡◌};
+ghost use Rattle.bpf_text.specs.Three.{none, one, two, three};
+
+/// The first, the second and the third, as far as they are there.
+#[derive(Clone, Copy, Debug, PartialEq, Eq)]
+pub struct UpToThree<T> {
+    pub first: Option<T>,
+    pub second: Option<T>,
+    pub third: Option<T>,
+}
+
+pub fn none<T>() -> UpToThree<T>
+    ensures { result ≡ none }
+{
+    UpToThree {
+        first: None,
+        second: None,
+        third: None,
+    }
+}
+
+pub fn one<T>(first: T) -> UpToThree<T>
+    ensures { result ≡ one first }
+{
+    UpToThree {
+        first: Some(first),
+        second: None,
+        third: None,
+    }
+}
+
+pub fn two<T>(first: T, second: T) -> UpToThree<T>
+    ensures { result ≡ two first second }
+{
+    UpToThree {
+        first: Some(first),
+        second: Some(second),
+        third: None,
+    }
+}
+
+pub fn three<T>(first: T, second: T, third: T) -> UpToThree<T>
+    ensures { result ≡ three first second third }
+{
+    UpToThree {
+        first: Some(first),
+        second: Some(second),
+        third: Some(third),
+    }
+}
