@@ -93,10 +93,7 @@ ldxh r2, [r1+16]\nr: mov r0, 0\njge r2, 100, u\ns: mov r0, 1\nu: exit\n";
 #[test]
 fn texts(rt: HostRuntime) -> Result<(), Fail> {
     let alloc = rt.alloc();
-    let memory = AsmFault {
-        line: 0,
-        kind: AsmFaultKind::Memory,
-    };
+    let memory = AsmFault::Memory;
     let bytes = again(memory, || assemble(alloc, LABELS))?;
     assert_eq!(rt; bytes.as_slice(), BELOW_100);
     for (text, line, kind) in [
@@ -105,7 +102,7 @@ fn texts(rt: HostRuntime) -> Result<(), Fail> {
         ("mov r0, 0\nadd r1, 4294967296", 2, AsmFaultKind::Range),
     ] {
         let fault = again(memory, || assemble(alloc, text)).err();
-        assert_eq!(rt; fault, Some(AsmFault { line, kind }));
+        assert_eq!(rt; fault, Some(AsmFault::At { line, kind }));
     }
     Ok(())
 }

@@ -146,7 +146,7 @@ fn refused_texts(rt: HostRuntime) -> Result<(), Fail> {
             Ok(_) => assert!(rt; false, "taken: {text:?}"),
             Err(fault) => assert_eq!(rt;
                 fault,
-                AsmFault {
+                AsmFault::At {
                     line: *line,
                     kind: *kind
                 }
@@ -174,7 +174,7 @@ fn too_many_slots(rt: HostRuntime) -> Result<(), Fail> {
         Err(fault) => {
             assert_eq!(rt;
                 fault,
-                AsmFault {
+                AsmFault::At {
                     line: 4097,
                     kind: AsmFaultKind::TooLong
                 }
@@ -219,15 +219,12 @@ fn bytes_without_listing(rt: HostRuntime) -> Result<(), Fail> {
 
 #[test]
 fn printed_faults(rt: HostRuntime) -> Result<(), Fail> {
-    let range = AsmFault {
+    let range = AsmFault::At {
         line: 1,
         kind: AsmFaultKind::Range,
     };
     assert_eq!(rt; range.to_string(rt.alloc())?.as_str(), "A5 Range at line 1");
-    let memory = AsmFault {
-        line: 0,
-        kind: AsmFaultKind::Memory,
-    };
+    let memory = AsmFault::Memory;
     assert_eq!(rt; memory.to_string(rt.alloc())?.as_str(), "A7 Memory");
     let insn = ListFault::Insn {
         slot: 3,

@@ -14,7 +14,6 @@ use Rattle.bpf_text.specs.declared.argument.Argument as arguments
 use Rattle.bpf_text.specs.declared.argument.Argument.TheVariants as argument
 use Rattle.bpf_text.specs.declared.fault.AsmFaultKind.{AsmFaultKind}
 use Rattle.bpf_text.specs.declared.item.Item.{Item}
-use Rattle.bpf_text.specs.declared.operand.Given.{Given}
 use Rattle.bpf_text.specs.declared.operand.Given.TheVariants.{Argument}
 use Rattle.bpf_text.specs.declared.signature.Kind.{Kind}
 use Rattle.bpf_text.specs.declared.signature.Kind.TheVariants as kind

@@ -1,5 +1,5 @@
 -- The reader's vocabulary is exact, and there is no other.
-use Rattle.std.proofs.Common.{◌≡◌, ◌↔◌, ℕ, List, [], ◌∷◌, Option, Some, None, IfSome, Result, Ok, Err, IfOk, IfErr, inl, inr, Bool, true, false, cond, refl, sym, ap, ◌∙◌, subst}
+use Rattle.std.proofs.Common.{◌≡◌, ℕ, List, [], ◌∷◌, Option, Some, None, IfSome, Result, Ok, Err, IfOk, IfErr, inl, inr, Bool, true, false, cond, refl, sym, ap, ◌∙◌, subst}
 use Rattle.std.proofs.lemmas.Slice.Eq.{bytes_eq-Decides}
 use Rattle.std.specs.List.{find}
 use Rattle.std.specs.Str.{bytes_eq}
@@ -10,7 +10,7 @@ use Rattle.bpf_text.specs.declared.fault.AsmFault.{AsmFault}
 use Rattle.bpf_text.specs.declared.mnemonic.Mnemonic.{Mnemonic}
 use Rattle.bpf_text.specs.declared.three.UpToThree.{UpToThree}
 use Rattle.bpf_text.specs.declared.vocabulary.TheConstants.{MNEMONICS, REGISTERS}
-use Rattle.bpf_text.specs.Arguments.{mnemonic_of, arguments_of}
+use Rattle.bpf_text.specs.Arguments.{arguments_of}
 use Rattle.bpf_text.specs.Assembly.{assembly_of, Assembles, IsAsmFault}
 use Rattle.bpf_text.specs.Listing.{register_text}
 use Rattle.bpf_text.specs.Reading.{IsTableFault}

@@ -1,5 +1,5 @@
 -- The line of an instruction is read as that instruction, with no label.
-use Rattle.std.proofs.Common.{◌≡◌, ℕ, List, [], ◌∷◌, ◌++◌, Option, Some, None, Result, Ok, false, option_map, codes, refl, sym, ap, ◌∙◌, append_assoc}
+use Rattle.std.proofs.Common.{◌≡◌, ℕ, List, [], ◌∷◌, ◌++◌, Option, Some, None, Ok, false, option_map, codes, refl, sym, ap, ◌∙◌, append_assoc}
 use Rattle.std.proofs.lemmas.List.{append-nil}
 use Rattle.bpf_insn.specs.declared.insn.Insn.{Insn}
 use Rattle.bpf_insn.specs.Spelling.{IsEncodable}
@@ -8,12 +8,11 @@ use Rattle.bpf_text.specs.declared.argument.Argument.TheVariants as argument
 use Rattle.bpf_text.specs.declared.mnemonic.Mnemonic.{Mnemonic}
 use Rattle.bpf_text.specs.declared.operand.Given.{Given}
 use Rattle.bpf_text.specs.declared.operand.Given.TheVariants.{Argument}
-use Rattle.bpf_text.specs.declared.signature.Kind.{Kind}
 use Rattle.bpf_text.specs.declared.three.UpToThree.{UpToThree}
 use Rattle.bpf_text.specs.declared.token.Token.TheVariants.{Word, Comma}
 use Rattle.bpf_text.specs.Arguments.{mnemonic_of, arguments_of}
 use Rattle.bpf_text.specs.Items.{Items, Tokens, items_of}
-use Rattle.bpf_text.specs.Lines.{Statement, Line, Body, body_of, split_label, line_of_tokens, line_if_tokens, read_line}
+use Rattle.bpf_text.specs.Lines.{Statement, Line, Body, body_of, split_label, line_if_tokens, read_line}
 use Rattle.bpf_text.specs.Listing.{argument_text, text_behind, line_of}
 use Rattle.bpf_text.specs.Operands.{items_as}
 use Rattle.bpf_text.specs.Signatures.{kinds_of}
@@ -24,7 +23,7 @@ use Rattle.bpf_text.specs.Words.{word_of}
 use Rattle.bpf_text.proofs.Named.{is_named}
 use Rattle.bpf_text.proofs.Lexing.{front, word_token, comma_token}
 use Rattle.bpf_text.proofs.Arguments.{onto, tokens_of_argument, item_of_argument, argument_tokens}
-use Rattle.bpf_text.proofs.Again.{HasShortOption, AllFit, all_fit, is_short_if, arguments_again, Shaped, Nothing, Single, Pair, Triple, shape_of, behind, at_front, tokens_of_arguments, items_again}
+use Rattle.bpf_text.proofs.Again.{HasShortOption, all_fit, is_short_if, arguments_again, Shaped, Nothing, Single, Pair, Triple, shape_of, behind, at_front, tokens_of_arguments, items_again}
 
 -- ---- the line's text, grouped from its end
 

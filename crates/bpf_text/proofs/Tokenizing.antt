@@ -7,7 +7,7 @@ use Rattle.std.specs.List.{prefix_len}
 use Rattle.std.specs.Char.{digit_value}
 use Rattle.std.specs.Str.Parse.{digits_value}
 use Rattle.bpf_text.specs.declared.token.Token.{Token}
-use Rattle.bpf_text.specs.Names.{Bytes, token_named, tokens_if}
+use Rattle.bpf_text.specs.Names.{Bytes, token_named}
 use Rattle.bpf_text.specs.Tokens.{Name, is_blank, is_mark, is_name_byte, goes_on, onto_piece, pieces, piece_len, token_of, tokens_in, tokens_of, number_if_small, magnitude}
 
 -- a letter, a digit or _ is no mark, no blank and no semicolon

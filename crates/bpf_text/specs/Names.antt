@@ -11,7 +11,6 @@ use Rattle.bpf_text.specs.declared.operand.Given.TheVariants as given
 use Rattle.bpf_text.specs.declared.line.Statement as statements
 use Rattle.bpf_text.specs.declared.line.Line as the_line
 use Rattle.bpf_text.specs.declared.scan.Placed.{Placed}
-use Rattle.bpf_text.specs.Items.{Items}
 use Rattle.bpf_text.specs.Tokens.{Name}
 use Rattle.bpf_text.specs.Three.{map_three}
 use Rattle.bpf_text.specs.Lines.{Statement, Line, Body}

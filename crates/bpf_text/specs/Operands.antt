@@ -6,7 +6,7 @@ use Rattle.bpf_insn.specs.declared.operand.Distance.TheVariants.{Short, Long}
 use Rattle.bpf_text.specs.declared.fault.AsmFaultKind.{AsmFaultKind}
 use Rattle.bpf_text.specs.declared.fault.AsmFaultKind.TheVariants as fault
 use Rattle.bpf_text.specs.declared.token.Sign.{Sign}
-use Rattle.bpf_text.specs.declared.token.Sign.TheVariants.{Absent, Minus, Plus}
+use Rattle.bpf_text.specs.declared.token.Sign.TheVariants.{Absent, Plus}
 use Rattle.bpf_text.specs.declared.token.Figure.{Figure}
 use Rattle.bpf_text.specs.declared.item.Item.{Item}
 use Rattle.bpf_text.specs.declared.item.Item.TheVariants as item

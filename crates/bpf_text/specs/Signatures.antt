@@ -1,5 +1,4 @@
 -- The signature of each instruction: which operands stand behind its word.
-use Rattle.std.specs.Prelude.{Option, Some, None}
 use Rattle.bpf_text.specs.declared.three.UpToThree.{UpToThree}
 use Rattle.bpf_text.specs.declared.mnemonic.Mnemonic.{Mnemonic}
 use Rattle.bpf_text.specs.declared.mnemonic.Mnemonic.TheVariants as word

@@ -1,5 +1,5 @@
 -- Up to three of a kind, in their order.
-use Rattle.std.specs.Prelude.{Option, Some, None, option_map}
+use Rattle.std.specs.Prelude.{Some, None, option_map}
 use Rattle.bpf_text.specs.declared.three.UpToThree.{UpToThree}
 
 abbrev pub none : {A : Type 0} → UpToThree A

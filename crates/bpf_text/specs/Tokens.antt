@@ -6,7 +6,6 @@ use Rattle.std.specs.Str.Parse.{digits_value}
 use Rattle.bpf_insn.specs.Program.{◌>>=◌}
 use Rattle.bpf_text.specs.declared.token.Sign.{Sign}
 use Rattle.bpf_text.specs.declared.token.Sign.TheVariants.{Absent, Minus, Plus}
-use Rattle.bpf_text.specs.declared.token.Figure.{Figure}
 use Rattle.bpf_text.specs.declared.token.Token.{Token}
 use Rattle.bpf_text.specs.declared.token.Token.TheVariants.{Word, Number, Comma, Colon, Open, Close}
 

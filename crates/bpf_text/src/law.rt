@@ -6,5 +6,4 @@ ghost use Rattle.bpf_text.specs.Assembly.{HasOneAssembly};
 /// No text has two verdicts of the assembler: its bytes or its fault are determined.
 pub fn one_assembly()
     ensures { (text : List ℕ) → HasOneAssembly text }
-{
-}
+{}

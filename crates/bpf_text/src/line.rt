@@ -41,7 +41,10 @@ fn body_of<'a>(tokens: &[Token<&'a [u8]>]) -> Result<Option<Statement<&'a [u8]>>
             let mnemonic = mnemonic_named(word).ok_or(AsmFaultKind::Mnemonic)?;
             let items = items_of(rest).ok_or(AsmFaultKind::Operand)?;
             let arguments = items_as(kinds_of(mnemonic), items)?;
-            Ok(Some(Statement { mnemonic, arguments }))
+            Ok(Some(Statement {
+                mnemonic,
+                arguments,
+            }))
         }
         _ => Err(AsmFaultKind::Mnemonic),
     }

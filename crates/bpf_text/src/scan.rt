@@ -123,7 +123,11 @@ fn place<'a>(
 {
     match body {
         Ok(Some(statement)) => {
-            placed.push(Placed { line, slot, statement })?;
+            placed.push(Placed {
+                line,
+                slot,
+                statement,
+            })?;
             Ok(slots_of_word(statement.mnemonic))
         }
         _ => Ok(0),

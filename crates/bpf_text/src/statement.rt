@@ -140,11 +140,20 @@ fn insn_of_register(mnemonic: Mnemonic, dst: Reg, second: Argument) -> Option<In
         }
         Mnemonic::MovSx(extension) => {
             let src = register_in(second)?;
-            Some(Insn::MovSx { extension, dst, src })
+            Some(Insn::MovSx {
+                extension,
+                dst,
+                src,
+            })
         }
         Mnemonic::Load(kind) => {
             let (src, offset) = memory_in(second)?;
-            Some(Insn::Load { kind, dst, src, offset })
+            Some(Insn::Load {
+                kind,
+                dst,
+                src,
+                offset,
+            })
         }
         Mnemonic::LoadNumber => {
             let value = WideValue::Number(number_in(second)?);
@@ -165,15 +174,31 @@ fn insn_of_memory(mnemonic: Mnemonic, dst: Reg, offset: i16, second: Argument) -
     match mnemonic {
         Mnemonic::StoreImm(size) => {
             let imm = imm_in(second)?;
-            Some(Insn::StoreImm { size, dst, offset, imm })
+            Some(Insn::StoreImm {
+                size,
+                dst,
+                offset,
+                imm,
+            })
         }
         Mnemonic::Store(size) => {
             let src = register_in(second)?;
-            Some(Insn::Store { size, dst, src, offset })
+            Some(Insn::Store {
+                size,
+                dst,
+                src,
+                offset,
+            })
         }
         Mnemonic::Atomic(op, size) => {
             let src = register_in(second)?;
-            Some(Insn::Atomic { op, size, dst, src, offset })
+            Some(Insn::Atomic {
+                op,
+                size,
+                dst,
+                src,
+                offset,
+            })
         }
         _ => None,
     }
@@ -202,13 +227,22 @@ fn insn_of_three(
             let left = register_in(first)?;
             let right = operand_in(second)?;
             let offset = short_in(third)?;
-            Some(Insn::JumpIf { bits, condition, left, right, offset })
+            Some(Insn::JumpIf {
+                bits,
+                condition,
+                left,
+                right,
+                offset,
+            })
         }
         Mnemonic::LoadCell => {
             let dst = register_in(first)?;
             let array = imm_in(second)?;
             let offset = imm_in(third)?;
-            Some(Insn::Wide { dst, value: WideValue::Cell { array, offset } })
+            Some(Insn::Wide {
+                dst,
+                value: WideValue::Cell { array, offset },
+            })
         }
         _ => None,
     }

@@ -8,7 +8,7 @@ use Rattle.bpf_semantics.specs.State.{opening}
 use Rattle.bpf_semantics.specs.Run.{Ends}
 use Rattle.bpf_text.specs.declared.fault.AsmFault.{AsmFault}
 use Rattle.bpf_text.specs.declared.fault.AsmFaultKind.TheVariants.{Token}
-use Rattle.bpf_text.specs.Assembly.{assembly_of, at_line, IsAsmFault}
+use Rattle.bpf_text.specs.Assembly.{Assembles, at_line, IsAsmFault}
 use Rattle.bpf_text.specs.declared.fault.ListFault.TheVariants.{Insn}
 use Rattle.bpf_text.specs.Listing.{Lists, IsFirstFault}
 use Rattle.bpf_verify.specs.declared.shape.Shape.{Shape}
@@ -47,7 +47,7 @@ pub record IsAcceptedProgram (bytes : List ℕ) (releases : ℕ) (p : Program) :
   pub accepted : IsAccepted p shape
 
 abbrev pub IsAnswer : Request → List ℕ → Answer → Type 0
-IsAnswer (request.Assemble text out) bytes (Assembled program) = IsWithinLimit bytes × IsUtf8 bytes × (assembly_of bytes ≡ Ok program.items)
+IsAnswer (request.Assemble text out) bytes (Assembled program) = IsWithinLimit bytes × IsUtf8 bytes × Assembles bytes (Ok program.items)
 IsAnswer (request.List path) bytes (Listed text) = IsWithinLimit bytes × Lists bytes (string_bytes text)
 IsAnswer (request.Verify program) bytes (Accepted slots) = (p : Program) × IsAcceptedProgram bytes program.releases p × (slots ≡ length p)
 IsAnswer (request.Run program version bucket) bytes (Chosen choice instructions) =

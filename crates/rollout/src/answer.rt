@@ -4,7 +4,7 @@ ghost use Rattle.std.specs.Prelude.{◌≡◌, ◌⊎◌, ℕ, List, length, IfO
 ghost use Rattle.std.specs.Str.{IsUtf8};
 ghost use Rattle.std.specs.String.{string_bytes};
 ghost use Rattle.bpf_insn.specs.Program.{Program};
-ghost use Rattle.bpf_text.specs.Assembly.{assembly_of};
+ghost use Rattle.bpf_text.specs.Assembly.{Assembles};
 ghost use Rattle.bpf_text.specs.Listing.{Lists};
 ghost use Rattle.rollout.specs.Answers.{
   IsAcceptedProgram,
@@ -34,14 +34,14 @@ const PROGRAM_LIMIT: u64 = 32768;
 const TEXT_LIMIT: usize = 0x100_0000;
 
 fn assembled(alloc: Global, bytes: &[u8]) -> Result<Vec<u8>, Fault>
-    ensures program { IfOk result (λ v. IsWithinLimit bytes.now × IsUtf8 bytes.now × (assembly_of bytes.now ≡ Ok v.items)) }
+    ensures program { IfOk result (λ v. IsWithinLimit bytes.now × IsUtf8 bytes.now × Assembles bytes.now (Ok v.items)) }
     ensures fault { IfErr result (IsAssemblyRefusal bytes.now) }
 {
     if bytes.len() > TEXT_LIMIT {
         return Err(Fault::File);
     }
     let Ok(text) = str::from_utf8(bytes) else {
-        return Err(Fault::Text(AsmFault {
+        return Err(Fault::Text(AsmFault::At {
             line: 1,
             kind: AsmFaultKind::Token,
         }));
