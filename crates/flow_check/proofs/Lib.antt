@@ -1,4 +1,6 @@
+pub mod Layouts
 pub mod Places
 pub mod Marks
-pub mod Layouts
 pub mod Graph
+pub mod Readings
+pub mod Verdicts

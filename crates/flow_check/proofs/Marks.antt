@@ -5,9 +5,10 @@ use Rattle.std.proofs.lemmas.Grind.{common_steps}
 use Rattle.std.proofs.lemmas.List.Elements.{All-contains}
 use Rattle.bpf_insn.specs.declared.insn.Insn.{Insn}
 use Rattle.bpf_insn.specs.Program.{Program, at}
-use Rattle.flow_check.specs.Flow.{target_of, successors, Reached, start, along}
-use Rattle.flow_check.specs.Sweep.{IsMarked, IsSwept, LeadsAhead, marked}
 use Rattle.flow_check.proofs.Places.{ahead_at, at_within, next, contains_either}
+use Rattle.flow_check.specs.Edges.{target_of, successors, Reached, start, along}
+use Rattle.flow_check.specs.Flow.{LeadsAhead}
+use Rattle.flow_check.specs.Sweep.{IsMarked, IsSwept, marked}
 
 -- ---- one place
 

@@ -1,9 +1,10 @@
--- One upward sweep marks the places that are reached: what its marks say once it has passed the places before k.
-use Rattle.std.specs.Prelude.{◌≡◌, ℕ, ◌<◌, Bool, true, false, List, length, Option, Some, None, IsSome, IsTrue, Contains, slice_index_or, slice_set}
-use Rattle.std.specs.List.{AllByRecursion}
+-- One upward sweep marks the places that are reached: what its marks say once it has passed the
+-- places before k.
+use Rattle.std.specs.Prelude.{◌≡◌, ℕ, ◌<◌, ◌⊎◌, Bool, true, false, List, length, Option, Some, None}
+use Rattle.std.specs.Prelude.{IsTrue, Contains, slice_index_or, slice_set}
 use Rattle.bpf_insn.specs.declared.insn.Insn.{Insn}
 use Rattle.bpf_insn.specs.Program.{Program, at}
-use Rattle.flow_check.specs.Flow.{successors, IsAhead, Reached}
+use Rattle.flow_check.specs.Edges.{successors, Reached, KeepsReach}
 
 abbrev pub IsMarked : List Bool → ℕ → Type 0
 IsMarked marks m = IsTrue (slice_index_or marks m false)
@@ -12,12 +13,19 @@ abbrev pub marked : List Bool → Option ℕ → List Bool
 marked marks None = marks
 marked marks (Some t) = slice_set marks t true
 
-abbrev pub LeadsAhead : Program → Type 0
-LeadsAhead p = (s : ℕ) (i : Insn) → at p s ≡ Some i → AllByRecursion (IsAhead p s) (successors s i)
-
 pub record IsSwept (p : Program) (k : ℕ) (marks : List Bool) : Type 0 where
   pub length_is : length marks ≡ length p
   pub start : IsMarked marks 0
   pub sound : (m : ℕ) → IsMarked marks m → Reached p m
-  pub complete : (s : ℕ) (i : Insn) (t : ℕ) → s < k → at p s ≡ Some i → Contains (successors s i) t → IsMarked marks t
-  pub reached : (s : ℕ) → s < k → IsSome (at p s) → Reached p s
+  pub complete : (s : ℕ) (i : Insn) (t : ℕ) → s < k → at p s ≡ Some i
+      → Contains (successors s i) t → IsMarked marks t
+  pub reached : (s : ℕ) → s < k → KeepsReach p s
+
+-- no place is marked but those that were, and these
+abbrev pub MarksOnly : List Bool → List Bool → List ℕ → Type 0
+MarksOnly old new places = (m : ℕ) → IsMarked new m → IsMarked old m ⊎ Contains places m
+
+-- the lowest place that isn't reached, if there is one
+abbrev pub IsLowestUnreached : Program → Option ℕ → Type 0
+IsLowestUnreached p None = (k : ℕ) → KeepsReach p k
+IsLowestUnreached p (Some s) = (¬ KeepsReach p s) × ((k : ℕ) → k < s → KeepsReach p k)

@@ -2,40 +2,24 @@
 //! from the instruction after it (RFC 9669, "Jump Instructions"). Of a place that breaks several
 //! rules the lowest is answered: a conditional jump at the last place breaks F1 or F2 before F4.
 
-ghost use Rattle.std.specs.Prelude.{◌≡◌, ℕ, ◌<◌, ◌≤◌, IfSome, IfNone, length, if◌then◌else◌};
+ghost use Rattle.std.specs.Prelude.{◌≡◌, ℕ, ◌<◌, ◌≤◌, IfSome, IfNone, length};
+ghost use Rattle.std.specs.Prelude.{Some, None, if◌then◌else◌};
 ghost use Rattle.bpf_insn.specs.Program as program;
-ghost use Rattle.flow_check.specs.Flow.{jump_of, target_of, goes_on, next_of};
-ghost use Rattle.flow_check.specs.Fault.{KeepsJump, KeepsEdges, IsEdgeFault};
+ghost use Rattle.flow_check.specs.Edges.{jump_of, target_of, goes_on, next_of};
+ghost use Rattle.flow_check.specs.Edges.{KeepsJump, KeepsEdges};
+ghost use Rattle.flow_check.specs.Fault.{IsEdgeFault};
 
 use crate::fault::FlowRule;
 use bpf_insn::{Distance, Insn};
 
 /// How far the instruction jumps, if it is a jump.
-fn distance_of(insn: Insn) -> Option<i32>
+fn distance_of(insn: Insn) -> Option<Distance>
     ensures { result ≡ jump_of insn }
 {
     match insn {
-        Insn::Jump {
-            distance: Distance::Short(offset),
-        } => Some(offset as i32),
-        Insn::Jump {
-            distance: Distance::Long(offset),
-        } => Some(offset),
-        Insn::JumpIf { offset, .. } => Some(offset as i32),
+        Insn::Jump { distance } => Some(distance),
+        Insn::JumpIf { offset, .. } => Some(Distance::Short(offset)),
         _ => None,
-    }
-}
-
-/// The slot that a jump over this distance leads to.
-fn landing(slot: usize, distance: i32) -> Option<usize>
-    requires { slot < 4096 }
-    ensures { result ≡ program.landing slot distance }
-{
-    if distance >= 0 {
-        Some(slot + 1 + distance as usize)
-    } else {
-        let back = distance.unsigned_abs() as usize;
-        (slot + 1).checked_sub(back)
     }
 }
 
@@ -44,10 +28,7 @@ pub fn jump_target(slot: usize, insn: Insn) -> Option<usize>
     requires { slot < 4096 }
     ensures { result ≡ target_of slot insn }
 {
-    match distance_of(insn) {
-        Some(distance) => landing(slot, distance),
-        None => None,
-    }
+    distance_of(insn)?.target(slot)
 }
 
 /// The slot of the next instruction, where this one may go on to it.
@@ -57,8 +38,7 @@ pub fn next_place(slot: usize, insn: Insn) -> Option<usize>
 {
     match insn {
         Insn::Jump { .. } | Insn::Exit => None,
-        Insn::Wide { .. } => Some(slot + 2),
-        _ => Some(slot + 1),
+        _ => Some(slot + insn.width().slots()),
     }
 }
 
@@ -72,7 +52,7 @@ fn jump_fault(code: &[Option<Insn>], slot: usize, insn: Insn) -> Option<FlowRule
     let Some(distance) = distance_of(insn) else {
         return None;
     };
-    let Some(target) = landing(slot, distance) else {
+    let Some(target) = distance.target(slot) else {
         return Some(FlowRule::BackJump);
     };
     if target <= slot {

@@ -6,9 +6,11 @@
 mod edges;
 mod fault;
 mod flow;
+mod law;
 mod reach;
 mod read;
 
 pub use edges::{jump_target, next_place};
 pub use fault::{FlowFault, FlowRule};
 pub use flow::Flow;
+pub use law::one_verdict;

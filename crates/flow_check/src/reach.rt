@@ -1,11 +1,11 @@
 //! The places that are reached. Every edge leads forward, so one upward sweep finds them: when it
 //! comes to a place, all edges onto that place lie behind it.
 
-ghost use Rattle.std.specs.Prelude.{◌≡◌, true, false, ℕ, ◌<◌, ◌≤◌, ◌⊎◌, ◌∷◌, ◌-◌, IfOk, IfSome, IfNone, IsSome, All, Contains, length, replicate, slice_set};
-ghost use Rattle.bpf_insn.specs.Program.{at};
-ghost use Rattle.flow_check.specs.Fault.{IsUnreached};
-ghost use Rattle.flow_check.specs.Flow.{successors, Reached};
-ghost use Rattle.flow_check.specs.Sweep.{IsMarked, IsSwept, LeadsAhead, marked};
+ghost use Rattle.std.specs.Prelude.{◌≡◌, true, false, ℕ, ◌<◌, ◌≤◌, ◌∷◌, ◌-◌, IfOk, IfSome};
+ghost use Rattle.std.specs.Prelude.{All, Contains, length, replicate, slice_set};
+ghost use Rattle.flow_check.specs.Edges.{successors};
+ghost use Rattle.flow_check.specs.Flow.{LeadsAhead};
+ghost use Rattle.flow_check.specs.Sweep.{IsMarked, IsSwept, IsLowestUnreached, MarksOnly, marked};
 
 use crate::edges::{jump_target, next_place};
 use bpf_insn::Insn;
@@ -27,7 +27,7 @@ fn mark_successors(marks: &mut [bool], slot: usize, insn: Insn)
     requires within { All (λ t. t < length marks.old) (successors slot insn) }
     ensures kept { (m : ℕ) → IsMarked marks.old m → IsMarked marks.new m }
     ensures marked { (m : ℕ) → Contains (successors slot insn) m → IsMarked marks.new m }
-    ensures only { (m : ℕ) → IsMarked marks.new m → IsMarked marks.old m ⊎ Contains (successors slot insn) m }
+    ensures only { MarksOnly marks.old marks.new (successors slot insn) }
 {
     mark(marks, jump_target(slot, insn));
     mark(marks, next_place(slot, insn));
@@ -38,9 +38,7 @@ fn sweep(marks: &mut [bool], code: &[Option<Insn>]) -> Option<usize>
     requires short { length code.now ≤ 4096 }
     requires ahead { LeadsAhead code.now }
     requires start { IsSwept code.now 0 marks.old }
-    ensures unreached { IfSome result (IsUnreached code.now) }
-    ensures before { IfSome result (λ s. (k : ℕ) → k < s → IsSome (at code.now k) → Reached code.now k) }
-    ensures none { IfNone result ((k : ℕ) → IsSome (at code.now k) → Reached code.now k) }
+    ensures { IsLowestUnreached code.now result }
 {
     for (slot, place) in code.iter().enumerate() {
         if let Some(insn) = *place {
@@ -68,9 +66,7 @@ pub fn first_unreached(alloc: Global, code: &[Option<Insn>]) -> Result<Option<us
     requires some { 0 < length code.now }
     requires short { length code.now ≤ 4096 }
     requires ahead { LeadsAhead code.now }
-    ensures unreached { IfOk result (λ place. IfSome place (IsUnreached code.now)) }
-    ensures before { IfOk result (λ place. IfSome place (λ s. (k : ℕ) → k < s → IsSome (at code.now k) → Reached code.now k)) }
-    ensures none { IfOk result (λ place. IfNone place ((k : ℕ) → IsSome (at code.now k) → Reached code.now k)) }
+    ensures { IfOk result (λ place. IsLowestUnreached code.now place) }
 {
     let mut marks = opening(alloc, code.len())?;
     Ok(sweep(&mut marks, code))

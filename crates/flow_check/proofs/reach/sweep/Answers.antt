@@ -4,10 +4,11 @@ use Rattle.flow_check.proofs.Marks.{swept_nothing, swept_more, not_reached, all_
 use Rattle.flow_check.proofs.reach.sweep.Goals as goal
 use Rattle.flow_check.proofs.reach.sweep.Goals.{in-Some+else-not-marks-slot, in_default}
 
-pub returns-then-not-marks-slot-clause-unreached : goal.returns-then-not-marks-slot-clause-unreached
-returns-then-not-marks-slot-clause-unreached c = (
-  is_some_at c.args.code.now c.loop-slot.slot c.in-Some.insn (at_read c.args.code.now c.loop-slot.slot ∙ c.in-Some.is),
-  not_reached c.args.code.now c.loop-slot.slot c.loop-slot.marks c.loop-slot.invariant c.requires.ahead c.if-not-marks-slot.true,
+pub returns-then-not-marks-slot : goal.returns-then-not-marks-slot
+returns-then-not-marks-slot c = (
+  λ reached. not_reached c.args.code.now c.loop-slot.slot c.loop-slot.marks c.loop-slot.invariant c.requires.ahead c.if-not-marks-slot.true
+      (reached (is_some_at c.args.code.now c.loop-slot.slot c.in-Some.insn (at_read c.args.code.now c.loop-slot.slot ∙ c.in-Some.is))),
+  c.loop-slot.invariant.reached,
 )
 
 pub mark_successors-requires-clause-within : goal.mark_successors-requires-clause-within
@@ -22,7 +23,7 @@ loop-slot-preserved c = elim c.match-place.branch [
   | in_default w ↦ rw w.marks-is (swept_nothing c.args.code.now c.loop-slot.slot c.loop-slot.marks c.loop-slot.invariant (at_read c.args.code.now c.loop-slot.slot ∙ w.in_default.is))
 ]
 
-pub returns-clause-none : goal.returns-clause-none
-returns-clause-none c =
+pub returns : goal.returns
+returns c =
     let past : length c.args.code.now ≤ c.loop-slot.slot = omega (arith, c.loop-slot-test.false) in
     all_reached c.args.code.now c.loop-slot.slot c.loop-slot.marks past c.loop-slot.invariant
