@@ -6,7 +6,9 @@ use Rattle.bpf_insn.specs.declared.operand.AluOp.{AluOp}
 use Rattle.bpf_insn.specs.declared.operand.AluOp.TheVariants as alu
 use Rattle.bpf_insn.specs.declared.operand.Bits.TheVariants.{Bits64}
 use Rattle.bpf_insn.specs.declared.operand.Condition.TheVariants as jump
+use Rattle.bpf_insn.specs.declared.operand.Distance.{Distance}
 use Rattle.bpf_insn.specs.declared.operand.Distance.TheVariants.{Short}
+use Rattle.bpf_insn.specs.Program.{slots_moved}
 use Rattle.bpf_insn.specs.declared.operand.LoadKind.{LoadKind}
 use Rattle.bpf_insn.specs.declared.operand.Operand.{Operand}
 use Rattle.bpf_insn.specs.declared.operand.Operand.TheVariants.{Imm, Register}
@@ -21,7 +23,7 @@ use Rattle.bpf_semantics.specs.Outcome.{finish}
 use Rattle.bpf_semantics.specs.Reads.{register, operand, load_count, loaded}
 use Rattle.bpf_semantics.specs.Step.{act}
 use Rattle.bpf_semantics.specs.Counters.{load_cell}
-use Rattle.flow_check.specs.Flow.{jump_of}
+use Rattle.flow_check.specs.Edges.{jump_of}
 use Rattle.bpf_verify.specs.declared.value.Value.{Value}
 use Rattle.bpf_verify.specs.declared.value.Value.TheVariants.{Num}
 use Rattle.bpf_verify.specs.declared.entry.Entry.{Entry}
@@ -85,15 +87,15 @@ exit_is shape e s h ok =
 
 -- ---- any instruction that passed
 
-pub local : (shape : AppShape) (e : Entry) (s : State) (i : Insn) → IsEncodable i → ((d : ℤ) → jump_of i ≡ Some d → pos 0 ≤ℤ d) → Covers e s → Passes shape e i → IsOutcome shape.releases (edges s.slot e i) (act shape s i)
+pub local : (shape : AppShape) (e : Entry) (s : State) (i : Insn) → IsEncodable i → ((d : Distance) → jump_of i ≡ Some d → pos 0 ≤ℤ slots_moved d) → Covers e s → Passes shape e i → IsOutcome shape.releases (edges s.slot e i) (act shape s i)
 unfolding edges
 local shape e s (Alu Bits64 alu.Add dst (Register src)) f forward h ok =
     let u = false_or (is_unusable (value_of e dst)) (is_unusable (value_of e src)) ok.usable in alu_is shape.releases shape e s alu.Add dst (Register src) h u.0 u.1 ok.frame add_covers
 local shape e s (Alu Bits64 alu.And dst (Imm k)) f forward h ok =
     let u = false_or (is_unusable (value_of e dst)) false ok.usable in alu_is shape.releases shape e s alu.And dst (Imm k) h u.0 u.1 ok.frame and_covers
 local shape e s (Mov Bits64 dst (Imm k)) f forward h ok = mov_is shape.releases shape e s dst (Imm k) h ok.usable ok.frame
-local shape e s (Jump (Short offset)) f forward h ok = jump_is shape.releases shape e s offset (forward offset refl) h
-local shape e s (JumpIf Bits64 jump.Ge left (Imm k) offset) f forward h ok = jump_if_is shape.releases shape e s left (Imm k) offset (forward offset refl) h ok.usable
+local shape e s (Jump (Short offset)) f forward h ok = jump_is shape.releases shape e s offset (forward (Short offset) refl) h
+local shape e s (JumpIf Bits64 jump.Ge left (Imm k) offset) f forward h ok = jump_if_is shape.releases shape e s left (Imm k) offset (forward (Short offset) refl) h ok.usable
 local shape e s (Load kind dst src offset) f forward h ok = load_is shape.releases shape e s kind dst src offset f h ok
 local shape e s Exit f forward h ok = exit_is shape e s h ok
 local shape e s i f forward h ok = let j = ok.judged in absurd cc

@@ -6,7 +6,7 @@ use Rattle.std.proofs.Math.Seq.{append_snoc}
 use Rattle.std.proofs.lemmas.Option.{slice_get_cases}
 use Rattle.bpf_insn.specs.declared.insn.Insn.{Insn}
 use Rattle.bpf_insn.specs.Program.{Program, at, ◌>>=◌}
-use Rattle.flow_check.specs.Flow.{IsFlow}
+use Rattle.flow_check.specs.Flow.{IsForward}
 use Rattle.cells.specs.Arrays.{AppShape}
 use Rattle.bpf_verify.specs.declared.entry.Entry.{Entry}
 use Rattle.bpf_verify.specs.declared.edge.Edge.{Edge}
@@ -47,19 +47,19 @@ at_within p s h = elim (slice_get_cases p s).1 [
   | inr x ↦ absurd (none_at p s x.1 h)
 ]
 
-pub start_within : (p : Program) → IsFlow p → 0 < length p
+pub start_within : (p : Program) → IsForward p → 0 < length p
 start_within p flow = at_within p 0 flow.start
 
 -- where the edges lead that a visit joins
-has_target : (p : Program) (s : ℕ) (e : Entry) (i : Insn) (d : Edge) → IsFlow p → at p s ≡ Some i → HasEdge (edges s e i) d.target d.entry → d.target < length p
+has_target : (p : Program) (s : ℕ) (e : Entry) (i : Insn) (d : Edge) → IsForward p → at p s ≡ Some i → HasEdge (edges s e i) d.target d.entry → d.target < length p
 has_target p s e i d flow is h = at_within p d.target (edge_ahead p s e i d.target d.entry (flow.ahead s i is) h).1
 
-pub jump_within : (p : Program) (s : ℕ) (e : Entry) (i : Insn) (j n : Option Edge) → IsFlow p → at p s ≡ Some i → option_to_list j ++ option_to_list n ≡ edges s e i → IfSome j (λ d. d.target < length p)
+pub jump_within : (p : Program) (s : ℕ) (e : Entry) (i : Insn) (j n : Option Edge) → IsForward p → at p s ≡ Some i → option_to_list j ++ option_to_list n ≡ edges s e i → IfSome j (λ d. d.target < length p)
 unfolding HasEdge
 jump_within p s e i None n flow is h = tt
 jump_within p s e i (Some d) n flow is h = has_target p s e i d flow is (subst (λ (ds : List Edge). HasEdge ds d.target d.entry) h (inl refl))
 
-pub next_within : (p : Program) (s : ℕ) (e : Entry) (i : Insn) (j n : Option Edge) → IsFlow p → at p s ≡ Some i → option_to_list j ++ option_to_list n ≡ edges s e i → IfSome n (λ d. d.target < length p)
+pub next_within : (p : Program) (s : ℕ) (e : Entry) (i : Insn) (j n : Option Edge) → IsForward p → at p s ≡ Some i → option_to_list j ++ option_to_list n ≡ edges s e i → IfSome n (λ d. d.target < length p)
 unfolding HasEdge
 next_within p s e i j None flow is h = tt
 next_within p s e i None (Some d) flow is h = has_target p s e i d flow is (subst (λ (ds : List Edge). HasEdge ds d.target d.entry) h (inl refl))

@@ -60,5 +60,3 @@ pub record IsRefused (p : Program) (shape : AppShape) (s : ℕ) (rule : Rule) : 
 abbrev pub IsRefusal : Program → AppShape → Refusal → Type 0
 IsRefusal p shape (refusal.Rule s rule) = IsRefused p shape s rule
 IsRefusal p shape refusal.Memory = Unit {0}
-
-

@@ -10,7 +10,7 @@ use Rattle.bpf_insn.specs.declared.insn.Insn.{Insn}
 use Rattle.bpf_insn.specs.declared.insn.Insn.TheVariants.{Alu, Mov, JumpIf, Load}
 use Rattle.bpf_insn.specs.declared.reg.Reg.{Reg}
 use Rattle.bpf_insn.specs.Table.{number_of}
-use Rattle.flow_check.specs.Flow.{target_of, goes_on, next_of}
+use Rattle.flow_check.specs.Edges.{target_of, goes_on, next_of}
 use Rattle.bpf_verify.specs.declared.range.Range.{Range}
 use Rattle.bpf_verify.specs.declared.value.Value.{Value}
 use Rattle.bpf_verify.specs.declared.value.Value.TheVariants.{Num}

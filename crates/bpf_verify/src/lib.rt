@@ -33,6 +33,6 @@ mod transfer;
 mod value;
 mod verified;
 
-pub use refusal::{Refusal, Rule};
 pub use cells::Shape;
+pub use refusal::{Refusal, Rule};
 pub use verified::{Verified, verify};

@@ -7,9 +7,9 @@ ghost use Rattle.bpf_verify.specs.Rules as rules;
 use crate::access::{is_outside, load_count, reads_unset};
 use crate::entry::Entry;
 use crate::refusal::Rule;
-use cells::Shape;
 use crate::value::Value;
 use bpf_insn::{AluOp, Bits, Condition, Distance, Insn, LoadKind, Operand, Reg};
+use cells::Shape;
 
 fn reads_unusable(e: &Entry, insn: Insn) -> bool
     ensures { result ≡ rules.reads_unusable e.now insn }

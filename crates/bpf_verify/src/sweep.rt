@@ -10,8 +10,8 @@ use crate::edge::Edge;
 use crate::entry::Entry;
 use crate::refusal::Rule;
 use crate::rules::first_rule;
-use cells::Shape;
 use crate::transfer::transfer;
+use cells::Shape;
 use flow_check::Flow;
 use std::alloc::{AllocError, Global};
 

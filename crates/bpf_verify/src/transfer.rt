@@ -2,7 +2,7 @@
 //! entry on the edge that goes on.
 
 ghost use Rattle.std.specs.Prelude.{◌≡◌, ◌<◌, ◌++◌, option_to_list};
-ghost use Rattle.flow_check.specs.Flow.{target_of};
+ghost use Rattle.flow_check.specs.Edges.{target_of};
 ghost use Rattle.bpf_verify.specs.Transfer as transfers;
 
 use crate::edge::{Edge, Edges};

@@ -10,12 +10,12 @@ returns-in_default-at-clause-swept c = rw add-one (swept_nowhere c.args.flow.now
 
 pub put_if_any-requires : goal.put_if_any-requires
 put_if_any-requires c =
-    let t = jump_within c.args.flow.now c.args.slot c.in-Some.entry c.in-Some-at.insn c.transfer-edges.result.jump c.transfer-edges.result.next c.keeps.ensures (sym c.at.ensures ∙ c.in-Some-at.is) c.transfer-edges.ensures in
+    let t = jump_within c.args.flow.now c.args.slot c.in-Some.entry c.in-Some-at.insn c.transfer-edges.result.jump c.transfer-edges.result.next c.keeps.ensures.forward (sym c.at.ensures ∙ c.in-Some-at.is) c.transfer-edges.ensures in
     rw c.requires.swept.length_is t
 
 pub put_if_any-requires-2 : goal.put_if_any-requires-2
 put_if_any-requires-2 c =
-    let t = next_within c.args.flow.now c.args.slot c.in-Some.entry c.in-Some-at.insn c.transfer-edges.result.jump c.transfer-edges.result.next c.keeps.ensures (sym c.at.ensures ∙ c.in-Some-at.is) c.transfer-edges.ensures in
+    let t = next_within c.args.flow.now c.args.slot c.in-Some.entry c.in-Some-at.insn c.transfer-edges.result.jump c.transfer-edges.result.next c.keeps.ensures.forward (sym c.at.ensures ∙ c.in-Some-at.is) c.transfer-edges.ensures in
     rw (c.put_if_any.ensures.len, c.requires.swept.length_is) t
 
 pub returns-clause-swept : goal.returns-clause-swept
