@@ -1,2 +1,3 @@
 pub mod ContextBytes
 pub mod Numbers
+pub mod Versions

@@ -1,6 +1,6 @@
 -- The attributes of one app of a request at a moment: its context, and its texts by number.
 use Rattle.std.specs.Prelude.{ℕ, ◌+◌, ◌≤◌, All, List, [], ◌∷◌, length, replicate, Bool, nat_le, Option, Some, None, is_some, option_and_then, unwrap_or, if◌then◌else◌}
-use Rattle.attrs.specs.Context.{Context, IsInRange, updatecheck, version_known, unknown_day}
+use Rattle.attrs.specs.Context.{Context, updatecheck, version_known, unknown_day}
 use Rattle.attrs.specs.Version.{version_of}
 
 -- the texts in their order: 0 appid, 1 version, 2 brand, 3 ap, 4 lang, 5 cohort, 6 platform

@@ -1,5 +1,5 @@
 -- Which bucket an app is in: the one that its cohort names, or else a hash of who asks.
-use Rattle.std.specs.Prelude.{ℕ, ◌+◌, ◌/◌, ◌%◌, List, [], ◌∷◌, length, drop, codes, nat_eq, Bool, ◌&&◌, ◌==◌, Option, Some, None, option_and_then, unwrap_or, if◌then◌else◌}
+use Rattle.std.specs.Prelude.{ℕ, ◌+◌, ◌/◌, ◌%◌, List, [], ◌∷◌, ◌++◌, length, drop, codes, nat_eq, Bool, ◌&&◌, ◌==◌, Option, None, option_and_then, unwrap_or, if◌then◌else◌}
 use Rattle.std.specs.List.{starts_with}
 use Rattle.std.specs.Str.{byte}
 use Rattle.attrs.specs.declared.facts.AppFacts.{AppFacts}
@@ -14,6 +14,10 @@ last_digit n = byte "0" + n % 10
 abbrev pub four_digits : ℕ → List ℕ
 four_digits n =
     last_digit (n / 1000) ∷ last_digit (n / 100) ∷ last_digit (n / 10) ∷ last_digit n ∷ []
+
+-- the cohort that an app in a bucket is told
+abbrev pub told_cohort : ℕ → List ℕ
+told_cohort bucket = codes "b:" ++ four_digits bucket
 
 -- `b:` and four more bytes
 abbrev pub is_bucket_cohort : List ℕ → Bool

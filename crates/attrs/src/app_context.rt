@@ -1,6 +1,8 @@
-// The context of an app, from what its request says and the moment at which it asks.
+// The context of an app: from what its request says and the moment at which it asks, or from a
+// version and a bucket alone.
 
-ghost use Rattle.std.specs.Prelude.{◌≡◌, ◌<◌, ◌≤◌};
+ghost use Rattle.std.specs.Prelude.{◌≡◌, ◌<◌, ◌≤◌, option_copied};
+ghost use Rattle.attrs.specs.Attributes.{plain_context};
 ghost use Rattle.attrs.specs.Facts as specs;
 
 use crate::bucket::{bucket_or_hash, named_bucket};
@@ -28,6 +30,25 @@ pub(crate) fn context_of(app: &AppFacts, request: &RequestFacts, moment: Moment)
         install_day: installed.unwrap_or(Context::UNKNOWN_DAY),
         today: elapsed.days,
         seconds: elapsed.seconds,
+    }
+}
+
+/// The context of an app that asks for an update on day 0 at second 0.
+pub(crate) fn plain_context(version: Option<&str>, bucket: u16) -> Context
+    requires { bucket < 10000 }
+    ensures { result ≡ plain_context (option_copied version.entry) bucket }
+{
+    let (version, known) = match version.and_then(read_version) {
+        Some(numbers) => (numbers, Context::VERSION_KNOWN),
+        None => ([0; 4], 0),
+    };
+    Context {
+        version,
+        bucket,
+        flags: Context::UPDATECHECK + known,
+        install_day: Context::UNKNOWN_DAY,
+        today: 0,
+        seconds: 0,
     }
 }
 

@@ -2,14 +2,13 @@
 
 ghost use Rattle.std.specs.Prelude.{◌≡◌, ◌<◌, ◌≤◌, length, [], slice_index_or, IfOk, string_bytes, option_copied};
 ghost use Rattle.attrs.specs.Context.{IsInRange};
-ghost use Rattle.attrs.specs.Attributes.{kept_text, plain_context, AreShort};
+ghost use Rattle.attrs.specs.Attributes.{kept_text, AreShort};
 
-use crate::app_context::context_of;
+use crate::app_context::{context_of, plain_context};
 use crate::context::Context;
 use crate::facts::{AppFacts, RequestFacts};
 use crate::moment::Moment;
 use crate::text::lent;
-use crate::version::read_version;
 use std::alloc::Global;
 use std::marker::Model;
 use thiserror::Error;
@@ -145,25 +144,6 @@ impl Attrs {
             6 => Some(&self.platform),
             _ => None,
         }
-    }
-}
-
-// The context of an app that asks for an update on day 0 at second 0.
-fn plain_context(version: Option<&str>, bucket: u16) -> Context
-    requires { bucket < 10000 }
-    ensures { result ≡ plain_context (option_copied version.entry) bucket }
-{
-    let (version, known) = match version.and_then(read_version) {
-        Some(numbers) => (numbers, Context::VERSION_KNOWN),
-        None => ([0; 4], 0),
-    };
-    Context {
-        version,
-        bucket,
-        flags: Context::UPDATECHECK + known,
-        install_day: Context::UNKNOWN_DAY,
-        today: 0,
-        seconds: 0,
     }
 }
 

@@ -1,7 +1,7 @@
 // Which of 10000 buckets an app is in: the one that its cohort names, or else a hash of the
 // request's id or its session's, so that all apps of one request are in one bucket.
 
-ghost use Rattle.std.specs.Prelude.{◌≡◌, ℕ, ◌<◌, ◌++◌, codes, IfSome, unwrap_or};
+ghost use Rattle.std.specs.Prelude.{◌≡◌, ℕ, ◌<◌, IfSome, unwrap_or};
 ghost use Rattle.attrs.specs.Bucket as specs;
 
 use crate::facts::{AppFacts, RequestFacts};
@@ -34,10 +34,10 @@ fn last_digit(number: u16) -> u8
     b'0' + (number % 10) as u8
 }
 
-/// An app that sends back the cohort that it was told, `b:` and its bucket's digits, stays in that
-/// bucket.
+/// A law: an app that sends back the cohort that it was told, `b:` and its bucket's digits, stays in
+/// that bucket.
 pub fn cohort_keeps_bucket()
-    ensures { (n : ℕ) → n < 10000 → specs.cohort_bucket (codes "b:" ++ specs.four_digits n) ≡ Some n }
+    ensures { (n : ℕ) → n < 10000 → specs.cohort_bucket (specs.told_cohort n) ≡ Some n }
 {}
 
 /// The bucket of an app, from 0 to 9999.

@@ -5,8 +5,12 @@ use Rattle.attrs.proofs.bucket.cohort_bucket.Goals as goal
 
 in_range : (c : goal.In-Some) → c.in-Some.bucket < 10000
 in_range c =
-    let short : length c.in_ok-strip_prefix.field-0.now ≤ 4 = grind (arith, common_steps, c.in_ok-strip_prefix.ensures.cases, c.if-cohort-ne-COHORT_LENGTH.false) in
-    decimal_number-short c.in_ok-strip_prefix.field-0.now c.in-Some.bucket short (sym c.read_number.ensures ∙ c.in-Some.is)
+    let stripped = c.in_ok-strip_prefix.ensures.cases in
+    let six = c.if-cohort-ne-COHORT_LENGTH.false in
+    let short : length c.in_ok-strip_prefix.field-0.now ≤ 4 =
+    grind (arith, common_steps, stripped, six) in
+    let number = sym c.read_number.ensures ∙ c.in-Some.is in
+    decimal_number-short c.in_ok-strip_prefix.field-0.now c.in-Some.bucket short number
 
 pub overflow_cast-result : goal.overflow_cast-result
 overflow_cast-result c = omega (arith, in_range c)

@@ -4,5 +4,7 @@ use Rattle.attrs.proofs.version.read_number.Goals as goal
 
 pub returns : goal.returns
 returns c =
-    let plain = sym (c.starts_with.ensures.byte (lit< tt) (lit< tt) (λ w o h. h)) ∙ c.if-starts_with.false in
-    c.ok.ensures.value ∙ decimal_number-parse c.args.part.now c.parse.result plain c.parse.ensures.value.0
+    let byte = c.starts_with.ensures.byte (lit< tt) (lit< tt) (λ w o h. h) in
+    let plain = sym byte ∙ c.if-starts_with.false in
+    let parsed = c.parse.ensures.value.0 in
+    c.ok.ensures.value ∙ decimal_number-parse c.args.part.now c.parse.result plain parsed
