@@ -1,0 +1,11 @@
+mod Cuts
+mod Shifts
+mod Results
+mod Edges
+mod Moves
+mod Computes
+mod Slots
+mod Writes
+mod Stores
+mod Loads
+mod Inhabited

@@ -1,0 +1,81 @@
+-- The set bytes of a slot, and what a join of slots stands for.
+use Rattle.std.proofs.Common.{◌≡◌, ℕ, ◌/◌, ◌%◌, ◌^◌, ◌<◌, ◌≤◌, List, Option, Some, refl, ◌∙◌, arith, inl, inr, map}
+use Rattle.std.specs.Prelude.{IsSome, bit_and}
+use Rattle.std.specs.List.{range_with_len}
+use Rattle.std.proofs.lemmas.Bool.{cases_lt, cases_Bool}
+use Rattle.std.proofs.lemmas.List.{get_or_past}
+use Rattle.std.proofs.lemmas.List.FromFn.{get_or-map-range_with_len, length-map-range_with_len}
+use Rattle.std.proofs.lemmas.Nat.Bits.{bit_at_and, bit_at-zero, bit_at-lt}
+use Rattle.abs_value.specs.declared.value.Abs.{Abs}
+use Rattle.abs_value.specs.declared.slot.AbsSlot.{AbsSlot}
+use Rattle.abs_value.specs.declared.slot.AbsSlot.TheVariants.{Kept, Bytes}
+use Rattle.abs_value.specs.Values.{is_unusable, join_values}
+use Rattle.abs_value.specs.Stack.{mask_of, slot_at, kept_slot, join_slots, join_stacks}
+use Rattle.abs_value.specs.Covers.{Includes, KeepsNumber, HasSet, CoversSlot, CoversStack, bytes_of}
+use Rattle.abs_value.proofs.Computes.{included_left, included_right}
+
+-- all bytes of a kept slot are set
+some_is : (o : Option ℕ) (x : ℕ) → o ≡ Some x → IsSome o
+some_is o x e = rw e refl
+
+pub mask_set : (slot : AbsSlot) (bytes : ℕ → Option ℕ) → CoversSlot slot bytes → HasSet (mask_of slot) bytes
+mask_set (Kept v) bytes h = λ j lt bit. some_is (bytes j) (h.number / 256 ^ j % 256) (h.bytes_are j lt)
+mask_set (Bytes mask) bytes h = h
+
+-- what is known of a slot rests on its eight bytes alone
+pub same_bytes : (slot : AbsSlot) (a b : ℕ → Option ℕ) → ((j : ℕ) → j < 8 → b j ≡ a j) → CoversSlot slot a → CoversSlot slot b
+same_bytes (Kept v) a b same h = record { number = h.number; word = h.word; included = h.included; bytes_are = λ j lt. same j lt ∙ h.bytes_are j lt }
+same_bytes (Bytes mask) a b same h = λ j lt bit. rw (same j lt) (h j lt bit)
+
+-- ---- joins
+
+both_set : (m n : ℕ) (bytes : ℕ → Option ℕ) → HasSet m bytes → HasSet (bit_and m n) bytes
+both_set m n bytes h j lt bit = let least = bit_at_and m n j in let small = bit_at-lt m j in h j lt (omega (arith, least, bit, small))
+
+both_set_right : (m n : ℕ) (bytes : ℕ → Option ℕ) → HasSet n bytes → HasSet (bit_and m n) bytes
+both_set_right m n bytes h j lt bit = let least = bit_at_and m n j in let small = bit_at-lt n j in h j lt (omega (arith, least, bit, small))
+
+-- a value that isn't unusable is kept
+kept_covers : (v w : Abs) (bytes : ℕ → Option ℕ) → KeepsNumber v bytes → ((x : ℕ) → Includes v x → Includes w x) → CoversSlot (kept_slot w) bytes
+kept_covers v w bytes h more = elim (cases_Bool (is_unusable w)) [
+  | inl is ↦ rw is (mask_set (Kept v) bytes h)
+  | inr is ↦ rw is (record { number = h.number; word = h.word; included = more h.number h.included; bytes_are = h.bytes_are })
+]
+
+join_slots_left : (a b : AbsSlot) (bytes : ℕ → Option ℕ) → CoversSlot a bytes → CoversSlot (join_slots a b) bytes
+join_slots_left (Kept v) (Kept w) bytes h = kept_covers v (join_values v w) bytes h (λ x k. included_left v w x k)
+join_slots_left (Kept v) (Bytes n) bytes h = both_set 255 n bytes (mask_set (Kept v) bytes h)
+join_slots_left (Bytes m) (Kept w) bytes h = both_set m 255 bytes h
+join_slots_left (Bytes m) (Bytes n) bytes h = both_set m n bytes h
+
+join_slots_right : (a b : AbsSlot) (bytes : ℕ → Option ℕ) → CoversSlot b bytes → CoversSlot (join_slots a b) bytes
+join_slots_right (Kept v) (Kept w) bytes h = kept_covers w (join_values v w) bytes h (λ x k. included_right v w x k)
+join_slots_right (Kept v) (Bytes n) bytes h = both_set_right 255 n bytes h
+join_slots_right (Bytes m) (Kept w) bytes h = both_set_right m 255 bytes (mask_set (Kept w) bytes h)
+join_slots_right (Bytes m) (Bytes n) bytes h = both_set_right m n bytes h
+
+slot_at-join : (a b : List AbsSlot) (i : ℕ) → i < 64 → slot_at (join_stacks a b) i ≡ join_slots (slot_at a i) (slot_at b i)
+unfolding join_stacks
+slot_at-join a b i lt = get_or-map-range_with_len (λ (q : ℕ). join_slots (slot_at a q) (slot_at b q)) 0 64 i i (Bytes 0) lt (omega arith)
+
+slot_at-join_past : (a b : List AbsSlot) (i : ℕ) → 64 ≤ i → slot_at (join_stacks a b) i ≡ Bytes 0
+unfolding join_stacks
+slot_at-join_past a b i le =
+    let f : ℕ → AbsSlot = λ (q : ℕ). join_slots (slot_at a q) (slot_at b q) in
+    get_or_past (map f (range_with_len 0 64)) i (Bytes 0) (omega (arith, length-map-range_with_len f 0 64))
+
+-- where no byte is known to be set
+pub none_set : (bytes : ℕ → Option ℕ) → HasSet 0 bytes
+none_set bytes j lt bit = let zero_is = bit_at-zero j in absurd (omega (arith, bit, zero_is))
+
+pub stack_left : (a b : List AbsSlot) (stack : ℕ → Option ℕ) → CoversStack a stack → CoversStack (join_stacks a b) stack
+stack_left a b stack h i = elim (cases_lt i 64) [
+  | inl lt ↦ rw (slot_at-join a b i lt) (join_slots_left (slot_at a i) (slot_at b i) (bytes_of stack i) (h i))
+  | inr le ↦ rw (slot_at-join_past a b i le) (none_set (bytes_of stack i))
+]
+
+pub stack_right : (a b : List AbsSlot) (stack : ℕ → Option ℕ) → CoversStack b stack → CoversStack (join_stacks a b) stack
+stack_right a b stack h i = elim (cases_lt i 64) [
+  | inl lt ↦ rw (slot_at-join a b i lt) (join_slots_right (slot_at a i) (slot_at b i) (bytes_of stack i) (h i))
+  | inr le ↦ rw (slot_at-join_past a b i le) (none_set (bytes_of stack i))
+]

@@ -1,0 +1,13 @@
+use Rattle.abs_value.proofs.Computes.{alu_includes, copied_includes, negated_includes, extended_includes, reordered_includes}
+use Rattle.abs_value.proofs.Loads.{loaded_includes}
+use Rattle.abs_value.proofs.laws.results_are_included.Goals as goal
+
+pub returns : goal.returns
+returns c = record {
+  alu = alu_includes;
+  copied = copied_includes;
+  negated = negated_includes;
+  extended = extended_includes;
+  reordered = reordered_includes;
+  loaded = loaded_includes;
+}

@@ -1,0 +1,92 @@
+-- Arithmetic with ranges of numbers (RFC 9669, "Arithmetic Instructions" and "Byte Swap
+-- Instructions"). On single numbers it is the machine's own result. On ranges there is one formula
+-- an operation, over the numbers of a class.
+use Rattle.std.specs.Prelude.{ℕ, ◌+◌, ◌-◌, ◌*◌, ◌/◌, ◌%◌, ◌^◌, min, max, Bool, ◌&&◌, nat_lt, nat_le}
+use Rattle.std.specs.Prelude.{if◌then◌else◌}
+use Rattle.std.specs.Int.{w64, leading_zeros}
+use mir.Val.{bits}
+use Rattle.bpf_insn.specs.declared.operand.AluOp.{AluOp}
+use Rattle.bpf_insn.specs.declared.operand.AluOp.TheVariants.{Add, Sub, Or, And, Lsh, Rsh, Xor}
+use Rattle.bpf_insn.specs.declared.operand.AluOp.TheVariants.{Arsh}
+use Rattle.bpf_insn.specs.declared.operand.Bits.{Bits}
+use Rattle.bpf_insn.specs.declared.operand.ByteOrder.{ByteOrder}
+use Rattle.bpf_insn.specs.declared.operand.EndSize.{EndSize}
+use Rattle.bpf_insn.specs.declared.operand.Extension.{Extension}
+use Rattle.bpf_insn.specs.Table.{extension_class}
+use Rattle.bpf_insn.specs.Words.{word_width}
+use Rattle.bpf_insn.specs.Arithmetic.{alu_result, extended, end_width, reordered}
+use Rattle.abs_value.specs.declared.number.Number.{Number}
+use Rattle.abs_value.specs.Numbers.{number, single, is_single, greatest, up_to, full, cut}
+
+-- ---- one formula an operation, on numbers of the class
+
+-- from lo to hi, where these are numbers of the class; else the results may wrap, and may be any
+-- number
+abbrev pub fitting : Bits → ℕ → ℕ → Number
+fitting w lo hi = if nat_le lo (greatest w) && nat_le hi (greatest w) then number lo hi else full w
+
+abbrev pub sum : Bits → Number → Number → Number
+sum w a b = fitting w (a.lo + b.lo) (a.hi + b.hi)
+
+-- where no number of the first is below one of the second
+abbrev pub difference : Bits → Number → Number → Number
+difference w a b = if nat_le b.hi a.lo then number (a.lo - b.hi) (a.hi - b.lo) else full w
+
+-- a common bit is a bit of each
+abbrev pub conjunction : Number → Number → Number
+conjunction a b = up_to (min a.hi b.hi)
+
+-- the least power of two above a number of 64 bits
+abbrev pub power_above : ℕ → ℕ
+power_above n = 2 ^ (64 - leading_zeros w64 n)
+
+-- OR and XOR have no bit above those of both
+abbrev pub disjunction : Number → Number → Number
+disjunction a b = up_to (power_above (max a.hi b.hi) - 1)
+
+abbrev pub shifted_left : Bits → Number → ℕ → Number
+shifted_left w a count = fitting w (a.lo * 2 ^ count) (a.hi * 2 ^ count)
+
+abbrev pub shifted_right : Number → ℕ → Number
+shifted_right a count = number (a.lo / 2 ^ count) (a.hi / 2 ^ count)
+
+-- the numbers from here on are negative
+abbrev pub sign_bit : Bits → ℕ
+sign_bit w = 2 ^ (bits (word_width w) - 1)
+
+-- a number below the sign bit is shifted as RSH does
+abbrev pub shifted_signed : Bits → Number → ℕ → Number
+shifted_signed w a count = if nat_lt a.hi (sign_bit w) then shifted_right a count else full w
+
+-- a count is masked by the width
+abbrev pub count_of : Bits → Number → ℕ
+count_of w b = b.lo % bits (word_width w)
+
+abbrev pub bounds : Bits → AluOp → Number → Number → Number
+bounds w Add a b = sum w a b
+bounds w Sub a b = difference w a b
+bounds w Or a b = disjunction a b
+bounds w And a b = conjunction a b
+bounds w Lsh a b = if is_single b then shifted_left w a (count_of w b) else full w
+bounds w Rsh a b = if is_single b then shifted_right a (count_of w b) else full w
+bounds w Xor a b = disjunction a b
+bounds w Arsh a b = if is_single b then shifted_signed w a (count_of w b) else full w
+
+-- ---- the results
+
+abbrev pub are_single : Number → Number → Bool
+are_single a b = is_single a && is_single b
+
+-- of two single numbers what the machine computes, else the formula on what the class takes of them
+abbrev pub alu_number : Bits → AluOp → Number → Number → Number
+alu_number w op a b =
+    if are_single a b then single (alu_result w op a.lo b.lo) else bounds w op (cut w a) (cut w b)
+
+-- MOVSX
+abbrev pub extended_number : Extension → Number → Number
+extended_number e a = if is_single a then single (extended e a.lo) else full (extension_class e)
+
+-- END: any number of its size
+abbrev pub reordered_number : ByteOrder → EndSize → Number → Number
+reordered_number order size a =
+    if is_single a then single (reordered order size a.lo) else up_to (2 ^ bits (end_width size) - 1)

@@ -1,0 +1,195 @@
+-- What is promised of the definitions: what is computed stands for what the machine does, and no
+-- range is empty.
+use Rattle.std.specs.Prelude.{◌≡◌, ℕ, ◌+◌, ◌^◌, ◌<◌, ◌≤◌, pos, Option, Some, None, Bool, true}
+use Rattle.std.specs.Prelude.{false}
+use Rattle.attrs.specs.Attributes.{Attributes}
+use Rattle.bpf_insn.specs.declared.operand.AluOp.{AluOp}
+use Rattle.bpf_insn.specs.declared.operand.Bits.{Bits}
+use Rattle.bpf_insn.specs.declared.operand.ByteOrder.{ByteOrder}
+use Rattle.bpf_insn.specs.declared.operand.Condition.{Condition}
+use Rattle.bpf_insn.specs.declared.operand.EndSize.{EndSize}
+use Rattle.bpf_insn.specs.declared.operand.Extension.{Extension}
+use Rattle.bpf_insn.specs.declared.operand.LoadKind.{LoadKind}
+use Rattle.bpf_insn.specs.declared.operand.Operand.{Operand}
+use Rattle.bpf_insn.specs.declared.operand.Size.{Size}
+use Rattle.bpf_insn.specs.declared.reg.Reg.{Reg}
+use Rattle.bpf_insn.specs.Arithmetic.{alu_result, negated, extended, reordered}
+use Rattle.bpf_insn.specs.Words.{word}
+use Rattle.bpf_insn.specs.Conditions.{holds}
+use Rattle.bpf_insn.specs.Table.{number_of}
+use Rattle.bpf_semantics.specs.Memory.{stack_start, stack_size}
+use Rattle.bpf_semantics.specs.State.{State, HasWords, opening, read_at, written_at, with_register}
+use Rattle.bpf_semantics.specs.Reads.{operand, byte_count, load_count, filled}
+use Rattle.abs_value.specs.declared.value.Abs.{Abs}
+use Rattle.abs_value.specs.declared.value.Abs.TheVariants.{Num, Ctx}
+use Rattle.abs_value.specs.declared.state.AbsState.{AbsState}
+use Rattle.abs_value.specs.Numbers.{IsRange}
+use Rattle.abs_value.specs.Narrowing.{is_taken}
+use Rattle.abs_value.specs.Values.{is_unusable, alu_value, copied_value, negated_value}
+use Rattle.abs_value.specs.Values.{extended_value, reordered_value, loaded_value, refined}
+use Rattle.abs_value.specs.Values.{join_values}
+use Rattle.abs_value.specs.Stack.{has_unset, loaded_from}
+use Rattle.abs_value.specs.States.{opening_state, value_at, join_states, operand_value, with_value}
+use Rattle.abs_value.specs.States.{with_operand, with_stored}
+use Rattle.abs_value.specs.Covers.{Includes, IsWord, Covers}
+
+-- ---- values
+
+-- an operation on values stands for the operation of the machine
+abbrev pub IncludesResults : Type 0
+IncludesResults =
+    (bits : Bits) (op : AluOp) (a b : Abs) (x y : ℕ)
+    → IsWord x → IsWord y → Includes a x → Includes b y
+    → Includes (alu_value bits op a b) (alu_result bits op x y)
+
+abbrev pub IncludesCopies : Type 0
+IncludesCopies =
+    (bits : Bits) (a : Abs) (x : ℕ) → Includes a x → Includes (copied_value bits a) (word bits x)
+
+abbrev pub IncludesNegations : Type 0
+IncludesNegations =
+    (bits : Bits) (a : Abs) (x : ℕ) → IsWord x → Includes a x
+    → Includes (negated_value bits a) (negated bits x)
+
+abbrev pub IncludesExtensions : Type 0
+IncludesExtensions =
+    (e : Extension) (a : Abs) (x : ℕ) → Includes a x → Includes (extended_value e a) (extended e x)
+
+abbrev pub IncludesReorderings : Type 0
+IncludesReorderings =
+    (order : ByteOrder) (size : EndSize) (a : Abs) (x : ℕ) → Includes a x
+    → Includes (reordered_value order size a) (reordered order size x)
+
+-- a number of as many bytes as the load has
+abbrev pub IncludesLoaded : Type 0
+IncludesLoaded =
+    (kind : LoadKind) (n : ℕ) → n < 256 ^ load_count kind
+    → Includes (loaded_value kind) (filled kind n)
+
+-- the edge isn't dropped, and what is left of the two values on it includes their numbers
+pub record IsLeft (o : Option (Abs × Abs)) (x y : ℕ) : Type 0 where
+  pub pair : Abs × Abs
+  pub is : o ≡ Some pair
+  pub first : Includes pair.0 x
+  pub second : Includes pair.1 y
+
+-- on the edge that a run takes
+abbrev pub KeepsEdges : Type 0
+KeepsEdges =
+    (bits : Bits) (condition : Condition) (jumps : Bool) (a b : Abs) (x y : ℕ)
+    → Includes a x → Includes b y → is_taken jumps (holds bits condition x y) ≡ true
+    → IsLeft (refined bits condition jumps a b) x y
+
+-- ---- registers
+
+-- a value that isn't unusable stands for a number that is there
+pub record IsThere (a : Abs) (v : Option ℕ) : Type 0 where
+  pub number : ℕ
+  pub is : v ≡ Some number
+  pub included : Includes a number
+
+abbrev pub RegistersAreThere : Type 0
+RegistersAreThere =
+    (e : AbsState) (s : State) (r : ℕ) → Covers e s → is_unusable (value_at e r) ≡ false
+    → IsThere (value_at e r) (s.registers r)
+
+abbrev pub OperandsAreThere : Type 0
+OperandsAreThere =
+    (e : AbsState) (s : State) (bits : Bits) (src : Operand)
+    → Covers e s → is_unusable (operand_value e bits src) ≡ false
+    → IsThere (operand_value e bits src) (operand s bits src)
+
+-- the register that is written gets a value
+abbrev pub CoversWrites : Type 0
+CoversWrites =
+    (e : AbsState) (s : State) (r : Reg) (v : Abs) (x : ℕ) → Covers e s → Includes v x
+    → Covers (with_value e r v) (with_register s (number_of r) x)
+
+-- something is learnt of an operand as it stands
+abbrev pub CoversLearnt : Type 0
+CoversLearnt =
+    (e : AbsState) (s : State) (bits : Bits) (src : Operand) (v : Abs) (x : ℕ) → Covers e s
+    → operand s bits src ≡ Some x → Includes v x → Covers (with_operand e src v) s
+
+-- ---- joins, and the start
+
+abbrev pub CoversFirst : Type 0
+CoversFirst = (e f : AbsState) (s : State) → Covers e s → Covers (join_states e f) s
+
+abbrev pub CoversSecond : Type 0
+CoversSecond = (e f : AbsState) (s : State) → Covers f s → Covers (join_states e f) s
+
+abbrev pub CoversOpening : Type 0
+CoversOpening = (a : Attributes) → Covers opening_state (opening a)
+
+-- ---- the stack
+
+-- a store is possible, and what is known afterwards covers the state that it leaves
+abbrev pub CoversAfter : AbsState → Option State → Type 0
+CoversAfter e None = ⊥
+CoversAfter e (Some t) = Covers e t
+
+abbrev pub CoversStores : Type 0
+CoversStores =
+    (e : AbsState) (s : State) (place : ℕ) (size : Size) (v : Abs) (x : ℕ)
+    → place + byte_count size ≤ stack_size → Covers e s → IsWord x → Includes v x
+    → CoversAfter (with_stored e place (byte_count size) v)
+    (written_at s (stack_start + place) (byte_count size) x)
+
+-- a load finds a number that the value includes
+pub record Finds (a : Abs) (kind : LoadKind) (o : Option ℕ) : Type 0 where
+  pub number : ℕ
+  pub is : o ≡ Some number
+  pub included : Includes a (filled kind number)
+
+abbrev pub CoversLoads : Type 0
+CoversLoads =
+    (e : AbsState) (s : State) (place : ℕ) (kind : LoadKind) → place + load_count kind ≤ stack_size
+    → HasWords s → Covers e s → has_unset e.stack (pos place) (load_count kind) ≡ false
+    → Finds (loaded_from e.stack place kind) kind
+    (read_at s (stack_start + place) (load_count kind))
+
+-- ---- no range is empty
+
+abbrev pub IsInhabited : Abs → Type 0
+IsInhabited (Num a) = IsRange a
+IsInhabited (Ctx from) = from.lo ≤ from.hi
+IsInhabited v = Unit {0}
+
+abbrev pub AreInhabited : Option (Abs × Abs) → Type 0
+AreInhabited None = Unit {0}
+AreInhabited (Some p) = IsInhabited p.0 × IsInhabited p.1
+
+abbrev pub KeepsInhabited : (Abs → Abs) → Type 0
+KeepsInhabited f = (a : Abs) → IsInhabited a → IsInhabited (f a)
+
+abbrev pub KeepsBothInhabited : (Abs → Abs → Abs) → Type 0
+KeepsBothInhabited f = (a b : Abs) → IsInhabited a → IsInhabited b → IsInhabited (f a b)
+
+abbrev pub InhabitsResults : Type 0
+InhabitsResults = (bits : Bits) (op : AluOp) → KeepsBothInhabited (alu_value bits op)
+
+abbrev pub InhabitsCopies : Type 0
+InhabitsCopies = (bits : Bits) → KeepsInhabited (copied_value bits)
+
+abbrev pub InhabitsNegations : Type 0
+InhabitsNegations = (bits : Bits) → KeepsInhabited (negated_value bits)
+
+abbrev pub InhabitsExtensions : Type 0
+InhabitsExtensions = (e : Extension) → KeepsInhabited (extended_value e)
+
+abbrev pub InhabitsReorderings : Type 0
+InhabitsReorderings =
+    (order : ByteOrder) (size : EndSize) → KeepsInhabited (reordered_value order size)
+
+abbrev pub InhabitsLoaded : Type 0
+InhabitsLoaded = (kind : LoadKind) → IsInhabited (loaded_value kind)
+
+-- what is left on an edge
+abbrev pub InhabitsEdges : Type 0
+InhabitsEdges =
+    (bits : Bits) (condition : Condition) (jumps : Bool) (a b : Abs) → IsInhabited a → IsInhabited b
+    → AreInhabited (refined bits condition jumps a b)
+
+abbrev pub InhabitsJoins : Type 0
+InhabitsJoins = KeepsBothInhabited join_values

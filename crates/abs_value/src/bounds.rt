@@ -1,0 +1,171 @@
+//! Arithmetic with ranges: one formula an operation, over the numbers of a class. On two single
+//! numbers it is what the machine computes.
+
+ghost use Rattle.std.specs.Prelude.{◌≡◌, ◌<◌, ◌-◌};
+ghost use Rattle.abs_value.specs.Bounds as bounds;
+
+use crate::number::{Number, greatest};
+use bpf_insn::{AluOp, Bits, ByteOrder, EndSize, Extension};
+
+/// From `lo` to `hi`, where these are numbers of the class; else any.
+fn fitting(bits: Bits, lo: u128, hi: u128) -> Number
+    ensures { result ≡ bounds.fitting bits lo hi }
+{
+    let greatest = greatest(bits) as u128;
+    if lo <= greatest && hi <= greatest {
+        Number {
+            lo: lo as u64,
+            hi: hi as u64,
+        }
+    } else {
+        Number::full(bits)
+    }
+}
+
+fn sum(bits: Bits, a: Number, b: Number) -> Number
+    ensures { result ≡ bounds.sum bits a b }
+{
+    fitting(
+        bits,
+        a.lo as u128 + b.lo as u128,
+        a.hi as u128 + b.hi as u128,
+    )
+}
+
+fn difference(bits: Bits, a: Number, b: Number) -> Number
+    ensures { result ≡ bounds.difference bits a b }
+{
+    if b.hi <= a.lo {
+        Number {
+            lo: a.lo - b.hi,
+            hi: a.hi.saturating_sub(b.lo),
+        }
+    } else {
+        Number::full(bits)
+    }
+}
+
+fn conjunction(a: Number, b: Number) -> Number
+    ensures { result ≡ bounds.conjunction a b }
+{
+    Number::up_to(a.hi.min(b.hi))
+}
+
+/// All ones up to the highest bit that is set.
+fn ones_of(n: u64) -> u64
+    ensures { result ≡ bounds.power_above n - 1 }
+{
+    let zeros = n.leading_zeros();
+    if zeros < 64 { u64::MAX >> zeros } else { 0 }
+}
+
+fn disjunction(a: Number, b: Number) -> Number
+    ensures { result ≡ bounds.disjunction a b }
+{
+    Number::up_to(ones_of(a.hi.max(b.hi)))
+}
+
+fn shifted_left(bits: Bits, a: Number, count: u32) -> Number
+    requires { count < 64 }
+    ensures { result ≡ bounds.shifted_left bits a count }
+{
+    fitting(bits, (a.lo as u128) << count, (a.hi as u128) << count)
+}
+
+fn shifted_right(a: Number, count: u32) -> Number
+    requires { count < 64 }
+    ensures { result ≡ bounds.shifted_right a count }
+{
+    Number {
+        lo: a.lo >> count,
+        hi: a.hi >> count,
+    }
+}
+
+/// The least number that is negative.
+pub fn sign_bit(bits: Bits) -> u64
+    ensures { result ≡ bounds.sign_bit bits }
+{
+    match bits {
+        Bits::Bits64 => 1 << 63,
+        Bits::Bits32 => 1 << 31,
+    }
+}
+
+fn shifted_signed(bits: Bits, a: Number, count: u32) -> Number
+    requires { count < 64 }
+    ensures { result ≡ bounds.shifted_signed bits a count }
+{
+    if a.hi < sign_bit(bits) {
+        shifted_right(a, count)
+    } else {
+        Number::full(bits)
+    }
+}
+
+/// By how much a single number shifts.
+fn count_of(bits: Bits, b: Number) -> u32
+    ensures count { result ≡ bounds.count_of bits b }
+    ensures masked { result < 64 }
+{
+    match bits {
+        Bits::Bits64 => (b.lo % 64) as u32,
+        Bits::Bits32 => (b.lo % 32) as u32,
+    }
+}
+
+/// The formula of an operation, on numbers of the class.
+fn bounds_of(bits: Bits, op: AluOp, a: Number, b: Number) -> Number
+    ensures { result ≡ bounds.bounds bits op a b }
+{
+    match op {
+        AluOp::Add => sum(bits, a, b),
+        AluOp::Sub => difference(bits, a, b),
+        AluOp::And => conjunction(a, b),
+        AluOp::Or | AluOp::Xor => disjunction(a, b),
+        AluOp::Lsh if b.is_single() => shifted_left(bits, a, count_of(bits, b)),
+        AluOp::Rsh if b.is_single() => shifted_right(a, count_of(bits, b)),
+        AluOp::Arsh if b.is_single() => shifted_signed(bits, a, count_of(bits, b)),
+        AluOp::Lsh | AluOp::Rsh | AluOp::Arsh => Number::full(bits),
+    }
+}
+
+impl Number {
+    /// What an operation gives, in 32 bits of the low halves alone.
+    pub fn alu(self, bits: Bits, op: AluOp, other: Number) -> Number
+        ensures { result ≡ bounds.alu_number bits op self other }
+    {
+        if self.is_single() && other.is_single() {
+            Number::single(op.apply(bits, self.lo, other.lo))
+        } else {
+            bounds_of(bits, op, self.cut(bits), other.cut(bits))
+        }
+    }
+
+    /// What MOVSX gives.
+    pub fn extended(self, extension: Extension) -> Number
+        ensures { result ≡ bounds.extended_number extension self }
+    {
+        if self.is_single() {
+            return Number::single(extension.extend(self.lo));
+        }
+        match extension {
+            Extension::Byte64 | Extension::Half64 | Extension::Word64 => Number::full(Bits::Bits64),
+            Extension::Byte32 | Extension::Half32 => Number::full(Bits::Bits32),
+        }
+    }
+
+    /// What END gives.
+    pub fn reordered(self, order: ByteOrder, size: EndSize) -> Number
+        ensures { result ≡ bounds.reordered_number order size self }
+    {
+        if self.is_single() {
+            return Number::single(order.reorder(size, self.lo));
+        }
+        match size {
+            EndSize::Half => Number::up_to(u16::MAX as u64),
+            EndSize::Word => Number::up_to(u32::MAX as u64),
+            EndSize::Double => Number::up_to(u64::MAX),
+        }
+    }
+}

@@ -1,0 +1,60 @@
+//! What the definitions promise to the crates above: what is computed here stands for what the
+//! machine does, and no range is empty. The functions have no work to do; a proof calls them for
+//! their clauses.
+
+ghost use Rattle.abs_value.specs.Laws as laws;
+
+/// Of numbers that two values include, each operation gives a number that its result includes:
+/// arithmetic, MOV, NEG, MOVSX, END, and a load of bytes of which nothing is known.
+pub fn results_are_included()
+    ensures alu { laws.IncludesResults }
+    ensures copied { laws.IncludesCopies }
+    ensures negated { laws.IncludesNegations }
+    ensures extended { laws.IncludesExtensions }
+    ensures reordered { laws.IncludesReorderings }
+    ensures loaded { laws.IncludesLoaded }
+{}
+
+/// The edge that a run takes at a jump is not dropped, and what is left of the two values on it
+/// includes the numbers that were compared. So an edge that is dropped is taken by no run.
+pub fn edges_are_kept()
+    ensures { laws.KeepsEdges }
+{}
+
+/// A register whose value is usable is set; writing one, and learning something of one, covers the
+/// state that is left; and where a run starts, the opening state is covered.
+pub fn registers_cover()
+    ensures registers { laws.RegistersAreThere }
+    ensures operands { laws.OperandsAreThere }
+    ensures writes { laws.CoversWrites }
+    ensures learnt { laws.CoversLearnt }
+    ensures opening { laws.CoversOpening }
+{}
+
+/// A join stands for all that either side stands for.
+pub fn joins_cover()
+    ensures first { laws.CoversFirst }
+    ensures second { laws.CoversSecond }
+{}
+
+/// A store within the stack is possible, and what is known afterwards covers the state it leaves.
+pub fn stores_cover()
+    ensures { laws.CoversStores }
+{}
+
+/// A load within the stack of bytes that are all set finds a number that its value includes.
+pub fn loads_cover()
+    ensures { laws.CoversLoads }
+{}
+
+/// From ranges with numbers in them no empty range is computed.
+pub fn ranges_have_numbers()
+    ensures alu { laws.InhabitsResults }
+    ensures copied { laws.InhabitsCopies }
+    ensures negated { laws.InhabitsNegations }
+    ensures extended { laws.InhabitsExtensions }
+    ensures reordered { laws.InhabitsReorderings }
+    ensures loaded { laws.InhabitsLoaded }
+    ensures refined { laws.InhabitsEdges }
+    ensures joined { laws.InhabitsJoins }
+{}

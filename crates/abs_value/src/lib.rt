@@ -1,0 +1,66 @@
+//! What the verifier knows of values: arithmetic, conditions, joins and the stack, each with what
+//! it stands for. Everything has a fixed size; nothing here allocates or fails.
+#![tactic(auto)]
+
+// The method. The verifier runs a program once, not on numbers but on what is known of them, and
+// each thing that is known stands for a set of runs. Of a register (`Abs`) it is one of these:
+//
+// - nothing at all; the register may be unset (`Unusable`);
+// - a number between two ends (`Num`). It is unsigned, of 64 bits, and single where the ends meet;
+// - the address of one of some places in the context (`Ctx`);
+// - the address of one place in the stack (`Stk`). Places are counted from the start of a region,
+//   and its end is one of them, so a pointer may stand behind the last byte but not access it.
+//
+// Arithmetic. Of two single numbers the result is what the machine computes, by its own function,
+// whatever the operation. Otherwise each operation has one formula over the ends of the ranges and
+// the greatest number of the class: the sums of the ends where they fit, say, and any number where
+// a sum may wrap. In 32 bits the operands are first cut to what the class takes of them: a single
+// number to its low half, and a range that goes past 32 bits to any number of 32 bits; so the
+// upper half of a result is 0 without a word about it. Only 64-bit ADD and SUB of a number move a
+// pointer, and only within its region; a single number counts by its signed view there. All else
+// that is done to a pointer leaves nothing known.
+//
+// Conditions. A conditional jump has two edges. Two single numbers decide the condition, and the
+// other edge is dropped: no run takes it. Otherwise an edge tells a relation of the two numbers,
+// which is that of the condition or its opposite, and the ends that contradict it move in. An edge
+// on which a range would be empty is dropped too. Signed comparisons order numbers as the unsigned
+// ones do where both ranges lie on one side of the sign bit, and narrow nothing elsewhere; those
+// of 32 bits narrow only where both ranges lie below 2 to the 32, for the upper halves aren't
+// compared.
+//
+// The stack. Each of the 64 aligned slots of 8 bytes keeps a value that was stored there as a
+// whole, or it is known which of its bytes are set. Any other store leaves only set bytes behind:
+// of a value of which a part was written over nothing is known. A load of a whole slot that keeps
+// a value gives it; any other load gives any number of its width.
+//
+// Joins. Where two edges meet, what is known is what both sides know: the hull of two ranges, a
+// value that is the same on both sides, the bytes that are set on both. All else is unusable.
+//
+// What this is worth is said by `laws.rt`. `specs/Covers.antt` defines which states of the machine
+// a state of the verifier stands for, and the laws say that each operation here, done beside the
+// one of the machine, leads from what is stood for to what is stood for, and that the edge which a
+// run takes is never dropped.
+//
+// Not here yet: arrays, their cells, and what a lookup gives.
+
+mod bounds;
+mod laws;
+mod narrow;
+mod number;
+mod places;
+mod relation;
+mod slot;
+mod stack;
+mod state;
+mod value;
+
+pub use laws::{
+    edges_are_kept, joins_cover, loads_cover, ranges_have_numbers, registers_cover,
+    results_are_included, stores_cover,
+};
+pub use number::Number;
+pub use places::{CONTEXT_SIZE, Places, STACK_SIZE};
+pub use relation::Relation;
+pub use slot::AbsSlot;
+pub use state::AbsState;
+pub use value::Abs;

@@ -1,0 +1,108 @@
+//! Places in a region, counted from its start: 0 to 64 in the context, 0 to 512 in the stack. The
+//! end of a region is a place too, so that a pointer may stand behind the last byte.
+
+ghost use Rattle.std.specs.Prelude.{◌≡◌};
+ghost use Rattle.bpf_semantics.specs.Memory.{context_size, stack_size};
+ghost use Rattle.abs_value.specs.Values as values;
+
+use crate::number::Number;
+use bpf_insn::AluOp;
+
+/// How many bytes the context has.
+pub const CONTEXT_SIZE: u16 = 64;
+
+/// How many bytes the stack has.
+pub const STACK_SIZE: u16 = 512;
+
+/// The places from `lo` to `hi`, both included.
+#[derive(Clone, Copy, Debug, PartialEq, Eq)]
+pub struct Places {
+    pub lo: u16,
+    pub hi: u16,
+}
+
+impl Places {
+    /// The least range that holds both.
+    pub fn hull(self, other: Places) -> Places
+        ensures { result ≡ values.place_hull self other }
+    {
+        Places {
+            lo: self.lo.min(other.lo),
+            hi: self.hi.max(other.hi),
+        }
+    }
+
+    /// Where arithmetic leads in the context; `None` where that may be outside.
+    pub fn moved(self, op: AluOp, by: Number) -> Option<Places>
+        ensures { result ≡ values.moved_in_context op self by }
+    {
+        let (lo, hi) = if by.is_single() {
+            let lo = moved_by_single(CONTEXT_SIZE, op, self.lo, by.lo)?;
+            (lo, moved_by_single(CONTEXT_SIZE, op, self.hi, by.hi)?)
+        } else {
+            let lo = moved_by_end(CONTEXT_SIZE, op, self.lo, by.lo)?;
+            (lo, moved_by_end(CONTEXT_SIZE, op, self.hi, by.hi)?)
+        };
+        Some(Places { lo, hi })
+    }
+}
+
+/// Where arithmetic leads in the stack; `None` where that may be outside.
+pub fn moved_in_stack(op: AluOp, place: u16, by: Number) -> Option<u16>
+    ensures { result ≡ values.moved_in_stack op place by }
+{
+    if by.is_single() {
+        moved_by_single(STACK_SIZE, op, place, by.lo)
+    } else {
+        None
+    }
+}
+
+/// A single number counts by its signed view: it is added,
+fn moved_up(size: u16, place: u16, n: u64) -> Option<u16>
+    ensures { result ≡ values.moved size place (values.distance AluOp.Add n) }
+{
+    let moved = place as i128 + n.cast_signed() as i128;
+    if moved >= 0 && moved <= size as i128 {
+        Some(moved as u16)
+    } else {
+        None
+    }
+}
+
+/// or taken.
+fn moved_down(size: u16, place: u16, n: u64) -> Option<u16>
+    ensures { result ≡ values.moved size place (values.distance AluOp.Sub n) }
+{
+    let moved = place as i128 - n.cast_signed() as i128;
+    if moved >= 0 && moved <= size as i128 {
+        Some(moved as u16)
+    } else {
+        None
+    }
+}
+
+fn moved_by_single(size: u16, op: AluOp, place: u16, n: u64) -> Option<u16>
+    ensures { result ≡ values.moved size place (values.distance op n) }
+{
+    match op {
+        AluOp::Add => moved_up(size, place, n),
+        AluOp::Sub => moved_down(size, place, n),
+        _ => None,
+    }
+}
+
+/// An end of a range counts as it is, and is only added.
+fn moved_by_end(size: u16, op: AluOp, place: u16, n: u64) -> Option<u16>
+    ensures { result ≡ values.moved size place (values.distance_of_end op n) }
+{
+    if op != AluOp::Add {
+        return None;
+    }
+    let moved = place as u128 + n as u128;
+    if moved <= size as u128 {
+        Some(moved as u16)
+    } else {
+        None
+    }
+}

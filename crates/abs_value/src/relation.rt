@@ -1,0 +1,57 @@
+//! How two numbers are related, as an edge of a conditional jump tells it.
+
+ghost use Rattle.std.specs.Prelude.{◌≡◌};
+ghost use Rattle.abs_value.specs.Narrowing as narrowing;
+
+use bpf_insn::Condition;
+
+/// The relation of a first number to a second.
+#[derive(Clone, Copy, Debug, PartialEq, Eq)]
+pub enum Relation {
+    Equal,
+    Unequal,
+    Less,
+    AtMost,
+    More,
+    AtLeast,
+    Unknown,
+}
+
+impl Relation {
+    /// The relation for which the condition holds, signed or not.
+    fn of(condition: Condition) -> Relation
+        ensures { result ≡ narrowing.relation condition }
+    {
+        match condition {
+            Condition::Eq => Relation::Equal,
+            Condition::Ne => Relation::Unequal,
+            Condition::Lt | Condition::Slt => Relation::Less,
+            Condition::Le | Condition::Sle => Relation::AtMost,
+            Condition::Gt | Condition::Sgt => Relation::More,
+            Condition::Ge | Condition::Sge => Relation::AtLeast,
+            Condition::Set => Relation::Unknown,
+        }
+    }
+
+    fn opposite(self) -> Relation
+        ensures { result ≡ narrowing.opposite self }
+    {
+        match self {
+            Relation::Equal => Relation::Unequal,
+            Relation::Unequal => Relation::Equal,
+            Relation::Less => Relation::AtLeast,
+            Relation::AtMost => Relation::More,
+            Relation::More => Relation::AtMost,
+            Relation::AtLeast => Relation::Less,
+            Relation::Unknown => Relation::Unknown,
+        }
+    }
+
+    /// What is learnt where the jump is taken, or where it isn't.
+    pub fn learnt(condition: Condition, jumps: bool) -> Relation
+        ensures { result ≡ narrowing.learnt condition jumps }
+    {
+        let relation = Relation::of(condition);
+        if jumps { relation } else { relation.opposite() }
+    }
+}

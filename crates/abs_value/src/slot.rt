@@ -1,0 +1,77 @@
+//! What is known of an aligned slot of 8 bytes of the stack: a value that was stored there as a
+//! whole, or which of its bytes are set. The set bytes are a mask, one bit for each byte.
+
+ghost use Rattle.std.specs.Prelude.{◌≡◌, ◌==◌, ◌<◌, bit_or};
+ghost use Rattle.std.specs.Int.{bit_at};
+ghost use Rattle.abs_value.specs.Stack as slots;
+
+use crate::value::Abs;
+
+/// All 8 bytes.
+pub const ALL_SET: u8 = 0xff;
+
+/// What is known of an aligned slot of 8 bytes.
+#[derive(Clone, Copy, Debug, PartialEq, Eq)]
+pub enum AbsSlot {
+    /// Its 8 bytes are set, to a value of which this is known.
+    Kept(Abs),
+    /// At least these bytes are set: a bit for each, the first byte the lowest.
+    Bytes(u8),
+}
+
+impl AbsSlot {
+    /// The bytes that are set: all of a slot that keeps a value.
+    pub fn mask(self) -> u8
+        ensures { result ≡ slots.mask_of self }
+    {
+        match self {
+            AbsSlot::Kept(_) => ALL_SET,
+            AbsSlot::Bytes(mask) => mask,
+        }
+    }
+
+    /// Whether this byte of the slot is set, from 0 to 7.
+    pub fn has_set(self, byte: u16) -> bool
+        requires { byte < 8 }
+        ensures { result ≡ (bit_at (slots.mask_of self) byte == 1) }
+    {
+        (self.mask() >> byte) % 2 == 1
+    }
+
+    /// What is known once these bytes are written too: which bytes are set.
+    pub fn with_set(self, mask: u8) -> AbsSlot
+        ensures { result ≡ AbsSlot.Bytes (bit_or (slots.mask_of self) mask) }
+    {
+        AbsSlot::Bytes(self.mask() | mask)
+    }
+
+    /// The value that the whole slot keeps, or else the other.
+    pub fn kept_or(self, other: Abs) -> Abs
+        ensures { result ≡ slots.kept_or self other }
+    {
+        match self {
+            AbsSlot::Kept(value) => value,
+            AbsSlot::Bytes(_) => other,
+        }
+    }
+
+    fn of(value: Abs) -> AbsSlot
+        ensures { result ≡ slots.kept_slot value }
+    {
+        if value.is_unusable() {
+            AbsSlot::Bytes(ALL_SET)
+        } else {
+            AbsSlot::Kept(value)
+        }
+    }
+
+    /// What stands for both.
+    pub fn join(self, other: AbsSlot) -> AbsSlot
+        ensures { result ≡ slots.join_slots self other }
+    {
+        match (self, other) {
+            (AbsSlot::Kept(a), AbsSlot::Kept(b)) => AbsSlot::of(a.join(b)),
+            _ => AbsSlot::Bytes(self.mask() & other.mask()),
+        }
+    }
+}

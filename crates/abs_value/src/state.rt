@@ -1,0 +1,112 @@
+//! What is known where an instruction begins: a value for each of the eleven registers, and the 64
+//! slots of the stack. It is changed in place, and joined in place, value by value: a copy of it
+//! costs more than all that is computed at a slot.
+
+ghost use Rattle.std.specs.Prelude.{◌≡◌, ◌+◌, ◌^◌, ◌≤◌, ◌<◌, pos, negsuc, ◌≤ℤ◌};
+ghost use Rattle.bpf_semantics.specs.Memory.{stack_size};
+ghost use Rattle.bpf_semantics.specs.Reads.{byte_count};
+ghost use Rattle.abs_value.specs.Stack.{has_unset, loaded_from};
+ghost use Rattle.abs_value.specs.States as states;
+
+use crate::number::Number;
+use crate::places::{Places, STACK_SIZE};
+use crate::slot::AbsSlot;
+use crate::stack;
+use crate::value::Abs;
+use bpf_insn::{Bits, LoadKind, Operand, Reg, Size};
+
+/// A value for each register, by its number, and the 64 slots of the stack, from its start up.
+#[derive(Clone, Copy, Debug)]
+pub struct AbsState {
+    pub registers: [Abs; 11],
+    pub stack: [AbsSlot; 64],
+}
+
+impl AbsState {
+    /// Where a run starts.
+    pub fn opening() -> AbsState
+        ensures { result ≡ states.opening_state }
+    {
+        let mut registers = [Abs::Unusable; 11];
+        registers[1] = Abs::Ctx(Places { lo: 0, hi: 0 });
+        registers[10] = Abs::Stk { place: STACK_SIZE };
+        AbsState {
+            registers,
+            stack: [AbsSlot::Bytes(0); 64],
+        }
+    }
+
+    pub fn value(&self, r: Reg) -> Abs
+        ensures { result ≡ states.value_of self.now r }
+    {
+        self.registers[r.index()]
+    }
+
+    /// The second operand of arithmetic, or of a jump.
+    pub fn operand(&self, bits: Bits, src: Operand) -> Abs
+        ensures { result ≡ states.operand_value self.now bits src }
+    {
+        match src {
+            Operand::Imm(k) => Abs::Num(Number::single(bits.immediate(k))),
+            Operand::Register(r) => self.value(r),
+        }
+    }
+
+    pub fn set(&mut self, r: Reg, value: Abs)
+        ensures { self.new ≡ states.with_value self.old r value }
+    {
+        self.registers[r.index()] = value;
+    }
+
+    /// Sets the register that an operand is; an imm stays what it is.
+    pub fn set_operand(&mut self, src: Operand, value: Abs)
+        ensures { self.new ≡ states.with_operand self.old src value }
+    {
+        if let Operand::Register(r) = src {
+            self.set(r, value);
+        }
+    }
+
+    /// Whether of so many bytes from a place on, which may lie outside the stack, one lies in the
+    /// stack and isn't set.
+    pub fn has_unset(&self, place: i64, count: u16) -> bool
+        requires from { negsuc (2 ^ 32) ≤ℤ place }
+        requires to { place ≤ℤ pos (2 ^ 32) }
+        ensures { result ≡ has_unset self.now.stack place count }
+    {
+        stack::has_unset(&self.stack, place, count)
+    }
+
+    /// What a load from a place in the stack gives.
+    pub fn load(&self, place: u16, kind: LoadKind) -> Abs
+        requires { place < stack_size }
+        ensures { result ≡ loaded_from self.now.stack place kind }
+    {
+        stack::load(&self.stack, place, kind)
+    }
+
+    /// Stores the low bytes of a value to a place in the stack.
+    pub fn store(&mut self, place: u16, size: Size, value: Abs)
+        requires { place + byte_count size ≤ stack_size }
+        ensures { self.new ≡ states.with_stored self.old place (byte_count size) value }
+    {
+        stack::store(&mut self.stack, place, size, value);
+    }
+
+    /// Joins another state in: what stands for both is left here.
+    pub fn join_in(&mut self, other: &AbsState)
+        ensures { self.new ≡ states.join_states self.old other.now }
+    {
+        join_registers(&mut self.registers, &other.registers);
+        stack::join_in(&mut self.stack, &other.stack);
+    }
+}
+
+/// Joins other registers in.
+fn join_registers(registers: &mut [Abs; 11], other: &[Abs; 11])
+    ensures { registers.new ≡ states.join_registers registers.old other.now }
+{
+    for r in 0..11 {
+        registers[r].join_in(other[r]);
+    }
+}

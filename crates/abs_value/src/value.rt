@@ -1,0 +1,162 @@
+//! What is known of a value: nothing, the range of a number, or the region that it points into with
+//! the places there. A pointer stays in its region, or nothing is known of it any more.
+
+ghost use Rattle.std.specs.Prelude.{◌≡◌};
+ghost use Rattle.abs_value.specs.Values as values;
+
+use crate::number::Number;
+use crate::places::{Places, moved_in_stack};
+use bpf_insn::{AluOp, Bits, ByteOrder, Condition, EndSize, Extension, LoadKind};
+
+/// What is known of a register, or of a slot of the stack that keeps a value.
+#[derive(Clone, Copy, Debug, PartialEq, Eq)]
+pub enum Abs {
+    /// Nothing: a register may also be unset.
+    Unusable,
+    /// A number of the range.
+    Num(Number),
+    /// The address of one of these places in the context.
+    Ctx(Places),
+    /// The address of this place in the stack.
+    Stk { place: u16 },
+}
+
+impl Abs {
+    pub fn is_unusable(self) -> bool
+        ensures { result ≡ values.is_unusable self }
+    {
+        matches!(self, Abs::Unusable)
+    }
+
+    pub fn is_pointer(self) -> bool
+        ensures { result ≡ values.is_pointer self }
+    {
+        matches!(self, Abs::Ctx(_) | Abs::Stk { .. })
+    }
+
+    pub fn is_number(self) -> bool
+        ensures { result ≡ values.is_number self }
+    {
+        matches!(self, Abs::Num(_))
+    }
+
+    /// What 64-bit arithmetic of a pointer with a number gives; `None` where the address may leave
+    /// its region, and for other arithmetic with a pointer.
+    pub fn pointer_result(self, bits: Bits, op: AluOp, other: Abs) -> Option<Abs>
+        ensures { result ≡ values.pointer_result bits op self other }
+    {
+        match (bits, self, other) {
+            (Bits::Bits64, Abs::Ctx(from), Abs::Num(by)) => from.moved(op, by).map(Abs::Ctx),
+            (Bits::Bits64, Abs::Stk { place }, Abs::Num(by)) => {
+                moved_in_stack(op, place, by).map(|place| Abs::Stk { place })
+            }
+            _ => None,
+        }
+    }
+
+    /// What an operation gives.
+    pub fn alu(self, bits: Bits, op: AluOp, other: Abs) -> Abs
+        ensures { result ≡ values.alu_value bits op self other }
+    {
+        match (self, other) {
+            (Abs::Num(a), Abs::Num(b)) => Abs::Num(a.alu(bits, op, b)),
+            _ => match self.pointer_result(bits, op, other) {
+                Some(pointer) => pointer,
+                None => Abs::Unusable,
+            },
+        }
+    }
+
+    /// What MOV gives: of a pointer only all 64 bits are one.
+    pub fn copied(self, bits: Bits) -> Abs
+        ensures { result ≡ values.copied_value bits self }
+    {
+        match (bits, self) {
+            (_, Abs::Num(a)) => Abs::Num(a.cut(bits)),
+            (Bits::Bits64, _) => self,
+            (Bits::Bits32, _) => Abs::Unusable,
+        }
+    }
+
+    /// What NEG gives.
+    pub fn negated(self, bits: Bits) -> Abs
+        ensures { result ≡ values.negated_value bits self }
+    {
+        Abs::Num(Number::single(0)).alu(bits, AluOp::Sub, self)
+    }
+
+    /// What MOVSX gives.
+    pub fn extended(self, extension: Extension) -> Abs
+        ensures { result ≡ values.extended_value extension self }
+    {
+        match self {
+            Abs::Num(a) => Abs::Num(a.extended(extension)),
+            _ => Abs::Unusable,
+        }
+    }
+
+    /// What END gives.
+    pub fn reordered(self, order: ByteOrder, size: EndSize) -> Abs
+        ensures { result ≡ values.reordered_value order size self }
+    {
+        match self {
+            Abs::Num(a) => Abs::Num(a.reordered(order, size)),
+            _ => Abs::Unusable,
+        }
+    }
+
+    /// What a load gives of bytes of which nothing more is known.
+    pub fn loaded(kind: LoadKind) -> Abs
+        ensures { result ≡ values.loaded_value kind }
+    {
+        let hi = match kind {
+            LoadKind::Byte => u8::MAX as u64,
+            LoadKind::Half => u16::MAX as u64,
+            LoadKind::Word => u32::MAX as u64,
+            _ => u64::MAX,
+        };
+        Abs::Num(Number::up_to(hi))
+    }
+
+    /// What is left of the two values that a jump compares, on the edge that jumps or on the one
+    /// that goes on; `None` where no run takes that edge. Of a pointer nothing is learnt. Whether
+    /// both are the same register is for the caller to ask first: then nothing is learnt either.
+    pub fn refined(
+        self,
+        bits: Bits,
+        condition: Condition,
+        jumps: bool,
+        other: Abs,
+    ) -> Option<(Abs, Abs)>
+        ensures { result ≡ values.refined bits condition jumps self other }
+    {
+        match (self, other) {
+            (Abs::Num(a), Abs::Num(b)) => match a.narrowed(bits, condition, jumps, b) {
+                Some((a, b)) => Some((Abs::Num(a), Abs::Num(b))),
+                None => None,
+            },
+            _ => Some((self, other)),
+        }
+    }
+
+    /// What stands for both.
+    pub fn join(self, other: Abs) -> Abs
+        ensures { result ≡ values.join_values self other }
+    {
+        match (self, other) {
+            (Abs::Num(a), Abs::Num(b)) => Abs::Num(a.hull(b)),
+            (Abs::Ctx(a), Abs::Ctx(b)) => Abs::Ctx(a.hull(b)),
+            (Abs::Stk { place }, Abs::Stk { place: other }) if place == other => Abs::Stk { place },
+            _ => Abs::Unusable,
+        }
+    }
+
+    /// Joins another value in; of one that is unusable nothing more can be lost.
+    pub fn join_in(&mut self, other: Abs)
+        ensures { self.new ≡ values.join_values self.old other }
+    {
+        if !self.is_unusable() {
+            *self = self.join(other);
+        }
+    }
+}
