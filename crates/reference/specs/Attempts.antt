@@ -1,0 +1,40 @@
+-- What an instruction comes to, before a counter that it asks has replied.
+use Rattle.std.specs.Prelude.{◌≡◌, ℕ, ◌+◌, ◌-◌, ◌<◌, ◌^◌, Option, Some, None}
+use Rattle.bpf_insn.specs.declared.reg.Reg.{Reg}
+use Rattle.bpf_insn.specs.Table.{number_of}
+use Rattle.cells.specs.declared.event.CellNo.{CellNo}
+use Rattle.bpf_semantics.specs.State.{State, with_register}
+use Rattle.bpf_semantics.specs.Outcome as outcome
+use Rattle.bpf_semantics.specs.Outcome.{Outcome, moved_to}
+use Rattle.reference.specs.declared.attempt.Attempt.{Attempt}
+use Rattle.reference.specs.declared.attempt.Attempt.TheVariants as attempt
+
+-- the state once an asked counter has replied
+abbrev pub replied : State → Option Reg → ℕ → State
+replied s None reply = moved_to s (s.slot + 1)
+replied s (Some dst) reply = moved_to (with_register s (number_of dst) reply) (s.slot + 1)
+
+-- the outcome of a step from one state, which left another; all but a step that goes on leave it as
+-- it was
+abbrev pub Comes : Outcome → State → Attempt → State → Type 0
+Comes o s attempt.Going t = o ≡ outcome.Going t
+Comes o s (attempt.Asks cell op into) t =
+    (o ≡ outcome.Asks cell.number op (replied s into)) × (t ≡ s)
+Comes o s (attempt.Done choice) t = (o ≡ outcome.Done choice) × (t ≡ s)
+Comes o s attempt.Trap t = (o ≡ outcome.Trap) × (t ≡ s)
+
+-- there is room for one more instruction at a slot of a program
+pub record HasRoom (s : State) : Type 0 where
+  pub slot : s.slot < 4096
+  pub count : s.count < 2 ^ 64 - 1
+
+-- the same where an instruction may not be defined
+abbrev pub ComesIf : Option Outcome → State → Option Attempt → Type 0
+ComesIf o s None = o ≡ None
+ComesIf None s (Some a) = ⊥
+ComesIf (Some o) s (Some a) = Comes o s a s
+
+-- a counter by its number
+abbrev pub cell_number_in : Option CellNo → Option ℕ
+cell_number_in None = None
+cell_number_in (Some cell) = Some cell.number

@@ -1,0 +1,35 @@
+-- What is seen of a step, in the semantics' words.
+use Rattle.std.specs.Prelude.{◌≡◌, ℕ}
+use Rattle.bpf_insn.specs.Program.{Program}
+use Rattle.cells.specs.Arrays.{AppShape}
+use Rattle.cells.specs.Events.{CanReply}
+use Rattle.cells.specs.declared.event.CellEvent.{CellEvent}
+use Rattle.bpf_semantics.specs.Program.{ShapedProgram}
+use Rattle.bpf_semantics.specs.State.{State}
+use Rattle.bpf_semantics.specs.Outcome as outcome
+use Rattle.bpf_semantics.specs.Step.{step}
+use Rattle.reference.specs.declared.observed.Observed.{Observed}
+use Rattle.reference.specs.declared.observed.Observed.TheVariants as observed
+
+abbrev pub shaped : Program → AppShape → ShapedProgram
+shaped code shape = record { code = code; shape = shape }
+
+-- the semantics' step asks for this event, and goes on with its reply
+pub record IsEventStep (p : ShapedProgram) (s : State) (e : CellEvent) (t : State) : Type 0 where
+  pub next : ℕ → State
+  pub asks : step p s ≡ outcome.Asks e.cell e.op next
+  pub state : t ≡ next e.reply
+  pub fits : CanReply e.cell e.op e.reply
+
+-- the step from one state to another, as it was seen; an end leaves the state as it was
+abbrev pub IsStep : ShapedProgram → State → Observed → State → Type 0
+IsStep p s observed.Going t = step p s ≡ outcome.Going t
+IsStep p s (observed.Event e) t = IsEventStep p s e t
+IsStep p s (observed.Done choice) t = (step p s ≡ outcome.Done choice) × (t ≡ s)
+IsStep p s observed.Trap t = (step p s ≡ outcome.Trap) × (t ≡ s)
+
+-- the pass grew by the event that was seen, and else is as it was
+module _ {P : Type 0} (grew : P → CellEvent → P → Type 0) where
+  abbrev pub Grew : P → Observed → P → Type 0
+  Grew p (observed.Event e) q = grew p e q
+  Grew p o q = q ≡ p

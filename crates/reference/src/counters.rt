@@ -1,0 +1,203 @@
+//! Loads, stores and atomic operations on counters (RFC 9669, "Load and Store Instructions").
+
+ghost use Rattle.std.specs.Prelude.{◌≡◌, ◌*◌, ◌≤◌};
+ghost use Rattle.bpf_semantics.specs.Counters as counters;
+ghost use Rattle.bpf_semantics.specs.Memory as memory;
+ghost use Rattle.bpf_semantics.specs.Outcome.{moved, needed};
+ghost use Rattle.bpf_semantics.specs.State.{written_at};
+ghost use Rattle.cells.specs.Events as events;
+ghost use Rattle.bpf_semantics.specs.Step as semantics;
+ghost use Rattle.reference.specs.Attempts.{HasRoom, Comes, ComesIf, cell_number_in};
+ghost use Rattle.reference.specs.Marks.{state_of};
+
+use crate::attempt::{Attempt, ask};
+use crate::memory::{STACK_START, add_offset, byte_count, in_stack};
+use crate::state::Interpreter;
+use bpf_insn::{AtomicOp, AtomicSize, LoadKind, Reg, Size};
+use cells::{CellNo, CellOp};
+
+const CELL_START: u64 = 0x3000_0000;
+
+const CELLS: u64 = 8192;
+/// The first counter that is 32 bits wide.
+const NARROW: u64 = 4096;
+
+/// How many bytes a counter has.
+fn width(number: u64) -> u64
+    ensures { 8 * result ≡ events.width number }
+{
+    if number < NARROW { 8 } else { 4 }
+}
+
+/// The counter that an access of so many bytes reaches: by its own address, in its own width.
+fn cell_at(address: u64, count: u64) -> Option<CellNo>
+    ensures { cell_number_in result ≡ memory.cell_at address count }
+{
+    let number = address.saturating_sub(CELL_START) / 8;
+    if number < CELLS && CELL_START + 8 * number == address && count == width(number) {
+        Some(CellNo::new(number as u16))
+    } else {
+        None
+    }
+}
+
+/// The counter that a load reads; none is sign-extended.
+fn load_cell(kind: LoadKind, base: Option<u64>, offset: i16) -> Option<CellNo>
+    ensures { cell_number_in result ≡ counters.load_cell kind base offset }
+{
+    match kind {
+        LoadKind::Word => cell_at(add_offset(base?, offset), 4),
+        LoadKind::Double => cell_at(add_offset(base?, offset), 8),
+        _ => None,
+    }
+}
+
+/// The counter that a store writes.
+fn store_cell(size: Size, base: Option<u64>, offset: i16) -> Option<CellNo>
+    ensures { cell_number_in result ≡ counters.store_cell size base offset }
+{
+    cell_at(add_offset(base?, offset), byte_count(size))
+}
+
+/// The low bytes of a number, 1 to 8.
+fn cut(count: u64, number: u64) -> u64
+    requires { count ≤ 8 }
+    ensures { result ≡ counters.cut count number }
+{
+    if count == 8 {
+        number
+    } else {
+        number % (1 << (8 * count))
+    }
+}
+
+fn atomic_count(size: AtomicSize) -> u64
+    ensures value { result ≡ counters.atomic_count size }
+    ensures in_range { result ≤ 8 }
+{
+    match size {
+        AtomicSize::Word => 4,
+        AtomicSize::Double => 8,
+    }
+}
+
+/// The operation on a counter; compare-and-exchange compares with R0.
+fn cell_op(op: AtomicOp, r0: u64, value: u64) -> CellOp
+    ensures { result ≡ counters.cell_op op r0 value }
+{
+    match op {
+        AtomicOp::Add | AtomicOp::FetchAdd => CellOp::Add(value),
+        AtomicOp::Or | AtomicOp::FetchOr => CellOp::Or(value),
+        AtomicOp::And | AtomicOp::FetchAnd => CellOp::And(value),
+        AtomicOp::Xor | AtomicOp::FetchXor => CellOp::Xor(value),
+        AtomicOp::Exchange => CellOp::Swap(value),
+        AtomicOp::CompareExchange => CellOp::CompareExchange(r0, value),
+    }
+}
+
+/// The register that takes the old value: src of fetch and exchange, R0 of compare-and-exchange.
+fn fetched(op: AtomicOp, src: Reg) -> Option<Reg>
+    ensures { result ≡ counters.fetched op src }
+{
+    match op {
+        AtomicOp::Add | AtomicOp::Or | AtomicOp::And | AtomicOp::Xor => None,
+        AtomicOp::CompareExchange => Some(Reg::R0),
+        _ => Some(src),
+    }
+}
+
+impl Interpreter {
+    /// Reads a counter, or else context or stack.
+    pub fn load(&mut self, kind: LoadKind, dst: Reg, base: Option<u64>, offset: i16) -> Attempt
+        requires { HasRoom (state_of self.old) }
+        ensures { let s = state_of self.old in
+            Comes (semantics.load s kind dst base offset) s result (state_of self.new) }
+    {
+        match load_cell(kind, base, offset) {
+            Some(cell) => ask(cell, CellOp::Load, Some(dst)),
+            None => {
+                let value = self.loaded(kind, base, offset);
+                self.write(1, dst, value)
+            }
+        }
+    }
+
+    /// Writes a counter, or else the stack.
+    pub fn store(
+        &mut self,
+        size: Size,
+        base: Option<u64>,
+        offset: i16,
+        value: Option<u64>,
+    ) -> Attempt
+        requires { HasRoom (state_of self.old) }
+        ensures { let s = state_of self.old in
+            Comes (semantics.store s size base offset value) s result (state_of self.new) }
+    {
+        let (Some(base), Some(value)) = (base, value) else {
+            return Attempt::Trap;
+        };
+        let count = byte_count(size);
+        match store_cell(size, Some(base), offset) {
+            Some(cell) => ask(cell, CellOp::Store(cut(count, value)), None),
+            None => self.store_bytes(add_offset(base, offset), count, value),
+        }
+    }
+
+    /// Writes the low bytes of a number to the stack, and goes on.
+    fn store_bytes(&mut self, address: u64, count: u64, value: u64) -> Attempt
+        requires room { HasRoom (state_of self.old) }
+        requires count { count ≤ 8 }
+        ensures { let s = state_of self.old in
+            Comes (moved (written_at s address count value)) s result (state_of self.new) }
+    {
+        if !in_stack(address, count) {
+            return Attempt::Trap;
+        }
+        let next = self.slot() + 1;
+        self.put((address - STACK_START) as usize, count as usize, value);
+        self.go(next);
+        Attempt::Going
+    }
+
+    /// The number in R0 where the operation reads it, and else any.
+    fn expected(&self, op: AtomicOp) -> Option<u64>
+        ensures { result ≡ counters.expected op (state_of self.now) }
+    {
+        match op {
+            AtomicOp::CompareExchange => self.register(Reg::R0),
+            _ => Some(0),
+        }
+    }
+
+    /// What an atomic operation asks of which counter; none where it isn't defined.
+    fn atomic_asks(
+        &self,
+        op: AtomicOp,
+        size: AtomicSize,
+        dst: Reg,
+        src: Reg,
+        offset: i16,
+    ) -> Option<Attempt>
+        ensures { let s = state_of self.now in
+            ComesIf (counters.atomic_asks s op size dst src offset) s result }
+    {
+        let count = atomic_count(size);
+        let cell = cell_at(add_offset(self.register(dst)?, offset), count)?;
+        let r0 = self.expected(op)?;
+        let value = self.register(src)?;
+        let op_on_cell = cell_op(op, cut(count, r0), cut(count, value));
+        Some(ask(cell, op_on_cell, fetched(op, src)))
+    }
+
+    /// One atomic operation on a counter.
+    pub fn atomic(&self, op: AtomicOp, size: AtomicSize, dst: Reg, src: Reg, offset: i16) -> Attempt
+        ensures { let s = state_of self.now in
+            Comes (needed (counters.atomic_asks s op size dst src offset)) s result s }
+    {
+        match self.atomic_asks(op, size, dst, src, offset) {
+            Some(attempt) => attempt,
+            None => Attempt::Trap,
+        }
+    }
+}

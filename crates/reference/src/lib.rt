@@ -1,0 +1,16 @@
+//! The machine's semantics, executable: an interpreter with a mark for each register and byte that
+//! is unset, and an end that the machine does not define. It is slow and obvious, runs any program,
+//! accepted or not, and judges the machine that is fast.
+#![tactic(auto)]
+
+mod attempt;
+mod calls;
+mod counters;
+mod memory;
+mod observed;
+mod perform;
+mod state;
+mod step;
+
+pub use observed::Observed;
+pub use state::Interpreter;

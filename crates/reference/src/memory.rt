@@ -1,0 +1,147 @@
+//! Addresses, and what is read at them.
+
+ghost use Rattle.std.specs.Prelude.{◌≡◌, ◌*◌, ◌+◌, ◌-◌, ◌<◌, ◌≤◌, ◌^◌, length};
+ghost use Rattle.bpf_insn.specs.Words as words;
+ghost use Rattle.bpf_semantics.specs.Calls as calls;
+ghost use Rattle.bpf_semantics.specs.Memory.{address_of, is_in_context, is_in_stack};
+ghost use Rattle.bpf_semantics.specs.Reads as reads;
+ghost use Rattle.bpf_semantics.specs.State.{read_at};
+ghost use Rattle.reference.specs.Marks.{state_of};
+
+use crate::state::{CONTEXT_START, Interpreter, STACK_TOP};
+use attrs::helper_attr_is;
+use bpf_insn::{Extension, LoadKind, Size};
+
+const CONTEXT_SIZE: u64 = 64;
+/// The address of the first byte of the stack.
+pub const STACK_START: u64 = 0x1FFF_FE00;
+
+/// A base and an offset, modulo 2^64.
+pub fn add_offset(base: u64, offset: i16) -> u64
+    ensures { result ≡ address_of base offset }
+{
+    base.wrapping_add((offset as i64).cast_unsigned())
+}
+
+/// Whether so many bytes from an address on lie in the context.
+fn in_context(address: u64, count: u64) -> bool
+    requires { count ≤ 64 }
+    ensures { result ≡ is_in_context address count }
+{
+    CONTEXT_START <= address && address <= CONTEXT_START + CONTEXT_SIZE - count
+}
+
+/// Whether so many bytes from an address on lie in the stack.
+pub fn in_stack(address: u64, count: u64) -> bool
+    requires { count ≤ 512 }
+    ensures { result ≡ is_in_stack address count }
+{
+    STACK_START <= address && address <= STACK_TOP - count
+}
+
+/// How many bytes a load reads.
+fn load_count(kind: LoadKind) -> u64
+    ensures value { result ≡ reads.load_count kind }
+    ensures in_range { result ≤ 8 }
+{
+    match kind {
+        LoadKind::Byte | LoadKind::SignedByte => 1,
+        LoadKind::Half | LoadKind::SignedHalf => 2,
+        LoadKind::Word | LoadKind::SignedWord => 4,
+        LoadKind::Double => 8,
+    }
+}
+
+/// How many bytes a store writes.
+pub fn byte_count(size: Size) -> u64
+    ensures value { result ≡ reads.byte_count size }
+    ensures in_range { result ≤ 8 }
+{
+    match size {
+        Size::Byte => 1,
+        Size::Half => 2,
+        Size::Word => 4,
+        Size::Double => 8,
+    }
+}
+
+/// A number as a load fills a register with it: by zeroes, or by its sign.
+fn fill(kind: LoadKind, number: u64) -> u64
+    ensures { result ≡ reads.filled kind number }
+{
+    match kind {
+        LoadKind::SignedByte => Extension::Byte64.extend(number),
+        LoadKind::SignedHalf => Extension::Half64.extend(number),
+        LoadKind::SignedWord => Extension::Word64.extend(number),
+        _ => number,
+    }
+}
+
+/// The number whose bytes these are, the least first.
+fn little_endian(bytes: &[u8]) -> u64
+    requires { length bytes.now ≤ 8 }
+    ensures value { result ≡ words.little_endian bytes.now }
+    ensures in_range { result < 256 ^ length bytes.now }
+{
+    match bytes {
+        [first, rest @ ..] => *first as u64 + 256 * little_endian(rest),
+        [] => 0,
+    }
+}
+
+impl Interpreter {
+    /// The number of the bytes at an address; none outside context and stack, or where a byte is
+    /// unset.
+    fn number_at(&self, address: u64, count: u64) -> Option<u64>
+        requires { count ≤ 8 }
+        ensures { result ≡ read_at (state_of self.now) address count }
+    {
+        if in_context(address, count) {
+            let bytes = self.attrs().context().bytes();
+            let place = (address - CONTEXT_START) as usize;
+            return Some(little_endian(&bytes[place..place + count as usize]));
+        }
+        if !in_stack(address, count) {
+            return None;
+        }
+        let mut bytes = [0; 8];
+        let into = &mut bytes[..count as usize];
+        if self.read((address - STACK_START) as usize, into) {
+            Some(little_endian(into))
+        } else {
+            None
+        }
+    }
+
+    /// What a load of context or stack gives.
+    pub fn loaded(&self, kind: LoadKind, base: Option<u64>, offset: i16) -> Option<u64>
+        ensures { result ≡ reads.loaded (state_of self.now) kind base offset }
+    {
+        let address = add_offset(base?, offset);
+        let number = self.number_at(address, load_count(kind))?;
+        Some(fill(kind, number))
+    }
+
+    /// Helper 2: whether an attribute's bytes are those at an address of the stack, at most 64. Of
+    /// no bytes nothing is asked.
+    pub fn compared(&self, number: u64, address: u64, count: u64) -> Option<u64>
+        ensures { result ≡ calls.compared (state_of self.now) number address count }
+    {
+        if count > 64 {
+            return None;
+        }
+        if count == 0 {
+            return Some(helper_attr_is(self.attrs(), number, &[]));
+        }
+        if !in_stack(address, count) {
+            return None;
+        }
+        let mut bytes = [0; 64];
+        let into = &mut bytes[..count as usize];
+        if self.read((address - STACK_START) as usize, into) {
+            Some(helper_attr_is(self.attrs(), number, into))
+        } else {
+            None
+        }
+    }
+}
