@@ -1,5 +1,7 @@
 -- What an instruction comes to, before a counter that it asks has replied.
-use Rattle.std.specs.Prelude.{◌≡◌, ℕ, ◌+◌, ◌-◌, ◌<◌, ◌^◌, Option, Some, None}
+use Rattle.std.specs.Prelude.{◌≡◌, ℕ, ◌+◌, ◌-◌, ◌<◌, ◌^◌, Option, Some, None, Bool, true, false}
+use Rattle.bpf_insn.specs.declared.insn.Insn.{Insn}
+use Rattle.bpf_insn.specs.declared.insn.Insn.TheVariants as insn
 use Rattle.bpf_insn.specs.declared.reg.Reg.{Reg}
 use Rattle.bpf_insn.specs.Table.{number_of}
 use Rattle.cells.specs.declared.event.CellNo.{CellNo}
@@ -38,3 +40,11 @@ ComesIf (Some o) s (Some a) = Comes o s a s
 abbrev pub cell_number_in : Option CellNo → Option ℕ
 cell_number_in None = None
 cell_number_in (Some cell) = Some cell.number
+
+-- the instructions that access memory or a counter
+abbrev pub is_access : Insn → Bool
+is_access (insn.Load kind dst src offset) = true
+is_access (insn.StoreImm size dst offset imm) = true
+is_access (insn.Store size dst src offset) = true
+is_access (insn.Atomic op size dst src offset) = true
+is_access i = false

@@ -1,14 +1,15 @@
 //! One instruction (RFC 9669, "Arithmetic and Jump Instructions" and "Load and Store
 //! Instructions").
 
-ghost use Rattle.std.specs.Prelude.{◌≡◌, ◌≤◌};
+ghost use Rattle.std.specs.Prelude.{◌≡◌, IsTrue};
 ghost use Rattle.bpf_insn.specs.Arithmetic.{alu_result, negated, extended, reordered};
 ghost use Rattle.bpf_insn.specs.Conditions as conditions;
 ghost use Rattle.bpf_insn.specs.Words.{word};
 ghost use Rattle.bpf_semantics.specs.Reads as reads;
 ghost use Rattle.bpf_semantics.specs.Reads.{register, operand, both, only};
 ghost use Rattle.bpf_semantics.specs.Step as semantics;
-ghost use Rattle.reference.specs.Attempts.{HasRoom, Comes};
+ghost use Rattle.reference.specs.Attempts.{HasRoom, Comes, is_access};
+ghost use Rattle.cells.specs.Arrays.{AppShape};
 ghost use Rattle.reference.specs.Marks.{state_of};
 
 use crate::attempt::{Attempt, finish};
@@ -96,6 +97,20 @@ impl Interpreter {
             } => self.branch(offset, self.holds(bits, condition, left, right)),
             Insn::Call { helper } => self.answer(self.helper_result(shape, helper)),
             Insn::Exit => finish(self.register(Reg::R0)),
+            Insn::Load { .. } | Insn::StoreImm { .. } | Insn::Store { .. } | Insn::Atomic { .. } =>
+                self.access(insn),
+            Insn::Wide { dst, value } => self.write(2, dst, wide_value(shape, value)),
+        }
+    }
+
+    /// A load, a store or an atomic operation.
+    fn access(&mut self, insn: Insn) -> Attempt
+        requires room { HasRoom (state_of self.old) }
+        requires access { IsTrue (is_access insn) }
+        ensures { let s = state_of self.old in
+            (shape : AppShape) → Comes (semantics.act shape s insn) s result (state_of self.new) }
+    {
+        match insn {
             Insn::Load {
                 kind,
                 dst,
@@ -126,7 +141,7 @@ impl Interpreter {
                 src,
                 offset,
             } => self.atomic(op, size, dst, src, offset),
-            Insn::Wide { dst, value } => self.write(2, dst, wide_value(shape, value)),
+            _ => unreachable!(),
         }
     }
 }
