@@ -11,12 +11,12 @@ pub record Context : Type 0 where
   pub seconds : ℕ
 
 -- the ranges that the type of a context keeps
-pub record IsInRange (c : Context) : Type 0 where
+pub record HasRanges (c : Context) : Type 0 where
   pub bucket : c.bucket < 10000
   pub flags : c.flags < 64
   pub seconds : c.seconds < 86400
 
--- little-endian; the byte at 19 and those from 32 on are zero
+-- little-endian, each field in its size; the byte at 19 and those from 32 on are zero
 unfoldable pub context_bytes : Context → List ℕ
 context_bytes c =
     to_le_bytes w32 (slice_index c.version 0)

@@ -1,7 +1,7 @@
 // The attributes of an app: its context, and seven texts by number.
 
 ghost use Rattle.std.specs.Prelude.{◌≡◌, ◌<◌, ◌≤◌, length, [], slice_index_or, IfOk, string_bytes, option_copied};
-ghost use Rattle.attrs.specs.Context.{IsInRange};
+ghost use Rattle.attrs.specs.Context.{HasRanges};
 ghost use Rattle.attrs.specs.Attributes.{kept_text, AreShort};
 
 use crate::app_context::{context_of, plain_context};
@@ -114,7 +114,7 @@ impl Attrs {
 
     /// The facts that the type keeps: the context is in its ranges, and no text is over 1024 bytes.
     pub fn keeps(&self)
-        ensures context { IsInRange self.now.context }
+        ensures context { HasRanges self.now.context }
         ensures texts { AreShort self.now.texts }
     {
         self.context.keeps();

@@ -50,7 +50,9 @@ impl Model for Context {
 }
 
 impl Context {
-    ghost use Rattle.attrs.specs.Context.{context_bytes, IsInRange, version_known, updatecheck, ping, event, cohort_known, installdate_known, unknown_day};
+    ghost use Rattle.attrs.specs.Context.{context_bytes, HasRanges};
+    ghost use Rattle.attrs.specs.Context.{version_known, updatecheck, ping, event};
+    ghost use Rattle.attrs.specs.Context.{cohort_known, installdate_known, unknown_day};
 
     /// The app sent a version, and it is one.
     pub const VERSION_KNOWN: u8 = 1;
@@ -81,7 +83,7 @@ impl Context {
 
     /// The fact that the type keeps: bucket, flags and seconds lie in their ranges.
     pub fn keeps(&self)
-        ensures { IsInRange self.now }
+        ensures { HasRanges self.now }
     {
         let _bucket = &self.bucket;
     }
