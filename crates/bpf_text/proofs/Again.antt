@@ -20,8 +20,8 @@ use Rattle.bpf_text.specs.declared.signature.Kind.TheVariants as kind
 use Rattle.bpf_text.specs.declared.three.UpToThree.{UpToThree}
 use Rattle.bpf_text.specs.declared.token.Token.TheVariants.{Comma}
 use Rattle.bpf_text.specs.Arguments.{mnemonic_of, arguments_of, operand_argument}
-use Rattle.bpf_text.specs.Items.{Items, Tokens, item_at_front, item_after_comma, items_of, if_at_end}
-use Rattle.bpf_text.specs.Operands.{item_as, item_if, items_as, arguments_from}
+use Rattle.bpf_text.specs.Items.{Items, Tokens, item_at_front, item_after_comma, items_of, at_end}
+use Rattle.bpf_text.specs.Operands.{item_as, item_if, items_as, all_given}
 use Rattle.bpf_text.specs.Ranges.{imm_of, short_of, long_of}
 use Rattle.bpf_text.specs.Results.{map_ok}
 use Rattle.bpf_text.specs.Signatures.{kinds_of}
@@ -176,9 +176,9 @@ arguments_again k a h =
     let z = item_if tables k.third (option_map item_of_argument a.third) in
     let b = option_map Argument a.first in
     let c = option_map Argument a.second in
-    ap (λ (r : Result _ AsmFaultKind). arguments_from r y z) (again_if k.first a.first h.first)
-    ∙ ap (λ (r : Result _ AsmFaultKind). arguments_from (Ok b) r z) (again_if k.second a.second h.second)
-    ∙ ap (λ (r : Result _ AsmFaultKind). arguments_from (Ok b) (Ok c) r) (again_if k.third a.third h.third)
+    ap (λ (r : Result _ AsmFaultKind). all_given r y z) (again_if k.first a.first h.first)
+    ∙ ap (λ (r : Result _ AsmFaultKind). all_given (Ok b) r z) (again_if k.second a.second h.second)
+    ∙ ap (λ (r : Result _ AsmFaultKind). all_given (Ok b) (Ok c) r) (again_if k.third a.third h.third)
 
 -- ---- the operands of all arguments
 
@@ -201,7 +201,7 @@ rest_of_items o =
     o >>= λ a.
     item_after_comma a.1 >>= λ b.
     item_after_comma b.1 >>= λ c.
-    if_at_end (record { first = Some a.0; second = b.0; third = c.0 }) c.1
+    at_end (record { first = Some a.0; second = b.0; third = c.0 }) c.1
 
 items_start : (a : arguments.Argument) (rest : Tokens) → items_of (tokens_of_argument a ++ rest) ≡ rest_of_items (item_at_front (tokens_of_argument a ++ rest))
 items_start (argument.Register r) rest = refl
@@ -214,10 +214,10 @@ abbrev after_second : Item Name → Option (Option (Item Name) × Tokens) → Op
 after_second i o =
     o >>= λ b.
     item_after_comma b.1 >>= λ c.
-    if_at_end (record { first = Some i; second = b.0; third = c.0 }) c.1
+    at_end (record { first = Some i; second = b.0; third = c.0 }) c.1
 
 abbrev after_third : Item Name → Option (Item Name) → Option (Option (Item Name) × Tokens) → Option Items
-after_third i j o = o >>= λ c. if_at_end (record { first = Some i; second = j; third = c.0 }) c.1
+after_third i j o = o >>= λ c. at_end (record { first = Some i; second = j; third = c.0 }) c.1
 
 -- no argument, one, two or three
 pub data Shaped : UpToThree arguments.Argument → Type 0 where

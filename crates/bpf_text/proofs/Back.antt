@@ -35,7 +35,7 @@ use Rattle.bpf_text.proofs.Arguments.{IsShort, HasShort}
 use Rattle.bpf_text.proofs.Again.{HasShortOption}
 use Rattle.bpf_text.proofs.Exact.{by_tables}
 use Rattle.bpf_text.proofs.Placing.{slots_more}
-use Rattle.bpf_text.proofs.Reading.{length-slots, length-encoding}
+use Rattle.bpf_text.proofs.Reading.{length-slots, length-encodings}
 use Rattle.bpf_text.proofs.Rereading.{line_text, arguments_text, line_ends, are_short, stated, as_line, line_again}
 use Rattle.bpf_text.proofs.Splitting.{parts_cons}
 use Rattle.bpf_text.proofs.Statements.{insn_again}
@@ -193,16 +193,6 @@ lines_assemble : (is : List Insn) → length (layout is) ≤ 4096 → assembly_o
 lines_assemble is short =
     ap (λ (o : Option AsmFault). unless_fault o (bytes_of_placed tables (label_slot 0 (map as_line is)) (placed 1 0 (map as_line is)))) (no_fault [] is (omega (arith, short)))
     ∙ bytes_again (label_slot 0 (map as_line is)) 1 0 is
-
-length-encodings : (is : List Insn) → length (encodings is) ≡ 8 * length (layout is)
-length-encodings [] = refl
-length-encodings (i ∷ is) =
-    let a = length-append (encoding i) (encodings is) in
-    let b = length-append (slots i) (layout is) in
-    let c = length-encoding i in
-    let d = length-slots i in
-    let e = length-encodings is in
-    omega (arith, a, b, c, d, e)
 
 assembly_again : (bytes text : List ℕ) → Lists bytes text → length bytes ≤ 8 * 4096 → assembly_of tables text ≡ Ok bytes
 unfolding assembly_of

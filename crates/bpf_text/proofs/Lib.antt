@@ -12,3 +12,4 @@ pub mod Exact
 pub mod Again
 pub mod Rereading
 pub mod Back
+pub mod Once

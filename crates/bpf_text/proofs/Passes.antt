@@ -1,16 +1,14 @@
 -- The two passes over a text: one line more, and both together.
-use Rattle.std.proofs.Common.{◌≡◌, ◌⊎◌, ℕ, ◌+◌, List, [], ◌∷◌, ◌++◌, length, map, Option, Some, Result, Ok, Err, IfOk, IfErr, inl, inr, sym, ap, ◌∙◌, append_assoc}
+use Rattle.std.proofs.Common.{◌≡◌, ℕ, ◌+◌, List, [], ◌∷◌, ◌++◌, length, map, Option, Some, Result, Ok, Err, IfOk, IfErr, inl, inr, sym, ap, ◌∙◌, append_assoc}
 use Rattle.std.specs.Str.Lines.{lines}
 use Rattle.std.specs.Vec.{vec_items}
 use Rattle.bpf_text.specs.declared.fault.AsmFault.{AsmFault}
-use Rattle.bpf_text.specs.declared.fault.AsmFault.TheVariants.{Memory}
 use Rattle.bpf_text.specs.declared.fault.AsmFaultKind.{AsmFaultKind}
 use Rattle.bpf_text.specs.declared.scan.Reading as code
 use Rattle.bpf_text.specs.Assembly.{line_fault, first_fault, fault_or, at_line, bytes_of_placed, placed, label_slot, unless_fault, assembly_of}
-use Rattle.bpf_text.specs.Labels.{slot_at}
 use Rattle.bpf_text.specs.Lines.{Line, lines_in, read_line}
 use Rattle.bpf_text.specs.Names.{placed_named}
-use Rattle.bpf_text.specs.Reading.{HasRead, ReadsOn, IsTableFault, IsWholeReading}
+use Rattle.bpf_text.specs.Reading.{HasRead, ReadsOn, bytes_read, IsByteFault, IsTableFault, IsWholeReading}
 use Rattle.bpf_text.specs.Tables.{tables}
 use Rattle.bpf_text.specs.Tokens.{Name}
 
@@ -43,9 +41,6 @@ line_refused text rest line behind r l n e first is number h fault =
 
 -- ---- both passes
 
-abbrev bytes_read : code.Reading → Result (List ℕ) AsmFault
-bytes_read r = bytes_of_placed tables (slot_at r.labels) (map placed_named (vec_items r.placed))
-
 whole_bytes : (text : List ℕ) (r : code.Reading) → IsWholeReading text r → assembly_of tables text ≡ bytes_read r
 unfolding assembly_of
 whole_bytes text r h =
@@ -59,10 +54,10 @@ pub text_bytes : {A : Type 0} (items : A → List ℕ) (text : List ℕ) (r : co
 text_bytes items text r (Ok v) whole h = whole_bytes text r whole ∙ h
 text_bytes items text r (Err e) whole h = tt
 
-byte_fault : (text : List ℕ) (r : code.Reading) (e : AsmFault) → IsWholeReading text r → (e ≡ Memory) ⊎ (bytes_read r ≡ Err e) → IsTableFault text e
+byte_fault : (text : List ℕ) (r : code.Reading) (e : AsmFault) → IsWholeReading text r → IsByteFault r e → IsTableFault text e
 byte_fault text r e whole (inl h) = inl h
 byte_fault text r e whole (inr h) = inr (whole_bytes text r whole ∙ h)
 
-pub text_fault : {A : Type 0} (text : List ℕ) (r : code.Reading) (o : Result A AsmFault) → IsWholeReading text r → IfErr o (λ e. (e ≡ Memory) ⊎ (bytes_read r ≡ Err e)) → IfErr o (IsTableFault text)
+pub text_fault : {A : Type 0} (text : List ℕ) (r : code.Reading) (o : Result A AsmFault) → IsWholeReading text r → IfErr o (IsByteFault r) → IfErr o (IsTableFault text)
 text_fault text r (Ok v) whole h = tt
 text_fault text r (Err e) whole h = byte_fault text r e whole h

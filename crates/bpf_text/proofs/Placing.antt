@@ -8,10 +8,10 @@ use Rattle.std.specs.Vec.{vec_items}
 use Rattle.bpf_text.specs.declared.fault.AsmFaultKind.{AsmFaultKind}
 use Rattle.bpf_text.specs.declared.fault.AsmFaultKind.TheVariants as kind
 use Rattle.bpf_text.specs.declared.scan.Reading as code
-use Rattle.bpf_text.specs.Labels.{slot_at}
+use Rattle.bpf_text.specs.Labels.{slot_at, labels_after}
 use Rattle.bpf_text.specs.Lines.{Line, Body}
 use Rattle.bpf_text.specs.Names.{placed_named}
-use Rattle.bpf_text.specs.Reading.{labels_after, ReadsOn}
+use Rattle.bpf_text.specs.Reading.{ReadsOn}
 use Rattle.bpf_text.specs.Assembly.{slots_of_body, slots_of_word, slots_in, is_label, label_slot, has_slot, has_label, too_long, fault_of_body, Placed, placed, placed_body}
 
 -- ---- one line more at the end

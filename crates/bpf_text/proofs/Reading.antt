@@ -38,6 +38,16 @@ pub length-encoding : (i : Insn) → length (encoding i) ≡ 8 * slots_of (width
 length-encoding (Wide dst value) = refl
 length-encoding i = refl
 
+pub length-encodings : (is : List Insn) → length (encodings is) ≡ 8 * length (layout is)
+length-encodings [] = refl
+length-encodings (i ∷ is) =
+    let a = length-append (encoding i) (encodings is) in
+    let b = length-append (slots i) (layout is) in
+    let c = length-encoding i in
+    let d = length-slots i in
+    let e = length-encodings is in
+    omega (arith, a, b, c, d, e)
+
 -- ---- what has been listed
 
 pub record HasListed (bytes : List ℕ) (slot : ℕ) (text : List ℕ) : Type 0 where

@@ -2,6 +2,8 @@
 -- instruction. A list of all that are left takes each in turn.
 use Rattle.std.proofs.Common.{◌≡◌, ℤ, Option, Some, None, IfSome, refl}
 use Rattle.bpf_insn.specs.declared.reg.Reg.{Reg}
+use Rattle.bpf_insn.specs.declared.operand.Bits.{Bits}
+use Rattle.bpf_insn.specs.declared.operand.Condition.{Condition}
 use Rattle.bpf_insn.specs.declared.operand.Operand.TheVariants as operand
 use Rattle.bpf_insn.specs.declared.operand.Distance.TheVariants.{Short, Long}
 use Rattle.bpf_insn.specs.declared.operand.WideValue.TheVariants as wide
@@ -14,7 +16,7 @@ use Rattle.bpf_text.specs.declared.mnemonic.Mnemonic.TheVariants as word
 use Rattle.bpf_text.specs.declared.three.UpToThree.{UpToThree}
 use Rattle.bpf_text.specs.Arguments.{mnemonic_of, arguments_of}
 use Rattle.bpf_text.specs.Three.{none, one, two, three}
-use Rattle.bpf_text.specs.Statements.{insn_of, insn_with, insn_of_none, insn_of_one, insn_of_two, insn_of_three, insn_of_register, insn_of_memory}
+use Rattle.bpf_text.specs.Statements.{insn_of, insn_with, insn_of_none, insn_of_one, insn_of_two, insn_of_three, load_of, store_of}
 
 abbrev pub Has : Mnemonic → UpToThree Argument → Insn → Type 0
 Has m a i = (mnemonic_of i ≡ m) × (arguments_of i ≡ a)
@@ -31,31 +33,35 @@ of_one word.JumpLong (Distance (Long k)) = (refl, refl)
 of_one word.Call (Imm k) = (refl, refl)
 of_one m a = tt
 
-of_register : (m : Mnemonic) (r : Reg) (a : Argument) → IfSome (insn_of_register m r a) (Has m (two (Register r) a))
-of_register (word.Alu bits op) r (Register s) = (refl, refl)
-of_register (word.Alu bits op) r (Imm k) = (refl, refl)
-of_register (word.Mov bits) r (Register s) = (refl, refl)
-of_register (word.Mov bits) r (Imm k) = (refl, refl)
-of_register (word.MovSx extension) r (Register s) = (refl, refl)
-of_register (word.Load kind) r (Memory s k) = (refl, refl)
-of_register word.LoadNumber r (Number n) = (refl, refl)
-of_register word.LoadMap r (Imm k) = (refl, refl)
-of_register m r a = tt
+of_load : (m : Mnemonic) (r : Reg) (a : Argument) → IfSome (load_of m r a) (Has m (two (Register r) a))
+of_load (word.Alu bits op) r (Register s) = (refl, refl)
+of_load (word.Alu bits op) r (Imm k) = (refl, refl)
+of_load (word.Mov bits) r (Register s) = (refl, refl)
+of_load (word.Mov bits) r (Imm k) = (refl, refl)
+of_load (word.MovSx extension) r (Register s) = (refl, refl)
+of_load (word.Load kind) r (Memory s k) = (refl, refl)
+of_load word.LoadNumber r (Number n) = (refl, refl)
+of_load word.LoadMap r (Imm k) = (refl, refl)
+of_load m r a = tt
 
-of_memory : (m : Mnemonic) (r : Reg) (k : ℤ) (a : Argument) → IfSome (insn_of_memory m r k a) (Has m (two (Memory r k) a))
-of_memory (word.StoreImm size) r k (Imm i) = (refl, refl)
-of_memory (word.Store size) r k (Register s) = (refl, refl)
-of_memory (word.Atomic op size) r k (Register s) = (refl, refl)
-of_memory m r k a = tt
+of_store : (m : Mnemonic) (r : Reg) (k : ℤ) (a : Argument) → IfSome (store_of m r k a) (Has m (two (Memory r k) a))
+of_store (word.StoreImm size) r k (Imm i) = (refl, refl)
+of_store (word.Store size) r k (Register s) = (refl, refl)
+of_store (word.Atomic op size) r k (Register s) = (refl, refl)
+of_store m r k a = tt
 
 of_two : (m : Mnemonic) (a b : Argument) → IfSome (insn_of_two m a b) (Has m (two a b))
-of_two m (Register r) b = of_register m r b
-of_two m (Memory r k) b = of_memory m r k b
+of_two m (Register r) b = of_load m r b
+of_two m (Memory r k) b = of_store m r k b
 of_two m a b = tt
 
+of_jump : (bits : Bits) (condition : Condition) (l : Reg) (a : Argument) (k : ℤ) → let j = Distance (Short k) in IfSome (insn_of_three (word.JumpIf bits condition) (Register l) a j) (Has (word.JumpIf bits condition) (three (Register l) a j))
+of_jump bits condition l (Register r) k = (refl, refl)
+of_jump bits condition l (Imm r) k = (refl, refl)
+of_jump bits condition l a k = tt
+
 of_three : (m : Mnemonic) (a b c : Argument) → IfSome (insn_of_three m a b c) (Has m (three a b c))
-of_three (word.JumpIf bits condition) (Register l) (Register r) (Distance (Short k)) = (refl, refl)
-of_three (word.JumpIf bits condition) (Register l) (Imm r) (Distance (Short k)) = (refl, refl)
+of_three (word.JumpIf bits condition) (Register l) a (Distance (Short k)) = of_jump bits condition l a k
 of_three word.LoadCell (Register r) (Imm i) (Imm k) = (refl, refl)
 of_three m a b c = tt
 

@@ -1,5 +1,5 @@
 -- The bytes that a text stands for, or its first fault: lines one by one, then jumps to labels.
-use Rattle.std.specs.Prelude.{◌≡◌, ℕ, ◌+◌, ◌⊎◌, ◌^◌, ℤ, pos, neg_ℤ, ◌-ℤ◌, int_le, int_lt, List, [], ◌∷◌, ◌++◌, length, Option, Some, None, is_some, Result, Ok, Err, Bool, true, false, nat_lt, ◌&&◌, if◌then◌else◌}
+use Rattle.std.specs.Prelude.{◌≡◌, ℕ, ◌+◌, ◌*◌, ◌≤◌, ◌⊎◌, ◌^◌, ℤ, pos, neg_ℤ, ◌-ℤ◌, int_le, int_lt, List, [], ◌∷◌, ◌++◌, length, Option, Some, None, is_some, Result, Ok, Err, Bool, true, false, nat_lt, ◌&&◌, if◌then◌else◌}
 use Rattle.std.specs.Str.{bytes_eq}
 use Rattle.bpf_insn.specs.declared.operand.Distance.TheVariants.{Short, Long}
 use Rattle.bpf_insn.specs.declared.insn.Insn.{Insn}
@@ -8,18 +8,21 @@ use Rattle.bpf_text.specs.declared.fault.AsmFaultKind.{AsmFaultKind}
 use Rattle.bpf_text.specs.declared.fault.AsmFaultKind.TheVariants as kind
 use Rattle.bpf_text.specs.declared.fault.AsmFault.{AsmFault}
 use Rattle.bpf_text.specs.declared.fault.AsmFault.TheVariants.{At, Memory}
-use Rattle.bpf_text.specs.declared.argument.Argument as arguments
+use Rattle.bpf_text.specs.declared.argument.Argument.{Argument}
 use Rattle.bpf_text.specs.declared.argument.Argument.TheVariants.{Distance}
 use Rattle.bpf_text.specs.declared.mnemonic.Mnemonic.{Mnemonic}
 use Rattle.bpf_text.specs.declared.mnemonic.Mnemonic.TheVariants.{LoadNumber, LoadMap, LoadCell}
 use Rattle.bpf_text.specs.declared.operand.Given.{Given}
-use Rattle.bpf_text.specs.declared.operand.Given.TheVariants.{Argument, ShortTo, LongTo}
+use Rattle.bpf_text.specs.declared.operand.Given.TheVariants as given
 use Rattle.bpf_text.specs.declared.scan.Placed as the_placed
 use Rattle.bpf_text.specs.declared.three.UpToThree.{UpToThree}
 use Rattle.bpf_text.specs.Lines.{Line, Body, lines_in}
-use Rattle.bpf_text.specs.Results.{needs, ◌>>?◌, map_ok, in_turn}
+use Rattle.bpf_text.specs.Results.{OrFault, needs, ◌>>?◌, map_ok, in_turn}
 use Rattle.bpf_text.specs.Tokens.{Name}
 use Rattle.bpf_text.specs.Vocabulary.{Vocabulary, IsExact}
+
+abbrev pub BytesOrFault : Type 0
+BytesOrFault = Result (List ℕ) AsmFault
 
 -- ---- the slots of lines, and where each label stands
 
@@ -104,67 +107,70 @@ placed n s (l ∷ ls) = placed_body n s l.body ++ placed (n + 1) (s + slots_of_b
 abbrev pub in_field : ℕ → ℤ → Bool
 in_field k z = int_le (neg_ℤ (pos (2 ^ k))) z && int_lt z (pos (2 ^ k))
 
-abbrev pub short_distance : ℤ → Option arguments.Argument
+abbrev pub short_distance : ℤ → Option Argument
 short_distance z = if in_field 15 z then Some (Distance (Short z)) else None
 
-abbrev pub long_distance : ℤ → Option arguments.Argument
+abbrev pub long_distance : ℤ → Option Argument
 long_distance z = if in_field 31 z then Some (Distance (Long z)) else None
 
 -- slots are counted from the instruction after the jump
-abbrev pub slots_to : (Name → Option ℕ) → ℕ → Name → Result ℤ AsmFaultKind
+abbrev pub slots_to : (Name → Option ℕ) → ℕ → Name → OrFault ℤ
 slots_to slot_of s name = needs kind.Label (slot_of name) >>? λ t. Ok (pos t -ℤ pos (s + 1))
 
-abbrev pub argument_at : (Name → Option ℕ) → ℕ → Given Name → Result arguments.Argument AsmFaultKind
-argument_at slot_of s (Argument a) = Ok a
-argument_at slot_of s (ShortTo name) =
+abbrev pub argument_at : (Name → Option ℕ) → ℕ → Given Name → OrFault Argument
+argument_at slot_of s (given.Argument a) = Ok a
+argument_at slot_of s (given.ShortTo name) =
     slots_to slot_of s name >>? λ z. needs kind.Range (short_distance z)
-argument_at slot_of s (LongTo name) =
+argument_at slot_of s (given.LongTo name) =
     slots_to slot_of s name >>? λ z. needs kind.Range (long_distance z)
 
-abbrev pub argument_if : (Name → Option ℕ) → ℕ → Option (Given Name) → Result (Option arguments.Argument) AsmFaultKind
+abbrev pub argument_if : (Name → Option ℕ) → ℕ → Option (Given Name) → OrFault (Option Argument)
 argument_if slot_of s None = Ok None
-argument_if slot_of s (Some given) = map_ok Some (argument_at slot_of s given)
+argument_if slot_of s (Some g) = map_ok Some (argument_at slot_of s g)
 
-abbrev pub arguments_at : (Name → Option ℕ) → ℕ → UpToThree (Given Name) → Result (UpToThree arguments.Argument) AsmFaultKind
+abbrev pub arguments_at : (Name → Option ℕ) → ℕ → UpToThree (Given Name) → OrFault (UpToThree Argument)
 arguments_at slot_of s g =
-    in_turn (argument_if slot_of s g.first) (argument_if slot_of s g.second) (argument_if slot_of s g.third)
+    let a = argument_if slot_of s g.first in
+    let b = argument_if slot_of s g.second in
+    let c = argument_if slot_of s g.third in
+    in_turn a b c
 
 -- the instruction with this word and these arguments
-abbrev pub insn_at : Vocabulary → (Name → Option ℕ) → Placed → Result Insn AsmFaultKind
+abbrev pub insn_at : Vocabulary → (Name → Option ℕ) → Placed → OrFault Insn
 insn_at v slot_of p =
     arguments_at slot_of p.slot p.statement.arguments >>? λ a.
     needs kind.Operand (v.insn_of p.statement.mnemonic a)
 
-abbrev pub onto_bytes : List ℕ → Result (List ℕ) AsmFault → Result (List ℕ) AsmFault
+abbrev pub onto_bytes : List ℕ → BytesOrFault → BytesOrFault
 onto_bytes bs (Ok more) = Ok (bs ++ more)
 onto_bytes bs (Err e) = Err e
 
-abbrev pub bytes_onto : ℕ → Result Insn AsmFaultKind → Result (List ℕ) AsmFault → Result (List ℕ) AsmFault
+abbrev pub bytes_onto : ℕ → OrFault Insn → BytesOrFault → BytesOrFault
 bytes_onto n (Err e) later = Err (at_line n e)
 bytes_onto n (Ok i) later = onto_bytes (encoding i) later
 
 -- the encodings of the statements, or the first that can't jump where it should
-abbrev pub bytes_of_placed : Vocabulary → (Name → Option ℕ) → List Placed → Result (List ℕ) AsmFault
+abbrev pub bytes_of_placed : Vocabulary → (Name → Option ℕ) → List Placed → BytesOrFault
 bytes_of_placed v slot_of [] = Ok []
 bytes_of_placed v slot_of (p ∷ ps) =
     bytes_onto p.line (insn_at v slot_of p) (bytes_of_placed v slot_of ps)
 
 -- ---- the whole text
 
-abbrev pub unless_fault : Option AsmFault → Result (List ℕ) AsmFault → Result (List ℕ) AsmFault
+abbrev pub unless_fault : Option AsmFault → BytesOrFault → BytesOrFault
 unless_fault None bytes = bytes
 unless_fault (Some e) bytes = Err e
 
-abbrev pub assembly_of_lines : Vocabulary → List Line → Result (List ℕ) AsmFault
+abbrev pub assembly_of_lines : Vocabulary → List Line → BytesOrFault
 assembly_of_lines v ls =
     unless_fault (first_fault [] ls) (bytes_of_placed v (label_slot 0 ls) (placed 1 0 ls))
 
 -- the bytes that the text stands for, or its fault
-unfoldable pub assembly_of : Vocabulary → List ℕ → Result (List ℕ) AsmFault
+unfoldable pub assembly_of : Vocabulary → List ℕ → BytesOrFault
 assembly_of v text = assembly_of_lines v (lines_in v text)
 
 -- the same, with words that stand for what is written so; there is one such vocabulary
-abbrev pub Assembles : List ℕ → Result (List ℕ) AsmFault → Type 0
+abbrev pub Assembles : List ℕ → BytesOrFault → Type 0
 Assembles text verdict = (v : Vocabulary) × IsExact v × (assembly_of v text ≡ verdict)
 
 -- the text's fault, or a growth that was refused
@@ -172,4 +178,8 @@ abbrev pub IsAsmFault : List ℕ → AsmFault → Type 0
 IsAsmFault text e = (e ≡ Memory) ⊎ Assembles text (Err e)
 
 abbrev pub HasOneAssembly : List ℕ → Type 0
-HasOneAssembly text = (a b : Result (List ℕ) AsmFault) → Assembles text a → Assembles text b → a ≡ b
+HasOneAssembly text = (a b : BytesOrFault) → Assembles text a → Assembles text b → a ≡ b
+
+-- of at most 4096 slots
+abbrev pub AssemblesAgain : List ℕ → List ℕ → Type 0
+AssemblesAgain bytes text = length bytes ≤ 8 * 4096 → Assembles text (Ok bytes)

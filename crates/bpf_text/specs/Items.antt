@@ -1,4 +1,4 @@
--- The operands as they are written behind an instruction's word: at most three, with commas between.
+-- The operands as they are written behind an instruction's word: up to three, with commas between.
 use Rattle.std.specs.Prelude.{List, [], ◌∷◌, Option, Some, None}
 use Rattle.bpf_insn.specs.Program.{◌>>=◌}
 use Rattle.bpf_text.specs.declared.token.Sign.TheVariants.{Plus}
@@ -36,9 +36,9 @@ item_after_comma tokens = None
 abbrev pub Items : Type 0
 Items = UpToThree (Item names.Name)
 
-abbrev pub if_at_end : Items → Tokens → Option Items
-if_at_end items [] = Some items
-if_at_end items (t ∷ rest) = None
+abbrev pub at_end : Items → Tokens → Option Items
+at_end items [] = Some items
+at_end items (t ∷ rest) = None
 
 -- all operands; None where these tokens are no operands
 abbrev pub items_of : Tokens → Option Items
@@ -47,4 +47,4 @@ items_of (t ∷ rest) =
     item_at_front (t ∷ rest) >>= λ a.
     item_after_comma a.1 >>= λ b.
     item_after_comma b.1 >>= λ c.
-    if_at_end (record { first = Some a.0; second = b.0; third = c.0 }) c.1
+    at_end (record { first = Some a.0; second = b.0; third = c.0 }) c.1

@@ -1,14 +1,13 @@
 -- What a line says: an optional label, and an optional statement or the fault in its place.
-use Rattle.std.specs.Prelude.{List, [], ◌∷◌, ℕ, map, Option, Some, None, Result, Ok, Err}
+use Rattle.std.specs.Prelude.{List, [], ◌∷◌, ℕ, map, Option, Some, None, Ok, Err}
 use Rattle.std.specs.Str.Lines.{lines}
-use Rattle.bpf_text.specs.declared.fault.AsmFaultKind.{AsmFaultKind}
 use Rattle.bpf_text.specs.declared.fault.AsmFaultKind.TheVariants as fault
 use Rattle.bpf_text.specs.declared.line.Line as the_line
 use Rattle.bpf_text.specs.declared.line.Statement as the_statement
 use Rattle.bpf_text.specs.declared.token.Token.TheVariants.{Word, Colon}
 use Rattle.bpf_text.specs.Items.{Tokens, items_of}
 use Rattle.bpf_text.specs.Operands.{items_as}
-use Rattle.bpf_text.specs.Results.{needs, ◌>>?◌}
+use Rattle.bpf_text.specs.Results.{OrFault, needs, ◌>>?◌}
 use Rattle.bpf_text.specs.Signatures.{kinds_of}
 use Rattle.bpf_text.specs.Tokens.{Name, tokens_of}
 use Rattle.bpf_text.specs.Vocabulary.{Vocabulary}
@@ -20,7 +19,7 @@ abbrev pub Line : Type 0
 Line = the_line.Line Name
 
 abbrev pub Body : Type 0
-Body = Result (Option Statement) AsmFaultKind
+Body = OrFault (Option Statement)
 
 -- an instruction's word, and its operands
 abbrev pub body_of : Vocabulary → Tokens → Body

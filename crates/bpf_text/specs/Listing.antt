@@ -1,7 +1,10 @@
 -- The text that a listing gives: a line an instruction, and which bytes have a listing.
-use Rattle.std.specs.Prelude.{◌≡◌, ℕ, ◌+◌, ◌*◌, ◌<◌, ℤ, pos, negsuc, suc, List, [], ◌∷◌, ◌++◌, length, take, Option, Some, None, codes}
+use Rattle.std.specs.Prelude.{◌≡◌, ℕ, ◌+◌, ◌*◌, ◌<◌, ℤ, pos, negsuc, suc, List, [], ◌∷◌, ◌++◌, length, take, Option, Some, None, Result, Ok, Err, codes}
 use Rattle.std.specs.List.{AllByRecursion}
 use Rattle.std.specs.Fmt.{decimal, signed_decimal}
+use Rattle.std.specs.String.{string_bytes}
+use Rattle.std.specs.declared.alloc.Global.{Global}
+use Rattle.std.specs.declared.string.String.{String}
 use Rattle.bpf_insn.specs.declared.reg.Reg.{Reg}
 use Rattle.bpf_insn.specs.declared.reg.Reg.TheVariants.{R0, R1, R2, R3, R4, R5, R6, R7, R8, R9, R10}
 use Rattle.bpf_insn.specs.declared.insn.Insn.{Insn}
@@ -60,25 +63,41 @@ listing_of (i ∷ rest) = line_of i ++ listing_of rest
 
 -- these bytes are the encodings of instructions, and this is their listing
 abbrev pub Lists : List ℕ → List ℕ → Type 0
-Lists bytes text = (is : List Insn) × AllByRecursion IsEncodable is × (bytes ≡ encodings is) × (text ≡ listing_of is)
+Lists bytes text =
+    (is : List Insn) × AllByRecursion IsEncodable is × (bytes ≡ encodings is)
+    × (text ≡ listing_of is)
 
 -- instructions fill the slots before this one, and what is there is none
 abbrev pub IsFirstFault : List ℕ → ℕ → InsnFault → Type 0
 IsFirstFault bytes slot e =
-    (is : List Insn) × AllByRecursion IsEncodable is × (slot ≡ length (layout is)) × (take (8 * slot) bytes ≡ encodings is)
-    × (8 * slot < length bytes) × IsLeastFault bytes slot e
+    (is : List Insn) × AllByRecursion IsEncodable is × (slot ≡ length (layout is))
+    × (take (8 * slot) bytes ≡ encodings is) × (8 * slot < length bytes) × IsLeastFault bytes slot e
 
 -- no claim is made of a growth that was refused
 abbrev pub IsListFault : List ℕ → ListFault → Type 0
 IsListFault bytes (list_fault.Insn slot e) = IsFirstFault bytes slot e
 IsListFault bytes list_fault.Memory = Unit {0}
 
+-- the verdict on bytes: their listing, or where they have none
+abbrev pub IsVerdict : List ℕ → Result (List ℕ) ListFault → Type 0
+IsVerdict bytes (Ok text) = Lists bytes text
+IsVerdict bytes (Err (list_fault.Insn slot e)) = IsFirstFault bytes slot e
+IsVerdict bytes (Err list_fault.Memory) = ⊥
+
+abbrev pub HasOneListing : List ℕ → Type 0
+HasOneListing bytes =
+    (a b : Result (List ℕ) ListFault) → IsVerdict bytes a → IsVerdict bytes b → a ≡ b
+
 -- ---- one line of the listing
 
--- an instruction begins at this slot, the next slot is the one after it, and the text grows by its line
+abbrev pub Appends : String Global → String Global → List ℕ → Type 0
+Appends before after text = string_bytes after ≡ string_bytes before ++ text
+
+-- an instruction begins at this slot, the next slot is behind it, and the text grows by its line
 abbrev pub IsNext : List ℕ → ℕ → List ℕ → List ℕ → ℕ → Type 0
 IsNext bytes slot before after next =
-    (i : Insn) × Spells bytes slot i × (next ≡ slot + slots_of (width_of i)) × (after ≡ before ++ line_of i)
+    (i : Insn) × Spells bytes slot i × (next ≡ slot + slots_of (width_of i))
+    × (after ≡ before ++ line_of i)
 
 abbrev pub IsFaultAt : List ℕ → ℕ → ListFault → Type 0
 IsFaultAt bytes slot (list_fault.Insn at e) = (at ≡ slot) × IsLeastFault bytes slot e

@@ -1,7 +1,6 @@
 -- What the reader's values stand for: their names are the bytes that they point to.
-use Rattle.std.specs.Prelude.{ℕ, List, map, Option, Some, None, option_map, Result, Ok, Err, Bool, true, false}
+use Rattle.std.specs.Prelude.{ℕ, List, map, Option, Some, None, option_map, Ok, Err, Bool, true, false}
 use Rattle.std.specs.Borrow.{Bor}
-use Rattle.bpf_text.specs.declared.fault.AsmFaultKind.{AsmFaultKind}
 use Rattle.bpf_text.specs.declared.token.Token.{Token}
 use Rattle.bpf_text.specs.declared.token.Token.TheVariants as token
 use Rattle.bpf_text.specs.declared.item.Item.{Item}
@@ -12,7 +11,10 @@ use Rattle.bpf_text.specs.declared.line.Statement as statements
 use Rattle.bpf_text.specs.declared.line.Line as the_line
 use Rattle.bpf_text.specs.declared.scan.Placed.{Placed}
 use Rattle.bpf_text.specs.Tokens.{Name}
+use Rattle.bpf_text.specs.declared.three.UpToThree.{UpToThree}
+use Rattle.bpf_text.specs.Results.{OrFault, map_ok}
 use Rattle.bpf_text.specs.Three.{map_three}
+use Rattle.bpf_text.specs.Items.{Items, Tokens}
 use Rattle.bpf_text.specs.Lines.{Statement, Line, Body}
 
 abbrev pub Bytes : Type 0
@@ -29,9 +31,12 @@ token_named token.Colon = token.Colon
 token_named token.Open = token.Open
 token_named token.Close = token.Close
 
+abbrev pub tokens_named : List (Token Bytes) → Tokens
+tokens_named tokens = map token_named tokens
+
 -- all tokens, where the whole line was read
-abbrev pub tokens_if : Bool → List (Token Bytes) → Option (List (Token Name))
-tokens_if true tokens = Some (map token_named tokens)
+abbrev pub tokens_if : Bool → List (Token Bytes) → Option Tokens
+tokens_if true tokens = Some (tokens_named tokens)
 tokens_if false tokens = None
 
 abbrev pub item_named : Item Bytes → Item Name
@@ -39,24 +44,33 @@ item_named (item.Name w) = item.Name w.now
 item_named (item.Number n) = item.Number n
 item_named (item.Memory w n) = item.Memory w.now n
 
-abbrev pub front_named : Item Bytes × Bor (List (Token Bytes)) → Item Name × List (Token Name)
-front_named p = (item_named p.0, map token_named p.1.now)
+abbrev pub items_named : UpToThree (Item Bytes) → Items
+items_named i = map_three item_named i
 
-abbrev pub after_named : Option (Item Bytes) × Bor (List (Token Bytes)) → Option (Item Name) × List (Token Name)
-after_named p = (option_map item_named p.0, map token_named p.1.now)
+abbrev pub front_named : Item Bytes × Bor (List (Token Bytes)) → Item Name × Tokens
+front_named p = (item_named p.0, tokens_named p.1.now)
 
-abbrev pub split_named : Option Bytes × Bor (List (Token Bytes)) → Option Name × List (Token Name)
-split_named p = (name_of p.0, map token_named p.1.now)
+abbrev pub after_named : Option (Item Bytes) × Bor (List (Token Bytes)) → Option (Item Name) × Tokens
+after_named p = (option_map item_named p.0, tokens_named p.1.now)
+
+abbrev pub split_named : Option Bytes × Bor (List (Token Bytes)) → Option Name × Tokens
+split_named p = (name_of p.0, tokens_named p.1.now)
 
 abbrev pub given_named : Given Bytes → Given Name
 given_named (given.Argument a) = given.Argument a
 given_named (given.ShortTo w) = given.ShortTo w.now
 given_named (given.LongTo w) = given.LongTo w.now
 
+abbrev pub given_if_named : OrFault (Option (Given Bytes)) → OrFault (Option (Given Name))
+given_if_named r = map_ok (option_map given_named) r
+
+abbrev pub all_given_named : OrFault (UpToThree (Given Bytes)) → OrFault (UpToThree (Given Name))
+all_given_named r = map_ok (map_three given_named) r
+
 abbrev pub statement_named : statements.Statement Bytes → Statement
 statement_named s = record { mnemonic = s.mnemonic; arguments = map_three given_named s.arguments }
 
-abbrev pub body_named : Result (Option (statements.Statement Bytes)) AsmFaultKind → Body
+abbrev pub body_named : OrFault (Option (statements.Statement Bytes)) → Body
 body_named (Ok o) = Ok (option_map statement_named o)
 body_named (Err e) = Err e
 

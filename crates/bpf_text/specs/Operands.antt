@@ -1,9 +1,8 @@
 -- An operand as the kind that its instruction wants: A3 where it is of another kind, and A5 where
 -- its number doesn't fit its field.
-use Rattle.std.specs.Prelude.{Option, Some, None, option_map, Result, Ok, Err, Bool, true, false, not, ◌||◌, if◌then◌else◌}
+use Rattle.std.specs.Prelude.{Option, Some, None, option_map, Ok, Err, Bool, true, false, not, ◌||◌, if◌then◌else◌}
 use Rattle.bpf_insn.specs.declared.reg.Reg.{Reg}
 use Rattle.bpf_insn.specs.declared.operand.Distance.TheVariants.{Short, Long}
-use Rattle.bpf_text.specs.declared.fault.AsmFaultKind.{AsmFaultKind}
 use Rattle.bpf_text.specs.declared.fault.AsmFaultKind.TheVariants as fault
 use Rattle.bpf_text.specs.declared.token.Sign.{Sign}
 use Rattle.bpf_text.specs.declared.token.Sign.TheVariants.{Absent, Plus}
@@ -19,15 +18,14 @@ use Rattle.bpf_text.specs.declared.signature.Kind.TheVariants as kind
 use Rattle.bpf_text.specs.declared.three.UpToThree.{UpToThree}
 use Rattle.bpf_text.specs.Items.{Items}
 use Rattle.bpf_text.specs.Ranges.{imm_of, wide_of, short_of, long_of}
-use Rattle.bpf_text.specs.Results.{map_ok, in_turn}
+use Rattle.bpf_text.specs.Results.{OrFault, map_ok, in_turn}
 use Rattle.bpf_text.specs.Tokens.{Name}
 use Rattle.bpf_text.specs.Vocabulary.{Vocabulary}
 
--- what an operand stands for, or its fault
-abbrev pub Reading : Type 0
-Reading = Result (Given Name) AsmFaultKind
+abbrev pub GivenOrFault : Type 0
+GivenOrFault = OrFault (Given Name)
 
-abbrev pub if_of_kind : Bool → Option arguments.Argument → Reading
+abbrev pub if_of_kind : Bool → Option arguments.Argument → GivenOrFault
 if_of_kind false a = Err fault.Operand
 if_of_kind true None = Err fault.Range
 if_of_kind true (Some a) = Ok (Argument a)
@@ -41,30 +39,31 @@ abbrev pub has_sign : Sign → Bool
 has_sign Absent = false
 has_sign s = true
 
-abbrev pub register_given : Option Reg → Reading
+abbrev pub register_given : Option Reg → GivenOrFault
 register_given None = Err fault.Operand
 register_given (Some r) = Ok (Argument (argument.Register r))
 
 -- numbers of 32 and 64 bits have no +
-abbrev pub imm_given : Figure → Reading
+abbrev pub imm_given : Figure → GivenOrFault
 imm_given f = if_of_kind (not (has_plus f.sign)) (option_map argument.Imm (imm_of f))
 
-abbrev pub number_given : Figure → Reading
+abbrev pub number_given : Figure → GivenOrFault
 number_given f = if_of_kind (not (has_plus f.sign)) (option_map argument.Number (wide_of f))
 
 -- offsets and distances have a sign
-abbrev pub memory_given : Option Reg → Figure → Reading
+abbrev pub memory_given : Option Reg → Figure → GivenOrFault
 memory_given None f = Err fault.Operand
 memory_given (Some r) f = if_of_kind (has_sign f.sign) (option_map (argument.Memory r) (short_of f))
 
-abbrev pub short_given : Figure → Reading
+abbrev pub short_given : Figure → GivenOrFault
 short_given f =
     if_of_kind (has_sign f.sign) (option_map (λ k. argument.Distance (Short k)) (short_of f))
 
-abbrev pub long_given : Figure → Reading
-long_given f = if_of_kind (has_sign f.sign) (option_map (λ k. argument.Distance (Long k)) (long_of f))
+abbrev pub long_given : Figure → GivenOrFault
+long_given f =
+    if_of_kind (has_sign f.sign) (option_map (λ k. argument.Distance (Long k)) (long_of f))
 
-abbrev pub item_as : Vocabulary → Kind → Item Name → Reading
+abbrev pub item_as : Vocabulary → Kind → Item Name → GivenOrFault
 item_as v kind.Register (item.Name w) = register_given (v.register_named w)
 item_as v kind.Source (item.Name w) = register_given (v.register_named w)
 item_as v kind.Source (item.Number f) = imm_given f
@@ -80,21 +79,24 @@ item_as v k i = Err fault.Operand
 -- ---- all operands
 
 -- an operand stands where one is wanted, and nowhere else
-abbrev pub item_if : Vocabulary → Option Kind → Option (Item Name) → Result (Option (Given Name)) AsmFaultKind
+abbrev pub item_if : Vocabulary → Option Kind → Option (Item Name) → OrFault (Option (Given Name))
 item_if v None None = Ok None
 item_if v (Some k) (Some i) = map_ok Some (item_as v k i)
 item_if v k i = Err fault.Operand
 
-abbrev pub is_other_kind : {A : Type 0} → Result A AsmFaultKind → Bool
+abbrev pub is_other_kind : {A : Type 0} → OrFault A → Bool
 is_other_kind (Err fault.Operand) = true
 is_other_kind r = false
 
 -- A3 of any operand comes before A5 of another
-abbrev pub arguments_from : Result (Option (Given Name)) AsmFaultKind → Result (Option (Given Name)) AsmFaultKind → Result (Option (Given Name)) AsmFaultKind → Result (UpToThree (Given Name)) AsmFaultKind
-arguments_from a b c =
+abbrev pub all_given : (a b c : OrFault (Option (Given Name))) → OrFault (UpToThree (Given Name))
+all_given a b c =
     if is_other_kind a || (is_other_kind b || is_other_kind c) then Err fault.Operand
     else in_turn a b c
 
-abbrev pub items_as : Vocabulary → UpToThree Kind → Items → Result (UpToThree (Given Name)) AsmFaultKind
+abbrev pub items_as : Vocabulary → UpToThree Kind → Items → OrFault (UpToThree (Given Name))
 items_as v k i =
-    arguments_from (item_if v k.first i.first) (item_if v k.second i.second) (item_if v k.third i.third)
+    let a = item_if v k.first i.first in
+    let b = item_if v k.second i.second in
+    let c = item_if v k.third i.third in
+    all_given a b c

@@ -1,21 +1,21 @@
 -- What the reader has read after each line, and the faults of its two passes.
-use Rattle.std.specs.Prelude.{◌≡◌, ℕ, ◌+◌, ◌≤◌, ◌⊎◌, List, [], ◌∷◌, ◌++◌, length, map, Option, Some, None, Err, if◌then◌else◌}
-use Rattle.std.specs.Str.{bytes_eq}
+use Rattle.std.specs.Prelude.{◌≡◌, ℕ, ◌+◌, ◌≤◌, ◌⊎◌, List, [], ◌∷◌, ◌++◌, length, map, Some, None, Err}
 use Rattle.std.specs.Vec.{vec_items}
 use Rattle.bpf_text.specs.declared.fault.AsmFault.{AsmFault}
 use Rattle.bpf_text.specs.declared.fault.AsmFault.TheVariants.{At, Memory}
+use Rattle.bpf_text.specs.declared.scan.Placed as the_placed
 use Rattle.bpf_text.specs.declared.scan.Reading as reader
-use Rattle.bpf_text.specs.Assembly.{Placed, slots_in, label_slot, line_fault, first_fault, placed, bytes_of_placed, assembly_of}
+use Rattle.bpf_text.specs.Assembly.{BytesOrFault, slots_in, label_slot, line_fault, first_fault, placed, placed_body, bytes_of_placed, assembly_of}
 use Rattle.bpf_text.specs.Labels.{slot_at}
-use Rattle.bpf_text.specs.Lines.{Line, lines_in}
-use Rattle.bpf_text.specs.Names.{placed_named}
+use Rattle.bpf_text.specs.Lines.{Line, Body, lines_in}
+use Rattle.bpf_text.specs.Names.{Bytes, placed_named}
 use Rattle.bpf_text.specs.Tables.{tables}
 use Rattle.bpf_text.specs.Tokens.{Name}
 
--- what is found once a label stands at a slot
-abbrev pub labels_after : (Name → Option ℕ) → Option Name → ℕ → Name → Option ℕ
-labels_after slot_of None s q = slot_of q
-labels_after slot_of (Some name) s q = if bytes_eq name q then Some s else slot_of q
+-- a body's statement, if it has one, is noted at the end
+abbrev pub AddsBody : List (the_placed.Placed Bytes) → List (the_placed.Placed Bytes) → ℕ → ℕ → Body → Type 0
+AddsBody before after n s body =
+    map placed_named after ≡ map placed_named before ++ placed_body n s body
 
 -- these lines have been read
 pub record HasRead (ls : List Line) (r : reader.Reading) : Type 0 where
@@ -37,17 +37,21 @@ IsLineFault before l Memory = Unit {0}
 IsLineFault before l (At n e) =
     (n ≡ before.lines + 1) × ((ls : List Line) → HasRead ls before → line_fault ls l ≡ Some e)
 
--- the faults of each pass, or a growth that was refused
-abbrev pub IsByteFault : (Name → Option ℕ) → List Placed → AsmFault → Type 0
-IsByteFault slot_of ps e = (e ≡ Memory) ⊎ (bytes_of_placed tables slot_of ps ≡ Err e)
-
-abbrev pub IsReadingFault : List ℕ → AsmFault → Type 0
-IsReadingFault text e = (e ≡ Memory) ⊎ (first_fault [] (lines_in tables text) ≡ Some e)
-
-abbrev pub IsTableFault : List ℕ → AsmFault → Type 0
-IsTableFault text e = (e ≡ Memory) ⊎ (assembly_of tables text ≡ Err e)
+-- ---- both passes, by the reader's own tables; or a growth that was refused
 
 -- all lines have been read, and none has a fault
 abbrev pub IsWholeReading : List ℕ → reader.Reading → Type 0
 IsWholeReading text r =
     (first_fault [] (lines_in tables text) ≡ None) × HasRead (lines_in tables text) r
+
+abbrev pub IsReadingFault : List ℕ → AsmFault → Type 0
+IsReadingFault text e = (e ≡ Memory) ⊎ (first_fault [] (lines_in tables text) ≡ Some e)
+
+abbrev pub bytes_read : reader.Reading → BytesOrFault
+bytes_read r = bytes_of_placed tables (slot_at r.labels) (map placed_named (vec_items r.placed))
+
+abbrev pub IsByteFault : reader.Reading → AsmFault → Type 0
+IsByteFault r e = (e ≡ Memory) ⊎ (bytes_read r ≡ Err e)
+
+abbrev pub IsTableFault : List ℕ → AsmFault → Type 0
+IsTableFault text e = (e ≡ Memory) ⊎ (assembly_of tables text ≡ Err e)

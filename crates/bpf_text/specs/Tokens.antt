@@ -59,7 +59,8 @@ piece_len c rest = if is_mark c then 1 else 1 + prefix_len is_name_byte rest
 -- ---- the token that a piece is
 
 abbrev pub is_numeral : ℕ → List ℕ → Bool
-is_numeral radix digits = not (length digits == 0) && list_all (λ c. nat_lt (digit_value c) radix) digits
+is_numeral radix digits =
+    not (length digits == 0) && list_all (λ c. nat_lt (digit_value c) radix) digits
 
 -- a number that 64 bits hold
 abbrev pub number_if_small : ℕ → Option ℕ
@@ -70,7 +71,8 @@ magnitude radix digits = number_if_small (digits_value radix digits)
 
 abbrev pub numeral : Sign → ℕ → List ℕ → Option (Token Name)
 numeral sign radix digits =
-    if is_numeral radix digits then Some (Number (record { sign = sign; magnitude = magnitude radix digits })) else None
+    if is_numeral radix digits
+    then Some (Number (record { sign = sign; magnitude = magnitude radix digits })) else None
 
 -- 0x and 1 to 16 hexadecimal digits, or decimal digits
 abbrev pub unsigned_number : List ℕ → Option (Token Name)
@@ -84,7 +86,8 @@ abbrev pub token_of : List ℕ → Option (Token Name)
 token_of [] = None
 token_of (c ∷ rest) =
     if is_mark c then mark_of c
-    else if is_letter c then (if nat_le (length (c ∷ rest)) 32 then Some (Word (c ∷ rest)) else None)
+    else if is_letter c
+    then (if nat_le (length (c ∷ rest)) 32 then Some (Word (c ∷ rest)) else None)
     else if c == 45 then numeral Minus 10 rest
     else if c == 43 then numeral Plus 10 rest
     else unsigned_number (c ∷ rest)

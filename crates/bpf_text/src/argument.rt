@@ -104,8 +104,8 @@ fn wide_arguments(dst: Reg, value: WideValue) -> UpToThree<Argument>
     }
 }
 
-/// The arguments of an instruction: `dst` first, also where it is the address that is stored to, and
-/// a distance last.
+/// The arguments of an instruction: `dst` first, also where it is the address that is stored to,
+/// and a distance last.
 pub fn arguments_of(insn: Insn) -> UpToThree<Argument>
     ensures { result ≡ arguments_of insn }
 {

@@ -9,14 +9,19 @@ ghost use Rattle.bpf_text.specs.Assembly.{
   argument_if,
   arguments_at,
   insn_at,
-  bytes_of_placed,
   assembly_of,
   Assembles,
   IsAsmFault,
 };
 ghost use Rattle.bpf_text.specs.Labels.{slot_at};
 ghost use Rattle.bpf_text.specs.Names.{given_named, placed_named};
-ghost use Rattle.bpf_text.specs.Reading.{IsByteFault, IsReadingFault, IsTableFault, IsWholeReading};
+ghost use Rattle.bpf_text.specs.Reading.{
+  bytes_read,
+  IsByteFault,
+  IsReadingFault,
+  IsTableFault,
+  IsWholeReading,
+};
 ghost use Rattle.bpf_text.specs.Tables.{tables};
 ghost use Rattle.bpf_text.specs.Three.{map_three};
 
@@ -110,8 +115,8 @@ fn insn_at<'a>(labels: &Labels<'a>, placed: Placed<&'a [u8]>) -> Result<Insn, As
 
 // The encodings of the instructions, one after the other.
 fn write_bytes<'a>(alloc: Global, reading: &Reading<'a>) -> Result<Vec<u8>, AsmFault>
-    ensures bytes { IfOk result (λ v. bytes_of_placed tables (slot_at reading.now.labels) (map placed_named reading.now.placed.items) ≡ Ok v.items) }
-    ensures fault { IfErr result (IsByteFault (slot_at reading.now.labels) (map placed_named reading.now.placed.items)) }
+    ensures bytes { IfOk result (λ v. bytes_read reading.now ≡ Ok v.items) }
+    ensures fault { IfErr result (IsByteFault reading.now) }
 {
     let mut out = Vec::with_capacity(alloc, 8 * usize::from(reading.slots))?;
     for placed in &reading.placed {
@@ -167,8 +172,8 @@ fn assembled(alloc: Global, text: &[u8]) -> Result<Vec<u8>, AsmFault>
 /// sign; an imm is -2147483648 to 4294967295, the number of `lddw` -2^63 to 2^64 - 1.
 ///
 /// Refused with the first line that has a fault of its own (of several the lowest: `Token`,
-/// `Mnemonic`, `Operand`, `Label` for one given twice, `Range`, `TooLong` past slot 4096), else with
-/// the first jump to an unknown label; or with `Memory` where a growth was refused.
+/// `Mnemonic`, `Operand`, `Label` for one given twice, `Range`, `TooLong` past slot 4096), else
+/// with the first jump to an unknown label; or with `Memory` where a growth was refused.
 pub fn assemble(alloc: Global, text: &str) -> Result<Vec<u8>, AsmFault>
     ensures bytes { IfOk result (λ v. Assembles text.now (Ok v.items)) }
     ensures fault { IfErr result (IsAsmFault text.now) }

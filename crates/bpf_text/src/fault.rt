@@ -59,8 +59,8 @@ pub enum AsmFaultKind {
 /// The first fault of a text, or the refusal of memory (A7).
 #[derive(Clone, Copy, Debug, PartialEq, Eq)]
 pub enum AsmFault {
-    /// The fault of a line, from 1. `Range` speaks of a number that is written: a label can't be too
-    /// far for a jump, since distances lie within 4095 slots.
+    /// The fault of a line, from 1. `Range` speaks of a number that is written: a label can't be
+    /// too far for a jump, since distances between slots lie within 4095.
     At { line: usize, kind: AsmFaultKind },
     /// A7: a growth was refused.
     Memory,

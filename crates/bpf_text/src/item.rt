@@ -1,9 +1,8 @@
 //! The operands behind an instruction's word: words, numbers and memory, with commas between.
 
-ghost use Rattle.std.specs.Prelude.{◌≡◌, map, option_map};
-ghost use Rattle.bpf_text.specs.Three.{map_three};
-ghost use Rattle.bpf_text.specs.Items.{item_at_front, item_after_comma, items_of, if_at_end};
-ghost use Rattle.bpf_text.specs.Names.{token_named, item_named, front_named, after_named};
+ghost use Rattle.std.specs.Prelude.{◌≡◌, option_map};
+ghost use Rattle.bpf_text.specs.Items.{item_at_front, item_after_comma, at_end, items_of};
+ghost use Rattle.bpf_text.specs.Names.{tokens_named, items_named, front_named, after_named};
 
 use crate::three::{UpToThree, none};
 use crate::token::{Figure, Sign, Token};
@@ -24,7 +23,7 @@ pub type Items<'a> = UpToThree<Item<&'a [u8]>>;
 type Tokens<'t, 'a> = &'t [Token<&'a [u8]>];
 
 fn item_at_front<'a, 't>(tokens: Tokens<'t, 'a>) -> Option<(Item<&'a [u8]>, Tokens<'t, 'a>)>
-    ensures { option_map front_named result ≡ item_at_front (map token_named tokens.now) }
+    ensures { option_map front_named result ≡ item_at_front (tokens_named tokens.now) }
 {
     match tokens {
         [Token::Word(word), rest @ ..] => Some((Item::Name(word), rest)),
@@ -50,7 +49,7 @@ fn item_at_front<'a, 't>(tokens: Tokens<'t, 'a>) -> Option<(Item<&'a [u8]>, Toke
 fn item_after_comma<'a, 't>(
     tokens: Tokens<'t, 'a>,
 ) -> Option<(Option<Item<&'a [u8]>>, Tokens<'t, 'a>)>
-    ensures { option_map after_named result ≡ item_after_comma (map token_named tokens.now) }
+    ensures { option_map after_named result ≡ item_after_comma (tokens_named tokens.now) }
 {
     match tokens {
         [] => Some((None, tokens)),
@@ -62,8 +61,8 @@ fn item_after_comma<'a, 't>(
     }
 }
 
-fn if_at_end<'a>(items: Items<'a>, rest: &[Token<&'a [u8]>]) -> Option<Items<'a>>
-    ensures { option_map (map_three item_named) result ≡ if_at_end (map_three item_named items.entry) (map token_named rest.now) }
+fn at_end<'a>(items: Items<'a>, rest: &[Token<&'a [u8]>]) -> Option<Items<'a>>
+    ensures { option_map items_named result ≡ at_end (items_named items.entry) (tokens_named rest.now) }
 {
     match rest {
         [] => Some(items),
@@ -73,7 +72,7 @@ fn if_at_end<'a>(items: Items<'a>, rest: &[Token<&'a [u8]>]) -> Option<Items<'a>
 
 /// The operands that tokens spell, or `None` where they spell none.
 pub fn items_of<'a>(tokens: &[Token<&'a [u8]>]) -> Option<Items<'a>>
-    ensures { option_map (map_three item_named) result ≡ items_of (map token_named tokens.now) }
+    ensures { option_map items_named result ≡ items_of (tokens_named tokens.now) }
 {
     if tokens.is_empty() {
         return Some(none());
@@ -81,7 +80,7 @@ pub fn items_of<'a>(tokens: &[Token<&'a [u8]>]) -> Option<Items<'a>>
     let (first, rest) = item_at_front(tokens)?;
     let (second, rest) = item_after_comma(rest)?;
     let (third, rest) = item_after_comma(rest)?;
-    if_at_end(
+    at_end(
         UpToThree {
             first: Some(first),
             second,

@@ -1,8 +1,7 @@
 //! Where labels stand.
 
-ghost use Rattle.std.specs.Prelude.{◌≡◌, ℕ, List, Option, Some, OnOk, if◌then◌else◌};
-ghost use Rattle.std.specs.Str.{bytes_eq};
-ghost use Rattle.bpf_text.specs.Labels.{slot_at};
+ghost use Rattle.std.specs.Prelude.{◌≡◌, Some, OnOk};
+ghost use Rattle.bpf_text.specs.Labels.{slot_at, AddsLabel};
 
 use std::alloc::{AllocError, Global};
 use std::collections::BTreeMap;
@@ -19,7 +18,7 @@ pub fn label_slot<'a>(labels: &Labels<'a>, name: &'a [u8]) -> Option<u16>
 
 /// One label more.
 pub fn add_label<'a>(labels: &mut Labels<'a>, name: &'a [u8], slot: u16) -> Result<(), AllocError>
-    ensures { OnOk result ((q : List ℕ) → slot_at labels.new q ≡ (if bytes_eq name.now q then Some slot else slot_at labels.old q)) }
+    ensures { OnOk result (AddsLabel labels.old labels.new (Some name.now) slot) }
 {
     labels.insert(name, slot)?;
     Ok(())

@@ -1,9 +1,21 @@
-//! Laws of the definitions: no text and no bytes have two verdicts.
+//! Laws of the definitions: no text and no bytes have two verdicts. They are called by nothing.
 
 ghost use Rattle.std.specs.Prelude.{ℕ, List};
 ghost use Rattle.bpf_text.specs.Assembly.{HasOneAssembly};
+ghost use Rattle.bpf_text.specs.Listing.{HasOneListing};
 
-/// No text has two verdicts of the assembler: its bytes or its fault are determined.
+use bpf_insn::decode_at;
+
+/// A law: a text stands for one list of bytes, or has one fault.
 pub fn one_assembly()
     ensures { (text : List ℕ) → HasOneAssembly text }
 {}
+
+/// A law: bytes have one listing, or one first fault. It is proved by decoding at each slot.
+pub fn one_listing(bytes: &[u8])
+    ensures { HasOneListing bytes.now }
+{
+    for slot in 0..bytes.len() {
+        let _ = decode_at(bytes, slot);
+    }
+}

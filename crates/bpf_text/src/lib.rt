@@ -1,6 +1,7 @@
 //! The text of BPF instructions: `assemble` reads it into bytes, and `listing` writes it of bytes.
-//! Both go by one table of words (see `mnemonic`): the listing writes the arguments of `argument`, and
-//! the assembler reads those of `operands`.
+//! Both go by one word and one signature an instruction: `mnemonic` has the words, `argument` the
+//! arguments behind them, which the listing writes, and `signature` the kinds of operands that the
+//! assembler reads them from.
 #![tactic(auto)]
 
 mod argument;
@@ -23,5 +24,5 @@ mod vocabulary;
 
 pub use assembler::assemble;
 pub use fault::{AsmFault, AsmFaultKind, ListFault};
-pub use law::one_assembly;
+pub use law::{one_assembly, one_listing};
 pub use lister::listing;

@@ -1,10 +1,16 @@
 //! What a line says: an optional label, and an optional instruction or the fault in its place.
 
-ghost use Rattle.std.specs.Prelude.{◌≡◌, ◌==◌, ◌∷◌, ◌<◌, ◌≤◌, length, map, IfOk};
+ghost use Rattle.std.specs.Prelude.{◌≡◌, ◌==◌, ◌∷◌, ◌<◌, ◌≤◌, length, IfOk};
 ghost use Rattle.std.specs.Str.Lines.{lines, strip_carriage_return};
 ghost use Rattle.std.specs.List.{position_or_len};
-ghost use Rattle.bpf_text.specs.Lines.{body_of, split_label, line_of_tokens, line_if_tokens, read_line};
-ghost use Rattle.bpf_text.specs.Names.{token_named, body_named, split_named, line_named};
+ghost use Rattle.bpf_text.specs.Lines.{
+  body_of,
+  split_label,
+  line_of_tokens,
+  line_if_tokens,
+  read_line,
+};
+ghost use Rattle.bpf_text.specs.Names.{tokens_named, body_named, split_named, line_named};
 ghost use Rattle.bpf_text.specs.Tables.{tables};
 
 use crate::fault::AsmFaultKind;
@@ -33,7 +39,7 @@ pub struct Line<N> {
 }
 
 fn body_of<'a>(tokens: &[Token<&'a [u8]>]) -> Result<Option<Statement<&'a [u8]>>, AsmFaultKind>
-    ensures { body_named result ≡ body_of tables (map token_named tokens.now) }
+    ensures { body_named result ≡ body_of tables (tokens_named tokens.now) }
 {
     match tokens {
         [] => Ok(None),
@@ -52,7 +58,7 @@ fn body_of<'a>(tokens: &[Token<&'a [u8]>]) -> Result<Option<Statement<&'a [u8]>>
 
 // The label at the front, and the tokens behind it.
 fn split_label<'a, 't>(tokens: &'t [Token<&'a [u8]>]) -> (Option<&'a [u8]>, &'t [Token<&'a [u8]>])
-    ensures { split_named result ≡ split_label (map token_named tokens.now) }
+    ensures { split_named result ≡ split_label (tokens_named tokens.now) }
 {
     match tokens {
         [Token::Word(word), Token::Colon, rest @ ..] => (Some(word), rest),
@@ -61,7 +67,7 @@ fn split_label<'a, 't>(tokens: &'t [Token<&'a [u8]>]) -> (Option<&'a [u8]>, &'t 
 }
 
 fn line_of_tokens<'a>(tokens: &[Token<&'a [u8]>]) -> Line<&'a [u8]>
-    ensures { line_named result ≡ line_of_tokens tables (map token_named tokens.now) }
+    ensures { line_named result ≡ line_of_tokens tables (tokens_named tokens.now) }
 {
     let (label, rest) = split_label(tokens);
     Line {

@@ -4,6 +4,7 @@ ghost use Rattle.std.specs.Prelude.{◌≡◌, ◌*◌, ◌<◌, ◌≤◌, ◌+
 ghost use Rattle.std.specs.String.{string_bytes};
 ghost use Rattle.std.specs.Fmt.{decimal, signed_decimal};
 ghost use Rattle.bpf_text.specs.Listing.{
+  Appends,
   register_text,
   with_sign,
   argument_text,
@@ -14,7 +15,7 @@ ghost use Rattle.bpf_text.specs.Listing.{
   IsNext,
   IsFaultAt,
 };
-ghost use Rattle.bpf_text.specs.Assembly.{Assembles};
+ghost use Rattle.bpf_text.specs.Assembly.{AssemblesAgain};
 
 use crate::argument::{Argument, arguments_of, mnemonic_of};
 use crate::fault::ListFault;
@@ -42,19 +43,19 @@ pub fn register_name(register: Reg) -> &'static str
 }
 
 fn push_number(out: &mut String, n: u64) -> Result<(), AllocError>
-    ensures { OnOk result (string_bytes out.new ≡ string_bytes out.old ++ decimal n) }
+    ensures { OnOk result (Appends out.old out.new (decimal n)) }
 {
     write!(out, "{n}")
 }
 
 fn push_signed(out: &mut String, n: i32) -> Result<(), AllocError>
-    ensures { OnOk result (string_bytes out.new ≡ string_bytes out.old ++ signed_decimal n) }
+    ensures { OnOk result (Appends out.old out.new (signed_decimal n)) }
 {
     write!(out, "{n}")
 }
 
 fn push_with_sign(out: &mut String, n: i32) -> Result<(), AllocError>
-    ensures { OnOk result (string_bytes out.new ≡ string_bytes out.old ++ with_sign n) }
+    ensures { OnOk result (Appends out.old out.new (with_sign n)) }
 {
     if n >= 0 {
         out.push_str("+")?;
@@ -63,7 +64,7 @@ fn push_with_sign(out: &mut String, n: i32) -> Result<(), AllocError>
 }
 
 fn push_argument(out: &mut String, argument: Argument) -> Result<(), AllocError>
-    ensures { OnOk result (string_bytes out.new ≡ string_bytes out.old ++ argument_text argument) }
+    ensures { OnOk result (Appends out.old out.new (argument_text argument)) }
 {
     match argument {
         Argument::Register(r) => out.push_str(register_name(r)),
@@ -85,7 +86,7 @@ fn push_behind(
     divider: &str,
     argument: Option<Argument>,
 ) -> Result<(), AllocError>
-    ensures { OnOk result (string_bytes out.new ≡ string_bytes out.old ++ text_behind divider.now argument) }
+    ensures { OnOk result (Appends out.old out.new (text_behind divider.now argument)) }
 {
     if let Some(argument) = argument {
         out.push_str(divider)?;
@@ -95,7 +96,7 @@ fn push_behind(
 }
 
 fn push_line(out: &mut String, insn: Insn) -> Result<(), AllocError>
-    ensures { OnOk result (string_bytes out.new ≡ string_bytes out.old ++ line_of insn) }
+    ensures { OnOk result (Appends out.old out.new (line_of insn)) }
 {
     let mnemonic = mnemonic_of(insn);
     let arguments = arguments_of(insn);
@@ -110,7 +111,7 @@ fn push_line(out: &mut String, insn: Insn) -> Result<(), AllocError>
 // Writes the line of the instruction that begins at a slot, and answers the slot after it.
 fn push_next(out: &mut String, bytes: &[u8], slot: usize) -> Result<usize, ListFault>
     requires { 8 * slot < length bytes.now }
-    ensures next { IfOk result (IsNext bytes.now slot (string_bytes out.old) (string_bytes out.new)) }
+    ensures is { IfOk result (IsNext bytes.now slot (string_bytes out.old) (string_bytes out.new)) }
     ensures fault { IfErr result (IsFaultAt bytes.now slot) }
 {
     match decode_at(bytes, slot) {
@@ -134,7 +135,7 @@ fn push_next(out: &mut String, bytes: &[u8], slot: usize) -> Result<usize, ListF
 /// growth of the text was refused.
 pub fn listing(alloc: Global, bytes: &[u8]) -> Result<String, ListFault>
     ensures text { IfOk result (λ text. Lists bytes.now (string_bytes text)) }
-    ensures assembles { IfOk result (λ text. length bytes.now ≤ 8 * 4096 → Assembles (string_bytes text) (Ok bytes.now)) }
+    ensures assembles { IfOk result (λ text. AssemblesAgain bytes.now (string_bytes text)) }
     ensures fault { IfErr result (λ e. IsListFault bytes.now e) }
 {
     let mut out = String::new(alloc);

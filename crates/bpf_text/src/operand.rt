@@ -17,10 +17,15 @@ ghost use Rattle.bpf_text.specs.Operands.{
   item_as,
   item_if,
   is_other_kind,
-  arguments_from,
   items_as,
 };
-ghost use Rattle.bpf_text.specs.Names.{item_named, given_named};
+ghost use Rattle.bpf_text.specs.Names.{
+  item_named,
+  items_named,
+  given_named,
+  given_if_named,
+  all_given_named,
+};
 ghost use Rattle.bpf_text.specs.Tables.{tables};
 
 use crate::argument::Argument;
@@ -43,9 +48,9 @@ pub enum Given<N> {
     LongTo(N),
 }
 
-type Reading<'a> = Result<Given<&'a [u8]>, AsmFaultKind>;
+type GivenOrFault<'a> = Result<Given<&'a [u8]>, AsmFaultKind>;
 
-fn if_of_kind<'a>(is_of_kind: bool, argument: Option<Argument>) -> Reading<'a>
+fn if_of_kind<'a>(is_of_kind: bool, argument: Option<Argument>) -> GivenOrFault<'a>
     ensures { map_ok given_named result ≡ if_of_kind is_of_kind argument }
 {
     if !is_of_kind {
@@ -75,7 +80,7 @@ fn has_sign(figure: Figure) -> bool
     }
 }
 
-fn register_given<'a>(word: &[u8]) -> Reading<'a>
+fn register_given<'a>(word: &[u8]) -> GivenOrFault<'a>
     ensures { map_ok given_named result ≡ register_given (tables.register_named word.now) }
 {
     match register_named(word) {
@@ -84,21 +89,21 @@ fn register_given<'a>(word: &[u8]) -> Reading<'a>
     }
 }
 
-fn imm_given<'a>(figure: Figure) -> Reading<'a>
+fn imm_given<'a>(figure: Figure) -> GivenOrFault<'a>
     ensures { map_ok given_named result ≡ imm_given figure }
 {
     let imm = imm_of(figure).map(Argument::Imm);
     if_of_kind(!has_plus(figure), imm)
 }
 
-fn number_given<'a>(figure: Figure) -> Reading<'a>
+fn number_given<'a>(figure: Figure) -> GivenOrFault<'a>
     ensures { map_ok given_named result ≡ number_given figure }
 {
     let number = wide_of(figure).map(Argument::Number);
     if_of_kind(!has_plus(figure), number)
 }
 
-fn memory_given<'a>(word: &[u8], offset: Figure) -> Reading<'a>
+fn memory_given<'a>(word: &[u8], offset: Figure) -> GivenOrFault<'a>
     ensures { map_ok given_named result ≡ memory_given (tables.register_named word.now) offset }
 {
     match register_named(word) {
@@ -110,76 +115,52 @@ fn memory_given<'a>(word: &[u8], offset: Figure) -> Reading<'a>
     }
 }
 
-fn short_given<'a>(figure: Figure) -> Reading<'a>
+fn short_given<'a>(figure: Figure) -> GivenOrFault<'a>
     ensures { map_ok given_named result ≡ short_given figure }
 {
     let distance = short_of(figure).map(|k| Argument::Distance(Distance::Short(k)));
     if_of_kind(has_sign(figure), distance)
 }
 
-fn long_given<'a>(figure: Figure) -> Reading<'a>
+fn long_given<'a>(figure: Figure) -> GivenOrFault<'a>
     ensures { map_ok given_named result ≡ long_given figure }
 {
     let distance = long_of(figure).map(|k| Argument::Distance(Distance::Long(k)));
     if_of_kind(has_sign(figure), distance)
 }
 
-fn name_as<'a>(kind: Kind, word: &'a [u8]) -> Reading<'a>
-    ensures { map_ok given_named result ≡ item_as tables kind (Item.Name word.now) }
-{
-    match kind {
-        Kind::Register | Kind::Source => register_given(word),
-        Kind::ShortWay => Ok(Given::ShortTo(word)),
-        Kind::LongWay => Ok(Given::LongTo(word)),
-        Kind::Imm | Kind::Number | Kind::Memory => Err(AsmFaultKind::Operand),
-    }
-}
-
-fn number_as<'a>(kind: Kind, figure: Figure) -> Reading<'a>
-    ensures { map_ok given_named result ≡ item_as tables kind (Item.Number figure) }
-{
-    match kind {
-        Kind::Source | Kind::Imm => imm_given(figure),
-        Kind::Number => number_given(figure),
-        Kind::ShortWay => short_given(figure),
-        Kind::LongWay => long_given(figure),
-        Kind::Register | Kind::Memory => Err(AsmFaultKind::Operand),
-    }
-}
-
-fn item_as<'a>(kind: Kind, item: Item<&'a [u8]>) -> Reading<'a>
+fn item_as<'a>(kind: Kind, item: Item<&'a [u8]>) -> GivenOrFault<'a>
     ensures { map_ok given_named result ≡ item_as tables kind (item_named item.entry) }
 {
-    match item {
-        Item::Name(word) => name_as(kind, word),
-        Item::Number(figure) => number_as(kind, figure),
-        Item::Memory(word, offset) => match kind {
-            Kind::Memory => memory_given(word, offset),
-            _ => Err(AsmFaultKind::Operand),
-        },
+    match (kind, item) {
+        (Kind::Register | Kind::Source, Item::Name(word)) => register_given(word),
+        (Kind::ShortWay, Item::Name(word)) => Ok(Given::ShortTo(word)),
+        (Kind::LongWay, Item::Name(word)) => Ok(Given::LongTo(word)),
+        (Kind::Source | Kind::Imm, Item::Number(figure)) => imm_given(figure),
+        (Kind::Number, Item::Number(figure)) => number_given(figure),
+        (Kind::ShortWay, Item::Number(figure)) => short_given(figure),
+        (Kind::LongWay, Item::Number(figure)) => long_given(figure),
+        (Kind::Memory, Item::Memory(word, offset)) => memory_given(word, offset),
+        _ => Err(AsmFaultKind::Operand),
     }
 }
 
+// An operand stands where one is wanted, and nowhere else.
 fn item_if<'a>(
     kind: Option<Kind>,
     item: Option<Item<&'a [u8]>>,
 ) -> Result<Option<Given<&'a [u8]>>, AsmFaultKind>
-    ensures { map_ok (option_map given_named) result ≡ item_if tables kind (option_map item_named item.entry) }
+    ensures { given_if_named result ≡ item_if tables kind (option_map item_named item.entry) }
 {
-    match kind {
-        Some(kind) => match item {
-            Some(item) => Ok(Some(item_as(kind, item)?)),
-            None => Err(AsmFaultKind::Operand),
-        },
-        None => match item {
-            Some(_) => Err(AsmFaultKind::Operand),
-            None => Ok(None),
-        },
+    match (kind, item) {
+        (Some(kind), Some(item)) => Ok(Some(item_as(kind, item)?)),
+        (None, None) => Ok(None),
+        _ => Err(AsmFaultKind::Operand),
     }
 }
 
 fn is_other_kind(given: Result<Option<Given<&[u8]>>, AsmFaultKind>) -> bool
-    ensures { result ≡ is_other_kind (map_ok (option_map given_named) given.entry) }
+    ensures { result ≡ is_other_kind (given_if_named given.entry) }
 {
     match given {
         Err(AsmFaultKind::Operand) => true,
@@ -192,7 +173,7 @@ pub fn items_as<'a>(
     kinds: UpToThree<Kind>,
     items: Items<'a>,
 ) -> Result<UpToThree<Given<&'a [u8]>>, AsmFaultKind>
-    ensures { map_ok (map_three given_named) result ≡ items_as tables kinds (map_three item_named items.entry) }
+    ensures { all_given_named result ≡ items_as tables kinds (items_named items.entry) }
 {
     let first = item_if(kinds.first, items.first);
     let second = item_if(kinds.second, items.second);

@@ -22,10 +22,9 @@ ghost use Rattle.bpf_text.specs.Assembly.{
   slots_of_body,
   placed_body,
 };
-ghost use Rattle.bpf_text.specs.Labels.{slot_at};
+ghost use Rattle.bpf_text.specs.Labels.{slot_at, AddsLabel};
 ghost use Rattle.bpf_text.specs.Names.{name_of, body_named, line_named, placed_named};
-ghost use Rattle.bpf_text.specs.Tokens.{Name};
-ghost use Rattle.bpf_text.specs.Reading.{labels_after, ReadsOn, IsLineFault};
+ghost use Rattle.bpf_text.specs.Reading.{AddsBody, ReadsOn, IsLineFault};
 
 use crate::fault::{AsmFault, AsmFaultKind};
 use crate::label::{Labels, add_label, label_slot};
@@ -102,7 +101,7 @@ fn note_label<'a>(
     label: Option<&'a [u8]>,
     slot: u16,
 ) -> Result<(), AllocError>
-    ensures { OnOk result ((q : Name) → slot_at labels.new q ≡ labels_after (slot_at labels.old) (name_of label.entry) slot q) }
+    ensures { OnOk result (AddsLabel labels.old labels.new (name_of label.entry) slot) }
 {
     match label {
         Some(name) => add_label(labels, name, slot),
@@ -119,7 +118,7 @@ fn place<'a>(
 ) -> Result<u16, AllocError>
     ensures slots { IfOk result (λ n. n ≡ slots_of_body (body_named body.entry)) }
     ensures small { IfOk result (λ n. n ≤ 2) }
-    ensures placed { OnOk result (map placed_named placed.new.items ≡ map placed_named placed.old.items ++ placed_body line slot (body_named body.entry)) }
+    ensures placed { OnOk result (AddsBody placed.old.items placed.new.items line slot (body_named body.entry)) }
 {
     match body {
         Ok(Some(statement)) => {

@@ -1,19 +1,12 @@
-//! The instruction of a word and its arguments: the way back from `mnemonic_of` and `arguments_of`,
-//! by how many arguments there are.
+//! The instruction of a word and its arguments: the way back from `mnemonic_of` and `arguments_of`.
 
 ghost use Rattle.std.specs.Prelude.{◌≡◌};
 ghost use Rattle.bpf_text.specs.Statements.{
-  register_in,
   operand_in,
-  imm_in,
-  number_in,
-  memory_in,
-  short_in,
-  long_in,
   insn_of_none,
   insn_of_one,
-  insn_of_register,
-  insn_of_memory,
+  load_of,
+  store_of,
   insn_of_two,
   insn_of_three,
   insn_of,
@@ -24,66 +17,12 @@ use crate::mnemonic::Mnemonic;
 use crate::three::UpToThree;
 use bpf_insn::{Distance, Insn, Operand, Reg, WideValue};
 
-fn register_in(argument: Argument) -> Option<Reg>
-    ensures { result ≡ register_in argument }
-{
-    match argument {
-        Argument::Register(r) => Some(r),
-        _ => None,
-    }
-}
-
 fn operand_in(argument: Argument) -> Option<Operand>
     ensures { result ≡ operand_in argument }
 {
     match argument {
         Argument::Register(r) => Some(Operand::Register(r)),
         Argument::Imm(k) => Some(Operand::Imm(k)),
-        _ => None,
-    }
-}
-
-fn imm_in(argument: Argument) -> Option<i32>
-    ensures { result ≡ imm_in argument }
-{
-    match argument {
-        Argument::Imm(k) => Some(k),
-        _ => None,
-    }
-}
-
-fn number_in(argument: Argument) -> Option<u64>
-    ensures { result ≡ number_in argument }
-{
-    match argument {
-        Argument::Number(n) => Some(n),
-        _ => None,
-    }
-}
-
-fn memory_in(argument: Argument) -> Option<(Reg, i16)>
-    ensures { result ≡ memory_in argument }
-{
-    match argument {
-        Argument::Memory(r, k) => Some((r, k)),
-        _ => None,
-    }
-}
-
-fn short_in(argument: Argument) -> Option<i16>
-    ensures { result ≡ short_in argument }
-{
-    match argument {
-        Argument::Distance(Distance::Short(k)) => Some(k),
-        _ => None,
-    }
-}
-
-fn long_in(argument: Argument) -> Option<i32>
-    ensures { result ≡ long_in argument }
-{
-    match argument {
-        Argument::Distance(Distance::Long(k)) => Some(k),
         _ => None,
     }
 }
@@ -97,57 +36,46 @@ fn insn_of_none(mnemonic: Mnemonic) -> Option<Insn>
     }
 }
 
-fn insn_of_one(mnemonic: Mnemonic, first: Argument) -> Option<Insn>
-    ensures { result ≡ insn_of_one mnemonic first }
+fn insn_of_one(mnemonic: Mnemonic, argument: Argument) -> Option<Insn>
+    ensures { result ≡ insn_of_one mnemonic argument }
 {
-    match mnemonic {
-        Mnemonic::Neg(bits) => {
-            let dst = register_in(first)?;
-            Some(Insn::Neg { bits, dst })
-        }
-        Mnemonic::End(order, size) => {
-            let dst = register_in(first)?;
+    match (mnemonic, argument) {
+        (Mnemonic::Neg(bits), Argument::Register(dst)) => Some(Insn::Neg { bits, dst }),
+        (Mnemonic::End(order, size), Argument::Register(dst)) => {
             Some(Insn::End { order, size, dst })
         }
-        Mnemonic::Jump => {
-            let distance = Distance::Short(short_in(first)?);
-            Some(Insn::Jump { distance })
-        }
-        Mnemonic::JumpLong => {
-            let distance = Distance::Long(long_in(first)?);
-            Some(Insn::Jump { distance })
-        }
-        Mnemonic::Call => {
-            let helper = imm_in(first)?;
-            Some(Insn::Call { helper })
-        }
+        (Mnemonic::Jump, Argument::Distance(Distance::Short(k))) => Some(Insn::Jump {
+            distance: Distance::Short(k),
+        }),
+        (Mnemonic::JumpLong, Argument::Distance(Distance::Long(k))) => Some(Insn::Jump {
+            distance: Distance::Long(k),
+        }),
+        (Mnemonic::Call, Argument::Imm(helper)) => Some(Insn::Call { helper }),
         _ => None,
     }
 }
 
-// Behind a register.
-fn insn_of_register(mnemonic: Mnemonic, dst: Reg, second: Argument) -> Option<Insn>
-    ensures { result ≡ insn_of_register mnemonic dst second }
+// Arithmetic, and what is loaded into a register.
+fn load_of(mnemonic: Mnemonic, dst: Reg, argument: Argument) -> Option<Insn>
+    ensures { result ≡ load_of mnemonic dst argument }
 {
-    match mnemonic {
-        Mnemonic::Alu(bits, op) => {
-            let src = operand_in(second)?;
+    match (mnemonic, argument) {
+        (Mnemonic::Alu(bits, op), argument) => {
+            let src = operand_in(argument)?;
             Some(Insn::Alu { bits, op, dst, src })
         }
-        Mnemonic::Mov(bits) => {
-            let src = operand_in(second)?;
+        (Mnemonic::Mov(bits), argument) => {
+            let src = operand_in(argument)?;
             Some(Insn::Mov { bits, dst, src })
         }
-        Mnemonic::MovSx(extension) => {
-            let src = register_in(second)?;
+        (Mnemonic::MovSx(extension), Argument::Register(src)) => {
             Some(Insn::MovSx {
                 extension,
                 dst,
                 src,
             })
         }
-        Mnemonic::Load(kind) => {
-            let (src, offset) = memory_in(second)?;
+        (Mnemonic::Load(kind), Argument::Memory(src, offset)) => {
             Some(Insn::Load {
                 kind,
                 dst,
@@ -155,25 +83,24 @@ fn insn_of_register(mnemonic: Mnemonic, dst: Reg, second: Argument) -> Option<In
                 offset,
             })
         }
-        Mnemonic::LoadNumber => {
-            let value = WideValue::Number(number_in(second)?);
-            Some(Insn::Wide { dst, value })
-        }
-        Mnemonic::LoadMap => {
-            let value = WideValue::Map(imm_in(second)?);
-            Some(Insn::Wide { dst, value })
-        }
+        (Mnemonic::LoadNumber, Argument::Number(n)) => Some(Insn::Wide {
+            dst,
+            value: WideValue::Number(n),
+        }),
+        (Mnemonic::LoadMap, Argument::Imm(k)) => Some(Insn::Wide {
+            dst,
+            value: WideValue::Map(k),
+        }),
         _ => None,
     }
 }
 
-// Behind an address.
-fn insn_of_memory(mnemonic: Mnemonic, dst: Reg, offset: i16, second: Argument) -> Option<Insn>
-    ensures { result ≡ insn_of_memory mnemonic dst offset second }
+// What is stored at an address.
+fn store_of(mnemonic: Mnemonic, dst: Reg, offset: i16, argument: Argument) -> Option<Insn>
+    ensures { result ≡ store_of mnemonic dst offset argument }
 {
-    match mnemonic {
-        Mnemonic::StoreImm(size) => {
-            let imm = imm_in(second)?;
+    match (mnemonic, argument) {
+        (Mnemonic::StoreImm(size), Argument::Imm(imm)) => {
             Some(Insn::StoreImm {
                 size,
                 dst,
@@ -181,8 +108,7 @@ fn insn_of_memory(mnemonic: Mnemonic, dst: Reg, offset: i16, second: Argument) -
                 imm,
             })
         }
-        Mnemonic::Store(size) => {
-            let src = register_in(second)?;
+        (Mnemonic::Store(size), Argument::Register(src)) => {
             Some(Insn::Store {
                 size,
                 dst,
@@ -190,8 +116,7 @@ fn insn_of_memory(mnemonic: Mnemonic, dst: Reg, offset: i16, second: Argument) -
                 offset,
             })
         }
-        Mnemonic::Atomic(op, size) => {
-            let src = register_in(second)?;
+        (Mnemonic::Atomic(op, size), Argument::Register(src)) => {
             Some(Insn::Atomic {
                 op,
                 size,
@@ -208,8 +133,8 @@ fn insn_of_two(mnemonic: Mnemonic, first: Argument, second: Argument) -> Option<
     ensures { result ≡ insn_of_two mnemonic first second }
 {
     match first {
-        Argument::Register(dst) => insn_of_register(mnemonic, dst, second),
-        Argument::Memory(dst, offset) => insn_of_memory(mnemonic, dst, offset, second),
+        Argument::Register(dst) => load_of(mnemonic, dst, second),
+        Argument::Memory(dst, offset) => store_of(mnemonic, dst, offset, second),
         _ => None,
     }
 }
@@ -222,28 +147,25 @@ fn insn_of_three(
 ) -> Option<Insn>
     ensures { result ≡ insn_of_three mnemonic first second third }
 {
-    match mnemonic {
-        Mnemonic::JumpIf(bits, condition) => {
-            let left = register_in(first)?;
-            let right = operand_in(second)?;
-            let offset = short_in(third)?;
-            Some(Insn::JumpIf {
-                bits,
-                condition,
-                left,
-                right,
-                offset,
-            })
-        }
-        Mnemonic::LoadCell => {
-            let dst = register_in(first)?;
-            let array = imm_in(second)?;
-            let offset = imm_in(third)?;
-            Some(Insn::Wide {
-                dst,
-                value: WideValue::Cell { array, offset },
-            })
-        }
+    let Argument::Register(register) = first else {
+        return None;
+    };
+    match (mnemonic, second, third) {
+        (Mnemonic::JumpIf(bits, condition), second, Argument::Distance(Distance::Short(offset))) =>
+            {
+                let right = operand_in(second)?;
+                Some(Insn::JumpIf {
+                    bits,
+                    condition,
+                    left: register,
+                    right,
+                    offset,
+                })
+            }
+        (Mnemonic::LoadCell, Argument::Imm(array), Argument::Imm(offset)) => Some(Insn::Wide {
+            dst: register,
+            value: WideValue::Cell { array, offset },
+        }),
         _ => None,
     }
 }
@@ -252,23 +174,13 @@ fn insn_of_three(
 pub fn insn_of(mnemonic: Mnemonic, arguments: UpToThree<Argument>) -> Option<Insn>
     ensures { result ≡ insn_of mnemonic arguments }
 {
-    match arguments.first {
-        None => match arguments.second {
-            None => match arguments.third {
-                None => insn_of_none(mnemonic),
-                Some(_) => None,
-            },
-            Some(_) => None,
-        },
-        Some(first) => match arguments.second {
-            None => match arguments.third {
-                None => insn_of_one(mnemonic, first),
-                Some(_) => None,
-            },
-            Some(second) => match arguments.third {
-                None => insn_of_two(mnemonic, first, second),
-                Some(third) => insn_of_three(mnemonic, first, second, third),
-            },
-        },
+    match (arguments.first, arguments.second, arguments.third) {
+        (None, None, None) => insn_of_none(mnemonic),
+        (Some(first), None, None) => insn_of_one(mnemonic, first),
+        (Some(first), Some(second), None) => insn_of_two(mnemonic, first, second),
+        (Some(first), Some(second), Some(third)) => {
+            insn_of_three(mnemonic, first, second, third)
+        }
+        _ => None,
     }
 }
