@@ -51,7 +51,11 @@ label_slot s [] name = None
 label_slot s (l ∷ ls) name =
     if is_label name l.label then Some s else label_slot (s + slots_of_body l.body) ls name
 
-abbrev pub has_slot : (Name → Option ℕ) → Option Name → Bool
+-- where a label stands
+abbrev pub SlotOf : Type 0
+SlotOf = Name → Option ℕ
+
+abbrev pub has_slot : SlotOf → Option Name → Bool
 has_slot slot_of None = false
 has_slot slot_of (Some name) = is_some (slot_of name)
 
@@ -114,21 +118,21 @@ abbrev pub long_distance : ℤ → Option Argument
 long_distance z = if in_field 31 z then Some (Distance (Long z)) else None
 
 -- slots are counted from the instruction after the jump
-abbrev pub slots_to : (Name → Option ℕ) → ℕ → Name → OrFault ℤ
+abbrev pub slots_to : SlotOf → ℕ → Name → OrFault ℤ
 slots_to slot_of s name = needs kind.Label (slot_of name) >>? λ t. Ok (pos t -ℤ pos (s + 1))
 
-abbrev pub argument_at : (Name → Option ℕ) → ℕ → Given Name → OrFault Argument
+abbrev pub argument_at : SlotOf → ℕ → Given Name → OrFault Argument
 argument_at slot_of s (given.Argument a) = Ok a
 argument_at slot_of s (given.ShortTo name) =
     slots_to slot_of s name >>? λ z. needs kind.Range (short_distance z)
 argument_at slot_of s (given.LongTo name) =
     slots_to slot_of s name >>? λ z. needs kind.Range (long_distance z)
 
-abbrev pub argument_if : (Name → Option ℕ) → ℕ → Option (Given Name) → OrFault (Option Argument)
+abbrev pub argument_if : SlotOf → ℕ → Option (Given Name) → OrFault (Option Argument)
 argument_if slot_of s None = Ok None
 argument_if slot_of s (Some g) = map_ok Some (argument_at slot_of s g)
 
-abbrev pub arguments_at : (Name → Option ℕ) → ℕ → UpToThree (Given Name) → OrFault (UpToThree Argument)
+abbrev pub arguments_at : SlotOf → ℕ → UpToThree (Given Name) → OrFault (UpToThree Argument)
 arguments_at slot_of s g =
     let a = argument_if slot_of s g.first in
     let b = argument_if slot_of s g.second in
@@ -136,7 +140,7 @@ arguments_at slot_of s g =
     in_turn a b c
 
 -- the instruction with this word and these arguments
-abbrev pub insn_at : Vocabulary → (Name → Option ℕ) → Placed → OrFault Insn
+abbrev pub insn_at : Vocabulary → SlotOf → Placed → OrFault Insn
 insn_at v slot_of p =
     arguments_at slot_of p.slot p.statement.arguments >>? λ a.
     needs kind.Operand (v.insn_of p.statement.mnemonic a)
@@ -150,7 +154,7 @@ bytes_onto n (Err e) later = Err (at_line n e)
 bytes_onto n (Ok i) later = onto_bytes (encoding i) later
 
 -- the encodings of the statements, or the first that can't jump where it should
-abbrev pub bytes_of_placed : Vocabulary → (Name → Option ℕ) → List Placed → BytesOrFault
+abbrev pub bytes_of_placed : Vocabulary → SlotOf → List Placed → BytesOrFault
 bytes_of_placed v slot_of [] = Ok []
 bytes_of_placed v slot_of (p ∷ ps) =
     bytes_onto p.line (insn_at v slot_of p) (bytes_of_placed v slot_of ps)

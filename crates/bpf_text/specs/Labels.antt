@@ -19,4 +19,5 @@ labels_after slot_of None s q = slot_of q
 labels_after slot_of (Some name) s q = if bytes_eq name q then Some s else slot_of q
 
 abbrev pub AddsLabel : Labels → Labels → Option Name → ℕ → Type 0
-AddsLabel before after label s = (q : Name) → slot_at after q ≡ labels_after (slot_at before) label s q
+AddsLabel before after label s =
+    (q : Name) → slot_at after q ≡ labels_after (slot_at before) label s q

@@ -44,16 +44,22 @@ item_named (item.Name w) = item.Name w.now
 item_named (item.Number n) = item.Number n
 item_named (item.Memory w n) = item.Memory w.now n
 
+abbrev pub TokenBytes : Type 0
+TokenBytes = Bor (List (Token Bytes))
+
 abbrev pub items_named : UpToThree (Item Bytes) → Items
 items_named i = map_three item_named i
 
-abbrev pub front_named : Item Bytes × Bor (List (Token Bytes)) → Item Name × Tokens
+abbrev pub items_if_named : Option (UpToThree (Item Bytes)) → Option Items
+items_if_named o = option_map items_named o
+
+abbrev pub front_named : Item Bytes × TokenBytes → Item Name × Tokens
 front_named p = (item_named p.0, tokens_named p.1.now)
 
-abbrev pub after_named : Option (Item Bytes) × Bor (List (Token Bytes)) → Option (Item Name) × Tokens
+abbrev pub after_named : Option (Item Bytes) × TokenBytes → Option (Item Name) × Tokens
 after_named p = (option_map item_named p.0, tokens_named p.1.now)
 
-abbrev pub split_named : Option Bytes × Bor (List (Token Bytes)) → Option Name × Tokens
+abbrev pub split_named : Option Bytes × TokenBytes → Option Name × Tokens
 split_named p = (name_of p.0, tokens_named p.1.now)
 
 abbrev pub given_named : Given Bytes → Given Name
@@ -70,12 +76,18 @@ all_given_named r = map_ok (map_three given_named) r
 abbrev pub statement_named : statements.Statement Bytes → Statement
 statement_named s = record { mnemonic = s.mnemonic; arguments = map_three given_named s.arguments }
 
-abbrev pub body_named : OrFault (Option (statements.Statement Bytes)) → Body
+abbrev pub BodyBytes : Type 0
+BodyBytes = OrFault (Option (statements.Statement Bytes))
+
+abbrev pub body_named : BodyBytes → Body
 body_named (Ok o) = Ok (option_map statement_named o)
 body_named (Err e) = Err e
 
 abbrev pub line_named : the_line.Line Bytes → Line
 line_named l = record { label = name_of l.label; body = body_named l.body }
 
-abbrev pub placed_named : Placed Bytes → Placed Name
+abbrev pub PlacedBytes : Type 0
+PlacedBytes = Placed Bytes
+
+abbrev pub placed_named : PlacedBytes → Placed Name
 placed_named p = record { line = p.line; slot = p.slot; statement = statement_named p.statement }

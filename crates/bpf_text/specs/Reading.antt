@@ -3,19 +3,18 @@ use Rattle.std.specs.Prelude.{◌≡◌, ℕ, ◌+◌, ◌≤◌, ◌⊎◌, Lis
 use Rattle.std.specs.Vec.{vec_items}
 use Rattle.bpf_text.specs.declared.fault.AsmFault.{AsmFault}
 use Rattle.bpf_text.specs.declared.fault.AsmFault.TheVariants.{At, Memory}
-use Rattle.bpf_text.specs.declared.scan.Placed as the_placed
 use Rattle.bpf_text.specs.declared.scan.Reading as reader
 use Rattle.bpf_text.specs.Assembly.{BytesOrFault, slots_in, label_slot, line_fault, first_fault, placed, placed_body, bytes_of_placed, assembly_of}
 use Rattle.bpf_text.specs.Labels.{slot_at}
-use Rattle.bpf_text.specs.Lines.{Line, Body, lines_in}
-use Rattle.bpf_text.specs.Names.{Bytes, placed_named}
+use Rattle.bpf_text.specs.Lines.{Line, lines_in}
+use Rattle.bpf_text.specs.Names.{BodyBytes, body_named, PlacedBytes, placed_named}
 use Rattle.bpf_text.specs.Tables.{tables}
 use Rattle.bpf_text.specs.Tokens.{Name}
 
 -- a body's statement, if it has one, is noted at the end
-abbrev pub AddsBody : List (the_placed.Placed Bytes) → List (the_placed.Placed Bytes) → ℕ → ℕ → Body → Type 0
+abbrev pub AddsBody : List PlacedBytes → List PlacedBytes → ℕ → ℕ → BodyBytes → Type 0
 AddsBody before after n s body =
-    map placed_named after ≡ map placed_named before ++ placed_body n s body
+    map placed_named after ≡ map placed_named before ++ placed_body n s (body_named body)
 
 -- these lines have been read
 pub record HasRead (ls : List Line) (r : reader.Reading) : Type 0 where

@@ -2,7 +2,7 @@
 
 ghost use Rattle.std.specs.Prelude.{◌≡◌, option_map};
 ghost use Rattle.bpf_text.specs.Items.{item_at_front, item_after_comma, at_end, items_of};
-ghost use Rattle.bpf_text.specs.Names.{tokens_named, items_named, front_named, after_named};
+ghost use Rattle.bpf_text.specs.Names.{tokens_named, items_named, items_if_named, front_named, after_named};
 
 use crate::three::{UpToThree, none};
 use crate::token::{Figure, Sign, Token};
@@ -62,7 +62,7 @@ fn item_after_comma<'a, 't>(
 }
 
 fn at_end<'a>(items: Items<'a>, rest: &[Token<&'a [u8]>]) -> Option<Items<'a>>
-    ensures { option_map items_named result ≡ at_end (items_named items.entry) (tokens_named rest.now) }
+    ensures { items_if_named result ≡ at_end (items_named items.entry) (tokens_named rest.now) }
 {
     match rest {
         [] => Some(items),
@@ -72,7 +72,7 @@ fn at_end<'a>(items: Items<'a>, rest: &[Token<&'a [u8]>]) -> Option<Items<'a>>
 
 /// The operands that tokens spell, or `None` where they spell none.
 pub fn items_of<'a>(tokens: &[Token<&'a [u8]>]) -> Option<Items<'a>>
-    ensures { option_map items_named result ≡ items_of (tokens_named tokens.now) }
+    ensures { items_if_named result ≡ items_of (tokens_named tokens.now) }
 {
     if tokens.is_empty() {
         return Some(none());

@@ -118,7 +118,7 @@ fn place<'a>(
 ) -> Result<u16, AllocError>
     ensures slots { IfOk result (λ n. n ≡ slots_of_body (body_named body.entry)) }
     ensures small { IfOk result (λ n. n ≤ 2) }
-    ensures placed { OnOk result (AddsBody placed.old.items placed.new.items line slot (body_named body.entry)) }
+    ensures placed { OnOk result (AddsBody placed.old.items placed.new.items line slot body.entry) }
 {
     match body {
         Ok(Some(statement)) => {
