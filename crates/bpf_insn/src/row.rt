@@ -184,8 +184,9 @@ impl Form {
         }
     }
 
-    /// Its row of the table: whether it uses dst, and what it allows in src, offset and imm. DIV and
-    /// MOD, whose offset tells the signed from the unsigned, would have an `OffsetField` of theirs.
+    /// Its row of the table: whether it uses dst, and what it allows in src, offset and imm. DIV
+    /// and MOD, whose offset tells the signed from the unsigned, would have an `OffsetField` of
+    /// theirs.
     pub fn row(self) -> Row
         ensures { result ≡ row_of self }
     {

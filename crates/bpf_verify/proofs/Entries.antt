@@ -71,11 +71,11 @@ covers_operand e s bits (Register r) v x h is hv = covers_learnt e s r v x h is 
 unfoldable pub IsPart : Entry → Entry → Type 0
 IsPart e f = (s : State) → Covers e s → Covers f s
 
-value_at-join : (e f : Entry) (r : ℕ) → r < 11 → value_at (join_entries e f) r ≡ join_values (value_at e r) (value_at f r)
+pub value_at-join : (e f : Entry) (r : ℕ) → r < 11 → value_at (join_entries e f) r ≡ join_values (value_at e r) (value_at f r)
 unfolding join_entries
 value_at-join e f r lt = get_or-map-range_with_len (λ (q : ℕ). join_values (value_at e q) (value_at f q)) 0 11 r r Unusable lt (omega arith)
 
-value_at-join_past : (e f : Entry) (r : ℕ) → 11 ≤ r → value_at (join_entries e f) r ≡ Unusable
+pub value_at-join_past : (e f : Entry) (r : ℕ) → 11 ≤ r → value_at (join_entries e f) r ≡ Unusable
 unfolding join_entries
 value_at-join_past e f r le = get_or_past (map (λ (q : ℕ). join_values (value_at e q) (value_at f q)) (range_with_len 0 11)) r Unusable (omega (arith, length-map-range_with_len (λ (q : ℕ). join_values (value_at e q) (value_at f q)) 0 11))
 

@@ -24,7 +24,7 @@ use Rattle.cells.specs.Arrays.{AppShape}
 use Rattle.bpf_verify.specs.Values.{is_unusable}
 use Rattle.bpf_verify.specs.Entries.{value_of, operand_value, with_value}
 use Rattle.bpf_verify.specs.Rules.{reads_unusable}
-use Rattle.bpf_verify.specs.Transfer.{kept, with_ranges, is_register, narrowed_by, edge, edges}
+use Rattle.bpf_verify.specs.Transfer.{narrowed, with_ranges, is_register, narrowed_entry_by, edge, edges}
 use Rattle.bpf_verify.specs.Covers.{Includes, Covers}
 use Rattle.bpf_verify.proofs.Ranges.{Holds, Keeps, at_most_keeps, below_keeps}
 use Rattle.bpf_verify.proofs.Entries.{is_set, operand_set, covers_learnt, covers_operand}
@@ -53,17 +53,17 @@ narrows e s left right o x y h l r k = record {
 }
 
 narrowed_leads : (e : Entry) (s : State) (left : Reg) (right : Operand) (keep : Range → Range → Option (Range × Range)) (a b : Value) (x y : ℕ) → Covers e s → register s left ≡ Some x → operand s Bits64 right ≡ Some y → Includes a x → Includes b y
-    → ((p q : Range) → Holds p x → Holds q y → Keeps (keep p q) x y) → Leads (narrowed_by e left right keep a b) s
+    → ((p q : Range) → Holds p x → Holds q y → Keeps (keep p q) x y) → Leads (narrowed_entry_by e left right keep a b) s
 narrowed_leads e s left right keep (Num p) (Num q) x y h l r ha hb keeps = unless (is_register right left) e s (option_map (with_ranges e left right) (keep p q)) h (narrows e s left right (keep p q) x y h l r (keeps p q ha hb))
 narrowed_leads e s left right keep a b x y h l r ha hb keeps = stays e s h
 
 swapped_keeps : (o : Option (Range × Range)) (x y : ℕ) → Keeps o y x → Keeps (option_map (λ (p : Range × Range). (p.1, p.0)) o) x y
 swapped_keeps o x y k = record { pair = (k.pair.1, k.pair.0); is = rw k.is refl; first = k.second; second = k.first }
 
-taken_keeps : (x y : ℕ) → y ≤ x → (p q : Range) → Holds p x → Holds q y → Keeps (kept Bits64 jump.Ge true p q) x y
+taken_keeps : (x y : ℕ) → y ≤ x → (p q : Range) → Holds p x → Holds q y → Keeps (narrowed Bits64 jump.Ge true p q) x y
 taken_keeps x y le p q hp hq = swapped_keeps _ x y (at_most_keeps q p y x hq hp le)
 
-passed_keeps : (x y : ℕ) → x < y → (p q : Range) → Holds p x → Holds q y → Keeps (kept Bits64 jump.Ge false p q) x y
+passed_keeps : (x y : ℕ) → x < y → (p q : Range) → Holds p x → Holds q y → Keeps (narrowed Bits64 jump.Ge false p q) x y
 passed_keeps x y lt p q hp hq = below_keeps p q x y hp hq lt
 
 branch_is : (releases : ℕ) (s : State) (offset : ℤ) (j n : Option Entry) (w : Option Bool) (t : Bool) → pos 0 ≤ℤ offset → w ≡ Some t → (t ≡ true → Leads j s) → (t ≡ false → Leads n s)
@@ -82,8 +82,8 @@ jump_if_is releases shape e s left right offset forward h usable =
     let a = is_set (value_of e left) (register s left) (h (number_of left)) u.0 in
     let b = operand_set e s Bits64 right h u.1 in
     branch_is releases s offset _ _ _ (nat_le b.number a.number) forward (both_there (holds Bits64 jump.Ge) (register s left) (operand s Bits64 right) a.number b.number a.is b.is)
-    (λ t. narrowed_leads e s left right (kept Bits64 jump.Ge true) (value_of e left) (operand_value e Bits64 right) a.number b.number h a.is b.is a.included b.included (taken_keeps a.number b.number (leb-true b.number a.number t)))
-    (λ t. narrowed_leads e s left right (kept Bits64 jump.Ge false) (value_of e left) (operand_value e Bits64 right) a.number b.number h a.is b.is a.included b.included (passed_keeps a.number b.number (leb-false b.number a.number t)))
+    (λ t. narrowed_leads e s left right (narrowed Bits64 jump.Ge true) (value_of e left) (operand_value e Bits64 right) a.number b.number h a.is b.is a.included b.included (taken_keeps a.number b.number (leb-true b.number a.number t)))
+    (λ t. narrowed_leads e s left right (narrowed Bits64 jump.Ge false) (value_of e left) (operand_value e Bits64 right) a.number b.number h a.is b.is a.included b.included (passed_keeps a.number b.number (leb-false b.number a.number t)))
 
 pub jump_is : (releases : ℕ) (shape : AppShape) (e : Entry) (s : State) (offset : ℤ) → pos 0 ≤ℤ offset → Covers e s → IsOutcome releases (edges s.slot e (Jump (Short offset))) (act shape s (Jump (Short offset)))
 unfolding edges IsOutcome HasEdge

@@ -9,3 +9,5 @@ pub mod Incoming
 pub mod Sound
 pub mod Swept
 pub mod Whole
+pub mod Laws
+pub mod Inhabited

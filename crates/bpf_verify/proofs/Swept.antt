@@ -13,7 +13,7 @@ use Rattle.bpf_verify.specs.declared.edge.Edge.{Edge}
 use Rattle.bpf_verify.specs.Entries.{join_entries, opening_entry}
 use Rattle.bpf_verify.specs.Transfer.{edges}
 use Rattle.bpf_verify.specs.Accepted.{to_place, joined, join_all, edges_of, incoming, IsFine, IsAccepted}
-use Rattle.bpf_verify.specs.Sweep.{joined_with, with_edges, IsSwept}
+use Rattle.bpf_verify.specs.Sweep.{joined_with, with_edges, Joins, IsSwept}
 use Rattle.bpf_verify.proofs.Outcomes.{HasEdge}
 use Rattle.bpf_verify.proofs.Incoming.{edge_ahead}
 
@@ -93,10 +93,6 @@ swept_nowhere p k e old lt h is none = swept_more p k old old lt refl h (λ m be
 with_edges-append : (m : ℕ) (xs ys : List Edge) (o : Option Entry) → with_edges m (xs ++ ys) o ≡ with_edges m ys (with_edges m xs o)
 with_edges-append m [] ys o = refl
 with_edges-append m (x ∷ xs) ys o = with_edges-append m xs ys (if x.target == m then Some (joined_with o x.entry) else o)
-
--- these edges are joined into the entries
-abbrev pub Joins : List Edge → List (Option Entry) → List (Option Entry) → Type 0
-Joins ds old new = (m : ℕ) → m < length old → slice_index_or new m None ≡ with_edges m ds (slice_index_or old m None)
 
 pub swept_edges : (p : Program) (k : ℕ) (e : Entry) (i : Insn) (j n : Option Edge) (old mid new : List (Option Entry)) → k < length p → IsSwept p k old → slice_index_or old k None ≡ Some e → at p k ≡ Some i
     → option_to_list j ++ option_to_list n ≡ edges k e i → length mid ≡ length old → Joins (option_to_list j) old mid → length new ≡ length mid → Joins (option_to_list n) mid new → IsSwept p (suc k) new

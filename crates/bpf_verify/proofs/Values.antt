@@ -36,16 +36,16 @@ join_right a b v h = grind arith
 
 -- ---- pointers
 
-record IsPlace (size : ℕ) (z : ℤ) (n : ℕ) : Type 0 where
-  is : z ≡ pos n
-  within : n ≤ size
+pub record IsPlace (size : ℕ) (z : ℤ) (n : ℕ) : Type 0 where
+  pub is : z ≡ pos n
+  pub within : n ≤ size
 
-place_is : (size : ℕ) (z : ℤ) (n : ℕ) → place_in size z ≡ Some n → IsPlace size z n
+pub place_is : (size : ℕ) (z : ℤ) (n : ℕ) → place_in size z ≡ Some n → IsPlace size z n
 place_is size (pos m) n h = record { is = grind (arith, ints); within = grind (arith, ints) }
 place_is size (negsuc m) n h = absurd (grind (arith, ints))
 
 -- a sum of two that is there
-both_some : (o p : Option ℕ) (r : Range) → (o >>= λ lo. p >>= λ hi. Some (range lo hi)) ≡ Some r → (o ≡ Some r.lo) × (p ≡ Some r.hi)
+pub both_some : (o p : Option ℕ) (r : Range) → (o >>= λ lo. p >>= λ hi. Some (range lo hi)) ≡ Some r → (o ≡ Some r.lo) × (p ≡ Some r.hi)
 both_some None p r h = absurd cc
 both_some (Some lo) None r h = absurd cc
 both_some (Some lo) (Some hi) r h = (grind arith, grind arith)

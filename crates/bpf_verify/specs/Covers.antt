@@ -37,17 +37,28 @@ pub record IsCovered (p : Program) (s : State) : Type 0 where
   pub covers : Covers entry s
   pub place : IsSome (at p s.slot)
 
--- a step is no trap, and leads ahead to a covered state, for each reply that fits, or ends with 0 or one of the releases
+-- a step is no trap, and leads ahead to a covered state, for each reply that fits, or ends with 0
+-- or one of the releases
 abbrev pub IsSafeOutcome : Program → ℕ → State → Outcome → Type 0
 IsSafeOutcome p releases s (Going t) = (s.slot < t.slot) × IsCovered p t
-IsSafeOutcome p releases s (Asks cell op next) = (reply : ℕ) → CanReply cell op reply → (s.slot < (next reply).slot) × IsCovered p (next reply)
+IsSafeOutcome p releases s (Asks cell op next) =
+    (reply : ℕ) → CanReply cell op reply → (s.slot < (next reply).slot) × IsCovered p (next reply)
 IsSafeOutcome p releases s (Done n) = n ≤ releases
 IsSafeOutcome p releases s Trap = ⊥
 
--- from the state on nothing traps, whatever fitting replies counters give: the run ends, with 0 or a
--- release, after at most as many instructions in all as the program has slots
+-- from the state on nothing traps, whatever fitting replies counters give: the run ends, with 0 or
+-- a release, after at most as many instructions in all as the program has slots
 pub data EndsWell (p : ShapedProgram) : State → Type 0 where
-  ends : {s : State} {choice : ℕ} → step p s ≡ Done choice → choice ≤ p.shape.releases → s.count + 1 ≤ length p.code → EndsWell p s
+  ends : {s : State} {choice : ℕ} → step p s ≡ Done choice → choice ≤ p.shape.releases
+      → s.count + 1 ≤ length p.code → EndsWell p s
   goes : {s t : State} → step p s ≡ Going t → EndsWell p t → EndsWell p s
   asks : {s : State} {cell : ℕ} {op : CellOp} {next : ℕ → State} → step p s ≡ Asks cell op next
       → ((reply : ℕ) → CanReply cell op reply → EndsWell p (next reply)) → EndsWell p s
+
+-- from a state that is covered a step is safe, and the whole run ends
+abbrev pub StepsAreSafe : ShapedProgram → Type 0
+StepsAreSafe p =
+    (s : State) → IsCovered p.code s → IsSafeOutcome p.code p.shape.releases s (step p s)
+
+abbrev pub RunsEndWell : ShapedProgram → Type 0
+RunsEndWell p = (s : State) → IsCovered p.code s → s.count ≤ s.slot → EndsWell p s

@@ -11,7 +11,7 @@ use Rattle.bpf_verify.specs.declared.value.Value.{Value}
 use Rattle.bpf_verify.specs.declared.value.Value.TheVariants.{Unusable, Num, Ctx, Stk}
 use Rattle.bpf_verify.specs.declared.entry.Entry.{Entry}
 use Rattle.bpf_verify.specs.Range.{single}
-use Rattle.bpf_verify.specs.Values.{join_values}
+use Rattle.bpf_verify.specs.Values.{join_values, IsInhabitedValue}
 
 -- by the register's number
 abbrev pub value_at : Entry → ℕ → Value
@@ -33,8 +33,17 @@ with_operand e (Register r) v = with_value e r v
 
 -- register by register
 unfoldable pub join_entries : Entry → Entry → Entry
-join_entries e f = record { registers = map (λ r. join_values (value_at e r) (value_at f r)) (range_with_len 0 11) }
+join_entries e f = record {
+  registers = map (λ r. join_values (value_at e r) (value_at f r)) (range_with_len 0 11);
+}
 
 -- where a run starts: R1 is the address of the context, and R10 the top of the stack
 abbrev pub opening_entry : Entry
-opening_entry = record { registers = Unusable ∷ Ctx (single 0) ∷ Unusable ∷ Unusable ∷ Unusable ∷ Unusable ∷ Unusable ∷ Unusable ∷ Unusable ∷ Unusable ∷ Stk 0 ∷ [] }
+opening_entry = record {
+  registers = Unusable ∷ Ctx (single 0) ∷ Unusable ∷ Unusable ∷ Unusable ∷ Unusable ∷ Unusable
+      ∷ Unusable ∷ Unusable ∷ Unusable ∷ Stk 0 ∷ [];
+}
+
+-- each range in it has a number
+abbrev pub IsInhabited : Entry → Type 0
+IsInhabited e = (r : ℕ) → IsInhabitedValue (value_at e r)

@@ -1,5 +1,6 @@
 -- The rules: each is a test of an instruction, the entry of its place and the shape.
-use Rattle.std.specs.Prelude.{ℕ, ◌+◌, ℤ, pos, ◌+ℤ◌, int_le, int_lt, Option, Some, None, is_none, Bool, true, false, ◌&&◌, ◌||◌, not, nat_le, ◌==◌, if◌then◌else◌}
+use Rattle.std.specs.Prelude.{ℕ, ◌+◌, ℤ, pos, ◌+ℤ◌, int_le, int_lt, Option, Some, None, is_none}
+use Rattle.std.specs.Prelude.{Bool, true, false, ◌&&◌, ◌||◌, not, nat_le, ◌==◌, if◌then◌else◌}
 use Rattle.bpf_insn.specs.declared.operand.AluOp.{AluOp}
 use Rattle.bpf_insn.specs.declared.operand.AluOp.TheVariants as alu
 use Rattle.bpf_insn.specs.declared.operand.Bits.{Bits}
@@ -25,19 +26,24 @@ use Rattle.bpf_verify.specs.Entries.{value_at, value_of, operand_value}
 
 -- ---- V1: a register is read that is unusable, or a byte of the stack that is unset
 
--- n bytes from the place on, moved by the offset, of which one lies in the stack: no byte of the stack is ever set
+-- n bytes from the place on, moved by the offset, of which one lies in the stack: no byte of the
+-- stack is ever set
 abbrev pub meets_stack : ℕ → ℤ → ℕ → Bool
-meets_stack below offset n = int_lt offset (pos below) && int_lt (pos below) (pos (stack_size + n) +ℤ offset)
+meets_stack below offset n =
+    int_lt offset (pos below) && int_lt (pos below) (pos (stack_size + n) +ℤ offset)
 
 abbrev pub reads_unset : Value → ℤ → ℕ → Bool
 reads_unset (Stk below) offset n = meets_stack below offset n
 reads_unset v offset n = false
 
 abbrev pub reads_unusable : Entry → Insn → Bool
-reads_unusable e (Alu bits op dst src) = is_unusable (value_of e dst) || is_unusable (operand_value e bits src)
+reads_unusable e (Alu bits op dst src) =
+    is_unusable (value_of e dst) || is_unusable (operand_value e bits src)
 reads_unusable e (Mov bits dst src) = is_unusable (operand_value e bits src)
-reads_unusable e (JumpIf bits condition left right offset) = is_unusable (value_of e left) || is_unusable (operand_value e bits right)
-reads_unusable e (Load kind dst src offset) = is_unusable (value_of e src) || reads_unset (value_of e src) offset (load_count kind)
+reads_unusable e (JumpIf bits condition left right offset) =
+    is_unusable (value_of e left) || is_unusable (operand_value e bits right)
+reads_unusable e (Load kind dst src offset) =
+    is_unusable (value_of e src) || reads_unset (value_of e src) offset (load_count kind)
 reads_unusable e Exit = is_unusable (value_at e 0)
 reads_unusable e i = false
 
@@ -51,37 +57,43 @@ writes_frame i = false
 
 -- ---- V3 and V4: arithmetic with a pointer
 
--- a 64-bit add of a number to a pointer
-abbrev pub is_move : Bits → AluOp → Value → Value → Bool
-is_move Bits64 alu.Add a b = is_pointer a && is_number b
-is_move bits op a b = false
+-- a 64-bit ADD of a number to an address
+abbrev pub moves_address : Bits → AluOp → Value → Value → Bool
+moves_address Bits64 alu.Add a b = is_pointer a && is_number b
+moves_address bits op a b = false
 
 -- any other arithmetic with a pointer
 abbrev pub computes_pointer : Entry → Insn → Bool
 computes_pointer e (Alu bits op dst src) =
-    (is_pointer (value_of e dst) || is_pointer (operand_value e bits src)) && not (is_move bits op (value_of e dst) (operand_value e bits src))
+    (is_pointer (value_of e dst) || is_pointer (operand_value e bits src))
+    && not (moves_address bits op (value_of e dst) (operand_value e bits src))
 computes_pointer e i = false
 
 -- the pointer may leave its region
 abbrev pub moves_outside : Entry → Insn → Bool
 moves_outside e (Alu bits op dst src) =
-    is_move bits op (value_of e dst) (operand_value e bits src) && is_none (pointer_result bits op (value_of e dst) (operand_value e bits src))
+    moves_address bits op (value_of e dst) (operand_value e bits src)
+    && is_none (pointer_result bits op (value_of e dst) (operand_value e bits src))
 moves_outside e i = false
 
 -- ---- V5: a pointer is compared
 
 abbrev pub compares_pointer : Entry → Insn → Bool
-compares_pointer e (JumpIf bits condition left right offset) = is_pointer (value_of e left) || is_pointer (operand_value e bits right)
+compares_pointer e (JumpIf bits condition left right offset) =
+    is_pointer (value_of e left) || is_pointer (operand_value e bits right)
 compares_pointer e i = false
 
 -- ---- V6: an access of which a byte may lie outside the region
 
 -- n bytes from each place on, moved by the offset
 abbrev pub lies_in_context : Range → ℤ → ℕ → Bool
-lies_in_context places offset n = int_le (pos 0) (pos places.lo +ℤ offset) && int_le (pos (places.hi + n) +ℤ offset) (pos context_size)
+lies_in_context places offset n =
+    int_le (pos 0) (pos places.lo +ℤ offset)
+    && int_le (pos (places.hi + n) +ℤ offset) (pos context_size)
 
 abbrev pub lies_in_stack : ℕ → ℤ → ℕ → Bool
-lies_in_stack below offset n = int_le (pos below) (pos stack_size +ℤ offset) && int_le (pos n +ℤ offset) (pos below)
+lies_in_stack below offset n =
+    int_le (pos below) (pos stack_size +ℤ offset) && int_le (pos n +ℤ offset) (pos below)
 
 abbrev pub is_outside : Value → ℤ → ℕ → Bool
 is_outside (Ctx places) offset n = not (lies_in_context places offset n)
@@ -122,7 +134,7 @@ abbrev pub wrong_result : AppShape → Entry → Insn → Bool
 wrong_result shape e Exit = not (is_choice shape (value_at e 0))
 wrong_result shape e i = false
 
--- ---- V10 where the instruction isn't judged; else the first rule that fails, in the order of their numbers
+-- ---- V10 where the instruction isn't judged; else the rule with the lowest number that fails
 
 unfoldable pub first_rule : AppShape → Entry → Insn → Option Rule
 first_rule shape e i =

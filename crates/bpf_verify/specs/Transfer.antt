@@ -1,5 +1,6 @@
 -- What an instruction makes of the entry of its place, on each edge that it leads along.
-use Rattle.std.specs.Prelude.{ℕ, List, [], ◌∷◌, ◌++◌, Option, Some, None, option_map, Bool, true, false, ◌==◌, if◌then◌else◌}
+use Rattle.std.specs.Prelude.{ℕ, List, [], ◌∷◌, ◌++◌, Option, Some, None, option_map}
+use Rattle.std.specs.Prelude.{Bool, true, false, ◌==◌, if◌then◌else◌}
 use Rattle.bpf_insn.specs.declared.operand.Bits.{Bits}
 use Rattle.bpf_insn.specs.declared.operand.Bits.TheVariants.{Bits64}
 use Rattle.bpf_insn.specs.declared.operand.Condition.{Condition}
@@ -25,12 +26,12 @@ use Rattle.bpf_verify.specs.Entries.{value_of, operand_value, with_value, with_o
 abbrev pub swapped : Range × Range → Range × Range
 swapped p = (p.1, p.0)
 
--- where the condition holds, and where it doesn't; none where a range would be empty, so of two single numbers
--- one edge is left
-abbrev pub kept : Bits → Condition → Bool → Range → Range → Option (Range × Range)
-kept Bits64 Ge true a b = option_map swapped (at_most b a)
-kept Bits64 Ge false a b = below a b
-kept bits condition holds a b = Some (a, b)
+-- where the condition holds, and where it doesn't; none where a range would be empty, so of two
+-- single numbers one edge is left
+abbrev pub narrowed : Bits → Condition → Bool → Range → Range → Option (Range × Range)
+narrowed Bits64 Ge true a b = option_map swapped (at_most b a)
+narrowed Bits64 Ge false a b = below a b
+narrowed bits condition holds a b = Some (a, b)
 
 abbrev pub with_ranges : Entry → Reg → Operand → Range × Range → Entry
 with_ranges e left right p = with_operand (with_value e left (Num p.0)) right (Num p.1)
@@ -40,26 +41,33 @@ is_register (Imm k) r = false
 is_register (Register q) r = number_of q == number_of r
 
 -- of one register twice, and of a pointer, nothing is learnt
-abbrev pub narrowed_by : Entry → Reg → Operand → (Range → Range → Option (Range × Range)) → Value → Value → Option Entry
-narrowed_by e left right keep (Num a) (Num b) = if is_register right left then Some e else option_map (with_ranges e left right) (keep a b)
-narrowed_by e left right keep a b = Some e
+abbrev pub narrowed_entry_by : Entry → Reg → Operand → (Range → Range → Option (Range × Range))
+    → Value → Value → Option Entry
+narrowed_entry_by e left right leave (Num a) (Num b) =
+    if is_register right left then Some e else option_map (with_ranges e left right) (leave a b)
+narrowed_entry_by e left right leave a b = Some e
 
 -- the entry where the condition holds, or where it doesn't
-abbrev pub narrowed : Entry → Bits → Condition → Bool → Reg → Operand → Option Entry
-narrowed e bits condition holds left right = narrowed_by e left right (kept bits condition holds) (value_of e left) (operand_value e bits right)
+abbrev pub narrowed_entry : Entry → Bits → Condition → Bool → Reg → Operand → Option Entry
+narrowed_entry e bits condition holds left right =
+    narrowed_entry_by e left right (narrowed bits condition holds)
+    (value_of e left) (operand_value e bits right)
 
 -- ---- edges
 
 -- on the edge that jumps; none where it is dropped
 abbrev pub jumping : Entry → Insn → Option Entry
-jumping e (JumpIf bits condition left right offset) = narrowed e bits condition true left right
+jumping e (JumpIf bits condition left right offset) =
+    narrowed_entry e bits condition true left right
 jumping e i = Some e
 
 -- on the edge that goes on
 abbrev pub going_on : Entry → Insn → Option Entry
-going_on e (Alu bits op dst src) = Some (with_value e dst (alu_value bits op (value_of e dst) (operand_value e bits src)))
+going_on e (Alu bits op dst src) =
+    Some (with_value e dst (alu_value bits op (value_of e dst) (operand_value e bits src)))
 going_on e (Mov bits dst src) = Some (with_value e dst (operand_value e bits src))
-going_on e (JumpIf bits condition left right offset) = narrowed e bits condition false left right
+going_on e (JumpIf bits condition left right offset) =
+    narrowed_entry e bits condition false left right
 going_on e (Load kind dst src offset) = Some (with_value e dst (loaded_value kind))
 going_on e i = Some e
 
@@ -70,6 +78,12 @@ edge target e = []
 abbrev pub next_target : ℕ → Insn → Option ℕ
 next_target s i = if goes_on i then Some (next_of s i) else None
 
+abbrev pub jump_edge : ℕ → Entry → Insn → List Edge
+jump_edge s e i = edge (target_of s i) (jumping e i)
+
+abbrev pub next_edge : ℕ → Entry → Insn → List Edge
+next_edge s e i = edge (next_target s i) (going_on e i)
+
 -- the edges that aren't dropped, that which jumps first
 unfoldable pub edges : ℕ → Entry → Insn → List Edge
-edges s e i = edge (target_of s i) (jumping e i) ++ edge (next_target s i) (going_on e i)
+edges s e i = jump_edge s e i ++ next_edge s e i

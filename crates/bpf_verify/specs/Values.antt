@@ -1,5 +1,7 @@
--- What the verifier knows of a register: nothing, the range of its number, or the region that it points into.
-use Rattle.std.specs.Prelude.{ℕ, ℤ, pos, ◌+ℤ◌, ◌-ℤ◌, unsigned_abs, int_le, Option, Some, None, option_map, Bool, true, false, ◌&&◌, ◌==◌, if◌then◌else◌}
+-- What the verifier knows of a register: nothing, the range of its number, or the region that it
+-- points into.
+use Rattle.std.specs.Prelude.{ℕ, ℤ, pos, ◌+ℤ◌, ◌-ℤ◌, unsigned_abs, int_le, Option, Some, None}
+use Rattle.std.specs.Prelude.{option_map, Bool, true, false, ◌&&◌, ◌==◌, if◌then◌else◌}
 use Rattle.bpf_insn.specs.declared.operand.AluOp.{AluOp}
 use Rattle.bpf_insn.specs.declared.operand.AluOp.TheVariants.{Add}
 use Rattle.bpf_insn.specs.declared.operand.Bits.{Bits}
@@ -12,7 +14,8 @@ use Rattle.bpf_semantics.specs.Reads.{load_count}
 use Rattle.bpf_verify.specs.declared.range.Range.{Range}
 use Rattle.bpf_verify.specs.declared.value.Value.{Value}
 use Rattle.bpf_verify.specs.declared.value.Value.TheVariants.{Unusable, Num, Ctx, Stk}
-use Rattle.bpf_verify.specs.Range.{range, is_single, full, of_bytes, hull, result_of, signed_view, least_distance, greatest_distance}
+use Rattle.bpf_verify.specs.Range.{range, is_single, full, of_bytes, hull, result_of, HasNumbers}
+use Rattle.bpf_verify.specs.Range.{signed_view, least_distance, greatest_distance}
 
 abbrev pub is_unusable : Value → Bool
 is_unusable Unusable = true
@@ -26,6 +29,12 @@ is_pointer v = false
 abbrev pub is_number : Value → Bool
 is_number (Num numbers) = true
 is_number v = false
+
+-- its range, if it has one, has a number
+abbrev pub IsInhabitedValue : Value → Type 0
+IsInhabitedValue (Num numbers) = HasNumbers numbers
+IsInhabitedValue (Ctx places) = HasNumbers places
+IsInhabitedValue v = Unit {0}
 
 -- ---- pointers move within their region
 
@@ -42,7 +51,8 @@ moved_in_context places by =
 
 -- bytes below the stack's top; only a single number is added there
 abbrev pub moved_in_stack : ℕ → Range → Option ℕ
-moved_in_stack below by = if is_single by then place_in stack_size (pos below -ℤ signed_view by.lo) else None
+moved_in_stack below by =
+    if is_single by then place_in stack_size (pos below -ℤ signed_view by.lo) else None
 
 -- a pointer and what is added to it; none where the sum may leave the region
 abbrev pub pointer_sum : Value → Value → Option Value

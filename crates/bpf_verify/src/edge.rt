@@ -1,5 +1,6 @@
-//! The edges of an instruction: where it leads, and with which entry. There are at most two, one that
-//! jumps and one that goes on to the instruction after it; an edge that no run takes is dropped.
+//! The edges of an instruction: where it leads, and with which entry. There are at most two, one
+//! that jumps and one that goes on to the instruction after it; an edge that no run takes is
+//! dropped.
 
 use crate::entry::Entry;
 

@@ -2,7 +2,6 @@
 //! small and are copied; one operation reads a register, one writes it, and one joins two entries.
 
 ghost use Rattle.std.specs.Prelude.{◌≡◌};
-ghost use Rattle.bpf_insn.specs.Words as words;
 ghost use Rattle.bpf_verify.specs.Entries as entries;
 
 use crate::range::Range;
@@ -36,7 +35,7 @@ impl Entry {
         ensures { result ≡ entries.operand_value self.now bits src }
     {
         match src {
-            Operand::Imm(k) => Value::Num(Range::single(immediate(bits, k))),
+            Operand::Imm(k) => Value::Num(Range::single(bits.immediate(k))),
             Operand::Register(r) => self.value(r),
         }
     }
@@ -67,15 +66,5 @@ impl Entry {
             registers[r] = self.registers[r].join(other.registers[r]);
         }
         Entry { registers }
-    }
-}
-
-/// An imm as an operand.
-fn immediate(bits: Bits, imm: i32) -> u64
-    ensures { result ≡ words.immediate bits imm }
-{
-    match bits {
-        Bits::Bits64 => (imm as i64).cast_unsigned(),
-        Bits::Bits32 => imm.cast_unsigned() as u64,
     }
 }

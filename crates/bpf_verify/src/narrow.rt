@@ -10,8 +10,14 @@ use crate::value::Value;
 use bpf_insn::{Bits, Condition, Operand, Reg};
 
 /// What is left of two ranges where the condition holds, or where it doesn't.
-fn kept(bits: Bits, condition: Condition, holds: bool, a: Range, b: Range) -> Option<(Range, Range)>
-    ensures { result ≡ transfer.kept bits condition holds a b }
+fn narrowed(
+    bits: Bits,
+    condition: Condition,
+    holds: bool,
+    a: Range,
+    b: Range,
+) -> Option<(Range, Range)>
+    ensures { result ≡ transfer.narrowed bits condition holds a b }
 {
     match (bits, condition, holds) {
         (Bits::Bits64, Condition::Ge, true) => match b.at_most(a) {
@@ -33,7 +39,7 @@ fn is_register(src: Operand, r: Reg) -> bool
 }
 
 /// The entry where the condition holds, or where it doesn't; none where no run comes.
-pub fn narrowed(
+pub fn narrowed_entry(
     e: &Entry,
     bits: Bits,
     condition: Condition,
@@ -41,11 +47,11 @@ pub fn narrowed(
     left: Reg,
     right: Operand,
 ) -> Option<Entry>
-    ensures { result ≡ transfer.narrowed e.now bits condition holds left right }
+    ensures { result ≡ transfer.narrowed_entry e.now bits condition holds left right }
 {
     match (e.value(left), e.operand(bits, right)) {
         (Value::Num(a), Value::Num(b)) if !is_register(right, left) => {
-            match kept(bits, condition, holds, a, b) {
+            match narrowed(bits, condition, holds, a, b) {
                 Some((a, b)) => Some(
                     e.with(left, Value::Num(a))
                         .with_operand(right, Value::Num(b)),

@@ -1,5 +1,5 @@
-//! Ranges of 64-bit numbers, and what is computed with them: one operation a function, each equal to
-//! the formula of its name. No range that is computed from ranges with numbers in them is empty.
+//! Ranges of 64-bit numbers, and what is computed with them: one operation a function, each equal
+//! to the formula of its name. `no_range_is_empty` says that each has a number in it.
 
 ghost use Rattle.std.specs.Prelude.{◌≡◌, ◌<◌, ◌≤◌, ◌^◌, ℤ, pos, negsuc, ◌≤ℤ◌};
 ghost use Rattle.bpf_verify.specs.Range as ranges;

@@ -1,5 +1,6 @@
-//! The rules: each is a test of an instruction and the entry of its place. `first_rule` asks them in
-//! the order of their codes, once it is known that the instruction is one of those that are judged.
+//! The rules: each is a test of an instruction and the entry of its place. `first_rule` asks them
+//! in the order of their codes, once it is known that the instruction is one of those that are
+//! judged.
 
 ghost use Rattle.std.specs.Prelude.{◌≡◌};
 ghost use Rattle.bpf_verify.specs.Rules as rules;
@@ -45,9 +46,9 @@ fn writes_frame(insn: Insn) -> bool
     }
 }
 
-/// Whether it is a 64-bit add of a number to a pointer.
-fn is_move(bits: Bits, op: AluOp, a: Value, b: Value) -> bool
-    ensures { result ≡ rules.is_move bits op a b }
+/// Whether it is a 64-bit ADD of a number to an address.
+fn moves_address(bits: Bits, op: AluOp, a: Value, b: Value) -> bool
+    ensures { result ≡ rules.moves_address bits op a b }
 {
     match (bits, op) {
         (Bits::Bits64, AluOp::Add) => a.is_pointer() && b.is_number(),
@@ -62,7 +63,7 @@ fn computes_pointer(e: &Entry, insn: Insn) -> bool
         Insn::Alu { bits, op, dst, src } => {
             let a = e.value(dst);
             let b = e.operand(bits, src);
-            (a.is_pointer() || b.is_pointer()) && !is_move(bits, op, a, b)
+            (a.is_pointer() || b.is_pointer()) && !moves_address(bits, op, a, b)
         }
         _ => false,
     }
@@ -75,7 +76,7 @@ fn moves_outside(e: &Entry, insn: Insn) -> bool
         Insn::Alu { bits, op, dst, src } => {
             let a = e.value(dst);
             let b = e.operand(bits, src);
-            is_move(bits, op, a, b) && a.pointer_result(bits, op, b).is_none()
+            moves_address(bits, op, a, b) && a.pointer_result(bits, op, b).is_none()
         }
         _ => false,
     }

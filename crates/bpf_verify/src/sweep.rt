@@ -1,10 +1,11 @@
 //! The sweep over the slots: an entry for each, joined from the edges that lead there. The entries
 //! are reserved once, and each slot is visited once, so the time is linear in slots and edges.
 
-ghost use Rattle.std.specs.Prelude.{◌≡◌, ◌<◌, ◌≤◌, ℕ, ◌+◌, ◌-◌, ◌∷◌, length, replicate, IfOk, IfSome, IfNone, option_to_list, slice_index_or, slice_set};
+ghost use Rattle.std.specs.Prelude.{◌≡◌, ◌<◌, ◌≤◌, ◌+◌, ◌-◌, ◌∷◌, length, replicate};
+ghost use Rattle.std.specs.Prelude.{IfOk, IfSome, IfNone, Some, None, option_to_list};
 ghost use Rattle.bpf_verify.specs.Entries.{opening_entry};
 ghost use Rattle.bpf_verify.specs.Accepted.{IsFine, Fails};
-ghost use Rattle.bpf_verify.specs.Sweep.{joined_with, with_edges, IsSwept};
+ghost use Rattle.bpf_verify.specs.Sweep.{with_edge, Joins, IsSwept};
 
 use crate::edge::Edge;
 use crate::entry::Entry;
@@ -31,7 +32,7 @@ pub fn opening(alloc: Global, count: usize) -> Result<Vec<Option<Entry>>, AllocE
 /// Joins the entry of an edge into that of its target.
 fn put(entries: &mut [Option<Entry>], edge: &Edge)
     requires { edge.now.target < length entries.old }
-    ensures { entries.new ≡ slice_set entries.old edge.now.target (Some (joined_with (slice_index_or entries.old edge.now.target None) edge.now.entry)) }
+    ensures { entries.new ≡ with_edge entries.old edge.now }
 {
     entries[edge.target] = match &entries[edge.target] {
         Some(found) => Some(found.join(&edge.entry)),
@@ -43,8 +44,7 @@ fn put(entries: &mut [Option<Entry>], edge: &Edge)
 fn put_if_any(entries: &mut [Option<Entry>], edge: &Option<Edge>)
     requires { IfSome edge.now (λ d. d.target < length entries.old) }
     ensures len { length entries.new ≡ length entries.old }
-    ensures joined { (m : ℕ) → m < length entries.old →
-        slice_index_or entries.new m None ≡ with_edges m (option_to_list edge.now) (slice_index_or entries.old m None) }
+    ensures joined { Joins (option_to_list edge.now) entries.old entries.new }
 {
     if let Some(edge) = edge {
         put(entries, edge);

@@ -2,12 +2,11 @@
 //! entry on the edge that goes on.
 
 ghost use Rattle.std.specs.Prelude.{◌≡◌, ◌<◌, ◌++◌, option_to_list};
-ghost use Rattle.flow_check.specs.Edges.{target_of};
 ghost use Rattle.bpf_verify.specs.Transfer as transfers;
 
 use crate::edge::{Edge, Edges};
 use crate::entry::Entry;
-use crate::narrow::narrowed;
+use crate::narrow::narrowed_entry;
 use crate::value::Value;
 use bpf_insn::Insn;
 use flow_check::{jump_target, next_place};
@@ -23,7 +22,7 @@ fn jumping(e: &Entry, insn: Insn) -> Option<Entry>
             left,
             right,
             ..
-        } => narrowed(e, bits, condition, true, left, right),
+        } => narrowed_entry(e, bits, condition, true, left, right),
         _ => Some(*e),
     }
 }
@@ -44,7 +43,7 @@ fn going_on(e: &Entry, insn: Insn) -> Option<Entry>
             left,
             right,
             ..
-        } => narrowed(e, bits, condition, false, left, right),
+        } => narrowed_entry(e, bits, condition, false, left, right),
         Insn::Load { kind, dst, .. } => Some(e.with(dst, Value::loaded(kind))),
         _ => Some(*e),
     }
@@ -53,7 +52,7 @@ fn going_on(e: &Entry, insn: Insn) -> Option<Entry>
 /// The edge that jumps, if there is one.
 fn jump_edge(slot: usize, e: &Entry, insn: Insn) -> Option<Edge>
     requires { slot < 4096 }
-    ensures { option_to_list result ≡ transfers.edge (target_of slot insn) (transfers.jumping e.now insn) }
+    ensures { option_to_list result ≡ transfers.jump_edge slot e.now insn }
 {
     let target = jump_target(slot, insn)?;
     let entry = jumping(e, insn)?;
@@ -63,7 +62,7 @@ fn jump_edge(slot: usize, e: &Entry, insn: Insn) -> Option<Edge>
 /// The edge that goes on, if there is one.
 fn next_edge(slot: usize, e: &Entry, insn: Insn) -> Option<Edge>
     requires { slot < 4096 }
-    ensures { option_to_list result ≡ transfers.edge (transfers.next_target slot insn) (transfers.going_on e.now insn) }
+    ensures { option_to_list result ≡ transfers.next_edge slot e.now insn }
 {
     let target = next_place(slot, insn)?;
     let entry = going_on(e, insn)?;
@@ -74,7 +73,8 @@ fn next_edge(slot: usize, e: &Entry, insn: Insn) -> Option<Edge>
 #[tactic(auto, unfolding(crate::specs::Transfer::edges))]
 pub fn transfer(slot: usize, e: &Entry, insn: Insn) -> Edges
     requires { slot < 4096 }
-    ensures { option_to_list result.jump ++ option_to_list result.next ≡ transfers.edges slot e.now insn }
+    ensures { option_to_list result.jump ++ option_to_list result.next
+        ≡ transfers.edges slot e.now insn }
 {
     Edges {
         jump: jump_edge(slot, e, insn),

@@ -1,6 +1,7 @@
-//! The places that an instruction leads to, and the rules F1 to F4 of one place. A jump counts slots
-//! from the instruction after it (RFC 9669, "Jump Instructions"). Of a place that breaks several
-//! rules the lowest is answered: a conditional jump at the last place breaks F1 or F2 before F4.
+//! The places that an instruction leads to, and the rules F1 to F4 of one place. A jump counts
+//! slots from the instruction after it (RFC 9669, "Jump Instructions"). Of a place that breaks
+//! several rules the lowest is answered: a conditional jump at the last place breaks F1 or F2
+//! before F4.
 
 ghost use Rattle.std.specs.Prelude.{◌≡◌, ℕ, ◌<◌, ◌≤◌, IfSome, IfNone, length};
 ghost use Rattle.std.specs.Prelude.{Some, None, if◌then◌else◌};

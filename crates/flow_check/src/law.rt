@@ -1,5 +1,5 @@
-//! No bytes have two verdicts. It is proved by reading the bytes once, as `read` does, and is called
-//! by nothing.
+//! No bytes have two verdicts. It is proved by reading the bytes once, as `read` does, and is
+//! called by nothing.
 
 ghost use Rattle.flow_check.specs.Fault.{HasOneVerdict};
 

@@ -1,0 +1,5 @@
+use Rattle.bpf_verify.proofs.Inhabited.{no_empty_range}
+use Rattle.bpf_verify.proofs.law.no_range_is_empty.Goals as goal
+
+pub returns : goal.returns
+returns c = no_empty_range
