@@ -1,5 +1,5 @@
 mod Cuts
-mod Shifts
+mod ShiftedRanges
 mod Results
 mod Edges
 mod Moves

@@ -15,7 +15,7 @@ use Rattle.abs_value.specs.Numbers.{is_single, full, cut}
 use Rattle.abs_value.specs.Bounds.{difference, shifted_left, shifted_right, shifted_signed, bounds, are_single, alu_number}
 use Rattle.abs_value.specs.Covers.{Holds, IsWord}
 use Rattle.abs_value.proofs.Cuts.{IsOf, word_is_of, cut_holds, full_holds, mod_is_of}
-use Rattle.abs_value.proofs.Shifts.{fitting_holds, shifted_left_holds, shifted_right_holds, shifted_signed_holds, arsh_is_of, disjunction_holds}
+use Rattle.abs_value.proofs.ShiftedRanges.{fitting_holds, shifted_left_holds, shifted_right_holds, shifted_signed_holds, arsh_is_of, disjunction_holds}
 
 difference_holds : (w : Bits) (a b : Number) (x y : ℕ) → Holds a x → Holds b y → IsOf w x → IsOf w y → Holds (difference w a b) (arithmetic (word_width w) Sub x y)
 difference_holds Bits64 a b x y h k fits fits2 = grind arith

@@ -6,3 +6,4 @@ pub mod Stack
 pub mod States
 pub mod Covers
 pub mod Laws
+pub mod Worked

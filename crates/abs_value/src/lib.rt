@@ -53,6 +53,9 @@ mod slot;
 mod stack;
 mod state;
 mod value;
+mod worked;
+mod worked_edges;
+mod worked_values;
 
 pub use laws::{
     edges_are_kept, joins_cover, loads_cover, ranges_have_numbers, registers_cover,
@@ -64,3 +67,6 @@ pub use relation::Relation;
 pub use slot::AbsSlot;
 pub use state::AbsState;
 pub use value::Abs;
+pub use worked::{bit_operations, differences, shifts, sizes, sums};
+pub use worked_edges::{decisions, equalities, orders, sides};
+pub use worked_values::{joins, pointer_moves, stack_bytes};
