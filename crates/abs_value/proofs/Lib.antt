@@ -3,6 +3,7 @@ mod ShiftedRanges
 mod Results
 mod Edges
 mod Moves
+mod Lists
 mod Computes
 mod Slots
 mod Writes

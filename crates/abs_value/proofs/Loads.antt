@@ -18,7 +18,7 @@ use Rattle.abs_value.specs.declared.slot.AbsSlot.TheVariants.{Kept, Bytes}
 use Rattle.abs_value.specs.declared.state.AbsState.{AbsState}
 use Rattle.abs_value.specs.Values.{loaded_value}
 use Rattle.abs_value.specs.Stack.{mask_of, slot_at, is_unset, has_unset, kept_or, loaded_from}
-use Rattle.abs_value.specs.Covers.{Includes, KeepsNumber, CoversSlot, CoversStack, Covers, bytes_of}
+use Rattle.abs_value.specs.Covers.{Answers, Includes, KeepsNumber, CoversSlot, CoversStack, Covers, bytes_of}
 use Rattle.abs_value.specs.Laws.{Finds}
 use Rattle.abs_value.proofs.Slots.{mask_set}
 
@@ -48,23 +48,23 @@ false_or : (a b : Bool) → (a || b) ≡ false → (a ≡ false) × (b ≡ false
 false_or true b h = absurd cc
 false_or false b h = (refl, h)
 
-byte_set : (slots : List AbsSlot) (stack : ℕ → Option ℕ) (place : ℕ) → CoversStack slots stack → place < stack_size → is_unset slots (pos place) ≡ false → IsSome (stack place)
-byte_set slots stack place h lt test =
+byte_set : (g : Answers) (slots : List AbsSlot) (stack : ℕ → Option ℕ) (place : ℕ) → CoversStack g slots stack → place < stack_size → is_unset slots (pos place) ≡ false → IsSome (stack place)
+byte_set g slots stack place h lt test =
     let bit : bit_at (mask_of (slot_at slots (place / 8))) (place % 8) ≡ 1 = bit_is place (bit_at (mask_of (slot_at slots (place / 8))) (place % 8)) lt test in
-    let there : IsSome (bytes_of stack (place / 8) (place % 8)) = mask_set (slot_at slots (place / 8)) (bytes_of stack (place / 8)) (h (place / 8)) (place % 8) (omega arith) bit in
+    let there : IsSome (bytes_of stack (place / 8) (place % 8)) = mask_set g (slot_at slots (place / 8)) (bytes_of stack (place / 8)) (h (place / 8)) (place % 8) (omega arith) bit in
     let whole : 8 * (place / 8) + place % 8 ≡ place = omega arith in
     subst (λ (k : ℕ). IsSome (stack k)) whole there
 
-each_set : (slots : List AbsSlot) (stack : ℕ → Option ℕ) (place n : ℕ) → CoversStack slots stack → place + n ≤ stack_size → has_unset slots (pos place) n ≡ false
+each_set : (g : Answers) (slots : List AbsSlot) (stack : ℕ → Option ℕ) (place n : ℕ) → CoversStack g slots stack → place + n ≤ stack_size → has_unset slots (pos place) n ≡ false
     → (k : ℕ) → k < n → IsSome (stack (place + k))
-each_set slots stack place zero h within test k lt = absurd (omega (arith, lt))
-each_set slots stack place (suc n) h within test k lt =
+each_set g slots stack place zero h within test k lt = absurd (omega (arith, lt))
+each_set g slots stack place (suc n) h within test k lt =
     let parts = false_or (has_unset slots (pos place) n) (is_unset slots (pos (place + n))) test in
     elim (cases_lt k n) [
-      | inl before ↦ each_set slots stack place n h (omega (arith, within)) parts.0 k before
+      | inl before ↦ each_set g slots stack place n h (omega (arith, within)) parts.0 k before
       | inr from ↦
           let same : place + n ≡ place + k = omega (arith, lt, from) in
-          subst (λ (m : ℕ). IsSome (stack m)) same (byte_set slots stack (place + n) h (omega (arith, within)) parts.1)
+          subst (λ (m : ℕ). IsSome (stack m)) same (byte_set g slots stack (place + n) h (omega (arith, within)) parts.1)
     ]
 
 reads : (stack : ℕ → Option ℕ) (place n : ℕ) → AreBytes stack → ((k : ℕ) → k < n → IsSome (stack (place + k))) → Reads stack place n
@@ -112,14 +112,14 @@ kept_reads stack place (suc n) x h =
 
 -- ---- the number that is loaded
 
-pub loaded_includes : (kind : LoadKind) (n : ℕ) → n < 256 ^ load_count kind → Includes (loaded_value kind) (filled kind n)
-loaded_includes load.Byte n h = (omega arith, omega arith)
-loaded_includes load.Half n h = (omega arith, omega arith)
-loaded_includes load.Word n h = (omega arith, omega arith)
-loaded_includes load.Double n h = (omega arith, omega arith)
-loaded_includes load.SignedByte n h = (omega arith, grind (arith, ints))
-loaded_includes load.SignedHalf n h = (omega arith, grind (arith, ints))
-loaded_includes load.SignedWord n h = (omega arith, grind (arith, ints))
+pub loaded_includes : (g : Answers) (kind : LoadKind) (n : ℕ) → n < 256 ^ load_count kind → Includes g (loaded_value kind) (filled kind n)
+loaded_includes g load.Byte n h = (omega arith, omega arith)
+loaded_includes g load.Half n h = (omega arith, omega arith)
+loaded_includes g load.Word n h = (omega arith, omega arith)
+loaded_includes g load.Double n h = (omega arith, omega arith)
+loaded_includes g load.SignedByte n h = (omega arith, grind (arith, ints))
+loaded_includes g load.SignedHalf n h = (omega arith, grind (arith, ints))
+loaded_includes g load.SignedWord n h = (omega arith, grind (arith, ints))
 
 read_from : (s : State) (place n : ℕ) (bytes : List ℕ) → place + n ≤ stack_size → set_bytes s.stack place n ≡ Some bytes → read_at s (stack_start + place) n ≡ Some (little_endian bytes)
 read_from s place n bytes within is =
@@ -128,34 +128,34 @@ read_from s place n bytes within is =
     let behind : stack_start + place - stack_start ≡ place = omega arith in
     rw (outside, inside, behind, is) refl
 
-any_found : (e : AbsState) (s : State) (place : ℕ) (kind : LoadKind) → place + load_count kind ≤ stack_size → HasWords s → Covers e s → has_unset e.stack (pos place) (load_count kind) ≡ false
-    → Finds (loaded_value kind) kind (read_at s (stack_start + place) (load_count kind))
+any_found : (g : Answers) (e : AbsState) (s : State) (place : ℕ) (kind : LoadKind) → place + load_count kind ≤ stack_size → HasWords s → Covers g e s → has_unset e.stack (pos place) (load_count kind) ≡ false
+    → Finds g (loaded_value kind) kind (read_at s (stack_start + place) (load_count kind))
 unfolding AreBytes
-any_found e s place kind within words h test =
-    let r = reads s.stack place (load_count kind) words.stack (each_set e.stack s.stack place (load_count kind) h.stack within test) in
-    record { number = little_endian r.bytes; is = read_from s place (load_count kind) r.bytes within r.is; included = loaded_includes kind (little_endian r.bytes) r.small }
+any_found g e s place kind within words h test =
+    let r = reads s.stack place (load_count kind) words.stack (each_set g e.stack s.stack place (load_count kind) h.stack within test) in
+    record { number = little_endian r.bytes; is = read_from s place (load_count kind) r.bytes within r.is; included = loaded_includes g kind (little_endian r.bytes) r.small }
 
-kept_found : (v : Abs) (s : State) (place : ℕ) → place + 8 ≤ stack_size → place % 8 ≡ 0 → KeepsNumber v (bytes_of s.stack (place / 8)) → Finds v load.Double (read_at s (stack_start + place) 8)
-kept_found v s place within aligned k =
+kept_found : (g : Answers) (v : Abs) (s : State) (place : ℕ) → place + 8 ≤ stack_size → place % 8 ≡ 0 → KeepsNumber g v (bytes_of s.stack (place / 8)) → Finds g v load.Double (read_at s (stack_start + place) 8)
+kept_found g v s place within aligned k =
     let start : 8 * (place / 8) ≡ place = omega (arith, aligned) in
     let r = kept_reads s.stack place 8 k.number (λ j lt. subst (λ (n : ℕ). s.stack (n + j) ≡ Some (k.number / 256 ^ j % 256)) start (k.bytes_are j lt)) in
     let whole : k.number % 256 ^ 8 ≡ k.number = omega (arith, k.word) in
     record { number = k.number; is = read_from s place 8 r.bytes within r.is ∙ ap Some (r.number ∙ whole); included = k.included }
 
 -- an aligned slot
-slot_found : (slot : AbsSlot) (s : State) (place : ℕ) → place + 8 ≤ stack_size → place % 8 ≡ 0 → CoversSlot slot (bytes_of s.stack (place / 8)) → Finds (loaded_value load.Double) load.Double (read_at s (stack_start + place) 8)
-    → Finds (kept_or slot (loaded_value load.Double)) load.Double (read_at s (stack_start + place) 8)
-slot_found (Kept v) s place within aligned h other = kept_found v s place within aligned h
-slot_found (Bytes mask) s place within aligned h other = other
+slot_found : (g : Answers) (slot : AbsSlot) (s : State) (place : ℕ) → place + 8 ≤ stack_size → place % 8 ≡ 0 → CoversSlot g slot (bytes_of s.stack (place / 8)) → Finds g (loaded_value load.Double) load.Double (read_at s (stack_start + place) 8)
+    → Finds g (kept_or slot (loaded_value load.Double)) load.Double (read_at s (stack_start + place) 8)
+slot_found g (Kept v) s place within aligned h other = kept_found g v s place within aligned h
+slot_found g (Bytes mask) s place within aligned h other = other
 
-double_found : (e : AbsState) (s : State) (place : ℕ) → place + 8 ≤ stack_size → Covers e s → Finds (loaded_value load.Double) load.Double (read_at s (stack_start + place) 8)
-    → Finds (loaded_from e.stack place load.Double) load.Double (read_at s (stack_start + place) 8)
-double_found e s place within h other = elim (cases_eq (place % 8) 0) [
-  | inl aligned ↦ let test : (place % 8 == 0) ≡ true = grind (arith, aligned) in rw test (slot_found (slot_at e.stack (place / 8)) s place within aligned (h.stack (place / 8)) other)
+double_found : (g : Answers) (e : AbsState) (s : State) (place : ℕ) → place + 8 ≤ stack_size → Covers g e s → Finds g (loaded_value load.Double) load.Double (read_at s (stack_start + place) 8)
+    → Finds g (loaded_from e.stack place load.Double) load.Double (read_at s (stack_start + place) 8)
+double_found g e s place within h other = elim (cases_eq (place % 8) 0) [
+  | inl aligned ↦ let test : (place % 8 == 0) ≡ true = grind (arith, aligned) in rw test (slot_found g (slot_at e.stack (place / 8)) s place within aligned (h.stack (place / 8)) other)
   | inr apart ↦ let test : (place % 8 == 0) ≡ false = grind (arith, apart) in rw test other
 ]
 
-pub covers_load : (e : AbsState) (s : State) (place : ℕ) (kind : LoadKind) → place + load_count kind ≤ stack_size → HasWords s → Covers e s → has_unset e.stack (pos place) (load_count kind) ≡ false
-    → Finds (loaded_from e.stack place kind) kind (read_at s (stack_start + place) (load_count kind))
-covers_load e s place load.Double within words h test = double_found e s place within h (any_found e s place load.Double within words h test)
-covers_load e s place kind within words h test = any_found e s place kind within words h test
+pub covers_load : (g : Answers) (e : AbsState) (s : State) (place : ℕ) (kind : LoadKind) → place + load_count kind ≤ stack_size → HasWords s → Covers g e s → has_unset e.stack (pos place) (load_count kind) ≡ false
+    → Finds g (loaded_from e.stack place kind) kind (read_at s (stack_start + place) (load_count kind))
+covers_load g e s place load.Double within words h test = double_found g e s place within h (any_found g e s place load.Double within words h test)
+covers_load g e s place kind within words h test = any_found g e s place kind within words h test

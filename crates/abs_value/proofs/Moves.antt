@@ -12,10 +12,9 @@ use Rattle.bpf_insn.specs.Arithmetic.{alu_result}
 use Rattle.bpf_semantics.specs.Memory.{context_size, stack_size}
 use Rattle.abs_value.specs.declared.number.Number.{Number}
 use Rattle.abs_value.specs.declared.places.Places.{Places}
-use Rattle.abs_value.specs.declared.value.Abs.TheVariants.{Ctx, Stk}
 use Rattle.abs_value.specs.Numbers.{is_single}
 use Rattle.abs_value.specs.Values.{places, place_in, signed_view, distance, distance_of_end, least_distance, greatest_distance, moved, moved_in_context, moved_in_stack}
-use Rattle.abs_value.specs.Covers.{Holds, Includes, IsWord}
+use Rattle.abs_value.specs.Covers.{Holds, IsInContext, IsInStack, IsWord}
 
 -- ---- places
 
@@ -72,8 +71,8 @@ single_moves op size x y place n fits le lt h = absurd cc
 
 -- ---- the stack
 
-pub stack_moves : (op : AluOp) (place n : ℕ) (by : Number) (x y : ℕ) → moved_in_stack op place by ≡ Some n → Includes (Stk place) x → IsWord y → Holds by y
-    → Includes (Stk n) (alu_result Bits64 op x y)
+pub stack_moves : (op : AluOp) (place n : ℕ) (by : Number) (x y : ℕ) → moved_in_stack op place by ≡ Some n → IsInStack place x → IsWord y → Holds by y
+    → IsInStack n (alu_result Bits64 op x y)
 stack_moves op place n by x y h hx wy hy = elim (cases_Bool (is_single by)) [
   | inl one ↦
       let y_is : by.lo ≡ y = grind (arith, hy, one) in
@@ -99,7 +98,7 @@ spread size lo hi m k (Some (pos n)) e f = let g = place_is size (pos lo +ℤ po
 spread size lo hi m k (Some (negsuc n)) e f = let g = place_is size (pos lo +ℤ negsuc n) m e in let h = place_is size (pos hi +ℤ negsuc n) k f in omega (arith, ints, g.is, h.is)
 
 context_single : (op : AluOp) (from r : Places) (x y : ℕ) → moved context_size from.lo (distance op y) ≡ Some r.lo → moved context_size from.hi (distance op y) ≡ Some r.hi
-    → Includes (Ctx from) x → IsWord y → Includes (Ctx r) (alu_result Bits64 op x y)
+    → IsInContext from x → IsWord y → IsInContext r (alu_result Bits64 op x y)
 context_single op from r x y e f hx wy =
     let wide = spread context_size from.lo from.hi r.lo r.hi (distance op y) e f in
     let within = moved_within context_size from.hi (distance op y) r.hi f in
@@ -107,7 +106,7 @@ context_single op from r x y e f hx wy =
     (omega (arith, hx, is), omega (arith, hx, is))
 
 context_range : (op : AluOp) (from r : Places) (by : Number) (x y : ℕ) → moved context_size from.lo (distance_of_end op by.lo) ≡ Some r.lo → moved context_size from.hi (distance_of_end op by.hi) ≡ Some r.hi
-    → Includes (Ctx from) x → Holds by y → Includes (Ctx r) (alu_result Bits64 op x y)
+    → IsInContext from x → Holds by y → IsInContext r (alu_result Bits64 op x y)
 context_range alu.Add from r by x y e f hx hy =
     let low = place_is context_size (pos from.lo +ℤ pos by.lo) r.lo e in
     let high = place_is context_size (pos from.hi +ℤ pos by.hi) r.hi f in
@@ -117,8 +116,8 @@ context_range alu.Add from r by x y e f hx hy =
     (omega (arith, hx, hy), omega (arith, hx, hy))
 context_range op from r by x y e f hx hy = absurd cc
 
-pub context_moves : (op : AluOp) (from r : Places) (by : Number) (x y : ℕ) → moved_in_context op from by ≡ Some r → Includes (Ctx from) x → IsWord y → Holds by y
-    → Includes (Ctx r) (alu_result Bits64 op x y)
+pub context_moves : (op : AluOp) (from r : Places) (by : Number) (x y : ℕ) → moved_in_context op from by ≡ Some r → IsInContext from x → IsWord y → Holds by y
+    → IsInContext r (alu_result Bits64 op x y)
 context_moves op from r by x y h hx wy hy =
     let ends = both_some (moved context_size from.lo (least_distance op by)) (moved context_size from.hi (greatest_distance op by)) r h in
     elim (cases_Bool (is_single by)) [

@@ -11,21 +11,21 @@ use Rattle.abs_value.specs.declared.slot.AbsSlot.{AbsSlot}
 use Rattle.abs_value.specs.declared.slot.AbsSlot.TheVariants.{Kept, Bytes}
 use Rattle.abs_value.specs.Values.{is_unusable, join_values}
 use Rattle.abs_value.specs.Stack.{mask_of, slot_at, kept_slot, join_slots, join_stacks}
-use Rattle.abs_value.specs.Covers.{Includes, KeepsNumber, HasSet, CoversSlot, CoversStack, bytes_of}
+use Rattle.abs_value.specs.Covers.{Answers, Includes, KeepsNumber, HasSet, CoversSlot, CoversStack, bytes_of}
 use Rattle.abs_value.proofs.Computes.{included_left, included_right}
 
 -- all bytes of a kept slot are set
 some_is : (o : Option ℕ) (x : ℕ) → o ≡ Some x → IsSome o
 some_is o x e = rw e refl
 
-pub mask_set : (slot : AbsSlot) (bytes : ℕ → Option ℕ) → CoversSlot slot bytes → HasSet (mask_of slot) bytes
-mask_set (Kept v) bytes h = λ j lt bit. some_is (bytes j) (h.number / 256 ^ j % 256) (h.bytes_are j lt)
-mask_set (Bytes mask) bytes h = h
+pub mask_set : (g : Answers) (slot : AbsSlot) (bytes : ℕ → Option ℕ) → CoversSlot g slot bytes → HasSet (mask_of slot) bytes
+mask_set g (Kept v) bytes h = λ j lt bit. some_is (bytes j) (h.number / 256 ^ j % 256) (h.bytes_are j lt)
+mask_set g (Bytes mask) bytes h = h
 
 -- what is known of a slot rests on its eight bytes alone
-pub same_bytes : (slot : AbsSlot) (a b : ℕ → Option ℕ) → ((j : ℕ) → j < 8 → b j ≡ a j) → CoversSlot slot a → CoversSlot slot b
-same_bytes (Kept v) a b same h = record { number = h.number; word = h.word; included = h.included; bytes_are = λ j lt. same j lt ∙ h.bytes_are j lt }
-same_bytes (Bytes mask) a b same h = λ j lt bit. rw (same j lt) (h j lt bit)
+pub same_bytes : (g : Answers) (slot : AbsSlot) (a b : ℕ → Option ℕ) → ((j : ℕ) → j < 8 → b j ≡ a j) → CoversSlot g slot a → CoversSlot g slot b
+same_bytes g (Kept v) a b same h = record { number = h.number; word = h.word; included = h.included; bytes_are = λ j lt. same j lt ∙ h.bytes_are j lt }
+same_bytes g (Bytes mask) a b same h = λ j lt bit. rw (same j lt) (h j lt bit)
 
 -- ---- joins
 
@@ -36,23 +36,23 @@ both_set_right : (m n : ℕ) (bytes : ℕ → Option ℕ) → HasSet n bytes →
 both_set_right m n bytes h j lt bit = let least = bit_at_and m n j in let small = bit_at-lt n j in h j lt (omega (arith, least, bit, small))
 
 -- a value that isn't unusable is kept
-kept_covers : (v w : Abs) (bytes : ℕ → Option ℕ) → KeepsNumber v bytes → ((x : ℕ) → Includes v x → Includes w x) → CoversSlot (kept_slot w) bytes
-kept_covers v w bytes h more = elim (cases_Bool (is_unusable w)) [
-  | inl is ↦ rw is (mask_set (Kept v) bytes h)
+kept_covers : (g : Answers) (v w : Abs) (bytes : ℕ → Option ℕ) → KeepsNumber g v bytes → ((x : ℕ) → Includes g v x → Includes g w x) → CoversSlot g (kept_slot w) bytes
+kept_covers g v w bytes h more = elim (cases_Bool (is_unusable w)) [
+  | inl is ↦ rw is (mask_set g (Kept v) bytes h)
   | inr is ↦ rw is (record { number = h.number; word = h.word; included = more h.number h.included; bytes_are = h.bytes_are })
 ]
 
-join_slots_left : (a b : AbsSlot) (bytes : ℕ → Option ℕ) → CoversSlot a bytes → CoversSlot (join_slots a b) bytes
-join_slots_left (Kept v) (Kept w) bytes h = kept_covers v (join_values v w) bytes h (λ x k. included_left v w x k)
-join_slots_left (Kept v) (Bytes n) bytes h = both_set 255 n bytes (mask_set (Kept v) bytes h)
-join_slots_left (Bytes m) (Kept w) bytes h = both_set m 255 bytes h
-join_slots_left (Bytes m) (Bytes n) bytes h = both_set m n bytes h
+join_slots_left : (g : Answers) (a b : AbsSlot) (bytes : ℕ → Option ℕ) → CoversSlot g a bytes → CoversSlot g (join_slots a b) bytes
+join_slots_left g (Kept v) (Kept w) bytes h = kept_covers g v (join_values v w) bytes h (λ x k. included_left g v w x k)
+join_slots_left g (Kept v) (Bytes n) bytes h = both_set 255 n bytes (mask_set g (Kept v) bytes h)
+join_slots_left g (Bytes m) (Kept w) bytes h = both_set m 255 bytes h
+join_slots_left g (Bytes m) (Bytes n) bytes h = both_set m n bytes h
 
-join_slots_right : (a b : AbsSlot) (bytes : ℕ → Option ℕ) → CoversSlot b bytes → CoversSlot (join_slots a b) bytes
-join_slots_right (Kept v) (Kept w) bytes h = kept_covers w (join_values v w) bytes h (λ x k. included_right v w x k)
-join_slots_right (Kept v) (Bytes n) bytes h = both_set_right 255 n bytes h
-join_slots_right (Bytes m) (Kept w) bytes h = both_set_right m 255 bytes (mask_set (Kept w) bytes h)
-join_slots_right (Bytes m) (Bytes n) bytes h = both_set_right m n bytes h
+join_slots_right : (g : Answers) (a b : AbsSlot) (bytes : ℕ → Option ℕ) → CoversSlot g b bytes → CoversSlot g (join_slots a b) bytes
+join_slots_right g (Kept v) (Kept w) bytes h = kept_covers g w (join_values v w) bytes h (λ x k. included_right g v w x k)
+join_slots_right g (Kept v) (Bytes n) bytes h = both_set_right 255 n bytes h
+join_slots_right g (Bytes m) (Kept w) bytes h = both_set_right m 255 bytes (mask_set g (Kept w) bytes h)
+join_slots_right g (Bytes m) (Bytes n) bytes h = both_set_right m n bytes h
 
 slot_at-join : (a b : List AbsSlot) (i : ℕ) → i < 64 → slot_at (join_stacks a b) i ≡ join_slots (slot_at a i) (slot_at b i)
 unfolding join_stacks
@@ -68,14 +68,14 @@ slot_at-join_past a b i le =
 pub none_set : (bytes : ℕ → Option ℕ) → HasSet 0 bytes
 none_set bytes j lt bit = let zero_is = bit_at-zero j in absurd (omega (arith, bit, zero_is))
 
-pub stack_left : (a b : List AbsSlot) (stack : ℕ → Option ℕ) → CoversStack a stack → CoversStack (join_stacks a b) stack
-stack_left a b stack h i = elim (cases_lt i 64) [
-  | inl lt ↦ rw (slot_at-join a b i lt) (join_slots_left (slot_at a i) (slot_at b i) (bytes_of stack i) (h i))
+pub stack_left : (g : Answers) (a b : List AbsSlot) (stack : ℕ → Option ℕ) → CoversStack g a stack → CoversStack g (join_stacks a b) stack
+stack_left g a b stack h i = elim (cases_lt i 64) [
+  | inl lt ↦ rw (slot_at-join a b i lt) (join_slots_left g (slot_at a i) (slot_at b i) (bytes_of stack i) (h i))
   | inr le ↦ rw (slot_at-join_past a b i le) (none_set (bytes_of stack i))
 ]
 
-pub stack_right : (a b : List AbsSlot) (stack : ℕ → Option ℕ) → CoversStack b stack → CoversStack (join_stacks a b) stack
-stack_right a b stack h i = elim (cases_lt i 64) [
-  | inl lt ↦ rw (slot_at-join a b i lt) (join_slots_right (slot_at a i) (slot_at b i) (bytes_of stack i) (h i))
+pub stack_right : (g : Answers) (a b : List AbsSlot) (stack : ℕ → Option ℕ) → CoversStack g b stack → CoversStack g (join_stacks a b) stack
+stack_right g a b stack h i = elim (cases_lt i 64) [
+  | inl lt ↦ rw (slot_at-join a b i lt) (join_slots_right g (slot_at a i) (slot_at b i) (bytes_of stack i) (h i))
   | inr le ↦ rw (slot_at-join_past a b i le) (none_set (bytes_of stack i))
 ]

@@ -1,12 +1,10 @@
 -- After a store the slots stand for the stack that it leaves.
-use Rattle.std.proofs.Common.{◌≡◌, ◌≢◌, ℕ, ◌+◌, ◌-◌, ◌*◌, ◌/◌, ◌%◌, ◌^◌, ◌<◌, ◌≤◌, List, Option, Some, true, false, refl, sym, ap, ◌∙◌, arith, inl, inr, length, get_or-set_other}
+use Rattle.std.proofs.Common.{◌≡◌, ◌≢◌, ℕ, ◌+◌, ◌-◌, ◌*◌, ◌/◌, ◌%◌, ◌^◌, ◌<◌, ◌≤◌, List, Option, Some, true, false, refl, sym, ap, ◌∙◌, arith, inl, inr, get_or-set_other}
 use Rattle.std.specs.Prelude.{◌⊎◌, IsSome, ◌&&◌, nat_le, nat_lt, bit_or, slice_set}
 use Rattle.std.specs.Int.{bit_at}
 use Rattle.std.proofs.Math.Nat.{div-add-mod'}
 use Rattle.std.proofs.lemmas.Bool.{cases_lt, cases_Bool, cases_eq, leb-true}
-use Rattle.std.proofs.lemmas.List.{get_or_past, set_past}
 use Rattle.std.proofs.lemmas.Nat.{shr-shr, pow_pos}
-use Rattle.std.proofs.lemmas.Grind.{get_or-set_at}
 use Rattle.std.proofs.lemmas.Nat.Bits.{bit_at_or, bit_at-zero, bit_at-lt, bit_at_cat_low, bit_at_cat_high, bit_at_ones_above}
 use Rattle.bpf_insn.specs.declared.operand.Size.{Size}
 use Rattle.bpf_insn.specs.declared.operand.Size.TheVariants as size
@@ -20,7 +18,8 @@ use Rattle.abs_value.specs.declared.state.AbsState.{AbsState}
 use Rattle.abs_value.specs.States.{with_stored}
 use Rattle.abs_value.specs.Laws.{CoversAfter}
 use Rattle.abs_value.specs.Stack.{mask_of, slot_at, bits_of, first_bits, next_bits, is_whole_slot, with_set, with_written, stored}
-use Rattle.abs_value.specs.Covers.{Includes, IsWord, HasSet, CoversSlot, CoversStack, Covers, bytes_of}
+use Rattle.abs_value.specs.Covers.{Answers, Includes, IsWord, HasSet, CoversSlot, CoversStack, Covers, bytes_of}
+use Rattle.abs_value.proofs.Lists.{here, past, other, set_at}
 use Rattle.abs_value.proofs.Slots.{mask_set, same_bytes, none_set}
 
 -- ---- which bytes are written
@@ -35,7 +34,7 @@ bit_of_run n f t bit =
           absurd (omega (arith, rw same at e, z, bit))
       | inr from ↦ elim (cases_lt t (n + f)) [
         | inl within ↦ (from, within)
-        | inr past ↦
+        | inr beyond ↦
             let e = bit_at_cat_high (2 ^ n - 1) f 0 t (pow_pos f) from in
             let z = bit_at_ones_above n (t - f) (omega arith) in
             absurd (omega (arith, rw same at e, z, bit))
@@ -93,27 +92,11 @@ either_bit m n k bit =
     ]
 
 -- the set bytes of a slot, and those that are written
-set_too : (stack : ℕ → Option ℕ) (place n x j : ℕ) (slot : AbsSlot) (mask : ℕ) → CoversSlot slot (bytes_of stack j) → ((k : ℕ) → k < 8 → bit_at mask k ≡ 1 → IsWritten place n j k)
+set_too : (g : Answers) (stack : ℕ → Option ℕ) (place n x j : ℕ) (slot : AbsSlot) (mask : ℕ) → CoversSlot g slot (bytes_of stack j) → ((k : ℕ) → k < 8 → bit_at mask k ≡ 1 → IsWritten place n j k)
     → HasSet (bit_or (mask_of slot) mask) (bytes_of (with_bytes stack place n x) j)
-set_too stack place n x j slot mask h written k lt bit = elim (either_bit (mask_of slot) mask k bit) [
-  | inl is ↦ byte_kept stack place n x j k (mask_set slot (bytes_of stack j) h k lt is)
+set_too g stack place n x j slot mask h written k lt bit = elim (either_bit (mask_of slot) mask k bit) [
+  | inl is ↦ byte_kept stack place n x j k (mask_set g slot (bytes_of stack j) h k lt is)
   | inr is ↦ byte_written stack place n x j k (written k lt is)
-]
-
--- ---- one slot of the list
-
-data SetAt (slots : List AbsSlot) (i : ℕ) (v : AbsSlot) (j : ℕ) : Type 0 where
-  here : j ≡ i → slot_at (slice_set slots i v) j ≡ v → SetAt slots i v j
-  past : slot_at (slice_set slots i v) j ≡ Bytes 0 → SetAt slots i v j
-  other : j ≢ i → slot_at (slice_set slots i v) j ≡ slot_at slots j → SetAt slots i v j
-
-set_at : (slots : List AbsSlot) (i : ℕ) (v : AbsSlot) (j : ℕ) → SetAt slots i v j
-set_at slots i v j = elim (cases_eq j i) [
-  | inl same ↦ elim (cases_lt i (length slots)) [
-    | inl lt ↦ here same (get_or-set_at slots i j v (Bytes 0) same lt)
-    | inr le ↦ past (ap (λ (l : List AbsSlot). slot_at l j) (set_past slots i v le) ∙ get_or_past slots j (Bytes 0) (omega (arith, same, le)))
-  ]
-  | inr apart ↦ other apart (get_or-set_other slots i j v (Bytes 0) apart)
 ]
 
 -- ---- a whole slot
@@ -125,9 +108,9 @@ byte_is stack place x j k lt at_start =
     let behind : 8 * j + k - place ≡ k = omega (arith, at_start) in
     rw (low, high, behind) refl
 
-whole_covers : (slots : List AbsSlot) (stack : ℕ → Option ℕ) (place x : ℕ) (v : Abs) → place % 8 ≡ 0 → CoversStack slots stack → IsWord x → Includes v x
-    → CoversStack (slice_set slots (place / 8) (Kept v)) (with_bytes stack place 8 x)
-whole_covers slots stack place x v aligned h wx hv j = elim (set_at slots (place / 8) (Kept v) j) [
+whole_covers : (g : Answers) (slots : List AbsSlot) (stack : ℕ → Option ℕ) (place x : ℕ) (v : Abs) → place % 8 ≡ 0 → CoversStack g slots stack → IsWord x → Includes g v x
+    → CoversStack g (slice_set slots (place / 8) (Kept v)) (with_bytes stack place 8 x)
+whole_covers g slots stack place x v aligned h wx hv j = elim (set_at AbsSlot slots (place / 8) (Kept v) (Bytes 0) j) [
   | here same e ↦ rw e (record {
     number = x;
     word = wx;
@@ -135,17 +118,17 @@ whole_covers slots stack place x v aligned h wx hv j = elim (set_at slots (place
     bytes_are = λ k lt. byte_is stack place x j k lt (omega (arith, same, aligned));
   })
   | past e ↦ rw e (none_set (bytes_of (with_bytes stack place 8 x) j))
-  | other apart e ↦ rw e (same_bytes (slot_at slots j) (bytes_of stack j) (bytes_of (with_bytes stack place 8 x) j) (λ k lt. byte_same stack place 8 x j k (λ w. omega (arith, w, apart, aligned))) (h j))
+  | other apart e ↦ rw e (same_bytes g (slot_at slots j) (bytes_of stack j) (bytes_of (with_bytes stack place 8 x) j) (λ k lt. byte_same stack place 8 x j k (λ w. omega (arith, w, apart, aligned))) (h j))
 ]
 
 -- ---- part of a slot, or of two
 
-one_covers : (slots : List AbsSlot) (stack : ℕ → Option ℕ) (place n x : ℕ) → place % 8 + n ≤ 8 → CoversStack slots stack
-    → CoversStack (with_set slots (place / 8) (first_bits place n)) (with_bytes stack place n x)
-one_covers slots stack place n x within h j = elim (set_at slots (place / 8) (Bytes (bit_or (mask_of (slot_at slots (place / 8))) (first_bits place n))) j) [
-  | here same e ↦ rw (e, same) (set_too stack place n x (place / 8) (slot_at slots (place / 8)) (first_bits place n) (h (place / 8)) (first_written place n))
+one_covers : (g : Answers) (slots : List AbsSlot) (stack : ℕ → Option ℕ) (place n x : ℕ) → place % 8 + n ≤ 8 → CoversStack g slots stack
+    → CoversStack g (with_set slots (place / 8) (first_bits place n)) (with_bytes stack place n x)
+one_covers g slots stack place n x within h j = elim (set_at AbsSlot slots (place / 8) (Bytes (bit_or (mask_of (slot_at slots (place / 8))) (first_bits place n))) (Bytes 0) j) [
+  | here same e ↦ rw (e, same) (set_too g stack place n x (place / 8) (slot_at slots (place / 8)) (first_bits place n) (h (place / 8)) (first_written place n))
   | past e ↦ rw e (none_set (bytes_of (with_bytes stack place n x) j))
-  | other apart e ↦ rw e (same_bytes (slot_at slots j) (bytes_of stack j) (bytes_of (with_bytes stack place n x) j) (λ k lt. byte_same stack place n x j k (λ w. omega (arith, w, apart, within))) (h j))
+  | other apart e ↦ rw e (same_bytes g (slot_at slots j) (bytes_of stack j) (bytes_of (with_bytes stack place n x) j) (λ k lt. byte_same stack place n x j k (λ w. omega (arith, w, apart, within))) (h j))
 ]
 
 -- what the next slot has set is what it had
@@ -153,39 +136,39 @@ mask_next : (slots : List AbsSlot) (i mask : ℕ) → slot_at (with_set slots i 
 mask_next slots i mask = let apart : i + 1 ≢ i = omega arith in get_or-set_other slots i (i + 1) (Bytes (bit_or (mask_of (slot_at slots i)) mask)) (Bytes 0) apart
 
 -- the first of the two slots, or another
-first_covers : (slots : List AbsSlot) (stack : ℕ → Option ℕ) (place n x j : ℕ) → n ≤ 8 → j ≢ place / 8 + 1 → CoversStack slots stack
-    → CoversSlot (slot_at (with_set slots (place / 8) (first_bits place n)) j) (bytes_of (with_bytes stack place n x) j)
-first_covers slots stack place n x j short next h = elim (set_at slots (place / 8) (Bytes (bit_or (mask_of (slot_at slots (place / 8))) (first_bits place n))) j) [
-  | here same e ↦ rw (e, same) (set_too stack place n x (place / 8) (slot_at slots (place / 8)) (first_bits place n) (h (place / 8)) (first_written place n))
+first_covers : (g : Answers) (slots : List AbsSlot) (stack : ℕ → Option ℕ) (place n x j : ℕ) → n ≤ 8 → j ≢ place / 8 + 1 → CoversStack g slots stack
+    → CoversSlot g (slot_at (with_set slots (place / 8) (first_bits place n)) j) (bytes_of (with_bytes stack place n x) j)
+first_covers g slots stack place n x j short next h = elim (set_at AbsSlot slots (place / 8) (Bytes (bit_or (mask_of (slot_at slots (place / 8))) (first_bits place n))) (Bytes 0) j) [
+  | here same e ↦ rw (e, same) (set_too g stack place n x (place / 8) (slot_at slots (place / 8)) (first_bits place n) (h (place / 8)) (first_written place n))
   | past e ↦ rw e (none_set (bytes_of (with_bytes stack place n x) j))
-  | other apart e ↦ rw e (same_bytes (slot_at slots j) (bytes_of stack j) (bytes_of (with_bytes stack place n x) j) (λ k lt. byte_same stack place n x j k (λ w. omega (arith, w, apart, next, short))) (h j))
+  | other apart e ↦ rw e (same_bytes g (slot_at slots j) (bytes_of stack j) (bytes_of (with_bytes stack place n x) j) (λ k lt. byte_same stack place n x j k (λ w. omega (arith, w, apart, next, short))) (h j))
 ]
 
-two_covers : (slots : List AbsSlot) (stack : ℕ → Option ℕ) (place n x : ℕ) → n ≤ 8 → CoversStack slots stack
-    → CoversStack (with_set (with_set slots (place / 8) (first_bits place n)) (place / 8 + 1) (next_bits place n)) (with_bytes stack place n x)
-two_covers slots stack place n x short h j =
+two_covers : (g : Answers) (slots : List AbsSlot) (stack : ℕ → Option ℕ) (place n x : ℕ) → n ≤ 8 → CoversStack g slots stack
+    → CoversStack g (with_set (with_set slots (place / 8) (first_bits place n)) (place / 8 + 1) (next_bits place n)) (with_bytes stack place n x)
+two_covers g slots stack place n x short h j =
     let first = with_set slots (place / 8) (first_bits place n) in
-    elim (set_at first (place / 8 + 1) (Bytes (bit_or (mask_of (slot_at first (place / 8 + 1))) (next_bits place n))) j) [
+    elim (set_at AbsSlot first (place / 8 + 1) (Bytes (bit_or (mask_of (slot_at first (place / 8 + 1))) (next_bits place n))) (Bytes 0) j) [
       | here same e ↦ rw (e, mask_next slots (place / 8) (first_bits place n), same)
-          (set_too stack place n x (place / 8 + 1) (slot_at slots (place / 8 + 1)) (next_bits place n) (h (place / 8 + 1)) (λ k lt bit. next_written place n k bit))
+          (set_too g stack place n x (place / 8 + 1) (slot_at slots (place / 8 + 1)) (next_bits place n) (h (place / 8 + 1)) (λ k lt bit. next_written place n k bit))
       | past e ↦ rw e (none_set (bytes_of (with_bytes stack place n x) j))
-      | other apart e ↦ rw e (first_covers slots stack place n x j short apart h)
+      | other apart e ↦ rw e (first_covers g slots stack place n x j short apart h)
     ]
 
-written_covers : (slots : List AbsSlot) (stack : ℕ → Option ℕ) (place n x : ℕ) → n ≤ 8 → CoversStack slots stack → CoversStack (with_written slots place n) (with_bytes stack place n x)
-written_covers slots stack place n x short h = elim (cases_Bool (nat_le (place % 8 + n) 8)) [
-  | inl is ↦ rw is (one_covers slots stack place n x (leb-true (place % 8 + n) 8 is) h)
-  | inr is ↦ rw is (two_covers slots stack place n x short h)
+written_covers : (g : Answers) (slots : List AbsSlot) (stack : ℕ → Option ℕ) (place n x : ℕ) → n ≤ 8 → CoversStack g slots stack → CoversStack g (with_written slots place n) (with_bytes stack place n x)
+written_covers g slots stack place n x short h = elim (cases_Bool (nat_le (place % 8 + n) 8)) [
+  | inl is ↦ rw is (one_covers g slots stack place n x (leb-true (place % 8 + n) 8 is) h)
+  | inr is ↦ rw is (two_covers g slots stack place n x short h)
 ]
 
 whole_slot : (place n : ℕ) → is_whole_slot place n ≡ true → (n ≡ 8) × (place % 8 ≡ 0)
 whole_slot place n is = (grind (arith, is), grind (arith, is))
 
-pub stored_covers : (slots : List AbsSlot) (stack : ℕ → Option ℕ) (place n x : ℕ) (v : Abs) → n ≤ 8 → CoversStack slots stack → IsWord x → Includes v x
-    → CoversStack (stored slots place n v) (with_bytes stack place n x)
-stored_covers slots stack place n x v short h wx hv = elim (cases_Bool (is_whole_slot place n)) [
-  | inl is ↦ let whole = whole_slot place n is in rw (is, whole.0) (whole_covers slots stack place x v whole.1 h wx hv)
-  | inr is ↦ rw is (written_covers slots stack place n x short h)
+pub stored_covers : (g : Answers) (slots : List AbsSlot) (stack : ℕ → Option ℕ) (place n x : ℕ) (v : Abs) → n ≤ 8 → CoversStack g slots stack → IsWord x → Includes g v x
+    → CoversStack g (stored slots place n v) (with_bytes stack place n x)
+stored_covers g slots stack place n x v short h wx hv = elim (cases_Bool (is_whole_slot place n)) [
+  | inl is ↦ let whole = whole_slot place n is in rw (is, whole.0) (whole_covers g slots stack place x v whole.1 h wx hv)
+  | inr is ↦ rw is (written_covers g slots stack place n x short h)
 ]
 
 -- ---- the state after a store
@@ -196,9 +179,9 @@ count_short size.Half = omega arith
 count_short size.Word = omega arith
 count_short size.Double = omega arith
 
-pub covers_store : (e : AbsState) (s : State) (place : ℕ) (size : Size) (v : Abs) (x : ℕ) → place + byte_count size ≤ stack_size → Covers e s → IsWord x → Includes v x
-    → CoversAfter (with_stored e place (byte_count size) v) (written_at s (stack_start + place) (byte_count size) x)
-covers_store e s place size v x within h wx hv =
+pub covers_store : (g : Answers) (e : AbsState) (s : State) (place : ℕ) (size : Size) (v : Abs) (x : ℕ) → place + byte_count size ≤ stack_size → Covers g e s → IsWord x → Includes g v x
+    → CoversAfter g (with_stored e place (byte_count size) v) (written_at s (stack_start + place) (byte_count size) x)
+covers_store g e s place size v x within h wx hv =
     let inside : is_in_stack (stack_start + place) (byte_count size) ≡ true = grind (arith, within) in
     let behind : stack_start + place - stack_start ≡ place = omega arith in
-    rw (inside, behind) (record { registers = h.registers; stack = stored_covers e.stack s.stack place (byte_count size) x v (count_short size) h.stack wx hv })
+    rw (inside, behind) (record { registers = h.registers; stack = stored_covers g e.stack s.stack place (byte_count size) x v (count_short size) h.stack wx hv })

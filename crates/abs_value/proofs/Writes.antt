@@ -1,8 +1,7 @@
 -- What a state of the verifier stands for is kept where a register is written, and where two are joined.
-use Rattle.std.proofs.Common.{◌≡◌, ℕ, ◌<◌, ◌≤◌, List, Option, Some, None, false, zero, suc, refl, arith, inl, inr, map, replicate}
-use Rattle.std.specs.Prelude.{slice_set}
+use Rattle.std.proofs.Common.{◌≡◌, ℕ, ◌<◌, ◌≤◌, List, Option, Some, None, false, zero, suc, refl, arith, inl, inr, map, replicate, true}
+use Rattle.std.specs.Prelude.{slice_set, ◌==◌}
 use Rattle.std.specs.List.{range_with_len}
-use Rattle.std.proofs.lemmas.Grind.{common_steps}
 use Rattle.std.proofs.lemmas.Bool.{cases_lt}
 use Rattle.std.proofs.lemmas.List.{get_or_past}
 use Rattle.std.proofs.lemmas.List.FromFn.{get_or-map-range_with_len, length-map-range_with_len}
@@ -17,50 +16,66 @@ use Rattle.bpf_semantics.specs.Reads.{operand}
 use Rattle.bpf_semantics.specs.State as start
 use Rattle.attrs.specs.Attributes.{Attributes}
 use Rattle.abs_value.specs.declared.value.Abs.{Abs}
-use Rattle.abs_value.specs.declared.value.Abs.TheVariants.{Unusable, Num, Ctx, Stk}
+use Rattle.abs_value.specs.declared.value.Abs.TheVariants.{Unusable, Num, Ctx, Stk, Map, MayCell, Cell}
 use Rattle.abs_value.specs.declared.state.AbsState.{AbsState}
 use Rattle.abs_value.specs.Values.{is_unusable, join_values}
 use Rattle.abs_value.specs.States.{register_at, value_at, value_of, operand_value, with_value, with_operand, join_registers, join_states, opening_registers, opening_state}
 use Rattle.abs_value.specs.declared.slot.AbsSlot.{AbsSlot}
-use Rattle.abs_value.specs.declared.slot.AbsSlot.TheVariants.{Bytes}
+use Rattle.abs_value.specs.declared.slot.AbsSlot.TheVariants.{Kept, Bytes}
+use Rattle.abs_value.specs.declared.origin.Origin.TheVariants.{Found}
 use Rattle.abs_value.specs.Stack.{slot_at}
 use Rattle.abs_value.proofs.Slots.{none_set, stack_left, stack_right}
-use Rattle.abs_value.specs.Covers.{bytes_of, Includes, CoversValue, CoversRegisters, Covers}
-use Rattle.abs_value.specs.Laws.{IsThere}
-use Rattle.abs_value.proofs.Computes.{join_left, join_right}
+use Rattle.abs_value.specs.Covers.{Answers, bytes_of, Includes, CoversValue, CoversRegisters, Covers, CoversSlot}
+use Rattle.abs_value.specs.Laws.{IsThere, IsMore}
+use Rattle.abs_value.proofs.Computes.{covers_some, join_left, join_right}
+use Rattle.abs_value.proofs.Lists.{here, past, other, set_at}
 
 -- ---- reading
 
-value_is_there : (a : Abs) (v : Option ℕ) → CoversValue a v → is_unusable a ≡ false → IsThere a v
-value_is_there Unusable v h u = absurd cc
-value_is_there (Num a) (Some x) h u = record { number = x; is = refl; included = h }
-value_is_there (Ctx a) (Some x) h u = record { number = x; is = refl; included = h }
-value_is_there (Stk a) (Some x) h u = record { number = x; is = refl; included = h }
-value_is_there (Num a) None h u = absurd h
-value_is_there (Ctx a) None h u = absurd h
-value_is_there (Stk a) None h u = absurd h
+value_is_there : (g : Answers) (a : Abs) (v : Option ℕ) → CoversValue g a v → is_unusable a ≡ false → IsThere g a v
+value_is_there g Unusable v h u = absurd cc
+value_is_there g (Num a) (Some x) h u = record { number = x; is = refl; included = h }
+value_is_there g (Ctx a) (Some x) h u = record { number = x; is = refl; included = h }
+value_is_there g (Stk a) (Some x) h u = record { number = x; is = refl; included = h }
+value_is_there g (Map a) (Some x) h u = record { number = x; is = refl; included = h }
+value_is_there g (MayCell a) (Some x) h u = record { number = x; is = refl; included = h }
+value_is_there g (Cell a) (Some x) h u = record { number = x; is = refl; included = h }
+value_is_there g (Num a) None h u = absurd h
+value_is_there g (Ctx a) None h u = absurd h
+value_is_there g (Stk a) None h u = absurd h
+value_is_there g (Map a) None h u = absurd h
+value_is_there g (MayCell a) None h u = absurd h
+value_is_there g (Cell a) None h u = absurd h
 
-pub register_is_there : (e : AbsState) (s : State) (r : ℕ) → Covers e s → is_unusable (value_at e r) ≡ false → IsThere (value_at e r) (s.registers r)
-register_is_there e s r h u = value_is_there (value_at e r) (s.registers r) (h.registers r) u
+pub register_is_there : (g : Answers) (e : AbsState) (s : State) (r : ℕ) → Covers g e s → is_unusable (value_at e r) ≡ false → IsThere g (value_at e r) (s.registers r)
+register_is_there g e s r h u = value_is_there g (value_at e r) (s.registers r) (h.registers r) u
 
-pub operand_is_there : (e : AbsState) (s : State) (bits : Bits) (src : Operand) → Covers e s → is_unusable (operand_value e bits src) ≡ false → IsThere (operand_value e bits src) (operand s bits src)
-operand_is_there e s bits (Imm k) h u = record { number = immediate bits k; is = refl; included = (omega arith, omega arith) }
-operand_is_there e s bits (Register r) h u = value_is_there (value_of e r) (s.registers (number_of r)) (h.registers (number_of r)) u
+pub operand_is_there : (g : Answers) (e : AbsState) (s : State) (bits : Bits) (src : Operand) → Covers g e s → is_unusable (operand_value e bits src) ≡ false → IsThere g (operand_value e bits src) (operand s bits src)
+operand_is_there g e s bits (Imm k) h u = record { number = immediate bits k; is = refl; included = (omega arith, omega arith) }
+operand_is_there g e s bits (Register r) h u = value_is_there g (value_of e r) (s.registers (number_of r)) (h.registers (number_of r)) u
 
 -- ---- writing
 
-write_at : (values : List Abs) (s : State) (r : ℕ) (v : Abs) (x : ℕ) → CoversRegisters values s.registers → Includes v x → CoversRegisters (slice_set values r v) ((with_register s r x).registers)
-write_at values s r v x h hv q = let here = h q in grind (arith, common_steps, here)
+write_at : (g : Answers) (values : List Abs) (s : State) (r : ℕ) (v : Abs) (x : ℕ) → CoversRegisters g values s.registers → Includes g v x → CoversRegisters g (slice_set values r v) ((with_register s r x).registers)
+write_at g values s r v x h hv q = elim (set_at Abs values r v Unusable q) [
+  | here same e ↦ let test : (q == r) ≡ true = grind (arith, same) in rw (e, test) (covers_some g v x hv)
+  | past e ↦ rw e tt
+  | other apart e ↦ let test : (q == r) ≡ false = grind (arith, apart) in rw (e, test) (h q)
+]
 
-learnt_at : (values : List Abs) (s : State) (r : ℕ) (v : Abs) (x : ℕ) → CoversRegisters values s.registers → s.registers r ≡ Some x → Includes v x → CoversRegisters (slice_set values r v) s.registers
-learnt_at values s r v x h is hv q = let here = h q in grind (arith, common_steps, here)
+learnt_at : (g : Answers) (values : List Abs) (s : State) (r : ℕ) (v : Abs) (x : ℕ) → CoversRegisters g values s.registers → s.registers r ≡ Some x → Includes g v x → CoversRegisters g (slice_set values r v) s.registers
+learnt_at g values s r v x h is hv q = elim (set_at Abs values r v Unusable q) [
+  | here same e ↦ rw (e, same, is) (covers_some g v x hv)
+  | past e ↦ rw e tt
+  | other apart e ↦ rw e (h q)
+]
 
-pub covers_write : (e : AbsState) (s : State) (r : Reg) (v : Abs) (x : ℕ) → Covers e s → Includes v x → Covers (with_value e r v) (with_register s (number_of r) x)
-covers_write e s r v x h hv = record { registers = write_at e.registers s (number_of r) v x h.registers hv; stack = h.stack }
+pub covers_write : (g : Answers) (e : AbsState) (s : State) (r : Reg) (v : Abs) (x : ℕ) → Covers g e s → Includes g v x → Covers g (with_value e r v) (with_register s (number_of r) x)
+covers_write g e s r v x h hv = record { registers = write_at g e.registers s (number_of r) v x h.registers hv; stack = h.stack }
 
-pub covers_learnt : (e : AbsState) (s : State) (bits : Bits) (src : Operand) (v : Abs) (x : ℕ) → Covers e s → operand s bits src ≡ Some x → Includes v x → Covers (with_operand e src v) s
-covers_learnt e s bits (Imm k) v x h is hv = h
-covers_learnt e s bits (Register r) v x h is hv = record { registers = learnt_at e.registers s (number_of r) v x h.registers is hv; stack = h.stack }
+pub covers_learnt : (g : Answers) (e : AbsState) (s : State) (bits : Bits) (src : Operand) (v : Abs) (x : ℕ) → Covers g e s → operand s bits src ≡ Some x → Includes g v x → Covers g (with_operand e src v) s
+covers_learnt g e s bits (Imm k) v x h is hv = h
+covers_learnt g e s bits (Register r) v x h is hv = record { registers = learnt_at g e.registers s (number_of r) v x h.registers is hv; stack = h.stack }
 
 -- ---- joins
 
@@ -74,47 +89,79 @@ register_at-join_past a b r le =
     let f : ℕ → Abs = λ (q : ℕ). join_values (register_at a q) (register_at b q) in
     get_or_past (map f (range_with_len 0 11)) r Unusable (omega (arith, length-map-range_with_len f 0 11))
 
-pub registers_left : (a b : List Abs) (registers : ℕ → Option ℕ) → CoversRegisters a registers → CoversRegisters (join_registers a b) registers
-registers_left a b registers h r = elim (cases_lt r 11) [
-  | inl lt ↦ rw (register_at-join a b r lt) (join_left (register_at a r) (register_at b r) (registers r) (h r))
+pub registers_left : (g : Answers) (a b : List Abs) (registers : ℕ → Option ℕ) → CoversRegisters g a registers → CoversRegisters g (join_registers a b) registers
+registers_left g a b registers h r = elim (cases_lt r 11) [
+  | inl lt ↦ rw (register_at-join a b r lt) (join_left g (register_at a r) (register_at b r) (registers r) (h r))
   | inr le ↦ rw (register_at-join_past a b r le) tt
 ]
 
-pub registers_right : (a b : List Abs) (registers : ℕ → Option ℕ) → CoversRegisters b registers → CoversRegisters (join_registers a b) registers
-registers_right a b registers h r = elim (cases_lt r 11) [
-  | inl lt ↦ rw (register_at-join a b r lt) (join_right (register_at a r) (register_at b r) (registers r) (h r))
+pub registers_right : (g : Answers) (a b : List Abs) (registers : ℕ → Option ℕ) → CoversRegisters g b registers → CoversRegisters g (join_registers a b) registers
+registers_right g a b registers h r = elim (cases_lt r 11) [
+  | inl lt ↦ rw (register_at-join a b r lt) (join_right g (register_at a r) (register_at b r) (registers r) (h r))
   | inr le ↦ rw (register_at-join_past a b r le) tt
 ]
 
-pub covers_join_left : (e f : AbsState) (s : State) → Covers e s → Covers (join_states e f) s
-covers_join_left e f s h = record { registers = registers_left e.registers f.registers s.registers h.registers; stack = stack_left e.stack f.stack s.stack h.stack }
+pub covers_join_left : (g : Answers) (e f : AbsState) (s : State) → Covers g e s → Covers g (join_states e f) s
+covers_join_left g e f s h = record { registers = registers_left g e.registers f.registers s.registers h.registers; stack = stack_left g e.stack f.stack s.stack h.stack }
 
-pub covers_join_right : (e f : AbsState) (s : State) → Covers f s → Covers (join_states e f) s
-covers_join_right e f s h = record { registers = registers_right e.registers f.registers s.registers h.registers; stack = stack_right e.stack f.stack s.stack h.stack }
+pub covers_join_right : (g : Answers) (e f : AbsState) (s : State) → Covers g f s → Covers g (join_states e f) s
+covers_join_right g e f s h = record { registers = registers_right g e.registers f.registers s.registers h.registers; stack = stack_right g e.stack f.stack s.stack h.stack }
+
+-- ---- answers
+
+more_includes : (g after : Answers) (a : Abs) (x : ℕ) → IsMore g after → Includes g a x → Includes after a x
+more_includes g after (MayCell a) x more h = more a.slot x h
+more_includes g after (Cell (Found a)) x more h = (more a.slot x h.0, h.1)
+more_includes g after a x more h = h
+
+more_value : (g after : Answers) (a : Abs) (v : Option ℕ) → IsMore g after → CoversValue g a v → CoversValue after a v
+more_value g after Unusable v more h = tt
+more_value g after (Num a) None more h = absurd h
+more_value g after (Num a) (Some x) more h = more_includes g after (Num a) x more h
+more_value g after (Ctx a) None more h = absurd h
+more_value g after (Ctx a) (Some x) more h = more_includes g after (Ctx a) x more h
+more_value g after (Stk a) None more h = absurd h
+more_value g after (Stk a) (Some x) more h = more_includes g after (Stk a) x more h
+more_value g after (Map a) None more h = absurd h
+more_value g after (Map a) (Some x) more h = more_includes g after (Map a) x more h
+more_value g after (MayCell a) None more h = absurd h
+more_value g after (MayCell a) (Some x) more h = more_includes g after (MayCell a) x more h
+more_value g after (Cell a) None more h = absurd h
+more_value g after (Cell a) (Some x) more h = more_includes g after (Cell a) x more h
+
+more_slot : (g after : Answers) (slot : AbsSlot) (bytes : ℕ → Option ℕ) → IsMore g after → CoversSlot g slot bytes → CoversSlot after slot bytes
+more_slot g after (Kept v) bytes more h = record { number = h.number; word = h.word; included = more_includes g after v h.number more h.included; bytes_are = h.bytes_are }
+more_slot g after (Bytes mask) bytes more h = h
+
+pub covers_later : (g after : Answers) (e : AbsState) (s : State) → IsMore g after → Covers g e s → Covers after e s
+covers_later g after e s more h = record {
+  registers = λ r. more_value g after (register_at e.registers r) (s.registers r) more (h.registers r);
+  stack = λ i. more_slot g after (slot_at e.stack i) (bytes_of s.stack i) more (h.stack i);
+}
 
 -- ---- where a run starts
 
-opening_registers_cover : (r : ℕ) → CoversValue (register_at opening_registers r) (start.opening_registers r)
-opening_registers_cover zero = tt
-opening_registers_cover (suc zero) = (omega arith, omega arith)
-opening_registers_cover (suc (suc zero)) = tt
-opening_registers_cover (suc (suc (suc zero))) = tt
-opening_registers_cover (suc (suc (suc (suc zero)))) = tt
-opening_registers_cover (suc (suc (suc (suc (suc zero))))) = tt
-opening_registers_cover (suc (suc (suc (suc (suc (suc zero)))))) = tt
-opening_registers_cover (suc (suc (suc (suc (suc (suc (suc zero))))))) = tt
-opening_registers_cover (suc (suc (suc (suc (suc (suc (suc (suc zero)))))))) = tt
-opening_registers_cover (suc (suc (suc (suc (suc (suc (suc (suc (suc zero))))))))) = tt
-opening_registers_cover (suc (suc (suc (suc (suc (suc (suc (suc (suc (suc zero)))))))))) = refl
-opening_registers_cover (suc (suc (suc (suc (suc (suc (suc (suc (suc (suc (suc r))))))))))) = tt
+opening_registers_cover : (g : Answers) (r : ℕ) → CoversValue g (register_at opening_registers r) (start.opening_registers r)
+opening_registers_cover g zero = tt
+opening_registers_cover g (suc zero) = (omega arith, omega arith)
+opening_registers_cover g (suc (suc zero)) = tt
+opening_registers_cover g (suc (suc (suc zero))) = tt
+opening_registers_cover g (suc (suc (suc (suc zero)))) = tt
+opening_registers_cover g (suc (suc (suc (suc (suc zero))))) = tt
+opening_registers_cover g (suc (suc (suc (suc (suc (suc zero)))))) = tt
+opening_registers_cover g (suc (suc (suc (suc (suc (suc (suc zero))))))) = tt
+opening_registers_cover g (suc (suc (suc (suc (suc (suc (suc (suc zero)))))))) = tt
+opening_registers_cover g (suc (suc (suc (suc (suc (suc (suc (suc (suc zero))))))))) = tt
+opening_registers_cover g (suc (suc (suc (suc (suc (suc (suc (suc (suc (suc zero)))))))))) = refl
+opening_registers_cover g (suc (suc (suc (suc (suc (suc (suc (suc (suc (suc (suc r))))))))))) = tt
 
 unset : (n i : ℕ) → slot_at (replicate {A = AbsSlot} n (Bytes 0)) i ≡ Bytes 0
 unset zero i = refl
 unset (suc n) zero = refl
 unset (suc n) (suc i) = unset n i
 
-pub covers_opening : (a : Attributes) → Covers opening_state (start.opening a)
-covers_opening a = record {
-  registers = opening_registers_cover;
+pub covers_opening : (g : Answers) (a : Attributes) → Covers g opening_state (start.opening a)
+covers_opening g a = record {
+  registers = opening_registers_cover g;
   stack = λ i. rw (unset 64 i) (none_set (bytes_of (start.opening a).stack i));
 }

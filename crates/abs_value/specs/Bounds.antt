@@ -89,4 +89,5 @@ extended_number e a = if is_single a then single (extended e a.lo) else full (ex
 -- END: any number of its size
 abbrev pub reordered_number : ByteOrder → EndSize → Number → Number
 reordered_number order size a =
-    if is_single a then single (reordered order size a.lo) else up_to (2 ^ bits (end_width size) - 1)
+    if is_single a then single (reordered order size a.lo)
+    else up_to (2 ^ bits (end_width size) - 1)

@@ -31,122 +31,143 @@ use Rattle.abs_value.specs.Values.{join_values}
 use Rattle.abs_value.specs.Stack.{has_unset, loaded_from}
 use Rattle.abs_value.specs.States.{opening_state, value_at, join_states, operand_value, with_value}
 use Rattle.abs_value.specs.States.{with_operand, with_stored}
-use Rattle.abs_value.specs.Covers.{Includes, IsWord, Covers}
+use Rattle.abs_value.specs.Covers.{Answers, Includes, IsWord, Covers}
 
 -- ---- values
 
 -- an operation on values stands for the operation of the machine
 abbrev pub IncludesResults : Type 0
 IncludesResults =
-    (bits : Bits) (op : AluOp) (a b : Abs) (x y : ℕ)
-    → IsWord x → IsWord y → Includes a x → Includes b y
-    → Includes (alu_value bits op a b) (alu_result bits op x y)
+    (g : Answers) (bits : Bits) (op : AluOp) (a b : Abs) (x y : ℕ)
+    → IsWord x → IsWord y → Includes g a x → Includes g b y
+    → Includes g (alu_value bits op a b) (alu_result bits op x y)
 
 abbrev pub IncludesCopies : Type 0
 IncludesCopies =
-    (bits : Bits) (a : Abs) (x : ℕ) → Includes a x → Includes (copied_value bits a) (word bits x)
+    (g : Answers) (bits : Bits) (a : Abs) (x : ℕ)
+    → Includes g a x → Includes g (copied_value bits a) (word bits x)
 
 abbrev pub IncludesNegations : Type 0
 IncludesNegations =
-    (bits : Bits) (a : Abs) (x : ℕ) → IsWord x → Includes a x
-    → Includes (negated_value bits a) (negated bits x)
+    (g : Answers) (bits : Bits) (a : Abs) (x : ℕ) → IsWord x → Includes g a x
+    → Includes g (negated_value bits a) (negated bits x)
 
 abbrev pub IncludesExtensions : Type 0
 IncludesExtensions =
-    (e : Extension) (a : Abs) (x : ℕ) → Includes a x → Includes (extended_value e a) (extended e x)
+    (g : Answers) (e : Extension) (a : Abs) (x : ℕ)
+    → Includes g a x → Includes g (extended_value e a) (extended e x)
 
 abbrev pub IncludesReorderings : Type 0
 IncludesReorderings =
-    (order : ByteOrder) (size : EndSize) (a : Abs) (x : ℕ) → Includes a x
-    → Includes (reordered_value order size a) (reordered order size x)
+    (g : Answers) (order : ByteOrder) (size : EndSize) (a : Abs) (x : ℕ) → Includes g a x
+    → Includes g (reordered_value order size a) (reordered order size x)
 
 -- a number of as many bytes as the load has
 abbrev pub IncludesLoaded : Type 0
 IncludesLoaded =
-    (kind : LoadKind) (n : ℕ) → n < 256 ^ load_count kind
-    → Includes (loaded_value kind) (filled kind n)
+    (g : Answers) (kind : LoadKind) (n : ℕ) → n < 256 ^ load_count kind
+    → Includes g (loaded_value kind) (filled kind n)
 
 -- the edge isn't dropped, and what is left of the two values on it includes their numbers
-pub record IsLeft (o : Option (Abs × Abs)) (x y : ℕ) : Type 0 where
+pub record IsLeft (g : Answers) (o : Option (Abs × Abs)) (x y : ℕ) : Type 0 where
   pub pair : Abs × Abs
   pub is : o ≡ Some pair
-  pub first : Includes pair.0 x
-  pub second : Includes pair.1 y
+  pub first : Includes g pair.0 x
+  pub second : Includes g pair.1 y
 
 -- on the edge that a run takes
 abbrev pub KeepsEdges : Type 0
 KeepsEdges =
-    (bits : Bits) (condition : Condition) (jumps : Bool) (a b : Abs) (x y : ℕ)
-    → Includes a x → Includes b y → is_taken jumps (holds bits condition x y) ≡ true
-    → IsLeft (refined bits condition jumps a b) x y
+    (g : Answers) (bits : Bits) (condition : Condition) (jumps : Bool) (a b : Abs) (x y : ℕ)
+    → Includes g a x → Includes g b y → is_taken jumps (holds bits condition x y) ≡ true
+    → IsLeft g (refined bits condition jumps a b) x y
 
 -- ---- registers
 
 -- a value that isn't unusable stands for a number that is there
-pub record IsThere (a : Abs) (v : Option ℕ) : Type 0 where
+pub record IsThere (g : Answers) (a : Abs) (v : Option ℕ) : Type 0 where
   pub number : ℕ
   pub is : v ≡ Some number
-  pub included : Includes a number
+  pub included : Includes g a number
 
 abbrev pub RegistersAreThere : Type 0
 RegistersAreThere =
-    (e : AbsState) (s : State) (r : ℕ) → Covers e s → is_unusable (value_at e r) ≡ false
-    → IsThere (value_at e r) (s.registers r)
+    (g : Answers) (e : AbsState) (s : State) (r : ℕ)
+    → Covers g e s → is_unusable (value_at e r) ≡ false
+    → IsThere g (value_at e r) (s.registers r)
 
 abbrev pub OperandsAreThere : Type 0
 OperandsAreThere =
-    (e : AbsState) (s : State) (bits : Bits) (src : Operand)
-    → Covers e s → is_unusable (operand_value e bits src) ≡ false
-    → IsThere (operand_value e bits src) (operand s bits src)
+    (g : Answers) (e : AbsState) (s : State) (bits : Bits) (src : Operand)
+    → Covers g e s → is_unusable (operand_value e bits src) ≡ false
+    → IsThere g (operand_value e bits src) (operand s bits src)
 
 -- the register that is written gets a value
 abbrev pub CoversWrites : Type 0
 CoversWrites =
-    (e : AbsState) (s : State) (r : Reg) (v : Abs) (x : ℕ) → Covers e s → Includes v x
-    → Covers (with_value e r v) (with_register s (number_of r) x)
+    (g : Answers) (e : AbsState) (s : State) (r : Reg) (v : Abs) (x : ℕ)
+    → Covers g e s → Includes g v x
+    → Covers g (with_value e r v) (with_register s (number_of r) x)
 
 -- something is learnt of an operand as it stands
 abbrev pub CoversLearnt : Type 0
 CoversLearnt =
-    (e : AbsState) (s : State) (bits : Bits) (src : Operand) (v : Abs) (x : ℕ) → Covers e s
-    → operand s bits src ≡ Some x → Includes v x → Covers (with_operand e src v) s
+    (g : Answers) (e : AbsState) (s : State) (bits : Bits) (src : Operand) (v : Abs) (x : ℕ)
+    → Covers g e s
+    → operand s bits src ≡ Some x → Includes g v x → Covers g (with_operand e src v) s
+
+-- ---- answers
+
+-- what was answered stays so
+abbrev pub IsMore : Answers → Answers → Type 0
+IsMore before after = (call x : ℕ) → before call ≡ Some x → after call ≡ Some x
+
+abbrev pub CoversLater : Type 0
+CoversLater =
+    (g after : Answers) (e : AbsState) (s : State)
+    → IsMore g after → Covers g e s → Covers after e s
 
 -- ---- joins, and the start
 
 abbrev pub CoversFirst : Type 0
-CoversFirst = (e f : AbsState) (s : State) → Covers e s → Covers (join_states e f) s
+CoversFirst =
+    (g : Answers) (e f : AbsState) (s : State)
+    → Covers g e s → Covers g (join_states e f) s
 
 abbrev pub CoversSecond : Type 0
-CoversSecond = (e f : AbsState) (s : State) → Covers f s → Covers (join_states e f) s
+CoversSecond =
+    (g : Answers) (e f : AbsState) (s : State)
+    → Covers g f s → Covers g (join_states e f) s
 
 abbrev pub CoversOpening : Type 0
-CoversOpening = (a : Attributes) → Covers opening_state (opening a)
+CoversOpening = (g : Answers) (a : Attributes) → Covers g opening_state (opening a)
 
 -- ---- the stack
 
 -- a store is possible, and what is known afterwards covers the state that it leaves
-abbrev pub CoversAfter : AbsState → Option State → Type 0
-CoversAfter e None = ⊥
-CoversAfter e (Some t) = Covers e t
+abbrev pub CoversAfter : Answers → AbsState → Option State → Type 0
+CoversAfter g e None = ⊥
+CoversAfter g e (Some t) = Covers g e t
 
 abbrev pub CoversStores : Type 0
 CoversStores =
-    (e : AbsState) (s : State) (place : ℕ) (size : Size) (v : Abs) (x : ℕ)
-    → place + byte_count size ≤ stack_size → Covers e s → IsWord x → Includes v x
-    → CoversAfter (with_stored e place (byte_count size) v)
+    (g : Answers) (e : AbsState) (s : State) (place : ℕ) (size : Size) (v : Abs) (x : ℕ)
+    → place + byte_count size ≤ stack_size → Covers g e s → IsWord x → Includes g v x
+    → CoversAfter g (with_stored e place (byte_count size) v)
     (written_at s (stack_start + place) (byte_count size) x)
 
 -- a load finds a number that the value includes
-pub record Finds (a : Abs) (kind : LoadKind) (o : Option ℕ) : Type 0 where
+pub record Finds (g : Answers) (a : Abs) (kind : LoadKind) (o : Option ℕ) : Type 0 where
   pub number : ℕ
   pub is : o ≡ Some number
-  pub included : Includes a (filled kind number)
+  pub included : Includes g a (filled kind number)
 
 abbrev pub CoversLoads : Type 0
 CoversLoads =
-    (e : AbsState) (s : State) (place : ℕ) (kind : LoadKind) → place + load_count kind ≤ stack_size
-    → HasWords s → Covers e s → has_unset e.stack (pos place) (load_count kind) ≡ false
-    → Finds (loaded_from e.stack place kind) kind
+    (g : Answers) (e : AbsState) (s : State) (place : ℕ) (kind : LoadKind)
+    → place + load_count kind ≤ stack_size
+    → HasWords s → Covers g e s → has_unset e.stack (pos place) (load_count kind) ≡ false
+    → Finds g (loaded_from e.stack place kind) kind
     (read_at s (stack_start + place) (load_count kind))
 
 -- ---- no range is empty

@@ -20,7 +20,11 @@ use Rattle.bpf_semantics.specs.Reads.{load_count}
 use Rattle.abs_value.specs.declared.number.Number.{Number}
 use Rattle.abs_value.specs.declared.places.Places.{Places}
 use Rattle.abs_value.specs.declared.value.Abs.{Abs}
+use Rattle.abs_value.specs.declared.origin.Lookup.{Lookup}
+use Rattle.abs_value.specs.declared.origin.Origin.{Origin}
+use Rattle.abs_value.specs.declared.origin.Origin.TheVariants.{Found, Fixed}
 use Rattle.abs_value.specs.declared.value.Abs.TheVariants.{Unusable, Num, Ctx, Stk}
+use Rattle.abs_value.specs.declared.value.Abs.TheVariants.{Map, MayCell, Cell}
 use Rattle.abs_value.specs.Numbers.{single, is_single, up_to, full, cut, hull}
 use Rattle.abs_value.specs.Bounds.{alu_number, extended_number, reordered_number}
 use Rattle.abs_value.specs.Narrowing.{narrowed}
@@ -30,9 +34,9 @@ is_unusable Unusable = true
 is_unusable v = false
 
 abbrev pub is_pointer : Abs → Bool
-is_pointer (Ctx places) = true
-is_pointer (Stk place) = true
-is_pointer v = false
+is_pointer Unusable = false
+is_pointer (Num a) = false
+is_pointer v = true
 
 abbrev pub is_number : Abs → Bool
 is_number (Num a) = true
@@ -138,10 +142,31 @@ refined bits condition jumps (Num a) (Num b) =
     option_map numbers (narrowed bits condition jumps a b)
 refined bits condition jumps a b = Some (a, b)
 
+-- ---- cells
+
+-- lookups of one array by one call
+abbrev pub same_lookup : Lookup → Lookup → Bool
+same_lookup a b = (a.array == b.array) && (a.slot == b.slot)
+
+-- the cell that a lookup found
+abbrev pub is_found_by : Origin → Lookup → Bool
+is_found_by (Found a) b = same_lookup a b
+is_found_by (Fixed cell) b = false
+
+abbrev pub same_origin : Origin → Origin → Bool
+same_origin (Found a) (Found b) = same_lookup a b
+same_origin (Fixed a) (Fixed b) = a == b
+same_origin a b = false
+
 -- ---- what stands for both
 
 abbrev pub join_values : Abs → Abs → Abs
 join_values (Num a) (Num b) = Num (hull a b)
 join_values (Ctx a) (Ctx b) = Ctx (place_hull a b)
 join_values (Stk a) (Stk b) = if a == b then Stk a else Unusable
+join_values (Map a) (Map b) = if a == b then Map a else Unusable
+join_values (MayCell a) (MayCell b) = if same_lookup a b then MayCell a else Unusable
+join_values (MayCell a) (Cell b) = if is_found_by b a then MayCell a else Unusable
+join_values (Cell a) (MayCell b) = if is_found_by a b then MayCell b else Unusable
+join_values (Cell a) (Cell b) = if same_origin a b then Cell a else Unusable
 join_values a b = Unusable

@@ -1,10 +1,18 @@
--- Stacks of the worked examples.
+-- Stacks and lookups of the worked examples.
 use Rattle.std.specs.Prelude.{List, replicate}
+use Rattle.abs_value.specs.declared.origin.Lookup.{Lookup}
 use Rattle.abs_value.specs.declared.slot.AbsSlot.{AbsSlot}
 use Rattle.abs_value.specs.declared.slot.AbsSlot.TheVariants.{Bytes}
 use Rattle.abs_value.specs.declared.value.Abs.TheVariants.{Num}
 use Rattle.abs_value.specs.Numbers.{single}
 use Rattle.abs_value.specs.Stack.{stored}
+
+-- in one array by two calls
+abbrev pub first : Lookup
+first = record { array = 0; slot = 4 }
+
+abbrev pub second : Lookup
+second = record { array = 0; slot = 9 }
 
 -- where a run starts
 abbrev pub no_bytes : List AbsSlot

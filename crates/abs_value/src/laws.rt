@@ -31,6 +31,11 @@ pub fn registers_cover()
     ensures opening { laws.CoversOpening }
 {}
 
+/// What was covered stays covered when another lookup has answered.
+pub fn answers_are_kept()
+    ensures { laws.CoversLater }
+{}
+
 /// A join stands for all that either side stands for.
 pub fn joins_cover()
     ensures first { laws.CoversFirst }

@@ -9,7 +9,10 @@
 // - a number between two ends (`Num`). It is unsigned, of 64 bits, and single where the ends meet;
 // - the address of one of some places in the context (`Ctx`);
 // - the address of one place in the stack (`Stk`). Places are counted from the start of a region,
-//   and its end is one of them, so a pointer may stand behind the last byte but not access it.
+//   and its end is one of them, so a pointer may stand behind the last byte but not access it;
+// - an array of the program's shape, as a helper takes it (`Map`);
+// - what a lookup in an array gave, the address of a cell or 0 (`MayCell`), known by its call;
+// - the address of a cell, of a lookup that found one or of a wide load (`Cell`).
 //
 // Arithmetic. Of two single numbers the result is what the machine computes, by its own function,
 // whatever the operation. Otherwise each operation has one formula over the ends of the ranges and
@@ -36,17 +39,22 @@
 // Joins. Where two edges meet, what is known is what both sides know: the hull of two ranges, a
 // value that is the same on both sides, the bytes that are set on both. All else is unusable.
 //
+// Lookups. What a lookup answers isn't known here. So a value stands for numbers given the answers
+// so far, one for each call that was made; `MayCell` is the answer of its call, and each copy of it
+// is the same number. A later call adds an answer, and takes nothing from what older values mean.
+//
 // What this is worth is said by `laws.rt`. `specs/Covers.antt` defines which states of the machine
 // a state of the verifier stands for, and the laws say that each operation here, done beside the
 // one of the machine, leads from what is stood for to what is stood for, and that the edge which a
 // run takes is never dropped.
 //
-// Not here yet: arrays, their cells, and what a lookup gives.
+// Not here yet: what a comparison with 0 teaches of a lookup, and what a call leaves.
 
 mod bounds;
 mod laws;
 mod narrow;
 mod number;
+mod origin;
 mod places;
 mod relation;
 mod slot;
@@ -58,10 +66,11 @@ mod worked_edges;
 mod worked_values;
 
 pub use laws::{
-    edges_are_kept, joins_cover, loads_cover, ranges_have_numbers, registers_cover,
-    results_are_included, stores_cover,
+    answers_are_kept, edges_are_kept, joins_cover, loads_cover, ranges_have_numbers,
+    registers_cover, results_are_included, stores_cover,
 };
 pub use number::Number;
+pub use origin::{Lookup, Origin};
 pub use places::{CONTEXT_SIZE, Places, STACK_SIZE};
 pub use relation::Relation;
 pub use slot::AbsSlot;

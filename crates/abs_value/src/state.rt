@@ -36,6 +36,7 @@ impl AbsState {
         }
     }
 
+    #[inline]
     pub fn value(&self, r: Reg) -> Abs
         ensures { result ≡ states.value_of self.now r }
     {
@@ -43,6 +44,7 @@ impl AbsState {
     }
 
     /// The second operand of arithmetic, or of a jump.
+    #[inline]
     pub fn operand(&self, bits: Bits, src: Operand) -> Abs
         ensures { result ≡ states.operand_value self.now bits src }
     {
@@ -52,6 +54,7 @@ impl AbsState {
         }
     }
 
+    #[inline]
     pub fn set(&mut self, r: Reg, value: Abs)
         ensures { self.new ≡ states.with_value self.old r value }
     {
@@ -59,6 +62,7 @@ impl AbsState {
     }
 
     /// Sets the register that an operand is; an imm stays what it is.
+    #[inline]
     pub fn set_operand(&mut self, src: Operand, value: Abs)
         ensures { self.new ≡ states.with_operand self.old src value }
     {
@@ -78,6 +82,7 @@ impl AbsState {
     }
 
     /// What a load from a place in the stack gives.
+    #[inline]
     pub fn load(&self, place: u16, kind: LoadKind) -> Abs
         requires { place < stack_size }
         ensures { result ≡ loaded_from self.now.stack place kind }
@@ -107,6 +112,6 @@ fn join_registers(registers: &mut [Abs; 11], other: &[Abs; 11])
     ensures { registers.new ≡ states.join_registers registers.old other.now }
 {
     for r in 0..11 {
-        registers[r].join_in(other[r]);
+        registers[r] = registers[r].join(other[r]);
     }
 }

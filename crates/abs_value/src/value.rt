@@ -5,6 +5,7 @@ ghost use Rattle.std.specs.Prelude.{◌≡◌};
 ghost use Rattle.abs_value.specs.Values as values;
 
 use crate::number::Number;
+use crate::origin::{Lookup, Origin};
 use crate::places::{Places, moved_in_stack};
 use bpf_insn::{AluOp, Bits, ByteOrder, Condition, EndSize, Extension, LoadKind};
 
@@ -19,21 +20,30 @@ pub enum Abs {
     Ctx(Places),
     /// The address of this place in the stack.
     Stk { place: u16 },
+    /// The map of this index.
+    Map { index: u32 },
+    /// What a lookup gave: the address of a cell of its array, or 0.
+    MayCell(Lookup),
+    /// The address of a cell.
+    Cell(Origin),
 }
 
 impl Abs {
+    #[inline]
     pub fn is_unusable(self) -> bool
         ensures { result ≡ values.is_unusable self }
     {
         matches!(self, Abs::Unusable)
     }
 
+    #[inline]
     pub fn is_pointer(self) -> bool
         ensures { result ≡ values.is_pointer self }
     {
-        matches!(self, Abs::Ctx(_) | Abs::Stk { .. })
+        !matches!(self, Abs::Unusable | Abs::Num(_))
     }
 
+    #[inline]
     pub fn is_number(self) -> bool
         ensures { result ≡ values.is_number self }
     {
@@ -147,16 +157,12 @@ impl Abs {
             (Abs::Num(a), Abs::Num(b)) => Abs::Num(a.hull(b)),
             (Abs::Ctx(a), Abs::Ctx(b)) => Abs::Ctx(a.hull(b)),
             (Abs::Stk { place }, Abs::Stk { place: other }) if place == other => Abs::Stk { place },
+            (Abs::Map { index }, Abs::Map { index: other }) if index == other => Abs::Map { index },
+            (Abs::MayCell(a), Abs::MayCell(b)) if a.is_same(b) => self,
+            (Abs::MayCell(a), Abs::Cell(b)) if b.is_found_by(a) => self,
+            (Abs::Cell(a), Abs::MayCell(b)) if a.is_found_by(b) => other,
+            (Abs::Cell(a), Abs::Cell(b)) if a.is_same(b) => self,
             _ => Abs::Unusable,
-        }
-    }
-
-    /// Joins another value in; of one that is unusable nothing more can be lost.
-    pub fn join_in(&mut self, other: Abs)
-        ensures { self.new ≡ values.join_values self.old other }
-    {
-        if !self.is_unusable() {
-            *self = self.join(other);
         }
     }
 }

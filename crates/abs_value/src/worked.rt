@@ -16,8 +16,10 @@ pub fn sums()
     ensures inside { alu_number Bits64 Add (number 1 5) (number 10 20) ≡ number 11 25 }
     ensures fits { alu_number Bits64 Add (number 5 0xFFFFFFFFFFFFFFF5) (number 0 10)
         ≡ number 5 0xFFFFFFFFFFFFFFFF }
-    ensures wraps { alu_number Bits64 Add (number 5 0xFFFFFFFFFFFFFFF5) (number 0 11) ≡ up_to 0xFFFFFFFFFFFFFFFF }
-    ensures fits32 { alu_number Bits32 Add (number 5 0xFFFFFFF5) (number 0 10) ≡ number 5 0xFFFFFFFF }
+    ensures wraps { alu_number Bits64 Add (number 5 0xFFFFFFFFFFFFFFF5) (number 0 11)
+        ≡ up_to 0xFFFFFFFFFFFFFFFF }
+    ensures fits32 { alu_number Bits32 Add (number 5 0xFFFFFFF5) (number 0 10)
+        ≡ number 5 0xFFFFFFFF }
     ensures wraps32 { alu_number Bits32 Add (number 5 0xFFFFFFF5) (number 0 11) ≡ up_to 0xFFFFFFFF }
     ensures low_half { alu_number Bits32 Add (number 3 4) (single 0x100000005) ≡ number 8 9 }
     ensures single_wraps { alu_number Bits64 Add (single 0xFFFFFFFFFFFFFFFF) (single 2) ≡ single 1 }
@@ -40,7 +42,8 @@ pub fn bit_operations()
     ensures and_too { alu_number Bits64 And (number 5 200) (number 7 12) ≡ up_to 12 }
     ensures or_7 { alu_number Bits64 Or (number 0 7) (number 1 3) ≡ up_to 7 }
     ensures or_8 { alu_number Bits64 Or (number 1 3) (number 0 8) ≡ up_to 15 }
-    ensures or_high { alu_number Bits64 Or (number 0 0x8000000000000000) (number 0 1) ≡ up_to 0xFFFFFFFFFFFFFFFF }
+    ensures or_high { alu_number Bits64 Or (number 0 0x8000000000000000) (number 0 1)
+        ≡ up_to 0xFFFFFFFFFFFFFFFF }
     ensures xor_7 { alu_number Bits64 Xor (number 6 7) (number 6 7) ≡ up_to 7 }
     ensures xor_8 { alu_number Bits64 Xor (number 0 8) (single 0) ≡ up_to 15 }
     ensures xor32 { alu_number Bits32 Xor (number 0 0x80000000) (number 0 1) ≡ up_to 0xFFFFFFFF }
@@ -50,22 +53,32 @@ pub fn bit_operations()
 /// A single count is masked, and shifts both ends: to the left where the greatest fits, and with
 /// the sign where no number has it. By a range of counts anything may come.
 pub fn shifts()
-    ensures lsh_fits { alu_number Bits64 Lsh (number 1 0xFFFFFFFFFFFFFFF) (single 4) ≡ number 16 0xFFFFFFFFFFFFFFF0 }
-    ensures lsh_wraps { alu_number Bits64 Lsh (number 1 0x1000000000000000) (single 4) ≡ up_to 0xFFFFFFFFFFFFFFFF }
+    ensures lsh_fits { alu_number Bits64 Lsh (number 1 0xFFFFFFFFFFFFFFF) (single 4)
+        ≡ number 16 0xFFFFFFFFFFFFFFF0 }
+    ensures lsh_wraps { alu_number Bits64 Lsh (number 1 0x1000000000000000) (single 4)
+        ≡ up_to 0xFFFFFFFFFFFFFFFF }
     ensures lsh_masked { alu_number Bits64 Lsh (number 1 3) (single 66) ≡ number 4 12 }
-    ensures lsh_by_range { alu_number Bits64 Lsh (number 1 3) (number 0 1) ≡ up_to 0xFFFFFFFFFFFFFFFF }
-    ensures lsh32_fits { alu_number Bits32 Lsh (number 1 0xFFFFFFF) (single 4) ≡ number 16 0xFFFFFFF0 }
-    ensures lsh32_wraps { alu_number Bits32 Lsh (number 1 0x10000000) (single 4) ≡ up_to 0xFFFFFFFF }
+    ensures lsh_by_range { alu_number Bits64 Lsh (number 1 3) (number 0 1)
+        ≡ up_to 0xFFFFFFFFFFFFFFFF }
+    ensures lsh32_fits { alu_number Bits32 Lsh (number 1 0xFFFFFFF) (single 4)
+        ≡ number 16 0xFFFFFFF0 }
+    ensures lsh32_wraps { alu_number Bits32 Lsh (number 1 0x10000000) (single 4)
+        ≡ up_to 0xFFFFFFFF }
     ensures lsh32_masked { alu_number Bits32 Lsh (number 1 3) (single 34) ≡ number 4 12 }
     ensures rsh { alu_number Bits64 Rsh (number 7 17) (single 2) ≡ number 1 4 }
     ensures rsh32 { alu_number Bits32 Rsh (number 0 0x10000000000) (single 36) ≡ up_to 0xFFFFFFF }
-    ensures rsh_by_range { alu_number Bits64 Rsh (number 1 3) (number 0 1) ≡ up_to 0xFFFFFFFFFFFFFFFF }
+    ensures rsh_by_range { alu_number Bits64 Rsh (number 1 3) (number 0 1)
+        ≡ up_to 0xFFFFFFFFFFFFFFFF }
     ensures arsh_low { alu_number Bits64 Arsh (number 8 0x7FFFFFFFFFFFFFFF) (single 1)
         ≡ number 4 0x3FFFFFFFFFFFFFFF }
-    ensures arsh_sign { alu_number Bits64 Arsh (number 8 0x8000000000000000) (single 1) ≡ up_to 0xFFFFFFFFFFFFFFFF }
-    ensures arsh32_low { alu_number Bits32 Arsh (number 8 0x7FFFFFFF) (single 1) ≡ number 4 0x3FFFFFFF }
-    ensures arsh32_sign { alu_number Bits32 Arsh (number 8 0x80000000) (single 1) ≡ up_to 0xFFFFFFFF }
-    ensures single_arsh { alu_number Bits32 Arsh (single 0x80000000) (single 4) ≡ single 0xF8000000 }
+    ensures arsh_sign { alu_number Bits64 Arsh (number 8 0x8000000000000000) (single 1)
+        ≡ up_to 0xFFFFFFFFFFFFFFFF }
+    ensures arsh32_low { alu_number Bits32 Arsh (number 8 0x7FFFFFFF) (single 1)
+        ≡ number 4 0x3FFFFFFF }
+    ensures arsh32_sign { alu_number Bits32 Arsh (number 8 0x80000000) (single 1)
+        ≡ up_to 0xFFFFFFFF }
+    ensures single_arsh { alu_number Bits32 Arsh (single 0x80000000) (single 4)
+        ≡ single 0xF8000000 }
 {}
 
 /// MOV of 32 bits, MOVSX and END: single numbers as the machine has them, ranges by their size.

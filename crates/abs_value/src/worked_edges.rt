@@ -9,26 +9,38 @@ ghost use Rattle.abs_value.specs.Narrowing.{narrowed};
 
 /// Below, at most, and their opposites.
 pub fn orders()
-    ensures below { narrowed Bits64 jump.Lt true (number 3 9) (number 3 4) ≡ Some (single 3, single 4) }
+    ensures below { narrowed Bits64 jump.Lt true (number 3 9) (number 3 4)
+        ≡ Some (single 3, single 4) }
     ensures nowhere_below { narrowed Bits64 jump.Lt true (number 3 9) (number 1 3) ≡ None }
-    ensures not_below { narrowed Bits64 jump.Lt false (number 0 10) (number 5 7) ≡ Some (number 5 10, number 5 7) }
-    ensures at_most { narrowed Bits64 jump.Le true (number 3 9) (number 1 3) ≡ Some (single 3, single 3) }
+    ensures not_below { narrowed Bits64 jump.Lt false (number 0 10) (number 5 7)
+        ≡ Some (number 5 10, number 5 7) }
+    ensures at_most { narrowed Bits64 jump.Le true (number 3 9) (number 1 3)
+        ≡ Some (single 3, single 3) }
     ensures nowhere_at_most { narrowed Bits64 jump.Le true (number 3 9) (number 1 2) ≡ None }
-    ensures above { narrowed Bits64 jump.Gt true (number 3 9) (single 8) ≡ Some (single 9, single 8) }
-    ensures not_above { narrowed Bits64 jump.Gt false (number 3 9) (single 8) ≡ Some (number 3 8, single 8) }
-    ensures at_least { narrowed Bits64 jump.Ge true (number 3 9) (single 9) ≡ Some (single 9, single 9) }
+    ensures above { narrowed Bits64 jump.Gt true (number 3 9) (single 8)
+        ≡ Some (single 9, single 8) }
+    ensures not_above { narrowed Bits64 jump.Gt false (number 3 9) (single 8)
+        ≡ Some (number 3 8, single 8) }
+    ensures at_least { narrowed Bits64 jump.Ge true (number 3 9) (single 9)
+        ≡ Some (single 9, single 9) }
     ensures nowhere_at_least { narrowed Bits64 jump.Ge true (number 3 9) (single 10) ≡ None }
 {}
 
 /// Equal and unequal: the common part, and an end that moves in by one.
 pub fn equalities()
-    ensures common { narrowed Bits64 jump.Eq true (number 0 10) (number 5 20) ≡ Some (number 5 10, number 5 10) }
-    ensures one_common { narrowed Bits64 jump.Eq true (number 0 5) (number 5 20) ≡ Some (single 5, single 5) }
+    ensures common { narrowed Bits64 jump.Eq true (number 0 10) (number 5 20)
+        ≡ Some (number 5 10, number 5 10) }
+    ensures one_common { narrowed Bits64 jump.Eq true (number 0 5) (number 5 20)
+        ≡ Some (single 5, single 5) }
     ensures apart { narrowed Bits64 jump.Eq true (number 0 4) (number 5 9) ≡ None }
-    ensures least { narrowed Bits64 jump.Ne true (number 0 10) (single 0) ≡ Some (number 1 10, single 0) }
-    ensures greatest { narrowed Bits64 jump.Eq false (single 10) (number 0 10) ≡ Some (single 10, number 0 9) }
-    ensures within { narrowed Bits64 jump.Ne true (number 0 10) (single 5) ≡ Some (number 0 10, single 5) }
-    ensures ranges { narrowed Bits64 jump.Ne true (number 0 5) (number 0 5) ≡ Some (number 0 5, number 0 5) }
+    ensures least { narrowed Bits64 jump.Ne true (number 0 10) (single 0)
+        ≡ Some (number 1 10, single 0) }
+    ensures greatest { narrowed Bits64 jump.Eq false (single 10) (number 0 10)
+        ≡ Some (single 10, number 0 9) }
+    ensures within { narrowed Bits64 jump.Ne true (number 0 10) (single 5)
+        ≡ Some (number 0 10, single 5) }
+    ensures ranges { narrowed Bits64 jump.Ne true (number 0 5) (number 0 5)
+        ≡ Some (number 0 5, number 0 5) }
 {}
 
 /// Two single numbers decide the condition, whatever it is.
@@ -52,11 +64,14 @@ pub fn sides()
     ensures negative { narrowed Bits64 jump.Sge false
         (number 0x8000000000000000 0xFFFFFFFFFFFFFFFF) (single 0xFFFFFFFFFFFFFFFF)
         ≡ Some (number 0x8000000000000000 0xFFFFFFFFFFFFFFFE, single 0xFFFFFFFFFFFFFFFF) }
-    ensures short { narrowed Bits32 jump.Lt true (up_to 0xFFFFFFFF) (single 5) ≡ Some (up_to 4, single 5) }
+    ensures short { narrowed Bits32 jump.Lt true (up_to 0xFFFFFFFF) (single 5)
+        ≡ Some (up_to 4, single 5) }
     ensures long { narrowed Bits32 jump.Lt true (up_to 0x100000000) (single 5)
         ≡ Some (up_to 0x100000000, single 5) }
-    ensures positive32 { narrowed Bits32 jump.Sle true (up_to 0x7FFFFFFF) (single 5) ≡ Some (up_to 5, single 5) }
+    ensures positive32 { narrowed Bits32 jump.Sle true (up_to 0x7FFFFFFF) (single 5)
+        ≡ Some (up_to 5, single 5) }
     ensures crossing32 { narrowed Bits32 jump.Sle true (up_to 0x80000000) (single 5)
         ≡ Some (up_to 0x80000000, single 5) }
-    ensures common_bit { narrowed Bits64 jump.Set true (up_to 9) (single 2) ≡ Some (up_to 9, single 2) }
+    ensures common_bit { narrowed Bits64 jump.Set true (up_to 9) (single 2)
+        ≡ Some (up_to 9, single 2) }
 {}

@@ -6,19 +6,26 @@ ghost use Rattle.bpf_insn.specs.declared.operand.AluOp.TheVariants.{Add, Sub};
 ghost use Rattle.bpf_insn.specs.declared.operand.Bits.TheVariants.{Bits64, Bits32};
 ghost use Rattle.bpf_insn.specs.declared.operand.LoadKind.TheVariants as load;
 ghost use Rattle.abs_value.specs.declared.value.Abs.TheVariants.{Unusable, Num, Ctx, Stk};
+ghost use Rattle.abs_value.specs.declared.value.Abs.TheVariants.{Map, MayCell, Cell};
+ghost use Rattle.abs_value.specs.declared.origin.Origin.TheVariants.{Found, Fixed};
 ghost use Rattle.abs_value.specs.declared.slot.AbsSlot.TheVariants.{Kept, Bytes};
 ghost use Rattle.abs_value.specs.Numbers.{number, single, up_to};
 ghost use Rattle.abs_value.specs.Values.{places, alu_value, copied_value, join_values};
 ghost use Rattle.abs_value.specs.Stack.{stored, slot_at, loaded_from, has_unset, join_slots};
+ghost use Rattle.abs_value.specs.Worked as found;
 ghost use Rattle.abs_value.specs.Worked.{no_bytes, kept_at_end, two_halves};
 
 /// A pointer moves within its region: a single number by its signed view, a range only up.
 pub fn pointer_moves()
-    ensures to_the_end { alu_value Bits64 Add (Ctx (places 0 0)) (Num (single 64)) ≡ Ctx (places 64 64) }
+    ensures to_the_end { alu_value Bits64 Add (Ctx (places 0 0)) (Num (single 64))
+        ≡ Ctx (places 64 64) }
     ensures past_the_end { alu_value Bits64 Add (Ctx (places 0 0)) (Num (single 65)) ≡ Unusable }
-    ensures down { alu_value Bits64 Add (Ctx (places 4 8)) (Num (single 0xFFFFFFFFFFFFFFFC)) ≡ Ctx (places 0 4) }
-    ensures below { alu_value Bits64 Add (Ctx (places 4 8)) (Num (single 0xFFFFFFFFFFFFFFFB)) ≡ Unusable }
-    ensures range { alu_value Bits64 Add (Ctx (places 4 8)) (Num (number 0 56)) ≡ Ctx (places 4 64) }
+    ensures down { alu_value Bits64 Add (Ctx (places 4 8)) (Num (single 0xFFFFFFFFFFFFFFFC))
+        ≡ Ctx (places 0 4) }
+    ensures below { alu_value Bits64 Add (Ctx (places 4 8)) (Num (single 0xFFFFFFFFFFFFFFFB))
+        ≡ Unusable }
+    ensures range { alu_value Bits64 Add (Ctx (places 4 8)) (Num (number 0 56))
+        ≡ Ctx (places 4 64) }
     ensures range_past { alu_value Bits64 Add (Ctx (places 4 8)) (Num (number 0 57)) ≡ Unusable }
     ensures taken { alu_value Bits64 Sub (Ctx (places 4 8)) (Num (single 4)) ≡ Ctx (places 0 4) }
     ensures range_taken { alu_value Bits64 Sub (Ctx (places 4 8)) (Num (number 0 1)) ≡ Unusable }
@@ -40,8 +47,21 @@ pub fn joins()
     ensures frame { join_values (Stk 504) (Stk 504) ≡ Stk 504 }
     ensures frames { join_values (Stk 504) (Stk 496) ≡ Unusable }
     ensures mixed { join_values (Num (single 0)) (Ctx (places 0 0)) ≡ Unusable }
+    ensures maps { join_values (Map 1) (Map 1) ≡ Map 1 }
+    ensures other_map { join_values (Map 1) (Map 2) ≡ Unusable }
+    ensures answers { join_values (MayCell found.first) (MayCell found.first)
+        ≡ MayCell found.first }
+    ensures other_call { join_values (MayCell found.first) (MayCell found.second) ≡ Unusable }
+    ensures found { join_values (Cell (Found found.first)) (MayCell found.first)
+        ≡ MayCell found.first }
+    ensures found_too { join_values (MayCell found.first) (Cell (Found found.first))
+        ≡ MayCell found.first }
+    ensures cells { join_values (Cell (Fixed 3)) (Cell (Fixed 3)) ≡ Cell (Fixed 3) }
+    ensures other_cell { join_values (Cell (Fixed 3)) (Cell (Fixed 4)) ≡ Unusable }
+    ensures fixed_or_found { join_values (Cell (Fixed 3)) (Cell (Found found.first)) ≡ Unusable }
     ensures unusable { join_values Unusable (Num (single 0)) ≡ Unusable }
-    ensures kept { join_slots (Kept (Num (single 1))) (Kept (Num (single 2))) ≡ Kept (Num (number 1 2)) }
+    ensures kept { join_slots (Kept (Num (single 1))) (Kept (Num (single 2)))
+        ≡ Kept (Num (number 1 2)) }
     ensures kept_apart { join_slots (Kept (Stk 0)) (Kept (Num (single 2))) ≡ Bytes 255 }
     ensures kept_and_set { join_slots (Kept (Num (single 1))) (Bytes 240) ≡ Bytes 240 }
     ensures set { join_slots (Bytes 60) (Bytes 240) ≡ Bytes 48 }
@@ -53,7 +73,8 @@ pub fn stack_bytes()
     ensures whole { slot_at kept_at_end 63 ≡ Kept (Num (single 7)) }
     ensures loaded { loaded_from kept_at_end 504 load.Double ≡ Num (single 7) }
     ensures loaded_part { loaded_from kept_at_end 504 load.Word ≡ Num (up_to 0xFFFFFFFF) }
-    ensures loaded_sign { loaded_from kept_at_end 504 load.SignedByte ≡ Num (up_to 0xFFFFFFFFFFFFFFFF) }
+    ensures loaded_sign { loaded_from kept_at_end 504 load.SignedByte
+        ≡ Num (up_to 0xFFFFFFFFFFFFFFFF) }
     ensures part { slot_at (stored kept_at_end 504 1 (Num (single 0))) 63 ≡ Bytes 255 }
     ensures low_half { slot_at (stored no_bytes 504 4 (Num (single 0))) 63 ≡ Bytes 15 }
     ensures high_half { slot_at (stored no_bytes 508 4 (Num (single 0))) 63 ≡ Bytes 240 }

@@ -1,0 +1,49 @@
+//! Where the address of a cell comes from: a lookup that found it, or a fixed cell.
+
+ghost use Rattle.std.specs.Prelude.{◌≡◌};
+ghost use Rattle.abs_value.specs.Values as values;
+
+/// A lookup in an array of the program's shape, by the CALL at a slot.
+#[derive(Clone, Copy, Debug, PartialEq, Eq)]
+pub struct Lookup {
+    pub array: u32,
+    pub slot: u16,
+}
+
+impl Lookup {
+    pub fn is_same(self, other: Lookup) -> bool
+        ensures { result ≡ values.same_lookup self other }
+    {
+        self.array == other.array && self.slot == other.slot
+    }
+}
+
+/// The origin of a cell's address.
+#[derive(Clone, Copy, Debug, PartialEq, Eq)]
+pub enum Origin {
+    /// A lookup gave it.
+    Found(Lookup),
+    /// The cell of this number, as a wide load names it.
+    Fixed(u16),
+}
+
+impl Origin {
+    pub fn is_found_by(self, lookup: Lookup) -> bool
+        ensures { result ≡ values.is_found_by self lookup }
+    {
+        match self {
+            Origin::Found(found) => found.is_same(lookup),
+            Origin::Fixed(_) => false,
+        }
+    }
+
+    pub fn is_same(self, other: Origin) -> bool
+        ensures { result ≡ values.same_origin self other }
+    {
+        match (self, other) {
+            (Origin::Found(a), Origin::Found(b)) => a.is_same(b),
+            (Origin::Fixed(a), Origin::Fixed(b)) => a == b,
+            _ => false,
+        }
+    }
+}
