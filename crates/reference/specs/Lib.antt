@@ -1,3 +1,4 @@
 pub mod Marks
 pub mod Attempts
 pub mod Observed
+pub mod Runs

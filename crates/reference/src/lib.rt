@@ -9,8 +9,9 @@ mod counters;
 mod memory;
 mod observed;
 mod perform;
+mod run;
 mod state;
 mod step;
 
-pub use observed::Observed;
+pub use observed::{Observed, RunEnd};
 pub use state::Interpreter;

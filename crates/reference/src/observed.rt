@@ -11,3 +11,12 @@ pub enum Observed {
     Done(u64),
     Trap,
 }
+
+/// What a run of so many steps at most comes to: a choice, a step that the machine does not define,
+/// or no end yet.
+#[derive(Clone, Copy, Debug, PartialEq, Eq)]
+pub enum RunEnd {
+    Choice(u64),
+    Trap,
+    Unfinished,
+}
