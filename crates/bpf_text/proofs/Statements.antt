@@ -1,6 +1,6 @@
 -- The way back from a word and its arguments is exact: what it finds has them, and it finds each
 -- instruction. A list of all that are left takes each in turn.
-use Rattle.std.proofs.Common.{◌≡◌, ℤ, Option, Some, None, IfSome, refl}
+use Rattle.std.proofs.Common.{◌≡◌, ℤ, Option, Some, None, IfSome, is_some, Bool, true, false, refl, sym, ap, ◌∙◌}
 use Rattle.bpf_insn.specs.declared.reg.Reg.{Reg}
 use Rattle.bpf_insn.specs.declared.operand.Bits.{Bits}
 use Rattle.bpf_insn.specs.declared.operand.Condition.{Condition}
@@ -16,6 +16,7 @@ use Rattle.bpf_text.specs.declared.mnemonic.Mnemonic.TheVariants as word
 use Rattle.bpf_text.specs.declared.three.UpToThree.{UpToThree}
 use Rattle.bpf_text.specs.Arguments.{mnemonic_of, arguments_of}
 use Rattle.bpf_text.specs.Three.{none, one, two, three}
+use Rattle.bpf_text.specs.Signatures.{kinds_of, are_of, KindsAgree}
 use Rattle.bpf_text.specs.Statements.{insn_of, insn_with, insn_of_none, insn_of_one, insn_of_two, insn_of_three, load_of, store_of}
 
 abbrev pub Has : Mnemonic → UpToThree Argument → Insn → Type 0
@@ -82,3 +83,52 @@ insn_again (insn.JumpIf bits condition left (operand.Imm k) offset) = refl
 insn_again (insn.Jump (Short k)) = refl
 insn_again (insn.Wide dst (wide.Number n)) = refl
 insn_again i = refl
+
+-- ---- the kinds of a word are those of its instructions
+
+no_truth : ◌≡◌ {A = Bool} false true → ⊥
+no_truth h = cc
+
+abbrev Found : Mnemonic → UpToThree Argument → Type 0
+Found m a = (i : Insn) × (mnemonic_of i ≡ m) × (arguments_of i ≡ a)
+
+found_if : (m : Mnemonic) (a : UpToThree Argument) (o : Option Insn) → IfSome o (Has m a) → is_some o ≡ true → Found m a
+found_if m a (Some i) h e = (i, h.0, h.1)
+found_if m a None h e = absurd (no_truth e)
+
+has_insn : (m : Mnemonic) (a b c : Option Argument) → are_of (kinds_of m) (record { first = a; second = b; third = c }) ≡ true → is_some (insn_with m a b c) ≡ true
+has_insn (word.Alu bits op) (Some (Register d)) (Some (Register s)) None h = refl
+has_insn (word.Alu bits op) (Some (Register d)) (Some (Imm k)) None h = refl
+has_insn (word.Mov bits) (Some (Register d)) (Some (Register s)) None h = refl
+has_insn (word.Mov bits) (Some (Register d)) (Some (Imm k)) None h = refl
+has_insn (word.MovSx extension) (Some (Register d)) (Some (Register s)) None h = refl
+has_insn (word.Neg bits) (Some (Register d)) None None h = refl
+has_insn (word.End order size) (Some (Register d)) None None h = refl
+has_insn word.Jump (Some (Distance (Short k))) None None h = refl
+has_insn word.JumpLong (Some (Distance (Long k))) None None h = refl
+has_insn (word.JumpIf bits condition) (Some (Register l)) (Some (Register r)) (Some (Distance (Short k))) h = refl
+has_insn (word.JumpIf bits condition) (Some (Register l)) (Some (Imm r)) (Some (Distance (Short k))) h = refl
+has_insn word.Call (Some (Imm k)) None None h = refl
+has_insn word.Exit None None None h = refl
+has_insn (word.Load kind) (Some (Register d)) (Some (Memory s k)) None h = refl
+has_insn (word.StoreImm size) (Some (Memory d k)) (Some (Imm i)) None h = refl
+has_insn (word.Store size) (Some (Memory d k)) (Some (Register s)) None h = refl
+has_insn (word.Atomic op size) (Some (Memory d k)) (Some (Register s)) None h = refl
+has_insn word.LoadNumber (Some (Register d)) (Some (Number n)) None h = refl
+has_insn word.LoadMap (Some (Register d)) (Some (Imm i)) None h = refl
+has_insn word.LoadCell (Some (Register d)) (Some (Imm i)) (Some (Imm k)) h = refl
+has_insn m a b c h = absurd (no_truth h)
+
+of_kinds : (i : Insn) → are_of (kinds_of (mnemonic_of i)) (arguments_of i) ≡ true
+of_kinds (insn.Alu bits op dst (operand.Imm k)) = refl
+of_kinds (insn.Mov bits dst (operand.Imm k)) = refl
+of_kinds (insn.JumpIf bits condition left (operand.Imm k) offset) = refl
+of_kinds (insn.Jump (Short k)) = refl
+of_kinds (insn.Wide dst (wide.Number n)) = refl
+of_kinds i = refl
+
+pub kinds_agree : KindsAgree
+kinds_agree m a = (
+  λ h. found_if m a (insn_of m a) (insn_found m a) (has_insn m a.first a.second a.third h),
+  λ f. ap (are_of (kinds_of m)) (sym f.2) ∙ ap (λ (n : Mnemonic). are_of (kinds_of n) (arguments_of f.0)) (sym f.1) ∙ of_kinds f.0,
+)

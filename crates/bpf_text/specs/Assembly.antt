@@ -139,7 +139,7 @@ arguments_at slot_of s g =
     let c = argument_if slot_of s g.third in
     in_turn a b c
 
--- the instruction with this word and these arguments
+-- the instruction with this word and these arguments: there is one, since they are of its kinds
 abbrev pub insn_at : Vocabulary → SlotOf → Placed → OrFault Insn
 insn_at v slot_of p =
     arguments_at slot_of p.slot p.statement.arguments >>? λ a.

@@ -1,9 +1,15 @@
 -- The signature of each instruction: which operands stand behind its word.
+use Rattle.std.specs.Prelude.{◌≡◌, ◌↔◌, Option, Some, None, Bool, true, false, ◌&&◌, IsTrue}
+use Rattle.bpf_insn.specs.declared.insn.Insn.{Insn}
+use Rattle.bpf_insn.specs.declared.operand.Distance.TheVariants.{Short, Long}
+use Rattle.bpf_text.specs.declared.argument.Argument.{Argument}
+use Rattle.bpf_text.specs.declared.argument.Argument.TheVariants as argument
 use Rattle.bpf_text.specs.declared.three.UpToThree.{UpToThree}
 use Rattle.bpf_text.specs.declared.mnemonic.Mnemonic.{Mnemonic}
 use Rattle.bpf_text.specs.declared.mnemonic.Mnemonic.TheVariants as word
 use Rattle.bpf_text.specs.declared.signature.Kind.{Kind}
 use Rattle.bpf_text.specs.declared.signature.Kind.TheVariants.{Register, Source, Imm, Number, Memory, ShortWay, LongWay}
+use Rattle.bpf_text.specs.Arguments.{mnemonic_of, arguments_of}
 use Rattle.bpf_text.specs.Three.{none, one, two, three}
 
 abbrev pub kinds_of : Mnemonic → UpToThree Kind
@@ -24,3 +30,30 @@ kinds_of (word.Atomic op size) = two Memory Register
 kinds_of word.LoadNumber = two Register Number
 kinds_of word.LoadMap = two Register Imm
 kinds_of word.LoadCell = three Register Imm Imm
+
+-- an argument is of a kind
+abbrev pub is_of : Kind → Argument → Bool
+is_of Register (argument.Register r) = true
+is_of Source (argument.Register r) = true
+is_of Source (argument.Imm k) = true
+is_of Imm (argument.Imm k) = true
+is_of Number (argument.Number n) = true
+is_of Memory (argument.Memory r k) = true
+is_of ShortWay (argument.Distance (Short k)) = true
+is_of LongWay (argument.Distance (Long k)) = true
+is_of k a = false
+
+abbrev pub is_of_if : Option Kind → Option Argument → Bool
+is_of_if None None = true
+is_of_if (Some k) (Some a) = is_of k a
+is_of_if k a = false
+
+abbrev pub are_of : UpToThree Kind → UpToThree Argument → Bool
+are_of k a =
+    is_of_if k.first a.first && (is_of_if k.second a.second && is_of_if k.third a.third)
+
+-- arguments of a word's kinds are those of an instruction with that word, and no others are
+abbrev pub KindsAgree : Type 0
+KindsAgree =
+    (m : Mnemonic) (a : UpToThree Argument) →
+    IsTrue (are_of (kinds_of m) a) ↔ ((i : Insn) × (mnemonic_of i ≡ m) × (arguments_of i ≡ a))

@@ -1,10 +1,18 @@
-//! Laws of the definitions: no text and no bytes have two verdicts. They are called by nothing.
+//! Laws of the definitions: the tables agree, and no text and no bytes have two verdicts. They are
+//! called by nothing.
 
 ghost use Rattle.std.specs.Prelude.{ℕ, List};
 ghost use Rattle.bpf_text.specs.Assembly.{HasOneAssembly};
 ghost use Rattle.bpf_text.specs.Listing.{HasOneListing};
+ghost use Rattle.bpf_text.specs.Signatures.{KindsAgree};
 
 use bpf_insn::decode_at;
+
+/// A law: the kinds of a word and the arguments of its instructions tell the same. So operands that
+/// are read as their kinds are always those of an instruction.
+pub fn kinds_agree()
+    ensures { KindsAgree }
+{}
 
 /// A law: a text stands for one list of bytes, or has one fault.
 pub fn one_assembly()
