@@ -1,5 +1,6 @@
 //! Counters: what the definitions give, worked out by hand, and that each call with ample memory
-//! succeeds. Each call that takes memory is asked again where it answered its own refusal of memory.
+//! succeeds. Each call that takes memory is asked again where it answered its own refusal of
+//! memory.
 
 ghost use Rattle.std.specs.Prelude.{None};
 ghost use Rattle.cells.specs.Directory.{declaration, IsDeclaration};

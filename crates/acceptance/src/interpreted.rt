@@ -1,9 +1,8 @@
-//! Worked programs on the reference interpreter, each with the end that the standard's machine comes
-//! to, worked out by hand: a choice, or a step that isn't defined. No program is verified here, so
-//! those that are never accepted run too.
+//! Worked programs on the reference interpreter, each with the end that the standard's machine
+//! comes to, worked out by hand: a choice, or a step that isn't defined. No program is verified
+//! here, so those that are never accepted run too.
 
-ghost use Rattle.std.specs.Prelude.{◌≡◌, ◌≤◌, None, length, vec_len};
-ghost use Rattle.cells.specs.Directory.{declaration, IsDeclaration};
+ghost use Rattle.std.specs.Prelude.{◌≤◌, length};
 
 use attrs::Attrs;
 use bpf_insn::{Insn, Width, decode_at};
@@ -16,8 +15,8 @@ use std::test::Fail;
 
 const LIMIT: u64 = 100;
 
-/// A program over one array of four counters; how its run ends, after so many instructions, of which
-/// the one that traps isn't one; and the first counter's value after it.
+/// A program over one array of four counters; how its run ends, after so many instructions, of
+/// which the one that traps isn't one; and the first counter's value after it.
 #[derive(Clone, Copy)]
 struct Case {
     text: &'static str,
@@ -25,30 +24,6 @@ struct Case {
     end: RunEnd,
     count: u64,
     value: u64,
-}
-
-const WIDE: CellWidth = CellWidth::Bits64;
-const NARROW: CellWidth = CellWidth::Bits32;
-
-/// A program whose run changes no counter.
-const fn quiet(text: &'static str, end: RunEnd, count: u64) -> Case {
-    counting(text, WIDE, end, count, 0)
-}
-
-const fn counting(
-    text: &'static str,
-    width: CellWidth,
-    end: RunEnd,
-    count: u64,
-    value: u64,
-) -> Case {
-    Case {
-        text,
-        width,
-        end,
-        count,
-        value,
-    }
 }
 
 /// The instructions that bytes spell, slot by slot.
@@ -119,36 +94,238 @@ fn outcome(alloc: Global, case: &Case) -> Result<(RunEnd, u64, u64), Fail> {
 }
 
 static CASES: [Case; 30] = [
-    quiet("mov r0, 3\nexit", RunEnd::Choice(3), 2),
-    quiet("exit", RunEnd::Trap, 0),
-    quiet("mov r0, 3", RunEnd::Trap, 1),
-    quiet("ja -1\nexit", RunEnd::Unfinished, 100),
-    quiet("ja -2\nexit", RunEnd::Trap, 0),
-    quiet("lddw r0, 5\nja -2", RunEnd::Trap, 2),
-    quiet("mov r0, -1\nadd32 r0, 1\nexit", RunEnd::Choice(0), 3),
-    quiet("mov r0, 1\nlsh r0, 64\nexit", RunEnd::Choice(1), 3),
-    quiet("mov r10, 0\nexit", RunEnd::Trap, 0),
-    quiet("ldxdw r2, [r1+56]\nmov r0, 0\nexit", RunEnd::Choice(0), 3),
-    quiet("ldxdw r2, [r1+57]\nmov r0, 0\nexit", RunEnd::Trap, 0),
-    quiet("stb [r1+0], 1\nexit", RunEnd::Trap, 0),
-    quiet("mov r2, 7\nstxdw [r10-8], r2\nldxdw r0, [r10-8]\nexit", RunEnd::Choice(7), 4),
-    quiet("mov r2, 7\nstxw [r10-8], r2\nldxw r0, [r10-4]\nexit", RunEnd::Trap, 2),
-    quiet("stw [r10-8], -2\nldsxw r0, [r10-8]\nadd r0, 3\nexit", RunEnd::Choice(1), 4),
-    quiet("stb [r10+0], 1\nexit", RunEnd::Trap, 0),
-    quiet("mov r2, 1\nstxdw [r10-8], r2\naadddw [r10-8], r2\nexit", RunEnd::Trap, 2),
-    quiet("call 5\nexit", RunEnd::Trap, 0),
-    quiet("mov r1, 0\ncall 3\nexit", RunEnd::Choice(1), 3),
-    quiet("mov r1, 0\ncall 3\nmov r0, r1\nexit", RunEnd::Trap, 2),
-    quiet("ldmap r1, 0\nmov r2, 4\ncall 1\njeq r0, 0, +2\nmov r0, 1\nexit\nmov r0, 2\nexit", RunEnd::Choice(2), 6),
-    quiet("ldmap r1, 0\nmov r2, 3\ncall 1\njeq r0, 0, +2\nmov r0, 1\nexit\nmov r0, 2\nexit", RunEnd::Choice(1), 6),
-    quiet("ldmap r1, 0\nmov r2, 4\ncall 1\nldxdw r3, [r0+0]\nmov r0, 0\nexit", RunEnd::Trap, 3),
-    quiet("ldmap r1, 1\nexit", RunEnd::Trap, 0),
-    quiet("ldmap r1, 0\nmov r2, 0\ncall 1\nmov r6, r0\njeq r0, 0, +1\nldxdw r3, [r6+0]\nmov r0, 0\nexit", RunEnd::Choice(0), 8),
-    counting("ldcell r6, 0, 0\nmov32 r2, -1\nstxw [r6+0], r2\nmov r2, 1\nfaddw [r6+0], r2\nmov r0, 0\nmov r3, 5\ncmpxchgw [r6+0], r3\nand r0, 1\nexit", NARROW, RunEnd::Choice(0), 10, 5),
-    counting("ldcell r6, 0, 0\nmov32 r2, -1\nstxw [r6+0], r2\nmov r2, 1\nfaddw [r6+0], r2\nmov r0, r2\nexit", NARROW, RunEnd::Choice(4294967295), 7, 0),
-    counting("ldcell r6, 0, 0\nstdw [r6+0], 9\nldxdw r0, [r6+0]\nexit", WIDE, RunEnd::Choice(9), 4, 9),
-    counting("ldcell r6, 0, 0\nstw [r6+0], 9\nexit", WIDE, RunEnd::Trap, 1, 0),
-    counting("ldcell r6, 0, 0\nstw [r6+0], 9\nldsxw r0, [r6+0]\nexit", NARROW, RunEnd::Trap, 2, 9),
+    Case {
+        text: "mov r0, 3\nexit",
+        width: CellWidth::Bits64,
+        end: RunEnd::Choice(3),
+        count: 2,
+        value: 0,
+    },
+    Case {
+        text: "exit",
+        width: CellWidth::Bits64,
+        end: RunEnd::Trap,
+        count: 0,
+        value: 0,
+    },
+    Case {
+        text: "mov r0, 3",
+        width: CellWidth::Bits64,
+        end: RunEnd::Trap,
+        count: 1,
+        value: 0,
+    },
+    Case {
+        text: "ja -1\nexit",
+        width: CellWidth::Bits64,
+        end: RunEnd::Unfinished,
+        count: 100,
+        value: 0,
+    },
+    Case {
+        text: "ja -2\nexit",
+        width: CellWidth::Bits64,
+        end: RunEnd::Trap,
+        count: 0,
+        value: 0,
+    },
+    Case {
+        text: "lddw r0, 5\nja -2",
+        width: CellWidth::Bits64,
+        end: RunEnd::Trap,
+        count: 2,
+        value: 0,
+    },
+    Case {
+        text: "mov r0, -1\nadd32 r0, 1\nexit",
+        width: CellWidth::Bits64,
+        end: RunEnd::Choice(0),
+        count: 3,
+        value: 0,
+    },
+    Case {
+        text: "mov r0, 1\nlsh r0, 64\nexit",
+        width: CellWidth::Bits64,
+        end: RunEnd::Choice(1),
+        count: 3,
+        value: 0,
+    },
+    Case {
+        text: "mov r10, 0\nexit",
+        width: CellWidth::Bits64,
+        end: RunEnd::Trap,
+        count: 0,
+        value: 0,
+    },
+    Case {
+        text: "ldxdw r2, [r1+56]\nmov r0, 0\nexit",
+        width: CellWidth::Bits64,
+        end: RunEnd::Choice(0),
+        count: 3,
+        value: 0,
+    },
+    Case {
+        text: "ldxdw r2, [r1+57]\nmov r0, 0\nexit",
+        width: CellWidth::Bits64,
+        end: RunEnd::Trap,
+        count: 0,
+        value: 0,
+    },
+    Case {
+        text: "stb [r1+0], 1\nexit",
+        width: CellWidth::Bits64,
+        end: RunEnd::Trap,
+        count: 0,
+        value: 0,
+    },
+    Case {
+        text: "mov r2, 7\nstxdw [r10-8], r2\nldxdw r0, [r10-8]\nexit",
+        width: CellWidth::Bits64,
+        end: RunEnd::Choice(7),
+        count: 4,
+        value: 0,
+    },
+    Case {
+        text: "mov r2, 7\nstxw [r10-8], r2\nldxw r0, [r10-4]\nexit",
+        width: CellWidth::Bits64,
+        end: RunEnd::Trap,
+        count: 2,
+        value: 0,
+    },
+    Case {
+        text: "stw [r10-8], -2\nldsxw r0, [r10-8]\nadd r0, 3\nexit",
+        width: CellWidth::Bits64,
+        end: RunEnd::Choice(1),
+        count: 4,
+        value: 0,
+    },
+    Case {
+        text: "stb [r10+0], 1\nexit",
+        width: CellWidth::Bits64,
+        end: RunEnd::Trap,
+        count: 0,
+        value: 0,
+    },
+    Case {
+        text: "mov r2, 1\nstxdw [r10-8], r2\naadddw [r10-8], r2\nexit",
+        width: CellWidth::Bits64,
+        end: RunEnd::Trap,
+        count: 2,
+        value: 0,
+    },
+    Case {
+        text: "call 5\nexit",
+        width: CellWidth::Bits64,
+        end: RunEnd::Trap,
+        count: 0,
+        value: 0,
+    },
+    Case {
+        text: "mov r1, 0\ncall 3\nexit",
+        width: CellWidth::Bits64,
+        end: RunEnd::Choice(1),
+        count: 3,
+        value: 0,
+    },
+    Case {
+        text: "mov r1, 0\ncall 3\nmov r0, r1\nexit",
+        width: CellWidth::Bits64,
+        end: RunEnd::Trap,
+        count: 2,
+        value: 0,
+    },
+    Case {
+        text: "ldmap r1, 0\nmov r2, 4\ncall 1\njeq r0, 0, +2\nmov r0, 1\nexit\nmov r0, 2\nexit",
+        width: CellWidth::Bits64,
+        end: RunEnd::Choice(2),
+        count: 6,
+        value: 0,
+    },
+    Case {
+        text: "ldmap r1, 0\nmov r2, 3\ncall 1\njeq r0, 0, +2\nmov r0, 1\nexit\nmov r0, 2\nexit",
+        width: CellWidth::Bits64,
+        end: RunEnd::Choice(1),
+        count: 6,
+        value: 0,
+    },
+    Case {
+        text: "ldmap r1, 0\nmov r2, 4\ncall 1\nldxdw r3, [r0+0]\nmov r0, 0\nexit",
+        width: CellWidth::Bits64,
+        end: RunEnd::Trap,
+        count: 3,
+        value: 0,
+    },
+    Case {
+        text: "ldmap r1, 1\nexit",
+        width: CellWidth::Bits64,
+        end: RunEnd::Trap,
+        count: 0,
+        value: 0,
+    },
+    Case {
+        text: "ldmap r1, 0
+mov r2, 0
+call 1
+mov r6, r0
+jeq r0, 0, +1
+ldxdw r3, [r6+0]
+mov r0, 0
+exit",
+        width: CellWidth::Bits64,
+        end: RunEnd::Choice(0),
+        count: 8,
+        value: 0,
+    },
+    Case {
+        text: "ldcell r6, 0, 0
+mov32 r2, -1
+stxw [r6+0], r2
+mov r2, 1
+faddw [r6+0], r2
+mov r0, 0
+mov r3, 5
+cmpxchgw [r6+0], r3
+and r0, 1
+exit",
+        width: CellWidth::Bits32,
+        end: RunEnd::Choice(0),
+        count: 10,
+        value: 5,
+    },
+    Case {
+        text: "ldcell r6, 0, 0
+mov32 r2, -1
+stxw [r6+0], r2
+mov r2, 1
+faddw [r6+0], r2
+mov r0, r2
+exit",
+        width: CellWidth::Bits32,
+        end: RunEnd::Choice(4294967295),
+        count: 7,
+        value: 0,
+    },
+    Case {
+        text: "ldcell r6, 0, 0\nstdw [r6+0], 9\nldxdw r0, [r6+0]\nexit",
+        width: CellWidth::Bits64,
+        end: RunEnd::Choice(9),
+        count: 4,
+        value: 9,
+    },
+    Case {
+        text: "ldcell r6, 0, 0\nstw [r6+0], 9\nexit",
+        width: CellWidth::Bits64,
+        end: RunEnd::Trap,
+        count: 1,
+        value: 0,
+    },
+    Case {
+        text: "ldcell r6, 0, 0\nstw [r6+0], 9\nldsxw r0, [r6+0]\nexit",
+        width: CellWidth::Bits32,
+        end: RunEnd::Trap,
+        count: 2,
+        value: 9,
+    },
 ];
 
 #[test]
@@ -160,24 +337,37 @@ fn interpreted_programs(rt: HostRuntime) -> Result<(), Fail> {
     Ok(())
 }
 
-const TAKE: &str = "ldcell r6, 0, 0\nmov r2, 1\nfadddw [r6+0], r2\njge r2, 2, +2\nmov r0, 1\nexit\nmov r0, 0\nexit";
+const TAKE: &str = "ldcell r6, 0, 0
+mov r2, 1
+fadddw [r6+0], r2
+jge r2, 2, +2
+mov r0, 1
+exit
+mov r0, 0
+exit";
 
 #[test]
 fn interpreted_takes(rt: HostRuntime) -> Result<(), Fail> {
     let alloc = rt.alloc();
     let code = code_of(alloc, &assemble(alloc, TAKE)?)?;
-    let shape = shape_over(alloc, WIDE)?;
+    let shape = shape_over(alloc, CellWidth::Bits64)?;
     let (cells, mut pass) = PlainCells::new(alloc)?;
     assert!(rt; code.len() <= 4096);
     for choice in [1, 1, 0] {
         let found = run(alloc, &code, &shape, &cells, &mut pass, "1.0")?;
         assert_eq!(rt; found, (RunEnd::Choice(choice), 6));
     }
-    assert_eq!(rt; pass.value(first_cell(WIDE)), 3);
+    assert_eq!(rt; pass.value(first_cell(CellWidth::Bits64)), 3);
     Ok(())
 }
 
-const VERSION_IS: &str = "stb [r10-8], 49\nmov r1, 1\nmov r2, r10\nadd r2, -8\nmov r3, 1\ncall 2\nexit";
+const VERSION_IS: &str = "stb [r10-8], 49
+mov r1, 1
+mov r2, r10
+add r2, -8
+mov r3, 1
+call 2
+exit";
 
 #[test]
 fn interpreted_attributes(rt: HostRuntime) -> Result<(), Fail> {

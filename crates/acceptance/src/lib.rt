@@ -14,6 +14,8 @@ mod encoding;
 #[cfg(test)]
 mod graph;
 #[cfg(test)]
+mod interpreted;
+#[cfg(test)]
 mod memory;
 #[cfg(test)]
 mod mnemonics;
