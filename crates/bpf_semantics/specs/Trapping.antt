@@ -32,7 +32,8 @@ add_program = single (Alu Bits64 alu.Add R0 (Imm (pos 1)))
 
 -- mov r0, 1 / add r0, r2
 abbrev pub add_register_program : Program
-add_register_program = layout (Mov Bits64 R0 (Imm (pos 1)) ∷ Alu Bits64 alu.Add R0 (Register R2) ∷ [])
+add_register_program =
+    layout (Mov Bits64 R0 (Imm (pos 1)) ∷ Alu Bits64 alu.Add R0 (Register R2) ∷ [])
 
 -- mov r0, r2
 abbrev pub mov_program : Program
@@ -56,7 +57,8 @@ left_program = layout (JumpIf Bits64 Eq R2 (Imm (pos 0)) (pos 0) ∷ Exit ∷ []
 
 -- mov r2, 0 / jeq r2, r3, +0 / exit
 abbrev pub right_program : Program
-right_program = layout (Mov Bits64 R2 (Imm (pos 0)) ∷ JumpIf Bits64 Eq R2 (Register R3) (pos 0) ∷ Exit ∷ [])
+right_program =
+    layout (Mov Bits64 R2 (Imm (pos 0)) ∷ JumpIf Bits64 Eq R2 (Register R3) (pos 0) ∷ Exit ∷ [])
 
 -- ldxb r0, [r2+0]
 abbrev pub load_base_program : Program
@@ -74,15 +76,21 @@ store_value_program = single (Store size.Byte R10 R2 (negsuc 0))
 
 -- mov r2, 7 / stxw [r10-8], r2 / ldxw r0, [r10-4] / exit
 abbrev pub unset_word_program : Program
-unset_word_program = layout (Mov Bits64 R2 (Imm (pos 7)) ∷ Store size.Word R10 R2 (negsuc 7) ∷ Load load.Word R0 R10 (negsuc 3) ∷ Exit ∷ [])
+unset_word_program =
+    layout (Mov Bits64 R2 (Imm (pos 7)) ∷ Store size.Word R10 R2 (negsuc 7)
+    ∷ Load load.Word R0 R10 (negsuc 3) ∷ Exit ∷ [])
 
 -- sth [r10-2], 1 / ldxw r0, [r10-4] / exit
 abbrev pub half_set_program : Program
-half_set_program = layout (StoreImm size.Half R10 (negsuc 1) (pos 1) ∷ Load load.Word R0 R10 (negsuc 3) ∷ Exit ∷ [])
+half_set_program =
+    layout (StoreImm size.Half R10 (negsuc 1) (pos 1) ∷ Load load.Word R0 R10 (negsuc 3) ∷ Exit
+    ∷ [])
 
 -- sth [r10-4], 1 / ldxw r0, [r10-4] / exit
 abbrev pub low_set_program : Program
-low_set_program = layout (StoreImm size.Half R10 (negsuc 3) (pos 1) ∷ Load load.Word R0 R10 (negsuc 3) ∷ Exit ∷ [])
+low_set_program =
+    layout (StoreImm size.Half R10 (negsuc 3) (pos 1) ∷ Load load.Word R0 R10 (negsuc 3) ∷ Exit
+    ∷ [])
 
 -- ---- no instruction begins at the slot
 

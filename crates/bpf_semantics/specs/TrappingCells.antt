@@ -23,13 +23,15 @@ on_address address rest = layout (Wide R6 (Number address) ∷ Mov Bits64 R2 (Im
 
 -- mov r2, 1 / OP [base+offset], r2
 abbrev pub atomic_program : AtomicOp → AtomicSize → Reg → ℤ → Program
-atomic_program op width base offset = layout (Mov Bits64 R2 (Imm (pos 1)) ∷ Atomic op width base R2 offset ∷ [])
+atomic_program op width base offset =
+    layout (Mov Bits64 R2 (Imm (pos 1)) ∷ Atomic op width base R2 offset ∷ [])
 
 -- ---- helpers
 
 -- mov r1, MAP / mov r2, 0 / call 1
 abbrev pub lookup_program : ℤ → Program
-lookup_program map = layout (Mov Bits64 R1 (Imm map) ∷ Mov Bits64 R2 (Imm (pos 0)) ∷ Call (pos 1) ∷ [])
+lookup_program map =
+    layout (Mov Bits64 R1 (Imm map) ∷ Mov Bits64 R2 (Imm (pos 0)) ∷ Call (pos 1) ∷ [])
 
 -- ldmap r1, 0 / call 1
 abbrev pub no_key_program : Program
@@ -38,7 +40,8 @@ no_key_program = layout (Wide R1 (Map (pos 0)) ∷ Call (pos 1) ∷ [])
 -- stb [r10-8], 0 / mov r1, 1 / mov r2, r10 / add r2, PLACE / mov r3, COUNT / call 2
 abbrev pub compare_program : ℤ → ℤ → Program
 compare_program place count = layout (
-    StoreImm size.Byte R10 (negsuc 7) (pos 0) ∷ Mov Bits64 R1 (Imm (pos 1)) ∷ Mov Bits64 R2 (Register R10)
+    StoreImm size.Byte R10 (negsuc 7) (pos 0) ∷ Mov Bits64 R1 (Imm (pos 1))
+    ∷ Mov Bits64 R2 (Register R10)
     ∷ Alu Bits64 Add R2 (Imm place) ∷ Mov Bits64 R3 (Imm count) ∷ Call (pos 2) ∷ [])
 
 -- mov r1, 1 / call HELPER / call HELPER

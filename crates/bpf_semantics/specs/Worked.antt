@@ -23,11 +23,13 @@ third_program = layout (Mov Bits64 R0 (Imm (pos 3)) ∷ Exit ∷ [])
 
 -- mov r0, -1 / add32 r0, 1 / exit
 abbrev pub wrapping_program : Program
-wrapping_program = layout (Mov Bits64 R0 (Imm (negsuc 0)) ∷ Alu Bits32 Add R0 (Imm (pos 1)) ∷ Exit ∷ [])
+wrapping_program =
+    layout (Mov Bits64 R0 (Imm (negsuc 0)) ∷ Alu Bits32 Add R0 (Imm (pos 1)) ∷ Exit ∷ [])
 
 -- mov r0, -2 / add32 r0, 1 / exit
 abbrev pub low_sum_program : Program
-low_sum_program = layout (Mov Bits64 R0 (Imm (negsuc 1)) ∷ Alu Bits32 Add R0 (Imm (pos 1)) ∷ Exit ∷ [])
+low_sum_program =
+    layout (Mov Bits64 R0 (Imm (negsuc 1)) ∷ Alu Bits32 Add R0 (Imm (pos 1)) ∷ Exit ∷ [])
 
 -- mov r0, 1 / lsh r0, 64 / exit
 abbrev pub masked_program : Program
@@ -41,11 +43,14 @@ wide_program = layout (Wide R0 (Number 21474836483) ∷ Alu Bits64 Rsh R0 (Imm (
 
 -- mov r0, -1 / and r0, -1 / rsh r0, 32 / exit
 abbrev pub all_ones_program : Program
-all_ones_program = layout (Mov Bits64 R0 (Imm (negsuc 0)) ∷ Alu Bits64 And R0 (Imm (negsuc 0)) ∷ Alu Bits64 Rsh R0 (Imm (pos 32)) ∷ Exit ∷ [])
+all_ones_program =
+    layout (Mov Bits64 R0 (Imm (negsuc 0)) ∷ Alu Bits64 And R0 (Imm (negsuc 0))
+    ∷ Alu Bits64 Rsh R0 (Imm (pos 32)) ∷ Exit ∷ [])
 
 -- mov r0, -1 / and32 r0, -1 / exit
 abbrev pub low_ones_program : Program
-low_ones_program = layout (Mov Bits64 R0 (Imm (negsuc 0)) ∷ Alu Bits32 And R0 (Imm (negsuc 0)) ∷ Exit ∷ [])
+low_ones_program =
+    layout (Mov Bits64 R0 (Imm (negsuc 0)) ∷ Alu Bits32 And R0 (Imm (negsuc 0)) ∷ Exit ∷ [])
 
 -- mov32 r0, -1 / exit
 abbrev pub mov32_imm_program : Program
@@ -53,11 +58,13 @@ mov32_imm_program = layout (Mov Bits32 R0 (Imm (negsuc 0)) ∷ Exit ∷ [])
 
 -- mov r2, -1 / mov32 r0, r2 / exit
 abbrev pub mov32_register_program : Program
-mov32_register_program = layout (Mov Bits64 R2 (Imm (negsuc 0)) ∷ Mov Bits32 R0 (Register R2) ∷ Exit ∷ [])
+mov32_register_program =
+    layout (Mov Bits64 R2 (Imm (negsuc 0)) ∷ Mov Bits32 R0 (Register R2) ∷ Exit ∷ [])
 
 -- mov r2, 128 / movsx8 r0, r2 / neg r0 / exit
 abbrev pub movsx8_program : Program
-movsx8_program = layout (Mov Bits64 R2 (Imm (pos 128)) ∷ MovSx Byte64 R0 R2 ∷ Neg Bits64 R0 ∷ Exit ∷ [])
+movsx8_program =
+    layout (Mov Bits64 R2 (Imm (pos 128)) ∷ MovSx Byte64 R0 R2 ∷ Neg Bits64 R0 ∷ Exit ∷ [])
 
 -- mov r2, 128 / movsx8w r0, r2 / exit
 abbrev pub movsx8w_program : Program
@@ -83,24 +90,35 @@ jal_program = layout (Jump (Long (pos 1)) ∷ Exit ∷ Mov Bits64 R0 (Imm (pos 2
 
 -- mov r0, 5 / ja +1 / exit / ja -2
 abbrev pub back_program : Program
-back_program = layout (Mov Bits64 R0 (Imm (pos 5)) ∷ Jump (Short (pos 1)) ∷ Exit ∷ Jump (Short (negsuc 1)) ∷ [])
+back_program =
+    layout (Mov Bits64 R0 (Imm (pos 5)) ∷ Jump (Short (pos 1)) ∷ Exit ∷ Jump (Short (negsuc 1))
+    ∷ [])
 
 -- ja +2 / lddw r0, 7 / mov r0, 1 / exit
 abbrev pub over_wide_program : Program
-over_wide_program = layout (Jump (Short (pos 2)) ∷ Wide R0 (Number 7) ∷ Mov Bits64 R0 (Imm (pos 1)) ∷ Exit ∷ [])
+over_wide_program =
+    layout (Jump (Short (pos 2)) ∷ Wide R0 (Number 7) ∷ Mov Bits64 R0 (Imm (pos 1)) ∷ Exit ∷ [])
 
 -- mov r0, 1 / mov r2, -1 / jsgt r0, r2, +1 / mov r0, 0 / exit
 abbrev pub signed_program : Program
-signed_program = layout (Mov Bits64 R0 (Imm (pos 1)) ∷ Mov Bits64 R2 (Imm (negsuc 0)) ∷ JumpIf Bits64 Sgt R0 (Register R2) (pos 1) ∷ Mov Bits64 R0 (Imm (pos 0)) ∷ Exit ∷ [])
+signed_program =
+    layout (Mov Bits64 R0 (Imm (pos 1)) ∷ Mov Bits64 R2 (Imm (negsuc 0))
+    ∷ JumpIf Bits64 Sgt R0 (Register R2) (pos 1) ∷ Mov Bits64 R0 (Imm (pos 0)) ∷ Exit ∷ [])
 
 -- mov r0, 1 / mov r2, -1 / jgt r0, r2, +1 / mov r0, 0 / exit
 abbrev pub unsigned_program : Program
-unsigned_program = layout (Mov Bits64 R0 (Imm (pos 1)) ∷ Mov Bits64 R2 (Imm (negsuc 0)) ∷ JumpIf Bits64 Gt R0 (Register R2) (pos 1) ∷ Mov Bits64 R0 (Imm (pos 0)) ∷ Exit ∷ [])
+unsigned_program =
+    layout (Mov Bits64 R0 (Imm (pos 1)) ∷ Mov Bits64 R2 (Imm (negsuc 0))
+    ∷ JumpIf Bits64 Gt R0 (Register R2) (pos 1) ∷ Mov Bits64 R0 (Imm (pos 0)) ∷ Exit ∷ [])
 
 -- mov r0, 1 / mov32 r2, -1 / jeq r2, -1, +1 / mov r0, 0 / exit
 abbrev pub jeq_program : Program
-jeq_program = layout (Mov Bits64 R0 (Imm (pos 1)) ∷ Mov Bits32 R2 (Imm (negsuc 0)) ∷ JumpIf Bits64 Eq R2 (Imm (negsuc 0)) (pos 1) ∷ Mov Bits64 R0 (Imm (pos 0)) ∷ Exit ∷ [])
+jeq_program =
+    layout (Mov Bits64 R0 (Imm (pos 1)) ∷ Mov Bits32 R2 (Imm (negsuc 0))
+    ∷ JumpIf Bits64 Eq R2 (Imm (negsuc 0)) (pos 1) ∷ Mov Bits64 R0 (Imm (pos 0)) ∷ Exit ∷ [])
 
 -- mov r0, 1 / mov32 r2, -1 / jeq32 r2, -1, +1 / mov r0, 0 / exit
 abbrev pub jeq32_program : Program
-jeq32_program = layout (Mov Bits64 R0 (Imm (pos 1)) ∷ Mov Bits32 R2 (Imm (negsuc 0)) ∷ JumpIf Bits32 Eq R2 (Imm (negsuc 0)) (pos 1) ∷ Mov Bits64 R0 (Imm (pos 0)) ∷ Exit ∷ [])
+jeq32_program =
+    layout (Mov Bits64 R0 (Imm (pos 1)) ∷ Mov Bits32 R2 (Imm (negsuc 0))
+    ∷ JumpIf Bits32 Eq R2 (Imm (negsuc 0)) (pos 1) ∷ Mov Bits64 R0 (Imm (pos 0)) ∷ Exit ∷ [])

@@ -1,4 +1,5 @@
--- Programs over counters and helpers whose runs were worked out by hand, and the shapes they run under.
+-- Programs over counters and helpers whose runs were worked out by hand, and the shapes they run
+-- under.
 use Rattle.std.specs.Prelude.{◌≡◌, ℕ, ℤ, pos, negsuc, List, [], ◌∷◌, Option, None, Some}
 use Rattle.bpf_insn.specs.declared.reg.Reg.TheVariants.{R0, R1, R2, R3, R6, R10}
 use Rattle.bpf_insn.specs.declared.operand.AluOp.TheVariants.{Add, And}
@@ -28,7 +29,8 @@ use Rattle.bpf_semantics.specs.Run.{Ends, Traps}
 -- ---- arrays, and events on their counters
 
 abbrev pub array : CellWidth → ℕ → ℕ → Option ℕ → CellArray
-array w base count quota = record { name = []; width = w; base = base; length = count; quota = quota }
+array w base count quota =
+    record { name = []; width = w; base = base; length = count; quota = quota }
 
 -- a program that uses one array
 abbrev pub over : CellArray → Program → ShapedProgram
@@ -55,20 +57,24 @@ event c op reply = record { cell = c; op = op; reply = reply }
 -- ldmap r1, 0 / mov r2, KEY / call 1 / jeq r0, 0, +2 / mov r0, 1 / exit / mov r0, 2 / exit
 abbrev pub lookup_program : ℤ → Program
 lookup_program key = layout (
-    Wide R1 (Map (pos 0)) ∷ Mov Bits64 R2 (Imm key) ∷ Call (pos 1) ∷ JumpIf Bits64 Eq R0 (Imm (pos 0)) (pos 2)
+    Wide R1 (Map (pos 0)) ∷ Mov Bits64 R2 (Imm key) ∷ Call (pos 1)
+    ∷ JumpIf Bits64 Eq R0 (Imm (pos 0)) (pos 2)
     ∷ Mov Bits64 R0 (Imm (pos 1)) ∷ Exit ∷ Mov Bits64 R0 (Imm (pos 2)) ∷ Exit ∷ [])
 
 -- ldmap r1, 0 / mov r2, 4 / call 1 / ldxdw r3, [r0+0] / mov r0, 0 / exit
 abbrev pub unchecked_program : Program
 unchecked_program = layout (
-    Wide R1 (Map (pos 0)) ∷ Mov Bits64 R2 (Imm (pos 4)) ∷ Call (pos 1) ∷ Load load.Double R3 R0 (pos 0)
+    Wide R1 (Map (pos 0)) ∷ Mov Bits64 R2 (Imm (pos 4)) ∷ Call (pos 1)
+    ∷ Load load.Double R3 R0 (pos 0)
     ∷ Mov Bits64 R0 (Imm (pos 0)) ∷ Exit ∷ [])
 
--- ldmap r1, 0 / mov r2, 0 / call 1 / mov r6, r0 / jeq r0, 0, +1 / ldxdw r3, [r6+0] / mov r0, 0 / exit
+-- ldmap r1, 0 / mov r2, 0 / call 1 / mov r6, r0 / jeq r0, 0, +1 / ldxdw r3, [r6+0] / mov r0, 0 /
+-- exit
 abbrev pub checked_program : Program
 checked_program = layout (
     Wide R1 (Map (pos 0)) ∷ Mov Bits64 R2 (Imm (pos 0)) ∷ Call (pos 1) ∷ Mov Bits64 R6 (Register R0)
-    ∷ JumpIf Bits64 Eq R0 (Imm (pos 0)) (pos 1) ∷ Load load.Double R3 R6 (pos 0) ∷ Mov Bits64 R0 (Imm (pos 0)) ∷ Exit ∷ [])
+    ∷ JumpIf Bits64 Eq R0 (Imm (pos 0)) (pos 1) ∷ Load load.Double R3 R6 (pos 0)
+    ∷ Mov Bits64 R0 (Imm (pos 0)) ∷ Exit ∷ [])
 
 -- ---- counters
 
@@ -77,7 +83,8 @@ checked_program = layout (
 abbrev pub narrow_program : Program
 narrow_program = layout (
     Wide R6 (Cell (pos 0) (pos 0)) ∷ Mov Bits32 R2 (Imm (negsuc 0)) ∷ Store size.Word R6 R2 (pos 0)
-    ∷ Mov Bits64 R2 (Imm (pos 1)) ∷ Atomic atomic.FetchAdd atomic_size.Word R6 R2 (pos 0) ∷ Mov Bits64 R0 (Imm (pos 0))
+    ∷ Mov Bits64 R2 (Imm (pos 1)) ∷ Atomic atomic.FetchAdd atomic_size.Word R6 R2 (pos 0)
+    ∷ Mov Bits64 R0 (Imm (pos 0))
     ∷ Mov Bits64 R3 (Imm (pos 5)) ∷ Atomic atomic.CompareExchange atomic_size.Word R6 R3 (pos 0)
     ∷ Alu Bits64 And R0 (Imm (pos 1)) ∷ Exit ∷ [])
 
@@ -85,28 +92,34 @@ narrow_program = layout (
 abbrev pub fetched_program : Program
 fetched_program = layout (
     Wide R6 (Cell (pos 0) (pos 0)) ∷ Mov Bits32 R2 (Imm (negsuc 0)) ∷ Store size.Word R6 R2 (pos 0)
-    ∷ Mov Bits64 R2 (Imm (pos 1)) ∷ Atomic atomic.FetchAdd atomic_size.Word R6 R2 (pos 0) ∷ Mov Bits64 R0 (Register R2) ∷ Exit ∷ [])
+    ∷ Mov Bits64 R2 (Imm (pos 1)) ∷ Atomic atomic.FetchAdd atomic_size.Word R6 R2 (pos 0)
+    ∷ Mov Bits64 R0 (Register R2) ∷ Exit ∷ [])
 
 -- the events of the first on a counter that opens at 0: stored, added to, exchanged
 abbrev pub narrow_events : List CellEvent
 narrow_events =
-    event 4096 (cell.Store 0xFFFFFFFF) 0 ∷ event 4096 (cell.Add 1) 0xFFFFFFFF ∷ event 4096 (cell.CompareExchange 0 5) 0 ∷ []
+    event 4096 (cell.Store 0xFFFFFFFF) 0 ∷ event 4096 (cell.Add 1) 0xFFFFFFFF
+    ∷ event 4096 (cell.CompareExchange 0 5) 0 ∷ []
 
 abbrev pub fetched_events : List CellEvent
 fetched_events = event 4096 (cell.Store 0xFFFFFFFF) 0 ∷ event 4096 (cell.Add 1) 0xFFFFFFFF ∷ []
 
--- ldcell r6, 0, 0 / mov r2, 1 / fadddw [r6+0], r2 / jge r2, 2, +2 / mov r0, 1 / exit / mov r0, 0 / exit
+-- ldcell r6, 0, 0 / mov r2, 1 / fadddw [r6+0], r2 / jge r2, 2, +2 / mov r0, 1 / exit / mov r0, 0 /
+-- exit
 abbrev pub take_program : Program
 take_program = layout (
-    Wide R6 (Cell (pos 0) (pos 0)) ∷ Mov Bits64 R2 (Imm (pos 1)) ∷ Atomic atomic.FetchAdd atomic_size.Double R6 R2 (pos 0)
-    ∷ JumpIf Bits64 Ge R2 (Imm (pos 2)) (pos 2) ∷ Mov Bits64 R0 (Imm (pos 1)) ∷ Exit ∷ Mov Bits64 R0 (Imm (pos 0)) ∷ Exit ∷ [])
+    Wide R6 (Cell (pos 0) (pos 0)) ∷ Mov Bits64 R2 (Imm (pos 1))
+    ∷ Atomic atomic.FetchAdd atomic_size.Double R6 R2 (pos 0)
+    ∷ JumpIf Bits64 Ge R2 (Imm (pos 2)) (pos 2) ∷ Mov Bits64 R0 (Imm (pos 1)) ∷ Exit
+    ∷ Mov Bits64 R0 (Imm (pos 0)) ∷ Exit ∷ [])
 
 -- ---- helpers
 
 -- stb [r10-8], 49 / mov r1, 1 / mov r2, r10 / add r2, -8 / mov r3, 1 / call 2 / exit
 abbrev pub version_is_program : Program
 version_is_program = layout (
-    StoreImm size.Byte R10 (negsuc 7) (pos 49) ∷ Mov Bits64 R1 (Imm (pos 1)) ∷ Mov Bits64 R2 (Register R10)
+    StoreImm size.Byte R10 (negsuc 7) (pos 49) ∷ Mov Bits64 R1 (Imm (pos 1))
+    ∷ Mov Bits64 R2 (Register R10)
     ∷ Alu Bits64 Add R2 (Imm (negsuc 7)) ∷ Mov Bits64 R3 (Imm (pos 1)) ∷ Call (pos 2) ∷ Exit ∷ [])
 
 -- ---- what is said of them
@@ -121,5 +134,6 @@ TrapsOver a p count = (b : Attributes) → Traps (over a p) (opening b) [] count
 -- the events reply by one counter's values from the first on, and leave it the others one by one
 abbrev pub AreValues : ℕ → List CellEvent → List ℕ → Type 0
 AreValues v [] [] = Unit {0}
-AreValues v (e ∷ es) (w ∷ ws) = (e.reply ≡ reply_of v e.op) × (after (limit e.cell) v e.op ≡ w) × AreValues w es ws
+AreValues v (e ∷ es) (w ∷ ws) =
+    (e.reply ≡ reply_of v e.op) × (after (limit e.cell) v e.op ≡ w) × AreValues w es ws
 AreValues v es ws = ⊥

@@ -13,17 +13,22 @@ ghost use Rattle.bpf_semantics.specs.Trapping.{single};
 ghost use Rattle.bpf_semantics.specs.TrappingCells as traps;
 ghost use Rattle.bpf_semantics.specs.WorkedCells.{one_wide, one_narrow, TrapsOver};
 
-/// A counter is accessed in its own width alone, after `ldcell r6, 0, 0 / mov r2, 1`: one of 64 bits
-/// not by `ldxw r0, [r6+0]`, `stxw [r6+0], r2`, `stb [r6+0], 1` or `aaddw [r6+0], r2`, one of 32 bits
-/// not by `ldxdw r0, [r6+0]`, `stxdw [r6+0], r2` or `aadddw [r6+0], r2`.
+/// A counter is accessed in its own width alone, after `ldcell r6, 0, 0 / mov r2, 1`: one of 64
+/// bits not by `ldxw r0, [r6+0]`, `stxw [r6+0], r2`, `stb [r6+0], 1` or `aaddw [r6+0], r2`, one of
+/// 32 bits not by `ldxdw r0, [r6+0]`, `stxdw [r6+0], r2` or `aadddw [r6+0], r2`.
 pub fn other_widths()
     ensures load_word { TrapsOver one_wide (traps.on_cell (Load load.Word R0 R6 (pos 0) ∷ [])) 2 }
     ensures store_word { TrapsOver one_wide (traps.on_cell (Store size.Word R6 R2 (pos 0) ∷ [])) 2 }
-    ensures store_byte { TrapsOver one_wide (traps.on_cell (StoreImm size.Byte R6 (pos 0) (pos 1) ∷ [])) 2 }
-    ensures atomic_word { TrapsOver one_wide (traps.on_cell (Atomic atomic.Add width.Word R6 R2 (pos 0) ∷ [])) 2 }
-    ensures load_double { TrapsOver one_narrow (traps.on_cell (Load load.Double R0 R6 (pos 0) ∷ [])) 2 }
-    ensures store_double { TrapsOver one_narrow (traps.on_cell (Store size.Double R6 R2 (pos 0) ∷ [])) 2 }
-    ensures atomic_double { TrapsOver one_narrow (traps.on_cell (Atomic atomic.Add width.Double R6 R2 (pos 0) ∷ [])) 2 }
+    ensures store_byte { TrapsOver one_wide
+        (traps.on_cell (StoreImm size.Byte R6 (pos 0) (pos 1) ∷ [])) 2 }
+    ensures atomic_word { TrapsOver one_wide
+        (traps.on_cell (Atomic atomic.Add width.Word R6 R2 (pos 0) ∷ [])) 2 }
+    ensures load_double { TrapsOver one_narrow
+        (traps.on_cell (Load load.Double R0 R6 (pos 0) ∷ [])) 2 }
+    ensures store_double { TrapsOver one_narrow
+        (traps.on_cell (Store size.Double R6 R2 (pos 0) ∷ [])) 2 }
+    ensures atomic_double { TrapsOver one_narrow
+        (traps.on_cell (Atomic atomic.Add width.Double R6 R2 (pos 0) ∷ [])) 2 }
 {}
 
 /// No load of a counter is sign-extended: `ldsxw r0, [r6+0]` of one of 32 bits.
@@ -32,13 +37,15 @@ pub fn signed_load()
 {}
 
 /// Beside a counter is none: `ldxdw r0, [r6+1]`, and of one of 32 bits `ldxw r0, [r6+4]`. The last
-/// lies at 0x3000FFF8: `lddw r6, 0x30010000 / mov r2, 1 / ldxw r0, [r6+0]`. The number of a map is no
-/// address: `lddw r6, 0x40000000 / mov r2, 1 / ldxdw r0, [r6+0]`.
+/// lies at 0x3000FFF8: `lddw r6, 0x30010000 / mov r2, 1 / ldxw r0, [r6+0]`. The number of a map is
+/// no address: `lddw r6, 0x40000000 / mov r2, 1 / ldxdw r0, [r6+0]`.
 pub fn beside_counters()
     ensures unaligned { TrapsOver one_wide (traps.on_cell (Load load.Double R0 R6 (pos 1) ∷ [])) 2 }
-    ensures upper_half { TrapsOver one_narrow (traps.on_cell (Load load.Word R0 R6 (pos 4) ∷ [])) 2 }
+    ensures upper_half { TrapsOver one_narrow
+        (traps.on_cell (Load load.Word R0 R6 (pos 4) ∷ [])) 2 }
     ensures past { AlwaysTraps (traps.on_address 0x30010000 (Load load.Word R0 R6 (pos 0) ∷ [])) 2 }
-    ensures map { AlwaysTraps (traps.on_address 0x40000000 (Load load.Double R0 R6 (pos 0) ∷ [])) 2 }
+    ensures map { AlwaysTraps
+        (traps.on_address 0x40000000 (Load load.Double R0 R6 (pos 0) ∷ [])) 2 }
 {}
 
 /// An atomic operation has no place in the context or on the stack: `aaddw [r1+0], r2`,
@@ -53,20 +60,25 @@ pub fn atomics_of_memory()
 /// `ldmap r10, 0`, `ldcell r10, 0, 0`.
 pub fn frame_writes_of_counters()
     ensures load { TrapsOver one_wide (traps.on_cell (Load load.Double R10 R6 (pos 0) ∷ [])) 2 }
-    ensures fetch { TrapsOver one_wide (traps.on_cell (Atomic atomic.FetchAdd width.Double R6 R10 (pos 0) ∷ [])) 2 }
-    ensures exchange { TrapsOver one_wide (traps.on_cell (Atomic atomic.Exchange width.Double R6 R10 (pos 0) ∷ [])) 2 }
+    ensures fetch { TrapsOver one_wide
+        (traps.on_cell (Atomic atomic.FetchAdd width.Double R6 R10 (pos 0) ∷ [])) 2 }
+    ensures exchange { TrapsOver one_wide
+        (traps.on_cell (Atomic atomic.Exchange width.Double R6 R10 (pos 0) ∷ [])) 2 }
     ensures map { TrapsOver one_wide (single (Wide R10 (Map (pos 0)))) 0 }
     ensures cell { TrapsOver one_wide (single (Wide R10 (Cell (pos 0) (pos 0)))) 0 }
 {}
 
 /// An unset register is read: the value of `stxdw [r6+0], r3` and `aadddw [r6+0], r3`, the base of
-/// `aadddw [r3+0], r2`, R0 of `cmpxchgdw [r6+0], r2`, the key of `ldmap r1, 0 / call 1`, and R1 of a
-/// second `call 3` or `call 4`, since a call leaves R1 to R5 unset.
+/// `aadddw [r3+0], r2`, R0 of `cmpxchgdw [r6+0], r2`, the key of `ldmap r1, 0 / call 1`, and R1 of
+/// a second `call 3` or `call 4`, since a call leaves R1 to R5 unset.
 pub fn unset_arguments()
     ensures store { TrapsOver one_wide (traps.on_cell (Store size.Double R6 R3 (pos 0) ∷ [])) 2 }
-    ensures value { TrapsOver one_wide (traps.on_cell (Atomic atomic.Add width.Double R6 R3 (pos 0) ∷ [])) 2 }
-    ensures base { TrapsOver one_wide (traps.on_cell (Atomic atomic.Add width.Double R3 R2 (pos 0) ∷ [])) 2 }
-    ensures compared { TrapsOver one_wide (traps.on_cell (Atomic atomic.CompareExchange width.Double R6 R2 (pos 0) ∷ [])) 2 }
+    ensures value { TrapsOver one_wide
+        (traps.on_cell (Atomic atomic.Add width.Double R6 R3 (pos 0) ∷ [])) 2 }
+    ensures base { TrapsOver one_wide
+        (traps.on_cell (Atomic atomic.Add width.Double R3 R2 (pos 0) ∷ [])) 2 }
+    ensures compared { TrapsOver one_wide
+        (traps.on_cell (Atomic atomic.CompareExchange width.Double R6 R2 (pos 0) ∷ [])) 2 }
     ensures key { TrapsOver one_wide traps.no_key_program 1 }
     ensures length { AlwaysTraps (traps.twice_program (pos 3)) 2 }
     ensures salt { AlwaysTraps (traps.twice_program (pos 4)) 2 }

@@ -1,6 +1,6 @@
 //! What the machine means (RFC 9669): the memory of a run, its state, one step, and a whole run.
-//! The definitions stand in `specs/`; the crates above cite them. The functions here have no work to
-//! do: each is a law, whose clauses compare the definitions with results that were worked out by
+//! The definitions stand in `specs/`; the crates above cite them. The functions here have no work
+//! to do: each is a law, whose clauses compare the definitions with results that were worked out by
 //! hand.
 #![tactic(auto)]
 

@@ -15,9 +15,9 @@ pub fn round_trips()
 {}
 
 /// A store writes its low bytes alone:
-/// `stdw [r10-8], 0 / mov r2, -1 / stxh [r10-8], r2 / ldxdw r0, [r10-8] / exit` ends with 65535, and
-/// `stdw [r10-8], 16909060 / stb [r10-8], 9 / ldxw r0, [r10-8] / exit`, where 0x01020304 becomes
-/// 0x01020309, with 16909065.
+/// `stdw [r10-8], 0 / mov r2, -1 / stxh [r10-8], r2 / ldxdw r0, [r10-8] / exit` ends with 65535,
+/// and `stdw [r10-8], 16909060 / stb [r10-8], 9 / ldxw r0, [r10-8] / exit`, where 0x01020304
+/// becomes 0x01020309, with 16909065.
 pub fn partial_stores()
     ensures half { AlwaysEnds worked.partial_program 65535 5 }
     ensures byte { AlwaysEnds worked.overwritten_program 16909065 4 }
@@ -43,17 +43,25 @@ pub fn extended_store()
 pub fn negative_loads()
     ensures ldxb { AlwaysEnds (worked.negative_program size.Byte load.Byte (negsuc 0)) 0xFE 3 }
     ensures ldxh { AlwaysEnds (worked.negative_program size.Half load.Half (negsuc 1)) 0xFFFE 3 }
-    ensures ldxw { AlwaysEnds (worked.negative_program size.Word load.Word (negsuc 3)) 0xFFFFFFFE 3 }
-    ensures ldxdw { AlwaysEnds (worked.negative_program size.Double load.Double (negsuc 7)) 0xFFFFFFFFFFFFFFFE 3 }
-    ensures ldsxb { AlwaysEnds (worked.negative_program size.Byte load.SignedByte (negsuc 0)) 0xFFFFFFFFFFFFFFFE 3 }
-    ensures ldsxh { AlwaysEnds (worked.negative_program size.Half load.SignedHalf (negsuc 1)) 0xFFFFFFFFFFFFFFFE 3 }
-    ensures ldsxw { AlwaysEnds (worked.negative_program size.Word load.SignedWord (negsuc 3)) 0xFFFFFFFFFFFFFFFE 3 }
+    ensures ldxw { AlwaysEnds
+        (worked.negative_program size.Word load.Word (negsuc 3)) 0xFFFFFFFE 3 }
+    ensures ldxdw { AlwaysEnds
+        (worked.negative_program size.Double load.Double (negsuc 7)) 0xFFFFFFFFFFFFFFFE 3 }
+    ensures ldsxb { AlwaysEnds
+        (worked.negative_program size.Byte load.SignedByte (negsuc 0)) 0xFFFFFFFFFFFFFFFE 3 }
+    ensures ldsxh { AlwaysEnds
+        (worked.negative_program size.Half load.SignedHalf (negsuc 1)) 0xFFFFFFFFFFFFFFFE 3 }
+    ensures ldsxw { AlwaysEnds
+        (worked.negative_program size.Word load.SignedWord (negsuc 3)) 0xFFFFFFFFFFFFFFFE 3 }
 {}
 
 /// A number that is not negative stays as it is: `stb [r10-1], 127 / ldsxb r0, [r10-1] / exit` ends
 /// with 127, and likewise `sth` with `ldsxh` and `stw` with `ldsxw`.
 pub fn positive_loads()
-    ensures ldsxb { AlwaysEnds (worked.positive_program size.Byte load.SignedByte (negsuc 0)) 127 3 }
-    ensures ldsxh { AlwaysEnds (worked.positive_program size.Half load.SignedHalf (negsuc 1)) 127 3 }
-    ensures ldsxw { AlwaysEnds (worked.positive_program size.Word load.SignedWord (negsuc 3)) 127 3 }
+    ensures ldsxb { AlwaysEnds
+        (worked.positive_program size.Byte load.SignedByte (negsuc 0)) 127 3 }
+    ensures ldsxh { AlwaysEnds
+        (worked.positive_program size.Half load.SignedHalf (negsuc 1)) 127 3 }
+    ensures ldsxw { AlwaysEnds
+        (worked.positive_program size.Word load.SignedWord (negsuc 3)) 127 3 }
 {}

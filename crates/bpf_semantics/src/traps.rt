@@ -69,7 +69,8 @@ pub fn stores_outside()
     ensures context_register { AlwaysTraps (traps.single (Store size.Double R1 R1 (pos 0))) 0 }
     ensures above_stack { AlwaysTraps (traps.single (StoreImm size.Byte R10 (pos 0) (pos 1))) 0 }
     ensures across_top { AlwaysTraps (traps.single (StoreImm size.Word R10 (negsuc 1) (pos 1))) 0 }
-    ensures below_stack { AlwaysTraps (traps.single (StoreImm size.Byte R10 (negsuc 512) (pos 1))) 0 }
+    ensures below_stack { AlwaysTraps
+        (traps.single (StoreImm size.Byte R10 (negsuc 512) (pos 1))) 0 }
 {}
 
 /// No instruction begins at the slot: a program of no slots, `mov r0, 0` and its end,

@@ -25,9 +25,9 @@ pub fn wide_load()
     ensures { AlwaysEnds worked.wide_program 5 3 }
 {}
 
-/// An imm is sign-extended in 64 bits, `mov r0, -1 / and r0, -1 / rsh r0, 32 / exit`, and not in 32,
-/// `mov r0, -1 / and32 r0, -1 / exit` and `mov32 r0, -1 / exit`; a register's upper half is cut in
-/// 32 bits, `mov r2, -1 / mov32 r0, r2 / exit`. Each ends with 4294967295.
+/// An imm is sign-extended in 64 bits, `mov r0, -1 / and r0, -1 / rsh r0, 32 / exit`, and not in
+/// 32, `mov r0, -1 / and32 r0, -1 / exit` and `mov32 r0, -1 / exit`; a register's upper half is cut
+/// in 32 bits, `mov r2, -1 / mov32 r0, r2 / exit`. Each ends with 4294967295.
 pub fn operands()
     ensures extended { AlwaysEnds worked.all_ones_program 4294967295 4 }
     ensures not_extended { AlwaysEnds worked.low_ones_program 4294967295 3 }
@@ -45,9 +45,9 @@ pub fn one_operand()
     ensures be16 { AlwaysEnds worked.be16_program 770 3 }
 {}
 
-/// A jump counts slots from the instruction after it. `ja +1 / exit / mov r0, 2 / exit` and the same
-/// with `jal` end with 2, `mov r0, 5 / ja +1 / exit / ja -2` with 5 after four instructions, and
-/// `ja +2 / lddw r0, 7 / mov r0, 1 / exit` with 1.
+/// A jump counts slots from the instruction after it. `ja +1 / exit / mov r0, 2 / exit` and the
+/// same with `jal` end with 2, `mov r0, 5 / ja +1 / exit / ja -2` with 5 after four instructions,
+/// and `ja +2 / lddw r0, 7 / mov r0, 1 / exit` with 1.
 pub fn jumps()
     ensures short { AlwaysEnds worked.ja_program 2 3 }
     ensures long { AlwaysEnds worked.jal_program 2 3 }
@@ -62,8 +62,8 @@ pub fn signs()
     ensures unsigned { AlwaysEnds worked.unsigned_program 0 5 }
 {}
 
-/// `mov r0, 1 / mov32 r2, -1 / jeq r2, -1, +1 / mov r0, 0 / exit` goes on and ends with 0, since the
-/// imm has 64 ones; with `jeq32` it jumps and ends with 1.
+/// `mov r0, 1 / mov32 r2, -1 / jeq r2, -1, +1 / mov r0, 0 / exit` goes on and ends with 0, since
+/// the imm has 64 ones; with `jeq32` it jumps and ends with 1.
 pub fn halves()
     ensures whole { AlwaysEnds worked.jeq_program 0 5 }
     ensures low { AlwaysEnds worked.jeq32_program 1 4 }
