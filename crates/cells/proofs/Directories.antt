@@ -1,7 +1,7 @@
 -- What a declaration keeps of a directory.
-use Rattle.std.proofs.Common.{◌≡◌, ◌≢◌, ℕ, zero, suc, ◌+◌, ◌<◌, ◌≤◌, ◌⊎◌, inl, inr, List, [], ◌∷◌}
-use Rattle.std.proofs.Common.{◌++◌, length, take, get_or, sym, ◌∙◌, ap, subst, arith, refl, rules}
-use Rattle.std.specs.Prelude.{Option, Some, None, slice_get, sum_by, All, Contains, unwrap_or}
+use Rattle.std.proofs.Common.{◌≡◌, ◌≢◌, ℕ, zero, suc, ◌+◌, ◌≤◌, ◌⊎◌, inl, inr, List, [], ◌∷◌}
+use Rattle.std.proofs.Common.{◌++◌, length, take, get_or, sym, ◌∙◌, ap, subst, arith, refl}
+use Rattle.std.specs.Prelude.{Option, Some, slice_get, All, Contains, unwrap_or}
 use Rattle.std.specs.Prelude.{if◌then◌else◌}
 use Rattle.std.proofs.Math.Seq.{take-append_seam}
 use Rattle.std.proofs.lemmas.List.{take-append-le}

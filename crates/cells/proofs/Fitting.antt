@@ -6,8 +6,7 @@ use Rattle.std.proofs.lemmas.List.{set_past}
 use Rattle.cells.specs.declared.event.CellOp.{CellOp}
 use Rattle.cells.specs.declared.event.CellOp.TheVariants.{Load, Store, Add, Or, And, Xor, Swap}
 use Rattle.cells.specs.declared.event.CellOp.TheVariants.{CompareExchange}
-use Rattle.cells.specs.declared.event.CellEvent.{CellEvent}
-use Rattle.cells.specs.Events.{width, limit, reply_of, value_after, CanReply, AreCells, IsEvent}
+use Rattle.cells.specs.Events.{width, limit, reply_of, value_after, CanReply, AreCells}
 use Rattle.cells.specs.Widths.{EventsFit}
 use Rattle.cells.proofs.Values.{after_small, AreCells-set}
 

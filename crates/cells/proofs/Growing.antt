@@ -1,5 +1,5 @@
 -- Passes that grow by lists of events.
-use Rattle.std.proofs.Common.{◌≡◌, List, [], ◌∷◌, ◌++◌, subst, refl}
+use Rattle.std.proofs.Common.{[], ◌∷◌, subst, refl}
 use Rattle.cells.specs.declared.event.CellEvent.{CellEvent}
 use Rattle.cells.specs.Grown.{GrewBy, GrowsBySnoc, GrowsByAppend}
 

@@ -1,10 +1,10 @@
 -- The arrays of a shape, as those of a directory: each lies in the cells of its width, and two of
 -- them are equal or share
 -- no cell.
-use Rattle.std.proofs.Common.{◌≡◌, ◌≢◌, ℕ, zero, suc, ◌+◌, ◌<◌, ◌≤◌, ◌⊎◌, inl, inr, List, [], ◌∷◌}
+use Rattle.std.proofs.Common.{◌≡◌, ℕ, zero, suc, ◌+◌, ◌<◌, ◌≤◌, ◌⊎◌, inl, inr, List, [], ◌∷◌}
 use Rattle.std.proofs.Common.{◌++◌, length, take, get_or, sym, ◌∙◌, ap, subst, arith, refl, map}
-use Rattle.std.specs.Prelude.{Option, Some, None, is_some, slice_get, All, Contains, Bool, true}
-use Rattle.std.specs.Prelude.{false, unwrap_or, if◌then◌else◌}
+use Rattle.std.specs.Prelude.{Option, Some, None, is_some, slice_get, Bool, true}
+use Rattle.std.specs.Prelude.{unwrap_or, if◌then◌else◌}
 use Rattle.std.specs.Option.{option_map}
 use mathlib.Core.List.{map-append}
 use Rattle.std.proofs.lemmas.Bool.{cases_lt, false≢true}

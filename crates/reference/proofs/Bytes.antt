@@ -1,5 +1,5 @@
 -- Bytes that are read and written one by one.
-use Rattle.std.proofs.Common.{◌≡◌, ◌≢◌, ℕ, zero, suc, ◌+◌, ◌-◌, ◌*◌, ◌/◌, ◌%◌, ◌^◌, ◌<◌, ◌≤◌, List}
+use Rattle.std.proofs.Common.{◌≡◌, ℕ, zero, suc, ◌+◌, ◌-◌, ◌*◌, ◌/◌, ◌%◌, ◌^◌, ◌<◌, ◌≤◌, List}
 use Rattle.std.proofs.Common.{[], ◌∷◌}
 use Rattle.std.proofs.Common.{length, inl, inr, refl, sym, ◌∙◌, ap, arith, get_or-set_same}
 use Rattle.std.proofs.Common.{get_or-set_other}
@@ -10,7 +10,7 @@ use Rattle.std.proofs.Math.Nat.{div-div-eq-div-mul, pow-suc, pow-le-pow_right}
 use Rattle.std.proofs.lemmas.Bool.{cases_lt}
 use Rattle.bpf_insn.specs.Program.{◌>>=◌}
 use Rattle.bpf_semantics.specs.Memory.{set_bytes}
-use Rattle.bpf_semantics.specs.State.{State, with_bytes}
+use Rattle.bpf_semantics.specs.State.{with_bytes}
 use Rattle.reference.specs.Marks.{mark_at}
 
 -- functions that agree everywhere are one

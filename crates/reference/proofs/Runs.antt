@@ -4,7 +4,6 @@ use Rattle.std.proofs.Common.{append_assoc, append-nil}
 use Rattle.cells.specs.declared.event.CellEvent.{CellEvent}
 use Rattle.bpf_semantics.specs.Program.{ShapedProgram}
 use Rattle.bpf_semantics.specs.State.{State}
-use Rattle.bpf_semantics.specs.Outcome.{Going, Asks, Done, Trap}
 use Rattle.bpf_semantics.specs.Run.{Ends, Traps}
 use Rattle.bpf_semantics.specs.Run.Ends.{last, more}
 use Rattle.bpf_semantics.specs.Run.Ends.{asked as asked_then}
@@ -15,7 +14,7 @@ use Rattle.cells.specs.Grown.{GrewBy, GrowsBySnoc}
 use Rattle.reference.specs.declared.observed.Observed.{Observed}
 use Rattle.reference.specs.declared.observed.Observed.TheVariants as observed
 use Rattle.reference.specs.Observed.{IsStep, Grew}
-use Rattle.reference.specs.Runs.{GoesOn, IsRun}
+use Rattle.reference.specs.Runs.{GoesOn}
 use Rattle.reference.specs.Runs.GoesOn.{stays, goes, asked}
 
 -- what a run comes to from a state on the way is what it comes to

@@ -1,4 +1,4 @@
-use Rattle.std.proofs.Common.{ℕ, ◌≢◌, ◌<◌}
+use Rattle.std.proofs.Common.{◌≢◌}
 use Rattle.std.specs.List.{AllWithin}
 use Rattle.cells.proofs.directory.number_of.Given as goal
 

@@ -1,4 +1,4 @@
-use Rattle.std.proofs.Common.{ℕ, ◌/◌, rules, ◌∙◌, ap}
+use Rattle.std.proofs.Common.{◌/◌, rules, ◌∙◌, ap}
 use Rattle.reference.specs.Marks.{mark_at}
 use Rattle.reference.proofs.Bytes.{one_more, next_rest}
 use Rattle.reference.proofs.state.put_bytes.Goals as goal

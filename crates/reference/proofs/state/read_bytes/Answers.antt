@@ -1,4 +1,4 @@
-use Rattle.std.proofs.Common.{◌≡◌, ℕ, rules, arith, sym, ◌∙◌, ap, length}
+use Rattle.std.proofs.Common.{◌≡◌, ℕ, rules, sym, ◌∙◌, ap, length}
 use Rattle.bpf_semantics.specs.Memory.{set_bytes}
 use Rattle.reference.specs.Marks.{mark_at}
 use Rattle.reference.proofs.Bytes.{all_set, one_unset}

@@ -1,4 +1,4 @@
-use Rattle.std.proofs.Common.{[], rules, arith, refl}
+use Rattle.std.proofs.Common.{[], arith, refl}
 use Rattle.reference.specs.Marks.{state_of}
 use Rattle.reference.specs.Observed.{shaped}
 use Rattle.reference.specs.Runs.GoesOn.{stays}
