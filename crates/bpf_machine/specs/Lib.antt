@@ -1,3 +1,4 @@
 pub mod Words
-pub mod Effect
+pub mod Next
+pub mod Advance
 pub mod StandsFor

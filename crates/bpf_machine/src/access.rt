@@ -1,74 +1,94 @@
-// Loads and stores (RFC 9669, "Load and Store Instructions"): the effect of each form.
+// Loads and stores (RFC 9669, "Load and Store Instructions"): what each form leads to. Below the
+// addresses of the counters lie context and stack, and from there on counters alone.
 
-ghost use Rattle.std.specs.Prelude.{◌<◌};
-ghost use Rattle.bpf_machine.specs.Effect.{IsReady, IsEffect};
+ghost use Rattle.std.specs.Prelude.{◌≡◌, IsSome, Some};
+ghost use Rattle.attrs.specs.Attributes.{Attributes};
+ghost use Rattle.cells.specs.Arrays.{AppShape};
+ghost use Rattle.bpf_semantics.specs.Calls.{wide_value};
+ghost use Rattle.bpf_semantics.specs.Reads.{byte_count};
+ghost use Rattle.bpf_machine.specs.Next.{CanAct, LeadsTo, IsStorable, stored};
 
-use crate::effect::Effect;
-use crate::memory::{add_offset, load, stack_place};
-use crate::words::{Words, extend_immediate};
+use crate::counters::{cell_number, low_number};
+use crate::memory::{CELL_START, MAP_START, add_long_offset, add_offset, load, stack_place};
+use crate::next::{Change, Next};
+use crate::words::Words;
 use bpf_insn::{Bits, Insn, LoadKind, Reg, Size, WideValue};
+use cells::{CellOp, Shape};
 
 #[inline]
-#[tactic(auto, using(crate::proofs::Accesses::load_ready, crate::proofs::Accesses::load_agrees))]
-pub fn load_register(words: &Words, kind: LoadKind, dst: Reg, src: Reg, offset: i16) -> Effect
-    requires ready { IsReady words.now (Insn.Load kind dst src offset) }
-    requires slot { words.now.slot < 4096 }
-    ensures { IsEffect words.now (Insn.Load kind dst src offset) result }
+pub fn load_register(words: &Words, kind: LoadKind, dst: Reg, src: Reg, offset: i16) -> Next
+    requires { CanAct words.now (Insn.Load kind dst src offset) }
+    ensures { let insn = Insn.Load kind dst src offset in
+        (shape : AppShape) (a : Attributes) → LeadsTo shape a words.now insn result }
 {
-    let value = load(words, kind, add_offset(words.register(src), offset));
-    Effect::Write {
-        dst,
-        value,
-        slot: words.slot + 1,
+    let address = add_offset(words.register(src), offset);
+    if address < CELL_START {
+        Next::write(dst, load(words, kind, address))
+    } else {
+        Next::Ask {
+            cell: cell_number(address),
+            op: CellOp::Load,
+            dst: Some(dst),
+        }
+    }
+}
+
+/// A store at an address.
+#[inline]
+fn store(address: u64, size: Size, value: u64) -> Next
+    requires { IsStorable address (byte_count size) }
+    ensures { result ≡ stored address size value }
+{
+    if address < CELL_START {
+        Next::On {
+            change: Change::Store {
+                size,
+                place: stack_place(address, size),
+                value,
+            },
+            slots: 1,
+        }
+    } else {
+        Next::Ask {
+            cell: cell_number(address),
+            op: CellOp::Store(low_number(size, value)),
+            dst: None,
+        }
     }
 }
 
 #[inline]
-#[tactic(auto, using(crate::proofs::Accesses::store_number_agrees))]
-pub fn store_number(words: &Words, size: Size, dst: Reg, offset: i16, imm: i32) -> Effect
-    requires ready { IsReady words.now (Insn.StoreImm size dst offset imm) }
-    requires slot { words.now.slot < 4096 }
-    ensures { IsEffect words.now (Insn.StoreImm size dst offset imm) result }
+pub fn store_number(words: &Words, size: Size, dst: Reg, offset: i16, imm: i32) -> Next
+    requires { CanAct words.now (Insn.StoreImm size dst offset imm) }
+    ensures { let insn = Insn.StoreImm size dst offset imm in
+        (shape : AppShape) (a : Attributes) → LeadsTo shape a words.now insn result }
 {
-    let place = stack_place(add_offset(words.register(dst), offset), size);
-    let value = extend_immediate(Bits::Bits64, imm);
-    Effect::Store {
-        size,
-        place,
-        value,
-        slot: words.slot + 1,
-    }
+    let address = add_offset(words.register(dst), offset);
+    store(address, size, Bits::Bits64.immediate(imm))
 }
 
 #[inline]
-#[tactic(auto, using(crate::proofs::Accesses::store_agrees))]
-pub fn store_register(words: &Words, size: Size, dst: Reg, src: Reg, offset: i16) -> Effect
-    requires ready { IsReady words.now (Insn.Store size dst src offset) }
-    requires slot { words.now.slot < 4096 }
-    ensures { IsEffect words.now (Insn.Store size dst src offset) result }
+pub fn store_register(words: &Words, size: Size, dst: Reg, src: Reg, offset: i16) -> Next
+    requires { CanAct words.now (Insn.Store size dst src offset) }
+    ensures { let insn = Insn.Store size dst src offset in
+        (shape : AppShape) (a : Attributes) → LeadsTo shape a words.now insn result }
 {
-    let place = stack_place(add_offset(words.register(dst), offset), size);
-    Effect::Store {
-        size,
-        place,
-        value: words.register(src),
-        slot: words.slot + 1,
-    }
+    let address = add_offset(words.register(dst), offset);
+    store(address, size, words.register(src))
 }
 
+/// What a wide load gives.
 #[inline]
-#[tactic(auto, using(crate::proofs::Accesses::wide_agrees, crate::proofs::Accesses::no_map, crate::proofs::Accesses::no_cell))]
-pub fn load_wide(words: &Words, dst: Reg, value: WideValue) -> Effect
-    requires ready { IsReady words.now (Insn.Wide dst value) }
-    requires slot { words.now.slot < 4096 }
-    ensures { IsEffect words.now (Insn.Wide dst value) result }
+pub fn wide_number(shape: &Shape, value: WideValue) -> u64
+    requires { IsSome (wide_value shape.now value) }
+    ensures { wide_value shape.now value ≡ Some result }
 {
     match value {
-        WideValue::Number(value) => Effect::Write {
-            dst,
-            value,
-            slot: words.slot + 2,
-        },
-        WideValue::Map(_) | WideValue::Cell { .. } => unreachable!(),
+        WideValue::Number(number) => number,
+        WideValue::Map(map) => MAP_START + map as u64,
+        WideValue::Cell { array, offset } => {
+            let array = &shape.arrays()[array as usize];
+            add_long_offset(CELL_START + 8 * array.base as u64, offset)
+        }
     }
 }

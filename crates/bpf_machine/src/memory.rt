@@ -1,16 +1,15 @@
 // The memory of a run: reads of the context and the stack, and writes of the stack. An access of
 // 1, 2, 4 or 8 bytes is one load or store of that width.
 
-ghost use Rattle.std.specs.Prelude.{◌≡◌, ◌+◌, ◌≤◌, ◌-◌, ◌%◌, ◌^◌, length, IsTrue};
+ghost use Rattle.std.specs.Prelude.{◌≡◌, ◌+◌, ◌≤◌, ◌<◌, ◌-◌, ◌%◌, ◌^◌, length, take, drop, IsTrue, if◌then◌else◌, ◌==◌};
 ghost use Rattle.std.specs.List.{splice};
 ghost use Rattle.bpf_insn.specs.Words.{low_bytes};
 ghost use Rattle.bpf_semantics.specs.Memory.{context_start, stack_start, address_of, is_in_stack};
-ghost use Rattle.bpf_semantics.specs.Step.{byte_count, load_count, filled};
+ghost use Rattle.bpf_semantics.specs.Reads.{byte_count, load_count, filled};
 ghost use Rattle.bpf_machine.specs.Words.{number_in, number_at, IsReadable};
 
-use crate::arithmetic::{extend_byte, extend_half, extend_word, low_byte, low_half, low_word};
 use crate::words::Words;
-use bpf_insn::{LoadKind, Size};
+use bpf_insn::{Extension, LoadKind, Size, low_byte, low_half, low_word};
 
 /// The address of the first byte of the context.
 pub const CONTEXT_START: u64 = 0x1000_0000;
@@ -19,9 +18,22 @@ pub const STACK_START: u64 = 0x1FFF_FE00;
 /// The address after the last byte of the stack.
 pub const STACK_TOP: u64 = 0x2000_0000;
 
+/// The address of counter 0.
+pub const CELL_START: u64 = 0x3000_0000;
+/// The number of map 0.
+pub const MAP_START: u64 = 0x4000_0000;
+
 /// A base and an offset, modulo 2^64.
 #[inline]
 pub fn add_offset(base: u64, offset: i16) -> u64
+    ensures { result ≡ address_of base offset }
+{
+    base.wrapping_add((offset as i64).cast_unsigned())
+}
+
+/// The same, of a wide load's offset.
+#[inline]
+pub fn add_long_offset(base: u64, offset: i32) -> u64
     ensures { result ≡ address_of base offset }
 {
     base.wrapping_add((offset as i64).cast_unsigned())
@@ -76,9 +88,9 @@ fn read(bytes: &[u8], place: usize, kind: LoadKind) -> u64
         LoadKind::Half => read_half(bytes, place) as u64,
         LoadKind::Word => read_word(bytes, place) as u64,
         LoadKind::Double => read_double(bytes, place),
-        LoadKind::SignedByte => extend_byte(bytes[place]),
-        LoadKind::SignedHalf => extend_half(read_half(bytes, place)),
-        LoadKind::SignedWord => extend_word(read_word(bytes, place)),
+        LoadKind::SignedByte => Extension::Byte64.extend(bytes[place] as u64),
+        LoadKind::SignedHalf => Extension::Half64.extend(read_half(bytes, place) as u64),
+        LoadKind::SignedWord => Extension::Word64.extend(read_word(bytes, place) as u64),
     }
 }
 
@@ -103,6 +115,20 @@ pub fn stack_place(address: u64, size: Size) -> usize
     ensures in_range { result + byte_count size ≤ 512 }
 {
     (address - STACK_START) as usize
+}
+
+/// So many bytes of the stack at an address in it; of none nothing is asked.
+#[inline]
+pub fn stack_bytes(words: &Words, address: u64, count: u64) -> &[u8]
+    requires few { count ≤ 64 }
+    requires inside { 0 < count → IsTrue (is_in_stack address count) }
+    ensures { result.now ≡ take count (drop (address - stack_start) words.now.stack) }
+{
+    if count == 0 {
+        return &words.stack[..0];
+    }
+    let place = (address - STACK_START) as usize;
+    &words.stack[place..place + count as usize]
 }
 
 /// Writes the low bytes of a number at a place, the least first.
