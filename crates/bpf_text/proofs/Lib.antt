@@ -13,3 +13,4 @@ pub mod Again
 pub mod Rereading
 pub mod Back
 pub mod Once
+pub mod States

@@ -2,7 +2,13 @@
 
 ghost use Rattle.std.specs.Prelude.{◌≡◌, option_map};
 ghost use Rattle.bpf_text.specs.Items.{item_at_front, item_after_comma, at_end, items_of};
-ghost use Rattle.bpf_text.specs.Names.{tokens_named, items_named, items_if_named, front_named, after_named};
+ghost use Rattle.bpf_text.specs.Names.{
+  tokens_named,
+  items_named,
+  items_if_named,
+  front_named,
+  after_named,
+};
 
 use crate::three::{UpToThree, none};
 use crate::token::{Figure, Sign, Token};

@@ -5,6 +5,7 @@ ghost use Rattle.std.specs.Prelude.{ℕ, List};
 ghost use Rattle.bpf_text.specs.Assembly.{HasOneAssembly};
 ghost use Rattle.bpf_text.specs.Listing.{HasOneListing};
 ghost use Rattle.bpf_text.specs.Signatures.{KindsAgree};
+ghost use Rattle.bpf_text.specs.States.{ReadsWhatIsStated};
 
 use bpf_insn::decode_at;
 
@@ -12,6 +13,12 @@ use bpf_insn::decode_at;
 /// are read as their kinds are always those of an instruction.
 pub fn kinds_agree()
     ensures { KindsAgree }
+{}
+
+/// A law: a line is read as an instruction only where its word is the word of the instruction's
+/// mnemonic, and its operands are the instruction's arguments.
+pub fn reads_what_is_stated()
+    ensures { ReadsWhatIsStated }
 {}
 
 /// A law: a text stands for one list of bytes, or has one fault.

@@ -1,0 +1,58 @@
+-- What a line states, with no word of how it is read: its word is the word of the instruction's
+-- mnemonic, and its operands are the instruction's arguments.
+use Rattle.std.specs.Prelude.{◌≡◌, ℕ, ◌+◌, ℤ, pos, ◌-ℤ◌, ◌∷◌, Option, Some, None, Ok}
+use Rattle.bpf_insn.specs.declared.insn.Insn.{Insn}
+use Rattle.bpf_insn.specs.declared.operand.Distance.TheVariants.{Short, Long}
+use Rattle.bpf_insn.specs.Program.{slots_moved}
+use Rattle.bpf_text.specs.declared.argument.Argument.{Argument}
+use Rattle.bpf_text.specs.declared.argument.Argument.TheVariants.{Register, Imm, Number, Memory, Distance}
+use Rattle.bpf_text.specs.declared.item.Item.{Item}
+use Rattle.bpf_text.specs.declared.item.Item.TheVariants as item
+use Rattle.bpf_text.specs.declared.token.Token.TheVariants.{Word}
+use Rattle.bpf_text.specs.Arguments.{mnemonic_of, arguments_of}
+use Rattle.bpf_text.specs.Assembly.{SlotOf, insn_at}
+use Rattle.bpf_text.specs.Items.{Items, Tokens, items_of}
+use Rattle.bpf_text.specs.Lines.{Statement, body_of}
+use Rattle.bpf_text.specs.Listing.{register_text}
+use Rattle.bpf_text.specs.Ranges.{imm_of, wide_of, short_of, long_of}
+use Rattle.bpf_text.specs.Tokens.{Name}
+use Rattle.bpf_text.specs.Vocabulary.{Vocabulary, IsExact}
+use Rattle.bpf_text.specs.Words.{word_of}
+
+-- a distance leads from the instruction behind slot s to the label
+abbrev pub LeadsTo : SlotOf → ℕ → Name → ℤ → Type 0
+LeadsTo slot_of s w z = (t : ℕ) × (slot_of w ≡ Some t) × (z ≡ pos t -ℤ pos (s + 1))
+
+-- an operand of the line at slot s is this argument
+abbrev pub IsArgument : SlotOf → ℕ → Item Name → Argument → Type 0
+IsArgument slot_of s (item.Name w) (Register r) = w ≡ register_text r
+IsArgument slot_of s (item.Name w) (Distance d) = LeadsTo slot_of s w (slots_moved d)
+IsArgument slot_of s (item.Number f) (Imm k) = imm_of f ≡ Some k
+IsArgument slot_of s (item.Number f) (Number n) = wide_of f ≡ Some n
+IsArgument slot_of s (item.Number f) (Distance (Short k)) = short_of f ≡ Some k
+IsArgument slot_of s (item.Number f) (Distance (Long k)) = long_of f ≡ Some k
+IsArgument slot_of s (item.Memory w f) (Memory r k) = (w ≡ register_text r) × (short_of f ≡ Some k)
+IsArgument slot_of s i a = ⊥
+
+abbrev pub IsArgumentIf : SlotOf → ℕ → Option (Item Name) → Option Argument → Type 0
+IsArgumentIf slot_of s None None = Unit {0}
+IsArgumentIf slot_of s (Some i) (Some a) = IsArgument slot_of s i a
+IsArgumentIf slot_of s i a = ⊥
+
+-- the line at slot s states the instruction
+pub record States (slot_of : SlotOf) (s : ℕ) (tokens : Tokens) (i : Insn) : Type 0 where
+  pub rest : Tokens
+  pub items : Items
+  pub word : tokens ≡ Word (word_of (mnemonic_of i)) ∷ rest
+  pub operands : items_of rest ≡ Some items
+  pub first : IsArgumentIf slot_of s items.first ((arguments_of i).first)
+  pub second : IsArgumentIf slot_of s items.second ((arguments_of i).second)
+  pub third : IsArgumentIf slot_of s items.third ((arguments_of i).third)
+
+-- a line is read as an instruction only where it states it
+abbrev pub ReadsWhatIsStated : Type 0
+ReadsWhatIsStated =
+    (v : Vocabulary) → IsExact v → (slot_of : SlotOf) (tokens : Tokens) (n s : ℕ) (b : Statement) (i : Insn) →
+    body_of v tokens ≡ Ok (Some b) →
+    insn_at v slot_of (record { line = n; slot = s; statement = b }) ≡ Ok i →
+    States slot_of s tokens i
