@@ -1,9 +1,10 @@
 -- Runs, by their steps from the first on.
-use Rattle.std.proofs.Common.{◌≡◌, ◌≢◌, ℕ, ◌+◌, ◌∙◌, List, [], ◌∷◌, ◌++◌, subst, sym, ap, refl}
+use Rattle.std.proofs.Common.{◌≡◌, ◌≢◌, ℕ, ◌+◌, ◌<◌, ◌∙◌, List, [], ◌∷◌, ◌++◌, subst, sym, ap, refl}
 use Rattle.std.proofs.Common.{append_assoc, append-nil}
 use Rattle.cells.specs.declared.event.CellEvent.{CellEvent}
 use Rattle.bpf_semantics.specs.Program.{ShapedProgram}
 use Rattle.bpf_semantics.specs.State.{State}
+use Rattle.bpf_semantics.specs.Outcome.{Outcome, Done, Trap}
 use Rattle.bpf_semantics.specs.Run.{Ends, Traps}
 use Rattle.bpf_semantics.specs.Run.Ends.{last, more}
 use Rattle.bpf_semantics.specs.Run.Ends.{asked as asked_then}
@@ -14,7 +15,8 @@ use Rattle.cells.specs.Grown.{GrewBy, GrowsBySnoc}
 use Rattle.reference.specs.declared.observed.Observed.{Observed}
 use Rattle.reference.specs.declared.observed.Observed.TheVariants as observed
 use Rattle.reference.specs.Observed.{IsStep, Grew}
-use Rattle.reference.specs.Runs.{GoesOn}
+use Rattle.reference.specs.declared.observed.RunEnd.TheVariants as end
+use Rattle.reference.specs.Runs.{GoesOn, IsCut, IsRun}
 use Rattle.reference.specs.Runs.GoesOn.{stays, goes, asked}
 
 -- what a run comes to from a state on the way is what it comes to
@@ -70,25 +72,38 @@ module _ {P : Type 0} (grew : P → CellEvent → P → Type 0) where
       absurd (going.0 n refl)
   one_step snoc p s pass t held observed.Trap u next run going is grown = absurd (going.1 refl)
 
-  pub choice_of : (p : ShapedProgram) (s : State) (pass : P) (t : State) (held : P) (choice : ℕ)
-      → (u : State) (next : P) → RunsTo p s pass t held → IsStep p t (observed.Done choice) u
-      → next ≡ held → (es : List CellEvent) × Ends p s es choice
-      (u.count + 1) × GrewBy grew pass es next
-  choice_of p s pass t held choice u next run is same =
-      let count : u.count + 1 ≡ t.count + 1 = ap (λ (v : State). v.count + 1) is.1 in
-      let end = then_ends p s run.0 t run.1 [] choice (u.count + 1) (last is.0 count) in (
-        run.0,
-        subst (λ (l : List CellEvent). Ends p s l choice (u.count + 1)) (append-nil run.0) end,
-        subst (λ (q : P). GrewBy grew pass run.0 q) (sym same) run.2,
-      )
+  -- the last step left the state as it was
+  cut : (p : ShapedProgram) (s : State) (es : List CellEvent) (limit : ℕ) (o : Outcome)
+      (t u : State)
+      → GoesOn p s es t → t.count < s.count + limit → (step p t ≡ o) × (u ≡ t)
+      → IsCut p s es limit o u
+  cut p s es limit o t u run within is =
+      let back : t ≡ u = sym is.1 in record {
+        goes_on = subst (λ (v : State). GoesOn p s es v) back run;
+        within = subst (λ (v : State). v.count < s.count + limit) back within;
+        next = subst (λ (v : State). step p v ≡ o) back is.0;
+      }
 
-  pub trap_of : (p : ShapedProgram) (s : State) (pass : P) (t : State) (held : P)
-      → (u : State) (next : P) → RunsTo p s pass t held → IsStep p t observed.Trap u
-      → next ≡ held → (es : List CellEvent) × Traps p s es u.count × GrewBy grew pass es next
-  trap_of p s pass t held u next run is same =
-      let count : u.count ≡ t.count = ap (λ (v : State). v.count) is.1 in
-      let end = then_traps p s run.0 t run.1 [] u.count (now is.0 count) in (
-        run.0,
-        subst (λ (l : List CellEvent). Traps p s l u.count) (append-nil run.0) end,
-        subst (λ (q : P). GrewBy grew pass run.0 q) (sym same) run.2,
-      )
+  pub choice_of : (p : ShapedProgram) (s : State) (pass : P) (t : State) (held : P)
+      (choice limit : ℕ)
+      → (u : State) (next : P) → RunsTo p s pass t held → t.count < s.count + limit
+      → IsStep p t (observed.Done choice) u → next ≡ held
+      → (es : List CellEvent) × IsRun p s es limit (end.Choice choice) u × GrewBy grew pass es next
+  choice_of p s pass t held choice limit u next run within is same =
+      let es = run.0 in
+      let at = cut p s es limit (Done choice) t u run.1 within is in
+      let whole = then_ends p s es u at.goes_on [] choice (u.count + 1) (last at.next refl) in
+      let ends = subst (λ (l : List CellEvent). Ends p s l choice (u.count + 1))
+      (append-nil es) whole in
+      (es, (at, ends), subst (λ (q : P). GrewBy grew pass es q) (sym same) run.2)
+
+  pub trap_of : (p : ShapedProgram) (s : State) (pass : P) (t : State) (held : P) (limit : ℕ)
+      → (u : State) (next : P) → RunsTo p s pass t held → t.count < s.count + limit
+      → IsStep p t observed.Trap u → next ≡ held
+      → (es : List CellEvent) × IsRun p s es limit end.Trap u × GrewBy grew pass es next
+  trap_of p s pass t held limit u next run within is same =
+      let es = run.0 in
+      let at = cut p s es limit Trap t u run.1 within is in
+      let stop = then_traps p s es u at.goes_on [] u.count (now at.next refl) in
+      let traps = subst (λ (l : List CellEvent). Traps p s l u.count) (append-nil es) stop in
+      (es, (at, traps), subst (λ (q : P). GrewBy grew pass es q) (sym same) run.2)

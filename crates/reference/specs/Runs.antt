@@ -1,9 +1,10 @@
 -- Runs that were cut off after so many steps.
-use Rattle.std.specs.Prelude.{◌≡◌, ℕ, ◌+◌, List, [], ◌∷◌, ◌++◌}
+use Rattle.std.specs.Prelude.{◌≡◌, ℕ, ◌+◌, ◌<◌, List, [], ◌∷◌, ◌++◌}
 use Rattle.cells.specs.declared.event.CellEvent.{CellEvent}
 use Rattle.bpf_semantics.specs.Program.{ShapedProgram}
 use Rattle.bpf_semantics.specs.State.{State}
-use Rattle.bpf_semantics.specs.Outcome.{Going, Asks}
+use Rattle.bpf_semantics.specs.Outcome as outcome
+use Rattle.bpf_semantics.specs.Outcome.{Outcome, Going, Asks, Done}
 use Rattle.bpf_semantics.specs.Run.{Ends, Traps}
 use Rattle.bpf_semantics.specs.Step.{step}
 use Rattle.reference.specs.declared.observed.RunEnd.{RunEnd}
@@ -17,8 +18,17 @@ pub data GoesOn (p : ShapedProgram) (s : State) : List CellEvent → State → T
   asked : {es : List CellEvent} {t : State} {next : ℕ → State} (e : CellEvent)
       → GoesOn p s es t → step p t ≡ Asks e.cell e.op next → GoesOn p s (es ++ e ∷ []) (next e.reply)
 
--- the run from one state to another makes the events and comes to this end, within so many steps
+-- the run from one state to another makes the events, within so many steps, and this outcome is next
+pub record IsCut (p : ShapedProgram) (s : State) (es : List CellEvent) (limit : ℕ) (o : Outcome)
+    (t : State) : Type 0 where
+  pub goes_on : GoesOn p s es t
+  pub within : t.count < s.count + limit
+  pub next : step p t ≡ o
+
+-- what comes of a run of so many steps at most, with the events on the way; it leaves the last state
+-- that it came to
 abbrev pub IsRun : ShapedProgram → State → List CellEvent → ℕ → RunEnd → State → Type 0
-IsRun p s es limit (Choice choice) t = Ends p s es choice (t.count + 1)
-IsRun p s es limit Trap t = Traps p s es t.count
+IsRun p s es limit (Choice choice) t =
+    IsCut p s es limit (Done choice) t × Ends p s es choice (t.count + 1)
+IsRun p s es limit Trap t = IsCut p s es limit outcome.Trap t × Traps p s es t.count
 IsRun p s es limit Unfinished t = GoesOn p s es t × (t.count ≡ s.count + limit)

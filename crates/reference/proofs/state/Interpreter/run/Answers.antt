@@ -1,4 +1,4 @@
-use Rattle.std.proofs.Common.{[], arith, refl}
+use Rattle.std.proofs.Common.{[], ◌+◌, ◌<◌, arith, refl}
 use Rattle.reference.specs.Marks.{state_of}
 use Rattle.reference.specs.Observed.{shaped}
 use Rattle.reference.specs.Runs.GoesOn.{stays}
@@ -41,18 +41,23 @@ loop-done-preserved g c =
 pub returns-in-Done-clause-run : goal.returns-in-Done-clause-run
 returns-in-Done-clause-run g c =
     let p = shaped c.args.code.now c.args.shape.now in
-    choice_of g.C.CellSteps.grew p (state_of c.args.self.now) c.args.pass.now
-    (state_of c.loop-done.self)
-    c.loop-done.pass c.in-Done.choice (state_of c.step.new.self) c.step.new.pass
-    c.loop-done.invariant.run
+    let old = state_of c.loop-done.self in
+    let start = state_of c.args.self.now in
+    let within : old.count < start.count + c.args.limit =
+    omega (arith, c.loop-done.invariant.count, c.loop-done-test.true) in
+    choice_of g.C.CellSteps.grew p start c.args.pass.now old c.loop-done.pass c.in-Done.choice
+    c.args.limit (state_of c.step.new.self) c.step.new.pass c.loop-done.invariant.run within
     c.in-Done.ensures.step c.in-Done.ensures.grew
 
 pub returns-in-Trap-clause-run : goal.returns-in-Trap-clause-run
 returns-in-Trap-clause-run g c =
     let p = shaped c.args.code.now c.args.shape.now in
-    trap_of g.C.CellSteps.grew p (state_of c.args.self.now) c.args.pass.now
-    (state_of c.loop-done.self)
-    c.loop-done.pass (state_of c.step.new.self) c.step.new.pass c.loop-done.invariant.run
+    let old = state_of c.loop-done.self in
+    let start = state_of c.args.self.now in
+    let within : old.count < start.count + c.args.limit =
+    omega (arith, c.loop-done.invariant.count, c.loop-done-test.true) in
+    trap_of g.C.CellSteps.grew p start c.args.pass.now old c.loop-done.pass c.args.limit
+    (state_of c.step.new.self) c.step.new.pass c.loop-done.invariant.run within
     c.in-Trap.ensures.step c.in-Trap.ensures.grew
 
 pub returns-clause-run : goal.returns-clause-run
