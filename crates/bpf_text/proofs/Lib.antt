@@ -14,3 +14,4 @@ pub mod Rereading
 pub mod Back
 pub mod Once
 pub mod States
+pub mod Stated

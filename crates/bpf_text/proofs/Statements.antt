@@ -119,7 +119,7 @@ has_insn word.LoadMap (Some (Register d)) (Some (Imm i)) None h = refl
 has_insn word.LoadCell (Some (Register d)) (Some (Imm i)) (Some (Imm k)) h = refl
 has_insn m a b c h = absurd (no_truth h)
 
-of_kinds : (i : Insn) → are_of (kinds_of (mnemonic_of i)) (arguments_of i) ≡ true
+pub of_kinds : (i : Insn) → are_of (kinds_of (mnemonic_of i)) (arguments_of i) ≡ true
 of_kinds (insn.Alu bits op dst (operand.Imm k)) = refl
 of_kinds (insn.Mov bits dst (operand.Imm k)) = refl
 of_kinds (insn.JumpIf bits condition left (operand.Imm k) offset) = refl

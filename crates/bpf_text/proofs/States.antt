@@ -1,5 +1,6 @@
 -- A line is read as an instruction only where it states it.
 use Rattle.std.proofs.Common.{◌≡◌, ℕ, ◌+◌, ℤ, pos, ◌-ℤ◌, ◌∷◌, [], Option, Some, None, option_map, Ok, Err, Bool, true, false, ◌||◌, not, if◌then◌else◌, refl, sym, ap, ◌∙◌, subst}
+use Rattle.bpf_insn.specs.declared.insn.Insn.{Insn}
 use Rattle.bpf_insn.specs.declared.reg.Reg.{Reg}
 use Rattle.bpf_insn.specs.declared.operand.Distance.TheVariants.{Short, Long}
 use Rattle.bpf_text.specs.declared.argument.Argument.{Argument}
@@ -23,7 +24,7 @@ use Rattle.bpf_text.specs.Operands.{has_plus, has_sign, if_of_kind, register_giv
 use Rattle.bpf_text.specs.Ranges.{imm_of, wide_of, short_of, long_of}
 use Rattle.bpf_text.specs.Results.{OrFault, needs, ◌>>?◌, map_ok, in_turn}
 use Rattle.bpf_text.specs.Signatures.{kinds_of}
-use Rattle.bpf_text.specs.States.{LeadsTo, IsArgument, IsArgumentIf, ReadsWhatIsStated}
+use Rattle.bpf_text.specs.States.{LeadsTo, IsArgument, IsArgumentIf, States, IsReadAs}
 use Rattle.bpf_text.specs.Tokens.{Name}
 use Rattle.bpf_text.specs.Vocabulary.{Vocabulary, IsExact}
 use Rattle.bpf_text.specs.Words.{word_of}
@@ -206,8 +207,11 @@ body_is v (Word w ∷ rest) b h =
     }
 body_is v (t ∷ rest) b h = absurd (err_ok h)
 
-pub reads_what_is_stated : ReadsWhatIsStated
-reads_what_is_stated v exact slot_of tokens n s b i h e =
+pub stated_only : (v : Vocabulary) → IsExact v → (slot_of : SlotOf) (s : ℕ) (tokens : Tokens) (i : Insn) → IsReadAs v slot_of s tokens i → States slot_of s tokens i
+stated_only v exact slot_of s tokens i read =
+    let b = read.0 in
+    let h = read.1 in
+    let e = read.2 in
     let l = body_is v tokens b h in
     let p = bind_ok (arguments_at slot_of s b.arguments) (λ a. needs fault.Operand (v.insn_of b.mnemonic a)) i e in
     let is = (exact.insns b.mnemonic p.0 i).0 (needs_ok fault.Operand (v.insn_of b.mnemonic p.0) i p.2) in

@@ -4,6 +4,7 @@ use Rattle.std.specs.Prelude.{◌≡◌, ℕ, ◌+◌, ℤ, pos, ◌-ℤ◌, ◌
 use Rattle.bpf_insn.specs.declared.insn.Insn.{Insn}
 use Rattle.bpf_insn.specs.declared.operand.Distance.TheVariants.{Short, Long}
 use Rattle.bpf_insn.specs.Program.{slots_moved}
+use Rattle.bpf_insn.specs.Spelling.{IsEncodable}
 use Rattle.bpf_text.specs.declared.argument.Argument.{Argument}
 use Rattle.bpf_text.specs.declared.argument.Argument.TheVariants.{Register, Imm, Number, Memory, Distance}
 use Rattle.bpf_text.specs.declared.item.Item.{Item}
@@ -16,7 +17,7 @@ use Rattle.bpf_text.specs.Lines.{Statement, body_of}
 use Rattle.bpf_text.specs.Listing.{register_text}
 use Rattle.bpf_text.specs.Ranges.{imm_of, wide_of, short_of, long_of}
 use Rattle.bpf_text.specs.Tokens.{Name}
-use Rattle.bpf_text.specs.Vocabulary.{Vocabulary, IsExact}
+use Rattle.bpf_text.specs.Vocabulary.{Vocabulary}
 use Rattle.bpf_text.specs.Words.{word_of}
 
 -- a distance leads from the instruction behind slot s to the label
@@ -49,10 +50,17 @@ pub record States (slot_of : SlotOf) (s : ℕ) (tokens : Tokens) (i : Insn) : Ty
   pub second : IsArgumentIf slot_of s items.second ((arguments_of i).second)
   pub third : IsArgumentIf slot_of s items.third ((arguments_of i).third)
 
--- a line is read as an instruction only where it states it
-abbrev pub ReadsWhatIsStated : Type 0
-ReadsWhatIsStated =
-    (v : Vocabulary) → IsExact v → (slot_of : SlotOf) (tokens : Tokens) (n s : ℕ) (b : Statement) (i : Insn) →
-    body_of v tokens ≡ Ok (Some b) →
-    insn_at v slot_of (record { line = n; slot = s; statement = b }) ≡ Ok i →
-    States slot_of s tokens i
+-- the line at slot s is read as the instruction
+abbrev pub IsReadAs : Vocabulary → SlotOf → ℕ → Tokens → Insn → Type 0
+IsReadAs v slot_of s tokens i =
+    (b : Statement) × (body_of v tokens ≡ Ok (Some b))
+    × (insn_at v slot_of (record { line = 0; slot = s; statement = b }) ≡ Ok i)
+
+-- a line is read as an instruction just where it states it, and its numbers fit their fields
+pub record ReadsAsStated (v : Vocabulary) : Type 0 where
+  pub only :
+      (slot_of : SlotOf) (s : ℕ) (tokens : Tokens) (i : Insn) →
+      IsReadAs v slot_of s tokens i → States slot_of s tokens i
+  pub all :
+      (slot_of : SlotOf) (s : ℕ) (tokens : Tokens) (i : Insn) →
+      IsEncodable i → States slot_of s tokens i → IsReadAs v slot_of s tokens i

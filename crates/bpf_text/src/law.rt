@@ -5,7 +5,8 @@ ghost use Rattle.std.specs.Prelude.{ℕ, List};
 ghost use Rattle.bpf_text.specs.Assembly.{HasOneAssembly};
 ghost use Rattle.bpf_text.specs.Listing.{HasOneListing};
 ghost use Rattle.bpf_text.specs.Signatures.{KindsAgree};
-ghost use Rattle.bpf_text.specs.States.{ReadsWhatIsStated};
+ghost use Rattle.bpf_text.specs.States.{ReadsAsStated};
+ghost use Rattle.bpf_text.specs.Vocabulary.{Vocabulary, IsExact};
 
 use bpf_insn::decode_at;
 
@@ -15,10 +16,10 @@ pub fn kinds_agree()
     ensures { KindsAgree }
 {}
 
-/// A law: a line is read as an instruction only where its word is the word of the instruction's
-/// mnemonic, and its operands are the instruction's arguments.
-pub fn reads_what_is_stated()
-    ensures { ReadsWhatIsStated }
+/// A law: a line is read as an instruction just where its word is the word of the instruction's
+/// mnemonic, its operands are the instruction's arguments, and their numbers fit their fields.
+pub fn reads_as_stated()
+    ensures { (v : Vocabulary) → IsExact v → ReadsAsStated v }
 {}
 
 /// A law: a text stands for one list of bytes, or has one fault.

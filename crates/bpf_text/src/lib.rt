@@ -24,5 +24,5 @@ mod vocabulary;
 
 pub use assembler::assemble;
 pub use fault::{AsmFault, AsmFaultKind, ListFault};
-pub use law::{kinds_agree, one_assembly, one_listing, reads_what_is_stated};
+pub use law::{kinds_agree, one_assembly, one_listing, reads_as_stated};
 pub use lister::listing;
