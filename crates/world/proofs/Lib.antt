@@ -1,7 +1,15 @@
+pub mod Runs
 pub mod Seats
+pub mod Changes
 pub mod Worlds
+pub mod Opening
 pub mod Safe
+pub mod Held
 pub mod Plays
 pub mod Released
+pub mod Workers
+pub mod During
 pub mod InTime
+pub mod Comes
 pub mod OwnRun
+pub mod Course

@@ -1,60 +1,140 @@
 -- A step of a seat's run is a step of each worker that the seat stands for.
-use Rattle.std.proofs.Common.{◌≡◌, ℕ, ◌+◌, Option, Some, None, Ok, refl, ap, subst, ◌∙◌}
+use Rattle.std.proofs.Common.{◌≡◌, ℕ, ◌+◌, List, [], ◌∷◌, Option, Some, None, Ok, refl, sym, ap}
+use Rattle.std.proofs.Common.{subst, ◌∙◌}
+use Rattle.std.specs.Prelude.{slice_index}
+use Rattle.bpf_semantics.specs.Program.{ShapedProgram}
 use Rattle.bpf_semantics.specs.State.{State}
-use Rattle.bpf_semantics.specs.Step.{Outcome, Going, Done, Trap, step}
-use Rattle.bpf_verify.specs.Accepted.{Accepted}
-use Rattle.bpf_machine.specs.StandsFor.{Held, Agrees}
-use Rattle.bpf_machine.specs.StandsFor as machine
-use Rattle.bpf_machine.specs.declared.progress.Progress.{Progress}
+use Rattle.bpf_semantics.specs.Outcome.{Outcome, Going, Asks, Done, Trap}
+use Rattle.bpf_semantics.specs.Step.{step}
+use Rattle.bpf_machine.specs.StandsFor.{Held, RunStandsFor, Agrees, Steps}
 use Rattle.bpf_machine.specs.declared.progress.Progress.TheVariants as progress
+use Rattle.cells.specs.Events.{IsEvent, reply_of, after}
+use Rattle.cells.specs.Grown.{GrewBy}
+use Rattle.cells.specs.declared.event.CellEvent.{CellEvent}
 use Rattle.world.specs.World.{Worker, Idle, Running, Ended}
-use Rattle.world.specs.Seats.{SeatStandsFor, WorkerSteps}
+use Rattle.world.specs.Counters.{answered, cells_after}
+use Rattle.world.specs.Seats.{SeatStandsFor, WorkerSteps, SeatSteps}
 use Rattle.world.specs.declared.seat.Seat.{Seat}
 use Rattle.world.specs.declared.seat.Seat.TheVariants.{Taken}
 use Rattle.world.specs.declared.event.Effect.TheVariants as effect
 
--- the run agrees with the step, from every state that it stood for
-abbrev pub HasStepped : Held → Progress → Held → Type 0
-HasStepped run answer after = (s : State) → machine.StandsFor run s → Agrees (step run.program.code s) answer after
+-- ---- what a step on plain cells comes to
 
-going_of : (o : Outcome) (after : Held) → Agrees o progress.Going after → (t : State) × (o ≡ Going t) × machine.StandsFor after t
-going_of (Going t) after a = (t, refl, a)
-going_of (Done n) after a = absurd a
-going_of Trap after a = absurd a
+-- it went on, with the reply of the cell's value if it asked one
+record HasGone (old new : List ℕ) (o : Outcome) (run : Held) : Type 0 where
+  to : State
+  goes_on : answered old o ≡ Going to
+  cells_are : new ≡ cells_after old o
+  stands : RunStandsFor run to
 
-done_of : (o : Outcome) (choice : ℕ) (after : Held) → Agrees o (progress.Done choice) after → o ≡ Done choice
-done_of (Going t) choice after a = absurd a
-done_of (Done n) choice after a = ap Done a
-done_of Trap choice after a = absurd a
+gone_at : (old new : List ℕ) (o : Outcome) (es : List CellEvent) (run : Held)
+    → GrewBy IsEvent old es new
+    → Agrees o es progress.Going run → HasGone old new o run
+gone_at old new (Going t) [] run grown agrees =
+    record { to = t; goes_on = refl; cells_are = grown; stands = agrees }
+gone_at old new (Asks cell op next) (e ∷ []) run grown agrees =
+    let event = grown.1 in
+    let reply : e.reply ≡ reply_of (slice_index old cell) op =
+    event.reply_is ∙ ap (λ (c : ℕ). reply_of (slice_index old c) e.op) agrees.0.cell_is
+    ∙ ap (reply_of (slice_index old cell)) agrees.0.op_is in
+    record {
+      to = next e.reply;
+      goes_on = ap (λ (r : ℕ). Going (next r)) (sym reply);
+      cells_are = grown.2 ∙ event.values_are ∙ rw (agrees.0.cell_is, agrees.0.op_is) refl;
+      stands = agrees.1;
+    }
+gone_at old new (Going t) (e ∷ es) run grown agrees = absurd agrees
+gone_at old new (Asks cell op next) [] run grown agrees = absurd agrees
+gone_at old new (Asks cell op next) (e ∷ f ∷ es) run grown agrees = absurd agrees
+gone_at old new (Done n) [] run grown agrees = absurd agrees
+gone_at old new (Done n) (e ∷ es) run grown agrees = absurd agrees
+gone_at old new Trap [] run grown agrees = absurd agrees
+gone_at old new Trap (e ∷ es) run grown agrees = absurd agrees
 
-of_program : (p q : Accepted) (s : State) (o : Outcome) → p ≡ q → step p.code s ≡ o → step q.code s ≡ o
-of_program p q s o same e = subst (λ (r : Accepted). step r.code s ≡ o) same e
+-- it ended, and touched no cell
+record HasStopped (old new : List ℕ) (o : Outcome) (choice : ℕ) : Type 0 where
+  done : o ≡ Done choice
+  cells_are : new ≡ old
 
-goes_on_from : (run after : Held) (n : ℕ) (x : Worker) → HasStepped run progress.Going after → after.program ≡ run.program → SeatStandsFor (Taken run n None) x
-    → (y : Worker) × WorkerSteps x (Ok effect.Stepped) y × SeatStandsFor (Taken after n None) y
-goes_on_from run after n Idle stepped same stands = absurd stands
-goes_on_from run after n (Ended number program a choice instructions) stepped same stands = absurd stands
-goes_on_from run after n (Running number program s) stepped same stands =
-    let next = going_of (step run.program.code s) after (stepped s stands.2) in
-    (Running number program next.0, (next.0, of_program run.program program s (Going next.0) stands.1 next.1, refl), (stands.0, same ∙ stands.1, next.2))
+stopped_at : (old new : List ℕ) (o : Outcome) (es : List CellEvent) (choice : ℕ) (run : Held)
+    → GrewBy IsEvent old es new → Agrees o es (progress.Done choice) run
+    → HasStopped old new o choice
+stopped_at old new (Done n) [] choice run grown agrees =
+    record { done = ap Done agrees; cells_are = grown }
+stopped_at old new (Done n) (e ∷ es) choice run grown agrees = absurd agrees
+stopped_at old new (Going t) [] choice run grown agrees = absurd agrees
+stopped_at old new (Going t) (e ∷ es) choice run grown agrees = absurd agrees
+stopped_at old new (Asks cell op next) [] choice run grown agrees = absurd agrees
+stopped_at old new (Asks cell op next) (e ∷ []) choice run grown agrees = absurd agrees
+stopped_at old new (Asks cell op next) (e ∷ f ∷ es) choice run grown agrees = absurd agrees
+stopped_at old new Trap [] choice run grown agrees = absurd agrees
+stopped_at old new Trap (e ∷ es) choice run grown agrees = absurd agrees
 
-ends_from : (run after : Held) (n choice : ℕ) (x : Worker) → HasStepped run (progress.Done choice) after → after.program ≡ run.program → after.attributes ≡ run.attributes → after.count ≡ run.count
-    → SeatStandsFor (Taken run n None) x → (y : Worker) × WorkerSteps x (Ok (effect.Ended choice)) y × SeatStandsFor (Taken after n (Some choice)) y
-ends_from run after n choice Idle stepped same attributes count stands = absurd stands
-ends_from run after n choice (Ended number program a chosen instructions) stepped same attributes count stands = absurd stands
-ends_from run after n choice (Running number program s) stepped same attributes count stands = (
-  Ended number program s.attributes choice (s.count + 1),
-  (of_program run.program program s (Done choice) stands.1 (done_of (step run.program.code s) choice after (stepped s stands.2)), refl),
-  (stands.0, same ∙ stands.1, attributes ∙ stands.2.attributes, refl, ap (λ (n : ℕ). n + 1) (count ∙ stands.2.count)),
-)
+-- ---- a seat whose run steps
+
+goes_on_from : (old new : List ℕ) (run after : Held) (n : ℕ) (x : Worker)
+    → Steps IsEvent run after old new progress.Going → after.program ≡ run.program
+    → SeatStandsFor (Taken run n None) x
+    → (y : Worker) × WorkerSteps old x (Ok effect.Stepped) new y × SeatStandsFor
+    (Taken after n None) y
+goes_on_from old new run after n Idle stepped same stands = absurd stands
+goes_on_from old new run after n (Ended number program a choice instructions) stepped same stands =
+    absurd stands
+goes_on_from old new run after n (Running number program s) stepped same stands =
+    let gone = subst (λ (p : ShapedProgram). HasGone old new (step p s) after) stands.program_is
+    (gone_at old new (step run.program s) stepped.events after stepped.grown
+    (stepped.agrees s stands.stands)) in (
+      Running number program gone.to,
+      record { to = gone.to; goes_on = gone.goes_on; cells_are = gone.cells_are; after = refl },
+      record {
+        number_is = stands.number_is;
+        program_is = same ∙ stands.program_is;
+        stands = gone.stands;
+      },
+    )
+
+ends_from : (old new : List ℕ) (run after : Held) (n choice : ℕ) (x : Worker)
+    → Steps IsEvent run after old new (progress.Done choice) → after.program ≡ run.program
+    → after.attributes ≡ run.attributes → after.count ≡ run.count
+    → SeatStandsFor (Taken run n None) x
+    → (y : Worker) × WorkerSteps old x (Ok (effect.Ended choice)) new y
+    × SeatStandsFor (Taken after n (Some choice)) y
+ends_from old new run after n choice Idle stepped same attributes count stands = absurd stands
+ends_from old new run after n choice (Ended number program a chosen instructions) stepped same
+    attributes count stands =
+    absurd stands
+ends_from old new run after n choice (Running number program s) stepped same attributes count
+    stands =
+    let stopped = subst (λ (p : ShapedProgram). HasStopped old new (step p s) choice)
+    stands.program_is
+    (stopped_at old new (step run.program s) stepped.events choice after stepped.grown
+    (stepped.agrees s stands.stands)) in (
+      Ended number program s.attributes choice (s.count + 1),
+      record { ends = stopped.done; cells_are = stopped.cells_are; after = refl },
+      record {
+        number_is = stands.number_is;
+        program_is = same ∙ stands.program_is;
+        attributes_are = attributes ∙ sym stands.stands.shows.attributes;
+        choice_is = refl;
+        count_is = ap (λ (n : ℕ). n + 1) (count ∙ stands.stands.counted);
+      },
+    )
 
 -- so for a seat that is known by equations
-pub goes_on : (seat : Seat) (run after : Held) (n : ℕ) (o : Option ℕ) (x : Worker) → seat ≡ Taken run n o → o ≡ None → HasStepped run progress.Going after → after.program ≡ run.program
-    → SeatStandsFor seat x → (y : Worker) × WorkerSteps x (Ok effect.Stepped) y × SeatStandsFor (Taken after n o) y
-goes_on seat run after n o x is none stepped same stands =
-    rw none (goes_on_from run after n x stepped same (subst (λ (s : Seat). SeatStandsFor s x) (is ∙ ap (Taken run n) none) stands))
+pub goes_on : (old new : List ℕ) (seat : Seat) (run after : Held) (n : ℕ) (o : Option ℕ)
+    → seat ≡ Taken run n o → o ≡ None → Steps IsEvent run after old new progress.Going
+    → after.program ≡ run.program → SeatSteps old seat (Ok effect.Stepped) new (Taken after n o)
+goes_on old new seat run after n o is none stepped same x stands =
+    let seat_is = is ∙ ap (Taken run n) none in
+    rw none
+    (goes_on_from old new run after n x stepped same
+    (subst (λ (s : Seat). SeatStandsFor s x) seat_is stands))
 
-pub ends_now : (seat : Seat) (run after : Held) (n choice : ℕ) (o : Option ℕ) (x : Worker) → seat ≡ Taken run n o → o ≡ None → HasStepped run (progress.Done choice) after → after.program ≡ run.program
-    → after.attributes ≡ run.attributes → after.count ≡ run.count → SeatStandsFor seat x → (y : Worker) × WorkerSteps x (Ok (effect.Ended choice)) y × SeatStandsFor (Taken after n (Some choice)) y
-ends_now seat run after n choice o x is none stepped same attributes count stands =
-    ends_from run after n choice x stepped same attributes count (subst (λ (s : Seat). SeatStandsFor s x) (is ∙ ap (Taken run n) none) stands)
+pub ends_now : (old new : List ℕ) (seat : Seat) (run after : Held) (n choice : ℕ) (o : Option ℕ)
+    → seat ≡ Taken run n o → o ≡ None → Steps IsEvent run after old new (progress.Done choice)
+    → after.program ≡ run.program → after.attributes ≡ run.attributes → after.count ≡ run.count
+    → SeatSteps old seat (Ok (effect.Ended choice)) new (Taken after n (Some choice))
+ends_now old new seat run after n choice o is none stepped same attributes count x stands =
+    let seat_is = is ∙ ap (Taken run n) none in
+    ends_from old new run after n choice x stepped same attributes count
+    (subst (λ (s : Seat). SeatStandsFor s x) seat_is stands)

@@ -1,5 +1,12 @@
 pub mod World
+pub mod Counters
+pub mod Happens
+pub mod History
 pub mod Seats
 pub mod StandsFor
 pub mod Safe
+pub mod InTime
 pub mod OwnRun
+pub mod Batches
+pub mod Headline
+pub mod Course

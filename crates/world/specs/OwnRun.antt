@@ -1,34 +1,99 @@
--- What a Finish answers: the run of its worker's latest Start, and nothing of the other workers' runs.
-use Rattle.std.specs.Prelude.{◌≡◌, ◌≢◌, ℕ, ◌<◌, List, take, slice_get, Some, Result, Ok}
+-- What a Finish answers: its worker's own run, and nothing of the other workers' runs.
+use Rattle.std.specs.Prelude.{◌≡◌, ◌≢◌, ℕ, ◌<◌, ◌≤◌, List, length, take, drop, slice_get, Some, Ok}
+use Rattle.std.specs.Prelude.{◌⊎◌}
 use Rattle.std.specs.declared.alloc.Global.{Global}
 use Rattle.std.specs.Arc.{arc_value}
 use Rattle.std.specs.declared.sync.Arc.{Arc}
 use Rattle.attrs.specs.Attributes.{Attributes}
 use Rattle.bpf_semantics.specs.State.{opening}
-use Rattle.bpf_semantics.specs.Run.{Ends}
-use Rattle.bpf_verify.specs.Accepted.{Accepted}
-use Rattle.world.specs.World.{WorldState, Plays, HasProgram, newest, appid_of}
+use Rattle.bpf_semantics.specs.Program.{ShapedProgram}
+use Rattle.world.specs.World.{WorldState, Worker, Idle, Running, Ended, IsWorker, HasProgram}
+use Rattle.world.specs.World.{newest, appid_of}
+use Rattle.world.specs.Happens.{Answer, Plays}
+use Rattle.world.specs.History.{EndsDuring}
+use Rattle.world.specs.Safe.{IsSafeWorld}
 use Rattle.world.specs.declared.event.Event.{Event}
-use Rattle.world.specs.declared.event.Event.TheVariants.{Start}
-use Rattle.world.specs.declared.event.Effect.{Effect}
+use Rattle.world.specs.declared.event.Event.TheVariants.{Start, Finish}
 use Rattle.world.specs.declared.event.Effect.TheVariants as effect
-use Rattle.world.specs.declared.event.WorldFault.{WorldFault}
+
+-- the event of a place is a Finish of the worker, which answered this
+pub record IsFinished (k : ℕ) (events : List Event) (answers : List Answer)
+    (place number choice instructions : ℕ) : Type 0 where
+  pub event_is : slice_get events place ≡ Some (Finish k)
+  pub answer_is : slice_get answers place ≡ Some (Ok (effect.Finished choice instructions number))
+
+-- no Start of the worker before the place but refused ones
+abbrev pub HasNoStart : ℕ → List Event → List Answer → ℕ → Type 0
+HasNoStart k events answers place = (j : ℕ) (attrs : Arc Attributes Global)
+    → j < place → slice_get events j ≡ Some (Start k attrs)
+    → slice_get answers j ≢ Some (Ok effect.Started)
 
 -- a Start of the worker that wasn't refused, the latest one before a place
-pub record IsLatestStart (k : ℕ) (events : List Event) (answers : List (Result Effect WorldFault)) (place start : ℕ) (attrs : Arc Attributes Global) : Type 0 where
+pub record IsLatestStart (k : ℕ) (events : List Event) (answers : List Answer) (place start : ℕ)
+    (attrs : Arc Attributes Global) : Type 0 where
   pub before : start < place
   pub event_is : slice_get events start ≡ Some (Start k attrs)
   pub answer_is : slice_get answers start ≡ Some (Ok effect.Started)
-  pub latest : (j : ℕ) (other : Arc Attributes Global) → start < j → j < place → slice_get events j ≡ Some (Start k other) → slice_get answers j ≢ Some (Ok effect.Started)
+  pub latest : (j : ℕ) (other : Arc Attributes Global) → start < j → j < place
+      → slice_get events j ≡ Some (Start k other) → slice_get answers j ≢ Some (Ok effect.Started)
 
--- the number, the choice and the instructions are those of the latest Start's run: of the program that the ruleset that was then the newest has for its app, on its attributes
-pub record IsOwnRun (w : WorldState) (k : ℕ) (events : List Event) (answers : List (Result Effect WorldFault)) (place number choice instructions : ℕ) : Type 0 where
+-- what comes before a place, from another place on
+abbrev pub since : {A : Type 0} → ℕ → ℕ → List A → List A
+since start place xs = drop start (take place xs)
+
+-- the number, the choice and the instructions are those of the latest Start's run: of the program
+-- that the ruleset that was then the newest has for its app, on its attributes, and on the replies
+-- that its Steps got since
+pub record IsOwnRun (w : WorldState) (k : ℕ) (events : List Event) (answers : List Answer)
+    (place number choice instructions : ℕ) : Type 0 where
   pub start : ℕ
   pub attrs : Arc Attributes Global
   pub started : IsLatestStart k events answers place start attrs
   pub world : WorldState
   pub plays : Plays w (take start events) (take start answers) world
   pub newest_is : number ≡ newest world.rulesets
-  pub program : Accepted
+  pub program : ShapedProgram
   pub offered : HasProgram world.rulesets number (appid_of (arc_value attrs)) program
-  pub ends : Ends program.code (opening (arc_value attrs)) choice instructions
+  pub ends : EndsDuring world k (since start place events) (since start place answers)
+      program (opening (arc_value attrs)) choice instructions
+
+-- what a worker's run comes to by these events
+abbrev pub ComesTo : WorldState → ℕ → Worker → List Event → List Answer → ℕ → ℕ → ℕ → Type 0
+ComesTo w k Idle events answers number choice instructions = ⊥
+ComesTo w k (Running n program s) events answers number choice instructions =
+    (number ≡ n) × EndsDuring w k events answers program s choice instructions
+ComesTo w k (Ended n program a c m) events answers number choice instructions =
+    (number ≡ n) × (choice ≡ c) × (instructions ≡ m)
+
+-- they are those of the run that the worker has where the events begin: none is started before the
+-- place
+pub record IsEarlierRun (w : WorldState) (k : ℕ) (events : List Event) (answers : List Answer)
+    (place number choice instructions : ℕ) : Type 0 where
+  pub worker : Worker
+  pub is_worker : IsWorker w k worker
+  pub none : HasNoStart k events answers place
+  pub comes : ComesTo w k worker (take place events) (take place answers)
+      number choice instructions
+
+-- a Finish answers its worker's own run: that of the latest Start, or the one of before
+abbrev pub FinishesItsRun : Type 0
+FinishesItsRun = (w v : WorldState) (k place number choice instructions : ℕ)
+    (events : List Event) (answers : List Answer)
+    → Plays w events answers v → IsFinished k events answers place number choice instructions
+    → IsOwnRun w k events answers place number choice instructions
+    ⊎ IsEarlierRun w k events answers place number choice instructions
+
+-- so that of the latest Start, where the worker is idle as the events begin
+abbrev pub FinishesStartedRun : Type 0
+FinishesStartedRun = (w v : WorldState) (k place number choice instructions : ℕ)
+    (events : List Event) (answers : List Answer)
+    → IsWorker w k Idle → Plays w events answers v
+    → IsFinished k events answers place number choice instructions
+    → IsOwnRun w k events answers place number choice instructions
+
+-- and it chose none or a release of its app, in time
+abbrev pub ChoosesItsRelease : Type 0
+ChoosesItsRelease = (w : WorldState) (k place number choice instructions : ℕ)
+    (events : List Event) (answers : List Answer)
+    → IsSafeWorld w → (run : IsOwnRun w k events answers place number choice instructions)
+    → (choice ≤ run.program.shape.releases) × (instructions ≤ length run.program.code)

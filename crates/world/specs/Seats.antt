@@ -2,33 +2,51 @@
 use Rattle.std.specs.Prelude.{◌≡◌, ℕ, ◌+◌, ◌≤◌, List, length, Some, None, false, Result, Ok, Err}
 use Rattle.attrs.specs.Attributes.{Attributes}
 use Rattle.bpf_semantics.specs.State.{State, opening}
-use Rattle.bpf_semantics.specs.Step.{Going, Done, step}
+use Rattle.bpf_semantics.specs.Step.{step}
+use Rattle.bpf_semantics.specs.Outcome.{Going, Done}
+use Rattle.bpf_semantics.specs.Program.{ShapedProgram}
 use Rattle.bpf_verify.specs.Covers.{EndsWell}
 use Rattle.bpf_machine.specs.StandsFor.{Held}
 use Rattle.bpf_machine.specs.StandsFor as machine
-use Rattle.bpf_verify.specs.Accepted.{Accepted}
-use Rattle.ruleset.specs.Rules.{Rules, Offers}
+use Rattle.ruleset.specs.Rules.{Rules, Offers, OffersNone}
 use Rattle.world.specs.World.{Worker, Idle, Running, Ended, IsRunning, IsIdle, HasProgram, appid_of}
+use Rattle.world.specs.Happens.{Answer}
+use Rattle.world.specs.Counters.{answered, cells_after}
 use Rattle.world.specs.declared.seat.Seat.{Seat}
 use Rattle.world.specs.declared.seat.Seat.TheVariants.{Empty, Taken}
-use Rattle.world.specs.declared.event.Effect.{Effect}
 use Rattle.world.specs.declared.event.Effect.TheVariants as effect
 use Rattle.world.specs.declared.event.WorldFault.{WorldFault}
 use Rattle.world.specs.declared.event.WorldFault.TheVariants as fault
 
--- a seat's run stands for the worker's state; once it has ended, for its choice and its instructions, the last one too
+-- a seat's run stands for a worker's that goes on
+pub record GoesAs (run : Held) (held number : ℕ) (program : ShapedProgram)
+    (s : State) : Type 0 where
+  pub number_is : held ≡ number
+  pub program_is : run.program ≡ program
+  pub stands : machine.RunStandsFor run s
+
+-- a seat's run, and what it chose, stand for a worker's that has ended: the last instruction counts
+-- too
+pub record EndedAs (run : Held) (held chosen number : ℕ) (program : ShapedProgram) (a : Attributes)
+    (choice instructions : ℕ) : Type 0 where
+  pub number_is : held ≡ number
+  pub program_is : run.program ≡ program
+  pub attributes_are : run.attributes ≡ a
+  pub choice_is : chosen ≡ choice
+  pub count_is : run.count + 1 ≡ instructions
+
 abbrev pub SeatStandsFor : Seat → Worker → Type 0
 SeatStandsFor Empty Idle = Unit {0}
-SeatStandsFor (Taken run held None) (Running number program s) = (held ≡ number) × (run.program ≡ program) × machine.StandsFor run s
+SeatStandsFor (Taken run held None) (Running number program s) = GoesAs run held number program s
 SeatStandsFor (Taken run held (Some chosen)) (Ended number program a choice instructions) =
-    (held ≡ number) × (run.program ≡ program) × (run.attributes ≡ a) × (chosen ≡ choice) × (run.count + 1 ≡ instructions)
+    EndedAs run held chosen number program a choice instructions
 SeatStandsFor seat worker = ⊥
 
 -- a run that goes on and stands for a state, from each of which it ends well
-pub record Goes (run : Held) : Type 0 where
+pub record GoesWell (run : Held) : Type 0 where
   pub going : run.is_done ≡ false
-  pub stands : (s : State) × machine.StandsFor run s
-  pub ends : (s : State) → machine.StandsFor run s → EndsWell run.program s
+  pub stands : (s : State) × machine.RunStandsFor run s
+  pub ends : (s : State) → machine.RunStandsFor run s → EndsWell run.program s
 
 -- a run that has ended with its choice, none or a release, in time
 pub record HasChosen (run : Held) (choice : ℕ) : Type 0 where
@@ -37,34 +55,89 @@ pub record HasChosen (run : Held) (choice : ℕ) : Type 0 where
 
 abbrev pub SeatKeeps : Seat → Type 0
 SeatKeeps Empty = Unit {0}
-SeatKeeps (Taken run number None) = Goes run
+SeatKeeps (Taken run number None) = GoesWell run
 SeatKeeps (Taken run number (Some choice)) = HasChosen run choice
 
 -- a seat's run is of the program that its ruleset has for the app
 abbrev pub SeatIsOffered : List Rules → Seat → Type 0
 SeatIsOffered rulesets Empty = Unit {0}
-SeatIsOffered rulesets (Taken run number choice) = HasProgram rulesets number (appid_of run.attributes) run.program
+SeatIsOffered rulesets (Taken run number choice) =
+    HasProgram rulesets number (appid_of run.attributes) run.program
 
 -- ---- what a worker comes to, and with which answer
 
-abbrev pub WorkerSteps : Worker → Result Effect WorldFault → Worker → Type 0
-WorkerSteps (Running number program s) (Ok effect.Stepped) y = (t : State) × (step program.code s ≡ Going t) × (y ≡ Running number program t)
-WorkerSteps (Running number program s) (Ok (effect.Ended choice)) y = (step program.code s ≡ Done choice) × (y ≡ Ended number program s.attributes choice (s.count + 1))
-WorkerSteps x (Err fault.Idle) y = (¬ IsRunning x) × (y ≡ x)
-WorkerSteps x r y = ⊥
+-- its run goes on, with the reply of a counter if it asks one
+pub record WorkerGoesOn (old new : List ℕ) (number : ℕ) (program : ShapedProgram) (s : State)
+    (y : Worker) : Type 0 where
+  pub to : State
+  pub goes_on : answered old (step program s) ≡ Going to
+  pub cells_are : new ≡ cells_after old (step program s)
+  pub after : y ≡ Running number program to
 
-abbrev pub WorkerFinishes : Worker → Result Effect WorldFault → Worker → Type 0
-WorkerFinishes (Ended number program a choice instructions) (Ok (effect.Finished chosen counted answered)) y =
-    (chosen ≡ choice) × (counted ≡ instructions) × (answered ≡ number) × (y ≡ Idle)
+-- its run ends with a choice
+pub record WorkerEnds (old new : List ℕ) (number : ℕ) (program : ShapedProgram) (s : State)
+    (choice : ℕ) (y : Worker) : Type 0 where
+  pub ends : step program s ≡ Done choice
+  pub cells_are : new ≡ old
+  pub after : y ≡ Ended number program s.attributes choice (s.count + 1)
+
+abbrev pub WorkerSteps : List ℕ → Worker → Answer → List ℕ → Worker → Type 0
+WorkerSteps old (Running number program s) (Ok effect.Stepped) new y =
+    WorkerGoesOn old new number program s y
+WorkerSteps old (Running number program s) (Ok (effect.Ended choice)) new y =
+    WorkerEnds old new number program s choice y
+WorkerSteps old x (Err fault.Idle) new y = (¬ IsRunning x) × (new ≡ old) × (y ≡ x)
+WorkerSteps old x answer new y = ⊥
+
+-- it gives what its run ended with, and is idle
+pub record WorkerGives (number choice instructions answered chosen counted : ℕ)
+    (y : Worker) : Type 0 where
+  pub number_is : answered ≡ number
+  pub choice_is : chosen ≡ choice
+  pub count_is : counted ≡ instructions
+  pub after : y ≡ Idle
+
+abbrev pub WorkerFinishes : Worker → Answer → Worker → Type 0
+WorkerFinishes (Ended number program a choice instructions)
+    (Ok (effect.Finished chosen counted answered)) y =
+    WorkerGives number choice instructions answered chosen counted y
 WorkerFinishes x (Err fault.Idle) y = IsIdle x × (y ≡ x)
 WorkerFinishes x (Err fault.NotDone) y = IsRunning x × (y ≡ x)
-WorkerFinishes x r y = ⊥
+WorkerFinishes x answer y = ⊥
+
+-- ---- so for a seat, from every worker that it stands for
+
+-- the counters had the values `old`, and have the values `new`
+abbrev pub SeatSteps : List ℕ → Seat → Answer → List ℕ → Seat → Type 0
+SeatSteps old before answer new after = (x : Worker) → SeatStandsFor before x
+    → (y : Worker) × WorkerSteps old x answer new y × SeatStandsFor after y
+
+abbrev pub SeatFinishes : Seat → Answer → Seat → Type 0
+SeatFinishes before answer after = (x : Worker) → SeatStandsFor before x
+    → (y : Worker) × WorkerFinishes x answer y × SeatStandsFor after y
+
+-- what a finish is answered with: then the worker is idle, or as it was
+abbrev pub SeatGives : Seat → Answer → Type 0
+SeatGives seat (Ok e) = (x : Worker) → SeatStandsFor seat x → WorkerFinishes x (Ok e) Idle
+SeatGives seat (Err e) = (x : Worker) → SeatStandsFor seat x → WorkerFinishes x (Err e) x
+
+-- what is kept of a seat's run by whatever rulesets there are
+abbrev pub StaysOffered : Seat → Seat → Type 0
+StaysOffered before after = (rulesets : List Rules)
+    → SeatIsOffered rulesets before → SeatIsOffered rulesets after
 
 -- ---- how a run comes about
 
--- the ruleset's program for the app, at its opening state; refused where the ruleset hasn't the app, or for memory
+-- the ruleset's program for the app, at its opening state
+pub record IsOpened (rules : Rules) (a : Attributes) (run : Held) : Type 0 where
+  pub offered : Offers rules (appid_of a) run.program
+  pub attributes_are : run.attributes ≡ a
+  pub stands : machine.RunStandsFor run (opening a)
+  pub goes : GoesWell run
+
+-- refused where the ruleset hasn't the app, or for memory
 abbrev pub Opens : Rules → Attributes → Result Held WorldFault → Type 0
-Opens rules a (Ok run) = Offers rules (appid_of a) run.program × (run.attributes ≡ a) × machine.StandsFor run (opening a) × Goes run
-Opens rules a (Err fault.NoApp) = (program : Accepted) → ¬ Offers rules (appid_of a) program
-Opens rules a (Err fault.Memory) = (program : Accepted) × Offers rules (appid_of a) program
+Opens rules a (Ok run) = IsOpened rules a run
+Opens rules a (Err fault.NoApp) = OffersNone rules (appid_of a)
+Opens rules a (Err fault.Memory) = (program : ShapedProgram) × Offers rules (appid_of a) program
 Opens rules a (Err e) = ⊥

@@ -1,28 +1,47 @@
--- What a server's world is held as, and which worlds that stands for.
-use Rattle.std.specs.Prelude.{◌≡◌, ℕ, ◌<◌, List, length, slice_index_or}
-use Rattle.bpf_verify.specs.Accepted.{Accepted}
+-- What a server's world is held as, which worlds that stands for, and what the type keeps of it.
+use Rattle.std.specs.Prelude.{◌≡◌, ℕ, ◌<◌, List, length, map, slice_index_or}
+use Rattle.std.specs.Arc.{arc_value}
+use Rattle.std.specs.declared.alloc.Global.{Global}
+use Rattle.std.specs.declared.sync.Arc.{Arc}
+use Rattle.bpf_semantics.specs.Program.{ShapedProgram}
 use Rattle.ruleset.specs.Rules.{Rules, AlwaysEndsWell}
-use Rattle.world.specs.World.{WorldState, Idle, HasProgram}
+use Rattle.world.specs.World.{WorldState, Idle, opening_world, HasProgram, HasOneProgram}
 use Rattle.world.specs.Seats.{SeatStandsFor, SeatKeeps, SeatIsOffered}
 use Rattle.world.specs.declared.seat.Seat.{Seat}
 use Rattle.world.specs.declared.seat.Seat.TheVariants.{Empty}
 
 pub record Parts : Type 0 where
   pub rulesets : List Rules
+  pub cells : List ℕ
   pub seats : List Seat
+
+-- what it is held in
+abbrev pub parts_of : List (Arc Rules Global) → List ℕ → List Seat → Parts
+parts_of rulesets cells seats = record {
+  rulesets = map (λ r. arc_value r) rulesets;
+  cells = cells;
+  seats = seats;
+}
 
 abbrev pub seat_at : Parts → ℕ → Seat
 seat_at parts k = slice_index_or parts.seats k Empty
 
--- the rulesets agree, and each seat stands for its worker
-pub record StandsFor (parts : Parts) (w : WorldState) : Type 0 where
+-- rulesets and counters agree, and each seat stands for its worker
+pub record WorldStandsFor (parts : Parts) (w : WorldState) : Type 0 where
   pub rulesets : parts.rulesets ≡ w.rulesets
+  pub cells : parts.cells ≡ w.cells
   pub as_many : length parts.seats ≡ length w.workers
   pub each : (k : ℕ) → SeatStandsFor (seat_at parts k) (slice_index_or w.workers k Idle)
+
+-- they stand for the world in which a server begins
+abbrev pub IsOpening : Parts → Rules → ℕ → Type 0
+IsOpening parts rules workers = WorldStandsFor parts (opening_world rules workers)
 
 -- what the parts of a world keep
 pub record AreKept (parts : Parts) : Type 0 where
   pub ruled : 0 < length parts.rulesets
-  pub programs : (number : ℕ) (appid : List ℕ) (program : Accepted) → HasProgram parts.rulesets number appid program → AlwaysEndsWell program
+  pub once : HasOneProgram parts.rulesets
+  pub programs : (number : ℕ) (appid : List ℕ) (program : ShapedProgram)
+      → HasProgram parts.rulesets number appid program → AlwaysEndsWell program
   pub kept : (k : ℕ) → SeatKeeps (seat_at parts k)
   pub offered : (k : ℕ) → SeatIsOffered parts.rulesets (seat_at parts k)

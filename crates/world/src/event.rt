@@ -52,8 +52,8 @@ pub enum WorldFault {
     /// A Finish, and the run isn't done.
     #[error("E5 NotDone")]
     NotDone,
-    /// Memory was refused to `World::new` or to the answers of `play`; or a Start, and an `Arc` that it
-    /// copies has no room for one more owner.
+    /// Memory was refused to `World::new` or to the answers of `play`; or a Start, and an `Arc`
+    /// that it copies has no room for one more owner.
     #[error("E6 Memory")]
     Memory,
 }

@@ -1,38 +1,54 @@
-//! What holds of every run of the world, by its definitions alone. The functions have no work to do:
-//! each is a law.
+//! What holds of every run of the world, by its definitions alone. The functions have no work to
+//! do: each is a law.
 
-ghost use Rattle.std.specs.Prelude.{◌≡◌, ◌+◌, ◌≤◌, ℕ, List, Result, IsOk, Some, Ok, length, slice_get};
-ghost use Rattle.bpf_semantics.specs.State.{State};
-ghost use Rattle.bpf_verify.specs.Accepted.{Accepted};
-ghost use Rattle.world.specs.World.{WorldState, Worker, Idle, Running, IsWorker, IsRunning, Happens, Plays};
-ghost use Rattle.world.specs.Safe.{IsSafe, steps_of, HasEnded};
-ghost use Rattle.world.specs.OwnRun.{IsOwnRun};
-ghost use Rattle.world.specs.declared.event.Event.{Event};
-ghost use Rattle.world.specs.declared.event.Effect.{Effect};
-ghost use Rattle.world.specs.declared.event.WorldFault.{WorldFault};
+ghost use Rattle.world.specs.InTime.{TakesItsStep, EndsInTime};
+ghost use Rattle.world.specs.OwnRun.{FinishesItsRun, FinishesStartedRun, ChoosesItsRelease};
+ghost use Rattle.world.specs.Batches.{BatchesJoin, BatchesPart};
+ghost use Rattle.world.specs.Course.{HasOneCourse};
 
-use crate::event::{Effect, Event, WorldFault};
-use bpf_semantics::{going_on, one_end};
+use bpf_semantics::counts_instructions;
+use cells::events_fit;
 
 /// A run that isn't done takes its next Step: a Step of its worker isn't refused.
 pub fn takes_its_step()
-    ensures { (w v : WorldState) (k : ℕ) (x : Worker) (answer : Result Effect WorldFault) → IsWorker w k x → IsRunning x → Happens w (Event.Step k) answer v → IsOk answer }
+    ensures { TakesItsStep }
 {}
 
-/// After as many Steps as its program has slots a run is done: one of them was answered with its end.
+/// After as many Steps as its program has slots a run is done: one of them was answered with its
+/// end, which is what the machine comes to from the run's state.
 pub fn ends_in_time()
-    ensures { (w v : WorldState) (k number : ℕ) (program : Accepted) (s : State) (events : List Event) (answers : List (Result Effect WorldFault)) → IsSafe w → IsWorker w k (Running number program s) → Plays w events answers v → length program.code ≤ s.count + steps_of k events → HasEnded k events answers }
+    ensures { EndsInTime }
 {
-    going_on();
+    counts_instructions();
+    events_fit();
 }
 
-/// A Finish answers its worker's own run, that of the latest Start: what the machine comes to on the
-/// attributes of that Start, whatever the other workers do, and so none or a release of its app. The
-/// worker is idle where the events begin.
+/// A Finish answers its worker's own run: what the machine comes to on the attributes of the
+/// worker's latest Start and the replies that its own Steps got of the counters, whatever the other
+/// workers do, and so none or a release of its app.
 pub fn finishes_its_run()
-    ensures own { (w v : WorldState) (k place number choice instructions : ℕ) (events : List Event) (answers : List (Result Effect WorldFault)) → IsWorker w k Idle → Plays w events answers v → slice_get events place ≡ Some (Event.Finish k) → slice_get answers place ≡ Some (Ok (Effect.Finished choice instructions number)) → IsOwnRun w k events answers place number choice instructions }
-    ensures release { (w : WorldState) (k place number choice instructions : ℕ) (events : List Event) (answers : List (Result Effect WorldFault)) → IsSafe w → (run : IsOwnRun w k events answers place number choice instructions) → (choice ≤ run.program.shape.releases) × (instructions ≤ length run.program.code) }
+    // The run is that of the latest Start, or where none came before, the one that the worker had.
+    ensures own { FinishesItsRun }
+    // A worker that was idle had none.
+    ensures started { FinishesStartedRun }
+    ensures release { ChoosesItsRelease }
 {
-    going_on();
-    one_end();
+    counts_instructions();
+    events_fit();
+}
+
+/// Batches of events compose: two runs of the world, one after the other, are one, and one run can
+/// be cut after each event.
+pub fn batches_compose()
+    ensures join { BatchesJoin }
+    ensures part { BatchesPart }
+{}
+
+/// Events with their answers lead from a safe world to one world: nothing is left to choose,
+/// neither a program nor a reply.
+pub fn one_course()
+    ensures { HasOneCourse }
+{
+    counts_instructions();
+    events_fit();
 }

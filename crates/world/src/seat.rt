@@ -1,10 +1,11 @@
-// The seat of a worker: empty, or taken by a run. What a step and a finish make of a seat is said for
-// every worker that the seat stands for.
+// The seat of a worker: empty, or taken by a run. What a step and a finish make of a seat is said
+// for every worker that the seat stands for.
 
-ghost use Rattle.std.specs.Prelude.{◌≡◌, ◌≤◌, IfOk, IfErr, IsTrue, IsFalse};
+ghost use Rattle.std.specs.Prelude.{◌≡◌, IfErr, IsTrue, IsFalse};
 
 use crate::event::{Effect, WorldFault};
 use bpf_machine::{Choice, Progress, Run};
+use cells::{PlainCells, PlainPass};
 
 /// A seat, whose run has started under the ruleset of a number, and has a choice once it has ended.
 #[derive(Drop)]
@@ -18,10 +19,9 @@ pub enum Seat {
 }
 
 impl Seat {
-    ghost use Rattle.ruleset.specs.Rules.{Rules};
-    ghost use Rattle.std.specs.Prelude.{List};
-    ghost use Rattle.world.specs.World.{Worker, Idle, IsIdle};
-    ghost use Rattle.world.specs.Seats.{SeatStandsFor, SeatKeeps, SeatIsOffered, WorkerSteps, WorkerFinishes};
+    ghost use Rattle.world.specs.World.{Worker, IsIdle};
+    ghost use Rattle.world.specs.Seats.{SeatStandsFor, SeatKeeps, StaysOffered};
+    ghost use Rattle.world.specs.Seats.{SeatSteps, SeatFinishes, SeatGives};
 
     /// Whether a run is there, be it one that has ended.
     pub fn is_taken(&self) -> bool
@@ -34,13 +34,14 @@ impl Seat {
         }
     }
 
-    /// One instruction. E3 where no run goes on.
-    pub fn step(&mut self) -> Result<Effect, WorldFault>
+    /// One instruction, with the reply of a counter if it asks one. E3 where no run goes on.
+    pub fn step(&mut self, cells: &PlainCells, pass: &mut PlainPass) -> Result<Effect, WorldFault>
         requires { SeatKeeps self.old }
         ensures same { IfErr result (λ e. self.new ≡ self.old) }
-        ensures steps { (x : Worker) → SeatStandsFor self.old x → (y : Worker) × WorkerSteps x result y × SeatStandsFor self.new y }
+        ensures unasked { IfErr result (λ e. pass.new ≡ pass.old) }
+        ensures steps { SeatSteps pass.old self.old result pass.new self.new }
         ensures keeps { SeatKeeps self.new }
-        ensures offered { (rulesets : List Rules) → SeatIsOffered rulesets self.old → SeatIsOffered rulesets self.new }
+        ensures offered { StaysOffered self.old self.new }
     {
         match self {
             Seat::Taken {
@@ -49,7 +50,7 @@ impl Seat {
                 ..
             } => {
                 run.keeps();
-                match run.step() {
+                match run.step(cells, pass) {
                     Progress::Going => {
                         run.keeps();
                         Ok(Effect::Stepped)
@@ -69,9 +70,9 @@ impl Seat {
     pub fn finish(&mut self) -> Result<Effect, WorldFault>
         requires { SeatKeeps self.old }
         ensures same { IfErr result (λ e. self.new ≡ self.old) }
-        ensures finishes { (x : Worker) → SeatStandsFor self.old x → (y : Worker) × WorkerFinishes x result y × SeatStandsFor self.new y }
+        ensures finishes { SeatFinishes self.old result self.new }
         ensures keeps { SeatKeeps self.new }
-        ensures offered { (rulesets : List Rules) → SeatIsOffered rulesets self.old → SeatIsOffered rulesets self.new }
+        ensures offered { StaysOffered self.old self.new }
     {
         let finished = self.finished()?;
         *self = Seat::Empty;
@@ -81,8 +82,7 @@ impl Seat {
     // What a finish gives.
     fn finished(&self) -> Result<Effect, WorldFault>
         requires { SeatKeeps self.now }
-        ensures done { IfOk result (λ e. (x : Worker) → SeatStandsFor self.now x → WorkerFinishes x (Ok e) Idle) }
-        ensures refused { IfErr result (λ e. (x : Worker) → SeatStandsFor self.now x → WorkerFinishes x (Err e) x) }
+        ensures { SeatGives self.now result }
     {
         match self {
             Seat::Empty => Err(WorldFault::Idle),

@@ -1,53 +1,54 @@
-// A world: the rulesets of a server and the seats of its workers. Each event is said for every world
-// of the definitions that this one stands for; the type keeps that it stands for at least one, and
-// that each of its runs is of the program that the ruleset of its number has for its app.
+// A world: the rulesets of a server and the seats of its workers. Each event is said for every
+// world of the definitions that this one stands for; the type keeps that it stands for at least
+// one, and that each of its runs is of the program that the ruleset of its number has for its app.
 
-ghost use Rattle.std.specs.Prelude.{◌≡◌, ◌<◌, ◌≤◌, ℕ, length, List, Result, IfOk, IfErr, Some};
+ghost use Rattle.std.specs.Prelude.{◌≡◌, ◌<◌, ◌≤◌, length, slice_index, List, IfOk, IfErr, Some};
 ghost use Rattle.std.specs.Arc.{arc_value};
+ghost use Rattle.cells.specs.Events.{limit};
 ghost use Rattle.world.specs.Seats.{Opens};
 
 use crate::event::{Effect, Event, WorldFault};
 use crate::seat::Seat;
 use attrs::Attrs;
 use bpf_machine::Run;
-use bpf_semantics::going_on;
+use bpf_semantics::counts_instructions;
+use cells::{CellNo, PlainCells, PlainPass, events_fit};
 use ruleset::Ruleset;
 use std::alloc::Global;
 use std::marker::Model;
 use std::sync::Arc;
 
-/// All workers of a server, and its rulesets.
+/// All workers of a server, its rulesets, and the counters that all runs share.
 #[derive(Drop)]
 pub struct World {
     rulesets: Vec<Arc<Ruleset>>,
+    cells: PlainCells,
+    pass: PlainPass,
     seats: Vec<Seat>,
 }
 
 impl Model for World {
-    ghost use Rattle.std.specs.Prelude.{map};
-    ghost use Rattle.std.specs.Arc.{arc_value};
-    ghost use Rattle.world.specs.StandsFor.{Parts, AreKept};
+    ghost use Rattle.world.specs.StandsFor.{Parts, AreKept, parts_of};
 
     ghost Value = { Parts };
 
-    ghost view = { λ w. record { rulesets = map (λ r. arc_value r) w.rulesets.items; seats = w.seats.items } };
+    ghost view = { λ w. parts_of w.rulesets.items w.pass w.seats.items };
 
-    ghost invariant = { λ w. AreKept (record { rulesets = map (λ r. arc_value r) w.rulesets.items; seats = w.seats.items }) };
+    ghost invariant = { λ w. AreKept (parts_of w.rulesets.items w.pass w.seats.items) };
 }
 
 impl World {
-    ghost use Rattle.world.specs.World.{WorldState, Happens, Plays, opening_world, ruleset_at, newest};
-    ghost use Rattle.world.specs.StandsFor.{StandsFor};
-    ghost use Rattle.world.specs.Safe.{IsSafe, IsOfItsRun};
+    ghost use Rattle.world.specs.World.{WorldState, HasOneProgram, ruleset_at, newest};
+    ghost use Rattle.world.specs.StandsFor.{WorldStandsFor, IsOpening};
+    ghost use Rattle.world.specs.Headline.{IsApplied, AllWorldsAreSafe, EachFinishIsOfItsRun};
     ghost use Rattle.world.specs.declared.event.Event.{Event};
-    ghost use Rattle.world.specs.declared.event.Effect.{Effect};
-    ghost use Rattle.world.specs.declared.event.WorldFault.{WorldFault};
 
-    /// A world with one ruleset, of number 1, and so many idle workers. E6 where memory is refused.
+    /// A world with one ruleset, of number 1, all counters 0, and so many idle workers. E6 where
+    /// memory is refused.
     pub fn new(alloc: Global, workers: usize, first: Arc<Ruleset>) -> Result<World, WorldFault>
         requires at_least { 1 ≤ workers }
         requires at_most { workers ≤ 64 }
-        ensures opening { IfOk result (λ w. StandsFor w (opening_world (arc_value first) workers)) }
+        ensures opening { IfOk result (λ w. IsOpening w (arc_value first) workers) }
         ensures memory { IfErr result (λ e. e ≡ WorldFault.Memory) }
     {
         let rules: &Ruleset = &first;
@@ -58,26 +59,42 @@ impl World {
         for _ in 0..workers {
             seats.push(Seat::Empty).map_err(|_| WorldFault::Memory)?;
         }
-        Ok(World { rulesets, seats })
+        let (cells, pass) = PlainCells::new(alloc).map_err(|_| WorldFault::Memory)?;
+        Ok(World {
+            rulesets,
+            cells,
+            pass,
+            seats,
+        })
     }
 
     /// What the type keeps. It does nothing: a proof calls it for its clauses.
     pub fn keeps(&self)
         // It stands for at least one world.
-        ensures stands { (w : WorldState) × StandsFor self.now w }
-        // Whatever is played from a world that it stands for, each world on the way is safe.
-        ensures safe { (w : WorldState) → StandsFor self.now w → (events : List Event) (answers : List (Result Effect WorldFault)) (u : WorldState) → Plays w events answers u → IsSafe u }
-        // And what a Finish answers then is of its worker's run: none or a release of its app, in the
-        // ruleset of the number.
-        ensures releases { (w : WorldState) → StandsFor self.now w → (events : List Event) (answers : List (Result Effect WorldFault)) (u v : WorldState) (event : Event) (answer : Result Effect WorldFault) → Plays w events answers u → Happens u event answer v → IsOfItsRun u event answer }
+        ensures stands { (w : WorldState) × WorldStandsFor self.now w }
+        // In each of its rulesets an app has one program.
+        ensures once { HasOneProgram self.now.rulesets }
+        // Whatever is played, each world on the way is safe,
+        ensures safe { (events : List Event) → AllWorldsAreSafe self.now events }
+        // and what a Finish answers is of its worker's run.
+        ensures releases { (events : List Event) → EachFinishIsOfItsRun self.now events }
     {
-        let _seats = &self.seats;
-        going_on();
+        self.pass.keeps();
+        counts_instructions();
+        events_fit();
+    }
+
+    /// The value of a counter.
+    pub fn cell(&self, cell: CellNo) -> u64
+        ensures value { result ≡ slice_index self.now.cells cell.number }
+        ensures fits { result < limit cell.number }
+    {
+        self.pass.value(cell)
     }
 
     /// One event. One that is refused changes nothing.
     pub fn apply(&mut self, event: &Event) -> Result<Effect, WorldFault>
-        ensures happens { (w : WorldState) → StandsFor self.old w → (v : WorldState) × Happens w event.now result v × StandsFor self.new v }
+        ensures happens { IsApplied self.old event.now result self.new }
         ensures same { IfErr result (λ e. self.new ≡ self.old) }
     {
         match event {
@@ -88,7 +105,7 @@ impl World {
     }
 
     fn start(&mut self, worker: usize, attrs: &Arc<Attrs>) -> Result<Effect, WorldFault>
-        ensures happens { (w : WorldState) → StandsFor self.old w → (v : WorldState) × Happens w (Event.Start worker attrs.now) result v × StandsFor self.new v }
+        ensures happens { IsApplied self.old (Event.Start worker attrs.now) result self.new }
         ensures same { IfErr result (λ e. self.new ≡ self.old) }
     {
         if worker >= self.seats.len() {
@@ -97,10 +114,7 @@ impl World {
         if self.seats[worker].is_taken() {
             return Err(WorldFault::Busy);
         }
-        let run = match open_run(self.newest(), attrs) {
-            Ok(run) => run,
-            Err(fault) => return Err(fault),
-        };
+        let run = open_run(self.newest(), attrs)?;
         let number = self.rulesets.len();
         self.seats[worker] = Seat::Taken {
             run,
@@ -111,17 +125,17 @@ impl World {
     }
 
     fn step(&mut self, worker: usize) -> Result<Effect, WorldFault>
-        ensures happens { (w : WorldState) → StandsFor self.old w → (v : WorldState) × Happens w (Event.Step worker) result v × StandsFor self.new v }
+        ensures happens { IsApplied self.old (Event.Step worker) result self.new }
         ensures same { IfErr result (λ e. self.new ≡ self.old) }
     {
         if worker >= self.seats.len() {
             return Err(WorldFault::NoWorker);
         }
-        self.seats[worker].step()
+        self.seats[worker].step(&self.cells, &mut self.pass)
     }
 
     fn finish(&mut self, worker: usize) -> Result<Effect, WorldFault>
-        ensures happens { (w : WorldState) → StandsFor self.old w → (v : WorldState) × Happens w (Event.Finish worker) result v × StandsFor self.new v }
+        ensures happens { IsApplied self.old (Event.Finish worker) result self.new }
         ensures same { IfErr result (λ e. self.new ≡ self.old) }
     {
         if worker >= self.seats.len() {

@@ -1,4 +1,4 @@
-use Rattle.world.proofs.InTime.{steps_on}
+use Rattle.world.proofs.Workers.{steps_on}
 use Rattle.world.proofs.laws.takes_its_step.Goals as goal
 
 pub returns : goal.returns

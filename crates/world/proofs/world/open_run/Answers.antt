@@ -4,10 +4,22 @@ use Rattle.world.specs.World.{appid_of}
 use Rattle.world.proofs.world.open_run.Goals as goal
 
 pub returns-in_default : goal.returns-in_default
-returns-in_default c = rw (c.text.ensures ∙ ap (λ (a : Attributes). appid_of a) c.deref.ensures) at c.in_default.ensures.none
+returns-in_default c =
+    rw (c.text.ensures ∙ ap (λ (a : Attributes). appid_of a) c.deref.ensures) at
+    c.in_default.ensures.none
 
 pub returns-in_default-try_clone : goal.returns-in_default-try_clone
-returns-in_default-try_clone c = (c.in-Some.app.now.program, rw (c.text.ensures ∙ ap (λ (a : Attributes). appid_of a) c.deref.ensures) at c.in-Some.ensures.offers)
+returns-in_default-try_clone c = (
+  c.in-Some.app.now.program,
+  rw
+      (c.text.ensures ∙ ap (λ (a : Attributes). appid_of a) c.deref.ensures) at
+      c.in-Some.ensures.offers,
+)
 
 pub returns-in_default-try_clone-2 : goal.returns-in_default-try_clone-2
-returns-in_default-try_clone-2 c = (c.in-Some.app.now.program, rw (c.text.ensures ∙ ap (λ (a : Attributes). appid_of a) c.deref.ensures) at c.in-Some.ensures.offers)
+returns-in_default-try_clone-2 c = (
+  c.in-Some.app.now.program,
+  rw
+      (c.text.ensures ∙ ap (λ (a : Attributes). appid_of a) c.deref.ensures) at
+      c.in-Some.ensures.offers,
+)

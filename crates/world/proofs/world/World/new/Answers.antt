@@ -1,6 +1,18 @@
-use Rattle.std.proofs.Common.{rules}
-use Rattle.world.proofs.Worlds.{opening_kept}
+use Rattle.std.proofs.Common.{rules, ◌≡◌, ◌∙◌, ap, replicate, ℕ}
+use Rattle.world.specs.declared.seat.Seat.TheVariants.{Empty}
+use Rattle.world.proofs.Opening.{opening_kept, opening_stands}
 use Rattle.world.proofs.world.World.new.Goals as goal
 
 pub invariant_of-result : goal.invariant_of-result
-invariant_of-result c = opening_kept c.args.first _ c.loop.seats.items c.loop.counter (search rules) c.loop.invariant (rw c.deref-rules.ensures at c.keeps.ensures.ends)
+invariant_of-result c =
+    opening_kept c.args.first _ c.in_ok-cells.pass c.loop.seats.items c.loop.counter
+    (search rules) c.loop.invariant
+    (rw c.deref-rules.ensures at c.keeps.ensures.one)
+    (rw c.deref-rules.ensures at c.keeps.ensures.ends)
+
+pub returns-clause-opening : goal.returns-clause-opening
+returns-clause-opening c =
+    let all : c.loop.counter ≡ c.args.workers = search rules in
+    opening_stands c.args.first _ c.in_ok-cells.pass c.loop.seats.items c.args.workers
+    (search rules)
+    (c.loop.invariant ∙ ap (λ (n : ℕ). replicate n Empty) all) (search rules)

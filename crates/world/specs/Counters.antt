@@ -1,0 +1,30 @@
+-- A step of the machine on shared counters: what it asks of them, how it goes on with the reply,
+-- and
+-- what it leaves.
+use Rattle.std.specs.Prelude.{ℕ, List, [], ◌∷◌, slice_index, slice_set}
+use Rattle.bpf_semantics.specs.Outcome.{Outcome, Going, Asks, Done, Trap}
+use Rattle.cells.specs.declared.event.CellEvent.{CellEvent}
+use Rattle.cells.specs.Events.{limit, after, reply_of}
+
+-- the counter that is asked replies by its value; a step that asks none has no event
+abbrev pub asked : List ℕ → Outcome → List CellEvent
+asked cells (Asks cell op next) =
+    record { cell = cell; op = op; reply = reply_of (slice_index cells cell) op } ∷ []
+asked cells (Going t) = []
+asked cells (Done choice) = []
+asked cells Trap = []
+
+-- with that reply the step goes on
+abbrev pub answered : List ℕ → Outcome → Outcome
+answered cells (Asks cell op next) = Going (next (reply_of (slice_index cells cell) op))
+answered cells (Going t) = Going t
+answered cells (Done choice) = Done choice
+answered cells Trap = Trap
+
+-- and the counter has its new value
+abbrev pub cells_after : List ℕ → Outcome → List ℕ
+cells_after cells (Asks cell op next) =
+    slice_set cells cell (after (limit cell) (slice_index cells cell) op)
+cells_after cells (Going t) = cells
+cells_after cells (Done choice) = cells
+cells_after cells Trap = cells
