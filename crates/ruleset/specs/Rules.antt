@@ -1,5 +1,6 @@
 -- A ruleset: the apps that a server knows, in order, each with its program.
-use Rattle.std.specs.Prelude.{◌≡◌, ℕ, ◌<◌, List, [], length, map, slice_index_or, All, Contains, String, string_bytes}
+use Rattle.std.specs.Prelude.{◌≡◌, ℕ, ◌<◌, List, [], length, map, slice_index_or, All, Contains}
+use Rattle.std.specs.Prelude.{String, string_bytes}
 use Rattle.std.specs.Arc.{arc_value}
 use Rattle.std.specs.declared.alloc.Global.{Global}
 use Rattle.std.specs.declared.sync.Arc.{Arc}
@@ -19,6 +20,10 @@ pub record Rules : Type 0 where
 -- the ruleset lists the appid with this program
 abbrev pub Offers : Rules → List ℕ → ShapedProgram → Type 0
 Offers rules appid program = Contains rules.apps (record { appid = appid; program = program })
+
+-- it has no program for the appid
+abbrev pub OffersNone : Rules → List ℕ → Type 0
+OffersNone rules appid = (program : ShapedProgram) → ¬ Offers rules appid program
 
 -- of an appid it has one program
 abbrev pub OffersOne : Rules → Type 0

@@ -42,8 +42,7 @@ impl Model for Ruleset {
 }
 
 impl Ruleset {
-    ghost use Rattle.bpf_semantics.specs.Program.{ShapedProgram};
-    ghost use Rattle.ruleset.specs.Rules.{HasTwice, Offers, OffersOne, OffersSafely};
+    ghost use Rattle.ruleset.specs.Rules.{HasTwice, Offers, OffersNone, OffersOne, OffersSafely};
     ghost use Rattle.ruleset.specs.Rules.{appids_of, rules_of, texts_of};
 
     /// The ruleset of these apps, for a server with no name. M3 exactly where an appid stands
@@ -92,7 +91,7 @@ impl Ruleset {
     pub fn find(&self, appid: &str) -> Option<&App>
         ensures appid { IfSome result (λ a. a.now.appid ≡ appid.now) }
         ensures offers { IfSome result (λ a. Offers self.now appid.now a.now.program) }
-        ensures none { IfNone result ((program : ShapedProgram) → ¬ Offers self.now appid.now program) }
+        ensures none { IfNone result (OffersNone self.now appid.now) }
     {
         find_app(self.apps(), appid)
     }

@@ -6,4 +6,7 @@ use Rattle.ruleset.proofs.ruleset.Ruleset.of.Goals as goal
 pub invariant_of-result : goal.invariant_of-result
 invariant_of-result c =
     let once : HasTwice (texts_of c.args.apps.items) → ⊥ = search rules in
-    record { once = rw c.in_ok-kept.ensures.apps (rw map-map once); ends = c.in_ok-kept.ensures.ends }
+    record {
+      once = rw c.in_ok-kept.ensures.apps (rw map-map once);
+      ends = c.in_ok-kept.ensures.ends;
+    }
