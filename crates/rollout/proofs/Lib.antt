@@ -1,2 +1,4 @@
 mod Reading
+mod Asking
 mod Doing
+mod Shapes

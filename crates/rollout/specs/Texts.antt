@@ -16,7 +16,9 @@ abbrev pub answer_text : Answer → List ℕ
 answer_text (Assembled program) = line (decimal (length program.items / 8) ++ codes " slots")
 answer_text (Listed text) = string_bytes text
 answer_text (Accepted slots) = line (codes "accepted " ++ decimal slots ++ codes " slots")
-answer_text (Chosen choice instructions) = line (codes "choice " ++ decimal choice ++ codes " after " ++ decimal instructions ++ codes " instructions")
+answer_text (Chosen choice instructions) =
+    line (codes "choice " ++ decimal choice
+    ++ codes " after " ++ decimal instructions ++ codes " instructions")
 
 -- no text is stated of the graph's faults and the verifier's refusals
 abbrev pub fault_text : Fault → Option (List ℕ)

@@ -1,13 +1,16 @@
--- The words of a command line: the commands with their arguments, and what the words of each ask for.
-use Rattle.std.specs.Prelude.{◌≡◌, ℕ, pos, List, [], ◌∷◌, Option, Some, None, true, false, codes, option_copied}
+-- The words of a command line: the commands with their arguments, and what the words ask for.
+use Rattle.std.specs.Prelude.{◌≡◌, ℕ, pos, List, [], ◌∷◌, Option, Some, None, true, false}
+use Rattle.std.specs.Prelude.{codes, option_copied}
 use Rattle.std.specs.Str.Parse.{IsNumeral, digits_value, without_leading_plus}
 use Rattle.clap.specs.declared.builder.action.ArgAction.TheVariants.{Set}
 use Rattle.clap.specs.declared.builder.value_parser.ValueParser.TheVariants.{Signed}
 use Rattle.clap.specs.Simple.{Shape, new_shape}
 use Rattle.clap.specs.Words.{App, Row, Rule, Text, new_rule, first_of, one_of}
+use Rattle.rollout.specs.declared.request.Bucket.{Bucket}
 use Rattle.rollout.specs.declared.request.ProgramFile.{ProgramFile}
 use Rattle.rollout.specs.declared.request.Request.{Request}
-use Rattle.rollout.specs.declared.request.Request.TheVariants.{Assemble, List as ListFile, Verify, Run}
+use Rattle.rollout.specs.declared.request.Request.TheVariants.{Assemble, List as ListFile}
+use Rattle.rollout.specs.declared.request.Request.TheVariants.{Verify, Run}
 
 -- ---- the commands
 
@@ -66,23 +69,50 @@ commands = record {
 
 -- ---- what the words of a command ask for
 
--- the argument was given this number in decimal
+-- the digits are a number's, in decimal, with or without a + before them
+abbrev pub IsDecimal : Text → ℕ → Type 0
+IsDecimal digits n =
+    IsNumeral 10 (without_leading_plus digits) × (n ≡ digits_value 10 (without_leading_plus digits))
+
+-- the argument was given this number
 abbrev pub HasNumber : Text → List Row → ℕ → Type 0
-HasNumber id rows n =
-    (digits : Text) × (one_of id rows ≡ Some digits) × IsNumeral 10 (without_leading_plus digits) × (n ≡ digits_value 10 (without_leading_plus digits))
+HasNumber id rows n = (digits : Text) × (one_of id rows ≡ Some digits) × IsDecimal digits n
+
+-- the argument was given this text
+abbrev pub HasText : Text → List Row → Text → Type 0
+HasText id rows text = first_of id rows ≡ Some text
 
 abbrev pub AsksProgram : List Row → ProgramFile → Type 0
-AsksProgram rows program = (first_of (codes "IN") rows ≡ Some program.path.now) × HasNumber (codes "releases") rows program.releases
+AsksProgram rows program =
+    HasText (codes "IN") rows program.path.now × HasNumber (codes "releases") rows program.releases
+
+abbrev pub AsksNoProgram : List Row → Type 0
+AsksNoProgram rows = (program : ProgramFile) → ¬ AsksProgram rows program
+
+abbrev pub HasBucket : List Row → Bucket → Type 0
+HasBucket rows bucket = HasNumber (codes "bucket") rows bucket.number
+
+abbrev pub HasNoBucket : List Row → Type 0
+HasNoBucket rows = (bucket : Bucket) → ¬ HasBucket rows bucket
 
 -- the command of this name, with these arguments, asks for this
 abbrev pub Asks : Text → List Row → Request → Type 0
-Asks name rows (Assemble text out) = (name ≡ codes "asm") × (first_of (codes "IN") rows ≡ Some text.now) × (first_of (codes "OUT") rows ≡ Some out.now)
-Asks name rows (ListFile path) = (name ≡ codes "list") × (first_of (codes "IN") rows ≡ Some path.now)
+Asks name rows (Assemble text out) =
+    (name ≡ codes "asm") × HasText (codes "IN") rows text.now × HasText (codes "OUT") rows out.now
+Asks name rows (ListFile path) = (name ≡ codes "list") × HasText (codes "IN") rows path.now
 Asks name rows (Verify program) = (name ≡ codes "verify") × AsksProgram rows program
 Asks name rows (Run program version bucket) =
     (name ≡ codes "run") × AsksProgram rows program
-    × (first_of (codes "version") rows ≡ option_copied version) × HasNumber (codes "bucket") rows bucket.number
+    × (first_of (codes "version") rows ≡ option_copied version)
+    × HasBucket rows bucket
+
+-- they ask for no request at all
+abbrev pub AsksNothing : Text → List Row → Type 0
+AsksNothing name rows = (request : Request) → ¬ Asks name rows request
 
 abbrev pub IsAsked : Option (Text × List Row) → Request → Type 0
 IsAsked None request = ⊥
 IsAsked (Some named) request = Asks named.0 named.1 request
+
+abbrev pub IsNothingAsked : Option (Text × List Row) → Type 0
+IsNothingAsked named = (request : Request) → ¬ IsAsked named request

@@ -1,20 +1,20 @@
 //! What each request is answered: from the bytes of its file, and with files.
 
-ghost use Rattle.std.specs.Prelude.{◌≡◌, ◌⊎◌, ℕ, List, length, IfOk, IfErr, Ok};
-ghost use Rattle.std.specs.Str.{IsUtf8};
+ghost use Rattle.std.specs.Prelude.{◌≡◌, ◌⊎◌, IfOk, IfErr};
 ghost use Rattle.std.specs.String.{string_bytes};
-ghost use Rattle.bpf_insn.specs.Program.{Program};
-ghost use Rattle.bpf_text.specs.Assembly.{Assembles};
-ghost use Rattle.bpf_text.specs.Listing.{Lists};
 ghost use Rattle.rollout.specs.Answers.{
   IsAcceptedProgram,
   IsAnswer,
+  IsAnswerOfFile,
+  IsAssembled,
   IsAssemblyRefusal,
-  IsListingRefusal,
   IsFileRefusal,
-  IsRefusedProgram,
+  IsListed,
+  IsListingRefusal,
   IsRefusal,
-  IsWithinLimit,
+  IsRefusalOfFile,
+  IsRefusedProgram,
+  limit_of,
   path_of,
 };
 
@@ -23,18 +23,19 @@ use crate::files::{read_file, write_file};
 use crate::program::{choose, verified};
 use crate::request::{ProgramFile, Request};
 use bpf_text::{AsmFault, AsmFaultKind, ListFault, assemble, listing};
-use bpf_verify::{Shape, Verified};
+use bpf_verify::Verified;
+use cells::Shape;
 use std::alloc::Global;
 use std::rt::Files;
 use std::str;
 
 /// The most bytes that a program can have.
-const PROGRAM_LIMIT: u64 = 32768;
+const PROGRAM_LIMIT: usize = 32768;
 /// The most bytes of a text, or to be listed: 16 MiB.
 const TEXT_LIMIT: usize = 0x100_0000;
 
 fn assembled(alloc: Global, bytes: &[u8]) -> Result<Vec<u8>, Fault>
-    ensures program { IfOk result (λ v. IsWithinLimit bytes.now × IsUtf8 bytes.now × Assembles bytes.now (Ok v.items)) }
+    ensures program { IfOk result (λ v. IsAssembled bytes.now v.items) }
     ensures fault { IfErr result (IsAssemblyRefusal bytes.now) }
 {
     if bytes.len() > TEXT_LIMIT {
@@ -46,31 +47,27 @@ fn assembled(alloc: Global, bytes: &[u8]) -> Result<Vec<u8>, Fault>
             kind: AsmFaultKind::Token,
         }));
     };
-    match assemble(alloc, text) {
-        Ok(program) => Ok(program),
-        Err(fault) => Err(Fault::Text(fault)),
-    }
+    assemble(alloc, text).map_err(Fault::Text)
 }
 
 fn listed(alloc: Global, bytes: &[u8]) -> Result<String, Fault>
-    ensures text { IfOk result (λ text. IsWithinLimit bytes.now × Lists bytes.now (string_bytes text)) }
+    ensures text { IfOk result (λ text. IsListed bytes.now (string_bytes text)) }
     ensures fault { IfErr result (IsListingRefusal bytes.now) }
 {
     if bytes.len() > TEXT_LIMIT {
         return Err(Fault::File);
     }
-    match listing(alloc, bytes) {
-        Ok(text) => Ok(text),
-        Err(ListFault::Memory) => Err(Fault::Memory),
-        Err(fault) => Err(Fault::Bytes(fault)),
-    }
+    listing(alloc, bytes).map_err(|fault| match fault {
+        ListFault::Memory => Fault::Memory,
+        fault => Fault::Bytes(fault),
+    })
 }
 
 fn verified_for(alloc: Global, file: &ProgramFile<'_>, bytes: &[u8]) -> Result<Verified, Fault>
-    ensures program { IfOk result (λ v. IsAcceptedProgram bytes.now file.now.releases v.code) }
-    ensures fault { IfErr result (IsRefusedProgram bytes.now file.now.releases) }
+    ensures program { IfOk result (IsAcceptedProgram file.now bytes.now) }
+    ensures fault { IfErr result (IsRefusedProgram file.now bytes.now) }
 {
-    match verified(alloc, bytes, &Shape::of(file.releases)) {
+    match verified(alloc, bytes, &Shape::plain(alloc, file.releases)) {
         Ok(program) => {
             program.keeps();
             Ok(program)
@@ -120,18 +117,20 @@ fn path_of<'a>(request: &'a Request<'_>) -> &'a str
     }
 }
 
-// One byte more than is allowed, so that a file that is too long shows.
-fn limit_of(request: &Request<'_>) -> u64 {
+// The most bytes that are read of it.
+fn limit_of(request: &Request<'_>) -> usize
+    ensures { result ≡ limit_of request.now }
+{
     match request {
-        Request::Assemble { .. } | Request::List { .. } => TEXT_LIMIT as u64 + 1,
+        Request::Assemble { .. } | Request::List { .. } => TEXT_LIMIT + 1,
         Request::Verify { .. } | Request::Run { .. } => PROGRAM_LIMIT + 1,
     }
 }
 
 /// Does what is asked. A text's bytes are written only where the whole text has bytes.
 pub fn answer<R: Files + AllocGlobal>(rt: &R, request: &Request<'_>) -> Result<Answer, Fault>
-    ensures answer { IfOk result (λ a. (bytes : List ℕ) × IsAnswer request.now bytes a) }
-    ensures fault { IfErr result (λ e. IsFileRefusal e ⊎ ((bytes : List ℕ) × IsRefusal request.now bytes e)) }
+    ensures answer { IfOk result (IsAnswerOfFile request.now) }
+    ensures fault { IfErr result (λ e. IsFileRefusal e ⊎ IsRefusalOfFile request.now e) }
 {
     let bytes = read_file(rt, path_of(request), limit_of(request))?;
     let answer = answer_from(rt.alloc(), request, &bytes)?;

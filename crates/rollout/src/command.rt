@@ -1,11 +1,9 @@
 //! The commands, over any two writers.
 
-ghost use Rattle.std.specs.Prelude.{◌≡◌, ◌≤◌, map, IfSome, OnOk, if◌then◌else◌};
+ghost use Rattle.std.specs.Prelude.{◌≡◌, ◌≤◌, map, OnOk, if◌then◌else◌};
 ghost use Rattle.clap.specs.Values.{kind_of};
 ghost use Rattle.std.specs.IoError.{error_kind};
-ghost use Rattle.std.specs.Io.KnownBytes.{Appends};
-ghost use Rattle.rollout.specs.Commands.{IsDone};
-ghost use Rattle.rollout.specs.Texts.{fault_text, refused_line};
+ghost use Rattle.rollout.specs.Commands.{AreWrong, IsDone, IsNoAnswer, PrintsRefusal};
 
 use crate::answer::answer;
 use crate::fault::Fault;
@@ -32,8 +30,10 @@ pub fn command<R: Files + AllocGlobal, S: AsStr, O: Write, E: Write>(
     err: &mut E,
 ) -> u8
     ensures within { result ≤ 2 }
-    ensures done { result ≡ 0 → IsDone (map S.text words.now) (O.contents out.old) (O.contents out.new) }
+    ensures done { result ≡ 0 → IsDone (map S.text words.now)
+        (O.contents out.old) (O.contents out.new) }
     ensures silent { result ≡ 0 → err.new ≡ err.old }
+    ensures wrong { result ≡ 2 → AreWrong (map S.text words.now) }
     ensures usage { result ≡ 2 → out.new ≡ out.old }
 {
     let Ok(grammar) = grammar(rt.alloc()) else {
@@ -69,6 +69,7 @@ pub fn usage<O: Write, E: Write>(error: &Error, out: &mut O, err: &mut E) -> u8
     ensures memory { kind_of error.now ≡ ParseFault.OutOfMemory → result ≡ 1 }
     ensures help { result ≡ 0 → kind_of error.now ≡ ParseFault.DisplayHelp }
     ensures silent { result ≡ 0 → err.new ≡ err.old }
+    ensures fault { result ≡ 2 → IsNoAnswer (kind_of error.now) }
     ensures wrong { result ≡ 2 → out.new ≡ out.old }
 {
     match error.kind() {
@@ -85,7 +86,7 @@ fn refused<E: Write>(err: &mut E, fault: &Fault) -> u8
 }
 
 fn print_refusal<E: Write>(err: &mut E, fault: &Fault) -> io::Result<()>
-    ensures { OnOk result (IfSome (fault_text fault.now) (λ text. Appends (E.contents err.old) (E.contents err.new) (refused_line text))) }
+    ensures { OnOk result (PrintsRefusal fault.now (E.contents err.old) (E.contents err.new)) }
 {
     writeln!(err, "refused {fault}")
 }

@@ -1,17 +1,16 @@
 //! From a program's bytes to its choice: the path that the command `run` takes, over values alone.
 
-ghost use Rattle.std.specs.Prelude.{◌≡◌, ◌≤◌, [], length, IfOk, IfErr, option_copied};
+ghost use Rattle.std.specs.Prelude.{◌≡◌, ◌≤◌, length, IfOk, IfErr, option_copied};
 ghost use Rattle.flow_check.specs.Flow.{program_bytes};
-ghost use Rattle.bpf_semantics.specs.State.{opening};
-ghost use Rattle.bpf_semantics.specs.Run.{Ends};
-ghost use Rattle.attrs.specs.Attributes.{plain};
+ghost use Rattle.rollout.specs.Answers.{RunsTo};
 ghost use Rattle.rollout.specs.Faults.{IsProgramFault};
 
 use crate::fault::Fault;
 use crate::request::Bucket;
 use attrs::Attrs;
 use bpf_machine::Run;
-use bpf_verify::{Shape, Verified, verify};
+use bpf_verify::{Verified, verify};
+use cells::{PlainCells, Shape};
 use flow_check::Flow;
 use std::alloc::Global;
 use std::sync::Arc;
@@ -22,25 +21,20 @@ pub fn verified(alloc: Global, bytes: &[u8], shape: &Shape) -> Result<Verified, 
     ensures shape { IfOk result (λ v. v.shape ≡ shape.now) }
     ensures fault { IfErr result (λ e. IsProgramFault bytes.now shape.now e) }
 {
-    let flow = match Flow::check(alloc, bytes) {
-        Ok(flow) => flow,
-        Err(fault) => return Err(Fault::Flow(fault)),
-    };
-    match verify(alloc, flow, shape) {
-        Ok(program) => Ok(program),
-        Err(refusal) => Err(Fault::Rule(refusal)),
-    }
+    let flow = Flow::check(alloc, bytes).map_err(Fault::Flow)?;
+    verify(alloc, flow, shape).map_err(Fault::Rule)
 }
 
-/// The program's run for an app with no appid, and this version and bucket: its choice and the
-/// number of its instructions.
+/// The program's run for an app with no appid, and this version and bucket, on cells of its own
+/// that open at 0: its choice and the number of its instructions.
 pub fn choose(
     alloc: Global,
     program: Verified,
     version: Option<&str>,
     bucket: Bucket,
 ) -> Result<(u8, u32), Fault>
-    ensures run { IfOk result (λ c. Ends program.code (opening (plain [] (option_copied version.entry) bucket.number)) c.0 c.1) }
+    ensures run { IfOk result (λ c.
+        RunsTo program (option_copied version.entry) bucket c.0 c.1) }
     ensures release { IfOk result (λ c. c.0 ≤ program.shape.releases) }
     ensures ends { IfOk result (λ c. c.1 ≤ length program.code) }
     ensures fault { IfErr result (λ e. e ≡ Fault.Memory) }
@@ -54,5 +48,8 @@ pub fn choose(
     let Ok(program) = Arc::new(alloc, program) else {
         return Err(Fault::Memory);
     };
-    Ok(Run::start(program, attrs).run())
+    let Ok((cells, mut pass)) = PlainCells::new(alloc) else {
+        return Err(Fault::Memory);
+    };
+    Ok(Run::start(program, attrs).run(&cells, &mut pass))
 }

@@ -1,10 +1,12 @@
 //! The words of a command line: which are taken, and what they ask for.
 
-ghost use Rattle.std.specs.Prelude.{◌≡◌, IfOk, IfSome, codes, false};
-ghost use Rattle.clap.specs.Words.{app_of, found_of, rows_of, rule_of, shape_of, subcommand_rows_of};
+ghost use Rattle.std.specs.Prelude.{◌≡◌, IfNone, IfOk, IfSome, codes, false};
+ghost use Rattle.clap.specs.Words.{app_of, found_of, rows_of, rule_of, shape_of};
+ghost use Rattle.clap.specs.Words.{subcommand_rows_of};
 ghost use Rattle.clap.specs.declared.builder.command.Command.TheViews.{out-Command as fields_of};
 ghost use Rattle.rollout.specs.Words as words;
-ghost use Rattle.rollout.specs.Words.{Asks, AsksProgram, HasNumber, IsAsked};
+ghost use Rattle.rollout.specs.Words.{Asks, AsksNoProgram, AsksNothing, AsksProgram};
+ghost use Rattle.rollout.specs.Words.{HasBucket, HasNoBucket, IsAsked, IsNothingAsked};
 
 use crate::request::{Bucket, ProgramFile, Request};
 use clap::{Arg, ArgAction, ArgMatches, Command, value_parser};
@@ -122,9 +124,11 @@ pub fn grammar<'a>(alloc: Global) -> Result<Command<'a>, AllocError>
         .subcommand(verify_command(alloc)?)
 }
 
-/// The request that the matches hold. The grammar gives each value in its range, so there is one.
+/// The request that the matches hold, if they hold one. Those of a parse by the grammar do, since
+/// it wants each value and checks its range: this is tested, command by command.
 pub fn request_of<'a>(matches: &ArgMatches<'a>) -> Option<Request<'a>>
-    ensures { IfSome result (IsAsked (subcommand_rows_of matches.now)) }
+    ensures some { IfSome result (IsAsked (subcommand_rows_of matches.now)) }
+    ensures none { IfNone result (IsNothingAsked (subcommand_rows_of matches.now)) }
 {
     let (name, found) = matches.subcommand()?;
     request_named(name, found)
@@ -132,7 +136,8 @@ pub fn request_of<'a>(matches: &ArgMatches<'a>) -> Option<Request<'a>>
 
 // The request of the command of this name.
 fn request_named<'a>(name: &str, found: &ArgMatches<'a>) -> Option<Request<'a>>
-    ensures { IfSome result (Asks name.now (rows_of (found_of found.now))) }
+    ensures some { IfSome result (Asks name.now (rows_of (found_of found.now))) }
+    ensures none { IfNone result (AsksNothing name.now (rows_of (found_of found.now))) }
 {
     match name {
         "asm" => Some(Request::Assemble {
@@ -155,7 +160,8 @@ fn request_named<'a>(name: &str, found: &ArgMatches<'a>) -> Option<Request<'a>>
 }
 
 fn program_of<'a>(found: &ArgMatches<'a>) -> Option<ProgramFile<'a>>
-    ensures { IfSome result (AsksProgram (rows_of (found_of found.now))) }
+    ensures some { IfSome result (AsksProgram (rows_of (found_of found.now))) }
+    ensures none { IfNone result (AsksNoProgram (rows_of (found_of found.now))) }
 {
     let path = found.get_str("IN")?;
     match found.get_one::<u8>("releases") {
@@ -165,7 +171,8 @@ fn program_of<'a>(found: &ArgMatches<'a>) -> Option<ProgramFile<'a>>
 }
 
 fn bucket_of(found: &ArgMatches<'_>) -> Option<Bucket>
-    ensures { IfSome result (λ b. HasNumber (codes "bucket") (rows_of (found_of found.now)) b.number) }
+    ensures some { IfSome result (HasBucket (rows_of (found_of found.now))) }
+    ensures none { IfNone result (HasNoBucket (rows_of (found_of found.now))) }
 {
     match found.get_one::<u16>("bucket") {
         Some(number) if number < 10000 => Some(Bucket { number }),

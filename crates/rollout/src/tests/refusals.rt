@@ -1,196 +1,168 @@
-//! Bytes that are refused, and the line that says why.
+//! Programs that are refused, and the line that says why.
 
-use super::{Row, check};
+use super::Program::{Bytes, Text};
+use super::{Program, Row, check};
 use crate::command::command;
 use std::process;
 use std::test::Fail;
 
-/// A name, a program, and the refusal.
-type Refused = (&'static str, &'static [u8], &'static str);
+/// A name, a program for an app of no release, and the refusal.
+type Refused = (&'static str, Program, &'static str);
 
-const REFUSALS: [Refused; 25] = [
+/// What spells no instruction has bytes alone.
+const ENCODINGS: [Refused; 9] = [
     (
         "truncated",
-        b"\xb7\x00\x00\x00\x01\x00\x00",
+        Bytes(b"\xb7\x00\x00\x00\x01\x00\x00"),
         "refused F8 Insn I1 Truncated at slot 0\n",
     ),
     (
         "half_a_wide_load",
-        b"\x18\x00\x00\x00\x00\x00\x00\x00",
+        Bytes(b"\x18\x00\x00\x00\x00\x00\x00\x00"),
         "refused F8 Insn I1 Truncated at slot 0\n",
     ),
     (
         "division",
-        b"\x37\x00\x00\x00\x00\x00\x00\x00",
+        Bytes(b"\x37\x00\x00\x00\x00\x00\x00\x00"),
         "refused F8 Insn I2 Opcode at slot 0\n",
     ),
     (
         "register_11",
-        b"\xb7\x0b\x00\x00\x00\x00\x00\x00",
+        Bytes(b"\xb7\x0b\x00\x00\x00\x00\x00\x00"),
         "refused F8 Insn I3 Register at slot 0\n",
     ),
     (
         "unused_source",
-        b"\xb7\x10\x00\x00\x00\x00\x00\x00",
+        Bytes(b"\xb7\x10\x00\x00\x00\x00\x00\x00"),
         "refused F8 Insn I4 UnusedField at slot 0\n",
     ),
     (
         "end_of_8_bits",
-        b"\xd4\x01\x00\x00\x08\x00\x00\x00",
+        Bytes(b"\xd4\x01\x00\x00\x08\x00\x00\x00"),
         "refused F8 Insn I5 Imm at slot 0\n",
     ),
     (
         "move_of_7_bits",
-        b"\xbf\x12\x07\x00\x00\x00\x00\x00",
+        Bytes(b"\xbf\x12\x07\x00\x00\x00\x00\x00"),
         "refused F8 Insn I6 Offset at slot 0\n",
     ),
     (
         "second_half",
-        b"\x18\x00\x00\x00\x00\x00\x00\x00\
-        \x01\x00\x00\x00\x00\x00\x00\x00",
+        Bytes(b"\x18\x00\x00\x00\x00\x00\x00\x00\x01\x00\x00\x00\x00\x00\x00\x00"),
         "refused F8 Insn I7 SecondHalf at slot 0\n",
     ),
     (
         "second_instruction",
-        b"\xb7\x00\x00\x00\x00\x00\x00\x00\
-        \x95\x01\x00\x00\x00\x00\x00\x00",
+        Bytes(b"\xb7\x00\x00\x00\x00\x00\x00\x00\x95\x01\x00\x00\x00\x00\x00\x00"),
         "refused F8 Insn I4 UnusedField at slot 1\n",
     ),
+];
+
+const GRAPHS: [Refused; 7] = [
     (
         "back_jump",
-        b"\x05\x00\xff\xff\x00\x00\x00\x00",
+        Text("ja -1"),
         "refused F1 BackJump at slot 0\n",
     ),
     (
         "long_back_jump",
-        b"\x06\x00\x00\x00\xff\xff\xff\xff",
+        Text("jal -1"),
         "refused F1 BackJump at slot 0\n",
     ),
     (
         "to_the_end",
-        b"\x05\x00\x00\x00\x00\x00\x00\x00",
+        Text("ja +0"),
         "refused F2 Outside at slot 0\n",
     ),
     (
         "inside_wide",
-        b"\x05\x00\x01\x00\x00\x00\x00\x00\
-        \x18\x00\x00\x00\x00\x00\x00\x00\
-        \x00\x00\x00\x00\x00\x00\x00\x00\
-        \x95\x00\x00\x00\x00\x00\x00\x00",
+        Text("ja +1\nlddw r0, 0\nexit"),
         "refused F3 InsideWide at slot 0\n",
     ),
     (
         "falls_off",
-        b"\xb7\x00\x00\x00\x00\x00\x00\x00",
+        Text("mov r0, 0"),
         "refused F4 FallsOff at slot 0\n",
     ),
     (
         "unreached",
-        b"\x95\x00\x00\x00\x00\x00\x00\x00\
-        \x95\x00\x00\x00\x00\x00\x00\x00",
+        Text("exit\nexit"),
         "refused F5 Unreached at slot 1\n",
     ),
-    ("empty", b"", "refused F6 Empty at slot 0\n"),
-    (
-        "unset",
-        b"\x95\x00\x00\x00\x00\x00\x00\x00",
-        "refused V1 Unusable at slot 0\n",
-    ),
+    ("empty", Text(""), "refused F6 Empty at slot 0\n"),
+];
+
+const RULES: [Refused; 9] = [
+    ("unset", Text("exit"), "refused V1 Unusable at slot 0\n"),
     (
         "unset_stack",
-        b"\x79\xa2\xf8\xff\x00\x00\x00\x00\
-        \xb7\x00\x00\x00\x00\x00\x00\x00\
-        \x95\x00\x00\x00\x00\x00\x00\x00",
+        Text("ldxdw r2, [r10-8]\nmov r0, 0\nexit"),
         "refused V1 Unusable at slot 0\n",
     ),
     (
         "frame",
-        b"\xb7\x0a\x00\x00\x00\x00\x00\x00\
-        \xb7\x00\x00\x00\x00\x00\x00\x00\
-        \x95\x00\x00\x00\x00\x00\x00\x00",
+        Text("mov r10, 0\nmov r0, 0\nexit"),
         "refused V2 WritesFrame at slot 0\n",
     ),
     (
         "masked_address",
-        b"\x57\x01\x00\x00\x00\x00\x00\x00\
-        \xb7\x00\x00\x00\x00\x00\x00\x00\
-        \x95\x00\x00\x00\x00\x00\x00\x00",
+        Text("and r1, 0\nmov r0, 0\nexit"),
         "refused V3 PointerArithmetic at slot 0\n",
     ),
     (
         "far_address",
-        b"\x79\x12\x00\x00\x00\x00\x00\x00\
-        \x0f\x21\x00\x00\x00\x00\x00\x00\
-        \xb7\x00\x00\x00\x00\x00\x00\x00\
-        \x95\x00\x00\x00\x00\x00\x00\x00",
+        Text("ldxdw r2, [r1+0]\nadd r1, r2\nmov r0, 0\nexit"),
         "refused V4 OffsetRange at slot 1\n",
     ),
     (
         "compared_address",
-        b"\x35\x01\x00\x00\x00\x00\x00\x00\
-        \xb7\x00\x00\x00\x00\x00\x00\x00\
-        \x95\x00\x00\x00\x00\x00\x00\x00",
+        Text("jge r1, 0, +0\nmov r0, 0\nexit"),
         "refused V5 PointerCompare at slot 0\n",
     ),
     (
         "above_the_stack",
-        b"\x79\xa2\x00\x00\x00\x00\x00\x00\
-        \xb7\x00\x00\x00\x00\x00\x00\x00\
-        \x95\x00\x00\x00\x00\x00\x00\x00",
+        Text("ldxdw r2, [r10+0]\nmov r0, 0\nexit"),
         "refused V6 Access at slot 0\n",
     ),
     (
         "number_as_address",
-        b"\xb7\x02\x00\x00\x00\x00\x00\x00\
-        \x71\x23\x00\x00\x00\x00\x00\x00\
-        \xb7\x00\x00\x00\x00\x00\x00\x00\
-        \x95\x00\x00\x00\x00\x00\x00\x00",
+        Text("mov r2, 0\nldxb r3, [r2+0]\nmov r0, 0\nexit"),
         "refused V9 NotAddress at slot 1\n",
     ),
     (
         "not_judged",
-        b"\xbf\x12\x00\x00\x00\x00\x00\x00\
-        \xb7\x00\x00\x00\x00\x00\x00\x00\
-        \x95\x00\x00\x00\x00\x00\x00\x00",
+        Text("mov r2, r1\nmov r0, 0\nexit"),
         "refused V10 Helper at slot 0\n",
     ),
 ];
 
 #[test]
 fn refusals(rt: HostRuntime) -> Result<(), Fail> {
-    for (name, bytes, err) in REFUSALS {
-        check(
-            &rt,
-            process::id(rt.process()),
-            &Row {
+    for table in [ENCODINGS.as_slice(), GRAPHS.as_slice(), RULES.as_slice()] {
+        for (name, program, line) in table {
+            let row = Row {
                 name,
-                bytes,
+                program: *program,
                 verb: "verify",
                 options: &["--releases", "0"],
-                status: 1,
-                out: "",
-                err,
-            },
-        )?;
+                line,
+            };
+            check(&rt, process::id(rt.process()), &row)?;
+        }
     }
     Ok(())
 }
 
 #[test]
 fn too_long(rt: HostRuntime) -> Result<(), Fail> {
-    check(
-        &rt,
-        process::id(rt.process()),
-        &Row {
-            name: "too_long",
-            bytes: &[0; 32769],
-            verb: "verify",
-            options: &["--releases", "0"],
-            status: 1,
-            out: "",
-            err: "refused F7 TooLong at slot 0\n",
-        },
-    )
+    let row = Row {
+        name: "too_long",
+        program: Bytes(&[0; 32769]),
+        verb: "verify",
+        options: &["--releases", "0"],
+        line: "refused F7 TooLong at slot 0\n",
+    };
+    check(&rt, process::id(rt.process()), &row)
 }
 
 /// A file that isn't there, and a folder.

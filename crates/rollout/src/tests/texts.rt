@@ -6,32 +6,18 @@ use std::process::{self, Abort};
 use std::rt::Files;
 use std::test::Fail;
 
-/// A choice by the bucket, as it is written and as it is listed.
-const WRITTEN: &str = "; the first release for one bucket in a hundred
-    ldxh r2, [r1+16] ; the bucket
-    mov r0, 0
-    jge r2, 100, end
+/// A text with comments and a label, and its listing.
+const WRITTEN: &str = "; the last release where the version is known, and else the one before it
+    ldxb r2, [r1+18] ; flags
+    and r2, 0x1
+    mov r0, 2
+    jge r2, 1, end
     mov r0, 1
 end:
     exit
 ";
 
-const LISTED: &str = "ldxh r2, [r1+16]\nmov r0, 0\njge r2, 100, +1\nmov r0, 1\nexit\n";
-
-/// A choice by the version: from 2 on, where it is known.
-const BY_VERSION: &str = "    mov r0, 0
-    ldxb r2, [r1+18]
-    and r2, 1
-    jge r2, 1, known
-    exit
-known:
-    ldxb r2, [r1+0]
-    jge r2, 2, newer
-    exit
-newer:
-    mov r0, 1
-    exit
-";
+const LISTED: &str = "ldxb r2, [r1+18]\nand r2, 1\nmov r0, 2\njge r2, 1, +1\nmov r0, 1\nexit\n";
 
 /// Does the command and compares.
 fn answers<R: Files + AllocGlobal + Abort>(
@@ -53,75 +39,29 @@ fn answers<R: Files + AllocGlobal + Abort>(
 #[test]
 fn text_to_choice(rt: HostRuntime) -> Result<(), Fail> {
     let id = process::id(rt.process());
-    let text = format!(in rt.alloc(); "/tmp/rollout-{id}-bucket.txt")?;
-    let bytes = format!(in rt.alloc(); "/tmp/rollout-{id}-bucket.bin")?;
+    let text = format!(in rt.alloc(); "/tmp/rollout-{id}-known.txt")?;
+    let bytes = format!(in rt.alloc(); "/tmp/rollout-{id}-known.bin")?;
     let (text, bytes) = (text.as_str(), bytes.as_str());
     fs::write(&rt, text, WRITTEN.as_bytes())?;
     let words = vec![in rt.alloc(); "rollout", "asm", text, bytes]?;
-    answers(&rt, words.as_slice(), 0, "5 slots\n", "");
+    answers(&rt, words.as_slice(), 0, "6 slots\n", "");
     let words = vec![in rt.alloc(); "rollout", "list", bytes]?;
     answers(&rt, words.as_slice(), 0, LISTED, "");
-    let words = vec![in rt.alloc();
-        "rollout",
-        "run",
-        bytes,
-        "--releases",
-        "1",
-        "--bucket",
-        "99",
-    ]?;
+    let mut words = vec![in rt.alloc(); "rollout", "run", bytes, "--releases", "2"]?;
     answers(
         &rt,
         words.as_slice(),
         0,
-        "choice 1 after 5 instructions\n",
+        "choice 1 after 6 instructions\n",
         "",
     );
-    fs::remove_file(&rt, text)?;
-    fs::remove_file(&rt, bytes)?;
-    Ok(())
-}
-
-/// The same of a text whose paths end at several exits.
-#[test]
-fn version_to_choice(rt: HostRuntime) -> Result<(), Fail> {
-    let id = process::id(rt.process());
-    let text = format!(in rt.alloc(); "/tmp/rollout-{id}-version.txt")?;
-    let bytes = format!(in rt.alloc(); "/tmp/rollout-{id}-version.bin")?;
-    let (text, bytes) = (text.as_str(), bytes.as_str());
-    fs::write(&rt, text, BY_VERSION.as_bytes())?;
-    let words = vec![in rt.alloc(); "rollout", "asm", text, bytes]?;
-    answers(&rt, words.as_slice(), 0, "10 slots\n", "");
-    let words = vec![in rt.alloc();
-        "rollout",
-        "run",
-        bytes,
-        "--releases",
-        "1",
-        "--version",
-        "2.0",
-    ]?;
+    words.push("--version")?;
+    words.push("3.1")?;
     answers(
         &rt,
         words.as_slice(),
         0,
-        "choice 1 after 8 instructions\n",
-        "",
-    );
-    let words = vec![in rt.alloc();
-        "rollout",
-        "run",
-        bytes,
-        "--releases",
-        "1",
-        "--version",
-        "1.9",
-    ]?;
-    answers(
-        &rt,
-        words.as_slice(),
-        0,
-        "choice 0 after 7 instructions\n",
+        "choice 2 after 5 instructions\n",
         "",
     );
     fs::remove_file(&rt, text)?;

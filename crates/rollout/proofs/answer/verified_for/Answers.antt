@@ -1,11 +1,20 @@
-use Rattle.std.proofs.Common.{◌∙◌, ap}
+use Rattle.std.proofs.Common.{◌∙◌, subst}
+use Rattle.cells.specs.Arrays.{AppShape}
+use Rattle.rollout.specs.Faults.{IsProgramFault}
+use Rattle.rollout.proofs.Shapes.{shape_is}
 use Rattle.rollout.proofs.answer.verified_for.Goals as goal
 
 pub returns-in-Ok-clause-program : goal.returns-in-Ok-clause-program
 returns-in-Ok-clause-program c = record {
-  shape = c.in-Ok.program.shape;
-  releases_are = ap (λ s. s.releases) c.in-Ok.ensures.shape ∙ c.of.ensures;
   bytes_are = c.in-Ok.ensures.bytes;
-  flow = c.keeps.ensures.accepted.0;
-  accepted = c.keeps.ensures.accepted.1;
+  shape_is = c.in-Ok.ensures.shape
+      ∙ shape_is c.args.file.now _ c.plain.ensures.releases c.plain.ensures.arrays;
+  flow = c.keeps.ensures.flow;
+  accepted = c.keeps.ensures.accepted;
 }
+
+pub returns-clause-fault : goal.returns-clause-fault
+returns-clause-fault c =
+    subst (λ (s : AppShape). IsProgramFault c.args.bytes.now s c.in-Err.fault)
+    (shape_is c.args.file.now _ c.plain.ensures.releases c.plain.ensures.arrays)
+    c.in-Err.ensures.fault

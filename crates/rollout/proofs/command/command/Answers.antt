@@ -1,17 +1,23 @@
 use Rattle.std.proofs.Common.{inl, inr, map}
-use Rattle.rollout.proofs.Doing.{help_asked, request_asked, of_written}
+use Rattle.rollout.proofs.Doing.{fault_found, help_asked, request_asked, of_written}
 use Rattle.rollout.proofs.command.command.Goals as goal
 
 pub returns-in-Err-clause-done : goal.returns-in-Err-clause-done
 returns-in-Err-clause-done g c zero =
-    inl (help_asked _ (map g.S.AsStr.text c.args.words.now) c.in-Err.error c.in-Ok.ensures c.in-Err.ensures.kinds (c.usage.ensures.help zero))
+    inl (help_asked _ (map g.S.AsStr.text c.args.words.now) c.in-Err.error c.in-Ok.ensures
+    c.in-Err.ensures.kinds (c.usage.ensures.help zero))
 
 pub returns-in-Ok-answer-clause-done : goal.returns-in-Ok-answer-clause-done
 returns-in-Ok-answer-clause-done g c zero = inr (record {
   request = c.in-Some.request;
-  bytes = c.in-Ok-answer.ensures.answer.0;
   answer = c.in-Ok-answer.answer;
-  asked = request_asked _ (map g.S.AsStr.text c.args.words.now) _ _ c.in-Ok.ensures c.in-Ok-try_get_matches_from.ensures.matches c.in-Some.ensures;
-  answers = c.in-Ok-answer.ensures.answer.1;
+  asked = request_asked _ (map g.S.AsStr.text c.args.words.now) _ _ c.in-Ok.ensures
+      c.in-Ok-try_get_matches_from.ensures.matches c.in-Some.ensures.some;
+  answers = c.in-Ok-answer.ensures.answer;
   printed = of_written _ _ _ _ c.status_of.ensures c.is_ok.ensures.value c.write.ensures.bytes zero;
 })
+
+pub returns-in-Err-clause-wrong : goal.returns-in-Err-clause-wrong
+returns-in-Err-clause-wrong g c two =
+    inl (fault_found _ (map g.S.AsStr.text c.args.words.now) c.in-Err.error c.in-Ok.ensures
+    c.in-Err.ensures.kinds (c.usage.ensures.fault two))
