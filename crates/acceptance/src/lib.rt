@@ -8,6 +8,8 @@ mod attributes;
 #[cfg(test)]
 mod attrs_of;
 #[cfg(test)]
+mod beside;
+#[cfg(test)]
 mod counters;
 #[cfg(test)]
 mod encoding;

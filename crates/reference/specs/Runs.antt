@@ -18,7 +18,8 @@ pub data GoesOn (p : ShapedProgram) (s : State) : List CellEvent → State → T
   asked : {es : List CellEvent} {t : State} {next : ℕ → State} (e : CellEvent)
       → GoesOn p s es t → step p t ≡ Asks e.cell e.op next → GoesOn p s (es ++ e ∷ []) (next e.reply)
 
--- the run from one state to another makes the events, within so many steps, and this outcome is next
+-- the run from one state to another makes the events, within so many steps, and this outcome is
+-- next
 pub record IsCut (p : ShapedProgram) (s : State) (es : List CellEvent) (limit : ℕ) (o : Outcome)
     (t : State) : Type 0 where
   pub goes_on : GoesOn p s es t
