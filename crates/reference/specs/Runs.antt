@@ -16,7 +16,8 @@ pub data GoesOn (p : ShapedProgram) (s : State) : List CellEvent → State → T
   goes : {es : List CellEvent} {t u : State}
       → GoesOn p s es t → step p t ≡ Going u → GoesOn p s es u
   asked : {es : List CellEvent} {t : State} {next : ℕ → State} (e : CellEvent)
-      → GoesOn p s es t → step p t ≡ Asks e.cell e.op next → GoesOn p s (es ++ e ∷ []) (next e.reply)
+      → GoesOn p s es t → step p t ≡ Asks e.cell e.op next
+      → GoesOn p s (es ++ e ∷ []) (next e.reply)
 
 -- the run from one state to another makes the events, within so many steps, and this outcome is
 -- next
@@ -26,8 +27,8 @@ pub record IsCut (p : ShapedProgram) (s : State) (es : List CellEvent) (limit : 
   pub within : t.count < s.count + limit
   pub next : step p t ≡ o
 
--- what comes of a run of so many steps at most, with the events on the way; it leaves the last state
--- that it came to
+-- what comes of a run of so many steps at most, with the events on the way; it leaves the last
+-- state that it came to
 abbrev pub IsRun : ShapedProgram → State → List CellEvent → ℕ → RunEnd → State → Type 0
 IsRun p s es limit (Choice choice) t =
     IsCut p s es limit (Done choice) t × Ends p s es choice (t.count + 1)
