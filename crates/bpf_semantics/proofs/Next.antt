@@ -18,10 +18,10 @@ use Rattle.bpf_semantics.specs.Program.{ShapedProgram}
 use Rattle.bpf_semantics.specs.Memory.{address_of, is_in_stack, stack_start, cell_at}
 use Rattle.bpf_semantics.specs.State.{State, with_bytes, with_register}
 use Rattle.bpf_semantics.specs.Reads.{byte_count, register}
-use Rattle.bpf_semantics.specs.Outcome.{Outcome, Going, Asks, Trap, needed, write, branch, finish, jump_to, go_to, moved, moved_to, ask, answer}
+use Rattle.bpf_semantics.specs.Outcome.{Outcome, Asks, Trap, needed, write, branch, finish, jump_to, go_to, moved, moved_to, ask, answer}
 use Rattle.bpf_semantics.specs.Counters.{reach, load_cell, store_cell, store_asks, atomic_asks, atomic_count, cell_op, fetched, expected, cut}
-use Rattle.bpf_semantics.specs.Step.{act, act_at, step, load, store}
-use Rattle.bpf_semantics.specs.Laws.{Follows, IsNext}
+use Rattle.bpf_semantics.specs.Step.{act, act_at, step, store}
+use Rattle.bpf_semantics.specs.Laws.{IsNext}
 
 either : (s : State) (b : Bool) (o q : Outcome) → IsNext s o → IsNext s q → IsNext s (if b then o else q)
 either s true o q left right = left

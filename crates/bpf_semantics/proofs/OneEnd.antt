@@ -4,7 +4,6 @@ use Rattle.cells.specs.declared.event.CellOp.{CellOp}
 use Rattle.cells.specs.declared.event.CellEvent.{CellEvent}
 use Rattle.bpf_semantics.specs.Program.{ShapedProgram}
 use Rattle.bpf_semantics.specs.State.{State}
-use Rattle.bpf_semantics.specs.Step.{step}
 use Rattle.bpf_semantics.specs.Outcome.{Outcome, Going, Asks, Done, Trap}
 use Rattle.bpf_semantics.specs.Run.{Ends, last, more, asked, Traps, now, later, replied, replies, IsSameEnd}
 

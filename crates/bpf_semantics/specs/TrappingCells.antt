@@ -1,7 +1,7 @@
 -- Programs over counters and helpers that do what the machine does not define.
 use Rattle.std.specs.Prelude.{ℕ, ℤ, pos, negsuc, List, [], ◌∷◌}
 use Rattle.bpf_insn.specs.declared.reg.Reg.{Reg}
-use Rattle.bpf_insn.specs.declared.reg.Reg.TheVariants.{R0, R1, R2, R3, R6, R10}
+use Rattle.bpf_insn.specs.declared.reg.Reg.TheVariants.{R1, R2, R3, R6, R10}
 use Rattle.bpf_insn.specs.declared.operand.AluOp.TheVariants.{Add}
 use Rattle.bpf_insn.specs.declared.operand.AtomicOp.{AtomicOp}
 use Rattle.bpf_insn.specs.declared.operand.AtomicSize.{AtomicSize}

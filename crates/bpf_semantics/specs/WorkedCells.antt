@@ -6,7 +6,6 @@ use Rattle.bpf_insn.specs.declared.operand.AluOp.TheVariants.{Add, And}
 use Rattle.bpf_insn.specs.declared.operand.AtomicOp.TheVariants as atomic
 use Rattle.bpf_insn.specs.declared.operand.AtomicSize.TheVariants as atomic_size
 use Rattle.bpf_insn.specs.declared.operand.Bits.TheVariants.{Bits64, Bits32}
-use Rattle.bpf_insn.specs.declared.operand.Condition.{Condition}
 use Rattle.bpf_insn.specs.declared.operand.Condition.TheVariants.{Eq, Ge}
 use Rattle.bpf_insn.specs.declared.operand.LoadKind.TheVariants as load
 use Rattle.bpf_insn.specs.declared.operand.Operand.TheVariants.{Imm, Register}

@@ -1,5 +1,5 @@
 use Rattle.std.proofs.Common.{refl}
-use Rattle.bpf_semantics.specs.Run.{now, later}
+use Rattle.bpf_semantics.specs.Run.{now}
 use Rattle.bpf_semantics.proofs.counter_traps.unknown_arrays.Goals as goal
 
 pub returns : goal.returns

@@ -1,5 +1,5 @@
-use Rattle.std.proofs.Common.{refl, ap}
-use Rattle.bpf_semantics.specs.Run.{last, more, asked, now, later}
+use Rattle.std.proofs.Common.{refl}
+use Rattle.bpf_semantics.specs.Run.{last, more, asked}
 use Rattle.bpf_semantics.proofs.counters.takes.Goals as goal
 
 pub returns : goal.returns
