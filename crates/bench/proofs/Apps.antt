@@ -6,11 +6,9 @@ use Rattle.std.proofs.Math.Seq.{get_or-append_seam}
 use Rattle.std.proofs.lemmas.Bool.{cases_lt}
 use Rattle.std.proofs.lemmas.Option.{slice_get_within, slice_get-get_or, slice_get-map, get_or_from_slice_get}
 use Rattle.attrs.specs.Attributes.{Attributes}
-use Rattle.bpf_insn.specs.Program.{Program}
-use Rattle.bpf_semantics.specs.State.{opening}
-use Rattle.bpf_semantics.specs.Run.{Ends}
+use Rattle.bpf_semantics.specs.Program.{ShapedProgram}
 use Rattle.bench.specs.declared.runs.Tally.{Tally}
-use Rattle.bench.specs.Runs.{IsApp, Runs, with_run}
+use Rattle.bench.specs.Runs.{IsApp, Runs, RunsOnce, with_run}
 use Rattle.bench.specs.Runs as runs
 
 abbrev pub AreAppsSoFar : List Attributes → Type 0
@@ -33,9 +31,12 @@ app_added apps app n len before new k a found =
 pub app_at : {A : Type 0} (view : A → Attributes) (xs : List A) (k : ℕ) (x : A) → k < length xs → x ≡ get_or xs k x → slice_get (map view xs) k ≡ Some (view x)
 app_at view xs k x h e = slice_get-map view xs k ∙ ap (option_map view) (slice_get-get_or xs k x h ∙ ap Some (sym e))
 
-pub run_added : (p : Program) (apps : List Attributes) (n choice count : ℕ) (t u : Tally) (a : Attributes)
-    → Runs p apps n t → slice_get apps (n % 10) ≡ Some a → Ends p (opening a) choice count → u ≡ with_run t choice count → Runs p apps (n + 1) u
-run_added p apps n choice count t u a before app ends e = subst (Runs p apps (n + 1)) (sym e) (runs.more before app ends)
+pub run_added : (p : ShapedProgram) (apps : List Attributes) (opened values after : List ℕ)
+    (n choice count : ℕ) (t u : Tally) (a : Attributes) → Runs p apps opened n values t
+    → slice_get apps (n % 10) ≡ Some a → RunsOnce p a values after choice count
+    → u ≡ with_run t choice count → Runs p apps opened (n + 1) after u
+run_added p apps opened values after n choice count t u a before app once e =
+    subst (Runs p apps opened (n + 1) after) (sym e) (runs.more before app once)
 
 pub apps_added : {A : Type 0} (view : A → Attributes) (xs ys : List A) (x : A) (n : ℕ) → ys ≡ xs ++ x ∷ [] → length xs ≡ n
     → AreAppsSoFar (map view xs) → IsApp n (view x) → AreAppsSoFar (map view ys)

@@ -1,4 +1,5 @@
--- The programs of the benchmark: two instructions that open a program, blocks of four, and two that close it.
+-- The programs of the benchmark: two instructions that open a program, blocks of four, and two that
+-- close it.
 use Rattle.std.specs.Prelude.{ℕ, zero, suc, ◌+◌, ◌-◌, ◌*◌, ◌%◌, pos, List, [], ◌∷◌, ◌++◌}
 use Rattle.bpf_insn.specs.declared.reg.Reg.{Reg}
 use Rattle.bpf_insn.specs.declared.reg.Reg.TheVariants.{R0, R1, R2, R3, R4, R5}
@@ -49,7 +50,8 @@ closing = and R0 63 ∷ Exit ∷ []
 abbrev pub straight_block : List Insn
 straight_block = add R0 R2 ∷ and R2 0x7fff ∷ add R2 R0 ∷ and R0 0xffff ∷ []
 
--- block k of count: no bucket is as high as these numbers, and each jump leads to the first instruction that closes
+-- block k of count: no bucket is as high as these numbers, and each jump leads to the first
+-- instruction that closes
 abbrev pub one_target_block : ℕ → ℕ → List Insn
 one_target_block count k =
     jump_from (0xffff - 4 * k) (4 * (count - k) - 1)
@@ -63,7 +65,8 @@ abbrev pub diamond : ℕ → List Insn
 diamond k = jump_from (1000 * (k % 10 + 1)) 2 ∷ add R0 R2 ∷ skip ∷ and R0 0x7fff ∷ []
 
 abbrev pub load_block : ℕ → List Insn
-load_block k = load Byte R3 (k % 32) ∷ load Half R4 (k % 16 * 2) ∷ load Double R5 (k % 5 * 8) ∷ add R0 R5 ∷ []
+load_block k =
+    load Byte R3 (k % 32) ∷ load Half R4 (k % 16 * 2) ∷ load Double R5 (k % 5 * 8) ∷ add R0 R5 ∷ []
 
 abbrev pub block : Pattern → ℕ → ℕ → List Insn
 block Straight count k = straight_block

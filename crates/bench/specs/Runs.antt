@@ -1,7 +1,10 @@
 -- Runs of one program, one after the other, for ten apps in turn.
 use Rattle.std.specs.Prelude.{◌≡◌, ℕ, ◌+◌, ◌*◌, ◌%◌, List, [], length, Some, None, slice_get}
 use Rattle.attrs.specs.Attributes.{Attributes, plain}
-use Rattle.bpf_insn.specs.Program.{Program}
+use Rattle.cells.specs.declared.event.CellEvent.{CellEvent}
+use Rattle.cells.specs.Events.{AreZeros, IsEvent}
+use Rattle.cells.specs.Grown.{GrewBy}
+use Rattle.bpf_semantics.specs.Program.{ShapedProgram}
 use Rattle.bpf_semantics.specs.State.{opening}
 use Rattle.bpf_semantics.specs.Run.{Ends}
 use Rattle.bench.specs.declared.runs.Tally.{Tally}
@@ -23,9 +26,29 @@ abbrev pub no_runs : Tally
 no_runs = record { instructions = 0; choices = hash_of [] }
 
 abbrev pub with_run : Tally → ℕ → ℕ → Tally
-with_run t choice count = record { instructions = t.instructions + count; choices = hash_more t.choices choice }
+with_run t choice count =
+    record { instructions = t.instructions + count; choices = hash_more t.choices choice }
 
--- the tally of the first n runs: run n is that of app n modulo ten, and ends with a choice after a count of instructions
-pub data Runs (p : Program) (apps : List Attributes) : ℕ → Tally → Type 0 where
-  none : Runs p apps 0 no_runs
-  more : {n choice count : ℕ} {t : Tally} {a : Attributes} → Runs p apps n t → slice_get apps (n % 10) ≡ Some a → Ends p (opening a) choice count → Runs p apps (n + 1) (with_run t choice count)
+-- one run for an app, on cells that had some values before it and others after it
+pub record RunsOnce (p : ShapedProgram) (a : Attributes) (before after : List ℕ)
+    (choice count : ℕ) : Type 0 where
+  pub events : List CellEvent
+  pub grew : GrewBy IsEvent before events after
+  pub ends : Ends p (opening a) events choice count
+
+-- the tally of the first n runs, one after the other on the same cells, with the values that the
+-- cells had before and have after them: run n is that of app n modulo ten
+pub data Runs (p : ShapedProgram) (apps : List Attributes) (opened : List ℕ)
+    : ℕ → List ℕ → Tally → Type 0 where
+  none : Runs p apps opened 0 opened no_runs
+  more : {n choice count : ℕ} {values after : List ℕ} {t : Tally} {a : Attributes}
+      → Runs p apps opened n values t → slice_get apps (n % 10) ≡ Some a
+      → RunsOnce p a values after choice count
+      → Runs p apps opened (n + 1) after (with_run t choice count)
+
+-- the tally of so many runs, on cells that open at 0
+pub record AreRuns (p : ShapedProgram) (apps : List Attributes) (n : ℕ) (t : Tally) : Type 0 where
+  pub opened : List ℕ
+  pub zero : AreZeros 8192 opened
+  pub values : List ℕ
+  pub runs : Runs p apps opened n values t

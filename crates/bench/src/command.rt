@@ -23,7 +23,8 @@ const REFUSED: u8 = 1;
 const USAGE: u8 = 2;
 
 const USAGE_LINE: &str =
-    "usage: bench bytes SLOTS PATTERN, or bench verify|run SLOTS TIMES PATTERN.., of straight one-target diamonds loads";
+    "usage: bench bytes SLOTS PATTERN, or bench verify|run SLOTS TIMES PATTERN.., \
+    of straight one-target diamonds loads";
 
 /// Does what the words ask, the first of which is the program's name.
 pub fn command<S: AsStr, O: Write, E: Write>(
@@ -102,14 +103,15 @@ fn run_one<O: Write>(
     let Ok(program) = Arc::new(alloc, verified(alloc, &bytes)?) else {
         return Err(Fault::Memory);
     };
-    let tally = run_times(&program, &apps(alloc)?, times)?;
+    let tally = run_times(alloc, &program, &apps(alloc)?, times)?;
     let slots = bytes.len() / 8;
     let hash = hash_of(&bytes);
     let instructions = tally.instructions;
     let choices = tally.choices;
     writeln!(
         out,
-        "{pattern} slots={slots} bytes={hash:016x} runs={times} instructions={instructions} choices={choices:016x}"
+        "{pattern} slots={slots} bytes={hash:016x} runs={times} \
+        instructions={instructions} choices={choices:016x}"
     )?;
     Ok(())
 }

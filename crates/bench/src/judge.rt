@@ -2,25 +2,31 @@
 
 ghost use Rattle.std.specs.Prelude.{◌≡◌, ◌<◌, IfOk, IfErr, OnOk};
 ghost use Rattle.flow_check.specs.Flow.{program_bytes};
-ghost use Rattle.bench.specs.Judged.{AreAccepted, IsProgramFault};
+ghost use Rattle.bench.specs.Judged.{AreAccepted, IsProgramFault, bench_shape};
 
 use crate::fault::Fault;
-use bpf_verify::{Shape, Verified, verify};
+use bpf_verify::{Verified, verify};
+use cells::Shape;
 use flow_check::Flow;
 use std::alloc::Global;
+
+// The shape of an app of 64 releases and no array.
+#[tactic(auto, using(crate::proofs::Shapes::shape_is))]
+fn bench_shape(alloc: Global) -> Shape
+    ensures { result ≡ bench_shape }
+{
+    Shape::plain(alloc, 64)
+}
 
 /// The program that the bytes are, once it is accepted for an app of 64 releases.
 pub fn verified(alloc: Global, bytes: &[u8]) -> Result<Verified, Fault>
     ensures bytes { IfOk result (λ v. program_bytes v.code ≡ bytes.now) }
-    ensures releases { IfOk result (λ v. v.shape.releases ≡ 64) }
+    ensures shape { IfOk result (λ v. v.shape ≡ bench_shape) }
     ensures fault { IfErr result (λ e. IsProgramFault bytes.now e) }
 {
-    let flow = match Flow::check(alloc, bytes) {
-        Ok(flow) => flow,
-        Err(fault) => return Err(Fault::Flow(fault)),
-    };
+    let flow = Flow::check(alloc, bytes).map_err(Fault::Flow)?;
     flow.keeps();
-    match verify(alloc, flow, &Shape::of(64)) {
+    match verify(alloc, flow, &bench_shape(alloc)) {
         Ok(program) => Ok(program),
         Err(refusal) => Err(Fault::Rule(refusal)),
     }

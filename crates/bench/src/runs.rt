@@ -1,15 +1,14 @@
 //! Running a program over and over, for ten apps in turn. A run allocates nothing.
 
 ghost use Rattle.std.specs.Prelude.{◌≡◌, ◌<◌, ◌≤◌, map, length, IfOk};
-ghost use Rattle.bpf_semantics.specs.State.{opening};
-ghost use Rattle.bpf_semantics.specs.Run.{Ends};
-ghost use Rattle.bench.specs.Runs.{AreApps, IsApp, Runs};
+ghost use Rattle.bench.specs.Runs.{AreApps, AreRuns, IsApp, RunsOnce};
 
 use crate::fault::Fault;
 use crate::fnv::{BASIS, hash_more};
 use attrs::Attrs;
 use bpf_machine::Run;
 use bpf_verify::Verified;
+use cells::{PlainCells, PlainPass};
 use std::alloc::Global;
 use std::sync::Arc;
 
@@ -47,29 +46,44 @@ pub fn apps(alloc: Global) -> Result<Vec<Arc<Attrs>>, Fault>
     Ok(apps)
 }
 
-/// One run of the program for an app: its choice, and the number of its instructions.
-fn run_once(program: &Arc<Verified>, app: &Arc<Attrs>) -> Result<(u8, u32), Fault>
-    ensures ends { IfOk result (λ c. Ends program.now.value.code (opening app.now.value) c.0 c.1) }
+/// One run of the program for an app, on these cells: its choice, and the number of its
+/// instructions.
+fn run_once(
+    program: &Arc<Verified>,
+    app: &Arc<Attrs>,
+    cells: &PlainCells,
+    pass: &mut PlainPass,
+) -> Result<(u8, u32), Fault>
+    ensures runs { IfOk result (λ c.
+        RunsOnce program.now.value app.now.value pass.old pass.new c.0 c.1) }
     ensures short { IfOk result (λ c. c.1 ≤ 4096) }
 {
     let accepted: &Verified = program;
     accepted.keeps();
     let program = Arc::try_clone(program)?;
     let app = Arc::try_clone(app)?;
-    Ok(Run::start(program, app).run())
+    Ok(Run::start(program, app).run(cells, pass))
 }
 
-/// Runs the program so many times, for each app in turn.
-pub fn run_times(program: &Arc<Verified>, apps: &[Arc<Attrs>], times: u32) -> Result<Tally, Fault>
+/// Runs the program so many times, for each app in turn, on cells that open at 0.
+pub fn run_times(
+    alloc: Global,
+    program: &Arc<Verified>,
+    apps: &[Arc<Attrs>],
+    times: u32,
+) -> Result<Tally, Fault>
     requires { length apps.now ≡ 10 }
-    ensures { IfOk result (λ tally. Runs program.now.value.code (map (λ a. a.value) apps.now) times tally) }
+    ensures { IfOk result (AreRuns program.now.value (map (λ a. a.value) apps.now) times) }
 {
+    let Ok((cells, mut pass)) = PlainCells::new(alloc) else {
+        return Err(Fault::Memory);
+    };
     let mut tally = Tally {
         instructions: 0,
         choices: BASIS,
     };
     for n in 0..times {
-        let (choice, count) = run_once(program, &apps[n as usize % 10])?;
+        let (choice, count) = run_once(program, &apps[n as usize % 10], &cells, &mut pass)?;
         tally = Tally {
             instructions: tally.instructions + count as u64,
             choices: hash_more(tally.choices, choice),
