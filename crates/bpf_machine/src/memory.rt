@@ -1,7 +1,7 @@
 // The memory of a run: reads of the context and the stack, and writes of the stack. An access of
 // 1, 2, 4 or 8 bytes is one load or store of that width.
 
-ghost use Rattle.std.specs.Prelude.{◌≡◌, ◌+◌, ◌≤◌, ◌<◌, ◌-◌, ◌%◌, ◌^◌, length, take, drop, IsTrue, if◌then◌else◌, ◌==◌};
+ghost use Rattle.std.specs.Prelude.{◌≡◌, ◌+◌, ◌≤◌, ◌<◌, ◌-◌, length, take, drop, IsTrue};
 ghost use Rattle.std.specs.List.{splice};
 ghost use Rattle.bpf_insn.specs.Words.{low_bytes};
 ghost use Rattle.bpf_semantics.specs.Memory.{context_start, stack_start, address_of, is_in_stack};
@@ -135,7 +135,8 @@ pub fn stack_bytes(words: &Words, address: u64, count: u64) -> &[u8]
 #[inline]
 pub fn write(stack: &mut [u8; 512], place: usize, size: Size, value: u64)
     requires { place + byte_count size ≤ 512 }
-    ensures { stack.new ≡ splice stack.old place (place + byte_count size) (low_bytes (byte_count size) value) }
+    ensures { let n = byte_count size in
+        stack.new ≡ splice stack.old place (place + n) (low_bytes n value) }
 {
     match size {
         Size::Byte => stack[place..place + 1].copy_from_slice(&low_byte(value).to_le_bytes()),
