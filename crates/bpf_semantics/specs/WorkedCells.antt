@@ -112,6 +112,18 @@ take_program = layout (
     ∷ JumpIf Bits64 Ge R2 (Imm (pos 2)) (pos 2) ∷ Mov Bits64 R0 (Imm (pos 1)) ∷ Exit
     ∷ Mov Bits64 R0 (Imm (pos 0)) ∷ Exit ∷ [])
 
+-- ldcell r6, 0, 0 / mov r2, -1 / stxw [r6+0], r2 / aaddw [r6+0], r2 / mov r0, 0 / exit
+abbrev pub uncut_program : Program
+uncut_program = layout (
+    Wide R6 (Cell (pos 0) (pos 0)) ∷ Mov Bits64 R2 (Imm (negsuc 0))
+    ∷ Store size.Word R6 R2 (pos 0) ∷ Atomic atomic.Add atomic_size.Word R6 R2 (pos 0)
+    ∷ Mov Bits64 R0 (Imm (pos 0)) ∷ Exit ∷ [])
+
+-- its events where the counter replies so to the addition
+abbrev pub cut_events : ℕ → List CellEvent
+cut_events reply =
+    event 4096 (cell.Store 0xFFFFFFFF) 0 ∷ event 4096 (cell.Add 0xFFFFFFFF) reply ∷ []
+
 -- ---- helpers
 
 -- stb [r10-8], 49 / mov r1, 1 / mov r2, r10 / add r2, -8 / mov r3, 1 / call 2 / exit

@@ -36,6 +36,13 @@ pub fn narrow_counters()
         0xFFFFFFFF 7 }
 {}
 
+/// Operands are cut to a counter's 32 bits: `ldcell r6, 0, 0 / mov r2, -1 / stxw [r6+0], r2 /
+/// aaddw [r6+0], r2 / mov r0, 0 / exit` stores and adds 4294967295.
+pub fn cut_operands()
+    ensures { (reply : ℕ)
+        → EndsOver worked.one_narrow worked.uncut_program (worked.cut_events reply) 0 6 }
+{}
+
 /// `ldcell r6, 0, 0 / mov r2, 1 / fadddw [r6+0], r2 / jge r2, 2, +2 / mov r0, 1 / exit / mov r0, 0
 /// / exit` takes 1 of a quota of two: the replies 0 and 1 lead to release 1, and 2 leads to none.
 pub fn takes()

@@ -26,7 +26,9 @@ pub use counter_traps::{
     atomics_of_memory, beside_counters, compared_bytes, frame_writes_of_counters, other_widths,
     signed_load, unknown_arrays, unknown_helpers, unset_arguments,
 };
-pub use counters::{compared_texts, loads_of_counters, lookups, narrow_counters, takes};
+pub use counters::{
+    compared_texts, cut_operands, loads_of_counters, lookups, narrow_counters, takes,
+};
 pub use memory::{
     extended_store, negative_loads, partial_stores, places, positive_loads, round_trips,
 };
