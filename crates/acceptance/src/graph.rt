@@ -1,14 +1,22 @@
 //! Worked programs, each with the answer that the rules give it.
 
 use bpf_insn::{AluOp, Bits, Insn, Operand, Reg};
+use bpf_text::assemble;
 use flow_check::{Flow, FlowFault};
 use std::alloc::AllocError;
 use std::test::Fail;
 
+/// A program: assembly text, or bytes where they spell none.
+#[derive(Clone, Copy)]
+enum Program {
+    Text(&'static str),
+    Bytes(&'static [u8]),
+}
+
 #[derive(Clone, Copy)]
 struct Case {
     name: &'static str,
-    bytes: &'static [u8],
+    program: Program,
     answer: &'static str,
 }
 
@@ -20,90 +28,90 @@ fn answer(rt: &HostRuntime, bytes: &[u8]) -> Result<String, AllocError> {
     }
 }
 
-static CASES: [Case; 17] = [
+const CASES: [Case; 17] = [
     Case {
         name: "no bytes",
-        bytes: b"",
+        program: Program::Text(""),
         answer: "F6 Empty at slot 0",
     },
     Case {
         name: "seven bytes of a mov",
-        bytes: b"\xb7\0\0\0\0\0\0",
+        program: Program::Bytes(b"\xb7\0\0\0\0\0\0"),
         answer: "F8 Insn I1 Truncated at slot 0",
     },
     Case {
         name: "an exit, and three bytes more",
-        bytes: b"\x95\0\0\0\0\0\0\0\xb7\0\0",
+        program: Program::Bytes(b"\x95\0\0\0\0\0\0\0\xb7\0\0"),
         answer: "F8 Insn I1 Truncated at slot 1",
     },
     Case {
         name: "an opcode that isn't there",
-        bytes: b"\xff\0\0\0\0\0\0\0",
+        program: Program::Bytes(b"\xff\0\0\0\0\0\0\0"),
         answer: "F8 Insn I2 Opcode at slot 0",
     },
     Case {
         name: "a mov of a constant with a source register",
-        bytes: b"\xb7\x10\0\0\0\0\0\0",
+        program: Program::Bytes(b"\xb7\x10\0\0\0\0\0\0"),
         answer: "F8 Insn I4 UnusedField at slot 0",
     },
     Case {
         name: "a jump onto itself",
-        bytes: b"\x05\0\xff\xff\0\0\0\0",
+        program: Program::Text("ja -1"),
         answer: "F1 BackJump at slot 0",
     },
     Case {
         name: "a long jump onto itself",
-        bytes: b"\x06\0\0\0\xff\xff\xff\xff",
+        program: Program::Text("jal -1"),
         answer: "F1 BackJump at slot 0",
     },
     Case {
         name: "a conditional jump below slot 0, at the last place",
-        bytes: b"\x15\0\0\x80\0\0\0\0",
+        program: Program::Text("jeq r0, 0, -32768"),
         answer: "F1 BackJump at slot 0",
     },
     Case {
         name: "a jump to the end",
-        bytes: b"\x05\0\0\0\0\0\0\0",
+        program: Program::Text("ja +0"),
         answer: "F2 Outside at slot 0",
     },
     Case {
         name: "a conditional jump to the end, at the last place",
-        bytes: b"\x15\0\0\0\0\0\0\0",
+        program: Program::Text("jeq r0, 0, +0"),
         answer: "F2 Outside at slot 0",
     },
     Case {
         name: "a jump onto a second half",
-        bytes: b"\x05\0\x01\0\0\0\0\0\x18\0\0\0\0\0\0\0\0\0\0\0\0\0\0\0\x95\0\0\0\0\0\0\0",
+        program: Program::Text("ja +1\nlddw r0, 0\nexit"),
         answer: "F3 InsideWide at slot 0",
     },
     Case {
         name: "a mov at the end",
-        bytes: b"\xb7\0\0\0\0\0\0\0",
+        program: Program::Text("mov r0, 0"),
         answer: "F4 FallsOff at slot 0",
     },
     Case {
         name: "a wide load at the end",
-        bytes: b"\x18\0\0\0\0\0\0\0\0\0\0\0\0\0\0\0",
+        program: Program::Text("lddw r0, 0"),
         answer: "F4 FallsOff at slot 0",
     },
     Case {
         name: "a second exit",
-        bytes: b"\x95\0\0\0\0\0\0\0\x95\0\0\0\0\0\0\0",
+        program: Program::Text("exit\nexit"),
         answer: "F5 Unreached at slot 1",
     },
     Case {
         name: "a place that isn't reached, and a fault of edges after it",
-        bytes: b"\x95\0\0\0\0\0\0\0\xb7\0\0\0\0\0\0\0",
+        program: Program::Text("exit\nmov r0, 0"),
         answer: "F4 FallsOff at slot 1",
     },
     Case {
         name: "bytes that spell nothing, after a fault of edges",
-        bytes: b"\x05\0\xff\xff\0\0\0\0\xff\0\0\0\0\0\0\0",
+        program: Program::Bytes(b"\x05\0\xff\xff\0\0\0\0\xff\0\0\0\0\0\0\0"),
         answer: "F8 Insn I2 Opcode at slot 1",
     },
     Case {
         name: "a jump over a wide load that another jump reaches",
-        bytes: b"\x15\0\x02\0\0\0\0\0\x18\0\0\0\0\0\0\0\0\0\0\0\0\0\0\0\x95\0\0\0\0\0\0\0",
+        program: Program::Text("jeq r0, 0, +2\nlddw r0, 0\nexit"),
         answer: "ok",
     },
 ];
@@ -112,10 +120,13 @@ static CASES: [Case; 17] = [
 fn answers(rt: HostRuntime) -> Result<(), Fail> {
     for Case {
         name,
-        bytes,
+        program,
         answer: wanted,
     } in CASES {
-        let found = answer(&rt, bytes)?;
+        let found = match program {
+            Program::Text(text) => answer(&rt, &assemble(rt.alloc(), text)?)?,
+            Program::Bytes(bytes) => answer(&rt, bytes)?,
+        };
         assert_eq!(rt; found.as_str(), wanted, "{name}");
     }
     let long = vec![in rt.alloc(); 0; 32769]?;

@@ -6,7 +6,8 @@
 use attrs::{AttrFault, Attrs};
 use bpf_insn::InsnFault;
 use bpf_text::{AsmFault, AsmFaultKind, ListFault, assemble, listing};
-use bpf_verify::{Refusal, Rule, Shape, Verified, verify};
+use bpf_verify::{Refusal, Rule, Verified, verify};
+use cells::Shape;
 use flow_check::{Flow, FlowFault, FlowRule};
 use ruleset::{LoadFault, Ruleset};
 use std::alloc::Global;
@@ -68,7 +69,7 @@ fn below_100(alloc: Global, releases: u8) -> Result<Verified, Refusal> {
     let Ok(flow) = Flow::check(alloc, BELOW_100) else {
         return Err(Refusal::Memory);
     };
-    verify(alloc, flow, &Shape::of(releases.min(64)))
+    verify(alloc, flow, &Shape::plain(alloc, releases.min(64)))
 }
 
 #[test]

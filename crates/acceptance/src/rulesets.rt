@@ -2,21 +2,20 @@
 
 ghost use Rattle.std.specs.Prelude.{◌≤◌};
 
-use bpf_verify::{Shape, Verified, verify};
+use bpf_text::assemble;
+use bpf_verify::{Verified, verify};
+use cells::Shape;
 use flow_check::Flow;
 use ruleset::{LoadFault, Ruleset};
 use std::alloc::Global;
 use std::sync::Arc;
 use std::test::Fail;
 
-// mov r0, 0 / exit
-const NONE: [u8; 16] = [0xb7, 0, 0, 0, 0, 0, 0, 0, 0x95, 0, 0, 0, 0, 0, 0, 0];
-
 fn app(alloc: Global, appid: &str, releases: u8) -> Result<(String, Arc<Verified>), Fail>
     requires { releases ≤ 64 }
 {
-    let flow = Flow::check(alloc, &NONE)?;
-    let program = verify(alloc, flow, &Shape::of(releases))?;
+    let flow = Flow::check(alloc, &assemble(alloc, "mov r0, 0\nexit")?)?;
+    let program = verify(alloc, flow, &Shape::plain(alloc, releases))?;
     Ok((String::from_str(alloc, appid)?, Arc::new(alloc, program)?))
 }
 

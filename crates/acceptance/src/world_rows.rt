@@ -3,7 +3,9 @@
 ghost use Rattle.std.specs.Prelude.{◌<◌, ◌≤◌};
 
 use attrs::Attrs;
-use bpf_verify::{Shape, Verified, verify};
+use bpf_text::assemble;
+use bpf_verify::{Verified, verify};
+use cells::Shape;
 use flow_check::Flow;
 use ruleset::Ruleset;
 use std::alloc::Global;
@@ -11,15 +13,11 @@ use std::sync::Arc;
 use std::test::Fail;
 use world::{Effect, Event, World, WorldFault, play};
 
-// ldxh r2, [r1+16] / mov r0, 0 / jge r2, 100, +1 / mov r0, 1 / exit
-const BELOW_100: [u8; 40] = [
-    0x69, 0x12, 0x10, 0, 0, 0, 0, 0, 0xb7, 0, 0, 0, 0, 0, 0, 0, 0x35, 0x02, 0x01, 0, 0x64, 0, 0, 0,
-    0xb7, 0, 0, 0, 0x01, 0, 0, 0, 0x95, 0, 0, 0, 0, 0, 0, 0,
-];
+const BELOW_100: &str = "ldxh r2, [r1+16]\nmov r0, 0\njge r2, 100, +1\nmov r0, 1\nexit";
 
 fn below_100(alloc: Global) -> Result<Arc<Verified>, Fail> {
-    let flow = Flow::check(alloc, &BELOW_100)?;
-    let program = verify(alloc, flow, &Shape::of(1))?;
+    let flow = Flow::check(alloc, &assemble(alloc, BELOW_100)?)?;
+    let program = verify(alloc, flow, &Shape::plain(alloc, 1))?;
     Ok(Arc::new(alloc, program)?)
 }
 
