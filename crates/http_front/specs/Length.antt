@@ -1,0 +1,48 @@
+-- The length of a body, as the values of Content-Length tell it (RFC 9110, section 8.6).
+use Rattle.std.specs.Prelude.{ℕ, ◌+◌, ◌-◌, ◌*◌, List, [], ◌∷◌, length, Option, Some, None, Result, Ok, Err, Bool, ◌&&◌, ◌==◌, nat_lt, nat_le, if◌then◌else◌}
+use Rattle.std.specs.Char.{is_ascii_digit}
+use Rattle.std.specs.List.{list_all}
+use Rattle.std.specs.Str.{bytes_eq, byte}
+use Rattle.http_front.specs.declared.fault.PostFault.{PostFault}
+use Rattle.http_front.specs.declared.fault.PostFault.TheVariants as fault
+
+-- one or more digits
+abbrev pub is_decimal : List ℕ → Bool
+is_decimal text = nat_lt 0 (length text) && list_all is_ascii_digit text
+
+-- the digits from the first on that isn't 0: two texts of digits write one number where these are equal
+abbrev pub significant : List ℕ → List ℕ
+significant [] = []
+significant (c ∷ cs) = if c == byte "0" then significant cs else c ∷ cs
+
+-- a text of digits that writes the number whose digits these are
+abbrev pub writes : List ℕ → List ℕ → Bool
+writes digits text = is_decimal text && bytes_eq (significant text) digits
+
+-- the number that decimal digits write behind those of n
+abbrev pub number_after : ℕ → List ℕ → ℕ
+number_after n [] = n
+number_after n (c ∷ cs) = number_after (n * 10 + (c - byte "0")) cs
+
+-- the most bytes that a body may have
+abbrev pub body_limit : ℕ
+body_limit = 1048576
+
+-- the number, or why there is none
+abbrev pub ok_or : PostFault → Option ℕ → Result ℕ PostFault
+ok_or e None = Err e
+ok_or e (Some n) = Ok n
+
+abbrev pub within_limit : ℕ → Option ℕ
+within_limit n = if nat_le n body_limit then Some n else None
+
+-- the number that the digits write, if a body may have as many bytes
+abbrev pub number_within : List ℕ → Option ℕ
+number_within digits = within_limit (number_after 0 digits)
+
+-- the values may tell one number several times, but not two; a list of numbers isn't one
+abbrev pub told_length : List (List ℕ) → Result ℕ PostFault
+told_length [] = Err fault.Length
+told_length (v ∷ vs) =
+    if list_all (writes (significant v)) (v ∷ vs) then ok_or fault.TooLarge (number_within (significant v))
+    else Err fault.Head

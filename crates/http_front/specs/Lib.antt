@@ -1,0 +1,6 @@
+pub mod Device
+pub mod Reply
+pub mod Length
+pub mod Head
+pub mod Faults
+pub mod Post

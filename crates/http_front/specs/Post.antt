@@ -1,0 +1,69 @@
+-- Which answer a reader's bytes have: a body, or why there is none.
+--
+-- A head is judged as its bytes come, and at most 16,384 of them, so `take k xs` is what was judged.
+-- Where httparse leaves two answers right, so does this relation, and nowhere else: a head of more
+-- than 64 header lines that is malformed or cut short, and a target that isn't UTF-8 and is cut short.
+use Rattle.std.specs.Prelude.{◌≡◌, ℕ, suc, ◌<◌, ◌≤◌, List, length, take, Option, Some, None, Result, Ok, Err}
+use Rattle.httparse.specs.Grammar.{RequestHead, ReadsRequest, print_request, HasNoRequest, NeverHasRequest, MayBecomeRequest}
+use Rattle.httparse.specs.Spans.{RequestExceeds}
+use Rattle.http_front.specs.declared.fault.PostFault.{PostFault}
+use Rattle.http_front.specs.declared.fault.PostFault.TheVariants as fault
+use Rattle.http_front.specs.Head.{asked_by}
+
+abbrev pub head_limit : ℕ
+head_limit = 16384
+
+abbrev pub line_limit : ℕ
+line_limit = 64
+
+-- a whole head within its limits stands at the front of the bytes, and the rest behind it
+pub record HasHead (xs : List ℕ) (h : RequestHead) (rest : List ℕ) : Type 0 where
+  pub reads : ReadsRequest xs h rest
+  pub short : length (print_request h) ≤ head_limit
+  pub few : length h.fields ≤ line_limit
+
+-- the bytes have no head yet, and more of them may make one
+pub record IsBegun (xs : List ℕ) : Type 0 where
+  pub not_yet : HasNoRequest xs
+  pub may_become : MayBecomeRequest xs
+
+pub data Posts (xs : List ℕ) : Result (List ℕ) PostFault → Type 0 where
+  -- the body, as long as the head tells; bytes behind it are ignored
+  whole : {h : RequestHead} {rest : List ℕ} {n : ℕ}
+      → HasHead xs h rest → asked_by h ≡ Ok n → n ≤ length rest → Posts xs (Ok (take n rest))
+  -- the input ends before the body does
+  cut_short : {h : RequestHead} {rest : List ℕ} {n : ℕ}
+      → HasHead xs h rest → asked_by h ≡ Ok n → length rest < n → Posts xs (Err fault.Ended)
+  -- a rule that a whole head breaks
+  refused : {h : RequestHead} {rest : List ℕ} {e : PostFault}
+      → HasHead xs h rest → asked_by h ≡ Err e → Posts xs (Err e)
+  -- whatever bytes follow, there is no head
+  malformed : (k : ℕ) → k ≤ head_limit → NeverHasRequest (take k xs) → Posts xs (Err fault.Head)
+  -- 16,384 bytes, and still no head
+  long : head_limit ≤ length xs → IsBegun (take head_limit xs) → Posts xs (Err fault.HeadTooLarge)
+  -- the 65th header line
+  many : (k : ℕ) → k ≤ head_limit → RequestExceeds line_limit (take k xs) → Posts xs (Err fault.HeadTooLarge)
+  -- the input ends before the head does
+  ended : length xs < head_limit → IsBegun xs → Posts xs (Err fault.Ended)
+
+-- nobody knows when a device fails or memory is refused
+abbrev pub IsAnswer : List ℕ → Result (List ℕ) PostFault → Type 0
+IsAnswer xs (Err fault.Device) = Unit {0}
+IsAnswer xs (Err fault.Memory) = Unit {0}
+IsAnswer xs answer = Posts xs answer
+
+-- of a reader that doesn't tell its bytes nothing is said
+abbrev pub Answers : Option (List ℕ) → Result (List ℕ) PostFault → Type 0
+Answers None answer = Unit {0}
+Answers (Some xs) answer = IsAnswer xs answer
+
+-- a failure is counted where it is the answer, and nowhere else
+abbrev pub CountsDevice : {A : Type 0} → ℕ → ℕ → Result A PostFault → Type 0
+CountsDevice old new (Err fault.Device) = new ≡ suc old
+CountsDevice old new answer = new ≡ old
+
+-- what is wrong with the bytes of a head that came
+abbrev pub IsHeadFault : List ℕ → PostFault → Type 0
+IsHeadFault buf fault.Head = NeverHasRequest buf
+IsHeadFault buf fault.HeadTooLarge = RequestExceeds line_limit buf
+IsHeadFault buf e = ⊥

@@ -1,0 +1,59 @@
+// Why a connection has no request to read.
+
+ghost use Rattle.std.specs.Prelude.{◌≡◌};
+ghost use Rattle.http_front.specs.Reply.{IsStatus};
+ghost use Rattle.http_front.specs.Faults.{status_of};
+
+use thiserror::Error;
+
+/// What is wrong, with the numbers P1 to P9 that are sent and logged, in the order in which they are
+/// found: P1, P6 and P7 while the head comes, then P2, P3, P4, P1 and P5 of a whole head, then P7.
+#[derive(Clone, Copy, Debug, PartialEq, Eq, Drop, Error)]
+pub enum PostFault {
+    /// No bytes can follow that make a head (RFC 9112, section 3); or a Content-Length is no number,
+    /// or two tell different numbers.
+    #[error("P1 Head")]
+    Head,
+    /// The target is not the one that is served.
+    #[error("P2 Path")]
+    Path,
+    /// The method is not POST.
+    #[error("P3 Method")]
+    Method,
+    /// No Content-Length, or a Transfer-Encoding.
+    #[error("P4 Length")]
+    Length,
+    /// A body of more than 1,048,576 bytes.
+    #[error("P5 TooLarge")]
+    TooLarge,
+    /// No whole head within 16,384 bytes, or more than 64 header lines.
+    #[error("P6 HeadTooLarge")]
+    HeadTooLarge,
+    /// The input ended before the head or the body did.
+    #[error("P7 Ended")]
+    Ended,
+    /// The reader failed.
+    #[error("P8 Device")]
+    Device,
+    /// Memory was refused.
+    #[error("P9 Memory")]
+    Memory,
+}
+
+impl PostFault {
+    /// The status of the reply. P7 and P8 get none: nobody waits for a reply.
+    pub fn status(self) -> Option<u16>
+        ensures { result ≡ status_of self }
+    {
+        match self {
+            PostFault::Head => Some(400),
+            PostFault::Path => Some(404),
+            PostFault::Method => Some(405),
+            PostFault::Length => Some(411),
+            PostFault::TooLarge => Some(413),
+            PostFault::HeadTooLarge => Some(431),
+            PostFault::Memory => Some(500),
+            PostFault::Ended | PostFault::Device => None,
+        }
+    }
+}

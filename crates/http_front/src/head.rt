@@ -1,0 +1,53 @@
+// What a whole head asks for, and how a head is read: as its bytes come, and no more of them than a
+// head may have.
+
+ghost use Rattle.std.specs.Prelude.{◌≡◌, ◌+◌, ◌-◌, ◌^◌, ◌<◌, ◌≤◌, length, take, IfOk, MatchOption, MatchResult};
+ghost use Rattle.std.specs.Io.KnownBytes.{IsAtEnd};
+ghost use Rattle.httparse.specs.Spans.{IsRequestOf, IsRequestWithin};
+ghost use Rattle.http_front.specs.Device.{CountsFailure, GainsBytes};
+ghost use Rattle.http_front.specs.Post.{IsBegun, IsHeadFault};
+
+use crate::counted::{Counted, Failed};
+use crate::fault::PostFault;
+use httparse::spans::{HeaderSpan, RequestSpans, parse_request};
+use httparse::{Error, Status};
+use std::io::Read;
+
+/// A head at the front of the bytes that were read so far.
+pub struct Found {
+    pub head: RequestSpans,
+    pub filled: usize,
+}
+
+// A whole head, or `None` where more bytes can make one.
+fn judge(buf: &[u8], headers: &mut [HeaderSpan]) -> Result<Option<RequestSpans>, PostFault>
+    requires { length headers.old ≡ 64 }
+    ensures room { length headers.new ≡ 64 }
+    ensures begun { IfOk result (λ o. MatchOption o (IsBegun buf.now) (λ r. IsRequestOf buf.now headers.new r)) }
+    ensures within { IfOk result (λ o. MatchOption o (Unit {0}) (λ r. IsRequestWithin buf.now headers.new r)) }
+    ensures refused { MatchResult result (λ o. Unit {0}) (λ e. IsHeadFault buf.now e) }
+{
+    match parse_request(buf, headers) {
+        Ok(Status::Complete(head)) => Ok(Some(head)),
+        Ok(Status::Partial) => Ok(None),
+        Err(Error::TooManyHeaders) => Err(PostFault::HeadTooLarge),
+        Err(_) => Err(PostFault::Head),
+    }
+}
+
+/// Reads some bytes behind the first ones.
+pub fn read_more<R: Read>(
+    reader: &mut Counted<R>,
+    buf: &mut [u8],
+    filled: usize,
+) -> Result<usize, Failed>
+    requires count { reader.old.failures < 2 ^ 64 - 1 }
+    requires room { filled < length buf.old }
+    ensures within { IfOk result (λ n. filled + n ≤ length buf.new) }
+    ensures end { IfOk result (λ n. n ≡ 0 → IsAtEnd (R.remaining reader.new.inner)) }
+    ensures bytes { GainsBytes (R.remaining reader.old.inner) (R.remaining reader.new.inner) (take filled buf.old) buf.new filled result }
+    ensures count { CountsFailure reader.old.failures reader.new.failures result }
+{
+    let gained = reader.read_some(&mut buf[filled..])?;
+    Ok(gained)
+}

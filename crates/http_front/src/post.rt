@@ -1,0 +1,1 @@
+// A request is read: its head, and then its body.

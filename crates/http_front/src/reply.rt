@@ -1,0 +1,1 @@
+// A reply is written.
