@@ -1,9 +1,9 @@
 // Why a connection has no request to read.
 
 ghost use Rattle.std.specs.Prelude.{◌≡◌};
-ghost use Rattle.http_front.specs.Reply.{IsStatus};
 ghost use Rattle.http_front.specs.Faults.{status_of};
 
+use crate::status::Status;
 use thiserror::Error;
 
 /// What is wrong, with the numbers P1 to P9 that are sent and logged, in the order in which they are
@@ -42,17 +42,17 @@ pub enum PostFault {
 
 impl PostFault {
     /// The status of the reply. P7 and P8 get none: nobody waits for a reply.
-    pub fn status(self) -> Option<u16>
+    pub fn status(self) -> Option<Status>
         ensures { result ≡ status_of self }
     {
         match self {
-            PostFault::Head => Some(400),
-            PostFault::Path => Some(404),
-            PostFault::Method => Some(405),
-            PostFault::Length => Some(411),
-            PostFault::TooLarge => Some(413),
-            PostFault::HeadTooLarge => Some(431),
-            PostFault::Memory => Some(500),
+            PostFault::Head => Some(Status::BadRequest),
+            PostFault::Path => Some(Status::NotFound),
+            PostFault::Method => Some(Status::MethodNotAllowed),
+            PostFault::Length => Some(Status::LengthRequired),
+            PostFault::TooLarge => Some(Status::ContentTooLarge),
+            PostFault::HeadTooLarge => Some(Status::HeaderFieldsTooLarge),
+            PostFault::Memory => Some(Status::InternalServerError),
             PostFault::Ended | PostFault::Device => None,
         }
     }

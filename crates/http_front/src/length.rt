@@ -2,7 +2,8 @@
 // significant digits, so that those of any length can be.
 
 ghost use Rattle.std.specs.Prelude.{◌≡◌, ℕ, ◌≤◌, List, length, map, take, All, IfOk, IfErr};
-ghost use Rattle.std.specs.List.{list_any};
+ghost use Rattle.std.specs.List.{list_any, list_all};
+ghost use Rattle.std.specs.Char.{is_ascii_digit};
 ghost use Rattle.httparse.specs.Spans.{header_bytes, IsHeaderWithin};
 ghost use Rattle.http_front.specs.Length.{is_decimal, significant, writes, number_within};
 ghost use Rattle.http_front.specs.Head.{is_named, has_line, values_of};
@@ -23,11 +24,18 @@ fn significant(mut text: &[u8]) -> &[u8]
     text
 }
 
+// Digits alone.
+fn has_only_digits(text: &[u8]) -> bool
+    ensures { result ≡ list_all is_ascii_digit text.now }
+{
+    text.iter().all(|c| c.is_ascii_digit())
+}
+
 // One or more digits.
 fn is_decimal(text: &[u8]) -> bool
     ensures { result ≡ is_decimal text.now }
 {
-    !text.is_empty() && text.iter().all(|c| c.is_ascii_digit())
+    0 < text.len() && has_only_digits(text)
 }
 
 // The number that the digits write, if a body may have as many bytes.
@@ -42,14 +50,4 @@ fn number_of(digits: &[u8]) -> Option<usize>
         }
     }
     Some(n)
-}
-
-// Whether a header line of the name is there; names are compared without regard to ASCII case.
-fn has_line(buf: &[u8], headers: &[HeaderSpan], name: &[u8]) -> bool
-    requires { All (IsHeaderWithin (length buf.now)) headers.now }
-    ensures { result ≡ has_line name.now (map (header_bytes buf.now) headers.now) }
-{
-    headers
-        .iter()
-        .any(|h| h.name.of(buf).eq_ignore_ascii_case(name))
 }

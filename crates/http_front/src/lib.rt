@@ -13,6 +13,9 @@ mod head;
 mod length;
 mod post;
 mod reply;
+mod status;
 
 pub use counted::{Counted, Failed, WriteFault};
 pub use fault::PostFault;
+pub use reply::write_reply;
+pub use status::Status;

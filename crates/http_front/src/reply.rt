@@ -1,1 +1,74 @@
-// A reply is written.
+// A reply is written: its head is put into a fixed buffer, since a reply has to be made where
+// memory is refused too, and goes out in one piece; then the body.
+
+ghost use Rattle.std.specs.Prelude.{◌≡◌, ◌+◌, ◌-◌, ◌^◌, ◌<◌, ◌≤◌, ◌++◌, length};
+ghost use Rattle.arrayvec.specs.ArrayVec.{array_vec_len};
+ghost use Rattle.http_front.specs.Device.{CountsFailure, WritesBeginning};
+ghost use Rattle.http_front.specs.Reply.{crlf, reply_head, reply_bytes};
+
+use crate::counted::{Counted, WriteFault};
+use crate::status::Status;
+use arrayvec::ArrayVec;
+use std::io::Write;
+
+/// More bytes than the head of any reply has.
+const HEAD_ROOM: usize = 256;
+
+// Puts the text behind what the head has.
+fn put(head: &mut ArrayVec<u8, HEAD_ROOM>, text: &[u8])
+    requires { array_vec_len head.old + length text.now ≤ 256 }
+    ensures items { head.new.items ≡ head.old.items ++ text.now }
+    ensures len { array_vec_len head.new ≡ array_vec_len head.old + length text.now }
+{
+    let _fits = head.try_extend_from_slice(text);
+}
+
+// Puts a line behind what the head has.
+fn put_line(head: &mut ArrayVec<u8, HEAD_ROOM>, name: &[u8], value: &[u8])
+    requires { array_vec_len head.old + (length name.now + length value.now + 2) ≤ 256 }
+    ensures items { head.new.items ≡ head.old.items ++ (name.now ++ value.now ++ crlf) }
+    ensures len { array_vec_len head.new ≡ array_vec_len head.old + (length name.now + length value.now + 2) }
+{
+    put(head, name);
+    put(head, value);
+    put(head, b"\r\n");
+}
+
+// The head of a reply with a body of so many bytes.
+fn head_of(status: Status, size: usize) -> ArrayVec<u8, HEAD_ROOM>
+    ensures { result.items ≡ reply_head status size }
+{
+    let mut head = ArrayVec::new();
+    let mut number = itoa::Buffer::new();
+    put(&mut head, b"HTTP/1.1 ");
+    put(&mut head, number.format(status.code()).as_bytes());
+    put_line(&mut head, b" ", status.reason());
+    put_line(&mut head, b"Content-Type: ", status.content_type());
+    let digits = number.format(size).as_bytes();
+    put_line(&mut head, b"Content-Length: ", digits);
+    put(&mut head, status.allow_line());
+    put_line(&mut head, b"Connection: ", b"close");
+    put(&mut head, b"\r\n");
+    head
+}
+
+/// Writes a whole reply, or its beginning up to the first failure; no memory is taken.
+pub fn write_reply<W: Write>(
+    writer: &mut Counted<W>,
+    status: Status,
+    body: &[u8],
+) -> Result<(), WriteFault>
+    requires { writer.old.failures < 2 ^ 64 - 1 }
+    ensures bytes { WritesBeginning (W.contents writer.old.inner) (W.contents writer.new.inner) (reply_bytes status body.now) result }
+    ensures count { CountsFailure writer.old.failures writer.new.failures result }
+{
+    let buffer = head_of(status, body.len());
+    let head = buffer.as_slice();
+    writer.write_whole(head)?;
+    match writer.write_whole(body) {
+        Ok(()) => Ok(()),
+        Err(fault) => Err(WriteFault {
+            written: head.len() + fault.written,
+        }),
+    }
+}

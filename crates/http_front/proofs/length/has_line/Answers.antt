@@ -1,4 +1,0 @@
-use Rattle.http_front.proofs.length.has_line.Goals as goal
-
-pub returns : goal.returns
-returns c = ?
