@@ -39,3 +39,11 @@ asked target method lines =
 
 abbrev pub asked_by : RequestHead → Result ℕ PostFault
 asked_by h = asked h.target h.method (map name_and_value h.fields)
+
+-- the faults that a whole head may have
+abbrev pub IsRule : PostFault → Type 0
+IsRule fault.HeadTooLarge = ⊥
+IsRule fault.Ended = ⊥
+IsRule fault.Device = ⊥
+IsRule fault.Memory = ⊥
+IsRule e = Unit {0}

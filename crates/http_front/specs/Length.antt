@@ -40,6 +40,10 @@ within_limit n = if nat_le n body_limit then Some n else None
 abbrev pub number_within : List ℕ → Option ℕ
 number_within digits = within_limit (number_after 0 digits)
 
+abbrev pub first_of : List (List ℕ) → Option (List ℕ)
+first_of [] = None
+first_of (v ∷ vs) = Some v
+
 -- the values may tell one number several times, but not two; a list of numbers isn't one
 abbrev pub told_length : List (List ℕ) → Result ℕ PostFault
 told_length [] = Err fault.Length

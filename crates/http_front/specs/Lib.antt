@@ -4,3 +4,4 @@ pub mod Length
 pub mod Head
 pub mod Faults
 pub mod Post
+pub mod Reading

@@ -3,7 +3,7 @@
 -- A head is judged as its bytes come, and at most 16,384 of them, so `take k xs` is what was judged.
 -- Where httparse leaves two answers right, so does this relation, and nowhere else: a head of more
 -- than 64 header lines that is malformed or cut short, and a target that isn't UTF-8 and is cut short.
-use Rattle.std.specs.Prelude.{◌≡◌, ℕ, suc, ◌<◌, ◌≤◌, List, length, take, Option, Some, None, Result, Ok, Err}
+use Rattle.std.specs.Prelude.{◌≡◌, ℕ, ◌+◌, ◌<◌, ◌≤◌, List, length, take, Option, Some, None, Result, Ok, Err}
 use Rattle.httparse.specs.Grammar.{RequestHead, ReadsRequest, print_request, HasNoRequest, NeverHasRequest, MayBecomeRequest}
 use Rattle.httparse.specs.Spans.{RequestExceeds}
 use Rattle.http_front.specs.declared.fault.PostFault.{PostFault}
@@ -59,7 +59,7 @@ Answers (Some xs) answer = IsAnswer xs answer
 
 -- a failure is counted where it is the answer, and nowhere else
 abbrev pub CountsDevice : {A : Type 0} → ℕ → ℕ → Result A PostFault → Type 0
-CountsDevice old new (Err fault.Device) = new ≡ suc old
+CountsDevice old new (Err fault.Device) = new ≡ old + 1
 CountsDevice old new answer = new ≡ old
 
 -- what is wrong with the bytes of a head that came

@@ -1,11 +1,11 @@
-// What a whole head asks for, and how a head is read: as its bytes come, and no more of them than a
-// head may have.
+// How a head is read: as its bytes come, and no more of them than a head may have.
 
-ghost use Rattle.std.specs.Prelude.{◌≡◌, ◌+◌, ◌-◌, ◌^◌, ◌<◌, ◌≤◌, length, take, IfOk, MatchOption, MatchResult};
+ghost use Rattle.std.specs.Prelude.{◌≡◌, ◌+◌, ◌-◌, ◌^◌, ◌<◌, ◌≤◌, length, take, Err, IfOk, IfErr, MatchOption, MatchResult};
 ghost use Rattle.std.specs.Io.KnownBytes.{IsAtEnd};
 ghost use Rattle.httparse.specs.Spans.{IsRequestOf, IsRequestWithin};
 ghost use Rattle.http_front.specs.Device.{CountsFailure, GainsBytes};
-ghost use Rattle.http_front.specs.Post.{IsBegun, IsHeadFault};
+ghost use Rattle.http_front.specs.Post.{IsBegun, IsHeadFault, Answers, CountsDevice};
+ghost use Rattle.http_front.specs.Reading.{IsFound};
 
 use crate::counted::{Counted, Failed};
 use crate::fault::PostFault;
@@ -14,6 +14,7 @@ use httparse::{Error, Status};
 use std::io::Read;
 
 /// A head at the front of the bytes that were read so far.
+#[derive(Clone, Copy, Drop)]
 pub struct Found {
     pub head: RequestSpans,
     pub filled: usize,
@@ -50,4 +51,35 @@ pub fn read_more<R: Read>(
 {
     let gained = reader.read_some(&mut buf[filled..])?;
     Ok(gained)
+}
+
+/// Reads until a whole head is there, or a fault.
+pub fn read_head<R: Read>(
+    reader: &mut Counted<R>,
+    buf: &mut [u8],
+    headers: &mut [HeaderSpan],
+) -> Result<Found, PostFault>
+    requires count { reader.old.failures < 2 ^ 64 - 1 }
+    requires room { length buf.old ≡ 16384 }
+    requires lines { length headers.old ≡ 64 }
+    ensures found { IfOk result (IsFound (R.remaining reader.old.inner) (R.remaining reader.new.inner) buf.new headers.new) }
+    ensures refused { IfErr result (λ e. Answers (R.remaining reader.old.inner) (Err e)) }
+    ensures count { CountsDevice reader.old.failures reader.new.failures result }
+{
+    let mut filled = 0;
+    'reading: loop {
+        match judge(&buf[..filled], headers) {
+            Err(fault) => return Err(fault),
+            Ok(Some(head)) => return Ok(Found { head, filled }),
+            Ok(None) => {}
+        }
+        if filled == buf.len() {
+            return Err(PostFault::HeadTooLarge);
+        }
+        match read_more(reader, buf, filled) {
+            Err(_) => return Err(PostFault::Device),
+            Ok(0) => return Err(PostFault::Ended),
+            Ok(gained) => filled += gained,
+        }
+    }
 }

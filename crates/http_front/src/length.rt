@@ -1,21 +1,16 @@
-// The length of a body, from the header lines that tell it. Numbers are compared by their
-// significant digits, so that those of any length can be.
+// The length of a body, from the values that tell it. Numbers are compared by their significant
+// digits, so that those of any length can be.
 
-ghost use Rattle.std.specs.Prelude.{◌≡◌, ℕ, ◌≤◌, List, length, map, take, All, IfOk, IfErr};
-ghost use Rattle.std.specs.List.{list_any, list_all};
+ghost use Rattle.std.specs.Prelude.{◌≡◌};
+ghost use Rattle.std.specs.List.{list_all};
 ghost use Rattle.std.specs.Char.{is_ascii_digit};
-ghost use Rattle.httparse.specs.Spans.{header_bytes, IsHeaderWithin};
 ghost use Rattle.http_front.specs.Length.{is_decimal, significant, writes, number_within};
-ghost use Rattle.http_front.specs.Head.{is_named, has_line, values_of};
-
-use crate::fault::PostFault;
-use httparse::spans::HeaderSpan;
 
 /// The most bytes that a body may have.
 const BODY_LIMIT: usize = 1_048_576;
 
-// The digits from the first on that isn't 0.
-fn significant(mut text: &[u8]) -> &[u8]
+/// The digits from the first on that isn't 0.
+pub fn significant(mut text: &[u8]) -> &[u8]
     ensures { result.now ≡ significant text.now }
 {
     while let [b'0', rest @ ..] = text {
@@ -38,8 +33,15 @@ fn is_decimal(text: &[u8]) -> bool
     0 < text.len() && has_only_digits(text)
 }
 
-// The number that the digits write, if a body may have as many bytes.
-fn number_of(digits: &[u8]) -> Option<usize>
+/// Whether the text writes the number whose significant digits these are.
+pub fn writes(digits: &[u8], text: &[u8]) -> bool
+    ensures { result ≡ writes digits.now text.now }
+{
+    is_decimal(text) && significant(text) == digits
+}
+
+/// The number that the digits write, if a body may have as many bytes.
+pub fn number_of(digits: &[u8]) -> Option<usize>
     ensures { result ≡ number_within digits.now }
 {
     let mut n = 0;

@@ -7,15 +7,21 @@
 //! method and the length looked at, in this order, and room is made for the body, once.
 #![tactic(auto)]
 
+mod asked;
+mod body;
 mod counted;
+mod fail_at;
 mod fault;
 mod head;
 mod length;
+mod lines;
 mod post;
 mod reply;
 mod status;
 
 pub use counted::{Counted, Failed, WriteFault};
+pub use fail_at::FailAt;
 pub use fault::PostFault;
+pub use post::read_post;
 pub use reply::write_reply;
 pub use status::Status;

@@ -1,0 +1,44 @@
+-- What stands in a buffer while a request is read, and what a whole head in it asks for.
+use Rattle.std.specs.Prelude.{◌≡◌, ℕ, ◌<◌, ◌≤◌, List, length, map, take, Option, Some, None, Result, Ok, Err}
+use Rattle.std.specs.Io.KnownBytes.{Consumes}
+use Rattle.httparse.specs.declared.spans.HeaderSpan.{HeaderSpan}
+use Rattle.httparse.specs.declared.spans.RequestSpans.{RequestSpans}
+use Rattle.httparse.specs.Spans.{span_bytes, header_bytes, IsRequestOf, IsRequestWithin}
+use Rattle.http_front.specs.declared.fault.PostFault.{PostFault}
+use Rattle.http_front.specs.declared.fault.PostFault.TheVariants as fault
+use Rattle.http_front.specs.declared.head.Found.{Found}
+use Rattle.http_front.specs.Head.{asked}
+
+-- the bytes that a reader gave are the first ones of the buffer
+pub record IsFilled (old new : Option (List ℕ)) (buf : List ℕ) (filled : ℕ) : Type 0 where
+  pub fits : filled ≤ length buf
+  pub bytes : Consumes old new (take filled buf)
+
+-- a whole head stands in the part of the buffer that is filled
+pub record IsFound
+    (old new : Option (List ℕ)) (buf : List ℕ) (headers : List HeaderSpan) (f : Found) : Type 0 where
+  pub filled : IsFilled old new buf f.filled
+  pub head : IsRequestOf (take f.filled buf) headers f.head
+  pub within : IsRequestWithin (take f.filled buf) headers f.head
+
+-- what the head whose parts the spans cover asks for
+abbrev pub asked_at : List ℕ → List HeaderSpan → RequestSpans → Result ℕ PostFault
+asked_at buf headers r =
+    asked (span_bytes buf r.path) (span_bytes buf r.method) (map (header_bytes buf) (take r.headers headers))
+
+-- the first n of these bytes, or they end before
+abbrev pub IsBody : List ℕ → ℕ → Result (List ℕ) PostFault → Type 0
+IsBody rest n (Ok body) = (n ≤ length rest) × (body ≡ take n rest)
+IsBody rest n (Err fault.Ended) = length rest < n
+IsBody rest n (Err fault.Device) = Unit {0}
+IsBody rest n (Err fault.Memory) = Unit {0}
+IsBody rest n (Err e) = ⊥
+
+-- of a reader that doesn't tell its bytes nothing is said
+abbrev pub IsBodyOf : Option (List ℕ) → ℕ → Result (List ℕ) PostFault → Type 0
+IsBodyOf None n r = Unit {0}
+IsBodyOf (Some rest) n r = IsBody rest n r
+
+-- the body that follows whatever was there before
+abbrev pub FillsBody : Option (List ℕ) → List ℕ → ℕ → Result (List ℕ) PostFault → Type 0
+FillsBody old buf filled r = (all : Option (List ℕ)) → IsFilled all old buf filled → IsBodyOf all (length buf) r

@@ -1,0 +1,36 @@
+// What a whole head asks for.
+
+ghost use Rattle.std.specs.Prelude.{◌≡◌, length, IfErr};
+ghost use Rattle.httparse.specs.Spans.{IsRequestWithin};
+ghost use Rattle.http_front.specs.Head.{is_served, IsRule};
+ghost use Rattle.http_front.specs.Reading.{asked_at};
+
+use crate::fault::PostFault;
+use crate::lines::{has_line, told_length};
+use httparse::spans::{HeaderSpan, RequestSpans};
+
+// Whether the target is the one that is served, alone or with a query behind it.
+fn is_served(target: &[u8]) -> bool
+    ensures { result ≡ is_served target.now }
+{
+    target == b"/service/update2/json".as_slice() || target.starts_with(b"/service/update2/json?")
+}
+
+/// The length of the body, or the first rule that the head breaks.
+pub fn asked(buf: &[u8], headers: &[HeaderSpan], head: RequestSpans) -> Result<usize, PostFault>
+    requires { IsRequestWithin buf.now headers.now head }
+    ensures length { result ≡ asked_at buf.now headers.now head }
+    ensures rule { IfErr result IsRule }
+{
+    if !is_served(head.path.of(buf)) {
+        return Err(PostFault::Path);
+    }
+    if head.method.of(buf) != b"POST".as_slice() {
+        return Err(PostFault::Method);
+    }
+    let lines = &headers[..head.headers];
+    if has_line(buf, lines, b"transfer-encoding") {
+        return Err(PostFault::Length);
+    }
+    told_length(buf, lines, b"content-length")
+}
