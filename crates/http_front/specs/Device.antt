@@ -9,12 +9,16 @@ CountsFailure old new (Ok a) = new ≡ old
 CountsFailure old new (Err e) = new ≡ old + 1
 
 -- all bytes were taken, or as many as the fault says, from their beginning on
-abbrev pub WritesBeginning : {A : Type 0} → Option (List ℕ) → Option (List ℕ) → List ℕ → Result A WriteFault → Type 0
+abbrev pub WritesBeginning :
+    {A : Type 0} → Option (List ℕ) → Option (List ℕ) → List ℕ → Result A WriteFault → Type 0
 WritesBeginning old new bytes (Ok a) = Appends old new bytes
-WritesBeginning old new bytes (Err e) = (e.written ≤ length bytes) × Appends old new (take e.written bytes)
+WritesBeginning old new bytes (Err e) =
+    (e.written ≤ length bytes) × Appends old new (take e.written bytes)
 
 -- some bytes came behind the first ones of a buffer
-abbrev pub GainsBytes : {E : Type 0} → Option (List ℕ) → Option (List ℕ) → List ℕ → List ℕ → ℕ → Result ℕ E → Type 0
+abbrev pub GainsBytes :
+    {E : Type 0} → Option (List ℕ) → Option (List ℕ) → List ℕ → List ℕ → ℕ → Result ℕ E → Type 0
 GainsBytes old new first buf filled (Ok n) =
-    (gained : List ℕ) × Consumes old new gained × (length gained ≡ n) × (take (filled + n) buf ≡ first ++ gained)
+    (gained : List ℕ) × Consumes old new gained × (length gained ≡ n)
+    × (take (filled + n) buf ≡ first ++ gained)
 GainsBytes old new first buf filled (Err e) = Keeps old new

@@ -1,5 +1,6 @@
 -- What a whole head asks for: one target is served, by POST, with a body of a length that is told.
-use Rattle.std.specs.Prelude.{ℕ, List, ◌++◌, map, filter, codes, nat_eq, Result, Err, Bool, not, ◌||◌, if◌then◌else◌}
+use Rattle.std.specs.Prelude.{ℕ, List, ◌++◌, map, filter, codes, nat_eq}
+use Rattle.std.specs.Prelude.{Result, Err, Bool, not, ◌||◌, if◌then◌else◌}
 use Rattle.std.specs.List.{starts_with, list_any}
 use Rattle.std.specs.Str.{bytes_eq, str_eq_ignore_ascii_case}
 use Rattle.httparse.specs.Grammar.{RequestHead}

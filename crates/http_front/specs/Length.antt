@@ -1,5 +1,6 @@
 -- The length of a body, as the values of Content-Length tell it (RFC 9110, section 8.6).
-use Rattle.std.specs.Prelude.{ℕ, ◌+◌, ◌-◌, ◌*◌, List, [], ◌∷◌, length, Option, Some, None, Result, Ok, Err, Bool, ◌&&◌, ◌==◌, nat_lt, nat_le, if◌then◌else◌}
+use Rattle.std.specs.Prelude.{ℕ, ◌+◌, ◌-◌, ◌*◌, List, [], ◌∷◌, length, Option, Some, None}
+use Rattle.std.specs.Prelude.{Result, Ok, Err, Bool, ◌&&◌, ◌==◌, nat_lt, nat_le, if◌then◌else◌}
 use Rattle.std.specs.Char.{is_ascii_digit}
 use Rattle.std.specs.List.{list_all}
 use Rattle.std.specs.Str.{bytes_eq, byte}
@@ -10,7 +11,8 @@ use Rattle.http_front.specs.declared.fault.PostFault.TheVariants as fault
 abbrev pub is_decimal : List ℕ → Bool
 is_decimal text = nat_lt 0 (length text) && list_all is_ascii_digit text
 
--- the digits from the first on that isn't 0: two texts of digits write one number where these are equal
+-- the digits from the first on that isn't 0: two texts of digits write one number where these are
+-- equal
 abbrev pub significant : List ℕ → List ℕ
 significant [] = []
 significant (c ∷ cs) = if c == byte "0" then significant cs else c ∷ cs
@@ -48,5 +50,5 @@ first_of (v ∷ vs) = Some v
 abbrev pub told_length : List (List ℕ) → Result ℕ PostFault
 told_length [] = Err fault.Length
 told_length (v ∷ vs) =
-    if list_all (writes (significant v)) (v ∷ vs) then ok_or fault.TooLarge (number_within (significant v))
-    else Err fault.Head
+    if list_all (writes (significant v)) (v ∷ vs)
+    then ok_or fault.TooLarge (number_within (significant v)) else Err fault.Head

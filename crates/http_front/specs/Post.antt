@@ -1,10 +1,13 @@
 -- Which answer a reader's bytes have: a body, or why there is none.
 --
--- A head is judged as its bytes come, and at most 16,384 of them, so `take k xs` is what was judged.
--- Where httparse leaves two answers right, so does this relation, and nowhere else: a head of more
--- than 64 header lines that is malformed or cut short, and a target that isn't UTF-8 and is cut short.
-use Rattle.std.specs.Prelude.{◌≡◌, ℕ, ◌+◌, ◌<◌, ◌≤◌, List, length, take, Option, Some, None, Result, Ok, Err}
-use Rattle.httparse.specs.Grammar.{RequestHead, ReadsRequest, print_request, HasNoRequest, NeverHasRequest, MayBecomeRequest}
+-- A head is judged as its bytes come, and at most 16,384 of them, so `take k xs` is what was
+-- judged. Where httparse leaves two answers right, so does this relation, and nowhere else: a head
+-- of more than 64 header lines that is malformed or cut short, and a target that isn't UTF-8 and is
+-- cut short.
+use Rattle.std.specs.Prelude.{◌≡◌, ℕ, ◌+◌, ◌<◌, ◌≤◌, List, length, take}
+use Rattle.std.specs.Prelude.{Option, Some, None, Result, Ok, Err}
+use Rattle.httparse.specs.Grammar.{RequestHead, ReadsRequest, print_request}
+use Rattle.httparse.specs.Grammar.{HasNoRequest, NeverHasRequest, MayBecomeRequest}
 use Rattle.httparse.specs.Spans.{RequestExceeds}
 use Rattle.http_front.specs.declared.fault.PostFault.{PostFault}
 use Rattle.http_front.specs.declared.fault.PostFault.TheVariants as fault
@@ -42,7 +45,8 @@ pub data Posts (xs : List ℕ) : Result (List ℕ) PostFault → Type 0 where
   -- 16,384 bytes, and still no head
   long : head_limit ≤ length xs → IsBegun (take head_limit xs) → Posts xs (Err fault.HeadTooLarge)
   -- the 65th header line
-  many : (k : ℕ) → k ≤ head_limit → RequestExceeds line_limit (take k xs) → Posts xs (Err fault.HeadTooLarge)
+  many : (k : ℕ) → k ≤ head_limit → RequestExceeds line_limit (take k xs)
+      → Posts xs (Err fault.HeadTooLarge)
   -- the input ends before the head does
   ended : length xs < head_limit → IsBegun xs → Posts xs (Err fault.Ended)
 

@@ -1,13 +1,14 @@
 -- What stands in a buffer while a request is read, and what a whole head in it asks for.
-use Rattle.std.specs.Prelude.{◌≡◌, ℕ, ◌<◌, ◌≤◌, List, length, map, take, Option, Some, None, Result, Ok, Err}
-use Rattle.std.specs.Io.KnownBytes.{Consumes}
+use Rattle.std.specs.Prelude.{◌≡◌, ℕ, ◌<◌, ◌≤◌, List, length, map, take}
+use Rattle.std.specs.Prelude.{Option, Some, None, Result, Ok, Err}
+use Rattle.std.specs.Io.KnownBytes.{Consumes, prepend_known}
 use Rattle.httparse.specs.declared.spans.HeaderSpan.{HeaderSpan}
 use Rattle.httparse.specs.declared.spans.RequestSpans.{RequestSpans}
 use Rattle.httparse.specs.Spans.{span_bytes, header_bytes, IsRequestOf, IsRequestWithin}
 use Rattle.http_front.specs.declared.fault.PostFault.{PostFault}
 use Rattle.http_front.specs.declared.fault.PostFault.TheVariants as fault
 use Rattle.http_front.specs.declared.head.Found.{Found}
-use Rattle.http_front.specs.Head.{asked}
+use Rattle.http_front.specs.Head.{asked, values_of}
 
 -- the bytes that a reader gave are the first ones of the buffer
 pub record IsFilled (old new : Option (List ℕ)) (buf : List ℕ) (filled : ℕ) : Type 0 where
@@ -16,15 +17,21 @@ pub record IsFilled (old new : Option (List ℕ)) (buf : List ℕ) (filled : ℕ
 
 -- a whole head stands in the part of the buffer that is filled
 pub record IsFound
-    (old new : Option (List ℕ)) (buf : List ℕ) (headers : List HeaderSpan) (f : Found) : Type 0 where
+    (old new : Option (List ℕ)) (buf : List ℕ) (headers : List HeaderSpan) (f : Found)
+    : Type 0 where
   pub filled : IsFilled old new buf f.filled
   pub head : IsRequestOf (take f.filled buf) headers f.head
   pub within : IsRequestWithin (take f.filled buf) headers f.head
 
+-- the values of a name among the header lines that the spans cover
+abbrev pub values_at : List ℕ → List HeaderSpan → List ℕ → List (List ℕ)
+values_at buf headers name = values_of name (map (header_bytes buf) headers)
+
 -- what the head whose parts the spans cover asks for
 abbrev pub asked_at : List ℕ → List HeaderSpan → RequestSpans → Result ℕ PostFault
 asked_at buf headers r =
-    asked (span_bytes buf r.path) (span_bytes buf r.method) (map (header_bytes buf) (take r.headers headers))
+    asked (span_bytes buf r.path) (span_bytes buf r.method)
+    (map (header_bytes buf) (take r.headers headers))
 
 -- the first n of these bytes, or they end before
 abbrev pub IsBody : List ℕ → ℕ → Result (List ℕ) PostFault → Type 0
@@ -41,4 +48,9 @@ IsBodyOf (Some rest) n r = IsBody rest n r
 
 -- the body that follows whatever was there before
 abbrev pub FillsBody : Option (List ℕ) → List ℕ → ℕ → Result (List ℕ) PostFault → Type 0
-FillsBody old buf filled r = (all : Option (List ℕ)) → IsFilled all old buf filled → IsBodyOf all (length buf) r
+FillsBody old buf filled r =
+    (all : Option (List ℕ)) → IsFilled all old buf filled → IsBodyOf all (length buf) r
+
+-- the body whose first bytes came with the head
+abbrev pub IsBodyBehind : List ℕ → Option (List ℕ) → ℕ → Result (List ℕ) PostFault → Type 0
+IsBodyBehind first old n r = IsBodyOf (prepend_known first old) n r

@@ -1,9 +1,9 @@
 // The body is read: into room that is taken once, as much as the head's length says.
 
-ghost use Rattle.std.specs.Prelude.{◌≡◌, ◌+◌, ◌-◌, ◌^◌, ◌<◌, ◌≤◌, ◌++◌, length, drop, Ok, Err, OnOk, IfOk, IfErr};
-ghost use Rattle.std.specs.Io.KnownBytes.{prepend_known};
+ghost use Rattle.std.specs.Prelude.{◌≡◌, ◌+◌, ◌-◌, ◌^◌, ◌<◌, ◌≤◌, ◌++◌, length, drop};
+ghost use Rattle.std.specs.Prelude.{Ok, Err, OnOk, IfOk, IfErr};
 ghost use Rattle.http_front.specs.Post.{CountsDevice};
-ghost use Rattle.http_front.specs.Reading.{IsBodyOf, FillsBody};
+ghost use Rattle.http_front.specs.Reading.{IsBodyBehind, FillsBody};
 
 use crate::counted::Counted;
 use crate::fault::PostFault;
@@ -19,15 +19,13 @@ pub fn room_for(alloc: Global, size: usize) -> Result<Vec<u8>, AllocError>
 }
 
 // Reads until the body is whole; its first bytes stand there already.
-fn fill<R: Read>(
-    reader: &mut Counted<R>,
-    body: &mut [u8],
-    known: usize,
-) -> Result<(), PostFault>
+fn fill<R: Read>(reader: &mut Counted<R>, body: &mut [u8], known: usize) -> Result<(), PostFault>
     requires count { reader.old.failures < 2 ^ 64 - 1 }
     requires room { known ≤ length body.old }
-    ensures whole { OnOk result (FillsBody (R.remaining reader.old.inner) body.old known (Ok body.new)) }
-    ensures refused { IfErr result (λ e. FillsBody (R.remaining reader.old.inner) body.old known (Err e)) }
+    ensures whole { OnOk result
+        (FillsBody (R.remaining reader.old.inner) body.old known (Ok body.new)) }
+    ensures refused { IfErr result
+        (λ e. FillsBody (R.remaining reader.old.inner) body.old known (Err e)) }
     ensures count { CountsDevice reader.old.failures reader.new.failures result }
 {
     let mut filled = known;
@@ -57,8 +55,10 @@ pub fn read_body<R: Read>(
     size: usize,
 ) -> Result<Vec<u8>, PostFault>
     requires { reader.old.failures < 2 ^ 64 - 1 }
-    ensures body { IfOk result (λ v. IsBodyOf (prepend_known first.now (R.remaining reader.old.inner)) size (Ok v.items)) }
-    ensures refused { IfErr result (λ e. IsBodyOf (prepend_known first.now (R.remaining reader.old.inner)) size (Err e)) }
+    ensures body { IfOk result
+        (λ v. IsBodyBehind first.now (R.remaining reader.old.inner) size (Ok v.items)) }
+    ensures refused { IfErr result
+        (λ e. IsBodyBehind first.now (R.remaining reader.old.inner) size (Err e)) }
     ensures count { CountsDevice reader.old.failures reader.new.failures result }
 {
     if size <= first.len() {

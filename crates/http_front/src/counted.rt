@@ -53,7 +53,8 @@ impl<R: Read> Counted<R> {
     pub fn read_some(&mut self, buf: &mut [u8]) -> Result<usize, Failed>
         requires { self.old.failures < 2 ^ 64 - 1 }
         ensures within { MatchResult result (λ n. n ≤ length buf.new) (λ _. Unit {0}) }
-        ensures bytes { ReadConsumes (R.remaining self.old.inner) (R.remaining self.new.inner) result buf.new }
+        ensures bytes { ReadConsumes
+            (R.remaining self.old.inner) (R.remaining self.new.inner) result buf.new }
         ensures count { CountsFailure self.old.failures self.new.failures result }
     {
         match self.inner.read(buf) {
@@ -67,11 +68,12 @@ impl<R: Read> Counted<R> {
 }
 
 impl<W: Write> Counted<W> {
-    /// Writes all bytes, or those before the first failure. After a write that took a part of them it
-    /// goes on behind that part.
+    /// Writes all bytes, or those before the first failure. After a write that took a part of
+    /// them it goes on behind that part.
     pub fn write_whole(&mut self, bytes: &[u8]) -> Result<(), WriteFault>
         requires { self.old.failures < 2 ^ 64 - 1 }
-        ensures bytes { WritesBeginning (W.contents self.old.inner) (W.contents self.new.inner) bytes.now result }
+        ensures bytes { WritesBeginning
+            (W.contents self.old.inner) (W.contents self.new.inner) bytes.now result }
         ensures count { CountsFailure self.old.failures self.new.failures result }
     {
         let mut written = 0;

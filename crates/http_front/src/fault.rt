@@ -6,12 +6,12 @@ ghost use Rattle.http_front.specs.Faults.{status_of};
 use crate::status::Status;
 use thiserror::Error;
 
-/// What is wrong, with the numbers P1 to P9 that are sent and logged, in the order in which they are
-/// found: P1, P6 and P7 while the head comes, then P2, P3, P4, P1 and P5 of a whole head, then P7.
+/// What is wrong, with the numbers P1 to P9 that are sent and logged. They are found in this order:
+/// P1, P6 and P7 while the head comes, then P2, P3, P4, P1 and P5 of a whole head, then P7.
 #[derive(Clone, Copy, Debug, PartialEq, Eq, Drop, Error)]
 pub enum PostFault {
-    /// No bytes can follow that make a head (RFC 9112, section 3); or a Content-Length is no number,
-    /// or two tell different numbers.
+    /// No bytes can follow that make a head (RFC 9112, sections 2 to 5); or a Content-Length is no
+    /// number, or two tell different numbers.
     #[error("P1 Head")]
     Head,
     /// The target is not the one that is served.

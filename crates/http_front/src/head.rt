@@ -1,6 +1,7 @@
 // How a head is read: as its bytes come, and no more of them than a head may have.
 
-ghost use Rattle.std.specs.Prelude.{◌≡◌, ◌+◌, ◌-◌, ◌^◌, ◌<◌, ◌≤◌, length, take, Err, IfOk, IfErr, MatchOption, MatchResult};
+ghost use Rattle.std.specs.Prelude.{◌≡◌, ◌+◌, ◌-◌, ◌^◌, ◌<◌, ◌≤◌, length, take};
+ghost use Rattle.std.specs.Prelude.{Err, IfOk, IfErr, MatchOption};
 ghost use Rattle.std.specs.Io.KnownBytes.{IsAtEnd};
 ghost use Rattle.httparse.specs.Spans.{IsRequestOf, IsRequestWithin};
 ghost use Rattle.http_front.specs.Device.{CountsFailure, GainsBytes};
@@ -24,9 +25,11 @@ pub struct Found {
 fn judge(buf: &[u8], headers: &mut [HeaderSpan]) -> Result<Option<RequestSpans>, PostFault>
     requires { length headers.old ≡ 64 }
     ensures room { length headers.new ≡ 64 }
-    ensures begun { IfOk result (λ o. MatchOption o (IsBegun buf.now) (λ r. IsRequestOf buf.now headers.new r)) }
-    ensures within { IfOk result (λ o. MatchOption o (Unit {0}) (λ r. IsRequestWithin buf.now headers.new r)) }
-    ensures refused { MatchResult result (λ o. Unit {0}) (λ e. IsHeadFault buf.now e) }
+    ensures begun { IfOk result
+        (λ o. MatchOption o (IsBegun buf.now) (IsRequestOf buf.now headers.new)) }
+    ensures within { IfOk result
+        (λ o. MatchOption o (Unit {0}) (IsRequestWithin buf.now headers.new)) }
+    ensures refused { IfErr result (IsHeadFault buf.now) }
 {
     match parse_request(buf, headers) {
         Ok(Status::Complete(head)) => Ok(Some(head)),
@@ -46,7 +49,8 @@ pub fn read_more<R: Read>(
     requires room { filled < length buf.old }
     ensures within { IfOk result (λ n. filled + n ≤ length buf.new) }
     ensures end { IfOk result (λ n. n ≡ 0 → IsAtEnd (R.remaining reader.new.inner)) }
-    ensures bytes { GainsBytes (R.remaining reader.old.inner) (R.remaining reader.new.inner) (take filled buf.old) buf.new filled result }
+    ensures bytes { GainsBytes (R.remaining reader.old.inner) (R.remaining reader.new.inner)
+        (take filled buf.old) buf.new filled result }
     ensures count { CountsFailure reader.old.failures reader.new.failures result }
 {
     let gained = reader.read_some(&mut buf[filled..])?;
@@ -62,7 +66,8 @@ pub fn read_head<R: Read>(
     requires count { reader.old.failures < 2 ^ 64 - 1 }
     requires room { length buf.old ≡ 16384 }
     requires lines { length headers.old ≡ 64 }
-    ensures found { IfOk result (IsFound (R.remaining reader.old.inner) (R.remaining reader.new.inner) buf.new headers.new) }
+    ensures found { IfOk result (IsFound
+        (R.remaining reader.old.inner) (R.remaining reader.new.inner) buf.new headers.new) }
     ensures refused { IfErr result (λ e. Answers (R.remaining reader.old.inner) (Err e)) }
     ensures count { CountsDevice reader.old.failures reader.new.failures result }
 {

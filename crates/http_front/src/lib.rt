@@ -2,9 +2,9 @@
 //! HTTP/1.1 (RFC 9112), one request a connection.
 //!
 //! A head is what the crate `httparse` takes as one: lines may end in LF alone, and empty lines may
-//! come first. It is judged as its bytes come, so that a client hears of a malformed head as soon as
-//! no bytes can mend it, and never more is read than a head may have. Only then are the target, the
-//! method and the length looked at, in this order, and room is made for the body, once.
+//! come first. It is judged as its bytes come, so that a client hears of a malformed head as soon
+//! as no bytes can mend it, and never more is read than a head may have. Only then are the target,
+//! the method and the length looked at, in this order, and room is made for the body, once.
 #![tactic(auto)]
 
 mod asked;
@@ -25,3 +25,6 @@ pub use fault::PostFault;
 pub use post::read_post;
 pub use reply::write_reply;
 pub use status::Status;
+
+#[cfg(test)]
+mod tests;

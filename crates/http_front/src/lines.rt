@@ -4,7 +4,8 @@ ghost use Rattle.std.specs.Prelude.{◌≡◌, ℕ, ◌≤◌, List, length, map
 ghost use Rattle.std.specs.List.{list_all};
 ghost use Rattle.httparse.specs.Spans.{header_bytes, IsHeaderWithin};
 ghost use Rattle.http_front.specs.Length.{writes, first_of, told_length};
-ghost use Rattle.http_front.specs.Head.{is_named, has_line, values_of, IsRule};
+ghost use Rattle.http_front.specs.Head.{is_named, has_line, IsRule};
+ghost use Rattle.http_front.specs.Reading.{values_at};
 
 use crate::fault::PostFault;
 use crate::length::{number_of, significant, writes};
@@ -35,7 +36,7 @@ pub fn has_line(buf: &[u8], mut lines: &[HeaderSpan], name: &[u8]) -> bool
 // The value of the first line that has the name.
 fn first_value<'b>(buf: &'b [u8], mut lines: &[HeaderSpan], name: &[u8]) -> Option<&'b [u8]>
     requires { All (IsHeaderWithin (length buf.now)) lines.now }
-    ensures { option_copied result ≡ first_of (values_of name.now (map (header_bytes buf.now) lines.now)) }
+    ensures { option_copied result ≡ first_of (values_at buf.now lines.now name.now) }
 {
     while let [line, rest @ ..] = lines {
         if is_named(buf, line, name) {
@@ -49,7 +50,7 @@ fn first_value<'b>(buf: &'b [u8], mut lines: &[HeaderSpan], name: &[u8]) -> Opti
 // Whether the value of each line that has the name writes the number with these digits.
 fn all_write(buf: &[u8], mut lines: &[HeaderSpan], name: &[u8], digits: &[u8]) -> bool
     requires { All (IsHeaderWithin (length buf.now)) lines.now }
-    ensures { result ≡ list_all (writes digits.now) (values_of name.now (map (header_bytes buf.now) lines.now)) }
+    ensures { result ≡ list_all (writes digits.now) (values_at buf.now lines.now name.now) }
 {
     while let [line, rest @ ..] = lines {
         if is_named(buf, line, name) && !writes(digits, line.value.of(buf)) {
@@ -63,7 +64,7 @@ fn all_write(buf: &[u8], mut lines: &[HeaderSpan], name: &[u8], digits: &[u8]) -
 /// The length that the lines of the name tell.
 pub fn told_length(buf: &[u8], lines: &[HeaderSpan], name: &[u8]) -> Result<usize, PostFault>
     requires { All (IsHeaderWithin (length buf.now)) lines.now }
-    ensures length { result ≡ told_length (values_of name.now (map (header_bytes buf.now) lines.now)) }
+    ensures length { result ≡ told_length (values_at buf.now lines.now name.now) }
     ensures rule { IfErr result IsRule }
 {
     let Some(value) = first_value(buf, lines, name) else {

@@ -27,7 +27,8 @@ fn put(head: &mut ArrayVec<u8, HEAD_ROOM>, text: &[u8])
 fn put_line(head: &mut ArrayVec<u8, HEAD_ROOM>, name: &[u8], value: &[u8])
     requires { array_vec_len head.old + (length name.now + length value.now + 2) ≤ 256 }
     ensures items { head.new.items ≡ head.old.items ++ (name.now ++ value.now ++ crlf) }
-    ensures len { array_vec_len head.new ≡ array_vec_len head.old + (length name.now + length value.now + 2) }
+    ensures len { array_vec_len head.new
+        ≡ array_vec_len head.old + (length name.now + length value.now + 2) }
 {
     put(head, name);
     put(head, value);
@@ -59,7 +60,8 @@ pub fn write_reply<W: Write>(
     body: &[u8],
 ) -> Result<(), WriteFault>
     requires { writer.old.failures < 2 ^ 64 - 1 }
-    ensures bytes { WritesBeginning (W.contents writer.old.inner) (W.contents writer.new.inner) (reply_bytes status body.now) result }
+    ensures bytes { WritesBeginning (W.contents writer.old.inner) (W.contents writer.new.inner)
+        (reply_bytes status body.now) result }
     ensures count { CountsFailure writer.old.failures writer.new.failures result }
 {
     let buffer = head_of(status, body.len());

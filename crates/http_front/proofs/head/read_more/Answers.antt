@@ -5,8 +5,7 @@ use Rattle.http_front.proofs.head.read_more.Goals as goal
 pub returns-clause-bytes : goal.returns-clause-bytes
 returns-clause-bytes g c =
     let n = c.in_ok-gained.gained in
-    let read = c.in_ok-gained.ensures in
-    (
+    let read = c.in_ok-gained.ensures in (
       take n c.read_some.new.buf,
       read.bytes.0,
       omega (arith, length-take {A = ℕ} n c.read_some.new.buf, read.within),

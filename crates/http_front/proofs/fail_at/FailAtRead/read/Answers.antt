@@ -11,8 +11,7 @@ returns-clause-bytes g c =
     let fits : n ≤ length piece = c.in_ok-n.ensures.bound.0 in
     let P : List ℕ → Type 0 = λ z. Consumes (g.R.Read.remaining c.args.self.now.inner) (g.R.Read.remaining c.read.new.self) z in
     let Q : Option (List ℕ) → Type 0 = λ z. Consumes z (g.R.Read.remaining c.read.new.self) (take n piece) in
-    let gave = subst Q (ap g.R.Read.remaining c.is_failing.ensures.inner) c.in_ok-n.ensures.bytes.0 in
-    (
+    let gave = subst Q (ap g.R.Read.remaining c.is_failing.ensures.inner) c.in_ok-n.ensures.bytes.0 in (
       subst P (sym (take-append-le n piece rest fits)) gave,
       λ none some. c.in_ok-n.ensures.bytes.1 none (omega (arith, length-append {A = ℕ} piece rest, length-drop {A = ℕ} c.min-room.result c.args.buf.now, c.min-room.ensures, c.is_failing.new.self.some, c.read.auto.buf)),
     )

@@ -1,0 +1,67 @@
+//! Devices that fail at each of their calls, or take less than they are given.
+
+use crate::{Counted, FailAt, PostFault, Status, WriteFault, read_post, write_reply};
+use std::test::Fail;
+
+const POST: &[u8] = b"POST /service/update2/json HTTP/1.1\r\nContent-Length: 4\r\n\r\nbody";
+
+const REFUSAL: &[u8] = b"HTTP/1.1 411 Length Required\r\nContent-Type: text/plain\r\n\
+    Content-Length: 10\r\nConnection: close\r\n\r\nP4 Length\n";
+
+#[test]
+fn read_that_fails(rt: HostRuntime) {
+    for call in 1..=62 {
+        let mut reader = Counted::new(FailAt::new(POST, 1, call));
+        let answer = read_post(rt.alloc(), &mut reader);
+        assert!(rt; matches!(answer, Err(PostFault::Device)), "at {call}");
+        assert_eq!(rt; reader.failures(), 1);
+    }
+    let mut reader = Counted::new(FailAt::new(POST, 1, 63));
+    assert!(rt; read_post(rt.alloc(), &mut reader).is_ok());
+    assert_eq!(rt; reader.failures(), 0);
+}
+
+#[test]
+fn write_that_fails(rt: HostRuntime) -> Result<(), Fail> {
+    for (piece, call, wanted) in [
+        (40, 3, 80),
+        (97, 2, 97),
+        (97, 1, 0),
+        (100, 2, 97),
+        (3, 36, 103),
+    ] {
+        let mut writer = Counted::new(FailAt::new(Vec::new(rt.alloc()), piece, call));
+        let answer = write_reply(&mut writer, Status::LengthRequired, b"P4 Length\n");
+        assert_eq!(rt; answer, Err(WriteFault { written: wanted }));
+        assert_eq!(rt; writer.failures(), 1);
+        let out: Vec<u8> = writer.into_inner().into_inner();
+        assert!(rt; Some(out.as_slice()) == REFUSAL.get(..wanted));
+    }
+    Ok(())
+}
+
+#[test]
+fn writes_of_one_byte(rt: HostRuntime) {
+    for call in 1..=107 {
+        let mut writer = Counted::new(FailAt::new(Vec::new(rt.alloc()), 1, call));
+        let written = write_reply(&mut writer, Status::LengthRequired, b"P4 Length\n");
+        let taken = call as usize - 1;
+        assert_eq!(rt; written, Err(WriteFault { written: taken }));
+        let out: Vec<u8> = writer.into_inner().into_inner();
+        assert!(rt; Some(out.as_slice()) == REFUSAL.get(..taken));
+    }
+    let mut writer = Counted::new(FailAt::new(Vec::new(rt.alloc()), 1, 0));
+    let written = write_reply(&mut writer, Status::LengthRequired, b"P4 Length\n");
+    assert_eq!(rt; written, Ok(()));
+    let out: Vec<u8> = writer.into_inner().into_inner();
+    assert!(rt; out.as_slice() == REFUSAL);
+}
+
+#[test]
+fn writer_with_room_for_40_bytes(rt: HostRuntime) {
+    let mut room = [0; 40];
+    let mut writer = Counted::new(room.as_mut_slice());
+    let answer = write_reply(&mut writer, Status::LengthRequired, b"P4 Length\n");
+    assert_eq!(rt; answer, Err(WriteFault { written: 40 }));
+    assert_eq!(rt; writer.failures(), 1);
+}
