@@ -1,5 +1,5 @@
 -- A number only grows by further digits.
-use Rattle.std.proofs.Common.{◌≡◌, ◌≤◌, ◌<◌, ℕ, ◌+◌, ◌-◌, ◌*◌, length, List, [], ◌∷◌, drop, get_or, ap, ◌∙◌, sym, Option, Some, None, suc, zero, refl, arith, add-one, nat_le}
+use Rattle.std.proofs.Common.{◌≡◌, ◌≤◌, ◌<◌, ℕ, ◌+◌, ◌-◌, ◌*◌, length, List, [], ◌∷◌, drop, get_or, ap, ◌∙◌, sym, None, suc, arith}
 use Rattle.std.proofs.lemmas.Bool.Decides.{nat_tests}
 use Rattle.std.proofs.Math.Seq.{drop-cons}
 use Rattle.http_front.specs.Length.{number_after, number_within, within_limit, body_limit}

@@ -1,4 +1,4 @@
-use Rattle.std.proofs.Common.{ℕ, ◌≡◌, ◌<◌, take, length, arith}
+use Rattle.std.proofs.Common.{◌≡◌, ◌<◌, take, arith}
 use Rattle.httparse.specs.Spans.{IsRequestOf}
 use Rattle.http_front.specs.Post.{IsBegun, head_limit}
 use Rattle.http_front.proofs.Reading.{head_fault, too_long, head_ended, at_none}

@@ -1,4 +1,4 @@
-use Rattle.std.proofs.Common.{Ok, Err, ◌∙◌, sym, drop, take, subst, List, ℕ, arith}
+use Rattle.std.proofs.Common.{Ok, Err, ◌∙◌, sym, take, arith}
 use Rattle.std.proofs.lemmas.List.{take_rest}
 use Rattle.http_front.proofs.Reading.{post_read, post_refused}
 use Rattle.http_front.proofs.post.read_by.Goals as goal
