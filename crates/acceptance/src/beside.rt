@@ -1,6 +1,7 @@
 //! Accepted programs on the machine and on the reference interpreter, step by step: the same step
 //! each time, after the same number of instructions.
 
+use crate::verifier::CASES;
 use attrs::Attrs;
 use bpf_insn::Insn;
 use bpf_machine::{Progress, Run};
@@ -84,6 +85,22 @@ fn beside_the_machine(rt: HostRuntime) -> Result<(), Fail> {
     for (text, choice, count) in rows {
         let found = run_both(rt.alloc(), text, "1.2.3.4")?;
         assert_eq!(rt; found, (Comparison::BothDone(choice), count - 1), "{text}");
+    }
+    Ok(())
+}
+
+// Both ended, with 0 or one of the releases.
+fn is_choice(end: Comparison, releases: u8) -> bool {
+    matches!(end, Comparison::BothDone(choice) if choice <= releases as u64)
+}
+
+#[test]
+fn every_accepted_program(rt: HostRuntime) -> Result<(), Fail> {
+    for case in &CASES {
+        if case.verdict == "ok" {
+            let (end, _) = run_both(rt.alloc(), case.text, "1.2.3.4")?;
+            assert!(rt; is_choice(end, case.releases), "{}: {end:?}", case.name);
+        }
     }
     Ok(())
 }

@@ -8,14 +8,14 @@ use std::test::Fail;
 
 /// A program as assembly text, the releases of its app, and the verdict.
 #[derive(Clone, Copy)]
-struct Case {
-    name: &'static str,
-    text: &'static str,
-    releases: u8,
-    verdict: &'static str,
+pub struct Case {
+    pub name: &'static str,
+    pub text: &'static str,
+    pub releases: u8,
+    pub verdict: &'static str,
 }
 
-const CASES: [Case; 34] = [
+pub const CASES: [Case; 34] = [
     Case {
         name: "R0 is never set",
         text: "exit",
@@ -226,7 +226,11 @@ const CASES: [Case; 34] = [
 fn verdict(rt: &HostRuntime, case: &Case) -> Result<String, Fail> {
     let bytes = assemble(rt.alloc(), case.text)?;
     let flow = Flow::check(rt.alloc(), &bytes)?;
-    let text = match verify(rt.alloc(), flow, &Shape::plain(rt.alloc(), case.releases.min(64))) {
+    let text = match verify(
+        rt.alloc(),
+        flow,
+        &Shape::plain(rt.alloc(), case.releases.min(64)),
+    ) {
         Ok(verified) if verified.bytes() == bytes.as_slice() => format!(in rt.alloc(); "ok")?,
         Ok(_) => format!(in rt.alloc(); "another program")?,
         Err(refusal) => format!(in rt.alloc(); "{refusal}")?,
