@@ -28,4 +28,6 @@ mod text;
 #[cfg(test)]
 mod verifier;
 #[cfg(test)]
+mod world_cells;
+#[cfg(test)]
 mod world_rows;
