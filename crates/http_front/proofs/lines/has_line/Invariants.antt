@@ -7,7 +7,8 @@ use Rattle.http_front.proofs.lines.has_line.Given as goal
 abbrev pub invariant-loop-lines : goal.invariant-loop-lines
 invariant-loop-lines l =
     All (IsHeaderWithin (length l.buf)) l.lines
-    × (has_line l.name (map (header_bytes l.buf) l.lines) ≡ has_line l.name (map (header_bytes l.buf) l.initial.lines))
+    × (has_line l.name (map (header_bytes l.buf) l.lines)
+    ≡ has_line l.name (map (header_bytes l.buf) l.initial.lines))
 
 abbrev pub decreases-loop-lines : goal.decreases-loop-lines
 decreases-loop-lines l = length l.lines
