@@ -65,3 +65,20 @@ fn writer_with_room_for_40_bytes(rt: HostRuntime) {
     assert_eq!(rt; answer, Err(WriteFault { written: 40 }));
     assert_eq!(rt; writer.failures(), 1);
 }
+
+/// A body that is too large by one byte.
+const TOO_LARGE: &[u8] = b"POST /service/update2/json HTTP/1.1\r\nContent-Length: 1048577\r\n\r\n";
+
+#[test]
+fn refusal_that_reads_no_further(rt: HostRuntime) -> Result<(), Fail> {
+    let mut reader = Counted::new(FailAt::new(TOO_LARGE, 1, 65));
+    let answer = read_post(rt.alloc(), &mut reader);
+    assert!(rt; matches!(answer, Err(PostFault::TooLarge)));
+    assert_eq!(rt; reader.failures(), 0);
+    let endless = Vec::from_elem(rt.alloc(), b'A', 20_000)?;
+    let mut reader = Counted::new(FailAt::new(endless.as_slice(), 1, 16_385));
+    let answer = read_post(rt.alloc(), &mut reader);
+    assert!(rt; matches!(answer, Err(PostFault::HeadTooLarge)));
+    assert_eq!(rt; reader.failures(), 0);
+    Ok(())
+}
