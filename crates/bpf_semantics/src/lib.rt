@@ -13,6 +13,7 @@ mod counters;
 mod memory;
 mod run;
 mod traps;
+mod words;
 mod worked;
 
 pub use arithmetic::{
@@ -37,4 +38,5 @@ pub use traps::{
     frame_writes, loads_outside, no_instruction, stores_outside, unset_bytes, unset_operands,
     unset_places,
 };
+pub use words::words_stay;
 pub use worked::{choices, halves, jumps, one_operand, operands, signs, wide_load, wrapping};
