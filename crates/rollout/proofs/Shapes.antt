@@ -9,7 +9,7 @@ pub shape_is : (file : ProgramFile) (s : AppShape) → s.releases ≡ file.relea
     → s ≡ shape_of file
 shape_is file s releases arrays =
     let first : s ≡ record { releases = file.releases; arrays = s.arrays } =
-        ap (λ (n : ℕ).
-        let t : AppShape = record { releases = n; arrays = s.arrays } in t) releases in
+    ap (λ (n : ℕ).
+    let t : AppShape = record { releases = n; arrays = s.arrays } in t) releases in
     first ∙ ap (λ (a : List CellArray).
     let t : AppShape = record { releases = file.releases; arrays = a } in t) arrays

@@ -10,7 +10,7 @@ pub returns-clause-runs : goal.returns-clause-runs
 returns-clause-runs c =
     let app : c.in_ok-app.app.value ≡ c.args.app.now.value = c.in_ok-app.ensures in
     let program : c.start.result.program ≡ c.args.program.now.value =
-        c.start.ensures.program ∙ c.in_ok-program.ensures in
+    c.start.ensures.program ∙ c.in_ok-program.ensures in
     let events : List CellEvent = c.run.ensures.runs.events in
     let end = c.run.ensures.runs.ends (opening c.in_ok-app.app.value) c.start.ensures.stands in
     record {

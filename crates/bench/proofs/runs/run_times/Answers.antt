@@ -11,8 +11,8 @@ pub loop-n-preserved : goal.loop-n-preserved
 loop-n-preserved c =
     let within : c.loop-n.n % 10 < length c.args.apps.now = omega arith in
     let app =
-        app_at (λ a. a.value) c.args.apps.now (c.loop-n.n % 10)
-        c.index-apps-n.result within c.index-apps-n.is in
+    app_at (λ a. a.value) c.args.apps.now (c.loop-n.n % 10)
+    c.index-apps-n.result within c.index-apps-n.is in
     let tally : ℕ → Tally = λ h. record {
       instructions = c.loop-n.tally.instructions + c.in_ok-choice.count;
       choices = h;

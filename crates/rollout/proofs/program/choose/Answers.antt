@@ -9,10 +9,10 @@ use Rattle.rollout.proofs.program.choose.Goals as goal
 pub returns-clause-run : goal.returns-clause-run
 returns-clause-run c =
     let app : c.in-Ok-new.attrs.value
-        ≡ plain [] (option_copied c.args.version) c.args.bucket.number =
-        c.in-Ok-new.ensures.ok ∙ c.in-Ok.ensures in
+    ≡ plain [] (option_copied c.args.version) c.args.bucket.number =
+    c.in-Ok-new.ensures.ok ∙ c.in-Ok.ensures in
     let program : c.start.result.program ≡ c.args.program =
-        c.start.ensures.program ∙ c.in-Ok-new-2.ensures.ok in
+    c.start.ensures.program ∙ c.in-Ok-new-2.ensures.ok in
     let events : List CellEvent = c.run.ensures.runs.events in
     let end = c.run.ensures.runs.ends (opening c.in-Ok-new.attrs.value) c.start.ensures.stands in
     record {
