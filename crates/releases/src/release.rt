@@ -1,0 +1,63 @@
+// A release, which contracts see as its texts and the list of its packages.
+
+ghost use Rattle.std.specs.Prelude.{◌≡◌};
+
+use crate::package::Package;
+use attrs::Text;
+use std::marker::Model;
+
+/// A release of an app.
+#[derive(Drop)]
+pub struct Release {
+    version: Text,
+    codebase: Text,
+    packages: Vec<Package>,
+}
+
+impl Model for Release {
+    ghost use Rattle.releases.specs.Release as specs;
+
+    ghost Value = { specs.Release };
+
+    ghost view = { λ r. record {
+      version = r.version;
+      codebase = r.codebase;
+      packages = r.packages.items;
+    } };
+}
+
+impl Release {
+    /// The release of these texts and packages; it takes no memory.
+    pub fn new(version: Text, codebase: Text, packages: Vec<Package>) -> Release
+        ensures version { result.version ≡ version }
+        ensures codebase { result.codebase ≡ codebase }
+        ensures packages { result.packages ≡ packages.items }
+    {
+        Release {
+            version,
+            codebase,
+            packages,
+        }
+    }
+
+    /// Its version, as the manifest writes it.
+    pub fn version(&self) -> &str
+        ensures { result.now ≡ self.now.version }
+    {
+        self.version.as_str()
+    }
+
+    /// The URL below which its files lie.
+    pub fn codebase(&self) -> &str
+        ensures { result.now ≡ self.now.codebase }
+    {
+        self.codebase.as_str()
+    }
+
+    /// Its files, in the manifest's order.
+    pub fn packages(&self) -> &[Package]
+        ensures { result.now ≡ self.now.packages }
+    {
+        self.packages.as_slice()
+    }
+}
