@@ -24,14 +24,22 @@ impl Model for Release {
       codebase = r.codebase;
       packages = r.packages.items;
     } };
+
+    ghost invariant = { λ r. specs.IsRelease r.version r.packages.items };
 }
 
 impl Release {
-    /// The release of these texts and packages; it takes no memory.
+    ghost use Rattle.releases.specs.Release as specs;
+
+    /// The release of these texts and packages; it takes no memory. The version is one that can be
+    /// read, and there are 1 to 16 packages.
     pub fn new(version: Text, codebase: Text, packages: Vec<Package>) -> Release
-        ensures version { result.version ≡ version }
-        ensures codebase { result.codebase ≡ codebase }
-        ensures packages { result.packages ≡ packages.items }
+        requires { specs.IsRelease version packages.items }
+        ensures { result ≡ record {
+          version = version;
+          codebase = codebase;
+          packages = packages.items;
+        } }
     {
         Release {
             version,
