@@ -1,0 +1,137 @@
+-- What a rule means: a choice, or additions to cells and a choice by their replies. A condition is
+-- asked from left to right, until it is decided; so its meaning is what comes next.
+use Rattle.std.specs.Prelude.{◌≡◌, ℕ, ◌<◌, ◌^◌, List, [], ◌∷◌, Option, Some, slice_index}
+use Rattle.std.specs.Prelude.{Bool, true, false, nat_lt, ◌==◌, bit_and, if◌then◌else◌}
+use Rattle.std.specs.Ordering.{nat_cmp, ordering_then}
+use Rattle.std.specs.declared.cmp.Ordering.{Ordering}
+use Rattle.std.specs.declared.cmp.Ordering.TheVariants.{Less, Equal, Greater}
+use Rattle.attrs.specs.Attributes.{Attributes}
+use Rattle.attrs.specs.Context as context
+use Rattle.attrs.specs.Helpers.{attr_is, bucket_of}
+use Rattle.cells.specs.Arrays.{AppShape}
+use Rattle.cells.specs.declared.event.CellOp.{CellOp}
+use Rattle.cells.specs.declared.event.CellOp.TheVariants.{Add}
+use Rattle.cells.specs.declared.event.CellEvent.{CellEvent}
+use Rattle.rule_lang.specs.declared.condition.Step.{Step}
+use Rattle.rule_lang.specs.declared.rule.Statement.{Statement}
+use Rattle.rule_lang.specs.declared.rule.Statement.TheVariants.{Count, When}
+use Rattle.rule_lang.specs.declared.test.Attribute.{Attribute}
+use Rattle.rule_lang.specs.declared.test.Attribute.TheVariants as attribute
+use Rattle.rule_lang.specs.declared.test.Flag as the_flag
+use Rattle.rule_lang.specs.declared.test.Flag.TheVariants.{VersionKnown, Updatecheck, Ping, Event, CohortKnown, InstalldateKnown}
+use Rattle.rule_lang.specs.declared.test.Relation.{Relation}
+use Rattle.rule_lang.specs.declared.test.Relation.TheVariants.{Lt, Le, Eq, Ne, Ge, Gt}
+use Rattle.rule_lang.specs.declared.test.Test as the_test
+use Rattle.rule_lang.specs.declared.test.Test.TheVariants as test
+use Rattle.rule_lang.specs.Shapes.{array_named, cell_of, quota_of}
+use Rattle.rule_lang.specs.Trees.{Tree, Asked, Negated, Both, Either, trees_from}
+
+-- ---- numbers, versions, flags and attributes
+
+abbrev pub relates : Relation → Ordering → Bool
+relates Lt Less = true
+relates Le Less = true
+relates Le Equal = true
+relates Eq Equal = true
+relates Ne Less = true
+relates Ne Greater = true
+relates Ge Equal = true
+relates Ge Greater = true
+relates Gt Greater = true
+relates r o = false
+
+-- by the number at a place
+abbrev pub place_cmp : List ℕ → List ℕ → ℕ → Ordering
+place_cmp v w k = nat_cmp (slice_index v k) (slice_index w k)
+
+-- the four numbers are compared in their order
+abbrev pub version_cmp : List ℕ → List ℕ → Ordering
+version_cmp v w =
+    ordering_then (place_cmp v w 0)
+    (ordering_then (place_cmp v w 1) (ordering_then (place_cmp v w 2) (place_cmp v w 3)))
+
+-- the bit of a flag in an app's context
+abbrev pub flag_bit : the_flag.Flag → ℕ
+flag_bit VersionKnown = context.version_known
+flag_bit Updatecheck = context.updatecheck
+flag_bit Ping = context.ping
+flag_bit Event = context.event
+flag_bit CohortKnown = context.cohort_known
+flag_bit InstalldateKnown = context.installdate_known
+
+-- the number by which a program asks for an attribute
+abbrev pub attribute_number : Attribute → ℕ
+attribute_number attribute.Appid = 0
+attribute_number attribute.Version = 1
+attribute_number attribute.Brand = 2
+attribute_number attribute.Ap = 3
+attribute_number attribute.Lang = 4
+attribute_number attribute.Cohort = 5
+attribute_number attribute.Platform = 6
+
+-- ---- behaviours
+
+-- it chooses, or it asks a cell and goes on by the reply
+pub data Behaviour : Type 0 where
+  Chooses : ℕ → Behaviour
+  Asks : (cell : ℕ) → CellOp → (ℕ → Behaviour) → Behaviour
+
+-- these events, whatever their replies, are what it does, and it ends with the choice
+abbrev pub Follows : Behaviour → List CellEvent → ℕ → Type 0
+Follows (Chooses k) [] choice = k ≡ choice
+Follows (Chooses k) (e ∷ es) choice = ⊥
+Follows (Asks cell op next) [] choice = ⊥
+Follows (Asks cell op next) (e ∷ es) choice =
+    (e.cell ≡ cell) × (e.op ≡ op) × (e.reply < 2 ^ 64) × Follows (next e.reply) es choice
+
+-- ---- tests and conditions
+
+-- one Add of 1, whose reply is below the quota
+abbrev pub take_then : (cell quota : ℕ) → Behaviour → Behaviour → Behaviour
+take_then cell quota met unmet =
+    Asks cell (Add 1) (λ reply. if nat_lt reply quota then met else unmet)
+
+-- what comes where a test holds, or where it doesn't
+abbrev pub test_then : Attributes → AppShape → the_test.Test → Behaviour → Behaviour → Behaviour
+test_then a s (test.Version r w) met unmet =
+    if relates r (version_cmp a.context.version w) then met else unmet
+test_then a s (test.Bucket r n) met unmet =
+    if relates r (nat_cmp a.context.bucket n) then met else unmet
+test_then a s (test.SaltedBucket salt r n) met unmet =
+    if relates r (nat_cmp (bucket_of a salt) n) then met else unmet
+test_then a s (test.Today r n) met unmet =
+    if relates r (nat_cmp a.context.today n) then met else unmet
+test_then a s (test.Installed r n) met unmet =
+    if relates r (nat_cmp a.context.install_day n) then met else unmet
+test_then a s (test.Flag f) met unmet =
+    if bit_and a.context.flags (flag_bit f) == 0 then unmet else met
+test_then a s (test.Attr n text) met unmet =
+    if attr_is a (attribute_number n) text == 1 then met else unmet
+test_then a s (test.Take name index) met unmet =
+    let array = array_named name s.arrays in
+    take_then (cell_of array index) (quota_of array) met unmet
+
+abbrev pub decide : Attributes → AppShape → Tree → Behaviour → Behaviour → Behaviour
+decide a s (Asked line t) met unmet = test_then a s t met unmet
+decide a s (Negated c) met unmet = decide a s c unmet met
+decide a s (Both b c) met unmet = decide a s b (decide a s c met unmet) unmet
+decide a s (Either b c) met unmet = decide a s b met (decide a s c met unmet)
+
+-- the steps of a condition make one tree
+abbrev pub decide_one : Attributes → AppShape → Option (List Tree) → Behaviour → Behaviour
+    → Behaviour
+decide_one a s (Some (c ∷ [])) met unmet = decide a s c met unmet
+decide_one a s trees met unmet = unmet
+
+abbrev pub decide_steps : Attributes → AppShape → List Step → Behaviour → Behaviour → Behaviour
+decide_steps a s steps met unmet = decide_one a s (trees_from [] steps) met unmet
+
+-- ---- rules
+
+-- the statements in their order, and then `otherwise none`, which chooses 0
+abbrev pub behaviour : Attributes → AppShape → List Statement → Behaviour
+behaviour a s [] = Chooses 0
+behaviour a s (Count name index ∷ rest) =
+    Asks (cell_of (array_named name s.arrays) index) (Add 1) (λ reply. behaviour a s rest)
+behaviour a s (When steps release ∷ rest) =
+    decide_steps a s steps (Chooses release) (behaviour a s rest)

@@ -1,0 +1,55 @@
+//! Conditions, as lists of steps.
+
+ghost use Rattle.std.specs.Prelude.{◌≡◌};
+ghost use Rattle.rule_lang.specs.Trees.{IsCondition};
+
+use crate::test::Test;
+use std::marker::Model;
+
+/// One step of a condition: a test, with its line in the rule's text from 1, or what is made of the
+/// one or two conditions before it.
+#[derive(Debug, Drop)]
+pub enum Step {
+    Test { line: usize, test: Test },
+    Not,
+    And,
+    Or,
+}
+
+/// A condition in post-fix order: `a and not b` is the steps `a`, `b`, `Not`, `And`. So a chain of
+/// any length is read, kept and let go by loops.
+#[derive(Debug, Drop)]
+pub struct Condition {
+    steps: Vec<Step>,
+}
+
+impl Model for Condition {
+    ghost use Rattle.std.specs.Prelude.{List};
+    ghost use Rattle.rule_lang.specs.declared.condition.Step.{Step};
+
+    ghost Value = { List Step };
+
+    ghost use Rattle.rule_lang.specs.Trees.{IsCondition};
+
+    ghost view = { λ c. c.steps.items };
+
+    ghost invariant = { λ c. IsCondition c.steps.items };
+}
+
+impl Condition {
+    /// The condition of these steps.
+    pub fn of(steps: Vec<Step>) -> Condition
+        requires { IsCondition steps.items }
+        ensures { result ≡ steps.items }
+    {
+        Condition { steps }
+    }
+
+    /// The steps, in post-fix order.
+    pub fn steps(&self) -> &[Step]
+        ensures steps { result.now ≡ self.now }
+        ensures condition { IsCondition result.now }
+    {
+        &self.steps
+    }
+}

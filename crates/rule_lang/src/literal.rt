@@ -1,0 +1,43 @@
+//! The texts that rules compare attributes with.
+
+ghost use Rattle.std.specs.Prelude.{◌≡◌, IfOk};
+ghost use Rattle.rule_lang.specs.Literals.{IsLiteral};
+
+use std::alloc::{AllocError, Global};
+use std::marker::Model;
+
+/// A text of at most 64 bytes of printable ASCII, without quotation marks and backslashes.
+#[derive(Debug, Drop)]
+pub struct Literal {
+    text: String,
+}
+
+impl Model for Literal {
+    ghost use Rattle.std.specs.Prelude.{List, ℕ, string_bytes};
+    ghost use Rattle.rule_lang.specs.Literals.{IsLiteral};
+
+    ghost Value = { List ℕ };
+
+    ghost view = { λ l. string_bytes l.text };
+
+    ghost invariant = { λ l. IsLiteral (string_bytes l.text) };
+}
+
+impl Literal {
+    /// A text as a literal.
+    pub fn of(alloc: Global, text: &str) -> Result<Literal, AllocError>
+        requires { IsLiteral text.now }
+        ensures { IfOk result (λ l. l ≡ text.now) }
+    {
+        let text = String::from_str(alloc, text)?;
+        Ok(Literal { text })
+    }
+
+    /// The text.
+    pub fn as_str(&self) -> &str
+        ensures text { result.now ≡ self.now }
+        ensures literal { IsLiteral result.now }
+    {
+        self.text.as_str()
+    }
+}

@@ -1,0 +1,47 @@
+//! Rules: statements in their order.
+
+ghost use Rattle.std.specs.Prelude.{◌≡◌};
+
+use crate::condition::Condition;
+use cells::ArrayName;
+use std::marker::Model;
+
+/// One statement of a rule.
+#[derive(Debug, Drop)]
+pub enum Statement {
+    /// Adds 1 to a cell of an array without a quota.
+    Count { array: ArrayName, index: u16 },
+    /// Ends with the release, from 1, where the condition holds.
+    When { condition: Condition, release: u8 },
+}
+
+/// A rule: its statements in their order, and then `otherwise none`.
+#[derive(Debug, Drop)]
+pub struct Rule {
+    statements: Vec<Statement>,
+}
+
+impl Model for Rule {
+    ghost use Rattle.std.specs.Prelude.{List};
+    ghost use Rattle.rule_lang.specs.declared.rule.Statement.{Statement};
+
+    ghost Value = { List Statement };
+
+    ghost view = { λ r. r.statements.items };
+}
+
+impl Rule {
+    /// The rule of these statements.
+    pub fn of(statements: Vec<Statement>) -> Rule
+        ensures { result ≡ statements.items }
+    {
+        Rule { statements }
+    }
+
+    /// The statements, in their order.
+    pub fn statements(&self) -> &[Statement]
+        ensures { result.now ≡ self.now }
+    {
+        &self.statements
+    }
+}

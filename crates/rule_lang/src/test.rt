@@ -1,0 +1,81 @@
+//! The tests of which conditions are made: what is asked of an app and its counters.
+
+use crate::literal::Literal;
+use cells::ArrayName;
+
+/// How two numbers, or two versions, compare.
+#[derive(Clone, Copy, Debug, PartialEq, Eq)]
+pub enum Relation {
+    Lt,
+    Le,
+    Eq,
+    Ne,
+    Ge,
+    Gt,
+}
+
+/// A flag of an app's context.
+#[derive(Clone, Copy, Debug, PartialEq, Eq)]
+pub enum Flag {
+    VersionKnown,
+    Updatecheck,
+    Ping,
+    Event,
+    CohortKnown,
+    InstalldateKnown,
+}
+
+/// A text of an app.
+#[derive(Clone, Copy, Debug, PartialEq, Eq)]
+pub enum Attribute {
+    Appid,
+    Version,
+    Brand,
+    Ap,
+    Lang,
+    Cohort,
+    Platform,
+}
+
+/// One test of an app. Days are counted from 2007-01-01 UTC.
+#[derive(Debug, Drop)]
+pub enum Test {
+    /// The app's version against four numbers, which are compared in their order.
+    Version {
+        relation: Relation,
+        version: [u32; 4],
+    },
+    /// The app's bucket, 0 to 9999, against a number.
+    Bucket {
+        relation: Relation,
+        number: u32,
+    },
+    /// The app's bucket under a salt, 0 to 9999, against a number.
+    SaltedBucket {
+        salt: u64,
+        relation: Relation,
+        number: u32,
+    },
+    /// The day of the request against a number.
+    Today {
+        relation: Relation,
+        number: u32,
+    },
+    /// The day of installation, 4294967295 where it isn't known, against a number.
+    Installed {
+        relation: Relation,
+        number: u32,
+    },
+    /// Whether the flag is set.
+    Flag(Flag),
+    /// Whether an attribute is this text.
+    Attr {
+        attribute: Attribute,
+        text: Literal,
+    },
+    /// Adds 1 to a cell of an array with a quota. It holds where the cell was below the quota.
+    Take {
+        array: ArrayName,
+        index: u16,
+    },
+}
