@@ -1,7 +1,8 @@
 -- A list after one of its elements was set.
-use Rattle.std.proofs.Common.{◌≡◌, ◌≢◌, ℕ, List, length, ap, ◌∙◌, arith, inl, inr, get_or, set, get_or-set_other}
+use Rattle.std.proofs.Common.{◌≡◌, ◌≢◌, ℕ, ◌+◌, ◌<◌, List, ◌++◌, length, map, take, drop, ap, sym, ◌∙◌, arith, inl, inr, get_or, set, get_or-set_other}
 use Rattle.std.proofs.lemmas.Bool.{cases_lt, cases_eq}
-use Rattle.std.proofs.lemmas.List.{get_or_past, set_past}
+use Rattle.std.proofs.lemmas.List.{get_or_past, set_past, get_or_default, length-map, length-append, take-append-drop}
+use Rattle.std.proofs.lemmas.List.Edits.{map_over_more}
 use Rattle.std.proofs.lemmas.Grind.{get_or-set_at}
 
 -- at place j: the new element, or none as at place i, or the old one
@@ -18,3 +19,17 @@ set_at X xs i v d j = elim (cases_eq j i) [
   ]
   | inr apart ↦ other apart (get_or-set_other xs i j v d apart)
 ]
+
+-- ---- a loop that puts f of each element in its place
+
+-- so far: those below i are done, the others are as they were
+abbrev pub IsMapped : {X : Type 0} → (X → X) → List X → ℕ → List X → Type 0
+IsMapped f old i new = new ≡ map f (take i old) ++ drop i old
+
+mapped_length : {X : Type 0} (f : X → X) (xs ys : List X) (i : ℕ) → IsMapped f xs i ys → length ys ≡ length xs
+mapped_length f xs ys i h = ap length h ∙ length-append (map f (take i xs)) (drop i xs) ∙ ap (λ n. n + length (drop i xs)) (length-map (take i xs) f) ∙ sym (length-append (take i xs) (drop i xs)) ∙ ap length (take-append-drop i xs)
+
+pub mapped_more : {X : Type 0} (f : X → X) (xs ys : List X) (i : ℕ) (v d : X) → i < length xs → IsMapped f xs i ys → v ≡ f (get_or ys i d) → IsMapped f xs (i + 1) (set ys i v)
+mapped_more f xs ys i v d lt h e =
+    let long = mapped_length f xs ys i h in
+    ap (λ w. set ys i w) e ∙ map_over_more f xs ys i (get_or ys i d) lt h (get_or_default ys i d (get_or ys i d) (omega (arith, long, lt)))

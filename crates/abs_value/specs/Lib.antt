@@ -4,6 +4,7 @@ pub mod Narrowing
 pub mod Values
 pub mod Stack
 pub mod States
+pub mod Lookups
 pub mod Covers
 pub mod Laws
 pub mod Worked

@@ -42,16 +42,21 @@
 // Lookups. What a lookup answers isn't known here. So a value stands for numbers given the answers
 // so far, one for each call that was made; `MayCell` is the answer of its call, and each copy of it
 // is the same number. A later call adds an answer, and takes nothing from what older values mean.
+// A comparison with 0 tells which answer it was: on one of its edges each copy, in registers and in
+// the stack, is 0, and on the other the address of a cell. The address of a cell is never 0, so of
+// its comparison with 0 one edge is dropped.
+//
+// Calls. A call leaves its result in R0 and nothing in R1 to R5. Of the result of a lookup the
+// array and the call are known, of that of another helper its range. All else stays.
 //
 // What this is worth is said by `laws.rt`. `specs/Covers.antt` defines which states of the machine
 // a state of the verifier stands for, and the laws say that each operation here, done beside the
 // one of the machine, leads from what is stood for to what is stood for, and that the edge which a
 // run takes is never dropped.
-//
-// Not here yet: what a comparison with 0 teaches of a lookup, and what a call leaves.
 
 mod bounds;
 mod laws;
+mod lookups;
 mod narrow;
 mod number;
 mod origin;

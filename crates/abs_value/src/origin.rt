@@ -1,7 +1,11 @@
 //! Where the address of a cell comes from: a lookup that found it, or a fixed cell.
 
 ghost use Rattle.std.specs.Prelude.{◌≡◌};
+ghost use Rattle.abs_value.specs.Lookups as lookups;
 ghost use Rattle.abs_value.specs.Values as values;
+
+use crate::number::Number;
+use crate::value::Abs;
 
 /// A lookup in an array of the program's shape, by the CALL at a slot.
 #[derive(Clone, Copy, Debug, PartialEq, Eq)]
@@ -15,6 +19,17 @@ impl Lookup {
         ensures { result ≡ values.same_lookup self other }
     {
         self.array == other.array && self.slot == other.slot
+    }
+
+    /// Its answer, where it is known whether it found a cell.
+    pub fn answer(self, found: bool) -> Abs
+        ensures { result ≡ lookups.answer_of self found }
+    {
+        if found {
+            Abs::Cell(Origin::Found(self))
+        } else {
+            Abs::Num(Number::single(0))
+        }
     }
 }
 

@@ -3,6 +3,7 @@
 
 ghost use Rattle.std.specs.Prelude.{◌≡◌, ◌==◌, ◌<◌, bit_or};
 ghost use Rattle.std.specs.Int.{bit_at};
+ghost use Rattle.abs_value.specs.Lookups.{slot_with_answer};
 ghost use Rattle.abs_value.specs.Stack as slots;
 
 use crate::value::Abs;
@@ -52,6 +53,16 @@ impl AbsSlot {
         match self {
             AbsSlot::Kept(value) => value,
             AbsSlot::Bytes(_) => other,
+        }
+    }
+
+    /// What it is where a lookup is known to have found a cell, or none.
+    pub fn with_answer(self, call: u16, found: bool) -> AbsSlot
+        ensures { result ≡ slot_with_answer call found self }
+    {
+        match self {
+            AbsSlot::Kept(value) => AbsSlot::Kept(value.with_answer(call, found)),
+            AbsSlot::Bytes(_) => self,
         }
     }
 

@@ -5,6 +5,7 @@
 ghost use Rattle.std.specs.Prelude.{◌≡◌, ◌+◌, ◌^◌, ◌≤◌, ◌<◌, pos, negsuc, ◌≤ℤ◌};
 ghost use Rattle.bpf_semantics.specs.Memory.{stack_size};
 ghost use Rattle.bpf_semantics.specs.Reads.{byte_count};
+ghost use Rattle.abs_value.specs.Lookups.{called};
 ghost use Rattle.abs_value.specs.Stack.{has_unset, loaded_from};
 ghost use Rattle.abs_value.specs.States as states;
 
@@ -96,6 +97,17 @@ impl AbsState {
         ensures { self.new ≡ states.with_stored self.old place (byte_count size) value }
     {
         stack::store(&mut self.stack, place, size, value);
+    }
+
+    /// What a CALL at this slot leaves, by the number of its helper: R0 is its result, R1 to R5 are
+    /// unset.
+    pub fn call(&mut self, helper: i32, slot: u16)
+        ensures { self.new ≡ called self.old helper slot }
+    {
+        let result = self.registers[1].called(helper, slot);
+        let mut registers = [Abs::Unusable; 6];
+        registers[0] = result;
+        self.registers[..6].copy_from_slice(&registers);
     }
 
     /// Joins another state in: what stands for both is left here.

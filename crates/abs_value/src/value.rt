@@ -2,6 +2,7 @@
 //! the places there. A pointer stays in its region, or nothing is known of it any more.
 
 ghost use Rattle.std.specs.Prelude.{◌≡◌};
+ghost use Rattle.abs_value.specs.Lookups as lookups;
 ghost use Rattle.abs_value.specs.Values as values;
 
 use crate::number::Number;
@@ -146,6 +147,31 @@ impl Abs {
                 None => None,
             },
             _ => Some((self, other)),
+        }
+    }
+
+    /// What it is where the lookup by the CALL at this slot is known to have found a cell, or to have
+    /// found none: 0 in place of its answer.
+    pub fn with_answer(self, call: u16, found: bool) -> Abs
+        ensures { result ≡ lookups.with_answer call found self }
+    {
+        match self {
+            Abs::MayCell(lookup) if lookup.slot == call => lookup.answer(found),
+            Abs::Cell(Origin::Found(lookup)) if lookup.slot == call => lookup.answer(found),
+            _ => self,
+        }
+    }
+
+    /// What a CALL at this slot leaves in R0, by the number of its helper. It was R1 before.
+    pub fn called(self, helper: i32, slot: u16) -> Abs
+        ensures { result ≡ lookups.call_value helper slot self }
+    {
+        match (helper, self) {
+            (1, Abs::Map { index }) => Abs::MayCell(Lookup { array: index, slot }),
+            (2, _) => Abs::Num(Number::up_to(1)),
+            (3, _) => Abs::Num(Number::up_to(1024)),
+            (4, _) => Abs::Num(Number::up_to(9999)),
+            _ => Abs::Unusable,
         }
     }
 

@@ -1,0 +1,131 @@
+//! What is learnt at a conditional jump, of the two values that it compares, and of lookups: on the
+//! edges of a comparison with 0 each copy of an answer, in a register or kept in the stack, becomes
+//! 0 or the address of a cell.
+
+ghost use Rattle.std.specs.Prelude.{◌≡◌, map, is_some, unwrap_or};
+ghost use Rattle.abs_value.specs.Lookups as lookups;
+
+use crate::slot::AbsSlot;
+use crate::state::AbsState;
+use crate::value::Abs;
+use bpf_insn::{Bits, Condition, Operand, Reg};
+
+/// Whether all 64 bits are compared with 0, to be equal or not.
+fn compares_with_zero(bits: Bits, condition: Condition, right: Operand) -> bool
+    ensures { result ≡ lookups.compares_with_zero bits condition right }
+{
+    match (bits, condition, right) {
+        (Bits::Bits64, Condition::Eq | Condition::Ne, Operand::Imm(imm)) => imm == 0,
+        _ => false,
+    }
+}
+
+/// Whether what is compared with 0 isn't 0 on the edge.
+fn is_found(condition: Condition, jumps: bool) -> bool
+    ensures { result ≡ lookups.is_found condition jumps }
+{
+    if condition == Condition::Eq {
+        !jumps
+    } else {
+        jumps
+    }
+}
+
+fn is_register(operand: Operand, register: Reg) -> bool
+    ensures { result ≡ lookups.is_register operand register }
+{
+    match operand {
+        Operand::Imm(_) => false,
+        Operand::Register(r) => r.index() == register.index(),
+    }
+}
+
+fn answer_in_registers(registers: &mut [Abs; 11], call: u16, found: bool)
+    ensures { registers.new ≡ map (lookups.with_answer call found) registers.old }
+{
+    for r in 0..11 {
+        registers[r] = registers[r].with_answer(call, found);
+    }
+}
+
+fn answer_in_stack(stack: &mut [AbsSlot; 64], call: u16, found: bool)
+    ensures { stack.new ≡ map (lookups.slot_with_answer call found) stack.old }
+{
+    for i in 0..64 {
+        stack[i] = stack[i].with_answer(call, found);
+    }
+}
+
+impl AbsState {
+    /// Makes each copy of the answer to the CALL at this slot known: the address of a cell, or 0.
+    pub fn narrow_lookup(&mut self, call: u16, found: bool)
+        ensures { self.new ≡ lookups.state_with_answer self.old call found }
+    {
+        answer_in_registers(&mut self.registers, call, found);
+        answer_in_stack(&mut self.stack, call, found);
+    }
+
+    /// Where a pointer is compared with 0. The address of a cell isn't 0.
+    fn refine_pointer(&mut self, value: Abs, found: bool) -> bool
+        ensures taken { result ≡ is_some (lookups.after_null_check self.old value found) }
+        ensures learnt { self.new ≡ unwrap_or (lookups.after_null_check self.old value found) self.old }
+    {
+        match value {
+            Abs::MayCell(lookup) => {
+                self.narrow_lookup(lookup.slot, found);
+                true
+            }
+            Abs::Cell(_) => found,
+            _ => true,
+        }
+    }
+
+    fn refine_values(
+        &mut self,
+        bits: Bits,
+        condition: Condition,
+        left: Reg,
+        right: Operand,
+        jumps: bool,
+    ) -> bool
+        ensures taken { result ≡ is_some (lookups.after_comparison self.old bits condition left right jumps) }
+        ensures learnt { self.new
+            ≡ unwrap_or (lookups.after_comparison self.old bits condition left right jumps) self.old }
+    {
+        let other = self.operand(bits, right);
+        match self.value(left).refined(bits, condition, jumps, other) {
+            Some((first, second)) => {
+                self.set(left, first);
+                self.set_operand(right, second);
+                true
+            }
+            None => false,
+        }
+    }
+
+    /// Learns what an edge of a conditional jump tells: the one that jumps, or the one that goes on.
+    /// `false` where no run takes it, and then nothing is changed. Of a register that is compared
+    /// with itself nothing is learnt.
+    pub fn refine(
+        &mut self,
+        bits: Bits,
+        condition: Condition,
+        left: Reg,
+        right: Operand,
+        jumps: bool,
+    ) -> bool
+        ensures taken { result ≡ is_some (lookups.refined_state self.old bits condition left right jumps) }
+        ensures learnt { self.new
+            ≡ unwrap_or (lookups.refined_state self.old bits condition left right jumps) self.old }
+    {
+        if is_register(right, left) {
+            return true;
+        }
+        let value = self.value(left);
+        if compares_with_zero(bits, condition, right) && value.is_pointer() {
+            self.refine_pointer(value, is_found(condition, jumps))
+        } else {
+            self.refine_values(bits, condition, left, right, jumps)
+        }
+    }
+}
