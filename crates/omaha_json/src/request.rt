@@ -1,0 +1,46 @@
+// A request as it was read.
+
+ghost use Rattle.std.specs.Prelude.{◌≡◌};
+
+use attrs::{AppFacts, RequestFacts};
+use std::marker::Model;
+
+/// A request of protocol 3.1, with at most 256 apps.
+#[derive(Drop)]
+pub struct Request {
+    facts: RequestFacts,
+    apps: Vec<AppFacts>,
+}
+
+impl Model for Request {
+    ghost use Rattle.omaha_json.specs.Request as specs;
+
+    ghost Value = { specs.Request };
+
+    ghost view = { λ r. record { facts = r.facts; apps = r.apps.items } };
+}
+
+impl Request {
+    ghost use Rattle.omaha_json.specs.Request as specs;
+
+    // The request of these facts and apps.
+    pub(crate) fn new(facts: RequestFacts, apps: Vec<AppFacts>) -> Request
+        ensures { result ≡ record { facts = facts; apps = apps.items } }
+    {
+        Request { facts, apps }
+    }
+
+    /// What it says of itself.
+    pub fn facts(&self) -> &RequestFacts
+        ensures { result.now ≡ self.now.facts }
+    {
+        &self.facts
+    }
+
+    /// What it says of each of its apps, in its order.
+    pub fn apps(&self) -> &[AppFacts]
+        ensures { result.now ≡ self.now.apps }
+    {
+        self.apps.as_slice()
+    }
+}
