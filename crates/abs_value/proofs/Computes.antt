@@ -31,7 +31,7 @@ use Rattle.abs_value.specs.Numbers.{single, is_single, greatest, full, up_to}
 use Rattle.abs_value.specs.Narrowing.{Pair, is_taken, narrowed}
 use Rattle.abs_value.specs.Values.{moved_in_context, moved_in_stack, or_unusable, alu_value, copied_value, negated_value, extended_value, reordered_value, numbers, refined, same_lookup, is_found_by, same_origin, join_values}
 use Rattle.abs_value.specs.Laws.{IsLeft}
-use Rattle.abs_value.specs.Covers.{Answers, IsCell, Holds, Includes, CoversValue, IsWord}
+use Rattle.abs_value.specs.Covers.{Answers, Answered, IsCell, Holds, Includes, CoversValue, IsWord}
 use Rattle.abs_value.proofs.Cuts.{cut_holds, full_holds}
 use Rattle.abs_value.proofs.Results.{alu_number_holds}
 use Rattle.abs_value.proofs.Moves.{context_moves, stack_moves}
@@ -105,17 +105,17 @@ kept_if : (g : Answers) (t : Bool) (v : Abs) (x : ℕ) → (t ≡ true → Inclu
 kept_if g true v x h = h refl
 kept_if g false v x h = tt
 
-same_slot : (a b : Lookup) → same_lookup a b ≡ true → a.slot ≡ b.slot
-same_slot a b t = grind (arith, t)
+same_is : (a b : Lookup) → same_lookup a b ≡ true → a ≡ b
+same_is a b t = grind (arith, t)
 
 -- the answer of a call is that of any lookup by it
-answered : (g : Answers) (a b : Lookup) (x : ℕ) → same_lookup a b ≡ true → g a.slot ≡ Some x → g b.slot ≡ Some x
-answered g a b x t h = subst (λ (k : ℕ). g k ≡ Some x) (same_slot a b t) h
+answered : (g : Answers) (a b : Lookup) (x : ℕ) → same_lookup a b ≡ true → Answered g a x → Answered g b x
+answered g a b x t h = subst (λ (k : Lookup). Answered g k x) (same_is a b t) h
 
-answered_back : (g : Answers) (a b : Lookup) (x : ℕ) → same_lookup a b ≡ true → g b.slot ≡ Some x → g a.slot ≡ Some x
-answered_back g a b x t h = subst (λ (k : ℕ). g k ≡ Some x) (sym (same_slot a b t)) h
+answered_back : (g : Answers) (a b : Lookup) (x : ℕ) → same_lookup a b ≡ true → Answered g b x → Answered g a x
+answered_back g a b x t h = subst (λ (k : Lookup). Answered g k x) (sym (same_is a b t)) h
 
-found_answered : (g : Answers) (o : Origin) (a : Lookup) (x : ℕ) → is_found_by o a ≡ true → IsCell g o x → g a.slot ≡ Some x
+found_answered : (g : Answers) (o : Origin) (a : Lookup) (x : ℕ) → is_found_by o a ≡ true → IsCell g o x → Answered g a x
 found_answered g (Found b) a x t h = answered g b a x t h.0
 found_answered g (Fixed n) a x t h = absurd cc
 

@@ -1,6 +1,6 @@
 -- No range that is computed from ranges with numbers in them is empty.
-use Rattle.std.proofs.Common.{◌≡◌, ℕ, ◌+◌, ◌-◌, ◌*◌, ◌%◌, ◌^◌, ◌≤◌, min, max, Option, Some, None, Bool, true, false, refl, arith, inl, inr}
-use Rattle.std.specs.Prelude.{option_map, nat_le, nat_lt, if◌then◌else◌}
+use Rattle.std.proofs.Common.{◌≡◌, ℕ, ℤ, pos, negsuc, ◌+◌, ◌-◌, ◌*◌, ◌%◌, ◌^◌, ◌≤◌, min, max, Option, Some, None, Bool, true, false, refl, arith, inl, inr}
+use Rattle.std.specs.Prelude.{option_map, nat_le, nat_lt, ◌==◌, if◌then◌else◌}
 use mir.Val.{bits}
 use Rattle.std.proofs.Math.Nat.{mul-le-mul_right}
 use Rattle.std.proofs.lemmas.Bool.{cases_Bool}
@@ -19,15 +19,18 @@ use Rattle.bpf_insn.specs.Words.{word_width}
 use Rattle.bpf_insn.specs.Arithmetic.{extended, end_width, reordered}
 use Rattle.bpf_insn.specs.Conditions.{holds}
 use Rattle.abs_value.specs.declared.number.Number.{Number}
+use Rattle.abs_value.specs.declared.origin.Lookup.{Lookup}
+use Rattle.abs_value.specs.declared.origin.Origin.TheVariants.{Found}
 use Rattle.abs_value.specs.declared.places.Places.{Places}
 use Rattle.abs_value.specs.declared.relation.Relation.{Relation}
 use Rattle.abs_value.specs.declared.relation.Relation.TheVariants.{Equal, Unequal, Less, AtMost, More, AtLeast, Unknown}
 use Rattle.abs_value.specs.declared.value.Abs.{Abs}
-use Rattle.abs_value.specs.declared.value.Abs.TheVariants.{Num, Ctx, Stk}
+use Rattle.abs_value.specs.declared.value.Abs.TheVariants.{Unusable, Num, Ctx, Stk, Map, MayCell, Cell}
 use Rattle.abs_value.specs.Numbers.{IsRange, single, is_single, full, up_to, cut}
 use Rattle.abs_value.specs.Bounds.{fitting, shifted_left, shifted_right, shifted_signed, sign_bit, bounds, are_single, alu_number}
 use Rattle.abs_value.specs.Narrowing.{Pair, below, at_most, equal, apart_from, swapped, left_by, learnt, is_taken, is_comparable, narrowed}
 use Rattle.abs_value.specs.Values.{moved_in_context, moved_in_stack, or_unusable, alu_value, copied_value, extended_value, reordered_value, loaded_value, join_values, refined, numbers}
+use Rattle.abs_value.specs.Lookups.{answer_of, with_answer, lookup_value, call_value}
 use Rattle.abs_value.specs.Laws.{IsInhabited, AreInhabited}
 use Rattle.abs_value.proofs.ShiftedRanges.{shifted_right_holds}
 use Rattle.abs_value.proofs.Moves.{context_in_order}
@@ -109,6 +112,33 @@ pub join_inhabited : (a b : Abs) → IsInhabited a → IsInhabited b → IsInhab
 join_inhabited (Num a) (Num b) h k = omega (arith, h, k)
 join_inhabited (Ctx a) (Ctx b) h k = omega (arith, h, k)
 join_inhabited a b h k = grind arith
+
+-- ---- lookups and calls
+
+answer_inhabited : (lookup : Lookup) (found : Bool) → IsInhabited (answer_of lookup found)
+answer_inhabited lookup true = tt
+answer_inhabited lookup false = omega arith
+
+chosen_inhabited : (b : Bool) (v w : Abs) → IsInhabited v → IsInhabited w → IsInhabited (if b then v else w)
+chosen_inhabited true v w h k = h
+chosen_inhabited false v w h k = k
+
+pub with_answer_inhabited : (call : ℕ) (found : Bool) (v : Abs) → IsInhabited v → IsInhabited (with_answer call found v)
+with_answer_inhabited call found (MayCell lookup) h = chosen_inhabited (lookup.slot == call) (answer_of lookup found) (MayCell lookup) (answer_inhabited lookup found) h
+with_answer_inhabited call found (Cell (Found lookup)) h = chosen_inhabited (lookup.slot == call) (answer_of lookup found) (Cell (Found lookup)) (answer_inhabited lookup found) h
+with_answer_inhabited call found v h = h
+
+lookup_inhabited : (slot : ℕ) (v : Abs) → IsInhabited (lookup_value slot v)
+lookup_inhabited slot (Map index) = tt
+lookup_inhabited slot v = tt
+
+pub call_inhabited : (helper : ℤ) (slot : ℕ) (v : Abs) → IsInhabited (call_value helper slot v)
+call_inhabited (negsuc n) slot v = tt
+call_inhabited (pos n) slot v =
+    chosen_inhabited (n == 1) (lookup_value slot v) _ (lookup_inhabited slot v)
+    (chosen_inhabited (n == 2) (Num (up_to 1)) _ (omega arith)
+    (chosen_inhabited (n == 3) (Num (up_to 1024)) _ (omega arith)
+    (chosen_inhabited (n == 4) (Num (up_to 9999)) Unusable (omega arith) tt)))
 
 -- ---- narrowing
 

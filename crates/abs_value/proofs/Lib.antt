@@ -7,6 +7,8 @@ mod Lists
 mod Computes
 mod Slots
 mod Writes
+mod Known
+mod Calls
 mod Stores
 mod Loads
 mod Inhabited

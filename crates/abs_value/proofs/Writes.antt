@@ -21,18 +21,17 @@ use Rattle.abs_value.specs.declared.state.AbsState.{AbsState}
 use Rattle.abs_value.specs.Values.{is_unusable, join_values}
 use Rattle.abs_value.specs.States.{register_at, value_at, value_of, operand_value, with_value, with_operand, join_registers, join_states, opening_registers, opening_state}
 use Rattle.abs_value.specs.declared.slot.AbsSlot.{AbsSlot}
-use Rattle.abs_value.specs.declared.slot.AbsSlot.TheVariants.{Kept, Bytes}
-use Rattle.abs_value.specs.declared.origin.Origin.TheVariants.{Found}
+use Rattle.abs_value.specs.declared.slot.AbsSlot.TheVariants.{Bytes}
 use Rattle.abs_value.specs.Stack.{slot_at}
 use Rattle.abs_value.proofs.Slots.{none_set, stack_left, stack_right}
-use Rattle.abs_value.specs.Covers.{Answers, bytes_of, Includes, CoversValue, CoversRegisters, Covers, CoversSlot}
-use Rattle.abs_value.specs.Laws.{IsThere, IsMore}
+use Rattle.abs_value.specs.Covers.{Answers, bytes_of, Includes, CoversValue, CoversRegisters, Covers}
+use Rattle.abs_value.specs.Laws.{IsThere}
 use Rattle.abs_value.proofs.Computes.{covers_some, join_left, join_right}
 use Rattle.abs_value.proofs.Lists.{here, past, other, set_at}
 
 -- ---- reading
 
-value_is_there : (g : Answers) (a : Abs) (v : Option ℕ) → CoversValue g a v → is_unusable a ≡ false → IsThere g a v
+pub value_is_there : (g : Answers) (a : Abs) (v : Option ℕ) → CoversValue g a v → is_unusable a ≡ false → IsThere g a v
 value_is_there g Unusable v h u = absurd cc
 value_is_there g (Num a) (Some x) h u = record { number = x; is = refl; included = h }
 value_is_there g (Ctx a) (Some x) h u = record { number = x; is = refl; included = h }
@@ -106,38 +105,6 @@ covers_join_left g e f s h = record { registers = registers_left g e.registers f
 
 pub covers_join_right : (g : Answers) (e f : AbsState) (s : State) → Covers g f s → Covers g (join_states e f) s
 covers_join_right g e f s h = record { registers = registers_right g e.registers f.registers s.registers h.registers; stack = stack_right g e.stack f.stack s.stack h.stack }
-
--- ---- answers
-
-more_includes : (g after : Answers) (a : Abs) (x : ℕ) → IsMore g after → Includes g a x → Includes after a x
-more_includes g after (MayCell a) x more h = more a.slot x h
-more_includes g after (Cell (Found a)) x more h = (more a.slot x h.0, h.1)
-more_includes g after a x more h = h
-
-more_value : (g after : Answers) (a : Abs) (v : Option ℕ) → IsMore g after → CoversValue g a v → CoversValue after a v
-more_value g after Unusable v more h = tt
-more_value g after (Num a) None more h = absurd h
-more_value g after (Num a) (Some x) more h = more_includes g after (Num a) x more h
-more_value g after (Ctx a) None more h = absurd h
-more_value g after (Ctx a) (Some x) more h = more_includes g after (Ctx a) x more h
-more_value g after (Stk a) None more h = absurd h
-more_value g after (Stk a) (Some x) more h = more_includes g after (Stk a) x more h
-more_value g after (Map a) None more h = absurd h
-more_value g after (Map a) (Some x) more h = more_includes g after (Map a) x more h
-more_value g after (MayCell a) None more h = absurd h
-more_value g after (MayCell a) (Some x) more h = more_includes g after (MayCell a) x more h
-more_value g after (Cell a) None more h = absurd h
-more_value g after (Cell a) (Some x) more h = more_includes g after (Cell a) x more h
-
-more_slot : (g after : Answers) (slot : AbsSlot) (bytes : ℕ → Option ℕ) → IsMore g after → CoversSlot g slot bytes → CoversSlot after slot bytes
-more_slot g after (Kept v) bytes more h = record { number = h.number; word = h.word; included = more_includes g after v h.number more h.included; bytes_are = h.bytes_are }
-more_slot g after (Bytes mask) bytes more h = h
-
-pub covers_later : (g after : Answers) (e : AbsState) (s : State) → IsMore g after → Covers g e s → Covers after e s
-covers_later g after e s more h = record {
-  registers = λ r. more_value g after (register_at e.registers r) (s.registers r) more (h.registers r);
-  stack = λ i. more_slot g after (slot_at e.stack i) (bytes_of s.stack i) more (h.stack i);
-}
 
 -- ---- where a run starts
 

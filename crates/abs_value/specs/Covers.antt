@@ -1,8 +1,10 @@
 -- What is stood for: of a value the numbers and addresses, of a state of the verifier the states
 -- of a run.
-use Rattle.std.specs.Prelude.{◌≡◌, ◌≢◌, ℕ, ◌+◌, ◌*◌, ◌/◌, ◌%◌, ◌^◌, ◌<◌, ◌≤◌}
-use Rattle.std.specs.Prelude.{List, Option, Some, None, IsSome}
+use Rattle.std.specs.Prelude.{◌≡◌, ◌≢◌, ℕ, ◌+◌, ◌*◌, ◌/◌, ◌%◌, ◌^◌, ◌<◌, ◌≤◌, ◌⊎◌, ◌==◌}
+use Rattle.std.specs.Prelude.{List, Option, Some, None, IsSome, slice_get, if◌then◌else◌}
 use Rattle.std.specs.Int.{bit_at}
+use Rattle.cells.specs.declared.array.CellArray.{CellArray}
+use Rattle.cells.specs.Arrays.{AppShape, HasCell}
 use Rattle.bpf_semantics.specs.Memory.{context_start, stack_start, cell_address, map_start}
 use Rattle.bpf_semantics.specs.State.{State}
 use Rattle.abs_value.specs.declared.number.Number.{Number}
@@ -10,6 +12,7 @@ use Rattle.abs_value.specs.declared.places.Places.{Places}
 use Rattle.abs_value.specs.declared.value.Abs.{Abs}
 use Rattle.abs_value.specs.declared.value.Abs.TheVariants.{Unusable, Num, Ctx, Stk}
 use Rattle.abs_value.specs.declared.value.Abs.TheVariants.{Map, MayCell, Cell}
+use Rattle.abs_value.specs.declared.origin.Lookup.{Lookup}
 use Rattle.abs_value.specs.declared.origin.Origin.{Origin}
 use Rattle.abs_value.specs.declared.origin.Origin.TheVariants.{Found, Fixed}
 use Rattle.abs_value.specs.declared.slot.AbsSlot.{AbsSlot}
@@ -17,6 +20,34 @@ use Rattle.abs_value.specs.declared.slot.AbsSlot.TheVariants.{Kept, Bytes}
 use Rattle.abs_value.specs.declared.state.AbsState.{AbsState}
 use Rattle.abs_value.specs.Stack.{slot_at}
 use Rattle.abs_value.specs.States.{register_at}
+
+-- ---- answers
+
+-- what each call has answered so far, by its slot, and the arrays among which lookups choose
+pub record Answers : Type 0 where
+  pub shape : AppShape
+  pub by : ℕ → Option ℕ
+
+-- the cell is one of the array's of this index
+pub record HasCellAt (shape : AppShape) (index cell : ℕ) : Type 0 where
+  pub array : CellArray
+  pub there : slice_get shape.arrays index ≡ Some array
+  pub has : HasCell array cell
+
+abbrev pub IsCellOf : AppShape → ℕ → ℕ → Type 0
+IsCellOf shape index x = (cell : ℕ) × (x ≡ cell_address cell) × HasCellAt shape index cell
+
+-- a lookup has answered 0, or the address of a cell of its array
+abbrev pub Answered : Answers → Lookup → ℕ → Type 0
+Answered g call x = (g.by call.slot ≡ Some x) × ((x ≡ 0) ⊎ IsCellOf g.shape call.array x)
+
+-- no call at the slot, or after it, has answered
+abbrev pub AreBefore : ℕ → Answers → Type 0
+AreBefore slot g = (call : ℕ) → slot ≤ call → g.by call ≡ None
+
+-- the answers, and then that of the call at the slot
+abbrev pub answering : Answers → ℕ → ℕ → Answers
+answering g slot x = record g { by = λ call. if call == slot then Some x else g.by call }
 
 -- ---- values
 
@@ -31,30 +62,26 @@ IsInContext from x = (context_start + from.lo ≤ x) × (x ≤ context_start + f
 abbrev pub IsInStack : ℕ → ℕ → Type 0
 IsInStack place x = x ≡ stack_start + place
 
--- what each lookup has answered so far, by the slot of its call: 0, or the address of a cell
-abbrev pub Answers : Type 0
-Answers = ℕ → Option ℕ
-
 -- the address of a cell
 abbrev pub IsCell : Answers → Origin → ℕ → Type 0
-IsCell answers (Found call) x = (answers call.slot ≡ Some x) × (x ≢ 0)
-IsCell answers (Fixed cell) x = x ≡ cell_address cell
+IsCell g (Found call) x = Answered g call x × (x ≢ 0)
+IsCell g (Fixed cell) x = (x ≡ cell_address cell) × ((index : ℕ) × HasCellAt g.shape index cell)
 
 -- the numbers and addresses that a value stands for
 abbrev pub Includes : Answers → Abs → ℕ → Type 0
-Includes answers Unusable x = Unit {0}
-Includes answers (Num a) x = Holds a x
-Includes answers (Ctx from) x = IsInContext from x
-Includes answers (Stk place) x = IsInStack place x
-Includes answers (Map index) x = x ≡ map_start + index
-Includes answers (MayCell call) x = answers call.slot ≡ Some x
-Includes answers (Cell origin) x = IsCell answers origin x
+Includes g Unusable x = Unit {0}
+Includes g (Num a) x = Holds a x
+Includes g (Ctx from) x = IsInContext from x
+Includes g (Stk place) x = IsInStack place x
+Includes g (Map index) x = (x ≡ map_start + index) × IsSome (slice_get g.shape.arrays index)
+Includes g (MayCell call) x = Answered g call x
+Includes g (Cell origin) x = IsCell g origin x
 
 -- an unset register is covered only where the value is unusable
 abbrev pub CoversValue : Answers → Abs → Option ℕ → Type 0
-CoversValue answers Unusable v = Unit {0}
-CoversValue answers a None = ⊥
-CoversValue answers a (Some x) = Includes answers a x
+CoversValue g Unusable v = Unit {0}
+CoversValue g a None = ⊥
+CoversValue g a (Some x) = Includes g a x
 
 -- ---- the stack
 
@@ -63,10 +90,10 @@ abbrev pub IsWord : ℕ → Type 0
 IsWord x = x < 2 ^ 64
 
 -- the eight bytes are those of a word that the value includes, the least first
-pub record KeepsNumber (answers : Answers) (v : Abs) (bytes : ℕ → Option ℕ) : Type 0 where
+pub record KeepsNumber (g : Answers) (v : Abs) (bytes : ℕ → Option ℕ) : Type 0 where
   pub number : ℕ
   pub word : IsWord number
-  pub included : Includes answers v number
+  pub included : Includes g v number
   pub bytes_are : (j : ℕ) → j < 8 → bytes j ≡ Some (number / 256 ^ j % 256)
 
 -- at least the bytes of the mask are set
@@ -74,8 +101,8 @@ abbrev pub HasSet : ℕ → (ℕ → Option ℕ) → Type 0
 HasSet mask bytes = (j : ℕ) → j < 8 → bit_at mask j ≡ 1 → IsSome (bytes j)
 
 abbrev pub CoversSlot : Answers → AbsSlot → (ℕ → Option ℕ) → Type 0
-CoversSlot answers (Kept v) bytes = KeepsNumber answers v bytes
-CoversSlot answers (Bytes mask) bytes = HasSet mask bytes
+CoversSlot g (Kept v) bytes = KeepsNumber g v bytes
+CoversSlot g (Bytes mask) bytes = HasSet mask bytes
 
 -- the eight bytes of slot i of a stack
 abbrev pub bytes_of : (ℕ → Option ℕ) → ℕ → ℕ → Option ℕ
@@ -84,12 +111,18 @@ bytes_of stack i j = stack (8 * i + j)
 -- ---- states
 
 abbrev pub CoversRegisters : Answers → List Abs → (ℕ → Option ℕ) → Type 0
-CoversRegisters answers values registers =
-    (r : ℕ) → CoversValue answers (register_at values r) (registers r)
+CoversRegisters g values registers =
+    (r : ℕ) → CoversValue g (register_at values r) (registers r)
 
 abbrev pub CoversStack : Answers → List AbsSlot → (ℕ → Option ℕ) → Type 0
-CoversStack answers slots stack = (i : ℕ) → CoversSlot answers (slot_at slots i) (bytes_of stack i)
+CoversStack g slots stack = (i : ℕ) → CoversSlot g (slot_at slots i) (bytes_of stack i)
 
-pub record Covers (answers : Answers) (e : AbsState) (s : State) : Type 0 where
-  pub registers : CoversRegisters answers e.registers s.registers
-  pub stack : CoversStack answers e.stack s.stack
+pub record Covers (g : Answers) (e : AbsState) (s : State) : Type 0 where
+  pub registers : CoversRegisters g e.registers s.registers
+  pub stack : CoversStack g e.stack s.stack
+
+-- what is known at a state's slot stands for the state, given the answers of calls before it
+pub record IsStoodFor (shape : AppShape) (e : AbsState) (s : State) : Type 0 where
+  pub by : ℕ → Option ℕ
+  pub before : AreBefore s.slot (record { shape = shape; by = by })
+  pub covers : Covers (record { shape = shape; by = by }) e s

@@ -1,7 +1,7 @@
 -- What is promised of the definitions: what is computed stands for what the machine does, and no
 -- range is empty.
-use Rattle.std.specs.Prelude.{◌≡◌, ℕ, ◌+◌, ◌^◌, ◌<◌, ◌≤◌, pos, Option, Some, None, Bool, true}
-use Rattle.std.specs.Prelude.{false}
+use Rattle.std.specs.Prelude.{◌≡◌, ℕ, ◌+◌, ◌^◌, ◌<◌, ◌≤◌, ℤ, pos, Option, Some, None, Bool, true}
+use Rattle.std.specs.Prelude.{false, not, ◌==◌}
 use Rattle.attrs.specs.Attributes.{Attributes}
 use Rattle.bpf_insn.specs.declared.operand.AluOp.{AluOp}
 use Rattle.bpf_insn.specs.declared.operand.Bits.{Bits}
@@ -19,7 +19,9 @@ use Rattle.bpf_insn.specs.Conditions.{holds}
 use Rattle.bpf_insn.specs.Table.{number_of}
 use Rattle.bpf_semantics.specs.Memory.{stack_start, stack_size}
 use Rattle.bpf_semantics.specs.State.{State, HasWords, opening, read_at, written_at, with_register}
-use Rattle.bpf_semantics.specs.Reads.{operand, byte_count, load_count, filled}
+use Rattle.bpf_semantics.specs.State.{with_result}
+use Rattle.bpf_semantics.specs.Calls.{helper_result}
+use Rattle.bpf_semantics.specs.Reads.{register, operand, byte_count, load_count, filled}
 use Rattle.abs_value.specs.declared.value.Abs.{Abs}
 use Rattle.abs_value.specs.declared.value.Abs.TheVariants.{Num, Ctx}
 use Rattle.abs_value.specs.declared.state.AbsState.{AbsState}
@@ -31,7 +33,8 @@ use Rattle.abs_value.specs.Values.{join_values}
 use Rattle.abs_value.specs.Stack.{has_unset, loaded_from}
 use Rattle.abs_value.specs.States.{opening_state, value_at, join_states, operand_value, with_value}
 use Rattle.abs_value.specs.States.{with_operand, with_stored}
-use Rattle.abs_value.specs.Covers.{Answers, Includes, IsWord, Covers}
+use Rattle.abs_value.specs.Lookups.{with_answer, state_with_answer, refined_state, call_value, called}
+use Rattle.abs_value.specs.Covers.{Answers, AreBefore, answering, Includes, IsWord, Covers}
 
 -- ---- values
 
@@ -118,14 +121,51 @@ CoversLearnt =
 
 -- ---- answers
 
--- what was answered stays so
-abbrev pub IsMore : Answers → Answers → Type 0
-IsMore before after = (call x : ℕ) → before call ≡ Some x → after call ≡ Some x
+-- the arrays are the same, and what was answered stays so
+pub record IsMore (before after : Answers) : Type 0 where
+  pub shape : after.shape ≡ before.shape
+  pub answers : (call x : ℕ) → before.by call ≡ Some x → after.by call ≡ Some x
 
 abbrev pub CoversLater : Type 0
 CoversLater =
     (g after : Answers) (e : AbsState) (s : State)
     → IsMore g after → Covers g e s → Covers after e s
+
+-- answers before a slot are before each later one, that of the call at the slot too
+abbrev pub StaysBefore : Type 0
+StaysBefore =
+    (g : Answers) (slot next : ℕ) → slot ≤ next → AreBefore slot g → AreBefore next g
+
+abbrev pub AnswersBefore : Type 0
+AnswersBefore =
+    (g : Answers) (slot next x : ℕ)
+    → slot < next → AreBefore slot g → AreBefore next (answering g slot x)
+
+-- where the call has answered x, each copy of its answer is a cell's address or 0 as x is
+abbrev pub CoversAnswered : Type 0
+CoversAnswered =
+    (g : Answers) (e : AbsState) (s : State) (call x : ℕ)
+    → g.by call ≡ Some x → Covers g e s → Covers g (state_with_answer e call (not (x == 0))) s
+
+-- the edge that a run takes isn't dropped, and what is known on it covers the state
+abbrev pub CoversOn : Answers → Option AbsState → State → Type 0
+CoversOn g None s = ⊥
+CoversOn g (Some e) s = Covers g e s
+
+abbrev pub CoversEdges : Type 0
+CoversEdges =
+    (g : Answers) (e : AbsState) (s : State)
+    (bits : Bits) (condition : Condition) (left : Reg) (right : Operand) (jumps : Bool) (x y : ℕ)
+    → Covers g e s → register s left ≡ Some x → operand s bits right ≡ Some y
+    → is_taken jumps (holds bits condition x y) ≡ true
+    → CoversOn g (refined_state e bits condition left right jumps) s
+
+-- what a call leaves covers the state after it, once it has answered
+abbrev pub CoversCalls : Type 0
+CoversCalls =
+    (g : Answers) (e : AbsState) (s : State) (helper : ℤ) (x : ℕ)
+    → HasWords s → AreBefore s.slot g → Covers g e s → helper_result g.shape s helper ≡ Some x
+    → Covers (answering g s.slot x) (called e helper s.slot) (with_result s x)
 
 -- ---- joins, and the start
 
@@ -214,3 +254,9 @@ InhabitsEdges =
 
 abbrev pub InhabitsJoins : Type 0
 InhabitsJoins = KeepsBothInhabited join_values
+
+abbrev pub InhabitsAnswers : Type 0
+InhabitsAnswers = (call : ℕ) (found : Bool) → KeepsInhabited (with_answer call found)
+
+abbrev pub InhabitsCalls : Type 0
+InhabitsCalls = (helper : ℤ) (slot : ℕ) (v : Abs) → IsInhabited (call_value helper slot v)

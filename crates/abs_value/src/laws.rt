@@ -31,9 +31,24 @@ pub fn registers_cover()
     ensures opening { laws.CoversOpening }
 {}
 
-/// What was covered stays covered when another lookup has answered.
+/// What was covered stays covered when another call has answered. Answers before a slot, and that of
+/// the call there, are before each later slot.
 pub fn answers_are_kept()
-    ensures { laws.CoversLater }
+    ensures later { laws.CoversLater }
+    ensures before { laws.StaysBefore }
+    ensures next { laws.AnswersBefore }
+{}
+
+/// At a conditional jump the edge that a run takes is not dropped, and what is known on it covers
+/// the state. So does what is known once each copy of an answer is known.
+pub fn lookups_cover()
+    ensures answered { laws.CoversAnswered }
+    ensures edges { laws.CoversEdges }
+{}
+
+/// What a CALL leaves covers the state after it, whichever helper it calls.
+pub fn calls_cover()
+    ensures { laws.CoversCalls }
 {}
 
 /// A join stands for all that either side stands for.
@@ -62,4 +77,6 @@ pub fn ranges_have_numbers()
     ensures loaded { laws.InhabitsLoaded }
     ensures refined { laws.InhabitsEdges }
     ensures joined { laws.InhabitsJoins }
+    ensures answered { laws.InhabitsAnswers }
+    ensures called { laws.InhabitsCalls }
 {}

@@ -71,8 +71,8 @@ mod worked_edges;
 mod worked_values;
 
 pub use laws::{
-    answers_are_kept, edges_are_kept, joins_cover, loads_cover, ranges_have_numbers,
-    registers_cover, results_are_included, stores_cover,
+    answers_are_kept, calls_cover, edges_are_kept, joins_cover, loads_cover, lookups_cover,
+    ranges_have_numbers, registers_cover, results_are_included, stores_cover,
 };
 pub use number::Number;
 pub use origin::{Lookup, Origin};
