@@ -31,7 +31,7 @@ use Rattle.abs_value.specs.Bounds.{fitting, shifted_left, shifted_right, shifted
 use Rattle.abs_value.specs.Narrowing.{Pair, below, at_most, equal, apart_from, swapped, left_by, learnt, is_taken, is_comparable, narrowed}
 use Rattle.abs_value.specs.Values.{moved_in_context, moved_in_stack, or_unusable, alu_value, copied_value, extended_value, reordered_value, loaded_value, join_values, refined, numbers}
 use Rattle.abs_value.specs.Lookups.{answer_of, with_answer, lookup_value, call_value}
-use Rattle.abs_value.specs.Laws.{IsInhabited, AreInhabited}
+use Rattle.abs_value.specs.Inhabited.{IsInhabited, AreInhabited}
 use Rattle.abs_value.proofs.ShiftedRanges.{shifted_right_holds}
 use Rattle.abs_value.proofs.Moves.{context_in_order}
 

@@ -139,10 +139,10 @@ answer_slot : (g : Answers) (slot : AbsSlot) (call x : ℕ) (bytes : ℕ → Opt
 answer_slot g (Kept v) call x bytes is h = record { number = h.number; word = h.word; included = answer_includes g v call x h.number is h.included; bytes_are = h.bytes_are }
 answer_slot g (Bytes mask) call x bytes is h = h
 
-register_at-answer : (registers : List Abs) (call : ℕ) (found : Bool) (r : ℕ) → register_at (map (with_answer call found) registers) r ≡ with_answer call found (register_at registers r)
+pub register_at-answer : (registers : List Abs) (call : ℕ) (found : Bool) (r : ℕ) → register_at (map (with_answer call found) registers) r ≡ with_answer call found (register_at registers r)
 register_at-answer registers call found r = get_or-map (with_answer call found) registers r Unusable
 
-slot_at-answer : (slots : List AbsSlot) (call : ℕ) (found : Bool) (i : ℕ) → slot_at (map (slot_with_answer call found) slots) i ≡ slot_with_answer call found (slot_at slots i)
+pub slot_at-answer : (slots : List AbsSlot) (call : ℕ) (found : Bool) (i : ℕ) → slot_at (map (slot_with_answer call found) slots) i ≡ slot_with_answer call found (slot_at slots i)
 slot_at-answer slots call found i = get_or-map (slot_with_answer call found) slots i (Bytes 0)
 
 pub covers_answered : (g : Answers) (e : AbsState) (s : State) (call x : ℕ) → g.by call ≡ Some x → Covers g e s → Covers g (state_with_answer e call (not (x == 0))) s

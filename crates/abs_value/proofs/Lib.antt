@@ -12,3 +12,4 @@ mod Calls
 mod Stores
 mod Loads
 mod Inhabited
+mod InhabitedStates

@@ -54,11 +54,11 @@ join_slots_right g (Kept v) (Bytes n) bytes h = both_set_right 255 n bytes h
 join_slots_right g (Bytes m) (Kept w) bytes h = both_set_right m 255 bytes (mask_set g (Kept w) bytes h)
 join_slots_right g (Bytes m) (Bytes n) bytes h = both_set_right m n bytes h
 
-slot_at-join : (a b : List AbsSlot) (i : ℕ) → i < 64 → slot_at (join_stacks a b) i ≡ join_slots (slot_at a i) (slot_at b i)
+pub slot_at-join : (a b : List AbsSlot) (i : ℕ) → i < 64 → slot_at (join_stacks a b) i ≡ join_slots (slot_at a i) (slot_at b i)
 unfolding join_stacks
 slot_at-join a b i lt = get_or-map-range_with_len (λ (q : ℕ). join_slots (slot_at a q) (slot_at b q)) 0 64 i i (Bytes 0) lt (omega arith)
 
-slot_at-join_past : (a b : List AbsSlot) (i : ℕ) → 64 ≤ i → slot_at (join_stacks a b) i ≡ Bytes 0
+pub slot_at-join_past : (a b : List AbsSlot) (i : ℕ) → 64 ≤ i → slot_at (join_stacks a b) i ≡ Bytes 0
 unfolding join_stacks
 slot_at-join_past a b i le =
     let f : ℕ → AbsSlot = λ (q : ℕ). join_slots (slot_at a q) (slot_at b q) in

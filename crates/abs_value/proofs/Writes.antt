@@ -78,11 +78,11 @@ covers_learnt g e s bits (Register r) v x h is hv = record { registers = learnt_
 
 -- ---- joins
 
-register_at-join : (a b : List Abs) (r : ℕ) → r < 11 → register_at (join_registers a b) r ≡ join_values (register_at a r) (register_at b r)
+pub register_at-join : (a b : List Abs) (r : ℕ) → r < 11 → register_at (join_registers a b) r ≡ join_values (register_at a r) (register_at b r)
 unfolding join_registers
 register_at-join a b r lt = get_or-map-range_with_len (λ (q : ℕ). join_values (register_at a q) (register_at b q)) 0 11 r r Unusable lt (omega arith)
 
-register_at-join_past : (a b : List Abs) (r : ℕ) → 11 ≤ r → register_at (join_registers a b) r ≡ Unusable
+pub register_at-join_past : (a b : List Abs) (r : ℕ) → 11 ≤ r → register_at (join_registers a b) r ≡ Unusable
 unfolding join_registers
 register_at-join_past a b r le =
     let f : ℕ → Abs = λ (q : ℕ). join_values (register_at a q) (register_at b q) in
@@ -122,7 +122,7 @@ opening_registers_cover g (suc (suc (suc (suc (suc (suc (suc (suc (suc zero)))))
 opening_registers_cover g (suc (suc (suc (suc (suc (suc (suc (suc (suc (suc zero)))))))))) = refl
 opening_registers_cover g (suc (suc (suc (suc (suc (suc (suc (suc (suc (suc (suc r))))))))))) = tt
 
-unset : (n i : ℕ) → slot_at (replicate {A = AbsSlot} n (Bytes 0)) i ≡ Bytes 0
+pub unset : (n i : ℕ) → slot_at (replicate {A = AbsSlot} n (Bytes 0)) i ≡ Bytes 0
 unset zero i = refl
 unset (suc n) zero = refl
 unset (suc n) (suc i) = unset n i

@@ -1,5 +1,4 @@
--- What is promised of the definitions: what is computed stands for what the machine does, and no
--- range is empty.
+-- What is promised of the definitions: what is computed stands for what the machine does.
 use Rattle.std.specs.Prelude.{◌≡◌, ℕ, ◌+◌, ◌^◌, ◌<◌, ◌≤◌, ℤ, pos, Option, Some, None, Bool, true}
 use Rattle.std.specs.Prelude.{false, not, ◌==◌}
 use Rattle.attrs.specs.Attributes.{Attributes}
@@ -23,17 +22,14 @@ use Rattle.bpf_semantics.specs.State.{with_result}
 use Rattle.bpf_semantics.specs.Calls.{helper_result}
 use Rattle.bpf_semantics.specs.Reads.{register, operand, byte_count, load_count, filled}
 use Rattle.abs_value.specs.declared.value.Abs.{Abs}
-use Rattle.abs_value.specs.declared.value.Abs.TheVariants.{Num, Ctx}
 use Rattle.abs_value.specs.declared.state.AbsState.{AbsState}
-use Rattle.abs_value.specs.Numbers.{IsRange}
 use Rattle.abs_value.specs.Narrowing.{is_taken}
 use Rattle.abs_value.specs.Values.{is_unusable, alu_value, copied_value, negated_value}
 use Rattle.abs_value.specs.Values.{extended_value, reordered_value, loaded_value, refined}
-use Rattle.abs_value.specs.Values.{join_values}
 use Rattle.abs_value.specs.Stack.{has_unset, loaded_from}
 use Rattle.abs_value.specs.States.{opening_state, value_at, join_states, operand_value, with_value}
 use Rattle.abs_value.specs.States.{with_operand, with_stored}
-use Rattle.abs_value.specs.Lookups.{with_answer, state_with_answer, refined_state, call_value, called}
+use Rattle.abs_value.specs.Lookups.{state_with_answer, refined_state, called}
 use Rattle.abs_value.specs.Covers.{Answers, AreBefore, answering, Includes, IsWord, Covers}
 
 -- ---- values
@@ -209,54 +205,3 @@ CoversLoads =
     → HasWords s → Covers g e s → has_unset e.stack (pos place) (load_count kind) ≡ false
     → Finds g (loaded_from e.stack place kind) kind
     (read_at s (stack_start + place) (load_count kind))
-
--- ---- no range is empty
-
-abbrev pub IsInhabited : Abs → Type 0
-IsInhabited (Num a) = IsRange a
-IsInhabited (Ctx from) = from.lo ≤ from.hi
-IsInhabited v = Unit {0}
-
-abbrev pub AreInhabited : Option (Abs × Abs) → Type 0
-AreInhabited None = Unit {0}
-AreInhabited (Some p) = IsInhabited p.0 × IsInhabited p.1
-
-abbrev pub KeepsInhabited : (Abs → Abs) → Type 0
-KeepsInhabited f = (a : Abs) → IsInhabited a → IsInhabited (f a)
-
-abbrev pub KeepsBothInhabited : (Abs → Abs → Abs) → Type 0
-KeepsBothInhabited f = (a b : Abs) → IsInhabited a → IsInhabited b → IsInhabited (f a b)
-
-abbrev pub InhabitsResults : Type 0
-InhabitsResults = (bits : Bits) (op : AluOp) → KeepsBothInhabited (alu_value bits op)
-
-abbrev pub InhabitsCopies : Type 0
-InhabitsCopies = (bits : Bits) → KeepsInhabited (copied_value bits)
-
-abbrev pub InhabitsNegations : Type 0
-InhabitsNegations = (bits : Bits) → KeepsInhabited (negated_value bits)
-
-abbrev pub InhabitsExtensions : Type 0
-InhabitsExtensions = (e : Extension) → KeepsInhabited (extended_value e)
-
-abbrev pub InhabitsReorderings : Type 0
-InhabitsReorderings =
-    (order : ByteOrder) (size : EndSize) → KeepsInhabited (reordered_value order size)
-
-abbrev pub InhabitsLoaded : Type 0
-InhabitsLoaded = (kind : LoadKind) → IsInhabited (loaded_value kind)
-
--- what is left on an edge
-abbrev pub InhabitsEdges : Type 0
-InhabitsEdges =
-    (bits : Bits) (condition : Condition) (jumps : Bool) (a b : Abs) → IsInhabited a → IsInhabited b
-    → AreInhabited (refined bits condition jumps a b)
-
-abbrev pub InhabitsJoins : Type 0
-InhabitsJoins = KeepsBothInhabited join_values
-
-abbrev pub InhabitsAnswers : Type 0
-InhabitsAnswers = (call : ℕ) (found : Bool) → KeepsInhabited (with_answer call found)
-
-abbrev pub InhabitsCalls : Type 0
-InhabitsCalls = (helper : ℤ) (slot : ℕ) (v : Abs) → IsInhabited (call_value helper slot v)

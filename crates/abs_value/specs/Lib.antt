@@ -7,4 +7,5 @@ pub mod States
 pub mod Lookups
 pub mod Covers
 pub mod Laws
+pub mod Inhabited
 pub mod Worked

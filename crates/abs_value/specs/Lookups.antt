@@ -1,6 +1,6 @@
 -- What is learnt of lookups and left by calls: a comparison with 0 tells whether a lookup found a
 -- cell (64-bit JEQ and JNE with imm 0), and a CALL gives R0 and takes R1 to R5.
-use Rattle.std.specs.Prelude.{ℕ, ℤ, pos, negsuc, List, ◌∷◌, drop, map, Option, Some, None, option_map}
+use Rattle.std.specs.Prelude.{◌≡◌, ℕ, ℤ, pos, negsuc, List, ◌∷◌, drop, map, Option, Some, None, option_map}
 use Rattle.std.specs.Prelude.{Bool, true, false, ◌&&◌, not, ◌==◌, if◌then◌else◌}
 use Rattle.bpf_insn.specs.declared.reg.Reg.{Reg}
 use Rattle.bpf_insn.specs.declared.operand.Bits.{Bits}
@@ -90,6 +90,11 @@ refined_state e bits condition left right jumps =
     else if compares_with_zero bits condition right && is_pointer (value_of e left)
     then after_null_check e (value_of e left) (is_found condition jumps)
     else after_comparison e bits condition left right jumps
+
+-- what is known is learnt where some run takes the edge; else nothing is changed
+abbrev pub IsEdge : Bool → Option AbsState → AbsState → AbsState → Type 0
+IsEdge true o e f = o ≡ Some f
+IsEdge false o e f = (o ≡ None) × (f ≡ e)
 
 -- ---- calls
 

@@ -2,6 +2,7 @@
 //! machine does, and no range is empty. The functions have no work to do; a proof calls them for
 //! their clauses.
 
+ghost use Rattle.abs_value.specs.Inhabited as ranges;
 ghost use Rattle.abs_value.specs.Laws as laws;
 
 /// Of numbers that two values include, each operation gives a number that its result includes:
@@ -31,8 +32,8 @@ pub fn registers_cover()
     ensures opening { laws.CoversOpening }
 {}
 
-/// What was covered stays covered when another call has answered. Answers before a slot, and that of
-/// the call there, are before each later slot.
+/// What was covered stays covered when another call has answered. Answers before a slot, and that
+/// of the call there, are before each later slot.
 pub fn answers_are_kept()
     ensures later { laws.CoversLater }
     ensures before { laws.StaysBefore }
@@ -67,16 +68,28 @@ pub fn loads_cover()
     ensures { laws.CoversLoads }
 {}
 
-/// From ranges with numbers in them no empty range is computed.
+/// From ranges with numbers in them no empty range is computed,
 pub fn ranges_have_numbers()
-    ensures alu { laws.InhabitsResults }
-    ensures copied { laws.InhabitsCopies }
-    ensures negated { laws.InhabitsNegations }
-    ensures extended { laws.InhabitsExtensions }
-    ensures reordered { laws.InhabitsReorderings }
-    ensures loaded { laws.InhabitsLoaded }
-    ensures refined { laws.InhabitsEdges }
-    ensures joined { laws.InhabitsJoins }
-    ensures answered { laws.InhabitsAnswers }
-    ensures called { laws.InhabitsCalls }
+    ensures alu { ranges.InhabitsResults }
+    ensures copied { ranges.InhabitsCopies }
+    ensures negated { ranges.InhabitsNegations }
+    ensures extended { ranges.InhabitsExtensions }
+    ensures reordered { ranges.InhabitsReorderings }
+    ensures loaded { ranges.InhabitsLoaded }
+    ensures refined { ranges.InhabitsEdges }
+    ensures joined { ranges.InhabitsJoins }
+    ensures answered { ranges.InhabitsAnswers }
+    ensures called { ranges.InhabitsCalls }
+{}
+
+/// in no register and no slot of the stack either.
+pub fn states_have_numbers()
+    ensures opening { ranges.InhabitsOpening }
+    ensures operands { ranges.InhabitsOperands }
+    ensures writes { ranges.InhabitsWrites }
+    ensures stores { ranges.InhabitsStores }
+    ensures loads { ranges.InhabitsLoads }
+    ensures joins { ranges.InhabitsMeetings }
+    ensures edges { ranges.InhabitsRefined }
+    ensures calls { ranges.InhabitsCalled }
 {}

@@ -2,8 +2,9 @@
 //! edges of a comparison with 0 each copy of an answer, in a register or kept in the stack, becomes
 //! 0 or the address of a cell.
 
-ghost use Rattle.std.specs.Prelude.{◌≡◌, map, is_some, unwrap_or};
+ghost use Rattle.std.specs.Prelude.{◌≡◌, map};
 ghost use Rattle.abs_value.specs.Lookups as lookups;
+ghost use Rattle.abs_value.specs.Lookups.{IsEdge, after_comparison, refined_state};
 
 use crate::slot::AbsSlot;
 use crate::state::AbsState;
@@ -67,8 +68,7 @@ impl AbsState {
 
     /// Where a pointer is compared with 0. The address of a cell isn't 0.
     fn refine_pointer(&mut self, value: Abs, found: bool) -> bool
-        ensures taken { result ≡ is_some (lookups.after_null_check self.old value found) }
-        ensures learnt { self.new ≡ unwrap_or (lookups.after_null_check self.old value found) self.old }
+        ensures { IsEdge result (lookups.after_null_check self.old value found) self.old self.new }
     {
         match value {
             Abs::MayCell(lookup) => {
@@ -88,9 +88,8 @@ impl AbsState {
         right: Operand,
         jumps: bool,
     ) -> bool
-        ensures taken { result ≡ is_some (lookups.after_comparison self.old bits condition left right jumps) }
-        ensures learnt { self.new
-            ≡ unwrap_or (lookups.after_comparison self.old bits condition left right jumps) self.old }
+        ensures { IsEdge result (after_comparison self.old bits condition left right jumps)
+            self.old self.new }
     {
         let other = self.operand(bits, right);
         match self.value(left).refined(bits, condition, jumps, other) {
@@ -103,7 +102,7 @@ impl AbsState {
         }
     }
 
-    /// Learns what an edge of a conditional jump tells: the one that jumps, or the one that goes on.
+    /// Learns what an edge of a conditional jump tells, the one that jumps or the one that goes on.
     /// `false` where no run takes it, and then nothing is changed. Of a register that is compared
     /// with itself nothing is learnt.
     pub fn refine(
@@ -114,9 +113,8 @@ impl AbsState {
         right: Operand,
         jumps: bool,
     ) -> bool
-        ensures taken { result ≡ is_some (lookups.refined_state self.old bits condition left right jumps) }
-        ensures learnt { self.new
-            ≡ unwrap_or (lookups.refined_state self.old bits condition left right jumps) self.old }
+        ensures { IsEdge result (refined_state self.old bits condition left right jumps)
+            self.old self.new }
     {
         if is_register(right, left) {
             return true;

@@ -150,8 +150,8 @@ impl Abs {
         }
     }
 
-    /// What it is where the lookup by the CALL at this slot is known to have found a cell, or to have
-    /// found none: 0 in place of its answer.
+    /// What it is where the lookup by the CALL at this slot is known to have found a cell, or to
+    /// have found none: then 0 stands in place of its answer.
     pub fn with_answer(self, call: u16, found: bool) -> Abs
         ensures { result ≡ lookups.with_answer call found self }
     {
