@@ -1,18 +1,29 @@
--- Stacks and lookups of the worked examples.
-use Rattle.std.specs.Prelude.{List, replicate}
+-- Stacks, lookups and states of the worked examples.
+use Rattle.std.specs.Prelude.{List, replicate, Option, option_map, Bool}
+use Rattle.bpf_insn.specs.declared.reg.Reg.TheVariants.{R0, R6}
+use Rattle.bpf_insn.specs.declared.operand.Bits.{Bits}
+use Rattle.bpf_insn.specs.declared.operand.Condition.{Condition}
+use Rattle.bpf_insn.specs.declared.operand.Operand.{Operand}
 use Rattle.abs_value.specs.declared.origin.Lookup.{Lookup}
 use Rattle.abs_value.specs.declared.slot.AbsSlot.{AbsSlot}
 use Rattle.abs_value.specs.declared.slot.AbsSlot.TheVariants.{Bytes}
+use Rattle.abs_value.specs.declared.state.AbsState.{AbsState}
+use Rattle.abs_value.specs.declared.value.Abs.{Abs}
 use Rattle.abs_value.specs.declared.value.Abs.TheVariants.{Num}
 use Rattle.abs_value.specs.Numbers.{single}
-use Rattle.abs_value.specs.Stack.{stored}
+use Rattle.abs_value.specs.Stack.{stored, slot_at}
+use Rattle.abs_value.specs.States.{value_at, with_value, with_stored, opening_state}
+use Rattle.abs_value.specs.Lookups.{refined_state}
 
--- in one array by two calls
+-- lookups in one array by two calls, and in another by the first of them
 abbrev pub first : Lookup
 first = record { array = 0; slot = 4 }
 
 abbrev pub second : Lookup
 second = record { array = 0; slot = 9 }
+
+abbrev pub elsewhere : Lookup
+elsewhere = record { array = 7; slot = 4 }
 
 -- where a run starts
 abbrev pub no_bytes : List AbsSlot
@@ -25,3 +36,16 @@ kept_at_end = stored no_bytes 504 8 (Num (single 7))
 -- 8 bytes of which 4 lie in the last slot
 abbrev pub two_halves : List AbsSlot
 two_halves = stored no_bytes 500 8 (Num (single 7))
+
+-- one value in R0, another in R6 and in the last slot of the stack
+abbrev pub holding : Abs → Abs → AbsState
+holding a b = with_stored (with_value (with_value opening_state R0 a) R6 b) 504 8 b
+
+-- these three
+abbrev pub three : AbsState → Abs × Abs × AbsSlot
+three e = (value_at e 0, value_at e 6, slot_at e.stack 63)
+
+-- on an edge of a comparison of R0
+abbrev pub compared : Abs → Abs → Bits → Condition → Operand → Bool → Option (Abs × Abs × AbsSlot)
+compared a b bits condition right jumps =
+    option_map three (refined_state (holding a b) bits condition R0 right jumps)

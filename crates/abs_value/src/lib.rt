@@ -68,6 +68,7 @@ mod state;
 mod value;
 mod worked;
 mod worked_edges;
+mod worked_lookups;
 mod worked_values;
 
 pub use laws::{
@@ -83,4 +84,5 @@ pub use state::AbsState;
 pub use value::Abs;
 pub use worked::{bit_operations, differences, shifts, sizes, sums};
 pub use worked_edges::{decisions, equalities, orders, sides};
+pub use worked_lookups::{call_results, null_checks, other_checks};
 pub use worked_values::{joins, pointer_moves, stack_bytes};
