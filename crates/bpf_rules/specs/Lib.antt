@@ -1,0 +1,5 @@
+pub mod Reads
+pub mod Arrays
+pub mod Memory
+pub mod Rules
+pub mod Transfer

@@ -1,0 +1,116 @@
+//! Calls of helpers, and the end of a run: the rules that CALL and EXIT may break.
+
+ghost use Rattle.std.specs.Prelude.{◌≡◌};
+ghost use Rattle.std.specs.List.{list_any};
+ghost use Rattle.cells.specs.Arrays.{AppShape};
+ghost use Rattle.abs_value.specs.States.{value_of};
+ghost use Rattle.abs_value.specs.Values.{is_unusable};
+ghost use Rattle.bpf_rules.specs.Reads as reads;
+ghost use Rattle.bpf_rules.specs.Rules as rules;
+
+use crate::helper::Helper;
+use crate::memory::text_unset;
+use crate::refusal::Rule;
+use abs_value::{Abs, AbsState, STACK_SIZE};
+use bpf_insn::{Insn, Reg};
+use cells::Shape;
+
+/// The most bytes of a text that attr_is compares.
+const MAX_TEXT: u64 = 64;
+
+/// Whether a register of the arguments may be unset.
+fn reads_unusable(e: &AbsState, helper: Option<Helper>) -> bool
+    ensures { result ≡ list_any (λ r. is_unusable (value_of e.now r)) (reads.arguments helper) }
+{
+    match helper {
+        Some(Helper::Lookup) => { e.value(Reg::R1).is_unusable() || e.value(Reg::R2).is_unusable() }
+        Some(Helper::AttrIs) => {
+            e.value(Reg::R1).is_unusable()
+                || e.value(Reg::R2).is_unusable()
+                || e.value(Reg::R3).is_unusable()
+        }
+        Some(_) => e.value(Reg::R1).is_unusable(),
+        None => false,
+    }
+}
+
+/// Whether a byte of a text that is compared may be unset.
+fn compares_unset(e: &AbsState, helper: Option<Helper>) -> bool
+    ensures { result ≡ rules.compares_unset e.now helper }
+{
+    match helper {
+        Some(Helper::AttrIs) => text_unset(e, e.value(Reg::R2), e.value(Reg::R3)),
+        _ => false,
+    }
+}
+
+/// Whether it is a text in the stack: an address, and a single length of at most 64.
+fn is_text(address: Abs, length: Abs) -> bool
+    ensures { result ≡ rules.is_text address length }
+{
+    match (address, length) {
+        (Abs::Stk { place }, Abs::Num(n)) => {
+            n.is_single() && n.lo <= MAX_TEXT && place as u64 + n.lo <= STACK_SIZE as u64
+        }
+        _ => false,
+    }
+}
+
+fn is_map(value: Abs) -> bool
+    ensures { result ≡ rules.is_map value }
+{
+    matches!(value, Abs::Map { .. })
+}
+
+/// Whether a helper takes its arguments.
+fn takes(e: &AbsState, helper: Option<Helper>) -> bool
+    ensures { result ≡ rules.takes e.now helper }
+{
+    match helper {
+        Some(Helper::Lookup) => is_map(e.value(Reg::R1)) && e.value(Reg::R2).is_number(),
+        Some(Helper::AttrIs) => {
+            e.value(Reg::R1).is_number() && is_text(e.value(Reg::R2), e.value(Reg::R3))
+        }
+        Some(_) => e.value(Reg::R1).is_number(),
+        None => false,
+    }
+}
+
+/// The first rule that a CALL breaks.
+#[tactic(auto, unfolding(crate::specs::Rules::first_rule))]
+pub fn call_rule(e: &AbsState, helper: i32) -> Option<Rule>
+    ensures { (shape : AppShape) → rules.first_rule shape e.now (Insn.Call helper) ≡ result }
+{
+    let called = Helper::of(helper);
+    if reads_unusable(e, called) || compares_unset(e, called) {
+        Some(Rule::Unusable)
+    } else if !takes(e, called) {
+        Some(Rule::Helper)
+    } else {
+        None
+    }
+}
+
+fn is_choice(shape: &Shape, value: Abs) -> bool
+    ensures { result ≡ rules.is_choice shape.now value }
+{
+    match value {
+        Abs::Num(n) => n.hi <= shape.releases() as u64,
+        _ => false,
+    }
+}
+
+/// The first rule that EXIT breaks.
+#[tactic(auto, unfolding(crate::specs::Rules::first_rule))]
+pub fn exit_rule(shape: &Shape, e: &AbsState) -> Option<Rule>
+    ensures { rules.first_rule shape.now e.now Insn.Exit ≡ result }
+{
+    let value = e.value(Reg::R0);
+    if value.is_unusable() {
+        Some(Rule::Unusable)
+    } else if !is_choice(shape, value) {
+        Some(Rule::Result)
+    } else {
+        None
+    }
+}

@@ -1,0 +1,52 @@
+//! Conditional jumps (RFC 9669, "Jump Instructions"): the rules that they may break.
+
+ghost use Rattle.std.specs.Prelude.{◌≡◌, ℤ};
+ghost use Rattle.cells.specs.Arrays.{AppShape};
+ghost use Rattle.abs_value.specs.Lookups.{compares_with_zero};
+ghost use Rattle.bpf_rules.specs.Rules as rules;
+
+use crate::refusal::Rule;
+use abs_value::{Abs, AbsState};
+use bpf_insn::{Bits, Condition, Insn, Operand, Reg};
+
+/// Whether it is what a lookup gave, or the address of a cell.
+fn may_be_null(value: Abs) -> bool
+    ensures { result ≡ rules.may_be_null value }
+{
+    matches!(value, Abs::MayCell(_) | Abs::Cell(_))
+}
+
+/// Whether all 64 bits are compared with 0, to be equal or not.
+pub fn compares_with_zero(bits: Bits, condition: Condition, right: Operand) -> bool
+    ensures { result ≡ compares_with_zero bits condition right }
+{
+    match (bits, condition, right) {
+        (Bits::Bits64, Condition::Eq | Condition::Ne, Operand::Imm(imm)) => imm == 0,
+        _ => false,
+    }
+}
+
+/// The first rule that a conditional jump breaks.
+#[tactic(auto, unfolding(crate::specs::Rules::first_rule))]
+pub fn jump_rule(
+    e: &AbsState,
+    bits: Bits,
+    condition: Condition,
+    left: Reg,
+    right: Operand,
+) -> Option<Rule>
+    ensures { (shape : AppShape) (offset : ℤ)
+        → rules.first_rule shape e.now (Insn.JumpIf bits condition left right offset) ≡ result }
+{
+    let a = e.value(left);
+    let b = e.operand(bits, right);
+    if a.is_unusable() || b.is_unusable() {
+        Some(Rule::Unusable)
+    } else if (a.is_pointer() || b.is_pointer())
+        && !(compares_with_zero(bits, condition, right) && may_be_null(a))
+    {
+        Some(Rule::PointerCompare)
+    } else {
+        None
+    }
+}
