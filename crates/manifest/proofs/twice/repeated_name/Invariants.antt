@@ -1,0 +1,11 @@
+use Rattle.std.proofs.Common.{◌≡◌, map, length}
+use Rattle.manifest.specs.Twice.{repeated}
+use Rattle.manifest.proofs.twice.repeated_name.Given as goal
+
+-- none so far stands again
+abbrev pub invariant-loop-rest : goal.invariant-loop-rest
+invariant-loop-rest g l =
+    repeated (map g.N.Named.name_of l.rest) ≡ repeated (map g.N.Named.name_of l.list)
+
+abbrev pub decreases-loop-rest : goal.decreases-loop-rest
+decreases-loop-rest g l = length l.rest

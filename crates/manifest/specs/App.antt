@@ -1,0 +1,50 @@
+-- The table of an app.
+use Rattle.std.specs.Prelude.{ℕ, List, length, codes, Bool, ◌&&◌, nat_le}
+use Rattle.std.specs.Prelude.{Option, Some, None, option_map, Result, Ok}
+use Rattle.toml.specs.Data.{Data, Members, get_member, as_str}
+use Rattle.releases.specs.Release.{Release}
+use Rattle.manifest.specs.declared.app.Source.{Source}
+use Rattle.manifest.specs.declared.app.Source.TheVariants.{Program, Rule}
+use Rattle.manifest.specs.declared.kind.Kind.TheVariants as kind
+use Rattle.manifest.specs.declared.misfit.InList.{InList}
+use Rattle.manifest.specs.declared.misfit.AppMisfit.{AppMisfit}
+use Rattle.manifest.specs.declared.misfit.AppMisfit.TheVariants as misfit
+use Rattle.manifest.specs.declared.misfit.ReleaseMisfit.{ReleaseMisfit}
+use Rattle.manifest.specs.Kind.{only}
+use Rattle.manifest.specs.Member.{required, text_that, needs, fits}
+use Rattle.manifest.specs.Rows.{rows_of}
+use Rattle.manifest.specs.Release.{release_of}
+
+-- an app: its appid, the file of its program, and its releases
+pub record AppEntry : Type 0 where
+  pub appid : List ℕ
+  pub source : Source
+  pub releases : List Release
+
+-- 1 to 1024 bytes
+abbrev pub is_appid : List ℕ → Bool
+is_appid text = nat_le 1 (length text) && nat_le (length text) 1024
+
+-- the file is that of a program or that of a rule, and there is just one
+abbrev pub source_of : Option Data → Option Data → Option Source
+source_of (Some program) None = option_map (λ file. Program file) (as_str program)
+source_of None (Some rule) = option_map (λ file. Rule file) (as_str rule)
+source_of None None = None
+source_of (Some program) (Some rule) = None
+
+abbrev pub source_in : Members → Result Source AppMisfit
+source_in table =
+    needs (source_of (get_member (codes "program") table) (get_member (codes "rule") table))
+    misfit.Source (λ source. Ok source)
+
+-- at most 64 releases
+abbrev pub releases_of : Members → Result (List Release) (InList ReleaseMisfit)
+releases_of table = rows_of release_of 0 64 (get_member (codes "release") table)
+
+abbrev pub app_of : Members → Result AppEntry AppMisfit
+app_of table =
+    only kind.App table misfit.Unknown (
+    needs (required (text_that is_appid) (codes "appid") table) misfit.Appid (λ appid.
+    fits (source_in table) (λ misfit. misfit) (λ source.
+    fits (releases_of table) misfit.Releases (λ releases.
+    Ok (record { appid = appid; source = source; releases = releases })))))

@@ -1,0 +1,39 @@
+-- The table of an array of counters.
+use Rattle.std.specs.Prelude.{ℕ, List, length, codes, Bool, ◌&&◌, ◌==◌, nat_le, if◌then◌else◌}
+use Rattle.std.specs.Prelude.{Option, Some, None, option_and_then, option_map, Result, Ok}
+use Rattle.toml.specs.Data.{Data, Members, get_member}
+use Rattle.cells.specs.declared.array.CellWidth.{CellWidth}
+use Rattle.cells.specs.declared.array.CellWidth.TheVariants.{Bits32, Bits64}
+use Rattle.cells.specs.Directory.{Declaration, declaration}
+use Rattle.cells.specs.Names.{is_spelled}
+use Rattle.manifest.specs.declared.kind.Kind.TheVariants as kind
+use Rattle.manifest.specs.declared.misfit.ArrayMisfit.{ArrayMisfit}
+use Rattle.manifest.specs.declared.misfit.ArrayMisfit.TheVariants as misfit
+use Rattle.manifest.specs.Kind.{only}
+use Rattle.manifest.specs.Member.{required, number, text_that, needs}
+
+-- a letter or `_`, then letters, digits and `_`, at most 32 in all
+abbrev pub is_name : List ℕ → Bool
+is_name text = is_spelled text && nat_le (length text) 32
+
+abbrev pub width_from : ℕ → Option CellWidth
+width_from n = if n == 32 then Some Bits32 else if n == 64 then Some Bits64 else None
+
+-- 32 or 64
+abbrev pub width_of : Data → Option CellWidth
+width_of value = option_and_then width_from (number 32 64 value)
+
+-- a quota may be absent, and stands over 64-bit cells alone
+abbrev pub quota_of : CellWidth → Option Data → Option (Option ℕ)
+quota_of w None = Some None
+quota_of Bits64 (Some value) = option_map (λ q. Some q) (number 1 9223372036854775807 value)
+quota_of Bits32 (Some value) = None
+
+abbrev pub array_of : Members → Result Declaration ArrayMisfit
+array_of table =
+    only kind.Array table misfit.Unknown (
+    needs (required (text_that is_name) (codes "name") table) misfit.Name (λ name.
+    needs (required width_of (codes "width") table) misfit.Width (λ width.
+    needs (required (number 1 4096) (codes "length") table) misfit.Length (λ length.
+    needs (quota_of width (get_member (codes "quota") table)) misfit.Quota (λ quota.
+    Ok (declaration name width length quota))))))

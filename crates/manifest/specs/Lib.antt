@@ -1,0 +1,10 @@
+pub mod Kind
+pub mod Member
+pub mod Rows
+pub mod Unread
+pub mod Package
+pub mod Release
+pub mod Array
+pub mod App
+pub mod Twice
+pub mod Manifest

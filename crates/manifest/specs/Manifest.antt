@@ -1,0 +1,93 @@
+-- A manifest: the table of a document, and what is told of one that is refused.
+use Rattle.std.specs.Prelude.{◌≡◌, ℕ, ◌<◌, ◌≤◌, List, length, map, codes}
+use Rattle.std.specs.Prelude.{Option, Some, None, Result, Ok, Err, IsUtf8}
+use Rattle.toml.specs.Data.{Members, get_member, as_str}
+use Rattle.toml.specs.Parse.{parse_document}
+use Rattle.cells.specs.Directory.{Declaration}
+use Rattle.manifest.specs.declared.fault.ManifestFault.{ManifestFault}
+use Rattle.manifest.specs.declared.fault.ManifestFault.TheVariants.{Toml, Field, Duplicate, Memory}
+use Rattle.manifest.specs.declared.fault.TomlFault.{TomlFault}
+use Rattle.manifest.specs.declared.fault.TomlFault.TheVariants.{TooLong, Text}
+use Rattle.manifest.specs.declared.fault.Twice.{Twice}
+use Rattle.manifest.specs.declared.fault.Twice.TheVariants as twice
+use Rattle.manifest.specs.declared.kind.Kind.TheVariants as kind
+use Rattle.manifest.specs.declared.misfit.InList.{InList}
+use Rattle.manifest.specs.declared.misfit.AppMisfit.{AppMisfit}
+use Rattle.manifest.specs.declared.misfit.ArrayMisfit.{ArrayMisfit}
+use Rattle.manifest.specs.declared.misfit.Misfit.{Misfit}
+use Rattle.manifest.specs.declared.misfit.Misfit.TheVariants as misfit
+use Rattle.manifest.specs.Kind.{only}
+use Rattle.manifest.specs.Member.{required, needs, fits}
+use Rattle.manifest.specs.Rows.{rows_of}
+use Rattle.manifest.specs.Array.{array_of}
+use Rattle.manifest.specs.App.{AppEntry, app_of}
+use Rattle.manifest.specs.Twice.{repeated}
+
+pub record Manifest : Type 0 where
+  pub server : List ℕ
+  pub arrays : List Declaration
+  pub apps : List AppEntry
+
+-- at most 64 arrays
+abbrev pub arrays_of : Members → Result (List Declaration) (InList ArrayMisfit)
+arrays_of table = rows_of array_of 0 64 (get_member (codes "array") table)
+
+-- 1 to 256 apps
+abbrev pub apps_of : Members → Result (List AppEntry) (InList AppMisfit)
+apps_of table = rows_of app_of 1 256 (get_member (codes "app") table)
+
+abbrev pub tables_of : Members → Result Manifest Misfit
+tables_of table =
+    only kind.Manifest table misfit.Unknown (
+    needs (required as_str (codes "server") table) misfit.Server (λ server.
+    fits (arrays_of table) misfit.Arrays (λ arrays.
+    fits (apps_of table) misfit.Apps (λ apps.
+    Ok (record { server = server; arrays = arrays; apps = apps })))))
+
+-- what comes next, where there is nothing
+abbrev pub none_of : {X Y E : Type 0} → Option X → (X → E) → Result Y E → Result Y E
+none_of None fault next = next
+none_of (Some x) fault next = Err (fault x)
+
+-- the manifest, if the names of its arrays stand once, and so do its appids
+abbrev pub once : Manifest → Result Manifest Twice
+once manifest =
+    none_of (repeated (map (λ (a : Declaration). a.name) manifest.arrays)) twice.Array (
+    none_of (repeated (map (λ (a : AppEntry). a.appid) manifest.apps)) twice.App (
+    Ok manifest))
+
+-- ---- the bytes
+
+-- the tree of the bytes: they are at most 1048576 of UTF-8, and spell a TOML document
+pub record IsTree (bytes : List ℕ) (tree : Members) : Type 0 where
+  pub short : length bytes ≤ 1048576
+  pub utf8 : IsUtf8 bytes
+  pub document : parse_document bytes ≡ Some tree
+
+-- why the bytes have no tree
+abbrev pub HasNoTree : List ℕ → TomlFault → Type 0
+HasNoTree bytes TooLong = 1048576 < length bytes
+HasNoTree bytes (Text e) =
+    (length bytes ≤ 1048576) × (IsUtf8 bytes → parse_document bytes ≡ None)
+
+-- the tables of the bytes' tree are read so
+pub record HasTables (bytes : List ℕ) (tables : Result Manifest Misfit) : Type 0 where
+  pub tree : Members
+  pub spelled : IsTree bytes tree
+  pub tables_are : tables_of tree ≡ tables
+
+-- what a manifest's bytes are read as; of want of memory nothing is said
+abbrev pub Reads : List ℕ → Result Manifest ManifestFault → Type 0
+Reads bytes (Ok manifest) = HasTables bytes (Ok manifest) × (once manifest ≡ Ok manifest)
+Reads bytes (Err (Toml fault)) = HasNoTree bytes fault
+Reads bytes (Err (Field misfit)) = HasTables bytes (Err misfit)
+Reads bytes (Err (Duplicate twice)) =
+    (manifest : Manifest) × HasTables bytes (Ok manifest) × (once manifest ≡ Err twice)
+Reads bytes (Err Memory) = Unit {0}
+
+-- what is answered where there is no tree
+abbrev pub RefusesTree : List ℕ → ManifestFault → Type 0
+RefusesTree bytes (Toml fault) = HasNoTree bytes fault
+RefusesTree bytes (Field misfit) = ⊥
+RefusesTree bytes (Duplicate twice) = ⊥
+RefusesTree bytes Memory = Unit {0}

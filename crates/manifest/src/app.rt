@@ -1,0 +1,150 @@
+//! The table of an app.
+
+ghost use Rattle.std.specs.Prelude.{◌≡◌, ◌≤◌, length, codes, option_copied, IfOk};
+ghost use Rattle.toml.specs.Data.{get_member};
+ghost use Rattle.toml.specs.View.{view, table_view};
+ghost use Rattle.manifest.specs.Member.{required, text_that};
+ghost use Rattle.manifest.specs.Unread.{Answers, AnswersList};
+ghost use Rattle.manifest.specs.App as specs;
+
+use crate::kind::{Kind, unknown_member};
+use crate::member::{member, text};
+use crate::misfit::{AppMisfit, InList, ReleaseMisfit};
+use crate::rows::{Row, read_rows};
+use crate::unread::{Unread, copy, quote};
+use attrs::Text;
+use releases::Release;
+use std::alloc::Global;
+use std::marker::Model;
+use toml::Table;
+
+/// The most bytes of an appid.
+const MAX_APPID: usize = 1024;
+
+/// The most releases of an app.
+const MAX_RELEASES: usize = 64;
+
+/// The file from which an app's program comes, by its name.
+#[derive(Drop)]
+pub enum Source {
+    /// The bytes of a program.
+    Program(Text),
+    /// The text of a rule.
+    Rule(Text),
+}
+
+/// An app as a manifest tells of it, with at most 64 releases.
+#[derive(Drop)]
+pub struct AppEntry {
+    appid: Text,
+    source: Source,
+    releases: Vec<Release>,
+}
+
+impl Model for AppEntry {
+    ghost use Rattle.std.specs.Prelude.{◌≤◌, length};
+    ghost use Rattle.manifest.specs.App as specs;
+
+    ghost Value = { specs.AppEntry };
+
+    ghost view = { λ a. record {
+      appid = a.appid;
+      source = a.source;
+      releases = a.releases.items;
+    } };
+
+    ghost invariant = { λ a. length a.releases.items ≤ 64 };
+}
+
+impl AppEntry {
+    /// The text by which a client names the app.
+    pub fn appid(&self) -> &str
+        ensures { result.now ≡ self.now.appid }
+    {
+        self.appid.as_str()
+    }
+
+    /// Where its program comes from.
+    pub fn source(&self) -> &Source
+        ensures { result.now ≡ self.now.source }
+    {
+        &self.source
+    }
+
+    /// Its releases, in the manifest's order.
+    pub fn releases(&self) -> &[Release]
+        ensures releases { result.now ≡ self.now.releases }
+        ensures count { length result.now ≤ 64 }
+    {
+        self.releases.as_slice()
+    }
+}
+
+impl Row for AppEntry {
+    type Misfit = AppMisfit;
+
+    ghost row_of = { specs.app_of };
+
+    fn read(alloc: Global, table: &Table) -> Result<AppEntry, Unread<AppMisfit>> {
+        read_app(alloc, table)
+    }
+}
+
+fn read_app(alloc: Global, table: &Table) -> Result<AppEntry, Unread<AppMisfit>>
+    ensures { Answers (specs.app_of (table_view table.now)) result }
+{
+    if let Some(key) = unknown_member(Kind::App, table) {
+        return Err(Unread::Misfit(AppMisfit::Unknown(quote(alloc, key)?)));
+    }
+    let Some(appid) = appid(table) else {
+        return Err(Unread::Misfit(AppMisfit::Appid));
+    };
+    let source = read_source(alloc, table)?;
+    let releases = match read_releases(alloc, table) {
+        Ok(releases) => releases,
+        Err(Unread::Misfit(misfit)) => return Err(Unread::Misfit(AppMisfit::Releases(misfit))),
+        Err(Unread::Memory) => return Err(Unread::Memory),
+    };
+    Ok(AppEntry {
+        appid: copy(alloc, appid)?,
+        source,
+        releases,
+    })
+}
+
+fn appid(table: &Table) -> Option<&str>
+    ensures { option_copied result
+        ≡ required (text_that specs.is_appid) (codes "appid") (table_view table.now) }
+{
+    match text(table, "appid") {
+        Some(text) if 1 <= text.len() && text.len() <= MAX_APPID => Some(text),
+        _ => None,
+    }
+}
+
+// Either a program or a rule.
+fn read_source(alloc: Global, table: &Table) -> Result<Source, Unread<AppMisfit>>
+    ensures { Answers (specs.source_in (table_view table.now)) result }
+{
+    match (member(table, "program"), member(table, "rule")) {
+        (Some(program), None) => match program.as_str() {
+            Some(file) => Ok(Source::Program(copy(alloc, file)?)),
+            None => Err(Unread::Misfit(AppMisfit::Source)),
+        },
+        (None, Some(rule)) => match rule.as_str() {
+            Some(file) => Ok(Source::Rule(copy(alloc, file)?)),
+            None => Err(Unread::Misfit(AppMisfit::Source)),
+        },
+        _ => Err(Unread::Misfit(AppMisfit::Source)),
+    }
+}
+
+fn read_releases(
+    alloc: Global,
+    table: &Table,
+) -> Result<Vec<Release>, Unread<InList<ReleaseMisfit>>>
+    ensures releases { AnswersList (specs.releases_of (table_view table.now)) result }
+    ensures count { IfOk result (λ v. length v.items ≤ 64) }
+{
+    read_rows(alloc, table, "release", 0, MAX_RELEASES)
+}

@@ -1,0 +1,165 @@
+//! The table of an array of counters.
+
+ghost use Rattle.std.specs.Prelude.{◌≡◌, codes, option_copied, option_map, IsTrue};
+ghost use Rattle.toml.specs.Data.{get_member};
+ghost use Rattle.toml.specs.View.{view, table_view};
+ghost use Rattle.cells.specs.Directory.{IsDeclaration};
+ghost use Rattle.manifest.specs.Member.{required, text_that};
+ghost use Rattle.manifest.specs.Unread.{Answers};
+ghost use Rattle.manifest.specs.Array as specs;
+
+use crate::kind::{Kind, unknown_member};
+use crate::member::{member, number, number_of, text};
+use crate::misfit::ArrayMisfit;
+use crate::rows::Row;
+use crate::unread::{Unread, quote};
+use cells::{ArrayName, CellWidth};
+use std::alloc::Global;
+use std::marker::Model;
+use toml::{Table, Value};
+
+/// The most cells of an array.
+const MAX_LENGTH: u64 = 4096;
+
+/// The greatest quota, 2^63 - 1.
+const MAX_QUOTA: u64 = 9223372036854775807;
+
+/// An array as a manifest declares it: of 1 to 4096 cells, with a quota over 64-bit cells alone.
+#[derive(Debug, Drop)]
+pub struct ArrayEntry {
+    name: ArrayName,
+    width: CellWidth,
+    length: u16,
+    quota: Option<u64>,
+}
+
+impl Model for ArrayEntry {
+    ghost use Rattle.cells.specs.Directory.{Declaration, declaration, IsDeclaration};
+
+    ghost Value = { Declaration };
+
+    ghost view = { λ a. declaration a.name a.width a.length a.quota };
+
+    ghost invariant = { λ a. IsDeclaration (declaration a.name a.width a.length a.quota) };
+}
+
+impl ArrayEntry {
+    /// The array's name.
+    pub fn name(&self) -> &str
+        ensures { result.now ≡ self.now.name }
+    {
+        self.name.as_str()
+    }
+
+    /// How wide its cells are.
+    pub fn width(&self) -> CellWidth
+        ensures { result ≡ self.now.width }
+    {
+        self.width
+    }
+
+    /// How many cells it has, 1 to 4096.
+    pub fn length(&self) -> u16
+        ensures { result ≡ self.now.length }
+    {
+        self.length
+    }
+
+    /// How many takes each cell grants.
+    pub fn quota(&self) -> Option<u64>
+        ensures { result ≡ self.now.quota }
+    {
+        self.quota
+    }
+
+    /// What the type keeps. It does nothing: a proof calls it for its clauses.
+    pub fn keeps(&self)
+        ensures { IsDeclaration self.now }
+    {
+        let _width = self.width;
+    }
+}
+
+impl Row for ArrayEntry {
+    type Misfit = ArrayMisfit;
+
+    ghost row_of = { specs.array_of };
+
+    fn read(alloc: Global, table: &Table) -> Result<ArrayEntry, Unread<ArrayMisfit>> {
+        read_array(alloc, table)
+    }
+}
+
+fn read_array(alloc: Global, table: &Table) -> Result<ArrayEntry, Unread<ArrayMisfit>>
+    ensures { Answers (specs.array_of (table_view table.now)) result }
+{
+    if let Some(key) = unknown_member(Kind::Array, table) {
+        return Err(Unread::Misfit(ArrayMisfit::Unknown(quote(alloc, key)?)));
+    }
+    let Some(name) = name(table) else {
+        return Err(Unread::Misfit(ArrayMisfit::Name));
+    };
+    let Some(width) = width(table) else {
+        return Err(Unread::Misfit(ArrayMisfit::Width));
+    };
+    let Some(length) = number(table, "length", 1, MAX_LENGTH) else {
+        return Err(Unread::Misfit(ArrayMisfit::Length));
+    };
+    let Some(quota) = quota(table, width) else {
+        return Err(Unread::Misfit(ArrayMisfit::Quota));
+    };
+    let Ok(name) = ArrayName::of(alloc, name) else {
+        return Err(Unread::Memory);
+    };
+    Ok(ArrayEntry {
+        name,
+        width,
+        length: length as u16,
+        quota,
+    })
+}
+
+fn name(table: &Table) -> Option<&str>
+    ensures { option_copied result
+        ≡ required (text_that specs.is_name) (codes "name") (table_view table.now) }
+{
+    match text(table, "name") {
+        Some(text) if ArrayName::is_name(text) => Some(text),
+        _ => None,
+    }
+}
+
+fn width(table: &Table) -> Option<CellWidth>
+    ensures { result ≡ required specs.width_of (codes "width") (table_view table.now) }
+{
+    match member(table, "width") {
+        Some(value) => width_of(value),
+        None => None,
+    }
+}
+
+fn width_of(value: &Value) -> Option<CellWidth>
+    ensures { result ≡ specs.width_of (view value.now) }
+{
+    match number_of(value, 32, 64) {
+        Some(32) => Some(CellWidth::Bits32),
+        Some(64) => Some(CellWidth::Bits64),
+        _ => None,
+    }
+}
+
+// The quota of an array of this width: one that isn't wrong may be absent.
+fn quota(table: &Table, width: CellWidth) -> Option<Option<u64>>
+    ensures { result ≡ specs.quota_of width (get_member (codes "quota") (table_view table.now)) }
+{
+    let Some(value) = member(table, "quota") else {
+        return Some(None);
+    };
+    match width {
+        CellWidth::Bits64 => match number_of(value, 1, MAX_QUOTA) {
+            Some(quota) => Some(Some(quota)),
+            None => None,
+        },
+        CellWidth::Bits32 => None,
+    }
+}

@@ -1,0 +1,121 @@
+//! The table of a manifest.
+
+ghost use Rattle.std.specs.Prelude.{◌≡◌};
+ghost use Rattle.toml.specs.View.{table_view};
+ghost use Rattle.manifest.specs.Unread.{Answers, AnswersList};
+ghost use Rattle.manifest.specs.Manifest as specs;
+
+use crate::app::AppEntry;
+use crate::array::ArrayEntry;
+use crate::fault::Twice;
+use crate::kind::{Kind, unknown_member};
+use crate::member::text;
+use crate::misfit::{AppMisfit, ArrayMisfit, InList, Misfit};
+use crate::rows::read_rows;
+use crate::twice::repeated_name;
+use crate::unread::{Unread, copy, quote};
+use attrs::Text;
+use std::alloc::Global;
+use std::marker::Model;
+use toml::Table;
+
+/// The most arrays.
+const MAX_ARRAYS: usize = 64;
+
+/// The most apps.
+const MAX_APPS: usize = 256;
+
+/// What an operator tells a server: its name, its arrays of counters, and its apps.
+#[derive(Drop)]
+pub struct Manifest {
+    server: Text,
+    arrays: Vec<ArrayEntry>,
+    apps: Vec<AppEntry>,
+}
+
+impl Model for Manifest {
+    ghost use Rattle.manifest.specs.Manifest as specs;
+
+    ghost Value = { specs.Manifest };
+
+    ghost view = { λ m. record {
+      server = m.server;
+      arrays = m.arrays.items;
+      apps = m.apps.items;
+    } };
+}
+
+impl Manifest {
+    /// The text that names the server.
+    pub fn server(&self) -> &str
+        ensures { result.now ≡ self.now.server }
+    {
+        self.server.as_str()
+    }
+
+    /// The arrays, in order: a program's map i is the i-th, from 0.
+    pub fn arrays(&self) -> &[ArrayEntry]
+        ensures { result.now ≡ self.now.arrays }
+    {
+        self.arrays.as_slice()
+    }
+
+    /// The apps, in order.
+    pub fn apps(&self) -> &[AppEntry]
+        ensures { result.now ≡ self.now.apps }
+    {
+        self.apps.as_slice()
+    }
+}
+
+/// The manifest that a table is, whatever names stand twice.
+pub(crate) fn read_tables(alloc: Global, table: &Table) -> Result<Manifest, Unread<Misfit>>
+    ensures { Answers (specs.tables_of (table_view table.now)) result }
+{
+    if let Some(key) = unknown_member(Kind::Manifest, table) {
+        return Err(Unread::Misfit(Misfit::Unknown(quote(alloc, key)?)));
+    }
+    let Some(server) = text(table, "server") else {
+        return Err(Unread::Misfit(Misfit::Server));
+    };
+    let arrays = match read_arrays(alloc, table) {
+        Ok(arrays) => arrays,
+        Err(Unread::Misfit(misfit)) => return Err(Unread::Misfit(Misfit::Arrays(misfit))),
+        Err(Unread::Memory) => return Err(Unread::Memory),
+    };
+    let apps = match read_apps(alloc, table) {
+        Ok(apps) => apps,
+        Err(Unread::Misfit(misfit)) => return Err(Unread::Misfit(Misfit::Apps(misfit))),
+        Err(Unread::Memory) => return Err(Unread::Memory),
+    };
+    Ok(Manifest {
+        server: copy(alloc, server)?,
+        arrays,
+        apps,
+    })
+}
+
+fn read_arrays(alloc: Global, table: &Table) -> Result<Vec<ArrayEntry>, Unread<InList<ArrayMisfit>>>
+    ensures { AnswersList (specs.arrays_of (table_view table.now)) result }
+{
+    read_rows(alloc, table, "array", 0, MAX_ARRAYS)
+}
+
+fn read_apps(alloc: Global, table: &Table) -> Result<Vec<AppEntry>, Unread<InList<AppMisfit>>>
+    ensures { AnswersList (specs.apps_of (table_view table.now)) result }
+{
+    read_rows(alloc, table, "app", 1, MAX_APPS)
+}
+
+/// A manifest in which no name stands twice.
+pub(crate) fn read_once(alloc: Global, manifest: Manifest) -> Result<Manifest, Unread<Twice>>
+    ensures { Answers (specs.once manifest) result }
+{
+    if let Some(name) = repeated_name(manifest.arrays()) {
+        return Err(Unread::Misfit(Twice::Array(quote(alloc, name)?)));
+    }
+    if let Some(appid) = repeated_name(manifest.apps()) {
+        return Err(Unread::Misfit(Twice::App(quote(alloc, appid)?)));
+    }
+    Ok(manifest)
+}

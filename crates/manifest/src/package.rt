@@ -1,0 +1,64 @@
+// The table of a package.
+
+ghost use Rattle.std.specs.Prelude.{◌≡◌, codes, option_copied};
+ghost use Rattle.toml.specs.View.{table_view};
+ghost use Rattle.releases.specs.Release.{is_hash};
+ghost use Rattle.manifest.specs.Member.{required, text_that};
+ghost use Rattle.manifest.specs.Unread.{Answers};
+ghost use Rattle.manifest.specs.Package as specs;
+
+use crate::kind::{Kind, unknown_member};
+use crate::member::{number, text, truth};
+use crate::misfit::PackageMisfit;
+use crate::rows::Row;
+use crate::unread::{Unread, copy, quote};
+use releases::Package;
+use std::alloc::Global;
+use toml::Table;
+
+/// The most bytes that a package's file has, 2^53 - 1: the greatest whole number that each reader
+/// of JSON takes exactly.
+const MAX_SIZE: u64 = 9007199254740991;
+
+impl Row for Package {
+    type Misfit = PackageMisfit;
+
+    ghost row_of = { specs.package_of };
+
+    fn read(alloc: Global, table: &Table) -> Result<Package, Unread<PackageMisfit>> {
+        read_package(alloc, table)
+    }
+}
+
+fn read_package(alloc: Global, table: &Table) -> Result<Package, Unread<PackageMisfit>>
+    ensures { Answers (specs.package_of (table_view table.now)) result }
+{
+    if let Some(key) = unknown_member(Kind::Package, table) {
+        return Err(Unread::Misfit(PackageMisfit::Unknown(quote(alloc, key)?)));
+    }
+    let Some(name) = text(table, "name") else {
+        return Err(Unread::Misfit(PackageMisfit::Name));
+    };
+    let Some(hash) = hash(table) else {
+        return Err(Unread::Misfit(PackageMisfit::Hash));
+    };
+    let Some(size) = number(table, "size", 0, MAX_SIZE) else {
+        return Err(Unread::Misfit(PackageMisfit::Size));
+    };
+    let Some(required) = truth(table, "required") else {
+        return Err(Unread::Misfit(PackageMisfit::Required));
+    };
+    let name = copy(alloc, name)?;
+    let hash = copy(alloc, hash)?;
+    Ok(Package::new(name, hash, size, required))
+}
+
+fn hash(table: &Table) -> Option<&str>
+    ensures { option_copied result
+        ≡ required (text_that is_hash) (codes "hash_sha256") (table_view table.now) }
+{
+    match text(table, "hash_sha256") {
+        Some(text) if Package::is_hash(text) => Some(text),
+        _ => None,
+    }
+}

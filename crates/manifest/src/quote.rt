@@ -1,0 +1,42 @@
+//! A text of a manifest that a fault tells.
+
+ghost use Rattle.std.specs.Prelude.{◌≡◌, string_bytes};
+
+use std::fmt;
+use std::marker::Model;
+
+/// A key or a name, as the manifest has it.
+#[derive(Debug, Drop)]
+pub struct Quote {
+    text: String,
+}
+
+impl Model for Quote {
+    ghost use Rattle.std.specs.Prelude.{ℕ, List, string_bytes};
+
+    ghost Value = { List ℕ };
+
+    ghost view = { λ q. string_bytes q.text };
+}
+
+impl Quote {
+    /// This text; it takes no memory.
+    pub(crate) fn new(text: String) -> Quote
+        ensures { result ≡ string_bytes text }
+    {
+        Quote { text }
+    }
+
+    /// The text, lent.
+    pub fn as_str(&self) -> &str
+        ensures { result.now ≡ self.now }
+    {
+        self.text.as_str()
+    }
+}
+
+impl fmt::Display for Quote {
+    fn fmt<W: fmt::Write>(&self, f: &mut fmt::Formatter<W>) -> fmt::Result {
+        f.write_str(self.as_str())
+    }
+}

@@ -1,0 +1,75 @@
+// The table of a release.
+
+ghost use Rattle.std.specs.Prelude.{◌≡◌, ◌≤◌, length, codes, option_copied, IfOk};
+ghost use Rattle.toml.specs.View.{table_view};
+ghost use Rattle.manifest.specs.Member.{required, text_that};
+ghost use Rattle.manifest.specs.Unread.{Answers, AnswersList};
+ghost use Rattle.manifest.specs.Release as specs;
+
+use crate::kind::{Kind, unknown_member};
+use crate::member::text;
+use crate::misfit::{InList, PackageMisfit, ReleaseMisfit};
+use crate::rows::{Row, read_rows};
+use crate::unread::{Unread, copy, quote};
+use attrs::read_version;
+use releases::{Package, Release};
+use std::alloc::Global;
+use toml::Table;
+
+/// The most packages of a release.
+const MAX_PACKAGES: usize = 16;
+
+impl Row for Release {
+    type Misfit = ReleaseMisfit;
+
+    ghost row_of = { specs.release_of };
+
+    fn read(alloc: Global, table: &Table) -> Result<Release, Unread<ReleaseMisfit>> {
+        read_release(alloc, table)
+    }
+}
+
+fn read_release(alloc: Global, table: &Table) -> Result<Release, Unread<ReleaseMisfit>>
+    ensures { Answers (specs.release_of (table_view table.now)) result }
+{
+    if let Some(key) = unknown_member(Kind::Release, table) {
+        return Err(Unread::Misfit(ReleaseMisfit::Unknown(quote(alloc, key)?)));
+    }
+    let Some(version) = version(table) else {
+        return Err(Unread::Misfit(ReleaseMisfit::Version));
+    };
+    let Some(codebase) = text(table, "codebase") else {
+        return Err(Unread::Misfit(ReleaseMisfit::Codebase));
+    };
+    let packages = match read_packages(alloc, table) {
+        Ok(packages) => packages,
+        Err(Unread::Misfit(misfit)) => {
+            return Err(Unread::Misfit(ReleaseMisfit::Packages(misfit)));
+        }
+        Err(Unread::Memory) => return Err(Unread::Memory),
+    };
+    let version = copy(alloc, version)?;
+    let codebase = copy(alloc, codebase)?;
+    Ok(Release::new(version, codebase, packages))
+}
+
+fn read_packages(
+    alloc: Global,
+    table: &Table,
+) -> Result<Vec<Package>, Unread<InList<PackageMisfit>>>
+    ensures packages { AnswersList (specs.packages_of (table_view table.now)) result }
+    ensures some { IfOk result (λ v. 1 ≤ length v.items) }
+    ensures few { IfOk result (λ v. length v.items ≤ 16) }
+{
+    read_rows(alloc, table, "package", 1, MAX_PACKAGES)
+}
+
+fn version(table: &Table) -> Option<&str>
+    ensures { option_copied result
+        ≡ required (text_that specs.is_version_text) (codes "version") (table_view table.now) }
+{
+    match text(table, "version") {
+        Some(text) if read_version(text).is_some() => Some(text),
+        _ => None,
+    }
+}

@@ -1,0 +1,100 @@
+// Lists of tables, which are numbered from 1.
+
+ghost use Rattle.std.specs.Prelude.{◌≡◌, ◌≤◌, map, length, option_map, Result, IfOk, IsTrue};
+ghost use Rattle.toml.specs.Data.{Members, get_member};
+ghost use Rattle.toml.specs.View.{view, table_view};
+ghost use Rattle.manifest.specs.Rows.{rows_of, items_in, are_between, items_from, item_of};
+ghost use Rattle.manifest.specs.Unread.{Answers, AnswersList};
+
+use crate::member::member;
+use crate::misfit::InList;
+use crate::unread::Unread;
+use std::alloc::Global;
+use toml::{Table, Value};
+
+/// What one table of a list is read as.
+pub(crate) trait Row: Drop {
+    type Misfit: Drop;
+
+    ghost row_of: { Members → Result Self Self.Misfit };
+
+    fn read(alloc: Global, table: &Table) -> Result<Self, Unread<Self::Misfit>>
+        ensures { Answers (row_of (table_view table.now)) result };
+}
+
+/// The rows of a member that is a list of so many tables; one that may be empty may be absent.
+pub(crate) fn read_rows<R: Row>(
+    alloc: Global,
+    table: &Table,
+    key: &str,
+    from: usize,
+    to: usize,
+) -> Result<Vec<R>, Unread<InList<R::Misfit>>>
+    ensures rows { AnswersList
+        (rows_of R.row_of from to (get_member key.now (table_view table.now))) result }
+    ensures from { IfOk result (λ v. from ≤ length v.items) }
+    ensures to { IfOk result (λ v. length v.items ≤ to) }
+{
+    let Some(list) = member(table, key) else {
+        if from == 0 {
+            return Ok(Vec::new(alloc));
+        }
+        return Err(Unread::Misfit(InList::Count));
+    };
+    match items_of(list) {
+        Some(items) if has_count(items, from, to) => read_items(alloc, items),
+        _ => Err(Unread::Misfit(InList::Count)),
+    }
+}
+
+// The items of a list.
+fn items_of(list: &Value) -> Option<&[Value]>
+    ensures { option_map (λ v. map view v.now) result ≡ items_in (view list.now) }
+{
+    match list.as_array() {
+        Some(items) => Some(items.as_slice()),
+        None => None,
+    }
+}
+
+fn has_count(items: &[Value], from: usize, to: usize) -> bool
+    ensures value { result ≡ are_between from to (map view items.now) }
+    ensures count { IsTrue result → (from ≤ length items.now) × (length items.now ≤ to) }
+{
+    from <= items.len() && items.len() <= to
+}
+
+fn read_items<R: Row>(alloc: Global, items: &[Value]) -> Result<Vec<R>, Unread<InList<R::Misfit>>>
+    ensures rows { AnswersList (items_from R.row_of 1 (map view items.now)) result }
+    ensures count { IfOk result (λ v. length v.items ≡ length items.now) }
+{
+    let Ok(mut rows) = Vec::with_capacity(alloc, items.len()) else {
+        return Err(Unread::Memory);
+    };
+    let mut rest = items;
+    while let [item, after @ ..] = rest {
+        let row = read_item(alloc, rows.len() + 1, item)?;
+        let Ok(()) = rows.push(row) else {
+            return Err(Unread::Memory);
+        };
+        rest = after;
+    }
+    Ok(rows)
+}
+
+fn read_item<R: Row>(
+    alloc: Global,
+    number: usize,
+    item: &Value,
+) -> Result<R, Unread<InList<R::Misfit>>>
+    ensures { Answers (item_of R.row_of number (view item.now)) result }
+{
+    let Some(table) = item.as_table() else {
+        return Err(Unread::Misfit(InList::NoTable(number)));
+    };
+    match R::read(alloc, table) {
+        Ok(row) => Ok(row),
+        Err(Unread::Misfit(misfit)) => Err(Unread::Misfit(InList::At(number, misfit))),
+        Err(Unread::Memory) => Err(Unread::Memory),
+    }
+}

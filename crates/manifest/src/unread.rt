@@ -1,0 +1,36 @@
+// Why a table wasn't read.
+
+ghost use Rattle.std.specs.Prelude.{◌≡◌, IfOk, IfErr};
+
+use crate::quote::Quote;
+use attrs::Text;
+use std::alloc::Global;
+
+/// A misfit of the table, or memory that was refused.
+#[derive(Drop)]
+pub(crate) enum Unread<M> {
+    Misfit(M),
+    Memory,
+}
+
+/// A copy of a text.
+pub(crate) fn copy<M>(alloc: Global, text: &str) -> Result<Text, Unread<M>>
+    ensures same { IfOk result (λ t. t ≡ text.now) }
+    ensures memory { IfErr result (λ e. e ≡ Unread.Memory) }
+{
+    match String::from_str(alloc, text) {
+        Ok(text) => Ok(Text::new(text)),
+        Err(_) => Err(Unread::Memory),
+    }
+}
+
+/// A copy of a text that a misfit tells.
+pub(crate) fn quote<M>(alloc: Global, text: &str) -> Result<Quote, Unread<M>>
+    ensures same { IfOk result (λ t. t ≡ text.now) }
+    ensures memory { IfErr result (λ e. e ≡ Unread.Memory) }
+{
+    match String::from_str(alloc, text) {
+        Ok(text) => Ok(Quote::new(text)),
+        Err(_) => Err(Unread::Memory),
+    }
+}
