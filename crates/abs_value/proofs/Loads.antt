@@ -76,6 +76,10 @@ reads stack place (suc n) words each =
     let same : place + suc k ≡ place + 1 + k = omega arith in
     subst (λ (m : ℕ). IsSome (stack m)) same (each (suc k) (omega (arith, lt)))))
 
+pub bytes_there : (g : Answers) (e : AbsState) (s : State) (place n : ℕ) → place + n ≤ stack_size → HasWords s → Covers g e s → has_unset e.stack (pos place) n ≡ false → IsSome (set_bytes s.stack place n)
+unfolding AreBytes
+bytes_there g e s place n within words h set = let found = reads s.stack place n words.stack (each_set g e.stack s.stack place n h.stack within set) in rw found.is refl
+
 -- ---- a kept number is read as it is
 
 record ReadsOf (stack : ℕ → Option ℕ) (place n x : ℕ) : Type 0 where

@@ -1,6 +1,6 @@
 -- What is promised of the definitions: what is computed stands for what the machine does.
 use Rattle.std.specs.Prelude.{◌≡◌, ℕ, ◌+◌, ◌^◌, ◌<◌, ◌≤◌, ℤ, pos, Option, Some, None, Bool, true}
-use Rattle.std.specs.Prelude.{false, not, ◌==◌}
+use Rattle.std.specs.Prelude.{false, not, ◌==◌, IsSome}
 use Rattle.attrs.specs.Attributes.{Attributes}
 use Rattle.bpf_insn.specs.declared.operand.AluOp.{AluOp}
 use Rattle.bpf_insn.specs.declared.operand.Bits.{Bits}
@@ -16,7 +16,7 @@ use Rattle.bpf_insn.specs.Arithmetic.{alu_result, negated, extended, reordered}
 use Rattle.bpf_insn.specs.Words.{word}
 use Rattle.bpf_insn.specs.Conditions.{holds}
 use Rattle.bpf_insn.specs.Table.{number_of}
-use Rattle.bpf_semantics.specs.Memory.{stack_start, stack_size}
+use Rattle.bpf_semantics.specs.Memory.{stack_start, stack_size, set_bytes}
 use Rattle.bpf_semantics.specs.State.{State, HasWords, opening, read_at, written_at, with_register}
 use Rattle.bpf_semantics.specs.State.{with_result}
 use Rattle.bpf_semantics.specs.Calls.{helper_result}
@@ -205,3 +205,10 @@ CoversLoads =
     → HasWords s → Covers g e s → has_unset e.stack (pos place) (load_count kind) ≡ false
     → Finds g (loaded_from e.stack place kind) kind
     (read_at s (stack_start + place) (load_count kind))
+
+-- so many bytes of the stack that are all set are there
+abbrev pub BytesAreThere : Type 0
+BytesAreThere =
+    (g : Answers) (e : AbsState) (s : State) (place n : ℕ)
+    → place + n ≤ stack_size → HasWords s → Covers g e s → has_unset e.stack (pos place) n ≡ false
+    → IsSome (set_bytes s.stack place n)

@@ -68,6 +68,11 @@ pub fn loads_cover()
     ensures { laws.CoversLoads }
 {}
 
+/// Any number of bytes of the stack that are all set can be read.
+pub fn bytes_are_there()
+    ensures { laws.BytesAreThere }
+{}
+
 /// From ranges with numbers in them no empty range is computed,
 pub fn ranges_have_numbers()
     ensures alu { ranges.InhabitsResults }

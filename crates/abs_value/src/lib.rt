@@ -72,8 +72,9 @@ mod worked_lookups;
 mod worked_values;
 
 pub use laws::{
-    answers_are_kept, calls_cover, edges_are_kept, joins_cover, loads_cover, lookups_cover,
-    ranges_have_numbers, registers_cover, results_are_included, states_have_numbers, stores_cover,
+    answers_are_kept, bytes_are_there, calls_cover, edges_are_kept, joins_cover, loads_cover,
+    lookups_cover, ranges_have_numbers, registers_cover, results_are_included, states_have_numbers,
+    stores_cover,
 };
 pub use number::Number;
 pub use origin::{Lookup, Origin};
