@@ -115,6 +115,16 @@ compares_pointer e (JumpIf bits condition left right offset) =
     && not (compares_with_zero bits condition right && may_be_null (value_of e left))
 compares_pointer e i = false
 
+abbrev pub is_lookup : Abs → Bool
+is_lookup (MayCell call) = true
+is_lookup v = false
+
+-- a jump whose edges tell what a lookup gave
+abbrev pub is_lookup_check : AbsState → Insn → Bool
+is_lookup_check e (JumpIf bits condition left right offset) =
+    compares_with_zero bits condition right && is_lookup (value_of e left)
+is_lookup_check e i = false
+
 -- ---- V6, V8, V9, V12: an access that its address doesn't allow
 
 abbrev pub accesses_outside : AppShape → AbsState → Insn → Bool

@@ -1,5 +1,5 @@
 -- What an instruction makes of what is known at its place, on each edge that it leads along.
-use Rattle.std.specs.Prelude.{ℕ, ◌*◌, ◌-◌, ◌^◌, List, [], ◌∷◌, ◌++◌, Option, Some, None}
+use Rattle.std.specs.Prelude.{◌≡◌, ℕ, ◌*◌, ◌-◌, ◌^◌, List, [], ◌∷◌, ◌++◌, Option, Some, None}
 use Rattle.std.specs.Prelude.{true, false, if◌then◌else◌}
 use Rattle.bpf_insn.specs.declared.operand.AtomicSize.{AtomicSize}
 use Rattle.bpf_insn.specs.declared.operand.Bits.TheVariants.{Bits64}
@@ -21,7 +21,9 @@ use Rattle.abs_value.specs.Values.{or_unusable, alu_value, copied_value, negated
 use Rattle.abs_value.specs.Values.{extended_value, reordered_value, loaded_value}
 use Rattle.abs_value.specs.Stack.{loaded_from}
 use Rattle.abs_value.specs.States.{value_of, operand_value, with_value, with_stored}
-use Rattle.abs_value.specs.Lookups.{refined_state, called}
+use Rattle.abs_value.specs.Lookups.{with_both, refined_state, called}
+use Rattle.bpf_rules.specs.declared.compared.Compared.{Compared}
+use Rattle.bpf_rules.specs.declared.compared.Compared.TheVariants.{Nothing, Values}
 use Rattle.bpf_rules.specs.Arrays.{wide_abs}
 use Rattle.bpf_rules.specs.Memory.{stack_place}
 
@@ -83,6 +85,15 @@ abbrev pub going_on : AppShape → ℕ → AbsState → Insn → Option AbsState
 going_on shape s e (JumpIf bits condition left right offset) =
     refined_state e bits condition left right false
 going_on shape s e i = Some (after shape s e i)
+
+-- what is known on the edge that jumps, with the two values again that were compared
+abbrev pub restored : Compared → AbsState → AbsState
+restored Nothing f = f
+restored (Values left right first second) f = with_both f left right (first, second)
+
+-- the edge that jumps is taken back
+abbrev pub Restores : AbsState → Insn → Compared → Type 0
+Restores e i compared = (f : AbsState) → jumping e i ≡ Some f → restored compared f ≡ e
 
 -- an edge to the place of a slot, with what is known on it
 pub record Edge : Type 0 where

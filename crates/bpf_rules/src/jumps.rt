@@ -50,3 +50,22 @@ pub fn jump_rule(
         None
     }
 }
+
+/// Whether it is a jump whose edges tell what a lookup gave. Then each copy of the answer changes
+/// on the edge that jumps, and a copy of what is known takes that edge.
+pub fn is_lookup_check(e: &AbsState, insn: &Insn) -> bool
+    ensures { result ≡ rules.is_lookup_check e.now insn.now }
+{
+    match *insn {
+        Insn::JumpIf {
+            bits,
+            condition,
+            left,
+            right,
+            ..
+        } => {
+            compares_with_zero(bits, condition, right) && matches!(e.value(left), Abs::MayCell(_))
+        }
+        _ => false,
+    }
+}

@@ -7,6 +7,7 @@ mod arithmetic;
 mod arrays;
 mod atomics;
 mod calls;
+mod compared;
 mod helper;
 mod jumps;
 mod loads;
@@ -16,6 +17,8 @@ mod rules;
 mod stores;
 mod transfer;
 
+pub use compared::Compared;
+pub use jumps::is_lookup_check;
 pub use refusal::{Refusal, Rule};
 pub use rules::first_rule;
 pub use transfer::{go_on_in, jump_in, step_in};

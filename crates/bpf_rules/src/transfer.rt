@@ -1,7 +1,8 @@
 //! What an instruction makes of what is known at its place. The one entry at hand is changed in
 //! place.
 
-ghost use Rattle.std.specs.Prelude.{◌≡◌, ◌<◌, is_some, unwrap_or};
+ghost use Rattle.std.specs.Prelude.{◌≡◌};
+ghost use Rattle.abs_value.specs.Lookups.{IsEdge};
 ghost use Rattle.bpf_rules.specs.Transfer as transfer;
 
 use crate::arrays::wide;
@@ -13,8 +14,7 @@ use bpf_insn::{Bits, Insn};
 use cells::Shape;
 
 /// What an instruction leaves that goes on to the next one alone.
-pub fn step_in(e: &mut AbsState, shape: &Shape, slot: usize, insn: &Insn)
-    requires { slot < 4096 }
+pub fn step_in(e: &mut AbsState, shape: &Shape, slot: u16, insn: &Insn)
     ensures { e.new ≡ transfer.after shape.now slot e.old insn.now }
 {
     match *insn {
@@ -30,7 +30,7 @@ pub fn step_in(e: &mut AbsState, shape: &Shape, slot: usize, insn: &Insn)
         } => e.set(dst, e.value(src).extended(extension)),
         Insn::Neg { bits, dst } => e.set(dst, e.value(dst).negated(bits)),
         Insn::End { order, size, dst } => e.set(dst, e.value(dst).reordered(order, size)),
-        Insn::Call { helper } => e.call(helper, slot as u16),
+        Insn::Call { helper } => e.call(helper, slot),
         Insn::Load {
             kind,
             dst,
@@ -60,8 +60,7 @@ pub fn step_in(e: &mut AbsState, shape: &Shape, slot: usize, insn: &Insn)
 
 /// What is known on the edge that jumps. `false` where no run takes it, and then nothing is changed.
 pub fn jump_in(e: &mut AbsState, insn: &Insn) -> bool
-    ensures taken { result ≡ is_some (transfer.jumping e.old insn.now) }
-    ensures learnt { e.new ≡ unwrap_or (transfer.jumping e.old insn.now) e.old }
+    ensures { IsEdge result (transfer.jumping e.old insn.now) e.old e.new }
 {
     match *insn {
         Insn::JumpIf {
@@ -77,10 +76,8 @@ pub fn jump_in(e: &mut AbsState, insn: &Insn) -> bool
 
 /// What is known on the edge that goes on. `false` where no run takes it, and then nothing is
 /// changed.
-pub fn go_on_in(e: &mut AbsState, shape: &Shape, slot: usize, insn: &Insn) -> bool
-    requires { slot < 4096 }
-    ensures taken { result ≡ is_some (transfer.going_on shape.now slot e.old insn.now) }
-    ensures learnt { e.new ≡ unwrap_or (transfer.going_on shape.now slot e.old insn.now) e.old }
+pub fn go_on_in(e: &mut AbsState, shape: &Shape, slot: u16, insn: &Insn) -> bool
+    ensures { IsEdge result (transfer.going_on shape.now slot e.old insn.now) e.old e.new }
 {
     match *insn {
         Insn::JumpIf {
