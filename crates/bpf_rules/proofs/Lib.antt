@@ -1,1 +1,4 @@
 mod Restored
+pub mod Given
+pub mod Passes
+pub mod Outcomes

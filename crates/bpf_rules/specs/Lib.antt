@@ -3,3 +3,4 @@ pub mod Arrays
 pub mod Memory
 pub mod Rules
 pub mod Transfer
+pub mod Sound
