@@ -2,3 +2,7 @@ mod Restored
 pub mod Given
 pub mod Passes
 pub mod Outcomes
+pub mod Computing
+pub mod Jumping
+pub mod ContextReads
+pub mod Regions
