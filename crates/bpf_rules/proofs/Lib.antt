@@ -6,3 +6,8 @@ pub mod Computing
 pub mod Jumping
 pub mod ContextReads
 pub mod Regions
+pub mod Cells
+pub mod CellSteps
+pub mod AtomicSteps
+pub mod WideSteps
+pub mod CallSteps

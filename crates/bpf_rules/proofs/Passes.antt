@@ -75,3 +75,20 @@ true_and false b h = absurd cc
 pub not_false : (b : Bool) → not b ≡ false → b ≡ true
 not_false true h = refl
 not_false false h = absurd cc
+
+-- ---- registers that are read, of which none is unusable
+
+pub one_usable : (a z : Bool) → ((a || false) || z) ≡ false → (a ≡ false) × (z ≡ false)
+one_usable true z h = absurd cc
+one_usable false z h = (refl, h)
+
+pub two_usable : (a b z : Bool) → ((a || (b || false)) || z) ≡ false → (a ≡ false) × (b ≡ false) × (z ≡ false)
+two_usable true b z h = absurd cc
+two_usable false true z h = absurd cc
+two_usable false false z h = (refl, refl, h)
+
+pub three_usable : (a b c z : Bool) → ((a || (b || (c || false))) || z) ≡ false → (a ≡ false) × (b ≡ false) × (c ≡ false) × (z ≡ false)
+three_usable true b c z h = absurd cc
+three_usable false true c z h = absurd cc
+three_usable false false true z h = absurd cc
+three_usable false false false z h = (refl, refl, refl, h)
