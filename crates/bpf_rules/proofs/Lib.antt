@@ -11,3 +11,6 @@ pub mod CellSteps
 pub mod AtomicSteps
 pub mod WideSteps
 pub mod CallSteps
+pub mod Accesses
+pub mod Ranges
+pub mod Steps

@@ -37,11 +37,11 @@ use Rattle.bpf_rules.specs.Memory.{meets_unset, text_unset}
 
 -- ---- V1: what is read may be unset
 
--- a byte of the stack, by a load or by a text that is compared
 abbrev pub compares_unset : AbsState → Option Helper → Bool
 compares_unset e (Some AttrIs) = text_unset e (value_of e R2) (value_of e R3)
 compares_unset e helper = false
 
+-- a byte of the stack, by a load or by a text that is compared
 abbrev pub reads_unset : AbsState → Insn → Bool
 reads_unset e (Load kind dst src offset) = meets_unset e (value_of e src) offset (load_count kind)
 reads_unset e (Call helper) = compares_unset e (helper_of helper)

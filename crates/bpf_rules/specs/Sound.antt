@@ -1,16 +1,26 @@
 -- What one step comes to where no rule fails: it is no trap, leads along an edge whose entry stands
 -- for the state that it makes, and asks of counters only what the shape allows.
-use Rattle.std.specs.Prelude.{◌≡◌, ℕ, ◌≤◌, List, Contains, IsSome}
+use Rattle.std.specs.Prelude.{◌≡◌, ℕ, ◌≤◌, pos, ◌≤ℤ◌, List, Contains, Some, None, IsSome, IfSome}
+use Rattle.attrs.specs.Attributes.{Attributes}
+use Rattle.bpf_insn.specs.declared.operand.Distance.{Distance}
+use Rattle.bpf_insn.specs.declared.insn.Insn.{Insn}
+use Rattle.bpf_insn.specs.Spelling.{IsEncodable}
+use Rattle.bpf_insn.specs.Program.{slots_moved}
 use Rattle.cells.specs.declared.array.CellArray.{CellArray}
 use Rattle.cells.specs.declared.event.CellOp.{CellOp}
 use Rattle.cells.specs.declared.event.CellOp.TheVariants.{Load, Add}
-use Rattle.cells.specs.Arrays.{AppShape, HasCell}
+use Rattle.cells.specs.Arrays.{AppShape, IsShape, HasCell}
 use Rattle.cells.specs.Events.{CanReply}
-use Rattle.bpf_semantics.specs.State.{State}
+use Rattle.bpf_semantics.specs.State.{State, HasWords, opening}
 use Rattle.bpf_semantics.specs.Outcome.{Outcome, Going, Asks, Done, Trap}
+use Rattle.bpf_semantics.specs.Step.{act}
+use Rattle.flow_check.specs.Edges.{jump_of}
 use Rattle.abs_value.specs.declared.state.AbsState.{AbsState}
+use Rattle.abs_value.specs.States.{opening_state, join_states}
 use Rattle.abs_value.specs.Covers.{IsStoodFor}
-use Rattle.bpf_rules.specs.Transfer.{Edge, edge_to}
+use Rattle.abs_value.specs.Inhabited.{IsInhabitedState}
+use Rattle.bpf_rules.specs.Rules.{first_rule}
+use Rattle.bpf_rules.specs.Transfer.{Edge, edge_to, edges, jumping, going_on}
 
 -- ---- what is asked of a counter
 
@@ -44,3 +54,40 @@ IsSafe shape edges (Asks cell op next) =
     × ((reply : ℕ) → CanReply cell op reply → Leads shape edges (next reply))
 IsSafe shape edges (Done n) = n ≤ shape.releases
 IsSafe shape edges Trap = ⊥
+
+-- ---- laws
+
+-- it jumps to no place before the next one, if it jumps
+abbrev pub JumpsForward : Insn → Type 0
+JumpsForward i = (d : Distance) → jump_of i ≡ Some d → pos 0 ≤ℤ slots_moved d
+
+-- from a state that is stood for, where no rule fails
+abbrev pub StepsAreSafe : Type 0
+StepsAreSafe =
+    (shape : AppShape) (e : AbsState) (s : State) (i : Insn)
+    → IsShape shape → IsEncodable i → JumpsForward i → HasWords s → IsStoodFor shape e s
+    → first_rule shape e i ≡ None → IsSafe shape (edges shape s.slot e i) (act shape s i)
+
+-- a join stands for all that either side stands for
+abbrev pub FirstStands : Type 0
+FirstStands =
+    (shape : AppShape) (e f : AbsState) (s : State)
+    → IsStoodFor shape e s → IsStoodFor shape (join_states e f) s
+
+abbrev pub SecondStands : Type 0
+SecondStands =
+    (shape : AppShape) (e f : AbsState) (s : State)
+    → IsStoodFor shape f s → IsStoodFor shape (join_states e f) s
+
+abbrev pub OpeningStands : Type 0
+OpeningStands = (shape : AppShape) (a : Attributes) → IsStoodFor shape opening_state (opening a)
+
+-- ranges that have numbers in them leave no empty range
+abbrev pub InhabitsJumping : Type 0
+InhabitsJumping =
+    (e : AbsState) (i : Insn) → IsInhabitedState e → IfSome (jumping e i) IsInhabitedState
+
+abbrev pub InhabitsGoingOn : Type 0
+InhabitsGoingOn =
+    (shape : AppShape) (slot : ℕ) (e : AbsState) (i : Insn)
+    → IsInhabitedState e → IfSome (going_on shape slot e i) IsInhabitedState

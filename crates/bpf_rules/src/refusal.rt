@@ -1,5 +1,9 @@
 //! Why a program is refused: the rules with the codes that are printed, and the refusal itself.
 
+ghost use Rattle.std.specs.Prelude.{◌≡◌};
+ghost use Rattle.bpf_rules.specs.declared.refusal.Refusal.TheVariants.{Memory};
+
+use std::alloc::AllocError;
 use thiserror::Error;
 
 /// A rule that an instruction breaks; of several the first is answered.
@@ -61,4 +65,12 @@ pub enum Refusal {
     /// An allocation was refused.
     #[error("V15 Memory")]
     Memory,
+}
+
+impl From<AllocError> for Refusal {
+    ghost from_gives = { λ _ refusal. refusal ≡ Memory };
+
+    fn from(_: AllocError) -> Self {
+        Refusal::Memory
+    }
 }
