@@ -1,0 +1,15 @@
+pub mod Labels
+pub mod Runs
+pub mod Fields
+pub mod Compares
+pub mod Counters
+pub mod VersionWords
+pub mod StackTexts
+pub mod Arrays
+pub mod Relations
+pub mod TestRuns
+pub mod Before
+pub mod RuleRuns
+pub mod Steps
+pub mod Emitting
+pub mod Costs

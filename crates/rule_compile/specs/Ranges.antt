@@ -1,0 +1,46 @@
+-- The numbers of a rule are those that its types hold.
+use Rattle.std.specs.Prelude.{ℕ, ◌^◌, ◌<◌, List, [], ◌∷◌, slice_index}
+use Rattle.rule_lang.specs.Literals.{IsLiteral}
+use Rattle.rule_lang.specs.Trees.{IsCondition}
+use Rattle.rule_lang.specs.declared.condition.Step.{Step}
+use Rattle.rule_lang.specs.declared.condition.Step.TheVariants as step
+use Rattle.rule_lang.specs.declared.rule.Statement.{Statement}
+use Rattle.rule_lang.specs.declared.rule.Statement.TheVariants.{Count, When}
+use Rattle.rule_lang.specs.declared.test.Test as the_test
+use Rattle.rule_lang.specs.declared.test.Test.TheVariants as test
+
+abbrev pub IsInRange : the_test.Test → Type 0
+IsInRange (test.Version r w) = (k : ℕ) → slice_index w k < 2 ^ 32
+IsInRange (test.Bucket r n) = n < 2 ^ 32
+IsInRange (test.SaltedBucket salt r n) = (salt < 2 ^ 64) × (n < 2 ^ 32)
+IsInRange (test.Today r n) = n < 2 ^ 32
+IsInRange (test.Installed r n) = n < 2 ^ 32
+IsInRange (test.Flag f) = Unit {0}
+IsInRange (test.Attr n text) = IsLiteral text
+IsInRange (test.Take name index) = Unit {0}
+
+abbrev pub IsStepInRange : Step → Type 0
+IsStepInRange (step.Test line t) = IsInRange t
+IsStepInRange s = Unit {0}
+
+abbrev pub AreInRange : List Step → Type 0
+AreInRange [] = Unit {0}
+AreInRange (s ∷ ss) = IsStepInRange s × AreInRange ss
+
+abbrev pub IsStatementInRange : Statement → Type 0
+IsStatementInRange (Count name index) = Unit {0}
+IsStatementInRange (When steps release) = AreInRange steps
+
+abbrev pub IsRuleInRange : List Statement → Type 0
+IsRuleInRange [] = Unit {0}
+IsRuleInRange (x ∷ xs) = IsStatementInRange x × IsRuleInRange xs
+
+-- ---- the steps of each condition make one tree
+
+abbrev pub IsMade : Statement → Type 0
+IsMade (Count name index) = Unit {0}
+IsMade (When steps release) = IsCondition steps
+
+abbrev pub AreMade : List Statement → Type 0
+AreMade [] = Unit {0}
+AreMade (x ∷ xs) = IsMade x × AreMade xs

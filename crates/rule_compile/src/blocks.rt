@@ -1,0 +1,141 @@
+//! Writing the code of a test in front of the rest: it goes to the label where the test is of the
+//! sense, and else on to the rest.
+
+ghost use Rattle.std.specs.Prelude.{◌≡◌, ◌<◌, ◌≤◌, ◌+◌, ◌*◌, ◌^◌, length, if◌then◌else◌, not, OnOk};
+ghost use Rattle.rule_compile.specs.Blocks as code;
+ghost use Rattle.rule_compile.specs.Instructions as instructions;
+
+use crate::code::Code;
+use crate::fault::CompileFault;
+use crate::instructions as insn;
+use bpf_insn::{AtomicSize, Condition, LoadKind, Reg};
+
+/// Where the bucket, the flags and the days stand in the context.
+pub const BUCKET: u8 = 16;
+
+pub const FLAGS: u8 = 18;
+
+pub const INSTALL_DAY: u8 = 20;
+
+pub const TODAY: u8 = 24;
+
+/// One of two labels.
+pub fn label_if(sense: bool, there: usize, here: usize) -> usize
+    ensures { result ≡ (if sense then there else here) }
+{
+    if sense { there } else { here }
+}
+
+/// A jump on the low half of a register.
+pub fn put_jump(
+    rest: &mut Code,
+    condition: Condition,
+    left: Reg,
+    number: u32,
+    label: usize,
+) -> Result<(), CompileFault>
+    requires { label ≤ length rest.old }
+    ensures code { OnOk result
+        (rest.new ≡ code.jump_to (instructions.jump_if condition left number) label rest.old) }
+    ensures long { result ≡ Err CompileFault.TooLong → 4096 ≤ length rest.old }
+{
+    let slots = rest.slots_to(label);
+    rest.put(insn::jump_if(condition, left, number, slots))
+}
+
+/// A field of the context against a number.
+pub fn put_field(
+    rest: &mut Code,
+    kind: LoadKind,
+    offset: u8,
+    condition: Condition,
+    number: u32,
+    label: usize,
+) -> Result<(), CompileFault>
+    requires { label ≤ length rest.old }
+    ensures code { OnOk result
+        (rest.new ≡ code.field_code kind offset condition number label rest.old) }
+    ensures long { result ≡ Err CompileFault.TooLong → 4096 < length rest.old + 2 }
+{
+    put_jump(rest, condition, Reg::R2, number, label)?;
+    rest.put(insn::load_field(kind, offset))
+}
+
+/// A flag, by its bit.
+pub fn put_flag(rest: &mut Code, mask: u8, sense: bool, label: usize) -> Result<(), CompileFault>
+    requires { label ≤ length rest.old }
+    ensures code { OnOk result (rest.new ≡ code.flag_code mask sense label rest.old) }
+    ensures long { result ≡ Err CompileFault.TooLong
+        → 4096 < length (code.flag_code mask sense label rest.old) }
+{
+    if sense {
+        return put_field(
+            rest,
+            LoadKind::Byte,
+            FLAGS,
+            Condition::Set,
+            mask as u32,
+            label,
+        );
+    }
+    put_jump(rest, Condition::Eq, Reg::R2, 0, label)?;
+    rest.put(insn::mask_field(mask))?;
+    rest.put(insn::load_field(LoadKind::Byte, FLAGS))
+}
+
+/// The bucket of a salt's own against a number.
+pub fn put_salted(
+    rest: &mut Code,
+    salt: u64,
+    condition: Condition,
+    number: u32,
+    label: usize,
+) -> Result<(), CompileFault>
+    requires { label ≤ length rest.old }
+    ensures code { OnOk result
+        (rest.new ≡ code.salted_code salt condition number label rest.old) }
+    ensures long { result ≡ Err CompileFault.TooLong → 4096 < length rest.old + 4 }
+{
+    put_jump(rest, condition, Reg::R0, number, label)?;
+    rest.put(insn::call(4))?;
+    rest.put_wide(insn::load_salt(salt))
+}
+
+/// One is added to a cell.
+pub fn put_count(
+    rest: &mut Code,
+    size: AtomicSize,
+    array: u32,
+    index: u16,
+) -> Result<(), CompileFault>
+    requires { array < 2 ^ 31 }
+    ensures code { OnOk result (rest.new ≡ code.count_code size array index rest.old) }
+    ensures long { result ≡ Err CompileFault.TooLong → 4096 < length rest.old + 4 }
+{
+    rest.put(insn::add_to_cell(size))?;
+    rest.put(insn::set_argument(Reg::R2, 1))?;
+    rest.put_wide(insn::load_cell(array, index))
+}
+
+/// One is added to a cell, and the reply compared with the quota.
+pub fn put_take(
+    rest: &mut Code,
+    array: u32,
+    index: u16,
+    quota: u64,
+    sense: bool,
+    label: usize,
+) -> Result<(), CompileFault>
+    requires label { label ≤ length rest.old }
+    requires array { array < 2 ^ 31 }
+    ensures code { OnOk result
+        (rest.new ≡ code.take_code array index quota sense label rest.old) }
+    ensures long { result ≡ Err CompileFault.TooLong → 4096 < length rest.old + 7 }
+{
+    let slots = rest.slots_to(label);
+    rest.put(insn::jump_on_quota(sense, slots))?;
+    rest.put_wide(insn::load_quota(quota))?;
+    rest.put(insn::take_from_cell())?;
+    rest.put(insn::set_argument(Reg::R2, 1))?;
+    rest.put_wide(insn::load_cell(array, index))
+}

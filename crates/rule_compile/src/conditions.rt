@@ -1,0 +1,80 @@
+//! Writing the code of a condition, from its last step to its first: of what is made of conditions
+//! the goals are kept, the next one last, and a test is written to the next goal.
+
+ghost use Rattle.std.specs.Prelude.{◌≡◌, ◌<◌, ◌≤◌, ◌+◌, [], ◌∷◌, true, length, All, OnOk, IfErr};
+ghost use Rattle.rule_compile.specs.Code as code;
+ghost use Rattle.rule_compile.specs.Ranges.{IsStepInRange, AreInRange};
+ghost use Rattle.rule_lang.specs.Trees.{IsCondition};
+
+use crate::blocks::label_if;
+use crate::code::Code;
+use crate::fault::CompileFault;
+use crate::goals::{Goal, Goals};
+use crate::test::put_test;
+use cells::Shape;
+use rule_lang::{Condition, Step};
+
+/// The goals of the two conditions of a chain: the first one leaves the chain where it is of this
+/// sense, and the second one decides.
+fn put_goals(goals: &mut Goals, goal: Goal, leaves: bool, out: usize) -> Result<(), CompileFault>
+    ensures goals { OnOk result (goals.new
+        ≡ code.goal goal.sense goal.label ∷ code.goal leaves out ∷ goals.old) }
+    ensures memory { IfErr result (λ e. e ≡ CompileFault.Memory) }
+{
+    goals.push(leaves, out)?;
+    goals.push(goal.sense, goal.label)
+}
+
+/// One step, at a goal.
+fn put_at(
+    rest: &mut Code,
+    shape: &Shape,
+    goals: &mut Goals,
+    step: &Step,
+    goal: Goal,
+) -> Result<(), CompileFault>
+    requires { goal.label ≤ length rest.old }
+    ensures code { OnOk result
+        (rest.new ≡ code.step_code shape.now step.now (goal ∷ goals.old) rest.old) }
+    ensures goals { OnOk result
+        (goals.new ≡ code.step_goals step.now (goal ∷ goals.old) rest.old) }
+    ensures long { result ≡ Err CompileFault.TooLong
+        → 4096 < length (code.step_code shape.now step.now (goal ∷ goals.old) rest.old) }
+    ensures range { IsStepInRange step.now }
+{
+    match step {
+        Step::Test { test, .. } => put_test(rest, shape, test, goal),
+        Step::Not => goals.push(!goal.sense, goal.label),
+        Step::And => {
+            let out = label_if(goal.sense, rest.len(), goal.label);
+            put_goals(goals, goal, false, out)
+        }
+        Step::Or => {
+            let out = label_if(goal.sense, goal.label, rest.len());
+            put_goals(goals, goal, true, out)
+        }
+    }
+}
+
+/// One step, at the next goal.
+pub fn put_step(
+    rest: &mut Code,
+    shape: &Shape,
+    goals: &mut Goals,
+    step: &Step,
+) -> Result<(), CompileFault>
+    requires some { 0 < length goals.old }
+    requires labels { All (λ g. g.label ≤ length rest.old) goals.old }
+    ensures code { OnOk result
+        (rest.new ≡ code.step_code shape.now step.now goals.old rest.old) }
+    ensures goals { OnOk result
+        (goals.new ≡ code.step_goals step.now goals.old rest.old) }
+    ensures long { result ≡ Err CompileFault.TooLong
+        → 4096 < length (code.step_code shape.now step.now goals.old rest.old) }
+    ensures range { IsStepInRange step.now }
+{
+    match goals.pop() {
+        Some(goal) => put_at(rest, shape, goals, step, goal),
+        None => unreachable!(),
+    }
+}

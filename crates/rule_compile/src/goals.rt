@@ -1,0 +1,60 @@
+//! Where the code of a condition goes, and the conditions that are still to be written.
+
+ghost use Rattle.std.specs.Prelude.{◌≡◌, [], ◌∷◌, OnOk, IfErr, IfSome, IfNone};
+
+use crate::fault::CompileFault;
+use std::alloc::Global;
+use std::marker::Model;
+
+/// The code goes to the label where its condition is of the sense, and else on to what is behind.
+#[derive(Clone, Copy, Debug)]
+pub struct Goal {
+    pub sense: bool,
+    pub label: usize,
+}
+
+/// The goals of conditions that are still to be written: that of the next one stands last.
+#[derive(Drop)]
+pub struct Goals {
+    goals: Vec<Goal>,
+}
+
+impl Model for Goals {
+    ghost use Rattle.std.specs.Prelude.{List, reverse};
+    ghost use Rattle.rule_compile.specs.declared.goals.Goal.{Goal};
+
+    ghost Value = { List Goal };
+
+    ghost view = { λ g. reverse g.goals.items };
+}
+
+impl Goals {
+    /// No goals.
+    pub fn new(alloc: Global) -> Goals
+        ensures { result ≡ [] }
+    {
+        Goals {
+            goals: Vec::new(alloc),
+        }
+    }
+
+    /// One goal more, which is the next.
+    pub fn push(&mut self, sense: bool, label: usize) -> Result<(), CompileFault>
+        ensures goals { OnOk result
+            (self.new ≡ record { sense = sense; label = label } ∷ self.old) }
+        ensures memory { IfErr result (λ e. e ≡ CompileFault.Memory) }
+    {
+        match self.goals.push(Goal { sense, label }) {
+            Ok(()) => Ok(()),
+            Err(_) => Err(CompileFault::Memory),
+        }
+    }
+
+    /// The next goal, if there is one.
+    pub fn pop(&mut self) -> Option<Goal>
+        ensures some { IfSome result (λ g. self.old ≡ g ∷ self.new) }
+        ensures none { IfNone result (self.old ≡ []) }
+    {
+        self.goals.pop()
+    }
+}

@@ -1,0 +1,194 @@
+//! Writing the code of each test of the language.
+
+ghost use Rattle.std.specs.Prelude.{◌≡◌, ◌<◌, ◌≤◌, ◌+◌, ◌^◌, ℕ, length, slice_get, slice_index, OnOk, IfOk, IfErr};
+ghost use Rattle.rule_compile.specs.Code as code;
+ghost use Rattle.rule_compile.specs.Ranges.{IsInRange};
+ghost use Rattle.rule_lang.specs.Meaning as meaning;
+ghost use Rattle.rule_lang.specs.Shapes as shapes;
+
+use crate::blocks::{BUCKET, INSTALL_DAY, TODAY, put_field, put_flag, put_salted, put_take};
+use crate::code::Code;
+use crate::fault::CompileFault;
+use crate::goals::Goal;
+use crate::instructions::turned;
+use crate::texts::put_attribute;
+use crate::versions::{put_equal, put_order};
+use bpf_insn::{Condition, LoadKind};
+use cells::{CellArray, Shape};
+use rule_lang::{Attribute, Flag, Relation, Test};
+
+/// The condition of a jump.
+fn condition_of(relation: Relation) -> Condition
+    ensures { result ≡ code.condition_of relation }
+{
+    match relation {
+        Relation::Lt => Condition::Lt,
+        Relation::Le => Condition::Le,
+        Relation::Eq => Condition::Eq,
+        Relation::Ne => Condition::Ne,
+        Relation::Ge => Condition::Ge,
+        Relation::Gt => Condition::Gt,
+    }
+}
+
+/// The bit of a flag in the context.
+fn flag_bit(flag: Flag) -> u8
+    ensures { result ≡ meaning.flag_bit flag }
+{
+    match flag {
+        Flag::VersionKnown => 1,
+        Flag::Updatecheck => 2,
+        Flag::Ping => 4,
+        Flag::Event => 8,
+        Flag::CohortKnown => 16,
+        Flag::InstalldateKnown => 32,
+    }
+}
+
+/// The number by which a helper knows an attribute.
+fn attribute_number(attribute: Attribute) -> u8
+    ensures { result ≡ meaning.attribute_number attribute }
+{
+    match attribute {
+        Attribute::Appid => 0,
+        Attribute::Version => 1,
+        Attribute::Brand => 2,
+        Attribute::Ap => 3,
+        Attribute::Lang => 4,
+        Attribute::Cohort => 5,
+        Attribute::Platform => 6,
+    }
+}
+
+/// The place of the first array of a name; of none, how many arrays there are.
+pub fn place_named(arrays: &[CellArray], name: &str) -> usize
+    ensures { result ≡ code.place_named name.now arrays.now }
+{
+    let mut rest = arrays;
+    let mut place = 0;
+    while let [array, later @ ..] = rest {
+        if array.name.as_str() == name {
+            return place;
+        }
+        place += 1;
+        rest = later;
+    }
+    place
+}
+
+/// The place as an instruction holds it, which has 31 bits for it.
+pub fn array_number(place: usize) -> Result<u32, CompileFault>
+    ensures number { IfOk result (λ n. (n ≡ place) × (n < 2 ^ 31)) }
+    ensures memory { IfErr result (λ e. e ≡ CompileFault.Memory) }
+{
+    if place < 0x8000_0000 {
+        Ok(place as u32)
+    } else {
+        Err(CompileFault::Memory)
+    }
+}
+
+/// How many takes the array at the place grants.
+fn quota_at(arrays: &[CellArray], place: usize) -> u64
+    ensures { result ≡ shapes.quota_of (slice_get arrays.now place) }
+{
+    match arrays.get(place) {
+        Some(array) => array.quota.unwrap_or(0),
+        None => 0,
+    }
+}
+
+/// A comparison of versions.
+fn put_version(
+    rest: &mut Code,
+    relation: Relation,
+    numbers: &[u32],
+    sense: bool,
+    label: usize,
+) -> Result<(), CompileFault>
+    requires label { label ≤ length rest.old }
+    requires words { length numbers.now ≤ 4 }
+    ensures code { OnOk result
+        (rest.new ≡ code.version_code relation numbers.now sense label rest.old) }
+    ensures long { result ≡ Err CompileFault.TooLong
+        → 4096 < length (code.version_code relation numbers.now sense label rest.old) }
+    ensures range { (k : ℕ) → slice_index numbers.now k < 2 ^ 32 }
+{
+    let (lt, gt) = (Condition::Lt, Condition::Gt);
+    match relation {
+        Relation::Lt => put_order(rest, lt, lt, 0, numbers, sense, label),
+        Relation::Le => put_order(rest, lt, Condition::Le, 0, numbers, sense, label),
+        Relation::Eq => put_equal(rest, 0, numbers, sense, label),
+        Relation::Ne => put_equal(rest, 0, numbers, !sense, label),
+        Relation::Ge => put_order(rest, gt, Condition::Ge, 0, numbers, sense, label),
+        Relation::Gt => put_order(rest, gt, gt, 0, numbers, sense, label),
+    }
+}
+
+/// A take of the cell at the index of the first array of the name.
+#[tactic(auto, using(crate::proofs::Arrays::named_place))]
+fn put_named_take(
+    rest: &mut Code,
+    shape: &Shape,
+    name: &str,
+    index: u16,
+    goal: Goal,
+) -> Result<(), CompileFault>
+    requires { goal.label ≤ length rest.old }
+    ensures code { OnOk result
+        (rest.new ≡ code.take_named shape.now name.now index goal.sense goal.label rest.old) }
+    ensures long { result ≡ Err CompileFault.TooLong → 4096 < length rest.old + 7 }
+{
+    let place = place_named(shape.arrays(), name);
+    let quota = quota_at(shape.arrays(), place);
+    put_take(
+        rest,
+        array_number(place)?,
+        index,
+        quota,
+        goal.sense,
+        goal.label,
+    )
+}
+
+/// The code of a test.
+#[tactic(auto, using(crate::proofs::Relations::four_is))]
+pub fn put_test(rest: &mut Code, shape: &Shape, test: &Test, goal: Goal) -> Result<(), CompileFault>
+    requires { goal.label ≤ length rest.old }
+    ensures code { OnOk result
+        (rest.new ≡ code.test_code shape.now test.now goal.sense goal.label rest.old) }
+    ensures long { result ≡ Err CompileFault.TooLong
+        → 4096 < length (code.test_code shape.now test.now goal.sense goal.label rest.old) }
+    ensures range { IsInRange test.now }
+{
+    let (sense, label) = (goal.sense, goal.label);
+    match test {
+        Test::Version { relation, version } => put_version(rest, *relation, version, sense, label),
+        Test::Bucket { relation, number } => {
+            let condition = turned(sense, condition_of(*relation));
+            put_field(rest, LoadKind::Half, BUCKET, condition, *number, label)
+        }
+        Test::SaltedBucket {
+            salt,
+            relation,
+            number,
+        } => {
+            let condition = turned(sense, condition_of(*relation));
+            put_salted(rest, *salt, condition, *number, label)
+        }
+        Test::Today { relation, number } => {
+            let condition = turned(sense, condition_of(*relation));
+            put_field(rest, LoadKind::Word, TODAY, condition, *number, label)
+        }
+        Test::Installed { relation, number } => {
+            let condition = turned(sense, condition_of(*relation));
+            put_field(rest, LoadKind::Word, INSTALL_DAY, condition, *number, label)
+        }
+        Test::Flag(flag) => put_flag(rest, flag_bit(*flag), sense, label),
+        Test::Attr { attribute, text } => {
+            let text = text.as_str().as_bytes();
+            put_attribute(rest, attribute_number(*attribute), text, sense, label)
+        }
+        Test::Take { array, index } => put_named_take(rest, shape, array.as_str(), *index, goal),
+    }
+}
