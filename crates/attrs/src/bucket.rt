@@ -34,8 +34,8 @@ fn last_digit(number: u16) -> u8
     b'0' + (number % 10) as u8
 }
 
-/// A law: an app that sends back the cohort that it was told, `b:` and its bucket's digits, stays in
-/// that bucket.
+/// A law: an app that sends back the cohort that it was told, `b:` and its bucket's digits, stays
+/// in that bucket.
 pub fn cohort_keeps_bucket()
     ensures { (n : ℕ) → n < 10000 → specs.cohort_bucket (specs.told_cohort n) ≡ Some n }
 {}

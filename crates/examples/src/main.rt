@@ -1,5 +1,5 @@
-//! The programs under `examples/`, each assembled, verified and run for the apps of a table. What is
-//! printed is compared with the file `stdout`, whose choices and counts were worked out by hand.
+//! The programs under `examples/`, each assembled, verified and run for the apps of a table. What
+//! is printed is compared with the file `stdout`, whose choices and counts were worked out by hand.
 #![tactic(auto)]
 
 ghost use Rattle.std.specs.Prelude.{◌<◌};

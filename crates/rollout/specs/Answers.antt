@@ -57,7 +57,8 @@ abbrev pub IsOverLimit : List ℕ → Type 0
 IsOverLimit bytes = 2 ^ 24 < length bytes
 
 -- the bytes are this program, and it is accepted under the file's shape
-pub record IsAcceptedProgram (file : ProgramFile) (bytes : List ℕ) (p : ShapedProgram) : Type 0 where
+pub record IsAcceptedProgram (file : ProgramFile) (bytes : List ℕ) (p : ShapedProgram)
+    : Type 0 where
   pub bytes_are : program_bytes p.code ≡ bytes
   pub shape_is : p.shape ≡ shape_of file
   pub flow : IsFlow p.code

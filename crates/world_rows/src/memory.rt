@@ -1,7 +1,8 @@
-//! Memory that is refused once. Each call is asked for its answer, and asked again where it answered
-//! its own refusal of memory: the second answer is the untroubled one, and what was lent to the call
-//! is as it was. So these tests pass with ample memory, and wherever one growth of theirs is
-//! refused, which `rt try --test --fail-alloc N -- memory` does for each N (docs/PROVING.md).
+//! Memory that is refused once. Each call is asked for its answer, and asked again where it
+//! answered its own refusal of memory: the second answer is the untroubled one, and what was lent
+//! to the call is as it was. So these tests pass with ample memory, and wherever one growth of
+//! theirs is refused, which `rt try --test --fail-alloc N -- memory` does for each N
+//! (docs/PROVING.md).
 
 use attrs::{AttrFault, Attrs};
 use bpf_insn::InsnFault;
@@ -26,8 +27,8 @@ fn again<T, E: PartialEq + Drop, F: FnMut() -> Result<T, E>>(memory: E, mut call
 }
 
 // ldxh r2, [r1+16] / mov r0, 0 / jge r2, 100, +1 / mov r0, 1 / exit
-const BELOW_100: &[u8] =
-    b"\x69\x12\x10\0\0\0\0\0\xb7\0\0\0\0\0\0\0\x35\x02\x01\0\x64\0\0\0\xb7\0\0\0\x01\0\0\0\x95\0\0\0\0\0\0\0";
+const BELOW_100: &[u8] = b"\x69\x12\x10\0\0\0\0\0\xb7\0\0\0\0\0\0\0\x35\x02\x01\0\x64\0\0\0\
+    \xb7\0\0\0\x01\0\0\0\x95\0\0\0\0\0\0\0";
 
 #[test]
 fn attributes(rt: HostRuntime) -> Result<(), Fail> {

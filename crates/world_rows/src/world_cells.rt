@@ -1,5 +1,5 @@
-//! The counters of a world, and events in batches: what is read is the value that the counters have,
-//! and a list of events may be played in parts.
+//! The counters of a world, and events in batches: what is read is the value that the counters
+//! have, and a list of events may be played in parts.
 
 use attrs::Attrs;
 use bpf_text::assemble;

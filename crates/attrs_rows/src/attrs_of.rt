@@ -1,6 +1,8 @@
 // The attributes of an app by its request, and a program's helpers. What no clause says is that the
 // definitions give the protocol's values, and that memory suffices.
 
+ghost use Rattle.std.specs.Prelude.{◌<◌};
+
 use attrs::{
     AppFacts, AttrFault, Attrs, Context, Elapsed, RequestFacts, Text, app_bucket, fnv1a,
     four_digits, helper_attr_is, helper_attr_len, helper_bucket,
@@ -90,6 +92,23 @@ fn context_at(alloc: Global, app: &AppFacts, moment: i64) -> Result<Context, Att
     Ok(Attrs::of(alloc, app, &request, moment)?.context())
 }
 
+// The calls under test, without their clauses: a proof would compute with the rows.
+fn hash_of(text: &str) -> u64 {
+    fnv1a(text.as_bytes())
+}
+
+fn length_of(attrs: &Attrs, number: u64) -> u64 {
+    helper_attr_len(attrs, number)
+}
+
+fn is_text(attrs: &Attrs, number: u64, text: &str) -> u64 {
+    helper_attr_is(attrs, number, text.as_bytes())
+}
+
+fn salted(attrs: &Attrs, salt: u64) -> u64 {
+    helper_bucket(attrs, salt)
+}
+
 #[test]
 fn hashes_of_fnv1a(rt: HostRuntime) {
     let rows = [
@@ -98,7 +117,7 @@ fn hashes_of_fnv1a(rt: HostRuntime) {
         ("foobar", 0x8594_4171_f739_67e8),
     ];
     for (text, hash) in rows {
-        assert_eq!(rt; fnv1a(text.as_bytes()), hash, "at {text:?}");
+        assert_eq!(rt; hash_of(text), hash, "at {text:?}");
     }
 }
 
@@ -269,9 +288,9 @@ fn texts_have_numbers(rt: HostRuntime) -> Result<(), Fail> {
     ];
     for (number, text, length) in rows {
         assert_eq!(rt; attrs.text(number), text);
-        assert_eq!(rt; helper_attr_len(&attrs, number), length);
-        assert_eq!(rt; helper_attr_is(&attrs, number, text.as_bytes()), 1);
-        assert_eq!(rt; helper_attr_is(&attrs, number, b"x1"), 0);
+        assert_eq!(rt; length_of(&attrs, number), length);
+        assert_eq!(rt; is_text(&attrs, number, text), 1);
+        assert_eq!(rt; is_text(&attrs, number, "x1"), 0);
     }
     Ok(())
 }
@@ -315,6 +334,12 @@ fn long_texts_are_not_kept(rt: HostRuntime) -> Result<(), Fail> {
     Ok(())
 }
 
+fn plain_of(alloc: Global, bucket: u16) -> Result<Attrs, AttrFault>
+    requires { bucket < 10000 }
+{
+    Attrs::plain(alloc, "x", None, bucket)
+}
+
 #[test]
 fn salts_divide_buckets(rt: HostRuntime) -> Result<(), Fail> {
     let alloc = rt.alloc();
@@ -325,9 +350,9 @@ fn salts_divide_buckets(rt: HostRuntime) -> Result<(), Fail> {
         (9999, u64::MAX, 225),
         (1234, 0x0102_0304_0506_0708, 941),
     ];
-    for (bucket, salt, salted) in rows {
-        let attrs = Attrs::plain(alloc, "x", None, bucket)?;
-        assert_eq!(rt; helper_bucket(&attrs, salt), salted, "at {bucket}, {salt}");
+    for (bucket, salt, expected) in rows {
+        let attrs = plain_of(alloc, bucket)?;
+        assert_eq!(rt; salted(&attrs, salt), expected, "at {bucket}, {salt}");
     }
     Ok(())
 }

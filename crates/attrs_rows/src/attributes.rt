@@ -1,6 +1,7 @@
 // What no clause says: that the definitions give the protocol's values, and that memory suffices.
 
-use attrs::{Attrs, read_version};
+use attrs::{AttrFault, Attrs, read_version};
+use std::alloc::Global;
 use std::test::Fail;
 
 #[test]
@@ -38,13 +39,18 @@ fn context_is_laid_out(rt: HostRuntime) -> Result<(), Fail> {
     Ok(())
 }
 
+// Attributes of an app of a version, without the clauses: a proof would compute with the texts.
+fn plain_app(alloc: Global, version: Option<&str>) -> Result<Attrs, AttrFault> {
+    Attrs::plain(alloc, "x", version, 0)
+}
+
 #[test]
 fn plain_app_has_its_texts(rt: HostRuntime) -> Result<(), Fail> {
-    let attrs = Attrs::plain(rt.alloc(), "x", Some("1.0"), 0)?;
+    let attrs = plain_app(rt.alloc(), Some("1.0"))?;
     for (number, text) in [(0, "x"), (1, "1.0"), (2, ""), (6, ""), (7, "")] {
         assert_eq!(rt; attrs.text(number), text, "attribute {number}");
     }
-    let absent = Attrs::plain(rt.alloc(), "x", None, 0)?.context();
+    let absent = plain_app(rt.alloc(), None)?.context();
     assert_eq!(rt; absent.version, [0; 4]);
     assert_eq!(rt; absent.flags, 2);
     Ok(())

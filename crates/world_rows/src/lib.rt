@@ -1,0 +1,12 @@
+//! Tests of rulesets and worlds: lists of events with their effects, and memory that is refused
+//! once in each call of the libraries.
+#![tactic(auto)]
+
+#[cfg(test)]
+mod events;
+#[cfg(test)]
+mod memory;
+#[cfg(test)]
+mod rulesets;
+#[cfg(test)]
+mod world_cells;
