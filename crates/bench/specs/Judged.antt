@@ -4,7 +4,7 @@ use Rattle.bpf_insn.specs.Program.{Program}
 use Rattle.flow_check.specs.Flow.{IsFlow, program_bytes}
 use Rattle.flow_check.specs.Fault.{IsFlowFault}
 use Rattle.cells.specs.Arrays.{AppShape}
-use Rattle.bpf_verify.specs.declared.refusal.Refusal.{Refusal}
+use Rattle.bpf_rules.specs.declared.refusal.Refusal.{Refusal}
 use Rattle.bpf_verify.specs.Accepted.{IsAccepted, IsRefusal}
 use Rattle.bench.specs.declared.fault.Fault.{Fault}
 use Rattle.bench.specs.declared.fault.Fault.TheVariants.{Memory, Output, Flow, Rule}

@@ -1,50 +1,39 @@
--- What an entry stands for, and what is promised of a step from there.
-use Rattle.std.specs.Prelude.{◌≡◌, ℕ, ◌+◌, ◌<◌, ◌≤◌, length, Option, Some, None, IsSome}
-use Rattle.bpf_insn.specs.Program.{Program, at}
-use Rattle.bpf_semantics.specs.Memory.{context_start, stack_top}
-use Rattle.bpf_semantics.specs.State.{State}
+-- What is promised of the runs of a program that is accepted.
+use Rattle.std.specs.Prelude.{◌≡◌, ℕ, ◌+◌, ◌<◌, ◌≤◌, List, All, length, Some, IsSome}
+use Rattle.bpf_insn.specs.Program.{at}
+use Rattle.bpf_semantics.specs.State.{State, HasWords}
 use Rattle.bpf_semantics.specs.Outcome.{Outcome, Going, Asks, Done, Trap}
 use Rattle.bpf_semantics.specs.Step.{step}
 use Rattle.bpf_semantics.specs.Program.{ShapedProgram}
+use Rattle.bpf_semantics.specs.Run.{Ends}
+use Rattle.cells.specs.Arrays.{AppShape}
 use Rattle.cells.specs.Events.{CanReply}
+use Rattle.cells.specs.declared.event.CellEvent.{CellEvent}
 use Rattle.cells.specs.declared.event.CellOp.{CellOp}
-use Rattle.bpf_verify.specs.declared.value.Value.{Value}
-use Rattle.bpf_verify.specs.declared.value.Value.TheVariants.{Unusable, Num, Ctx, Stk}
-use Rattle.bpf_verify.specs.declared.entry.Entry.{Entry}
-use Rattle.bpf_verify.specs.Entries.{value_at}
+use Rattle.abs_value.specs.declared.state.AbsState.{AbsState}
+use Rattle.abs_value.specs.Covers.{IsStoodFor}
+use Rattle.bpf_rules.specs.Sound.{IsLawful}
 use Rattle.bpf_verify.specs.Accepted.{entry_of}
 
--- the numbers and addresses that a value stands for
-abbrev pub Includes : Value → ℕ → Type 0
-Includes Unusable x = Unit {0}
-Includes (Num numbers) x = (numbers.lo ≤ x) × (x ≤ numbers.hi)
-Includes (Ctx places) x = (context_start + places.lo ≤ x) × (x ≤ context_start + places.hi)
-Includes (Stk below) x = x + below ≡ stack_top
-
--- an unset register is covered only where the value is unusable
-abbrev pub CoversValue : Value → Option ℕ → Type 0
-CoversValue Unusable v = Unit {0}
-CoversValue a None = ⊥
-CoversValue a (Some x) = Includes a x
-
-abbrev pub Covers : Entry → State → Type 0
-Covers e s = (r : ℕ) → CoversValue (value_at e r) (s.registers r)
-
--- the state stands at a place whose entry covers it
-pub record IsCovered (p : Program) (s : State) : Type 0 where
-  pub entry : Entry
+-- the state stands at a place, and the place's entry stands for it, given some answers of the calls
+-- before; its numbers are words
+pub record IsCovered (p : ShapedProgram) (s : State) : Type 0 where
+  pub entry : AbsState
   pub entry_is : entry_of p s.slot ≡ Some entry
-  pub covers : Covers entry s
-  pub place : IsSome (at p s.slot)
+  pub stands : IsStoodFor p.shape entry s
+  pub words : HasWords s
+  pub place : IsSome (at p.code s.slot)
 
--- a step is no trap, and leads ahead to a covered state, for each reply that fits, or ends with 0
--- or one of the releases
-abbrev pub IsSafeOutcome : Program → ℕ → State → Outcome → Type 0
-IsSafeOutcome p releases s (Going t) = (s.slot < t.slot) × IsCovered p t
-IsSafeOutcome p releases s (Asks cell op next) =
-    (reply : ℕ) → CanReply cell op reply → (s.slot < (next reply).slot) × IsCovered p (next reply)
-IsSafeOutcome p releases s (Done n) = n ≤ releases
-IsSafeOutcome p releases s Trap = ⊥
+-- a step is no trap, and leads ahead to a covered state, or ends with 0 or one of the releases; of
+-- a counter it asks what the shape allows, and leads there for each reply that fits
+abbrev pub IsSafeOutcome : ShapedProgram → State → Outcome → Type 0
+IsSafeOutcome p s (Going t) = (s.slot < t.slot) × IsCovered p t
+IsSafeOutcome p s (Asks cell op next) =
+    IsLawful p.shape cell op
+    × ((reply : ℕ) → CanReply cell op reply
+    → (s.slot < (next reply).slot) × IsCovered p (next reply))
+IsSafeOutcome p s (Done n) = n ≤ p.shape.releases
+IsSafeOutcome p s Trap = ⊥
 
 -- from the state on nothing traps, whatever fitting replies counters give: the run ends, with 0 or
 -- a release, after at most as many instructions in all as the program has slots
@@ -57,8 +46,20 @@ pub data EndsWell (p : ShapedProgram) : State → Type 0 where
 
 -- from a state that is covered a step is safe, and the whole run ends
 abbrev pub StepsAreSafe : ShapedProgram → Type 0
-StepsAreSafe p =
-    (s : State) → IsCovered p.code s → IsSafeOutcome p.code p.shape.releases s (step p s)
+StepsAreSafe p = (s : State) → IsCovered p s → IsSafeOutcome p s (step p s)
 
 abbrev pub RunsEndWell : ShapedProgram → Type 0
-RunsEndWell p = (s : State) → IsCovered p.code s → s.count ≤ s.slot → EndsWell p s
+RunsEndWell p = (s : State) → IsCovered p s → s.count ≤ s.slot → EndsWell p s
+
+-- each event is on a cell of the shape's arrays, and on one of an array with a quota it is a load
+-- or an add of 1; and its reply fits
+abbrev pub AreLawful : AppShape → List CellEvent → Type 0
+AreLawful shape events = All (λ e. IsLawful shape e.cell e.op) events
+
+abbrev pub Fits : CellEvent → Type 0
+Fits e = CanReply e.cell e.op e.reply
+
+abbrev pub RunsAreLawful : ShapedProgram → Type 0
+RunsAreLawful p =
+    (s : State) (events : List CellEvent) (choice count : ℕ) → IsCovered p s
+    → All Fits events → Ends p s events choice count → AreLawful p.shape events

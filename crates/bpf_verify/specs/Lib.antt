@@ -1,8 +1,7 @@
-pub mod Range
-pub mod Values
-pub mod Entries
-pub mod Rules
-pub mod Transfer
+pub mod Count
+pub mod Pool
 pub mod Accepted
-pub mod Covers
+pub mod Kept
 pub mod Sweep
+pub mod Entries
+pub mod Covers

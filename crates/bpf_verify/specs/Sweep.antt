@@ -1,33 +1,48 @@
--- What the sweep keeps: for each place the join over what came so far.
-use Rattle.std.specs.Prelude.{◌≡◌, ℕ, ◌<◌, List, [], ◌∷◌, Option, Some, None, ◌==◌}
-use Rattle.std.specs.Prelude.{if◌then◌else◌, slice_index_or, slice_set, length}
-use Rattle.bpf_insn.specs.Program.{Program}
-use Rattle.bpf_verify.specs.declared.entry.Entry.{Entry}
-use Rattle.bpf_verify.specs.declared.edge.Edge.{Edge}
-use Rattle.bpf_verify.specs.Entries.{join_entries}
-use Rattle.bpf_verify.specs.Accepted.{join_all, incoming}
+-- What the sweep keeps: the entry at hand, and those that wait for places ahead.
+use Rattle.std.specs.Prelude.{◌≡◌, ℕ, ◌+◌, ◌<◌, ◌≤◌, length, Option, Some, None, IsSome, true}
+use Rattle.std.specs.Prelude.{if◌then◌else◌, max, ◌⊎◌}
+use Rattle.bpf_insn.specs.declared.insn.Insn.{Insn}
+use Rattle.bpf_insn.specs.Program.{Program, at}
+use Rattle.bpf_semantics.specs.Program.{ShapedProgram}
+use Rattle.cells.specs.Arrays.{AppShape}
+use Rattle.flow_check.specs.Edges.{target_of, goes_on}
+use Rattle.abs_value.specs.declared.state.AbsState.{AbsState}
+use Rattle.abs_value.specs.States.{join_states}
+use Rattle.bpf_rules.specs.Transfer.{jumping, going_on}
+use Rattle.bpf_verify.specs.Pool.{Waiting, waits_at, held, joined_with, IsChanged}
+use Rattle.bpf_verify.specs.Accepted.{join_all, incoming, IsFine}
+use Rattle.bpf_verify.specs.Kept.{jumps_to, most_ahead, KeptAtMost}
 
-abbrev pub joined_with : Option Entry → Entry → Entry
-joined_with None e = e
-joined_with (Some found) e = join_entries found e
+-- what is at hand where a place is reached: what waited, and then what falls through
+abbrev pub arrived : Option AbsState → Option AbsState → Option AbsState
+arrived None here = here
+arrived (Some w) None = Some w
+arrived (Some w) (Some h) = Some (join_states w h)
 
--- a place's entry once these edges are joined into it, those of them that lead there
-abbrev pub with_edges : ℕ → List Edge → Option Entry → Option Entry
-with_edges m [] found = found
-with_edges m (d ∷ ds) found =
-    with_edges m ds (if d.target == m then Some (joined_with found d.entry) else found)
+-- an entry waits for a place ahead alone, which a jump from before k leads to
+pub record IsAwaited (p : Program) (k m : ℕ) : Type 0 where
+  pub ahead : k ≤ m
+  pub place : IsSome (at p m)
+  pub target : jumps_to p k m ≡ true
 
--- before place k is visited
-pub record IsSwept (p : Program) (k : ℕ) (entries : List (Option Entry)) : Type 0 where
-  pub length_is : length entries ≡ length p
-  pub each : (m : ℕ) → m < length p → slice_index_or entries m None ≡ join_all (incoming p k m)
+-- before place k is judged
+pub record IsSwept (p : ShapedProgram) (k : ℕ) (here : Option AbsState) (w : Waiting) : Type 0 where
+  pub place : (k ≡ length p.code) ⊎ IsSome (at p.code k)
+  pub len : length w.entries ≡ length p.code
+  pub entry : k < length p.code → arrived (waits_at w k) here ≡ join_all (incoming p k k)
+  pub later : (m : ℕ) → k < m → m < length p.code → waits_at w m ≡ join_all (incoming p k m)
+  pub waits : (m : ℕ) → IsSome (waits_at w m) → IsAwaited p.code k m
+  pub fine : (s : ℕ) → s < k → IsFine p s
+  pub least : KeptAtMost p k (w.most + 1)
+  pub most : w.most ≤ most_ahead p.code k
 
--- the entries once one edge is joined into that of its target
-abbrev pub with_edge : List (Option Entry) → Edge → List (Option Entry)
-with_edge entries d =
-    slice_set entries d.target (Some (joined_with (slice_index_or entries d.target None) d.entry))
+-- an edge to a target is added to what waits; none where it is dropped, or where there is no jump
+abbrev pub IsAdded : Option ℕ → Option AbsState → Waiting → Waiting → Type 0
+IsAdded (Some t) (Some f) old new =
+    IsChanged old new t (Some (joined_with (waits_at old t) f))
+    × (new.most ≡ max old.most (held new))
+IsAdded target edge old new = old ≡ new
 
--- these edges are joined into the entries
-abbrev pub Joins : List Edge → List (Option Entry) → List (Option Entry) → Type 0
-Joins ds old new = (m : ℕ) → m < length old
-    → slice_index_or new m None ≡ with_edges m ds (slice_index_or old m None)
+-- what goes on from a place
+abbrev pub falling : AppShape → ℕ → AbsState → Insn → Option AbsState
+falling shape s e i = if goes_on i then going_on shape s e i else None

@@ -3,38 +3,33 @@
 #![tactic(auto)]
 
 // How it judges. All jumps go forward, so one sweep upwards over the slots sees each instruction
-// after everything that leads to it. For each slot the sweep keeps an entry: for each register what
-// is known when the run comes there, namely nothing, the range of a number, a range of places in
-// the context, or a place in the stack. The first slot has the opening entry.
+// after everything that leads to it. At each place it has an entry: what is known of registers and
+// stack when a run comes there. The first place has the entry where a run starts, and a place that
+// no edge reaches has none and isn't judged. The instruction is held against the rules, and then
+// makes of its entry one for each edge that it leads along; an edge that no run takes is dropped.
+// What one instruction does is told in `bpf_rules`, and what is known of values in `abs_value`.
 //
-// At a slot with an entry the instruction is first held against the rules, which are tests of the
-// instruction and the entry alone. If one fails, the program is refused there. If none fails, the
-// instruction makes of its entry one for each edge that it leads along: arithmetic computes with
-// ranges, a load gives any number of its width, and a conditional jump narrows the range of what it
-// compares, by the condition on the edge that jumps and by its opposite on the edge that goes on.
-// An edge on which a range would be empty is dropped, since no run takes it. The entry of an edge
-// is then joined into that of its target: the least entry that stands for both. A slot that no edge
-// reaches has no entry and isn't judged.
+// What the sweep keeps. The entry at hand is changed in place from instruction to instruction.
+// Where one jumps, the entry of that edge waits for its target: it is joined into the entry that
+// waits there already, or else copied into a pool. When the target is reached, what waits is joined
+// with what falls through, and its room in the pool is free again. So straight code copies no entry,
+// and the memory is bounded by the targets that lie ahead; `verify_counted` says how many entries
+// were kept at once.
 //
-// Why that is enough: an entry stands for every state in which a run can come to its slot. The
-// opening entry stands for every opening state, and each step leads from a state that is stood for
-// to one that is; so at no slot that a run reaches can a rule be broken, and the rules rule out
-// every trap.
+// Why that is enough. The entry of a place is defined as the join over its incoming edges in the
+// order of their slots, and the sweep is proved to judge by exactly this entry: the edge that falls
+// through comes last in that order. An entry stands for every state in which a run can come to its
+// place: the first one for every opening state, and each step leads along an edge from a state that
+// is stood for to one that is. So at no place that a run reaches is a rule broken, and the rules
+// rule out every trap.
 
-mod access;
-mod edge;
-mod entry;
+mod entries;
 mod law;
-mod narrow;
-mod range;
-mod refusal;
-mod rules;
+mod pool;
 mod sweep;
-mod transfer;
-mod value;
 mod verified;
 
+pub use bpf_rules::{Refusal, Rule};
 pub use cells::Shape;
 pub use law::{no_range_is_empty, one_verdict};
-pub use refusal::{Refusal, Rule};
-pub use verified::{Verified, verify};
+pub use verified::{Verified, verify, verify_counted};

@@ -1,76 +1,66 @@
-//! The sweep over the slots: an entry for each, joined from the edges that lead there. The entries
-//! are reserved once, and each slot is visited once, so the time is linear in slots and edges.
+//! The sweep over the slots, upwards: it judges each place by its entry, and carries the entry on
+//! along the edges of its instruction. Each place is judged once, and memory is taken for the
+//! targets that lie ahead alone.
 
-ghost use Rattle.std.specs.Prelude.{◌≡◌, ◌<◌, ◌≤◌, ◌+◌, ◌-◌, ◌∷◌, length, replicate};
-ghost use Rattle.std.specs.Prelude.{IfOk, IfSome, IfNone, Some, None, option_to_list};
-ghost use Rattle.bpf_verify.specs.Entries.{opening_entry};
-ghost use Rattle.bpf_verify.specs.Accepted.{IsFine, Fails};
-ghost use Rattle.bpf_verify.specs.Sweep.{with_edge, Joins, IsSwept};
+ghost use Rattle.std.specs.Prelude.{◌≡◌, ◌<◌, ◌≤◌, ◌+◌, length, OnOk, IfErr, OnErr, Some};
+ghost use Rattle.bpf_insn.specs.Program.{at};
+ghost use Rattle.flow_check.specs.Edges.{next_of};
+ghost use Rattle.bpf_verify.specs.Accepted.{shaped, IsRefusal, IsAccepted};
+ghost use Rattle.bpf_verify.specs.Entries.{at_hand};
+ghost use Rattle.bpf_verify.specs.Kept.{KeptAtMost, refused_at, judged, greatest_ahead};
+ghost use Rattle.bpf_verify.specs.Sweep.{IsSwept};
 
-use crate::edge::Edge;
-use crate::entry::Entry;
-use crate::refusal::Rule;
-use crate::rules::first_rule;
-use crate::transfer::transfer;
+use crate::entries::Entries;
+use bpf_insn::Insn;
+use bpf_rules::{Refusal, first_rule};
 use cells::Shape;
 use flow_check::Flow;
-use std::alloc::{AllocError, Global};
 
-/// An entry for each slot: the first has that where a run starts, and the others none yet.
-pub fn opening(alloc: Global, count: usize) -> Result<Vec<Option<Entry>>, AllocError>
-    requires { 0 < count }
-    ensures { IfOk result (λ v. v.items ≡ Some opening_entry ∷ replicate (count - 1) None) }
-{
-    let mut entries = Vec::with_capacity(alloc, count)?;
-    entries.push_reserved(Some(Entry::opening()));
-    for _ in 1..count {
-        entries.push_reserved(None);
-    }
-    Ok(entries)
-}
-
-/// Joins the entry of an edge into that of its target.
-fn put(entries: &mut [Option<Entry>], edge: &Edge)
-    requires { edge.now.target < length entries.old }
-    ensures { entries.new ≡ with_edge entries.old edge.now }
-{
-    entries[edge.target] = match &entries[edge.target] {
-        Some(found) => Some(found.join(&edge.entry)),
-        None => Some(edge.entry),
-    };
-}
-
-/// The same of an edge that may be dropped.
-fn put_if_any(entries: &mut [Option<Entry>], edge: &Option<Edge>)
-    requires { IfSome edge.now (λ d. d.target < length entries.old) }
-    ensures len { length entries.new ≡ length entries.old }
-    ensures joined { Joins (option_to_list edge.now) entries.old entries.new }
-{
-    if let Some(edge) = edge {
-        put(entries, edge);
-    }
-}
-
-/// Judges the instruction at the slot, and joins its edges into the slots that it leads to.
-pub fn visit(entries: &mut [Option<Entry>], flow: &Flow, shape: &Shape, slot: usize) -> Option<Rule>
-    requires slot { slot < length flow.now }
-    requires swept { IsSwept flow.now slot entries.old }
-    ensures swept { IfNone result (IsSwept flow.now (slot + 1) entries.new) }
-    ensures fine { IfNone result (IsFine flow.now shape.now slot) }
-    ensures fails { IfSome result (λ rule. Fails flow.now shape.now slot rule) }
+/// Judges the instruction at the slot.
+fn visit(
+    entries: &mut Entries,
+    flow: &Flow,
+    shape: &Shape,
+    slot: usize,
+    insn: &Insn,
+) -> Result<(), Refusal>
+    requires place { at flow.now slot ≡ Some insn.now }
+    requires swept { IsSwept (shaped flow.now shape.now) slot (at_hand entries.old) entries.old.waiting }
+    ensures swept { OnOk result (IsSwept (shaped flow.now shape.now) (next_of slot insn.now)
+        (at_hand entries.new) entries.new.waiting) }
+    ensures refused { IfErr result (λ r. IsRefusal flow.now shape.now r) }
+    ensures least { IfErr result (λ r. KeptAtMost (shaped flow.now shape.now) (refused_at r)
+        (entries.new.waiting.most + 1)) }
+    ensures most { OnErr result (entries.new.waiting.most ≡ entries.old.waiting.most) }
 {
     flow.keeps();
-    let Some(entry) = &entries[slot] else {
-        return None;
-    };
-    let Some(insn) = flow.at(slot) else {
-        return None;
-    };
-    if let Some(rule) = first_rule(shape, entry, insn) {
-        return Some(rule);
+    entries.arrive(slot)?;
+    if !entries.is_live {
+        return Ok(());
     }
-    let edges = transfer(slot, entry, insn);
-    put_if_any(entries, &edges.jump);
-    put_if_any(entries, &edges.next);
-    None
+    if let Some(rule) = first_rule(shape, &entries.here, insn) {
+        return Err(Refusal::Rule { slot, rule });
+    }
+    entries.jump(slot, insn)?;
+    entries.go_on(shape, slot, insn);
+    Ok(())
+}
+
+/// Judges all places, from the first to the last or to one at which a rule fails.
+pub fn sweep(entries: &mut Entries, flow: &Flow, shape: &Shape) -> Result<(), Refusal>
+    requires { IsSwept (shaped flow.now shape.now) 0 (at_hand entries.old) entries.old.waiting }
+    ensures accepted { OnOk result (IsAccepted flow.now shape.now) }
+    ensures refused { IfErr result (λ r. IsRefusal flow.now shape.now r) }
+    ensures least { KeptAtMost (shaped flow.now shape.now) (judged flow.now result)
+        (entries.new.waiting.most + 1) }
+    ensures most { entries.new.waiting.most ≤ greatest_ahead flow.now }
+{
+    flow.keeps();
+    let mut slot = 0;
+    while slot < flow.len() {
+        let insn = flow.insn(slot);
+        visit(entries, flow, shape, slot, insn)?;
+        slot += insn.width().slots();
+    }
+    Ok(())
 }

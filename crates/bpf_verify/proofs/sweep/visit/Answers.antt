@@ -1,23 +1,39 @@
-use Rattle.std.proofs.Common.{sym, ◌∙◌, add-one}
-use Rattle.bpf_verify.proofs.Swept.{jump_within, next_within, swept_none, swept_nowhere, swept_edges}
+use Rattle.std.proofs.Common.{◌≡◌, ◌∙◌, ◌<◌, ◌≤◌, length, Some, None, ap, sym, refl, rules, arith}
+use Rattle.std.specs.Prelude.{IsSome, if◌then◌else◌}
+use Rattle.abs_value.specs.declared.state.AbsState.{AbsState}
+use Rattle.bpf_verify.specs.Accepted.{shaped}
+use Rattle.bpf_verify.specs.Entries.{at_hand}
+use Rattle.bpf_verify.specs.Sweep.{falling}
+use Rattle.bpf_verify.proofs.Places.{at_within}
+use Rattle.bpf_verify.proofs.Visits.{within_length, passed_over, refused, gone_on}
 use Rattle.bpf_verify.proofs.sweep.visit.Goals as goal
+use Rattle.bpf_verify.proofs.sweep.visit.Goals.{In_ok-arrive}
 
-pub returns-in_default-clause-swept : goal.returns-in_default-clause-swept
-returns-in_default-clause-swept c = rw add-one (swept_none c.args.flow.now c.args.slot c.args.entries.now c.requires.slot c.requires.swept c.in_default.is)
+pub returns-then-not-entries-clause-swept : goal.returns-then-not-entries-clause-swept
+returns-then-not-entries-clause-swept c =
+    passed_over (shaped c.args.flow.now c.args.shape.now) c.args.slot c.args.insn.now c.keeps.ensures.flow.program c.keeps.ensures.forward c.requires.place
+    (at_hand c.args.entries.now) (at_hand c.arrive.new.self) c.args.entries.now.waiting c.arrive.new.self.waiting c.requires.swept c.in_ok-arrive.ensures.here
+    c.in_ok-arrive.ensures.waiting c.in_ok-arrive.ensures.most c.in_ok-arrive.ensures.held (rw c.if-not-entries.true refl)
 
-pub returns-in_default-at-clause-swept : goal.returns-in_default-at-clause-swept
-returns-in_default-at-clause-swept c = rw add-one (swept_nowhere c.args.flow.now c.args.slot c.in-Some.entry c.args.entries.now c.requires.slot c.requires.swept c.in-Some.is (sym c.at.ensures ∙ c.in_default-at.is))
+pub returns-in-Some-clause-refused : goal.returns-in-Some-clause-refused
+returns-in-Some-clause-refused c =
+    refused (shaped c.args.flow.now c.args.shape.now) c.args.slot c.args.insn.now c.keeps.ensures.flow.program c.keeps.ensures.forward c.requires.place
+    (at_hand c.args.entries.now) (at_hand c.arrive.new.self) c.args.entries.now.waiting c.arrive.new.self.waiting c.requires.swept c.in_ok-arrive.ensures.here
+    c.in_ok-arrive.ensures.waiting c.in_ok-arrive.ensures.most c.in_ok-arrive.ensures.held c.arrive.new.self.here (rw c.if-not-entries.false refl) c.in-Some.rule (sym c.first_rule.ensures ∙ c.in-Some.is)
 
-pub put_if_any-requires : goal.put_if_any-requires
-put_if_any-requires c =
-    let t = jump_within c.args.flow.now c.args.slot c.in-Some.entry c.in-Some-at.insn c.transfer-edges.result.jump c.transfer-edges.result.next c.keeps.ensures.forward (sym c.at.ensures ∙ c.in-Some-at.is) c.transfer-edges.ensures in
-    rw c.requires.swept.length_is t
+pub jump-requires-clause-slot : goal.jump-requires-clause-slot
+jump-requires-clause-slot c = let lt = at_within c.args.flow.now c.args.slot (rw c.requires.place refl) in omega (arith, lt, c.keeps.ensures.flow.short)
 
-pub put_if_any-requires-2 : goal.put_if_any-requires-2
-put_if_any-requires-2 c =
-    let t = next_within c.args.flow.now c.args.slot c.in-Some.entry c.in-Some-at.insn c.transfer-edges.result.jump c.transfer-edges.result.next c.keeps.ensures.forward (sym c.at.ensures ∙ c.in-Some-at.is) c.transfer-edges.ensures in
-    rw (c.put_if_any.ensures.len, c.requires.swept.length_is) t
+pub jump-requires-clause-target : goal.jump-requires-clause-target
+jump-requires-clause-target c = within_length c.args.flow.now c.args.slot c.args.insn.now (length c.arrive.new.self.waiting.entries) c.keeps.ensures.forward c.requires.place (c.in_ok-arrive.ensures.waiting.len ∙ c.requires.swept.len)
+
+pub go_on-requires : goal.go_on-requires
+go_on-requires c = let lt = at_within c.args.flow.now c.args.slot (rw c.requires.place refl) in omega (arith, lt, c.keeps.ensures.flow.short)
 
 pub returns-clause-swept : goal.returns-clause-swept
-returns-clause-swept c = rw add-one (swept_edges c.args.flow.now c.args.slot c.in-Some.entry c.in-Some-at.insn c.transfer-edges.result.jump c.transfer-edges.result.next c.args.entries.now c.put_if_any.new.entries c.put_if_any-2.new.entries
-    c.requires.slot c.requires.swept c.in-Some.is (sym c.at.ensures ∙ c.in-Some-at.is) c.transfer-edges.ensures c.put_if_any.ensures.len c.put_if_any.ensures.joined c.put_if_any-2.ensures.len c.put_if_any-2.ensures.joined)
+returns-clause-swept c =
+    gone_on (shaped c.args.flow.now c.args.shape.now) c.args.slot c.args.insn.now c.keeps.ensures.flow.program c.keeps.ensures.forward c.requires.place
+    (at_hand c.args.entries.now) (at_hand c.arrive.new.self) c.args.entries.now.waiting c.arrive.new.self.waiting c.requires.swept c.in_ok-arrive.ensures.here
+    c.in_ok-arrive.ensures.waiting c.in_ok-arrive.ensures.most c.in_ok-arrive.ensures.held c.arrive.new.self.here (rw c.if-not-entries.false refl)
+    (at_hand c.go_on.new.self) c.go_on.new.self.waiting (search rules)
+    (rw c.go_on.ensures.waiting c.in_ok-jump.ensures.added) (c.go_on.ensures.here ∙ ap (λ e. falling c.args.shape.now c.args.slot e c.args.insn.now) c.in_ok-jump.ensures.here)

@@ -1,0 +1,149 @@
+-- One place is judged: what is known before and after.
+use Rattle.std.proofs.Common.{◌≡◌, ℕ, zero, suc, ◌+◌, ◌<◌, ◌≤◌, List, [], ◌∷◌, ◌++◌, length, get_or, replicate, Option, Some, None, Bool, true, false, refl, sym, ap, subst, ◌∙◌, arith, inl, inr}
+use Rattle.std.specs.Prelude.{IfSome, IsSome, is_some, ◌==◌, ◌||◌, if◌then◌else◌, option_to_list}
+use Rattle.std.specs.List.{AllByRecursion}
+use Rattle.std.proofs.lemmas.List.{length-replicate}
+use Rattle.std.proofs.lemmas.Option.{same_Some, none-some}
+use Rattle.bpf_insn.specs.declared.insn.Insn.{Insn}
+use Rattle.bpf_insn.specs.Program.{Program, at, ◌>>=◌}
+use Rattle.bpf_semantics.specs.Program.{ShapedProgram}
+use Rattle.flow_check.specs.Edges.{target_of, goes_on, next_of, successors}
+use Rattle.flow_check.specs.Flow.{IsLayout, IsForward, IsAhead}
+use Rattle.abs_value.specs.declared.state.AbsState.{AbsState}
+use Rattle.abs_value.specs.States.{opening_state}
+use Rattle.bpf_rules.specs.declared.refusal.Rule.{Rule}
+use Rattle.bpf_rules.specs.Rules.{first_rule}
+use Rattle.bpf_rules.specs.Transfer.{Edge, edge, edges, jump_edge, next_edge, jumping, going_on}
+use Rattle.bpf_verify.specs.Pool.{Waiting, waits_at, held, IsChanged}
+use Rattle.bpf_verify.specs.Accepted.{join_all, incoming, edges_of, entry_of, IsFine, Fails, IsRefusedAt}
+use Rattle.bpf_verify.specs.Kept.{is_at, jumps_to, most_ahead, greatest_ahead, jump_edges}
+use Rattle.bpf_verify.specs.Sweep.{arrived, falling, IsAdded, IsAwaited, IsSwept}
+use Rattle.bpf_verify.proofs.Places.{at_within, start_at}
+use Rattle.bpf_verify.proofs.Swept.{Leaves, swept_next, falls, arrived_none, most_after}
+
+first_ahead : (p : Program) (k : ℕ) (t : Option ℕ) (rest : List ℕ) (u : ℕ) → AllByRecursion (IsAhead p k) (option_to_list t ++ rest) → t ≡ Some u → IsAhead p k u
+first_ahead p k None rest u a e = absurd (none-some u e)
+first_ahead p k (Some v) rest u a e = subst (IsAhead p k) (same_Some v u e) a.0
+
+-- where the jump of a place leads
+pub target_ahead : (p : Program) (k : ℕ) (i : Insn) → IsForward p → at p k ≡ Some i → (u : ℕ) → target_of k i ≡ Some u → IsAhead p k u
+target_ahead p k i flow is u e = first_ahead p k (target_of k i) (if goes_on i then next_of k i ∷ [] else []) u (flow.ahead k i is) e
+
+jumps_here : (p : Program) (k u : ℕ) (i : Insn) → at p k ≡ Some i → target_of k i ≡ Some u → jumps_to p (suc k) u ≡ true
+unfolding jumps_to
+jumps_here p k u i is e =
+    let leads : (at p k >>= target_of k) ≡ Some u = rw is e in
+    let same : (u == u) ≡ true = grind arith in
+    rw (leads, same) (last (jumps_to p k u))
+  where
+    last : (b : Bool) → (b || true) ≡ true
+    last true = refl
+    last false = refl
+
+pub within_length : (p : Program) (k : ℕ) (i : Insn) (n : ℕ) → IsForward p → at p k ≡ Some i → n ≡ length p → IfSome (target_of k i) (λ t. t < n)
+within_length p k i n flow is len = each (target_of k i) refl
+  where
+    each : (t : Option ℕ) → target_of k i ≡ t → IfSome t (λ u. u < n)
+    each None e = tt
+    each (Some u) e = let a = target_ahead p k i flow is u e in let lt = at_within p u a.1 in omega (arith, lt, len)
+
+module _ (p : ShapedProgram) (k : ℕ) (i : Insn) (layout : IsLayout p.code) (flow : IsForward p.code) (is : at p.code k ≡ Some i)
+    (here here1 : Option AbsState) (w w1 : Waiting) (h : IsSwept p k here w) (arrives : here1 ≡ arrived (waits_at w k) here)
+    (gave : IsChanged w w1 k None) (same_most : w1.most ≡ w.most) (held_most : held w1 ≤ w1.most) where
+  pub entry_is : entry_of p k ≡ here1
+  entry_is = let within = at_within p.code k (ap is_some is) in sym (arrives ∙ h.entry within)
+
+  -- no entry comes to it
+  pub passed_over : here1 ≡ None → IsSwept p (next_of k i) here1 w1
+  passed_over none =
+      let no : entry_of p k ≡ None = entry_is ∙ none in
+      rw none (swept_next p k i layout is here None w w1 w1 h (record {
+        target = None;
+        jump = None;
+        rest = [];
+        gave = gave;
+        same_most = same_most;
+        held_most = held_most;
+        added = refl;
+        edges_are = rw no refl;
+        rest_is = λ m x. stays (next_of k i == m) x;
+        target_is = λ u e. absurd (none-some u e);
+        fine = λ e j entry there. absurd (none-some e (sym no ∙ entry));
+        jump_is = λ some. rw no refl;
+      }))
+    where
+      stays : (b : Bool) (x : Option AbsState) → x ≡ (if b then arrived x None else x)
+      stays true x = sym (arrived_none x)
+      stays false x = refl
+
+  module _ (e : AbsState) (some : here1 ≡ Some e) where
+    pub refused : (rule : Rule) → first_rule p.shape e i ≡ Some rule → IsRefusedAt p k rule
+    refused rule fails = record {
+      before = λ s lt. h.fine s lt;
+      fails = record { entry = e; insn = i; entry_is = entry_is ∙ some; insn_is = is; rule_is = fails };
+    }
+
+    pub gone_on : (here2 : Option AbsState) (w2 : Waiting) → first_rule p.shape e i ≡ None → IsAdded (target_of k i) (jumping e i) w1 w2 → here2 ≡ falling p.shape k e i → IsSwept p (next_of k i) here2 w2
+    unfolding edges
+    gone_on here2 w2 passes added falls_to =
+        let entry : entry_of p k ≡ Some e = entry_is ∙ some in
+        rw falls_to (swept_next p k i layout is here (falling p.shape k e i) w w1 w2 h (record {
+          target = target_of k i;
+          jump = jumping e i;
+          rest = next_edge p.shape k e i;
+          gave = gave;
+          same_most = same_most;
+          held_most = held_most;
+          added = added;
+          edges_are = rw (entry, is) refl;
+          rest_is = λ m x. falls (next_of k i) (goes_on i) (going_on p.shape k e i) m x;
+          target_is = λ u leads. let a = target_ahead p.code k i flow is u leads in record { ahead = a.0; place = a.1; target = jumps_here p.code k u i is leads };
+          fine = λ f j entry_f there. ap (λ x. first_rule p.shape x j) (same_Some f e (sym entry_f ∙ entry)) ∙ ap (λ x. first_rule p.shape e x) (same_Some j i (sym there ∙ is)) ∙ passes;
+          jump_is = λ there. rw (entry, is) refl;
+        }))
+
+-- ---- start and end
+
+pub swept_start : (p : ShapedProgram) (here : Option AbsState) (w : Waiting) → IsLayout p.code → here ≡ Some opening_state → w.entries ≡ replicate (length p.code) None → w.most ≡ 0 → IsSwept p 0 here w
+unfolding incoming most_ahead
+swept_start p here w layout opens none most = record {
+  place = start_at p.code layout;
+  len = ap length none ∙ length-replicate {A = Option AbsState} (length p.code) None;
+  entry = λ lt. let no = nones 0 in rw (no, opens) refl;
+  later = λ m lt within. nones m ∙ sym (nothing m lt);
+  waits = λ m some. let no : is_some (waits_at w m) ≡ false = ap is_some (nones m) in absurd (grind (arith, no, some));
+  fine = λ s lt. absurd (omega (arith, lt));
+  least = λ s lt. absurd (omega (arith, lt));
+  most = omega (arith, most);
+}
+  where
+    nones : (m : ℕ) → waits_at w m ≡ None
+    nones m = ap (λ es. get_or es m None) none ∙ all (length p.code) m
+      where
+        all : (n j : ℕ) → get_or (replicate {A = Option AbsState} n None) j None ≡ None
+        all zero j = refl
+        all (suc n) zero = refl
+        all (suc n) (suc j) = all n j
+
+    nothing : (m : ℕ) → 0 < m → join_all (incoming p 0 m) ≡ None
+    nothing zero lt = absurd (omega (arith, lt))
+    nothing (suc m) lt = let test : (suc m == 0) ≡ false = grind arith in rw test refl
+
+-- the bound holds to the end
+pub swept_most : (p : ShapedProgram) (k : ℕ) (here : Option AbsState) (w : Waiting) → IsSwept p k here w → w.most ≤ greatest_ahead p.code
+swept_most p k here w h =
+    let le : k ≤ length p.code = elim h.place [
+      | inl is ↦ omega (arith, is)
+      | inr some ↦ let lt = at_within p.code k some in omega (arith, lt)
+    ] in
+    let m = most_after p.code k (length p.code) le in
+    omega (arith, m, h.most)
+
+pub at_end : (p : ShapedProgram) (k : ℕ) (here : Option AbsState) (w : Waiting) → length p.code ≤ k → IsSwept p k here w → k ≡ length p.code
+at_end p k here w le h = elim h.place [
+  | inl is ↦ is
+  | inr some ↦ let lt = at_within p.code k some in absurd (omega (arith, lt, le))
+]
+
+pub fine_all : (p : ShapedProgram) → ((s : ℕ) → s < length p.code → IsFine p s) → (s : ℕ) → IsFine p s
+fine_all p each s e i is what = each s (at_within p.code s (ap is_some what)) e i is what

@@ -1,0 +1,65 @@
+-- How many entries are kept at once, and how many targets lie ahead.
+use Rattle.std.specs.Prelude.{◌≡◌, ℕ, zero, suc, ◌+◌, ◌<◌, ◌≤◌, max, length, List, [], ◌++◌, Option, Some, None}
+use Rattle.std.specs.Prelude.{IsSome, is_some, Bool, false, ◌&&◌, ◌||◌, nat_lt, ◌==◌, Result, Ok, Err}
+use Rattle.bpf_insn.specs.declared.insn.Insn.{Insn}
+use Rattle.bpf_insn.specs.Program.{Program, at, ◌>>=◌}
+use Rattle.bpf_semantics.specs.Program.{ShapedProgram}
+use Rattle.flow_check.specs.Edges.{target_of}
+use Rattle.abs_value.specs.declared.state.AbsState.{AbsState}
+use Rattle.bpf_rules.specs.declared.refusal.Refusal.{Refusal}
+use Rattle.bpf_rules.specs.declared.refusal.Refusal.TheVariants as refusal
+use Rattle.bpf_rules.specs.Transfer.{Edge, jump_edge}
+use Rattle.bpf_verify.specs.Count.{count}
+use Rattle.bpf_verify.specs.Accepted.{to_place, join_all, incoming, entry_of}
+
+-- ---- targets
+
+abbrev pub is_at : ℕ → Option ℕ → Bool
+is_at m None = false
+is_at m (Some t) = t == m
+
+-- JA or a jump at a place before k leads to m
+unfoldable pub jumps_to : Program → ℕ → ℕ → Bool
+jumps_to p zero m = false
+jumps_to p (suc k) m = jumps_to p k m || is_at m (at p k >>= target_of k)
+
+-- how many targets of the jumps at places up to s lie after s
+abbrev pub ahead : Program → ℕ → ℕ
+ahead p s = count (λ m. nat_lt s m && jumps_to p (suc s) m) (length p)
+
+-- the most that lie ahead of one of the slots below n
+unfoldable pub most_ahead : Program → ℕ → ℕ
+most_ahead p zero = 0
+most_ahead p (suc n) = max (most_ahead p n) (ahead p n)
+
+abbrev pub greatest_ahead : Program → ℕ
+greatest_ahead p = most_ahead p (length p)
+
+-- ---- entries
+
+abbrev pub jump_edges : ℕ → Option AbsState → Option Insn → List Edge
+jump_edges s (Some e) (Some i) = jump_edge s e i
+jump_edges s e i = []
+
+-- what waits for place m once the jump at s is judged: what comes from before, and its own edge
+abbrev pub awaited : ShapedProgram → ℕ → ℕ → Option AbsState
+awaited p s m =
+    join_all (incoming p s m ++ to_place m (jump_edges s (entry_of p s) (at p.code s)))
+
+-- while place s is judged: its own entry, and one for each place after it that one waits for
+abbrev pub kept : ShapedProgram → ℕ → ℕ
+kept p s = 1 + count (λ m. nat_lt s m && is_some (awaited p s m)) (length p.code)
+
+-- how many slots were judged without a fault; of want of memory nothing is said
+abbrev pub refused_at : Refusal → ℕ
+refused_at (refusal.Rule s rule) = s
+refused_at refusal.Memory = 0
+
+abbrev pub judged : {A : Type 0} → Program → Result A Refusal → ℕ
+judged p (Ok v) = length p
+judged p (Err r) = refused_at r
+
+-- no place before k kept more entries at once, of those that have one
+abbrev pub KeptAtMost : ShapedProgram → ℕ → ℕ → Type 0
+KeptAtMost p k n =
+    (s : ℕ) → s < k → IsSome (entry_of p s) → IsSome (at p.code s) → kept p s ≤ n

@@ -1,0 +1,118 @@
+//! The entries that the sweep keeps: the one at hand, which is changed in place from instruction to
+//! instruction, and those that wait for the targets of jumps ahead.
+
+ghost use Rattle.std.specs.Prelude.{◌≡◌, ◌+◌, ◌-◌, ◌<◌, ◌≤◌, ◌∷◌, length, replicate, IfOk, OnOk, OnErr};
+ghost use Rattle.std.specs.Prelude.{Some, None, IsSome, true, IfSome};
+ghost use Rattle.abs_value.specs.States.{opening_state};
+ghost use Rattle.flow_check.specs.Edges.{target_of};
+ghost use Rattle.bpf_rules.specs.Transfer.{jumping};
+ghost use Rattle.bpf_verify.specs.Pool.{waits_at, held, IsChanged};
+ghost use Rattle.bpf_verify.specs.Sweep.{arrived, falling, IsAdded};
+ghost use Rattle.bpf_verify.specs.Entries.{at_hand};
+
+use crate::pool::Pool;
+use abs_value::AbsState;
+use bpf_insn::Insn;
+use bpf_rules::{Compared, go_on_in, is_lookup_check, jump_in};
+use cells::Shape;
+use flow_check::{jump_target, next_place};
+use std::alloc::{AllocError, Global};
+
+/// The entry at hand, if a run goes on to the place, and those that wait.
+#[derive(Drop)]
+pub struct Entries {
+    pub here: AbsState,
+    pub is_live: bool,
+    pub waiting: Pool,
+}
+
+impl Entries {
+    /// The entry where a run starts, before the first of so many slots.
+    pub fn opening(alloc: Global, count: usize) -> Result<Entries, AllocError>
+        requires { count ≤ 4096 }
+        ensures here { IfOk result (λ e. at_hand e ≡ Some opening_state) }
+        ensures none { IfOk result (λ e. e.waiting.entries ≡ replicate count None) }
+        ensures most { IfOk result (λ e. e.waiting.most ≡ 0) }
+    {
+        let waiting = Pool::new(alloc, count)?;
+        Ok(Entries {
+            here: AbsState::opening(),
+            is_live: true,
+            waiting,
+        })
+    }
+
+    /// The greatest number of entries that were kept at once.
+    pub fn peak(&self) -> usize
+        ensures { result ≡ self.now.waiting.most + 1 }
+    {
+        self.waiting.most() + 1
+    }
+
+    /// Joins what waits for the place with what falls through.
+    fn join_waiting(&mut self, slot: usize)
+        ensures here { at_hand self.new ≡ arrived (waits_at self.old.waiting slot) (at_hand self.old) }
+        ensures waiting { self.new.waiting ≡ self.old.waiting }
+    {
+        let Some(found) = self.waiting.at(slot) else {
+            return;
+        };
+        if self.is_live {
+            self.here.join_in(found);
+        } else {
+            self.here = *found;
+            self.is_live = true;
+        }
+    }
+
+    /// Makes the entry of the place be the one at hand, and gives up the one that waited for it.
+    pub fn arrive(&mut self, slot: usize) -> Result<(), AllocError>
+        ensures here { OnOk result
+            (at_hand self.new ≡ arrived (waits_at self.old.waiting slot) (at_hand self.old)) }
+        ensures waiting { OnOk result (IsChanged self.old.waiting self.new.waiting slot None) }
+        ensures most { self.new.waiting.most ≡ self.old.waiting.most }
+        ensures held { OnOk result (held self.new.waiting ≤ self.new.waiting.most) }
+    {
+        self.join_waiting(slot);
+        self.waiting.give_up(slot)
+    }
+
+    /// Adds the edge by which the instruction jumps to what waits for its target.
+    pub fn jump(&mut self, slot: usize, insn: &Insn) -> Result<(), AllocError>
+        requires slot { slot < 4096 }
+        requires target { IfSome (target_of slot insn.now)
+            (λ t. t < length self.old.waiting.entries) }
+        ensures here { OnOk result (self.new.here ≡ self.old.here) }
+        ensures live { OnOk result (self.new.is_live ≡ self.old.is_live) }
+        ensures added { OnOk result (IsAdded (target_of slot insn.now)
+            (jumping self.old.here insn.now) self.old.waiting self.new.waiting) }
+        ensures most { OnErr result (self.new.waiting.most ≡ self.old.waiting.most) }
+    {
+        let Some(target) = jump_target(slot, *insn) else {
+            return Ok(());
+        };
+        if is_lookup_check(&self.here, insn) {
+            let mut edge = self.here;
+            if jump_in(&mut edge, insn) {
+                self.waiting.add(target, &edge)?;
+            }
+            return Ok(());
+        }
+        let compared = Compared::of(&self.here, insn);
+        if jump_in(&mut self.here, insn) {
+            self.waiting.add(target, &self.here)?;
+            compared.restore(&mut self.here);
+        }
+        Ok(())
+    }
+
+    /// Changes the entry at hand to that of the place after the instruction, if a run goes on.
+    pub fn go_on(&mut self, shape: &Shape, slot: usize, insn: &Insn)
+        requires { slot < 4096 }
+        ensures here { at_hand self.new ≡ falling shape.now slot self.old.here insn.now }
+        ensures waiting { self.new.waiting ≡ self.old.waiting }
+    {
+        self.is_live = next_place(slot, *insn).is_some()
+            && go_on_in(&mut self.here, shape, slot as u16, insn);
+    }
+}
