@@ -80,6 +80,30 @@ impl AppEntry {
     }
 }
 
+/// The parts of an app, given away.
+#[derive(Drop)]
+pub struct AppParts {
+    pub appid: Text,
+    pub source: Source,
+    pub releases: Vec<Release>,
+}
+
+impl AppEntry {
+    /// Its parts; it takes no memory.
+    pub fn into_parts(self) -> AppParts
+        ensures appid { result.appid ≡ self.appid }
+        ensures source { result.source ≡ self.source }
+        ensures releases { result.releases.items ≡ self.releases }
+        ensures count { length result.releases.items ≤ 64 }
+    {
+        AppParts {
+            appid: self.appid,
+            source: self.source,
+            releases: self.releases,
+        }
+    }
+}
+
 impl Row for AppEntry {
     type Misfit = AppMisfit;
 

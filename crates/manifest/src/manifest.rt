@@ -68,6 +68,29 @@ impl Manifest {
     }
 }
 
+/// The parts of a manifest, given away.
+#[derive(Drop)]
+pub struct ManifestParts {
+    pub server: Text,
+    pub arrays: Vec<ArrayEntry>,
+    pub apps: Vec<AppEntry>,
+}
+
+impl Manifest {
+    /// Its parts; it takes no memory.
+    pub fn into_parts(self) -> ManifestParts
+        ensures server { result.server ≡ self.server }
+        ensures arrays { result.arrays.items ≡ self.arrays }
+        ensures apps { result.apps.items ≡ self.apps }
+    {
+        ManifestParts {
+            server: self.server,
+            arrays: self.arrays,
+            apps: self.apps,
+        }
+    }
+}
+
 /// The manifest that a table is, whatever names stand twice.
 pub(crate) fn read_tables(alloc: Global, table: &Table) -> Result<Manifest, Unread<Misfit>>
     ensures { Answers (specs.tables_of (table_view table.now)) result }

@@ -1,5 +1,6 @@
 //! What doesn't fit in the tables of a manifest: which member, and what is wanted there. Tables of
-//! a list are numbered from 1.
+//! a list are numbered from 1. `Unknown` has the key of a member that such a table doesn't have.
+//! `Display` tells the path and what is wanted, as `app[2].release[1].version: ..`.
 
 use crate::quote::Quote;
 use std::fmt;
