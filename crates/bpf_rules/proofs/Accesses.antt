@@ -1,6 +1,6 @@
 -- Loads and stores, by what their address is.
-use Rattle.std.proofs.Common.{◌≡◌, ℕ, ◌+◌, ℤ, pos, [], ◌∷◌, Option, Some, None, Bool, true, false, refl, arith, FitsSigned}
-use Rattle.std.specs.Prelude.{◌||◌, ◌&&◌, not, ◌==◌}
+use Rattle.std.proofs.Common.{◌≡◌, ℕ, ◌+◌, ℤ, [], ◌∷◌, Some, Bool, true, false, refl, arith, FitsSigned}
+use Rattle.std.specs.Prelude.{◌||◌, ◌&&◌, ◌==◌}
 use Rattle.std.specs.Int.{w16, w32}
 use Rattle.bpf_insn.specs.declared.operand.Bits.TheVariants.{Bits64}
 use Rattle.bpf_insn.specs.declared.operand.LoadKind.{LoadKind}
@@ -14,7 +14,6 @@ use Rattle.bpf_semantics.specs.Memory.{context_size, stack_size}
 use Rattle.bpf_semantics.specs.Reads.{load_count, byte_count}
 use Rattle.bpf_semantics.specs.State.{State, HasWords}
 use Rattle.bpf_semantics.specs.Step.{load, store, act}
-use Rattle.abs_value.specs.declared.origin.Origin.{Origin}
 use Rattle.abs_value.specs.declared.value.Abs.{Abs}
 use Rattle.abs_value.specs.declared.value.Abs.TheVariants.{Unusable, Num, Ctx, Stk, Map, MayCell, Cell}
 use Rattle.abs_value.specs.declared.state.AbsState.{AbsState}
@@ -23,7 +22,7 @@ use Rattle.abs_value.specs.Values.{is_unusable}
 use Rattle.abs_value.specs.States.{value_of, with_value}
 use Rattle.abs_value.specs.Covers.{IsWord, Includes, IsStoodFor}
 use Rattle.bpf_rules.specs.Reads.{load_access, store_access}
-use Rattle.bpf_rules.specs.Memory.{lies_in, is_outside, is_whole_cell, changes_context, is_no_address, reaches_quota, stack_place, meets_unset}
+use Rattle.bpf_rules.specs.Memory.{lies_in, is_outside, changes_context, is_no_address, reaches_quota, stack_place, meets_unset}
 use Rattle.bpf_rules.specs.Transfer.{edge_to, loaded_at, stored_at, edges}
 use Rattle.bpf_rules.specs.Sound.{IsSafe}
 use Rattle.bpf_rules.proofs.Given.{Given}

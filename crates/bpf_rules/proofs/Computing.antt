@@ -1,6 +1,6 @@
 -- Arithmetic leads to a state that is stood for.
-use Rattle.std.proofs.Common.{◌≡◌, ℕ, ◌+◌, ◌^◌, ◌<◌, ℤ, pos, negsuc, [], ◌∷◌, Option, Some, None, Bool, false, refl, subst, arith, FitsSigned}
-use Rattle.std.specs.Prelude.{◌||◌, ◌==◌}
+use Rattle.std.proofs.Common.{◌≡◌, ℕ, ℤ, pos, negsuc, Option, Some, false, refl, subst, arith, FitsSigned}
+use Rattle.std.specs.Prelude.{◌||◌}
 use Rattle.std.specs.Int.{w32}
 use Rattle.std.specs.List.{list_any}
 use Rattle.std.proofs.lemmas.Int.{ints}
@@ -18,12 +18,10 @@ use Rattle.bpf_insn.specs.declared.insn.Insn.TheVariants.{Alu, Mov, MovSx, Neg, 
 use Rattle.bpf_insn.specs.Table.{number_of}
 use Rattle.bpf_insn.specs.Words.{word, immediate}
 use Rattle.bpf_insn.specs.Arithmetic.{alu_result, negated, extended, reordered}
-use Rattle.bpf_insn.specs.Spelling.{IsEncodable}
 use Rattle.cells.specs.Arrays.{AppShape}
 use Rattle.bpf_semantics.specs.State.{State, HasWords}
 use Rattle.bpf_semantics.specs.Reads.{register, operand, both, only}
 use Rattle.bpf_semantics.specs.Step.{act}
-use Rattle.abs_value.specs.declared.value.Abs.{Abs}
 use Rattle.abs_value.specs.declared.state.AbsState.{AbsState}
 use Rattle.abs_value.specs.Values.{is_unusable, alu_value, copied_value, negated_value, extended_value, reordered_value}
 use Rattle.abs_value.specs.States.{value_of, operand_value}

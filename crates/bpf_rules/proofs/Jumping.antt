@@ -1,6 +1,6 @@
 -- Jumps, and the end of a run: the edge that the run takes isn't dropped, and stands for its state.
 use Rattle.std.proofs.Common.{◌≡◌, ℕ, ◌+◌, ◌≤◌, ℤ, pos, negsuc, ◌≤ℤ◌, List, [], ◌∷◌, ◌++◌, Option, Some, None, Bool, true, false, refl, arith}
-use Rattle.std.specs.Prelude.{◌||◌, not}
+use Rattle.std.specs.Prelude.{not}
 use Rattle.std.specs.List.{list_any}
 use Rattle.std.proofs.lemmas.Int.{ints}
 use Rattle.bpf_insn.specs.declared.reg.Reg.{Reg}
@@ -22,7 +22,7 @@ use Rattle.abs_value.specs.declared.value.Abs.{Abs}
 use Rattle.abs_value.specs.declared.value.Abs.TheVariants.{Num}
 use Rattle.abs_value.specs.declared.state.AbsState.{AbsState}
 use Rattle.abs_value.specs.Values.{is_unusable}
-use Rattle.abs_value.specs.States.{value_of, operand_value}
+use Rattle.abs_value.specs.States.{value_of}
 use Rattle.abs_value.specs.Lookups.{refined_state}
 use Rattle.abs_value.specs.Covers.{Answers, Includes, Covers, IsStoodFor}
 use Rattle.abs_value.specs.Laws.{CoversOn}

@@ -1,12 +1,12 @@
 -- From ranges with numbers in them an instruction leaves no empty range.
-use Rattle.std.proofs.Common.{◌≡◌, ℕ, ℤ, pos, negsuc, Option, Some, None, Bool, true, false, arith}
+use Rattle.std.proofs.Common.{ℕ, pos, negsuc, Option, Some, None, true, false, arith}
 use Rattle.std.specs.Prelude.{IfSome, option_map, slice_get}
 use Rattle.bpf_insn.specs.declared.operand.LoadKind.{LoadKind}
 use Rattle.bpf_insn.specs.declared.operand.WideValue.{WideValue}
 use Rattle.bpf_insn.specs.declared.operand.WideValue.TheVariants as wide
 use Rattle.bpf_insn.specs.declared.reg.Reg.{Reg}
 use Rattle.bpf_insn.specs.declared.insn.Insn.{Insn}
-use Rattle.bpf_insn.specs.declared.insn.Insn.TheVariants.{Alu, Mov, MovSx, Neg, End, Jump, JumpIf, Call, Exit, Load, StoreImm, Store, Atomic, Wide}
+use Rattle.bpf_insn.specs.declared.insn.Insn.TheVariants.{Alu, Mov, MovSx, Neg, End, JumpIf, Call, Load, StoreImm, Store, Atomic, Wide}
 use Rattle.bpf_insn.specs.declared.operand.Bits.TheVariants.{Bits64}
 use Rattle.bpf_insn.specs.Table.{number_of}
 use Rattle.bpf_insn.specs.Words.{immediate}

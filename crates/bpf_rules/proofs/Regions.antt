@@ -1,5 +1,5 @@
 -- Loads and stores of context and stack lead to a state that is stood for.
-use Rattle.std.proofs.Common.{◌≡◌, ℕ, zero, suc, ◌+◌, ◌-◌, ◌*◌, ◌^◌, ◌<◌, ◌≤◌, ℤ, pos, negsuc, List, [], ◌∷◌, Option, Some, None, Bool, true, false, refl, sym, ap, subst, ◌∙◌, arith, FitsSigned}
+use Rattle.std.proofs.Common.{◌≡◌, ℕ, suc, ◌+◌, ◌-◌, ◌<◌, ◌≤◌, ℤ, pos, negsuc, [], ◌∷◌, Option, Some, None, Bool, true, false, refl, sym, ap, subst, ◌∙◌, arith, FitsSigned}
 use Rattle.std.specs.Prelude.{◌+ℤ◌, unsigned_abs, ◌==◌, if◌then◌else◌}
 use Rattle.std.specs.Int.{w16}
 use Rattle.std.proofs.lemmas.Int.{ints}
@@ -12,14 +12,14 @@ use Rattle.bpf_insn.specs.declared.reg.Reg.{Reg}
 use Rattle.bpf_insn.specs.Table.{number_of}
 use Rattle.cells.specs.Arrays.{AppShape}
 use Rattle.bpf_semantics.specs.Memory.{context_start, context_size, stack_start, stack_size, cell_start, cell_number, is_cell_address, cell_at, address_of, is_in_stack}
-use Rattle.bpf_semantics.specs.Counters.{load_cell, store_cell}
+use Rattle.bpf_semantics.specs.Counters.{load_cell}
 use Rattle.bpf_semantics.specs.State.{State, HasWords, read_at, written_at, with_bytes}
 use Rattle.bpf_semantics.specs.Outcome.{moved, moved_to}
 use Rattle.bpf_semantics.specs.Reads.{load_count, byte_count, filled, loaded}
 use Rattle.bpf_semantics.specs.Step as step
 use Rattle.abs_value.specs.declared.places.Places.{Places}
 use Rattle.abs_value.specs.declared.value.Abs.{Abs}
-use Rattle.abs_value.specs.declared.value.Abs.TheVariants.{Ctx, Stk}
+use Rattle.abs_value.specs.declared.value.Abs.TheVariants.{Stk}
 use Rattle.abs_value.specs.declared.state.AbsState.{AbsState}
 use Rattle.abs_value.specs.Values.{loaded_value}
 use Rattle.abs_value.specs.Stack.{has_unset, loaded_from}

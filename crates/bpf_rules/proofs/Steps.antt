@@ -1,7 +1,6 @@
 -- Where no rule fails, a step is safe, whatever the instruction is.
-use Rattle.std.proofs.Common.{◌≡◌, ℕ, ◌≤◌, Option, Some, None, refl, FitsSigned}
+use Rattle.std.proofs.Common.{None, refl, FitsSigned}
 use Rattle.std.specs.Int.{w32}
-use Rattle.attrs.specs.Attributes.{Attributes}
 use Rattle.bpf_insn.specs.declared.operand.Distance.TheVariants.{Short}
 use Rattle.bpf_insn.specs.declared.operand.Operand.{Operand}
 use Rattle.bpf_insn.specs.declared.operand.Operand.TheVariants.{Imm, Register}
@@ -9,14 +8,12 @@ use Rattle.bpf_insn.specs.declared.insn.Insn.{Insn}
 use Rattle.bpf_insn.specs.declared.insn.Insn.TheVariants.{Alu, Mov, MovSx, Neg, End, Jump, JumpIf, Call, Exit, Load, StoreImm, Store, Atomic, Wide}
 use Rattle.bpf_insn.specs.Spelling.{IsEncodable, imm_field}
 use Rattle.cells.specs.Arrays.{AppShape, IsShape}
-use Rattle.bpf_semantics.specs.State.{State, HasWords, opening}
+use Rattle.bpf_semantics.specs.State.{State, HasWords}
 use Rattle.bpf_semantics.specs.Step.{act}
 use Rattle.abs_value.specs.declared.state.AbsState.{AbsState}
-use Rattle.abs_value.specs.States.{opening_state, join_states}
 use Rattle.abs_value.specs.Covers.{IsStoodFor}
 use Rattle.abs_value.specs.Laws.{CoversFirst, CoversSecond, CoversOpening}
 use Rattle.bpf_rules.specs.Transfer.{edges}
-use Rattle.bpf_rules.specs.Rules.{first_rule}
 use Rattle.bpf_rules.specs.Sound.{IsSafe, JumpsForward, StepsAreSafe, FirstStands, SecondStands, OpeningStands}
 use Rattle.bpf_rules.proofs.Given.{Given}
 use Rattle.bpf_rules.proofs.Passes.{Passes, passes}

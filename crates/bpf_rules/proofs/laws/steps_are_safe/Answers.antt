@@ -1,4 +1,3 @@
-use Rattle.bpf_rules.proofs.Given.{Given}
 use Rattle.bpf_rules.proofs.Steps.{steps_safe}
 use Rattle.bpf_rules.proofs.laws.steps_are_safe.Goals as goal
 
