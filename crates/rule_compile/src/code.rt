@@ -87,4 +87,13 @@ impl Code {
             Err(_) => Err(CompileFault::Memory),
         }
     }
+
+    /// The slots in the program's order: an instruction at the slot where it begins, and nothing at
+    /// a second half.
+    pub fn into_slots(mut self) -> Vec<Option<Insn>>
+        ensures { result.items ≡ self }
+    {
+        self.slots.reverse();
+        self.slots
+    }
 }

@@ -7,6 +7,7 @@
 #![tactic(auto)]
 
 mod blocks;
+mod bytes;
 mod code;
 mod conditions;
 mod fault;
@@ -18,6 +19,7 @@ mod test;
 mod texts;
 mod versions;
 
+pub use bytes::program_bytes;
 pub use code::Code;
 pub use fault::CompileFault;
 pub use rule::write_rule;
