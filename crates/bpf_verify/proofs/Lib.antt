@@ -1,7 +1,9 @@
 pub mod Counts
+pub mod Lists
 pub mod Pools
 pub mod Joins
 pub mod Places
+pub mod Joining
 pub mod Swept
 pub mod Visits
 pub mod Laws

@@ -1,75 +1,15 @@
 -- A pool stays one where an entry is put into it, or given up.
-use Rattle.std.proofs.Common.{◌≡◌, ◌≢◌, ℕ, zero, suc, ◌+◌, ◌<◌, ◌≤◌, List, [], ◌∷◌, ◌++◌, length, replicate, Option, Some, None, Bool, true, false, refl, sym, ap, ◌∙◌, arith, inl, inr}
-use Rattle.std.specs.Prelude.{◌⊎◌, ◌==◌, if◌then◌else◌, map, max, is_some, slice_index_or, slice_get, slice_set}
+use Rattle.std.proofs.Common.{◌≡◌, ◌≢◌, ℕ, zero, suc, ◌+◌, ◌<◌, ◌≤◌, List, [], ◌∷◌, ◌++◌, length, replicate, Option, Some, None, true, false, refl, sym, ap, ◌∙◌, arith, inl, inr}
+use Rattle.std.specs.Prelude.{◌⊎◌, ◌==◌, map, max, is_some, slice_get, slice_set}
 use Rattle.std.proofs.Math.ListN.{get_or-map}
 use Rattle.std.proofs.lemmas.Bool.{cases_Bool, cases_lt}
-use Rattle.std.proofs.lemmas.Grind.{common_steps}
 use Rattle.std.proofs.lemmas.List.{length-map, length-set, get_or-replicate, get_or_past, length-replicate}
-use Rattle.std.proofs.lemmas.Option.{same_Some, none-some, slice_get_read}
+use Rattle.std.proofs.lemmas.Option.{same_Some, none-some}
 use Rattle.abs_value.specs.declared.state.AbsState.{AbsState}
 use Rattle.bpf_verify.specs.Count.{count}
-use Rattle.bpf_verify.specs.Pool.{Waiting, waits_at, held, IsChanged, entry_in, waiting, index_at, IsPool}
+use Rattle.bpf_verify.specs.Pool.{waits_at, held, IsChanged, entry_in, waiting, index_at, IsPool}
+use Rattle.bpf_verify.proofs.Lists.{get-end, get-before, get-cases, length-append-one, get-within, get-longer, get-set_same, get-set_other, index-set_same, index-set_other, index_within}
 use Rattle.bpf_verify.proofs.Counts.{count_more, count_same, count_none, count_length}
-
--- ---- lists
-
-pub get-end : {X : Type 0} (xs : List X) (x : X) → slice_get (xs ++ x ∷ []) (length xs) ≡ Some x
-get-end [] x = refl
-get-end (y ∷ xs) x = get-end xs x
-
-get-before : {X : Type 0} (xs : List X) (x : X) (j : ℕ) → j < length xs → slice_get (xs ++ x ∷ []) j ≡ slice_get xs j
-get-before [] x j lt = absurd (omega (arith, lt))
-get-before (y ∷ xs) x zero lt = refl
-get-before (y ∷ xs) x (suc j) lt = get-before xs x j (omega (arith, lt))
-
--- an element of the longer list is one of the shorter, or the last
-get-cases : {X : Type 0} (xs : List X) (x : X) (j : ℕ) (y : X) → slice_get (xs ++ x ∷ []) j ≡ Some y → (slice_get xs j ≡ Some y) ⊎ ((j ≡ length xs) × (y ≡ x))
-get-cases [] x zero y e = inr (refl, sym (same_Some x y e))
-get-cases [] x (suc j) y e = absurd (none-some y e)
-get-cases (z ∷ xs) x zero y e = inl e
-get-cases (z ∷ xs) x (suc j) y e = elim (get-cases xs x j y e) [
-  | inl h ↦ inl h
-  | inr h ↦ inr (ap suc h.0, h.1)
-]
-
-pub length-append-one : {X : Type 0} (xs : List X) (x : X) → length (xs ++ x ∷ []) ≡ length xs + 1
-length-append-one [] x = refl
-length-append-one (y ∷ xs) x = let h = length-append-one xs x in omega (arith, h)
-
-get-within : {X : Type 0} (xs : List X) (j : ℕ) (y : X) → slice_get xs j ≡ Some y → j < length xs
-get-within [] j y e = absurd (none-some y e)
-get-within (x ∷ xs) zero y e = omega arith
-get-within (x ∷ xs) (suc j) y e = let h = get-within xs j y e in omega (arith, h)
-
-get-longer : {X : Type 0} (xs : List X) (x : X) (j : ℕ) (y : X) → slice_get xs j ≡ Some y → slice_get (xs ++ x ∷ []) j ≡ Some y
-get-longer xs x j y e = get-before xs x j (get-within xs j y e) ∙ e
-
-get-set_same : {X : Type 0} (xs : List X) (i : ℕ) (x : X) → i < length xs → slice_get (slice_set xs i x) i ≡ Some x
-get-set_same [] i x lt = absurd (omega (arith, lt))
-get-set_same (y ∷ xs) zero x lt = refl
-get-set_same (y ∷ xs) (suc i) x lt = get-set_same xs i x (omega (arith, lt))
-
-get-set_other : {X : Type 0} (xs : List X) (i j : ℕ) (x : X) → j ≢ i → slice_get (slice_set xs i x) j ≡ slice_get xs j
-get-set_other [] i j x ne = refl
-get-set_other (y ∷ xs) zero zero x ne = absurd (ne refl)
-get-set_other (y ∷ xs) zero (suc j) x ne = refl
-get-set_other (y ∷ xs) (suc i) zero x ne = refl
-get-set_other (y ∷ xs) (suc i) (suc j) x ne = get-set_other xs i j x (λ e. ne (ap suc e))
-
-index-set : (ps : List (Option ℕ)) (m n : ℕ) (v : Option ℕ) → m < length ps → index_at (slice_set ps m v) n ≡ (if n == m then v else index_at ps n)
-index-set ps m n v lt = grind (arith, common_steps)
-
-index-set_same : (ps : List (Option ℕ)) (m : ℕ) (v : Option ℕ) → m < length ps → index_at (slice_set ps m v) m ≡ v
-index-set_same ps m v lt = grind (arith, common_steps)
-
-index-set_other : (ps : List (Option ℕ)) (m n : ℕ) (v : Option ℕ) → n ≢ m → index_at (slice_set ps m v) n ≡ index_at ps n
-index-set_other ps m n v ne = grind (arith, common_steps)
-
-pub index_within : (ps : List (Option ℕ)) (m i : ℕ) → index_at ps m ≡ Some i → m < length ps
-index_within ps m i e = elim (cases_lt m (length ps)) [
-  | inl lt ↦ lt
-  | inr le ↦ absurd (none-some i (sym (get_or_past ps m None le) ∙ e))
-]
 
 -- ---- what waits
 
@@ -298,11 +238,3 @@ most_grown size es ps h is = let within = held_within es ps [] h in grind (arith
 pub empty_map : (es : List AbsState) (n : ℕ) → map (entry_in es) (replicate n None) ≡ replicate n None
 empty_map es zero = refl
 empty_map es (suc n) = ap (λ l. None ∷ l) (empty_map es n)
-
-pub get_at : (es : List AbsState) (i : ℕ) (e : AbsState) → i < length es → e ≡ slice_index_or es i e → slice_get es i ≡ Some e
-get_at es i e lt is = slice_get_read es (length es) i e refl lt is
-
-pub index_is : (ps : List (Option ℕ)) (m : ℕ) (o : Option ℕ) → m < length ps → o ≡ slice_index_or ps m o → index_at ps m ≡ o
-index_is [] m o lt e = absurd (omega (arith, lt))
-index_is (p ∷ ps) zero o lt e = sym e
-index_is (p ∷ ps) (suc m) o lt e = index_is ps m o (omega (arith, lt)) e

@@ -1,25 +1,26 @@
 -- One place is judged: what is known before and after.
-use Rattle.std.proofs.Common.{◌≡◌, ℕ, zero, suc, ◌+◌, ◌<◌, ◌≤◌, List, [], ◌∷◌, ◌++◌, length, get_or, replicate, Option, Some, None, Bool, true, false, refl, sym, ap, subst, ◌∙◌, arith, inl, inr}
-use Rattle.std.specs.Prelude.{IfSome, IsSome, is_some, ◌==◌, ◌||◌, if◌then◌else◌, option_to_list}
+use Rattle.std.proofs.Common.{◌≡◌, ℕ, zero, suc, ◌<◌, ◌≤◌, List, [], ◌∷◌, ◌++◌, length, get_or, replicate, Option, Some, None, Bool, true, false, refl, sym, ap, subst, ◌∙◌, arith, inl, inr}
+use Rattle.std.specs.Prelude.{IfSome, is_some, ◌==◌, ◌||◌, if◌then◌else◌, option_to_list}
 use Rattle.std.specs.List.{AllByRecursion}
 use Rattle.std.proofs.lemmas.List.{length-replicate}
 use Rattle.std.proofs.lemmas.Option.{same_Some, none-some}
 use Rattle.bpf_insn.specs.declared.insn.Insn.{Insn}
 use Rattle.bpf_insn.specs.Program.{Program, at, ◌>>=◌}
 use Rattle.bpf_semantics.specs.Program.{ShapedProgram}
-use Rattle.flow_check.specs.Edges.{target_of, goes_on, next_of, successors}
+use Rattle.flow_check.specs.Edges.{target_of, goes_on, next_of}
 use Rattle.flow_check.specs.Flow.{IsLayout, IsForward, IsAhead}
 use Rattle.abs_value.specs.declared.state.AbsState.{AbsState}
 use Rattle.abs_value.specs.States.{opening_state}
 use Rattle.bpf_rules.specs.declared.refusal.Rule.{Rule}
 use Rattle.bpf_rules.specs.Rules.{first_rule}
-use Rattle.bpf_rules.specs.Transfer.{Edge, edge, edges, jump_edge, next_edge, jumping, going_on}
+use Rattle.bpf_rules.specs.Transfer.{edges, next_edge, jumping, going_on}
 use Rattle.bpf_verify.specs.Pool.{Waiting, waits_at, held, IsChanged}
-use Rattle.bpf_verify.specs.Accepted.{join_all, incoming, edges_of, entry_of, IsFine, Fails, IsRefusedAt}
-use Rattle.bpf_verify.specs.Kept.{is_at, jumps_to, most_ahead, greatest_ahead, jump_edges}
-use Rattle.bpf_verify.specs.Sweep.{arrived, falling, IsAdded, IsAwaited, IsSwept}
+use Rattle.bpf_verify.specs.Accepted.{join_all, incoming, entry_of, IsFine, IsRefusedAt}
+use Rattle.bpf_verify.specs.Kept.{jumps_to, most_ahead, greatest_ahead}
+use Rattle.bpf_verify.specs.Sweep.{arrived, falling, IsAdded, IsSwept}
 use Rattle.bpf_verify.proofs.Places.{at_within, start_at}
-use Rattle.bpf_verify.proofs.Swept.{Leaves, swept_next, falls, arrived_none, most_after}
+use Rattle.bpf_verify.proofs.Joining.{falls, arrived_none}
+use Rattle.bpf_verify.proofs.Swept.{swept_next, most_after}
 
 first_ahead : (p : Program) (k : ℕ) (t : Option ℕ) (rest : List ℕ) (u : ℕ) → AllByRecursion (IsAhead p k) (option_to_list t ++ rest) → t ≡ Some u → IsAhead p k u
 first_ahead p k None rest u a e = absurd (none-some u e)

@@ -1,8 +1,21 @@
--- The entry at hand.
-use Rattle.std.specs.Prelude.{Option, Some, None, if◌then◌else◌}
+-- The entry at hand, and what the entries are before a place is judged.
+use Rattle.std.specs.Prelude.{ℕ, Option, Some, None, if◌then◌else◌}
 use Rattle.abs_value.specs.declared.state.AbsState.{AbsState}
+use Rattle.bpf_insn.specs.Program.{Program}
+use Rattle.cells.specs.Arrays.{AppShape}
+use Rattle.bpf_verify.specs.Pool.{waits_at}
+use Rattle.bpf_verify.specs.Accepted.{shaped}
+use Rattle.bpf_verify.specs.Sweep.{arrived, IsSwept}
 use Rattle.bpf_verify.specs.declared.entries.Entries.{Entries}
 
 -- none where no run goes on to the place
 abbrev pub at_hand : Entries → Option AbsState
 at_hand e = if e.is_live then Some e.here else None
+
+-- before place k is judged
+abbrev pub AreSwept : Program → AppShape → ℕ → Entries → Type 0
+AreSwept code shape k e = IsSwept (shaped code shape) k (at_hand e) e.waiting
+
+-- what falls through, joined after what waits for the place
+abbrev pub arriving : Entries → ℕ → Option AbsState
+arriving e k = arrived (waits_at e.waiting k) (at_hand e)

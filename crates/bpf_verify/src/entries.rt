@@ -6,9 +6,9 @@ ghost use Rattle.std.specs.Prelude.{Some, None, IsSome, true, IfSome};
 ghost use Rattle.abs_value.specs.States.{opening_state};
 ghost use Rattle.flow_check.specs.Edges.{target_of};
 ghost use Rattle.bpf_rules.specs.Transfer.{jumping};
-ghost use Rattle.bpf_verify.specs.Pool.{waits_at, held, IsChanged};
-ghost use Rattle.bpf_verify.specs.Sweep.{arrived, falling, IsAdded};
-ghost use Rattle.bpf_verify.specs.Entries.{at_hand};
+ghost use Rattle.bpf_verify.specs.Pool.{held, IsChanged};
+ghost use Rattle.bpf_verify.specs.Sweep.{falling, IsAdded};
+ghost use Rattle.bpf_verify.specs.Entries.{at_hand, arriving};
 
 use crate::pool::Pool;
 use abs_value::AbsState;
@@ -51,7 +51,7 @@ impl Entries {
 
     /// Joins what waits for the place with what falls through.
     fn join_waiting(&mut self, slot: usize)
-        ensures here { at_hand self.new ≡ arrived (waits_at self.old.waiting slot) (at_hand self.old) }
+        ensures here { at_hand self.new ≡ arriving self.old slot }
         ensures waiting { self.new.waiting ≡ self.old.waiting }
     {
         let Some(found) = self.waiting.at(slot) else {
@@ -67,8 +67,7 @@ impl Entries {
 
     /// Makes the entry of the place be the one at hand, and gives up the one that waited for it.
     pub fn arrive(&mut self, slot: usize) -> Result<(), AllocError>
-        ensures here { OnOk result
-            (at_hand self.new ≡ arrived (waits_at self.old.waiting slot) (at_hand self.old)) }
+        ensures here { OnOk result (at_hand self.new ≡ arriving self.old slot) }
         ensures waiting { OnOk result (IsChanged self.old.waiting self.new.waiting slot None) }
         ensures most { self.new.waiting.most ≡ self.old.waiting.most }
         ensures held { OnOk result (held self.new.waiting ≤ self.new.waiting.most) }

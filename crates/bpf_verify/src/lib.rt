@@ -12,9 +12,9 @@
 // What the sweep keeps. The entry at hand is changed in place from instruction to instruction.
 // Where one jumps, the entry of that edge waits for its target: it is joined into the entry that
 // waits there already, or else copied into a pool. When the target is reached, what waits is joined
-// with what falls through, and its room in the pool is free again. So straight code copies no entry,
-// and the memory is bounded by the targets that lie ahead; `verify_counted` says how many entries
-// were kept at once.
+// with what falls through, and its room in the pool is free again. So straight code copies no
+// entry, and the memory is bounded by the targets that lie ahead; `verify_counted` says how many
+// entries were kept at once.
 //
 // Why that is enough. The entry of a place is defined as the join over its incoming edges in the
 // order of their slots, and the sweep is proved to judge by exactly this entry: the edge that falls

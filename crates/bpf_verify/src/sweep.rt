@@ -6,9 +6,8 @@ ghost use Rattle.std.specs.Prelude.{◌≡◌, ◌<◌, ◌≤◌, ◌+◌, leng
 ghost use Rattle.bpf_insn.specs.Program.{at};
 ghost use Rattle.flow_check.specs.Edges.{next_of};
 ghost use Rattle.bpf_verify.specs.Accepted.{shaped, IsRefusal, IsAccepted};
-ghost use Rattle.bpf_verify.specs.Entries.{at_hand};
+ghost use Rattle.bpf_verify.specs.Entries.{AreSwept};
 ghost use Rattle.bpf_verify.specs.Kept.{KeptAtMost, refused_at, judged, greatest_ahead};
-ghost use Rattle.bpf_verify.specs.Sweep.{IsSwept};
 
 use crate::entries::Entries;
 use bpf_insn::Insn;
@@ -25,9 +24,9 @@ fn visit(
     insn: &Insn,
 ) -> Result<(), Refusal>
     requires place { at flow.now slot ≡ Some insn.now }
-    requires swept { IsSwept (shaped flow.now shape.now) slot (at_hand entries.old) entries.old.waiting }
-    ensures swept { OnOk result (IsSwept (shaped flow.now shape.now) (next_of slot insn.now)
-        (at_hand entries.new) entries.new.waiting) }
+    requires swept { AreSwept flow.now shape.now slot entries.old }
+    ensures swept { OnOk result
+        (AreSwept flow.now shape.now (next_of slot insn.now) entries.new) }
     ensures refused { IfErr result (λ r. IsRefusal flow.now shape.now r) }
     ensures least { IfErr result (λ r. KeptAtMost (shaped flow.now shape.now) (refused_at r)
         (entries.new.waiting.most + 1)) }
@@ -48,7 +47,7 @@ fn visit(
 
 /// Judges all places, from the first to the last or to one at which a rule fails.
 pub fn sweep(entries: &mut Entries, flow: &Flow, shape: &Shape) -> Result<(), Refusal>
-    requires { IsSwept (shaped flow.now shape.now) 0 (at_hand entries.old) entries.old.waiting }
+    requires { AreSwept flow.now shape.now 0 entries.old }
     ensures accepted { OnOk result (IsAccepted flow.now shape.now) }
     ensures refused { IfErr result (λ r. IsRefusal flow.now shape.now r) }
     ensures least { KeptAtMost (shaped flow.now shape.now) (judged flow.now result)

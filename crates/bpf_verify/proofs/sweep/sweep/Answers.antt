@@ -1,4 +1,4 @@
-use Rattle.std.proofs.Common.{◌≡◌, ◌∙◌, ◌<◌, ap, arith, subst}
+use Rattle.std.proofs.Common.{arith}
 use Rattle.bpf_verify.specs.Accepted.{shaped}
 use Rattle.bpf_verify.specs.Entries.{at_hand}
 use Rattle.bpf_verify.proofs.Visits.{swept_most, at_end, fine_all}

@@ -1,6 +1,4 @@
-use Rattle.std.proofs.Common.{◌≡◌, ◌∙◌, ◌<◌, ◌≤◌, length, Some, None, ap, sym, refl, rules, arith}
-use Rattle.std.specs.Prelude.{IsSome, if◌then◌else◌}
-use Rattle.abs_value.specs.declared.state.AbsState.{AbsState}
+use Rattle.std.proofs.Common.{◌∙◌, length, ap, sym, refl, rules, arith}
 use Rattle.bpf_verify.specs.Accepted.{shaped}
 use Rattle.bpf_verify.specs.Entries.{at_hand}
 use Rattle.bpf_verify.specs.Sweep.{falling}

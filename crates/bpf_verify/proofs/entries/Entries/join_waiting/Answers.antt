@@ -1,4 +1,4 @@
-use Rattle.std.proofs.Common.{◌≡◌, Some, ap, ◌∙◌}
+use Rattle.std.proofs.Common.{Some, ap, ◌∙◌}
 use Rattle.bpf_verify.proofs.Joins.{states-comm}
 use Rattle.bpf_verify.proofs.entries.Entries.join_waiting.Goals as goal
 

@@ -1,8 +1,9 @@
-use Rattle.std.proofs.Common.{◌≡◌, ◌∙◌, ◌<◌, Some, length, refl, ap, sym, arith, rules}
-use Rattle.std.specs.Prelude.{slice_set, max}
+use Rattle.std.proofs.Common.{◌≡◌, ◌∙◌, Some, length, ap, sym, arith}
+use Rattle.std.specs.Prelude.{slice_set}
 use Rattle.std.proofs.lemmas.List.{length-set, length-map}
-use Rattle.bpf_verify.specs.Pool.{waits_at, index_at, entry_in, joined_with}
-use Rattle.bpf_verify.proofs.Pools.{changed_entry, most_kept, waits_is, get_at, index_is}
+use Rattle.bpf_verify.specs.Pool.{waits_at, index_at, entry_in}
+use Rattle.bpf_verify.proofs.Pools.{changed_entry, most_kept, waits_is}
+use Rattle.bpf_verify.proofs.Lists.{get_at, index_is}
 use Rattle.bpf_verify.proofs.pool.Pool.add.Goals as goal
 use Rattle.bpf_verify.proofs.pool.Pool.add.Goals.{In-Some}
 

@@ -1,7 +1,8 @@
 use Rattle.std.proofs.Common.{◌≡◌, ◌++◌, ◌∷◌, [], Some, None, rules}
 use Rattle.std.specs.Prelude.{slice_set}
 use Rattle.bpf_verify.specs.Pool.{index_at}
-use Rattle.bpf_verify.proofs.Pools.{given_up, changed_none, index_within, held_most}
+use Rattle.bpf_verify.proofs.Pools.{given_up, changed_none, held_most}
+use Rattle.bpf_verify.proofs.Lists.{index_within}
 use Rattle.bpf_verify.proofs.pool.Pool.give_up.Goals as goal
 use Rattle.bpf_verify.proofs.pool.Pool.give_up.Goals.{In_ok-push}
 

@@ -1,4 +1,4 @@
-use Rattle.std.proofs.Common.{◌≡◌, Some, None, rules, replicate, ℕ, Option, refl}
+use Rattle.std.proofs.Common.{◌≡◌, None, rules, replicate, ℕ, Option, refl}
 use Rattle.bpf_verify.proofs.Pools.{empty_pool, empty_map}
 use Rattle.bpf_verify.proofs.pool.Pool.new.Goals as goal
 
