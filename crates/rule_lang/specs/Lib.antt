@@ -4,3 +4,16 @@ pub mod Shapes
 pub mod Meaning
 pub mod Cost
 pub mod Fits
+pub mod Words
+pub mod Tokens
+pub mod Lexed
+pub mod Named
+pub mod Phrases
+pub mod Parts
+pub mod Tests
+pub mod Results
+pub mod Drafts
+pub mod Reading
+pub mod Sound
+pub mod Advances
+pub mod Verdicts

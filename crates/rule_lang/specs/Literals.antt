@@ -13,3 +13,6 @@ is_literal_byte c = is_printable c && not ((c == 34) || (c == 92))
 pub record IsLiteral (text : List ℕ) : Type 0 where
   pub bytes : IsTrue (list_all is_literal_byte text)
   pub short : length text ≤ 64
+
+abbrev pub is_literal : List ℕ → Bool
+is_literal text = list_all is_literal_byte text && nat_le (length text) 64

@@ -1,0 +1,7 @@
+pub mod Runs
+pub mod Lexing
+pub mod Digits
+pub mod Sounds
+pub mod Keeping
+pub mod Parsing
+pub mod Laws

@@ -1,0 +1,40 @@
+use Rattle.std.proofs.Common.{rules, arith, ◌≡◌, ◌<◌, ◌≤◌, length, List, Ok, inr}
+use Rattle.rule_lang.specs.declared.fault.RuleFault.{RuleFault}
+use Rattle.rule_lang.specs.declared.rule.Statement.{Statement}
+use Rattle.rule_lang.specs.Lexed.{Lexed, tokens_in}
+use Rattle.rule_lang.specs.Named.{placed_all}
+use Rattle.rule_lang.specs.Reading.{Reads, first_draft}
+use Rattle.rule_lang.specs.Results.{IsReadFault}
+use Rattle.rule_lang.specs.Verdicts.{IsVerdict, IsRuleFault, too_long, read}
+use Rattle.rule_lang.proofs.Parsing.{token_fault, read_fault, ok_then, err_then}
+use Rattle.rule_lang.proofs.parser.parse.Goals as goal
+
+pub returns-then-text-gt-MOST_BYTES-clause-fault : goal.returns-then-text-gt-MOST_BYTES-clause-fault
+returns-then-text-gt-MOST_BYTES-clause-fault c =
+    let long : 65536 < length c.args.text.now = search (rules, arith) in
+    inr (too_long long)
+
+pub returns-in-Ok-clause-rule : goal.returns-in-Ok-clause-rule
+returns-in-Ok-clause-rule c =
+    let s = c.args.shape.now in
+    let text = c.args.text.now in
+    let ts = placed_all c.as_slice.result.now in
+    let short : length text ≤ 65536 = search (rules, arith) in
+    let lexed : ◌≡◌ {A = Lexed} (tokens_in text) (Ok ts) = search rules in
+    ok_then c.read.result (λ (r : List Statement). Reads s first_draft ts (Ok r)) (λ (r : List
+    Statement). IsVerdict s text (Ok r)) (λ r h. read short lexed h) c.read.ensures.rule
+
+pub returns-in-Ok-clause-fault : goal.returns-in-Ok-clause-fault
+returns-in-Ok-clause-fault c =
+    let s = c.args.shape.now in
+    let text = c.args.text.now in
+    let ts = placed_all c.as_slice.result.now in
+    let short : length text ≤ 65536 = search (rules, arith) in
+    let lexed : ◌≡◌ {A = Lexed} (tokens_in text) (Ok ts) = search rules in
+    err_then c.read.result (λ (e : RuleFault). IsReadFault s ts e) (λ (e : RuleFault).
+    IsRuleFault s text e) (λ e h. read_fault s text ts e short lexed h) c.read.ensures.fault
+
+pub returns-in-Err-clause-fault : goal.returns-in-Err-clause-fault
+returns-in-Err-clause-fault c =
+    let short : length c.args.text.now ≤ 65536 = search (rules, arith) in
+    token_fault c.args.shape.now c.args.text.now c.in-Err.fault short (search rules)

@@ -1,0 +1,13 @@
+use Rattle.std.proofs.Common.{length, drop, ◌-◌, ◌+◌, ◌≡◌, ◌≤◌}
+use Rattle.std.specs.List.{prefix_len}
+use Rattle.rule_lang.specs.Tokens.{is_in}
+use Rattle.rule_lang.proofs.token.run_length.Given as goal
+
+abbrev pub invariant-loop-n : goal.invariant-loop-n
+invariant-loop-n l = record {
+  within : l.n ≤ length l.s;
+  rest : l.n + prefix_len (is_in l.class) (drop l.n l.s) ≡ prefix_len (is_in l.class) l.s;
+}
+
+abbrev pub decreases-loop-n : goal.decreases-loop-n
+decreases-loop-n l = length l.s - l.n

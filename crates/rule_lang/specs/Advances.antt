@@ -1,0 +1,11 @@
+-- One phrase more of a rule that is read, by places among the tokens.
+use Rattle.std.specs.Prelude.{◌≡◌, ◌⊎◌, ℕ, List, drop, Result, Ok, Err}
+use Rattle.cells.specs.Arrays.{AppShape}
+use Rattle.rule_lang.specs.declared.fault.RuleFault.{RuleFault}
+use Rattle.rule_lang.specs.declared.fault.RuleFault.TheVariants.{Memory}
+use Rattle.rule_lang.specs.Lexed.{Placed}
+use Rattle.rule_lang.specs.Reading.{Draft, next}
+
+abbrev pub Advances : Result ℕ RuleFault → AppShape → Draft → Draft → List Placed → ℕ → Type 0
+Advances (Ok behind) s old new ts place = next s old (drop place ts) ≡ Ok (new, drop behind ts)
+Advances (Err e) s old new ts place = (e ≡ Memory) ⊎ (next s old (drop place ts) ≡ Err e)

@@ -1,0 +1,68 @@
+-- What the reader's tokens stand for: their texts are the bytes that they point to.
+use Rattle.std.specs.Prelude.{◌≡◌, ℕ, List, [], ◌∷◌, ◌++◌, map, Result, Ok, Err}
+use Rattle.std.specs.Borrow.{Bor}
+use Rattle.rule_lang.specs.declared.draft.Draft as the_draft
+use Rattle.rule_lang.specs.declared.pending.Pending as the_pending
+use Rattle.rule_lang.specs.Reading.{Draft}
+use Rattle.rule_lang.specs.Drafts.{Pending}
+use Rattle.rule_lang.specs.declared.token.Piece as the_piece
+use Rattle.rule_lang.specs.declared.token.Piece.TheVariants as piece
+use Rattle.rule_lang.specs.declared.token.Token as the_token
+use Rattle.rule_lang.specs.declared.token.Token.TheVariants as token
+use Rattle.cells.specs.declared.array.CellArray.{CellArray}
+use Rattle.rule_lang.specs.declared.fault.RuleFault.{RuleFault}
+use Rattle.rule_lang.specs.declared.lexer.Placed as the_placed
+use Rattle.rule_lang.specs.Lexed.{Placed, on}
+use Rattle.rule_lang.specs.Tokens.{Text, Token, Piece}
+
+abbrev pub Bytes : Type 0
+Bytes = Bor Text
+
+abbrev pub token_named : the_token.Token Bytes → Token
+token_named (token.Keyword k) = token.Keyword k
+token_named (token.Name w) = token.Name w.now
+token_named (token.Number w) = token.Number w.now
+token_named (token.Version w) = token.Version w.now
+token_named (token.Text w) = token.Text w.now
+token_named (token.Relation r) = token.Relation r
+token_named token.Semicolon = token.Semicolon
+token_named token.Comma = token.Comma
+token_named token.OpenBracket = token.OpenBracket
+token_named token.CloseBracket = token.CloseBracket
+token_named token.Open = token.Open
+token_named token.Close = token.Close
+token_named token.End = token.End
+
+abbrev pub piece_named : the_piece.Piece Bytes → Piece
+piece_named (piece.Blank n) = piece.Blank n
+piece_named (piece.LineEnd n) = piece.LineEnd n
+piece_named (piece.Token t n) = piece.Token (token_named t) n
+
+abbrev pub placed_named : the_placed.Placed Bytes → Placed
+placed_named p = on p.line (token_named p.token)
+
+abbrev pub placed_all : List (the_placed.Placed Bytes) → List Placed
+placed_all tokens = map placed_named tokens
+
+-- one token more behind those before
+abbrev pub AddsToken : List (the_placed.Placed Bytes) → ℕ → the_token.Token Bytes
+    → List (the_placed.Placed Bytes) → Type 0
+AddsToken before line t after =
+    placed_all after ≡ placed_all before ++ (on line (token_named t) ∷ [])
+
+-- an array that is lent
+abbrev pub array_given : Result (Bor CellArray) RuleFault → Result CellArray RuleFault
+array_given (Ok a) = Ok a.now
+array_given (Err e) = Err e
+
+-- a condition that is read
+abbrev pub seen : the_pending.Pending → Pending
+seen p = record { steps = p.steps.items; below = p.below; top = p.top; depth = p.depth }
+
+abbrev pub draft_seen : the_draft.Draft → Draft
+draft_seen d = record {
+  mode = d.mode;
+  statements = d.statements.items;
+  condition = seen d.condition;
+  noted = d.noted;
+}

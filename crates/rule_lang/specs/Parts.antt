@@ -1,0 +1,114 @@
+-- What the tokens of a phrase say: numbers within their limits (or L4), and names that are known
+-- (or L3). The fault has the line of its token.
+use Rattle.std.specs.Prelude.{ℕ, ◌^◌, List, [], Option, Some, None, is_some, Result, Ok, Err, slice_index_or}
+use Rattle.std.specs.Prelude.{Bool, true, false, nat_le, nat_lt, if◌then◌else◌}
+use Rattle.std.specs.Str.Parse.{digits_value}
+use Rattle.attrs.specs.Version.{version_of}
+use Rattle.cells.specs.Arrays.{AppShape}
+use Rattle.cells.specs.declared.array.CellArray.{CellArray}
+use Rattle.rule_lang.specs.declared.fault.RuleFault.{RuleFault}
+use Rattle.rule_lang.specs.declared.fault.RuleFault.TheVariants.{At}
+use Rattle.rule_lang.specs.declared.fault.RuleFaultKind.TheVariants as kind
+use Rattle.rule_lang.specs.declared.keyword.Keyword.TheVariants as keyword
+use Rattle.rule_lang.specs.declared.test.Attribute.{Attribute}
+use Rattle.rule_lang.specs.declared.test.Attribute.TheVariants as attributes
+use Rattle.rule_lang.specs.declared.test.Flag.{Flag}
+use Rattle.rule_lang.specs.declared.test.Relation.{Relation}
+use Rattle.rule_lang.specs.declared.test.Relation.TheVariants as relations
+use Rattle.rule_lang.specs.declared.token.Token.TheVariants as token
+use Rattle.rule_lang.specs.Fits.{is_release}
+use Rattle.rule_lang.specs.Lexed.{Placed, on}
+use Rattle.rule_lang.specs.Shapes.{array_named}
+use Rattle.rule_lang.specs.Tokens.{Token, Text}
+use Rattle.rule_lang.specs.Words.{flag_named, attribute_named}
+
+abbrev pub OrFault : Type 0 → Type 0
+OrFault A = Result A RuleFault
+
+infixl 10 ◌>>?◌
+abbrev pub ◌>>?◌ : {A B : Type 0} → OrFault A → (A → OrFault B) → OrFault B
+(Ok x) >>? f = f x
+(Err e) >>? f = Err e
+
+-- or else this fault
+abbrev pub needs : {A : Type 0} → RuleFault → Option A → OrFault A
+needs e (Some x) = Ok x
+needs e None = Err e
+
+abbrev pub unknown : Placed → RuleFault
+unknown p = At p.line kind.Name
+
+abbrev pub out_of_range : Placed → RuleFault
+out_of_range p = At p.line kind.Range
+
+-- the token at a place of a phrase
+abbrev pub part : List Placed → ℕ → Placed
+part ts k = slice_index_or ts k (on 0 token.End)
+
+abbrev pub text_of : Token → Text
+text_of (token.Name w) = w
+text_of (token.Number w) = w
+text_of (token.Version w) = w
+text_of (token.Text w) = w
+text_of t = []
+
+-- of a token that is one
+abbrev pub relation_of : Token → Relation
+relation_of (token.Relation r) = r
+relation_of t = relations.Eq
+
+abbrev pub relation : Placed → Relation
+relation p = relation_of p.token
+
+-- ---- numbers
+
+abbrev pub number_if_small : ℕ → Option ℕ
+number_if_small n = if nat_lt n (2 ^ 64) then Some n else None
+
+abbrev pub magnitude : List ℕ → Option ℕ
+magnitude digits = number_if_small (digits_value 10 digits)
+
+abbrev pub salt : Placed → OrFault ℕ
+salt p = needs (out_of_range p) (magnitude (text_of p.token))
+
+-- a number for which a test holds
+abbrev pub within : (ℕ → Bool) → Placed → ℕ → OrFault ℕ
+within holds p n = if holds n then Ok n else Err (out_of_range p)
+
+abbrev pub number : Placed → OrFault ℕ
+number p = salt p >>? λ n. within (λ n. nat_le n 4294967295) p n
+
+abbrev pub version : Placed → OrFault (List ℕ)
+version p = needs (out_of_range p) (version_of (text_of p.token))
+
+abbrev pub release : AppShape → Placed → OrFault ℕ
+release s p = number p >>? λ n. within (is_release s) p n
+
+abbrev pub index : CellArray → Placed → OrFault ℕ
+index a p = number p >>? λ n. within (λ n. nat_lt n a.length) p n
+
+-- ---- names
+
+abbrev pub flag : Placed → OrFault Flag
+flag p = needs (unknown p) (flag_named (text_of p.token))
+
+abbrev pub attribute_by : Placed → Token → OrFault Attribute
+attribute_by p (token.Keyword keyword.Version) = Ok attributes.Version
+attribute_by p t = needs (unknown p) (attribute_named (text_of t))
+
+-- the word `version` is the name of an attribute, too
+abbrev pub attribute : Placed → OrFault Attribute
+attribute p = attribute_by p p.token
+
+abbrev pub same : Bool → Bool → Bool
+same true b = b
+same false true = false
+same false false = true
+
+abbrev pub array_if : Bool → Placed → Option CellArray → OrFault CellArray
+array_if quota p (Some a) = if same (is_some a.quota) quota then Ok a else Err (unknown p)
+array_if quota p None = Err (unknown p)
+
+-- the array of a name, which has a quota or has none
+abbrev pub array : AppShape → Bool → Placed → OrFault CellArray
+array s quota p = array_if quota p (array_named (text_of p.token) s.arrays)

@@ -1,0 +1,28 @@
+-- The faults of calls that may also be refused memory.
+use Rattle.std.specs.Prelude.{◌≡◌, ◌⊎◌, ℕ, List, Result, Ok, Err}
+use Rattle.std.specs.Borrow.{Bor}
+use Rattle.cells.specs.Arrays.{AppShape}
+use Rattle.rule_lang.specs.declared.fault.RuleFault.{RuleFault}
+use Rattle.rule_lang.specs.declared.fault.RuleFault.TheVariants.{Memory}
+use Rattle.rule_lang.specs.declared.lexer.Placed as the_placed
+use Rattle.rule_lang.specs.Named.{placed_all}
+use Rattle.rule_lang.specs.Lexed.{Placed}
+use Rattle.rule_lang.specs.Reading.{Draft, Next, Reads, first_draft}
+
+abbrev pub IsFaultOf : {A : Type 0} → Result A RuleFault → RuleFault → Type 0
+IsFaultOf verdict e = (e ≡ Memory) ⊎ (verdict ≡ Err e)
+
+-- what a call makes of what it is lent, or that it is refused memory
+abbrev pub Makes : {A : Type 0} → Result (Unit {0}) RuleFault → A → A → Type 0
+Makes (Ok x) new want = new ≡ want
+Makes (Err e) new want = e ≡ Memory
+
+-- the tokens behind a phrase, and what it makes of the rule so far
+abbrev pub LeadsTo : Result (Bor (List (the_placed.Placed (Bor (List ℕ))))) RuleFault → Draft
+    → Next → Type 0
+LeadsTo (Ok rest) new next = next ≡ Ok (new, placed_all rest.now)
+LeadsTo (Err e) new next = (e ≡ Memory) ⊎ (next ≡ Err e)
+
+-- the fault of tokens, or a refusal of memory
+abbrev pub IsReadFault : AppShape → List Placed → RuleFault → Type 0
+IsReadFault s ts e = (e ≡ Memory) ⊎ Reads s first_draft ts (Err e)

@@ -1,0 +1,77 @@
+-- The words of the grammar, which are no names, and the names of flags and attributes.
+use Rattle.std.specs.Prelude.{ℕ, List, codes, Option, Bool, ◌==◌}
+use Rattle.std.specs.Str.{bytes_eq}
+use Rattle.std.specs.List.{find}
+use Rattle.rule_lang.specs.declared.keyword.Keyword.{Keyword}
+use Rattle.rule_lang.specs.declared.keyword.Keyword.TheVariants as keyword
+use Rattle.rule_lang.specs.declared.keyword.TheConstants.{KEYWORDS, FLAGS, ATTRIBUTES}
+use Rattle.rule_lang.specs.declared.test.Attribute.{Attribute}
+use Rattle.rule_lang.specs.declared.test.Attribute.TheVariants as attribute
+use Rattle.rule_lang.specs.declared.test.Flag.{Flag}
+use Rattle.rule_lang.specs.declared.test.Flag.TheVariants as flag
+
+abbrev pub keyword_text : Keyword → List ℕ
+keyword_text keyword.Otherwise = codes "otherwise"
+keyword_text keyword.None = codes "none"
+keyword_text keyword.Count = codes "count"
+keyword_text keyword.When = codes "when"
+keyword_text keyword.Offer = codes "offer"
+keyword_text keyword.Or = codes "or"
+keyword_text keyword.And = codes "and"
+keyword_text keyword.Not = codes "not"
+keyword_text keyword.Version = codes "version"
+keyword_text keyword.Bucket = codes "bucket"
+keyword_text keyword.Today = codes "today"
+keyword_text keyword.Installed = codes "installed"
+keyword_text keyword.Flag = codes "flag"
+keyword_text keyword.Attr = codes "attr"
+keyword_text keyword.Is = codes "is"
+keyword_text keyword.Take = codes "take"
+
+abbrev pub flag_text : Flag → List ℕ
+flag_text flag.VersionKnown = codes "version_known"
+flag_text flag.Updatecheck = codes "updatecheck"
+flag_text flag.Ping = codes "ping"
+flag_text flag.Event = codes "event"
+flag_text flag.CohortKnown = codes "cohort_known"
+flag_text flag.InstalldateKnown = codes "installdate_known"
+
+abbrev pub attribute_text : Attribute → List ℕ
+attribute_text attribute.Appid = codes "appid"
+attribute_text attribute.Version = codes "version"
+attribute_text attribute.Brand = codes "brand"
+attribute_text attribute.Ap = codes "ap"
+attribute_text attribute.Lang = codes "lang"
+attribute_text attribute.Cohort = codes "cohort"
+attribute_text attribute.Platform = codes "platform"
+
+unfoldable pub keyword_named : List ℕ → Option Keyword
+keyword_named w = find (λ k. bytes_eq w (keyword_text k)) KEYWORDS
+
+unfoldable pub flag_named : List ℕ → Option Flag
+flag_named w = find (λ f. bytes_eq w (flag_text f)) FLAGS
+
+unfoldable pub attribute_named : List ℕ → Option Attribute
+attribute_named w = find (λ a. bytes_eq w (attribute_text a)) ATTRIBUTES
+
+-- two words are one where they have one number
+abbrev pub keyword_number : Keyword → ℕ
+keyword_number keyword.Otherwise = 0
+keyword_number keyword.None = 1
+keyword_number keyword.Count = 2
+keyword_number keyword.When = 3
+keyword_number keyword.Offer = 4
+keyword_number keyword.Or = 5
+keyword_number keyword.And = 6
+keyword_number keyword.Not = 7
+keyword_number keyword.Version = 8
+keyword_number keyword.Bucket = 9
+keyword_number keyword.Today = 10
+keyword_number keyword.Installed = 11
+keyword_number keyword.Flag = 12
+keyword_number keyword.Attr = 13
+keyword_number keyword.Is = 14
+keyword_number keyword.Take = 15
+
+abbrev pub same_keyword : Keyword → Keyword → Bool
+same_keyword k l = keyword_number k == keyword_number l

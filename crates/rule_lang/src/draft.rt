@@ -1,0 +1,109 @@
+//! A rule that is read up to some token.
+
+ghost use Rattle.std.specs.Prelude.{◌≡◌, ◌++◌, ◌∷◌, [], OnOk, None};
+ghost use Rattle.rule_lang.specs.Drafts as drafts;
+ghost use Rattle.rule_lang.specs.Named.{seen, draft_seen};
+ghost use Rattle.rule_lang.specs.Reading as reading;
+ghost use Rattle.rule_lang.specs.Trees.{IsCondition};
+
+use crate::condition::{Condition, Step};
+use crate::fault::RuleFault;
+use crate::frame::{Frames, first_frame};
+use crate::pending::Pending;
+use crate::rule::Statement;
+use std::alloc::{AllocError, Global};
+use std::mem;
+
+/// What may stand at the next token.
+#[derive(Clone, Copy, Debug, PartialEq, Eq)]
+pub enum Mode {
+    Statement,
+    /// Of a condition: a test, `not` or `(`.
+    Fact,
+    /// Of a condition: what follows a fact.
+    Operator,
+    /// The text has ended.
+    Done,
+}
+
+/// The statements so far, the condition that is read, and the first L3 or L4.
+#[derive(Drop)]
+pub struct Draft {
+    pub mode: Mode,
+    pub statements: Vec<Statement>,
+    pub condition: Pending,
+    pub noted: Option<RuleFault>,
+}
+
+/// A rule of which nothing is read.
+pub fn first_draft(alloc: Global) -> Draft
+    ensures { draft_seen result ≡ reading.first_draft }
+{
+    Draft {
+        mode: Mode::Statement,
+        statements: Vec::new(alloc),
+        condition: Pending {
+            steps: Vec::new(alloc),
+            below: Frames::new(alloc),
+            top: first_frame(),
+            depth: 0,
+        },
+        noted: None,
+    }
+}
+
+/// A fault, where no earlier one is noted.
+pub fn note(draft: &mut Draft, fault: RuleFault)
+    ensures { draft_seen draft.new ≡ reading.with_fault fault (draft_seen draft.old) }
+{
+    if draft.noted.is_none() {
+        draft.noted = Some(fault);
+    }
+}
+
+/// A fault, where it holds.
+pub fn note_if(draft: &mut Draft, holds: bool, fault: RuleFault)
+    ensures { draft_seen draft.new ≡ reading.with_fault_if holds fault (draft_seen draft.old) }
+{
+    if holds {
+        note(draft, fault);
+    }
+}
+
+/// What may stand next.
+pub fn expect(draft: &mut Draft, mode: Mode)
+    ensures { draft_seen draft.new ≡ reading.in_mode mode (draft_seen draft.old) }
+{
+    draft.mode = mode;
+}
+
+/// One statement more.
+pub fn add(draft: &mut Draft, statement: Statement) -> Result<(), AllocError>
+    ensures { OnOk result (draft_seen draft.new ≡ reading.with_statement statement (draft_seen
+        draft.old)) }
+{
+    draft.statements.push(statement)?;
+    Ok(())
+}
+
+// The steps of a condition, which is left without.
+fn take_steps(alloc: Global, pending: &mut Pending) -> Vec<Step>
+    ensures steps { result.items ≡ pending.old.steps.items }
+    ensures emptied { seen pending.new ≡ reading.emptied (seen pending.old) }
+{
+    mem::replace(&mut pending.steps, Vec::new(alloc))
+}
+
+/// The statement whose condition has ended, unless a fault is noted.
+pub fn add_when(alloc: Global, draft: &mut Draft, release: u8) -> Result<(), AllocError>
+    requires { draft.old.noted ≡ None → IsCondition draft.old.condition.steps.items }
+    ensures { OnOk result (draft_seen draft.new ≡ reading.with_when release (draft_seen
+        draft.old)) }
+{
+    let steps = take_steps(alloc, &mut draft.condition);
+    if draft.noted.is_some() {
+        return Ok(());
+    }
+    let condition = Condition::of(steps);
+    add(draft, Statement::When { condition, release })
+}

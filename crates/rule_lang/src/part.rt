@@ -1,0 +1,179 @@
+//! What the tokens of a phrase say: numbers within their limits, and names that are known.
+
+ghost use Rattle.std.specs.Prelude.{◌≡◌, ◌+◌, ◌*◌};
+ghost use Rattle.std.specs.Char.{digit_value};
+ghost use Rattle.rule_lang.specs.Named.{token_named, placed_named, placed_all, array_given};
+ghost use Rattle.rule_lang.specs.Parts as parts;
+
+use crate::fault::{RuleFault, RuleFaultKind};
+use crate::fits::array_named;
+use crate::keyword::{Keyword, attribute_named, flag_named};
+use crate::lexer::Placed;
+use crate::test::{Attribute, Flag, Relation};
+use crate::token::Token;
+use attrs::read_version;
+use cells::{CellArray, Shape};
+
+/// The token at a place of a phrase.
+pub fn part<'a>(tokens: &[Placed<&'a str>], place: usize) -> Placed<&'a str>
+    ensures { placed_named result ≡ parts.part (placed_all tokens.now) place }
+{
+    match tokens.get(place) {
+        Some(placed) => *placed,
+        None => Placed {
+            line: 0,
+            token: Token::End,
+        },
+    }
+}
+
+/// The text of a name, a number or a literal.
+pub fn text_of<'a>(token: Token<&'a str>) -> &'a str
+    ensures { result.now ≡ parts.text_of (token_named token.entry) }
+{
+    match token {
+        Token::Name(text) | Token::Number(text) | Token::Version(text) | Token::Text(text) => text,
+        _ => "",
+    }
+}
+
+/// A comparison.
+pub fn relation<'a>(placed: Placed<&'a str>) -> Relation
+    ensures { result ≡ parts.relation (placed_named placed.entry) }
+{
+    match placed.token {
+        Token::Relation(relation) => relation,
+        _ => Relation::Eq,
+    }
+}
+
+/// The fault of a name that isn't known.
+pub fn unknown<'a>(placed: Placed<&'a str>) -> RuleFault
+    ensures { result ≡ parts.unknown (placed_named placed.entry) }
+{
+    RuleFault::At {
+        line: placed.line,
+        kind: RuleFaultKind::Name,
+    }
+}
+
+/// The fault of what is out of its range.
+pub fn out_of_range<'a>(placed: Placed<&'a str>) -> RuleFault
+    ensures { result ≡ parts.out_of_range (placed_named placed.entry) }
+{
+    RuleFault::At {
+        line: placed.line,
+        kind: RuleFaultKind::Range,
+    }
+}
+
+fn digit_value(c: u8) -> u8
+    ensures { result ≡ digit_value c }
+{
+    match c {
+        b'0'..=b'9' => c - b'0',
+        b'A'..=b'Z' => c - b'A' + 10,
+        b'a'..=b'z' => c - b'a' + 10,
+        _ => 36,
+    }
+}
+
+// The number with one digit more, if 64 bits hold it.
+fn with_digit(n: u64, digit: u8) -> Option<u64>
+    ensures { result ≡ parts.number_if_small (n * 10 + digit) }
+{
+    n.checked_mul(10)?.checked_add(u64::from(digit))
+}
+
+// The number that digits write, if 64 bits hold it.
+fn magnitude(digits: &[u8]) -> Option<u64>
+    ensures { result ≡ parts.magnitude digits.now }
+{
+    let mut n = 0u64;
+    for c in digits {
+        n = with_digit(n, digit_value(*c))?;
+    }
+    Some(n)
+}
+
+/// A number to 2 to the 64, less 1.
+pub fn salt<'a>(placed: Placed<&'a str>) -> Result<u64, RuleFault>
+    ensures { result ≡ parts.salt (placed_named placed.entry) }
+{
+    let text = text_of(placed.token);
+    magnitude(text.as_bytes()).ok_or(out_of_range(placed))
+}
+
+/// A number to 4294967295.
+pub fn number<'a>(placed: Placed<&'a str>) -> Result<u32, RuleFault>
+    ensures { result ≡ parts.number (placed_named placed.entry) }
+{
+    let number = salt(placed)?;
+    if number <= 0xffff_ffff {
+        Ok(number as u32)
+    } else {
+        Err(out_of_range(placed))
+    }
+}
+
+/// The four numbers of a version.
+pub fn version<'a>(placed: Placed<&'a str>) -> Result<[u32; 4], RuleFault>
+    ensures { result ≡ parts.version (placed_named placed.entry) }
+{
+    read_version(text_of(placed.token)).ok_or(out_of_range(placed))
+}
+
+/// The flag of a name.
+pub fn flag<'a>(placed: Placed<&'a str>) -> Result<Flag, RuleFault>
+    ensures { result ≡ parts.flag (placed_named placed.entry) }
+{
+    flag_named(text_of(placed.token)).ok_or(unknown(placed))
+}
+
+/// The attribute of a name, or of the word `version`.
+pub fn attribute<'a>(placed: Placed<&'a str>) -> Result<Attribute, RuleFault>
+    ensures { result ≡ parts.attribute (placed_named placed.entry) }
+{
+    match placed.token {
+        Token::Keyword(Keyword::Version) => Ok(Attribute::Version),
+        token => attribute_named(text_of(token)).ok_or(unknown(placed)),
+    }
+}
+
+/// A release of the shape.
+pub fn release<'a>(shape: &Shape, placed: Placed<&'a str>) -> Result<u8, RuleFault>
+    ensures { result ≡ parts.release shape.now (placed_named placed.entry) }
+{
+    let number = number(placed)?;
+    if 1 <= number && number <= u32::from(shape.releases()) {
+        Ok(number as u8)
+    } else {
+        Err(out_of_range(placed))
+    }
+}
+
+/// The array of a name, which has a quota or has none.
+pub fn array<'s, 'a>(
+    shape: &'s Shape,
+    quota: bool,
+    placed: Placed<&'a str>,
+) -> Result<&'s CellArray, RuleFault>
+    ensures { array_given result ≡ parts.array shape.now quota (placed_named placed.entry) }
+{
+    match array_named(shape.arrays(), text_of(placed.token)) {
+        Some(array) if array.quota.is_some() == quota => Ok(array),
+        _ => Err(unknown(placed)),
+    }
+}
+
+/// An index of the array.
+pub fn index<'a>(array: &CellArray, placed: Placed<&'a str>) -> Result<u16, RuleFault>
+    ensures { result ≡ parts.index array.now (placed_named placed.entry) }
+{
+    let number = number(placed)?;
+    if number < u32::from(array.length) {
+        Ok(number as u16)
+    } else {
+        Err(out_of_range(placed))
+    }
+}

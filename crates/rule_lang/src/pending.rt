@@ -1,0 +1,149 @@
+//! A condition that is read up to some token: its steps so far, and what is still to be joined.
+
+ghost use Rattle.std.specs.Prelude.{◌≡◌, ◌++◌, ◌∷◌, [], OnOk, replicate, if◌then◌else◌};
+ghost use Rattle.rule_lang.specs.Drafts as drafts;
+ghost use Rattle.rule_lang.specs.Named.{seen};
+ghost use Rattle.rule_lang.specs.declared.condition.Step.TheVariants.{Not as not};
+
+use crate::condition::Step;
+use crate::frame::{Frame, Frames, first_frame};
+use std::alloc::AllocError;
+
+/// How deep `not` and parentheses may stand.
+pub const MOST_DEPTH: u8 = 32;
+
+/// The steps so far, the conditions round the one that is read, its own frame, and how many openers
+/// are open, up to 32.
+#[derive(Drop)]
+pub struct Pending {
+    pub steps: Vec<Step>,
+    pub below: Frames,
+    pub top: Frame,
+    pub depth: u8,
+}
+
+fn deeper(depth: u8) -> u8
+    ensures { result ≡ drafts.deeper depth }
+{
+    if depth < MOST_DEPTH { depth + 1 } else { depth }
+}
+
+fn push(steps: &mut Vec<Step>, step: Step) -> Result<(), AllocError>
+    ensures { OnOk result (steps.new.items ≡ steps.old.items ++ (step ∷ [])) }
+{
+    steps.push(step)?;
+    Ok(())
+}
+
+fn push_if(steps: &mut Vec<Step>, holds: bool, step: Step) -> Result<(), AllocError>
+    ensures { OnOk result (steps.new.items ≡ steps.old.items ++ (if holds then step ∷ [] else [])) }
+{
+    if holds { push(steps, step) } else { Ok(()) }
+}
+
+fn push_nots(steps: &mut Vec<Step>, count: u8) -> Result<(), AllocError>
+    ensures { OnOk result (steps.new.items ≡ steps.old.items ++ replicate count not) }
+{
+    for _ in 0..count {
+        push(steps, Step::Not)?;
+    }
+    Ok(())
+}
+
+// What a fact ends.
+fn fact_done(pending: &mut Pending) -> Result<(), AllocError>
+    ensures { OnOk result (seen pending.new ≡ drafts.fact_done (seen pending.old)) }
+{
+    let top = pending.top;
+    push_nots(&mut pending.steps, top.nots)?;
+    push_if(&mut pending.steps, top.and, Step::And)?;
+    pending.depth = pending.depth.saturating_sub(top.nots);
+    pending.top = Frame {
+        nots: 0,
+        and: false,
+        or: top.or,
+    };
+    Ok(())
+}
+
+/// A condition begins.
+pub fn begin(pending: &mut Pending, below: Frames)
+    requires { below ≡ [] }
+    ensures { seen pending.new ≡ drafts.begin }
+{
+    pending.steps.clear();
+    pending.below = below;
+    pending.top = first_frame();
+    pending.depth = 0;
+}
+
+/// `not`.
+pub fn deny(pending: &mut Pending)
+    ensures { seen pending.new ≡ drafts.denied (seen pending.old) }
+{
+    pending.top.nots = deeper(pending.top.nots);
+    pending.depth = deeper(pending.depth);
+}
+
+/// `(`.
+pub fn open(pending: &mut Pending) -> Result<(), AllocError>
+    ensures { OnOk result (seen pending.new ≡ drafts.opened (seen pending.old)) }
+{
+    let top = pending.top;
+    pending.below.push(top)?;
+    pending.top = first_frame();
+    pending.depth = deeper(pending.depth);
+    Ok(())
+}
+
+/// A test.
+pub fn test(pending: &mut Pending, step: Step) -> Result<(), AllocError>
+    ensures { OnOk result (seen pending.new ≡ drafts.tested step (seen pending.old)) }
+{
+    push(&mut pending.steps, step)?;
+    fact_done(pending)
+}
+
+/// `and`.
+pub fn join(pending: &mut Pending)
+    ensures { seen pending.new ≡ drafts.joined (seen pending.old) }
+{
+    pending.top.and = true;
+}
+
+/// `or`.
+pub fn part(pending: &mut Pending) -> Result<(), AllocError>
+    ensures { OnOk result (seen pending.new ≡ drafts.parted (seen pending.old)) }
+{
+    let top = pending.top;
+    push_if(&mut pending.steps, top.or, Step::Or)?;
+    pending.top.or = true;
+    Ok(())
+}
+
+/// `)`. Where no parenthesis is open it answers `false` and changes nothing.
+pub fn close(pending: &mut Pending) -> Result<bool, AllocError>
+    ensures { drafts.Closes (seen pending.old) result (seen pending.new) }
+{
+    let top = pending.top;
+    let Some(frame) = pending.below.pop() else {
+        return Ok(false);
+    };
+    push_if(&mut pending.steps, top.or, Step::Or)?;
+    pending.top = frame;
+    pending.depth = pending.depth.saturating_sub(1);
+    fact_done(pending)?;
+    Ok(true)
+}
+
+/// The end of a condition, at `offer`. Where a parenthesis is open it answers `false`.
+pub fn end(pending: &mut Pending) -> Result<bool, AllocError>
+    ensures { drafts.Finishes (seen pending.old) result (seen pending.new) }
+{
+    if !pending.below.is_empty() {
+        return Ok(false);
+    }
+    let top = pending.top;
+    push_if(&mut pending.steps, top.or, Step::Or)?;
+    Ok(true)
+}

@@ -1,0 +1,312 @@
+//! Reading a rule, phrase by phrase. A condition's nesting is kept as a list of frames, so nothing
+//! here recurses on the text.
+
+ghost use Rattle.std.specs.Prelude.{◌≡◌, ◌<◌, length, IfOk, ◌≤◌, IfErr, None, Ok};
+ghost use Rattle.rule_lang.specs.Named.{token_named, placed_named, placed_all, seen, draft_seen};
+ghost use Rattle.rule_lang.specs.Parts as parts;
+ghost use Rattle.rule_lang.specs.Parts.{out_of_range as out_of};
+ghost use Rattle.rule_lang.specs.Reading as reading;
+ghost use Rattle.rule_lang.specs.Tests as tests;
+ghost use Rattle.rule_lang.specs.Advances.{Advances};
+ghost use Rattle.rule_lang.specs.Results.{IsFaultOf, IsReadFault, LeadsTo, Makes};
+ghost use Rattle.rule_lang.specs.Sound.{IsSound, IsSoundAfter};
+ghost use Rattle.rule_lang.specs.Trees.{IsCondition};
+
+use crate::condition::Step;
+use crate::draft::{Draft, Mode, add, add_when, expect, first_draft, note, note_if};
+use crate::fault::{RuleFault, RuleFaultKind};
+use crate::frame::Frames;
+use crate::keyword::Keyword;
+use crate::lexer::Placed;
+use crate::part::{array, index, out_of_range, part, release};
+use crate::pending::{self, MOST_DEPTH};
+use crate::phrase::{COUNT, OFFER, OTHERWISE, behind, misplaced, test_phrase};
+use crate::rule::{Rule, Statement};
+use crate::test_reader::test_of;
+use crate::token::Token;
+use cells::{ArrayName, Shape};
+use std::alloc::Global;
+
+fn count_of<'a>(
+    alloc: Global,
+    shape: &Shape,
+    tokens: &[Placed<&'a str>],
+) -> Result<Statement, RuleFault>
+    ensures statement { IfOk result (λ s. reading.count_of shape.now (placed_all tokens.now) ≡ Ok
+        s) }
+    ensures fault { IfErr result (IsFaultOf (reading.count_of shape.now (placed_all tokens.now))) }
+{
+    let array = array(shape, false, part(tokens, 1))?;
+    let index = index(array, part(tokens, 3))?;
+    let array = ArrayName::of(alloc, array.name.as_str())?;
+    Ok(Statement::Count { array, index })
+}
+
+// `count`.
+fn read_count<'a>(
+    alloc: Global,
+    shape: &Shape,
+    draft: &mut Draft,
+    tokens: &[Placed<&'a str>],
+) -> Result<(), RuleFault>
+    ensures { Makes result (draft_seen draft.new) (reading.counted (reading.count_of shape.now
+        (placed_all tokens.now)) (draft_seen draft.old)) }
+{
+    match count_of(alloc, shape, tokens) {
+        Ok(statement) => Ok(add(draft, statement)?),
+        Err(RuleFault::Memory) => Err(RuleFault::Memory),
+        Err(fault) => {
+            note(draft, fault);
+            Ok(())
+        }
+    }
+}
+
+// One phrase where a statement may stand.
+fn read_statement<'t, 'a>(
+    alloc: Global,
+    shape: &Shape,
+    draft: &mut Draft,
+    first: Placed<&'a str>,
+    tokens: &'t [Placed<&'a str>],
+    after: &'t [Placed<&'a str>],
+) -> Result<&'t [Placed<&'a str>], RuleFault>
+    requires { length after.now < length tokens.now }
+    ensures next { LeadsTo result (draft_seen draft.new) (reading.statement_next shape.now
+        (draft_seen draft.old) (token_named first.entry.token) first.entry.line (placed_all
+        tokens.now) (placed_all after.now)) }
+    ensures shorter { IfOk result (λ rest. length rest.now < length tokens.now) }
+{
+    match first.token {
+        Token::Keyword(Keyword::Count) => {
+            let rest = behind(&COUNT, tokens)?;
+            read_count(alloc, shape, draft, tokens)?;
+            Ok(rest)
+        }
+        Token::Keyword(Keyword::When) => {
+            pending::begin(&mut draft.condition, Frames::new(alloc));
+            expect(draft, Mode::Fact);
+            Ok(after)
+        }
+        Token::Keyword(Keyword::Otherwise) => {
+            let rest = behind(&OTHERWISE, tokens)?;
+            expect(draft, Mode::Done);
+            Ok(rest)
+        }
+        _ => Err(misplaced(first)),
+    }
+}
+
+// `not` or `(`, of which 32 may be open.
+fn read_opener<'a>(draft: &mut Draft, first: Placed<&'a str>)
+    ensures { draft_seen draft.new ≡ reading.with_fault_if (reading.too_deep (draft_seen
+        draft.old)) (out_of (placed_named first.entry)) (draft_seen draft.old) }
+{
+    let too_deep = draft.condition.depth >= MOST_DEPTH;
+    note_if(draft, too_deep, out_of_range(first));
+}
+
+// A test.
+fn read_test<'a>(
+    alloc: Global,
+    shape: &Shape,
+    draft: &mut Draft,
+    line: usize,
+    tokens: &[Placed<&'a str>],
+) -> Result<(), RuleFault>
+    ensures { Makes result (draft_seen draft.new) (reading.with_test line (tests.test_of
+        shape.now (placed_all tokens.now)) (draft_seen draft.old)) }
+{
+    match test_of(alloc, shape, tokens) {
+        Ok(test) => {
+            pending::test(&mut draft.condition, Step::Test { line, test })?;
+            Ok(())
+        }
+        Err(RuleFault::Memory) => Err(RuleFault::Memory),
+        Err(fault) => {
+            note(draft, fault);
+            Ok(())
+        }
+    }
+}
+
+// One phrase where a fact may stand.
+fn read_fact<'t, 'a>(
+    alloc: Global,
+    shape: &Shape,
+    draft: &mut Draft,
+    first: Placed<&'a str>,
+    tokens: &'t [Placed<&'a str>],
+    after: &'t [Placed<&'a str>],
+) -> Result<&'t [Placed<&'a str>], RuleFault>
+    requires { length after.now < length tokens.now }
+    ensures next { LeadsTo result (draft_seen draft.new) (reading.fact_next shape.now (draft_seen
+        draft.old) (token_named first.entry.token) (placed_named first.entry) (placed_all
+        tokens.now) (placed_all after.now)) }
+    ensures shorter { IfOk result (λ rest. length rest.now < length tokens.now) }
+{
+    match first.token {
+        Token::Keyword(Keyword::Not) => {
+            read_opener(draft, first);
+            pending::deny(&mut draft.condition);
+            Ok(after)
+        }
+        Token::Open => {
+            read_opener(draft, first);
+            pending::open(&mut draft.condition)?;
+            Ok(after)
+        }
+        token => {
+            let Some(wants) = test_phrase(token, part(tokens, 1).token) else {
+                return Err(misplaced(first));
+            };
+            let rest = behind(wants, tokens)?;
+            read_test(alloc, shape, draft, first.line, tokens)?;
+            expect(draft, Mode::Operator);
+            Ok(rest)
+        }
+    }
+}
+
+// The release behind `offer`.
+fn read_offer<'a>(
+    alloc: Global,
+    shape: &Shape,
+    draft: &mut Draft,
+    tokens: &[Placed<&'a str>],
+) -> Result<(), RuleFault>
+    requires { draft.old.noted ≡ None → IsCondition draft.old.condition.steps.items }
+    ensures { Makes result (draft_seen draft.new) (reading.offered (parts.release shape.now
+        (parts.part (placed_all tokens.now) 1)) (draft_seen draft.old)) }
+{
+    match release(shape, part(tokens, 1)) {
+        Ok(release) => Ok(add_when(alloc, draft, release)?),
+        Err(fault) => {
+            note(draft, fault);
+            Ok(())
+        }
+    }
+}
+
+// One phrase behind a fact.
+fn read_operator<'t, 'a>(
+    alloc: Global,
+    shape: &Shape,
+    draft: &mut Draft,
+    first: Placed<&'a str>,
+    tokens: &'t [Placed<&'a str>],
+    after: &'t [Placed<&'a str>],
+) -> Result<&'t [Placed<&'a str>], RuleFault>
+    requires shorter { length after.now < length tokens.now }
+    requires sound { draft.old.noted ≡ None → IsSoundAfter (seen draft.old.condition) }
+    ensures next { LeadsTo result (draft_seen draft.new) (reading.operator_next shape.now
+        (draft_seen draft.old) (token_named first.entry.token) first.entry.line (placed_all
+        tokens.now) (placed_all after.now)) }
+    ensures shorter { IfOk result (λ rest. length rest.now < length tokens.now) }
+{
+    match first.token {
+        Token::Keyword(Keyword::And) => {
+            pending::join(&mut draft.condition);
+            expect(draft, Mode::Fact);
+            Ok(after)
+        }
+        Token::Keyword(Keyword::Or) => {
+            pending::part(&mut draft.condition)?;
+            expect(draft, Mode::Fact);
+            Ok(after)
+        }
+        Token::Close => {
+            if pending::close(&mut draft.condition)? {
+                Ok(after)
+            } else {
+                Err(misplaced(first))
+            }
+        }
+        Token::Keyword(Keyword::Offer) => {
+            if !pending::end(&mut draft.condition)? {
+                return Err(misplaced(first));
+            }
+            let rest = behind(&OFFER, tokens)?;
+            read_offer(alloc, shape, draft, tokens)?;
+            expect(draft, Mode::Statement);
+            Ok(rest)
+        }
+        _ => Err(misplaced(first)),
+    }
+}
+
+// One phrase.
+#[tactic(auto, unfolding(crate::specs::Reading::next))]
+fn read_next<'t, 'a>(
+    alloc: Global,
+    shape: &Shape,
+    draft: &mut Draft,
+    tokens: &'t [Placed<&'a str>],
+) -> Result<&'t [Placed<&'a str>], RuleFault>
+    requires { IsSound (draft_seen draft.old) }
+    ensures next { LeadsTo result (draft_seen draft.new) (reading.next shape.now (draft_seen
+        draft.old) (placed_all tokens.now)) }
+    ensures shorter { IfOk result (λ rest. length rest.now < length tokens.now) }
+{
+    let [first, after @ ..] = tokens else {
+        return Err(RuleFault::At {
+            line: 0,
+            kind: RuleFaultKind::Shape,
+        });
+    };
+    match draft.mode {
+        Mode::Statement => read_statement(alloc, shape, draft, *first, tokens, after),
+        Mode::Fact => read_fact(alloc, shape, draft, *first, tokens, after),
+        Mode::Operator => read_operator(alloc, shape, draft, *first, tokens, after),
+        Mode::Done => Err(misplaced(*first)),
+    }
+}
+
+// One phrase at a place; it answers the place behind it.
+
+fn advance<'a>(
+    alloc: Global,
+    shape: &Shape,
+    draft: &mut Draft,
+    tokens: &[Placed<&'a str>],
+    place: usize,
+) -> Result<usize, RuleFault>
+    requires within { place ≤ length tokens.now }
+    requires sound { IsSound (draft_seen draft.old) }
+    ensures next { Advances result shape.now (draft_seen draft.old) (draft_seen draft.new)
+        (placed_all tokens.now) place }
+    ensures further { IfOk result (λ p. (place < p) × (p ≤ length tokens.now)) }
+{
+    let (_, rest) = tokens.split_at(place);
+    let behind = read_next(alloc, shape, draft, rest)?;
+    Ok(tokens.len() - behind.len())
+}
+
+fn is_done(mode: Mode) -> bool
+    ensures { result ≡ reading.is_done mode }
+{
+    match mode {
+        Mode::Done => true,
+        _ => false,
+    }
+}
+
+/// The rule of a text's tokens; or its first L2, else its first L3 or L4.
+pub fn read<'a>(alloc: Global, shape: &Shape, tokens: &[Placed<&'a str>]) -> Result<Rule, RuleFault>
+    ensures rule { IfOk result (λ r. reading.Reads shape.now reading.first_draft (placed_all
+        tokens.now) (Ok r)) }
+    ensures fault { IfErr result (IsReadFault shape.now (placed_all tokens.now)) }
+{
+    let mut draft = first_draft(alloc);
+    let mut place = 0;
+    while !is_done(draft.mode) {
+        match advance(alloc, shape, &mut draft, tokens, place) {
+            Ok(behind) => place = behind,
+            Err(fault) => return Err(fault),
+        }
+    }
+    match draft.noted {
+        Some(fault) => Err(fault),
+        None => Ok(Rule::of(draft.statements)),
+    }
+}
