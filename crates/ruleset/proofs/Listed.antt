@@ -1,19 +1,28 @@
 -- Apps in a list: what was found is offered, an appid has one program, and a list of appids at a
 -- place.
 use Rattle.std.proofs.Common.{◌≡◌, ◌<◌, ℕ, List, [], length, map, get_or, Option, Some, None, Bor}
-use Rattle.std.proofs.Common.{inl, inr, refl, sym, ap, subst, ◌∙◌, IfSome, Contains, arith}
+use Rattle.std.proofs.Common.{inl, inr, refl, sym, ap, subst, ◌∙◌, IfSome, All, Contains, arith}
 use Rattle.std.proofs.lemmas.List.{get_or-map, get_or_default, length-map}
+use Rattle.std.proofs.lemmas.List.Elements.{All-contains}
 use Rattle.std.proofs.lemmas.Bool.{cases_order}
 use Rattle.bpf_semantics.specs.Program.{ShapedProgram}
-use Rattle.ruleset.specs.Rules.{AppRule, HasTwice, appids_of}
+use Rattle.ruleset.specs.Rules.{Rules, AppRule, Offers, OffersSafely, HasTwice, AlwaysEndsWell, appids_of}
 
-pub offers_found : (apps : List AppRule) (appid : List ℕ) (o : Option (Bor AppRule))
-    → IfSome o (λ a. Contains apps a.now) → IfSome o (λ a. a.now.appid ≡ appid)
-    → IfSome o (λ a. Contains apps (record { appid = appid; program = a.now.program }))
-offers_found apps appid None listed is = tt
-offers_found apps appid (Some a) listed is =
-    let P : List ℕ → Type 0 =
-    λ t. Contains apps (record { appid = t; program = a.now.program }) in subst P is listed
+pub offers_found : (rules : Rules) (appid : List ℕ) (o : Option (Bor AppRule))
+    → IfSome o (λ a. Contains rules.apps a.now) → IfSome o (λ a. a.now.appid ≡ appid)
+    → IfSome o (λ a. Offers rules appid a.now.program)
+offers_found rules appid None listed is = tt
+offers_found rules appid (Some a) listed is = record {
+  app = a.now;
+  listed = listed;
+  appid_is = is;
+  program_is = refl;
+}
+
+pub offers_safely : (rules : Rules) → All (λ app. AlwaysEndsWell app.program) rules.apps
+    → OffersSafely rules
+offers_safely rules ends appid program offers = subst AlwaysEndsWell offers.program_is
+    (All-contains (λ app. AlwaysEndsWell app.program) rules.apps offers.app ends offers.listed)
 
 pub map_at : {X Y : Type 0} (f : X → Y) (xs : List X) (k : ℕ) (x : X) (d : Y) → k < length xs
     → x ≡ get_or xs k x → get_or (map f xs) k d ≡ f x
@@ -32,22 +41,26 @@ twice apps i j a b same apart within left right = record {
       (map_at (λ c. c.appid) apps j b [] within right);
 }
 
-pub one_program : (apps : List AppRule) → ¬ HasTwice (appids_of apps)
+-- where no appid stands twice, apps of one appid are one
+one_app : (apps : List AppRule) → ¬ HasTwice (appids_of apps) → (a b : AppRule)
+    → a.appid ≡ b.appid → Contains apps a → Contains apps b → a ≡ b
+one_app apps once a b same left right = elim (cases_order left.0 right.0) [
+  | inl here ↦
+      let at : a ≡ get_or apps left.0 b =
+      sym left.2 ∙ get_or_default apps left.0 a b left.1 in
+      at ∙ ap (λ (k : ℕ). get_or apps k b) here ∙ right.2
+  | inr apart ↦ elim apart [
+    | inl before ↦ absurd
+        (once (twice apps left.0 right.0 a b same before right.1 (sym left.2) (sym right.2)))
+    | inr after ↦ absurd
+        (once (twice apps right.0 left.0 b a (sym same) after left.1 (sym right.2) (sym left.2)))
+  ]
+]
+
+pub one_program : (rules : Rules) → ¬ HasTwice (appids_of rules.apps)
     → (appid : List ℕ) (p q : ShapedProgram)
-    → Contains apps (record { appid = appid; program = p })
-    → Contains apps (record { appid = appid; program = q }) → p ≡ q
-one_program apps once appid p q left right =
-    let a : AppRule = record { appid = appid; program = p } in
-    let b : AppRule = record { appid = appid; program = q } in
-    elim (cases_order left.0 right.0) [
-      | inl same ↦
-          let here : a ≡ get_or apps left.0 b =
-          sym left.2 ∙ get_or_default apps left.0 a b left.1 in
-          ap (λ (c : AppRule). c.program) (here ∙ ap (λ (k : ℕ). get_or apps k b) same ∙ right.2)
-      | inr apart ↦ elim apart [
-        | inl before ↦ absurd
-            (once (twice apps left.0 right.0 a b refl before right.1 (sym left.2) (sym right.2)))
-        | inr after ↦ absurd
-            (once (twice apps right.0 left.0 b a refl after left.1 (sym right.2) (sym left.2)))
-      ]
-    ]
+    → Offers rules appid p → Offers rules appid q → p ≡ q
+one_program rules once appid p q left right =
+    let same : left.app ≡ right.app = one_app rules.apps once left.app right.app
+    (left.appid_is ∙ sym right.appid_is) left.listed right.listed in
+    sym left.program_is ∙ ap (λ (a : AppRule). a.program) same ∙ right.program_is

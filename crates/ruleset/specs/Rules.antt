@@ -1,25 +1,29 @@
--- A ruleset: the apps that a server knows, in order, each with its program.
+-- A ruleset: the apps that a server knows, in order, each with its program and its releases.
 use Rattle.std.specs.Prelude.{◌≡◌, ℕ, ◌<◌, List, [], length, map, slice_index_or, All, Contains}
-use Rattle.std.specs.Prelude.{String, string_bytes}
-use Rattle.std.specs.Arc.{arc_value}
-use Rattle.std.specs.declared.alloc.Global.{Global}
-use Rattle.std.specs.declared.sync.Arc.{Arc}
+use Rattle.std.specs.Prelude.{Option}
+use Rattle.std.specs.List.{find}
+use Rattle.std.specs.Str.{bytes_eq}
 use Rattle.attrs.specs.Attributes.{Attributes}
 use Rattle.bpf_semantics.specs.State.{opening}
 use Rattle.bpf_semantics.specs.Program.{ShapedProgram}
 use Rattle.bpf_verify.specs.Covers.{EndsWell}
+use Rattle.releases.specs.Release.{Release}
 
 pub record AppRule : Type 0 where
   pub appid : List ℕ
   pub program : ShapedProgram
+  pub releases : List Release
 
 pub record Rules : Type 0 where
   pub server : List ℕ
   pub apps : List AppRule
 
 -- the ruleset lists the appid with this program
-abbrev pub Offers : Rules → List ℕ → ShapedProgram → Type 0
-Offers rules appid program = Contains rules.apps (record { appid = appid; program = program })
+pub record Offers (rules : Rules) (appid : List ℕ) (program : ShapedProgram) : Type 0 where
+  pub app : AppRule
+  pub listed : Contains rules.apps app
+  pub appid_is : app.appid ≡ appid
+  pub program_is : app.program ≡ program
 
 -- it has no program for the appid
 abbrev pub OffersNone : Rules → List ℕ → Type 0
@@ -30,15 +34,12 @@ abbrev pub OffersOne : Rules → Type 0
 OffersOne rules = (appid : List ℕ) (p q : ShapedProgram)
     → Offers rules appid p → Offers rules appid q → p ≡ q
 
--- an app as a ruleset is made of it: its appid and its program
-abbrev pub NewApp : Type 0
-NewApp = String Global × Arc ShapedProgram Global
+-- the app of an appid
+abbrev pub app_in : List AppRule → List ℕ → Option AppRule
+app_in apps appid = find (λ app. bytes_eq app.appid appid) apps
 
-abbrev pub texts_of : List NewApp → List (List ℕ)
-texts_of apps = map (λ a. string_bytes a.0) apps
-
-abbrev pub rules_of : List NewApp → List AppRule
-rules_of apps = map (λ a. record { appid = string_bytes a.0; program = arc_value a.1 }) apps
+abbrev pub app_of : Rules → List ℕ → Option AppRule
+app_of rules appid = app_in rules.apps appid
 
 abbrev pub appids_of : List AppRule → List (List ℕ)
 appids_of apps = map (λ a. a.appid) apps
@@ -65,6 +66,15 @@ AlwaysEndsWell program = (a : Attributes) → EndsWell program (opening a)
 abbrev pub OffersSafely : Rules → Type 0
 OffersSafely rules = (appid : List ℕ) (program : ShapedProgram)
     → Offers rules appid program → AlwaysEndsWell program
+
+-- a program's choices are the releases of its app
+abbrev pub HasReleases : ShapedProgram → List Release → Type 0
+HasReleases program releases = length releases ≡ program.shape.releases
+
+-- what an app keeps
+pub record IsApp (program : ShapedProgram) (releases : List Release) : Type 0 where
+  pub ends : AlwaysEndsWell program
+  pub all : HasReleases program releases
 
 -- what the apps of a ruleset keep
 pub record AreKept (apps : List AppRule) : Type 0 where

@@ -1,44 +1,66 @@
 //! One app of a ruleset.
 
-ghost use Rattle.std.specs.Prelude.{◌≡◌, IfOk};
+ghost use Rattle.std.specs.Prelude.{◌≡◌};
 ghost use Rattle.std.specs.Arc.{arc_value};
 
 use bpf_verify::Verified;
-use std::alloc::{AllocError, Global};
+use releases::Release;
 use std::marker::Model;
 use std::sync::Arc;
 
-/// An app and the program that decides which of its releases is offered. The program's shape has
-/// the number of its releases.
+/// An app, its releases, and the program that decides which of them is offered. The program's
+/// choices are their numbers, from 1 on.
 #[derive(Drop)]
 pub struct App {
     appid: String,
     program: Arc<Verified>,
+    releases: Vec<Release>,
 }
 
 impl Model for App {
     ghost use Rattle.std.specs.Prelude.{string_bytes};
     ghost use Rattle.std.specs.Arc.{arc_value};
-    ghost use Rattle.ruleset.specs.Rules.{AppRule};
+    ghost use Rattle.ruleset.specs.Rules.{AppRule, IsApp};
 
     ghost Value = { AppRule };
 
-    ghost view = { λ a. record { appid = string_bytes a.appid; program = arc_value a.program } };
+    ghost view = { λ a. record {
+      appid = string_bytes a.appid;
+      program = arc_value a.program;
+      releases = a.releases.items;
+    } };
+
+    ghost invariant = { λ a. IsApp (arc_value a.program) a.releases.items };
 }
 
 impl App {
     ghost use Rattle.std.specs.Prelude.{string_bytes};
-    ghost use Rattle.ruleset.specs.Rules.{AlwaysEndsWell};
+    ghost use Rattle.ruleset.specs.Rules.{AlwaysEndsWell, HasReleases};
 
-    /// The app of this appid, which runs this program. Every run of it ends, since it was verified.
-    pub fn new(appid: String, program: Arc<Verified>) -> App
+    /// The app of this appid, which runs this program to choose among these releases; it takes no
+    /// memory. The program's shape has as many releases.
+    pub fn new(appid: String, program: Arc<Verified>, releases: Vec<Release>) -> App
+        requires { HasReleases (arc_value program) releases.items }
         ensures appid { result.appid ≡ string_bytes appid }
         ensures program { result.program ≡ arc_value program }
-        ensures ends { AlwaysEndsWell result.program }
+        ensures releases { result.releases ≡ releases.items }
     {
         let accepted: &Verified = &program;
         accepted.keeps();
-        App { appid, program }
+        App {
+            appid,
+            program,
+            releases,
+        }
+    }
+
+    /// What the type keeps. It does nothing: a proof calls it for its clauses.
+    pub fn keeps(&self)
+        // Every run of its program ends, with 0 or one of its releases.
+        ensures ends { AlwaysEndsWell self.now.program }
+        ensures all { HasReleases self.now.program self.now.releases }
+    {
+        let _releases = &self.releases;
     }
 
     /// The text by which a client names the app.
@@ -55,10 +77,11 @@ impl App {
         &self.program
     }
 
-    /// How many releases it has, 0 to 64.
-    pub fn releases(&self) -> u8
-        ensures { result ≡ self.now.program.shape.releases }
+    /// Its releases, at most 64; a choice is the place of one, from 1 on.
+    pub fn releases(&self) -> &[Release]
+        ensures lent { result.now ≡ self.now.releases }
+        ensures all { HasReleases self.now.program result.now }
     {
-        self.program.shape().releases()
+        self.releases.as_slice()
     }
 }

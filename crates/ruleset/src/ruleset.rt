@@ -1,14 +1,12 @@
 //! The apps of a server, found by their appids.
 
-ghost use Rattle.std.specs.Prelude.{◌≡◌, ◌≢◌, ◌↔◌, [], IfOk, IfErr, IfSome, IfNone, All, Contains};
-ghost use Rattle.ruleset.specs.Rules.{AlwaysEndsWell, rules_of};
+ghost use Rattle.std.specs.Prelude.{◌≡◌, ◌≢◌, ◌↔◌, IfOk, IfErr, IfSome, IfNone, All, Contains};
+ghost use Rattle.std.specs.Prelude.{option_copied};
+ghost use Rattle.ruleset.specs.Rules.{AlwaysEndsWell, app_in};
 
 use crate::app::App;
 use crate::twice::has_twice;
-use bpf_verify::Verified;
-use std::alloc::Global;
 use std::marker::Model;
-use std::sync::Arc;
 use thiserror::Error;
 
 /// Why no ruleset was made.
@@ -42,24 +40,23 @@ impl Model for Ruleset {
 }
 
 impl Ruleset {
+    ghost use Rattle.std.specs.Prelude.{string_bytes};
     ghost use Rattle.ruleset.specs.Rules.{HasTwice, Offers, OffersNone, OffersOne, OffersSafely};
-    ghost use Rattle.ruleset.specs.Rules.{appids_of, rules_of, texts_of};
+    ghost use Rattle.ruleset.specs.Rules.{app_of, appids_of};
 
-    /// The ruleset of these apps, for a server with no name. M3 exactly where an appid stands
-    /// twice.
-    pub fn of(alloc: Global, apps: Vec<(String, Arc<Verified>)>) -> Result<Ruleset, LoadFault>
-        ensures apps { IfOk result (λ r. r.apps ≡ rules_of apps.items) }
-        ensures server { IfOk result (λ r. r.server ≡ []) }
-        ensures duplicate { (result ≡ Err LoadFault.Duplicate) ↔ HasTwice (texts_of apps.items) }
+    /// The ruleset of these apps, for a server of this name; it takes no memory. M3 exactly where
+    /// an appid stands twice, and nothing else.
+    pub fn new(server: String, apps: Vec<App>) -> Result<Ruleset, LoadFault>
+        ensures apps { IfOk result (λ r. r.apps ≡ apps.items) }
+        ensures server { IfOk result (λ r. r.server ≡ string_bytes server) }
+        ensures duplicate { (result ≡ Err LoadFault.Duplicate) ↔ HasTwice (appids_of apps.items) }
+        ensures fault { IfErr result (λ e. e ≡ LoadFault.Duplicate) }
     {
         if has_twice(apps.as_slice()) {
             return Err(LoadFault::Duplicate);
         }
-        let kept = keep(alloc, apps)?;
-        Ok(Ruleset {
-            server: String::new(alloc),
-            apps: kept,
-        })
+        all_end(apps.as_slice());
+        Ok(Ruleset { server, apps })
     }
 
     /// What the type keeps. It does nothing: a proof calls it for its clauses.
@@ -89,6 +86,7 @@ impl Ruleset {
 
     /// The app of an appid.
     pub fn find(&self, appid: &str) -> Option<&App>
+        ensures found { option_copied result ≡ app_of self.now appid.now }
         ensures appid { IfSome result (λ a. a.now.appid ≡ appid.now) }
         ensures offers { IfSome result (λ a. Offers self.now appid.now a.now.program) }
         ensures none { IfNone result (OffersNone self.now appid.now) }
@@ -99,24 +97,24 @@ impl Ruleset {
 
 // The first app of this appid.
 fn find_app<'a>(apps: &'a [App], appid: &str) -> Option<&'a App>
+    ensures first { option_copied result ≡ app_in apps.now appid.now }
     ensures found { IfSome result (λ a. Contains apps.now a.now) }
     ensures appid { IfSome result (λ a. a.now.appid ≡ appid.now) }
     ensures none { IfNone result (All (λ a. a.appid ≢ appid.now) apps.now) }
 {
-    apps.iter().find(|a| a.appid() == appid)
+    for app in apps {
+        if app.appid() == appid {
+            return Some(app);
+        }
+    }
+    None
 }
 
-// The apps, each with its program.
-fn keep(alloc: Global, apps: Vec<(String, Arc<Verified>)>) -> Result<Vec<App>, LoadFault>
-    ensures apps { IfOk result (λ kept. kept.items ≡ rules_of apps.items) }
-    ensures ends { IfOk result (λ kept. All (λ app. AlwaysEndsWell app.program) kept.items) }
-    ensures memory { IfErr result (λ e. e ≡ LoadFault.Memory) }
+// What each app keeps: the runs of its program end.
+fn all_end(apps: &[App])
+    ensures { All (λ app. AlwaysEndsWell app.program) apps.now }
 {
-    let mut kept: Vec<App> = Vec::with_capacity(alloc, apps.len()).map_err(|_| LoadFault::Memory)?;
-    for (appid, program) in apps {
-        let Ok(()) = kept.push(App::new(appid, program)) else {
-            return Err(LoadFault::Memory);
-        };
+    for app in apps {
+        app.keeps();
     }
-    Ok(kept)
 }

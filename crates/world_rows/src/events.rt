@@ -2,6 +2,7 @@
 
 ghost use Rattle.std.specs.Prelude.{◌<◌, ◌≤◌};
 
+use crate::apps::app_of;
 use attrs::Attrs;
 use bpf_text::assemble;
 use bpf_verify::{Verified, verify};
@@ -26,9 +27,8 @@ fn world_of(alloc: Global, workers: usize) -> Result<World, Fail>
     requires at_least { 1 ≤ workers }
     requires at_most { workers ≤ 64 }
 {
-    let appid = String::from_str(alloc, "x")?;
-    let apps = vec![in alloc; (appid, below_100(alloc)?)]?;
-    let rules = Arc::new(alloc, Ruleset::of(alloc, apps)?)?;
+    let apps = vec![in alloc; app_of(alloc, "x", below_100(alloc)?)?]?;
+    let rules = Arc::new(alloc, Ruleset::new(String::new(alloc), apps)?)?;
     Ok(World::new(alloc, workers, rules)?)
 }
 

@@ -3,6 +3,8 @@
 #![tactic(auto)]
 
 #[cfg(test)]
+mod apps;
+#[cfg(test)]
 mod events;
 #[cfg(test)]
 mod memory;

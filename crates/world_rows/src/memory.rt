@@ -4,6 +4,7 @@
 //! theirs is refused, which `rt try --test --fail-alloc N -- memory` does for each N
 //! (docs/PROVING.md).
 
+use crate::apps::app_of;
 use attrs::{AttrFault, Attrs};
 use bpf_insn::InsnFault;
 use bpf_text::{AsmFault, AsmFaultKind, ListFault, assemble, listing};
@@ -131,12 +132,12 @@ fn listings(rt: HostRuntime) -> Result<(), Fail> {
 fn rules_of(alloc: Global, appids: [&str; 2]) -> Result<Ruleset, LoadFault> {
     let mut apps = Vec::new(alloc);
     for appid in appids {
-        let appid = String::from_str(alloc, appid).map_err(|_| LoadFault::Memory)?;
         let program = below_100(alloc, 1).map_err(|_| LoadFault::Memory)?;
         let program = Arc::new(alloc, program).map_err(|_| LoadFault::Memory)?;
-        apps.push((appid, program)).map_err(|_| LoadFault::Memory)?;
+        let app = app_of(alloc, appid, program).map_err(|_| LoadFault::Memory)?;
+        apps.push(app).map_err(|_| LoadFault::Memory)?;
     }
-    Ruleset::of(alloc, apps)
+    Ruleset::new(String::new(alloc), apps)
 }
 
 #[test]

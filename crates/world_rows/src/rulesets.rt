@@ -2,31 +2,36 @@
 
 ghost use Rattle.std.specs.Prelude.{◌≤◌};
 
+use crate::apps::app_of;
 use bpf_text::assemble;
-use bpf_verify::{Verified, verify};
+use bpf_verify::verify;
 use cells::Shape;
 use flow_check::Flow;
-use ruleset::{LoadFault, Ruleset};
+use ruleset::{App, LoadFault, Ruleset};
 use std::alloc::Global;
 use std::sync::Arc;
 use std::test::Fail;
 
-fn app(alloc: Global, appid: &str, releases: u8) -> Result<(String, Arc<Verified>), Fail>
+fn app(alloc: Global, appid: &str, releases: u8) -> Result<App, Fail>
     requires { releases ≤ 64 }
 {
     let flow = Flow::check(alloc, &assemble(alloc, "mov r0, 0\nexit")?)?;
     let program = verify(alloc, flow, &Shape::plain(alloc, releases))?;
-    Ok((String::from_str(alloc, appid)?, Arc::new(alloc, program)?))
+    Ok(app_of(alloc, appid, Arc::new(alloc, program)?)?)
+}
+
+fn server(alloc: Global) -> Result<String, Fail> {
+    Ok(String::from_str(alloc, "prod")?)
 }
 
 #[test]
 fn apps_are_found(rt: HostRuntime) -> Result<(), Fail> {
     let apps = vec![in rt.alloc(); app(rt.alloc(), "x", 3)?, app(rt.alloc(), "y", 64)?]?;
-    let rules = Ruleset::of(rt.alloc(), apps)?;
+    let rules = Ruleset::new(server(rt.alloc())?, apps)?;
     assert_eq!(rt; rules.apps().len(), 2);
-    assert_eq!(rt; rules.server(), "");
-    assert_eq!(rt; rules.find("x").ok_or("no x")?.releases(), 3);
-    assert_eq!(rt; rules.find("y").ok_or("no y")?.releases(), 64);
+    assert_eq!(rt; rules.server(), "prod");
+    assert_eq!(rt; rules.find("x").ok_or("no x")?.releases().len(), 3);
+    assert_eq!(rt; rules.find("y").ok_or("no y")?.releases().len(), 64);
     assert!(rt; rules.find("z").is_none());
     Ok(())
 }
@@ -39,7 +44,7 @@ fn appids_stand_once(rt: HostRuntime) -> Result<(), Fail> {
         app(rt.alloc(), "x", 2)?,
     ]?;
     assert_eq!(rt;
-        Ruleset::of(rt.alloc(), apps).err(),
+        Ruleset::new(server(rt.alloc())?, apps).err(),
         Some(LoadFault::Duplicate)
     );
     Ok(())

@@ -1,6 +1,7 @@
 //! The counters of a world, and events in batches: what is read is the value that the counters
 //! have, and a list of events may be played in parts.
 
+use crate::apps::app_of;
 use attrs::Attrs;
 use bpf_text::assemble;
 use bpf_verify::verify;
@@ -19,9 +20,8 @@ fn world_of(alloc: Global) -> Result<World, Fail> {
     let code = assemble(alloc, BELOW_100)?;
     let flow = Flow::check(alloc, code.as_slice())?;
     let program = verify(alloc, flow, &Shape::plain(alloc, 1))?;
-    let appid = String::from_str(alloc, "x")?;
-    let apps = vec![in alloc; (appid, Arc::new(alloc, program)?)]?;
-    let rules = Arc::new(alloc, Ruleset::of(alloc, apps)?)?;
+    let apps = vec![in alloc; app_of(alloc, "x", Arc::new(alloc, program)?)?]?;
+    let rules = Arc::new(alloc, Ruleset::new(String::new(alloc), apps)?)?;
     Ok(World::new(alloc, 2, rules)?)
 }
 

@@ -3,8 +3,10 @@ use Rattle.bpf_semantics.specs.State.{opening}
 use Rattle.ruleset.specs.Rules.{AlwaysEndsWell}
 use Rattle.ruleset.proofs.app.App.new.Goals as goal
 
-pub returns-clause-ends : goal.returns-clause-ends
+pub invariant_of-result : goal.invariant_of-result
 unfolding AlwaysEndsWell
-returns-clause-ends c =
-    rw (← c.deref-accepted.ensures)
-    (λ a. c.keeps.ensures.ends (opening a) (c.keeps.ensures.opens a) (omega arith))
+invariant_of-result c = record {
+  ends = rw (← c.deref-accepted.ensures)
+      (λ a. c.keeps.ensures.ends (opening a) (c.keeps.ensures.opens a) (omega arith));
+  all = c.requires;
+}

@@ -3,4 +3,5 @@ use Rattle.ruleset.proofs.ruleset.Ruleset.find.Goals as goal
 
 pub returns-clause-offers : goal.returns-clause-offers
 returns-clause-offers c =
-    rw (← c.apps.ensures) (offers_found _ _ _ c.find_app.ensures.found c.find_app.ensures.appid)
+    offers_found c.args.self.now _ _ (rw c.apps.ensures at c.find_app.ensures.found)
+    c.find_app.ensures.appid
