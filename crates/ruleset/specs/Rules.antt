@@ -3,7 +3,7 @@ use Rattle.std.specs.Prelude.{◌≡◌, ℕ, ◌<◌, List, [], length, map, sl
 use Rattle.std.specs.Prelude.{Option}
 use Rattle.std.specs.List.{find}
 use Rattle.std.specs.Str.{bytes_eq}
-use Rattle.attrs.specs.Attributes.{Attributes}
+use Rattle.attrs.specs.Attributes.{Attributes, AreShort}
 use Rattle.bpf_semantics.specs.State.{opening}
 use Rattle.bpf_semantics.specs.Program.{ShapedProgram}
 use Rattle.bpf_verify.specs.Covers.{EndsWell}
@@ -58,9 +58,10 @@ pub record StandsBefore (appids : List (List ℕ)) (place : ℕ) : Type 0 where
   pub before : earlier < place
   pub same : slice_index_or appids earlier [] ≡ slice_index_or appids place []
 
--- whatever the attributes, a run of the program ends, with 0 or one of its releases
+-- whatever the attributes, whose texts are short, a run of the program ends, with 0 or one of its
+-- releases
 unfoldable pub AlwaysEndsWell : ShapedProgram → Type 0
-AlwaysEndsWell program = (a : Attributes) → EndsWell program (opening a)
+AlwaysEndsWell program = (a : Attributes) → AreShort a.texts → EndsWell program (opening a)
 
 -- every program that it offers ends well
 abbrev pub OffersSafely : Rules → Type 0

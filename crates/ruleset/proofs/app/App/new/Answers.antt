@@ -7,6 +7,6 @@ pub invariant_of-result : goal.invariant_of-result
 unfolding AlwaysEndsWell
 invariant_of-result c = record {
   ends = rw (← c.deref-accepted.ensures)
-      (λ a. c.keeps.ensures.ends (opening a) (c.keeps.ensures.opens a) (omega arith));
+      (λ a short. c.keeps.ensures.ends (opening a) (c.keeps.ensures.opens a short) (omega arith));
   all = c.requires;
 }
