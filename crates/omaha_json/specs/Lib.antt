@@ -1,1 +1,4 @@
+pub mod Reply
 pub mod Request
+pub mod Tokens
+pub mod Update

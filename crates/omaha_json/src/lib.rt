@@ -3,11 +3,16 @@
 //! runs came to, to the bytes of the reply.
 #![tactic(auto)]
 
+mod cohort;
 mod facts;
 mod fault;
 mod reading;
+mod reply;
 mod request;
+mod tokens;
+mod update;
 
 pub use fault::OmahaFault;
 pub use reading::read_request;
+pub use reply::reply_text;
 pub use request::Request;

@@ -1,0 +1,7 @@
+use Rattle.omaha_json.proofs.Added.{then_adds}
+use Rattle.omaha_json.proofs.reply.write_known.Goals as goal
+
+pub returns : goal.returns
+returns c =
+    rw (← c.as_str.ensures, ← c.told_cohort-cohort.ensures.value, ← c.as_text.ensures)
+    (then_adds c.in_ok-write_tokens.ensures c.in_ok-write_pinged.ensures)
