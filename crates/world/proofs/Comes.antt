@@ -4,7 +4,7 @@ use Rattle.std.proofs.Common.{sym, ap, subst}
 use Rattle.std.specs.Arc.{arc_value}
 use Rattle.std.proofs.lemmas.Bool.{cases_eq}
 use Rattle.std.specs.declared.sync.Arc.{Arc}
-use Rattle.attrs.specs.Attributes.{Attributes}
+use Rattle.attrs.specs.Attributes.{Attributes, AreShort}
 use Rattle.bpf_semantics.specs.Program.{ShapedProgram}
 use Rattle.bpf_semantics.specs.State.{opening}
 use Rattle.world.specs.World.{WorldState, Worker, Idle, Running, Ended, IsWorker, HasProgram}
@@ -51,6 +51,7 @@ pub record IsStart (w : WorldState) (k : ℕ) (y : Worker) (e : Event) (r : Answ
   pub event_is : e ≡ Start k attrs
   pub answer_is : r ≡ Ok effect.Started
   pub offered : HasProgram w.rulesets (newest w.rulesets) (appid_of (arc_value attrs)) program
+  pub texts_are_short : AreShort (arc_value attrs).texts
   pub after : y ≡ Running (newest w.rulesets) program (opening (arc_value attrs))
 
 -- what the worker comes to after an event it comes to from before it
@@ -96,6 +97,7 @@ started w u k x attrs h =
         answer_is = refl;
         offered =
             h.offered;
+        texts_are_short = h.texts_are_short;
         after = refl;
       });
     }

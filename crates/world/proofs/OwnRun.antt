@@ -4,7 +4,7 @@ use Rattle.std.proofs.Common.{◌⊎◌, inl, inr, refl, sym, ap, subst, arith}
 use Rattle.std.specs.Prelude.{slice_get}
 use Rattle.std.specs.Arc.{arc_value}
 use Rattle.std.specs.declared.sync.Arc.{Arc}
-use Rattle.attrs.specs.Attributes.{Attributes}
+use Rattle.attrs.specs.Attributes.{Attributes, AreShort}
 use Rattle.bpf_semantics.specs.Program.{ShapedProgram}
 use Rattle.bpf_semantics.specs.State.{opening}
 use Rattle.bpf_verify.specs.Covers.{EndsWell}
@@ -93,6 +93,7 @@ later_run w u k e r es rs place n c m h run = record {
   newest_is = run.newest_is;
   program = run.program;
   offered = run.offered;
+  texts_are_short = run.texts_are_short;
   ends = run.ends;
 }
 
@@ -117,6 +118,7 @@ started_run w u k y e r es rs place n c m h run here =
       offered =
           subst (λ (i : ℕ). HasProgram w.rulesets i (appid_of (arc_value run.attrs)) run.program)
           (sym comes.0) run.offered;
+      texts_are_short = run.texts_are_short;
       ends =
           later_end w u k e r (take place es) (take place rs) run.program
           (opening (arc_value run.attrs)) c m h
@@ -214,17 +216,17 @@ started_own_run w v k place number choice instructions es rs is plays finish =
 
 -- ---- what it chose
 
-opens_well : (program : ShapedProgram) (a : Attributes) → AlwaysEndsWell program
-    → EndsWell program (opening a)
+opens_well : (program : ShapedProgram) (a : Attributes) → AreShort a.texts
+    → AlwaysEndsWell program → EndsWell program (opening a)
 unfolding AlwaysEndsWell
-opens_well program a always = always a
+opens_well program a short always = always a short
 
 pub own_release : Laws → ChoosesItsRelease
 own_release law w k place number choice instructions es rs safe run =
     let a = arc_value run.attrs in
     let there = plays_safe law w run.world (take run.start es) (take run.start rs)
     (all_safe w safe) run.plays in
-    let well = opens_well run.program a (there.programs number (appid_of a) run.program run.offered)
+    let well = opens_well run.program a run.texts_are_short (there.programs number (appid_of a) run.program run.offered)
     in
     let events = since run.start place es in
     let answers = since run.start place rs in

@@ -3,7 +3,7 @@ use Rattle.std.proofs.Common.{◌≡◌, ℕ, zero, suc, ◌≤◌, List, [], �
 use Rattle.std.proofs.Common.{◌⊎◌, inl, inr, sym, subst}
 use Rattle.std.specs.Prelude.{slice_get, slice_set}
 use Rattle.std.specs.Arc.{arc_value}
-use Rattle.attrs.specs.Attributes.{Attributes}
+use Rattle.attrs.specs.Attributes.{Attributes, AreShort}
 use Rattle.bpf_semantics.specs.Program.{ShapedProgram}
 use Rattle.bpf_semantics.specs.State.{opening}
 use Rattle.bpf_semantics.specs.Step.{step}
@@ -94,10 +94,10 @@ safe_with w k y cells safe fit here = record {
 
 -- ---- one event, and a run of the world
 
-opens : (program : ShapedProgram) (a : Attributes) → AlwaysEndsWell program
+opens : (program : ShapedProgram) (a : Attributes) → AreShort a.texts → AlwaysEndsWell program
     → EndsWell program (opening a)
 unfolding AlwaysEndsWell
-opens program a always = always a
+opens program a short always = always a short
 
 steps_safe : Laws → (w v : WorldState) (k : ℕ) → AllSafe w → StepsRun w k v → AllSafe v
 steps_safe law w v k safe h =
@@ -119,7 +119,7 @@ happens_safe law w v (Start k attrs) (Ok effect.Started) safe h =
     let program = safe.programs (newest w.rulesets) (appid_of (arc_value attrs)) h.program h.offered
     in
     rw h.after (safe_with w k _ w.cells safe safe.cells
-    (h.offered, opens h.program (arc_value attrs) program))
+    (h.offered, opens h.program (arc_value attrs) h.texts_are_short program))
 happens_safe law w v (Step k) (Ok effect.Stepped) safe h = steps_safe law w v k safe h
 happens_safe law w v (Step k) (Ok (effect.Ended choice)) safe h =
     let worker = safe.workers k _ h.running in

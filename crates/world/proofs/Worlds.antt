@@ -205,6 +205,7 @@ opened parts k n attrs rules seat run within found empty newest_is number opens 
         idle = is_idle parts w k seat stands within found empty;
         offered = has_program parts w rules (appid_of (arc_value attrs)) run.program stands
             newest_is opens.offered;
+        texts_are_short = opens.texts_are_short;
         after = refl;
       },
       stands_with parts w parts.cells w.cells k (Taken run n None) next within stands stands.cells

@@ -1,7 +1,7 @@
 -- An event of the world and what comes of it, and a run of the world: events one after the other.
 use Rattle.std.specs.Prelude.{◌≡◌, ℕ, ◌+◌, ◌≤◌, List, [], ◌∷◌, length, Result, Ok, Err}
 use Rattle.std.specs.Arc.{arc_value}
-use Rattle.attrs.specs.Attributes.{Attributes}
+use Rattle.attrs.specs.Attributes.{Attributes, AreShort}
 use Rattle.bpf_semantics.specs.State.{State, opening}
 use Rattle.bpf_semantics.specs.Step.{step}
 use Rattle.bpf_semantics.specs.Outcome.{Outcome, Going, Done}
@@ -30,6 +30,7 @@ with_step w k outcome worker =
 -- a Start: the newest ruleset's program for the app, from its opening state
 pub record StartsRun (w : WorldState) (k : ℕ) (a : Attributes) (v : WorldState) : Type 0 where
   pub program : ShapedProgram
+  pub texts_are_short : AreShort a.texts
   pub idle : IsWorker w k Idle
   pub offered : HasProgram w.rulesets (newest w.rulesets) (appid_of a) program
   pub after : v ≡ with_worker w k (Running (newest w.rulesets) program (opening a))

@@ -4,7 +4,7 @@ use Rattle.std.specs.Prelude.{◌⊎◌}
 use Rattle.std.specs.declared.alloc.Global.{Global}
 use Rattle.std.specs.Arc.{arc_value}
 use Rattle.std.specs.declared.sync.Arc.{Arc}
-use Rattle.attrs.specs.Attributes.{Attributes}
+use Rattle.attrs.specs.Attributes.{Attributes, AreShort}
 use Rattle.bpf_semantics.specs.State.{opening}
 use Rattle.bpf_semantics.specs.Program.{ShapedProgram}
 use Rattle.world.specs.World.{WorldState, Worker, Idle, Running, Ended, IsWorker, HasProgram}
@@ -54,6 +54,7 @@ pub record IsOwnRun (w : WorldState) (k : ℕ) (events : List Event) (answers : 
   pub newest_is : number ≡ newest world.rulesets
   pub program : ShapedProgram
   pub offered : HasProgram world.rulesets number (appid_of (arc_value attrs)) program
+  pub texts_are_short : AreShort (arc_value attrs).texts
   pub ends : EndsDuring world k (since start place events) (since start place answers)
       program (opening (arc_value attrs)) choice instructions
 

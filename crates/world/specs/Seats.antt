@@ -1,6 +1,6 @@
 -- What a seat stands for, what it keeps, and what a step and a finish make of it.
 use Rattle.std.specs.Prelude.{◌≡◌, ℕ, ◌+◌, ◌≤◌, List, length, Some, None, false, Result, Ok, Err}
-use Rattle.attrs.specs.Attributes.{Attributes}
+use Rattle.attrs.specs.Attributes.{Attributes, AreShort}
 use Rattle.bpf_semantics.specs.State.{State, opening}
 use Rattle.bpf_semantics.specs.Step.{step}
 use Rattle.bpf_semantics.specs.Outcome.{Going, Done}
@@ -131,6 +131,7 @@ StaysOffered before after = (rulesets : List Rules)
 -- the ruleset's program for the app, at its opening state
 pub record IsOpened (rules : Rules) (a : Attributes) (run : Held) : Type 0 where
   pub offered : Offers rules (appid_of a) run.program
+  pub texts_are_short : AreShort a.texts
   pub attributes_are : run.attributes ≡ a
   pub stands : machine.RunStandsFor run (opening a)
   pub goes : GoesWell run

@@ -165,6 +165,8 @@ fn open_run(rules: &Ruleset, attrs: &Arc<Attrs>) -> Result<Run, WorldFault>
     let Ok(attrs) = Arc::try_clone(attrs) else {
         return Err(WorldFault::Memory);
     };
+    let sent: &Attrs = &attrs;
+    sent.keeps();
     let run = Run::start(program, attrs);
     run.keeps();
     Ok(run)

@@ -2,8 +2,14 @@ use Rattle.std.proofs.Common.{rules, ◌≡◌, Err, length, refl, sym, ◌∙�
 use Rattle.std.proofs.lemmas.List.{length-map}
 use Rattle.std.specs.Arc.{arc_value}
 use Rattle.world.proofs.Opening.{inside_of}
-use Rattle.world.proofs.Worlds.{unopened, opened}
+use Rattle.world.proofs.Worlds.{busy, unopened, opened}
 use Rattle.world.proofs.world.World.start.Goals as goal
+
+pub returns-then-is_taken-clause-happens : goal.returns-then-is_taken-clause-happens
+returns-then-is_taken-clause-happens c =
+    rw (← c.self.view_is)
+    (busy (inside_of c.self.inside) c.args.worker c.args.attrs.now c.index.result.now (search rules)
+    c.index.ensures (c.if-is_taken.ensures.taken refl))
 
 pub returns-in_err-run-clause-happens : goal.returns-in_err-run-clause-happens
 returns-in_err-run-clause-happens c =
