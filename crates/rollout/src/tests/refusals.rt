@@ -130,8 +130,8 @@ const RULES: [Refused; 9] = [
         "refused V9 NotAddress at slot 1\n",
     ),
     (
-        "not_judged",
-        Text("mov r2, r1\nmov r0, 0\nexit"),
+        "unknown_helper",
+        Text("call 9\nmov r0, 0\nexit"),
         "refused V10 Helper at slot 0\n",
     ),
 ];
