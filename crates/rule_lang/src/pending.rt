@@ -3,7 +3,7 @@
 ghost use Rattle.std.specs.Prelude.{◌≡◌, ◌++◌, ◌∷◌, [], OnOk, replicate, if◌then◌else◌};
 ghost use Rattle.rule_lang.specs.Drafts as drafts;
 ghost use Rattle.rule_lang.specs.Named.{seen};
-ghost use Rattle.rule_lang.specs.declared.condition.Step.TheVariants.{Not as not};
+ghost use Rattle.rule_lang.specs.declared.condition.Step.TheVariants as step;
 
 use crate::condition::Step;
 use crate::frame::{Frame, Frames, first_frame};
@@ -42,7 +42,7 @@ fn push_if(steps: &mut Vec<Step>, holds: bool, step: Step) -> Result<(), AllocEr
 }
 
 fn push_nots(steps: &mut Vec<Step>, count: u8) -> Result<(), AllocError>
-    ensures { OnOk result (steps.new.items ≡ steps.old.items ++ replicate count not) }
+    ensures { OnOk result (steps.new.items ≡ steps.old.items ++ replicate count step.Not) }
 {
     for _ in 0..count {
         push(steps, Step::Not)?;
