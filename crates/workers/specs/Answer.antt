@@ -1,0 +1,78 @@
+-- Which reply a request has, and which events on counters its runs make: a constructor an outcome.
+-- Those for want of memory are open, since nobody knows when memory is refused; every other refusal
+-- is the one that the bytes have.
+use Rattle.std.specs.Prelude.{◌≡◌, ℕ, ℤ, List, [], Option, Some, Result, Ok, Err, Vec}
+use Rattle.cells.specs.declared.event.CellEvent.{CellEvent}
+use Rattle.hot_swap.specs.Latest.{Latest, IsLatest}
+use Rattle.http_front.specs.Faults.{status_of}
+use Rattle.http_front.specs.Post.{Answers}
+use Rattle.http_front.specs.declared.fault.PostFault.{PostFault}
+use Rattle.http_front.specs.declared.status.Status.{Status}
+use Rattle.omaha_json.specs.Request.{Request, request_in}
+use Rattle.omaha_json.specs.Reply.{reply_text}
+use Rattle.omaha_json.specs.declared.fault.OmahaFault.{OmahaFault}
+use Rattle.omaha_json.specs.declared.fault.OmahaFault.TheVariants as omaha
+use Rattle.ruleset.specs.Rules.{Rules}
+use Rattle.workers.specs.Apps.{Grows, RunsApps, RunsFew}
+use Rattle.workers.specs.Reply.{Reply, success, rejection, post_name, omaha_rejection, no_place, reply_of}
+use Rattle.workers.specs.declared.answering.AnswerFault.{AnswerFault}
+use Rattle.workers.specs.declared.answering.AnswerFault.TheVariants as answer
+
+-- of a request, under the ruleset that the watcher saw last
+pub data RepliesToRequest (request : Request) (watcher : Latest) (moment : ℤ)
+    : List CellEvent → Reply → Type 0 where
+  -- Omaha's reply: all apps are answered under one ruleset, each by the choice of its run
+  replied : {generation : ℕ} {rules : Rules} {choices : List (Option ℕ)} {events : List CellEvent}
+      → IsLatest watcher generation rules
+      → RunsApps rules request.facts moment request.apps choices events
+      → RepliesToRequest request watcher moment events
+      (success (reply_text request rules choices moment))
+  -- the ruleset has no room for one more owner
+  unowned : RepliesToRequest request watcher moment [] no_place
+  -- memory is refused after the runs of the first few apps, each of which was made to its end
+  broken_off : {generation : ℕ} {rules : Rules} {events : List CellEvent}
+      → IsLatest watcher generation rules
+      → RunsFew rules request.facts moment request.apps events
+      → RepliesToRequest request watcher moment events (omaha_rejection omaha.Memory)
+
+-- of a body
+pub data RepliesToBody (body : List ℕ) (watcher : Latest) (moment : ℤ)
+    : List CellEvent → Reply → Type 0 where
+  asked : {request : Request} {events : List CellEvent} {reply : Reply}
+      → request_in body ≡ Ok request → RepliesToRequest request watcher moment events reply
+      → RepliesToBody body watcher moment events reply
+  -- it is no request
+  refused : (fault : OmahaFault) → request_in body ≡ Err fault
+      → RepliesToBody body watcher moment [] (omaha_rejection fault)
+  -- memory is refused as it is read
+  unread : RepliesToBody body watcher moment [] (omaha_rejection omaha.Memory)
+
+-- of the bytes of a reader, where it tells them
+pub data RepliesTo (told : Option (List ℕ)) (watcher : Latest) (moment : ℤ)
+    : List CellEvent → Reply → Type 0 where
+  taken : {events : List CellEvent} {reply : Reply} (body : List ℕ) → Answers told (Ok body)
+      → RepliesToBody body watcher moment events reply
+      → RepliesTo told watcher moment events reply
+  -- there is no body to read, and the client is told why
+  rejected : (fault : PostFault) (status : Status) → Answers told (Err fault)
+      → status_of fault ≡ Some status
+      → RepliesTo told watcher moment [] (rejection status (post_name fault))
+
+-- the faults after which nothing is written
+abbrev pub IsUnread : AnswerFault → Type 0
+IsUnread answer.Ended = Unit {0}
+IsUnread answer.Reading = Unit {0}
+IsUnread (answer.Writing written) = ⊥
+
+-- the reply is that to the bytes of the reader, and the pass grew by the events of its runs
+module _ {P : Type 0} (grew : P → CellEvent → P → Type 0) where
+  abbrev pub IsReplyTo : Option (List ℕ) → Latest → ℤ → P → P → Reply → Type 0
+  IsReplyTo told watcher moment before after reply =
+      Grows grew before after (λ events. RepliesTo told watcher moment events reply)
+
+  -- what was found before anything is written: the reply, or that there is none
+  abbrev pub Settles : {A : Type 0} → Option (List ℕ) → Latest → ℤ → P → P
+      → Result (Result (Vec ℕ A) Reply) AnswerFault → Type 0
+  Settles told watcher moment before after (Ok outcome) =
+      IsReplyTo told watcher moment before after (reply_of outcome)
+  Settles told watcher moment before after (Err e) = IsUnread e × (after ≡ before)

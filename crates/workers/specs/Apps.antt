@@ -1,0 +1,44 @@
+-- The runs of a request: which of its apps have one, what it gives, and all of them one after the
+-- other.
+use Rattle.std.specs.Prelude.{◌≡◌, ℕ, ℤ, false, true, List, [], ◌∷◌, ◌++◌, take, Option, Some, None}
+use Rattle.attrs.specs.Facts.{attributes_of}
+use Rattle.attrs.specs.declared.facts.AppFacts.{AppFacts}
+use Rattle.attrs.specs.declared.facts.RequestFacts.{RequestFacts}
+use Rattle.bpf_semantics.specs.Run.{Ends}
+use Rattle.bpf_semantics.specs.State.{opening}
+use Rattle.cells.specs.Grown.{GrewBy}
+use Rattle.cells.specs.declared.event.CellEvent.{CellEvent}
+use Rattle.ruleset.specs.Rules.{AppRule, Rules, app_of}
+
+module _ (rules : Rules) (facts : RequestFacts) (moment : ℤ) where
+  -- one app, with the choice of its run, if it has one, and the events that the run made
+  pub data RunsApp (app : AppFacts) : Option ℕ → List CellEvent → Type 0 where
+    -- no run where it asks for no update
+    unasked : app.updatecheck ≡ false → RunsApp app None []
+    -- nor where the ruleset doesn't know it
+    unknown : app_of rules app.appid ≡ None → RunsApp app None []
+    -- else one run of its program, on its attributes at the moment, to its end
+    ran : {choice : ℕ} {events : List CellEvent} (known : AppRule) (count : ℕ)
+        → app.updatecheck ≡ true → app_of rules app.appid ≡ Some known
+        → Ends known.program (opening (attributes_of app facts moment)) events choice count
+        → RunsApp app (Some choice) events
+
+  -- app after app, with their choices, and their events one after the other
+  pub data RunsApps : List AppFacts → List (Option ℕ) → List CellEvent → Type 0 where
+    none : RunsApps [] [] []
+    then : {apps : List AppFacts} {choices : List (Option ℕ)} {before : List CellEvent}
+        {app : AppFacts} {choice : Option ℕ} {events : List CellEvent}
+        → RunsApps apps choices before → RunsApp app choice events
+        → RunsApps (apps ++ app ∷ []) (choices ++ choice ∷ []) (before ++ events)
+
+  -- the first few of these apps
+  abbrev pub RunsFew : List AppFacts → List CellEvent → Type 0
+  RunsFew apps events =
+      (few : ℕ) × (choices : List (Option ℕ)) × RunsApps (take few apps) choices events
+
+-- the pass grew by events of which this holds
+module _ {P : Type 0} (grew : P → CellEvent → P → Type 0) where
+  pub record Grows (before after : P) (Of : List CellEvent → Type 0) : Type 0 where
+    pub events : List CellEvent
+    pub grown : GrewBy grew before events after
+    pub of : Of events

@@ -1,0 +1,3 @@
+pub mod Apps
+pub mod Reply
+pub mod Answer

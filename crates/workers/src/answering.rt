@@ -1,0 +1,141 @@
+// One request, from the bytes of a reader to those of a writer.
+
+ghost use Rattle.std.specs.Prelude.{◌≡◌, ◌≢◌, ◌+◌, ◌-◌, ◌^◌, ◌<◌, ◌≤◌, ℕ};
+ghost use Rattle.std.specs.Prelude.{Ok, Err, length, take, IfOk, IfErr};
+ghost use Rattle.std.specs.Io.KnownBytes.{Appends};
+ghost use Rattle.hot_swap.specs.Latest.{GoesOnwards};
+ghost use Rattle.http_front.specs.Device.{CountsFailure, WritesBeginning};
+ghost use Rattle.http_front.specs.Post.{Answers};
+ghost use Rattle.http_front.specs.Reply.{code_of};
+ghost use Rattle.http_front.specs.declared.fault.PostFault.TheVariants as fault;
+ghost use Rattle.workers.specs.Answer.{IsReplyTo, IsUnread, Settles};
+ghost use Rattle.workers.specs.Reply.{Reply, bytes_of, reply_of};
+
+use crate::judging::judge;
+use crate::rejection::Rejection;
+use attrs::Moment;
+use cells::CellSteps;
+use hot_swap::Watcher;
+use http_front::{Counted, PostFault, Status, WriteFault, read_post, write_reply};
+use std::alloc::Global;
+use std::io::{Read, Write};
+use std::sync::Wait;
+use thiserror::Error;
+
+/// Why no whole reply was written.
+#[derive(Clone, Copy, Debug, Drop, Error, PartialEq, Eq)]
+pub enum AnswerFault {
+    /// The input ended before the request did. Nothing was written.
+    #[error("P7 Ended")]
+    Ended,
+    /// The reader failed. Nothing was written.
+    #[error("P8 Device")]
+    Reading,
+    /// The writer failed after it took so many bytes, which are a beginning of the reply.
+    #[error("P8 Device")]
+    Writing(usize),
+}
+
+/// Reads a request, answers it, and gives the status of the reply.
+pub fn answer<H: Wait, R: Read, W: Write, C: CellSteps>(
+    rt: &H,
+    alloc: Global,
+    reader: &mut Counted<R>,
+    writer: &mut Counted<W>,
+    cells: &C,
+    pass: &mut C::Pass,
+    watcher: &mut Watcher,
+    moment: Moment,
+) -> Result<u16, AnswerFault>
+    requires belongs { C.belongs cells.now pass.old }
+    requires reads { reader.old.failures < 2 ^ 64 - 1 }
+    requires writes { writer.old.failures < 2 ^ 64 - 1 }
+    ensures belongs { C.belongs cells.now pass.new }
+    ensures watched { GoesOnwards watcher.old watcher.new }
+
+    // What was written is the reply to what was read, under the ruleset that the watcher gave.
+    ensures replied { IfOk result (λ n. (reply : Reply) × (code_of reply.status ≡ n)
+        × IsReplyTo C.grew (R.remaining reader.old.inner) watcher.new moment pass.old pass.new reply
+        × Appends (W.contents writer.old.inner) (W.contents writer.new.inner) (bytes_of reply)) }
+    // A request that isn't one makes no run.
+    ensures idle { IfOk result (λ n. n ≢ 200 → n ≢ 500 → pass.new ≡ pass.old) }
+
+    // Or a beginning of it was written.
+    ensures begun { (n : ℕ) → result ≡ Err (AnswerFault.Writing n)
+        → (reply : Reply) × (n ≤ length (bytes_of reply))
+        × IsReplyTo C.grew (R.remaining reader.old.inner) watcher.new moment pass.old pass.new reply
+        × Appends (W.contents writer.old.inner) (W.contents writer.new.inner)
+        (take n (bytes_of reply)) }
+    ensures unwritable { (n : ℕ) → result ≡ Err (AnswerFault.Writing n)
+        → writer.new.failures ≡ writer.old.failures + 1 }
+
+    // Or nothing was, and nothing else happened.
+    ensures unread { IfErr result
+        (λ e. IsUnread e → (pass.new ≡ pass.old) × (writer.new ≡ writer.old)) }
+    ensures ended { result ≡ Err AnswerFault.Ended
+        → Answers (R.remaining reader.old.inner) (Err fault.Ended) }
+    ensures unreadable { result ≡ Err AnswerFault.Reading
+        → reader.new.failures ≡ reader.old.failures + 1 }
+{
+    let outcome = settle(rt, alloc, reader, cells, pass, watcher, &moment)?;
+    match send(writer, &outcome) {
+        Ok(status) => Ok(status),
+        Err(WriteFault { written }) => Err(AnswerFault::Writing(written)),
+    }
+}
+
+// Reads a request, and finds its reply.
+fn settle<H: Wait, R: Read, C: CellSteps>(
+    rt: &H,
+    alloc: Global,
+    reader: &mut Counted<R>,
+    cells: &C,
+    pass: &mut C::Pass,
+    watcher: &mut Watcher,
+    moment: &Moment,
+) -> Result<Result<Vec<u8>, Rejection>, AnswerFault>
+    requires belongs { C.belongs cells.now pass.old }
+    requires reads { reader.old.failures < 2 ^ 64 - 1 }
+    ensures belongs { C.belongs cells.now pass.new }
+    ensures watched { GoesOnwards watcher.old watcher.new }
+    ensures settles { Settles C.grew (R.remaining reader.old.inner) watcher.new moment.now
+        pass.old pass.new result }
+    ensures ended { result ≡ Err AnswerFault.Ended
+        → Answers (R.remaining reader.old.inner) (Err fault.Ended) }
+    ensures unreadable { result ≡ Err AnswerFault.Reading
+        → reader.new.failures ≡ reader.old.failures + 1 }
+{
+    let fault = match read_post(alloc, reader) {
+        Ok(body) => {
+            let outcome = judge(rt, alloc, body.as_slice(), cells, pass, watcher, moment);
+            return Ok(outcome);
+        }
+        Err(fault) => fault,
+    };
+    match fault.status() {
+        Some(status) => Ok(Err(Rejection::of_post(fault, status))),
+        None => Err(match fault {
+            PostFault::Ended => AnswerFault::Ended,
+            _ => AnswerFault::Reading,
+        }),
+    }
+}
+
+// Writes the reply, and gives its status.
+fn send<W: Write>(
+    writer: &mut Counted<W>,
+    outcome: &Result<Vec<u8>, Rejection>,
+) -> Result<u16, WriteFault>
+    requires { writer.old.failures < 2 ^ 64 - 1 }
+    ensures status { IfOk result (λ n. code_of (reply_of outcome.now).status ≡ n) }
+    ensures bytes { WritesBeginning (W.contents writer.old.inner) (W.contents writer.new.inner)
+        (bytes_of (reply_of outcome.now)) result }
+    ensures count { CountsFailure writer.old.failures writer.new.failures result }
+{
+    let (status, text) = match outcome {
+        Ok(text) => (Status::Success, text.as_slice()),
+        Err(rejection) => (rejection.status(), rejection.line()),
+    };
+    write_reply(writer, status, text)?;
+    Ok(status.code())
+}

@@ -1,0 +1,92 @@
+// A connection that has to be done by a time. Before each read and write the socket's time-out is
+// set to what is left until then, so that a client that sends a byte now and then is dropped as
+// one that sends none.
+
+use std::io::{self, ErrorKind, Read, Write};
+use std::net::{Shutdown, TcpStream};
+use std::time::{Clock, Duration, Instant};
+
+/// How long a client may go on sending after a refusal.
+const DRAIN_SECONDS: u64 = 1;
+
+/// One direction of a connection.
+#[derive(Drop)]
+pub struct Timed<'a, R: Clock> {
+    stream: &'a TcpStream,
+    clock: &'a R,
+    until: Instant,
+    bytes: u64,
+}
+
+impl<'a, R: Clock> Timed<'a, R> {
+    /// A direction that ends at that time.
+    pub fn new(stream: &'a TcpStream, clock: &'a R, until: Instant) -> Timed<'a, R> {
+        Timed {
+            stream,
+            clock,
+            until,
+            bytes: 0,
+        }
+    }
+
+    /// How many bytes went this way.
+    pub fn bytes(&self) -> u64 {
+        self.bytes
+    }
+
+    // How long it is until the end.
+    fn left(&self) -> io::Result<Duration> {
+        let now = Instant::now(self.clock)?;
+        match self.until.checked_duration_since(now) {
+            Some(left) => Ok(left),
+            None => Err(io::Error::from(ErrorKind::TimedOut)),
+        }
+    }
+
+    // Counts the bytes of a call.
+    fn count(&mut self, n: usize) {
+        self.bytes = self.bytes.saturating_add(n as u64);
+    }
+}
+
+impl<R: Clock> Read for Timed<'_, R> {
+    fn read(&mut self, buf: &mut [u8]) -> io::Result<usize> {
+        let left = self.left()?;
+        self.stream.set_read_timeout(Some(left))?;
+        let n = self.stream.read(buf)?;
+        self.count(n);
+        Ok(n)
+    }
+}
+
+impl<R: Clock> Write for Timed<'_, R> {
+    fn write(&mut self, buf: &[u8]) -> io::Result<usize> {
+        let left = self.left()?;
+        self.stream.set_write_timeout(Some(left))?;
+        let n = self.stream.write(buf)?;
+        self.count(n);
+        Ok(n)
+    }
+
+    fn flush(&mut self) -> io::Result<()> {
+        Ok(())
+    }
+}
+
+/// Reads what a client goes on to send after its reply, for at most a second: a socket that is
+/// closed with bytes unread is reset, and the reply may be lost with it.
+pub fn drain<R: Clock>(stream: &TcpStream, clock: &R) -> io::Result<()> {
+    stream.shutdown(Shutdown::Write)?;
+    let now = Instant::now(clock)?;
+    let Some(until) = now.checked_add(Duration::from_secs(DRAIN_SECONDS)) else {
+        return Ok(());
+    };
+    let mut rest = Timed::new(stream, clock, until);
+    let mut buf = [0; 4096];
+    for _ in 0..u64::MAX {
+        if rest.read(&mut buf)? == 0 {
+            break;
+        }
+    }
+    Ok(())
+}

@@ -1,0 +1,19 @@
+// What a server does round each of its answers.
+
+/// What is called before and after each answer, by the worker that makes it. Calls are numbered
+/// from 1 in the order in which their connections were accepted.
+pub trait Gate {
+    fn before(&self, call: u64);
+
+    fn after(&self, call: u64);
+}
+
+/// A gate that does nothing.
+#[derive(Clone, Copy, Debug, PartialEq, Eq)]
+pub struct Open;
+
+impl Gate for Open {
+    fn before(&self, _call: u64) {}
+
+    fn after(&self, _call: u64) {}
+}

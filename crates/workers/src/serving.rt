@@ -1,0 +1,198 @@
+// One thread accepts connections, and the workers answer them. The connections go through a
+// channel with 64 places; who gets which is nobody's promise.
+
+ghost use Rattle.std.specs.Prelude.{All};
+
+use crate::answering::answer;
+use crate::connection::{Timed, drain};
+use crate::gate::Gate;
+use crate::log::note;
+use cells::CellSteps;
+use crossbeam_channel::{Receiver, Sender};
+use hot_swap::Watcher;
+use http_front::Counted;
+use std::net::{TcpListener, TcpStream};
+use std::sync::Wait;
+use std::sync::atomic::{AtomicBool, Ordering};
+use std::thread::Threads;
+use std::time::{Clock, Duration, Instant, SystemTime, UNIX_EPOCH};
+use std::{io, thread};
+use thiserror::Error;
+
+/// How many accepted connections may wait for a worker.
+const WAITING: usize = 64;
+
+/// Why a server doesn't serve.
+#[derive(Clone, Copy, Debug, Drop, Error, PartialEq, Eq)]
+pub enum ServeFault {
+    /// Memory, or a thread, was refused.
+    #[error("B4 Memory")]
+    Memory,
+}
+
+/// A connection with its number, from 1 on.
+#[derive(Drop)]
+struct Call {
+    number: u64,
+    stream: TcpStream,
+}
+
+/// How a server serves.
+#[derive(Clone, Copy, Debug)]
+pub struct Service {
+    /// How long a connection may last.
+    pub timeout: Duration,
+    /// Whether each connection has a line of the log, on standard error.
+    pub log: bool,
+}
+
+/// Answers each connection within the limit of time, until `stop` is set and one more connection
+/// comes, which isn't answered; those that were accepted before are. Each pair of a pass and a
+/// watcher is a worker of its own.
+pub fn serve<H, G, C>(
+    rt: &H,
+    gate: &G,
+    listener: TcpListener,
+    cells: &C,
+    workers: Vec<(C::Pass, Watcher)>,
+    stop: &AtomicBool,
+    service: Service,
+) -> Result<(), ServeFault>
+where
+    H: Threads + Wait + AllocGlobal + Clock + Eprint + Sync,
+    G: Gate + Sync,
+    C: CellSteps + Sync,
+    C::Pass: Send + Drop,
+    requires { All (λ worker. C.belongs cells.now worker.0) workers.items }
+{
+    let Ok((to, from)) = crossbeam_channel::bounded::<Call, _>(rt.alloc(), WAITING) else {
+        return Err(ServeFault::Memory);
+    };
+    thread::scope(
+        thread::scope_env(),
+        rt,
+        |scope|
+            requires { All (λ worker. C.belongs cells.now worker.0) workers.items }
+        {
+            let mut made = Ok(());
+            for (pass, watcher) in workers {
+                match from.clone() {
+                    Ok(mine) => {
+                        let job = move ||
+                            requires { C.belongs cells.now pass }
+                        { work(rt, gate, mine, cells, pass, watcher, service) };
+                        if scope.spawn(job).is_err() {
+                            made = Err(ServeFault::Memory);
+                        }
+                    }
+                    Err(_) => made = Err(ServeFault::Memory),
+                }
+            }
+            drop(from);
+            if made.is_ok() {
+                accept(rt, &listener, &to, stop);
+            }
+            drop(to);
+            made
+        },
+    )
+}
+
+// Hands each connection to the workers. One that can't be accepted is passed over.
+fn accept<H: Wait>(rt: &H, listener: &TcpListener, to: &Sender<Call>, stop: &AtomicBool) {
+    let mut number = 0u64;
+    for stream in listener.incoming() {
+        if stop.load(Ordering::SeqCst) {
+            break;
+        }
+        if let Ok(stream) = stream {
+            number = number.saturating_add(1);
+            if to.send(rt, Call { number, stream }).is_err() {
+                break;
+            }
+        }
+    }
+}
+
+// Answers until the channel is closed.
+fn work<H, G, C>(
+    rt: &H,
+    gate: &G,
+    from: Receiver<Call>,
+    cells: &C,
+    mut pass: C::Pass,
+    mut watcher: Watcher,
+    service: Service,
+)
+where
+    H: Wait + AllocGlobal + Clock + Eprint,
+    G: Gate,
+    C: CellSteps,
+    C::Pass: Drop,
+    requires { C.belongs cells.now pass }
+{
+    for call in from.iter(rt) {
+        gate.before(call.number);
+        let _attended = attend(rt, &call.stream, cells, &mut pass, &mut watcher, service);
+        gate.after(call.number);
+    }
+}
+
+// Answers one connection.
+fn attend<H, C>(
+    rt: &H,
+    stream: &TcpStream,
+    cells: &C,
+    pass: &mut C::Pass,
+    watcher: &mut Watcher,
+    service: Service,
+) -> io::Result<()>
+where
+    H: Wait + AllocGlobal + Clock + Eprint,
+    C: CellSteps,
+    requires { C.belongs cells.now pass.old }
+    ensures { C.belongs cells.now pass.new }
+{
+    let begun = Instant::now(rt)?;
+    let Some(until) = begun.checked_add(service.timeout) else {
+        return Ok(());
+    };
+    let mut reader = Counted::new(Timed::new(stream, rt, until));
+    let mut writer = Counted::new(Timed::new(stream, rt, until));
+    let moment = unix_second(rt);
+    let outcome = answer(
+        rt,
+        rt.alloc(),
+        &mut reader,
+        &mut writer,
+        cells,
+        pass,
+        watcher,
+        moment,
+    );
+    if service.log {
+        let _noted = note(
+            rt,
+            stream,
+            moment,
+            outcome,
+            writer.into_inner().bytes(),
+            begun,
+        );
+    }
+    match outcome {
+        Ok(200) | Err(_) => Ok(()),
+        Ok(_) => drain(stream, rt),
+    }
+}
+
+// The second by the clock; 0 where it can't be read, which counts as the first of 2007.
+fn unix_second<H: Clock>(rt: &H) -> i64 {
+    let Ok(now) = SystemTime::now(rt) else {
+        return 0;
+    };
+    match now.duration_since(UNIX_EPOCH) {
+        Ok(since) => i64::try_from(since.as_secs()).unwrap_or(0),
+        Err(_) => 0,
+    }
+}
