@@ -91,16 +91,30 @@ impl Entries {
             return Ok(());
         };
         if is_lookup_check(&self.here, insn) {
-            let mut edge = self.here;
-            if jump_in(&mut edge, insn) {
-                self.waiting.add(target, &edge)?;
-            }
-            return Ok(());
+            return self.jump_at_check(target, insn);
         }
         let compared = Compared::of(&self.here, insn);
         if jump_in(&mut self.here, insn) {
             self.waiting.add(target, &self.here)?;
             compared.restore(&mut self.here);
+        }
+        Ok(())
+    }
+
+    /// The same where the jump checks what a lookup gave. Each copy of that answer changes, so the
+    /// edge gets an entry of its own, which no other instruction is to have room for.
+    #[inline(never)]
+    fn jump_at_check(&mut self, target: usize, insn: &Insn) -> Result<(), AllocError>
+        requires { target < length self.old.waiting.entries }
+        ensures here { OnOk result (self.new.here ≡ self.old.here) }
+        ensures live { OnOk result (self.new.is_live ≡ self.old.is_live) }
+        ensures added { OnOk result (IsAdded (Some target) (jumping self.old.here insn.now)
+            self.old.waiting self.new.waiting) }
+        ensures most { OnErr result (self.new.waiting.most ≡ self.old.waiting.most) }
+    {
+        let mut edge = self.here;
+        if jump_in(&mut edge, insn) {
+            self.waiting.add(target, &edge)?;
         }
         Ok(())
     }

@@ -62,6 +62,7 @@ impl Pool {
     }
 
     /// Lets an entry wait for a place for which none does.
+    #[inline(never)]
     fn put(&mut self, place: usize, entry: &AbsState) -> Result<(), AllocError>
         requires within { place < length self.old.entries }
         requires none { waits_at self.old place ≡ None }
