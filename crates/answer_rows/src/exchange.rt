@@ -1,0 +1,167 @@
+//! A server over memory, with a ruleset, a watcher and cells; and one exchange with it.
+
+ghost use Rattle.std.specs.Prelude.{◌≡◌, IfOk, length};
+
+use attrs::Text;
+use bpf_text::assemble;
+use bpf_verify::{Verified, verify};
+use cells::{PlainCells, PlainPass, Shape};
+use flow_check::Flow;
+use hot_swap::{Publisher, Watcher};
+use http_front::{Counted, FailAt};
+use releases::{Package, Release};
+use ruleset::{App, Ruleset};
+use std::alloc::{AllocError, Global};
+use std::process::Abort;
+use std::sync::{Arc, Wait};
+use std::test::Fail;
+use workers::{AnswerFault, answer};
+
+/// 2026-03-02 01:00:00 UTC, which is day 7000 and second 3600 of Omaha's count.
+pub const MOMENT: i64 = 1772413200;
+
+/// Offers nothing.
+pub const NOTHING: &str = "mov r0, 0\nexit";
+
+/// Offers the first release to the buckets below 2000.
+pub const BELOW_2000: &str =
+    "ldxh r2, [r1+16]\nmov r0, 0\njge r2, 2000, end\nmov r0, 1\nend:\nexit";
+
+const HASH: &str = "ba7816bf8f01cfea414140de5dae2223b00361a396177a9cb410ff61f20015ad";
+
+fn release(alloc: Global) -> Result<Release, AllocError> {
+    let package = Package::new(
+        Text::new(String::from_str(alloc, "x.bin")?),
+        Text::new(String::from_str(alloc, HASH)?),
+        3,
+        true,
+    );
+    let packages = vec![in alloc; package]?;
+    Ok(Release::new(
+        Text::new(String::from_str(alloc, "2.0.0.0")?),
+        Text::new(String::from_str(alloc, "http://dl.example/")?),
+        packages,
+    ))
+}
+
+fn releases(alloc: Global, count: u8) -> Result<Vec<Release>, AllocError>
+    ensures { IfOk result (λ releases. length releases.items ≡ count) }
+{
+    let mut releases = Vec::new(alloc);
+    for _i in 0..count {
+        releases.push(release(alloc)?)?;
+    }
+    Ok(releases)
+}
+
+fn app_of(alloc: Global, appid: &str, program: Arc<Verified>) -> Result<App, AllocError> {
+    let accepted: &Verified = &program;
+    let releases = releases(alloc, accepted.shape().releases())?;
+    Ok(App::new(String::from_str(alloc, appid)?, program, releases))
+}
+
+fn app(alloc: Global, appid: &str, text: &str) -> Result<App, Fail> {
+    let flow = Flow::check(alloc, &assemble(alloc, text)?)?;
+    let program = verify(alloc, flow, &Shape::plain(alloc, 1))?;
+    Ok(app_of(alloc, appid, Arc::new(alloc, program)?)?)
+}
+
+/// The ruleset of a server `prod` that knows the app `x`, which has one release and this program.
+pub fn rules(alloc: Global, text: &str) -> Result<Arc<Ruleset>, Fail> {
+    let apps = vec![in alloc; app(alloc, "x", text)?]?;
+    let server = String::from_str(alloc, "prod")?;
+    Ok(Arc::new(alloc, Ruleset::new(server, apps)?)?)
+}
+
+/// A server with one worker.
+#[derive(Drop)]
+pub struct Server {
+    pub publisher: Publisher,
+    pub watcher: Watcher,
+    pub cells: PlainCells,
+    pub pass: PlainPass,
+}
+
+/// The server whose app `x` has this program.
+pub fn server_of(alloc: Global, text: &str) -> Result<Server, Fail> {
+    let mut publisher = Publisher::new(alloc, rules(alloc, text)?, 1)?;
+    let watcher = publisher.watcher()?;
+    let (cells, pass) = PlainCells::new(alloc)?;
+    Ok(Server {
+        publisher,
+        watcher,
+        cells,
+        pass,
+    })
+}
+
+/// How a device behaves: how many bytes it takes a call, and which call fails, if any (from 1).
+#[derive(Clone, Copy)]
+pub struct Device {
+    pub piece: usize,
+    pub fails: u64,
+}
+
+/// A device that takes what it is given.
+pub const WHOLE: Device = Device {
+    piece: 1_000_000,
+    fails: 0,
+};
+
+/// What came of a request, and what was written.
+#[derive(Drop)]
+pub struct Heard {
+    pub outcome: Result<u16, AnswerFault>,
+    pub written: Vec<u8>,
+}
+
+/// One request to the server.
+pub fn exchange<H: Wait>(
+    rt: &H,
+    alloc: Global,
+    server: &mut Server,
+    input: &[u8],
+    reads: Device,
+    writes: Device,
+) -> Heard {
+    let mut reader = Counted::new(FailAt::new(input, reads.piece, reads.fails));
+    let mut writer = Counted::new(FailAt::new(Vec::new(alloc), writes.piece, writes.fails));
+    let outcome = answer(
+        rt,
+        alloc,
+        &mut reader,
+        &mut writer,
+        &server.cells,
+        &mut server.pass,
+        &mut server.watcher,
+        MOMENT,
+    );
+    Heard {
+        outcome,
+        written: writer.into_inner().into_inner(),
+    }
+}
+
+/// A POST of a body, with its head.
+pub fn post(alloc: Global, body: &str) -> Result<Vec<u8>, AllocError> {
+    let size = body.len();
+    let text = format!(in alloc;
+        "POST /service/update2/json HTTP/1.1\r\nHost: h\r\nContent-Length: {size}\r\n\r\n{body}"
+    )?;
+    Ok(text.into_bytes())
+}
+
+/// The bytes of a reply of status 200.
+pub fn success(alloc: Global, text: &str) -> Result<Vec<u8>, AllocError> {
+    let size = text.len();
+    let reply = format!(in alloc;
+        "HTTP/1.1 200 OK\r\nContent-Type: application/json; charset=utf-8\r\n\
+            Content-Length: {size}\r\nConnection: close\r\n\r\n{text}"
+    )?;
+    Ok(reply.into_bytes())
+}
+
+/// Asserts that these are the bytes.
+pub fn same<A: Abort>(rt: &A, name: &str, written: &[u8], wanted: &[u8]) {
+    assert!(rt; written == wanted, "{name}");
+}
