@@ -1,5 +1,5 @@
-//! V6 to V9 and V12: accesses outside their region, stores of pointers, and accesses through what is no
-//! address.
+//! V6 to V9 and V12: accesses outside their region, stores of pointers, and accesses through what
+//! is no address.
 
 use crate::row::{Arrays, row, wrong};
 use std::test::Fail;

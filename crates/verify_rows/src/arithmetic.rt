@@ -1,4 +1,5 @@
-//! Arithmetic on ranges, and V13: each formula held against both sides of its bound, by the releases.
+//! Arithmetic on ranges, and V13: each formula held against both sides of its bound, by the
+//! releases.
 
 use crate::row::{Arrays, row, wrong};
 use std::test::Fail;

@@ -107,7 +107,10 @@ fn texts(rt: HostRuntime) -> Result<(), Fail> {
         ),
         row(
             "the length is 65",
-            "stdw [r10-72], 1 / stdw [r10-64], 1 / stdw [r10-56], 1 / stdw [r10-48], 1 / stdw [r10-40], 1 / stdw [r10-32], 1 / stdw [r10-24], 1 / stdw [r10-16], 1 / stdw [r10-8], 1 / mov r1, 1 / mov r2, r10 / add r2, -72 / mov r3, 65 / call 2 / mov r0, 0 / exit",
+            "stdw [r10-72], 1 / stdw [r10-64], 1 / stdw [r10-56], 1 / stdw [r10-48], 1 / \
+            stdw [r10-40], 1 / stdw [r10-32], 1 / stdw [r10-24], 1 / stdw [r10-16], 1 / \
+            stdw [r10-8], 1 / mov r1, 1 / mov r2, r10 / add r2, -72 / mov r3, 65 / call 2 / \
+            mov r0, 0 / exit",
             0,
             "V10 Helper at slot 13",
         ),
@@ -125,7 +128,8 @@ fn texts(rt: HostRuntime) -> Result<(), Fail> {
         ),
         row(
             "past the stack's end",
-            "stb [r10-1], 1 / mov r1, 1 / mov r2, r10 / add r2, -1 / mov r3, 2 / call 2 / mov r0, 0 / exit",
+            "stb [r10-1], 1 / mov r1, 1 / mov r2, r10 / add r2, -1 / mov r3, 2 / call 2 / \
+            mov r0, 0 / exit",
             0,
             "V10 Helper at slot 5",
         ),
@@ -137,13 +141,16 @@ fn texts(rt: HostRuntime) -> Result<(), Fail> {
         ),
         row(
             "the last of two isn't set",
-            "stb [r10-8], 1 / mov r1, 1 / mov r2, r10 / add r2, -8 / mov r3, 2 / call 2 / mov r0, 0 / exit",
+            "stb [r10-8], 1 / mov r1, 1 / mov r2, r10 / add r2, -8 / mov r3, 2 / call 2 / \
+            mov r0, 0 / exit",
             0,
             "V1 Unusable at slot 5",
         ),
         row(
             "64 bytes",
-            "stdw [r10-64], 1 / stdw [r10-56], 1 / stdw [r10-48], 1 / stdw [r10-40], 1 / stdw [r10-32], 1 / stdw [r10-24], 1 / stdw [r10-16], 1 / stdw [r10-8], 1 / mov r1, 1 / mov r2, r10 / add r2, -64 / mov r3, 64 / call 2 / mov r0, 0 / exit",
+            "stdw [r10-64], 1 / stdw [r10-56], 1 / stdw [r10-48], 1 / stdw [r10-40], 1 / \
+            stdw [r10-32], 1 / stdw [r10-24], 1 / stdw [r10-16], 1 / stdw [r10-8], 1 / \
+            mov r1, 1 / mov r2, r10 / add r2, -64 / mov r3, 64 / call 2 / mov r0, 0 / exit",
             0,
             "ok",
         ),

@@ -1,5 +1,5 @@
-//! How many entries are kept at once: the one at hand, and one for each target ahead to which an edge
-//! leads that isn't dropped.
+//! How many entries are kept at once: the one at hand, and one for each target ahead to which an
+//! edge leads that isn't dropped.
 
 use crate::row::{Arrays, Case, judged, row};
 use std::test::Fail;
@@ -24,7 +24,8 @@ fn counts(rt: HostRuntime) -> Result<(), Fail> {
         kept("straight code", "mov r0, 0 / exit", "ok", 1),
         kept(
             "a lookup that is checked",
-            "ldmap r1, 0 / mov r2, 4 / call 1 / jeq r0, 0, +2 / mov r0, 1 / exit / mov r0, 2 / exit",
+            "ldmap r1, 0 / mov r2, 4 / call 1 / jeq r0, 0, +2 / mov r0, 1 / exit / mov r0, 2 / \
+            exit",
             "ok",
             2,
         ),
@@ -43,13 +44,15 @@ fn counts(rt: HostRuntime) -> Result<(), Fail> {
         ),
         kept(
             "two jumps to two targets",
-            "mov r0, 0 / ldxb r2, [r1+18] / jgt r2, 5, +2 / jlt r2, 3, +2 / mov r0, 1 / mov r0, 2 / exit",
+            "mov r0, 0 / ldxb r2, [r1+18] / jgt r2, 5, +2 / jlt r2, 3, +2 / mov r0, 1 / \
+            mov r0, 2 / exit",
             "ok",
             3,
         ),
         kept(
             "one diamond after another",
-            "mov r0, 0 / ldxb r2, [r1+18] / jgt r2, 5, +1 / mov r0, 1 / jgt r2, 9, +1 / mov r0, 2 / exit",
+            "mov r0, 0 / ldxb r2, [r1+18] / jgt r2, 5, +1 / mov r0, 1 / jgt r2, 9, +1 / \
+            mov r0, 2 / exit",
             "ok",
             2,
         ),

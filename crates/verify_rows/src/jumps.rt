@@ -278,13 +278,15 @@ fn dropped(rt: HostRuntime) -> Result<(), Fail> {
         ),
         row(
             "ranges that don't meet",
-            "ldxb r2, [r1+18] / and r2, 7 / mov r3, 8 / jne r2, r3, +1 / mov r4, r5 / mov r0, 0 / exit",
+            "ldxb r2, [r1+18] / and r2, 7 / mov r3, 8 / jne r2, r3, +1 / mov r4, r5 / \
+            mov r0, 0 / exit",
             0,
             "ok",
         ),
         row(
             "ranges that meet",
-            "ldxb r2, [r1+18] / and r2, 7 / mov r3, 7 / jne r2, r3, +1 / mov r4, r5 / mov r0, 0 / exit",
+            "ldxb r2, [r1+18] / and r2, 7 / mov r3, 7 / jne r2, r3, +1 / mov r4, r5 / \
+            mov r0, 0 / exit",
             0,
             "V1 Unusable at slot 4",
         ),
@@ -329,13 +331,15 @@ fn joined(rt: HostRuntime) -> Result<(), Fail> {
         ),
         row(
             "three paths",
-            "mov r0, 3 / ldxb r2, [r1+18] / jeq r2, 1, +4 / mov r0, 2 / jeq r2, 2, +2 / mov r0, 1 / ja +0 / exit",
+            "mov r0, 3 / ldxb r2, [r1+18] / jeq r2, 1, +4 / mov r0, 2 / jeq r2, 2, +2 / \
+            mov r0, 1 / ja +0 / exit",
             3,
             "ok",
         ),
         row(
             "three paths, the first too high",
-            "mov r0, 3 / ldxb r2, [r1+18] / jeq r2, 1, +4 / mov r0, 2 / jeq r2, 2, +2 / mov r0, 1 / ja +0 / exit",
+            "mov r0, 3 / ldxb r2, [r1+18] / jeq r2, 1, +4 / mov r0, 2 / jeq r2, 2, +2 / \
+            mov r0, 1 / ja +0 / exit",
             2,
             "V13 Result at slot 7",
         ),

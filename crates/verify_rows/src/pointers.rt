@@ -236,7 +236,8 @@ fn moves_in_the_context(rt: HostRuntime) -> Result<(), Fail> {
         ),
         row(
             "by a wide number's signed view",
-            "add r1, 8 / lddw r2, 0xfffffffffffffff8 / add r1, r2 / ldxdw r3, [r1+56] / mov r0, 0 / exit",
+            "add r1, 8 / lddw r2, 0xfffffffffffffff8 / add r1, r2 / ldxdw r3, [r1+56] / \
+            mov r0, 0 / exit",
             0,
             "ok",
         ),
@@ -248,7 +249,8 @@ fn moves_in_the_context(rt: HostRuntime) -> Result<(), Fail> {
         ),
         row(
             "by a range to the end",
-            "ldxb r2, [r1+18] / rsh r2, 2 / add r2, 1 / add r1, r2 / ldxb r3, [r1-1] / mov r0, 0 / exit",
+            "ldxb r2, [r1+18] / rsh r2, 2 / add r2, 1 / add r1, r2 / ldxb r3, [r1-1] / \
+            mov r0, 0 / exit",
             0,
             "ok",
         ),

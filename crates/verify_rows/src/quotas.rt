@@ -113,13 +113,15 @@ fn of_a_lookup(rt: HostRuntime) -> Result<(), Fail> {
     let rows = [
         row(
             "a load",
-            "ldmap r1, 0 / mov r2, 0 / call 1 / jeq r0, 0, +1 / ldxdw r3, [r0+0] / mov r0, 0 / exit",
+            "ldmap r1, 0 / mov r2, 0 / call 1 / jeq r0, 0, +1 / ldxdw r3, [r0+0] / mov r0, 0 / \
+            exit",
             0,
             "ok",
         ),
         row(
             "a fetch-add of 1",
-            "ldmap r1, 0 / mov r2, 0 / call 1 / mov r2, 1 / jeq r0, 0, +1 / fadddw [r0+0], r2 / mov r0, 0 / exit",
+            "ldmap r1, 0 / mov r2, 0 / call 1 / mov r2, 1 / jeq r0, 0, +1 / fadddw [r0+0], r2 / \
+            mov r0, 0 / exit",
             0,
             "ok",
         ),

@@ -1,9 +1,9 @@
-//! A case of a table: a program, and the verdict on it. A program's lines are divided by ` / `, which
-//! is no text of the assembler.
+//! A case of a table: a program, and the verdict on it. A program's lines are divided by ` / `,
+//! which is no text of the assembler.
 
 use bpf_text::assemble;
 use bpf_verify::{Shape, verify_counted};
-use cells::{CellWidth, Directory};
+use cells::{ArrayNo, CellWidth, Directory};
 use flow_check::Flow;
 use std::alloc::Global;
 use std::test::Fail;
@@ -39,16 +39,26 @@ pub fn row(name: &'static str, program: &'static str, releases: u8, verdict: &'s
 
 fn shape_of(alloc: Global, releases: u8, arrays: Arrays) -> Result<Shape, Fail> {
     let mut all = Directory::new(alloc);
-    let wide = all.declare(alloc, "a", CellWidth::Bits64, 4, None)?;
-    let narrow = all.declare(alloc, "b", CellWidth::Bits32, 1, None)?;
-    let quota = all.declare(alloc, "q", CellWidth::Bits64, 1, Some(2))?;
+    let _wide = all.declare(alloc, "a", CellWidth::Bits64, 4, None)?;
+    let _narrow = all.declare(alloc, "b", CellWidth::Bits32, 1, None)?;
+    let _quota = all.declare(alloc, "q", CellWidth::Bits64, 1, Some(2))?;
     let releases = releases.min(64);
+    if all.arrays().len() < 3 {
+        return Ok(Shape::plain(alloc, releases));
+    }
     let shape = match arrays {
         Arrays::Nothing => Shape::plain(alloc, releases),
-        Arrays::Wide => Shape::of(alloc, releases, &all, &[wide])?,
-        Arrays::Narrow => Shape::of(alloc, releases, &all, &[narrow])?,
-        Arrays::Quota => Shape::of(alloc, releases, &all, &[quota])?,
-        Arrays::All => Shape::of(alloc, releases, &all, &[wide, narrow, quota])?,
+        Arrays::Wide => Shape::of(alloc, releases, &all, &[ArrayNo { number: 0 }])?,
+        Arrays::Narrow => Shape::of(alloc, releases, &all, &[ArrayNo { number: 1 }])?,
+        Arrays::Quota => Shape::of(alloc, releases, &all, &[ArrayNo { number: 2 }])?,
+        Arrays::All => {
+            let numbers = [
+                ArrayNo { number: 0 },
+                ArrayNo { number: 1 },
+                ArrayNo { number: 2 },
+            ];
+            Shape::of(alloc, releases, &all, &numbers)?
+        }
     };
     Ok(shape)
 }

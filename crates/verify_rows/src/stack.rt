@@ -80,19 +80,22 @@ fn set_bytes(rt: HostRuntime) -> Result<(), Fail> {
         ),
         row(
             "set on one of two paths",
-            "ldxb r2, [r1+18] / jeq r2, 0, +1 / stb [r10-1], 1 / ldxb r3, [r10-1] / mov r0, 0 / exit",
+            "ldxb r2, [r1+18] / jeq r2, 0, +1 / stb [r10-1], 1 / ldxb r3, [r10-1] / mov r0, 0 / \
+            exit",
             0,
             "V1 Unusable at slot 3",
         ),
         row(
             "set on both paths, by different stores",
-            "ldxb r2, [r1+18] / jeq r2, 0, +2 / stdw [r10-8], 1 / ja +1 / stw [r10-8], 1 / ldxw r3, [r10-8] / mov r0, 0 / exit",
+            "ldxb r2, [r1+18] / jeq r2, 0, +2 / stdw [r10-8], 1 / ja +1 / stw [r10-8], 1 / \
+            ldxw r3, [r10-8] / mov r0, 0 / exit",
             0,
             "ok",
         ),
         row(
             "set on both paths, and one byte more",
-            "ldxb r2, [r1+18] / jeq r2, 0, +2 / stdw [r10-8], 1 / ja +1 / stw [r10-8], 1 / ldxw r3, [r10-7] / mov r0, 0 / exit",
+            "ldxb r2, [r1+18] / jeq r2, 0, +2 / stdw [r10-8], 1 / ja +1 / stw [r10-8], 1 / \
+            ldxw r3, [r10-7] / mov r0, 0 / exit",
             0,
             "V1 Unusable at slot 5",
         ),
@@ -185,25 +188,29 @@ fn kept_values(rt: HostRuntime) -> Result<(), Fail> {
         ),
         row(
             "kept on both paths",
-            "ldxb r2, [r1+18] / jeq r2, 0, +2 / stdw [r10-8], 3 / ja +1 / stdw [r10-8], 5 / ldxdw r0, [r10-8] / exit",
+            "ldxb r2, [r1+18] / jeq r2, 0, +2 / stdw [r10-8], 3 / ja +1 / stdw [r10-8], 5 / \
+            ldxdw r0, [r10-8] / exit",
             5,
             "ok",
         ),
         row(
             "kept on both paths, the higher too high",
-            "ldxb r2, [r1+18] / jeq r2, 0, +2 / stdw [r10-8], 3 / ja +1 / stdw [r10-8], 5 / ldxdw r0, [r10-8] / exit",
+            "ldxb r2, [r1+18] / jeq r2, 0, +2 / stdw [r10-8], 3 / ja +1 / stdw [r10-8], 5 / \
+            ldxdw r0, [r10-8] / exit",
             4,
             "V13 Result at slot 6",
         ),
         row(
             "kinds that differ on two paths",
-            "ldxb r2, [r1+18] / jeq r2, 0, +2 / stdw [r10-8], 3 / ja +1 / stxdw [r10-8], r1 / ldxdw r3, [r10-8] / ldxb r4, [r3+0] / mov r0, 0 / exit",
+            "ldxb r2, [r1+18] / jeq r2, 0, +2 / stdw [r10-8], 3 / ja +1 / stxdw [r10-8], r1 / \
+            ldxdw r3, [r10-8] / ldxb r4, [r3+0] / mov r0, 0 / exit",
             0,
             "V9 NotAddress at slot 6",
         ),
         row(
             "kinds that differ are any number",
-            "ldxb r2, [r1+18] / jeq r2, 0, +2 / stdw [r10-8], 3 / ja +1 / stxdw [r10-8], r1 / ldxdw r0, [r10-8] / and r0, 7 / exit",
+            "ldxb r2, [r1+18] / jeq r2, 0, +2 / stdw [r10-8], 3 / ja +1 / stxdw [r10-8], r1 / \
+            ldxdw r0, [r10-8] / and r0, 7 / exit",
             7,
             "ok",
         ),

@@ -138,7 +138,8 @@ fn jumps(rt: HostRuntime) -> Result<(), Fail> {
         ),
         row(
             "places in the stack that differ on two paths",
-            "ldxh r2, [r1+16] / mov r3, r10 / jge r2, 100, +1 / add r3, -8 / stb [r3-8], 1 / mov r0, 0 / exit",
+            "ldxh r2, [r1+16] / mov r3, r10 / jge r2, 100, +1 / add r3, -8 / stb [r3-8], 1 / \
+            mov r0, 0 / exit",
             1,
             "V1 Unusable at slot 4",
         ),

@@ -53,7 +53,8 @@ fn without_arrays(rt: HostRuntime) -> Result<(), Fail> {
         ),
         row(
             "a byte over a pointer",
-            "stxdw [r10-8], r1 / stb [r10-8], 0 / ldxdw r2, [r10-8] / ldxb r3, [r2+0] / mov r0, 0 / exit",
+            "stxdw [r10-8], r1 / stb [r10-8], 0 / ldxdw r2, [r10-8] / ldxb r3, [r2+0] / \
+            mov r0, 0 / exit",
             0,
             "V9 NotAddress at slot 3",
         ),
@@ -110,7 +111,8 @@ fn with_wide_cells(rt: HostRuntime) -> Result<(), Fail> {
     let rows = [
         row(
             "a lookup, and a release either way",
-            "ldmap r1, 0 / mov r2, 4 / call 1 / jeq r0, 0, +2 / mov r0, 1 / exit / mov r0, 2 / exit",
+            "ldmap r1, 0 / mov r2, 4 / call 1 / jeq r0, 0, +2 / mov r0, 1 / exit / mov r0, 2 / \
+            exit",
             2,
             "ok",
         ),
@@ -122,13 +124,15 @@ fn with_wide_cells(rt: HostRuntime) -> Result<(), Fail> {
         ),
         row(
             "a copy is checked with the other",
-            "ldmap r1, 0 / mov r2, 0 / call 1 / mov r6, r0 / jeq r0, 0, +1 / ldxdw r3, [r6+0] / mov r0, 0 / exit",
+            "ldmap r1, 0 / mov r2, 0 / call 1 / mov r6, r0 / jeq r0, 0, +1 / ldxdw r3, [r6+0] / \
+            mov r0, 0 / exit",
             0,
             "ok",
         ),
         row(
             "a copy on the edge of 0",
-            "ldmap r1, 0 / mov r2, 0 / call 1 / mov r6, r0 / jne r0, 0, +1 / ldxdw r3, [r6+0] / mov r0, 0 / exit",
+            "ldmap r1, 0 / mov r2, 0 / call 1 / mov r6, r0 / jne r0, 0, +1 / ldxdw r3, [r6+0] / \
+            mov r0, 0 / exit",
             0,
             "V9 NotAddress at slot 6",
         ),
@@ -142,7 +146,8 @@ fn with_wide_cells(rt: HostRuntime) -> Result<(), Fail> {
 fn with_a_narrow_cell(rt: HostRuntime) -> Result<(), Fail> {
     let rows = [row(
         "every access of a 32-bit cell",
-        "ldcell r6, 0, 0 / mov32 r2, -1 / stxw [r6+0], r2 / mov r2, 1 / faddw [r6+0], r2 / mov r0, 0 / mov r3, 5 / cmpxchgw [r6+0], r3 / and r0, 1 / exit",
+        "ldcell r6, 0, 0 / mov32 r2, -1 / stxw [r6+0], r2 / mov r2, 1 / faddw [r6+0], r2 / \
+        mov r0, 0 / mov r3, 5 / cmpxchgw [r6+0], r3 / and r0, 1 / exit",
         1,
         "ok",
     )];
@@ -156,7 +161,8 @@ fn with_a_quota(rt: HostRuntime) -> Result<(), Fail> {
     let rows = [
         row(
             "one is taken",
-            "ldcell r6, 0, 0 / mov r2, 1 / fadddw [r6+0], r2 / jge r2, 2, +2 / mov r0, 1 / exit / mov r0, 0 / exit",
+            "ldcell r6, 0, 0 / mov r2, 1 / fadddw [r6+0], r2 / jge r2, 2, +2 / mov r0, 1 / \
+            exit / mov r0, 0 / exit",
             1,
             "ok",
         ),
