@@ -134,3 +134,16 @@ impl CellArray {
         })
     }
 }
+
+/// The same arrays once more, in their order.
+pub(crate) fn copies(alloc: Global, arrays: &[CellArray]) -> Result<Vec<CellArray>, AllocError>
+    ensures { IfOk result (λ v. v.items ≡ arrays.now) }
+{
+    let mut kept = Vec::with_capacity(alloc, arrays.len())?;
+    for array in arrays {
+        let Ok(()) = kept.push(array.copy(alloc)?) else {
+            return Err(AllocError);
+        };
+    }
+    Ok(kept)
+}

@@ -6,7 +6,7 @@ ghost use Rattle.std.specs.Prelude.{IfOk, IfErr, OnErr, IfSome, IfNone, IsTrue};
 ghost use Rattle.cells.specs.Directory.{declaration, IsDeclaration, IsDirectory, IsNamed};
 ghost use Rattle.cells.specs.Directory.{HasValues, IsNew, Declares, IsRefusedDeclaration};
 
-use crate::array::{ArrayName, ArrayNo, CellArray, CellWidth, first_cell};
+use crate::array::{ArrayName, ArrayNo, CellArray, CellWidth, copies, first_cell};
 use crate::fault::CellsFault;
 use std::alloc::{AllocError, Global};
 use std::marker::Model;
@@ -80,6 +80,19 @@ impl Directory {
         }
         let name = ArrayName::of(alloc, name)?;
         self.add(name, width, length, quota)
+    }
+
+    /// The same directory once more. N3 where memory is refused.
+    pub fn copy(&self, alloc: Global) -> Result<Directory, CellsFault>
+        ensures same { IfOk result (λ d. d ≡ self.now) }
+        ensures memory { IfErr result (λ e. e ≡ CellsFault.Memory) }
+    {
+        let arrays = copies(alloc, &self.arrays)?;
+        Ok(Directory {
+            arrays,
+            taken_64: self.taken_64,
+            taken_32: self.taken_32,
+        })
     }
 
     /// The arrays, in the order of their numbers.

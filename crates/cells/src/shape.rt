@@ -3,7 +3,7 @@
 ghost use Rattle.std.specs.Prelude.{◌≡◌, ◌<◌, ◌≤◌, [], length, IfOk, IfErr, All};
 ghost use Rattle.cells.specs.Arrays.{AreNumbered, IsShape};
 
-use crate::array::{ArrayNo, CellArray};
+use crate::array::{ArrayNo, CellArray, copies};
 use crate::directory::Directory;
 use crate::fault::CellsFault;
 use std::alloc::{AllocError, Global};
@@ -64,12 +64,7 @@ impl Shape {
         ensures same { IfOk result (λ s. s ≡ self.now) }
         ensures memory { IfErr result (λ e. e ≡ CellsFault.Memory) }
     {
-        let mut arrays = Vec::with_capacity(alloc, self.arrays.len())?;
-        for array in &self.arrays {
-            let Ok(()) = arrays.push(array.copy(alloc)?) else {
-                return Err(CellsFault::Memory);
-            };
-        }
+        let arrays = copies(alloc, &self.arrays)?;
         Ok(Shape {
             releases: self.releases,
             arrays,
