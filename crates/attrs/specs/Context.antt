@@ -1,5 +1,5 @@
 -- The context of an app: its fields, and the 64 bytes in which a program reads them.
-use Rattle.std.specs.Prelude.{ℕ, ◌<◌, List, [], ◌∷◌, ◌++◌, slice_index, replicate}
+use Rattle.std.specs.Prelude.{ℕ, ◌<◌, ◌^◌, All, List, [], ◌∷◌, ◌++◌, slice_index, replicate}
 use Rattle.std.specs.Int.{w8, w16, w32, to_le_bytes}
 
 pub record Context : Type 0 where
@@ -12,6 +12,9 @@ pub record Context : Type 0 where
 
 -- the ranges that the type of a context keeps
 pub record HasRanges (c : Context) : Type 0 where
+  pub version : All (λ n. n < 2 ^ 32) c.version
+  pub install_day : c.install_day < 2 ^ 32
+  pub today : c.today < 2 ^ 32
   pub bucket : c.bucket < 10000
   pub flags : c.flags < 64
   pub seconds : c.seconds < 86400

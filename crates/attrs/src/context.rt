@@ -81,10 +81,13 @@ impl Context {
         ensures day { Self.UNKNOWN_DAY ≡ unknown_day }
     {}
 
-    /// The fact that the type keeps: bucket, flags and seconds lie in their ranges.
+    /// What the type keeps: each number lies in its range.
     pub fn keeps(&self)
         ensures { HasRanges self.now }
     {
+        let [_first, _second, _third, _fourth] = self.version;
+        let _install_day = self.install_day;
+        let _today = self.today;
         let _bucket = &self.bucket;
     }
 
