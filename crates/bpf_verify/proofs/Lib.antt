@@ -11,3 +11,4 @@ pub mod Incoming
 pub mod Sound
 pub mod Whole
 pub mod Inhabited
+pub mod Tables

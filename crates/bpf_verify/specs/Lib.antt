@@ -5,3 +5,4 @@ pub mod Kept
 pub mod Sweep
 pub mod Entries
 pub mod Covers
+pub mod Table

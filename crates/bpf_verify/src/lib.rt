@@ -27,9 +27,11 @@ mod entries;
 mod law;
 mod pool;
 mod sweep;
+mod table;
 mod verified;
 
 pub use bpf_rules::{Refusal, Rule};
 pub use cells::Shape;
 pub use law::{no_range_is_empty, one_verdict};
+pub use table::table_is_enough;
 pub use verified::{Verified, verify, verify_counted};

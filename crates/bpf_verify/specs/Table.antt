@@ -1,0 +1,47 @@
+-- A table of what is known at each place, found by whatever means: where no rule fails under it,
+-- and each edge leads within it, the program is accepted. What the sweep finds may be narrower.
+use Rattle.std.specs.Prelude.{◌≡◌, ℕ, ◌<◌, ◌≤◌, List, length, Some, None, Bool, true}
+use Rattle.std.specs.List.{AllByRecursion}
+use Rattle.bpf_insn.specs.declared.insn.Insn.{Insn}
+use Rattle.bpf_insn.specs.Program.{Program, at}
+use Rattle.bpf_semantics.specs.Memory.{stack_size}
+use Rattle.cells.specs.Arrays.{AppShape}
+use Rattle.abs_value.specs.declared.value.Abs.{Abs}
+use Rattle.abs_value.specs.declared.value.Abs.TheVariants.{Unusable, Num, Ctx}
+use Rattle.abs_value.specs.declared.state.AbsState.{AbsState}
+use Rattle.abs_value.specs.Stack.{is_set}
+use Rattle.abs_value.specs.States.{register_at, value_at, opening_state}
+use Rattle.bpf_rules.specs.Rules.{first_rule}
+use Rattle.bpf_rules.specs.Transfer.{Edge, edges}
+
+-- what a table says of a place: a value for each register, and which bytes of the stack are set
+pub record Known : Type 0 where
+  pub registers : List Abs
+  pub set : ℕ → Bool
+
+-- the second range lies in the first, and has a number in it
+abbrev pub LiesIn : ℕ → ℕ → ℕ → ℕ → Type 0
+LiesIn from to lo hi = (from ≤ lo) × (lo ≤ hi) × (hi ≤ to)
+
+-- the first value stands for all that the second stands for
+abbrev pub IsWider : Abs → Abs → Type 0
+IsWider Unusable a = Unit {0}
+IsWider (Num c) (Num a) = LiesIn c.lo c.hi a.lo a.hi
+IsWider (Ctx c) (Ctx a) = LiesIn c.lo c.hi a.lo a.hi
+IsWider c a = c ≡ a
+
+-- the entry knows at least as much
+pub record Knows (known : Known) (e : AbsState) : Type 0 where
+  pub long : length e.registers ≡ 11
+  pub wide : length e.stack ≡ 64
+  pub each : (r : ℕ) → IsWider (register_at known.registers r) (value_at e r)
+  pub bytes : (place : ℕ) → place < stack_size → known.set place ≡ true
+      → is_set e.stack place ≡ true
+
+-- no rule fails under the table, whatever more is known; and each edge leads within it
+pub record IsTable (p : Program) (shape : AppShape) (table : ℕ → Known) : Type 0 where
+  pub start : Knows (table 0) opening_state
+  pub passes : (s : ℕ) (e : AbsState) (i : Insn) → at p s ≡ Some i → Knows (table s) e
+      → first_rule shape e i ≡ None
+  pub leads : (s : ℕ) (e : AbsState) (i : Insn) → at p s ≡ Some i → Knows (table s) e
+      → AllByRecursion (λ (d : Edge). Knows (table d.target) d.entry) (edges shape s e i)
