@@ -44,12 +44,12 @@ no_true h = cc
 pub no_ok : {A : Type 0} (e : RuleFault) (a : A) → ◌≡◌ {A = OrFault A} (Err e) (Ok a) → ⊥
 no_ok e a h = no_true (ap is_err h)
 
-record Bound {A B : Type 0} (o : OrFault A) (f : A → OrFault B) (b : B) : Type 0 where
-  value : A
-  first : o ≡ Ok value
-  after : f value ≡ Ok b
+pub record Bound {A B : Type 0} (o : OrFault A) (f : A → OrFault B) (b : B) : Type 0 where
+  pub value : A
+  pub first : o ≡ Ok value
+  pub after : f value ≡ Ok b
 
-bound : {A B : Type 0} (o : OrFault A) (f : A → OrFault B) (b : B) → (o >>? f) ≡ Ok b → Bound o f b
+pub bound : {A B : Type 0} (o : OrFault A) (f : A → OrFault B) (b : B) → (o >>? f) ≡ Ok b → Bound o f b
 bound (Ok a) f b h = record { value = a; first = refl; after = h }
 bound (Err e) f b h = absurd (no_ok e b h)
 

@@ -5,3 +5,4 @@ pub mod Sounds
 pub mod Keeping
 pub mod Parsing
 pub mod Laws
+pub mod Fitting

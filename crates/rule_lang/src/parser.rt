@@ -1,6 +1,7 @@
 //! From a text to its rule.
 
-ghost use Rattle.std.specs.Prelude.{◌≡◌, ◌≤◌, length, IfOk, IfErr, Ok};
+ghost use Rattle.std.specs.Prelude.{◌≡◌, ◌≤◌, length, true, IfOk, IfErr, Ok};
+ghost use Rattle.rule_lang.specs.Fits.{fits};
 ghost use Rattle.rule_lang.specs.Verdicts.{IsVerdict, IsRuleFault};
 
 use crate::fault::{RuleFault, RuleFaultKind};
@@ -18,9 +19,10 @@ const MOST_BYTES: usize = 65536;
 /// Refused are a text over 65536 bytes (L4 at line 1); else the first place where no token begins
 /// (L1); else the first token with which no rule goes on (L2, at the text's end in its last line);
 /// else the first name that isn't known (L3) or number out of its range (L4), a 33rd open `not` or
-/// parenthesis being L4. L5 where memory is refused.
+/// parenthesis being L4. L5 where memory is refused. A rule that is answered fits the shape.
 pub fn parse(alloc: Global, text: &str, shape: &Shape) -> Result<Rule, RuleFault>
     ensures rule { IfOk result (λ r. IsVerdict shape.now text.now (Ok r)) }
+    ensures fits { IfOk result (λ r. fits shape.now r ≡ true) }
     ensures fault { IfErr result (IsRuleFault shape.now text.now) }
 {
     if text.len() > MOST_BYTES {

@@ -1,4 +1,4 @@
-use Rattle.std.proofs.Common.{rules, arith, ◌≡◌, ◌<◌, ◌≤◌, length, List, Ok, inr}
+use Rattle.std.proofs.Common.{rules, arith, ◌≡◌, ◌<◌, ◌≤◌, length, List, Ok, inr, true}
 use Rattle.rule_lang.specs.declared.fault.RuleFault.{RuleFault}
 use Rattle.rule_lang.specs.declared.rule.Statement.{Statement}
 use Rattle.rule_lang.specs.Lexed.{Lexed, tokens_in}
@@ -6,6 +6,8 @@ use Rattle.rule_lang.specs.Named.{placed_all}
 use Rattle.rule_lang.specs.Reading.{Reads, first_draft}
 use Rattle.rule_lang.specs.Results.{IsReadFault}
 use Rattle.rule_lang.specs.Verdicts.{IsVerdict, IsRuleFault, too_long, read}
+use Rattle.rule_lang.specs.Fits.{fits}
+use Rattle.rule_lang.proofs.Fitting.{rule_fits}
 use Rattle.rule_lang.proofs.Parsing.{token_fault, read_fault, ok_then, err_then}
 use Rattle.rule_lang.proofs.parser.parse.Goals as goal
 
@@ -38,3 +40,10 @@ pub returns-in-Err-clause-fault : goal.returns-in-Err-clause-fault
 returns-in-Err-clause-fault c =
     let short : length c.args.text.now ≤ 65536 = search (rules, arith) in
     token_fault c.args.shape.now c.args.text.now c.in-Err.fault short (search rules)
+
+pub returns-in-Ok-clause-fits : goal.returns-in-Ok-clause-fits
+returns-in-Ok-clause-fits c =
+    let s = c.args.shape.now in
+    let ts = placed_all c.as_slice.result.now in
+    ok_then c.read.result (λ (r : List Statement). Reads s first_draft ts (Ok r)) (λ (r : List
+    Statement). fits s r ≡ true) (λ r h. rule_fits s ts r h) c.read.ensures.rule

@@ -1,0 +1,412 @@
+-- A rule that is read fits its shape: each of its arrays, indexes and releases was asked for.
+use Rattle.std.proofs.Common.{◌≡◌, ℕ, zero, suc, ◌-◌, List, [], ◌∷◌, ◌++◌, replicate}
+use Rattle.std.proofs.Common.{Option, Some, None}
+use Rattle.std.proofs.Common.{Ok, Err, Bool, true, false, if◌then◌else◌, refl, sym, ap, ◌∙◌, subst}
+use Rattle.std.specs.Prelude.{not, is_some, nat_lt}
+use Rattle.std.specs.Cmp.Derive.{both_true}
+use Rattle.std.specs.List.{list_all}
+use Rattle.std.specs.Str.{bytes_eq}
+use Rattle.std.proofs.lemmas.List.Folds.{list_all-append}
+use Rattle.std.proofs.lemmas.Slice.Eq.{bytes_eq-Decides}
+use Rattle.cells.specs.Arrays.{AppShape}
+use Rattle.cells.specs.declared.array.CellArray.{CellArray}
+use Rattle.rule_lang.specs.declared.condition.Step.TheVariants as step
+use Rattle.rule_lang.specs.declared.draft.Mode.{Mode}
+use Rattle.rule_lang.specs.declared.draft.Mode.TheVariants as mode
+use Rattle.rule_lang.specs.declared.fault.RuleFault.{RuleFault}
+use Rattle.rule_lang.specs.declared.frame.Frame.{Frame}
+use Rattle.rule_lang.specs.declared.keyword.Keyword.TheVariants as keyword
+use Rattle.rule_lang.specs.declared.phrase.TheConstants.{COUNT, OFFER, OTHERWISE}
+use Rattle.rule_lang.specs.declared.phrase.Want.{Want}
+use Rattle.rule_lang.specs.declared.rule.Statement.{Statement}
+use Rattle.rule_lang.specs.declared.rule.Statement.TheVariants.{Count, When}
+use Rattle.rule_lang.specs.declared.test.Test.{Test}
+use Rattle.rule_lang.specs.declared.test.Test.TheVariants as test
+use Rattle.rule_lang.specs.declared.token.Token.TheVariants as token
+use Rattle.rule_lang.specs.Drafts.{Pending, begin, denied, opened, joined, parted, fact_done}
+use Rattle.rule_lang.specs.Drafts.{term_done, and_step, or_step, closed_to, is_empty}
+use Rattle.rule_lang.specs.Fits.{can_take, can_count, is_release, test_fits, step_fits}
+use Rattle.rule_lang.specs.Fits.{statement_fits, fits}
+use Rattle.rule_lang.specs.Lexed.{Placed}
+use Rattle.rule_lang.specs.Parts.{OrFault, ◌>>?◌, part, number, salt, version, flag, attribute}
+use Rattle.rule_lang.specs.Parts.{array, array_if, index, release, within, unknown, same}
+use Rattle.rule_lang.specs.Parts.{out_of_range, relation}
+use Rattle.rule_lang.specs.Phrases.{behind, misplaced, test_phrase}
+use Rattle.rule_lang.specs.Reading.{Draft, Next, with_fault_if, in_mode, with_condition}
+use Rattle.rule_lang.specs.Reading.{count_of, counted, statement_next, too_deep, with_test}
+use Rattle.rule_lang.specs.Reading.{test_next}
+use Rattle.rule_lang.specs.Reading.{fact_next, closed_next, offered, offer_next, operator_next}
+use Rattle.rule_lang.specs.Reading.{unless_noted, next_in, next, first_draft, verdict}
+use Rattle.rule_lang.specs.Reading.{Reads, ended, refused, goes_on}
+use Rattle.rule_lang.specs.Shapes.{array_named}
+use Rattle.rule_lang.specs.Tests.{test_by, test_of, take_test, salted_test}
+use Rattle.rule_lang.specs.Tests.{attr_test, literal}
+use Rattle.rule_lang.specs.Tokens.{Token}
+use Rattle.rule_lang.proofs.Keeping.{same_ok, no_ok, bound}
+
+-- ---- arrays by their names
+
+named_is : (name : List ℕ) (arrays : List CellArray) (a : CellArray)
+    → array_named name arrays ≡ Some a → a.name ≡ name
+named_is name [] a is = absurd cc
+named_is name (b ∷ rest) a is = by_name (bytes_eq b.name name) refl (λ h. named_is name rest a h)
+  where
+    by_name : (t : Bool) → bytes_eq b.name name ≡ t
+        → (array_named name rest ≡ Some a → a.name ≡ name) → a.name ≡ name
+    by_name true e go =
+        let found : Some b ≡ Some a = ap (λ (t : Bool). if t then Some b else array_named name rest)
+        (sym e) ∙ is in
+        let eq : b ≡ a = cc in
+        sym (ap (λ (c : CellArray). c.name) eq) ∙ (bytes_eq-Decides b.name name).0 e
+    by_name false e go =
+        go (ap (λ (t : Bool). if t then Some b else array_named name rest) (sym e) ∙ is)
+
+-- an array that a name finds is found by its own name
+named_again : (name : List ℕ) (arrays : List CellArray) (a : CellArray)
+    → array_named name arrays ≡ Some a → array_named a.name arrays ≡ Some a
+named_again name arrays a is =
+    ap (λ (n : List ℕ). array_named n arrays) (named_is name arrays a is) ∙ is
+
+record Found (s : AppShape) (quota : Bool) (a : CellArray) : Type 0 where
+  named : array_named a.name s.arrays ≡ Some a
+  kind : same (is_some a.quota) quota ≡ true
+
+array_is : (s : AppShape) (quota : Bool) (p : Placed) (name : List ℕ) (o : Option CellArray)
+    (a : CellArray) → array_named name s.arrays ≡ o → array_if quota p o ≡ Ok a → Found s quota a
+array_is s quota p name None a is h = absurd (no_ok (unknown p) a h)
+array_is s quota p name (Some b) a is h = by_kind (same (is_some b.quota) quota) refl
+  where
+    by_kind : (t : Bool) → same (is_some b.quota) quota ≡ t → Found s quota a
+    by_kind true e =
+        let given : ◌≡◌ {A = OrFault CellArray} (Ok b) (Ok a) = ap (λ (t : Bool). if t then Ok b
+        else Err (unknown p)) (sym e) ∙ h in
+        subst (λ (c : CellArray). Found s quota c) (same_ok b a given) (record {
+          named = named_again name s.arrays b is;
+          kind = e;
+        })
+    by_kind false e = absurd (no_ok (unknown p) a (ap (λ (t : Bool). if t then Ok b else
+        Err (unknown p)) (sym e) ∙ h))
+
+array_found : (s : AppShape) (quota : Bool) (p : Placed) (a : CellArray)
+    → array s quota p ≡ Ok a → Found s quota a
+array_found s quota p a h = array_is s quota p _ _ a refl h
+
+-- ---- numbers
+
+within_is : (holds : ℕ → Bool) (p : Placed) (n m : ℕ) → within holds p n ≡ Ok m → holds m ≡ true
+within_is holds p n m h = by_test (holds n) refl
+  where
+    by_test : (t : Bool) → holds n ≡ t → holds m ≡ true
+    by_test true e =
+        let given : ◌≡◌ {A = OrFault ℕ} (Ok n) (Ok m) = ap (λ (t : Bool). if t then Ok n else
+        Err (out_of_range p)) (sym e) ∙ h in
+        subst (λ (k : ℕ). holds k ≡ true) (same_ok n m given) e
+    by_test false e = absurd (no_ok (out_of_range p) m (ap (λ (t : Bool). if t then Ok n else
+        Err (out_of_range p)) (sym e) ∙ h))
+
+index_is : (a : CellArray) (p : Placed) (i : ℕ) → index a p ≡ Ok i → nat_lt i a.length ≡ true
+index_is a p i h =
+    let b = bound (number p) (λ n. within (λ n. nat_lt n a.length) p n) i h in
+    within_is (λ n. nat_lt n a.length) p b.value i b.after
+
+release_is : (s : AppShape) (p : Placed) (k : ℕ) → release s p ≡ Ok k → is_release s k ≡ true
+release_is s p k h =
+    let b = bound (number p) (λ n. within (is_release s) p n) k h in
+    within_is (is_release s) p b.value k b.after
+
+-- ---- what is read fits
+
+-- of what is read, where nothing is wrong with it
+abbrev IfRead : {A : Type 0} → (A → Bool) → OrFault A → Type 0
+IfRead holds (Ok x) = holds x ≡ true
+IfRead holds (Err e) = Unit {0}
+
+each : {A B : Type 0} (holds : B → Bool) (o : OrFault A) (f : A → OrFault B)
+    → ((x : A) → o ≡ Ok x → IfRead holds (f x)) → IfRead holds (o >>? f)
+each holds (Ok x) f h = h x refl
+each holds (Err e) f h = tt
+
+counts : (s : AppShape) (a : CellArray) (i : ℕ) → Found s false a → nat_lt i a.length ≡ true
+    → can_count (array_named a.name s.arrays) i ≡ true
+counts s a i f lt = subst (λ (o : Option CellArray). can_count o i ≡ true) (sym f.named) (both_true
+    (without (is_some a.quota) f.kind) lt)
+  where
+    without : (b : Bool) → same b false ≡ true → not b ≡ true
+    without true h = absurd cc
+    without false h = refl
+
+takes : (s : AppShape) (a : CellArray) (i : ℕ) → Found s true a → nat_lt i a.length ≡ true
+    → can_take (array_named a.name s.arrays) i ≡ true
+takes s a i f lt = subst (λ (o : Option CellArray). can_take o i ≡ true) (sym f.named) (both_true
+    (with_one (is_some a.quota) f.kind) lt)
+  where
+    with_one : (b : Bool) → same b true ≡ true → b ≡ true
+    with_one true h = refl
+    with_one false h = absurd cc
+
+count_fits : (s : AppShape) (ts : List Placed) → IfRead (statement_fits s) (count_of s ts)
+count_fits s ts = each (statement_fits s) (array s false (part ts 1)) (λ a. index a (part ts 3)
+    >>? λ i. Ok (Count a.name i)) (λ a h. each (statement_fits s) (index a (part ts 3)) (λ i. Ok
+    (Count a.name i)) (λ i k. counts s a i (array_found s false (part ts 1) a h) (index_is a (part
+    ts 3) i k)))
+
+take_fits : (s : AppShape) (ts : List Placed) → IfRead (test_fits s) (take_test s ts)
+take_fits s ts = each (test_fits s) (array s true (part ts 2)) (λ a. index a (part ts 4)
+    >>? λ i. Ok (test.Take a.name i)) (λ a h. each (test_fits s) (index a (part ts 4)) (λ i. Ok
+    (test.Take a.name i)) (λ i k. takes s a i (array_found s true (part ts 2) a h) (index_is a (part
+    ts 4) i k)))
+
+-- every other test does
+free : {A : Type 0} (s : AppShape) (o : OrFault A) (f : A → Test) → ((x : A) → test_fits s (f x)
+    ≡ true) → IfRead (test_fits s) (o >>? λ x. Ok (f x))
+free s (Ok x) f h = h x
+free s (Err e) f h = tt
+
+salted_fits : (s : AppShape) (ts : List Placed) → IfRead (test_fits s) (salted_test ts)
+salted_fits s ts = each (test_fits s) (salt (part ts 2)) (λ n. number (part ts 5) >>? λ m. Ok
+    (test.SaltedBucket n (relation (part ts 4)) m)) (λ n h. free s (number (part ts 5)) (λ m.
+    test.SaltedBucket n (relation (part ts 4)) m) (λ m. refl))
+
+attr_fits : (s : AppShape) (ts : List Placed) → IfRead (test_fits s) (attr_test ts)
+attr_fits s ts = each (test_fits s) (attribute (part ts 1)) (λ a. literal (part ts 3) >>? λ text.
+    Ok (test.Attr a text)) (λ a h. free s (literal (part ts 3)) (λ text. test.Attr a text) (λ text.
+    refl))
+
+by_words : (s : AppShape) (ts : List Placed) (first second : Token)
+    → IfRead (test_fits s) (test_by s ts first second)
+by_words s ts (token.Keyword keyword.Version) t =
+    free s (version (part ts 2)) (λ v. test.Version (relation (part ts 1)) v) (λ v. refl)
+by_words s ts (token.Keyword keyword.Bucket) token.Open = salted_fits s ts
+by_words s ts (token.Keyword keyword.Bucket) t =
+    free s (number (part ts 2)) (λ n. test.Bucket (relation (part ts 1)) n) (λ n. refl)
+by_words s ts (token.Keyword keyword.Today) t =
+    free s (number (part ts 2)) (λ n. test.Today (relation (part ts 1)) n) (λ n. refl)
+by_words s ts (token.Keyword keyword.Installed) t =
+    free s (number (part ts 2)) (λ n. test.Installed (relation (part ts 1)) n) (λ n. refl)
+by_words s ts (token.Keyword keyword.Flag) t = free s (flag (part ts 1)) (λ f. test.Flag f) (λ f.
+    refl)
+by_words s ts (token.Keyword keyword.Attr) t = attr_fits s ts
+by_words s ts t u = take_fits s ts
+
+-- ---- what a rule so far keeps
+
+record Fitting (s : AppShape) (d : Draft) : Type 0 where
+  statements : list_all (statement_fits s) d.statements ≡ true
+  steps : list_all (step_fits s) d.condition.steps ≡ true
+
+appended : {A : Type 0} (holds : A → Bool) (xs ys : List A) → list_all holds xs ≡ true
+    → list_all holds ys ≡ true → list_all holds (xs ++ ys) ≡ true
+appended holds xs ys h k = list_all-append holds xs ys ∙ both_true h k
+
+nots_fit : (s : AppShape) (n : ℕ) → list_all (step_fits s) (replicate n step.Not) ≡ true
+nots_fit s zero = refl
+nots_fit s (suc n) = nots_fit s n
+
+and_fits : (s : AppShape) (b : Bool) → list_all (step_fits s) (if b then step.And ∷ [] else [])
+    ≡ true
+and_fits s true = refl
+and_fits s false = refl
+
+or_fits : (s : AppShape) (b : Bool) → list_all (step_fits s) (if b then step.Or ∷ [] else [])
+    ≡ true
+or_fits s true = refl
+or_fits s false = refl
+
+abbrev StepsFit : AppShape → Pending → Type 0
+StepsFit s p = list_all (step_fits s) p.steps ≡ true
+
+fact_fits : (s : AppShape) (p : Pending) → StepsFit s p → StepsFit s (fact_done p)
+fact_fits s p h = appended (step_fits s) (p.steps ++ replicate p.top.nots step.Not) (and_step p.top)
+    (appended (step_fits s) p.steps (replicate p.top.nots step.Not) h (nots_fit s p.top.nots))
+    (and_fits s p.top.and)
+
+term_fits : (s : AppShape) (p : Pending) → StepsFit s p → StepsFit s (term_done p)
+term_fits s p h = appended (step_fits s) p.steps (or_step p.top) h (or_fits s p.top.or)
+
+fault_fits : (s : AppShape) (b : Bool) (e : RuleFault) (d : Draft) → Fitting s d
+    → Fitting s (with_fault_if b e d)
+fault_fits s true e d h = record { statements = h.statements; steps = h.steps }
+fault_fits s false e d h = h
+
+counted_fits : (s : AppShape) (o : OrFault Statement) (d : Draft) → IfRead (statement_fits s) o
+    → Fitting s d → Fitting s (counted o d)
+counted_fits s (Ok x) d fit h = record {
+  statements = appended (statement_fits s) d.statements (x ∷ []) h.statements (both_true fit refl);
+  steps = h.steps;
+}
+counted_fits s (Err e) d fit h = record { statements = h.statements; steps = h.steps }
+
+tested_fits : (s : AppShape) (line : ℕ) (o : OrFault Test) (d : Draft) → IfRead (test_fits s) o
+    → Fitting s d → Fitting s (with_test line o d)
+tested_fits s line (Ok t) d fit h = record {
+  statements = h.statements;
+  steps = fact_fits s (record {
+    steps = d.condition.steps ++ (step.Test line t ∷ []);
+    below = d.condition.below;
+    top = d.condition.top;
+    depth = d.condition.depth;
+  }) (appended (step_fits s) d.condition.steps (step.Test line t ∷ []) h.steps (both_true fit
+      refl));
+}
+tested_fits s line (Err e) d fit h = record { statements = h.statements; steps = h.steps }
+
+when_fits : (s : AppShape) (k : ℕ) (o : Option RuleFault) (d e : Draft) → is_release s k ≡ true
+    → Fitting s d → Fitting s e → Fitting s (unless_noted o (When d.condition.steps k) e)
+when_fits s k None d e fit h g = record {
+  statements = appended (statement_fits s) e.statements (When d.condition.steps k ∷ []) g.statements
+      (both_true (both_true h.steps fit) refl);
+  steps = g.steps;
+}
+when_fits s k (Some f) d e fit h g = g
+
+offered_fits : (s : AppShape) (o : OrFault ℕ) (d : Draft) → IfRead (is_release s) o → Fitting s d
+    → Fitting s (offered o d)
+offered_fits s (Ok k) d fit h = when_fits s k d.noted d _ fit h (record {
+  statements = h.statements;
+  steps = refl;
+})
+offered_fits s (Err e) d fit h = record { statements = h.statements; steps = h.steps }
+
+release_fits : (s : AppShape) (p : Placed) → IfRead (is_release s) (release s p)
+release_fits s p = by_result (release s p) refl
+  where
+    by_result : (o : OrFault ℕ) → release s p ≡ o → IfRead (is_release s) o
+    by_result (Ok k) h = release_is s p k h
+    by_result (Err e) h = tt
+
+-- ---- each phrase
+
+kept : (s : AppShape) (p q : Draft × List Placed) → ◌≡◌ {A = Next} (Ok p) (Ok q) → Fitting s p.0
+    → Fitting s q.0
+kept s p q h k = subst (λ (r : Draft × List Placed). Fitting s r.0) (same_ok p q h) k
+
+phrase_kept : (s : AppShape) (ws : List Want) (ts : List Placed) (d : Draft) (q : Draft × List
+    Placed) → (behind ws ts >>? λ rest. Ok (d, rest)) ≡ Ok q → Fitting s d → Fitting s q.0
+phrase_kept s ws ts d q h k =
+    let b = bound (behind ws ts) (λ rest. Ok (d, rest)) q h in
+    kept s (d, b.value) q b.after k
+
+again : (s : AppShape) (d e : Draft) → e.statements ≡ d.statements
+    → e.condition.steps ≡ d.condition.steps → Fitting s d → Fitting s e
+again s d e same_statements same_steps h = record {
+  statements = ap (list_all (statement_fits s)) same_statements ∙ h.statements;
+  steps = ap (list_all (step_fits s)) same_steps ∙ h.steps;
+}
+
+-- with the same statements
+anew : (s : AppShape) (d e : Draft) → e.statements ≡ d.statements → StepsFit s e.condition
+    → Fitting s d → Fitting s e
+anew s d e same_statements steps h = record {
+  statements = ap (list_all (statement_fits s)) same_statements ∙ h.statements;
+  steps = steps;
+}
+
+statement_kept : (s : AppShape) (d : Draft) (t : Token) (line : ℕ) (ts after : List Placed) (q :
+    Draft × List Placed) → Fitting s d → statement_next s d t line ts after ≡ Ok q → Fitting s q.0
+statement_kept s d (token.Keyword keyword.Count) line ts after q f h =
+    phrase_kept s COUNT ts (counted (count_of s ts) d) q h (counted_fits s (count_of s ts) d
+    (count_fits s ts) f)
+statement_kept s d (token.Keyword keyword.When) line ts after q f h =
+    let e = in_mode mode.Fact (with_condition begin d) in
+    kept s (e, after) q h (anew s d e refl refl f)
+statement_kept s d (token.Keyword keyword.Otherwise) line ts after q f h =
+    let e = in_mode mode.Done d in
+    phrase_kept s OTHERWISE ts e q h (again s d e refl refl f)
+statement_kept s d t line ts after q f h = absurd (no_ok (misplaced line) q h)
+
+test_kept : (s : AppShape) (d : Draft) (line : ℕ) (o : Option (List Want)) (ts : List Placed) (q
+    : Draft × List Placed) → Fitting s d → test_next s d line o ts ≡ Ok q → Fitting s q.0
+test_kept s d line None ts q f h = absurd (no_ok (misplaced line) q h)
+test_kept s d line (Some ws) ts q f h =
+    let e = with_test line (test_of s ts) d in
+    let fit = tested_fits s line (test_of s ts) d (by_words s ts (part ts 0).token (part ts
+    1).token) f in
+    phrase_kept s ws ts (in_mode mode.Operator e) q h (again s e (in_mode mode.Operator e) refl refl
+    fit)
+
+fact_kept : (s : AppShape) (d : Draft) (t : Token) (p : Placed) (ts after : List Placed) (q :
+    Draft × List Placed) → Fitting s d → fact_next s d t p ts after ≡ Ok q → Fitting s q.0
+fact_kept s d (token.Keyword keyword.Not) p ts after q f h =
+    let noted = with_fault_if (too_deep d) (out_of_range p) d in
+    let e = with_condition (denied noted.condition) noted in
+    kept s (e, after) q h (again s noted e refl refl (fault_fits s (too_deep d) (out_of_range p) d
+    f))
+fact_kept s d token.Open p ts after q f h =
+    let noted = with_fault_if (too_deep d) (out_of_range p) d in
+    let e = with_condition (opened noted.condition) noted in
+    kept s (e, after) q h (again s noted e refl refl (fault_fits s (too_deep d) (out_of_range p) d
+    f))
+fact_kept s d t p ts after q f h = test_kept s d p.line (test_phrase t (part ts 1).token) ts q f h
+
+closed_kept : (s : AppShape) (d : Draft) (fs : List Frame) (line : ℕ) (ts after : List Placed) (q
+    : Draft × List Placed) → Fitting s d
+    → closed_next (closed_to d.condition fs) d line after ≡ Ok q → Fitting s q.0
+closed_kept s d [] line ts after q f h = absurd (no_ok (misplaced line) q h)
+closed_kept s d (g ∷ gs) line ts after q f h =
+    let outer : Pending = record {
+      steps = d.condition.steps ++ or_step d.condition.top;
+      below = gs;
+      top = g;
+      depth = d.condition.depth - 1;
+    } in
+    let e = with_condition (fact_done outer) d in
+    kept s (e, after) q h (anew s d e refl (fact_fits s outer (term_fits s d.condition f.steps)) f)
+
+offer_kept : (s : AppShape) (d : Draft) (b : Bool) (line : ℕ) (ts : List Placed) (q : Draft ×
+    List Placed) → Fitting s d → offer_next s d b line ts ≡ Ok q → Fitting s q.0
+offer_kept s d false line ts q f h = absurd (no_ok (misplaced line) q h)
+offer_kept s d true line ts q f h =
+    let ended = with_condition (term_done d.condition) d in
+    let given = offered (release s (part ts 1)) ended in
+    let fit = offered_fits s (release s (part ts 1)) ended (release_fits s (part ts 1)) (anew s d
+    ended refl (term_fits s d.condition f.steps) f) in
+    phrase_kept s OFFER ts (in_mode mode.Statement given) q h (again s given (in_mode mode.Statement
+    given) refl refl fit)
+
+operator_kept : (s : AppShape) (d : Draft) (t : Token) (line : ℕ) (ts after : List Placed) (q :
+    Draft × List Placed) → Fitting s d → operator_next s d t line ts after ≡ Ok q → Fitting s q.0
+operator_kept s d (token.Keyword keyword.And) line ts after q f h =
+    let e = in_mode mode.Fact (with_condition (joined d.condition) d) in
+    kept s (e, after) q h (again s d e refl refl f)
+operator_kept s d (token.Keyword keyword.Or) line ts after q f h =
+    let e = in_mode mode.Fact (with_condition (parted d.condition) d) in
+    kept s (e, after) q h (anew s d e refl (term_fits s d.condition f.steps) f)
+operator_kept s d token.Close line ts after q f h =
+    closed_kept s d d.condition.below line ts after q f h
+operator_kept s d (token.Keyword keyword.Offer) line ts after q f h =
+    offer_kept s d (is_empty d.condition.below) line ts q f h
+operator_kept s d t line ts after q f h = absurd (no_ok (misplaced line) q h)
+
+-- ---- the whole
+
+mode_kept : (s : AppShape) (d : Draft) (m : Mode) (p : Placed) (ts after : List Placed) (q :
+    Draft × List Placed) → Fitting s d → next_in s d m p ts after ≡ Ok q → Fitting s q.0
+mode_kept s d mode.Statement p ts after q f h = statement_kept s d p.token p.line ts after q f h
+mode_kept s d mode.Fact p ts after q f h = fact_kept s d p.token p ts after q f h
+mode_kept s d mode.Operator p ts after q f h = operator_kept s d p.token p.line ts after q f h
+mode_kept s d mode.Done p ts after q f h = absurd (no_ok (misplaced p.line) q h)
+
+next_fits : (s : AppShape) (d : Draft) (ts : List Placed) (q : Draft × List Placed)
+    → Fitting s d → next s d ts ≡ Ok q → Fitting s q.0
+unfolding next
+next_fits s d [] q f h = absurd (no_ok (misplaced 0) q h)
+next_fits s d (p ∷ after) q f h = mode_kept s d d.mode p (p ∷ after) after q f h
+
+verdict_fits : (s : AppShape) (d : Draft) (o : Option RuleFault) → Fitting s d
+    → IfRead (fits s) (verdict d o)
+verdict_fits s d None f = f.statements
+verdict_fits s d (Some e) f = tt
+
+reads_fit : (s : AppShape) (d : Draft) (ts : List Placed) (v : OrFault (List Statement))
+    → Fitting s d → Reads s d ts v → IfRead (fits s) v
+reads_fit s d ts v f (ended done) = verdict_fits s d d.noted f
+reads_fit s d ts v f (refused going h) = tt
+reads_fit s d ts v f (goes_on {e = e} {rest = rest} going h later) =
+    reads_fit s e rest v (next_fits s d ts (e, rest) f h) later
+
+pub rule_fits : (s : AppShape) (ts : List Placed) (rule : List Statement)
+    → Reads s first_draft ts (Ok rule) → fits s rule ≡ true
+rule_fits s ts rule r = reads_fit s first_draft ts (Ok rule) (record {
+  statements = refl;
+  steps = refl;
+}) r
