@@ -49,6 +49,13 @@ impl Published {
         self.generation
     }
 
+    /// Its ruleset.
+    pub(crate) fn ruleset(&self) -> &Ruleset
+        ensures { result.now ≡ self.now.rules }
+    {
+        &self.rules
+    }
+
     /// One more owner of its ruleset.
     pub(crate) fn rules(&self) -> Result<Arc<Ruleset>, AllocError>
         ensures { IfOk result (λ rules. arc_value rules ≡ self.now.rules) }

@@ -61,6 +61,13 @@ impl Publisher {
         self.latest.generation()
     }
 
+    /// The ruleset that was installed last.
+    pub fn ruleset(&self) -> &Ruleset
+        ensures { result.now ≡ self.now.latest.rules }
+    {
+        self.latest.ruleset()
+    }
+
     /// Installs a ruleset, and gives its generation, which is one above the last. It may wait for
     /// watchers that look at the one before. H3 after generation 2^64 - 1, and else H1 where memory
     /// is refused; then the old ruleset stays.

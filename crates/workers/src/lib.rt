@@ -21,5 +21,6 @@ mod rejection;
 mod serving;
 
 pub use answering::{AnswerFault, answer};
+pub use connection::{Timed, drain};
 pub use gate::{Gate, Open};
 pub use serving::{ServeFault, Service, serve};
