@@ -1,0 +1,3 @@
+pub mod Order
+pub mod Spec
+pub mod Texts

@@ -1,0 +1,20 @@
+-- How a declaration is written.
+use Rattle.std.specs.Prelude.{ℕ, List, [], ◌++◌, codes, Option, Some, None}
+use Rattle.std.specs.Fmt.{decimal}
+use Rattle.cells.specs.declared.array.CellWidth.{CellWidth}
+use Rattle.cells.specs.declared.array.CellWidth.TheVariants.{Bits32, Bits64}
+use Rattle.cells.specs.Directory.{Declaration}
+
+abbrev pub width_text : CellWidth → List ℕ
+width_text Bits32 = codes "32"
+width_text Bits64 = codes "64"
+
+abbrev pub limit_text : Option ℕ → List ℕ
+limit_text None = []
+limit_text (Some quota) = codes ":" ++ decimal quota
+
+-- `name:width:length`, or `name:64:length:limit`
+abbrev pub declaration_text : Declaration → List ℕ
+declaration_text d =
+    d.name ++ codes ":" ++ width_text d.width ++ codes ":" ++ decimal d.length
+    ++ limit_text d.quota

@@ -1,0 +1,12 @@
+//! Arrays of counters as a server's owner writes them down, and their declaration in a directory:
+//! all in order, or the first that is refused.
+#![tactic(auto)]
+
+mod declaration;
+mod declare;
+mod parts;
+mod spec;
+
+pub use declaration::ArrayDeclaration;
+pub use declare::{RefusedArray, declare_all};
+pub use spec::{SpecFault, read_spec};

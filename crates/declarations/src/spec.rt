@@ -1,0 +1,155 @@
+//! The text of a list of declarations, as a command line has it: `name:width:length`, or
+//! `name:64:length:limit`, joined by commas.
+
+ghost use Rattle.std.specs.Prelude.{◌≡◌, Err, IfOk, Some, None, map, option_copied};
+ghost use Rattle.declarations.specs.Spec as specs;
+
+use crate::declaration::ArrayDeclaration;
+use crate::parts::parts_of;
+use cells::{ArrayName, CellWidth};
+use std::alloc::Global;
+
+/// The most cells of an array.
+const MAX_LENGTH: u64 = 4096;
+
+/// The greatest quota, 2^63 - 1.
+const MAX_QUOTA: u64 = 9223372036854775807;
+
+/// Why a text gives no declarations.
+#[derive(Clone, Copy, Debug, PartialEq, Eq)]
+pub enum SpecFault {
+    /// It isn't of that form, or a number is out of its range.
+    Malformed,
+    /// Memory was refused.
+    Memory,
+}
+
+/// The declarations of a text, in their order. A name may stand twice, and the empty text is
+/// malformed.
+pub fn read_spec(alloc: Global, text: &str) -> Result<Vec<ArrayDeclaration>, SpecFault>
+    ensures read { IfOk result (λ v. specs.declarations_in text.now ≡ Some v.items) }
+    ensures malformed { result ≡ Err SpecFault.Malformed → specs.declarations_in text.now ≡ None }
+{
+    match parts_of(alloc, text, ',') {
+        Ok(parts) => read_parts(alloc, &parts),
+        Err(_) => Err(SpecFault::Memory),
+    }
+}
+
+fn read_parts(alloc: Global, parts: &[&str]) -> Result<Vec<ArrayDeclaration>, SpecFault>
+    ensures read { IfOk result (λ v.
+        specs.of_parts (map (λ part. part.now) parts.now) ≡ Some v.items) }
+    ensures malformed { result ≡ Err SpecFault.Malformed
+        → specs.of_parts (map (λ part. part.now) parts.now) ≡ None }
+{
+    let mut declarations = Vec::new(alloc);
+    let mut rest = parts;
+    while let [part, more @ ..] = rest {
+        let declaration = read_part(alloc, part)?;
+        match declarations.push(declaration) {
+            Ok(()) => rest = more,
+            Err(_) => return Err(SpecFault::Memory),
+        }
+    }
+    Ok(declarations)
+}
+
+// The declaration of the fields between the colons.
+fn read_part(alloc: Global, part: &str) -> Result<ArrayDeclaration, SpecFault>
+    ensures read { IfOk result (λ d. specs.of_part part.now ≡ Some d) }
+    ensures malformed { result ≡ Err SpecFault.Malformed → specs.of_part part.now ≡ None }
+{
+    match parts_of(alloc, part, ':') {
+        Ok(fields) => read_fields(alloc, &fields),
+        Err(_) => Err(SpecFault::Memory),
+    }
+}
+
+fn read_fields(alloc: Global, fields: &[&str]) -> Result<ArrayDeclaration, SpecFault>
+    ensures read { IfOk result (λ d.
+        specs.of_fields (map (λ field. field.now) fields.now) ≡ Some d) }
+    ensures malformed { result ≡ Err SpecFault.Malformed
+        → specs.of_fields (map (λ field. field.now) fields.now) ≡ None }
+{
+    let limit = match fields.len() {
+        3 => None,
+        4 => Some(fields[3]),
+        _ => return Err(SpecFault::Malformed),
+    };
+    read_values(alloc, fields[0], fields[1], fields[2], limit)
+}
+
+fn read_values(
+    alloc: Global,
+    name: &str,
+    width: &str,
+    length: &str,
+    limit: Option<&str>,
+) -> Result<ArrayDeclaration, SpecFault>
+    ensures read { IfOk result (λ d.
+        specs.declaration_of name.now width.now length.now (option_copied limit.entry) ≡ Some d) }
+    ensures malformed { result ≡ Err SpecFault.Malformed
+        → specs.declaration_of name.now width.now length.now (option_copied limit.entry) ≡ None }
+{
+    if !ArrayName::is_name(name) {
+        return Err(SpecFault::Malformed);
+    }
+    let Some(width) = width_of(width) else {
+        return Err(SpecFault::Malformed);
+    };
+    let Some(length) = number_of(length, 1, MAX_LENGTH) else {
+        return Err(SpecFault::Malformed);
+    };
+    let Some(quota) = quota_of(width, limit) else {
+        return Err(SpecFault::Malformed);
+    };
+    match ArrayName::of(alloc, name) {
+        Ok(name) => Ok(ArrayDeclaration::new(name, width, length as u16, quota)),
+        Err(_) => Err(SpecFault::Memory),
+    }
+}
+
+fn width_of(text: &str) -> Option<CellWidth>
+    ensures { result ≡ specs.width_of text.now }
+{
+    match text {
+        "64" => Some(CellWidth::Bits64),
+        "32" => Some(CellWidth::Bits32),
+        _ => None,
+    }
+}
+
+// A quota stands over 64-bit cells alone.
+fn quota_of(width: CellWidth, limit: Option<&str>) -> Option<Option<u64>>
+    ensures { result ≡ specs.quota_of width (option_copied limit.entry) }
+{
+    let Some(limit) = limit else {
+        return Some(None);
+    };
+    match width {
+        CellWidth::Bits64 => Some(Some(number_of(limit, 1, MAX_QUOTA)?)),
+        CellWidth::Bits32 => None,
+    }
+}
+
+// A number from the one to the other.
+fn number_of(text: &str, from: u64, to: u64) -> Option<u64>
+    ensures { result ≡ specs.number_of from to text.now }
+{
+    let number = decimal_number(text)?;
+    if from <= number && number <= to {
+        Some(number)
+    } else {
+        None
+    }
+}
+
+// A number of 64 bits. `parse` alone would allow a plus in front.
+fn decimal_number(text: &str) -> Option<u64>
+    ensures { result ≡ specs.decimal_number text.now }
+{
+    if text.starts_with('+') {
+        return None;
+    }
+    text.parse().ok()
+}
