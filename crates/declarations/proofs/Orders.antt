@@ -1,9 +1,8 @@
 -- One declaration after others.
-use Rattle.std.proofs.Common.{◌≡◌, ℕ, suc, ◌+◌, ◌<◌, List, [], ◌∷◌, ◌++◌, length, take, get_or, map, Option, arith, ◌≤◌, subst}
+use Rattle.std.proofs.Common.{◌≡◌, ℕ, suc, ◌+◌, ◌<◌, List, [], ◌∷◌, ◌++◌, length, take, get_or, Option, arith, ◌≤◌}
 use Rattle.std.specs.Prelude.{All}
-use Rattle.std.proofs.Math.ListN.{get_or-map}
 use Rattle.std.proofs.Math.Seq.{take-suc}
-use Rattle.std.proofs.lemmas.List.{length-append, length-map}
+use Rattle.std.proofs.lemmas.List.{length-append}
 use Rattle.std.proofs.lemmas.List.Elements.{All-cons, All-nil}
 use Rattle.std.proofs.lemmas.Option.{slice_get_within}
 use Rattle.cells.specs.declared.array.ArrayNo.{ArrayNo}
@@ -16,16 +15,17 @@ use Rattle.declarations.specs.Order.AreDeclared.{none, next}
 
 -- those of a list are declared, and then one more
 pub after_them : {old between new : List CellArray} {ds : List Declaration} {d : Declaration}
-    {numbers : List ℕ} {n : ℕ} → AreDeclared old ds numbers between → Declares d between n new
-    → AreDeclared old (ds ++ d ∷ []) (numbers ++ n ∷ []) new
+    {numbers : List ArrayNo} {n : ArrayNo} → AreDeclared old ds numbers between
+    → Declares d between n.number new → AreDeclared old (ds ++ d ∷ []) (numbers ++ n ∷ []) new
 after_them none declares = next declares none
 after_them (next first others) declares = next first (after_them others declares)
 
 -- one more of those of a list
-pub one_more : {old between new : List CellArray} {numbers : List ℕ} {d : Declaration} {n : ℕ}
-    (all : List Declaration) (k : ℕ) (x : Declaration)
+pub one_more : {old between new : List CellArray} {numbers : List ArrayNo} {n : ArrayNo}
+    {d : Declaration} (all : List Declaration) (k : ℕ) (x : Declaration)
     → AreDeclared old (take k all) numbers between → k < length all → d ≡ get_or all k x
-    → Declares d between n new → AreDeclared old (take (k + 1) all) (numbers ++ n ∷ []) new
+    → Declares d between n.number new
+    → AreDeclared old (take (k + 1) all) (numbers ++ n ∷ []) new
 one_more all k x are within d_is declares =
     let next_place : k + 1 ≡ suc k = omega arith in
     rw (next_place, take-suc all k x within, ← d_is) (after_them are declares)
@@ -38,22 +38,15 @@ grown {d} {old} (anew is_new room) =
     (omega (arith, longer), omega (arith, longer))
 
 -- the numbers are those of arrays
-pub all_within : {old new : List CellArray} {ds : List Declaration} {numbers : List ℕ}
+pub all_within : {old new : List CellArray} {ds : List Declaration} {numbers : List ArrayNo}
     → AreDeclared old ds numbers new
-    → All (λ n. n < length new) numbers × (length old ≤ length new)
+    → All (λ n. n.number < length new) numbers × (length old ≤ length new)
 all_within none = (All-nil _, omega arith)
 all_within {new = new} (next {between = between} {n = n} {numbers = numbers} first others) =
     let one = grown first in
     let more = all_within others in
-    let here : n < length new = omega (arith, one.0, more.1) in
-    (All-cons (λ m. m < length new) n numbers here more.0, omega (arith, one.1, more.1))
-
-pub all_numbers : (numbers : List ArrayNo) (n : ℕ)
-    → All (λ m. m < n) (map (λ (no : ArrayNo). no.number) numbers)
-    → All (λ (no : ArrayNo). no.number < n) numbers
-all_numbers numbers n all k d h =
-    subst (λ m. m < n) (get_or-map (λ (no : ArrayNo). no.number) numbers k d)
-    (all k d.number (omega (arith, length-map numbers (λ (no : ArrayNo). no.number), h)))
+    let here : n.number < length new = omega (arith, one.0, more.1) in
+    (All-cons (λ n. n.number < length new) n numbers here more.0, omega (arith, one.1, more.1))
 
 pub as_declared : {d : Declaration} {name : List ℕ} {width : CellWidth} {length : ℕ}
     {quota : Option ℕ} {old new : List CellArray} {n : ℕ} → name ≡ d.name → width ≡ d.width

@@ -6,20 +6,20 @@ use Rattle.cells.specs.declared.fault.CellsFault.{CellsFault}
 use Rattle.cells.specs.Directory.{Declaration, Declares, IsRefusedDeclaration}
 
 -- these declarations give the arrays of these numbers, in the directory after them
-pub data AreDeclared : (old : List CellArray) → List Declaration → List ℕ
+pub data AreDeclared : (old : List CellArray) → List Declaration → List ArrayNo
     → (new : List CellArray) → Type 0 where
   none : {old : List CellArray} → AreDeclared old [] [] old
   -- the first, and the others in the directory after it
-  next : {old between new : List CellArray} {d : Declaration} {ds : List Declaration} {n : ℕ}
-      {numbers : List ℕ} → Declares d old n between → AreDeclared between ds numbers new
-      → AreDeclared old (d ∷ ds) (n ∷ numbers) new
+  next : {old between new : List CellArray} {d : Declaration} {ds : List Declaration} {n : ArrayNo}
+      {numbers : List ArrayNo} → Declares d old n.number between
+      → AreDeclared between ds numbers new → AreDeclared old (d ∷ ds) (n ∷ numbers) new
 
 -- the declaration of this number, counted from 1, is refused, and those before it are declared
 pub record IsRefusedArray (old : List CellArray) (ds : List Declaration) (number : ℕ)
     (fault : CellsFault) (new : List CellArray) : Type 0 where
   pub before : ℕ
   pub number_is : number ≡ before + 1
-  pub numbers : List ℕ
+  pub numbers : List ArrayNo
   pub declared : AreDeclared old (take before ds) numbers new
   pub d : Declaration
   pub stands : slice_get ds before ≡ Some d

@@ -1,9 +1,8 @@
 //! All declarations of a list, one after another.
 
-ghost use Rattle.std.specs.Prelude.{◌≡◌, ◌<◌, length, map, All};
+ghost use Rattle.std.specs.Prelude.{◌≡◌, ◌<◌, length, All};
 ghost use Rattle.std.specs.Prelude.{IfOk, IfErr, OnOk, OnErr};
 ghost use Rattle.cells.specs.Directory.{IsRefusedDeclaration};
-ghost use Rattle.cells.specs.declared.array.ArrayNo.{ArrayNo};
 ghost use Rattle.declarations.specs.Order.{AreDeclared, DeclaresNext, IsRefusedArray};
 
 use crate::declaration::ArrayDeclaration;
@@ -24,8 +23,8 @@ pub fn declare_all(
     directory: &mut Directory,
     declarations: &[ArrayDeclaration],
 ) -> Result<Vec<ArrayNo>, RefusedArray>
-    ensures declared { IfOk result (λ v. AreDeclared directory.old declarations.now
-        (map (λ (no : ArrayNo). no.number) v.items) directory.new) }
+    ensures declared { IfOk result (λ v.
+        AreDeclared directory.old declarations.now v.items directory.new) }
     ensures within { IfOk result (λ v. All (λ no. no.number < length directory.new) v.items) }
     ensures refused { IfErr result (λ e.
         IsRefusedArray directory.old declarations.now e.number e.fault directory.new) }

@@ -1,9 +1,7 @@
-use Rattle.std.proofs.Common.{map, refl, ◌∷◌, []}
-use Rattle.std.proofs.lemmas.List.{map-append}
+use Rattle.std.proofs.Common.{refl}
 use Rattle.std.proofs.lemmas.Option.{slice_get_read}
-use Rattle.cells.specs.declared.array.ArrayNo.{ArrayNo}
 use Rattle.declarations.specs.Order.AreDeclared.{none}
-use Rattle.declarations.proofs.Orders.{all_numbers, all_within, one_more}
+use Rattle.declarations.proofs.Orders.{all_within, one_more}
 use Rattle.declarations.proofs.declare.declare_all.Goals as goal
 
 pub loop-before-init : goal.loop-before-init
@@ -11,13 +9,13 @@ loop-before-init c = rw c.new-numbers.ensures.items none
 
 pub returns-clause-within : goal.returns-clause-within
 returns-clause-within c =
-    all_numbers c.loop-before.numbers.items _ (all_within c.loop-before.invariant).0
+    (all_within c.loop-before.invariant).0
 
 pub returns-in-Err-clause-refused : goal.returns-in-Err-clause-refused
 returns-in-Err-clause-refused c = record {
   before = c.loop-before.before;
   number_is = refl;
-  numbers = map (λ (no : ArrayNo). no.number) c.loop-before.numbers.items;
+  numbers = c.loop-before.numbers.items;
   declared = rw c.in-Err.ensures.same c.loop-before.invariant;
   d = c.index-declarations-before.result;
   stands = slice_get_read c.args.declarations.now _ c.loop-before.before _ refl
@@ -28,6 +26,6 @@ returns-in-Err-clause-refused c = record {
 pub loop-before-preserved : goal.loop-before-preserved
 loop-before-preserved c =
     let more = c.in_default.ensures.declared in
-    rw (more.2, map-append (λ (no : ArrayNo). no.number) c.loop-before.numbers.items (more.0 ∷ []))
+    rw more.2
     (one_more c.args.declarations.now c.loop-before.before _ c.loop-before.invariant
     c.loop-before-test.true c.index-declarations-before.is more.1)
