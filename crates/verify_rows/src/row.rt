@@ -1,17 +1,19 @@
-//! A case of a table: a program, and the verdict on it. A program's lines are divided by ` / `,
-//! which is no text of the assembler.
+//! Tables of programs with their verdicts. A row opens with `- ` and has what is tested, the number
+//! of releases and the verdict, and on the lines below it the program: its lines are divided by
+//! ` / `, which is no text of the assembler.
 
 use bpf_text::assemble;
 use bpf_verify::{Shape, verify_counted};
 use cells::{ArrayNo, CellWidth, Directory};
 use flow_check::Flow;
-use std::alloc::Global;
+use std::alloc::{AllocError, Global};
+use std::process::Abort;
 use std::test::Fail;
 
 /// The arrays of a shape, of which array 0 is the program's map 0: four cells of 64 bits, one of 32
 /// bits, or one of 64 bits with a quota of 2; or all of them, in this order.
 #[derive(Clone, Copy)]
-pub enum Arrays {
+pub(crate) enum Arrays {
     Nothing,
     Wide,
     Narrow,
@@ -19,22 +21,31 @@ pub enum Arrays {
     All,
 }
 
-/// What is tested, the program, the number of releases, and the verdict.
+/// What is tested, the number of releases, the verdict, and the program.
 #[derive(Clone, Copy)]
-pub struct Case {
-    pub name: &'static str,
-    pub program: &'static str,
-    pub releases: u8,
-    pub verdict: &'static str,
+pub(crate) struct Case<'a> {
+    pub(crate) name: &'a str,
+    pub(crate) releases: u8,
+    pub(crate) verdict: &'a str,
+    pub(crate) program: &'a str,
 }
 
-pub fn row(name: &'static str, program: &'static str, releases: u8, verdict: &'static str) -> Case {
-    Case {
+/// The number that digits are.
+fn number(digits: &str) -> Option<u8> {
+    digits.parse().ok()
+}
+
+/// The case of a row; none where it has another form.
+pub(crate) fn case_of(row: &str) -> Option<Case<'_>> {
+    let (head, program) = row.split_once('\n')?;
+    let (name, rest) = head.split_once(" | ")?;
+    let (releases, verdict) = rest.split_once(" | ")?;
+    Some(Case {
         name,
-        program,
-        releases,
+        releases: number(releases)?,
         verdict,
-    }
+        program,
+    })
 }
 
 fn shape_of(alloc: Global, releases: u8, arrays: Arrays) -> Result<Shape, Fail> {
@@ -64,22 +75,21 @@ fn shape_of(alloc: Global, releases: u8, arrays: Arrays) -> Result<Shape, Fail> 
 }
 
 /// The lines of a program, each on its own.
-fn lines(alloc: Global, program: &str) -> Result<String, Fail> {
-    let mut text = String::new(alloc);
-    for line in program.split(" / ") {
-        text.push_str(line)?;
-        text.push('\n')?;
-    }
-    Ok(text)
+pub(crate) fn lines(alloc: Global, program: &str) -> Result<String, AllocError> {
+    program.replace(alloc, " / ", "\n")
 }
 
 /// The printed refusal, or `ok` where the program comes back as it was; and how many entries were
 /// kept at once.
-pub fn judged(alloc: Global, arrays: Arrays, row: &Case) -> Result<(String, usize), Fail> {
-    let text = lines(alloc, row.program)?;
-    let bytes = assemble(alloc, text.as_str())?;
+pub(crate) fn judged(
+    alloc: Global,
+    arrays: Arrays,
+    releases: u8,
+    text: &str,
+) -> Result<(String, usize), Fail> {
+    let bytes = assemble(alloc, text)?;
     let flow = Flow::check(alloc, &bytes)?;
-    let shape = shape_of(alloc, row.releases, arrays)?;
+    let shape = shape_of(alloc, releases, arrays)?;
     let (verdict, count) = verify_counted(alloc, flow, &shape);
     let text = match verdict {
         Ok(verified) if verified.bytes() == bytes.as_slice() => format!(in alloc; "ok")?,
@@ -89,14 +99,18 @@ pub fn judged(alloc: Global, arrays: Arrays, row: &Case) -> Result<(String, usiz
     Ok((text, count))
 }
 
-/// The first row whose program gets another verdict, with that verdict; empty where there is none.
-pub fn wrong(alloc: Global, arrays: Arrays, rows: &[Case]) -> Result<String, Fail> {
-    for row in rows {
-        let (verdict, _) = judged(alloc, arrays, row)?;
-        if verdict.as_str() != row.verdict {
-            let (name, program) = (row.name, row.program);
-            return Ok(format!(in alloc; "{name}: {program}: {verdict}")?);
-        }
+/// Asserts that each program of the table has its verdict.
+pub(crate) fn have_their_verdicts(
+    rt: &impl Abort,
+    alloc: Global,
+    arrays: Arrays,
+    rows: &str,
+) -> Result<(), Fail> {
+    for row in rows.split("\n- ").skip(1) {
+        let case = case_of(row).ok_or("a row of another form")?;
+        let text = lines(alloc, case.program)?;
+        let (verdict, _) = judged(alloc, arrays, case.releases, text.as_str())?;
+        assert!(rt; verdict.as_str() == case.verdict, "{row}: {verdict}");
     }
-    Ok(String::new(alloc))
+    Ok(())
 }
