@@ -1,8 +1,7 @@
 -- What a worker's run comes to, from the world before an event and from the one after it.
 use Rattle.std.proofs.Common.{◌≡◌, ◌≢◌, Global, ℕ, ◌+◌, List, [], ◌∷◌, Ok, Err, ◌⊎◌, inl, inr, refl}
-use Rattle.std.proofs.Common.{sym, ap, subst}
+use Rattle.std.proofs.Common.{sym, subst}
 use Rattle.std.specs.Arc.{arc_value}
-use Rattle.std.proofs.lemmas.Bool.{cases_eq}
 use Rattle.std.specs.declared.sync.Arc.{Arc}
 use Rattle.attrs.specs.Attributes.{Attributes, AreShort}
 use Rattle.bpf_semantics.specs.Program.{ShapedProgram}
@@ -10,15 +9,14 @@ use Rattle.bpf_semantics.specs.State.{opening}
 use Rattle.world.specs.World.{WorldState, Worker, Idle, Running, Ended, IsWorker, HasProgram}
 use Rattle.world.specs.World.{newest, appid_of}
 use Rattle.world.specs.Happens.{Answer, StartsRun, StepsRun, EndsRun, Happens}
-use Rattle.world.specs.Happens.{worker_of}
 use Rattle.world.specs.History.{made_at, EndsDuring}
 use Rattle.world.specs.OwnRun.{ComesTo}
 use Rattle.world.specs.declared.event.Event.{Event}
-use Rattle.world.specs.declared.event.Event.TheVariants.{Start, Step, Finish}
+use Rattle.world.specs.declared.event.Event.TheVariants.{Start, Step, Finish, Swap}
 use Rattle.world.specs.declared.event.Effect.TheVariants as effect
 use Rattle.world.specs.declared.event.WorldFault.{WorldFault}
 use Rattle.world.specs.declared.event.WorldFault.TheVariants as fault
-use Rattle.world.proofs.Workers.{same_worker, within, get_set_same, stays_other}
+use Rattle.world.proofs.Workers.{same_worker, within, get_set_same, stays_other, IsOf, is_of}
 use Rattle.world.proofs.During.{made_by_other, made_idle, later_end, goes_during, ends_during}
 use Rattle.world.proofs.During.{RestsDuring, later_rest}
 
@@ -155,36 +153,55 @@ refused w u k x e f is h same none = record {
       { none = λ attrs start started. absurd cc; comes = as_is w u k x e (Err f) h none });
 }
 
-own : (w u : WorldState) (x : Worker) (e : Event) (r : Answer) → IsWorker w (worker_of e) x
-    → Happens w e r u → Goes w u (worker_of e) x e r
-own w u x (Start k attrs) (Ok effect.Started) is h = started w u k x attrs h
-own w u x (Step k) (Ok effect.Stepped) is h = stepped w u k x is h
-own w u x (Step k) (Ok (effect.Ended choice)) is h = ended w u k choice x is h
-own w u x (Finish k) (Ok (effect.Finished choice instructions number)) is h =
+start_goes : (w u : WorldState) (k : ℕ) (x : Worker) (attrs : Arc Attributes Global) (r : Answer)
+    → IsWorker w k x → Happens w (Start k attrs) r u → Goes w u k x (Start k attrs) r
+start_goes w u k x attrs (Ok effect.Started) is h = started w u k x attrs h
+start_goes w u k x attrs (Err f) is h = refused w u k x (Start k attrs) f is h h.1 refl
+start_goes w u k x attrs (Ok a) is h = absurd h
+
+step_goes : (w u : WorldState) (k : ℕ) (x : Worker) (r : Answer) → IsWorker w k x
+    → Happens w (Step k) r u → Goes w u k x (Step k) r
+step_goes w u k x (Ok effect.Stepped) is h = stepped w u k x is h
+step_goes w u k x (Ok (effect.Ended choice)) is h = ended w u k choice x is h
+step_goes w u k x (Err fault.NoWorker) is h = absurd (within w k x is h.0)
+step_goes w u k x (Err fault.Idle) is h =
+    refused w u k x (Step k) fault.Idle is h h.1 (made_idle k w h.0.0 h.0.1 h.0.2)
+step_goes w u k x (Err f) is h = absurd h.0
+step_goes w u k x (Ok a) is h = absurd h
+
+finish_goes : (w u : WorldState) (k : ℕ) (x : Worker) (r : Answer) → IsWorker w k x
+    → Happens w (Finish k) r u → Goes w u k x (Finish k) r
+finish_goes w u k x (Ok (effect.Finished choice instructions number)) is h =
     let before : Worker = Ended number h.program h.attributes choice instructions in
     carried w u k x Idle before (Finish k) (Ok (effect.Finished choice instructions number)) is
     h.ended
     (rw h.after (get_set_same w.workers k before Idle h.ended)) (λ attrs same start. absurd cc)
     (λ es rs n c m comes. absurd comes)
-own w u x (Start k attrs) (Err f) is h = refused w u k x (Start k attrs) f is h h.1 refl
-own w u x (Finish k) (Err f) is h = refused w u k x (Finish k) f is h h.1 refl
-own w u x (Step k) (Err fault.NoWorker) is h = absurd (within w k x is h.0)
-own w u x (Step k) (Err fault.Idle) is h =
-    refused w u k x (Step k) fault.Idle is h h.1 (made_idle k w h.0.0 h.0.1 h.0.2)
-own w u x (Step k) (Err f) is h = absurd h.0
-own w u x e (Ok a) is h = absurd h
+finish_goes w u k x (Err f) is h = refused w u k x (Finish k) f is h h.1 refl
+finish_goes w u k x (Ok a) is h = absurd h
+
+own : (w u : WorldState) (k : ℕ) (x : Worker) (e : Event) (r : Answer) → IsOf k e → IsWorker w k x
+    → Happens w e r u → Goes w u k x e r
+own w u k x (Start j attrs) r same is h =
+    subst (λ (i : ℕ). Goes w u i x (Start j attrs) r) same
+    (start_goes w u j x attrs r (subst (λ (i : ℕ). IsWorker w i x) (sym same) is) h)
+own w u k x (Step j) r same is h =
+    subst (λ (i : ℕ). Goes w u i x (Step j) r) same
+    (step_goes w u j x r (subst (λ (i : ℕ). IsWorker w i x) (sym same) is) h)
+own w u k x (Finish j) r same is h =
+    subst (λ (i : ℕ). Goes w u i x (Finish j) r) same
+    (finish_goes w u j x r (subst (λ (i : ℕ). IsWorker w i x) (sym same) is) h)
+own w u k x (Swap rules) r same is h = absurd same
 
 pub goes : (w u : WorldState) (k : ℕ) (x : Worker) (e : Event) (r : Answer) → IsWorker w k x
     → Happens w e r u → Goes w u k x e r
-goes w u k x e r is h = elim (cases_eq (worker_of e) k) [
-  | inl same ↦
-      subst (λ (i : ℕ). Goes w u i x e r) same
-      (own w u x e r (subst (λ (i : ℕ). IsWorker w i x) (sym same) is) h)
+goes w u k x e r is h = elim (is_of k e) [
+  | inl mine ↦ own w u k x e r mine is h
   | inr other ↦ record {
     worker = x;
     is_worker = stays_other w u k x e r other h is;
     how = inr (record {
-      none = λ attrs start. absurd (other (ap worker_of start));
+      none = λ attrs start. absurd (other (rw start refl));
       comes = as_is w u k x e r h (made_by_other k w e other);
     });
   }

@@ -12,7 +12,7 @@ use Rattle.world.specs.Counters.{answered}
 use Rattle.world.specs.Happens.{Answer, StartsRun, StepsRun, EndsRun, Happens, Plays, with_step}
 use Rattle.world.specs.Course.{HasOneCourse}
 use Rattle.world.specs.declared.event.Event.{Event}
-use Rattle.world.specs.declared.event.Event.TheVariants.{Start, Step, Finish}
+use Rattle.world.specs.declared.event.Event.TheVariants.{Start, Step, Finish, Swap}
 use Rattle.world.specs.declared.event.Effect.TheVariants as effect
 use Rattle.world.proofs.Runs.{Laws, same_state}
 use Rattle.world.proofs.Safe.{AllSafe, all_safe, happens_safe}
@@ -64,9 +64,11 @@ one_event w u v (Step k) (Ok effect.Stepped) safe g h = one_step w u v k g h
 one_event w u v (Step k) (Ok (effect.Ended choice)) safe g h = one_end w u v k choice g h
 one_event w u v (Finish k) (Ok (effect.Finished choice instructions number)) safe g h =
     g.after ∙ sym h.after
+one_event w u v (Swap rules) (Ok (effect.Swapped number)) safe g h = g.after ∙ sym h.after
 one_event w u v (Start k attrs) (Err f) safe g h = g.1 ∙ sym h.1
 one_event w u v (Step k) (Err f) safe g h = g.1 ∙ sym h.1
 one_event w u v (Finish k) (Err f) safe g h = g.1 ∙ sym h.1
+one_event w u v (Swap rules) (Err f) safe g h = g.1 ∙ sym h.1
 one_event w u v e (Ok a) safe g h = absurd g
 
 one_course_from : Laws → (w u v : WorldState) (es : List Event) (rs : List Answer) → AllSafe w

@@ -11,12 +11,13 @@ use Rattle.cells.specs.declared.event.CellEvent.{CellEvent}
 use Rattle.cells.specs.Events.{AreCells}
 use Rattle.world.specs.World.{WorldState, Worker, Idle, Running, Ended, IsWorker, IsRunning}
 use Rattle.world.specs.Counters.{asked, answered}
-use Rattle.world.specs.Happens.{Answer, Happens, Plays, worker_of}
+use Rattle.world.specs.Happens.{Answer, Happens, Plays}
 use Rattle.world.specs.History.{asked_by, made_at, made_by, EndsDuring}
 use Rattle.world.specs.declared.event.Event.{Event}
-use Rattle.world.specs.declared.event.Event.TheVariants.{Start, Step, Finish}
+use Rattle.world.specs.declared.event.Event.TheVariants.{Start, Step, Finish, Swap}
 use Rattle.world.proofs.Runs.{Laws, AllFit, all_fit, asked_fit, goes_from, ends_from}
 use Rattle.world.proofs.Safe.{AllSafe, happens_safe}
+use Rattle.world.proofs.Workers.{IsOf}
 
 -- ---- what an event does to the counters for a worker
 
@@ -35,11 +36,12 @@ own_test : (k : ℕ) → (k == k) ≡ true
 own_test k = grind arith
 
 -- nothing, where the event is of another worker
-pub made_by_other : (k : ℕ) (w : WorldState) (e : Event) → worker_of e ≢ k → made_at k w e ≡ []
+pub made_by_other : (k : ℕ) (w : WorldState) (e : Event) → ¬ IsOf k e → made_at k w e ≡ []
 made_by_other k w (Step j) other =
     if_false (j == k) (asked_by w.cells (slice_get w.workers k)) (other_test j k other)
 made_by_other k w (Start j attrs) other = refl
 made_by_other k w (Finish j) other = refl
+made_by_other k w (Swap rules) other = refl
 
 made_by_own : (k : ℕ) (w : WorldState) (x : Worker) → IsWorker w k x
     → made_at k w (Step k) ≡ asked_by w.cells (Some x)
@@ -158,6 +160,7 @@ made_at_fit law k w (Step j) fit =
     (asked_by_fit law w.cells (slice_get w.workers k) fit)
 made_at_fit law k w (Start j attrs) fit = tt
 made_at_fit law k w (Finish j) fit = tt
+made_at_fit law k w (Swap rules) fit = tt
 
 pub made_fit : Laws → (k : ℕ) (w v : WorldState) (es : List Event) (rs : List Answer)
     (plays : Plays w es rs v) → AllSafe w → AllFit (made_by k w v es rs plays)

@@ -40,8 +40,8 @@ held_safe rulesets (Taken run n None) (Running number program s) keeps offered s
 held_safe rulesets (Taken run n (Some chosen)) (Ended number program a choice instructions) keeps
     offered stands = (
       offered_as rulesets n number (appid_of run.attributes) (appid_of a) run.program program
-          stands.number_is (ap (λ (b : Attributes). appid_of b) stands.attributes_are) stands.program_is
-          offered,
+          stands.number_is (ap (λ (b : Attributes). appid_of b) stands.attributes_are)
+          stands.program_is offered,
       subst (λ (p : ShapedProgram). choice ≤ p.shape.releases) stands.program_is
           (subst (λ (c : ℕ). c ≤ run.program.shape.releases) stands.choice_is keeps.release),
       subst (λ (p : ShapedProgram). instructions ≤ length p.code) stands.program_is

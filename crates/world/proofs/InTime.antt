@@ -12,7 +12,7 @@ use Rattle.world.specs.Happens.{Answer, StepsRun, EndsRun, Happens, Plays, with_
 use Rattle.world.specs.History.{made_at, EndsDuring}
 use Rattle.world.specs.InTime.{EndsInTime, steps_of, HasEnded}
 use Rattle.world.specs.declared.event.Event.{Event}
-use Rattle.world.specs.declared.event.Event.TheVariants.{Start, Step, Finish}
+use Rattle.world.specs.declared.event.Event.TheVariants.{Start, Step, Finish, Swap}
 use Rattle.world.specs.declared.event.Effect.TheVariants as effect
 use Rattle.world.proofs.Runs.{Laws, follows}
 use Rattle.world.proofs.Safe.{AllSafe, all_safe, happens_safe, is_safe}
@@ -176,6 +176,11 @@ in_time_from law w v k number program s (Step j ∷ es) (r ∷ rs) safe is plays
     (λ t there fits. in_time_from law plays.0 v k number program t es rs
     (happens_safe law w plays.0 (Step j) r safe plays.1) there plays.2 fits)
     (j == k) refl short
+in_time_from law w v k number program s (Swap rules ∷ es) (r ∷ rs) safe is plays short =
+    let kept = stays w plays.0 k number program s (Swap rules) r (λ none. absurd none) plays.1 is in
+    later_as_is w plays.0 k program s (Swap rules) r es rs plays.1 refl
+    (in_time_from law plays.0 v k number program s es rs
+    (happens_safe law w plays.0 (Swap rules) r safe plays.1) kept plays.2 short)
 in_time_from law w v k number program s [] (r ∷ rs) safe is plays short = absurd plays
 in_time_from law w v k number program s (e ∷ es) [] safe is plays short = absurd plays
 

@@ -1,7 +1,9 @@
+pub mod Rulesets
 pub mod Runs
 pub mod Seats
 pub mod Changes
 pub mod Worlds
+pub mod Swaps
 pub mod Opening
 pub mod Safe
 pub mod Held

@@ -13,7 +13,7 @@ use Rattle.ruleset.specs.Rules.{Rules, Offers, OffersOne, OffersSafely}
 use Rattle.world.specs.World.{Idle, ruleset_at, newest, zeros}
 use Rattle.world.specs.StandsFor.{AreKept, IsOpening, parts_of, Parts}
 use Rattle.world.specs.declared.world.World.TheInside.{Inside}
-use Rattle.world.proofs.Worlds.{some_rules}
+use Rattle.world.proofs.Rulesets.{some_rules}
 use Rattle.world.specs.declared.seat.Seat.{Seat}
 use Rattle.world.specs.declared.seat.Seat.TheVariants.{Empty}
 

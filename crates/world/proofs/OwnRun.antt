@@ -226,8 +226,8 @@ own_release law w k place number choice instructions es rs safe run =
     let a = arc_value run.attrs in
     let there = plays_safe law w run.world (take run.start es) (take run.start rs)
     (all_safe w safe) run.plays in
-    let well = opens_well run.program a run.texts_are_short (there.programs number (appid_of a) run.program run.offered)
-    in
+    let always = there.programs number (appid_of a) run.program run.offered in
+    let well = opens_well run.program a run.texts_are_short always in
     let events = since run.start place es in
     let answers = since run.start place rs in
     ends_well run.program (opening a)

@@ -1,6 +1,6 @@
 -- Safety of a world is kept by each event.
-use Rattle.std.proofs.Common.{◌≡◌, ℕ, zero, suc, ◌≤◌, List, [], ◌∷◌, length, Option, Some, Ok, Err}
-use Rattle.std.proofs.Common.{◌⊎◌, inl, inr, sym, subst}
+use Rattle.std.proofs.Common.{◌≡◌, ℕ, zero, suc, ◌≤◌, List, [], ◌∷◌, ◌++◌, length, Option, Some, Ok}
+use Rattle.std.proofs.Common.{Err, ◌⊎◌, inl, inr, sym, subst}
 use Rattle.std.specs.Prelude.{slice_get, slice_set}
 use Rattle.std.specs.Arc.{arc_value}
 use Rattle.attrs.specs.Attributes.{Attributes, AreShort}
@@ -13,11 +13,12 @@ use Rattle.ruleset.specs.Rules.{Rules, AlwaysEndsWell}
 use Rattle.world.specs.World.{WorldState, Worker, Idle, Running, Ended, IsWorker, HasProgram}
 use Rattle.world.specs.World.{HasOneProgram, with_worker, newest, appid_of}
 use Rattle.world.specs.Counters.{cells_after}
-use Rattle.world.specs.Happens.{Answer, StepsRun, Happens, Plays}
+use Rattle.world.specs.Happens.{Answer, StepsRun, SwapsRules, Happens, Plays}
 use Rattle.world.specs.Safe.{IsSafeWorld}
 use Rattle.world.specs.declared.event.Event.{Event}
-use Rattle.world.specs.declared.event.Event.TheVariants.{Start, Step, Finish}
+use Rattle.world.specs.declared.event.Event.TheVariants.{Start, Step, Finish, Swap}
 use Rattle.world.specs.declared.event.Effect.TheVariants as effect
+use Rattle.world.proofs.Rulesets.{still_offered, one_still, all_end_still}
 use Rattle.world.proofs.Runs.{Laws, no_trap, is_short, goes_well, ends_here, follows, cells_kept}
 
 -- ---- a world, worker by worker
@@ -113,6 +114,23 @@ steps_safe law w v k safe h =
       goes_well law w.cells h.program h.from h.to safe.cells worker.1 h.goes_on,
     ))
 
+still_safe : (rs : List Rules) (r : Rules) (x : Worker) → SafeWorker rs x
+    → SafeWorker (rs ++ r ∷ []) x
+still_safe rs r Idle safe = tt
+still_safe rs r (Running number program s) safe =
+    (still_offered rs r number (appid_of s.attributes) program safe.0, safe.1)
+still_safe rs r (Ended number program a choice instructions) safe =
+    (still_offered rs r number (appid_of a) program safe.0, safe.1, safe.2)
+
+swaps_safe : (w v : WorldState) (rules : Rules) (number : ℕ) → AllSafe w
+    → SwapsRules w rules number v → AllSafe v
+swaps_safe w v rules number safe h = rw h.after (record {
+  cells = safe.cells;
+  once = one_still w.rulesets rules safe.once h.one;
+  programs = all_end_still w.rulesets rules safe.programs h.ends;
+  workers = λ k x is. still_safe w.rulesets rules x (safe.workers k x is);
+})
+
 pub happens_safe : Laws → (w v : WorldState) (e : Event) (r : Answer) → AllSafe w
     → Happens w e r v → AllSafe v
 happens_safe law w v (Start k attrs) (Ok effect.Started) safe h =
@@ -127,9 +145,12 @@ happens_safe law w v (Step k) (Ok (effect.Ended choice)) safe h =
     rw h.after (safe_with w k _ w.cells safe safe.cells (worker.0, end.0, end.1))
 happens_safe law w v (Finish k) (Ok (effect.Finished choice instructions number)) safe h =
     rw h.after (safe_with w k Idle w.cells safe safe.cells tt)
+happens_safe law w v (Swap rules) (Ok (effect.Swapped number)) safe h =
+    swaps_safe w v (arc_value rules) number safe h
 happens_safe law w v (Start k attrs) (Err f) safe h = rw h.1 safe
 happens_safe law w v (Step k) (Err f) safe h = rw h.1 safe
 happens_safe law w v (Finish k) (Err f) safe h = rw h.1 safe
+happens_safe law w v (Swap rules) (Err f) safe h = rw h.1 safe
 happens_safe law w v e (Ok x) safe h = absurd h
 
 pub plays_safe : Laws → (w v : WorldState) (es : List Event) (rs : List Answer) → AllSafe w

@@ -1,6 +1,6 @@
 -- What an event makes of a worker that has a run, and of the other workers.
 use Rattle.std.proofs.Common.{◌≡◌, ◌≢◌, Global, ℕ, zero, suc, ◌≤◌, List, [], ◌∷◌, length, Some, Ok}
-use Rattle.std.proofs.Common.{Err, inl, inr, refl, sym, ap, subst, ◌∙◌, arith}
+use Rattle.std.proofs.Common.{Err, ◌⊎◌, inl, inr, refl, sym, ap, subst, ◌∙◌, arith}
 use Rattle.std.specs.Prelude.{slice_get, slice_set}
 use Rattle.std.proofs.lemmas.Bool.{cases_eq}
 use Rattle.std.proofs.lemmas.Option.{slice_get_within}
@@ -9,10 +9,10 @@ use Rattle.attrs.specs.Attributes.{Attributes}
 use Rattle.bpf_semantics.specs.State.{State}
 use Rattle.bpf_semantics.specs.Program.{ShapedProgram}
 use Rattle.world.specs.World.{WorldState, Worker, Idle, Running, Ended, IsWorker, IsRunning}
-use Rattle.world.specs.Happens.{Answer, Happens, worker_of}
+use Rattle.world.specs.Happens.{Answer, Happens}
 use Rattle.world.specs.InTime.{TakesItsStep}
 use Rattle.world.specs.declared.event.Event.{Event}
-use Rattle.world.specs.declared.event.Event.TheVariants.{Start, Step, Finish}
+use Rattle.world.specs.declared.event.Event.TheVariants.{Start, Step, Finish, Swap}
 use Rattle.world.specs.declared.event.Effect.TheVariants as effect
 use Rattle.world.specs.declared.event.WorldFault.TheVariants as fault
 
@@ -46,9 +46,22 @@ get_set_other (a ∷ ws) (suc j) zero y other = refl
 get_set_other (a ∷ ws) (suc j) (suc k) y other =
     get_set_other ws j k y (λ same. other (ap suc same))
 
+-- the event is of the worker of this number; a Swap is of none
+abbrev pub IsOf : ℕ → Event → Type 0
+IsOf k (Start j attrs) = j ≡ k
+IsOf k (Step j) = j ≡ k
+IsOf k (Finish j) = j ≡ k
+IsOf k (Swap rules) = ⊥
+
+pub is_of : (k : ℕ) (e : Event) → IsOf k e ⊎ (¬ IsOf k e)
+is_of k (Start j attrs) = cases_eq j k
+is_of k (Step j) = cases_eq j k
+is_of k (Finish j) = cases_eq j k
+is_of k (Swap rules) = inr (λ none. none)
+
 -- an event leaves the other workers as they are
 pub stays_other : (w u : WorldState) (k : ℕ) (x : Worker) (e : Event) (r : Answer)
-    → worker_of e ≢ k → Happens w e r u → IsWorker w k x → IsWorker u k x
+    → ¬ IsOf k e → Happens w e r u → IsWorker w k x → IsWorker u k x
 stays_other w u k x (Start j attrs) (Ok effect.Started) other h is =
     rw (h.after, get_set_other w.workers j k _ other) is
 stays_other w u k x (Step j) (Ok effect.Stepped) other h is =
@@ -57,9 +70,11 @@ stays_other w u k x (Step j) (Ok (effect.Ended choice)) other h is =
     rw (h.after, get_set_other w.workers j k _ other) is
 stays_other w u k x (Finish j) (Ok (effect.Finished choice instructions number)) other h is =
     rw (h.after, get_set_other w.workers j k _ other) is
+stays_other w u k x (Swap rules) (Ok (effect.Swapped number)) other h is = rw h.after is
 stays_other w u k x (Start j attrs) (Err f) other h is = rw h.1 is
 stays_other w u k x (Step j) (Err f) other h is = rw h.1 is
 stays_other w u k x (Finish j) (Err f) other h is = rw h.1 is
+stays_other w u k x (Swap rules) (Err f) other h is = rw h.1 is
 stays_other w u k x e (Ok a) other h is = absurd h
 
 not_idle : (w : WorldState) (k number : ℕ) (program : ShapedProgram) (s : State)
@@ -94,9 +109,9 @@ finish_refused w u k number program s (Ok a) h is = absurd h
 
 pub stays : (w u : WorldState) (k number : ℕ) (program : ShapedProgram) (s : State) (e : Event)
     (r : Answer)
-    → (worker_of e ≡ k → u ≡ w) → Happens w e r u → IsWorker w k (Running number program s)
+    → (IsOf k e → u ≡ w) → Happens w e r u → IsWorker w k (Running number program s)
     → IsWorker u k (Running number program s)
-stays w u k number program s e r refused h is = elim (cases_eq (worker_of e) k) [
+stays w u k number program s e r refused h is = elim (is_of k e) [
   | inl same ↦ rw (refused same) is
   | inr other ↦ stays_other w u k (Running number program s) e r other h is
 ]
@@ -121,9 +136,13 @@ worker_before w u k x (Step j) (Ok (effect.Ended choice)) h is =
     there_before w.workers j k x _ (subst (λ (a : WorldState). IsWorker a k x) h.after is)
 worker_before w u k x (Finish j) (Ok (effect.Finished choice instructions number)) h is =
     there_before w.workers j k x Idle (subst (λ (a : WorldState). IsWorker a k x) h.after is)
+worker_before w u k x (Swap rules) (Ok (effect.Swapped number)) h is =
+    (x, subst (λ (a : WorldState). IsWorker a k x) h.after is)
 worker_before w u k x (Start j attrs) (Err f) h is =
     (x, subst (λ (a : WorldState). IsWorker a k x) h.1 is)
 worker_before w u k x (Step j) (Err f) h is = (x, subst (λ (a : WorldState). IsWorker a k x) h.1 is)
 worker_before w u k x (Finish j) (Err f) h is =
+    (x, subst (λ (a : WorldState). IsWorker a k x) h.1 is)
+worker_before w u k x (Swap rules) (Err f) h is =
     (x, subst (λ (a : WorldState). IsWorker a k x) h.1 is)
 worker_before w u k x e (Ok a) h is = absurd h

@@ -1,6 +1,6 @@
 -- An event of one worker, from what it makes of the worker's seat.
-use Rattle.std.proofs.Common.{◌≡◌, Global, ℕ, ◌<◌, ◌≤◌, List, length, get_or, Option, Some, None}
-use Rattle.std.proofs.Common.{Ok, Err, refl, sym, ap, subst, ◌∙◌, arith}
+use Rattle.std.proofs.Common.{◌≡◌, Global, ℕ, ◌<◌, List, length, get_or, Some, None}
+use Rattle.std.proofs.Common.{Ok, Err, refl, sym, ap, subst, ◌∙◌}
 use Rattle.std.specs.Arc.{arc_value}
 use Rattle.std.specs.declared.sync.Arc.{Arc}
 use Rattle.attrs.specs.Attributes.{Attributes}
@@ -11,29 +11,20 @@ use Rattle.ruleset.specs.Rules.{Rules, Offers}
 use Rattle.world.specs.World.{WorldState, Worker, Idle, Running, Ended, IsWorker, IsIdle}
 use Rattle.world.specs.World.{HasProgram, with_worker}
 use Rattle.world.specs.World.{ruleset_at, newest, appid_of}
-use Rattle.world.specs.Happens.{Answer, Happens, worker_of}
+use Rattle.world.specs.Happens.{Answer, Happens}
 use Rattle.world.specs.Headline.{IsApplied}
 use Rattle.world.specs.Seats.{SeatStandsFor, WorkerSteps, WorkerFinishes, SeatSteps, SeatFinishes}
 use Rattle.world.specs.Seats.{Opens}
 use Rattle.world.specs.StandsFor.{Parts, WorldStandsFor, AreKept}
 use Rattle.world.specs.declared.seat.Seat.{Seat}
 use Rattle.world.specs.declared.seat.Seat.TheVariants.{Empty, Taken}
-use Rattle.world.specs.declared.event.Event.{Event}
 use Rattle.world.specs.declared.event.Event.TheVariants.{Start, Step, Finish}
 use Rattle.world.specs.declared.event.Effect.TheVariants as effect
 use Rattle.world.specs.declared.event.WorldFault.{WorldFault}
 use Rattle.world.specs.declared.event.WorldFault.TheVariants as fault
 use Rattle.world.proofs.Changes.{with_seat, with_cells, worker_at, is_worker, seat_found}
+use Rattle.world.proofs.Rulesets.{some_rules}
 use Rattle.world.proofs.Changes.{found_stands, stands_with, kept_with, same_world}
-
-pub no_worker : (parts : Parts) (e : Event) (k : ℕ) → worker_of e ≡ k → length parts.seats ≤ k
-    → IsApplied parts e (Err fault.NoWorker) parts
-no_worker parts (Start k attrs) j is past w stands =
-    let many = stands.as_many in (w, (omega (arith, many, is, past), refl), stands)
-no_worker parts (Step k) j is past w stands =
-    let many = stands.as_many in (w, (omega (arith, many, is, past), refl), stands)
-no_worker parts (Finish k) j is past w stands =
-    let many = stands.as_many in (w, (omega (arith, many, is, past), refl), stands)
 
 -- ---- Step
 
@@ -146,9 +137,6 @@ has_program parts w rules appid program stands is offers =
     subst (λ (rs : List Rules). HasProgram rs (newest rs) appid program) stands.rulesets
     (record { rules = rules; ruleset_is = is; offers = offers })
 
-pub some_rules : (a b : Rules) → ◌≡◌ {A = Option Rules} (Some a) (Some b) → a ≡ b
-some_rules a b e = cc
-
 offers_of : (parts : Parts) (w : WorldState) (rules : Rules) (appid : List ℕ)
     (program : ShapedProgram)
     → WorldStandsFor parts w → ruleset_at parts.rulesets (newest parts.rulesets) ≡ Some rules
@@ -169,8 +157,8 @@ unopened parts k attrs rules seat fault.NoApp within found empty newest_is opens
     record {
       idle = is_idle parts w k seat stands within found empty;
       none = λ program has.
-          opens program (offers_of parts w rules (appid_of (arc_value attrs)) program stands newest_is
-          has);
+          opens program
+          (offers_of parts w rules (appid_of (arc_value attrs)) program stands newest_is has);
     },
     refl,
   ),

@@ -1,6 +1,7 @@
--- Events with their answers leave a world no choice.
-use Rattle.std.specs.Prelude.{◌≡◌, List}
-use Rattle.world.specs.World.{WorldState}
+-- Events with their answers leave a world no choice, and no number another ruleset.
+use Rattle.std.specs.Prelude.{◌≡◌, ℕ, List, Some}
+use Rattle.ruleset.specs.Rules.{Rules}
+use Rattle.world.specs.World.{WorldState, ruleset_at}
 use Rattle.world.specs.Happens.{Answer, Plays}
 use Rattle.world.specs.Safe.{IsSafeWorld}
 use Rattle.world.specs.declared.event.Event.{Event}
@@ -9,3 +10,9 @@ use Rattle.world.specs.declared.event.Event.{Event}
 abbrev pub HasOneCourse : Type 0
 HasOneCourse = (w u v : WorldState) (events : List Event) (answers : List Answer)
     → IsSafeWorld w → Plays w events answers u → Plays w events answers v → u ≡ v
+
+-- the ruleset of a number is the ruleset of that number for good
+abbrev pub RulesetsStay : Type 0
+RulesetsStay = (w v : WorldState) (events : List Event) (answers : List Answer) (number : ℕ)
+    (rules : Rules) → Plays w events answers v
+    → ruleset_at w.rulesets number ≡ Some rules → ruleset_at v.rulesets number ≡ Some rules

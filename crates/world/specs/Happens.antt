@@ -6,11 +6,12 @@ use Rattle.bpf_semantics.specs.State.{State, opening}
 use Rattle.bpf_semantics.specs.Step.{step}
 use Rattle.bpf_semantics.specs.Outcome.{Outcome, Going, Done}
 use Rattle.bpf_semantics.specs.Program.{ShapedProgram}
+use Rattle.ruleset.specs.Rules.{Rules, OffersOne, OffersSafely}
 use Rattle.world.specs.World.{WorldState, Worker, Idle, Running, Ended, IsWorker, IsIdle, IsRunning}
-use Rattle.world.specs.World.{with_worker, HasProgram, newest, appid_of}
+use Rattle.world.specs.World.{with_worker, with_ruleset, HasProgram, newest, appid_of}
 use Rattle.world.specs.Counters.{answered, cells_after}
 use Rattle.world.specs.declared.event.Event.{Event}
-use Rattle.world.specs.declared.event.Event.TheVariants.{Start, Step, Finish}
+use Rattle.world.specs.declared.event.Event.TheVariants.{Start, Step, Finish, Swap}
 use Rattle.world.specs.declared.event.Effect.{Effect}
 use Rattle.world.specs.declared.event.Effect.TheVariants as effect
 use Rattle.world.specs.declared.event.WorldFault.{WorldFault}
@@ -63,10 +64,20 @@ pub record FinishesRun (w : WorldState) (k choice instructions number : ℕ)
   pub ended : IsWorker w k (Ended number program attributes choice instructions)
   pub after : v ≡ with_worker w k Idle
 
-abbrev pub worker_of : Event → ℕ
-worker_of (Start k attrs) = k
-worker_of (Step k) = k
-worker_of (Finish k) = k
+-- a Swap: one ruleset more, which has one program for an app, and each that it has ends well. No
+-- worker and no counter is changed
+pub record SwapsRules (w : WorldState) (rules : Rules) (number : ℕ) (v : WorldState) : Type 0 where
+  pub one : OffersOne rules
+  pub ends : OffersSafely rules
+  pub after : v ≡ with_ruleset w rules
+  pub number_is : number ≡ newest v.rulesets
+
+-- there is no worker of the event's number; a Swap has none
+abbrev pub LacksWorker : WorldState → Event → Type 0
+LacksWorker w (Start k attrs) = length w.workers ≤ k
+LacksWorker w (Step k) = length w.workers ≤ k
+LacksWorker w (Finish k) = length w.workers ≤ k
+LacksWorker w (Swap rules) = ⊥
 
 -- the worker is idle, and the newest ruleset has a program for the app, or none
 pub record CanStart (w : WorldState) (k : ℕ) (a : Attributes) : Type 0 where
@@ -81,23 +92,24 @@ pub record HasNoApp (w : WorldState) (k : ℕ) (a : Attributes) : Type 0 where
 
 -- an event is refused by its fault alone, and of several by the lowest
 abbrev pub IsRefusedEvent : WorldState → Event → WorldFault → Type 0
-IsRefusedEvent w event fault.NoWorker = length w.workers ≤ worker_of event
+IsRefusedEvent w event fault.NoWorker = LacksWorker w event
 IsRefusedEvent w (Start k attrs) fault.Busy = (x : Worker) × IsWorker w k x × ¬ IsIdle x
 IsRefusedEvent w (Step k) fault.Idle = (x : Worker) × IsWorker w k x × ¬ IsRunning x
 IsRefusedEvent w (Finish k) fault.Idle = IsWorker w k Idle
 IsRefusedEvent w (Start k attrs) fault.NoApp = HasNoApp w k (arc_value attrs)
 IsRefusedEvent w (Finish k) fault.NotDone = (x : Worker) × IsWorker w k x × IsRunning x
 IsRefusedEvent w (Start k attrs) fault.Memory = CanStart w k (arc_value attrs)
+IsRefusedEvent w (Swap rules) fault.Memory = Unit {0}
 IsRefusedEvent w event e = ⊥
 
--- from one world an event with its answer leads to another; a refused one changes nothing. A swap
--- of rulesets will be one more case
+-- from one world an event with its answer leads to another; a refused one changes nothing
 abbrev pub Happens : WorldState → Event → Answer → WorldState → Type 0
 Happens w (Start k attrs) (Ok effect.Started) v = StartsRun w k (arc_value attrs) v
 Happens w (Step k) (Ok effect.Stepped) v = StepsRun w k v
 Happens w (Step k) (Ok (effect.Ended choice)) v = EndsRun w k choice v
 Happens w (Finish k) (Ok (effect.Finished choice instructions number)) v =
     FinishesRun w k choice instructions number v
+Happens w (Swap rules) (Ok (effect.Swapped number)) v = SwapsRules w (arc_value rules) number v
 Happens w event (Ok e) v = ⊥
 Happens w event (Err e) v = IsRefusedEvent w event e × (v ≡ w)
 

@@ -10,7 +10,7 @@ use Rattle.world.specs.World.{WorldState, Worker, Idle, Running, Ended}
 use Rattle.world.specs.Counters.{asked}
 use Rattle.world.specs.Happens.{Answer, Plays}
 use Rattle.world.specs.declared.event.Event.{Event}
-use Rattle.world.specs.declared.event.Event.TheVariants.{Start, Step, Finish}
+use Rattle.world.specs.declared.event.Event.TheVariants.{Start, Step, Finish, Swap}
 
 -- what a worker's next step asks of the counters
 abbrev pub asked_by : List ℕ → Option Worker → List CellEvent
@@ -24,6 +24,7 @@ abbrev pub made_at : ℕ → WorldState → Event → List CellEvent
 made_at k w (Step j) = if j == k then asked_by w.cells (slice_get w.workers k) else []
 made_at k w (Start j attrs) = []
 made_at k w (Finish j) = []
+made_at k w (Swap rules) = []
 
 -- and all events of a run of the world, in their order
 abbrev pub made_by : (k : ℕ) (w v : WorldState) (events : List Event) (answers : List Answer)

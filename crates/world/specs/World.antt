@@ -1,7 +1,7 @@
 -- The world of a server: its rulesets, numbered from 1, the counters that its runs share, and its
 -- workers, each idle or with a run.
-use Rattle.std.specs.Prelude.{◌≡◌, ℕ, zero, suc, List, [], ◌∷◌, length, replicate, Option, Some}
-use Rattle.std.specs.Prelude.{None, slice_get, slice_set, slice_index_or}
+use Rattle.std.specs.Prelude.{◌≡◌, ℕ, zero, suc, List, [], ◌∷◌, ◌++◌, length, replicate, Option}
+use Rattle.std.specs.Prelude.{Some, None, slice_get, slice_set, slice_index_or}
 use Rattle.attrs.specs.Attributes.{Attributes}
 use Rattle.bpf_semantics.specs.Memory.{cell_count}
 use Rattle.bpf_semantics.specs.State.{State}
@@ -41,6 +41,10 @@ ruleset_at rulesets (suc k) = slice_get rulesets k
 
 abbrev pub newest : List Rules → ℕ
 newest rulesets = length rulesets
+
+-- one ruleset more, which is the newest, and nothing else changed
+abbrev pub with_ruleset : WorldState → Rules → WorldState
+with_ruleset w rules = record w { rulesets = w.rulesets ++ rules ∷ [] }
 
 -- the text of number 0
 abbrev pub appid_of : Attributes → List ℕ

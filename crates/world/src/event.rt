@@ -1,6 +1,7 @@
 //! What happens to a world, and what comes of it.
 
 use attrs::Attrs;
+use ruleset::Ruleset;
 use std::sync::Arc;
 use thiserror::Error;
 
@@ -13,6 +14,8 @@ pub enum Event {
     Step { worker: usize },
     /// The worker gives the choice of its run, and is idle.
     Finish { worker: usize },
+    /// A ruleset comes after the others, and is the newest. Every run goes on under its own.
+    Swap { rules: Arc<Ruleset> },
 }
 
 /// What an event came to.
@@ -30,6 +33,10 @@ pub enum Effect {
     Finished {
         choice: u8,
         instructions: u32,
+        ruleset: usize,
+    },
+    /// The number of the ruleset that is the newest now; the world's first one has 1.
+    Swapped {
         ruleset: usize,
     },
 }
@@ -52,8 +59,8 @@ pub enum WorldFault {
     /// A Finish, and the run isn't done.
     #[error("E5 NotDone")]
     NotDone,
-    /// Memory was refused to `World::new` or to the answers of `play`; or a Start, and an `Arc`
-    /// that it copies has no room for one more owner.
+    /// Memory was refused to `World::new`, to the answers of `play` or to a Swap; or an `Arc` that
+    /// a Start or a Swap copies has no room for one more owner.
     #[error("E6 Memory")]
     Memory,
 }

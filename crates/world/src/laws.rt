@@ -4,7 +4,7 @@
 ghost use Rattle.world.specs.InTime.{TakesItsStep, EndsInTime};
 ghost use Rattle.world.specs.OwnRun.{FinishesItsRun, FinishesStartedRun, ChoosesItsRelease};
 ghost use Rattle.world.specs.Batches.{BatchesJoin, BatchesPart};
-ghost use Rattle.world.specs.Course.{HasOneCourse};
+ghost use Rattle.world.specs.Course.{HasOneCourse, RulesetsStay};
 
 use bpf_semantics::counts_instructions;
 use cells::events_fit;
@@ -36,6 +36,11 @@ pub fn finishes_its_run()
     counts_instructions();
     events_fit();
 }
+
+/// Whatever is played, each number goes on to name the ruleset that it named.
+pub fn rulesets_stay()
+    ensures { RulesetsStay }
+{}
 
 /// Batches of events compose: two runs of the world, one after the other, are one, and one run can
 /// be cut after each event.

@@ -20,7 +20,8 @@ pub fn play(
     ensures run { IfOk result (λ answers. ArePlayed world.old events.now answers.items world.new) }
     // On the way no run traps, or takes more instructions than its program has slots,
     ensures safe { AllWorldsAreSafe world.old events.now }
-    // and each chooses none or a release of its app, in the ruleset under which it started.
+    // and each chooses none or a release of its app, in the ruleset under which it started,
+    // whatever swaps lie between.
     ensures releases { EachFinishIsOfItsRun world.old events.now }
     ensures memory { IfErr result (λ e. e ≡ WorldFault.Memory) }
     ensures unplayed { IfErr result (λ e. world.new ≡ world.old) }

@@ -101,6 +101,7 @@ impl World {
             Event::Start { worker, attrs } => self.start(*worker, attrs),
             Event::Step { worker } => self.step(*worker),
             Event::Finish { worker } => self.finish(*worker),
+            Event::Swap { rules } => self.swap(rules),
         }
     }
 
@@ -142,6 +143,23 @@ impl World {
             return Err(WorldFault::NoWorker);
         }
         self.seats[worker].finish()
+    }
+
+    fn swap(&mut self, rules: &Arc<Ruleset>) -> Result<Effect, WorldFault>
+        ensures happens { IsApplied self.old (Event.Swap rules.now) result self.new }
+        ensures same { IfErr result (λ e. self.new ≡ self.old) }
+    {
+        let sent: &Ruleset = rules;
+        sent.keeps();
+        let Ok(rules) = Arc::try_clone(rules) else {
+            return Err(WorldFault::Memory);
+        };
+        let Ok(()) = self.rulesets.push(rules) else {
+            return Err(WorldFault::Memory);
+        };
+        Ok(Effect::Swapped {
+            ruleset: self.rulesets.len(),
+        })
     }
 
     // The ruleset under which a run starts.

@@ -1,5 +1,5 @@
-//! Tests of rulesets and worlds: lists of events with their effects, and memory that is refused
-//! once in each call of the libraries.
+//! Tests of rulesets and worlds: lists of events with their effects, swaps among them, and memory
+//! that is refused once in each call of the libraries.
 #![tactic(auto)]
 
 #[cfg(test)]
@@ -10,5 +10,7 @@ mod events;
 mod memory;
 #[cfg(test)]
 mod rulesets;
+#[cfg(test)]
+mod swaps;
 #[cfg(test)]
 mod world_cells;

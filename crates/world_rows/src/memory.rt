@@ -150,11 +150,14 @@ fn rulesets(rt: HostRuntime) -> Result<(), Fail> {
     Ok(())
 }
 
+fn shared_rules(alloc: Global) -> Result<Arc<Ruleset>, WorldFault> {
+    let rules = rules_of(alloc, ["x", "y"]).map_err(|_| WorldFault::Memory)?;
+    Arc::new(alloc, rules).map_err(|_| WorldFault::Memory)
+}
+
 /// A world of two workers.
 fn world_of(alloc: Global) -> Result<World, WorldFault> {
-    let rules = rules_of(alloc, ["x", "y"]).map_err(|_| WorldFault::Memory)?;
-    let rules = Arc::new(alloc, rules).map_err(|_| WorldFault::Memory)?;
-    World::new(alloc, 2, rules)
+    World::new(alloc, 2, shared_rules(alloc)?)
 }
 
 /// A whole run of one worker, the first event apart.
@@ -186,13 +189,18 @@ const ANSWERS: [Result<Effect, WorldFault>; 6] = [
     }),
 ];
 
-/// An event wants no memory: it is asked once. A list of events that is refused plays none of them.
+/// A Start, a Step and a Finish want no memory: they are asked once. A Swap that is refused adds no
+/// ruleset, and a list of events that is refused plays none of them.
 #[test]
 fn worlds(rt: HostRuntime) -> Result<(), Fail> {
     let alloc = rt.alloc();
     let mut world = again(WorldFault::Memory, || world_of(alloc))?;
     let (start, events) = again(WorldFault::Memory, || events_of(alloc))?;
+    let rules = again(WorldFault::Memory, || shared_rules(alloc))?;
+    let swap = Event::Swap { rules };
     assert_eq!(rt; world.apply(&start), Ok(Effect::Started));
+    let swapped = again(WorldFault::Memory, || world.apply(&swap))?;
+    assert_eq!(rt; swapped, Effect::Swapped { ruleset: 2 });
     let answers = again(WorldFault::Memory, || {
         play(alloc, &mut world, events.as_slice())
     })?;
