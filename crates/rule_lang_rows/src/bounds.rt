@@ -1,0 +1,128 @@
+// Lengths and depths on both sides of their bounds: a literal of 64 bytes, a name of 32, and 32
+// openers, of which `not` and parentheses count together.
+
+use crate::told::{shape, told};
+use std::alloc::Global;
+use std::process::Abort;
+use std::test::Fail;
+
+// The front, a text so many times, and the back.
+fn around(alloc: Global, front: &str, text: &str, times: u8, back: &str) -> Result<String, Fail> {
+    let mut whole = String::from_str(alloc, front)?;
+    for _ in 0..times {
+        whole.push_str(text)?;
+    }
+    whole.push_str(back)?;
+    Ok(whole)
+}
+
+// Each row is a front, what is repeated and how often, a back, and what is told.
+const LENGTHS: [(&str, &str, u8, &str, &str); 6] = [
+    (
+        "when attr ap is \"",
+        "a",
+        64,
+        "\" offer 1;otherwise none;",
+        "1",
+    ),
+    (
+        "when attr ap is \"",
+        "a",
+        65,
+        "\" offer 1;otherwise none;",
+        "L1 Token at line 1",
+    ),
+    (
+        "count ",
+        "a",
+        32,
+        "[0];otherwise none;",
+        "L3 Name at line 1",
+    ),
+    (
+        "count ",
+        "a",
+        33,
+        "[0];otherwise none;",
+        "L2 Shape at line 1",
+    ),
+    ("when today < ", "0", 99, "1 offer 1;otherwise none;", "1"),
+    (
+        "when bucket(",
+        "9",
+        21,
+        ") < 1 offer 1;otherwise none;",
+        "L4 Range at line 1",
+    ),
+];
+
+#[test]
+fn lengths(rt: HostRuntime) -> Result<(), Fail> {
+    let shape = shape(rt.alloc(), 1)?;
+    for (front, text, times, back, want) in LENGTHS {
+        let whole = around(rt.alloc(), front, text, times, back)?;
+        let got = told(rt.alloc(), whole.as_str(), &shape)?;
+        assert_eq!(rt; got.as_str(), want, "of {front}");
+    }
+    Ok(())
+}
+
+// What opens, what closes it, how many openers one is, and how many of it are lawful.
+const OPENERS: [(&str, &str, u8); 3] = [("not ", "", 32), ("(", ")", 32), ("not (", ")", 16)];
+
+fn nested(alloc: Global, opens: &str, closes: &str, times: u8, last: &str) -> Result<String, Fail> {
+    let inner = around(alloc, "when ", opens, times, last)?;
+    around(
+        alloc,
+        inner.as_str(),
+        closes,
+        times,
+        "and (not flag event) offer 1;otherwise none;",
+    )
+}
+
+fn is_told(rt: &impl Abort, alloc: Global, text: &str, want: &str) -> Result<(), Fail> {
+    let shape = shape(alloc, 1)?;
+    let got = told(alloc, text, &shape)?;
+    assert_eq!(rt; got.as_str(), want, "of {text}");
+    Ok(())
+}
+
+#[test]
+fn depths(rt: HostRuntime) -> Result<(), Fail> {
+    for (opens, closes, most) in OPENERS {
+        let text = nested(rt.alloc(), opens, closes, most, "flag ping ")?;
+        is_told(&rt, rt.alloc(), text.as_str(), "1")?;
+        for deeper in ["\nnot flag ping ", "\n(flag ping) "] {
+            let text = nested(rt.alloc(), opens, closes, most, deeper)?;
+            is_told(&rt, rt.alloc(), text.as_str(), "L4 Range at line 2")?;
+        }
+    }
+    Ok(())
+}
+
+// An L2 comes before the 33rd opener, wherever it stands.
+#[test]
+fn deep_and_misplaced(rt: HostRuntime) -> Result<(), Fail> {
+    let open = around(rt.alloc(), "when ", "(", 33, "\nflag ping")?;
+    is_told(&rt, rt.alloc(), open.as_str(), "L2 Shape at line 2")?;
+    let whole = around(
+        rt.alloc(),
+        open.as_str(),
+        ")",
+        33,
+        " offer 1;otherwise none;",
+    )?;
+    is_told(&rt, rt.alloc(), whole.as_str(), "L4 Range at line 1")?;
+    let more = around(rt.alloc(), whole.as_str(), "\n;", 1, "")?;
+    is_told(&rt, rt.alloc(), more.as_str(), "L2 Shape at line 3")
+}
+
+#[test]
+fn releases(rt: HostRuntime) -> Result<(), Fail> {
+    let two = shape(rt.alloc(), 2)?;
+    let text = "when flag ping offer 2; otherwise none;";
+    let got = told(rt.alloc(), text, &two)?;
+    assert_eq!(rt; got.as_str(), "1");
+    is_told(&rt, rt.alloc(), text, "L4 Range at line 1")
+}

@@ -1,0 +1,140 @@
+// Texts, each with the number of its statements or with its fault. A row is a text, in which `/`
+// stands for LF, `~` for CR and `|` for a tab, and what is told of it.
+
+use crate::told::{shape, told};
+use std::alloc::Global;
+use std::process::Abort;
+use std::test::Fail;
+
+const RULES: &str = r#"
+otherwise none; => 0
+when bucket < 2000 offer 1; otherwise none; => 1
+when bucket < 100 and take(q, 0) offer 1; otherwise none; => 1
+when version < 1.10 offer 1; otherwise none; => 1
+when attr version is "1.0" offer 1; otherwise none; => 1
+when attr ap is "" offer 1; otherwise none; => 1
+count c[3]; otherwise none; => 1
+count c[0];count c[1];~/# the rest~/otherwise none;~/ => 2
+when bucket<10offer 1;otherwise none; => 1
+when bucket(7)<=10 offer 1; otherwise none; => 1
+when bucket(18446744073709551615) >= 4294967295 offer 1; otherwise none; => 1
+when today == 7000 offer 1; otherwise none; => 1
+when installed != 4294967295 offer 1; otherwise none; => 1
+when flag cohort_known offer 1; otherwise none; => 1
+when not not flag ping or flag event and flag updatecheck offer 1; otherwise none; => 1
+when (flag ping or flag event) and not (version > 1) offer 1; otherwise none; => 1
+when version == 0.0.0.4294967295 offer 1; otherwise none; => 1
+|when bucket < 0001 offer 01; otherwise none; => 1
+when attr appid is "a # b ; c" offer 1; otherwise none; # done => 1
+# ~ alone, and @ and é/otherwise none; => 0
+"#;
+
+// No token begins.
+const TOKENS: &str = r#"
+when @ => L1 Token at line 1
+/otherwise none;~ => L1 Token at line 2
+otherwise~ none; => L1 Token at line 1
+when version < 1. offer 1; otherwise none; => L1 Token at line 1
+when version < 1..2 offer 1; otherwise none; => L1 Token at line 1
+when version < 1.2.3.4.5 offer 1; otherwise none; => L1 Token at line 1
+when version < .1 offer 1; otherwise none; => L1 Token at line 1
+when bucket = 1 offer 1; otherwise none; => L1 Token at line 1
+when bucket ! 1 offer 1; otherwise none; => L1 Token at line 1
+when attr ap is "a\b" offer 1; otherwise none; => L1 Token at line 1
+when attr ap is "a/b" offer 1; otherwise none; => L1 Token at line 1
+when attr ap is "open => L1 Token at line 1
+when attr ap is "é" offer 1; otherwise none; => L1 Token at line 1
+offer;/when -1 => L1 Token at line 2
+when bucket < 1 offer 99;//$ otherwise none; => L1 Token at line 3
+"#;
+
+// No rule goes on.
+const SHAPES: &str = r#"
+ => L2 Shape at line 1
+// => L2 Shape at line 3
+when bucket < 10 offer 1;/ => L2 Shape at line 2
+otherwise none => L2 Shape at line 1
+otherwise none;/otherwise none; => L2 Shape at line 2
+otherwise none;/; => L2 Shape at line 2
+when offer 1; otherwise none; => L2 Shape at line 1
+when flag ping and/offer 1; otherwise none; => L2 Shape at line 2
+when flag ping)/offer 1; otherwise none; => L2 Shape at line 1
+when (flag ping/offer 1; otherwise none; => L2 Shape at line 2
+when flag ping flag event offer 1; otherwise none; => L2 Shape at line 1
+when bucket < 1.2 offer 1; otherwise none; => L2 Shape at line 1
+when bucket < 1/offer 1.2; otherwise none; => L2 Shape at line 2
+when bucket < 1 offer; otherwise none; => L2 Shape at line 1
+when bucket(1 < 1 offer 1; otherwise none; => L2 Shape at line 1
+when today(1) < 1 offer 1; otherwise none; => L2 Shape at line 1
+when version 1 offer 1; otherwise none; => L2 Shape at line 1
+when attr is "a" offer 1; otherwise none; => L2 Shape at line 1
+when attr ap "a" offer 1; otherwise none; => L2 Shape at line 1
+when flag version offer 1; otherwise none; => L2 Shape at line 1
+when flag or offer 1; otherwise none; => L2 Shape at line 1
+count when[0]; otherwise none; => L2 Shape at line 1
+count c[0] otherwise none; => L2 Shape at line 1
+count aaaaaaaaaaaaaaaaaaaaaaaaaaaaaaaaa[0]; otherwise none; => L2 Shape at line 1
+when take(q 0) offer 1; otherwise none; => L2 Shape at line 1
+when flag colour offer 9;/otherwise none => L2 Shape at line 2
+count z[9];/count => L2 Shape at line 2
+"#;
+
+// A name that is unknown, or an array of the other kind.
+const NAMES: &str = r#"
+count q[0]; otherwise none; => L3 Name at line 1
+when flag colour offer 1; otherwise none; => L3 Name at line 1
+when attr colour is "a" offer 1; otherwise none; => L3 Name at line 1
+count aaaaaaaaaaaaaaaaaaaaaaaaaaaaaaaa[0]; otherwise none; => L3 Name at line 1
+when take(c, 0) offer 1; otherwise none; => L3 Name at line 1
+when flag colour/or today < 4294967296 offer 1; otherwise none; => L3 Name at line 1
+"#;
+
+// A number out of its range.
+const RANGES: &str = r#"
+when bucket < 10 offer 2; otherwise none; => L4 Range at line 1
+when take(q,/1) offer 1; otherwise none; => L4 Range at line 2
+count c[4]; otherwise none; => L4 Range at line 1
+when bucket < 1 offer 0; otherwise none; => L4 Range at line 1
+when bucket < 4294967296 offer 1; otherwise none; => L4 Range at line 1
+when version < 1.4294967296 offer 1; otherwise none; => L4 Range at line 1
+when bucket(18446744073709551616) < 1 offer 1; otherwise none; => L4 Range at line 1
+when today < 4294967296/or flag colour offer 1; otherwise none; => L4 Range at line 1
+"#;
+
+fn text_of(alloc: Global, row: &str) -> Result<String, Fail> {
+    let mut text = String::new(alloc);
+    for character in row.chars() {
+        text.push(match character {
+            '/' => '\n',
+            '~' => '\r',
+            '|' => '\t',
+            other => other,
+        })?;
+    }
+    Ok(text)
+}
+
+fn each_is_told(rt: &impl Abort, alloc: Global, rows: &str) -> Result<(), Fail> {
+    let shape = shape(alloc, 1)?;
+    for row in rows.lines() {
+        if let Some((text, want)) = row.split_once(" => ") {
+            let text = text_of(alloc, text)?;
+            let got = told(alloc, text.as_str(), &shape)?;
+            assert_eq!(rt; got.as_str(), want, "of {row}");
+        }
+    }
+    Ok(())
+}
+
+#[test]
+fn rules(rt: HostRuntime) -> Result<(), Fail> {
+    each_is_told(&rt, rt.alloc(), RULES)
+}
+
+#[test]
+fn faults(rt: HostRuntime) -> Result<(), Fail> {
+    for rows in [TOKENS, SHAPES, NAMES, RANGES] {
+        each_is_told(&rt, rt.alloc(), rows)?;
+    }
+    Ok(())
+}
