@@ -3,7 +3,6 @@
 ghost use Rattle.std.specs.Prelude.{◌≡◌, codes, option_copied, option_map, IsTrue};
 ghost use Rattle.toml.specs.Data.{get_member};
 ghost use Rattle.toml.specs.View.{view, table_view};
-ghost use Rattle.cells.specs.Directory.{IsDeclaration};
 ghost use Rattle.manifest.specs.Member.{required, text_that};
 ghost use Rattle.manifest.specs.Unread.{Answers};
 ghost use Rattle.manifest.specs.Array as specs;
@@ -14,8 +13,8 @@ use crate::misfit::ArrayMisfit;
 use crate::rows::Row;
 use crate::unread::{Unread, quote};
 use cells::{ArrayName, CellWidth};
+use declarations::ArrayDeclaration;
 use std::alloc::Global;
-use std::marker::Model;
 use toml::{Table, Value};
 
 /// The most cells of an array.
@@ -24,73 +23,17 @@ const MAX_LENGTH: u64 = 4096;
 /// The greatest quota, 2^63 - 1.
 const MAX_QUOTA: u64 = 9223372036854775807;
 
-/// An array as a manifest declares it: of 1 to 4096 cells, with a quota over 64-bit cells alone.
-#[derive(Debug, Drop)]
-pub struct ArrayEntry {
-    name: ArrayName,
-    width: CellWidth,
-    length: u16,
-    quota: Option<u64>,
-}
-
-impl Model for ArrayEntry {
-    ghost use Rattle.cells.specs.Directory.{Declaration, declaration, IsDeclaration};
-
-    ghost Value = { Declaration };
-
-    ghost view = { λ a. declaration a.name a.width a.length a.quota };
-
-    ghost invariant = { λ a. IsDeclaration (declaration a.name a.width a.length a.quota) };
-}
-
-impl ArrayEntry {
-    /// The array's name.
-    pub fn name(&self) -> &str
-        ensures { result.now ≡ self.now.name }
-    {
-        self.name.as_str()
-    }
-
-    /// How wide its cells are.
-    pub fn width(&self) -> CellWidth
-        ensures { result ≡ self.now.width }
-    {
-        self.width
-    }
-
-    /// How many cells it has, 1 to 4096.
-    pub fn length(&self) -> u16
-        ensures { result ≡ self.now.length }
-    {
-        self.length
-    }
-
-    /// How many takes each cell grants.
-    pub fn quota(&self) -> Option<u64>
-        ensures { result ≡ self.now.quota }
-    {
-        self.quota
-    }
-
-    /// What the type keeps. It does nothing: a proof calls it for its clauses.
-    pub fn keeps(&self)
-        ensures { IsDeclaration self.now }
-    {
-        let _width = self.width;
-    }
-}
-
-impl Row for ArrayEntry {
+impl Row for ArrayDeclaration {
     type Misfit = ArrayMisfit;
 
     ghost row_of = { specs.array_of };
 
-    fn read(alloc: Global, table: &Table) -> Result<ArrayEntry, Unread<ArrayMisfit>> {
+    fn read(alloc: Global, table: &Table) -> Result<ArrayDeclaration, Unread<ArrayMisfit>> {
         read_array(alloc, table)
     }
 }
 
-fn read_array(alloc: Global, table: &Table) -> Result<ArrayEntry, Unread<ArrayMisfit>>
+fn read_array(alloc: Global, table: &Table) -> Result<ArrayDeclaration, Unread<ArrayMisfit>>
     ensures { Answers (specs.array_of (table_view table.now)) result }
 {
     if let Some(key) = unknown_member(Kind::Array, table) {
@@ -111,12 +54,7 @@ fn read_array(alloc: Global, table: &Table) -> Result<ArrayEntry, Unread<ArrayMi
     let Ok(name) = ArrayName::of(alloc, name) else {
         return Err(Unread::Memory);
     };
-    Ok(ArrayEntry {
-        name,
-        width,
-        length: length as u16,
-        quota,
-    })
+    Ok(ArrayDeclaration::new(name, width, length as u16, quota))
 }
 
 fn name(table: &Table) -> Option<&str>

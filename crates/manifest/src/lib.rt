@@ -46,7 +46,6 @@ mod twice;
 mod unread;
 
 pub use app::{AppEntry, AppParts, Source};
-pub use array::ArrayEntry;
 pub use fault::{ManifestFault, TomlFault, Twice};
 pub use manifest::{Manifest, ManifestParts};
 pub use misfit::{AppMisfit, ArrayMisfit, InList, Misfit, PackageMisfit, ReleaseMisfit};

@@ -6,7 +6,6 @@ ghost use Rattle.manifest.specs.Unread.{Answers, AnswersList};
 ghost use Rattle.manifest.specs.Manifest as specs;
 
 use crate::app::AppEntry;
-use crate::array::ArrayEntry;
 use crate::fault::Twice;
 use crate::kind::{Kind, unknown_member};
 use crate::member::text;
@@ -15,6 +14,7 @@ use crate::rows::read_rows;
 use crate::twice::repeated_name;
 use crate::unread::{Unread, copy, quote};
 use attrs::Text;
+use declarations::ArrayDeclaration;
 use std::alloc::Global;
 use std::marker::Model;
 use toml::Table;
@@ -29,7 +29,7 @@ const MAX_APPS: usize = 256;
 #[derive(Drop)]
 pub struct Manifest {
     server: Text,
-    arrays: Vec<ArrayEntry>,
+    arrays: Vec<ArrayDeclaration>,
     apps: Vec<AppEntry>,
 }
 
@@ -54,7 +54,7 @@ impl Manifest {
     }
 
     /// The arrays, in order: a program's map i is the i-th, from 0.
-    pub fn arrays(&self) -> &[ArrayEntry]
+    pub fn arrays(&self) -> &[ArrayDeclaration]
         ensures { result.now ≡ self.now.arrays }
     {
         self.arrays.as_slice()
@@ -72,7 +72,7 @@ impl Manifest {
 #[derive(Drop)]
 pub struct ManifestParts {
     pub server: Text,
-    pub arrays: Vec<ArrayEntry>,
+    pub arrays: Vec<ArrayDeclaration>,
     pub apps: Vec<AppEntry>,
 }
 
@@ -118,7 +118,10 @@ pub(crate) fn read_tables(alloc: Global, table: &Table) -> Result<Manifest, Unre
     })
 }
 
-fn read_arrays(alloc: Global, table: &Table) -> Result<Vec<ArrayEntry>, Unread<InList<ArrayMisfit>>>
+fn read_arrays(
+    alloc: Global,
+    table: &Table,
+) -> Result<Vec<ArrayDeclaration>, Unread<InList<ArrayMisfit>>>
     ensures { AnswersList (specs.arrays_of (table_view table.now)) result }
 {
     read_rows(alloc, table, "array", 0, MAX_ARRAYS)

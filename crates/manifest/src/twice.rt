@@ -6,7 +6,7 @@ ghost use Rattle.std.specs.Str.{bytes_eq};
 ghost use Rattle.manifest.specs.Twice.{repeated};
 
 use crate::app::AppEntry;
-use crate::array::ArrayEntry;
+use declarations::ArrayDeclaration;
 
 /// What has a name that stands once in its list.
 pub(crate) trait Named {
@@ -16,11 +16,11 @@ pub(crate) trait Named {
         ensures { result.now ≡ name_of self.now };
 }
 
-impl Named for ArrayEntry {
+impl Named for ArrayDeclaration {
     ghost name_of = { λ a. a.name };
 
     fn name(&self) -> &str {
-        ArrayEntry::name(self)
+        ArrayDeclaration::name(self)
     }
 }
 

@@ -2,7 +2,8 @@
 
 use crate::sample::{SAMPLE, read, told};
 use cells::CellWidth;
-use manifest::{AppEntry, ArrayEntry, ManifestFault, Source, TomlFault};
+use declarations::ArrayDeclaration;
+use manifest::{AppEntry, ManifestFault, Source, TomlFault};
 use releases::{Package, Release};
 use std::alloc::Global;
 use std::process::Abort;
@@ -65,7 +66,7 @@ fn what_is_read(rt: HostRuntime) -> Result<(), Fail> {
     is_app(&rt, manifest.apps())
 }
 
-fn is_array(rt: &impl Abort, arrays: &[ArrayEntry]) -> Result<(), Fail> {
+fn is_array(rt: &impl Abort, arrays: &[ArrayDeclaration]) -> Result<(), Fail> {
     let array = arrays.first().ok_or("no array")?;
     assert_eq!(rt; array.name(), "q");
     assert_eq!(rt; array.width(), CellWidth::Bits64);
