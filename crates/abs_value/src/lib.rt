@@ -81,6 +81,7 @@ pub use origin::{Lookup, Origin};
 pub use places::{CONTEXT_SIZE, Places, STACK_SIZE};
 pub use relation::Relation;
 pub use slot::AbsSlot;
+pub use stack::byte_count;
 pub use state::AbsState;
 pub use value::Abs;
 pub use worked::{bit_operations, differences, shifts, sizes, sums};

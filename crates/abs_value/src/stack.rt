@@ -4,7 +4,7 @@
 ghost use Rattle.std.specs.Prelude.{◌≡◌, ◌≤◌, ◌<◌, ◌+◌, ◌-◌, ◌*◌, ◌^◌, ◌%◌, ℤ, pos, negsuc, ◌≤ℤ◌};
 ghost use Rattle.std.specs.Prelude.{length};
 ghost use Rattle.bpf_semantics.specs.Memory.{stack_size};
-ghost use Rattle.bpf_semantics.specs.Reads.{byte_count};
+ghost use Rattle.bpf_semantics.specs.Reads as counts;
 ghost use Rattle.abs_value.specs.Stack as slots;
 
 use crate::places::STACK_SIZE;
@@ -55,10 +55,10 @@ pub fn load(stack: &[AbsSlot; 64], place: u16, kind: LoadKind) -> Abs
 }
 
 /// How many bytes a store writes.
-fn byte_count_of(size: Size) -> u16
-    ensures count { result ≡ byte_count size }
-    ensures some { 1 ≤ result }
-    ensures eight { result ≤ 8 }
+pub fn byte_count(size: Size) -> u16
+    ensures count { result ≡ counts.byte_count size }
+    ensures least { 1 ≤ result }
+    ensures most { result ≤ 8 }
 {
     match size {
         Size::Byte => 1,
@@ -87,10 +87,10 @@ fn bits_of(place: u16, count: u16) -> u16
 /// What a store of so many low bytes of a value to a place leaves: a whole slot keeps the value, of
 /// any other slot that it touches only the set bytes are known.
 pub fn store(stack: &mut [AbsSlot; 64], place: u16, size: Size, value: Abs)
-    requires { place + byte_count size ≤ stack_size }
-    ensures { stack.new ≡ slots.stored stack.old place (byte_count size) value }
+    requires { place + counts.byte_count size ≤ stack_size }
+    ensures { stack.new ≡ slots.stored stack.old place (counts.byte_count size) value }
 {
-    let count = byte_count_of(size);
+    let count = byte_count(size);
     let slot = (place / 8) as usize;
     if count == 8 && place % 8 == 0 {
         stack[slot] = AbsSlot::Kept(value);

@@ -5,6 +5,7 @@ ghost use Rattle.bpf_semantics.specs.Counters.{atomic_count};
 ghost use Rattle.bpf_semantics.specs.Reads as counts;
 ghost use Rattle.bpf_rules.specs.Reads as reads;
 
+use abs_value::byte_count;
 use bpf_insn::{AtomicSize, LoadKind, Reg, Size};
 
 /// What is done to memory.
@@ -39,19 +40,6 @@ pub fn load_count(kind: LoadKind) -> u16
         LoadKind::Half | LoadKind::SignedHalf => 2,
         LoadKind::Word | LoadKind::SignedWord => 4,
         LoadKind::Double => 8,
-    }
-}
-
-/// How many bytes a store writes.
-pub fn byte_count(size: Size) -> u16
-    ensures count { result ≡ counts.byte_count size }
-    ensures most { result ≤ 8 }
-{
-    match size {
-        Size::Byte => 1,
-        Size::Half => 2,
-        Size::Word => 4,
-        Size::Double => 8,
     }
 }
 

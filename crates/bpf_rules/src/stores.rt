@@ -7,12 +7,12 @@ ghost use Rattle.bpf_rules.specs.Memory as memory;
 ghost use Rattle.bpf_rules.specs.Rules as rules;
 ghost use Rattle.bpf_rules.specs.Transfer.{stored_at};
 
-use crate::access::{Access, byte_count};
+use crate::access::Access;
 use crate::memory::{
     changes_context, is_no_address, is_outside, is_slot, reaches_quota, stack_place,
 };
 use crate::refusal::Rule;
-use abs_value::{Abs, AbsState};
+use abs_value::{Abs, AbsState, byte_count};
 use bpf_insn::{Insn, Reg, Size};
 use cells::Shape;
 
