@@ -1,5 +1,7 @@
 -- The attributes of one app of a request at a moment: its context, and its texts by number.
-use Rattle.std.specs.Prelude.{ℕ, ◌+◌, ◌≤◌, All, List, [], ◌∷◌, length, replicate, Bool, nat_le, Option, Some, None, is_some, option_and_then, unwrap_or, if◌then◌else◌}
+use Rattle.std.specs.Prelude.{ℕ, ◌+◌, ◌≤◌, All, List, [], ◌∷◌, length, replicate}
+use Rattle.std.specs.Prelude.{Bool, nat_le, Option, Some, None, is_some}
+use Rattle.std.specs.Prelude.{option_and_then, unwrap_or, if◌then◌else◌}
 use Rattle.attrs.specs.Context.{Context, updatecheck, version_known, unknown_day}
 use Rattle.attrs.specs.Version.{version_of}
 

@@ -1,5 +1,7 @@
 -- Which bucket an app is in: the one that its cohort names, or else a hash of who asks.
-use Rattle.std.specs.Prelude.{ℕ, ◌+◌, ◌/◌, ◌%◌, List, [], ◌∷◌, ◌++◌, length, drop, codes, nat_eq, Bool, ◌&&◌, ◌==◌, Option, None, option_and_then, unwrap_or, if◌then◌else◌}
+use Rattle.std.specs.Prelude.{ℕ, ◌+◌, ◌/◌, ◌%◌, List, [], ◌∷◌, ◌++◌}
+use Rattle.std.specs.Prelude.{length, drop, codes, nat_eq, Bool, ◌&&◌, ◌==◌}
+use Rattle.std.specs.Prelude.{Option, None, option_and_then, unwrap_or, if◌then◌else◌}
 use Rattle.std.specs.List.{starts_with}
 use Rattle.std.specs.Str.{byte}
 use Rattle.attrs.specs.declared.facts.AppFacts.{AppFacts}

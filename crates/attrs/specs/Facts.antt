@@ -1,10 +1,12 @@
 -- The attributes of an app, from what its request says of it and the moment at which it asks.
-use Rattle.std.specs.Prelude.{ℕ, ◌+◌, ℤ, List, [], ◌∷◌, map, replicate, Bool, nat_lt, Option, Some, None, is_some, option_and_then, unwrap_or, if◌then◌else◌}
+use Rattle.std.specs.Prelude.{ℕ, ◌+◌, ℤ, List, [], ◌∷◌, map, replicate, Bool, nat_lt, Option}
+use Rattle.std.specs.Prelude.{Some, None, is_some, option_and_then, unwrap_or, if◌then◌else◌}
 use Rattle.attrs.specs.declared.facts.AppFacts.{AppFacts}
 use Rattle.attrs.specs.declared.facts.RequestFacts.{RequestFacts}
 use Rattle.attrs.specs.Attributes.{Attributes, kept_text}
 use Rattle.attrs.specs.Bucket.{named_bucket, app_bucket}
-use Rattle.attrs.specs.Context.{Context, version_known, updatecheck, ping, event, cohort_known, installdate_known, unknown_day}
+use Rattle.attrs.specs.Context.{Context, version_known, updatecheck, ping, event}
+use Rattle.attrs.specs.Context.{cohort_known, installdate_known, unknown_day}
 use Rattle.attrs.specs.Moment.{elapsed_days, elapsed_seconds}
 use Rattle.attrs.specs.Version.{version_of}
 

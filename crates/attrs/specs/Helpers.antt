@@ -1,5 +1,6 @@
 -- What a program's helpers answer of an app: functions of its attributes alone.
-use Rattle.std.specs.Prelude.{ℕ, ◌%◌, List, ◌++◌, length, Option, Some, None, slice_get, bytes_eq, if◌then◌else◌}
+use Rattle.std.specs.Prelude.{ℕ, ◌%◌, List, ◌++◌, length}
+use Rattle.std.specs.Prelude.{Option, Some, None, slice_get, bytes_eq, if◌then◌else◌}
 use Rattle.std.specs.Int.{w64, to_le_bytes}
 use Rattle.attrs.specs.Attributes.{Attributes}
 use Rattle.attrs.specs.Bucket.{four_digits}

@@ -1,6 +1,7 @@
 -- What a version text means: one to four decimal numbers from 0 to 4294967295, joined by single
 -- dots. Leading zeros are allowed, and missing numbers are 0.
-use Rattle.std.specs.Prelude.{ℕ, ◌-◌, ◌^◌, List, ◌++◌, length, map, replicate, Bool, ◌&&◌, nat_lt, nat_le, ◌==◌, Option, Some, None, if◌then◌else◌}
+use Rattle.std.specs.Prelude.{ℕ, ◌-◌, ◌^◌, List, ◌++◌, length, map, replicate}
+use Rattle.std.specs.Prelude.{Bool, ◌&&◌, nat_lt, nat_le, ◌==◌, Option, Some, None, if◌then◌else◌}
 use Rattle.std.specs.List.{slice_split, list_all}
 use Rattle.std.specs.Str.{all_ascii_digits, byte}
 use Rattle.std.specs.Str.Parse.{digits_value}

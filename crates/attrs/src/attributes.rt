@@ -1,6 +1,7 @@
 // The attributes of an app: its context, and seven texts by number.
 
-ghost use Rattle.std.specs.Prelude.{◌≡◌, ◌<◌, ◌≤◌, length, [], slice_index_or, IfOk, string_bytes, option_copied};
+ghost use Rattle.std.specs.Prelude.{◌≡◌, ◌<◌, ◌≤◌, length, [], slice_index_or};
+ghost use Rattle.std.specs.Prelude.{IfOk, string_bytes, option_copied};
 ghost use Rattle.attrs.specs.Context.{HasRanges};
 ghost use Rattle.attrs.specs.Attributes.{kept_text, AreShort};
 

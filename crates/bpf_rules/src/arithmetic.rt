@@ -29,7 +29,8 @@ fn moves_address(bits: Bits, op: AluOp, a: Abs, b: Abs) -> bool
 /// The first rule that an operation of two operands breaks.
 #[tactic(auto, unfolding(crate::specs::Rules::first_rule))]
 pub fn alu_rule(e: &AbsState, bits: Bits, op: AluOp, dst: Reg, src: Operand) -> Option<Rule>
-    ensures { (shape : AppShape) → rules.first_rule shape e.now (Insn.Alu bits op dst src) ≡ result }
+    ensures { (shape : AppShape)
+        → rules.first_rule shape e.now (Insn.Alu bits op dst src) ≡ result }
 {
     let a = e.value(dst);
     let b = e.operand(bits, src);

@@ -116,7 +116,8 @@ pub fn atomic_rule(
     }
 }
 
-/// What an atomic operation leaves: any number of the cell in the register that takes the old value.
+/// What an atomic operation leaves: any number of the cell in the register that takes the old
+/// value.
 pub fn exchange_in(e: &mut AbsState, op: AtomicOp, size: AtomicSize, src: Reg)
     ensures { let r = counters.fetched op src in
         e.new ≡ transfer.with_fetched e.old r (transfer.fetched_value size) }

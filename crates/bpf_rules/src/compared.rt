@@ -27,7 +27,8 @@ impl Compared {
     /// What an instruction compares. Where it doesn't tell what a lookup gave, nothing else changes
     /// on the edge that jumps.
     pub fn of(e: &AbsState, insn: &Insn) -> Compared
-        ensures { rules.is_lookup_check e.now insn.now ≡ false → transfer.Restores e.now insn.now result }
+        ensures { rules.is_lookup_check e.now insn.now ≡ false
+            → transfer.Restores e.now insn.now result }
     {
         match *insn {
             Insn::JumpIf {

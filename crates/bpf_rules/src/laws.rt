@@ -1,6 +1,6 @@
 //! What the rules are worth: where none fails, a step of the machine is no trap, and leads along an
-//! edge to a state that is stood for again. The functions have no work to do; a proof calls them for
-//! their clauses.
+//! edge to a state that is stood for again. The functions have no work to do; a proof calls them
+//! for their clauses.
 
 ghost use Rattle.bpf_rules.specs.Sound as sound;
 

@@ -58,7 +58,8 @@ pub fn step_in(e: &mut AbsState, shape: &Shape, slot: u16, insn: &Insn)
     }
 }
 
-/// What is known on the edge that jumps. `false` where no run takes it, and then nothing is changed.
+/// What is known on the edge that jumps. `false` where no run takes it, and then nothing is
+/// changed.
 pub fn jump_in(e: &mut AbsState, insn: &Insn) -> bool
     ensures { IsEdge result (transfer.jumping e.old insn.now) e.old e.new }
 {

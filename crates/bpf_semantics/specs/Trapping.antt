@@ -13,7 +13,8 @@ use Rattle.bpf_insn.specs.declared.operand.Operand.TheVariants.{Imm, Register}
 use Rattle.bpf_insn.specs.declared.operand.Size.TheVariants as size
 use Rattle.bpf_insn.specs.declared.operand.WideValue.TheVariants.{Number}
 use Rattle.bpf_insn.specs.declared.insn.Insn.{Insn}
-use Rattle.bpf_insn.specs.declared.insn.Insn.TheVariants.{Alu, Mov, MovSx, Neg, End, Jump, JumpIf, Exit, Load, StoreImm, Store, Wide}
+use Rattle.bpf_insn.specs.declared.insn.Insn.TheVariants.{Alu, Mov, MovSx, Neg, End, Jump, JumpIf}
+use Rattle.bpf_insn.specs.declared.insn.Insn.TheVariants.{Exit, Load, StoreImm, Store, Wide}
 use Rattle.bpf_insn.specs.Program.{Program, layout}
 
 -- one instruction, from the opening state

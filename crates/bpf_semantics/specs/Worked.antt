@@ -10,7 +10,8 @@ use Rattle.bpf_insn.specs.declared.operand.EndSize.TheVariants.{Half}
 use Rattle.bpf_insn.specs.declared.operand.Extension.TheVariants.{Byte64, Byte32}
 use Rattle.bpf_insn.specs.declared.operand.Operand.TheVariants.{Imm, Register}
 use Rattle.bpf_insn.specs.declared.operand.WideValue.TheVariants.{Number}
-use Rattle.bpf_insn.specs.declared.insn.Insn.TheVariants.{Alu, Mov, MovSx, Neg, End, Jump, JumpIf, Exit, Wide}
+use Rattle.bpf_insn.specs.declared.insn.Insn.TheVariants.{Alu, Mov, MovSx, Neg, End}
+use Rattle.bpf_insn.specs.declared.insn.Insn.TheVariants.{Jump, JumpIf, Exit, Wide}
 use Rattle.bpf_insn.specs.Program.{Program, layout}
 
 -- mov r0, 0 / exit

@@ -11,7 +11,8 @@ use Rattle.bpf_insn.specs.declared.operand.LoadKind.TheVariants as load
 use Rattle.bpf_insn.specs.declared.operand.Operand.TheVariants.{Imm, Register}
 use Rattle.bpf_insn.specs.declared.operand.Size.TheVariants as size
 use Rattle.bpf_insn.specs.declared.operand.WideValue.TheVariants.{Map, Cell}
-use Rattle.bpf_insn.specs.declared.insn.Insn.TheVariants.{Alu, Mov, JumpIf, Call, Exit, Load, Store, StoreImm, Atomic, Wide}
+use Rattle.bpf_insn.specs.declared.insn.Insn.TheVariants.{Alu, Mov, JumpIf, Call, Exit, Load}
+use Rattle.bpf_insn.specs.declared.insn.Insn.TheVariants.{Store, StoreImm, Atomic, Wide}
 use Rattle.bpf_insn.specs.Program.{Program, layout}
 use Rattle.cells.specs.declared.array.CellArray.{CellArray}
 use Rattle.cells.specs.declared.array.CellWidth.{CellWidth}

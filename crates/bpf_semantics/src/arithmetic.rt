@@ -2,11 +2,13 @@
 //! Instructions" and "Byte Swap Instructions").
 
 ghost use Rattle.std.specs.Prelude.{◌≡◌, pos, negsuc};
-ghost use Rattle.bpf_insn.specs.declared.operand.AluOp.TheVariants.{Add, Sub, Or, And, Xor, Lsh, Rsh, Arsh};
+ghost use Rattle.bpf_insn.specs.declared.operand.AluOp.TheVariants.{Add, Sub, Or, And};
+ghost use Rattle.bpf_insn.specs.declared.operand.AluOp.TheVariants.{Xor, Lsh, Rsh, Arsh};
 ghost use Rattle.bpf_insn.specs.declared.operand.Bits.TheVariants.{Bits64, Bits32};
 ghost use Rattle.bpf_insn.specs.declared.operand.ByteOrder.TheVariants.{Little, Big, Swap};
 ghost use Rattle.bpf_insn.specs.declared.operand.EndSize.TheVariants.{Half, Word, Double};
-ghost use Rattle.bpf_insn.specs.declared.operand.Extension.TheVariants.{Byte64, Half64, Word64, Byte32, Half32};
+ghost use Rattle.bpf_insn.specs.declared.operand.Extension.TheVariants.{Byte64, Half64};
+ghost use Rattle.bpf_insn.specs.declared.operand.Extension.TheVariants.{Word64, Byte32, Half32};
 ghost use Rattle.bpf_insn.specs.Words.{immediate};
 ghost use Rattle.bpf_insn.specs.Arithmetic.{alu_result, negated, extended, reordered};
 

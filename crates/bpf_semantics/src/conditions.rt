@@ -3,7 +3,8 @@
 
 ghost use Rattle.std.specs.Prelude.{IsTrue, IsFalse};
 ghost use Rattle.bpf_insn.specs.declared.operand.Bits.TheVariants.{Bits64, Bits32};
-ghost use Rattle.bpf_insn.specs.declared.operand.Condition.TheVariants.{Eq, Gt, Ge, Set, Ne, Sgt, Sge, Lt, Le, Slt, Sle};
+ghost use Rattle.bpf_insn.specs.declared.operand.Condition.TheVariants.{Eq, Gt, Ge, Set, Ne, Sgt};
+ghost use Rattle.bpf_insn.specs.declared.operand.Condition.TheVariants.{Sge, Lt, Le, Slt, Sle};
 ghost use Rattle.bpf_insn.specs.Conditions.{holds};
 
 /// `jeq`, `jne`, and `jset`, which asks for a common bit.

@@ -7,7 +7,8 @@ ghost use Rattle.bpf_insn.specs.declared.operand.AtomicSize.TheVariants as width
 ghost use Rattle.bpf_insn.specs.declared.operand.LoadKind.TheVariants as load;
 ghost use Rattle.bpf_insn.specs.declared.operand.Size.TheVariants as size;
 ghost use Rattle.bpf_insn.specs.declared.operand.WideValue.TheVariants.{Map, Cell};
-ghost use Rattle.bpf_insn.specs.declared.insn.Insn.TheVariants.{Load, Store, StoreImm, Atomic, Wide, Call};
+ghost use Rattle.bpf_insn.specs.declared.insn.Insn.TheVariants.{Load, Store, StoreImm};
+ghost use Rattle.bpf_insn.specs.declared.insn.Insn.TheVariants.{Atomic, Wide, Call};
 ghost use Rattle.bpf_semantics.specs.Run.{AlwaysTraps};
 ghost use Rattle.bpf_semantics.specs.Trapping.{single};
 ghost use Rattle.bpf_semantics.specs.TrappingCells as traps;

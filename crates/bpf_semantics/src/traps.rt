@@ -8,7 +8,8 @@ ghost use Rattle.bpf_insn.specs.declared.operand.LoadKind.TheVariants as load;
 ghost use Rattle.bpf_insn.specs.declared.operand.Operand.TheVariants.{Imm};
 ghost use Rattle.bpf_insn.specs.declared.operand.Size.TheVariants as size;
 ghost use Rattle.bpf_insn.specs.declared.operand.WideValue.TheVariants.{Number};
-ghost use Rattle.bpf_insn.specs.declared.insn.Insn.TheVariants.{Alu, Mov, Load, StoreImm, Store, Wide};
+ghost use Rattle.bpf_insn.specs.declared.insn.Insn.TheVariants.{Alu, Mov, Load};
+ghost use Rattle.bpf_insn.specs.declared.insn.Insn.TheVariants.{StoreImm, Store, Wide};
 ghost use Rattle.bpf_semantics.specs.Run.{AlwaysTraps};
 ghost use Rattle.bpf_semantics.specs.Trapping as traps;
 

@@ -9,7 +9,8 @@ use Rattle.bpf_insn.specs.declared.operand.WideValue.TheVariants as wide
 use Rattle.bpf_insn.specs.declared.insn.Insn.{Insn}
 use Rattle.bpf_insn.specs.declared.insn.Insn.TheVariants as insn
 use Rattle.bpf_text.specs.declared.argument.Argument.{Argument}
-use Rattle.bpf_text.specs.declared.argument.Argument.TheVariants.{Register, Imm, Number, Memory, Distance}
+use Rattle.bpf_text.specs.declared.argument.Argument.TheVariants.{Register, Imm, Number}
+use Rattle.bpf_text.specs.declared.argument.Argument.TheVariants.{Memory, Distance}
 use Rattle.bpf_text.specs.declared.three.UpToThree.{UpToThree}
 use Rattle.bpf_text.specs.declared.mnemonic.Mnemonic.{Mnemonic}
 use Rattle.bpf_text.specs.declared.mnemonic.Mnemonic.TheVariants as word

@@ -1,5 +1,7 @@
 -- The bytes that a text stands for, or its first fault: lines one by one, then jumps to labels.
-use Rattle.std.specs.Prelude.{◌≡◌, ℕ, ◌+◌, ◌*◌, ◌≤◌, ◌⊎◌, ◌^◌, ℤ, pos, neg_ℤ, ◌-ℤ◌, int_le, int_lt, List, [], ◌∷◌, ◌++◌, length, Option, Some, None, is_some, Result, Ok, Err, Bool, true, false, nat_lt, ◌&&◌, if◌then◌else◌}
+use Rattle.std.specs.Prelude.{◌≡◌, ℕ, ◌+◌, ◌*◌, ◌≤◌, ◌⊎◌, ◌^◌, ℤ, pos, neg_ℤ, ◌-ℤ◌, int_le, int_lt}
+use Rattle.std.specs.Prelude.{List, [], ◌∷◌, ◌++◌, length, Option, Some, None, is_some}
+use Rattle.std.specs.Prelude.{Result, Ok, Err, Bool, true, false, nat_lt, ◌&&◌, if◌then◌else◌}
 use Rattle.std.specs.Str.{bytes_eq}
 use Rattle.bpf_insn.specs.declared.operand.Distance.TheVariants.{Short, Long}
 use Rattle.bpf_insn.specs.declared.insn.Insn.{Insn}

@@ -1,5 +1,6 @@
 -- The text that a listing gives: a line an instruction, and which bytes have a listing.
-use Rattle.std.specs.Prelude.{◌≡◌, ℕ, ◌+◌, ◌*◌, ◌<◌, ℤ, pos, negsuc, suc, List, [], ◌∷◌, ◌++◌, length, take, Option, Some, None, Result, Ok, Err, codes}
+use Rattle.std.specs.Prelude.{◌≡◌, ℕ, ◌+◌, ◌*◌, ◌<◌, ℤ, pos, negsuc, suc, List, [], ◌∷◌, ◌++◌}
+use Rattle.std.specs.Prelude.{length, take, Option, Some, None, Result, Ok, Err, codes}
 use Rattle.std.specs.List.{AllByRecursion}
 use Rattle.std.specs.Fmt.{decimal, signed_decimal}
 use Rattle.std.specs.String.{string_bytes}
@@ -14,7 +15,8 @@ use Rattle.bpf_insn.specs.Program.{encodings, layout, slots_moved}
 use Rattle.bpf_text.specs.declared.fault.ListFault.{ListFault}
 use Rattle.bpf_text.specs.declared.fault.ListFault.TheVariants as list_fault
 use Rattle.bpf_text.specs.declared.argument.Argument.{Argument}
-use Rattle.bpf_text.specs.declared.argument.Argument.TheVariants.{Register, Imm, Number, Memory, Distance}
+use Rattle.bpf_text.specs.declared.argument.Argument.TheVariants.{Register, Imm, Number}
+use Rattle.bpf_text.specs.declared.argument.Argument.TheVariants.{Memory, Distance}
 use Rattle.bpf_text.specs.Arguments.{mnemonic_of, arguments_of}
 use Rattle.bpf_text.specs.Words.{word_of}
 

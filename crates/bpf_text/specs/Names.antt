@@ -1,5 +1,6 @@
 -- What the reader's values stand for: their names are the bytes that they point to.
-use Rattle.std.specs.Prelude.{ℕ, List, map, Option, Some, None, option_map, Ok, Err, Bool, true, false}
+use Rattle.std.specs.Prelude.{ℕ, List, map, Option, Some, None, option_map}
+use Rattle.std.specs.Prelude.{Ok, Err, Bool, true, false}
 use Rattle.std.specs.Borrow.{Bor}
 use Rattle.bpf_text.specs.declared.token.Token.{Token}
 use Rattle.bpf_text.specs.declared.token.Token.TheVariants as token

@@ -1,6 +1,7 @@
 -- An operand as the kind that its instruction wants: A3 where it is of another kind, and A5 where
 -- its number doesn't fit its field.
-use Rattle.std.specs.Prelude.{Option, Some, None, option_map, Ok, Err, Bool, true, false, not, ◌||◌, if◌then◌else◌}
+use Rattle.std.specs.Prelude.{Option, Some, None, option_map, Ok, Err}
+use Rattle.std.specs.Prelude.{Bool, true, false, not, ◌||◌, if◌then◌else◌}
 use Rattle.bpf_insn.specs.declared.reg.Reg.{Reg}
 use Rattle.bpf_insn.specs.declared.operand.Distance.TheVariants.{Short, Long}
 use Rattle.bpf_text.specs.declared.fault.AsmFaultKind.TheVariants as fault

@@ -1,10 +1,12 @@
 -- What the reader has read after each line, and the faults of its two passes.
-use Rattle.std.specs.Prelude.{◌≡◌, ℕ, ◌+◌, ◌≤◌, ◌⊎◌, List, [], ◌∷◌, ◌++◌, length, map, Some, None, Err}
+use Rattle.std.specs.Prelude.{◌≡◌, ℕ, ◌+◌, ◌≤◌, ◌⊎◌, List, [], ◌∷◌, ◌++◌}
+use Rattle.std.specs.Prelude.{length, map, Some, None, Err}
 use Rattle.std.specs.Vec.{vec_items}
 use Rattle.bpf_text.specs.declared.fault.AsmFault.{AsmFault}
 use Rattle.bpf_text.specs.declared.fault.AsmFault.TheVariants.{At, Memory}
 use Rattle.bpf_text.specs.declared.scan.Reading as reader
-use Rattle.bpf_text.specs.Assembly.{BytesOrFault, slots_in, label_slot, line_fault, first_fault, placed, placed_body, bytes_of_placed, assembly_of}
+use Rattle.bpf_text.specs.Assembly.{BytesOrFault, slots_in, label_slot, line_fault, first_fault}
+use Rattle.bpf_text.specs.Assembly.{placed, placed_body, bytes_of_placed, assembly_of}
 use Rattle.bpf_text.specs.Labels.{slot_at}
 use Rattle.bpf_text.specs.Lines.{Line, lines_in}
 use Rattle.bpf_text.specs.Names.{BodyBytes, body_named, PlacedBytes, placed_named}

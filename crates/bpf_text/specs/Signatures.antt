@@ -8,7 +8,8 @@ use Rattle.bpf_text.specs.declared.three.UpToThree.{UpToThree}
 use Rattle.bpf_text.specs.declared.mnemonic.Mnemonic.{Mnemonic}
 use Rattle.bpf_text.specs.declared.mnemonic.Mnemonic.TheVariants as word
 use Rattle.bpf_text.specs.declared.signature.Kind.{Kind}
-use Rattle.bpf_text.specs.declared.signature.Kind.TheVariants.{Register, Source, Imm, Number, Memory, ShortWay, LongWay}
+use Rattle.bpf_text.specs.declared.signature.Kind.TheVariants.{Register, Source, Imm, Number}
+use Rattle.bpf_text.specs.declared.signature.Kind.TheVariants.{Memory, ShortWay, LongWay}
 use Rattle.bpf_text.specs.Arguments.{mnemonic_of, arguments_of}
 use Rattle.bpf_text.specs.Three.{none, one, two, three}
 

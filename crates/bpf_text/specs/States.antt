@@ -6,7 +6,8 @@ use Rattle.bpf_insn.specs.declared.operand.Distance.TheVariants.{Short, Long}
 use Rattle.bpf_insn.specs.Program.{slots_moved}
 use Rattle.bpf_insn.specs.Spelling.{IsEncodable}
 use Rattle.bpf_text.specs.declared.argument.Argument.{Argument}
-use Rattle.bpf_text.specs.declared.argument.Argument.TheVariants.{Register, Imm, Number, Memory, Distance}
+use Rattle.bpf_text.specs.declared.argument.Argument.TheVariants.{Register, Imm, Number}
+use Rattle.bpf_text.specs.declared.argument.Argument.TheVariants.{Memory, Distance}
 use Rattle.bpf_text.specs.declared.item.Item.{Item}
 use Rattle.bpf_text.specs.declared.item.Item.TheVariants as item
 use Rattle.bpf_text.specs.declared.token.Token.TheVariants.{Word}

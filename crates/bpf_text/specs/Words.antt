@@ -21,7 +21,10 @@ use Rattle.bpf_insn.specs.declared.operand.AtomicOp.TheVariants as atomic
 use Rattle.bpf_insn.specs.declared.operand.AtomicSize.{AtomicSize}
 use Rattle.bpf_insn.specs.declared.operand.AtomicSize.TheVariants as atomics
 use Rattle.bpf_text.specs.declared.mnemonic.Mnemonic.{Mnemonic}
-use Rattle.bpf_text.specs.declared.mnemonic.Mnemonic.TheVariants.{Alu, Mov, MovSx, Neg, End, Jump, JumpLong, JumpIf, Call, Exit, Load, StoreImm, Store, Atomic, LoadNumber, LoadMap, LoadCell}
+use Rattle.bpf_text.specs.declared.mnemonic.Mnemonic.TheVariants.{Alu, Mov, MovSx, Neg, End, Jump}
+use Rattle.bpf_text.specs.declared.mnemonic.Mnemonic.TheVariants.{JumpLong, JumpIf, Call, Exit}
+use Rattle.bpf_text.specs.declared.mnemonic.Mnemonic.TheVariants.{Load, StoreImm, Store, Atomic}
+use Rattle.bpf_text.specs.declared.mnemonic.Mnemonic.TheVariants.{LoadNumber, LoadMap, LoadCell}
 
 abbrev pub alu_stem : AluOp → List ℕ
 alu_stem alu.Add = codes "add"

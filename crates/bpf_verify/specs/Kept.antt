@@ -1,6 +1,7 @@
 -- How many entries are kept at once, and how many targets lie ahead.
-use Rattle.std.specs.Prelude.{ℕ, zero, suc, ◌+◌, ◌<◌, ◌≤◌, max, length, List, [], ◌++◌, Option, Some, None}
-use Rattle.std.specs.Prelude.{IsSome, is_some, Bool, false, ◌&&◌, ◌||◌, nat_lt, ◌==◌, Result, Ok, Err}
+use Rattle.std.specs.Prelude.{ℕ, zero, suc, ◌+◌, ◌<◌, ◌≤◌, max, length, nat_lt, ◌==◌}
+use Rattle.std.specs.Prelude.{List, [], ◌++◌, Option, Some, None, IsSome, is_some}
+use Rattle.std.specs.Prelude.{Bool, false, ◌&&◌, ◌||◌, Result, Ok, Err}
 use Rattle.bpf_insn.specs.declared.insn.Insn.{Insn}
 use Rattle.bpf_insn.specs.Program.{Program, at, ◌>>=◌}
 use Rattle.bpf_semantics.specs.Program.{ShapedProgram}

@@ -1,5 +1,6 @@
 -- Which request a body is, or what is wrong with it first.
-use Rattle.std.specs.Prelude.{ℕ, suc, List, [], ◌∷◌, codes, Bool, false, nat_lt, Option, Some, None, is_none, option_map, option_and_then, if◌then◌else◌, Result, Ok, Err}
+use Rattle.std.specs.Prelude.{ℕ, suc, List, [], ◌∷◌, codes, Bool, false, nat_lt, Option, Some, None}
+use Rattle.std.specs.Prelude.{is_none, option_map, option_and_then, if◌then◌else◌, Result, Ok, Err}
 use Rattle.std.specs.Str.{is_utf8, bytes_eq}
 use Rattle.serde_json.specs.Data.{Data, object, Items, no_items, item}
 use Rattle.serde_json.specs.Find.{get, as_array, as_null, as_number, as_object, as_str, as_u64}
@@ -7,7 +8,8 @@ use Rattle.serde_json.specs.Read.{read}
 use Rattle.attrs.specs.declared.facts.AppFacts.{AppFacts}
 use Rattle.attrs.specs.declared.facts.RequestFacts.{RequestFacts}
 use Rattle.omaha_json.specs.declared.fault.OmahaFault.{OmahaFault}
-use Rattle.omaha_json.specs.declared.fault.OmahaFault.TheVariants.{Json, Shape, Protocol, TooManyApps}
+use Rattle.omaha_json.specs.declared.fault.OmahaFault.TheVariants.{Json, Shape}
+use Rattle.omaha_json.specs.declared.fault.OmahaFault.TheVariants.{Protocol, TooManyApps}
 
 -- what it says of itself, and of each app, in order
 pub record Request : Type 0 where

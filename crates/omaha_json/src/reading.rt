@@ -2,7 +2,8 @@
 
 ghost use Rattle.std.specs.Prelude.{◌≡◌, ◌≢◌, codes, Some, None, Ok, IfOk, IfErr, option_map};
 ghost use Rattle.serde_json.specs.View.{view, items_view};
-ghost use Rattle.omaha_json.specs.Request.{request_in, of_request, value_in, all_facts, listed, is_protocol};
+ghost use Rattle.omaha_json.specs.Request.{request_in, of_request, value_in};
+ghost use Rattle.omaha_json.specs.Request.{all_facts, listed, is_protocol};
 ghost use Rattle.omaha_json.specs.Request.{text_in};
 ghost use Rattle.serde_json.specs.Find.{get};
 

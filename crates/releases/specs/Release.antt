@@ -1,5 +1,6 @@
 -- A release of an app, as a manifest has it and a reply tells it.
-use Rattle.std.specs.Prelude.{ℕ, ◌^◌, ◌<◌, ◌≤◌, List, length, Bool, ◌&&◌, ◌||◌, ◌==◌, nat_le, IsTrue, IsSome}
+use Rattle.std.specs.Prelude.{ℕ, ◌^◌, ◌<◌, ◌≤◌, List, length}
+use Rattle.std.specs.Prelude.{Bool, ◌&&◌, ◌||◌, ◌==◌, nat_le, IsTrue, IsSome}
 use Rattle.std.specs.List.{list_all}
 use Rattle.std.specs.Char.{is_ascii_digit}
 use Rattle.attrs.specs.Version.{version_of}

@@ -14,7 +14,8 @@ use Rattle.omaha_json.specs.declared.fault.OmahaFault.{OmahaFault}
 use Rattle.omaha_json.specs.declared.fault.OmahaFault.TheVariants as omaha
 use Rattle.ruleset.specs.Rules.{Rules}
 use Rattle.workers.specs.Apps.{Grows, RunsApps, RunsFew}
-use Rattle.workers.specs.Reply.{Reply, success, rejection, post_name, omaha_rejection, no_place, reply_of}
+use Rattle.workers.specs.Reply.{Reply, success, rejection, post_name}
+use Rattle.workers.specs.Reply.{omaha_rejection, no_place, reply_of}
 use Rattle.workers.specs.declared.answering.AnswerFault.{AnswerFault}
 use Rattle.workers.specs.declared.answering.AnswerFault.TheVariants as answer
 
