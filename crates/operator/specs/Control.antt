@@ -1,0 +1,40 @@
+-- What an operator rules: which ruleset was installed last, and the server's arrays.
+use Rattle.std.specs.Prelude.{◌≡◌, ◌^◌, ◌-◌, ℕ, List, Result, Ok, Err}
+use Rattle.cells.specs.declared.array.CellArray.{CellArray}
+use Rattle.hot_swap.specs.Latest.{Publishing, Installs}
+use Rattle.hot_swap.specs.declared.fault.SwapFault.{SwapFault}
+use Rattle.hot_swap.specs.declared.fault.SwapFault.TheVariants as swap
+use Rattle.operator.specs.declared.reply.Refusal.{Refusal}
+use Rattle.operator.specs.declared.reply.Refusal.TheVariants as refusal
+use Rattle.ruleset.specs.Rules.{Rules}
+
+pub record Controlled : Type 0 where
+  pub publishing : Publishing
+  pub arrays : List CellArray
+
+-- the last generation has been installed; of want of memory nothing is said
+abbrev pub IsUninstallable : Publishing → SwapFault → Type 0
+IsUninstallable publishing swap.Exhausted = publishing.latest.generation ≡ 2 ^ 64 - 1
+IsUninstallable publishing swap.NoPlace = ⊥
+IsUninstallable publishing swap.Memory = Unit {0}
+
+-- what may come of a load: the path, the arrays before it, the ruleset or the fault, and the arrays
+-- after it
+abbrev pub Loading : Type 0 → Type 1
+Loading F = List ℕ → List CellArray → Result Rules F → List CellArray → Type 0
+
+module _ {F : Type 0} (loads : Loading F) where
+  -- the ruleset that was loaded is installed, and its arrays are declared, under this generation
+  pub record IsInstalled (path : List ℕ) (old : Controlled) (generation : ℕ) (new : Controlled)
+      : Type 0 where
+    pub rules : Rules
+    pub loaded : loads path old.arrays (Ok rules) new.arrays
+    pub installed : Installs old.publishing rules generation new.publishing
+
+  -- why nothing is
+  abbrev pub IsRefusedLoad : List ℕ → Controlled → Refusal F → Type 0
+  IsRefusedLoad path old (refusal.Load fault) =
+      (after : List CellArray) × loads path old.arrays (Err fault) after
+  IsRefusedLoad path old (refusal.Install fault) = IsUninstallable old.publishing fault
+  IsRefusedLoad path old refusal.Memory = Unit {0}
+  IsRefusedLoad path old refusal.Word = ⊥

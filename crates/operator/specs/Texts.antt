@@ -1,0 +1,59 @@
+-- The texts that an operator is sent: lines, each ended by a line feed.
+use Rattle.std.specs.Prelude.{ℕ, List, [], ◌++◌, length, codes, decimal, Option, Some}
+use Rattle.std.specs.Prelude.{◌==◌, if◌then◌else◌}
+use Rattle.std.specs.List.{flat_map}
+use Rattle.std.specs.Option.{option_map}
+use Rattle.std.specs.String.{string_bytes}
+use Rattle.cells.specs.declared.array.CellArray.{CellArray}
+use Rattle.hot_swap.specs.Latest.{Latest}
+use Rattle.hot_swap.specs.declared.fault.SwapFault.{SwapFault}
+use Rattle.hot_swap.specs.declared.fault.SwapFault.TheVariants as swap
+use Rattle.operator.specs.declared.reply.Refusal.{Refusal}
+use Rattle.operator.specs.declared.reply.Refusal.TheVariants as refusal
+use Rattle.operator.specs.declared.reply.Reply.{Reply}
+use Rattle.operator.specs.declared.reply.Reply.TheVariants as reply
+use Rattle.ruleset.specs.Rules.{AppRule}
+
+abbrev pub line : List ℕ → List ℕ
+line text = text ++ codes "\n"
+
+-- ---- what is told of a ruleset and of the counters
+
+abbrev pub generation_line : ℕ → List ℕ
+generation_line generation = line (codes "generation " ++ decimal generation)
+
+abbrev pub app_line : AppRule → List ℕ
+app_line app = line (codes "app " ++ app.appid
+    ++ codes " releases " ++ decimal (length app.releases)
+    ++ codes " slots " ++ decimal (length app.program.code))
+
+abbrev pub ruleset_text : Latest → List ℕ
+ruleset_text latest = generation_line latest.generation ++ flat_map app_line latest.rules.apps
+
+-- a cell of an array, unless it is 0
+abbrev pub cell_text : CellArray → ℕ → ℕ → List ℕ
+cell_text array index value =
+    if value == 0 then []
+    else line (array.name ++ codes "[" ++ decimal index ++ codes "] " ++ decimal value)
+
+-- ---- replies
+
+abbrev pub install_text : SwapFault → List ℕ
+install_text swap.Memory = codes "H1 Memory"
+install_text swap.NoPlace = codes "H2 NoPlace"
+install_text swap.Exhausted = codes "H3 Exhausted"
+
+-- where the text of the loader's fault is known
+module _ {F : Type 0} (fault_text : F → Option (List ℕ)) where
+  abbrev pub refusal_text : Refusal F → Option (List ℕ)
+  refusal_text refusal.Word = Some (codes "B1 Word")
+  refusal_text refusal.Memory = Some (codes "B4 Memory")
+  refusal_text (refusal.Load fault) = fault_text fault
+  refusal_text (refusal.Install fault) = Some (install_text fault)
+
+  abbrev pub reply_text : Reply F → Option (List ℕ)
+  reply_text (reply.Loaded generation) = Some (generation_line generation)
+  reply_text (reply.Told lines) = Some (string_bytes lines)
+  reply_text reply.Stopping = Some (line (codes "stopping"))
+  reply_text (reply.Refused refused) =
+      option_map (λ text. line (codes "refused " ++ text)) (refusal_text refused)

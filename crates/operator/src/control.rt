@@ -1,0 +1,98 @@
+// The ruleset and the arrays of a server, which its operator alone changes.
+
+ghost use Rattle.std.specs.Prelude.{◌≡◌, IfOk, IfErr, OnErr};
+ghost use Rattle.operator.specs.Control.{IsInstalled, IsRefusedLoad};
+
+use crate::loader::Loader;
+use crate::reply::Refusal;
+use cells::{CellArray, Directory};
+use hot_swap::{Generation, Publisher};
+use ruleset::Ruleset;
+use std::alloc::Global;
+use std::marker::Model;
+use std::sync::{Arc, Wait};
+
+/// What installs a server's rulesets, and the arrays that these have declared.
+#[derive(Drop)]
+pub struct Control {
+    publisher: Publisher,
+    directory: Directory,
+}
+
+impl Model for Control {
+    ghost use Rattle.operator.specs.Control.{Controlled};
+
+    ghost Value = { Controlled };
+
+    ghost view = { λ c. record { publishing = c.publisher; arrays = c.directory } };
+}
+
+impl Control {
+    ghost use Rattle.cells.specs.Directory.{IsDirectory};
+
+    /// The control of a server that serves what this publisher shows, over these arrays.
+    pub fn new(publisher: Publisher, directory: Directory) -> Control
+        ensures publishing { result.publishing ≡ publisher }
+        ensures arrays { result.arrays ≡ directory }
+    {
+        Control {
+            publisher,
+            directory,
+        }
+    }
+
+    /// The generation that was installed last.
+    pub fn generation(&self) -> Generation
+        ensures { result ≡ self.now.publishing.latest.generation }
+    {
+        self.publisher.generation()
+    }
+
+    /// The ruleset that was installed last.
+    pub fn ruleset(&self) -> &Ruleset
+        ensures { result.now ≡ self.now.publishing.latest.rules }
+    {
+        self.publisher.ruleset()
+    }
+
+    /// The arrays, in the order of their declarations.
+    pub fn arrays(&self) -> &[CellArray]
+        ensures arrays { result.now ≡ self.now.arrays }
+        ensures directory { IsDirectory result.now }
+    {
+        self.directory.arrays()
+    }
+
+    /// Loads the manifest at a path, and installs its ruleset as the next generation. Where it is
+    /// refused nothing changes. It may wait for those who look at the ruleset before.
+    pub fn load<R: Wait, L: Loader>(
+        &mut self,
+        rt: &R,
+        alloc: Global,
+        loader: &L,
+        path: &str,
+    ) -> Result<Generation, Refusal<L::Fault>>
+        ensures done { IfOk result
+            (λ n. IsInstalled (L.loads loader.now) path.now self.old n self.new) }
+        ensures fault { IfErr result (IsRefusedLoad (L.loads loader.now) path.now self.old) }
+        ensures same { OnErr result (self.new ≡ self.old) }
+    {
+        let Ok(mut directory) = self.directory.copy(alloc) else {
+            return Err(Refusal::Memory);
+        };
+        let rules = match loader.load(alloc, path, &mut directory) {
+            Ok(rules) => rules,
+            Err(fault) => return Err(Refusal::Load(fault)),
+        };
+        let Ok(rules) = Arc::new(alloc, rules) else {
+            return Err(Refusal::Memory);
+        };
+        match self.publisher.install(rt, rules) {
+            Ok(generation) => {
+                self.directory = directory;
+                Ok(generation)
+            }
+            Err(fault) => Err(Refusal::Install(fault)),
+        }
+    }
+}

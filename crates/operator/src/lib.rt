@@ -1,0 +1,31 @@
+//! The port of a server's operator.
+//!
+//! A connection brings one line: `load PATH`, `show`, `cells` or `stop`. What it asks is done by
+//! one thread, which alone owns the publisher of rulesets and the directory of arrays, and the
+//! lines of the reply are written. A load that is refused changes nothing: the manifest is loaded
+//! over a copy of the directory, and the copy takes its place only once the ruleset is installed.
+//!
+//! The contract of `perform` is one relation, with a constructor for each outcome of a request: the
+//! reply, what became of ruleset and arrays, and the events by which the cells were read.
+#![tactic(auto)]
+
+mod answering;
+mod asking;
+mod control;
+mod line;
+mod loader;
+mod operating;
+mod performing;
+mod reply;
+mod request;
+mod telling;
+
+pub use answering::{answer, write_reply};
+pub use asking::{AskFault, ask};
+pub use control::Control;
+pub use line::{LineFault, read_line};
+pub use loader::Loader;
+pub use operating::operate;
+pub use performing::perform;
+pub use reply::{Refusal, Reply};
+pub use request::Request;

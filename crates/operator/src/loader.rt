@@ -1,0 +1,27 @@
+// Where a server's rulesets come from.
+
+use cells::Directory;
+use ruleset::Ruleset;
+use std::alloc::Global;
+use std::fmt::Display;
+
+/// What makes a ruleset of the manifest at a path.
+pub trait Loader {
+    ghost use Rattle.operator.specs.Control.{Loading};
+
+    /// Why there is none: its text is printed behind `refused `.
+    type Fault: Display + Drop;
+
+    /// What may come of a load: the path, the arrays before it, the ruleset or the fault, and the
+    /// arrays after it.
+    ghost loads: { Self → Loading Self.Fault };
+
+    /// The ruleset of a manifest, whose arrays are declared in the directory.
+    fn load(
+        &self,
+        alloc: Global,
+        path: &str,
+        directory: &mut Directory,
+    ) -> Result<Ruleset, Self::Fault>
+        ensures { loads self.now path.now directory.old result directory.new };
+}

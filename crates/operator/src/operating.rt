@@ -1,0 +1,93 @@
+// The operator's port: one connection after another, each with a limit of time.
+
+use crate::answering::{answer, write_reply};
+use crate::control::Control;
+use crate::loader::Loader;
+use crate::reply::Reply;
+use cells::CellSteps;
+use std::fmt::Display;
+use std::io;
+use std::net::{TcpListener, TcpStream};
+use std::sync::Wait;
+use std::time::{Clock, Duration, Instant};
+use workers::{Timed, drain};
+
+/// Answers connections until one has asked to stop; that the server ends is for the caller to see
+/// to. The line of a connection has to come within the limit of time, and its reply to be taken
+/// within the same again, since a load may last. A connection that fails is passed over.
+pub fn operate<H, L, C>(
+    rt: &H,
+    listener: &TcpListener,
+    loader: &L,
+    mut control: Control,
+    cells: &C,
+    mut pass: C::Pass,
+    timeout: Duration,
+)
+where
+    H: Wait + AllocGlobal + Clock,
+    L: Loader,
+    C: CellSteps,
+    C::Pass: Drop,
+    requires { C.belongs cells.now pass }
+{
+    for stream in listener.incoming() {
+        let Ok(stream) = stream else {
+            continue;
+        };
+        if attend(rt, &stream, loader, &mut control, cells, &mut pass, timeout) {
+            break;
+        }
+    }
+}
+
+// Answers one connection, and says whether it has asked to stop.
+fn attend<H, L, C>(
+    rt: &H,
+    stream: &TcpStream,
+    loader: &L,
+    control: &mut Control,
+    cells: &C,
+    pass: &mut C::Pass,
+    timeout: Duration,
+) -> bool
+where
+    H: Wait + AllocGlobal + Clock,
+    L: Loader,
+    C: CellSteps,
+    requires { C.belongs cells.now pass.old }
+    ensures { C.belongs cells.now pass.new }
+{
+    let Some(until) = until(rt, timeout) else {
+        return false;
+    };
+    let reader = Timed::new(stream, rt, until);
+    let Some(reply) = answer(rt, rt.alloc(), reader, loader, control, cells, pass) else {
+        return false;
+    };
+    let _sent = send(rt, stream, &reply, timeout);
+    matches!(reply, Reply::Stopping)
+}
+
+// The time until which something may last that begins now.
+fn until<H: Clock>(rt: &H, timeout: Duration) -> Option<Instant> {
+    match Instant::now(rt) {
+        Ok(now) => now.checked_add(timeout),
+        Err(_) => None,
+    }
+}
+
+// Sends a reply, and reads what the client goes on to send.
+fn send<H: Clock, F: Display>(
+    rt: &H,
+    stream: &TcpStream,
+    reply: &Reply<F>,
+    timeout: Duration,
+) -> io::Result<()> {
+    let Some(until) = until(rt, timeout) else {
+        return Ok(());
+    };
+    let mut writer = Timed::new(stream, rt, until);
+    write_reply(&mut writer, reply)?;
+    drain(stream, rt)
+}

@@ -1,0 +1,49 @@
+// What is done for a request.
+
+ghost use Rattle.operator.specs.Perform.{Performs};
+ghost use Rattle.workers.specs.Apps.{Grows};
+
+use crate::control::Control;
+use crate::loader::Loader;
+use crate::reply::{Refusal, Reply};
+use crate::request::Request;
+use crate::telling::{tell_counters, tell_ruleset};
+use cells::CellSteps;
+use std::alloc::Global;
+use std::sync::Wait;
+
+/// Does what is asked, and gives the reply; None is a line that asks nothing. That the server ends
+/// is for the caller to see to.
+pub fn perform<R: Wait, L: Loader, C: CellSteps>(
+    rt: &R,
+    alloc: Global,
+    loader: &L,
+    control: &mut Control,
+    cells: &C,
+    pass: &mut C::Pass,
+    request: Option<Request<'_>>,
+) -> Reply<L::Fault>
+    requires { C.belongs cells.now pass.old }
+    ensures belongs { C.belongs cells.now pass.new }
+    ensures performs { Grows C.grew pass.old pass.new (λ events.
+        Performs (L.loads loader.now) request.entry control.old events result control.new) }
+{
+    let Some(request) = request else {
+        return Reply::Refused(Refusal::Word);
+    };
+    match request {
+        Request::Load(path) => match control.load(rt, alloc, loader, path) {
+            Ok(generation) => Reply::Loaded(generation),
+            Err(refusal) => Reply::Refused(refusal),
+        },
+        Request::Show => match tell_ruleset(alloc, control.generation(), control.ruleset()) {
+            Ok(lines) => Reply::Told(lines),
+            Err(_) => Reply::Refused(Refusal::Memory),
+        },
+        Request::Cells => match tell_counters(alloc, control.arrays(), cells, pass) {
+            Ok(lines) => Reply::Told(lines),
+            Err(_) => Reply::Refused(Refusal::Memory),
+        },
+        Request::Stop => Reply::Stopping,
+    }
+}

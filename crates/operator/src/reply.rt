@@ -1,0 +1,70 @@
+// What an operator is told, as it is printed.
+
+ghost use Rattle.std.specs.Prelude.{◌≡◌};
+ghost use Rattle.operator.specs.Texts.{install_text, refusal_text, reply_text};
+
+use hot_swap::{Generation, SwapFault};
+use std::fmt::{self, Display};
+
+/// Why a request is refused.
+#[derive(Debug, Drop)]
+pub enum Refusal<F> {
+    /// B1: the line is no request.
+    Word,
+    /// B4: memory that the request itself wants is refused.
+    Memory,
+    /// The loader's fault.
+    Load(F),
+    /// H1 or H3: the ruleset isn't installed.
+    Install(SwapFault),
+}
+
+/// The reply to a request.
+#[derive(Debug, Drop)]
+pub enum Reply<F> {
+    /// A ruleset was loaded and installed as this generation.
+    Loaded(Generation),
+    /// The lines of what was asked for.
+    Told(String),
+    /// The server ends.
+    Stopping,
+    /// Nothing was done.
+    Refused(Refusal<F>),
+}
+
+impl<F: Display> Display for Refusal<F> {
+    ghost output = { refusal_text F.output };
+
+    fn fmt<W: fmt::Write>(&self, f: &mut fmt::Formatter<W>) -> fmt::Result {
+        match self {
+            Refusal::Word => f.write_str("B1 Word"),
+            Refusal::Memory => f.write_str("B4 Memory"),
+            Refusal::Load(fault) => write!(f, "{fault}"),
+            Refusal::Install(fault) => f.write_str(install_name(*fault)),
+        }
+    }
+}
+
+// The number and the name of a fault.
+fn install_name(fault: SwapFault) -> &'static str
+    ensures { result.now ≡ install_text fault }
+{
+    match fault {
+        SwapFault::Memory => "H1 Memory",
+        SwapFault::NoPlace => "H2 NoPlace",
+        SwapFault::Exhausted => "H3 Exhausted",
+    }
+}
+
+impl<F: Display> Display for Reply<F> {
+    ghost output = { reply_text F.output };
+
+    fn fmt<W: fmt::Write>(&self, f: &mut fmt::Formatter<W>) -> fmt::Result {
+        match self {
+            Reply::Loaded(generation) => writeln!(f, "generation {generation}"),
+            Reply::Told(lines) => f.write_str(lines),
+            Reply::Stopping => f.write_str("stopping\n"),
+            Reply::Refused(refusal) => writeln!(f, "refused {refusal}"),
+        }
+    }
+}

@@ -1,0 +1,104 @@
+// The lines of what an operator asks for: the ruleset's apps, and the counters.
+
+ghost use Rattle.std.specs.Prelude.{◌≡◌, ◌+◌, ◌++◌, ◌≤◌, All, OnOk, OnErr, IfOk};
+ghost use Rattle.std.specs.String.{string_bytes};
+ghost use Rattle.cells.specs.Directory.{IsDirectory};
+ghost use Rattle.hot_swap.specs.Latest.{latest};
+ghost use Rattle.operator.specs.Counters.{IsLoad, ReadsArrays, ReadsCells, Tells};
+ghost use Rattle.operator.specs.Texts.{app_line, cell_text, ruleset_text};
+ghost use Rattle.workers.specs.Apps.{Grows};
+
+use bpf_verify::Verified;
+use cells::{CellArray, CellNo, CellOp, CellSteps, growth};
+use hot_swap::Generation;
+use ruleset::{App, Ruleset};
+use std::alloc::{AllocError, Global};
+use std::fmt::Write;
+
+/// The generation, and a line an app.
+pub fn tell_ruleset(
+    alloc: Global,
+    generation: Generation,
+    rules: &Ruleset,
+) -> Result<String, AllocError>
+    ensures { IfOk result
+        (λ text. string_bytes text ≡ ruleset_text (latest generation rules.now)) }
+{
+    let mut text = format!(in alloc; "generation {generation}\n")?;
+    for app in rules.apps() {
+        tell_app(&mut text, app)?;
+    }
+    Ok(text)
+}
+
+fn tell_app(text: &mut String, app: &App) -> Result<(), AllocError>
+    ensures { OnOk result (string_bytes text.new ≡ string_bytes text.old ++ app_line app.now) }
+{
+    let program: &Verified = app.program();
+    let appid = app.appid();
+    let releases = app.releases().len();
+    let slots = program.len();
+    writeln!(text, "app {appid} releases {releases} slots {slots}")
+}
+
+/// A line for each cell of the arrays that isn't 0. Where memory is refused, some cells were read.
+pub fn tell_counters<C: CellSteps>(
+    alloc: Global,
+    arrays: &[CellArray],
+    cells: &C,
+    pass: &mut C::Pass,
+) -> Result<String, AllocError>
+    requires belongs { C.belongs cells.now pass.old }
+    requires directory { IsDirectory arrays.now }
+    ensures belongs { C.belongs cells.now pass.new }
+    ensures told { IfOk result (λ text. Grows C.grew pass.old pass.new
+        (λ events. ReadsArrays arrays.now events (string_bytes text))) }
+    ensures untold { OnErr result (Grows C.grew pass.old pass.new (All IsLoad)) }
+{
+    growth::<C>();
+    let mut text = String::new(alloc);
+    for array in arrays {
+        let Ok(()) = tell_cells(&mut text, array, cells, pass) else {
+            return Err(AllocError);
+        };
+    }
+    Ok(text)
+}
+
+// Puts the lines of an array's cells behind a text.
+fn tell_cells<C: CellSteps>(
+    text: &mut String,
+    array: &CellArray,
+    cells: &C,
+    pass: &mut C::Pass,
+) -> Result<(), AllocError>
+    requires belongs { C.belongs cells.now pass.old }
+    requires within { array.now.base + array.now.length ≤ 8192 }
+    ensures belongs { C.belongs cells.now pass.new }
+    ensures told { OnOk result (Grows C.grew pass.old pass.new
+        (Tells (ReadsCells array.now array.now.length)
+        (string_bytes text.old) (string_bytes text.new))) }
+    ensures untold { OnErr result (Grows C.grew pass.old pass.new (All IsLoad)) }
+{
+    growth::<C>();
+    for index in 0..array.length {
+        let cell = CellNo::new(array.base + index);
+        let value = cells.act(pass, cell, CellOp::Load);
+        let Ok(()) = tell_cell(text, array, index, value) else {
+            return Err(AllocError);
+        };
+    }
+    Ok(())
+}
+
+// Puts the line of a cell behind a text, unless it is 0.
+fn tell_cell(text: &mut String, array: &CellArray, index: u16, value: u64) -> Result<(), AllocError>
+    ensures { OnOk result
+        (string_bytes text.new ≡ string_bytes text.old ++ cell_text array.now index value) }
+{
+    if value == 0 {
+        return Ok(());
+    }
+    let name = array.name.as_str();
+    writeln!(text, "{name}[{index}] {value}")
+}
