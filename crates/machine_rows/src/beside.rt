@@ -1,13 +1,14 @@
 //! Accepted programs on the machine and on the reference interpreter, step by step: the same step
 //! each time, after the same number of instructions.
 
-use crate::verifier::CASES;
+use crate::row::row_of;
+use crate::verifier::{VERDICTS, wanted};
 use attrs::Attrs;
 use bpf_insn::Insn;
 use bpf_machine::{Progress, Run};
 use bpf_text::assemble;
 use bpf_verify::{Verified, verify};
-use cells::{PlainCells, Shape};
+use cells::{PlainCells, PlainPass, Shape};
 use flow_check::Flow;
 use reference::{Interpreter, Observed};
 use std::alloc::Global;
@@ -15,7 +16,6 @@ use std::sync::Arc;
 use std::test::Fail;
 
 /// How the two compare after a step.
-#[derive(Clone, Copy, Debug, PartialEq, Eq)]
 enum Comparison {
     BothGoing,
     BothDone(u64),
@@ -33,6 +33,11 @@ fn compared(progress: Progress, observed: Observed) -> Comparison {
     }
 }
 
+fn accepted(alloc: Global, text: &str) -> Result<Verified, Fail> {
+    let flow = Flow::check(alloc, &assemble(alloc, text)?)?;
+    Ok(verify(alloc, flow, &Shape::plain(alloc, 64))?)
+}
+
 /// The slots of a program.
 fn code_of(alloc: Global, program: &Verified) -> Result<Vec<Option<Insn>>, Fail> {
     let mut code: Vec<Option<Insn>> = Vec::new(alloc);
@@ -42,64 +47,98 @@ fn code_of(alloc: Global, program: &Verified) -> Result<Vec<Option<Insn>>, Fail>
     Ok(code)
 }
 
-/// The end of both runs and the instructions that were done before it; `Different` at the first
-/// step at which they differ.
-fn run_both(alloc: Global, text: &str, version: &str) -> Result<(Comparison, u64), Fail> {
-    let flow = Flow::check(alloc, &assemble(alloc, text)?)?;
-    let program = verify(alloc, flow, &Shape::plain(alloc, 64))?;
-    let code = code_of(alloc, &program)?;
-    let attrs = Attrs::plain(alloc, "x", Some(version), 42)?;
-    let same = Attrs::plain(alloc, "x", Some(version), 42)?;
-    let mut run = Run::start(Arc::new(alloc, program)?, Arc::new(alloc, attrs)?);
-    let mut interpreter = Interpreter::start(Arc::new(alloc, same)?);
-    let shape = Shape::plain(alloc, 64);
-    let (cells, mut pass) = PlainCells::new(alloc)?;
-    let (others, mut other) = PlainCells::new(alloc)?;
-    for _ in 0..4096 {
-        let count = interpreter.count();
-        if code.len() > 4096 || count >= 4096 || run.is_done() || run.count() as u64 != count {
-            return Ok((Comparison::Different, count));
-        }
-        let observed = interpreter.step(&code, &shape, &others, &mut other);
-        match compared(run.step(&cells, &mut pass), observed) {
-            Comparison::BothGoing => {}
-            end => return Ok((end, count)),
-        }
-    }
-    Ok((Comparison::BothGoing, 4096))
+fn attributes(alloc: Global) -> Result<Arc<Attrs>, Fail> {
+    let attrs = Attrs::plain(alloc, "x", Some("1.2.3.4"), 42)?;
+    Ok(Arc::new(alloc, attrs)?)
 }
 
-const BELOW_100: &str = "ldxh r2, [r1+16]\nmov r0, 0\njge r2, 100, +1\nmov r0, 1\nexit";
+/// One step of both, each over its own counters; none where they have not done the same number of
+/// instructions.
+fn step_both(
+    run: &mut Run,
+    interpreter: &mut Interpreter,
+    code: &[Option<Insn>],
+    shape: &Shape,
+    cells: &PlainCells,
+    passes: (&mut PlainPass, &mut PlainPass),
+) -> Comparison {
+    let (pass, other) = passes;
+    let count = interpreter.count();
+    if code.len() > 4096 || count >= 4096 || run.is_done() || run.count() as u64 != count {
+        return Comparison::Different;
+    }
+    let observed = interpreter.step(code, shape, cells, other);
+    compared(run.step(cells, pass), observed)
+}
 
-const MASKED: &str = "ldxb r2, [r1+18]\nand r2, 56\nadd r1, r2\nldxdw r3, [r1+0]\nmov r0, 0\nexit";
+/// The end of both runs and the instructions that were done before it; none where they differ at
+/// some step.
+fn run_both(alloc: Global, text: &str) -> Result<Option<(u64, u64)>, Fail> {
+    let program = accepted(alloc, text)?;
+    let code = code_of(alloc, &program)?;
+    let mut run = Run::start(Arc::new(alloc, program)?, attributes(alloc)?);
+    let mut interpreter = Interpreter::start(attributes(alloc)?);
+    let shape = Shape::plain(alloc, 64);
+    let (cells, mut pass) = PlainCells::new(alloc)?;
+    let (_others, mut other) = PlainCells::new(alloc)?;
+    for _ in 0..4096 {
+        let count = interpreter.count();
+        let passes = (&mut pass, &mut other);
+        match step_both(&mut run, &mut interpreter, &code, &shape, &cells, passes) {
+            Comparison::BothGoing => {}
+            Comparison::BothDone(choice) => return Ok(Some((choice, count))),
+            Comparison::Different => return Ok(None),
+        }
+    }
+    Ok(None)
+}
+
+/// The choice, and the instructions before the last.
+const ENDS: &str = r#"
+- 0 after 1
+  mov r0, 0 / exit
+- 3 after 1
+  mov r0, 3 / exit
+- 0 after 2
+  ldxdw r2, [r1+56] / mov r0, 0 / exit
+- 0 after 5
+  ldxb r2, [r1+18] / and r2, 56 / add r1, r2 / ldxdw r3, [r1+0] / mov r0, 0 / exit
+- 1 after 4
+  ldxh r2, [r1+16] / mov r0, 0 / jge r2, 100, +1 / mov r0, 1 / exit
+"#;
+
+/// How both runs end.
+fn told(alloc: Global, text: &str) -> Result<String, Fail> {
+    let (choice, count) = run_both(alloc, text)?.ok_or("they differ")?;
+    Ok(format!(in alloc; "{choice} after {count}")?)
+}
 
 #[test]
 fn beside_the_machine(rt: HostRuntime) -> Result<(), Fail> {
-    let rows = [
-        ("mov r0, 0\nexit", 0, 2),
-        ("mov r0, 3\nexit", 3, 2),
-        ("ldxdw r2, [r1+56]\nmov r0, 0\nexit", 0, 3),
-        (MASKED, 0, 6),
-        (BELOW_100, 1, 5),
-    ];
-    for (text, choice, count) in rows {
-        let found = run_both(rt.alloc(), text, "1.2.3.4")?;
-        assert_eq!(rt; found, (Comparison::BothDone(choice), count - 1), "{text}");
+    let alloc = rt.alloc();
+    for text in ENDS.split("\n- ").skip(1) {
+        let row = row_of(alloc, text)?;
+        let found = told(alloc, row.program.as_str())?;
+        assert!(rt; found.as_str() == row.head, "{text}: {found}");
     }
     Ok(())
 }
 
-// Both ended, with 0 or one of the releases.
-fn is_choice(end: Comparison, releases: u8) -> bool {
-    matches!(end, Comparison::BothDone(choice) if choice <= releases as u64)
+/// Whether both end with 0 or one of the releases.
+fn end_with_a_choice(alloc: Global, text: &str, releases: u8) -> Result<bool, Fail> {
+    let end = run_both(alloc, text)?;
+    Ok(matches!(end, Some((choice, _)) if choice <= releases as u64))
 }
 
 #[test]
 fn every_accepted_program(rt: HostRuntime) -> Result<(), Fail> {
-    for case in &CASES {
-        if case.verdict == "ok" {
-            let (end, _) = run_both(rt.alloc(), case.text, "1.2.3.4")?;
-            assert!(rt; is_choice(end, case.releases), "{}: {end:?}", case.name);
+    let alloc = rt.alloc();
+    for text in VERDICTS.split("\n- ").skip(1) {
+        let row = row_of(alloc, text)?;
+        let (releases, verdict) = wanted(row.head).ok_or("a row of another form")?;
+        if verdict == "ok" {
+            let ends = end_with_a_choice(alloc, row.program.as_str(), releases)?;
+            assert!(rt; ends, "{text}");
         }
     }
     Ok(())

@@ -1,136 +1,103 @@
-//! Worked programs, each with the answer that the rules give it.
+//! Worked programs, each with the answer that the rules of a program's graph give it.
 
+use crate::row::row_of;
 use bpf_insn::{AluOp, Bits, Insn, Operand, Reg};
 use bpf_text::assemble;
 use flow_check::{Flow, FlowFault};
-use std::alloc::AllocError;
+use std::alloc::Global;
 use std::test::Fail;
 
-/// A program: assembly text, or bytes where they spell none.
-#[derive(Clone, Copy)]
-enum Program {
-    Text(&'static str),
-    Bytes(&'static [u8]),
-}
+/// The answer, and what is tested.
+const TEXTS: &str = r#"
+- F6 Empty at slot 0 | no bytes
+- F1 BackJump at slot 0 | a jump onto itself
+  ja -1
+- F1 BackJump at slot 0 | a long jump onto itself
+  jal -1
+- F1 BackJump at slot 0 | a conditional jump below slot 0, at the last place
+  jeq r0, 0, -32768
+- F2 Outside at slot 0 | a jump to the end
+  ja +0
+- F2 Outside at slot 0 | a conditional jump to the end, at the last place
+  jeq r0, 0, +0
+- F3 InsideWide at slot 0 | a jump onto a second half
+  ja +1 / lddw r0, 0 / exit
+- F4 FallsOff at slot 0 | a mov at the end
+  mov r0, 0
+- F4 FallsOff at slot 0 | a wide load at the end
+  lddw r0, 0
+- F5 Unreached at slot 1 | a second exit
+  exit / exit
+- F4 FallsOff at slot 1 | a place that isn't reached, and a fault of edges after it
+  exit / mov r0, 0
+- ok | a jump over a wide load that another jump reaches
+  jeq r0, 0, +2 / lddw r0, 0 / exit
+"#;
 
-#[derive(Clone, Copy)]
-struct Case {
-    name: &'static str,
-    program: Program,
-    answer: &'static str,
-}
+/// Bytes that no text spells: what is tested, the bytes, and the answer.
+const BYTES: [(&str, &[u8], &str); 5] = [
+    (
+        "seven bytes of a mov",
+        b"\xb7\0\0\0\0\0\0",
+        "F8 Insn I1 Truncated at slot 0",
+    ),
+    (
+        "an exit, and three bytes more",
+        b"\x95\0\0\0\0\0\0\0\xb7\0\0",
+        "F8 Insn I1 Truncated at slot 1",
+    ),
+    (
+        "an opcode that isn't there",
+        b"\xff\0\0\0\0\0\0\0",
+        "F8 Insn I2 Opcode at slot 0",
+    ),
+    (
+        "a mov of a constant with a source register",
+        b"\xb7\x10\0\0\0\0\0\0",
+        "F8 Insn I4 UnusedField at slot 0",
+    ),
+    (
+        "bytes that spell nothing, after a fault of edges",
+        b"\x05\0\xff\xff\0\0\0\0\xff\0\0\0\0\0\0\0",
+        "F8 Insn I2 Opcode at slot 1",
+    ),
+];
 
 /// The printed fault, or `ok`.
-fn answer(rt: &HostRuntime, bytes: &[u8]) -> Result<String, AllocError> {
-    match Flow::check(rt.alloc(), bytes) {
-        Ok(_) => format!(in rt.alloc(); "ok"),
-        Err(fault) => format!(in rt.alloc(); "{fault}"),
-    }
+fn answer(alloc: Global, bytes: &[u8]) -> Result<String, Fail> {
+    let text = match Flow::check(alloc, bytes) {
+        Ok(_) => format!(in alloc; "ok")?,
+        Err(fault) => format!(in alloc; "{fault}")?,
+    };
+    Ok(text)
 }
 
-const CASES: [Case; 17] = [
-    Case {
-        name: "no bytes",
-        program: Program::Text(""),
-        answer: "F6 Empty at slot 0",
-    },
-    Case {
-        name: "seven bytes of a mov",
-        program: Program::Bytes(b"\xb7\0\0\0\0\0\0"),
-        answer: "F8 Insn I1 Truncated at slot 0",
-    },
-    Case {
-        name: "an exit, and three bytes more",
-        program: Program::Bytes(b"\x95\0\0\0\0\0\0\0\xb7\0\0"),
-        answer: "F8 Insn I1 Truncated at slot 1",
-    },
-    Case {
-        name: "an opcode that isn't there",
-        program: Program::Bytes(b"\xff\0\0\0\0\0\0\0"),
-        answer: "F8 Insn I2 Opcode at slot 0",
-    },
-    Case {
-        name: "a mov of a constant with a source register",
-        program: Program::Bytes(b"\xb7\x10\0\0\0\0\0\0"),
-        answer: "F8 Insn I4 UnusedField at slot 0",
-    },
-    Case {
-        name: "a jump onto itself",
-        program: Program::Text("ja -1"),
-        answer: "F1 BackJump at slot 0",
-    },
-    Case {
-        name: "a long jump onto itself",
-        program: Program::Text("jal -1"),
-        answer: "F1 BackJump at slot 0",
-    },
-    Case {
-        name: "a conditional jump below slot 0, at the last place",
-        program: Program::Text("jeq r0, 0, -32768"),
-        answer: "F1 BackJump at slot 0",
-    },
-    Case {
-        name: "a jump to the end",
-        program: Program::Text("ja +0"),
-        answer: "F2 Outside at slot 0",
-    },
-    Case {
-        name: "a conditional jump to the end, at the last place",
-        program: Program::Text("jeq r0, 0, +0"),
-        answer: "F2 Outside at slot 0",
-    },
-    Case {
-        name: "a jump onto a second half",
-        program: Program::Text("ja +1\nlddw r0, 0\nexit"),
-        answer: "F3 InsideWide at slot 0",
-    },
-    Case {
-        name: "a mov at the end",
-        program: Program::Text("mov r0, 0"),
-        answer: "F4 FallsOff at slot 0",
-    },
-    Case {
-        name: "a wide load at the end",
-        program: Program::Text("lddw r0, 0"),
-        answer: "F4 FallsOff at slot 0",
-    },
-    Case {
-        name: "a second exit",
-        program: Program::Text("exit\nexit"),
-        answer: "F5 Unreached at slot 1",
-    },
-    Case {
-        name: "a place that isn't reached, and a fault of edges after it",
-        program: Program::Text("exit\nmov r0, 0"),
-        answer: "F4 FallsOff at slot 1",
-    },
-    Case {
-        name: "bytes that spell nothing, after a fault of edges",
-        program: Program::Bytes(b"\x05\0\xff\xff\0\0\0\0\xff\0\0\0\0\0\0\0"),
-        answer: "F8 Insn I2 Opcode at slot 1",
-    },
-    Case {
-        name: "a jump over a wide load that another jump reaches",
-        program: Program::Text("jeq r0, 0, +2\nlddw r0, 0\nexit"),
-        answer: "ok",
-    },
-];
+/// The answer to the bytes of a text.
+fn answer_of(alloc: Global, text: &str) -> Result<String, Fail> {
+    let bytes = assemble(alloc, text)?;
+    answer(alloc, &bytes)
+}
 
 #[test]
 fn answers(rt: HostRuntime) -> Result<(), Fail> {
-    for Case {
-        name,
-        program,
-        answer: wanted,
-    } in CASES {
-        let found = match program {
-            Program::Text(text) => answer(&rt, &assemble(rt.alloc(), text)?)?,
-            Program::Bytes(bytes) => answer(&rt, bytes)?,
-        };
-        assert_eq!(rt; found.as_str(), wanted, "{name}");
+    let alloc = rt.alloc();
+    for text in TEXTS.split("\n- ").skip(1) {
+        let row = row_of(alloc, text)?;
+        let (want, _name) = row.head.split_once(" | ").ok_or("a row of another form")?;
+        let found = answer_of(alloc, row.program.as_str())?;
+        assert!(rt; found.as_str() == want, "{text}: {found}");
     }
+    for (name, bytes, want) in BYTES {
+        let found = answer(alloc, bytes)?;
+        assert!(rt; found.as_str() == want, "{name}: {found}");
+    }
+    Ok(())
+}
+
+#[test]
+fn long_programs(rt: HostRuntime) -> Result<(), Fail> {
     let long = vec![in rt.alloc(); 0; 32769]?;
-    let found = answer(&rt, &long)?;
+    let found = answer(rt.alloc(), &long)?;
     assert_eq!(rt; found.as_str(), "F7 TooLong at slot 0");
     let memory = format!(in rt.alloc(); "{}", FlowFault::Memory)?;
     assert_eq!(rt; memory.as_str(), "F9 Memory");

@@ -4,27 +4,91 @@
 
 ghost use Rattle.std.specs.Prelude.{◌≤◌, length};
 
+use crate::row::row_of;
 use attrs::Attrs;
 use bpf_insn::{Insn, Width, decode_at};
 use bpf_text::assemble;
 use cells::{ArrayNo, CellNo, CellWidth, Directory, PlainCells, PlainPass, Shape};
 use reference::{Interpreter, RunEnd};
-use std::alloc::Global;
+use std::alloc::{AllocError, Global};
 use std::sync::Arc;
 use std::test::Fail;
 
 const LIMIT: u64 = 100;
 
-/// A program over one array of four counters; how its run ends, after so many instructions, of
-/// which the one that traps isn't one; and the first counter's value after it.
-#[derive(Clone, Copy)]
-struct Case {
-    text: &'static str,
-    width: CellWidth,
-    end: RunEnd,
-    count: u64,
-    value: u64,
-}
+/// Programs over one array of four counters: their width; the versions of the apps for which the
+/// program runs in turn; how each run ends, after so many instructions, of which the one that traps
+/// isn't one; and the first counter's value after them.
+const ENDS: &str = r#"
+- 64 | 1.0 | choice 3 after 2 | 0
+  mov r0, 3 / exit
+- 64 | 1.0 | trap after 0 | 0
+  exit
+- 64 | 1.0 | trap after 1 | 0
+  mov r0, 3
+- 64 | 1.0 | unfinished after 100 | 0
+  ja -1 / exit
+- 64 | 1.0 | trap after 0 | 0
+  ja -2 / exit
+- 64 | 1.0 | trap after 2 | 0
+  lddw r0, 5 / ja -2
+- 64 | 1.0 | choice 0 after 3 | 0
+  mov r0, -1 / add32 r0, 1 / exit
+- 64 | 1.0 | choice 1 after 3 | 0
+  mov r0, 1 / lsh r0, 64 / exit
+- 64 | 1.0 | trap after 0 | 0
+  mov r10, 0 / exit
+- 64 | 1.0 | choice 0 after 3 | 0
+  ldxdw r2, [r1+56] / mov r0, 0 / exit
+- 64 | 1.0 | trap after 0 | 0
+  ldxdw r2, [r1+57] / mov r0, 0 / exit
+- 64 | 1.0 | trap after 0 | 0
+  stb [r1+0], 1 / exit
+- 64 | 1.0 | choice 7 after 4 | 0
+  mov r2, 7 / stxdw [r10-8], r2 / ldxdw r0, [r10-8] / exit
+- 64 | 1.0 | trap after 2 | 0
+  mov r2, 7 / stxw [r10-8], r2 / ldxw r0, [r10-4] / exit
+- 64 | 1.0 | choice 1 after 4 | 0
+  stw [r10-8], -2 / ldsxw r0, [r10-8] / add r0, 3 / exit
+- 64 | 1.0 | trap after 0 | 0
+  stb [r10+0], 1 / exit
+- 64 | 1.0 | trap after 2 | 0
+  mov r2, 1 / stxdw [r10-8], r2 / aadddw [r10-8], r2 / exit
+- 64 | 1.0 | trap after 0 | 0
+  call 5 / exit
+- 64 | 1.0 | choice 1 after 3 | 0
+  mov r1, 0 / call 3 / exit
+- 64 | 1.0 | trap after 2 | 0
+  mov r1, 0 / call 3 / mov r0, r1 / exit
+- 64 | 1.0 | choice 2 after 6 | 0
+  ldmap r1, 0 / mov r2, 4 / call 1 / jeq r0, 0, +2 / mov r0, 1 / exit / mov r0, 2 / exit
+- 64 | 1.0 | choice 1 after 6 | 0
+  ldmap r1, 0 / mov r2, 3 / call 1 / jeq r0, 0, +2 / mov r0, 1 / exit / mov r0, 2 / exit
+- 64 | 1.0 | trap after 3 | 0
+  ldmap r1, 0 / mov r2, 4 / call 1 / ldxdw r3, [r0+0] / mov r0, 0 / exit
+- 64 | 1.0 | trap after 0 | 0
+  ldmap r1, 1 / exit
+- 64 | 1.0 | choice 0 after 8 | 0
+  ldmap r1, 0 / mov r2, 0 / call 1 / mov r6, r0 / jeq r0, 0, +1 / ldxdw r3, [r6+0] / mov r0, 0
+  exit
+- 32 | 1.0 | choice 0 after 10 | 5
+  ldcell r6, 0, 0 / mov32 r2, -1 / stxw [r6+0], r2 / mov r2, 1 / faddw [r6+0], r2 / mov r0, 0
+  mov r3, 5 / cmpxchgw [r6+0], r3 / and r0, 1 / exit
+- 32 | 1.0 | choice 4294967295 after 7 | 0
+  ldcell r6, 0, 0 / mov32 r2, -1 / stxw [r6+0], r2 / mov r2, 1 / faddw [r6+0], r2 / mov r0, r2
+  exit
+- 64 | 1.0 | choice 9 after 4 | 9
+  ldcell r6, 0, 0 / stdw [r6+0], 9 / ldxdw r0, [r6+0] / exit
+- 64 | 1.0 | trap after 1 | 0
+  ldcell r6, 0, 0 / stw [r6+0], 9 / exit
+- 32 | 1.0 | trap after 2 | 9
+  ldcell r6, 0, 0 / stw [r6+0], 9 / ldsxw r0, [r6+0] / exit
+- 64 | 1.0 1.0 1.0 | choice 1 after 6, choice 1 after 6, choice 0 after 6 | 3
+  ldcell r6, 0, 0 / mov r2, 1 / fadddw [r6+0], r2 / jge r2, 2, +2 / mov r0, 1 / exit / mov r0, 0
+  exit
+- 64 | 1 01 | choice 1 after 7, choice 0 after 7 | 0
+  stb [r10-8], 49 / mov r1, 1 / mov r2, r10 / add r2, -8 / mov r3, 1 / call 2 / exit
+"#;
 
 /// The instructions that bytes spell, slot by slot.
 fn code_of(alloc: Global, bytes: &[u8]) -> Result<Vec<Option<Insn>>, Fail> {
@@ -41,6 +105,12 @@ fn code_of(alloc: Global, bytes: &[u8]) -> Result<Vec<Option<Insn>>, Fail> {
     Ok(code)
 }
 
+/// The instructions of a text.
+fn code(alloc: Global, text: &str) -> Result<Vec<Option<Insn>>, Fail> {
+    let bytes = assemble(alloc, text)?;
+    code_of(alloc, &bytes)
+}
+
 /// The shape of an app over one array of four counters.
 fn shape_over(alloc: Global, width: CellWidth) -> Result<Shape, Fail> {
     let mut directory = Directory::new(alloc);
@@ -51,334 +121,85 @@ fn shape_over(alloc: Global, width: CellWidth) -> Result<Shape, Fail> {
     Ok(Shape::of(alloc, 64, &directory, &[ArrayNo { number: 0 }])?)
 }
 
+fn attributes(alloc: Global, version: &str) -> Result<Arc<Attrs>, Fail> {
+    let attrs = Attrs::plain(alloc, "x", Some(version), 0)?;
+    Ok(Arc::new(alloc, attrs)?)
+}
+
 /// A run from the opening state: its end, and how many instructions were done, an EXIT among them.
 fn run(
+    attrs: Arc<Attrs>,
+    code: &[Option<Insn>],
+    shape: &Shape,
+    cells: &PlainCells,
+    pass: &mut PlainPass,
+) -> (RunEnd, u64)
+    requires { length code.now ≤ 4096 }
+{
+    let mut interpreter = Interpreter::start(attrs);
+    let end = interpreter.run(code, shape, cells, pass, LIMIT);
+    let done = interpreter.count();
+    match end {
+        RunEnd::Choice(_) if done < LIMIT => (end, done + 1),
+        _ => (end, done),
+    }
+}
+
+fn printed(alloc: Global, end: RunEnd, count: u64) -> Result<String, AllocError> {
+    match end {
+        RunEnd::Choice(choice) => format!(in alloc; "choice {choice} after {count}"),
+        RunEnd::Trap => format!(in alloc; "trap after {count}"),
+        RunEnd::Unfinished => format!(in alloc; "unfinished after {count}"),
+    }
+}
+
+/// The ends of a program's runs, one after another over the same counters.
+fn ends(
     alloc: Global,
     code: &[Option<Insn>],
     shape: &Shape,
     cells: &PlainCells,
     pass: &mut PlainPass,
-    version: &str,
-) -> Result<(RunEnd, u64), Fail>
+    versions: &str,
+) -> Result<String, Fail>
     requires { length code.now ≤ 4096 }
 {
-    let attrs = Arc::new(alloc, Attrs::plain(alloc, "x", Some(version), 0)?)?;
-    let mut interpreter = Interpreter::start(attrs);
-    let end = interpreter.run(code, shape, cells, pass, LIMIT);
-    let done = interpreter.count();
-    match end {
-        RunEnd::Choice(_) if done < LIMIT => Ok((end, done + 1)),
-        _ => Ok((end, done)),
+    let mut ends = String::new(alloc);
+    for version in versions.split(' ') {
+        if !ends.is_empty() {
+            ends.push_str(", ")?;
+        }
+        let (end, count) = run(attributes(alloc, version)?, code, shape, cells, pass);
+        ends.push_str(printed(alloc, end, count)?.as_str())?;
     }
+    Ok(ends)
 }
 
-/// The number of the first counter of a width.
-fn first_cell(width: CellWidth) -> CellNo {
-    match width {
-        CellWidth::Bits64 => CellNo::new(0),
-        CellWidth::Bits32 => CellNo::new(4096),
-    }
-}
-
-/// The end of a case's run, with its count, and the first counter's value after it.
-fn outcome(alloc: Global, case: &Case) -> Result<(RunEnd, u64, u64), Fail> {
-    let bytes = assemble(alloc, case.text)?;
-    let code = code_of(alloc, &bytes)?;
+/// The ends of a program's runs, and the first counter's value after them.
+fn outcome(alloc: Global, width: &str, versions: &str, text: &str) -> Result<String, Fail> {
+    let (width, first) = match width {
+        "64" => (CellWidth::Bits64, CellNo::new(0)),
+        _ => (CellWidth::Bits32, CellNo::new(4096)),
+    };
+    let code = code(alloc, text)?;
+    let shape = shape_over(alloc, width)?;
     let (cells, mut pass) = PlainCells::new(alloc)?;
     if code.len() > 4096 {
-        return Ok((RunEnd::Unfinished, 0, 0));
+        return Ok(String::from_str(alloc, "too long")?);
     }
-    let shape = shape_over(alloc, case.width)?;
-    let (end, count) = run(alloc, &code, &shape, &cells, &mut pass, "1.0")?;
-    Ok((end, count, pass.value(first_cell(case.width))))
+    let ends = ends(alloc, &code, &shape, &cells, &mut pass, versions)?;
+    Ok(format!(in alloc; "{ends} | {}", pass.value(first))?)
 }
-
-static CASES: [Case; 30] = [
-    Case {
-        text: "mov r0, 3\nexit",
-        width: CellWidth::Bits64,
-        end: RunEnd::Choice(3),
-        count: 2,
-        value: 0,
-    },
-    Case {
-        text: "exit",
-        width: CellWidth::Bits64,
-        end: RunEnd::Trap,
-        count: 0,
-        value: 0,
-    },
-    Case {
-        text: "mov r0, 3",
-        width: CellWidth::Bits64,
-        end: RunEnd::Trap,
-        count: 1,
-        value: 0,
-    },
-    Case {
-        text: "ja -1\nexit",
-        width: CellWidth::Bits64,
-        end: RunEnd::Unfinished,
-        count: 100,
-        value: 0,
-    },
-    Case {
-        text: "ja -2\nexit",
-        width: CellWidth::Bits64,
-        end: RunEnd::Trap,
-        count: 0,
-        value: 0,
-    },
-    Case {
-        text: "lddw r0, 5\nja -2",
-        width: CellWidth::Bits64,
-        end: RunEnd::Trap,
-        count: 2,
-        value: 0,
-    },
-    Case {
-        text: "mov r0, -1\nadd32 r0, 1\nexit",
-        width: CellWidth::Bits64,
-        end: RunEnd::Choice(0),
-        count: 3,
-        value: 0,
-    },
-    Case {
-        text: "mov r0, 1\nlsh r0, 64\nexit",
-        width: CellWidth::Bits64,
-        end: RunEnd::Choice(1),
-        count: 3,
-        value: 0,
-    },
-    Case {
-        text: "mov r10, 0\nexit",
-        width: CellWidth::Bits64,
-        end: RunEnd::Trap,
-        count: 0,
-        value: 0,
-    },
-    Case {
-        text: "ldxdw r2, [r1+56]\nmov r0, 0\nexit",
-        width: CellWidth::Bits64,
-        end: RunEnd::Choice(0),
-        count: 3,
-        value: 0,
-    },
-    Case {
-        text: "ldxdw r2, [r1+57]\nmov r0, 0\nexit",
-        width: CellWidth::Bits64,
-        end: RunEnd::Trap,
-        count: 0,
-        value: 0,
-    },
-    Case {
-        text: "stb [r1+0], 1\nexit",
-        width: CellWidth::Bits64,
-        end: RunEnd::Trap,
-        count: 0,
-        value: 0,
-    },
-    Case {
-        text: "mov r2, 7\nstxdw [r10-8], r2\nldxdw r0, [r10-8]\nexit",
-        width: CellWidth::Bits64,
-        end: RunEnd::Choice(7),
-        count: 4,
-        value: 0,
-    },
-    Case {
-        text: "mov r2, 7\nstxw [r10-8], r2\nldxw r0, [r10-4]\nexit",
-        width: CellWidth::Bits64,
-        end: RunEnd::Trap,
-        count: 2,
-        value: 0,
-    },
-    Case {
-        text: "stw [r10-8], -2\nldsxw r0, [r10-8]\nadd r0, 3\nexit",
-        width: CellWidth::Bits64,
-        end: RunEnd::Choice(1),
-        count: 4,
-        value: 0,
-    },
-    Case {
-        text: "stb [r10+0], 1\nexit",
-        width: CellWidth::Bits64,
-        end: RunEnd::Trap,
-        count: 0,
-        value: 0,
-    },
-    Case {
-        text: "mov r2, 1\nstxdw [r10-8], r2\naadddw [r10-8], r2\nexit",
-        width: CellWidth::Bits64,
-        end: RunEnd::Trap,
-        count: 2,
-        value: 0,
-    },
-    Case {
-        text: "call 5\nexit",
-        width: CellWidth::Bits64,
-        end: RunEnd::Trap,
-        count: 0,
-        value: 0,
-    },
-    Case {
-        text: "mov r1, 0\ncall 3\nexit",
-        width: CellWidth::Bits64,
-        end: RunEnd::Choice(1),
-        count: 3,
-        value: 0,
-    },
-    Case {
-        text: "mov r1, 0\ncall 3\nmov r0, r1\nexit",
-        width: CellWidth::Bits64,
-        end: RunEnd::Trap,
-        count: 2,
-        value: 0,
-    },
-    Case {
-        text: "ldmap r1, 0\nmov r2, 4\ncall 1\njeq r0, 0, +2\nmov r0, 1\nexit\nmov r0, 2\nexit",
-        width: CellWidth::Bits64,
-        end: RunEnd::Choice(2),
-        count: 6,
-        value: 0,
-    },
-    Case {
-        text: "ldmap r1, 0\nmov r2, 3\ncall 1\njeq r0, 0, +2\nmov r0, 1\nexit\nmov r0, 2\nexit",
-        width: CellWidth::Bits64,
-        end: RunEnd::Choice(1),
-        count: 6,
-        value: 0,
-    },
-    Case {
-        text: "ldmap r1, 0\nmov r2, 4\ncall 1\nldxdw r3, [r0+0]\nmov r0, 0\nexit",
-        width: CellWidth::Bits64,
-        end: RunEnd::Trap,
-        count: 3,
-        value: 0,
-    },
-    Case {
-        text: "ldmap r1, 1\nexit",
-        width: CellWidth::Bits64,
-        end: RunEnd::Trap,
-        count: 0,
-        value: 0,
-    },
-    Case {
-        text: "ldmap r1, 0
-mov r2, 0
-call 1
-mov r6, r0
-jeq r0, 0, +1
-ldxdw r3, [r6+0]
-mov r0, 0
-exit",
-        width: CellWidth::Bits64,
-        end: RunEnd::Choice(0),
-        count: 8,
-        value: 0,
-    },
-    Case {
-        text: "ldcell r6, 0, 0
-mov32 r2, -1
-stxw [r6+0], r2
-mov r2, 1
-faddw [r6+0], r2
-mov r0, 0
-mov r3, 5
-cmpxchgw [r6+0], r3
-and r0, 1
-exit",
-        width: CellWidth::Bits32,
-        end: RunEnd::Choice(0),
-        count: 10,
-        value: 5,
-    },
-    Case {
-        text: "ldcell r6, 0, 0
-mov32 r2, -1
-stxw [r6+0], r2
-mov r2, 1
-faddw [r6+0], r2
-mov r0, r2
-exit",
-        width: CellWidth::Bits32,
-        end: RunEnd::Choice(4294967295),
-        count: 7,
-        value: 0,
-    },
-    Case {
-        text: "ldcell r6, 0, 0\nstdw [r6+0], 9\nldxdw r0, [r6+0]\nexit",
-        width: CellWidth::Bits64,
-        end: RunEnd::Choice(9),
-        count: 4,
-        value: 9,
-    },
-    Case {
-        text: "ldcell r6, 0, 0\nstw [r6+0], 9\nexit",
-        width: CellWidth::Bits64,
-        end: RunEnd::Trap,
-        count: 1,
-        value: 0,
-    },
-    Case {
-        text: "ldcell r6, 0, 0\nstw [r6+0], 9\nldsxw r0, [r6+0]\nexit",
-        width: CellWidth::Bits32,
-        end: RunEnd::Trap,
-        count: 2,
-        value: 9,
-    },
-];
 
 #[test]
 fn interpreted_programs(rt: HostRuntime) -> Result<(), Fail> {
-    for case in &CASES {
-        let found = outcome(rt.alloc(), case)?;
-        assert_eq!(rt; found, (case.end, case.count, case.value), "{}", case.text);
-    }
-    Ok(())
-}
-
-const TAKE: &str = "ldcell r6, 0, 0
-mov r2, 1
-fadddw [r6+0], r2
-jge r2, 2, +2
-mov r0, 1
-exit
-mov r0, 0
-exit";
-
-#[test]
-fn interpreted_takes(rt: HostRuntime) -> Result<(), Fail> {
     let alloc = rt.alloc();
-    let code = code_of(alloc, &assemble(alloc, TAKE)?)?;
-    let shape = shape_over(alloc, CellWidth::Bits64)?;
-    let (cells, mut pass) = PlainCells::new(alloc)?;
-    assert!(rt; code.len() <= 4096);
-    for choice in [1, 1, 0] {
-        let found = run(alloc, &code, &shape, &cells, &mut pass, "1.0")?;
-        assert_eq!(rt; found, (RunEnd::Choice(choice), 6));
-    }
-    assert_eq!(rt; pass.value(first_cell(CellWidth::Bits64)), 3);
-    Ok(())
-}
-
-const VERSION_IS: &str = "stb [r10-8], 49
-mov r1, 1
-mov r2, r10
-add r2, -8
-mov r3, 1
-call 2
-exit";
-
-#[test]
-fn interpreted_attributes(rt: HostRuntime) -> Result<(), Fail> {
-    let alloc = rt.alloc();
-    let code = code_of(alloc, &assemble(alloc, VERSION_IS)?)?;
-    let shape = Shape::plain(alloc, 1);
-    let (cells, mut pass) = PlainCells::new(alloc)?;
-    assert!(rt; code.len() <= 4096);
-    for (version, choice) in [("1", 1), ("01", 0)] {
-        let found = run(alloc, &code, &shape, &cells, &mut pass, version)?;
-        assert_eq!(rt; found, (RunEnd::Choice(choice), 7), "version {version}");
+    for text in ENDS.split("\n- ").skip(1) {
+        let row = row_of(alloc, text)?;
+        let (width, rest) = row.head.split_once(" | ").ok_or("no width")?;
+        let (versions, want) = rest.split_once(" | ").ok_or("no versions")?;
+        let found = outcome(alloc, width, versions, row.program.as_str())?;
+        assert!(rt; found.as_str() == want, "{text}: {found}");
     }
     Ok(())
 }

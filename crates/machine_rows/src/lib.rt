@@ -9,4 +9,6 @@ mod graph;
 #[cfg(test)]
 mod interpreted;
 #[cfg(test)]
+mod row;
+#[cfg(test)]
 mod verifier;

@@ -1,0 +1,18 @@
+//! Tables of programs. A row opens with `- ` and a line that says what is wanted of a program; the
+//! program is on the lines below it, its own lines divided by ` / `, which is no text of the
+//! assembler.
+
+use std::alloc::{AllocError, Global};
+
+/// A row: its first line, and the program as assembly text.
+#[derive(Drop)]
+pub(crate) struct Row<'a> {
+    pub(crate) head: &'a str,
+    pub(crate) program: String,
+}
+
+pub(crate) fn row_of(alloc: Global, row: &str) -> Result<Row<'_>, AllocError> {
+    let (head, program) = row.split_once('\n').unwrap_or((row, ""));
+    let program = program.replace(alloc, " / ", "\n")?;
+    Ok(Row { head, program })
+}
