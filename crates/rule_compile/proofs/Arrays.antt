@@ -20,6 +20,10 @@ pub both_true : (b c : Bool) → (b && c) ≡ true → (b ≡ true) × (c ≡ tr
 both_true true c h = (refl, h)
 both_true false c h = absurd cc
 
+not_true : (b : Bool) → not b ≡ true → b ≡ false
+not_true true h = absurd cc
+not_true false h = refl
+
 pub lt_of : (i n : ℕ) → nat_lt i n ≡ true → i < n
 lt_of i n h = grind (arith, h)
 
@@ -67,10 +71,12 @@ pub record CanCount (arrays : List CellArray) (name : List ℕ) (index : ℕ) : 
   pub within : index < array.length
   pub cell : IsCellOf (array_size (array_named name arrays)) (cell_of (array_named name arrays) index)
   pub sum : array.base + index ≡ cell_of (array_named name arrays) index
+  pub free : is_some array.quota ≡ false
 
-count_fits : (arrays : List CellArray) (name : List ℕ) (index : ℕ) (a : CellArray) → IsFound name arrays a → index < a.length → CanCount arrays name index
-count_fits arrays name index a f lt = record {
+count_fits : (arrays : List CellArray) (name : List ℕ) (index : ℕ) (a : CellArray) → IsFound name arrays a → index < a.length → is_some a.quota ≡ false → CanCount arrays name index
+count_fits arrays name index a f lt free = record {
   array = a;
+  free = free;
   found = f;
   within = lt;
   cell = subst (λ (o : Option CellArray). IsCellOf (array_size o) (cell_of o index)) (sym f.named) (cell_fits a index f.array lt);
@@ -82,7 +88,9 @@ can_count_is arrays name index all h = on_found (array_named name arrays) refl h
   where
     on_found : (o : Option CellArray) → array_named name arrays ≡ o → can_count o index ≡ true → CanCount arrays name index
     on_found None is h = absurd cc
-    on_found (Some a) is h = count_fits arrays name index a (found name arrays a all is) (lt_of index a.length (both_true (not (is_some a.quota)) (nat_lt index a.length) h).1)
+    on_found (Some a) is h =
+        let two = both_true (not (is_some a.quota)) (nat_lt index a.length) h in
+        count_fits arrays name index a (found name arrays a all is) (lt_of index a.length two.1) (not_true (is_some a.quota) two.0)
 
 -- what a take needs: besides, the array has a quota, and its cell has 64 bits
 pub record CanTake (arrays : List CellArray) (name : List ℕ) (index : ℕ) : Type 0 where

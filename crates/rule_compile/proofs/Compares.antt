@@ -21,10 +21,9 @@ use Rattle.rule_lang.specs.Meaning.{Behaviour}
 use Rattle.rule_compile.specs.Instructions.{opposite, turned}
 use Rattle.rule_compile.specs.Instructions as insn
 use Rattle.rule_compile.specs.Blocks as code
-use Rattle.rule_compile.specs.Fields.{FitFields}
 use Rattle.rule_compile.proofs.Labels.{from_label, next_here, next_wide}
 use Rattle.rule_compile.proofs.Runs.{Comes, Nothing, Has, knowing, quiet, Reads, load_then, jump_then}
-use Rattle.rule_compile.proofs.Fields.{flags_reads}
+use Rattle.rule_compile.proofs.Fields.{FitFields, flags_reads}
 
 -- ---- conditions and their opposites
 

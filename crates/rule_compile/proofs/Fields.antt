@@ -1,16 +1,38 @@
 -- What the loads of a rule's code read: each field of the context, as it is.
-use Rattle.std.proofs.Common.{◌≡◌, ℕ, ◌+◌, ◌*◌, ◌/◌, ◌%◌, ◌^◌, ◌<◌, take, drop, Some, ap, ◌∙◌, arith}
-use Rattle.std.specs.Prelude.{slice_index}
+use Rattle.std.proofs.Common.{◌≡◌, ℕ, zero, suc, List, [], ◌∷◌, ◌+◌, ◌*◌, ◌/◌, ◌%◌, ◌^◌, ◌<◌, take, drop, Some, ap, ◌∙◌, arith}
+use Rattle.std.specs.Prelude.{All, slice_index}
+use Rattle.std.proofs.lemmas.List.Elements.{All-head, All-tail}
 use Rattle.attrs.specs.Attributes.{Attributes}
-use Rattle.attrs.specs.Context.{context_bytes}
+use Rattle.attrs.specs.Context.{context_bytes, HasRanges}
 use Rattle.bpf_insn.specs.declared.reg.Reg.TheVariants.{R2}
 use Rattle.bpf_insn.specs.declared.operand.LoadKind.TheVariants.{Byte, Half, Word}
 use Rattle.bpf_insn.specs.Words.{little_endian}
 use Rattle.bpf_semantics.specs.Program.{ShapedProgram}
 use Rattle.bpf_semantics.specs.State.{State}
 use Rattle.bpf_semantics.specs.Outcome.{write}
-use Rattle.rule_compile.specs.Fields.{FitFields}
 use Rattle.rule_compile.proofs.Runs.{Reads}
+
+-- each number of the context fits its field
+pub record FitFields (a : Attributes) : Type 0 where
+  pub version : (k : ℕ) → slice_index a.context.version k < 2 ^ 32
+  pub bucket : a.context.bucket < 2 ^ 16
+  pub flags : a.context.flags < 2 ^ 8
+  pub install_day : a.context.install_day < 2 ^ 32
+  pub today : a.context.today < 2 ^ 32
+
+all_below : (ns : List ℕ) (k : ℕ) → All (λ n. n < 2 ^ 32) ns → slice_index ns k < 2 ^ 32
+all_below [] k all = omega arith
+all_below (n ∷ ns) zero all = All-head (λ n. n < 2 ^ 32) n ns all
+all_below (n ∷ ns) (suc k) all = all_below ns k (All-tail (λ n. n < 2 ^ 32) n ns all)
+
+pub fit_fields : (a : Attributes) → HasRanges a.context → FitFields a
+fit_fields a h = record {
+  version = λ k. all_below a.context.version k h.version;
+  bucket = omega (arith, h.bucket);
+  flags = omega (arith, h.flags);
+  install_day = h.install_day;
+  today = h.today;
+}
 
 two_bytes : (n : ℕ) → n < 2 ^ 16 → n % 256 + 256 * (n / 256 ^ 1 % 256 + 256 * 0) ≡ n
 two_bytes n h = omega (arith, h)

@@ -13,3 +13,13 @@ pub mod RuleRuns
 pub mod Steps
 pub mod Emitting
 pub mod Costs
+pub mod Typed
+pub mod Flows
+pub mod Entries
+pub mod InsnSteps
+pub mod CellSteps
+pub mod StackSteps
+pub mod Fronts
+pub mod TextFronts
+pub mod RuleFronts
+pub mod Compiled

@@ -1,5 +1,5 @@
 -- The code of a rule runs as the rule says: by induction over the condition, and over the statements.
-use Rattle.std.proofs.Common.{◌≡◌, ℕ, ◌≤◌, List, [], ◌∷◌, drop, length, Option, Some, None, Bool, true, false, refl, sym, ap, subst, ◌∙◌, arith}
+use Rattle.std.proofs.Common.{◌≡◌, ℕ, ◌≤◌, List, [], ◌∷◌, drop, length, Option, Some, None, Bool, true, false, refl, sym, ap, subst, arith}
 use Rattle.std.specs.Prelude.{option_and_then, if◌then◌else◌}
 use Rattle.std.specs.List.{list_all}
 use Rattle.attrs.specs.Attributes.{Attributes}
@@ -21,8 +21,8 @@ use Rattle.rule_lang.specs.Meaning.{Behaviour, Chooses, Follows, decide, decide_
 use Rattle.rule_lang.specs.Shapes.{array_named, cell_of}
 use Rattle.rule_lang.specs.Trees.{Tree, Asked, Negated, Both, Either, with_step, trees_from}
 use Rattle.rule_compile.specs.Code.{tree_code, made_code, goal, steps_code, array_size, place_named, end_code, statements_code, rule_code}
-use Rattle.rule_compile.specs.Fields.{FitFields}
-use Rattle.rule_compile.specs.Means.{Means}
+use Rattle.rule_compile.proofs.Fields.{FitFields, fit_fields}
+use Rattle.rule_compile.specs.Means.{Means, shaped}
 use Rattle.rule_compile.specs.Ranges.{IsInRange, IsStepInRange, AreInRange, IsRuleInRange, AreMade}
 use Rattle.rule_compile.proofs.Labels.{from_label, at_start, IsBefore}
 use Rattle.rule_compile.proofs.Runs.{IsAt, Comes, Nothing, set_then, end_then}
@@ -43,7 +43,7 @@ abbrev pub AllSuit : AppShape → List Tree → Type 0
 AllSuit s [] = Unit {0}
 AllSuit s (t ∷ ts) = Suits s t × AllSuit s ts
 
-abbrev MadeSuit : AppShape → Option (List Tree) → Type 0
+abbrev pub MadeSuit : AppShape → Option (List Tree) → Type 0
 MadeSuit s None = Unit {0}
 MadeSuit s (Some ts) = AllSuit s ts
 
@@ -157,11 +157,5 @@ module _ (p : ShapedProgram) (a : Attributes) (fit : FitFields a) (shape : IsSha
         let r = statements_run xs 0 range fits made second at_start tt es choice follows in
         (r.0, more first_step (more second_step r.1))
 
-pub rule_means : (s : AppShape) (xs : List Statement) (code : Program) → IsShape s → IsRuleInRange xs → fits s xs ≡ true → AreMade xs → code ≡ rule_code s xs → (a : Attributes) → Means a s xs code
-rule_means s xs code shape range fit made is a fields es choice follows =
-    rule_runs (record { code = code; shape = s }) a fields shape xs is range fit made es choice follows
-
--- the statements as they were read are the rule's
-pub written_means : (s : AppShape) (xs ys : List Statement) (code : Program) → ys ≡ xs → IsShape s → IsRuleInRange ys → fits s xs ≡ true → AreMade ys → code ≡ rule_code s ys → (a : Attributes) → Means a s xs code
-written_means s xs ys code same shape range fit made is =
-    rule_means s xs code shape (subst IsRuleInRange same range) fit (subst AreMade same made) (is ∙ ap (rule_code s) same)
+pub rule_means : (s : AppShape) (xs : List Statement) (code : Program) → IsShape s → IsRuleInRange xs → fits s xs ≡ true → AreMade xs → code ≡ rule_code s xs → (a : Attributes) → Means a xs (shaped code s)
+rule_means s xs code shape range fit made is a ranges es choice follows = rule_runs (shaped code s) a (fit_fields a ranges) shape xs is range fit made es choice follows

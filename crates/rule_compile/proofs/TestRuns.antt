@@ -26,11 +26,10 @@ use Rattle.rule_lang.specs.Shapes.{array_named, cell_of, quota_of}
 use Rattle.rule_compile.specs.Instructions.{turned}
 use Rattle.rule_compile.specs.Blocks as code
 use Rattle.rule_compile.specs.Code.{condition_of, version_code, four_of, place_named, test_code}
-use Rattle.rule_compile.specs.Fields.{FitFields}
 use Rattle.rule_compile.specs.Ranges.{IsInRange}
 use Rattle.rule_compile.proofs.Labels.{from_label}
 use Rattle.rule_compile.proofs.Runs.{Comes, Nothing, Reads}
-use Rattle.rule_compile.proofs.Fields.{bucket_reads, today_reads, installed_reads, first_reads, second_reads, third_reads, fourth_reads}
+use Rattle.rule_compile.proofs.Fields.{FitFields, bucket_reads, today_reads, installed_reads, first_reads, second_reads, third_reads, fourth_reads}
 use Rattle.rule_compile.proofs.Compares.{IsRelation, by_sense, field_runs, flag_runs, salted_runs}
 use Rattle.rule_compile.proofs.VersionWords.{AreRead, equal_runs, order_runs}
 use Rattle.rule_compile.proofs.Counters.{take_runs}

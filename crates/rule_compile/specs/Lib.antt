@@ -1,6 +1,5 @@
 pub mod Instructions
 pub mod Blocks
-pub mod Fields
 pub mod Code
 pub mod Ranges
 pub mod Writing

@@ -1,6 +1,8 @@
 -- How far the writing of a condition has come.
 use Rattle.std.specs.Prelude.{◌≡◌, ℕ, ◌+◌, ◌*◌, ◌≤◌, List, [], length, take, drop, All, Option, Some, None, true}
+use Rattle.bpf_insn.specs.declared.insn.Insn.{Insn}
 use Rattle.bpf_insn.specs.Program.{Program}
+use Rattle.bpf_insn.specs.Spelling.{IsEncodable}
 use Rattle.cells.specs.Arrays.{AppShape}
 use Rattle.rule_lang.specs.declared.condition.Step.{Step}
 use Rattle.rule_lang.specs.Cost.{tests_in}
@@ -36,3 +38,10 @@ pub record IsWrittenFrom (s : AppShape) (xs : List Statement) (k : ℕ) (gs : Li
   pub goals : gs ≡ []
   pub range : IsRuleInRange (drop k xs)
   pub made : AreMade (drop k xs)
+
+-- ---- bytes
+
+-- a slot's instruction can be encoded; at a second half there is none
+abbrev pub CanEncode : Option Insn → Type 0
+CanEncode (Some i) = IsEncodable i
+CanEncode None = Unit {0}

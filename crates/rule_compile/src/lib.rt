@@ -19,7 +19,5 @@ mod test;
 mod texts;
 mod versions;
 
-pub use bytes::program_bytes;
-pub use code::Code;
 pub use fault::CompileFault;
-pub use rule::write_rule;
+pub use rule::compile;

@@ -1,5 +1,5 @@
-//! Tests of compiled rules: the code of a rule is run by the interpreter of the machine's semantics,
-//! on counters that the runs share, and ends with the choice that the rule says.
+//! Tests of compiled rules: a rule is compiled, and run on the machine over counters that the runs
+//! share; it ends with the choice that the rule says.
 #![tactic(auto)]
 
 #[cfg(test)]

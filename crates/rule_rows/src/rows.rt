@@ -3,13 +3,17 @@
 use crate::rules::{both, fails, holds, offers, quota_shape, run};
 use attrs::Attrs;
 use cells::{ArrayName, CellNo, PlainCells, Shape};
-use reference::RunEnd;
 use rule_lang::{Condition, Flag, Relation, Test};
 use std::alloc::Global;
 use std::test::Fail;
 
 /// The choice of a rule that offers release 1 where the condition holds.
-fn chosen(alloc: Global, condition: Condition, version: &str, bucket: u16) -> Result<RunEnd, Fail> {
+fn chosen(
+    alloc: Global,
+    condition: Condition,
+    version: &str,
+    bucket: u16,
+) -> Result<Option<u8>, Fail> {
     let rule = offers(alloc, condition)?;
     let (cells, mut pass) = PlainCells::new(alloc)?;
     let attrs = Attrs::plain(alloc, "x", Some(version), bucket.min(9999))?;
@@ -43,7 +47,7 @@ fn quota_of_two(rt: HostRuntime) -> Result<(), Fail> {
     for (bucket, choice) in [(50, 1), (50, 1), (50, 0), (100, 0)] {
         let attrs = Attrs::plain(alloc, "x", None, bucket)?;
         let end = run(alloc, &rule, &shape, &cells, &mut pass, attrs)?;
-        assert_eq!(rt; end, RunEnd::Choice(choice), "bucket {bucket}");
+        assert_eq!(rt; end, Some(choice), "bucket {bucket}");
     }
     assert_eq!(rt; pass.value(CellNo::new(0)), 3);
     Ok(())
@@ -60,8 +64,8 @@ const RELATIONS: [(Relation, [bool; 3]); 6] = [
 ];
 
 /// The choice where a condition holds, or where it doesn't.
-fn choice_if(holds: bool) -> RunEnd {
-    RunEnd::Choice(if holds { 1 } else { 0 })
+fn choice_if(holds: bool) -> Option<u8> {
+    Some(if holds { 1 } else { 0 })
 }
 
 /// Buckets 99, 100 and 101 against 100.

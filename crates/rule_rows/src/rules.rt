@@ -1,16 +1,13 @@
 //! Rules that the tests build, and their runs.
 
 use attrs::Attrs;
+use bpf_machine::Run;
 use cells::{ArrayNo, CellWidth, Directory, PlainCells, PlainPass, Shape};
-use flow_check::Flow;
-use reference::{Interpreter, RunEnd};
-use rule_compile::{program_bytes, write_rule};
+use rule_compile::compile;
 use rule_lang::{Condition, Rule, Statement, Step, Test};
 use std::alloc::Global;
 use std::sync::Arc;
 use std::test::Fail;
-
-const LIMIT: u64 = 5000;
 
 /// A condition that is one test.
 pub fn holds(alloc: Global, test: Test) -> Result<Condition, Fail> {
@@ -62,7 +59,7 @@ pub fn quota_shape(alloc: Global) -> Result<Shape, Fail> {
     Ok(Shape::of(alloc, 1, &directory, &[ArrayNo { number: 0 }])?)
 }
 
-/// How the run of a rule's code ends. The code is one that the flow check takes.
+/// The choice of a run of the rule; none where the rule doesn't fit the shape.
 pub fn run(
     alloc: Global,
     rule: &Rule,
@@ -70,12 +67,11 @@ pub fn run(
     cells: &PlainCells,
     pass: &mut PlainPass,
     attrs: Attrs,
-) -> Result<RunEnd, Fail> {
+) -> Result<Option<u8>, Fail> {
     if !rule.fits(shape) {
-        return Ok(RunEnd::Unfinished);
+        return Ok(None);
     }
-    let slots = write_rule(alloc, rule, shape)?.into_slots();
-    let _flow = Flow::check(alloc, &program_bytes(alloc, &slots)?)?;
-    let mut interpreter = Interpreter::start(Arc::new(alloc, attrs)?);
-    Ok(interpreter.run(&slots, shape, cells, pass, LIMIT))
+    let program = Arc::new(alloc, compile(alloc, rule, shape)?)?;
+    let (choice, _count) = Run::start(program, Arc::new(alloc, attrs)?).run(cells, pass);
+    Ok(Some(choice))
 }
