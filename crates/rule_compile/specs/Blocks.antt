@@ -1,7 +1,8 @@
 -- The code of each test, in front of the rest of the program. It goes to the label where the test
 -- is of the sense, and else falls on to the rest. A label is a place of the rest by its distance
 -- from the end, so it is known before the jump is written, and code in front moves no label.
-use Rattle.std.specs.Prelude.{ℕ, suc, ◌-◌, ◌*◌, List, [], ◌∷◌, length, Some, None, Bool, true, false, if◌then◌else◌}
+use Rattle.std.specs.Prelude.{ℕ, suc, ◌-◌, ◌*◌, List, [], ◌∷◌, length, Some, None}
+use Rattle.std.specs.Prelude.{Bool, true, false, if◌then◌else◌}
 use Rattle.bpf_insn.specs.declared.reg.Reg.TheVariants.{R0, R1, R2, R3}
 use Rattle.bpf_insn.specs.declared.operand.AtomicSize.{AtomicSize}
 use Rattle.bpf_insn.specs.declared.operand.Condition.{Condition}

@@ -16,7 +16,8 @@ use Rattle.bpf_insn.specs.declared.operand.Operand.TheVariants.{Imm, Register}
 use Rattle.bpf_insn.specs.declared.operand.Size.TheVariants as size
 use Rattle.bpf_insn.specs.declared.operand.WideValue.TheVariants.{Number, Cell}
 use Rattle.bpf_insn.specs.declared.insn.Insn.{Insn}
-use Rattle.bpf_insn.specs.declared.insn.Insn.TheVariants.{Alu, Mov, JumpIf, Call, Load, StoreImm, Atomic, Wide}
+use Rattle.bpf_insn.specs.declared.insn.Insn.TheVariants.{Alu, Mov, JumpIf, Call}
+use Rattle.bpf_insn.specs.declared.insn.Insn.TheVariants.{Load, StoreImm, Atomic, Wide}
 
 -- ---- the frame of a rule
 

@@ -1,5 +1,6 @@
 -- How far the writing of a condition has come.
-use Rattle.std.specs.Prelude.{◌≡◌, ℕ, ◌+◌, ◌*◌, ◌≤◌, List, [], length, take, drop, All, Option, Some, None, true}
+use Rattle.std.specs.Prelude.{◌≡◌, ℕ, ◌+◌, ◌*◌, ◌≤◌, List, [], length, take, drop, All}
+use Rattle.std.specs.Prelude.{Option, Some, None, true}
 use Rattle.bpf_insn.specs.declared.insn.Insn.{Insn}
 use Rattle.bpf_insn.specs.Program.{Program}
 use Rattle.bpf_insn.specs.Spelling.{IsEncodable}

@@ -1,8 +1,10 @@
 //! Writing the code of a rule, from its last statement to its first.
 
-ghost use Rattle.std.specs.Prelude.{◌≡◌, ◌<◌, ◌≤◌, ◌+◌, ◌*◌, [], ◌∷◌, true, length, IfOk, OnOk, slice_get};
+ghost use Rattle.std.specs.Prelude.{◌≡◌, ◌<◌, ◌≤◌, ◌+◌, ◌*◌, [], ◌∷◌, true};
+ghost use Rattle.std.specs.Prelude.{length, IfOk, OnOk, slice_get};
 ghost use Rattle.rule_compile.specs.Code as code;
-ghost use Rattle.rule_compile.specs.Ranges.{AreInRange, IsStatementInRange, IsRuleInRange, IsMade, AreMade};
+ghost use Rattle.rule_compile.specs.Ranges.{AreInRange, IsStatementInRange};
+ghost use Rattle.rule_compile.specs.Ranges.{IsRuleInRange, IsMade, AreMade};
 ghost use Rattle.rule_lang.specs.Cost.{tests_in, tests_of, cost};
 ghost use Rattle.rule_lang.specs.Trees.{IsCondition};
 

@@ -1,6 +1,7 @@
 //! Writing the code of each test of the language.
 
-ghost use Rattle.std.specs.Prelude.{◌≡◌, ◌<◌, ◌≤◌, ◌+◌, ◌^◌, ℕ, length, slice_get, slice_index, OnOk, IfOk, IfErr};
+ghost use Rattle.std.specs.Prelude.{◌≡◌, ◌<◌, ◌≤◌, ◌+◌, ◌^◌, ℕ};
+ghost use Rattle.std.specs.Prelude.{length, slice_get, slice_index, OnOk, IfOk, IfErr};
 ghost use Rattle.rule_compile.specs.Code as code;
 ghost use Rattle.rule_compile.specs.Ranges.{IsInRange};
 ghost use Rattle.rule_lang.specs.Meaning as meaning;
