@@ -1,0 +1,42 @@
+use Rattle.std.proofs.Common.{rules, ◌≡◌, Err, refl, ap}
+use Rattle.declarations.specs.Order.{AreDeclared}
+use Rattle.load.specs.Apps.{AreAppsOf, RefusesApps}
+use Rattle.load.specs.Load.{RefusesArrays, of_bytes, of_arrays, of_apps}
+use Rattle.load.proofs.Names.{never_twice}
+use Rattle.load.proofs.manifest.load_ruleset.Goals as goal
+
+pub returns-in_err-manifest-clause-loads : goal.returns-in_err-manifest-clause-loads
+returns-in_err-manifest-clause-loads g c =
+    let answered : c.from_residual.result ≡ Err c.in_err-manifest.field-0.0 = search rules in
+    rw answered (of_bytes c.in_err-manifest.ensures.fault, refl)
+
+pub returns-in_default-clause-loads : goal.returns-in_default-clause-loads
+returns-in_default-clause-loads g c = (of_bytes tt, refl)
+
+pub returns-in_err-numbers-clause-loads : goal.returns-in_err-numbers-clause-loads
+returns-in_err-numbers-clause-loads g c =
+    let answered : c.from_residual-in_err-numbers.result ≡ Err c.in_err-numbers.field-0.0
+    = search rules in
+    let fault : RefusesArrays c.args.directory.now c.in_ok-manifest.manifest.arrays
+    c.in_err-numbers.field-0.0 = search rules in
+    rw answered (of_arrays c.in_ok-manifest.ensures.manifest fault, refl)
+
+pub returns-in_err-apps-clause-loads : goal.returns-in_err-apps-clause-loads
+returns-in_err-apps-clause-loads g c =
+    let answered : c.from_residual-in_err-apps.result ≡ Err c.in_err-apps.field-0.0
+    = search rules in
+    let between = c.declare_arrays.new.directory in
+    let numbers = c.in_ok-numbers.numbers.items in
+    let declared : AreDeclared c.args.directory.now c.in_ok-manifest.manifest.arrays numbers between
+    = search rules in
+    let fault : RefusesApps (g.F.Files.known c.args.files.now) between numbers
+    c.in_ok-manifest.manifest.apps c.in_err-apps.field-0.0 = search rules in
+    rw answered (of_apps numbers between c.in_ok-manifest.ensures.manifest declared fault, refl)
+
+pub unreachable-requires : goal.unreachable-requires
+unreachable-requires g c =
+    let are : AreAppsOf (g.F.Files.known c.args.files.now) c.declare_arrays.new.directory
+    c.in_ok-numbers.numbers.items c.in_ok-manifest.manifest.apps c.in_ok-apps.apps.items
+    = search rules in
+    never_twice _ _ _ c.in_ok-manifest.manifest _ c.in_ok-manifest.ensures.manifest.1 are
+    (c.in_default-new.ensures.duplicate.0 (ap Err c.in_default-new.ensures.fault))

@@ -1,0 +1,38 @@
+-- An app of a manifest, with the program of its file.
+use Rattle.std.specs.Prelude.{◌≡◌, ℕ, ◌+◌, List, length, Result, Err}
+use Rattle.cells.specs.Arrays.{AppShape, AreNumbered}
+use Rattle.cells.specs.declared.array.ArrayNo.{ArrayNo}
+use Rattle.cells.specs.declared.array.CellArray.{CellArray}
+use Rattle.manifest.specs.App.{AppEntry}
+use Rattle.ruleset.specs.Rules.{AppRule}
+use Rattle.load.specs.declared.fault.AppFault.{AppFault}
+use Rattle.load.specs.declared.fault.AppFault.TheVariants.{File, Memory}
+use Rattle.load.specs.Files.{Known}
+use Rattle.load.specs.Source.{IsProgramIn, RefusesSource}
+
+-- the shape of an app: the number of its releases, and all arrays of the manifest in their order,
+-- which have these numbers in the directory
+pub record IsShapeOf (directory : List CellArray) (numbers : List ArrayNo) (entry : AppEntry)
+    (shape : AppShape) : Type 0 where
+  pub releases_are : shape.releases ≡ length entry.releases
+  pub arrays_are : AreNumbered directory numbers shape.arrays
+
+module _ (known : Known) (directory : List CellArray) (numbers : List ArrayNo) where
+  -- the app of an entry
+  pub record IsAppOf (entry : AppEntry) (app : AppRule) : Type 0 where
+    pub appid_is : app.appid ≡ entry.appid
+    pub releases_are : app.releases ≡ entry.releases
+    pub shape_is : IsShapeOf directory numbers entry app.program.shape
+    pub program_is : IsProgramIn known entry.source app.program
+
+  -- why an entry has no program
+  abbrev pub RefusesApp : AppEntry → AppFault → Type 0
+  RefusesApp entry Memory = Unit {0}
+  RefusesApp entry fault =
+      (shape : AppShape) × IsShapeOf directory numbers entry shape
+      × RefusesSource known entry.source shape fault
+
+-- an app has no file only where a reading failed, and that is counted
+abbrev pub CountsApp : {X : Type 0} → ℕ → ℕ → Result X AppFault → Type 0
+CountsApp old new (Err File) = new ≡ old + 1
+CountsApp old new result = new ≡ old

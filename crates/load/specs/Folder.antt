@@ -1,0 +1,14 @@
+-- Where the files of a manifest lie: names are taken from its folder.
+use Rattle.std.specs.Prelude.{ℕ, List, [], Option, Some, None}
+use Rattle.std.specs.Path.{path_parent, path_join}
+
+abbrev pub folder_or_none : Option (List ℕ) → List ℕ
+folder_or_none None = []
+folder_or_none (Some folder) = folder
+
+abbrev pub folder_of : List ℕ → List ℕ
+folder_of manifest = folder_or_none (path_parent manifest)
+
+-- the path of a name
+abbrev pub path_beside : List ℕ → List ℕ → List ℕ
+path_beside manifest name = path_join (folder_of manifest) name

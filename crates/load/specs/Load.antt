@@ -1,0 +1,57 @@
+-- What a manifest and its files come to: a ruleset, and the directory in which the manifest's
+-- arrays are declared; or the first fault, in the order M1, M2, M3, M7, and then app by app M4, M5
+-- or M6.
+use Rattle.std.specs.Prelude.{◌≡◌, ◌≢◌, ℕ, List, Result, Ok, Err}
+use Rattle.cells.specs.Directory.{Declaration}
+use Rattle.cells.specs.declared.array.ArrayNo.{ArrayNo}
+use Rattle.cells.specs.declared.array.CellArray.{CellArray}
+use Rattle.cells.specs.declared.fault.CellsFault.TheVariants as cells
+use Rattle.declarations.specs.Order.{AreDeclared, IsRefusedArray}
+use Rattle.manifest.specs.Manifest.{Manifest, Reads}
+use Rattle.manifest.specs.declared.fault.ManifestFault.TheVariants as manifest
+use Rattle.ruleset.specs.Rules.{Rules}
+use Rattle.load.specs.declared.fault.LoadFault.{LoadFault}
+use Rattle.load.specs.declared.fault.LoadFault.TheVariants.{Toml, Field, Duplicate, Cells, Memory}
+use Rattle.load.specs.Files.{Known}
+use Rattle.load.specs.Apps.{AreAppsOf, RefusesApps}
+
+-- why bytes are no manifest; of want of memory nothing is said, here and below
+abbrev pub RefusesBytes : List ℕ → LoadFault → Type 0
+RefusesBytes bytes (Toml fault) = Reads bytes (Err (manifest.Toml fault))
+RefusesBytes bytes (Field misfit) = Reads bytes (Err (manifest.Field misfit))
+RefusesBytes bytes (Duplicate twice) = Reads bytes (Err (manifest.Duplicate twice))
+RefusesBytes bytes Memory = Unit {0}
+RefusesBytes bytes fault = ⊥
+
+-- the first array of a manifest that isn't declared
+abbrev pub RefusesArrays : List CellArray → List Declaration → LoadFault → Type 0
+RefusesArrays old arrays (Cells number fault) =
+    (between : List CellArray) × IsRefusedArray old arrays number fault between
+    × (fault ≢ cells.Memory)
+RefusesArrays old arrays Memory = Unit {0}
+RefusesArrays old arrays fault = ⊥
+
+module _ (known : Known) (old : List CellArray) (bytes : List ℕ) where
+  -- the fault that counts: of the bytes, or else of the arrays, or else of the apps
+  pub data IsLoadFault : LoadFault → Type 0 where
+    of_bytes : {fault : LoadFault} → RefusesBytes bytes fault → IsLoadFault fault
+    of_arrays : {manifest : Manifest} {fault : LoadFault} → Reads bytes (Ok manifest)
+        → RefusesArrays old manifest.arrays fault → IsLoadFault fault
+    of_apps : {manifest : Manifest} (numbers : List ArrayNo) (between : List CellArray)
+        {fault : LoadFault} → Reads bytes (Ok manifest)
+        → AreDeclared old manifest.arrays numbers between
+        → RefusesApps known between numbers manifest.apps fault → IsLoadFault fault
+
+  -- the ruleset of the bytes, and the directory after it
+  pub record IsRulesetOf (rules : Rules) (new : List CellArray) : Type 0 where
+    pub manifest : Manifest
+    pub read : Reads bytes (Ok manifest)
+    pub numbers : List ArrayNo
+    pub declared : AreDeclared old manifest.arrays numbers new
+    pub server_is : rules.server ≡ manifest.server
+    pub apps_are : AreAppsOf known new numbers manifest.apps rules.apps
+
+  -- after a refusal the directory is as it was
+  abbrev pub Loads : Result Rules LoadFault → List CellArray → Type 0
+  Loads (Ok rules) new = IsRulesetOf rules new
+  Loads (Err fault) new = IsLoadFault fault × (new ≡ old)

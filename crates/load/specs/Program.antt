@@ -1,0 +1,25 @@
+-- The program that the bytes of a file are.
+use Rattle.std.specs.Prelude.{ℕ, List}
+use Rattle.bpf_insn.specs.Program.{Program}
+use Rattle.bpf_semantics.specs.Program.{ShapedProgram}
+use Rattle.bpf_verify.specs.Accepted.{IsAccepted, IsRefusedAt, shaped}
+use Rattle.cells.specs.Arrays.{AppShape}
+use Rattle.flow_check.specs.Fault.{IsFlowFault}
+use Rattle.flow_check.specs.Flow.{IsAcceptedAs}
+use Rattle.flow_check.specs.declared.fault.FlowFault.TheVariants as flow
+use Rattle.load.specs.declared.fault.AppFault.{AppFault}
+use Rattle.load.specs.declared.fault.AppFault.TheVariants as app
+use Rattle.load.specs.declared.fault.ProgramFault.TheVariants.{Flow, Verify}
+
+-- the bytes are those of the program, which is accepted under its shape
+pub record IsProgramOf (bytes : List ℕ) (program : ShapedProgram) : Type 0 where
+  pub bytes_are : IsAcceptedAs bytes program.code
+  pub accepted : IsAccepted program.code program.shape
+
+-- why they are no program of the shape
+abbrev pub RefusesProgram : List ℕ → AppShape → AppFault → Type 0
+RefusesProgram bytes shape (app.Program (Flow slot rule)) = IsFlowFault bytes (flow.Rule slot rule)
+RefusesProgram bytes shape (app.Program (Verify slot rule)) =
+    (code : Program) × IsAcceptedAs bytes code × IsRefusedAt (shaped code shape) slot rule
+RefusesProgram bytes shape app.Memory = Unit {0}
+RefusesProgram bytes shape fault = ⊥

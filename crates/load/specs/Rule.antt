@@ -1,0 +1,42 @@
+-- The program of the rule that the bytes of a file spell.
+use Rattle.std.specs.Prelude.{◌<◌, ℕ, List, Ok, Err, IsUtf8}
+use Rattle.attrs.specs.Attributes.{Attributes}
+use Rattle.bpf_semantics.specs.Program.{ShapedProgram}
+use Rattle.bpf_verify.specs.Accepted.{IsAccepted}
+use Rattle.cells.specs.Arrays.{AppShape}
+use Rattle.rule_compile.specs.Means.{Means}
+use Rattle.rule_lang.specs.declared.fault.RuleFault.TheVariants.{At}
+use Rattle.rule_lang.specs.declared.fault.RuleFaultKind.{RuleFaultKind}
+use Rattle.rule_lang.specs.declared.fault.RuleFaultKind.TheVariants.{Token}
+use Rattle.rule_lang.specs.declared.rule.Statement.{Statement}
+use Rattle.rule_lang.specs.Cost.{cost}
+use Rattle.rule_lang.specs.Verdicts.{IsVerdict}
+use Rattle.load.specs.declared.fault.AppFault.{AppFault}
+use Rattle.load.specs.declared.fault.AppFault.TheVariants as app
+use Rattle.load.specs.declared.fault.RuleTextFault.TheVariants.{Text, TooLong}
+
+-- the bytes spell the rule, which fits the shape
+pub record IsTextOf (bytes : List ℕ) (shape : AppShape) (rule : List Statement) : Type 0 where
+  pub utf8 : IsUtf8 bytes
+  pub spelled : IsVerdict shape bytes (Ok rule)
+
+-- the program has the meaning of the rule that the bytes spell, and is accepted under its shape
+pub record IsProgramOfRule (bytes : List ℕ) (program : ShapedProgram) : Type 0 where
+  pub rule : List Statement
+  pub text : IsTextOf bytes program.shape rule
+  pub means : (a : Attributes) → Means a rule program
+  pub accepted : IsAccepted program.code program.shape
+
+-- the fault of a text; bytes that aren't UTF-8 are no token in line 1
+pub data IsTextFault (bytes : List ℕ) (shape : AppShape) : ℕ → RuleFaultKind → Type 0 where
+  no_text : ¬ IsUtf8 bytes → IsTextFault bytes shape 1 Token
+  no_rule : {line : ℕ} {kind : RuleFaultKind} → IsUtf8 bytes
+      → IsVerdict shape bytes (Err (At line kind)) → IsTextFault bytes shape line kind
+
+-- why they spell no rule of the shape; a rule is too long only where its cost is above 4096
+abbrev pub RefusesRule : List ℕ → AppShape → AppFault → Type 0
+RefusesRule bytes shape (app.Rule (Text line kind)) = IsTextFault bytes shape line kind
+RefusesRule bytes shape (app.Rule TooLong) =
+    (rule : List Statement) × IsTextOf bytes shape rule × (4096 < cost rule)
+RefusesRule bytes shape app.Memory = Unit {0}
+RefusesRule bytes shape fault = ⊥

@@ -1,0 +1,36 @@
+-- The program that an app's file gives, as a program's bytes or as the text of a rule.
+use Rattle.std.specs.Prelude.{ℕ, List, Some, None}
+use Rattle.bpf_semantics.specs.Program.{ShapedProgram}
+use Rattle.cells.specs.Arrays.{AppShape}
+use Rattle.manifest.specs.declared.app.Source.{Source}
+use Rattle.manifest.specs.declared.app.Source.TheVariants as source
+use Rattle.load.specs.declared.fault.AppFault.{AppFault}
+use Rattle.load.specs.declared.fault.AppFault.TheVariants as app
+use Rattle.load.specs.Files.{Known, Gives}
+use Rattle.load.specs.Program.{IsProgramOf, RefusesProgram}
+use Rattle.load.specs.Rule.{IsProgramOfRule, RefusesRule}
+
+abbrev pub file_of : Source → List ℕ
+file_of (source.Program file) = file
+file_of (source.Rule file) = file
+
+-- the program that the bytes of the file give
+abbrev pub IsProgramFrom : Source → List ℕ → ShapedProgram → Type 0
+IsProgramFrom (source.Program file) bytes program = IsProgramOf bytes program
+IsProgramFrom (source.Rule file) bytes program = IsProgramOfRule bytes program
+
+-- why the bytes of the file give none
+abbrev pub RefusesBytes : Source → List ℕ → AppShape → AppFault → Type 0
+RefusesBytes (source.Program file) bytes shape fault = RefusesProgram bytes shape fault
+RefusesBytes (source.Rule file) bytes shape fault = RefusesRule bytes shape fault
+
+abbrev pub IsProgramIn : Known → Source → ShapedProgram → Type 0
+IsProgramIn known from program =
+    (bytes : List ℕ) × Gives known (file_of from) (Some bytes) × IsProgramFrom from bytes program
+
+-- why there is none: no file, or what its bytes are
+abbrev pub RefusesSource : Known → Source → AppShape → AppFault → Type 0
+RefusesSource known from shape app.File = Gives known (file_of from) None
+RefusesSource known from shape app.Memory = Unit {0}
+RefusesSource known from shape fault =
+    (bytes : List ℕ) × Gives known (file_of from) (Some bytes) × RefusesBytes from bytes shape fault

@@ -1,0 +1,81 @@
+// One app of a manifest, with its program.
+
+ghost use Rattle.std.specs.Prelude.{◌≡◌, ◌^◌, ◌-◌, ◌<◌, length, All, IfOk, IfErr};
+ghost use Rattle.load.specs.Source.{IsProgramIn, RefusesSource};
+ghost use Rattle.load.specs.Source as specs;
+ghost use Rattle.load.specs.App.{IsAppOf, RefusesApp, CountsApp};
+
+use crate::fault::AppFault;
+use crate::files::{FileFault, Files};
+use crate::program::program_of;
+use crate::rule::rule_program;
+use bpf_verify::Verified;
+use cells::{ArrayNo, Directory, Shape};
+use manifest::{AppEntry, AppParts, Source};
+use ruleset::App;
+use std::alloc::Global;
+use std::sync::Arc;
+
+/// The app of an entry, under the shape of its releases and the arrays of these numbers.
+pub(crate) fn load_app<F: Files>(
+    alloc: Global,
+    files: &mut F,
+    directory: &Directory,
+    numbers: &[ArrayNo],
+    entry: AppEntry,
+) -> Result<App, AppFault>
+    requires numbers { All (λ n. n.number < length directory.now) numbers.now }
+    requires failed { F.failed files.old < 2 ^ 64 - 1 }
+    ensures known { F.known files.new ≡ F.known files.old }
+    ensures app { IfOk result (IsAppOf (F.known files.old) directory.now numbers.now entry) }
+    ensures fault { IfErr result (RefusesApp (F.known files.old) directory.now numbers.now entry) }
+    ensures count { CountsApp (F.failed files.old) (F.failed files.new) result }
+{
+    let AppParts {
+        appid,
+        source,
+        releases,
+    } = entry.into_parts();
+    let Ok(shape) = Shape::of(alloc, releases.len() as u8, directory, numbers) else {
+        return Err(AppFault::Memory);
+    };
+    let program = load_program(alloc, files, &source, &shape)?;
+    let Ok(program) = Arc::new(alloc, program) else {
+        return Err(AppFault::Memory);
+    };
+    Ok(App::new(appid.into_string(), program, releases))
+}
+
+/// The program of an app's file, under the app's shape.
+fn load_program<F: Files>(
+    alloc: Global,
+    files: &mut F,
+    source: &Source,
+    shape: &Shape,
+) -> Result<Verified, AppFault>
+    requires { F.failed files.old < 2 ^ 64 - 1 }
+    ensures known { F.known files.new ≡ F.known files.old }
+    ensures shape { IfOk result (λ program. program.shape ≡ shape.now) }
+    ensures program { IfOk result (IsProgramIn (F.known files.old) source.now) }
+    ensures fault { IfErr result (RefusesSource (F.known files.old) source.now shape.now) }
+    ensures count { CountsApp (F.failed files.old) (F.failed files.new) result }
+{
+    let bytes = match files.bytes(file_of(source)) {
+        Ok(bytes) => bytes,
+        Err(FileFault::Failed) => return Err(AppFault::File),
+        Err(FileFault::Memory) => return Err(AppFault::Memory),
+    };
+    match source {
+        Source::Program(_) => program_of(alloc, bytes.as_slice(), shape),
+        Source::Rule(_) => rule_program(alloc, bytes.as_slice(), shape),
+    }
+}
+
+fn file_of(source: &Source) -> &str
+    ensures { result.now ≡ specs.file_of source.now }
+{
+    match source {
+        Source::Program(file) => file.as_str(),
+        Source::Rule(file) => file.as_str(),
+    }
+}

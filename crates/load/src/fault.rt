@@ -1,0 +1,69 @@
+//! Why a manifest and its files make no ruleset.
+
+use bpf_verify::Rule;
+use cells::CellsFault;
+use flow_check::FlowRule;
+use manifest::{Misfit, TomlFault, Twice};
+use rule_lang::RuleFaultKind;
+use thiserror::Error;
+
+/// What is wrong, with the numbers M1 to M8 that are printed. Arrays and apps are numbered from 1
+/// in the order of the manifest. What the first three variants hold tells more than is printed.
+#[derive(Debug, Drop, Error)]
+pub enum LoadFault {
+    /// The manifest is no TOML document of at most 1048576 bytes.
+    #[error("M1 Toml")]
+    Toml(TomlFault),
+    /// A member is wrong, is not there, or is none of a manifest's.
+    #[error("M2 Field")]
+    Field(Misfit),
+    /// The name of an array or an appid stands twice.
+    #[error("M3 Duplicate")]
+    Duplicate(Twice),
+    /// The file of an app can't be read.
+    #[error("M4 File in app {app}")]
+    File { app: usize },
+    /// The bytes of a file are no program of its app.
+    #[error("M5 Program {fault} in app {app}")]
+    Program { app: usize, fault: ProgramFault },
+    /// The text of a file is no rule of its app.
+    #[error("M6 Rule {fault} in app {app}")]
+    Rule { app: usize, fault: RuleTextFault },
+    /// An array isn't declared: N1 or N2.
+    #[error("M7 Cells {fault} in array {array}")]
+    Cells { array: usize, fault: CellsFault },
+    /// Memory was refused, anywhere.
+    #[error("M8 Memory")]
+    Memory,
+}
+
+/// Why bytes are no program of a shape.
+#[derive(Clone, Copy, Debug, Drop, PartialEq, Eq, Error)]
+pub enum ProgramFault {
+    /// F1 to F8: they are no program whose edges lead forward.
+    #[error("{rule} at slot {slot}")]
+    Flow { slot: usize, rule: FlowRule },
+    /// V1 to V14: the program isn't accepted.
+    #[error("{rule} at slot {slot}")]
+    Verify { slot: usize, rule: Rule },
+}
+
+/// Why a text is no rule of a shape.
+#[derive(Clone, Copy, Debug, Drop, PartialEq, Eq, Error)]
+pub enum RuleTextFault {
+    /// L1 to L4, with the line from 1.
+    #[error("{kind} at line {line}")]
+    Text { line: usize, kind: RuleFaultKind },
+    /// Its code would pass 4096 slots.
+    #[error("C1 TooLong")]
+    TooLong,
+}
+
+/// Why an app has no program.
+#[derive(Clone, Copy, Debug, Drop, PartialEq, Eq)]
+pub(crate) enum AppFault {
+    File,
+    Program(ProgramFault),
+    Rule(RuleTextFault),
+    Memory,
+}

@@ -1,0 +1,38 @@
+//! The files that a manifest names.
+
+ghost use Rattle.std.specs.Prelude.{◌≡◌, ◌^◌, ◌-◌, ◌<◌, List, ℕ, Option};
+ghost use Rattle.load.specs.Files.{Reads, Counts};
+
+use thiserror::Error;
+
+/// Why a file gave no bytes.
+#[derive(Clone, Copy, Debug, PartialEq, Eq, Error)]
+pub enum FileFault {
+    /// It can't be read. This is counted.
+    #[error("File")]
+    Failed,
+    /// Memory was refused.
+    #[error("Memory")]
+    Memory,
+}
+
+/// Files by their names.
+pub trait Files {
+    /// What each name gives, the bytes of its file or nothing where it can't be read: known of
+    /// files in memory, and not of those of a device.
+    ghost known: { Self → Option (List ℕ → Option (List ℕ)) };
+
+    /// How many files couldn't be read so far.
+    ghost failed: { Self → ℕ };
+
+    /// The bytes of a file.
+    fn bytes(&mut self, name: &str) -> Result<Vec<u8>, FileFault>
+        requires { failed self.old < 2 ^ 64 - 1 }
+        ensures known { known self.new ≡ known self.old }
+        ensures read { Reads (known self.old) name.now result }
+        ensures count { Counts (failed self.old) (failed self.new) result };
+
+    /// How many files couldn't be read so far.
+    fn failures(&self) -> u64
+        ensures { result ≡ failed self.now };
+}

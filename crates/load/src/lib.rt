@@ -1,0 +1,23 @@
+//! Loading: a manifest and the files that it names become a ruleset, and its arrays are declared.
+#![tactic(auto)]
+
+// How a load goes. The manifest is read first. Then its arrays are declared, in a copy of the
+// directory, and they make with the number of its releases the shape of each app. Then the apps
+// come in their order: the file of each is read, and its bytes are taken as a program and verified,
+// or taken as the text of a rule and compiled. The first fault ends the load. Only when all apps
+// have their programs is the directory exchanged for the copy, so a load that is refused declares
+// nothing.
+
+mod app;
+mod apps;
+mod fault;
+mod files;
+mod folder;
+mod manifest;
+mod program;
+mod rule;
+
+pub use fault::{LoadFault, ProgramFault, RuleTextFault};
+pub use files::{FileFault, Files};
+pub use folder::FolderFiles;
+pub use manifest::load_ruleset;
