@@ -1,0 +1,7 @@
+use Rattle.std.proofs.Common.{◌≡◌, length}
+use Rattle.serving.proofs.crew.crew.Given as goal
+
+-- a worker each time, and the publisher shows what it did
+abbrev pub invariant-loop : goal.invariant-loop
+invariant-loop g l =
+    (length l.workers.items ≡ l.counter) × (l.publisher.latest ≡ l.initial.publisher.latest)

@@ -1,0 +1,31 @@
+// The workers of a server: a pass and a watcher each.
+
+ghost use Rattle.std.specs.Prelude.{◌≡◌, IfOk, All, length};
+
+use crate::fault::ServingFault;
+use hot_swap::{Publisher, Watcher};
+use locked_cells::{LockedCells, LockedPass};
+use std::alloc::Global;
+use std::sync::Wait;
+
+/// So many workers of these cells, which watch this publisher.
+pub(crate) fn crew<R: Wait + Drop>(
+    alloc: Global,
+    cells: &LockedCells<R>,
+    publisher: &mut Publisher,
+    count: usize,
+) -> Result<Vec<(LockedPass, Watcher)>, ServingFault>
+    ensures all { IfOk result (λ v. length v.items ≡ count) }
+    ensures latest { publisher.new.latest ≡ publisher.old.latest }
+{
+    let mut workers = Vec::new(alloc);
+    for _ in 0..count {
+        let Ok(watcher) = publisher.watcher() else {
+            return Err(ServingFault::Memory);
+        };
+        let Ok(()) = workers.push((cells.pass(), watcher)) else {
+            return Err(ServingFault::Memory);
+        };
+    }
+    Ok(workers)
+}

@@ -1,0 +1,14 @@
+// Why a server doesn't serve.
+
+use thiserror::Error;
+
+/// What is wrong, with the numbers that are printed.
+#[derive(Clone, Copy, Debug, Drop, Error, PartialEq, Eq)]
+pub enum ServingFault {
+    /// Memory, or a thread, was refused.
+    #[error("B4 Memory")]
+    Memory,
+    /// A port can't be bound.
+    #[error("B6 Bind")]
+    Bind,
+}

@@ -1,0 +1,15 @@
+//! A server with its operator's port, from a ruleset to its end.
+//!
+//! The operator's thread owns the publisher and the directory; the workers have a watcher each. All
+//! have passes to cells under one lock. The operator's `stop` ends both ports: the workers' port is
+//! told by a flag and woken by one more connection.
+#![tactic(auto)]
+
+mod crew;
+mod fault;
+mod ports;
+mod running;
+
+pub use fault::ServingFault;
+pub use ports::{Ports, bind};
+pub use running::run;
