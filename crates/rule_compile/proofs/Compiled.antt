@@ -20,29 +20,41 @@ use Rattle.rule_compile.specs.Writing.{CanEncode}
 use Rattle.rule_compile.proofs.RuleRuns.{rule_means}
 use Rattle.rule_compile.proofs.RuleFronts.{rule_flow, rule_table}
 
-pub refuted : (p : Program) (s : AppShape) (r : Refusal) (slot : ℕ) (rule : Rule) → HasOneVerdict p s → IsAccepted p s → r ≡ refusal.Rule slot rule → IsRefusal p s r → ⊥
-refuted p s r slot rule one accepted is h = one.either slot rule accepted (subst (IsRefusal p s) is h)
+pub refuted : (p : Program) (s : AppShape) (r : Refusal) (slot : ℕ) (rule : Rule)
+    → HasOneVerdict p s → IsAccepted p s → r ≡ refusal.Rule slot rule → IsRefusal p s r → ⊥
+refuted p s r slot rule one accepted is h =
+    one.either slot rule accepted (subst (IsRefusal p s) is h)
 
-module _ (s : AppShape) (xs ys : List Statement) (code : Program) (same : ys ≡ xs) (shape : IsShape s) (fit : fits s xs ≡ true)
+module _ (s : AppShape) (xs ys : List Statement) (code : Program) (same : ys ≡ xs)
+    (shape : IsShape s) (fit : fits s xs ≡ true)
     (range : IsRuleInRange ys) (made : AreMade ys) (is : code ≡ rule_code s ys) where
   code_is : code ≡ rule_code s xs
   code_is = is ∙ ap (rule_code s) same
 
-  pub written_flow : (slots : Program) → slots ≡ code → length code ≤ 4096 → AllByRecursion CanEncode slots → IsFlow slots
+  pub written_flow : (slots : Program) → slots ≡ code → length code ≤ 4096
+      → AllByRecursion CanEncode slots → IsFlow slots
   written_flow slots slots_are short encodable =
       let whole = slots_are ∙ code_is in
       subst IsFlow (sym whole)
-      (rule_flow s shape xs (subst IsRuleInRange same range) fit (subst AreMade same made) (subst (AllByRecursion CanEncode) whole encodable) (subst (λ (p : Program). length p ≤ 4096) code_is short))
+      (rule_flow s shape xs (subst IsRuleInRange same range) fit (subst AreMade same made)
+      (subst (AllByRecursion CanEncode) whole encodable)
+      (subst (λ (p : Program). length p ≤ 4096) code_is short))
 
-  pub written_accepted : ((p : Program) (s : AppShape) (table : ℕ → Known) → IsTable p s table → IsAccepted p s) → (p : Program) → p ≡ code → IsAccepted p s
+  pub written_accepted : ((p : Program) (s : AppShape) (table : ℕ → Known) → IsTable p s table
+      → IsAccepted p s) → (p : Program) → p ≡ code → IsAccepted p s
   written_accepted law p p_is =
-      let t = rule_table s shape xs (subst IsRuleInRange same range) fit (subst AreMade same made) in
-      subst (λ (q : Program). IsAccepted q s) (sym (p_is ∙ code_is)) (law (rule_code s xs) s t.0 t.1)
+      let t = rule_table s shape xs (subst IsRuleInRange same range) fit
+      (subst AreMade same made) in
+      subst (λ (q : Program). IsAccepted q s) (sym (p_is ∙ code_is))
+      (law (rule_code s xs) s t.0 t.1)
 
-  pub written_means : (p : ShapedProgram) → p.code ≡ code → p.shape ≡ s → (a : Attributes) → Means a xs p
+  pub written_means : (p : ShapedProgram) → p.code ≡ code → p.shape ≡ s → (a : Attributes)
+      → Means a xs p
   written_means p p_is shape_is a = means p.code p.shape (p_is ∙ code_is) shape_is
     where
-      means : (q : Program) (t : AppShape) → q ≡ rule_code s xs → t ≡ s → Means a xs (record { code = q; shape = t })
+      means : (q : Program) (t : AppShape) → q ≡ rule_code s xs → t ≡ s
+          → Means a xs (record { code = q; shape = t })
       means q t q_is t_is =
           subst (λ (u : AppShape). Means a xs (record { code = q; shape = u })) (sym t_is)
-          (rule_means s xs q shape (subst IsRuleInRange same range) fit (subst AreMade same made) q_is a)
+          (rule_means s xs q shape (subst IsRuleInRange same range) fit
+          (subst AreMade same made) q_is a)

@@ -42,23 +42,28 @@ address_is c h = rw (number_is c, lt-ltb c 8192 h) (grind arith)
 pub own_address : (c : ℕ) → c < 8192 → address_of (cell_address c) (pos 0) ≡ cell_address c
 own_address c h = omega (arith, h)
 
-pub reached : (size : AtomicSize) (c : ℕ) → IsCellOf size c → cell_at (cell_address c) (atomic_count size) ≡ Some c
+pub reached : (size : AtomicSize) (c : ℕ) → IsCellOf size c
+    → cell_at (cell_address c) (atomic_count size) ≡ Some c
 reached Double c h = grind (arith, h)
 reached Word c h = grind (arith, h.0, h.1)
 
-indexed : (base index : ℕ) → base + index < 8192 → address_of (cell_address base) (pos (8 * index)) ≡ cell_address (base + index)
+indexed : (base index : ℕ) → base + index < 8192
+    → address_of (cell_address base) (pos (8 * index)) ≡ cell_address (base + index)
 indexed base index h = omega (arith, h)
 
 -- ---- the reply and the quota
 
-lt_turned : {A : Type 0} (r quota : ℕ) (x y : A) → (if nat_le quota r then x else y) ≡ (if nat_lt r quota then y else x)
+lt_turned : {A : Type 0} (r quota : ℕ) (x y : A)
+    → (if nat_le quota r then x else y) ≡ (if nat_lt r quota then y else x)
 lt_turned r quota x y = grind arith
 
 -- whether the jump is taken
 abbrev pub taken : Bool → ℕ → ℕ → Bool
 taken sense r quota = holds Bits64 (insn.below sense) r quota
 
-pub by_quota : (sense : Bool) (r quota : ℕ) (x y : Behaviour) → (if taken sense r quota then x else y) ≡ (if nat_lt r quota then (if sense then x else y) else (if sense then y else x))
+pub by_quota : (sense : Bool) (r quota : ℕ) (x y : Behaviour)
+    → (if taken sense r quota then x else y) ≡ (if nat_lt r quota then (if sense then x else y)
+    else (if sense then y else x))
 by_quota true r quota x y = refl
 by_quota false r quota x y = lt_turned r quota x y
 
@@ -70,21 +75,46 @@ module _ (p : ShapedProgram) (a : Attributes) where
   abbrev pub HasOne : ℕ → State → Type 0
   HasOne c s = HasCell c s × (s.registers 2 ≡ Some 1)
 
-  cell_then : (array index c : ℕ) (found : CellArray) (q : Program) (choice : ℕ) (b : Behaviour) → slice_get p.shape.arrays array ≡ Some found → found.base + index ≡ c → c < 8192
-      → Comes p a (HasCell c) q choice b → Comes p a (Nothing p a) (Some (insn.load_cell array index) ∷ None ∷ q) choice b
+  cell_then : (array index c : ℕ) (found : CellArray) (q : Program) (choice : ℕ) (b : Behaviour)
+      → slice_get p.shape.arrays array ≡ Some found → found.base + index ≡ c → c < 8192
+      → Comes p a (HasCell c) q choice b
+      → Comes p a (Nothing p a) (Some (insn.load_cell array index) ∷ None ∷ q) choice b
   cell_then array index c found q choice b is sum small rest s h known =
-      let address : address_of (cell_address found.base) (pos (8 * index)) ≡ cell_address c = subst (λ (n : ℕ). address_of (cell_address found.base) (pos (8 * index)) ≡ cell_address n) sum (indexed found.base index (omega arith)) in
-      quiet p a s (record (with_register s 3 (cell_address c)) { slot = s.slot + 2; count = s.count + 1 }) (insn.load_cell array index) (None ∷ q) choice b h
-      (ap (λ (o : Option CellArray). write s 2 R3 (o >>= λ x. Some (address_of (cell_address x.base) (pos (8 * index))))) is ∙ ap (λ (n : ℕ). write s 2 R3 (Some n)) address)
-      (rest _ (record { place = next_wide p.code s.slot (Some (insn.load_cell array index)) None q h.place; context = h.context; choice_is = h.choice_is; top = h.top; attributes = h.attributes }) refl)
+      let address : address_of (cell_address found.base) (pos (8 * index)) ≡ cell_address c =
+      subst (λ (n : ℕ). address_of (cell_address found.base) (pos (8 * index)) ≡ cell_address n)
+      sum (indexed found.base index (omega arith)) in
+      quiet p a s (record (with_register s 3 (cell_address c))
+      { slot = s.slot + 2; count = s.count + 1 }) (insn.load_cell array index)
+      (None ∷ q) choice b h
+      (ap (λ (o : Option CellArray). write s 2 R3
+      (o >>= λ x. Some (address_of (cell_address x.base) (pos (8 * index))))) is
+      ∙ ap (λ (n : ℕ). write s 2 R3 (Some n)) address)
+      (rest _ (record {
+        place = next_wide p.code s.slot
+            (Some (insn.load_cell array index)) None q h.place;
+        context = h.context;
+        choice_is = h.choice_is;
+        top = h.top;
+        attributes = h.attributes;
+      }) refl)
 
-  one_then : (c : ℕ) (q : Program) (choice : ℕ) (b : Behaviour) → Comes p a (HasOne c) q choice b → Comes p a (HasCell c) (Some (insn.set_argument R2 1) ∷ q) choice b
+  one_then : (c : ℕ) (q : Program) (choice : ℕ) (b : Behaviour) → Comes p a (HasOne c) q choice b
+      → Comes p a (HasCell c) (Some (insn.set_argument R2 1) ∷ q) choice b
   one_then c q choice b rest s h known =
-      quiet p a s (record (with_register s 2 1) { slot = s.slot + 1; count = s.count + 1 }) (insn.set_argument R2 1) q choice b h refl
-      (rest _ (record { place = next_here p.code s.slot (Some (insn.set_argument R2 1)) q h.place; context = h.context; choice_is = h.choice_is; top = h.top; attributes = h.attributes }) (known, refl))
+      quiet p a s (record (with_register s 2 1) { slot = s.slot + 1; count = s.count + 1 })
+      (insn.set_argument R2 1) q choice b h refl
+      (rest _ (record {
+        place = next_here p.code s.slot
+            (Some (insn.set_argument R2 1)) q h.place;
+        context = h.context;
+        choice_is = h.choice_is;
+        top = h.top;
+        attributes = h.attributes;
+      }) (known, refl))
 
   -- the counter that an atomic operation at R3 reaches
-  found_cell : (size : AtomicSize) (c : ℕ) → IsCellOf size c → cell_at (address_of (cell_address c) (pos 0)) (atomic_count size) ≡ Some c
+  found_cell : (size : AtomicSize) (c : ℕ) → IsCellOf size c
+      → cell_at (address_of (cell_address c) (pos 0)) (atomic_count size) ≡ Some c
   found_cell Double c h = rw (own_address c (omega (arith, h))) (reached Double c h)
   found_cell Word c h = rw (own_address c h.1) (reached Word c h)
 
@@ -92,35 +122,64 @@ module _ (p : ShapedProgram) (a : Attributes) where
   below_all Double c h = omega (arith, h)
   below_all Word c h = h.1
 
-  add_then : (size : AtomicSize) (c : ℕ) (q : Program) (choice : ℕ) (b : Behaviour) → IsCellOf size c → Comes p a (Nothing p a) q choice b → Comes p a (HasOne c) (Some (insn.add_to_cell size) ∷ q) choice (Asks c (Add 1) (λ r. b))
+  add_then : (size : AtomicSize) (c : ℕ) (q : Program) (choice : ℕ) (b : Behaviour)
+      → IsCellOf size c → Comes p a (Nothing p a) q choice b
+      → Comes p a (HasOne c) (Some (insn.add_to_cell size) ∷ q) choice (Asks c (Add 1) (λ r. b))
   add_then size c q choice b cell rest s h known =
-      asks p a s (λ r. record s { slot = s.slot + 1; count = s.count + 1 }) (insn.add_to_cell size) q choice c (Add 1) (λ r. b) h (adds size known.0 known.1 (found_cell size c cell))
-      (λ r. rest _ (record { place = next_here p.code s.slot (Some (insn.add_to_cell size)) q h.place; context = h.context; choice_is = h.choice_is; top = h.top; attributes = h.attributes }) tt)
+      asks p a s (λ r. record s { slot = s.slot + 1; count = s.count + 1 })
+      (insn.add_to_cell size) q choice c (Add 1) (λ r. b) h
+      (adds size known.0 known.1 (found_cell size c cell))
+      (λ r. rest _ (record {
+        place = next_here p.code s.slot
+            (Some (insn.add_to_cell size)) q h.place;
+        context = h.context;
+        choice_is = h.choice_is;
+        top = h.top;
+        attributes = h.attributes;
+      }) tt)
     where
-      adds : (size : AtomicSize) → s.registers 3 ≡ Some (cell_address c) → s.registers 2 ≡ Some 1 → cell_at (address_of (cell_address c) (pos 0)) (atomic_count size) ≡ Some c
-          → act p.shape s (insn.add_to_cell size) ≡ outcome.Asks c (Add 1) (λ r. record s { slot = s.slot + 1; count = s.count + 1 })
+      adds : (size : AtomicSize) → s.registers 3 ≡ Some (cell_address c) → s.registers 2 ≡ Some 1
+          → cell_at (address_of (cell_address c) (pos 0)) (atomic_count size) ≡ Some c
+          → act p.shape s (insn.add_to_cell size) ≡ outcome.Asks c (Add 1)
+          (λ r. record s { slot = s.slot + 1; count = s.count + 1 })
       adds Word three two is = rw (three, is, two) refl
       adds Double three two is = rw (three, is, two) refl
 
-  take_then : (c : ℕ) (q : Program) (choice : ℕ) (next : ℕ → Behaviour) → c < 4096 → ((r : ℕ) → Comes p a (Has p a 2 r) q choice (next r)) → Comes p a (HasOne c) (Some insn.take_from_cell ∷ q) choice (Asks c (Add 1) next)
+  take_then : (c : ℕ) (q : Program) (choice : ℕ) (next : ℕ → Behaviour) → c < 4096
+      → ((r : ℕ) → Comes p a (Has p a 2 r) q choice (next r))
+      → Comes p a (HasOne c) (Some insn.take_from_cell ∷ q) choice (Asks c (Add 1) next)
   take_then c q choice next cell rest s h known =
-      asks p a s (λ r. record (with_register s 2 r) { slot = s.slot + 1; count = s.count + 1 }) insn.take_from_cell q choice c (Add 1) next h takes
-      (λ r. rest r _ (record { place = next_here p.code s.slot (Some insn.take_from_cell) q h.place; context = h.context; choice_is = h.choice_is; top = h.top; attributes = h.attributes }) refl)
+      asks p a s (λ r. record (with_register s 2 r) { slot = s.slot + 1; count = s.count + 1 })
+      insn.take_from_cell q choice c (Add 1) next h takes
+      (λ r. rest r _ (record {
+        place = next_here p.code s.slot (Some insn.take_from_cell) q h.place;
+        context = h.context;
+        choice_is = h.choice_is;
+        top = h.top;
+        attributes = h.attributes;
+      }) refl)
     where
       is : cell_at (address_of (cell_address c) (pos 0)) 8 ≡ Some c
       is = found_cell Double c cell
 
-      takes : act p.shape s insn.take_from_cell ≡ outcome.Asks c (Add 1) (λ r. record (with_register s 2 r) { slot = s.slot + 1; count = s.count + 1 })
+      takes : act p.shape s insn.take_from_cell ≡ outcome.Asks c (Add 1)
+          (λ r. record (with_register s 2 r) { slot = s.slot + 1; count = s.count + 1 })
       takes = rw (known.0, is, known.1) refl
 
   -- ---- count, as a piece
 
-  pub count_runs : (size : AtomicSize) (array index c : ℕ) (found : CellArray) (q : Program) (choice : ℕ) (b : Behaviour) → slice_get p.shape.arrays array ≡ Some found → found.base + index ≡ c → IsCellOf size c
-      → Comes p a (Nothing p a) q choice b → Comes p a (Nothing p a) (code.count_code size array index q) choice (Asks c (Add 1) (λ r. b))
+  pub count_runs : (size : AtomicSize) (array index c : ℕ) (found : CellArray) (q : Program)
+      (choice : ℕ) (b : Behaviour) → slice_get p.shape.arrays array ≡ Some found
+      → found.base + index ≡ c → IsCellOf size c
+      → Comes p a (Nothing p a) q choice b
+      → Comes p a (Nothing p a) (code.count_code size array index q) choice
+      (Asks c (Add 1) (λ r. b))
   count_runs size array index c found q choice b is sum cell rest =
       let asked : Behaviour = Asks c (Add 1) (λ r. b) in
-      cell_then array index c found (Some (insn.set_argument R2 1) ∷ Some (insn.add_to_cell size) ∷ q) choice asked is sum (below_all size c cell)
-      (one_then c (Some (insn.add_to_cell size) ∷ q) choice asked (add_then size c q choice b cell rest))
+      cell_then array index c found (Some (insn.set_argument R2 1) ∷ Some
+      (insn.add_to_cell size) ∷ q) choice asked is sum (below_all size c cell)
+      (one_then c (Some (insn.add_to_cell size) ∷ q) choice asked
+      (add_then size c q choice b cell rest))
 
   -- ---- take, as a piece
 
@@ -128,38 +187,80 @@ module _ (p : ShapedProgram) (a : Attributes) where
   abbrev pub HasBoth : ℕ → ℕ → State → Type 0
   HasBoth r quota s = (s.registers 2 ≡ Some r) × (s.registers 4 ≡ Some quota)
 
-  quota_then : (r quota : ℕ) (q : Program) (choice : ℕ) (b : Behaviour) → Comes p a (HasBoth r quota) q choice b → Comes p a (Has p a 2 r) (Some (insn.load_quota quota) ∷ None ∷ q) choice b
+  quota_then : (r quota : ℕ) (q : Program) (choice : ℕ) (b : Behaviour)
+      → Comes p a (HasBoth r quota) q choice b
+      → Comes p a (Has p a 2 r) (Some (insn.load_quota quota) ∷ None ∷ q) choice b
   quota_then r quota q choice b rest s h known =
-      quiet p a s (record (with_register s 4 quota) { slot = s.slot + 2; count = s.count + 1 }) (insn.load_quota quota) (None ∷ q) choice b h refl
-      (rest _ (record { place = next_wide p.code s.slot (Some (insn.load_quota quota)) None q h.place; context = h.context; choice_is = h.choice_is; top = h.top; attributes = h.attributes }) (known, refl))
+      quiet p a s (record (with_register s 4 quota) { slot = s.slot + 2; count = s.count + 1 })
+      (insn.load_quota quota) (None ∷ q) choice b h refl
+      (rest _ (record {
+        place = next_wide p.code s.slot
+            (Some (insn.load_quota quota)) None q h.place;
+        context = h.context;
+        choice_is = h.choice_is;
+        top = h.top;
+        attributes = h.attributes;
+      }) (known, refl))
 
-  within_then : (sense : Bool) (k r quota : ℕ) (q : Program) (choice : ℕ) (there on : Behaviour) → Comes p a (Nothing p a) (drop k q) choice there → Comes p a (Nothing p a) q choice on
-      → Comes p a (HasBoth r quota) (Some (insn.jump_on_quota sense k) ∷ q) choice (if taken sense r quota then there else on)
-  within_then sense k r quota q choice there on to next s h known = by_case (taken sense r quota) refl
+  within_then : (sense : Bool) (k r quota : ℕ) (q : Program) (choice : ℕ) (there on : Behaviour)
+      → Comes p a (Nothing p a) (drop k q) choice there → Comes p a (Nothing p a) q choice on
+      → Comes p a (HasBoth r quota) (Some (insn.jump_on_quota sense k) ∷ q) choice
+      (if taken sense r quota then there else on)
+  within_then sense k r quota q choice there on to next s h known =
+      by_case (taken sense r quota) refl
     where
-      branch_is : act p.shape s (insn.jump_on_quota sense k) ≡ branch s (pos k) (Some (taken sense r quota))
-      branch_is = ap (λ (o : Option ℕ). branch s (pos k) (both (holds Bits64 (insn.below sense)) o (s.registers 4))) known.0
-          ∙ ap (λ (o : Option ℕ). branch s (pos k) (both (holds Bits64 (insn.below sense)) (Some r) o)) known.1
+      branch_is : act p.shape s (insn.jump_on_quota sense k) ≡ branch s (pos k)
+          (Some (taken sense r quota))
+      branch_is = ap (λ (o : Option ℕ). branch s (pos k)
+          (both (holds Bits64 (insn.below sense)) o (s.registers 4))) known.0
+          ∙ ap (λ (o : Option ℕ). branch s (pos k)
+          (both (holds Bits64 (insn.below sense)) (Some r) o)) known.1
 
       by_case : (b : Bool) → taken sense r quota ≡ b → EndsAs p a s (if b then there else on)
       by_case true is =
-          quiet p a s (record s { slot = s.slot + 1 + k; count = s.count + 1 }) (insn.jump_on_quota sense k) q choice there h
+          quiet p a s (record s { slot = s.slot + 1 + k; count = s.count + 1 })
+          (insn.jump_on_quota sense k) q choice there h
           (branch_is ∙ ap (λ (b : Bool). branch s (pos k) (Some b)) is)
-          (to _ (record { place = later_here p.code s.slot k (Some (insn.jump_on_quota sense k)) q h.place; context = h.context; choice_is = h.choice_is; top = h.top; attributes = h.attributes }) tt)
+          (to _ (record {
+            place = later_here p.code s.slot k
+                (Some (insn.jump_on_quota sense k)) q h.place;
+            context = h.context;
+            choice_is = h.choice_is;
+            top = h.top;
+            attributes = h.attributes;
+          }) tt)
       by_case false is =
-          quiet p a s (record s { slot = s.slot + 1; count = s.count + 1 }) (insn.jump_on_quota sense k) q choice on h
+          quiet p a s (record s { slot = s.slot + 1; count = s.count + 1 })
+          (insn.jump_on_quota sense k) q choice on h
           (branch_is ∙ ap (λ (b : Bool). branch s (pos k) (Some b)) is)
-          (next _ (record { place = next_here p.code s.slot (Some (insn.jump_on_quota sense k)) q h.place; context = h.context; choice_is = h.choice_is; top = h.top; attributes = h.attributes }) tt)
+          (next _ (record {
+            place = next_here p.code s.slot
+                (Some (insn.jump_on_quota sense k)) q h.place;
+            context = h.context;
+            choice_is = h.choice_is;
+            top = h.top;
+            attributes = h.attributes;
+          }) tt)
 
-  pub take_runs : (array index c quota : ℕ) (found : CellArray) (sense : Bool) (l : ℕ) (q : Program) (choice : ℕ) (x y : Behaviour) → slice_get p.shape.arrays array ≡ Some found → found.base + index ≡ c → c < 4096
+  pub take_runs : (array index c quota : ℕ) (found : CellArray) (sense : Bool) (l : ℕ) (q : Program)
+      (choice : ℕ) (x y : Behaviour) → slice_get p.shape.arrays array ≡ Some found
+      → found.base + index ≡ c → c < 4096
       → Comes p a (Nothing p a) (from_label q l) choice x → Comes p a (Nothing p a) q choice y
-      → Comes p a (Nothing p a) (code.take_code array index quota sense l q) choice (Asks c (Add 1) (λ r. if nat_lt r quota then (if sense then x else y) else (if sense then y else x)))
+      → Comes p a (Nothing p a) (code.take_code array index quota sense l q) choice
+      (Asks c (Add 1) (λ r. if nat_lt r quota then (if sense then x else y)
+      else (if sense then y else x)))
   unfolding from_label
   take_runs array index c quota found sense l q choice x y is sum cell to on =
       let jump : Program = Some (insn.jump_on_quota sense (length q - l)) ∷ q in
-      let next = λ (r : ℕ). if nat_lt r quota then (if sense then x else y) else (if sense then y else x) in
-      cell_then array index c found (Some (insn.set_argument R2 1) ∷ Some insn.take_from_cell ∷ Some (insn.load_quota quota) ∷ None ∷ jump) choice (Asks c (Add 1) next) is sum (omega (arith, cell))
-      (one_then c (Some insn.take_from_cell ∷ Some (insn.load_quota quota) ∷ None ∷ jump) choice (Asks c (Add 1) next)
+      let next = λ (r : ℕ). if nat_lt r quota then (if sense then x else y)
+      else (if sense then y else x) in
+      cell_then array index c found (Some (insn.set_argument R2 1) ∷ Some insn.take_from_cell ∷ Some
+      (insn.load_quota quota) ∷ None ∷ jump) choice (Asks c (Add 1) next) is sum
+      (omega (arith, cell))
+      (one_then c (Some insn.take_from_cell ∷ Some (insn.load_quota quota) ∷ None ∷ jump) choice
+      (Asks c (Add 1) next)
       (take_then c (Some (insn.load_quota quota) ∷ None ∷ jump) choice next cell
       (λ r. quota_then r quota jump choice (next r)
-      (subst (λ (b : Behaviour). Comes p a (HasBoth r quota) jump choice b) (by_quota sense r quota x y) (within_then sense (length q - l) r quota q choice x y to on)))))
+      (subst (λ (b : Behaviour). Comes p a (HasBoth r quota) jump choice b)
+      (by_quota sense r quota x y) (within_then sense
+      (length q - l) r quota q choice x y to on)))))

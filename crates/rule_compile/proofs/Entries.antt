@@ -34,7 +34,8 @@ none_set place = false
 
 abbrev pub frame : Abs → Abs → Abs → Abs → Abs → Abs → (ℕ → Bool) → Known
 frame zero_is one two three four choice set = record {
-  registers = zero_is ∷ one ∷ two ∷ three ∷ four ∷ Unusable ∷ Ctx (places 0 0) ∷ choice ∷ Unusable ∷ Unusable ∷ Stk 512 ∷ [];
+  registers = zero_is ∷ one ∷ two ∷ three ∷ four ∷ Unusable ∷ Ctx
+      (places 0 0) ∷ choice ∷ Unusable ∷ Unusable ∷ Stk 512 ∷ [];
   set = set;
 }
 
@@ -49,10 +50,18 @@ choice shape = Num (up_to shape.releases)
 abbrev pub chosen : AppShape → Known
 chosen shape = frame Unusable Unusable Unusable Unusable Unusable (choice shape) none_set
 
-pub forgets : (a b c d e v : Abs) (set : ℕ → Bool) (f : AbsState) → Knows (frame a b c d e v set) f → Knows (frame Unusable Unusable Unusable Unusable Unusable v none_set) f
-forgets a b c d e v set f h = record { long = h.long; wide = h.wide; each = λ r. fewer r (h.each r); bytes = λ place lt is. absurd cc }
+pub forgets : (a b c d e v : Abs) (set : ℕ → Bool) (f : AbsState) → Knows (frame a b c d e v set) f
+    → Knows (frame Unusable Unusable Unusable Unusable Unusable v none_set) f
+forgets a b c d e v set f h = record {
+  long = h.long;
+  wide = h.wide;
+  each = λ r. fewer r (h.each r);
+  bytes = λ place lt is. absurd cc;
+}
   where
-    fewer : (r : ℕ) → IsWider (register_at (frame a b c d e v set).registers r) (value_at f r) → IsWider (register_at (frame Unusable Unusable Unusable Unusable Unusable v none_set).registers r) (value_at f r)
+    fewer : (r : ℕ) → IsWider (register_at (frame a b c d e v set).registers r) (value_at f r)
+        → IsWider (register_at (frame Unusable Unusable Unusable Unusable Unusable v
+        none_set).registers r) (value_at f r)
     fewer zero h = tt
     fewer (suc zero) h = tt
     fewer (suc (suc zero)) h = tt
@@ -71,50 +80,64 @@ pub record Takes (q : Program) (ds : List Known) (k : ℕ) (d : Known) : Type 0 
 abbrev pub writes : Known → Reg → Abs → Known
 writes d r v = record { registers = slice_set d.registers (number_of r) v; set = d.set }
 
-written : (vs es : List Abs) (r : ℕ) (v w : Abs) → r < length es → ((q : ℕ) → IsWider (register_at vs q) (register_at es q)) → IsWider v w
+written : (vs es : List Abs) (r : ℕ) (v w : Abs) → r < length es
+    → ((q : ℕ) → IsWider (register_at vs q) (register_at es q)) → IsWider v w
     → (q : ℕ) → IsWider (register_at (slice_set vs r v) q) (register_at (slice_set es r w) q)
 written vs es r v w lt h hv q = elim (cases_eq q r) [
   | inl same ↦ rw (same, get_or-set_same es r w Unusable lt) (here (cases_lt r (length vs)))
-  | inr other ↦ rw (get_or-set_other vs r q v Unusable other, get_or-set_other es r q w Unusable other) (h q)
+  | inr other ↦ rw (
+    get_or-set_other vs r q v Unusable other,
+    get_or-set_other es r q w Unusable
+        other,
+  ) (h q)
 ]
   where
     here : (r < length vs) ⊎ (length vs ≤ r) → IsWider (register_at (slice_set vs r v) r) w
     here (inl within) = rw (get_or-set_same vs r v Unusable within) hv
-    here (inr past) = rw (get_or_past (slice_set vs r v) r Unusable (omega (arith, past, length-set vs r v))) tt
+    here (inr past) = rw (get_or_past (slice_set vs r v) r Unusable
+        (omega (arith, past, length-set vs r v))) tt
 
-overwritten : (vs es : List Abs) (r : ℕ) (w : Abs) → r < length es → ((q : ℕ) → IsWider (register_at vs q) (register_at es q)) → IsWider (register_at vs r) w
+overwritten : (vs es : List Abs) (r : ℕ) (w : Abs) → r < length es
+    → ((q : ℕ) → IsWider (register_at vs q) (register_at es q)) → IsWider (register_at vs r) w
     → (q : ℕ) → IsWider (register_at vs q) (register_at (slice_set es r w) q)
 overwritten vs es r w lt h hv q = grind (arith, common_steps, h q)
 
 register_in : (r : Reg) → number_of r < 11
 register_in r = grind arith
 
-pub knows_write : (d : Known) (e : AbsState) (r : Reg) (v w : Abs) → Knows d e → IsWider v w → Knows (writes d r v) (with_value e r w)
+pub knows_write : (d : Known) (e : AbsState) (r : Reg) (v w : Abs) → Knows d e → IsWider v w
+    → Knows (writes d r v) (with_value e r w)
 knows_write d e r v w h hv = record {
   long = grind (arith, common_steps, h.long);
   wide = h.wide;
-  each = written d.registers e.registers (number_of r) v w (omega (arith, h.long, register_in r)) h.each hv;
+  each = written d.registers e.registers (number_of r) v w
+      (omega (arith, h.long, register_in r)) h.each hv;
   bytes = h.bytes;
 }
 
-pub knows_over : (d : Known) (e : AbsState) (r : Reg) (w : Abs) → Knows d e → IsWider (register_at d.registers (number_of r)) w → Knows d (with_value e r w)
+pub knows_over : (d : Known) (e : AbsState) (r : Reg) (w : Abs) → Knows d e
+    → IsWider (register_at d.registers (number_of r)) w → Knows d (with_value e r w)
 knows_over d e r w h hv = record {
   long = grind (arith, common_steps, h.long);
   wide = h.wide;
-  each = overwritten d.registers e.registers (number_of r) w (omega (arith, h.long, register_in r)) h.each hv;
+  each = overwritten d.registers e.registers (number_of r) w
+      (omega (arith, h.long, register_in r)) h.each hv;
   bytes = h.bytes;
 }
 
 -- ---- what is known of a register
 
-pub wider_at : (d : Known) (e : AbsState) (r : ℕ) (v : Abs) → Knows d e → register_at d.registers r ≡ v → IsWider v (value_at e r)
+pub wider_at : (d : Known) (e : AbsState) (r : ℕ) (v : Abs) → Knows d e
+    → register_at d.registers r ≡ v → IsWider v (value_at e r)
 wider_at d e r v h is = subst (λ (x : Abs). IsWider x (value_at e r)) is (h.each r)
 
-pub context_in : (c : Places) (v : Abs) → IsWider (Ctx c) v → (a : Places) × (v ≡ Ctx a) × LiesIn c.lo c.hi a.lo a.hi
+pub context_in : (c : Places) (v : Abs) → IsWider (Ctx c) v → (a : Places) × (v ≡ Ctx a)
+    × LiesIn c.lo c.hi a.lo a.hi
 context_in c (Ctx a) h = (a, refl, h)
 context_in c v h = absurd cc
 
-pub number_in : (c : Number) (v : Abs) → IsWider (Num c) v → (a : Number) × (v ≡ Num a) × LiesIn c.lo c.hi a.lo a.hi
+pub number_in : (c : Number) (v : Abs) → IsWider (Num c) v → (a : Number) × (v ≡ Num a)
+    × LiesIn c.lo c.hi a.lo a.hi
 number_in c (Num a) h = (a, refl, h)
 number_in c v h = absurd cc
 
@@ -127,9 +150,15 @@ pub record IsNarrower (a b : Number) (p : Pair) : Type 0 where
   pub most_too : p.1.hi ≤ b.hi
 
 pub narrow_itself : (a b : Number) → a.lo ≤ a.hi → b.lo ≤ b.hi → IsNarrower a b (a, b)
-narrow_itself a b h g = record { some = h; most = omega arith; some_too = g; most_too = omega arith }
+narrow_itself a b h g = record {
+  some = h;
+  most = omega arith;
+  some_too = g;
+  most_too = omega arith;
+}
 
-narrow_if : (t : Bool) (a b : Number) (x p : Pair) → (t ≡ true → IsNarrower a b x) → (if t then Some x else None) ≡ Some p → IsNarrower a b p
+narrow_if : (t : Bool) (a b : Number) (x p : Pair) → (t ≡ true → IsNarrower a b x)
+    → (if t then Some x else None) ≡ Some p → IsNarrower a b p
 narrow_if true a b x p h is = let same : x ≡ p = cc in subst (IsNarrower a b) same (h refl)
 narrow_if false a b x p h is = absurd cc
 
@@ -147,66 +176,104 @@ moved_in true t lo hi h = omega (arith, h)
 moved_in false t lo hi h = omega (arith, h)
 
 -- an end that is n moves in by one
-without_some : (n : ℕ) (a : Number) → a.lo ≤ a.hi → ((without n a).lo ≤ (without n a).hi) × ((without n a).hi ≤ a.hi)
+without_some : (n : ℕ) (a : Number) → a.lo ≤ a.hi → ((without n a).lo ≤ (without n a).hi)
+    × ((without n a).hi ≤ a.hi)
 without_some n a h = elim (cases_Bool (nat_lt a.lo a.hi)) [
   | inr one ↦ rw one (h, omega arith)
   | inl more ↦ rw more (two_ends n a.lo a.hi (lt_of a.lo a.hi more))
 ]
   where
-    two_ends : (n lo hi : ℕ) → lo < hi → ((if lo == n then lo + 1 else lo) ≤ (if hi == n then hi - 1 else hi)) × ((if hi == n then hi - 1 else hi) ≤ hi)
+    two_ends : (n lo hi : ℕ) → lo < hi
+        → ((if lo == n then lo + 1 else lo) ≤ (if hi == n then hi - 1 else hi))
+        × ((if hi == n then hi - 1 else hi) ≤ hi)
     two_ends n lo hi lt = grind (arith, lt)
 
-apart_some : (b a : Number) → a.lo ≤ a.hi → ((apart_from b a).lo ≤ (apart_from b a).hi) × ((apart_from b a).hi ≤ a.hi)
+apart_some : (b a : Number) → a.lo ≤ a.hi → ((apart_from b a).lo ≤ (apart_from b a).hi)
+    × ((apart_from b a).hi ≤ a.hi)
 apart_some b a h = elim (cases_Bool (is_single b)) [
   | inl one ↦ rw one (without_some b.lo a h)
   | inr more ↦ rw more (h, omega arith)
 ]
 
-below_narrow : (a b : Number) (p : Pair) → a.lo ≤ a.hi → b.lo ≤ b.hi → below a b ≡ Some p → IsNarrower a b p
+below_narrow : (a b : Number) (p : Pair) → a.lo ≤ a.hi → b.lo ≤ b.hi → below a b ≡ Some p
+    → IsNarrower a b p
 below_narrow a b p h g is =
     narrow_if (nat_lt a.lo b.hi) a b _ p
-    (λ t. let lt = lt_of a.lo b.hi t in record { some = omega (arith, lt, h); most = omega arith; some_too = omega (arith, lt, g); most_too = omega arith }) is
+    (λ t. let lt = lt_of a.lo b.hi t in
+    record {
+      some = omega (arith, lt, h);
+      most = omega arith;
+      some_too = omega (arith, lt, g);
+      most_too = omega arith;
+    }) is
 
-at_most_narrow : (a b : Number) (p : Pair) → a.lo ≤ a.hi → b.lo ≤ b.hi → left_by AtMost a b ≡ Some p → IsNarrower a b p
+at_most_narrow : (a b : Number) (p : Pair) → a.lo ≤ a.hi → b.lo ≤ b.hi → left_by AtMost a b ≡ Some p
+    → IsNarrower a b p
 at_most_narrow a b p h g is =
     narrow_if (nat_le a.lo b.hi) a b _ p
-    (λ t. let le = le_of a.lo b.hi t in record { some = omega (arith, le, h); most = omega arith; some_too = omega (arith, le, g); most_too = omega arith }) is
+    (λ t. let le = le_of a.lo b.hi t in
+    record {
+      some = omega (arith, le, h);
+      most = omega arith;
+      some_too = omega (arith, le, g);
+      most_too = omega arith;
+    }) is
 
 equal_narrow : (a b : Number) (p : Pair) → left_by Equal a b ≡ Some p → IsNarrower a b p
 equal_narrow a b p is =
     narrow_if (nat_le (max a.lo b.lo) (min a.hi b.hi)) a b _ p
-    (λ t. let le = le_of (max a.lo b.lo) (min a.hi b.hi) t in record { some = le; most = omega arith; some_too = le; most_too = omega arith }) is
+    (λ t. let le = le_of (max a.lo b.lo) (min a.hi b.hi) t in
+    record { some = le; most = omega arith; some_too = le; most_too = omega arith }) is
 
-unequal_narrow : (a b : Number) → a.lo ≤ a.hi → b.lo ≤ b.hi → IsNarrower a b (apart_from b a, apart_from a b)
+unequal_narrow : (a b : Number) → a.lo ≤ a.hi → b.lo ≤ b.hi
+    → IsNarrower a b (apart_from b a, apart_from a b)
 unequal_narrow a b h g =
     let first = apart_some b a h in
     let second = apart_some a b g in
     record { some = first.0; most = first.1; some_too = second.0; most_too = second.1 }
 
 turned_narrow : (a b : Number) (p : Pair) → IsNarrower b a p → IsNarrower a b (swapped p)
-turned_narrow a b p h = record { some = h.some_too; most = h.most_too; some_too = h.some; most_too = h.most }
+turned_narrow a b p h = record {
+  some = h.some_too;
+  most = h.most_too;
+  some_too = h.some;
+  most_too = h.most;
+}
 
-swapped_narrow : (a b : Number) (o : Option Pair) (p : Pair) → ((x : Pair) → o ≡ Some x → IsNarrower b a x) → option_map swapped o ≡ Some p → IsNarrower a b p
+swapped_narrow : (a b : Number) (o : Option Pair) (p : Pair)
+    → ((x : Pair) → o ≡ Some x → IsNarrower b a x) → option_map swapped o ≡ Some p
+    → IsNarrower a b p
 swapped_narrow a b None p h is = absurd cc
-swapped_narrow a b (Some x) p h is = narrow_some a b (swapped x) p (turned_narrow a b x (h x refl)) is
+swapped_narrow a b (Some x) p h is =
+    narrow_some a b (swapped x) p (turned_narrow a b x (h x refl)) is
 
-left_narrow : (r : Relation) (a b : Number) (p : Pair) → a.lo ≤ a.hi → b.lo ≤ b.hi → left_by r a b ≡ Some p → IsNarrower a b p
+left_narrow : (r : Relation) (a b : Number) (p : Pair) → a.lo ≤ a.hi → b.lo ≤ b.hi
+    → left_by r a b ≡ Some p → IsNarrower a b p
 left_narrow Equal a b p h g is = equal_narrow a b p is
 left_narrow Unequal a b p h g is = narrow_some a b _ p (unequal_narrow a b h g) is
 left_narrow Less a b p h g is = below_narrow a b p h g is
 left_narrow AtMost a b p h g is = at_most_narrow a b p h g is
-left_narrow More a b p h g is = swapped_narrow a b (below b a) p (λ x e. below_narrow b a x g h e) is
-left_narrow AtLeast a b p h g is = swapped_narrow a b (left_by AtMost b a) p (λ x e. at_most_narrow b a x g h e) is
+left_narrow More a b p h g is = swapped_narrow a b (below b a) p
+    (λ x e. below_narrow b a x g h e) is
+left_narrow AtLeast a b p h g is =
+    swapped_narrow a b (left_by AtMost b a) p (λ x e. at_most_narrow b a x g h e) is
 left_narrow Unknown a b p h g is = narrow_some a b (a, b) p (narrow_itself a b h g) is
 
-compared_narrow : (t : Bool) (r : Relation) (a b : Number) (p : Pair) → a.lo ≤ a.hi → b.lo ≤ b.hi → (if t then left_by r a b else Some (a, b)) ≡ Some p → IsNarrower a b p
+compared_narrow : (t : Bool) (r : Relation) (a b : Number) (p : Pair) → a.lo ≤ a.hi → b.lo ≤ b.hi
+    → (if t then left_by r a b else Some (a, b)) ≡ Some p → IsNarrower a b p
 compared_narrow true r a b p h g is = left_narrow r a b p h g is
 compared_narrow false r a b p h g is = narrow_some a b (a, b) p (narrow_itself a b h g) is
 
-pub narrowed_narrow : (w : Bits) (condition : Condition) (jumps : Bool) (a b : Number) (p : Pair) → a.lo ≤ a.hi → b.lo ≤ b.hi → narrowed w condition jumps a b ≡ Some p → IsNarrower a b p
+pub narrowed_narrow : (w : Bits) (condition : Condition) (jumps : Bool) (a b : Number) (p : Pair)
+    → a.lo ≤ a.hi → b.lo ≤ b.hi → narrowed w condition jumps a b ≡ Some p → IsNarrower a b p
 narrowed_narrow w condition jumps a b p h g is = by_single (are_single a b) is
   where
-    by_single : (t : Bool) → (if t then (if is_taken jumps (holds w condition a.lo b.lo) then Some (a, b) else None) else if is_comparable w condition a b then left_by (learnt condition jumps) a b else Some (a, b)) ≡ Some p
+    by_single : (t : Bool) → (if t then
+        (if is_taken jumps (holds w condition a.lo b.lo) then Some (a, b) else None)
+        else if is_comparable w condition a b then left_by (learnt condition jumps) a b else Some
+        (a, b)) ≡ Some p
         → IsNarrower a b p
-    by_single true is = narrow_if (is_taken jumps (holds w condition a.lo b.lo)) a b (a, b) p (λ t. narrow_itself a b h g) is
-    by_single false is = compared_narrow (is_comparable w condition a b) (learnt condition jumps) a b p h g is
+    by_single true is = narrow_if (is_taken jumps (holds w condition a.lo b.lo)) a b (a, b) p
+        (λ t. narrow_itself a b h g) is
+    by_single false is = compared_narrow (is_comparable w condition a b)
+        (learnt condition jumps) a b p h g is

@@ -37,7 +37,9 @@ fit_fields a h = record {
 two_bytes : (n : ℕ) → n < 2 ^ 16 → n % 256 + 256 * (n / 256 ^ 1 % 256 + 256 * 0) ≡ n
 two_bytes n h = omega (arith, h)
 
-four_bytes : (n : ℕ) → n < 2 ^ 32 → n % 256 + 256 * (n / 256 ^ 1 % 256 + 256 * (n / 256 ^ 2 % 256 + 256 * (n / 256 ^ 3 % 256 + 256 * 0))) ≡ n
+four_bytes : (n : ℕ) → n < 2 ^ 32
+    → n % 256 + 256 * (n / 256 ^ 1 % 256 + 256 *
+    (n / 256 ^ 2 % 256 + 256 * (n / 256 ^ 3 % 256 + 256 * 0))) ≡ n
 four_bytes n h = omega (arith, h)
 
 one_byte : (n : ℕ) → n < 2 ^ 8 → n % 256 + 256 * 0 ≡ n
@@ -81,8 +83,10 @@ fourth_part a h = four_bytes (slice_index a.context.version 3) (h.version 3)
 
 module _ (p : ShapedProgram) (a : Attributes) (fit : FitFields a) where
   -- the same attributes, and the same number
-  written : (s : State) (k n v : ℕ) → s.attributes ≡ a → part a k n ≡ v → write s 1 R2 (Some (part s.attributes k n)) ≡ write s 1 R2 (Some v)
-  written s k n v same is = ap (λ (b : Attributes). write s 1 R2 (Some (part b k n))) same ∙ ap (λ (m : ℕ). write s 1 R2 (Some m)) is
+  written : (s : State) (k n v : ℕ) → s.attributes ≡ a → part a k n ≡ v
+      → write s 1 R2 (Some (part s.attributes k n)) ≡ write s 1 R2 (Some v)
+  written s k n v same is = ap (λ (b : Attributes). write s 1 R2 (Some (part b k n))) same
+      ∙ ap (λ (m : ℕ). write s 1 R2 (Some m)) is
 
   pub bucket_reads : Reads p a Half 16 a.context.bucket
   unfolding part

@@ -1,4 +1,5 @@
--- Labels: places of a program by their distance from the end. Code that is put in front moves none of them.
+-- Labels: places of a program by their distance from the end. Code that is put in front moves none
+-- of them.
 use Rattle.std.proofs.Common.{◌≡◌, ℕ, zero, suc, ◌+◌, ◌-◌, ◌≤◌, [], ◌∷◌, ◌++◌, drop, length, Option, Some, refl, sym, ap, subst, ◌∙◌, arith, zero-add}
 use Rattle.std.specs.Prelude.{slice_get}
 use Rattle.bpf_insn.specs.declared.insn.Insn.{Insn}
@@ -13,28 +14,36 @@ drop_nil (suc n) = refl
 drop_add : (p : Program) (n k : ℕ) → drop (n + k) p ≡ drop k (drop n p)
 drop_add p zero k = rw zero-add refl
 drop_add [] (suc n) k = drop_nil (suc n + k) ∙ sym (drop_nil k)
-drop_add (x ∷ p) (suc n) k = let e : suc n + k ≡ suc (n + k) = omega arith in ap (λ (m : ℕ). drop m (x ∷ p)) e ∙ drop_add p n k
+drop_add (x ∷ p) (suc n) k = let e : suc n + k ≡ suc (n + k) = omega arith in
+    ap (λ (m : ℕ). drop m (x ∷ p)) e ∙ drop_add p n k
 
-pub at_here : (p : Program) (n : ℕ) (x : Option Insn) (q : Program) → drop n p ≡ x ∷ q → slice_get p n ≡ Some x
+pub at_here : (p : Program) (n : ℕ) (x : Option Insn) (q : Program) → drop n p ≡ x ∷ q
+    → slice_get p n ≡ Some x
 at_here [] zero x q e = absurd cc
 at_here [] (suc n) x q e = absurd cc
 at_here (y ∷ p) zero x q e = cc
 at_here (y ∷ p) (suc n) x q e = at_here p n x q e
 
-next_suc : (p : Program) (n : ℕ) (x : Option Insn) (q : Program) → drop n p ≡ x ∷ q → drop (suc n) p ≡ q
+next_suc : (p : Program) (n : ℕ) (x : Option Insn) (q : Program) → drop n p ≡ x ∷ q
+    → drop (suc n) p ≡ q
 next_suc [] zero x q e = absurd cc
 next_suc [] (suc n) x q e = absurd cc
 next_suc (y ∷ p) zero x q e = cc
 next_suc (y ∷ p) (suc n) x q e = next_suc p n x q e
 
-pub next_here : (p : Program) (n : ℕ) (x : Option Insn) (q : Program) → drop n p ≡ x ∷ q → drop (n + 1) p ≡ q
-next_here p n x q e = let one : suc n ≡ n + 1 = omega arith in subst (λ (m : ℕ). drop m p ≡ q) one (next_suc p n x q e)
+pub next_here : (p : Program) (n : ℕ) (x : Option Insn) (q : Program) → drop n p ≡ x ∷ q
+    → drop (n + 1) p ≡ q
+next_here p n x q e = let one : suc n ≡ n + 1 = omega arith in
+    subst (λ (m : ℕ). drop m p ≡ q) one (next_suc p n x q e)
 
-pub later_here : (p : Program) (n k : ℕ) (x : Option Insn) (q : Program) → drop n p ≡ x ∷ q → drop (n + 1 + k) p ≡ drop k q
+pub later_here : (p : Program) (n k : ℕ) (x : Option Insn) (q : Program) → drop n p ≡ x ∷ q
+    → drop (n + 1 + k) p ≡ drop k q
 later_here p n k x q e = drop_add p (n + 1) k ∙ ap (drop k) (next_here p n x q e)
 
-pub next_wide : (p : Program) (n : ℕ) (x y : Option Insn) (q : Program) → drop n p ≡ x ∷ y ∷ q → drop (n + 2) p ≡ q
-next_wide p n x y q e = let two : n + 1 + 1 ≡ n + 2 = omega arith in subst (λ (m : ℕ). drop m p ≡ q) two (later_here p n 1 x (y ∷ q) e)
+pub next_wide : (p : Program) (n : ℕ) (x y : Option Insn) (q : Program) → drop n p ≡ x ∷ y ∷ q
+    → drop (n + 2) p ≡ q
+next_wide p n x y q e = let two : n + 1 + 1 ≡ n + 2 = omega arith in
+    subst (λ (m : ℕ). drop m p ≡ q) two (later_here p n 1 x (y ∷ q) e)
 
 -- ---- labels
 
@@ -57,7 +66,8 @@ pub before_one : (x : Option Insn) (q : Program) → IsBefore (x ∷ q) q
 unfolding from_label
 before_one x q = record {
   longer = omega arith;
-  same = λ l h. let e : suc (length q) - l ≡ suc (length q - l) = omega arith in ap (λ (n : ℕ). drop n (x ∷ q)) e;
+  same = λ l h. let e : suc (length q) - l ≡ suc (length q - l) = omega arith in
+      ap (λ (n : ℕ). drop n (x ∷ q)) e;
 }
 
 pub before_then : (q'' q' q : Program) → IsBefore q'' q' → IsBefore q' q → IsBefore q'' q
@@ -68,4 +78,5 @@ before_then q'' q' q h g = let low = g.longer in let high = h.longer in record {
 
 pub before_list : (xs q : Program) → IsBefore (xs ++ q) q
 before_list [] q = before_itself q
-before_list (x ∷ xs) q = before_then (x ∷ (xs ++ q)) (xs ++ q) q (before_one x (xs ++ q)) (before_list xs q)
+before_list (x ∷ xs) q = before_then (x ∷ (xs ++ q)) (xs ++ q) q (before_one x (xs ++ q))
+    (before_list xs q)

@@ -32,10 +32,12 @@ order v n = elim (cases_lt v n) [
   ]
 ]
 
-pub relates_is : (r : Relation) (v n : ℕ) → relates r (nat_cmp v n) ≡ compares w32 (condition_of r) v n
+pub relates_is : (r : Relation) (v n : ℕ)
+    → relates r (nat_cmp v n) ≡ compares w32 (condition_of r) v n
 relates_is r v n = by_order r (order v n)
   where
-    by_order : (r : Relation) → Order v n → relates r (nat_cmp v n) ≡ compares w32 (condition_of r) v n
+    by_order : (r : Relation) → Order v n
+        → relates r (nat_cmp v n) ≡ compares w32 (condition_of r) v n
     by_order relation.Lt (less h) = grind (arith, h)
     by_order relation.Lt (same h) = grind (arith, h)
     by_order relation.Lt (more h) = grind (arith, h)
@@ -78,12 +80,15 @@ strict_of relation.Le = jump.Lt
 strict_of r = jump.Gt
 
 -- the word before the last ones
-word_orders : (r : Relation) (v n : ℕ) (o : Ordering) (x y z : Behaviour) → IsOrder r → z ≡ (if relates r o then x else y)
-    → (if compares w32 (strict_of r) v n then x else if compares w32 jump.Ne v n then y else z) ≡ (if relates r (ordering_then (nat_cmp v n) o) then x else y)
+word_orders : (r : Relation) (v n : ℕ) (o : Ordering) (x y z : Behaviour) → IsOrder r
+    → z ≡ (if relates r o then x else y)
+    → (if compares w32 (strict_of r) v n then x else if compares w32 jump.Ne v n then y
+    else z) ≡ (if relates r (ordering_then (nat_cmp v n) o) then x else y)
 word_orders r v n o x y z is h = by_order r is (order v n) h
   where
     by_order : (r : Relation) → IsOrder r → Order v n → z ≡ (if relates r o then x else y)
-        → (if compares w32 (strict_of r) v n then x else if compares w32 jump.Ne v n then y else z) ≡ (if relates r (ordering_then (nat_cmp v n) o) then x else y)
+        → (if compares w32 (strict_of r) v n then x else if compares w32 jump.Ne v n then y
+        else z) ≡ (if relates r (ordering_then (nat_cmp v n) o) then x else y)
     by_order relation.Eq is d h = absurd is
     by_order relation.Ne is d h = absurd is
     by_order relation.Lt is (less d) h = rw (cmp_less v n d) (grind (arith, d))
@@ -99,33 +104,49 @@ word_orders r v n o x y z is h = by_order r is (order v n) h
     by_order relation.Gt is (same d) h = rw (cmp_equal v n d) (grind (arith, d, h))
     by_order relation.Gt is (more d) h = rw (cmp_greater v n d) (grind (arith, d))
 
-last_word : (r : Relation) (v n : ℕ) (x y : Behaviour) → (if compares w32 (condition_of r) v n then x else y) ≡ (if relates r (nat_cmp v n) then x else y)
+last_word : (r : Relation) (v n : ℕ) (x y : Behaviour)
+    → (if compares w32 (condition_of r) v n then x else y) ≡ (if relates r
+    (nat_cmp v n) then x else y)
 last_word r v n x y = ap (λ (b : Bool). if b then x else y) (sym (relates_is r v n))
 
 -- an order, from the first word on
 pub ordered_is : (r : Relation) (v w : List ℕ) (x y : Behaviour) → IsOrder r
-    → if_ordered (strict_of r) (condition_of r) (slice_index v) 0 (four_of w) x y ≡ (if relates r (version_cmp v w) then x else y)
+    → if_ordered (strict_of r) (condition_of r) (slice_index v) 0
+    (four_of w) x y ≡ (if relates r (version_cmp v w) then x else y)
 ordered_is r v w x y is =
-    word_orders r (slice_index v 0) (slice_index w 0) (ordering_then (place_cmp v w 1) (ordering_then (place_cmp v w 2) (place_cmp v w 3))) x y _ is
-    (word_orders r (slice_index v 1) (slice_index w 1) (ordering_then (place_cmp v w 2) (place_cmp v w 3)) x y _ is
-    (word_orders r (slice_index v 2) (slice_index w 2) (place_cmp v w 3) x y _ is (last_word r (slice_index v 3) (slice_index w 3) x y)))
+    word_orders r (slice_index v 0) (slice_index w 0)
+    (ordering_then (place_cmp v w 1) (ordering_then (place_cmp v w 2) (place_cmp v w 3))) x y _
+    is
+    (word_orders r (slice_index v 1) (slice_index w 1)
+    (ordering_then (place_cmp v w 2) (place_cmp v w 3)) x y _ is
+    (word_orders r (slice_index v 2) (slice_index w 2) (place_cmp v w 3) x y _ is
+    (last_word r (slice_index v 3) (slice_index w 3) x y)))
 
-word_equals : (v n : ℕ) (o : Ordering) (x y z : Behaviour) → z ≡ (if relates relation.Eq o then x else y)
-    → (if compares w32 jump.Ne v n then y else z) ≡ (if relates relation.Eq (ordering_then (nat_cmp v n) o) then x else y)
+word_equals : (v n : ℕ) (o : Ordering) (x y z : Behaviour)
+    → z ≡ (if relates relation.Eq o then x else y)
+    → (if compares w32 jump.Ne v n then y else z) ≡ (if relates relation.Eq
+    (ordering_then (nat_cmp v n) o) then x else y)
 word_equals v n o x y z h = by_order (order v n)
   where
-    by_order : Order v n → (if compares w32 jump.Ne v n then y else z) ≡ (if relates relation.Eq (ordering_then (nat_cmp v n) o) then x else y)
+    by_order : Order v n → (if compares w32 jump.Ne v n then y else z) ≡ (if relates relation.Eq
+        (ordering_then (nat_cmp v n) o) then x else y)
     by_order (less d) = rw (cmp_less v n d) (grind (arith, d))
     by_order (same d) = rw (cmp_equal v n d) (grind (arith, d, h))
     by_order (more d) = rw (cmp_greater v n d) (grind (arith, d))
 
-pub equal_is : (v w : List ℕ) (x y : Behaviour) → if_equal (slice_index v) 0 (four_of w) x y ≡ (if relates relation.Eq (version_cmp v w) then x else y)
+pub equal_is : (v w : List ℕ) (x y : Behaviour)
+    → if_equal (slice_index v) 0 (four_of w) x
+    y ≡ (if relates relation.Eq (version_cmp v w) then x else y)
 equal_is v w x y =
-    word_equals (slice_index v 0) (slice_index w 0) (ordering_then (place_cmp v w 1) (ordering_then (place_cmp v w 2) (place_cmp v w 3))) x y _
-    (word_equals (slice_index v 1) (slice_index w 1) (ordering_then (place_cmp v w 2) (place_cmp v w 3)) x y _
-    (word_equals (slice_index v 2) (slice_index w 2) (place_cmp v w 3) x y _ (last_word relation.Eq (slice_index v 3) (slice_index w 3) x y)))
+    word_equals (slice_index v 0) (slice_index w 0)
+    (ordering_then (place_cmp v w 1) (ordering_then (place_cmp v w 2) (place_cmp v w 3))) x y _
+    (word_equals (slice_index v 1) (slice_index w 1)
+    (ordering_then (place_cmp v w 2) (place_cmp v w 3)) x y _
+    (word_equals (slice_index v 2) (slice_index w 2) (place_cmp v w 3) x y _
+    (last_word relation.Eq (slice_index v 3) (slice_index w 3) x y)))
 
-pub unequal_is : (o : Ordering) (x y : Behaviour) → (if relates relation.Eq o then y else x) ≡ (if relates relation.Ne o then x else y)
+pub unequal_is : (o : Ordering) (x y : Behaviour)
+    → (if relates relation.Eq o then y else x) ≡ (if relates relation.Ne o then x else y)
 unequal_is Less x y = refl
 unequal_is Equal x y = refl
 unequal_is Greater x y = refl

@@ -39,15 +39,21 @@ below_top : (left : ℕ) → left < 512 → address_of stack_top (negsuc left) �
 below_top left h = omega (arith, h)
 
 no_cell : (x n : ℕ) → x < cell_start → cell_at x n ≡ None
-no_cell x n h = let first : (x - cell_start) / 8 ≡ 0 = omega (arith, h) in rw first (grind (arith, h))
+no_cell x n h = let first : (x - cell_start) / 8 ≡ 0 = omega (arith, h) in
+    rw first (grind (arith, h))
 
 in_stack : (left : ℕ) → 3 ≤ left → left < 512 → is_in_stack (stack_top - suc left) 4 ≡ true
-in_stack left low high = rw (le-leb stack_start (stack_top - suc left) (omega (arith, high)), le-leb (stack_top - suc left + 4) (stack_start + 512) (omega (arith, low, high))) refl
+in_stack left low high = rw (
+  le-leb stack_start (stack_top - suc left) (omega (arith, high)),
+  le-leb
+      (stack_top - suc left + 4) (stack_start + 512) (omega (arith, low, high)),
+) refl
 
 -- ---- the bytes of a word
 
 -- sign-extended or not, its low half is the word
-low_of : (b : Bool) (w : ℕ) → w < 2 ^ 32 → cast_unsigned w64 (sel b (pos w) (negsuc (2 ^ 32 - suc w))) % 2 ^ 32 ≡ w
+low_of : (b : Bool) (w : ℕ) → w < 2 ^ 32
+    → cast_unsigned w64 (sel b (pos w) (negsuc (2 ^ 32 - suc w))) % 2 ^ 32 ≡ w
 low_of true w h = omega (arith, h)
 low_of false w h = omega (arith, h)
 
@@ -61,21 +67,30 @@ byte_of v (suc (suc zero)) h = omega arith
 byte_of v (suc (suc (suc zero))) h = omega arith
 byte_of v (suc (suc (suc (suc i)))) h = absurd (omega (arith, h))
 
-byte_is : (w i b : ℕ) → w < 2 ^ 32 → i < 4 → w / 256 ^ i % 256 ≡ b → cast_unsigned w64 (cast_signed w32 w) / 256 ^ i % 256 ≡ b
-byte_is w i b h lt is = byte_of (cast_unsigned w64 (cast_signed w32 w)) i lt ∙ ap (λ (v : ℕ). v / 256 ^ i % 256) (low_is w h) ∙ is
+byte_is : (w i b : ℕ) → w < 2 ^ 32 → i < 4 → w / 256 ^ i % 256 ≡ b
+    → cast_unsigned w64 (cast_signed w32 w) / 256 ^ i % 256 ≡ b
+byte_is w i b h lt is = byte_of (cast_unsigned w64 (cast_signed w32 w)) i lt
+    ∙ ap (λ (v : ℕ). v / 256 ^ i % 256) (low_is w h) ∙ is
 
 -- the byte that a store of a word at place k puts i places on
-stored_byte : (stack : ℕ → Option ℕ) (k w i b : ℕ) → w < 2 ^ 32 → i < 4 → w / 256 ^ i % 256 ≡ b → with_bytes stack k 4 (cast_unsigned w64 (cast_signed w32 w)) (k + i) ≡ Some b
+stored_byte : (stack : ℕ → Option ℕ) (k w i b : ℕ) → w < 2 ^ 32 → i < 4 → w / 256 ^ i % 256 ≡ b
+    → with_bytes stack k 4 (cast_unsigned w64 (cast_signed w32 w)) (k + i) ≡ Some b
 stored_byte stack k w i b h lt is =
     let shift : k + i - k ≡ i = omega arith in
-    let in_word : (nat_le k (k + i) && nat_lt (k + i) (k + 4)) ≡ true = rw (le-leb k (k + i) (omega arith), lt-ltb (k + i) (k + 4) (omega (arith, lt))) refl in
-    ap (λ (t : Bool). if t then Some (cast_unsigned w64 (cast_signed w32 w) / 256 ^ (k + i - k) % 256) else stack (k + i)) in_word
-    ∙ ap (λ (n : ℕ). Some (cast_unsigned w64 (cast_signed w32 w) / 256 ^ n % 256)) shift ∙ ap (λ (n : ℕ). Some n) (byte_is w i b h lt is)
+    let in_word : (nat_le k (k + i) && nat_lt (k + i) (k + 4)) ≡ true =
+    rw (le-leb k (k + i) (omega arith), lt-ltb (k + i) (k + 4) (omega (arith, lt))) refl in
+    ap (λ (t : Bool). if t then Some
+    (cast_unsigned w64 (cast_signed w32 w) / 256 ^ (k + i - k) % 256) else stack (k + i))
+    in_word
+    ∙ ap (λ (n : ℕ). Some (cast_unsigned w64 (cast_signed w32 w) / 256 ^ n % 256)) shift
+    ∙ ap (λ (n : ℕ). Some n) (byte_is w i b h lt is)
 
-kept_byte : (stack : ℕ → Option ℕ) (k w j : ℕ) → j < k → with_bytes stack k 4 (cast_unsigned w64 (cast_signed w32 w)) j ≡ stack j
+kept_byte : (stack : ℕ → Option ℕ) (k w j : ℕ) → j < k
+    → with_bytes stack k 4 (cast_unsigned w64 (cast_signed w32 w)) j ≡ stack j
 kept_byte stack k w j lt =
     let below : nat_le k j ≡ false = lt-leb k j lt in
-    ap (λ (t : Bool). if t && nat_lt j (k + 4) then Some (cast_unsigned w64 (cast_signed w32 w) / 256 ^ (j - k) % 256) else stack j) below
+    ap (λ (t : Bool). if t && nat_lt j (k + 4) then Some
+    (cast_unsigned w64 (cast_signed w32 w) / 256 ^ (j - k) % 256) else stack j) below
 
 -- ---- texts on the stack
 
@@ -87,25 +102,30 @@ text_start = 448
 abbrev pub Stands : List ℕ → ℕ → (ℕ → Option ℕ) → Type 0
 Stands bytes k stack = (i b : ℕ) → slice_get bytes i ≡ Some b → stack (k + i) ≡ Some b
 
-stands_more : (done chunk : List ℕ) (k : ℕ) (stack : ℕ → Option ℕ) → Stands done k stack → Stands chunk (k + length done) stack → Stands (done ++ chunk) k stack
-stands_more [] chunk k stack old new i b is = let e : k + 0 + i ≡ k + i = omega arith in subst (λ (n : ℕ). stack n ≡ Some b) e (new i b is)
+stands_more : (done chunk : List ℕ) (k : ℕ) (stack : ℕ → Option ℕ) → Stands done k stack
+    → Stands chunk (k + length done) stack → Stands (done ++ chunk) k stack
+stands_more [] chunk k stack old new i b is = let e : k + 0 + i ≡ k + i = omega arith in
+    subst (λ (n : ℕ). stack n ≡ Some b) e (new i b is)
 stands_more (x ∷ done) chunk k stack old new zero b is = old zero b is
 stands_more (x ∷ done) chunk k stack old new (suc i) b is =
     let e : k + 1 + i ≡ k + suc i = omega arith in
     let total : k + suc (length done) ≡ k + 1 + length done = omega arith in
     subst (λ (n : ℕ). stack n ≡ Some b) e
     (stands_more done chunk (k + 1) stack
-    (λ j c at_j. let f : k + suc j ≡ k + 1 + j = omega arith in subst (λ (n : ℕ). stack n ≡ Some c) f (old (suc j) c at_j))
+    (λ j c at_j. let f : k + suc j ≡ k + 1 + j = omega arith in
+    subst (λ (n : ℕ). stack n ≡ Some c) f (old (suc j) c at_j))
     (subst (λ (n : ℕ). Stands chunk n stack) total new) i b is)
 
 -- what stands is what is read
-pub read_back : (bytes : List ℕ) (k : ℕ) (stack : ℕ → Option ℕ) → Stands bytes k stack → set_bytes stack k (length bytes) ≡ Some bytes
+pub read_back : (bytes : List ℕ) (k : ℕ) (stack : ℕ → Option ℕ) → Stands bytes k stack
+    → set_bytes stack k (length bytes) ≡ Some bytes
 read_back [] k stack h = refl
 read_back (x ∷ bytes) k stack h =
     let first : k + 0 ≡ k = omega arith in
     let here : stack k ≡ Some x = subst (λ (n : ℕ). stack n ≡ Some x) first (h 0 x refl) in
     let behind : set_bytes stack (k + 1) (length bytes) ≡ Some bytes =
-    read_back bytes (k + 1) stack (λ i b is. let e : k + suc i ≡ k + 1 + i = omega arith in subst (λ (n : ℕ). stack n ≡ Some b) e (h (suc i) b is)) in
+    read_back bytes (k + 1) stack (λ i b is. let e : k + suc i ≡ k + 1 + i = omega arith in
+    subst (λ (n : ℕ). stack n ≡ Some b) e (h (suc i) b is)) in
     rw (here, behind) refl
 
 -- the bytes of a word of at most four stand where it was stored
@@ -121,13 +141,15 @@ word_small (a ∷ b ∷ c ∷ []) h short = omega (arith, h.0, h.1.0, h.1.1.0)
 word_small (a ∷ b ∷ c ∷ d ∷ []) h short = omega (arith, h.0, h.1.0, h.1.1.0, h.1.1.1.0)
 word_small (a ∷ b ∷ c ∷ d ∷ e ∷ bytes) h short = absurd (omega (arith, short))
 
-word_byte : (bytes : List ℕ) (i b : ℕ) → AreBytes bytes → slice_get bytes i ≡ Some b → little_endian bytes / 256 ^ i % 256 ≡ b
+word_byte : (bytes : List ℕ) (i b : ℕ) → AreBytes bytes → slice_get bytes i ≡ Some b
+    → little_endian bytes / 256 ^ i % 256 ≡ b
 word_byte [] i b h is = absurd cc
 word_byte (x ∷ bytes) zero b h is = let same : x ≡ b = cc in omega (arith, h.0, same)
 word_byte (x ∷ bytes) (suc i) b h is =
     let power : 256 ^ suc i ≡ 256 * 256 ^ i = pow-succ' 256 i in
     let behind : (x + 256 * little_endian bytes) / 256 ≡ little_endian bytes = omega (arith, h.0) in
-    rw (power, ← div-div-eq-div-mul (x + 256 * little_endian bytes) 256 (256 ^ i), behind) (word_byte bytes i b h.1 is)
+    rw (power, ← div-div-eq-div-mul (x + 256 * little_endian bytes) 256 (256 ^ i), behind)
+    (word_byte bytes i b h.1 is)
 
 get_within : (bytes : List ℕ) (i b : ℕ) → slice_get bytes i ≡ Some b → i < length bytes
 get_within [] i b is = absurd cc
@@ -138,16 +160,24 @@ get_within (x ∷ bytes) (suc i) b is = let h = get_within bytes i b is in omega
 
 -- the state after a word was stored at an address of the stack
 after_store : State → ℕ → ℕ → State
-after_store s x v = record s { stack = with_bytes s.stack (x - stack_start) 4 v; slot = s.slot + 1; count = s.count + 1 }
+after_store s x v = record s {
+  stack = with_bytes s.stack (x - stack_start) 4 v;
+  slot = s.slot + 1;
+  count = s.count + 1;
+}
 
-store_at : (s : State) (o : Option ℕ) (z : ℤ) (x v : ℕ) → o ≡ Some stack_top → address_of stack_top z ≡ x → cell_at x 4 ≡ None → is_in_stack x 4 ≡ true
+store_at : (s : State) (o : Option ℕ) (z : ℤ) (x v : ℕ) → o ≡ Some stack_top
+    → address_of stack_top z ≡ x → cell_at x 4 ≡ None → is_in_stack x 4 ≡ true
     → store s size.Word o z (Some v) ≡ Going (after_store s x v)
 unfolding after_store
 store_at s o z x v top address none inside =
     ap (λ (o : Option ℕ). store s size.Word o z (Some v)) top
-    ∙ ap (λ (y : ℕ). reach (cell_at y 4) (store_asks s size.Word (Some v)) (moved (written_at s y 4 v))) address
-    ∙ ap (λ (c : Option ℕ). reach c (store_asks s size.Word (Some v)) (moved (written_at s x 4 v))) none
-    ∙ ap (λ (b : Bool). moved (if b then Some (record s { stack = with_bytes s.stack (x - stack_start) 4 v }) else None)) inside
+    ∙ ap (λ (y : ℕ). reach (cell_at y 4) (store_asks s size.Word (Some v))
+    (moved (written_at s y 4 v))) address
+    ∙ ap (λ (c : Option ℕ). reach c (store_asks s size.Word (Some v)) (moved (written_at s x 4 v)))
+    none
+    ∙ ap (λ (b : Bool). moved (if b then Some
+    (record s { stack = with_bytes s.stack (x - stack_start) 4 v }) else None)) inside
 
 -- ---- a text, stored word by word
 
@@ -156,8 +186,11 @@ module _ (p : ShapedProgram) (a : Attributes) where
   abbrev pub OnStack : List ℕ → State → Type 0
   OnStack bytes s = Stands bytes 448 s.stack
 
-  store_then : (done chunk : List ℕ) (left : ℕ) (q : Program) (choice : ℕ) (b : Behaviour) → length done % 4 ≡ 0 → length done + left ≡ 63 → length chunk ≤ 4 → AreBytes chunk
-      → Comes p a (OnStack (done ++ chunk)) q choice b → Comes p a (OnStack done) (Some (insn.store_word left (little_endian chunk)) ∷ q) choice b
+  store_then : (done chunk : List ℕ) (left : ℕ) (q : Program) (choice : ℕ) (b : Behaviour)
+      → length done % 4 ≡ 0 → length done + left ≡ 63 → length chunk ≤ 4 → AreBytes chunk
+      → Comes p a (OnStack (done ++ chunk)) q choice b
+      → Comes p a (OnStack done) (Some (insn.store_word left (little_endian chunk)) ∷ q) choice
+      b
   unfolding after_store
   store_then done chunk left q choice b four sum short bytes rest s h known =
       let w : ℕ = little_endian chunk in
@@ -167,30 +200,54 @@ module _ (p : ShapedProgram) (a : Attributes) where
       let high : left < 512 = omega arith in
       let place : x - stack_start ≡ 448 + length done = omega arith in
       let old : Stands done 448 (with_bytes s.stack (448 + length done) 4 v) =
-      λ i b is. let within = get_within done i b is in kept_byte s.stack (448 + length done) w (448 + i) (omega arith) ∙ known i b is in
+      λ i b is. let within = get_within done i b is in
+      kept_byte s.stack (448 + length done) w (448 + i) (omega arith) ∙ known i b is in
       let new : Stands chunk (448 + length done) (with_bytes s.stack (448 + length done) 4 v) =
-      λ i b is. let within = get_within chunk i b is in stored_byte s.stack (448 + length done) w i b (word_small chunk bytes short) (omega arith) (word_byte chunk i b bytes is) in
-      let both : Stands (done ++ chunk) 448 (with_bytes s.stack (448 + length done) 4 v) = stands_more done chunk 448 (with_bytes s.stack (448 + length done) 4 v) old new in
+      λ i b is. let within = get_within chunk i b is in
+      stored_byte s.stack (448 + length done) w i b (word_small chunk bytes short) (omega arith)
+      (word_byte chunk i b bytes is) in
+      let both : Stands (done ++ chunk) 448 (with_bytes s.stack (448 + length done) 4 v) =
+      stands_more done chunk 448 (with_bytes s.stack (448 + length done) 4 v) old new in
       quiet p a s (after_store s x v) (insn.store_word left w) q choice b h
-      (store_at s (s.registers 10) (negsuc left) x v h.top (below_top left high) (no_cell x 4 (omega arith)) (in_stack left low high))
-      (rest (after_store s x v) (record { place = next_here p.code s.slot (Some (insn.store_word left w)) q h.place; context = h.context; choice_is = h.choice_is; top = h.top; attributes = h.attributes })
+      (store_at s (s.registers 10) (negsuc left) x v h.top (below_top left high)
+      (no_cell x 4 (omega arith)) (in_stack left low high))
+      (rest (after_store s x v) (record {
+        place = next_here p.code s.slot (Some (insn.store_word left w)) q h.place;
+        context = h.context;
+        choice_is = h.choice_is;
+        top = h.top;
+        attributes = h.attributes;
+      })
       (subst (λ (k : ℕ). Stands (done ++ chunk) 448 (with_bytes s.stack k 4 v)) (sym place) both))
 
   -- the last word, of fewer than four bytes, or of four with more behind it
-  stored : (done chunk rest : List ℕ) (choice : ℕ) (b : Behaviour) (q : Program) → Comes p a (OnStack (done ++ (chunk ++ rest))) q choice b → Comes p a (OnStack ((done ++ chunk) ++ rest)) q choice b
-  stored done chunk rest choice b q h = subst (λ (bytes : List ℕ). Comes p a (OnStack bytes) q choice b) (sym (append_assoc done chunk rest)) h
+  stored : (done chunk rest : List ℕ) (choice : ℕ) (b : Behaviour) (q : Program)
+      → Comes p a (OnStack (done ++ (chunk ++ rest))) q choice b
+      → Comes p a (OnStack ((done ++ chunk) ++ rest)) q choice b
+  stored done chunk rest choice b q h =
+      subst (λ (bytes : List ℕ). Comes p a (OnStack bytes) q choice b)
+      (sym (append_assoc done chunk rest)) h
 
-  stores_then : (done text : List ℕ) (left : ℕ) (q : Program) (choice : ℕ) (b : Behaviour) → length done % 4 ≡ 0 → left ≡ 63 - length done → length done + length text ≤ 64 → AreBytes text
-      → Comes p a (OnStack (done ++ text)) q choice b → Comes p a (OnStack done) (code.stores_code left text q) choice b
-  stores_then done [] left q choice b four is short bytes rest = subst (λ (bytes : List ℕ). Comes p a (OnStack bytes) q choice b) (append-nil done) rest
-  stores_then done (x ∷ []) left q choice b four is short bytes rest = store_then done (x ∷ []) left q choice b four (omega arith) (omega arith) bytes rest
-  stores_then done (x ∷ y ∷ []) left q choice b four is short bytes rest = store_then done (x ∷ y ∷ []) left q choice b four (omega arith) (omega arith) bytes rest
-  stores_then done (x ∷ y ∷ z ∷ []) left q choice b four is short bytes rest = store_then done (x ∷ y ∷ z ∷ []) left q choice b four (omega arith) (omega arith) bytes rest
+  stores_then : (done text : List ℕ) (left : ℕ) (q : Program) (choice : ℕ) (b : Behaviour)
+      → length done % 4 ≡ 0 → left ≡ 63 - length done → length done + length text ≤ 64
+      → AreBytes text
+      → Comes p a (OnStack (done ++ text)) q choice b
+      → Comes p a (OnStack done) (code.stores_code left text q) choice b
+  stores_then done [] left q choice b four is short bytes rest =
+      subst (λ (bytes : List ℕ). Comes p a (OnStack bytes) q choice b) (append-nil done) rest
+  stores_then done (x ∷ []) left q choice b four is short bytes rest =
+      store_then done (x ∷ []) left q choice b four (omega arith) (omega arith) bytes rest
+  stores_then done (x ∷ y ∷ []) left q choice b four is short bytes rest =
+      store_then done (x ∷ y ∷ []) left q choice b four (omega arith) (omega arith) bytes rest
+  stores_then done (x ∷ y ∷ z ∷ []) left q choice b four is short bytes rest =
+      store_then done (x ∷ y ∷ z ∷ []) left q choice b four (omega arith) (omega arith) bytes rest
   stores_then done (x ∷ y ∷ z ∷ w ∷ text) left q choice b four is short bytes rest =
       let chunk : List ℕ = x ∷ y ∷ z ∷ w ∷ [] in
       let longer : length (done ++ chunk) ≡ length done + 4 = length-append done chunk in
-      store_then done chunk left (code.stores_code (left - 4) text q) choice b four (omega arith) (omega arith) (bytes.0, (bytes.1.0, (bytes.1.1.0, (bytes.1.1.1.0, tt))))
-      (stores_then (done ++ chunk) text (left - 4) q choice b (omega arith) (omega arith) (omega arith) bytes.1.1.1.1 (stored done chunk text choice b q rest))
+      store_then done chunk left (code.stores_code (left - 4) text q) choice b four (omega arith)
+      (omega arith) (bytes.0, (bytes.1.0, (bytes.1.1.0, (bytes.1.1.1.0, tt))))
+      (stores_then (done ++ chunk) text (left - 4) q choice b (omega arith) (omega arith)
+      (omega arith) bytes.1.1.1.1 (stored done chunk text choice b q rest))
 
   -- ---- the comparison
 
@@ -202,47 +259,109 @@ module _ (p : ShapedProgram) (a : Attributes) where
   HasAddress text n x s = OnStack text s × (s.registers 1 ≡ Some n) × (s.registers 2 ≡ Some x)
 
   abbrev pub HasLength : List ℕ → ℕ → State → Type 0
-  HasLength text n s = OnStack text s × (s.registers 1 ≡ Some n) × (s.registers 2 ≡ Some (stack_top - 64)) × (s.registers 3 ≡ Some (length text))
+  HasLength text n s = OnStack text s × (s.registers 1 ≡ Some n)
+      × (s.registers 2 ≡ Some (stack_top - 64)) × (s.registers 3 ≡ Some (length text))
 
-  number_then : (text : List ℕ) (n : ℕ) (q : Program) (choice : ℕ) (b : Behaviour) → Comes p a (HasNumber text n) q choice b → Comes p a (OnStack text) (Some (insn.set_argument R1 n) ∷ q) choice b
+  number_then : (text : List ℕ) (n : ℕ) (q : Program) (choice : ℕ) (b : Behaviour)
+      → Comes p a (HasNumber text n) q choice b
+      → Comes p a (OnStack text) (Some (insn.set_argument R1 n) ∷ q) choice b
   number_then text n q choice b rest s h known =
-      quiet p a s (record (with_register s 1 n) { slot = s.slot + 1; count = s.count + 1 }) (insn.set_argument R1 n) q choice b h refl
-      (rest _ (record { place = next_here p.code s.slot (Some (insn.set_argument R1 n)) q h.place; context = h.context; choice_is = h.choice_is; top = h.top; attributes = h.attributes }) (known, refl))
+      quiet p a s (record (with_register s 1 n) { slot = s.slot + 1; count = s.count + 1 })
+      (insn.set_argument R1 n) q choice b h refl
+      (rest _ (record {
+        place = next_here p.code s.slot
+            (Some (insn.set_argument R1 n)) q h.place;
+        context = h.context;
+        choice_is = h.choice_is;
+        top = h.top;
+        attributes = h.attributes;
+      }) (known, refl))
 
-  top_then : (text : List ℕ) (n : ℕ) (q : Program) (choice : ℕ) (b : Behaviour) → Comes p a (HasAddress text n stack_top) q choice b → Comes p a (HasNumber text n) (Some insn.copy_top ∷ q) choice b
+  top_then : (text : List ℕ) (n : ℕ) (q : Program) (choice : ℕ) (b : Behaviour)
+      → Comes p a (HasAddress text n stack_top) q choice b
+      → Comes p a (HasNumber text n) (Some insn.copy_top ∷ q) choice b
   top_then text n q choice b rest s h known =
-      quiet p a s (record (with_register s 2 stack_top) { slot = s.slot + 1; count = s.count + 1 }) insn.copy_top q choice b h
+      quiet p a s (record (with_register s 2 stack_top) { slot = s.slot + 1; count = s.count + 1 })
+      insn.copy_top q choice b h
       (ap (λ (o : Option ℕ). write s 1 R2 (o >>= λ x. Some x)) h.top)
-      (rest _ (record { place = next_here p.code s.slot (Some insn.copy_top) q h.place; context = h.context; choice_is = h.choice_is; top = h.top; attributes = h.attributes }) (known.0, known.1, refl))
+      (rest _ (record {
+        place = next_here p.code s.slot (Some insn.copy_top) q h.place;
+        context = h.context;
+        choice_is = h.choice_is;
+        top = h.top;
+        attributes = h.attributes;
+      })
+      (known.0, known.1, refl))
 
-  point_then : (text : List ℕ) (n : ℕ) (q : Program) (choice : ℕ) (b : Behaviour) → Comes p a (HasAddress text n (stack_top - 64)) q choice b → Comes p a (HasAddress text n stack_top) (Some insn.point_at_text ∷ q) choice b
+  point_then : (text : List ℕ) (n : ℕ) (q : Program) (choice : ℕ) (b : Behaviour)
+      → Comes p a (HasAddress text n (stack_top - 64)) q choice b
+      → Comes p a (HasAddress text n stack_top) (Some insn.point_at_text ∷ q) choice b
   point_then text n q choice b rest s h known =
-      quiet p a s (record (with_register s 2 (stack_top - 64)) { slot = s.slot + 1; count = s.count + 1 }) insn.point_at_text q choice b h
+      quiet p a s (record (with_register s 2 (stack_top - 64))
+      { slot = s.slot + 1; count = s.count + 1 }) insn.point_at_text q choice b h
       (ap (λ (o : Option ℕ). write s 1 R2 (o >>= λ x. Some ((x + (2 ^ 64 - 64)) % 2 ^ 64))) known.2)
-      (rest _ (record { place = next_here p.code s.slot (Some insn.point_at_text) q h.place; context = h.context; choice_is = h.choice_is; top = h.top; attributes = h.attributes }) (known.0, known.1, refl))
+      (rest _ (record {
+        place = next_here p.code s.slot
+            (Some insn.point_at_text) q h.place;
+        context = h.context;
+        choice_is = h.choice_is;
+        top = h.top;
+        attributes = h.attributes;
+      }) (known.0, known.1, refl))
 
-  length_then : (text : List ℕ) (n : ℕ) (q : Program) (choice : ℕ) (b : Behaviour) → Comes p a (HasLength text n) q choice b → Comes p a (HasAddress text n (stack_top - 64)) (Some (insn.set_argument R3 (length text)) ∷ q) choice b
+  length_then : (text : List ℕ) (n : ℕ) (q : Program) (choice : ℕ) (b : Behaviour)
+      → Comes p a (HasLength text n) q choice b
+      → Comes p a (HasAddress text n (stack_top - 64))
+      (Some (insn.set_argument R3 (length text)) ∷ q) choice b
   length_then text n q choice b rest s h known =
-      quiet p a s (record (with_register s 3 (length text)) { slot = s.slot + 1; count = s.count + 1 }) (insn.set_argument R3 (length text)) q choice b h refl
-      (rest _ (record { place = next_here p.code s.slot (Some (insn.set_argument R3 (length text))) q h.place; context = h.context; choice_is = h.choice_is; top = h.top; attributes = h.attributes }) (known.0, known.1, known.2, refl))
+      quiet p a s (record (with_register s 3 (length text))
+      { slot = s.slot + 1; count = s.count + 1 })
+      (insn.set_argument R3 (length text)) q choice b h refl
+      (rest _ (record {
+        place = next_here p.code s.slot
+            (Some (insn.set_argument R3 (length text))) q h.place;
+        context = h.context;
+        choice_is = h.choice_is;
+        top = h.top;
+        attributes = h.attributes;
+      }) (known.0, known.1, known.2, refl))
 
   -- what the helper reads
-  bytes_read : (s : State) (text : List ℕ) → length text ≤ 64 → OnStack text s → stack_bytes s (stack_top - 64) (length text) ≡ Some text
+  bytes_read : (s : State) (text : List ℕ) → length text ≤ 64 → OnStack text s
+      → stack_bytes s (stack_top - 64) (length text) ≡ Some text
   bytes_read s text short known =
       let low : nat_le stack_start (stack_top - 64) ≡ true = refl in
-      let high : nat_le (stack_top - 64 + length text) (stack_start + 512) ≡ true = le-leb (stack_top - 64 + length text) (stack_start + 512) (omega (arith, short)) in
-      ap (λ (b : Bool). if ((length text == 0) || b) then set_bytes s.stack 448 (length text) else None) high ∙ or_true (length text == 0) (set_bytes s.stack 448 (length text)) ∙ read_back text 448 s.stack known
+      let high : nat_le (stack_top - 64 + length text) (stack_start + 512) ≡ true =
+      le-leb (stack_top - 64 + length text) (stack_start + 512) (omega (arith, short)) in
+      ap (λ (b : Bool). if ((length text == 0) || b) then set_bytes s.stack 448
+      (length text) else None) high ∙ or_true (length text == 0)
+      (set_bytes s.stack 448 (length text)) ∙ read_back text 448 s.stack known
 
-  compare_then : (text : List ℕ) (n : ℕ) (q : Program) (choice : ℕ) (b : Behaviour) → length text ≤ 64 → Comes p a (Has p a 0 (attr_is a n text)) q choice b → Comes p a (HasLength text n) (Some (insn.call 2) ∷ q) choice b
+  compare_then : (text : List ℕ) (n : ℕ) (q : Program) (choice : ℕ) (b : Behaviour)
+      → length text ≤ 64 → Comes p a (Has p a 0 (attr_is a n text)) q choice b
+      → Comes p a (HasLength text n) (Some (insn.call 2) ∷ q) choice b
   compare_then text n q choice b short rest s h known =
-      quiet p a s (record (with_result s (attr_is a n text)) { slot = s.slot + 1; count = s.count + 1 }) (insn.call 2) q choice b h
-      (ap (λ (o : Option ℕ). answer s (o >>= λ number. s.registers 2 >>= λ address. s.registers 3 >>= λ k. compared s number address k)) known.1
-      ∙ ap (λ (o : Option ℕ). answer s (o >>= λ address. s.registers 3 >>= λ k. compared s n address k)) known.2
+      quiet p a s (record (with_result s (attr_is a n text))
+      { slot = s.slot + 1; count = s.count + 1 }) (insn.call 2) q choice b h
+      (ap (λ (o : Option ℕ). answer s
+      (o >>= λ number. s.registers 2 >>= λ address. s.registers 3 >>= λ k. compared s number
+      address k)) known.1
+      ∙ ap (λ (o : Option ℕ). answer s
+      (o >>= λ address. s.registers 3 >>= λ k. compared s n address k)) known.2
       ∙ ap (λ (o : Option ℕ). answer s (o >>= λ k. compared s n (stack_top - 64) k)) known.3
-      ∙ ap (λ (b : Bool). answer s (if b then (stack_bytes s (stack_top - 64) (length text) >>= λ bytes. Some (attr_is s.attributes n bytes)) else None)) (le-leb (length text) 64 short)
-      ∙ ap (λ (o : Option (List ℕ)). answer s (o >>= λ bytes. Some (attr_is s.attributes n bytes))) (bytes_read s text short known.0)
+      ∙ ap (λ (b : Bool). answer s (if b
+      then (stack_bytes s (stack_top - 64) (length text) >>= λ bytes. Some
+      (attr_is s.attributes n bytes)) else None)) (le-leb (length text) 64 short)
+      ∙ ap (λ (o : Option (List ℕ)). answer s (o >>= λ bytes. Some (attr_is s.attributes n bytes)))
+      (bytes_read s text short known.0)
       ∙ ap (λ (c : Attributes). answer s (Some (attr_is c n text))) h.attributes)
-      (rest _ (record { place = next_here p.code s.slot (Some (insn.call 2)) q h.place; context = h.context; choice_is = h.choice_is; top = h.top; attributes = h.attributes }) refl)
+      (rest _ (record {
+        place = next_here p.code s.slot (Some (insn.call 2)) q h.place;
+        context = h.context;
+        choice_is = h.choice_is;
+        top = h.top;
+        attributes = h.attributes;
+      }) refl)
 
   -- ---- an attribute's text, as a piece
 
@@ -257,20 +376,30 @@ module _ (p : ShapedProgram) (a : Attributes) where
       on_text None = omega arith
       on_text (Some t) = on_bool (bytes_eq t text)
 
-  pub attribute_runs : (n : ℕ) (text : List ℕ) (sense : Bool) (l : ℕ) (q : Program) (choice : ℕ) (x y : Behaviour) → length text ≤ 64 → AreBytes text
+  pub attribute_runs : (n : ℕ) (text : List ℕ) (sense : Bool) (l : ℕ) (q : Program) (choice : ℕ)
+      (x y : Behaviour) → length text ≤ 64 → AreBytes text
       → Comes p a (Nothing p a) (from_label q l) choice x → Comes p a (Nothing p a) q choice y
-      → Comes p a (Nothing p a) (code.attribute_code n text sense l q) choice (if compares w32 Ne (attr_is a n text) 0 then (if sense then x else y) else (if sense then y else x))
+      → Comes p a (Nothing p a) (code.attribute_code n text sense l q) choice
+      (if compares w32 Ne (attr_is a n text) 0 then (if sense then x else y)
+      else (if sense then y else x))
   unfolding from_label
   attribute_runs n text sense l q choice x y short bytes to on =
       let jump : Program = Some (insn.jump_if (insn.turned sense Ne) R0 0 (length q - l)) ∷ q in
       let v : ℕ = attr_is a n text in
-      let b : Behaviour = if compares w32 Ne v 0 then (if sense then x else y) else (if sense then y else x) in
+      let b : Behaviour = if compares w32 Ne v 0 then (if sense then x else y)
+      else (if sense then y else x) in
       let jumps : Comes p a (Has p a 0 v) jump choice b =
       subst (Comes p a (Has p a 0 v) jump choice) (by_sense Ne sense v 0 x y tt)
-      (jump_then p a (insn.turned sense Ne) R0 0 (length q - l) v q choice x y (small_answer n text) (omega arith) to (knowing p a (Has p a 0 v) q choice y on)) in
+      (jump_then p a (insn.turned sense Ne) R0 0 (length q - l) v q choice x y (small_answer n text)
+      (omega arith) to (knowing p a (Has p a 0 v) q choice y on)) in
       let fourth : Program = Some (insn.call 2) ∷ jump in
       let third : Program = Some (insn.set_argument R3 (length text)) ∷ fourth in
       let second : Program = Some insn.point_at_text ∷ third in
       let first : Program = Some insn.copy_top ∷ second in
-      λ s h known. stores_then [] text 63 (Some (insn.set_argument R1 n) ∷ first) choice b refl refl (omega (arith, short)) bytes
-      (number_then text n first choice b (top_then text n second choice b (point_then text n third choice b (length_then text n fourth choice b (compare_then text n jump choice b short jumps))))) s h (λ i c is. absurd cc)
+      λ s h known. stores_then [] text 63 (Some (insn.set_argument R1 n) ∷ first) choice b refl refl
+      (omega (arith, short)) bytes
+      (number_then text n first choice b
+      (top_then text n second choice b
+      (point_then text n third choice b
+      (length_then text n fourth choice b (compare_then text n jump choice b short jumps))))) s
+      h (λ i c is. absurd cc)

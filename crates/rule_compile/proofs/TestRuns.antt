@@ -51,8 +51,11 @@ is_relation relation.Gt = tt
 
 -- a jump on the turned condition is a choice by the relation
 related : (r : Relation) (sense : Bool) (v n : ℕ) (x y : Behaviour)
-    → (if compares w32 (turned sense (condition_of r)) v n then x else y) ≡ (if relates r (nat_cmp v n) then (if sense then x else y) else (if sense then y else x))
-related r sense v n x y = by_sense (condition_of r) sense v n x y (is_relation r) ∙ ap (λ (b : Bool). if b then (if sense then x else y) else (if sense then y else x)) (sym (relates_is r v n))
+    → (if compares w32 (turned sense (condition_of r)) v n then x else y) ≡ (if relates r
+    (nat_cmp v n) then (if sense then x else y) else (if sense then y else x))
+related r sense v n x y = by_sense (condition_of r) sense v n x y (is_relation r)
+    ∙ ap (λ (b : Bool). if b then (if sense then x else y) else (if sense then y else x))
+    (sym (relates_is r v n))
 
 pub flag_small : (f : the_flag.Flag) → flag_bit f < 2 ^ 31
 flag_small VersionKnown = omega arith
@@ -75,16 +78,22 @@ byte_small c h =
 
 literal_bytes : (text : List ℕ) → list_all is_literal_byte text ≡ true → AreBytes text
 literal_bytes [] h = tt
-literal_bytes (c ∷ text) h = let two = both_true (is_literal_byte c) (list_all is_literal_byte text) h in (byte_small c two.0, literal_bytes text two.1)
+literal_bytes (c ∷ text) h = let two =
+    both_true (is_literal_byte c) (list_all is_literal_byte text) h in
+    (byte_small c two.0, literal_bytes text two.1)
 
 pub literal_is : (text : List ℕ) → IsLiteral text → AreBytes text
 literal_is text h = literal_bytes text h.bytes
 
-is_one : (b : Bool) (x y : Behaviour) → (if compares w32 jump.Ne (if b then 1 else 0) 0 then x else y) ≡ (if (if b then 1 else 0) == 1 then x else y)
+is_one : (b : Bool) (x y : Behaviour)
+    → (if compares w32 jump.Ne (if b then 1 else 0) 0 then x else y) ≡ (if (if b then 1 else 0) == 1
+    then x else y)
 is_one true x y = refl
 is_one false x y = refl
 
-asked_text : (o : Option (List ℕ)) (text : List ℕ) (x y : Behaviour) → (if compares w32 jump.Ne (is_text text o) 0 then x else y) ≡ (if is_text text o == 1 then x else y)
+asked_text : (o : Option (List ℕ)) (text : List ℕ) (x y : Behaviour)
+    → (if compares w32 jump.Ne (is_text text o) 0 then x else y) ≡ (if is_text text o == 1 then x
+    else y)
 asked_text None text x y = refl
 asked_text (Some t) text x y = is_one (bytes_eq t text) x y
 
@@ -92,66 +101,117 @@ module _ (p : ShapedProgram) (a : Attributes) (fit : FitFields a) (shape : IsSha
   abbrev pub Goes : Program → ℕ → Behaviour → Type 0
   Goes q choice b = Comes p a (Nothing p a) q choice b
 
-  four_read : (w : List ℕ) → ((k : ℕ) → slice_index w k < 2 ^ 32) → AreRead p a (slice_index a.context.version) fit.version 0 (four_of w)
-  four_read w h = (h 0, first_reads p a fit, (h 1, second_reads p a fit, (h 2, third_reads p a fit, (h 3, fourth_reads p a fit, tt))))
+  four_read : (w : List ℕ) → ((k : ℕ) → slice_index w k < 2 ^ 32)
+      → AreRead p a (slice_index a.context.version) fit.version 0 (four_of w)
+  four_read w h = (
+    h 0,
+    first_reads p a fit,
+    (h 1, second_reads p a fit, (h 2, third_reads p a fit, (h 3, fourth_reads p a fit, tt))),
+  )
 
-  field_test : (kind : LoadKind) (offset v : ℕ) (r : Relation) (n : ℕ) (sense : Bool) (l : ℕ) (q : Program) (choice : ℕ) (x y : Behaviour) → Reads p a kind offset v → v < 2 ^ 32 → n < 2 ^ 32
+  field_test : (kind : LoadKind) (offset v : ℕ) (r : Relation) (n : ℕ) (sense : Bool) (l : ℕ)
+      (q : Program) (choice : ℕ) (x y : Behaviour) → Reads p a kind offset v → v < 2 ^ 32
+      → n < 2 ^ 32
       → Goes (from_label q l) choice x → Goes q choice y
-      → Goes (code.field_code kind offset (turned sense (condition_of r)) n l q) choice (if relates r (nat_cmp v n) then (if sense then x else y) else (if sense then y else x))
+      → Goes (code.field_code kind offset (turned sense (condition_of r)) n l q) choice
+      (if relates r (nat_cmp v n) then (if sense then x else y) else (if sense then y else x))
   field_test kind offset v r n sense l q choice x y reads hv hn to on =
-      subst (Goes (code.field_code kind offset (turned sense (condition_of r)) n l q) choice) (related r sense v n x y)
-      (field_runs p a kind offset v (turned sense (condition_of r)) n l q choice x y reads hv hn to on)
+      subst (Goes (code.field_code kind offset (turned sense (condition_of r)) n l q) choice)
+      (related r sense v n x y)
+      (field_runs p a kind offset v (turned sense (condition_of r)) n l q choice x y reads hv hn to
+      on)
 
-  order_test : (r : Relation) (w : List ℕ) (sense : Bool) (l : ℕ) (q : Program) (choice : ℕ) (x y : Behaviour) → IsOrder r → ((k : ℕ) → slice_index w k < 2 ^ 32) → l ≤ length q
+  order_test : (r : Relation) (w : List ℕ) (sense : Bool) (l : ℕ) (q : Program) (choice : ℕ)
+      (x y : Behaviour) → IsOrder r → ((k : ℕ) → slice_index w k < 2 ^ 32) → l ≤ length q
       → Goes (from_label q l) choice x → Goes q choice y
-      → Goes (code.order_code (strict_of r) (condition_of r) 0 (four_of w) sense l q) choice (if relates r (version_cmp a.context.version w) then (if sense then x else y) else (if sense then y else x))
+      → Goes (code.order_code (strict_of r) (condition_of r) 0 (four_of w) sense l q) choice
+      (if relates r (version_cmp a.context.version w) then (if sense then x else y)
+      else (if sense then y else x))
   order_test r w sense l q choice x y is h within to on =
-      subst (Goes (code.order_code (strict_of r) (condition_of r) 0 (four_of w) sense l q) choice) (ordered_is r a.context.version w (if sense then x else y) (if sense then y else x) is)
-      (order_runs p a (slice_index a.context.version) fit.version (strict_of r) (condition_of r) 0 (slice_index w 0) (later_of w) sense l q choice x y (is_relation r) (four_read w h) within to on)
+      subst (Goes (code.order_code (strict_of r) (condition_of r) 0 (four_of w) sense l q) choice)
+      (ordered_is r a.context.version w (if sense then x else y) (if sense then y else x) is)
+      (order_runs p a (slice_index a.context.version) fit.version (strict_of r) (condition_of r) 0
+      (slice_index w 0) (later_of w) sense l q choice x y (is_relation r)
+      (four_read w h) within to on)
 
-  equal_test : (w : List ℕ) (sense : Bool) (l : ℕ) (q : Program) (choice : ℕ) (x y : Behaviour) → ((k : ℕ) → slice_index w k < 2 ^ 32) → l ≤ length q
+  equal_test : (w : List ℕ) (sense : Bool) (l : ℕ) (q : Program) (choice : ℕ) (x y : Behaviour)
+      → ((k : ℕ) → slice_index w k < 2 ^ 32) → l ≤ length q
       → Goes (from_label q l) choice x → Goes q choice y
-      → Goes (code.equal_code 0 (four_of w) sense l q) choice (if relates relation.Eq (version_cmp a.context.version w) then (if sense then x else y) else (if sense then y else x))
+      → Goes (code.equal_code 0 (four_of w) sense l q) choice
+      (if relates relation.Eq (version_cmp a.context.version w) then (if sense then x else y)
+      else (if sense then y else x))
   equal_test w sense l q choice x y h within to on =
-      subst (Goes (code.equal_code 0 (four_of w) sense l q) choice) (equal_is a.context.version w (if sense then x else y) (if sense then y else x))
-      (equal_runs p a (slice_index a.context.version) fit.version 0 (slice_index w 0) (later_of w) sense l q choice x y (four_read w h) within to on)
+      subst (Goes (code.equal_code 0 (four_of w) sense l q) choice)
+      (equal_is a.context.version w (if sense then x else y) (if sense then y else x))
+      (equal_runs p a (slice_index a.context.version) fit.version 0 (slice_index w 0)
+      (later_of w) sense l q choice x y (four_read w h) within to on)
 
-  version_test : (r : Relation) (w : List ℕ) (sense : Bool) (l : ℕ) (q : Program) (choice : ℕ) (x y : Behaviour) → ((k : ℕ) → slice_index w k < 2 ^ 32) → l ≤ length q
+  version_test : (r : Relation) (w : List ℕ) (sense : Bool) (l : ℕ) (q : Program) (choice : ℕ)
+      (x y : Behaviour) → ((k : ℕ) → slice_index w k < 2 ^ 32) → l ≤ length q
       → Goes (from_label q l) choice x → Goes q choice y
-      → Goes (version_code r (four_of w) sense l q) choice (if relates r (version_cmp a.context.version w) then (if sense then x else y) else (if sense then y else x))
-  version_test relation.Lt w sense l q choice x y h within to on = order_test relation.Lt w sense l q choice x y tt h within to on
-  version_test relation.Le w sense l q choice x y h within to on = order_test relation.Le w sense l q choice x y tt h within to on
-  version_test relation.Ge w sense l q choice x y h within to on = order_test relation.Ge w sense l q choice x y tt h within to on
-  version_test relation.Gt w sense l q choice x y h within to on = order_test relation.Gt w sense l q choice x y tt h within to on
-  version_test relation.Eq w sense l q choice x y h within to on = equal_test w sense l q choice x y h within to on
+      → Goes (version_code r (four_of w) sense l q) choice
+      (if relates r (version_cmp a.context.version w) then (if sense then x else y)
+      else (if sense then y else x))
+  version_test relation.Lt w sense l q choice x y h within to on =
+      order_test relation.Lt w sense l q choice x y tt h within to on
+  version_test relation.Le w sense l q choice x y h within to on =
+      order_test relation.Le w sense l q choice x y tt h within to on
+  version_test relation.Ge w sense l q choice x y h within to on =
+      order_test relation.Ge w sense l q choice x y tt h within to on
+  version_test relation.Gt w sense l q choice x y h within to on =
+      order_test relation.Gt w sense l q choice x y tt h within to on
+  version_test relation.Eq w sense l q choice x y h within to on =
+      equal_test w sense l q choice x y h within to on
   version_test relation.Ne w true l q choice x y h within to on =
-      subst (Goes (code.equal_code 0 (four_of w) false l q) choice) (unequal_is (version_cmp a.context.version w) x y) (equal_test w false l q choice x y h within to on)
+      subst (Goes (code.equal_code 0 (four_of w) false l q) choice)
+      (unequal_is (version_cmp a.context.version w) x y)
+      (equal_test w false l q choice x y h within to on)
   version_test relation.Ne w false l q choice x y h within to on =
-      subst (Goes (code.equal_code 0 (four_of w) true l q) choice) (unequal_is (version_cmp a.context.version w) y x) (equal_test w true l q choice x y h within to on)
+      subst (Goes (code.equal_code 0 (four_of w) true l q) choice)
+      (unequal_is (version_cmp a.context.version w) y x)
+      (equal_test w true l q choice x y h within to on)
 
-  take_test : (name : List ℕ) (index : ℕ) (sense : Bool) (l : ℕ) (q : Program) (choice : ℕ) (x y : Behaviour) → CanTake p.shape.arrays name index
+  take_test : (name : List ℕ) (index : ℕ) (sense : Bool) (l : ℕ) (q : Program) (choice : ℕ)
+      (x y : Behaviour) → CanTake p.shape.arrays name index
       → Goes (from_label q l) choice x → Goes q choice y
-      → Goes (test_code p.shape (test.Take name index) sense l q) choice (test_then a p.shape (test.Take name index) (if sense then x else y) (if sense then y else x))
+      → Goes (test_code p.shape (test.Take name index) sense l q) choice
+      (test_then a p.shape (test.Take name index) (if sense then x else y)
+      (if sense then y else x))
   take_test name index sense l q choice x y can to on =
-      take_runs p a (place_named name p.shape.arrays) index (cell_of (array_named name p.shape.arrays) index) (quota_of (array_named name p.shape.arrays)) can.array sense l q choice x y
+      take_runs p a (place_named name p.shape.arrays) index
+      (cell_of (array_named name p.shape.arrays) index)
+      (quota_of (array_named name p.shape.arrays)) can.array sense l q choice x y
       can.found.place can.sum can.cell to on
 
-  pub test_runs : (t : the_test.Test) (sense : Bool) (l : ℕ) (q : Program) (choice : ℕ) (x y : Behaviour) → IsInRange t → test_fits p.shape t ≡ true → l ≤ length q
+  pub test_runs : (t : the_test.Test) (sense : Bool) (l : ℕ) (q : Program) (choice : ℕ)
+      (x y : Behaviour) → IsInRange t → test_fits p.shape t ≡ true → l ≤ length q
       → Goes (from_label q l) choice x → Goes q choice y
-      → Goes (test_code p.shape t sense l q) choice (test_then a p.shape t (if sense then x else y) (if sense then y else x))
-  test_runs (test.Version r w) sense l q choice x y range fits within to on = version_test r w sense l q choice x y range within to on
+      → Goes (test_code p.shape t sense l q) choice
+      (test_then a p.shape t (if sense then x else y) (if sense then y else x))
+  test_runs (test.Version r w) sense l q choice x y range fits within to on =
+      version_test r w sense l q choice x y range within to on
   test_runs (test.Bucket r n) sense l q choice x y range fits within to on =
-      field_test Half 16 a.context.bucket r n sense l q choice x y (bucket_reads p a fit) (omega (arith, fit.bucket)) range to on
+      field_test Half 16 a.context.bucket r n sense l q choice x y (bucket_reads p a fit)
+      (omega (arith, fit.bucket)) range to on
   test_runs (test.SaltedBucket salt r n) sense l q choice x y range fits within to on =
-      subst (Goes (code.salted_code salt (turned sense (condition_of r)) n l q) choice) (related r sense (bucket_of a salt) n x y)
+      subst (Goes (code.salted_code salt (turned sense (condition_of r)) n l q) choice)
+      (related r sense (bucket_of a salt) n x y)
       (salted_runs p a salt (turned sense (condition_of r)) n l q choice x y range.1 to on)
-  test_runs (test.Today r n) sense l q choice x y range fits within to on = field_test Word 24 a.context.today r n sense l q choice x y (today_reads p a fit) fit.today range to on
+  test_runs (test.Today r n) sense l q choice x y range fits within to on =
+      field_test Word 24 a.context.today r n sense l q choice x y
+      (today_reads p a fit) fit.today range to on
   test_runs (test.Installed r n) sense l q choice x y range fits within to on =
-      field_test Word 20 a.context.install_day r n sense l q choice x y (installed_reads p a fit) fit.install_day range to on
+      field_test Word 20 a.context.install_day r n sense l q choice x y
+      (installed_reads p a fit) fit.install_day range to on
   test_runs (test.Flag f) sense l q choice x y range fits within to on =
-      let small = flag_small f in flag_runs p a fit (flag_bit f) sense l q choice x y (omega (arith, small)) to on
+      let small = flag_small f in flag_runs p a fit (flag_bit f) sense l q choice x y
+      (omega (arith, small)) to on
   test_runs (test.Attr n text) sense l q choice x y range fits within to on =
-      subst (Goes (code.attribute_code (attribute_number n) text sense l q) choice) (asked_text (attribute a (attribute_number n)) text (if sense then x else y) (if sense then y else x))
-      (attribute_runs p a (attribute_number n) text sense l q choice x y range.short (literal_is text range) to on)
+      subst (Goes (code.attribute_code (attribute_number n) text sense l q) choice)
+      (asked_text (attribute a (attribute_number n)) text (if sense then x else y)
+      (if sense then y else x))
+      (attribute_runs p a (attribute_number n) text sense l q choice x y range.short
+      (literal_is text range) to on)
   test_runs (test.Take name index) sense l q choice x y range fits within to on =
-      take_test name index sense l q choice x y (can_take_is p.shape.arrays name index shape.arrays fits) to on
+      take_test name index sense l q choice x y
+      (can_take_is p.shape.arrays name index shape.arrays fits) to on

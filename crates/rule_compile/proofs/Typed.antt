@@ -1,4 +1,5 @@
--- A program with an entry a slot, each of whose instructions passes and leads within these entries: it has a table. All is said of an
+-- A program with an entry a slot, each of whose instructions passes and leads within these entries:
+-- it has a table. All is said of an
 -- instruction and what stands behind it, so code that is put in front keeps it.
 use Rattle.std.proofs.Common.{◌≡◌, ℕ, zero, suc, ◌+◌, pos, List, [], ◌∷◌, ◌++◌, drop, Option, Some, None, Bool, true, false, refl, sym, ap, subst, ◌∙◌, arith, zero-add}
 use Rattle.std.specs.Prelude.{IsSome, slice_index_or, slice_get, if◌then◌else◌}
@@ -24,9 +25,11 @@ nothing = record { registers = []; set = λ place. false }
 abbrev pub entry_at : List Known → ℕ → Known
 entry_at ds s = slice_index_or ds s nothing
 
--- an edge leads onto an instruction of the rest, k slots on, and what comes there is within its entry
+-- an edge leads onto an instruction of the rest, k slots on, and what comes there is within its
+-- entry
 abbrev pub Leads : Program → List Known → ℕ → Known → (AbsState → Option AbsState) → Type 0
-Leads q ds k d make = IsSome (at q k) × ((e f : AbsState) → Knows d e → make e ≡ Some f → Knows (entry_at ds k) f)
+Leads q ds k d make = IsSome (at q k)
+    × ((e f : AbsState) → Knows d e → make e ≡ Some f → Knows (entry_at ds k) f)
 
 -- how many second halves an instruction has
 abbrev pub halves : Width → ℕ
@@ -39,7 +42,8 @@ HasHalf One q = Unit {0}
 HasHalf Two q = slice_get q 0 ≡ Some None
 
 abbrev pub GoesOn : AppShape → Bool → Program → List Known → Known → Insn → Type 0
-GoesOn shape true q ds d i = (s : ℕ) → Leads q ds (halves (width_of i)) d (λ e. going_on shape s e i)
+GoesOn shape true q ds d i = (s : ℕ)
+    → Leads q ds (halves (width_of i)) d (λ e. going_on shape s e i)
 GoesOn shape false q ds d i = q ≡ []
 
 abbrev pub JumpsTo : Option Distance → Program → List Known → Known → Insn → Type 0
@@ -47,7 +51,8 @@ JumpsTo None q ds d i = Unit {0}
 JumpsTo (Some z) q ds d i = (k : ℕ) × (slots_moved z ≡ pos k) × Leads q ds k d (λ e. jumping e i)
 
 -- an instruction with its entry, in front of the rest
-pub record IsStep (shape : AppShape) (d : Known) (i : Insn) (q : Program) (ds : List Known) : Type 0 where
+pub record IsStep (shape : AppShape) (d : Known) (i : Insn) (q : Program)
+    (ds : List Known) : Type 0 where
   pub half : HasHalf (width_of i) q
   pub passes : (e : AbsState) → Knows d e → first_rule shape e i ≡ None
   pub next : GoesOn shape (goes_on i) q ds d i
@@ -62,50 +67,67 @@ IsTyped shape (Some i ∷ q) (d ∷ ds) = IsStep shape d i q ds × IsTyped shape
 
 -- ---- at each place
 
-pub located : (shape : AppShape) (p : Program) (ds : List Known) (s : ℕ) (i : Insn) → IsTyped shape p ds → at p s ≡ Some i → IsStep shape (entry_at ds s) i (drop (suc s) p) (drop (suc s) ds)
+pub located : (shape : AppShape) (p : Program) (ds : List Known) (s : ℕ) (i : Insn)
+    → IsTyped shape p ds → at p s ≡ Some i
+    → IsStep shape (entry_at ds s) i (drop (suc s) p) (drop (suc s) ds)
 located shape [] ds s i h is = absurd cc
 located shape (None ∷ q) [] s i h is = absurd h
 located shape (Some j ∷ q) [] s i h is = absurd h
 located shape (None ∷ q) (d ∷ ds) zero i h is = absurd cc
 located shape (None ∷ q) (d ∷ ds) (suc s) i h is = located shape q ds s i h is
-located shape (Some j ∷ q) (d ∷ ds) zero i h is = let same : j ≡ i = cc in subst (λ (x : Insn). IsStep shape d x q ds) same h.0
+located shape (Some j ∷ q) (d ∷ ds) zero i h is = let same : j ≡ i = cc in
+    subst (λ (x : Insn). IsStep shape d x q ds) same h.0
 located shape (Some j ∷ q) (d ∷ ds) (suc s) i h is = located shape q ds s i h.1 is
 
 pub at_drop : (p : Program) (n k : ℕ) → at (drop n p) k ≡ at p (n + k)
 at_drop p zero k = rw zero-add refl
 at_drop [] (suc n) k = refl
-at_drop (x ∷ p) (suc n) k = let e : suc (n + k) ≡ suc n + k = omega arith in at_drop p n k ∙ ap (at (x ∷ p)) e
+at_drop (x ∷ p) (suc n) k = let e : suc (n + k) ≡ suc n + k = omega arith in
+    at_drop p n k ∙ ap (at (x ∷ p)) e
 
 pub entry_drop : (ds : List Known) (n k : ℕ) → entry_at (drop n ds) k ≡ entry_at ds (n + k)
 entry_drop ds zero k = rw zero-add refl
 entry_drop [] (suc n) k = refl
-entry_drop (d ∷ ds) (suc n) k = let e : suc (n + k) ≡ suc n + k = omega arith in entry_drop ds n k ∙ ap (entry_at (d ∷ ds)) e
+entry_drop (d ∷ ds) (suc n) k = let e : suc (n + k) ≡ suc n + k = omega arith in
+    entry_drop ds n k ∙ ap (entry_at (d ∷ ds)) e
 
 -- ---- the table
 
-all_append : {A : Type 0} (P : A → Type 0) (xs ys : List A) → AllByRecursion P xs → AllByRecursion P ys → AllByRecursion P (xs ++ ys)
+all_append : {A : Type 0} (P : A → Type 0) (xs ys : List A) → AllByRecursion P xs
+    → AllByRecursion P ys → AllByRecursion P (xs ++ ys)
 all_append P [] ys h g = g
 all_append P (x ∷ xs) ys h g = (h.0, all_append P xs ys h.1 g)
 
-one_edge : (table : ℕ → Known) (o : Option ℕ) (w : Option AbsState) → ((t : ℕ) (f : AbsState) → o ≡ Some t → w ≡ Some f → Knows (table t) f) → AllByRecursion (λ (d : Edge). Knows (table d.target) d.entry) (edge o w)
+one_edge : (table : ℕ → Known) (o : Option ℕ) (w : Option AbsState)
+    → ((t : ℕ) (f : AbsState) → o ≡ Some t → w ≡ Some f → Knows (table t) f)
+    → AllByRecursion (λ (d : Edge). Knows (table d.target) d.entry) (edge o w)
 one_edge table None w h = tt
 one_edge table (Some t) None h = tt
 one_edge table (Some t) (Some f) h = (h t f refl refl, tt)
 
-module _ (shape : AppShape) (ds : List Known) (s : ℕ) (q : Program) (d : Known) (e : AbsState) (i : Insn) (knows : Knows d e) where
-  leads_to : (o : Option Distance) → JumpsTo o q (drop (suc s) ds) d i → (t : ℕ) (f : AbsState) → (o >>= λ distance. landing s (slots_moved distance)) ≡ Some t → jumping e i ≡ Some f → Knows (entry_at ds t) f
+module _ (shape : AppShape) (ds : List Known) (s : ℕ) (q : Program) (d : Known) (e : AbsState)
+    (i : Insn) (knows : Knows d e) where
+  leads_to : (o : Option Distance) → JumpsTo o q (drop (suc s) ds) d i → (t : ℕ) (f : AbsState)
+      → (o >>= λ distance. landing s (slots_moved distance)) ≡ Some t → jumping e i ≡ Some f
+      → Knows (entry_at ds t) f
   leads_to None h t f lands makes = absurd cc
   leads_to (Some z) h t f lands makes =
       let there : Some (s + 1 + h.0) ≡ Some t = ap (landing s) (sym h.1) ∙ lands in
       let same : s + 1 + h.0 ≡ t = cc in
       let place : suc s + h.0 ≡ t = omega arith in
-      subst (λ (x : Known). Knows x f) (entry_drop ds (suc s) h.0 ∙ ap (entry_at ds) place) (h.2.1 e f knows makes)
+      subst (λ (x : Known). Knows x f) (entry_drop ds (suc s) h.0 ∙ ap (entry_at ds) place)
+      (h.2.1 e f knows makes)
 
-  goes_to : (b : Bool) → GoesOn shape b q (drop (suc s) ds) d i → (n : ℕ) → n ≡ s + 1 + halves (width_of i) → (t : ℕ) (f : AbsState) → (if b then Some n else None) ≡ Some t → going_on shape s e i ≡ Some f → Knows (entry_at ds t) f
+  goes_to : (b : Bool) → GoesOn shape b q (drop (suc s) ds) d i → (n : ℕ)
+      → n ≡ s + 1 + halves (width_of i) → (t : ℕ) (f : AbsState)
+      → (if b then Some n else None) ≡ Some t → going_on shape s e i ≡ Some f
+      → Knows (entry_at ds t) f
   goes_to true h n is t f lands makes =
       let same : n ≡ t = cc in
       let place : suc s + halves (width_of i) ≡ t = omega arith in
-      subst (λ (x : Known). Knows x f) (entry_drop ds (suc s) (halves (width_of i)) ∙ ap (entry_at ds) place) ((h s).1 e f knows makes)
+      subst (λ (x : Known). Knows x f)
+      (entry_drop ds (suc s) (halves (width_of i)) ∙ ap (entry_at ds) place)
+      ((h s).1 e f knows makes)
   goes_to false h n is t f lands makes = absurd cc
 
 slots_are : (w : Width) → slots_of w ≡ 1 + halves w
@@ -115,13 +137,18 @@ slots_are Two = refl
 pub next_is : (s : ℕ) (i : Insn) → next_of s i ≡ s + 1 + halves (width_of i)
 next_is s i = let w = slots_are (width_of i) in omega arith
 
-pub is_table : (shape : AppShape) (p : Program) (ds : List Known) → IsTyped shape p ds → Knows (entry_at ds 0) opening_state → IsTable p shape (entry_at ds)
+pub is_table : (shape : AppShape) (p : Program) (ds : List Known) → IsTyped shape p ds
+    → Knows (entry_at ds 0) opening_state → IsTable p shape (entry_at ds)
 unfolding edges
 is_table shape p ds typed start = record {
   start = start;
   passes = λ s e i is knows. (located shape p ds s i typed is).passes e knows;
   leads = λ s e i is knows. let step = located shape p ds s i typed is in
-      all_append (λ (d : Edge). Knows (entry_at ds d.target) d.entry) (jump_edge s e i) (next_edge shape s e i)
-      (one_edge (entry_at ds) (target_of s i) (jumping e i) (leads_to shape ds s (drop (suc s) p) (entry_at ds s) e i knows (jump_of i) step.jump))
-      (one_edge (entry_at ds) (next_target s i) (going_on shape s e i) (goes_to shape ds s (drop (suc s) p) (entry_at ds s) e i knows (goes_on i) step.next (next_of s i) (next_is s i)));
+      all_append (λ (d : Edge). Knows (entry_at ds d.target) d.entry) (jump_edge s e i)
+      (next_edge shape s e i)
+      (one_edge (entry_at ds) (target_of s i) (jumping e i)
+      (leads_to shape ds s (drop (suc s) p) (entry_at ds s) e i knows (jump_of i) step.jump))
+      (one_edge (entry_at ds) (next_target s i) (going_on shape s e i)
+      (goes_to shape ds s (drop (suc s) p) (entry_at ds s) e i knows (goes_on i) step.next
+      (next_of s i) (next_is s i)));
 }
