@@ -1,6 +1,9 @@
-//! The programs under `examples/`, each assembled, verified and run for the apps of a table. What
-//! is printed is compared with the file `stdout`, whose choices and counts were worked out by hand.
+//! The programs under `examples/`, each assembled, verified and run for the apps of a table, and the
+//! rules. What is printed is compared with the file `stdout`, whose choices and counts were worked
+//! out by hand.
 #![tactic(auto)]
+
+mod rules;
 
 ghost use Rattle.std.specs.Prelude.{◌<◌};
 
@@ -82,5 +85,5 @@ fn main(rt: HostRuntime) -> Result<()> {
         print!(rt; "version.bpf, version {version:?}: ")?;
         show(&rt, &by_version, Some(version), 0)?;
     }
-    Ok(())
+    rules::ask_all(&rt)
 }

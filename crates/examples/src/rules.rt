@@ -1,0 +1,140 @@
+//! The rules under `examples/rules/`, each compiled and asked by a few apps in turn, over counters
+//! that begin at 0.
+
+use anyhow::{Context, Result};
+use attrs::{AppFacts, Attrs, RequestFacts, Text};
+use bpf_machine::Run;
+use bpf_verify::Verified;
+use cells::{Directory, PlainCells, PlainPass, Shape};
+use declarations::{declare_all, read_spec};
+use rule_compile::compile;
+use rule_lang::parse;
+use std::alloc::Global;
+use std::rt::Files;
+use std::sync::Arc;
+use std::{fs, str};
+
+/// The arrays that the rules name.
+const ARRAYS: &str = "asked:64:1,first:64:1:2";
+
+/// A rule, and the apps that ask it, an app a line: its version, its cohort, its `ap` and the day of
+/// its installation, in columns; `-` is none.
+struct Case {
+    file: &'static str,
+    askers: &'static str,
+}
+
+const CASES: [Case; 5] = [
+    Case {
+        file: "rules/staged.rule",
+        askers: "1.0 b:0378 - -
+1.0 b:9410 - -
+1.0 b:8883 - -
+1.0 b:8822 - -",
+    },
+    Case {
+        file: "rules/versions.rule",
+        askers: "- b:0000 - -
+2.x b:0000 - -
+0 b:0000 - -
+1.4294967295 b:0000 - -
+2.0 b:0000 - -
+2.10 b:0000 - -
+2.4294967295.4294967295.4294967295 b:0000 - -
+3 b:0000 - -",
+    },
+    Case {
+        file: "rules/quota.rule",
+        askers: "1.0 b:1999 - -
+1.0 b:2000 - -
+1.0 b:0000 - -
+1.0 b:0000 - -
+1.0 b:9999 - -",
+    },
+    Case {
+        file: "rules/canary.rule",
+        askers: "1.0 b:0000 canary 7000
+1.0 b:0000 canary -
+1.0 b:0000 canaries 7000
+1.0 b:0000 - 7000",
+    },
+    Case {
+        file: "rules/pause.rule",
+        askers: "1.0 b:0000 - -
+1.0 b:9999 canary 7000",
+    },
+];
+
+/// The text of a column.
+fn column(alloc: Global, text: Option<&str>) -> Result<Option<Text>> {
+    match text {
+        None | Some("-") => Ok(None),
+        Some(text) => Ok(Some(Text::new(String::from_str(alloc, text)?))),
+    }
+}
+
+/// The attributes of an app at the first second of 2007-01-01.
+fn attributes(alloc: Global, line: &str) -> Result<Arc<Attrs>> {
+    let mut columns = line.split(' ');
+    let app = AppFacts {
+        appid: Text::new(String::new(alloc)),
+        version: column(alloc, columns.next())?,
+        cohort: column(alloc, columns.next())?,
+        ap: column(alloc, columns.next())?,
+        installdate: columns.next().and_then(|day| day.parse().ok()),
+        brand: None,
+        lang: None,
+        updatecheck: true,
+        ping: false,
+        event: false,
+    };
+    let request = RequestFacts {
+        requestid: None,
+        sessionid: None,
+        platform: None,
+    };
+    Ok(Arc::new(alloc, Attrs::of(alloc, &app, &request, 0)?)?)
+}
+
+/// Two releases, and the arrays.
+fn shape(alloc: Global) -> Result<Shape> {
+    let mut directory = Directory::new(alloc);
+    let declarations = read_spec(alloc, ARRAYS).ok().context("arrays")?;
+    let numbers = declare_all(alloc, &mut directory, &declarations)
+        .ok()
+        .context("room for the arrays")?;
+    Ok(Shape::of(alloc, 2, &directory, &numbers)?)
+}
+
+/// The program of a rule.
+fn compiled(alloc: Global, text: &[u8]) -> Result<Arc<Verified>> {
+    let shape = shape(alloc)?;
+    let rule = parse(alloc, str::from_utf8(text)?, &shape)?;
+    Ok(Arc::new(alloc, compile(alloc, &rule, &shape)?)?)
+}
+
+/// What an app is offered.
+fn choice(
+    alloc: Global,
+    program: &Arc<Verified>,
+    asker: &str,
+    cells: &PlainCells,
+    pass: &mut PlainPass,
+) -> Result<u8> {
+    let run = Run::start(Arc::try_clone(program)?, attributes(alloc, asker)?);
+    let (choice, _instructions) = run.run(cells, pass);
+    Ok(choice)
+}
+
+/// Each rule is asked by its apps in turn, and what each is offered is printed.
+pub fn ask_all<R: Files + Print + AllocGlobal>(rt: &R) -> Result<()> {
+    for case in &CASES {
+        let program = compiled(rt.alloc(), &fs::read(rt, case.file)?)?;
+        let (cells, mut pass) = PlainCells::new(rt.alloc())?;
+        for asker in case.askers.split('\n') {
+            let choice = choice(rt.alloc(), &program, asker, &cells, &mut pass)?;
+            println!(rt; "{}, {asker}: choice {choice}", case.file)?;
+        }
+    }
+    Ok(())
+}
