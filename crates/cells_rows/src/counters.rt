@@ -168,30 +168,33 @@ fn names(rt: HostRuntime) {
     }
 }
 
+/// The shape of 64 releases over the arrays c, b and c of a directory of a, b and c.
+fn shape_of_three(alloc: Global) -> Result<Shape, CellsFault> {
+    let mut all = Directory::new(alloc);
+    let _first = declare(&mut all, alloc, "a", CellWidth::Bits64, 10)?;
+    let second = declare(&mut all, alloc, "b", CellWidth::Bits32, 20)?;
+    let third = declare(&mut all, alloc, "c", CellWidth::Bits64, 30)?;
+    let count = all.arrays().len();
+    if second.number >= count || third.number >= count {
+        return Ok(Shape::plain(alloc, 0));
+    }
+    Shape::of(alloc, 64, &all, &[third, second, third])?.copy(alloc)
+}
+
+/// The arrays of a shape: each one's name, first cell and length.
+const PLACES: [(&str, u16, u16); 3] = [("c", 10, 30), ("b", 4096, 20), ("c", 10, 30)];
+
 #[test]
 fn shapes(rt: HostRuntime) -> Result<(), Fail> {
-    let alloc = rt.alloc();
-    let mut all = Directory::new(alloc);
-    assert!(rt; declare(&mut all, alloc, "a", CellWidth::Bits64, 10).is_ok());
-    assert!(rt; declare(&mut all, alloc, "b", CellWidth::Bits32, 20).is_ok());
-    assert!(rt; declare(&mut all, alloc, "c", CellWidth::Bits64, 30).is_ok());
-    assert_eq!(rt; all.arrays().len(), 3);
-    let numbers = [
-        ArrayNo { number: 2 },
-        ArrayNo { number: 1 },
-        ArrayNo { number: 2 },
-    ];
-    let shape = again(|| Shape::of(alloc, 64, &all, &numbers))?;
-    let shape = again(|| shape.copy(alloc))?;
+    let shape = again(|| shape_of_three(rt.alloc()))?;
     assert_eq!(rt; shape.releases(), 64);
-    let places = [("c", 10, 30), ("b", 4096, 20), ("c", 10, 30)];
     assert_eq!(rt; shape.arrays().len(), 3);
-    for ((name, base, length), array) in places.iter().zip(shape.arrays()) {
-        assert_eq!(rt; array.name.as_str(), *name);
-        assert_eq!(rt; (array.base, array.length), (*base, *length));
+    for (place, array) in PLACES.iter().zip(shape.arrays()) {
+        let found = (array.name.as_str(), array.base, array.length);
+        assert_eq!(rt; found, *place);
         assert_eq!(rt; array.quota, None);
     }
-    assert!(rt; Shape::plain(alloc, 3).arrays().is_empty());
+    assert!(rt; Shape::plain(rt.alloc(), 3).arrays().is_empty());
     Ok(())
 }
 
