@@ -1,229 +1,204 @@
-//! Texts, their bytes and their listings, and every fault with its line.
+//! Texts, their listings and their bytes, and every fault with its line.
 
 use bpf_insn::InsnFault;
-use bpf_text::{AsmFault, AsmFaultKind, ListFault, assemble, listing};
-use std::alloc::Global;
+use bpf_text::{AsmFault, ListFault, assemble, listing};
+use std::alloc::{AllocError, Global};
 use std::test::Fail;
 
-// A text, its bytes, and their listing.
-const ROWS: [(&str, &[u8], &str); 15] = [
-    ("", &[], ""),
-    ("be32 r1", &[0xdc, 0x01, 0, 0, 0x20, 0, 0, 0], "be32 r1\n"),
-    (
-        "lddw r1, -1",
-        &[
-            0x18, 1, 0, 0, 0xff, 0xff, 0xff, 0xff, 0, 0, 0, 0, 0xff, 0xff, 0xff, 0xff,
-        ],
-        "lddw r1, 18446744073709551615\n",
-    ),
-    (
-        "faddw [r6], r2",
-        &[0xc3, 0x26, 0, 0, 1, 0, 0, 0],
-        "faddw [r6+0], r2\n",
-    ),
-    (
-        "add r1, 0xffffffff",
-        &[0x07, 1, 0, 0, 0xff, 0xff, 0xff, 0xff],
-        "add r1, -1\n",
-    ),
-    (
-        "jal -1",
-        &[0x06, 0, 0, 0, 0xff, 0xff, 0xff, 0xff],
-        "jal -1\n",
-    ),
-    (
-        "ldxdw r2, [r1+56]\n",
-        &[0x79, 0x12, 0x38, 0, 0, 0, 0, 0],
-        "ldxdw r2, [r1+56]\n",
-    ),
-    (
-        "mov r0, 0\r\n\texit ; done\r\n",
-        &[0xb7, 0, 0, 0, 0, 0, 0, 0, 0x95, 0, 0, 0, 0, 0, 0, 0],
-        "mov r0, 0\nexit\n",
-    ),
-    (
-        "; a loop\nagain: ja done ; r1\nja again\ndone:",
-        &[5, 0, 1, 0, 0, 0, 0, 0, 5, 0, 0xfe, 0xff, 0, 0, 0, 0],
-        "ja +1\nja -2\n",
-    ),
-    (
-        "r1: jeq r1,5,r1\njne32 r1 , r2 , +0",
-        &[
-            0x15, 1, 0xff, 0xff, 5, 0, 0, 0, 0x5e, 0x21, 0, 0, 0, 0, 0, 0,
-        ],
-        "jeq r1, 5, -1\njne32 r1, r2, +0\n",
-    ),
-    (
-        "stb [r10-8], -128",
-        &[0x72, 0x0a, 0xf8, 0xff, 0x80, 0xff, 0xff, 0xff],
-        "stb [r10-8], -128\n",
-    ),
-    (
-        "movsx16w r1, r2",
-        &[0xbc, 0x21, 0x10, 0, 0, 0, 0, 0],
-        "movsx16w r1, r2\n",
-    ),
-    (
-        "ldmap r2, -1",
-        &[
-            0x18, 0x52, 0, 0, 0xff, 0xff, 0xff, 0xff, 0, 0, 0, 0, 0, 0, 0, 0,
-        ],
-        "ldmap r2, -1\n",
-    ),
-    (
-        "ldcell r1, 0, 8\nja over\nover: call 1",
-        &[
-            0x18, 0x61, 0, 0, 0, 0, 0, 0, 0, 0, 0, 0, 8, 0, 0, 0, 5, 0, 0, 0, 0, 0, 0, 0, 0x85, 0,
-            0, 0, 1, 0, 0, 0,
-        ],
-        "ldcell r1, 0, 8\nja +0\ncall 1\n",
-    ),
-    (
-        "mov r3, 2147483648",
-        &[0xb7, 3, 0, 0, 0, 0, 0, 0x80],
-        "mov r3, -2147483648\n",
-    ),
-];
-
-#[test]
-fn texts_and_bytes(rt: HostRuntime) -> Result<(), Fail> {
-    for (text, bytes, lines) in &ROWS {
-        assert_eq!(rt; assemble(rt.alloc(), text)?.as_slice(), *bytes);
-        assert_eq!(rt; listing(rt.alloc(), bytes)?.as_str(), *lines);
-    }
-    Ok(())
+fn digit(value: u8) -> char {
+    char::from_digit(value as u32, 16).unwrap_or('?')
 }
 
-// A text, and its fault.
-const REFUSED: [(&str, usize, AsmFaultKind); 33] = [
-    ("mov r0, 0\nmov r0, @", 2, AsmFaultKind::Token),
-    ("ldxb r1, [r1 + 8]", 1, AsmFaultKind::Token),
-    ("add r1, 0x11111111111111111", 1, AsmFaultKind::Token),
-    ("add r1, 0X10", 1, AsmFaultKind::Token),
-    ("add r1, 5x", 1, AsmFaultKind::Token),
-    ("exit\r", 1, AsmFaultKind::Token),
-    (
-        "abcdefghijklmnopqrstuvwxyzabcdefg: exit",
-        1,
-        AsmFaultKind::Token,
-    ),
-    ("\n\nnop", 3, AsmFaultKind::Mnemonic),
-    ("EXIT", 1, AsmFaultKind::Mnemonic),
-    ("5", 1, AsmFaultKind::Mnemonic),
-    ("mov r11, 0", 1, AsmFaultKind::Operand),
-    ("mov r1", 1, AsmFaultKind::Operand),
-    ("mov r1, 1, 2", 1, AsmFaultKind::Operand),
-    ("mov r1, +5", 1, AsmFaultKind::Operand),
-    ("ja 5", 1, AsmFaultKind::Operand),
-    ("exit r1", 1, AsmFaultKind::Operand),
-    ("ldxb r1, [r2+8", 1, AsmFaultKind::Operand),
-    ("ldxb r1, [r2 8]", 1, AsmFaultKind::Operand),
-    ("jeq r1, 4294967296, 7", 1, AsmFaultKind::Operand),
-    ("add r1,", 1, AsmFaultKind::Operand),
-    ("exit\nja nowhere", 2, AsmFaultKind::Label),
-    ("a: exit\nb: exit\na: exit", 3, AsmFaultKind::Label),
-    ("a:\na: add r1, 4294967296", 2, AsmFaultKind::Label),
-    ("ja r1", 1, AsmFaultKind::Label),
-    ("ja nowhere\nmov r11, 0", 2, AsmFaultKind::Operand),
-    ("add r1, 4294967296", 1, AsmFaultKind::Range),
-    ("add r1, -2147483649", 1, AsmFaultKind::Range),
-    ("ldxb r1, [r2+32768]", 1, AsmFaultKind::Range),
-    ("ja -32769", 1, AsmFaultKind::Range),
-    ("jal +2147483648", 1, AsmFaultKind::Range),
-    ("lddw r1, 18446744073709551616", 1, AsmFaultKind::Range),
-    ("lddw r1, -9223372036854775809", 1, AsmFaultKind::Range),
-    (
-        "call 99999999999999999999999999999999999999",
-        1,
-        AsmFaultKind::Range,
-    ),
-];
-
-#[test]
-fn refused_texts(rt: HostRuntime) -> Result<(), Fail> {
-    for (text, line, kind) in &REFUSED {
-        match assemble(rt.alloc(), text) {
-            Ok(_) => assert!(rt; false, "taken: {text:?}"),
-            Err(fault) => assert_eq!(rt;
-                fault,
-                AsmFault::At {
-                    line: *line,
-                    kind: *kind
-                }
-            ),
-        }
-    }
-    Ok(())
-}
-
-fn lines_of(alloc: Global, line: &str, count: usize) -> Result<String, Fail> {
+fn hex(alloc: Global, bytes: &[u8]) -> Result<String, AllocError> {
     let mut text = String::new(alloc);
-    for _ in 0..count {
-        text.push_str(line)?;
+    for byte in bytes {
+        if !text.is_empty() {
+            text.push(' ')?;
+        }
+        text.push(digit(byte / 16))?;
+        text.push(digit(byte % 16))?;
     }
     Ok(text)
 }
 
+/// The listing of a text's bytes, and then the bytes.
+pub(crate) fn spelled(alloc: Global, text: &str) -> Result<String, Fail> {
+    let bytes = assemble(alloc, text)?;
+    let lines = listing(alloc, &bytes)?;
+    let bytes = hex(alloc, &bytes)?;
+    Ok(format!(in alloc; "{lines}{bytes}")?)
+}
+
+/// The text that a row writes in one line.
+fn unescaped(alloc: Global, text: &str) -> Result<String, AllocError> {
+    let text = text.replace(alloc, r"\n", "\n")?;
+    let text = text.replace(alloc, r"\r", "\r")?;
+    text.replace(alloc, r"\t", "\t")
+}
+
+/// A text, the lines of its listing, and its bytes.
+const TEXTS: &str = r#"
+- be32 r1
+be32 r1
+dc 01 00 00 20 00 00 00
+- lddw r1, -1
+lddw r1, 18446744073709551615
+18 01 00 00 ff ff ff ff 00 00 00 00 ff ff ff ff
+- faddw [r6], r2
+faddw [r6+0], r2
+c3 26 00 00 01 00 00 00
+- add r1, 0xffffffff
+add r1, -1
+07 01 00 00 ff ff ff ff
+- jal -1
+jal -1
+06 00 00 00 ff ff ff ff
+- ldxdw r2, [r1+56]\n
+ldxdw r2, [r1+56]
+79 12 38 00 00 00 00 00
+- mov r0, 0\r\n\texit ; done\r\n
+mov r0, 0
+exit
+b7 00 00 00 00 00 00 00 95 00 00 00 00 00 00 00
+- ; a loop\nagain: ja done ; r1\nja again\ndone:
+ja +1
+ja -2
+05 00 01 00 00 00 00 00 05 00 fe ff 00 00 00 00
+- r1: jeq r1,5,r1\njne32 r1 , r2 , +0
+jeq r1, 5, -1
+jne32 r1, r2, +0
+15 01 ff ff 05 00 00 00 5e 21 00 00 00 00 00 00
+- stb [r10-8], -128
+stb [r10-8], -128
+72 0a f8 ff 80 ff ff ff
+- movsx16w r1, r2
+movsx16w r1, r2
+bc 21 10 00 00 00 00 00
+- ldmap r2, -1
+ldmap r2, -1
+18 52 00 00 ff ff ff ff 00 00 00 00 00 00 00 00
+- ldcell r1, 0, 8\nja over\nover: call 1
+ldcell r1, 0, 8
+ja +0
+call 1
+18 61 00 00 00 00 00 00 00 00 00 00 08 00 00 00 05 00 00 00 00 00 00 00 85 00 00 00 01 00 00 00
+- mov r3, 2147483648
+mov r3, -2147483648
+b7 03 00 00 00 00 00 80
+"#;
+
 #[test]
-fn too_many_slots(rt: HostRuntime) -> Result<(), Fail> {
-    let full = lines_of(rt.alloc(), "exit\n", 4096)?;
-    assert_eq!(rt; assemble(rt.alloc(), full.as_str())?.len(), 32768);
-    let over = lines_of(rt.alloc(), "exit\n", 4097)?;
-    match assemble(rt.alloc(), over.as_str()) {
-        Ok(_) => assert!(rt; false, "taken"),
-        Err(fault) => {
-            assert_eq!(rt;
-                fault,
-                AsmFault::At {
-                    line: 4097,
-                    kind: AsmFaultKind::TooLong
-                }
-            );
-        }
+fn texts_and_bytes(rt: HostRuntime) -> Result<(), Fail> {
+    for row in TEXTS.split("\n- ").skip(1) {
+        let (text, want) = row.split_once('\n').ok_or("a row of two parts")?;
+        let text = unescaped(rt.alloc(), text)?;
+        let found = spelled(rt.alloc(), text.as_str())?;
+        let want = want.strip_suffix('\n').unwrap_or(want);
+        assert!(rt; found.as_str() == want, "{row}: {found}");
+    }
+    let empty = spelled(rt.alloc(), "")?;
+    assert_eq!(rt; empty.as_str(), "");
+    Ok(())
+}
+
+/// A text, and its fault.
+const REFUSED: &str = r#"
+mov r0, 0\nmov r0, @ => A1 Token at line 2
+ldxb r1, [r1 + 8] => A1 Token at line 1
+add r1, 0x11111111111111111 => A1 Token at line 1
+add r1, 0X10 => A1 Token at line 1
+add r1, 5x => A1 Token at line 1
+exit\r => A1 Token at line 1
+abcdefghijklmnopqrstuvwxyzabcdefg: exit => A1 Token at line 1
+\n\nnop => A2 Mnemonic at line 3
+EXIT => A2 Mnemonic at line 1
+5 => A2 Mnemonic at line 1
+mov r11, 0 => A3 Operand at line 1
+mov r1 => A3 Operand at line 1
+mov r1, 1, 2 => A3 Operand at line 1
+mov r1, +5 => A3 Operand at line 1
+ja 5 => A3 Operand at line 1
+exit r1 => A3 Operand at line 1
+ldxb r1, [r2+8 => A3 Operand at line 1
+ldxb r1, [r2 8] => A3 Operand at line 1
+jeq r1, 4294967296, 7 => A3 Operand at line 1
+add r1, => A3 Operand at line 1
+exit\nja nowhere => A4 Label at line 2
+a: exit\nb: exit\na: exit => A4 Label at line 3
+a:\na: add r1, 4294967296 => A4 Label at line 2
+ja r1 => A4 Label at line 1
+ja nowhere\nmov r11, 0 => A3 Operand at line 2
+add r1, 4294967296 => A5 Range at line 1
+add r1, -2147483649 => A5 Range at line 1
+ldxb r1, [r2+32768] => A5 Range at line 1
+ja -32769 => A5 Range at line 1
+jal +2147483648 => A5 Range at line 1
+lddw r1, 18446744073709551616 => A5 Range at line 1
+lddw r1, -9223372036854775809 => A5 Range at line 1
+call 99999999999999999999999999999999999999 => A5 Range at line 1
+"#;
+
+/// The printed fault of a text, or how many bytes it has.
+fn told(alloc: Global, text: &str) -> Result<String, Fail> {
+    let told = match assemble(alloc, text) {
+        Ok(bytes) => format!(in alloc; "{} bytes", bytes.len())?,
+        Err(fault) => format!(in alloc; "{fault}")?,
+    };
+    Ok(told)
+}
+
+#[test]
+fn refused_texts(rt: HostRuntime) -> Result<(), Fail> {
+    for row in REFUSED.lines().skip(1) {
+        let (text, want) = row.split_once(" => ").ok_or("a row of two parts")?;
+        let text = unescaped(rt.alloc(), text)?;
+        let found = told(rt.alloc(), text.as_str())?;
+        assert!(rt; found.as_str() == want, "{row}: {found}");
     }
     Ok(())
 }
 
 #[test]
-fn bytes_without_listing(rt: HostRuntime) -> Result<(), Fail> {
-    let bytes = [0xd4, 1, 0, 0, 8, 0, 0, 0];
-    match listing(rt.alloc(), &bytes) {
-        Ok(_) => assert!(rt; false, "listed"),
-        Err(fault) => {
-            assert_eq!(rt;
-                fault,
-                ListFault::Insn {
-                    slot: 0,
-                    fault: InsnFault::Imm
-                }
-            );
-        }
+fn too_many_slots(rt: HostRuntime) -> Result<(), Fail> {
+    for (count, want) in [(4096, "32768 bytes"), (4097, "A6 TooLong at line 4097")] {
+        let text = "exit\n".repeat(rt.alloc(), count)?;
+        let found = told(rt.alloc(), text.as_str())?;
+        assert!(rt; found.as_str() == want, "{found}");
     }
-    let wide = [
-        0x95, 0, 0, 0, 0, 0, 0, 0, 0x18, 0, 0, 0, 0, 0, 0, 0, 1, 0, 0, 0, 0, 0, 0, 0,
-    ];
-    match listing(rt.alloc(), &wide) {
-        Ok(_) => assert!(rt; false, "listed"),
-        Err(fault) => {
-            assert_eq!(rt;
-                fault,
-                ListFault::Insn {
-                    slot: 1,
-                    fault: InsnFault::SecondHalf
-                }
-            );
-        }
+    Ok(())
+}
+
+/// Bytes that have no listing, and why.
+const UNLISTED: [(&[u8], &str); 2] = [
+    (&[0xd4, 1, 0, 0, 8, 0, 0, 0], "I5 Imm at slot 0"),
+    (
+        &[
+            0x95, 0, 0, 0, 0, 0, 0, 0, 0x18, 0, 0, 0, 0, 0, 0, 0, 1, 0, 0, 0, 0, 0, 0, 0,
+        ],
+        "I7 SecondHalf at slot 1",
+    ),
+];
+
+/// The listing of bytes, or its printed fault.
+fn listed(alloc: Global, bytes: &[u8]) -> Result<String, Fail> {
+    let told = match listing(alloc, bytes) {
+        Ok(lines) => lines,
+        Err(fault) => format!(in alloc; "{fault}")?,
+    };
+    Ok(told)
+}
+
+#[test]
+fn bytes_without_listing(rt: HostRuntime) -> Result<(), Fail> {
+    for (bytes, want) in UNLISTED {
+        let found = listed(rt.alloc(), bytes)?;
+        assert!(rt; found.as_str() == want, "{want}: {found}");
     }
     Ok(())
 }
 
 #[test]
 fn printed_faults(rt: HostRuntime) -> Result<(), Fail> {
-    let range = AsmFault::At {
-        line: 1,
-        kind: AsmFaultKind::Range,
-    };
-    assert_eq!(rt; range.to_string(rt.alloc())?.as_str(), "A5 Range at line 1");
     let memory = AsmFault::Memory;
     assert_eq!(rt; memory.to_string(rt.alloc())?.as_str(), "A7 Memory");
     let insn = ListFault::Insn {
