@@ -1,0 +1,76 @@
+//! How many slots the code of each test takes in each sense, and that no jump leads to a jump.
+
+use crate::told::{program, shape};
+use bpf_insn::Insn;
+use bpf_verify::Verified;
+use flow_check::jump_target;
+use std::alloc::Global;
+use std::test::Fail;
+
+/// The slots of the condition, and those of its opposite. A rule with one `when` has 6 more.
+const ROWS: &str = r#"
+2 2 | bucket < 1
+2 2 | today == 4294967295
+2 2 | installed != 0
+4 4 | bucket(1) >= 5000
+2 3 | flag ping
+11 11 | version < 1.2.3.4
+11 11 | version <= 1.2.3.4
+8 8 | version == 1.2.3.4
+8 8 | version != 1.2.3.4
+11 11 | version >= 1
+11 11 | version > 4294967295.4294967295.4294967295.4294967295
+6 6 | attr ap is ""
+7 7 | attr ap is "a"
+7 7 | attr ap is "abcd"
+8 8 | attr ap is "abcde"
+22 22 | attr ap is "aaaaaaaaaaaaaaaaaaaaaaaaaaaaaaaaaaaaaaaaaaaaaaaaaaaaaaaaaaaaaaaa"
+7 7 | take(q, 0)
+4 4 | bucket < 1 and bucket < 2
+6 6 | bucket < 1 and (bucket < 2 or not bucket < 3)
+19 19 | version < 2 and (flag ping or not flag event) and bucket >= 7 or today < 1
+"#;
+
+fn is_jump(insn: Insn) -> bool {
+    matches!(insn, Insn::Jump { .. } | Insn::JumpIf { .. })
+}
+
+/// Whether the jump at a slot, if one is there, leads to a jump.
+fn leads_to_jump(program: &Verified, slot: usize) -> bool {
+    match program.at(slot) {
+        Some(insn) if slot < 4096 => match jump_target(slot, insn) {
+            Some(target) => program.at(target).is_some_and(|insn| is_jump(insn)),
+            None => false,
+        },
+        _ => false,
+    }
+}
+
+/// The slots of the condition alone.
+fn slots_of(alloc: Global, condition: &str) -> Result<usize, Fail> {
+    let text = format!(in alloc; "when {condition} offer 1; otherwise none;")?;
+    let program = program(alloc, text.as_str(), &shape(alloc)?)?;
+    for slot in 0..program.len() {
+        if leads_to_jump(&program, slot) {
+            return Err(Fail::from("a jump to a jump"));
+        }
+    }
+    Ok(program.len().saturating_sub(6))
+}
+
+fn sizes(alloc: Global, condition: &str) -> Result<String, Fail> {
+    let opposite = format!(in alloc; "not ({condition})")?;
+    let met = slots_of(alloc, condition)?;
+    let unmet = slots_of(alloc, opposite.as_str())?;
+    Ok(format!(in alloc; "{met} {unmet}")?)
+}
+
+#[test]
+fn slots(rt: HostRuntime) -> Result<(), Fail> {
+    for row in ROWS.lines().skip(1) {
+        let (want, condition) = row.split_once(" | ").ok_or("a row of another form")?;
+        let found = sizes(rt.alloc(), condition)?;
+        assert!(rt; found.as_str() == want, "{row}: {found}");
+    }
+    Ok(())
+}
