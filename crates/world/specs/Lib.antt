@@ -10,3 +10,4 @@ pub mod OwnRun
 pub mod Batches
 pub mod Headline
 pub mod Course
+pub mod Texts

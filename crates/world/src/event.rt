@@ -1,9 +1,12 @@
 //! What happens to a world, and what comes of it.
 
+ghost use Rattle.std.specs.Prelude.{Some};
+ghost use Rattle.world.specs.Texts.{fault_text};
+
 use attrs::Attrs;
 use ruleset::Ruleset;
+use std::fmt;
 use std::sync::Arc;
-use thiserror::Error;
 
 /// One event of a world. Workers are numbered from 0.
 #[derive(Drop)]
@@ -42,25 +45,36 @@ pub enum Effect {
 }
 
 /// Why an event is refused; of several the lowest number is answered.
-#[derive(Clone, Copy, Debug, Error, PartialEq, Eq)]
+#[derive(Clone, Copy, Debug, PartialEq, Eq)]
 pub enum WorldFault {
-    /// There is no such worker.
-    #[error("E1 NoWorker")]
+    /// E1: there is no such worker.
     NoWorker,
-    /// A Start, and the worker has a run.
-    #[error("E2 Busy")]
+    /// E2: a Start, and the worker has a run.
     Busy,
-    /// A Step or a Finish, and the worker has no run; or a Step, and its run is done.
-    #[error("E3 Idle")]
+    /// E3: a Step or a Finish, and the worker has no run; or a Step, and its run is done.
     Idle,
-    /// A Start, and the newest ruleset doesn't have the app.
-    #[error("E4 NoApp")]
+    /// E4: a Start, and the newest ruleset doesn't have the app.
     NoApp,
-    /// A Finish, and the run isn't done.
-    #[error("E5 NotDone")]
+    /// E5: a Finish, and the run isn't done.
     NotDone,
-    /// Memory was refused to `World::new`, to the answers of `play` or to a Swap; or an `Arc` that
-    /// a Start or a Swap copies has no room for one more owner.
-    #[error("E6 Memory")]
+    /// E6: memory was refused to `World::new`, to the answers of `play` or to a Swap; or an `Arc`
+    /// that a Start or a Swap copies has no room for one more owner.
     Memory,
 }
+
+impl fmt::Display for WorldFault {
+    ghost output = { λ fault. Some (fault_text fault) };
+
+    fn fmt<W: fmt::Write>(&self, f: &mut fmt::Formatter<W>) -> fmt::Result {
+        f.write_str(match self {
+            WorldFault::NoWorker => "E1 NoWorker",
+            WorldFault::Busy => "E2 Busy",
+            WorldFault::Idle => "E3 Idle",
+            WorldFault::NoApp => "E4 NoApp",
+            WorldFault::NotDone => "E5 NotDone",
+            WorldFault::Memory => "E6 Memory",
+        })
+    }
+}
+
+impl std::error::Error for WorldFault {}

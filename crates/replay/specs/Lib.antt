@@ -1,0 +1,3 @@
+pub mod Acts
+pub mod Replies
+pub mod Replayed
