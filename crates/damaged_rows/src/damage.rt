@@ -1,6 +1,6 @@
-//! Three programs: a lookup in an array of four counters, atomic operations on a counter of 32 bits,
-//! and a take of a quota. Each beginning of their bytes and each change of one byte is judged, and
-//! run where it is accepted.
+//! Three programs: a lookup in an array of four counters, atomic operations on a counter of 32
+//! bits, and a take of a quota. Each beginning of their bytes and each change of one byte is
+//! judged, and run where it is accepted.
 
 use crate::runs::runs_alike;
 use attrs::Attrs;
