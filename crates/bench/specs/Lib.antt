@@ -1,4 +1,3 @@
 pub mod Patterns
-pub mod Fnv
 pub mod Judged
 pub mod Runs

@@ -1,6 +1,7 @@
 -- Runs of one program, one after the other, for ten apps in turn.
 use Rattle.std.specs.Prelude.{◌≡◌, ℕ, ◌+◌, ◌*◌, ◌%◌, List, [], length, Some, None, slice_get}
 use Rattle.attrs.specs.Attributes.{Attributes, plain}
+use Rattle.attrs.specs.Hash.{fnv1a, with_byte}
 use Rattle.cells.specs.declared.event.CellEvent.{CellEvent}
 use Rattle.cells.specs.Events.{AreZeros, IsEvent}
 use Rattle.cells.specs.Grown.{GrewBy}
@@ -8,7 +9,6 @@ use Rattle.bpf_semantics.specs.Program.{ShapedProgram}
 use Rattle.bpf_semantics.specs.State.{opening}
 use Rattle.bpf_semantics.specs.Run.{Ends}
 use Rattle.bench.specs.declared.runs.Tally.{Tally}
-use Rattle.bench.specs.Fnv.{hash_more, hash_of}
 
 abbrev pub bucket_of : ℕ → ℕ
 bucket_of k = 1000 * k + 500
@@ -23,11 +23,11 @@ pub record AreApps (apps : List Attributes) : Type 0 where
   pub each : (k : ℕ) (a : Attributes) → slice_get apps k ≡ Some a → IsApp k a
 
 abbrev pub no_runs : Tally
-no_runs = record { instructions = 0; choices = hash_of [] }
+no_runs = record { instructions = 0; choices = fnv1a [] }
 
 abbrev pub with_run : Tally → ℕ → ℕ → Tally
 with_run t choice count =
-    record { instructions = t.instructions + count; choices = hash_more t.choices choice }
+    record { instructions = t.instructions + count; choices = with_byte t.choices choice }
 
 -- one run for an app, on cells that had some values before it and others after it
 pub record RunsOnce (p : ShapedProgram) (a : Attributes) (before after : List ℕ)

@@ -5,7 +5,7 @@ ghost use Rattle.std.specs.Prelude.{◌≡◌, ◌<◌, ◌≤◌, ◌^◌};
 ghost use Rattle.bench.specs.Patterns as patterns;
 
 use crate::pattern::Pattern;
-use bpf_insn::{AluOp, Bits, Condition, Distance, Insn, LoadKind, Operand, Reg};
+use bpf_insn::{AluOp, Bits, Condition, Distance, Insn, LoadKind, Operand, Reg, Size};
 
 /// Where the bucket stands in the context.
 const BUCKET: u16 = 16;
@@ -21,24 +21,24 @@ fn mov(dst: Reg, imm: u16) -> Insn
     }
 }
 
-/// `and dst, imm`.
-fn and(dst: Reg, imm: u16) -> Insn
-    ensures { result ≡ patterns.and dst imm }
+/// `and dst, imm`, of 64 or 32 bits.
+fn and(bits: Bits, dst: Reg, imm: u16) -> Insn
+    ensures { result ≡ patterns.and bits dst imm }
 {
     Insn::Alu {
-        bits: Bits::Bits64,
+        bits,
         op: AluOp::And,
         dst,
         src: Operand::Imm(imm as i32),
     }
 }
 
-/// `add dst, src`.
-fn add(dst: Reg, src: Reg) -> Insn
-    ensures { result ≡ patterns.add dst src }
+/// `add dst, src`, of 64 or 32 bits.
+fn add(bits: Bits, dst: Reg, src: Reg) -> Insn
+    ensures { result ≡ patterns.add bits dst src }
 {
     Insn::Alu {
-        bits: Bits::Bits64,
+        bits,
         op: AluOp::Add,
         dst,
         src: Operand::Register(src),
@@ -56,6 +56,40 @@ fn load(kind: LoadKind, dst: Reg, place: u16) -> Insn
         src: Reg::R1,
         offset: place as i16,
     }
+}
+
+/// A store to a slot of the stack, of which the highest is slot 0.
+fn store(size: Size, slot: u16, src: Reg) -> Insn
+    requires { slot < 64 }
+    ensures { result ≡ patterns.store size slot src }
+{
+    Insn::Store {
+        size,
+        dst: Reg::R10,
+        src,
+        offset: slot_offset(slot),
+    }
+}
+
+/// A load of all of a slot of the stack.
+fn load_slot(dst: Reg, slot: u16) -> Insn
+    requires { slot < 64 }
+    ensures { result ≡ patterns.load_slot dst slot }
+{
+    Insn::Load {
+        kind: LoadKind::Double,
+        dst,
+        src: Reg::R10,
+        offset: slot_offset(slot),
+    }
+}
+
+/// Where a slot of the stack begins, from the top.
+fn slot_offset(slot: u16) -> i16
+    requires { slot < 64 }
+    ensures { result ≡ patterns.slot_offset slot }
+{
+    -8 * slot as i16 - 8
 }
 
 /// `jge R2, imm`, over so many slots.
@@ -92,17 +126,17 @@ pub fn opening() -> [Insn; 2]
 pub fn closing() -> [Insn; 2]
     ensures { result ≡ patterns.closing }
 {
-    [and(Reg::R0, 63), Insn::Exit]
+    [and(Bits::Bits64, Reg::R0, 63), Insn::Exit]
 }
 
-fn straight_block() -> [Insn; 4]
-    ensures { result ≡ patterns.straight_block }
+fn straight_block(bits: Bits) -> [Insn; 4]
+    ensures { result ≡ patterns.straight_block bits }
 {
     [
-        add(Reg::R0, Reg::R2),
-        and(Reg::R2, 0x7fff),
-        add(Reg::R2, Reg::R0),
-        and(Reg::R0, 0xffff),
+        add(bits, Reg::R0, Reg::R2),
+        and(bits, Reg::R2, 0x7fff),
+        add(bits, Reg::R2, Reg::R0),
+        and(bits, Reg::R0, 0xffff),
     ]
 }
 
@@ -126,10 +160,29 @@ fn diamond(k: u16) -> [Insn; 4]
 {
     [
         jump_from(1000 * (k % 10 + 1), 2),
-        add(Reg::R0, Reg::R2),
+        add(Bits::Bits64, Reg::R0, Reg::R2),
         skip(),
-        and(Reg::R0, 0x7fff),
+        and(Bits::Bits64, Reg::R0, 0x7fff),
     ]
+}
+
+/// Four slots of the stack get the bucket.
+fn filling(k: u16) -> [Insn; 4]
+    requires { k < 16 }
+    ensures { result ≡ patterns.filling k }
+{
+    [
+        store(Size::Double, 4 * k, Reg::R2),
+        store(Size::Double, 4 * k + 1, Reg::R2),
+        store(Size::Double, 4 * k + 2, Reg::R2),
+        store(Size::Double, 4 * k + 3, Reg::R2),
+    ]
+}
+
+fn full_stack_block(k: u16) -> [Insn; 4]
+    ensures { result ≡ patterns.full_stack_block k }
+{
+    if k < 16 { filling(k) } else { diamond(k) }
 }
 
 fn load_block(k: u16) -> [Insn; 4]
@@ -139,7 +192,18 @@ fn load_block(k: u16) -> [Insn; 4]
         load(LoadKind::Byte, Reg::R3, k % 32),
         load(LoadKind::Half, Reg::R4, k % 16 * 2),
         load(LoadKind::Double, Reg::R5, k % 5 * 8),
-        add(Reg::R0, Reg::R5),
+        add(Bits::Bits64, Reg::R0, Reg::R5),
+    ]
+}
+
+fn store_block(k: u16) -> [Insn; 4]
+    ensures { result ≡ patterns.store_block k }
+{
+    [
+        store(Size::Double, k % 64, Reg::R2),
+        load_slot(Reg::R3, k % 64),
+        store(Size::Word, k % 64, Reg::R0),
+        add(Bits::Bits64, Reg::R0, Reg::R3),
     ]
 }
 
@@ -150,9 +214,12 @@ pub fn block(pattern: Pattern, count: u16, k: u16) -> [Insn; 4]
     ensures { result ≡ patterns.block pattern count k }
 {
     match pattern {
-        Pattern::Straight => straight_block(),
+        Pattern::Straight => straight_block(Bits::Bits64),
+        Pattern::Straight32 => straight_block(Bits::Bits32),
         Pattern::OneTarget => one_target_block(count, k),
         Pattern::Diamonds => diamond(k),
+        Pattern::FullStack => full_stack_block(k),
         Pattern::Loads => load_block(k),
+        Pattern::Stores => store_block(k),
     }
 }

@@ -4,12 +4,12 @@ ghost use Rattle.std.specs.Prelude.{◌≡◌, ◌≤◌};
 ghost use Rattle.std.specs.IoError.{error_kind};
 
 use crate::fault::Fault;
-use crate::fnv::hash_of;
 use crate::judge::{verified, verify_times};
 use crate::pattern::Pattern;
 use crate::program::program;
 use crate::request::{Request, Size, request_of};
 use crate::runs::{apps, run_times};
+use attrs::fnv1a;
 use std::alloc::Global;
 use std::convert::AsStr;
 use std::io::{self, ErrorKind, Write};
@@ -24,7 +24,7 @@ const USAGE: u8 = 2;
 
 const USAGE_LINE: &str =
     "usage: bench bytes SLOTS PATTERN, or bench verify|run SLOTS TIMES PATTERN.., \
-    of straight one-target diamonds loads";
+    of straight straight32 one-target diamonds full-stack loads stores";
 
 /// Does what the words ask, the first of which is the program's name.
 pub fn command<S: AsStr, O: Write, E: Write>(
@@ -84,7 +84,7 @@ fn verify_one<O: Write>(
     let bytes = program(alloc, pattern, size.blocks)?;
     verify_times(alloc, &bytes, times)?;
     let slots = bytes.len() / 8;
-    let hash = hash_of(&bytes);
+    let hash = fnv1a(&bytes);
     writeln!(
         out,
         "{pattern} slots={slots} bytes={hash:016x} verifications={times}"
@@ -105,7 +105,7 @@ fn run_one<O: Write>(
     };
     let tally = run_times(alloc, &program, &apps(alloc)?, times)?;
     let slots = bytes.len() / 8;
-    let hash = hash_of(&bytes);
+    let hash = fnv1a(&bytes);
     let instructions = tally.instructions;
     let choices = tally.choices;
     writeln!(

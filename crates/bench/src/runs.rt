@@ -4,8 +4,8 @@ ghost use Rattle.std.specs.Prelude.{◌≡◌, ◌<◌, ◌≤◌, map, length, 
 ghost use Rattle.bench.specs.Runs.{AreApps, AreRuns, IsApp, RunsOnce};
 
 use crate::fault::Fault;
-use crate::fnv::{BASIS, hash_more};
-use attrs::Attrs;
+use crate::fnv::hash_more;
+use attrs::{Attrs, fnv1a};
 use bpf_machine::Run;
 use bpf_verify::Verified;
 use cells::{PlainCells, PlainPass};
@@ -80,7 +80,7 @@ pub fn run_times(
     };
     let mut tally = Tally {
         instructions: 0,
-        choices: BASIS,
+        choices: fnv1a(&[]),
     };
     for n in 0..times {
         let (choice, count) = run_once(program, &apps[n as usize % 10], &cells, &mut pass)?;

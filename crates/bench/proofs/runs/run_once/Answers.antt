@@ -1,4 +1,4 @@
-use Rattle.std.proofs.Common.{◌≡◌, ◌∙◌, ℕ, List, subst}
+use Rattle.std.proofs.Common.{◌≡◌, ◌∙◌, List, subst}
 use Rattle.cells.specs.declared.event.CellEvent.{CellEvent}
 use Rattle.attrs.specs.Attributes.{Attributes}
 use Rattle.bpf_semantics.specs.Program.{ShapedProgram}
