@@ -1,15 +1,11 @@
--- A rule that is read fits its shape: each of its arrays, indexes and releases was asked for.
+-- A rule that is read fits its shape: each of its parts does.
 use Rattle.std.proofs.Common.{◌≡◌, ℕ, zero, suc, ◌-◌, List, [], ◌∷◌, ◌++◌, replicate}
 use Rattle.std.proofs.Common.{Option, Some, None}
-use Rattle.std.proofs.Common.{Ok, Err, Bool, true, false, if◌then◌else◌, refl, sym, ap, ◌∙◌, subst}
-use Rattle.std.specs.Prelude.{not, is_some, nat_lt}
+use Rattle.std.proofs.Common.{Ok, Err, Bool, true, false, if◌then◌else◌, refl, ap, ◌∙◌, subst}
 use Rattle.std.specs.Cmp.Derive.{both_true}
 use Rattle.std.specs.List.{list_all}
-use Rattle.std.specs.Str.{bytes_eq}
 use Rattle.std.proofs.lemmas.List.Folds.{list_all-append}
-use Rattle.std.proofs.lemmas.Slice.Eq.{bytes_eq-Decides}
 use Rattle.cells.specs.Arrays.{AppShape}
-use Rattle.cells.specs.declared.array.CellArray.{CellArray}
 use Rattle.rule_lang.specs.declared.condition.Step.TheVariants as step
 use Rattle.rule_lang.specs.declared.draft.Mode.{Mode}
 use Rattle.rule_lang.specs.declared.draft.Mode.TheVariants as mode
@@ -19,174 +15,30 @@ use Rattle.rule_lang.specs.declared.keyword.Keyword.TheVariants as keyword
 use Rattle.rule_lang.specs.declared.phrase.TheConstants.{COUNT, OFFER, OTHERWISE}
 use Rattle.rule_lang.specs.declared.phrase.Want.{Want}
 use Rattle.rule_lang.specs.declared.rule.Statement.{Statement}
-use Rattle.rule_lang.specs.declared.rule.Statement.TheVariants.{Count, When}
+use Rattle.rule_lang.specs.declared.rule.Statement.TheVariants.{When}
 use Rattle.rule_lang.specs.declared.test.Test.{Test}
-use Rattle.rule_lang.specs.declared.test.Test.TheVariants as test
 use Rattle.rule_lang.specs.declared.token.Token.TheVariants as token
-use Rattle.rule_lang.specs.Drafts.{Pending, begin, denied, opened, joined, parted, fact_done}
-use Rattle.rule_lang.specs.Drafts.{term_done, and_step, or_step, closed_to, is_empty}
-use Rattle.rule_lang.specs.Fits.{can_take, can_count, is_release, test_fits, step_fits}
+use Rattle.rule_lang.specs.Reader.Drafts.{Pending, begin, denied, opened, joined, parted, fact_done}
+use Rattle.rule_lang.specs.Reader.Drafts.{term_done, and_step, or_step, closed_to, is_empty}
+use Rattle.rule_lang.specs.Fits.{is_release, test_fits, step_fits}
 use Rattle.rule_lang.specs.Fits.{statement_fits, fits}
 use Rattle.rule_lang.specs.Lexed.{Placed}
-use Rattle.rule_lang.specs.Parts.{OrFault, ◌>>?◌, part, number, salt, version, flag, attribute}
-use Rattle.rule_lang.specs.Parts.{array, array_if, index, release, within, unknown, same}
-use Rattle.rule_lang.specs.Parts.{out_of_range, relation}
+use Rattle.rule_lang.specs.Parts.{OrFault, ◌>>?◌, part}
+use Rattle.rule_lang.specs.Parts.{release}
+use Rattle.rule_lang.specs.Parts.{out_of_range}
 use Rattle.rule_lang.specs.Phrases.{behind, misplaced, test_phrase}
-use Rattle.rule_lang.specs.Reading.{Draft, Next, with_fault_if, in_mode, with_condition}
-use Rattle.rule_lang.specs.Reading.{count_of, counted, statement_next, too_deep, with_test}
-use Rattle.rule_lang.specs.Reading.{test_next}
-use Rattle.rule_lang.specs.Reading.{fact_next, closed_next, offered, offer_next, operator_next}
-use Rattle.rule_lang.specs.Reading.{unless_noted, next_in, next, first_draft, verdict}
-use Rattle.rule_lang.specs.Reading.{Reads, ended, refused, goes_on}
-use Rattle.rule_lang.specs.Shapes.{array_named}
-use Rattle.rule_lang.specs.Tests.{test_by, test_of, take_test, salted_test}
-use Rattle.rule_lang.specs.Tests.{attr_test, literal}
+use Rattle.rule_lang.specs.Reader.Reading.{Draft, Next, with_fault_if, in_mode, with_condition}
+use Rattle.rule_lang.specs.Reader.Reading.{counted, statement_next, too_deep, with_test}
+use Rattle.rule_lang.specs.Reader.Reading.{test_next}
+use Rattle.rule_lang.specs.Reader.Reading.{fact_next, closed_next, offered, offer_next}
+use Rattle.rule_lang.specs.Reader.Reading.{operator_next}
+use Rattle.rule_lang.specs.Reader.Reading.{unless_noted, next_in, next, first_draft, verdict}
+use Rattle.rule_lang.specs.Reader.Reading.{Reads, ended, refused, goes_on}
+use Rattle.rule_lang.specs.Says.{count_of}
+use Rattle.rule_lang.specs.Tests.{test_of}
 use Rattle.rule_lang.specs.Tokens.{Token}
 use Rattle.rule_lang.proofs.Keeping.{same_ok, no_ok, bound}
-
--- ---- arrays by their names
-
-named_is : (name : List ℕ) (arrays : List CellArray) (a : CellArray)
-    → array_named name arrays ≡ Some a → a.name ≡ name
-named_is name [] a is = absurd cc
-named_is name (b ∷ rest) a is = by_name (bytes_eq b.name name) refl (λ h. named_is name rest a h)
-  where
-    by_name : (t : Bool) → bytes_eq b.name name ≡ t
-        → (array_named name rest ≡ Some a → a.name ≡ name) → a.name ≡ name
-    by_name true e go =
-        let found : Some b ≡ Some a = ap (λ (t : Bool). if t then Some b else array_named name rest)
-        (sym e) ∙ is in
-        let eq : b ≡ a = cc in
-        sym (ap (λ (c : CellArray). c.name) eq) ∙ (bytes_eq-Decides b.name name).0 e
-    by_name false e go =
-        go (ap (λ (t : Bool). if t then Some b else array_named name rest) (sym e) ∙ is)
-
--- an array that a name finds is found by its own name
-named_again : (name : List ℕ) (arrays : List CellArray) (a : CellArray)
-    → array_named name arrays ≡ Some a → array_named a.name arrays ≡ Some a
-named_again name arrays a is =
-    ap (λ (n : List ℕ). array_named n arrays) (named_is name arrays a is) ∙ is
-
-record Found (s : AppShape) (quota : Bool) (a : CellArray) : Type 0 where
-  named : array_named a.name s.arrays ≡ Some a
-  kind : same (is_some a.quota) quota ≡ true
-
-array_is : (s : AppShape) (quota : Bool) (p : Placed) (name : List ℕ) (o : Option CellArray)
-    (a : CellArray) → array_named name s.arrays ≡ o → array_if quota p o ≡ Ok a → Found s quota a
-array_is s quota p name None a is h = absurd (no_ok (unknown p) a h)
-array_is s quota p name (Some b) a is h = by_kind (same (is_some b.quota) quota) refl
-  where
-    by_kind : (t : Bool) → same (is_some b.quota) quota ≡ t → Found s quota a
-    by_kind true e =
-        let given : ◌≡◌ {A = OrFault CellArray} (Ok b) (Ok a) = ap (λ (t : Bool). if t then Ok b
-        else Err (unknown p)) (sym e) ∙ h in
-        subst (λ (c : CellArray). Found s quota c) (same_ok b a given) (record {
-          named = named_again name s.arrays b is;
-          kind = e;
-        })
-    by_kind false e = absurd (no_ok (unknown p) a (ap (λ (t : Bool). if t then Ok b else
-        Err (unknown p)) (sym e) ∙ h))
-
-array_found : (s : AppShape) (quota : Bool) (p : Placed) (a : CellArray)
-    → array s quota p ≡ Ok a → Found s quota a
-array_found s quota p a h = array_is s quota p _ _ a refl h
-
--- ---- numbers
-
-within_is : (holds : ℕ → Bool) (p : Placed) (n m : ℕ) → within holds p n ≡ Ok m → holds m ≡ true
-within_is holds p n m h = by_test (holds n) refl
-  where
-    by_test : (t : Bool) → holds n ≡ t → holds m ≡ true
-    by_test true e =
-        let given : ◌≡◌ {A = OrFault ℕ} (Ok n) (Ok m) = ap (λ (t : Bool). if t then Ok n else
-        Err (out_of_range p)) (sym e) ∙ h in
-        subst (λ (k : ℕ). holds k ≡ true) (same_ok n m given) e
-    by_test false e = absurd (no_ok (out_of_range p) m (ap (λ (t : Bool). if t then Ok n else
-        Err (out_of_range p)) (sym e) ∙ h))
-
-index_is : (a : CellArray) (p : Placed) (i : ℕ) → index a p ≡ Ok i → nat_lt i a.length ≡ true
-index_is a p i h =
-    let b = bound (number p) (λ n. within (λ n. nat_lt n a.length) p n) i h in
-    within_is (λ n. nat_lt n a.length) p b.value i b.after
-
-release_is : (s : AppShape) (p : Placed) (k : ℕ) → release s p ≡ Ok k → is_release s k ≡ true
-release_is s p k h =
-    let b = bound (number p) (λ n. within (is_release s) p n) k h in
-    within_is (is_release s) p b.value k b.after
-
--- ---- what is read fits
-
--- of what is read, where nothing is wrong with it
-abbrev IfRead : {A : Type 0} → (A → Bool) → OrFault A → Type 0
-IfRead holds (Ok x) = holds x ≡ true
-IfRead holds (Err e) = Unit {0}
-
-each : {A B : Type 0} (holds : B → Bool) (o : OrFault A) (f : A → OrFault B)
-    → ((x : A) → o ≡ Ok x → IfRead holds (f x)) → IfRead holds (o >>? f)
-each holds (Ok x) f h = h x refl
-each holds (Err e) f h = tt
-
-counts : (s : AppShape) (a : CellArray) (i : ℕ) → Found s false a → nat_lt i a.length ≡ true
-    → can_count (array_named a.name s.arrays) i ≡ true
-counts s a i f lt = subst (λ (o : Option CellArray). can_count o i ≡ true) (sym f.named) (both_true
-    (without (is_some a.quota) f.kind) lt)
-  where
-    without : (b : Bool) → same b false ≡ true → not b ≡ true
-    without true h = absurd cc
-    without false h = refl
-
-takes : (s : AppShape) (a : CellArray) (i : ℕ) → Found s true a → nat_lt i a.length ≡ true
-    → can_take (array_named a.name s.arrays) i ≡ true
-takes s a i f lt = subst (λ (o : Option CellArray). can_take o i ≡ true) (sym f.named) (both_true
-    (with_one (is_some a.quota) f.kind) lt)
-  where
-    with_one : (b : Bool) → same b true ≡ true → b ≡ true
-    with_one true h = refl
-    with_one false h = absurd cc
-
-count_fits : (s : AppShape) (ts : List Placed) → IfRead (statement_fits s) (count_of s ts)
-count_fits s ts = each (statement_fits s) (array s false (part ts 1)) (λ a. index a (part ts 3)
-    >>? λ i. Ok (Count a.name i)) (λ a h. each (statement_fits s) (index a (part ts 3)) (λ i. Ok
-    (Count a.name i)) (λ i k. counts s a i (array_found s false (part ts 1) a h) (index_is a (part
-    ts 3) i k)))
-
-take_fits : (s : AppShape) (ts : List Placed) → IfRead (test_fits s) (take_test s ts)
-take_fits s ts = each (test_fits s) (array s true (part ts 2)) (λ a. index a (part ts 4)
-    >>? λ i. Ok (test.Take a.name i)) (λ a h. each (test_fits s) (index a (part ts 4)) (λ i. Ok
-    (test.Take a.name i)) (λ i k. takes s a i (array_found s true (part ts 2) a h) (index_is a (part
-    ts 4) i k)))
-
--- every other test does
-free : {A : Type 0} (s : AppShape) (o : OrFault A) (f : A → Test) → ((x : A) → test_fits s (f x)
-    ≡ true) → IfRead (test_fits s) (o >>? λ x. Ok (f x))
-free s (Ok x) f h = h x
-free s (Err e) f h = tt
-
-salted_fits : (s : AppShape) (ts : List Placed) → IfRead (test_fits s) (salted_test ts)
-salted_fits s ts = each (test_fits s) (salt (part ts 2)) (λ n. number (part ts 5) >>? λ m. Ok
-    (test.SaltedBucket n (relation (part ts 4)) m)) (λ n h. free s (number (part ts 5)) (λ m.
-    test.SaltedBucket n (relation (part ts 4)) m) (λ m. refl))
-
-attr_fits : (s : AppShape) (ts : List Placed) → IfRead (test_fits s) (attr_test ts)
-attr_fits s ts = each (test_fits s) (attribute (part ts 1)) (λ a. literal (part ts 3) >>? λ text.
-    Ok (test.Attr a text)) (λ a h. free s (literal (part ts 3)) (λ text. test.Attr a text) (λ text.
-    refl))
-
-by_words : (s : AppShape) (ts : List Placed) (first second : Token)
-    → IfRead (test_fits s) (test_by s ts first second)
-by_words s ts (token.Keyword keyword.Version) t =
-    free s (version (part ts 2)) (λ v. test.Version (relation (part ts 1)) v) (λ v. refl)
-by_words s ts (token.Keyword keyword.Bucket) token.Open = salted_fits s ts
-by_words s ts (token.Keyword keyword.Bucket) t =
-    free s (number (part ts 2)) (λ n. test.Bucket (relation (part ts 1)) n) (λ n. refl)
-by_words s ts (token.Keyword keyword.Today) t =
-    free s (number (part ts 2)) (λ n. test.Today (relation (part ts 1)) n) (λ n. refl)
-by_words s ts (token.Keyword keyword.Installed) t =
-    free s (number (part ts 2)) (λ n. test.Installed (relation (part ts 1)) n) (λ n. refl)
-by_words s ts (token.Keyword keyword.Flag) t = free s (flag (part ts 1)) (λ f. test.Flag f) (λ f.
-    refl)
-by_words s ts (token.Keyword keyword.Attr) t = attr_fits s ts
-by_words s ts t u = take_fits s ts
+use Rattle.rule_lang.proofs.FittingParts.{release_is, IfRead, count_fits, by_words}
 
 -- ---- what a rule so far keeps
 

@@ -1,5 +1,7 @@
 -- Each phrase leaves a rule that is read sound, and some of the tokens.
-use Rattle.std.proofs.Common.{◌≡◌, ℕ, suc, zero, ◌+◌, ◌-◌, ◌≤◌, List, [], ◌∷◌, ◌++◌, length, drop, Option, Some, None, Ok, Err, Bool, true, false, if◌then◌else◌, refl, sym, ap, ◌∙◌, arith, subst, ◌⊎◌, inl, inr}
+use Rattle.std.proofs.Common.{◌≡◌, ℕ, suc, zero, ◌+◌, ◌-◌, ◌≤◌, List, [], ◌∷◌, ◌++◌, length, drop}
+use Rattle.std.proofs.Common.{Option, Some, None, Ok, Err, Bool, true, false, if◌then◌else◌, refl}
+use Rattle.std.proofs.Common.{sym, ap, ◌∙◌, arith, subst, ◌⊎◌, inl, inr}
 use Rattle.cells.specs.Arrays.{AppShape}
 use Rattle.rule_lang.specs.declared.condition.Step.TheVariants as step
 use Rattle.rule_lang.specs.declared.draft.Mode.{Mode}
@@ -13,14 +15,22 @@ use Rattle.rule_lang.specs.declared.phrase.Want.{Want}
 use Rattle.rule_lang.specs.declared.rule.Statement.{Statement}
 use Rattle.rule_lang.specs.declared.test.Test.{Test}
 use Rattle.rule_lang.specs.declared.token.Token.TheVariants as token
-use Rattle.rule_lang.specs.Drafts.{Pending, first_frame, begin, denied, opened, joined, parted, closed_to, fact_done, term_done, is_empty, or_step}
+use Rattle.rule_lang.specs.Reader.Drafts.{Pending, first_frame, begin, denied, opened, joined}
+use Rattle.rule_lang.specs.Reader.Drafts.{parted, closed_to, fact_done, term_done, is_empty}
+use Rattle.rule_lang.specs.Reader.Drafts.{or_step}
 use Rattle.rule_lang.specs.declared.lexer.Placed as the_placed
 use Rattle.rule_lang.specs.Lexed.{Placed}
 use Rattle.rule_lang.specs.Named.{Bytes, placed_all}
 use Rattle.rule_lang.specs.Parts.{OrFault, ◌>>?◌, part, out_of_range, release}
 use Rattle.rule_lang.specs.Phrases.{behind, misplaced, test_phrase, takes}
-use Rattle.rule_lang.specs.Reading.{Draft, Next, first_of, with_fault_if, in_mode, with_condition, count_of, counted, statement_next, too_deep, with_test, test_next, fact_next, closed_next, offered, offer_next, operator_next, next_in, next, is_done, verdict, Reads, ended, refused}
-use Rattle.rule_lang.specs.Sound.{HasTrees, one_if, all_waiting, IsSoundAfter, IsSoundIn, IsSound}
+use Rattle.rule_lang.specs.Reader.Reading.{Draft, Next, first_of, with_fault_if, in_mode}
+use Rattle.rule_lang.specs.Reader.Reading.{with_condition, counted, statement_next, too_deep}
+use Rattle.rule_lang.specs.Reader.Reading.{with_test, test_next, fact_next, closed_next, offered}
+use Rattle.rule_lang.specs.Reader.Reading.{offer_next, operator_next, next_in, next, is_done}
+use Rattle.rule_lang.specs.Reader.Reading.{verdict, Reads, ended, refused}
+use Rattle.rule_lang.specs.Says.{count_of}
+use Rattle.rule_lang.specs.Reader.Sound.{HasTrees, one_if, all_waiting, IsSoundAfter, IsSoundIn}
+use Rattle.rule_lang.specs.Reader.Sound.{IsSound}
 use Rattle.rule_lang.specs.Tests.{test_of}
 use Rattle.rule_lang.specs.Tokens.{Token}
 use Rattle.rule_lang.proofs.Sounds.{recount, test_added, or_ended, fact_sound}
@@ -49,7 +59,8 @@ pub record Bound {A B : Type 0} (o : OrFault A) (f : A → OrFault B) (b : B) : 
   pub first : o ≡ Ok value
   pub after : f value ≡ Ok b
 
-pub bound : {A B : Type 0} (o : OrFault A) (f : A → OrFault B) (b : B) → (o >>? f) ≡ Ok b → Bound o f b
+pub bound : {A B : Type 0} (o : OrFault A) (f : A → OrFault B) (b : B) → (o >>? f) ≡ Ok b
+    → Bound o f b
 bound (Ok a) f b h = record { value = a; first = refl; after = h }
 bound (Err e) f b h = absurd (no_ok e b h)
 
@@ -99,7 +110,7 @@ kept ts p q h k = subst (λ (r : Draft × List Placed). Keeps ts r) (same_ok p q
 in_statement : (d : Draft) → d.mode ≡ mode.Statement → IsSound d
 in_statement d e = λ clean. subst (λ (m : Mode). IsSoundIn m d.condition) (sym e) tt
 
-mode_counted : (o : OrFault Statement) (d : Draft) → (counted o d).mode ≡ d.mode
+pub mode_counted : (o : OrFault Statement) (d : Draft) → (counted o d).mode ≡ d.mode
 mode_counted (Ok statement) d = refl
 mode_counted (Err e) d = refl
 
@@ -179,7 +190,7 @@ in_fact d e h = λ clean. subst (λ (m : Mode). IsSoundIn m d.condition) e (h cl
 to_fact : (d : Draft) → d.mode ≡ mode.Fact → FactSound d → IsSound d
 to_fact d e h = λ clean. subst (λ (m : Mode). IsSoundIn m d.condition) (sym e) (h clean)
 
-mode_noted : (b : Bool) (e : RuleFault) (d : Draft) → (with_fault_if b e d).mode ≡ d.mode
+pub mode_noted : (b : Bool) (e : RuleFault) (d : Draft) → (with_fault_if b e d).mode ≡ d.mode
 mode_noted true e d = refl
 mode_noted false e d = refl
 

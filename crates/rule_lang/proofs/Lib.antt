@@ -5,4 +5,17 @@ pub mod Sounds
 pub mod Keeping
 pub mod Parsing
 pub mod Laws
+pub mod FittingParts
 pub mod Fitting
+pub mod Machine
+pub mod StepsBack
+pub mod Completions
+pub mod Takes
+pub mod Led
+pub mod Modes
+pub mod Outcomes
+pub mod Noted
+pub mod Adds
+pub mod TestValues
+pub mod Values
+pub mod RuleValues

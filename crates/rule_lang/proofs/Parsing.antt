@@ -3,9 +3,10 @@ use Rattle.std.proofs.Common.{◌≡◌, ◌≤◌, inl, inr, List, length, Resu
 use Rattle.cells.specs.Arrays.{AppShape}
 use Rattle.rule_lang.specs.declared.fault.RuleFault.{RuleFault}
 use Rattle.rule_lang.specs.Lexed.{Placed, tokens_in, IsTokenFault}
-use Rattle.rule_lang.specs.Results.{IsReadFault}
+use Rattle.rule_lang.specs.Reader.Results.{IsReadFault}
 use Rattle.rule_lang.specs.Tokens.{Text}
-use Rattle.rule_lang.specs.Verdicts.{IsRuleFault, no_token, read}
+use Rattle.rule_lang.specs.Verdicts.{IsRuleFault, no_token}
+use Rattle.rule_lang.proofs.Laws.{spelled}
 
 pub token_fault : (s : AppShape) (text : Text) (e : RuleFault) → length text ≤ 65536
     → IsTokenFault text e → IsRuleFault s text e
@@ -15,7 +16,7 @@ token_fault s text e short (inr h) = inr (no_token short h)
 pub read_fault : (s : AppShape) (text : Text) (ts : List Placed) (e : RuleFault)
     → length text ≤ 65536 → tokens_in text ≡ Ok ts → IsReadFault s ts e → IsRuleFault s text e
 read_fault s text ts e short lexed (inl m) = inl m
-read_fault s text ts e short lexed (inr h) = inr (read short lexed h)
+read_fault s text ts e short lexed (inr h) = inr (spelled s text ts (Err e) short lexed h)
 
 pub ok_then : {A E : Type 0} (r : Result A E) (P Q : A → Type 0) → ((a : A) → P a → Q a)
     → IfOk r P → IfOk r Q

@@ -1,12 +1,15 @@
 -- The steps of a rule that is read make as many trees as are still to be joined.
-use Rattle.std.proofs.Common.{◌≡◌, ℕ, suc, zero, ◌+◌, List, [], ◌∷◌, ◌++◌, length, replicate, Option, Some, None, Bool, true, false, if◌then◌else◌, refl, sym, ap, ◌∙◌, arith, append_assoc, append-nil, subst}
+use Rattle.std.proofs.Common.{◌≡◌, ℕ, suc, zero, ◌+◌, List, [], ◌∷◌, ◌++◌, length, replicate}
+use Rattle.std.proofs.Common.{Option, Some, None, Bool, true, false, if◌then◌else◌, refl, sym, ap}
+use Rattle.std.proofs.Common.{◌∙◌, arith, append_assoc, append-nil, subst}
 use Rattle.std.specs.Option.{option_and_then}
 use Rattle.rule_lang.specs.declared.condition.Step.{Step}
 use Rattle.rule_lang.specs.declared.condition.Step.TheVariants as step
 use Rattle.rule_lang.specs.declared.test.Test.{Test}
-use Rattle.rule_lang.specs.Drafts.{Pending, and_step, or_step, fact_done}
-use Rattle.rule_lang.specs.Sound.{HasTrees, one_if, all_waiting, IsSoundAfter}
-use Rattle.rule_lang.specs.Trees.{Tree, Asked, Negated, Both, Either, with_step, trees_from, IsCondition}
+use Rattle.rule_lang.specs.Reader.Drafts.{Pending, and_step, or_step, fact_done}
+use Rattle.rule_lang.specs.Reader.Sound.{HasTrees, one_if, all_waiting, IsSoundAfter}
+use Rattle.rule_lang.specs.Trees.{Tree, Asked, Negated, Both, Either, with_step, trees_from}
+use Rattle.rule_lang.specs.Trees.{IsCondition}
 
 trees_by : (xs ys : List Step) (o : Option (List Tree)) → ((us : List Tree)
     → trees_from us (xs ++ ys) ≡ option_and_then (λ vs. trees_from vs ys) (trees_from us xs))

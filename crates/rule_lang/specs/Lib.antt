@@ -7,13 +7,11 @@ pub mod Fits
 pub mod Words
 pub mod Tokens
 pub mod Lexed
+pub mod Reader
 pub mod Named
 pub mod Phrases
 pub mod Parts
 pub mod Tests
-pub mod Results
-pub mod Drafts
-pub mod Reading
-pub mod Sound
-pub mod Advances
+pub mod Grammar
+pub mod Says
 pub mod Verdicts

@@ -18,7 +18,8 @@ use Rattle.rule_lang.specs.declared.rule.Statement.TheVariants.{Count, When}
 use Rattle.rule_lang.specs.declared.test.Attribute.{Attribute}
 use Rattle.rule_lang.specs.declared.test.Attribute.TheVariants as attribute
 use Rattle.rule_lang.specs.declared.test.Flag as the_flag
-use Rattle.rule_lang.specs.declared.test.Flag.TheVariants.{VersionKnown, Updatecheck, Ping, Event, CohortKnown, InstalldateKnown}
+use Rattle.rule_lang.specs.declared.test.Flag.TheVariants.{VersionKnown, Updatecheck, Ping, Event}
+use Rattle.rule_lang.specs.declared.test.Flag.TheVariants.{CohortKnown, InstalldateKnown}
 use Rattle.rule_lang.specs.declared.test.Relation.{Relation}
 use Rattle.rule_lang.specs.declared.test.Relation.TheVariants.{Lt, Le, Eq, Ne, Ge, Gt}
 use Rattle.rule_lang.specs.declared.test.Test as the_test

@@ -3,8 +3,8 @@ use Rattle.std.specs.Prelude.{◌≡◌, ℕ, List, [], ◌∷◌, ◌++◌, map
 use Rattle.std.specs.Borrow.{Bor}
 use Rattle.rule_lang.specs.declared.draft.Draft as the_draft
 use Rattle.rule_lang.specs.declared.pending.Pending as the_pending
-use Rattle.rule_lang.specs.Reading.{Draft}
-use Rattle.rule_lang.specs.Drafts.{Pending}
+use Rattle.rule_lang.specs.Reader.Reading.{Draft}
+use Rattle.rule_lang.specs.Reader.Drafts.{Pending}
 use Rattle.rule_lang.specs.declared.token.Piece as the_piece
 use Rattle.rule_lang.specs.declared.token.Piece.TheVariants as piece
 use Rattle.rule_lang.specs.declared.token.Token as the_token

@@ -1,6 +1,7 @@
 -- What the tokens of a phrase say: numbers within their limits (or L4), and names that are known
 -- (or L3). The fault has the line of its token.
-use Rattle.std.specs.Prelude.{ℕ, ◌^◌, List, [], Option, Some, None, is_some, Result, Ok, Err, slice_index_or}
+use Rattle.std.specs.Prelude.{ℕ, ◌^◌, List, [], Option, Some, None, is_some, Result, Ok, Err}
+use Rattle.std.specs.Prelude.{slice_index_or}
 use Rattle.std.specs.Prelude.{Bool, true, false, nat_le, nat_lt, if◌then◌else◌}
 use Rattle.std.specs.Str.Parse.{digits_value}
 use Rattle.attrs.specs.Version.{version_of}

@@ -5,7 +5,8 @@ use Rattle.rule_lang.specs.declared.fault.RuleFault.{RuleFault}
 use Rattle.rule_lang.specs.declared.fault.RuleFault.TheVariants as fault
 use Rattle.rule_lang.specs.declared.fault.RuleFaultKind.TheVariants as kind
 use Rattle.rule_lang.specs.declared.keyword.Keyword.TheVariants as keyword
-use Rattle.rule_lang.specs.declared.phrase.TheConstants.{VERSION, BUCKET, SALTED, TODAY, INSTALLED, FLAG, ATTR, TAKE}
+use Rattle.rule_lang.specs.declared.phrase.TheConstants.{VERSION, BUCKET, SALTED, TODAY}
+use Rattle.rule_lang.specs.declared.phrase.TheConstants.{INSTALLED, FLAG, ATTR, TAKE}
 use Rattle.rule_lang.specs.declared.phrase.Want.{Want}
 use Rattle.rule_lang.specs.declared.phrase.Want.TheVariants as want
 use Rattle.rule_lang.specs.declared.token.Token.TheVariants as token

@@ -7,7 +7,8 @@ use Rattle.rule_lang.specs.declared.test.Test.TheVariants as test
 use Rattle.rule_lang.specs.declared.token.Token.TheVariants as token
 use Rattle.rule_lang.specs.Lexed.{Placed}
 use Rattle.rule_lang.specs.Literals.{is_literal}
-use Rattle.rule_lang.specs.Parts.{OrFault, ◌>>?◌, part, text_of, relation, salt, number, version, flag, attribute, array, index, out_of_range}
+use Rattle.rule_lang.specs.Parts.{OrFault, ◌>>?◌, part, text_of, relation, salt, number, version}
+use Rattle.rule_lang.specs.Parts.{flag, attribute, array, index, out_of_range}
 use Rattle.rule_lang.specs.Tokens.{Token}
 
 abbrev pub version_test : List Placed → OrFault Test

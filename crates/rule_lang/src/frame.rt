@@ -1,7 +1,7 @@
 //! The openers of a condition that aren't closed yet.
 
 ghost use Rattle.std.specs.Prelude.{◌≡◌, [], ◌∷◌, OnOk};
-ghost use Rattle.rule_lang.specs.Drafts as drafts;
+ghost use Rattle.rule_lang.specs.Reader.Drafts as drafts;
 
 use std::alloc::{AllocError, Global};
 use std::marker::Model;

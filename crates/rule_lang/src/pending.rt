@@ -1,7 +1,7 @@
 //! A condition that is read up to some token: its steps so far, and what is still to be joined.
 
 ghost use Rattle.std.specs.Prelude.{◌≡◌, ◌++◌, ◌∷◌, [], OnOk, replicate, if◌then◌else◌};
-ghost use Rattle.rule_lang.specs.Drafts as drafts;
+ghost use Rattle.rule_lang.specs.Reader.Drafts as drafts;
 ghost use Rattle.rule_lang.specs.Named.{seen};
 ghost use Rattle.rule_lang.specs.declared.condition.Step.TheVariants as step;
 

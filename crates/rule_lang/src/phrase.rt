@@ -1,6 +1,7 @@
 //! Phrases: tokens that stand in one order, as `offer` number `;`.
 
-ghost use Rattle.std.specs.Prelude.{◌≡◌, ◌≤◌, ◌+◌, length, option_copied, IfOk, IfErr, IfSome, Ok, Err};
+ghost use Rattle.std.specs.Prelude.{◌≡◌, ◌≤◌, ◌+◌, length, option_copied, IfOk, IfErr, IfSome};
+ghost use Rattle.std.specs.Prelude.{Ok, Err};
 ghost use Rattle.rule_lang.specs.Named.{token_named, placed_all};
 ghost use Rattle.rule_lang.specs.Phrases as phrases;
 

@@ -5,11 +5,12 @@ ghost use Rattle.std.specs.Prelude.{◌≡◌, ◌<◌, length, IfOk, ◌≤◌,
 ghost use Rattle.rule_lang.specs.Named.{token_named, placed_named, placed_all, seen, draft_seen};
 ghost use Rattle.rule_lang.specs.Parts as parts;
 ghost use Rattle.rule_lang.specs.Parts.{out_of_range as out_of};
-ghost use Rattle.rule_lang.specs.Reading as reading;
+ghost use Rattle.rule_lang.specs.Reader.Reading as reading;
+ghost use Rattle.rule_lang.specs.Says as says;
 ghost use Rattle.rule_lang.specs.Tests as tests;
-ghost use Rattle.rule_lang.specs.Advances.{Advances};
-ghost use Rattle.rule_lang.specs.Results.{IsFaultOf, IsReadFault, LeadsTo, Makes};
-ghost use Rattle.rule_lang.specs.Sound.{IsSound, IsSoundAfter};
+ghost use Rattle.rule_lang.specs.Reader.Advances.{Advances};
+ghost use Rattle.rule_lang.specs.Reader.Results.{IsFaultOf, IsReadFault, LeadsTo, Makes};
+ghost use Rattle.rule_lang.specs.Reader.Sound.{IsSound, IsSoundAfter};
 ghost use Rattle.rule_lang.specs.Trees.{IsCondition};
 
 use crate::condition::Step;
@@ -32,9 +33,9 @@ fn count_of<'a>(
     shape: &Shape,
     tokens: &[Placed<&'a str>],
 ) -> Result<Statement, RuleFault>
-    ensures statement { IfOk result (λ s. reading.count_of shape.now (placed_all tokens.now) ≡ Ok
+    ensures statement { IfOk result (λ s. says.count_of shape.now (placed_all tokens.now) ≡ Ok
         s) }
-    ensures fault { IfErr result (IsFaultOf (reading.count_of shape.now (placed_all tokens.now))) }
+    ensures fault { IfErr result (IsFaultOf (says.count_of shape.now (placed_all tokens.now))) }
 {
     let array = array(shape, false, part(tokens, 1))?;
     let index = index(array, part(tokens, 3))?;
@@ -49,7 +50,7 @@ fn read_count<'a>(
     draft: &mut Draft,
     tokens: &[Placed<&'a str>],
 ) -> Result<(), RuleFault>
-    ensures { Makes result (draft_seen draft.new) (reading.counted (reading.count_of shape.now
+    ensures { Makes result (draft_seen draft.new) (reading.counted (says.count_of shape.now
         (placed_all tokens.now)) (draft_seen draft.old)) }
 {
     match count_of(alloc, shape, tokens) {
@@ -236,7 +237,7 @@ fn read_operator<'t, 'a>(
 }
 
 // One phrase.
-#[tactic(auto, unfolding(crate::specs::Reading::next))]
+#[tactic(auto, unfolding(crate::specs::Reader::Reading::next))]
 fn read_next<'t, 'a>(
     alloc: Global,
     shape: &Shape,

@@ -3,7 +3,7 @@
 ghost use Rattle.std.specs.Prelude.{◌≡◌, IfOk, IfErr, Ok};
 ghost use Rattle.rule_lang.specs.Literals.{IsLiteral};
 ghost use Rattle.rule_lang.specs.Named.{placed_named, placed_all};
-ghost use Rattle.rule_lang.specs.Results.{IsFaultOf};
+ghost use Rattle.rule_lang.specs.Reader.Results.{IsFaultOf};
 ghost use Rattle.rule_lang.specs.Tests as tests;
 
 use crate::fault::RuleFault;

@@ -3,9 +3,10 @@ use Rattle.rule_lang.specs.declared.fault.RuleFault.{RuleFault}
 use Rattle.rule_lang.specs.declared.rule.Statement.{Statement}
 use Rattle.rule_lang.specs.Lexed.{Lexed, tokens_in}
 use Rattle.rule_lang.specs.Named.{placed_all}
-use Rattle.rule_lang.specs.Reading.{Reads, first_draft}
-use Rattle.rule_lang.specs.Results.{IsReadFault}
-use Rattle.rule_lang.specs.Verdicts.{IsVerdict, IsRuleFault, too_long, read}
+use Rattle.rule_lang.specs.Reader.Reading.{Reads, first_draft}
+use Rattle.rule_lang.specs.Reader.Results.{IsReadFault}
+use Rattle.rule_lang.specs.Verdicts.{IsVerdict, IsRuleFault, too_long}
+use Rattle.rule_lang.proofs.Laws.{spelled}
 use Rattle.rule_lang.specs.Fits.{fits}
 use Rattle.rule_lang.proofs.Fitting.{rule_fits}
 use Rattle.rule_lang.proofs.Parsing.{token_fault, read_fault, ok_then, err_then}
@@ -24,7 +25,8 @@ returns-in-Ok-clause-rule c =
     let short : length text ≤ 65536 = search (rules, arith) in
     let lexed : ◌≡◌ {A = Lexed} (tokens_in text) (Ok ts) = search rules in
     ok_then c.read.result (λ (r : List Statement). Reads s first_draft ts (Ok r)) (λ (r : List
-    Statement). IsVerdict s text (Ok r)) (λ r h. read short lexed h) c.read.ensures.rule
+    Statement). IsVerdict s text (Ok r)) (λ r h. spelled s text ts (Ok r) short lexed h)
+    c.read.ensures.rule
 
 pub returns-in-Ok-clause-fault : goal.returns-in-Ok-clause-fault
 returns-in-Ok-clause-fault c =

@@ -1,8 +1,9 @@
-use Rattle.std.proofs.Common.{rules, arith, ◌≡◌, Ok, Err, Some, None, Option, true, false, drop, sym, subst, inr}
+use Rattle.std.proofs.Common.{rules, arith, ◌≡◌, Ok, Err, Some, None, Option, true, false, drop}
+use Rattle.std.proofs.Common.{sym, subst, inr}
 use Rattle.rule_lang.specs.declared.fault.RuleFault.{RuleFault}
 use Rattle.rule_lang.specs.Named.{draft_seen, placed_all}
-use Rattle.rule_lang.specs.Reading.{Draft, Next, next, Reads, goes_on, first_draft, is_done}
-use Rattle.rule_lang.specs.Sound.{IsSound}
+use Rattle.rule_lang.specs.Reader.Reading.{Draft, Next, next, Reads, goes_on, first_draft, is_done}
+use Rattle.rule_lang.specs.Reader.Sound.{IsSound}
 use Rattle.rule_lang.proofs.Keeping.{sound_next, ended_ok, ended_err, fault_read}
 use Rattle.rule_lang.proofs.reader.read.Goals as goal
 

@@ -2,8 +2,8 @@ use Rattle.std.proofs.Common.{◌-◌, ◌≤◌, length, List, drop}
 use Rattle.rule_lang.specs.declared.rule.Statement.{Statement}
 use Rattle.rule_lang.specs.Named.{draft_seen, placed_all}
 use Rattle.rule_lang.specs.Parts.{OrFault}
-use Rattle.rule_lang.specs.Reading.{Reads, first_draft}
-use Rattle.rule_lang.specs.Sound.{IsSound}
+use Rattle.rule_lang.specs.Reader.Reading.{Reads, first_draft}
+use Rattle.rule_lang.specs.Reader.Sound.{IsSound}
 use Rattle.rule_lang.proofs.reader.read.Given as goal
 
 abbrev pub invariant-loop-alloc : goal.invariant-loop-alloc

@@ -1,6 +1,6 @@
 use Rattle.std.proofs.Common.{rules, ◌≡◌, List, [], ap, sym, subst}
 use Rattle.rule_lang.specs.declared.condition.Step.{Step}
-use Rattle.rule_lang.specs.Drafts.{Pending, term_done}
+use Rattle.rule_lang.specs.Reader.Drafts.{Pending, term_done}
 use Rattle.rule_lang.specs.Named.{seen}
 use Rattle.rule_lang.specs.Trees.{IsCondition}
 use Rattle.rule_lang.proofs.Sounds.{ends_whole}

@@ -1,11 +1,12 @@
 -- What holds of a rule that is read: its steps so far make as many trees as are still to be joined.
-use Rattle.std.specs.Prelude.{◌≡◌, ℕ, ◌+◌, List, [], ◌∷◌, length, Some, None, Bool, false, if◌then◌else◌}
+use Rattle.std.specs.Prelude.{◌≡◌, ℕ, ◌+◌, List, [], ◌∷◌, length, Some, None, Bool, false}
+use Rattle.std.specs.Prelude.{if◌then◌else◌}
 use Rattle.rule_lang.specs.declared.condition.Step.{Step}
 use Rattle.rule_lang.specs.declared.draft.Mode.{Mode}
 use Rattle.rule_lang.specs.declared.draft.Mode.TheVariants as mode
 use Rattle.rule_lang.specs.declared.frame.Frame.{Frame}
-use Rattle.rule_lang.specs.Drafts.{Pending}
-use Rattle.rule_lang.specs.Reading.{Draft}
+use Rattle.rule_lang.specs.Reader.Drafts.{Pending}
+use Rattle.rule_lang.specs.Reader.Reading.{Draft}
 use Rattle.rule_lang.specs.Trees.{Tree, trees_from}
 
 pub record HasTrees (steps : List Step) (n : ℕ) : Type 0 where

@@ -11,13 +11,15 @@ use Rattle.rule_lang.specs.declared.keyword.Keyword.TheVariants as keyword
 use Rattle.rule_lang.specs.declared.phrase.TheConstants.{COUNT, OFFER, OTHERWISE}
 use Rattle.rule_lang.specs.declared.phrase.Want.{Want}
 use Rattle.rule_lang.specs.declared.rule.Statement.{Statement}
-use Rattle.rule_lang.specs.declared.rule.Statement.TheVariants.{Count, When}
+use Rattle.rule_lang.specs.declared.rule.Statement.TheVariants.{When}
 use Rattle.rule_lang.specs.declared.test.Test.{Test}
 use Rattle.rule_lang.specs.declared.token.Token.TheVariants as token
-use Rattle.rule_lang.specs.Drafts.{Pending, begin, denied, opened, tested, joined, parted, closed, term_done, is_empty}
+use Rattle.rule_lang.specs.Reader.Drafts.{Pending, begin, denied, opened, tested, joined, parted}
+use Rattle.rule_lang.specs.Reader.Drafts.{closed, term_done, is_empty}
 use Rattle.rule_lang.specs.Lexed.{Placed}
-use Rattle.rule_lang.specs.Parts.{OrFault, ◌>>?◌, part, array, index, release, out_of_range}
+use Rattle.rule_lang.specs.Parts.{OrFault, ◌>>?◌, part, release, out_of_range}
 use Rattle.rule_lang.specs.Phrases.{behind, misplaced, test_phrase}
+use Rattle.rule_lang.specs.Says.{count_of}
 use Rattle.rule_lang.specs.Tests.{test_of}
 use Rattle.rule_lang.specs.Tokens.{Token}
 
@@ -89,13 +91,6 @@ with_when k d = unless_noted d.noted (When d.condition.steps k) (with_condition 
 
 abbrev pub Next : Type 0
 Next = OrFault (Draft × List Placed)
-
--- an array without a quota
-abbrev pub count_of : AppShape → List Placed → OrFault Statement
-count_of s ts =
-    array s false (part ts 1) >>? λ a.
-    index a (part ts 3) >>? λ i.
-    Ok (Count a.name i)
 
 abbrev pub counted : OrFault Statement → Draft → Draft
 counted (Ok statement) d = with_statement statement d

@@ -7,7 +7,7 @@ use Rattle.rule_lang.specs.declared.fault.RuleFault.TheVariants.{Memory}
 use Rattle.rule_lang.specs.declared.lexer.Placed as the_placed
 use Rattle.rule_lang.specs.Named.{placed_all}
 use Rattle.rule_lang.specs.Lexed.{Placed}
-use Rattle.rule_lang.specs.Reading.{Draft, Next, Reads, first_draft}
+use Rattle.rule_lang.specs.Reader.Reading.{Draft, Next, Reads, first_draft}
 
 abbrev pub IsFaultOf : {A : Type 0} → Result A RuleFault → RuleFault → Type 0
 IsFaultOf verdict e = (e ≡ Memory) ⊎ (verdict ≡ Err e)

@@ -4,7 +4,7 @@ use Rattle.cells.specs.Arrays.{AppShape}
 use Rattle.rule_lang.specs.declared.fault.RuleFault.{RuleFault}
 use Rattle.rule_lang.specs.declared.fault.RuleFault.TheVariants.{Memory}
 use Rattle.rule_lang.specs.Lexed.{Placed}
-use Rattle.rule_lang.specs.Reading.{Draft, next}
+use Rattle.rule_lang.specs.Reader.Reading.{Draft, next}
 
 abbrev pub Advances : Result ℕ RuleFault → AppShape → Draft → Draft → List Placed → ℕ → Type 0
 Advances (Ok behind) s old new ts place = next s old (drop place ts) ≡ Ok (new, drop behind ts)

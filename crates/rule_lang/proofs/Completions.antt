@@ -1,0 +1,124 @@
+-- From each place of the machine some tokens complete a rule.
+use Rattle.std.proofs.Common.{◌≡◌, ℕ, zero, suc, List, [], ◌∷◌, ◌++◌, Option, Some, Ok, Err}
+use Rattle.std.proofs.Common.{Bool, true, if◌then◌else◌, refl, sym, ap, ◌∙◌, subst}
+use Rattle.rule_lang.specs.declared.keyword.Keyword.TheVariants as keyword
+use Rattle.rule_lang.specs.declared.phrase.TheConstants.{OFFER, OTHERWISE, BUCKET}
+use Rattle.rule_lang.specs.declared.phrase.TheConstants.{FLAG}
+use Rattle.rule_lang.specs.declared.phrase.Want.{Want}
+use Rattle.rule_lang.specs.declared.phrase.Want.TheVariants as want
+use Rattle.rule_lang.specs.declared.test.Relation.TheVariants as relation
+use Rattle.rule_lang.specs.declared.token.Token.TheVariants as token
+use Rattle.rule_lang.specs.Grammar as g
+use Rattle.rule_lang.specs.Lexed.{Placed, on}
+use Rattle.rule_lang.specs.Phrases.{takes, behind, misplaced}
+use Rattle.rule_lang.specs.Tokens.{Token}
+use Rattle.rule_lang.proofs.Machine.{Place, AtStatement, AtFact, InBucket, AtOperator, AtEnd}
+use Rattle.rule_lang.proofs.Machine.{State}
+use Rattle.rule_lang.proofs.Machine.{tail, runs, start}
+use Rattle.rule_lang.proofs.Machine.{Completes, CompletesIf, Follows, GoesOn, IsClosed, closed}
+use Rattle.rule_lang.proofs.Machine.{IsOffered}
+use Rattle.rule_lang.proofs.StepsBack.{same_word, worded, whole, here, runs_back}
+
+-- ---- completions
+
+filler : Want → Token
+filler (want.Keyword k) = token.Keyword k
+filler want.Name = token.Name []
+filler want.Attribute = token.Name []
+filler want.Number = token.Number []
+filler want.Version = token.Number []
+filler want.Text = token.Text []
+filler want.Relation = token.Relation relation.Lt
+filler want.Semicolon = token.Semicolon
+filler want.Comma = token.Comma
+filler want.OpenBracket = token.OpenBracket
+filler want.CloseBracket = token.CloseBracket
+filler want.Open = token.Open
+filler want.Close = token.Close
+filler want.End = token.End
+
+taken_filler : (w : Want) → takes w (filler w) ≡ true
+unfolding filler
+taken_filler (want.Keyword k) = same_word k
+taken_filler w = refl
+
+abbrev fill : List Want → List Placed → List Placed
+fill [] ts = ts
+fill (w ∷ ws) ts = on 0 (filler w) ∷ fill ws ts
+
+filled : (ws : List Want) (ts : List Placed) → behind ws (fill ws ts) ≡ Ok ts
+filled [] ts = refl
+filled (w ∷ ws) ts =
+    ap (λ (b : Bool). if b then behind ws (fill ws ts) else Err (misplaced 0)) (taken_filler w)
+    ∙ filled ws ts
+
+pub record Some_of (P : List Placed → Type 0) : Type 0 where
+  pub tokens : List Placed
+  pub fits : P tokens
+
+a_rule : Some_of (λ ts. g.IsRule ts)
+a_rule = record { tokens = fill OTHERWISE []; fits = g.otherwise (filled OTHERWISE []) }
+
+closing : (n : ℕ) → Some_of (λ ts. Follows n ts)
+closing zero = record {
+  tokens = fill OFFER a_rule.tokens;
+  fits = whole IsOffered (fill OFFER a_rule.tokens) (record {
+    rest = a_rule.tokens;
+    offer = filled OFFER a_rule.tokens;
+    rule = a_rule.fits;
+  });
+}
+closing (suc n) =
+    let inner = closing n in
+    let ts = on 0 token.Close ∷ inner.tokens in
+    record {
+      tokens = ts;
+      fits = whole (λ us. IsClosed (λ vs. Follows n vs) us) ts (closed refl inner.fits);
+    }
+
+from_place : (l : Place) → Some_of (λ ts. GoesOn l ts)
+from_place AtStatement = a_rule
+from_place (AtFact n) =
+    let rest = closing n in
+    record {
+      tokens = fill FLAG rest.tokens;
+      fits = record {
+        rest = rest.tokens;
+        fact = g.asked (g.of_flag (filled FLAG rest.tokens));
+        more = rest.fits;
+      };
+    }
+from_place (InBucket n) =
+    let rest = closing n in
+    let ts = fill (tail BUCKET) rest.tokens in
+    record {
+      tokens = ts;
+      fits = record {
+        rest = rest.tokens;
+        test = λ p is. g.of_bucket (worded keyword.Bucket (tail BUCKET) p ts rest.tokens is (filled
+            (tail BUCKET) rest.tokens));
+        more = rest.fits;
+      };
+    }
+from_place (AtOperator n) = closing n
+from_place AtEnd = record { tokens = []; fits = tt }
+
+pub completion : (x : State) → Some_of (λ ts. Completes x ts)
+completion x =
+    let rest = from_place x.place in
+    record {
+      tokens = fill x.wants rest.tokens;
+      fits = record {
+        rest = rest.tokens;
+        phrase = filled x.wants rest.tokens;
+        more = rest.fits;
+      };
+    }
+
+-- where the machine goes on, the tokens so far begin a rule
+pub begun : (before : List Placed) (x : State) → runs start before ≡ Some x → g.Begins before
+begun before x is =
+    let c = completion x in
+    let completes : CompletesIf (runs start before) c.tokens = subst (λ (o : Option State).
+    CompletesIf o c.tokens) (sym is) c.fits in
+    (c.tokens, here AtStatement (before ++ c.tokens) (runs_back start before c.tokens completes))

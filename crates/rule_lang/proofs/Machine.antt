@@ -1,0 +1,146 @@
+-- A machine that takes the tokens of a rule one by one: which may stand next, and what goes on from
+-- there by the grammar.
+use Rattle.std.proofs.Common.{◌≡◌, ℕ, zero, suc, List, [], ◌∷◌, ◌++◌, Option, Some, None, Ok}
+use Rattle.std.proofs.Common.{if◌then◌else◌, refl}
+use Rattle.std.specs.Option.{option_and_then}
+use Rattle.rule_lang.specs.declared.keyword.Keyword.TheVariants as keyword
+use Rattle.rule_lang.specs.declared.phrase.TheConstants.{COUNT, OFFER, OTHERWISE, VERSION, BUCKET}
+use Rattle.rule_lang.specs.declared.phrase.TheConstants.{SALTED, TODAY, INSTALLED, FLAG, ATTR, TAKE}
+use Rattle.rule_lang.specs.declared.phrase.Want.{Want}
+use Rattle.rule_lang.specs.declared.token.Token.TheVariants as token
+use Rattle.rule_lang.specs.Grammar as g
+use Rattle.rule_lang.specs.Lexed.{Placed}
+use Rattle.rule_lang.specs.Phrases.{takes, behind}
+use Rattle.rule_lang.specs.Tokens.{Token}
+
+-- ---- the machine
+
+-- how many parentheses are open
+pub data Place : Type 0 where
+  AtStatement : Place
+  AtFact : (parentheses : ℕ) → Place
+  InBucket : (parentheses : ℕ) → Place
+  AtOperator : (parentheses : ℕ) → Place
+  AtEnd : Place
+
+-- behind a part of a phrase: what is still wanted of it, and the place behind it
+pub record State : Type 0 where
+  pub wants : List Want
+  pub place : Place
+
+abbrev pub state : List Want → Place → State
+state ws l = record { wants = ws; place = l }
+
+abbrev pub at : Place → Option State
+at l = Some (state [] l)
+
+abbrev pub tail : List Want → List Want
+tail [] = []
+tail (w ∷ ws) = ws
+
+abbrev pub phrase : List Want → Place → Option State
+phrase ws l = Some (state (tail ws) l)
+
+abbrev pub place_step : Place → Token → Option State
+place_step AtStatement (token.Keyword keyword.Count) = phrase COUNT AtStatement
+place_step AtStatement (token.Keyword keyword.When) = at (AtFact 0)
+place_step AtStatement (token.Keyword keyword.Otherwise) = phrase OTHERWISE AtEnd
+place_step (AtFact n) (token.Keyword keyword.Not) = at (AtFact n)
+place_step (AtFact n) token.Open = at (AtFact (suc n))
+place_step (AtFact n) (token.Keyword keyword.Version) = phrase VERSION (AtOperator n)
+place_step (AtFact n) (token.Keyword keyword.Bucket) = at (InBucket n)
+place_step (AtFact n) (token.Keyword keyword.Today) = phrase TODAY (AtOperator n)
+place_step (AtFact n) (token.Keyword keyword.Installed) = phrase INSTALLED (AtOperator n)
+place_step (AtFact n) (token.Keyword keyword.Flag) = phrase FLAG (AtOperator n)
+place_step (AtFact n) (token.Keyword keyword.Attr) = phrase ATTR (AtOperator n)
+place_step (AtFact n) (token.Keyword keyword.Take) = phrase TAKE (AtOperator n)
+place_step (InBucket n) token.Open = Some (state (tail (tail SALTED)) (AtOperator n))
+place_step (InBucket n) (token.Relation r) = Some (state (tail (tail BUCKET)) (AtOperator n))
+place_step (AtOperator n) (token.Keyword keyword.And) = at (AtFact n)
+place_step (AtOperator n) (token.Keyword keyword.Or) = at (AtFact n)
+place_step (AtOperator (suc n)) token.Close = at (AtOperator n)
+place_step (AtOperator zero) (token.Keyword keyword.Offer) = phrase OFFER AtStatement
+place_step AtEnd t = at AtEnd
+place_step l t = None
+
+abbrev pub wants_step : List Want → Place → Token → Option State
+wants_step [] l t = place_step l t
+wants_step (w ∷ ws) l t = if takes w t then Some (state ws l) else None
+
+abbrev pub step : State → Token → Option State
+step x t = wants_step x.wants x.place t
+
+abbrev pub runs : State → List Placed → Option State
+runs x [] = Some x
+runs x (p ∷ ts) = option_and_then (λ y. runs y ts) (step x p.token)
+
+abbrev pub start : State
+start = state [] AtStatement
+
+runs_by : (o : Option State) (xs ys : List Placed) → ((y : State) → runs y (xs ++ ys)
+    ≡ option_and_then (λ z. runs z ys) (runs y xs)) → option_and_then (λ y. runs y (xs ++ ys)) o
+    ≡ option_and_then (λ z. runs z ys) (option_and_then (λ y. runs y xs) o)
+runs_by None xs ys h = refl
+runs_by (Some y) xs ys h = h y
+
+pub runs_append : (x : State) (xs ys : List Placed)
+    → runs x (xs ++ ys) ≡ option_and_then (λ y. runs y ys) (runs x xs)
+runs_append x [] ys = refl
+runs_append x (p ∷ xs) ys = runs_by (step x p.token) xs ys (λ y. runs_append y xs ys)
+
+-- ---- what goes on from a place
+
+-- more of a term, or of a condition, whatever it began with
+abbrev pub TermGoesOn : List Placed → List Placed → Type 0
+TermGoesOn ts rest = (front : List Placed) → g.IsTerm front ts → g.IsTerm front rest
+
+abbrev pub CondGoesOn : List Placed → List Placed → Type 0
+CondGoesOn ts rest = (front : List Placed) → g.IsCond front ts → g.IsCond front rest
+
+-- the rest of a condition, and then what stands behind it
+pub record IsRestOfCond (Then : List Placed → Type 0) (ts : List Placed) : Type 0 where
+  pub mid : List Placed
+  pub end : List Placed
+  pub terms : TermGoesOn ts mid
+  pub conds : CondGoesOn mid end
+  pub more : Then end
+
+pub record IsOffered (ts : List Placed) : Type 0 where
+  pub rest : List Placed
+  pub offer : g.IsPhrase OFFER ts rest
+  pub rule : g.IsRule rest
+
+pub data IsClosed (Then : List Placed → Type 0) : List Placed → Type 0 where
+  closed : {p : Placed} {ts : List Placed} → p.token ≡ token.Close → Then ts
+      → IsClosed Then (p ∷ ts)
+
+-- behind a fact inside so many parentheses
+abbrev pub Follows : ℕ → List Placed → Type 0
+Follows zero ts = IsRestOfCond IsOffered ts
+Follows (suc n) ts = IsRestOfCond (λ us. IsClosed (λ vs. Follows n vs) us) ts
+
+pub record IsFactAhead (n : ℕ) (ts : List Placed) : Type 0 where
+  pub rest : List Placed
+  pub fact : g.IsFact ts rest
+  pub more : Follows n rest
+
+pub record IsBucketAhead (n : ℕ) (ts : List Placed) : Type 0 where
+  pub rest : List Placed
+  pub test : (p : Placed) → p.token ≡ token.Keyword keyword.Bucket → g.IsTest (p ∷ ts) rest
+  pub more : Follows n rest
+
+abbrev pub GoesOn : Place → List Placed → Type 0
+GoesOn AtStatement ts = g.IsRule ts
+GoesOn (AtFact n) ts = IsFactAhead n ts
+GoesOn (InBucket n) ts = IsBucketAhead n ts
+GoesOn (AtOperator n) ts = Follows n ts
+GoesOn AtEnd ts = Unit {0}
+
+pub record Completes (x : State) (ts : List Placed) : Type 0 where
+  pub rest : List Placed
+  pub phrase : behind x.wants ts ≡ Ok rest
+  pub more : GoesOn x.place rest
+
+abbrev pub CompletesIf : Option State → List Placed → Type 0
+CompletesIf None ts = ⊥
+CompletesIf (Some x) ts = Completes x ts

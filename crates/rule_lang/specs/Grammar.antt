@@ -1,0 +1,65 @@
+-- The grammar of rules over a text's tokens, production by production. `IsFact ts rest` says that
+-- the tokens ts begin with a fact, and that rest is what stands behind it; so with the others.
+--
+--   rule = { stmt } "otherwise" "none" ";"
+--   stmt = "count" name "[" num "]" ";" | "when" cond "offer" num ";"
+--   cond = term { "or" term }
+--   term = fact { "and" fact }
+--   fact = "not" fact | "(" cond ")" | test
+--   test = "version" rel ver | "bucket" [ "(" num ")" ] rel num | "today" rel num
+--        | "installed" rel num | "flag" name | "attr" name "is" text
+--        | "take" "(" name "," num ")"
+use Rattle.std.specs.Prelude.{◌≡◌, List, ◌∷◌, ◌++◌, Ok}
+use Rattle.rule_lang.specs.declared.keyword.Keyword.TheVariants as keyword
+use Rattle.rule_lang.specs.declared.phrase.TheConstants.{COUNT, OFFER, OTHERWISE, VERSION, BUCKET}
+use Rattle.rule_lang.specs.declared.phrase.TheConstants.{SALTED, TODAY, INSTALLED, FLAG, ATTR, TAKE}
+use Rattle.rule_lang.specs.declared.phrase.Want.{Want}
+use Rattle.rule_lang.specs.declared.token.Token.TheVariants as token
+use Rattle.rule_lang.specs.Lexed.{Placed}
+use Rattle.rule_lang.specs.Phrases.{behind}
+
+-- a phrase: one token for each of these places, in their order
+abbrev pub IsPhrase : List Want → List Placed → List Placed → Type 0
+IsPhrase ws ts rest = behind ws ts ≡ Ok rest
+
+pub data IsTest : List Placed → List Placed → Type 0 where
+  of_version : {ts rest : List Placed} → IsPhrase VERSION ts rest → IsTest ts rest
+  of_bucket : {ts rest : List Placed} → IsPhrase BUCKET ts rest → IsTest ts rest
+  of_salted_bucket : {ts rest : List Placed} → IsPhrase SALTED ts rest → IsTest ts rest
+  of_today : {ts rest : List Placed} → IsPhrase TODAY ts rest → IsTest ts rest
+  of_installed : {ts rest : List Placed} → IsPhrase INSTALLED ts rest → IsTest ts rest
+  of_flag : {ts rest : List Placed} → IsPhrase FLAG ts rest → IsTest ts rest
+  of_attr : {ts rest : List Placed} → IsPhrase ATTR ts rest → IsTest ts rest
+  of_take : {ts rest : List Placed} → IsPhrase TAKE ts rest → IsTest ts rest
+
+mutual
+  pub data IsFact : List Placed → List Placed → Type 0 where
+    denied : {p : Placed} {ts rest : List Placed} → p.token ≡ token.Keyword keyword.Not
+        → IsFact ts rest → IsFact (p ∷ ts) rest
+    enclosed : {p q : Placed} {ts rest : List Placed} → p.token ≡ token.Open
+        → IsCond ts (q ∷ rest) → q.token ≡ token.Close → IsFact (p ∷ ts) rest
+    asked : {p : Placed} {ts rest : List Placed} → IsTest (p ∷ ts) rest → IsFact (p ∷ ts) rest
+
+  pub data IsTerm : List Placed → List Placed → Type 0 where
+    fact : {ts rest : List Placed} → IsFact ts rest → IsTerm ts rest
+    and_fact : {p : Placed} {ts mid rest : List Placed} → IsTerm ts (p ∷ mid)
+        → p.token ≡ token.Keyword keyword.And → IsFact mid rest → IsTerm ts rest
+
+  pub data IsCond : List Placed → List Placed → Type 0 where
+    term : {ts rest : List Placed} → IsTerm ts rest → IsCond ts rest
+    or_term : {p : Placed} {ts mid rest : List Placed} → IsCond ts (p ∷ mid)
+        → p.token ≡ token.Keyword keyword.Or → IsTerm mid rest → IsCond ts rest
+
+pub data IsStatement : List Placed → List Placed → Type 0 where
+  count : {ts rest : List Placed} → IsPhrase COUNT ts rest → IsStatement ts rest
+  when : {p : Placed} {ts mid rest : List Placed} → p.token ≡ token.Keyword keyword.When
+      → IsCond ts mid → IsPhrase OFFER mid rest → IsStatement (p ∷ ts) rest
+
+-- the last phrase takes the text's end, too, behind which nothing stands
+pub data IsRule : List Placed → Type 0 where
+  otherwise : {ts rest : List Placed} → IsPhrase OTHERWISE ts rest → IsRule ts
+  stmt : {ts rest : List Placed} → IsStatement ts rest → IsRule rest → IsRule ts
+
+-- with more tokens behind them these are a rule
+abbrev pub Begins : List Placed → Type 0
+Begins ts = (more : List Placed) × IsRule (ts ++ more)

@@ -1,0 +1,75 @@
+-- What a rule's tokens say for a shape, by the productions that they are read by: its statements,
+-- or the fault of the first name that isn't known (L3) or number out of its range (L4).
+use Rattle.std.specs.Prelude.{ℕ, ◌+◌, nat_lt, false, List, [], ◌∷◌, ◌++◌, Ok, Err, if◌then◌else◌}
+use Rattle.cells.specs.Arrays.{AppShape}
+use Rattle.rule_lang.specs.declared.condition.Step.{Step}
+use Rattle.rule_lang.specs.declared.condition.Step.TheVariants as step
+use Rattle.rule_lang.specs.declared.rule.Statement.{Statement}
+use Rattle.rule_lang.specs.declared.rule.Statement.TheVariants.{Count, When}
+use Rattle.rule_lang.specs.declared.test.Test.{Test}
+use Rattle.rule_lang.specs.Grammar as g
+use Rattle.rule_lang.specs.Lexed.{Placed}
+use Rattle.rule_lang.specs.Parts.{OrFault, ◌>>?◌, part, array, index, release, out_of_range}
+use Rattle.rule_lang.specs.Tests as tests
+use Rattle.rule_lang.specs.Trees.{Tree, Asked, Negated, Both, Either}
+
+abbrev pub test_says : AppShape → {ts rest : List Placed} → g.IsTest ts rest → OrFault Test
+test_says s (g.of_version {ts = ts} h) = tests.version_test ts
+test_says s (g.of_bucket {ts = ts} h) = tests.bucket_test ts
+test_says s (g.of_salted_bucket {ts = ts} h) = tests.salted_test ts
+test_says s (g.of_today {ts = ts} h) = tests.today_test ts
+test_says s (g.of_installed {ts = ts} h) = tests.installed_test ts
+test_says s (g.of_flag {ts = ts} h) = tests.flag_test ts
+test_says s (g.of_attr {ts = ts} h) = tests.attr_test ts
+test_says s (g.of_take {ts = ts} h) = tests.take_test s ts
+
+-- `not` and parentheses are at most 32 deep: an opener, so many being open, and what it opens
+abbrev pub opened : (depth : ℕ) → Placed → OrFault Tree → OrFault Tree
+opened depth p inside = if nat_lt depth 32 then inside else Err (out_of_range p)
+
+abbrev mutual
+  -- of a fact inside so many openers; a test has its first token's line
+  pub fact_says : AppShape → (depth : ℕ) → {ts rest : List Placed} → g.IsFact ts rest
+      → OrFault Tree
+  fact_says s depth (g.denied {p = p} is f) =
+      opened depth p (fact_says s (depth + 1) f >>? λ c. Ok (Negated c))
+  fact_says s depth (g.enclosed {p = p} is c closes) = opened depth p (cond_says s (depth + 1) c)
+  fact_says s depth (g.asked {p = p} t) = test_says s t >>? λ x. Ok (Asked p.line x)
+
+  pub term_says : AppShape → (depth : ℕ) → {ts rest : List Placed} → g.IsTerm ts rest
+      → OrFault Tree
+  term_says s depth (g.fact f) = fact_says s depth f
+  term_says s depth (g.and_fact t is f) =
+      term_says s depth t >>? λ a. fact_says s depth f >>? λ b. Ok (Both a b)
+
+  pub cond_says : AppShape → (depth : ℕ) → {ts rest : List Placed} → g.IsCond ts rest
+      → OrFault Tree
+  cond_says s depth (g.term t) = term_says s depth t
+  cond_says s depth (g.or_term c is t) =
+      cond_says s depth c >>? λ a. term_says s depth t >>? λ b. Ok (Either a b)
+
+-- a condition's steps, in post-fix order
+abbrev pub steps_of : Tree → List Step
+steps_of (Asked line t) = step.Test line t ∷ []
+steps_of (Negated c) = steps_of c ++ (step.Not ∷ [])
+steps_of (Both a b) = steps_of a ++ (steps_of b ++ (step.And ∷ []))
+steps_of (Either a b) = steps_of a ++ (steps_of b ++ (step.Or ∷ []))
+
+-- the array has no quota
+abbrev pub count_of : AppShape → List Placed → OrFault Statement
+count_of s ts =
+    array s false (part ts 1) >>? λ a.
+    index a (part ts 3) >>? λ i.
+    Ok (Count a.name i)
+
+abbrev pub statement_says : AppShape → {ts rest : List Placed} → g.IsStatement ts rest
+    → OrFault Statement
+statement_says s (g.count {ts = ts} h) = count_of s ts
+statement_says s (g.when {mid = mid} is c h) =
+    cond_says s 0 c >>? λ condition.
+    release s (part mid 1) >>? λ k.
+    Ok (When (steps_of condition) k)
+
+abbrev pub rule_says : AppShape → {ts : List Placed} → g.IsRule ts → OrFault (List Statement)
+rule_says s (g.otherwise h) = Ok []
+rule_says s (g.stmt x r) = statement_says s x >>? λ a. rule_says s r >>? λ rest. Ok (a ∷ rest)
