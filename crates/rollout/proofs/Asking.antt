@@ -1,62 +1,34 @@
--- A command whose words lack something asks for nothing: another command has another name.
-use Rattle.std.proofs.Common.{◌≡◌, ◌∙◌, sym, ap, refl, ℕ, List, codes, slice_index, arith}
+-- A command whose words lack something asks for nothing.
+use Rattle.std.proofs.Common.{List, codes}
 use Rattle.clap.specs.Words.{Text, Row}
+use Rattle.std.specs.Prelude.{Some}
 use Rattle.rollout.specs.declared.request.Bucket.{Bucket}
-use Rattle.rollout.specs.declared.request.ProgramFile.{ProgramFile}
-use Rattle.rollout.specs.declared.request.Request.TheVariants.{Assemble, List as ListFile}
-use Rattle.rollout.specs.declared.request.Request.TheVariants.{Verify, Run}
-use Rattle.rollout.specs.Words.{AsksNothing, AsksProgram, HasBucket, HasText}
+use Rattle.rollout.specs.declared.request.DeclaredShape.{DeclaredShape}
+use Rattle.rollout.specs.declared.request.Request.TheVariants as request
+use Rattle.rollout.specs.declared.words.Verb.TheVariants as verb
+use Rattle.rollout.specs.Words.{AsksNothing, HasBucket, HasShape, HasText}
 
--- two texts whose first bytes are m and n
-apart : (name a b : Text) (m n : ℕ) → slice_index a 0 ≡ m → slice_index b 0 ≡ n → (m ≡ n → ⊥)
-    → name ≡ a → name ≡ b → ⊥
-apart name a b m n is_m is_n differ is_a is_b =
-    differ (sym is_m ∙ ap (λ (t : Text). slice_index t 0) (sym is_a ∙ is_b) ∙ is_n)
-
-asm_is_list : (name : Text) → name ≡ codes "asm" → name ≡ codes "list" → ⊥
-asm_is_list name =
-    apart name (codes "asm") (codes "list") 97 108 refl refl (λ (e : 97 ≡ 108). omega arith)
-
-asm_is_verify : (name : Text) → name ≡ codes "asm" → name ≡ codes "verify" → ⊥
-asm_is_verify name =
-    apart name (codes "asm") (codes "verify") 97 118 refl refl (λ (e : 97 ≡ 118). omega arith)
-
-asm_is_run : (name : Text) → name ≡ codes "asm" → name ≡ codes "run" → ⊥
-asm_is_run name =
-    apart name (codes "asm") (codes "run") 97 114 refl refl (λ (e : 97 ≡ 114). omega arith)
-
-list_is_verify : (name : Text) → name ≡ codes "list" → name ≡ codes "verify" → ⊥
-list_is_verify name =
-    apart name (codes "list") (codes "verify") 108 118 refl refl (λ (e : 108 ≡ 118). omega arith)
-
-list_is_run : (name : Text) → name ≡ codes "list" → name ≡ codes "run" → ⊥
-list_is_run name =
-    apart name (codes "list") (codes "run") 108 114 refl refl (λ (e : 108 ≡ 114). omega arith)
-
-verify_is_run : (name : Text) → name ≡ codes "verify" → name ≡ codes "run" → ⊥
-verify_is_run name =
-    apart name (codes "verify") (codes "run") 118 114 refl refl (λ (e : 118 ≡ 114). omega arith)
-
-pub assembles_nothing : (name : Text) (rows : List Row) → name ≡ codes "asm"
+pub assembles_nothing : (rows : List Row)
     → ((text out : Text) → HasText (codes "IN") rows text → HasText (codes "OUT") rows out → ⊥)
-    → AsksNothing name rows
-assembles_nothing name rows is lacks (Assemble text out) asks = lacks text.now out.now asks.1 asks.2
-assembles_nothing name rows is lacks (ListFile path) asks = asm_is_list name is asks.0
-assembles_nothing name rows is lacks (Verify program) asks = asm_is_verify name is asks.0
-assembles_nothing name rows is lacks (Run program version bucket) asks = asm_is_run name is asks.0
+    → AsksNothing (Some verb.Assemble) rows
+assembles_nothing rows lacks (request.Assemble text out) asks =
+    lacks text.now out.now asks.0 asks.1
+assembles_nothing rows lacks asked asks = asks
 
-pub lists_nothing : (name : Text) (rows : List Row) → name ≡ codes "list"
-    → ((path : Text) → HasText (codes "IN") rows path → ⊥) → AsksNothing name rows
-lists_nothing name rows is lacks (Assemble text out) asks = asm_is_list name asks.0 is
-lists_nothing name rows is lacks (ListFile path) asks = lacks path.now asks.1
-lists_nothing name rows is lacks (Verify program) asks = list_is_verify name is asks.0
-lists_nothing name rows is lacks (Run program version bucket) asks = list_is_run name is asks.0
+pub lists_nothing : (rows : List Row) → ((path : Text) → HasText (codes "IN") rows path → ⊥)
+    → AsksNothing (Some verb.List) rows
+lists_nothing rows lacks (request.List path) asks = lacks path.now asks
+lists_nothing rows lacks asked asks = asks
 
-pub runs_nothing : (name : Text) (rows : List Row) → name ≡ codes "run"
-    → ((program : ProgramFile) (bucket : Bucket) → AsksProgram rows program
-    → HasBucket rows bucket → ⊥) → AsksNothing name rows
-runs_nothing name rows is lacks (Assemble text out) asks = asm_is_run name asks.0 is
-runs_nothing name rows is lacks (ListFile path) asks = list_is_run name asks.0 is
-runs_nothing name rows is lacks (Verify program) asks = verify_is_run name asks.0 is
-runs_nothing name rows is lacks (Run program version bucket) asks =
-    lacks program bucket asks.1 asks.3
+pub verifies_nothing : (rows : List Row)
+    → ((path : Text) (shape : DeclaredShape) → HasText (codes "IN") rows path
+    → HasShape rows shape → ⊥) → AsksNothing (Some verb.Verify) rows
+verifies_nothing rows lacks (request.Verify path shape) asks = lacks path.now shape asks.0 asks.1
+verifies_nothing rows lacks asked asks = asks
+
+pub runs_nothing : (rows : List Row)
+    → ((path : Text) (shape : DeclaredShape) (bucket : Bucket) → HasText (codes "IN") rows path
+    → HasShape rows shape → HasBucket rows bucket → ⊥) → AsksNothing (Some verb.Run) rows
+runs_nothing rows lacks (request.Run path shape version bucket) asks =
+    lacks path.now shape bucket asks.0 asks.1 asks.3
+runs_nothing rows lacks asked asks = asks

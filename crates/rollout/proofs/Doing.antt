@@ -12,7 +12,8 @@ use Rattle.clap.specs.Words.{Text, App, Row, HasMatchesOf, fault_of, is_simple, 
 use Rattle.clap.specs.Words.{kind_of, subcommand_of, subcommand_rows_of}
 use Rattle.rollout.specs.declared.request.Request.{Request}
 use Rattle.rollout.specs.Commands.{AsksForHelp, HasFault, IsNoAnswer}
-use Rattle.rollout.specs.Words.{commands, IsAsked}
+use Rattle.rollout.specs.Grammar.{commands}
+use Rattle.rollout.specs.Words.{IsAsked}
 
 are_simple : is_simple commands ≡ true
 are_simple = refl

@@ -1,4 +1,4 @@
 mod Reading
 mod Asking
 mod Doing
-mod Shapes
+mod Events

@@ -8,9 +8,10 @@ use Rattle.clap.specs.Words.{Text, fault_of, subcommand_of}
 use Rattle.rollout.specs.declared.fault.Answer.{Answer}
 use Rattle.rollout.specs.declared.fault.Fault.{Fault}
 use Rattle.rollout.specs.declared.request.Request.{Request}
-use Rattle.rollout.specs.Answers.{IsAnswerOfFile}
+use Rattle.rollout.specs.Answers.{IsAnswer}
 use Rattle.rollout.specs.Texts.{answer_text, fault_text, refused_line}
-use Rattle.rollout.specs.Words.{commands, IsAsked, IsNothingAsked}
+use Rattle.rollout.specs.Grammar.{commands}
+use Rattle.rollout.specs.Words.{IsAsked, IsNothingAsked}
 
 abbrev pub AsksForHelp : List Text → Type 0
 AsksForHelp words = IsAmong DisplayHelp (fault_of commands words)
@@ -21,7 +22,7 @@ pub record IsAnswered (words : List Text) (before after : Option (List ℕ)) : T
   pub request : Request
   pub answer : Answer
   pub asked : IsAsked (subcommand_of commands words) request
-  pub answers : IsAnswerOfFile request answer
+  pub answers : IsAnswer request answer
   pub printed : Appends before after (answer_text answer)
 
 abbrev pub IsDone : List Text → Option (List ℕ) → Option (List ℕ) → Type 0

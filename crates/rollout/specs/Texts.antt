@@ -20,7 +20,7 @@ answer_text (Chosen choice instructions) =
     line (codes "choice " ++ decimal choice
     ++ codes " after " ++ decimal instructions ++ codes " instructions")
 
--- no text is stated of the graph's faults and the verifier's refusals
+-- no text is stated of arrays that are refused, the graph's faults and the verifier's refusals
 abbrev pub fault_text : Fault → Option (List ℕ)
 fault_text File = Some (codes "B3 File")
 fault_text Memory = Some (codes "B4 Memory")

@@ -7,7 +7,9 @@ ghost use Rattle.rollout.specs.Commands.{AreWrong, IsDone, IsNoAnswer, PrintsRef
 
 use crate::answer::answer;
 use crate::fault::Fault;
-use crate::words::{grammar, request_of};
+use crate::grammar::grammar;
+use crate::request::NoRequest;
+use crate::words::request_of;
 use clap::Error;
 use clap::error::ErrorKind as ParseFault;
 use std::convert::AsStr;
@@ -43,8 +45,10 @@ pub fn command<R: Files + AllocGlobal, S: AsStr, O: Write, E: Write>(
         Ok(matches) => matches,
         Err(error) => return usage(&error, out, err),
     };
-    let Some(request) = request_of(&matches) else {
-        return USAGE;
+    let request = match request_of(rt.alloc(), &matches) {
+        Ok(request) => request,
+        Err(NoRequest::Wrong) => return wrong_words(err),
+        Err(NoRequest::Memory) => return refused(err, &Fault::Memory),
     };
     match answer(rt, &request) {
         Ok(answer) => status_of(write!(out, "{answer}").is_ok(), DONE),
@@ -77,6 +81,17 @@ pub fn usage<O: Write, E: Write>(error: &Error, out: &mut O, err: &mut E) -> u8
         ParseFault::OutOfMemory => refused(err, &Fault::Memory),
         _ => status_of(write!(err, "{error}").is_ok(), USAGE),
     }
+}
+
+// What words are answered that ask for nothing. Those that the grammar takes lack nothing else.
+fn wrong_words<E: Write>(err: &mut E) -> u8
+    ensures within { (1 ≤ result) × (result ≤ 2) }
+{
+    let said = writeln!(
+        err,
+        "error: '--arrays' wants name:width:length, or name:64:length:limit, joined by commas"
+    );
+    status_of(said.is_ok(), USAGE)
 }
 
 fn refused<E: Write>(err: &mut E, fault: &Fault) -> u8

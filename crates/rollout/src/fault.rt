@@ -5,6 +5,7 @@ ghost use Rattle.rollout.specs.Texts.{answer_text, fault_text};
 
 use bpf_text::{AsmFault, ListFault};
 use bpf_verify::Refusal;
+use cells::CellsFault;
 use flow_check::FlowFault;
 use std::fmt;
 
@@ -15,6 +16,8 @@ pub enum Fault {
     File,
     /// B4: memory that the command itself wants is refused.
     Memory,
+    /// N1 to N3: an array of the words can't be declared.
+    Arrays(CellsFault),
     /// A1 to A7: the text stands for no bytes.
     Text(AsmFault),
     /// I1 to I7: the bytes spell no instructions.
@@ -32,6 +35,7 @@ impl fmt::Display for Fault {
         match self {
             Fault::File => f.write_str("B3 File"),
             Fault::Memory => f.write_str("B4 Memory"),
+            Fault::Arrays(fault) => write!(f, "{fault}"),
             Fault::Text(fault) => write!(f, "{fault}"),
             Fault::Bytes(fault) => write!(f, "{fault}"),
             Fault::Flow(fault) => write!(f, "{fault}"),

@@ -3,9 +3,12 @@
 #![tactic(auto)]
 
 mod answer;
+mod arguments;
 mod command;
+mod commands;
 mod fault;
 mod files;
+mod grammar;
 mod program;
 mod request;
 #[cfg(test)]

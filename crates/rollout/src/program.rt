@@ -1,55 +1,66 @@
-//! From a program's bytes to its choice: the path that the command `run` takes, over values alone.
+//! From a file and a declared shape to an accepted program.
 
-ghost use Rattle.std.specs.Prelude.{◌≡◌, ◌≤◌, length, IfOk, IfErr, option_copied};
+ghost use Rattle.std.specs.Prelude.{◌≡◌, IfOk, IfErr};
 ghost use Rattle.flow_check.specs.Flow.{program_bytes};
-ghost use Rattle.rollout.specs.Answers.{RunsTo};
-ghost use Rattle.rollout.specs.Faults.{IsProgramFault};
+ghost use Rattle.rollout.specs.Programs.{IsProgramFault, IsProgramFor, IsProgramRefusal};
+ghost use Rattle.rollout.specs.Programs.{IsShapeOf, IsShapeRefusal};
 
 use crate::fault::Fault;
-use crate::request::Bucket;
-use attrs::Attrs;
-use bpf_machine::Run;
+use crate::files::read_file;
+use crate::request::DeclaredShape;
 use bpf_verify::{Verified, verify};
-use cells::{PlainCells, Shape};
+use cells::{Directory, Shape};
+use declarations::declare_all;
 use flow_check::Flow;
 use std::alloc::Global;
-use std::sync::Arc;
+use std::rt::Files;
+
+/// The most bytes that a program can have.
+const MOST_PROGRAM: u32 = 32768;
+
+/// The program of a file, once it is accepted under the shape that the words declare. Refused is
+/// the shape before the file is read.
+pub fn program_of_file<R: Files + AllocGlobal>(
+    rt: &R,
+    path: &str,
+    shape: &DeclaredShape,
+) -> Result<Verified, Fault>
+    ensures program { IfOk result (IsProgramFor shape.now) }
+    ensures fault { IfErr result (IsProgramRefusal shape.now) }
+{
+    let shape = declared_shape(rt.alloc(), shape)?;
+    let bytes = match read_file(rt, path, MOST_PROGRAM) {
+        Ok(bytes) => bytes,
+        Err(fault) => return Err(fault),
+    };
+    match verified(rt.alloc(), bytes.as_slice(), &shape) {
+        Ok(program) => {
+            program.keeps();
+            Ok(program)
+        }
+        Err(fault) => Err(fault),
+    }
+}
+
+/// The shape that the words declare, with arrays of a directory of its own.
+pub fn declared_shape(alloc: Global, shape: &DeclaredShape) -> Result<Shape, Fault>
+    ensures shape { IfOk result (IsShapeOf shape.now) }
+    ensures fault { IfErr result (IsShapeRefusal shape.now) }
+{
+    let mut directory = Directory::new(alloc);
+    let numbers = match declare_all(alloc, &mut directory, &shape.arrays) {
+        Ok(numbers) => numbers,
+        Err(refused) => return Err(Fault::Arrays(refused.fault)),
+    };
+    Shape::of(alloc, shape.releases, &directory, &numbers).map_err(Fault::Arrays)
+}
 
 /// The program that the bytes are, once it is accepted under the shape.
 pub fn verified(alloc: Global, bytes: &[u8], shape: &Shape) -> Result<Verified, Fault>
     ensures bytes { IfOk result (λ v. program_bytes v.code ≡ bytes.now) }
     ensures shape { IfOk result (λ v. v.shape ≡ shape.now) }
-    ensures fault { IfErr result (λ e. IsProgramFault bytes.now shape.now e) }
+    ensures fault { IfErr result (λ e. IsProgramFault shape.now e bytes.now) }
 {
     let flow = Flow::check(alloc, bytes).map_err(Fault::Flow)?;
     verify(alloc, flow, shape).map_err(Fault::Rule)
-}
-
-/// The program's run for an app with no appid, and this version and bucket, on cells of its own
-/// that open at 0: its choice and the number of its instructions.
-pub fn choose(
-    alloc: Global,
-    program: Verified,
-    version: Option<&str>,
-    bucket: Bucket,
-) -> Result<(u8, u32), Fault>
-    ensures run { IfOk result (λ c.
-        RunsTo program (option_copied version.entry) bucket c.0 c.1) }
-    ensures release { IfOk result (λ c. c.0 ≤ program.shape.releases) }
-    ensures ends { IfOk result (λ c. c.1 ≤ length program.code) }
-    ensures fault { IfErr result (λ e. e ≡ Fault.Memory) }
-{
-    let Ok(attrs) = Attrs::plain(alloc, "", version, bucket.number) else {
-        return Err(Fault::Memory);
-    };
-    let Ok(attrs) = Arc::new(alloc, attrs) else {
-        return Err(Fault::Memory);
-    };
-    let Ok(program) = Arc::new(alloc, program) else {
-        return Err(Fault::Memory);
-    };
-    let Ok((cells, mut pass)) = PlainCells::new(alloc) else {
-        return Err(Fault::Memory);
-    };
-    Ok(Run::start(program, attrs).run(&cells, &mut pass))
 }

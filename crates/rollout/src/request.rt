@@ -2,11 +2,14 @@
 
 ghost use Rattle.std.specs.Prelude.{◌≤◌, ◌<◌};
 
-/// A file of a program's bytes, and the number of releases that its app has.
-#[derive(Clone, Copy)]
-pub struct ProgramFile<'a> {
-    pub path: &'a str,
+use declarations::ArrayDeclaration;
+
+/// The shape that a program is judged under, as the words declare it: how many releases the app
+/// has, and the arrays that the program may use.
+#[derive(Drop)]
+pub struct DeclaredShape {
     pub releases: u8,
+    pub arrays: Vec<ArrayDeclaration>,
     pub ghost releases_in_range: { releases ≤ 64 },
 }
 
@@ -22,13 +25,15 @@ pub enum Request<'a> {
     List {
         path: &'a str,
     },
-    /// Verify the program.
+    /// Verify a file's program.
     Verify {
-        program: ProgramFile<'a>,
+        path: &'a str,
+        shape: DeclaredShape,
     },
     /// Verify it, and run it for one app.
     Run {
-        program: ProgramFile<'a>,
+        path: &'a str,
+        shape: DeclaredShape,
         version: Option<&'a str>,
         bucket: Bucket,
     },
@@ -39,4 +44,13 @@ pub enum Request<'a> {
 pub struct Bucket {
     pub number: u16,
     pub ghost in_range: { number < 10000 },
+}
+
+/// Why the words ask for nothing.
+#[derive(Clone, Copy)]
+pub enum NoRequest {
+    /// They name no command, or lack something that it wants.
+    Wrong,
+    /// Memory was refused.
+    Memory,
 }

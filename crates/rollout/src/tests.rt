@@ -1,6 +1,7 @@
 //! The program's rows: words and a file's program, and what the command prints and answers. The
 //! expected lines come from `docs/PROGRAM.md` and from runs worked out by hand.
 
+mod arrays;
 mod memory;
 mod programs;
 mod refusals;

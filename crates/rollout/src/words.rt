@@ -1,181 +1,171 @@
-//! The words of a command line: which are taken, and what they ask for.
+//! What the words of a command line ask for.
 
-ghost use Rattle.std.specs.Prelude.{◌≡◌, IfNone, IfOk, IfSome, codes, false};
-ghost use Rattle.clap.specs.Words.{app_of, found_of, rows_of, rule_of, shape_of};
-ghost use Rattle.clap.specs.Words.{subcommand_rows_of};
-ghost use Rattle.clap.specs.declared.builder.command.Command.TheViews.{out-Command as fields_of};
-ghost use Rattle.rollout.specs.Words as words;
-ghost use Rattle.rollout.specs.Words.{Asks, AsksNoProgram, AsksNothing, AsksProgram};
-ghost use Rattle.rollout.specs.Words.{HasBucket, HasNoBucket, IsAsked, IsNothingAsked};
+ghost use Rattle.std.specs.Prelude.{◌≡◌, ◌≤◌, IfNone, IfOk, IfSome, Err, Some};
+ghost use Rattle.clap.specs.Words.{found_of, rows_of, subcommand_rows_of};
+ghost use Rattle.rollout.specs.Words.{Asks, AsksNothing, IsAsked, IsNothingAsked, verb_named};
+ghost use Rattle.rollout.specs.Words.{HasArrays, HasBucket, HasReleases, HasShape, HasText};
+ghost use Rattle.rollout.specs.Words.{LacksArrays, LacksBucket, LacksReleases, LacksShape};
+ghost use Rattle.rollout.specs.Words.{LacksText};
 
-use crate::request::{Bucket, ProgramFile, Request};
-use clap::{Arg, ArgAction, ArgMatches, Command, value_parser};
-use std::alloc::{AllocError, Global};
+use crate::request::{Bucket, DeclaredShape, NoRequest, Request};
+use clap::ArgMatches;
+use declarations::{ArrayDeclaration, SpecFault, read_spec};
+use std::alloc::Global;
 
-fn file_argument<'a>(alloc: Global, id: &'a str, help: &'a str) -> Arg<'a>
-    ensures rule { rule_of result ≡ words.file id.now }
-    ensures local { result.global ≡ false }
-{
-    Arg::new(alloc, id)
-        .required(true)
-        .action(ArgAction::Set)
-        .help(help)
+/// A command.
+#[derive(Clone, Copy)]
+pub enum Verb {
+    Assemble,
+    List,
+    Verify,
+    Run,
 }
 
-fn program_argument<'a>(alloc: Global) -> Arg<'a>
-    ensures rule { rule_of result ≡ words.file (codes "IN") }
-    ensures local { result.global ≡ false }
+/// The request that the matches hold, if they hold one. Those of a parse by the grammar do where
+/// their arrays are well written, since it wants each other value and checks its range: this is
+/// tested, command by command.
+pub fn request_of<'a>(alloc: Global, matches: &ArgMatches<'a>) -> Result<Request<'a>, NoRequest>
+    ensures asked { IfOk result (IsAsked (subcommand_rows_of matches.now)) }
+    ensures nothing { result ≡ Err NoRequest.Wrong
+        → IsNothingAsked (subcommand_rows_of matches.now) }
 {
-    file_argument(
-        alloc,
-        "IN",
-        "File of the program's bytes: 8 a slot, 1 to 4096 slots",
-    )
+    match matches.subcommand() {
+        Some((name, found)) => request_named(alloc, verb_named(name), found),
+        None => Err(NoRequest::Wrong),
+    }
 }
 
-fn releases_option<'a>(alloc: Global) -> Arg<'a>
-    ensures rule { rule_of result ≡ words.releases }
-    ensures local { result.global ≡ false }
-{
-    Arg::new(alloc, "releases")
-        .long("releases")
-        .value_name("N")
-        .required(true)
-        .action(ArgAction::Set)
-        .value_parser(value_parser!(u8).range(0..=64))
-        .help("Number of releases that the program may choose from, 0 to 64")
-}
-
-fn bucket_option<'a>(alloc: Global) -> Arg<'a>
-    ensures rule { rule_of result ≡ words.bucket }
-    ensures local { result.global ≡ false }
-{
-    Arg::new(alloc, "bucket")
-        .long("bucket")
-        .value_name("N")
-        .action(ArgAction::Set)
-        .default_value("0")
-        .value_parser(value_parser!(u16).range(0..=9999))
-        .help("Bucket of the app, 0 to 9999")
-}
-
-fn version_option<'a>(alloc: Global) -> Arg<'a>
-    ensures rule { rule_of result ≡ words.version }
-    ensures local { result.global ≡ false }
-{
-    Arg::new(alloc, "version")
-        .long("version")
-        .value_name("T")
-        .action(ArgAction::Set)
-        .help("Version of the app: one to four numbers joined by dots; absent by default")
-}
-
-fn assemble_command<'a>(alloc: Global) -> Result<Command<'a>, AllocError>
-    ensures shape { IfOk result (λ c. shape_of c ≡ words.assemble_command) }
-    ensures local { IfOk result (λ c. (fields_of c).has_globals ≡ false) }
-{
-    Command::new(alloc, "asm")
-        .about("Assemble a text into a program's bytes: `N slots`")
-        .arg(file_argument(alloc, "IN", "File of assembly text"))?
-        .arg(file_argument(alloc, "OUT", "File that gets the program's bytes"))
-}
-
-fn list_command<'a>(alloc: Global) -> Result<Command<'a>, AllocError>
-    ensures shape { IfOk result (λ c. shape_of c ≡ words.list_command) }
-    ensures local { IfOk result (λ c. (fields_of c).has_globals ≡ false) }
-{
-    Command::new(alloc, "list")
-        .about("List a program's instructions, one a line")
-        .arg(program_argument(alloc))
-}
-
-fn verify_command<'a>(alloc: Global) -> Result<Command<'a>, AllocError>
-    ensures shape { IfOk result (λ c. shape_of c ≡ words.verify_command) }
-    ensures local { IfOk result (λ c. (fields_of c).has_globals ≡ false) }
-{
-    Command::new(alloc, "verify")
-        .about("Tell whether a program is accepted: `accepted N slots`, or its refusal")
-        .arg(program_argument(alloc))?
-        .arg(releases_option(alloc))
-}
-
-fn run_command<'a>(alloc: Global) -> Result<Command<'a>, AllocError>
-    ensures shape { IfOk result (λ c. shape_of c ≡ words.run_command) }
-    ensures local { IfOk result (λ c. (fields_of c).has_globals ≡ false) }
-{
-    Command::new(alloc, "run")
-        .about("Verify a program and run it for one app: `choice K after N instructions`")
-        .arg(program_argument(alloc))?
-        .arg(releases_option(alloc))?
-        .arg(version_option(alloc))?
-        .arg(bucket_option(alloc))
-}
-
-/// The grammar of the command line.
-pub fn grammar<'a>(alloc: Global) -> Result<Command<'a>, AllocError>
-    ensures { IfOk result (λ c. app_of c ≡ words.commands) }
-{
-    Command::new(alloc, "rollout")
-        .about("Decide by verified BPF programs which release an app is offered")
-        .subcommand_required(true)
-        .subcommand(assemble_command(alloc)?)?
-        .subcommand(list_command(alloc)?)?
-        .subcommand(run_command(alloc)?)?
-        .subcommand(verify_command(alloc)?)
-}
-
-/// The request that the matches hold, if they hold one. Those of a parse by the grammar do, since
-/// it wants each value and checks its range: this is tested, command by command.
-pub fn request_of<'a>(matches: &ArgMatches<'a>) -> Option<Request<'a>>
-    ensures some { IfSome result (IsAsked (subcommand_rows_of matches.now)) }
-    ensures none { IfNone result (IsNothingAsked (subcommand_rows_of matches.now)) }
-{
-    let (name, found) = matches.subcommand()?;
-    request_named(name, found)
-}
-
-// The request of the command of this name.
-fn request_named<'a>(name: &str, found: &ArgMatches<'a>) -> Option<Request<'a>>
-    ensures some { IfSome result (Asks name.now (rows_of (found_of found.now))) }
-    ensures none { IfNone result (AsksNothing name.now (rows_of (found_of found.now))) }
+// The command of this name.
+fn verb_named(name: &str) -> Option<Verb>
+    ensures { result ≡ verb_named name.now }
 {
     match name {
-        "asm" => Some(Request::Assemble {
-            text: found.get_str("IN")?,
-            out: found.get_str("OUT")?,
-        }),
-        "list" => Some(Request::List {
-            path: found.get_str("IN")?,
-        }),
-        "verify" => Some(Request::Verify {
-            program: program_of(found)?,
-        }),
-        "run" => Some(Request::Run {
-            program: program_of(found)?,
-            version: found.get_str("version"),
-            bucket: bucket_of(found)?,
-        }),
+        "asm" => Some(Verb::Assemble),
+        "list" => Some(Verb::List),
+        "verify" => Some(Verb::Verify),
+        "run" => Some(Verb::Run),
         _ => None,
     }
 }
 
-fn program_of<'a>(found: &ArgMatches<'a>) -> Option<ProgramFile<'a>>
-    ensures some { IfSome result (AsksProgram (rows_of (found_of found.now))) }
-    ensures none { IfNone result (AsksNoProgram (rows_of (found_of found.now))) }
+// The request of a command.
+fn request_named<'a>(
+    alloc: Global,
+    verb: Option<Verb>,
+    found: &ArgMatches<'a>,
+) -> Result<Request<'a>, NoRequest>
+    ensures asked { IfOk result (Asks verb (rows_of (found_of found.now))) }
+    ensures nothing { result ≡ Err NoRequest.Wrong
+        → AsksNothing verb (rows_of (found_of found.now)) }
 {
-    let path = found.get_str("IN")?;
+    match verb {
+        Some(Verb::Assemble) => assemble_asked(found),
+        Some(Verb::List) => list_asked(found),
+        Some(Verb::Verify) => verify_asked(alloc, found),
+        Some(Verb::Run) => run_asked(alloc, found),
+        None => Err(NoRequest::Wrong),
+    }
+}
+
+fn assemble_asked<'a>(found: &ArgMatches<'a>) -> Result<Request<'a>, NoRequest>
+    ensures asked { IfOk result (Asks (Some Verb.Assemble) (rows_of (found_of found.now))) }
+    ensures nothing { result ≡ Err NoRequest.Wrong
+        → AsksNothing (Some Verb.Assemble) (rows_of (found_of found.now)) }
+{
+    let text = text_of(found, "IN")?;
+    let out = text_of(found, "OUT")?;
+    Ok(Request::Assemble { text, out })
+}
+
+fn list_asked<'a>(found: &ArgMatches<'a>) -> Result<Request<'a>, NoRequest>
+    ensures asked { IfOk result (Asks (Some Verb.List) (rows_of (found_of found.now))) }
+    ensures nothing { result ≡ Err NoRequest.Wrong
+        → AsksNothing (Some Verb.List) (rows_of (found_of found.now)) }
+{
+    let path = text_of(found, "IN")?;
+    Ok(Request::List { path })
+}
+
+fn verify_asked<'a>(alloc: Global, found: &ArgMatches<'a>) -> Result<Request<'a>, NoRequest>
+    ensures asked { IfOk result (Asks (Some Verb.Verify) (rows_of (found_of found.now))) }
+    ensures nothing { result ≡ Err NoRequest.Wrong
+        → AsksNothing (Some Verb.Verify) (rows_of (found_of found.now)) }
+{
+    let path = text_of(found, "IN")?;
+    let shape = shape_of(alloc, found)?;
+    Ok(Request::Verify { path, shape })
+}
+
+fn run_asked<'a>(alloc: Global, found: &ArgMatches<'a>) -> Result<Request<'a>, NoRequest>
+    ensures asked { IfOk result (Asks (Some Verb.Run) (rows_of (found_of found.now))) }
+    ensures nothing { result ≡ Err NoRequest.Wrong
+        → AsksNothing (Some Verb.Run) (rows_of (found_of found.now)) }
+{
+    let path = text_of(found, "IN")?;
+    let bucket = bucket_of(found)?;
+    let shape = shape_of(alloc, found)?;
+    Ok(Request::Run {
+        path,
+        shape,
+        version: found.get_str("version"),
+        bucket,
+    })
+}
+
+// The text of an argument.
+fn text_of<'a>(found: &ArgMatches<'a>, id: &str) -> Result<&'a str, NoRequest>
+    ensures given { IfOk result (λ t. HasText id.now (rows_of (found_of found.now)) t.now) }
+    ensures lacking { result ≡ Err NoRequest.Wrong
+        → LacksText id.now (rows_of (found_of found.now)) }
+{
+    match found.get_str(id) {
+        Some(text) => Ok(text),
+        None => Err(NoRequest::Wrong),
+    }
+}
+
+// The shape that the options declare.
+fn shape_of(alloc: Global, found: &ArgMatches<'_>) -> Result<DeclaredShape, NoRequest>
+    ensures given { IfOk result (HasShape (rows_of (found_of found.now))) }
+    ensures lacking { result ≡ Err NoRequest.Wrong → LacksShape (rows_of (found_of found.now)) }
+{
+    let Some(releases) = releases_of(found) else {
+        return Err(NoRequest::Wrong);
+    };
+    let arrays = arrays_of(alloc, found)?;
+    Ok(DeclaredShape { releases, arrays })
+}
+
+fn releases_of(found: &ArgMatches<'_>) -> Option<u8>
+    ensures given { IfSome result (HasReleases (rows_of (found_of found.now))) }
+    ensures lacking { IfNone result (LacksReleases (rows_of (found_of found.now))) }
+{
     match found.get_one::<u8>("releases") {
-        Some(releases) if releases <= 64 => Some(ProgramFile { path, releases }),
+        Some(releases) if releases <= 64 => Some(releases),
         _ => None,
     }
 }
 
-fn bucket_of(found: &ArgMatches<'_>) -> Option<Bucket>
-    ensures some { IfSome result (HasBucket (rows_of (found_of found.now))) }
-    ensures none { IfNone result (HasNoBucket (rows_of (found_of found.now))) }
+fn arrays_of(alloc: Global, found: &ArgMatches<'_>) -> Result<Vec<ArrayDeclaration>, NoRequest>
+    ensures given { IfOk result (λ v. HasArrays (rows_of (found_of found.now)) v.items) }
+    ensures lacking { result ≡ Err NoRequest.Wrong → LacksArrays (rows_of (found_of found.now)) }
+{
+    let Some(text) = found.get_str("arrays") else {
+        return Ok(Vec::new(alloc));
+    };
+    match read_spec(alloc, text) {
+        Ok(arrays) => Ok(arrays),
+        Err(SpecFault::Malformed) => Err(NoRequest::Wrong),
+        Err(SpecFault::Memory) => Err(NoRequest::Memory),
+    }
+}
+
+fn bucket_of(found: &ArgMatches<'_>) -> Result<Bucket, NoRequest>
+    ensures given { IfOk result (HasBucket (rows_of (found_of found.now))) }
+    ensures lacking { result ≡ Err NoRequest.Wrong → LacksBucket (rows_of (found_of found.now)) }
 {
     match found.get_one::<u16>("bucket") {
-        Some(number) if number < 10000 => Some(Bucket { number }),
-        _ => None,
+        Some(number) if number < 10000 => Ok(Bucket { number }),
+        _ => Err(NoRequest::Wrong),
     }
 }

@@ -39,7 +39,15 @@ fn run_none(rt: &HostRuntime, path: &str) -> (u8, [u8; 32], [u8; 32]) {
     let mut said = [0; 32];
     let mut out: &mut [u8] = &mut room;
     let mut err: &mut [u8] = &mut said;
-    let words = ["rollout", "run", path, "--releases", "0"];
+    let words = [
+        "rollout",
+        "run",
+        path,
+        "--releases",
+        "0",
+        "--arrays",
+        "a:64:1",
+    ];
     let status = command(rt, &words, &mut out, &mut err);
     (status, room, said)
 }
@@ -59,6 +67,7 @@ fn refused_once(rt: HostRuntime) -> Result<(), Fail> {
         assert_eq!(rt; room, [0; 32]);
         let lines = [
             "refused B4 Memory\n",
+            "refused N3 Memory\n",
             "refused F9 Memory\n",
             "refused V15 Memory\n",
         ];

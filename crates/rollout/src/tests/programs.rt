@@ -25,6 +25,9 @@ const KNOWN: &str = "ldxb r2, [r1+18]\nand r2, 1\nmov r0, 1\njge r2, 1, +1\nmov 
 
 const NUMBER: &str = "ldxb r0, [r1+0]\nand r0, 63\nexit";
 
+/// Whether the version's text is `1`.
+const IS_1: &str = "stb [r10-8], 49\nmov r1, 1\nmov r2, r10\nadd r2, -8\nmov r3, 1\ncall 2\nexit";
+
 const VERDICTS: [Verdict; 7] = [
     ("none", NONE, "0", "accepted 2 slots\n"),
     ("load_56", LOAD_56, "0", "accepted 3 slots\n"),
@@ -54,7 +57,17 @@ fn verdicts(rt: HostRuntime) -> Result<(), Fail> {
 /// A program, the words for its run, and the line of its choice.
 type Choice = (&'static str, &'static [&'static str], &'static str);
 
-const CHOICES: [Choice; 11] = [
+const CHOICES: [Choice; 13] = [
+    (
+        IS_1,
+        &["--releases", "1", "--version", "1"],
+        "choice 1 after 7 instructions\n",
+    ),
+    (
+        IS_1,
+        &["--releases", "1", "--version", "01"],
+        "choice 0 after 7 instructions\n",
+    ),
     (
         NONE,
         &["--releases", "0"],

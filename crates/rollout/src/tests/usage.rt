@@ -62,7 +62,7 @@ fn help(rt: HostRuntime) -> Result<(), Fail> {
     let pages: [(&[&str], &str); 3] = [
         (&["rollout", "--help"], "verify"),
         (&["rollout", "run", "--help"], "--bucket"),
-        (&["rollout", "verify", "--help"], "--releases"),
+        (&["rollout", "verify", "--help"], "name:width:length"),
     ];
     for (words, want) in pages {
         let mut out = Vec::new(rt.alloc());

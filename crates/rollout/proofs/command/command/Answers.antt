@@ -9,10 +9,10 @@ returns-in-Err-clause-done g c zero =
 
 pub returns-in-Ok-answer-clause-done : goal.returns-in-Ok-answer-clause-done
 returns-in-Ok-answer-clause-done g c zero = inr (record {
-  request = c.in-Some.request;
+  request = c.in-Ok-request_of.request;
   answer = c.in-Ok-answer.answer;
   asked = request_asked _ (map g.S.AsStr.text c.args.words.now) _ _ c.in-Ok.ensures
-      c.in-Ok-try_get_matches_from.ensures.matches c.in-Some.ensures.some;
+      c.in-Ok-try_get_matches_from.ensures.matches c.in-Ok-request_of.ensures.asked;
   answers = c.in-Ok-answer.ensures.answer;
   printed = of_written _ _ _ _ c.status_of.ensures c.is_ok.ensures.value c.write.ensures.bytes zero;
 })

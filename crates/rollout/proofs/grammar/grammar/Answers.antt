@@ -1,6 +1,6 @@
 use Rattle.std.proofs.lemmas.Result.{IfOk-weaker}
 use Rattle.rollout.proofs.Reading.{required_top, with_one_more}
-use Rattle.rollout.proofs.words.grammar.Goals as goal
+use Rattle.rollout.proofs.grammar.grammar.Goals as goal
 
 pub returns : goal.returns
 returns c =

@@ -1,0 +1,67 @@
+-- The commands of the command line, with their arguments.
+use Rattle.std.specs.Prelude.{pos, List, [], ◌∷◌, Some, true, false, codes}
+use Rattle.clap.specs.declared.builder.action.ArgAction.TheVariants.{Set}
+use Rattle.clap.specs.declared.builder.value_parser.ValueParser.TheVariants.{Signed}
+use Rattle.clap.specs.Simple.{Shape, new_shape}
+use Rattle.clap.specs.Words.{App, Rule, Text, new_rule}
+
+-- a word by its place, which has to be there
+abbrev pub file : Text → Rule
+file id = record (new_rule id) { required = true; action = Some Set }
+
+-- `--releases N`, which has to be there
+abbrev pub releases : Rule
+releases = record (new_rule (codes "releases")) {
+  long = Some (codes "releases");
+  value_names = 1;
+  required = true;
+  action = Some Set;
+  parser = Some (Signed (pos 0) (pos 64));
+}
+
+-- `--NAME VALUE`
+abbrev pub option : Text → Rule
+option name = record (new_rule name) { long = Some name; value_names = 1; action = Some Set }
+
+-- `--arrays SPEC`
+abbrev pub arrays : Rule
+arrays = option (codes "arrays")
+
+-- `--version T`
+abbrev pub version : Rule
+version = option (codes "version")
+
+-- `--bucket N`, 0 by default
+abbrev pub bucket : Rule
+bucket = record (option (codes "bucket")) {
+  defaults = codes "0" ∷ [];
+  parser = Some (Signed (pos 0) (pos 9999));
+}
+
+-- ---- commands
+
+abbrev pub command : Text → List Rule → Shape
+command name arguments = record (new_shape name) { rules = arguments }
+
+abbrev pub assemble_command : Shape
+assemble_command = command (codes "asm") (file (codes "IN") ∷ file (codes "OUT") ∷ [])
+
+abbrev pub list_command : Shape
+list_command = command (codes "list") (file (codes "IN") ∷ [])
+
+-- over a program's file, under a declared shape
+abbrev pub program_command : Text → Shape
+program_command name = command name (file (codes "IN") ∷ releases ∷ arrays ∷ [])
+
+abbrev pub verify_command : Shape
+verify_command = program_command (codes "verify")
+
+abbrev pub run_command : Shape
+run_command =
+    command (codes "run") (file (codes "IN") ∷ releases ∷ arrays ∷ version ∷ bucket ∷ [])
+
+abbrev pub commands : App
+commands = record {
+  top = record (new_shape (codes "rollout")) { is_leaf = false; subcommand_required = true };
+  subs = assemble_command ∷ list_command ∷ run_command ∷ verify_command ∷ [];
+}
