@@ -1,0 +1,102 @@
+//! Rulesets of one app x, and the reply to a body under them.
+
+ghost use Rattle.std.specs.Prelude.{◌≡◌, ◌≤◌, IfOk, length};
+
+use attrs::{Moment, Text};
+use bpf_text::assemble;
+use bpf_verify::{Verified, verify};
+use cells::Shape;
+use flow_check::Flow;
+use omaha_json::{OmahaFault, Request, read_request, reply_text};
+use releases::{Package, Release};
+use ruleset::{App, Ruleset};
+use std::alloc::{AllocError, Global};
+use std::sync::Arc;
+use std::test::Fail;
+
+/// The SHA-256 of `abc`.
+const HASH: &str = "ba7816bf8f01cfea414140de5dae2223b00361a396177a9cb410ff61f20015ad";
+
+/// A program that offers nothing, of an app with so many releases.
+fn program(alloc: Global, count: u8) -> Result<Arc<Verified>, Fail>
+    requires { count ≤ 64 }
+    ensures { IfOk result (λ p. p.value.shape.releases ≡ count) }
+{
+    let flow = Flow::check(alloc, &assemble(alloc, "mov r0, 0\nexit")?)?;
+    let program = verify(alloc, flow, &Shape::plain(alloc, count))?;
+    Ok(Arc::new(alloc, program)?)
+}
+
+/// The server `prod` with the app x, which has so many releases of so many packages each.
+pub(crate) fn rules_of(alloc: Global, count: u8, packages: u8) -> Result<Ruleset, Fail> {
+    let count = count.min(64);
+    let releases = releases(alloc, count, packages.clamp(1, 16))?;
+    let program = program(alloc, count)?;
+    let apps = vec![in alloc; App::new(String::from_str(alloc, "x")?, program, releases)]?;
+    Ok(Ruleset::new(String::from_str(alloc, "prod")?, apps)?)
+}
+
+fn releases(alloc: Global, count: u8, packages: u8) -> Result<Vec<Release>, AllocError>
+    requires some { 1 ≤ packages }
+    requires few { packages ≤ 16 }
+    ensures { IfOk result (λ releases. length releases.items ≡ count) }
+{
+    let mut releases = Vec::new(alloc);
+    for _i in 0..count {
+        releases.push(release(alloc, packages)?)?;
+    }
+    Ok(releases)
+}
+
+fn release(alloc: Global, count: u8) -> Result<Release, AllocError>
+    requires some { 1 ≤ count }
+    requires few { count ≤ 16 }
+{
+    let version = Text::new(String::from_str(alloc, "2.0.0.0")?);
+    let codebase = Text::new(String::from_str(alloc, "http://dl.example/")?);
+    Ok(Release::new(version, codebase, packages(alloc, count)?))
+}
+
+fn packages(alloc: Global, count: u8) -> Result<Vec<Package>, AllocError>
+    ensures { IfOk result (λ packages. length packages.items ≡ count) }
+{
+    let mut packages = Vec::new(alloc);
+    for _i in 0..count {
+        packages.push(package(alloc)?)?;
+    }
+    Ok(packages)
+}
+
+fn package(alloc: Global) -> Result<Package, AllocError> {
+    let name = Text::new(String::from_str(alloc, "x.bin")?);
+    let hash = Text::new(String::from_str(alloc, HASH)?);
+    Ok(Package::new(name, hash, 3, true))
+}
+
+/// The request that a body is. It has no clauses, so that no proof reads the bytes of a test.
+pub(crate) fn read(alloc: Global, body: &[u8]) -> Result<Request, OmahaFault> {
+    read_request(alloc, body)
+}
+
+/// The reply to a body.
+pub(crate) fn reply_to(
+    alloc: Global,
+    rules: &Ruleset,
+    body: &[u8],
+    choices: &[Option<u8>],
+    moment: Moment,
+) -> Result<Vec<u8>, OmahaFault> {
+    let request = read(alloc, body)?;
+    if choices.len() != request.apps().len() {
+        return Err(OmahaFault::TooManyApps);
+    }
+    reply_text(alloc, &request, rules, choices, moment)
+}
+
+/// `ok` of a body that is a request, or its printed fault.
+pub(crate) fn told(alloc: Global, body: &[u8]) -> Result<String, AllocError> {
+    match read(alloc, body) {
+        Ok(_) => format!(in alloc; "ok"),
+        Err(fault) => format!(in alloc; "{fault}"),
+    }
+}

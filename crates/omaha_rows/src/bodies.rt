@@ -1,0 +1,65 @@
+//! Bodies and their faults, by each way to get one.
+
+use crate::apps::told;
+use omaha_json::OmahaFault;
+use std::test::Fail;
+
+/// Bodies, and what is wrong with them first. Of those that are requests, members of another kind
+/// count as absent, and others are ignored.
+const BODIES: &str = r#"
+ => O1 Json
+{ => O1 Json
+{} {} => O1 Json
+[] => O2 Shape
+null => O2 Shape
+{} => O2 Shape
+{"request":[]} => O2 Shape
+{"request":null} => O2 Shape
+{"request":{}} => O3 Protocol
+{"request":{"protocol":3.1}} => O3 Protocol
+{"request":{"protocol":"3.0"}} => O3 Protocol
+{"request":{"protocol":"3.0","app":1}} => O3 Protocol
+{"request":{"protocol":"3.1","app":{}}} => O2 Shape
+{"request":{"protocol":"3.1","app":null}} => O2 Shape
+{"request":{"protocol":"3.1","app":[1]}} => O2 Shape
+{"request":{"protocol":"3.1","app":[{}]}} => O2 Shape
+{"request":{"protocol":"3.1","app":[{"appid":1}]}} => O2 Shape
+{"request":{"protocol":"3.1","app":[{"appid":null}]}} => O2 Shape
+{"request":{"protocol":"3.1","app":[{"appid":"x"},[]]}} => O2 Shape
+{"request":{"protocol":"3.1","protocol":"3"}} => O3 Protocol
+{"request":1,"request":{"protocol":"3","protocol":"3.1"}} => ok
+{"request":{"protocol":"3.1","requestid":1,"sessionid":[],"os":"x","app":[]}} => ok
+{"request":{"protocol":"3.1","app":[{"appid":"","version":1,"cohort":null,"x":{}}]}} => ok
+{"request":{"protocol":"3.1","app":[{"appid":"x","installdate":-1e300}]}} => ok
+{"request":{"protocol":"3.1","x":"\ud800"}} => O1 Json
+{"request":{"protocol":"3.1","x":"\udc00\ud800"}} => O1 Json
+{"request":{"protocol":"3.1","x":1e309}} => O1 Json
+{"request":{"protocol":"3.1","x":-1e309}} => O1 Json
+"#;
+
+#[test]
+fn the_first_fault_is_told(rt: HostRuntime) -> Result<(), Fail> {
+    for row in BODIES.lines().skip(1) {
+        let (body, want) = row.split_once(" => ").ok_or("a row of two parts")?;
+        let found = told(rt.alloc(), body.as_bytes())?;
+        assert!(rt; found.as_str() == want, "{row}: {found}");
+    }
+    Ok(())
+}
+
+/// Bytes that no line of a table has.
+const OTHERS: [(&[u8], &str); 2] = [
+    (b"\"\xff\"", "O1 Json"),
+    (b" {\"request\" : {\"protocol\":\"3.1\"} }\n", "ok"),
+];
+
+#[test]
+fn other_bytes(rt: HostRuntime) -> Result<(), Fail> {
+    for (body, want) in OTHERS {
+        let found = told(rt.alloc(), body)?;
+        assert!(rt; found.as_str() == want, "{want}: {found}");
+    }
+    let memory = format!(in rt.alloc(); "{}", OmahaFault::Memory)?;
+    assert_eq!(rt; memory.as_str(), "O5 Memory");
+    Ok(())
+}
