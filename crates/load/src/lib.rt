@@ -13,11 +13,11 @@ mod apps;
 mod fault;
 mod files;
 mod folder;
-mod manifest;
+mod loading;
 mod program;
 mod rule;
 
 pub use fault::{LoadFault, ProgramFault, RuleTextFault};
 pub use files::{FileFault, Files};
 pub use folder::FolderFiles;
-pub use manifest::load_ruleset;
+pub use loading::load_ruleset;

@@ -3,7 +3,7 @@ use Rattle.declarations.specs.Order.{AreDeclared}
 use Rattle.load.specs.Apps.{AreAppsOf, RefusesApps}
 use Rattle.load.specs.Load.{RefusesArrays, of_bytes, of_arrays, of_apps}
 use Rattle.load.proofs.Names.{never_twice}
-use Rattle.load.proofs.manifest.load_ruleset.Goals as goal
+use Rattle.load.proofs.loading.load_ruleset.Goals as goal
 
 pub returns-in_err-manifest-clause-loads : goal.returns-in_err-manifest-clause-loads
 returns-in_err-manifest-clause-loads g c =
