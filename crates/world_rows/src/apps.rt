@@ -1,18 +1,32 @@
-//! Apps of rulesets, with releases whose texts no test reads.
+//! Rulesets of apps whose releases no test reads, worlds over them and their events. The calls have
+//! no clauses here, so that no proof computes with the events of a test.
 
-ghost use Rattle.std.specs.Prelude.{◌≡◌, IfOk, length};
+ghost use Rattle.std.specs.Prelude.{◌≡◌, ◌≤◌, IfOk, length};
 
-use attrs::Text;
-use bpf_verify::Verified;
+use attrs::{Attrs, Text};
+use bpf_text::assemble;
+use bpf_verify::{Verified, verify};
+use cells::Shape;
+use flow_check::Flow;
 use releases::{Package, Release};
-use ruleset::App;
+use ruleset::{App, Ruleset};
 use std::alloc::{AllocError, Global};
 use std::sync::Arc;
+use std::test::Fail;
+use world::{Effect, Event, World, WorldFault, play};
+
+/// Chooses the first release for buckets below 100.
+pub(crate) const BELOW_100: &str =
+    "ldxh r2, [r1+16]\nmov r0, 0\njge r2, 100, +1\nmov r0, 1\nexit\n";
 
 const HASH: &str = "ba7816bf8f01cfea414140de5dae2223b00361a396177a9cb410ff61f20015ad";
 
 /// The app that runs this program, with as many releases as its shape says.
-pub fn app_of(alloc: Global, appid: &str, program: Arc<Verified>) -> Result<App, AllocError> {
+pub(crate) fn app_of(
+    alloc: Global,
+    appid: &str,
+    program: Arc<Verified>,
+) -> Result<App, AllocError> {
     let accepted: &Verified = &program;
     let releases = releases(alloc, accepted.shape().releases())?;
     Ok(App::new(String::from_str(alloc, appid)?, program, releases))
@@ -39,4 +53,56 @@ fn package(alloc: Global) -> Result<Package, AllocError> {
     let name = Text::new(String::from_str(alloc, "x.bin")?);
     let hash = Text::new(String::from_str(alloc, HASH)?);
     Ok(Package::new(name, hash, 3, true))
+}
+
+/// The app that runs the program of a text, with so many releases.
+pub(crate) fn app(alloc: Global, appid: &str, text: &str, releases: u8) -> Result<App, Fail>
+    requires { releases ≤ 64 }
+{
+    let flow = Flow::check(alloc, &assemble(alloc, text)?)?;
+    let program = verify(alloc, flow, &Shape::plain(alloc, releases))?;
+    Ok(app_of(alloc, appid, Arc::new(alloc, program)?)?)
+}
+
+/// The ruleset of one app.
+pub(crate) fn rules(
+    alloc: Global,
+    appid: &str,
+    text: &str,
+    releases: u8,
+) -> Result<Arc<Ruleset>, Fail>
+    requires { releases ≤ 64 }
+{
+    let apps = vec![in alloc; app(alloc, appid, text, releases)?]?;
+    Ok(Arc::new(alloc, Ruleset::new(String::new(alloc), apps)?)?)
+}
+
+/// A world of so many workers.
+pub(crate) fn world_over(alloc: Global, workers: usize, rules: Arc<Ruleset>) -> Result<World, Fail>
+    requires at_least { 1 ≤ workers }
+    requires at_most { workers ≤ 64 }
+{
+    Ok(World::new(alloc, workers, rules)?)
+}
+
+/// A Start of a run for a bucket, of 9999 where it is greater.
+pub(crate) fn start(alloc: Global, worker: usize, appid: &str, bucket: u16) -> Result<Event, Fail> {
+    let attrs = Attrs::plain(alloc, appid, None, bucket.min(9999))?;
+    let attrs = Arc::new(alloc, attrs)?;
+    Ok(Event::Start { worker, attrs })
+}
+
+pub(crate) fn applied(world: &mut World, event: &Event) -> Result<Effect, WorldFault> {
+    world.apply(event)
+}
+
+/// What events come to, one after another.
+pub(crate) type Answers = Vec<Result<Effect, WorldFault>>;
+
+pub(crate) fn played(
+    alloc: Global,
+    world: &mut World,
+    events: &[Event],
+) -> Result<Answers, WorldFault> {
+    play(alloc, world, events)
 }

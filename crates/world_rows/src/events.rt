@@ -1,42 +1,13 @@
 //! A worked list of events with its answers, and that the calls succeed where there is memory.
 
-ghost use Rattle.std.specs.Prelude.{◌<◌, ◌≤◌};
-
-use crate::apps::app_of;
-use attrs::Attrs;
-use bpf_text::assemble;
-use bpf_verify::{Verified, verify};
-use cells::Shape;
-use flow_check::Flow;
-use ruleset::Ruleset;
+use crate::apps::{BELOW_100, applied, played, rules, start, world_over};
 use std::alloc::Global;
-use std::sync::Arc;
 use std::test::Fail;
-use world::{Effect, Event, World, WorldFault, play};
+use world::{Effect, Event, World, WorldFault};
 
-const BELOW_100: &str = "ldxh r2, [r1+16]\nmov r0, 0\njge r2, 100, +1\nmov r0, 1\nexit";
-
-fn below_100(alloc: Global) -> Result<Arc<Verified>, Fail> {
-    let flow = Flow::check(alloc, &assemble(alloc, BELOW_100)?)?;
-    let program = verify(alloc, flow, &Shape::plain(alloc, 1))?;
-    Ok(Arc::new(alloc, program)?)
-}
-
-/// A world whose one ruleset has the app x.
-fn world_of(alloc: Global, workers: usize) -> Result<World, Fail>
-    requires at_least { 1 ≤ workers }
-    requires at_most { workers ≤ 64 }
-{
-    let apps = vec![in alloc; app_of(alloc, "x", below_100(alloc)?)?]?;
-    let rules = Arc::new(alloc, Ruleset::new(String::new(alloc), apps)?)?;
-    Ok(World::new(alloc, workers, rules)?)
-}
-
-fn start(alloc: Global, worker: usize, appid: &str, bucket: u16) -> Result<Event, Fail>
-    requires { bucket < 10000 }
-{
-    let attrs = Arc::new(alloc, Attrs::plain(alloc, appid, None, bucket)?)?;
-    Ok(Event::Start { worker, attrs })
+/// A world of two workers, whose one ruleset has the app x.
+fn two_workers(alloc: Global) -> Result<World, Fail> {
+    world_over(alloc, 2, rules(alloc, "x", BELOW_100, 1)?)
 }
 
 /// Two workers, one in the rollout and one not.
@@ -97,34 +68,32 @@ const WORKED_ANSWERS: [Result<Effect, WorldFault>; 19] = [
 
 #[test]
 fn worked_events_are_applied(rt: HostRuntime) -> Result<(), Fail> {
-    let mut world = world_of(rt.alloc(), 2)?;
+    let mut world = two_workers(rt.alloc())?;
     let events = worked_events(rt.alloc())?;
     for (event, answer) in events.iter().zip(WORKED_ANSWERS.iter()) {
-        assert_eq!(rt; world.apply(event), *answer);
+        assert_eq!(rt; applied(&mut world, event), *answer);
     }
     Ok(())
 }
 
 #[test]
 fn worked_events_are_played(rt: HostRuntime) -> Result<(), Fail> {
-    let mut world = world_of(rt.alloc(), 2)?;
+    let mut world = two_workers(rt.alloc())?;
     let events = worked_events(rt.alloc())?;
-    let answers = play(rt.alloc(), &mut world, events.as_slice())?;
+    let answers = played(rt.alloc(), &mut world, events.as_slice())?;
     assert_eq!(rt; answers.as_slice(), WORKED_ANSWERS.as_slice());
     Ok(())
 }
 
 #[test]
 fn workers_are_numbered_from_0_to_63(rt: HostRuntime) -> Result<(), Fail> {
-    let mut world = world_of(rt.alloc(), 64)?;
-    assert_eq!(rt;
-        world.apply(&start(rt.alloc(), 64, "x", 0)?),
-        Err(WorldFault::NoWorker)
-    );
-    assert_eq!(rt;
-        world.apply(&start(rt.alloc(), 63, "x", 0)?),
-        Ok(Effect::Started)
-    );
+    let rules = rules(rt.alloc(), "x", BELOW_100, 1)?;
+    let mut many = world_over(rt.alloc(), 64, rules)?;
+    let rows = [(64, Err(WorldFault::NoWorker)), (63, Ok(Effect::Started))];
+    for (worker, answer) in rows {
+        let event = start(rt.alloc(), worker, "x", 0)?;
+        assert_eq!(rt; applied(&mut many, &event), answer);
+    }
     Ok(())
 }
 

@@ -4,7 +4,7 @@
 //! theirs is refused, which `rt try --test --fail-alloc N -- memory` does for each N
 //! (docs/PROVING.md).
 
-use crate::apps::app_of;
+use crate::apps::{app_of, applied, played};
 use attrs::{AttrFault, Attrs};
 use bpf_insn::InsnFault;
 use bpf_text::{AsmFault, AsmFaultKind, ListFault, assemble, listing};
@@ -15,7 +15,7 @@ use ruleset::{LoadFault, Ruleset};
 use std::alloc::Global;
 use std::sync::Arc;
 use std::test::Fail;
-use world::{Effect, Event, World, WorldFault, play};
+use world::{Effect, Event, World, WorldFault};
 
 /// The answer of a call, or of a second one where the first is this refusal of memory.
 fn again<T, E: PartialEq + Drop, F: FnMut() -> Result<T, E>>(memory: E, mut call: F) -> Result<T, E>
@@ -198,11 +198,11 @@ fn worlds(rt: HostRuntime) -> Result<(), Fail> {
     let (start, events) = again(WorldFault::Memory, || events_of(alloc))?;
     let rules = again(WorldFault::Memory, || shared_rules(alloc))?;
     let swap = Event::Swap { rules };
-    assert_eq!(rt; world.apply(&start), Ok(Effect::Started));
-    let swapped = again(WorldFault::Memory, || world.apply(&swap))?;
+    assert_eq!(rt; applied(&mut world, &start), Ok(Effect::Started));
+    let swapped = again(WorldFault::Memory, || applied(&mut world, &swap))?;
     assert_eq!(rt; swapped, Effect::Swapped { ruleset: 2 });
     let answers = again(WorldFault::Memory, || {
-        play(alloc, &mut world, events.as_slice())
+        played(alloc, &mut world, events.as_slice())
     })?;
     assert_eq!(rt; answers.as_slice(), ANSWERS.as_slice());
     Ok(())

@@ -1,19 +1,10 @@
 //! Swaps of the ruleset: a run goes on under the one that it started with, and the next Start is
 //! under the newest.
 
-ghost use Rattle.std.specs.Prelude.{◌≤◌};
-
-use crate::apps::app_of;
-use attrs::Attrs;
-use bpf_text::assemble;
-use bpf_verify::verify;
-use cells::Shape;
-use flow_check::Flow;
-use ruleset::Ruleset;
+use crate::apps::{played, rules, start, world_over};
 use std::alloc::Global;
-use std::sync::Arc;
 use std::test::Fail;
-use world::{Effect, Event, World, WorldFault, play};
+use world::{Effect, Event, World, WorldFault};
 
 // Eight slots, and the third release.
 const THIRD: &str = "mov r2, 0\nmov r2, 0\nmov r2, 0\nmov r2, 0\nmov r2, 0\nmov r2, 0
@@ -21,24 +12,9 @@ mov r0, 3\nexit\n";
 // Two slots, and no release.
 const NONE: &str = "mov r0, 0\nexit\n";
 
-/// The ruleset that has one app, of this program and so many releases.
-fn rules(alloc: Global, appid: &str, program: &str, releases: u8) -> Result<Arc<Ruleset>, Fail>
-    requires { releases ≤ 64 }
-{
-    let flow = Flow::check(alloc, &assemble(alloc, program)?)?;
-    let program = Arc::new(alloc, verify(alloc, flow, &Shape::plain(alloc, releases))?)?;
-    let apps = vec![in alloc; app_of(alloc, appid, program)?]?;
-    Ok(Arc::new(alloc, Ruleset::new(String::new(alloc), apps)?)?)
-}
-
 /// Two workers, and the ruleset of number 1, which has the app x with three releases.
 fn world_of(alloc: Global) -> Result<World, Fail> {
-    Ok(World::new(alloc, 2, rules(alloc, "x", THIRD, 3)?)?)
-}
-
-fn start(alloc: Global, worker: usize, appid: &str) -> Result<Event, Fail> {
-    let attrs = Arc::new(alloc, Attrs::plain(alloc, appid, None, 0)?)?;
-    Ok(Event::Start { worker, attrs })
+    world_over(alloc, 2, rules(alloc, "x", THIRD, 3)?)
 }
 
 /// So many steps of a worker.
@@ -51,14 +27,14 @@ fn steps(events: &mut Vec<Event>, worker: usize, count: usize) -> Result<(), Fai
 
 /// The ruleset is swapped after six of a run's eight steps, and then the worker starts again.
 fn swap_within_a_run(alloc: Global) -> Result<Vec<Event>, Fail> {
-    let mut events = vec![in alloc; start(alloc, 0, "x")?]?;
+    let mut events = vec![in alloc; start(alloc, 0, "x", 0)?]?;
     steps(&mut events, 0, 6)?;
     events.push(Event::Swap {
         rules: rules(alloc, "x", NONE, 1)?,
     })?;
     steps(&mut events, 0, 2)?;
     events.push(Event::Finish { worker: 0 })?;
-    events.push(start(alloc, 0, "x")?)?;
+    events.push(start(alloc, 0, "x", 0)?)?;
     steps(&mut events, 0, 2)?;
     events.push(Event::Finish { worker: 0 })?;
     Ok(events)
@@ -93,15 +69,15 @@ const SWAPPED_WITHIN: [Result<Effect, WorldFault>; 15] = [
 /// Two swaps, after which the app of the first ruleset is gone and another one is there.
 fn swap_to_another_app(alloc: Global) -> Result<Vec<Event>, Fail> {
     let mut events = vec![in alloc;
-        start(alloc, 0, "x")?,
+        start(alloc, 0, "x", 0)?,
         Event::Swap {
             rules: rules(alloc, "x", NONE, 1)?
         },
         Event::Swap {
             rules: rules(alloc, "y", NONE, 1)?
         },
-        start(alloc, 1, "x")?,
-        start(alloc, 1, "y")?,
+        start(alloc, 1, "x", 0)?,
+        start(alloc, 1, "y", 0)?,
     ]?;
     steps(&mut events, 1, 2)?;
     events.push(Event::Finish { worker: 1 })?;
@@ -129,7 +105,7 @@ const SWAPPED_TO_ANOTHER: [Result<Effect, WorldFault>; 9] = [
 fn a_run_goes_on_under_its_ruleset(rt: HostRuntime) -> Result<(), Fail> {
     let mut world = world_of(rt.alloc())?;
     let events = swap_within_a_run(rt.alloc())?;
-    let answers = play(rt.alloc(), &mut world, events.as_slice())?;
+    let answers = played(rt.alloc(), &mut world, events.as_slice())?;
     assert_eq!(rt; answers.as_slice(), SWAPPED_WITHIN.as_slice());
     Ok(())
 }
@@ -138,7 +114,7 @@ fn a_run_goes_on_under_its_ruleset(rt: HostRuntime) -> Result<(), Fail> {
 fn a_start_is_under_the_newest(rt: HostRuntime) -> Result<(), Fail> {
     let mut world = world_of(rt.alloc())?;
     let events = swap_to_another_app(rt.alloc())?;
-    let answers = play(rt.alloc(), &mut world, events.as_slice())?;
+    let answers = played(rt.alloc(), &mut world, events.as_slice())?;
     assert_eq!(rt; answers.as_slice(), SWAPPED_TO_ANOTHER.as_slice());
     Ok(())
 }

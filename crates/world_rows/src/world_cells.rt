@@ -1,39 +1,21 @@
 //! The counters of a world, and events in batches: what is read is the value that the counters
 //! have, and a list of events may be played in parts.
 
-use crate::apps::app_of;
-use attrs::Attrs;
-use bpf_text::assemble;
-use bpf_verify::verify;
-use cells::{CellNo, Shape};
-use flow_check::Flow;
-use ruleset::Ruleset;
+use crate::apps::{BELOW_100, played, rules, start, world_over};
+use cells::CellNo;
 use std::alloc::Global;
-use std::sync::Arc;
 use std::test::Fail;
-use world::{Effect, Event, World, WorldFault, play};
-
-const BELOW_100: &str = "ldxh r2, [r1+16]\nmov r0, 0\njge r2, 100, +1\nmov r0, 1\nexit\n";
+use world::{Effect, Event, World, WorldFault};
 
 /// Two workers, and one ruleset that has the app x.
 fn world_of(alloc: Global) -> Result<World, Fail> {
-    let code = assemble(alloc, BELOW_100)?;
-    let flow = Flow::check(alloc, code.as_slice())?;
-    let program = verify(alloc, flow, &Shape::plain(alloc, 1))?;
-    let apps = vec![in alloc; app_of(alloc, "x", Arc::new(alloc, program)?)?]?;
-    let rules = Arc::new(alloc, Ruleset::new(String::new(alloc), apps)?)?;
-    Ok(World::new(alloc, 2, rules)?)
-}
-
-fn start(alloc: Global, worker: usize) -> Result<Event, Fail> {
-    let attrs = Arc::new(alloc, Attrs::plain(alloc, "x", None, 99)?)?;
-    Ok(Event::Start { worker, attrs })
+    world_over(alloc, 2, rules(alloc, "x", BELOW_100, 1)?)
 }
 
 /// Worker 0 starts, and does two instructions.
 fn first_events(alloc: Global) -> Result<Vec<Event>, Fail> {
     let events = vec![in alloc;
-        start(alloc, 0)?,
+        start(alloc, 0, "x", 99)?,
         Event::Step { worker: 0 },
         Event::Step { worker: 0 },
     ]?;
@@ -85,7 +67,7 @@ fn counters_open_at_0_and_stay_where_no_program_asks(rt: HostRuntime) -> Result<
     let mut world = world_of(rt.alloc())?;
     assert_eq!(rt; ends_of_counters(&world), [0, 0, 0, 0]);
     let events = first_events(rt.alloc())?;
-    let _answers = play(rt.alloc(), &mut world, events.as_slice())?;
+    let _answers = played(rt.alloc(), &mut world, events.as_slice())?;
     assert_eq!(rt; ends_of_counters(&world), [0, 0, 0, 0]);
     Ok(())
 }
@@ -94,10 +76,10 @@ fn counters_open_at_0_and_stay_where_no_program_asks(rt: HostRuntime) -> Result<
 fn a_second_batch_goes_on_with_the_world(rt: HostRuntime) -> Result<(), Fail> {
     let mut world = world_of(rt.alloc())?;
     let first = first_events(rt.alloc())?;
-    let answers = play(rt.alloc(), &mut world, first.as_slice())?;
+    let answers = played(rt.alloc(), &mut world, first.as_slice())?;
     assert_eq!(rt; answers.as_slice(), FIRST_ANSWERS.as_slice());
     let second = second_events(rt.alloc())?;
-    let answers = play(rt.alloc(), &mut world, second.as_slice())?;
+    let answers = played(rt.alloc(), &mut world, second.as_slice())?;
     assert_eq!(rt; answers.as_slice(), SECOND_ANSWERS.as_slice());
     Ok(())
 }
