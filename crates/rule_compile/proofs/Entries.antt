@@ -25,6 +25,7 @@ use Rattle.abs_value.specs.Values.{places}
 use Rattle.abs_value.specs.Narrowing.{Pair, learnt, below, without, apart_from, swapped, left_by, is_comparable, is_taken, narrowed}
 use Rattle.abs_value.specs.States.{register_at, value_at, with_value}
 use Rattle.bpf_verify.specs.Table.{Known, LiesIn, IsWider, Knows}
+use Rattle.rule_compile.proofs.Arrays.{lt_of}
 use Rattle.rule_compile.proofs.Typed.{entry_at}
 
 -- ---- entries: R6 is the context, R7 a choice, R10 the top of the stack
@@ -165,11 +166,8 @@ narrow_if false a b x p h is = absurd cc
 narrow_some : (a b : Number) (x p : Pair) → IsNarrower a b x → Some x ≡ Some p → IsNarrower a b p
 narrow_some a b x p h is = let same : x ≡ p = cc in subst (IsNarrower a b) same h
 
-le_of : (m n : ℕ) → nat_le m n ≡ true → m ≤ n
+pub le_of : (m n : ℕ) → nat_le m n ≡ true → m ≤ n
 le_of m n h = grind (arith, h)
-
-lt_of : (m n : ℕ) → nat_lt m n ≡ true → m < n
-lt_of m n h = grind (arith, h)
 
 moved_in : (s t : Bool) (lo hi : ℕ) → lo < hi → (if s then lo + 1 else lo) ≤ hi
 moved_in true t lo hi h = omega (arith, h)

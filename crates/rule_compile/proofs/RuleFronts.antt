@@ -33,7 +33,7 @@ use Rattle.rule_compile.proofs.Arrays.{can_count_is, can_take_is, both_true}
 use Rattle.rule_compile.proofs.RuleRuns.{Suits, MadeSuit, all_suit}
 use Rattle.rule_compile.proofs.Typed.{IsTyped, entry_at, is_table}
 use Rattle.rule_compile.proofs.Flows.{is_flow}
-use Rattle.rule_compile.proofs.Entries.{none_set, frame, choice, chosen, Takes}
+use Rattle.rule_compile.proofs.Entries.{le_of, none_set, frame, choice, chosen, Takes}
 use Rattle.rule_compile.proofs.InsnSteps.{set_step, copy_step, exit_step}
 use Rattle.rule_compile.proofs.CellSteps.{no_quota, contains_at}
 use Rattle.rule_compile.proofs.Fronts.{IsLabel, IsRest, IsFront, takes_here, takes_more, first_label, label_if, tail_itself, put_first, front_then, field_front, flag_front, equal_front, order_front, salted_front}
@@ -47,9 +47,6 @@ few_attributes attribute.Ap = omega arith
 few_attributes attribute.Lang = omega arith
 few_attributes attribute.Cohort = omega arith
 few_attributes attribute.Platform = omega arith
-
-le_of : (m n : ℕ) → nat_le m n ≡ true → m ≤ n
-le_of m n h = grind (arith, h)
 
 module _ (shape : AppShape) (is_shape : IsShape shape) where
   -- ---- tests

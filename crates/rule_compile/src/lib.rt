@@ -6,6 +6,16 @@
 //! else falls on to what is behind it, so that each test has one jump out and none leads to a jump.
 #![tactic(auto)]
 
+// What a run does is told by what comes next. From the rest of the code on a run does as some
+// behaviour says; from a piece in front of it on, it does as that part of the rule says, and then
+// as the rest does. So the proof is one induction over the rule, with a lemma an instruction.
+//
+// That the code is accepted is shown by a table of what is known at each place. Between two pieces
+// it is always the same: R6 is the start of the context, R7 a number up to the releases, R10 the
+// top of the stack, and of all else nothing is known. Within a piece each instruction is shown to
+// keep the rules and to lead to what the table says, whatever more is known there, and then
+// `table_is_enough` says that the verifier accepts. So no rule is refused but for its length.
+
 mod blocks;
 mod bytes;
 mod code;
