@@ -1,0 +1,128 @@
+// Each refusal, by changes of the sample.
+
+use crate::files::MemFiles;
+use crate::sample::{changed, files, told};
+use cells::Directory;
+use load::Files;
+use std::alloc::Global;
+use std::process::Abort;
+use std::test::Fail;
+
+/// What is changed, how, and what is told.
+const ROWS: &str = r#"
+- nothing |  | ok
+- no TOML | server = => server | M1 Toml
+- an unknown member | quota = 2 => limit = 2 | M2 Field
+- a wrong width | width = 64 => width = 16 | M2 Field
+- a program and a rule | rule = "y.rule" => rule = "y.rule" / program = "x.bpf" | M2 Field
+- neither | rule = "y.rule" =>  | M2 Field
+- an appid twice | appid = "y" => appid = "x" | M3 Duplicate
+- an array twice | [[app]] => [[array]] / name = "q" / width = 64 / length = 1 / [[app]] | M3 Duplicate
+- too many cells | [[app]] => [[array]] / name = "r" / width = 64 / length = 4096 / [[app]] | M7 Cells N1 CellsFull in array 2
+- no such file | "x.bpf" => "z.bpf" | M4 File in app 1
+- a file that can't be read | "x.bpf" => "unreadable.bpf" | M4 File in app 1
+- no such file of a rule | "y.rule" => "z.rule" | M4 File in app 2
+- no bytes | "x.bpf" => "empty.bpf" | M5 Program F6 Empty at slot 0 in app 1
+- a part of an instruction | "x.bpf" => "truncated.bpf" | M5 Program F8 Insn I1 Truncated at slot 0 in app 1
+- unreached | "x.bpf" => "unreached.bpf" | M5 Program F5 Unreached at slot 2 in app 1
+- no choice | "x.bpf" => "unset.bpf" | M5 Program V1 Unusable at slot 0 in app 1
+- a release that isn't there | "x.bpf" => "second.bpf" | M5 Program V13 Result at slot 1 in app 1
+- an array that isn't there | "x.bpf" => "other_array.bpf" | M5 Program V11 MapIndex at slot 0 in app 1
+- a text as a program | "x.bpf" => "y.rule" | M5 Program F8 Insn I4 UnusedField at slot 0 in app 1
+- no UTF-8 | "y.rule" => "no_text.rule" | M6 Rule L1 Token at line 1 in app 2
+- no token | "y.rule" => "token.rule" | M6 Rule L1 Token at line 1 in app 2
+- no rule | "y.rule" => "shape.rule" | M6 Rule L2 Shape at line 1 in app 2
+- an unknown array | "y.rule" => "name.rule" | M6 Rule L3 Name at line 1 in app 2
+- a count on a quota | "y.rule" => "third.rule" | M6 Rule L3 Name at line 2 in app 2
+- an index | "y.rule" => "index.rule" | M6 Rule L4 Range at line 1 in app 2
+- a release of another app | "y.rule" => "release.rule" | M6 Rule L4 Range at line 1 in app 2
+- 65537 bytes | "y.rule" => "long.rule" | M6 Rule L4 Range at line 1 in app 2
+- over 4096 slots | "y.rule" => "costly.rule" | M6 Rule C1 TooLong in app 2
+- M2 before M3 | quota = 2 => limit = 2 & appid = "y" => appid = "x" | M2 Field
+- M3 before M7 | appid = "y" => appid = "x" & [[app]] => [[array]] / name = "r" / width = 64 / length = 4096 / [[app]] | M3 Duplicate
+- M7 before M4 | "x.bpf" => "z.bpf" & [[app]] => [[array]] / name = "r" / width = 64 / length = 4096 / [[app]] | M7 Cells N1 CellsFull in array 2
+- app 1 before app 2 | "x.bpf" => "unset.bpf" & "y.rule" => "z.rule" | M5 Program V1 Unusable at slot 0 in app 1
+- app 1 before app 2, turned | "x.bpf" => "z.bpf" & "y.rule" => "shape.rule" | M4 File in app 1
+"#;
+
+/// What was told of a load, once and again, and how the directory and the count of failures moved.
+#[derive(Drop)]
+struct Told {
+    first: String,
+    again: String,
+    arrays: usize,
+    failures: u64,
+}
+
+fn load_twice(alloc: Global, files: &mut MemFiles, manifest: &str) -> Result<Told, Fail> {
+    let mut directory = Directory::new(alloc);
+    let before = files.failures();
+    let first = told(alloc, files, &mut directory, manifest)?;
+    let failures = files.failures().saturating_sub(before);
+    let arrays = directory.arrays().len();
+    let again = told(alloc, files, &mut directory, manifest)?;
+    Ok(Told {
+        first,
+        again,
+        arrays,
+        failures,
+    })
+}
+
+#[test]
+fn each_way(rt: HostRuntime) -> Result<(), Fail> {
+    let alloc = rt.alloc();
+    let mut files = files(alloc)?;
+    for row in ROWS.split("\n- ").skip(1) {
+        let (_, rest) = row
+            .trim_end()
+            .split_once(" | ")
+            .ok_or("a row of another form")?;
+        let (changes, answer) = rest.split_once(" | ").ok_or("a row of another form")?;
+        let manifest = changed(alloc, changes)?;
+        let told = load_twice(alloc, &mut files, manifest.as_str())?;
+        assert!(&rt; told.first.as_str() == answer, "{row}: {}", told.first);
+        assert!(&rt;
+            told.again.as_str() == answer,
+            "{row}, again: {}",
+            told.again
+        );
+        assert!(&rt;
+            (told.arrays == 1) == (answer == "ok"),
+            "{row}: {} arrays",
+            told.arrays
+        );
+        assert!(&rt; (told.failures == 1) == answer.starts_with("M4"), "{row}");
+    }
+    Ok(())
+}
+
+/// Manifests that follow a good one, in its directory.
+const LATER: &str = r#"
+- another quota | quota = 2 => quota = 3 | M7 Cells N2 Redefined in array 1
+- a new array, and an app without a choice | [[app]] => [[array]] / name = "z" / width = 64 / length = 1 / [[app]] & rule = "y.rule" => program = "unset.bpf" | M5 Program V1 Unusable at slot 0 in app 2
+- an array of the manifest before | name = "q" => name = "r" & "x.bpf" => "none.bpf" | M6 Rule L3 Name at line 1 in app 2
+- the same once more |  | ok
+"#;
+
+#[test]
+fn after_a_good_one(rt: HostRuntime) -> Result<(), Fail> {
+    let alloc = rt.alloc();
+    let mut files = files(alloc)?;
+    let mut directory = Directory::new(alloc);
+    let good = changed(alloc, "")?;
+    let first = told(alloc, &mut files, &mut directory, good.as_str())?;
+    assert!(&rt; first.as_str() == "ok", "{first}");
+    for row in LATER.split("\n- ").skip(1) {
+        let (_, rest) = row
+            .trim_end()
+            .split_once(" | ")
+            .ok_or("a row of another form")?;
+        let (changes, answer) = rest.split_once(" | ").ok_or("a row of another form")?;
+        let manifest = changed(alloc, changes)?;
+        let told = told(alloc, &mut files, &mut directory, manifest.as_str())?;
+        assert!(&rt; told.as_str() == answer, "{row}: {told}");
+        assert!(&rt; directory.arrays().len() == 1, "{row}");
+    }
+    Ok(())
+}
