@@ -7,7 +7,7 @@ use std::net::{Net, SocketAddr, TcpStream};
 use std::sync::atomic::{AtomicBool, Ordering};
 
 /// The head of a request.
-pub fn head(alloc: Global) -> io::Result<Vec<u8>> {
+pub(crate) fn head(alloc: Global) -> io::Result<Vec<u8>> {
     let size = TWO_APPS.len();
     let text = format!(in alloc;
         "POST /service/update2/json HTTP/1.1\r\nHost: h\r\nContent-Length: {size}\r\n\r\n"
@@ -16,13 +16,13 @@ pub fn head(alloc: Global) -> io::Result<Vec<u8>> {
 }
 
 /// Sends the bytes.
-pub fn send(stream: &TcpStream, bytes: &[u8]) -> io::Result<()> {
+pub(crate) fn send(stream: &TcpStream, bytes: &[u8]) -> io::Result<()> {
     let mut to = stream;
     to.write_all(bytes)
 }
 
 /// What the server sends until it ends.
-pub fn reply(alloc: Global, stream: &TcpStream) -> io::Result<Vec<u8>> {
+pub(crate) fn reply(alloc: Global, stream: &TcpStream) -> io::Result<Vec<u8>> {
     let mut bytes = Vec::new(alloc);
     let mut from = stream;
     let _count = from.read_to_end(&mut bytes)?;
@@ -30,12 +30,15 @@ pub fn reply(alloc: Global, stream: &TcpStream) -> io::Result<Vec<u8>> {
 }
 
 /// A connection.
-pub fn connect<H: Net<Stream = TcpStream>>(rt: &H, place: SocketAddr) -> io::Result<TcpStream> {
+pub(crate) fn connect<H: Net<Stream = TcpStream>>(
+    rt: &H,
+    place: SocketAddr,
+) -> io::Result<TcpStream> {
     TcpStream::connect(rt, place)
 }
 
 /// A connection that has sent a whole request.
-pub fn asked<H>(rt: &H, place: SocketAddr) -> io::Result<TcpStream>
+pub(crate) fn asked<H>(rt: &H, place: SocketAddr) -> io::Result<TcpStream>
 where
     H: Net<Stream = TcpStream> + AllocGlobal,
 {
@@ -46,12 +49,12 @@ where
 }
 
 /// Ends a server.
-pub fn halt<H: Net<Stream = TcpStream>>(rt: &H, place: SocketAddr, stop: &AtomicBool) {
+pub(crate) fn halt<H: Net<Stream = TcpStream>>(rt: &H, place: SocketAddr, stop: &AtomicBool) {
     stop.store(true, Ordering::SeqCst);
     let _last = connect(rt, place);
 }
 
 /// Whether it is the reply of the server `prod`.
-pub fn is_reply(bytes: &[u8]) -> bool {
+pub(crate) fn is_reply(bytes: &[u8]) -> bool {
     bytes.starts_with(b"HTTP/1.1 200 OK\r\n") && bytes.ends_with(b"\"server\":\"prod\"}}")
 }

@@ -18,13 +18,13 @@ use std::test::Fail;
 use workers::{AnswerFault, answer};
 
 /// 2026-03-02 01:00:00 UTC, which is day 7000 and second 3600 of Omaha's count.
-pub const MOMENT: i64 = 1772413200;
+pub(crate) const MOMENT: i64 = 1772413200;
 
 /// Offers nothing.
-pub const NOTHING: &str = "mov r0, 0\nexit";
+pub(crate) const NOTHING: &str = "mov r0, 0\nexit";
 
 /// Offers the first release to the buckets below 2000.
-pub const BELOW_2000: &str =
+pub(crate) const BELOW_2000: &str =
     "ldxh r2, [r1+16]\nmov r0, 0\njge r2, 2000, end\nmov r0, 1\nend:\nexit";
 
 const HASH: &str = "ba7816bf8f01cfea414140de5dae2223b00361a396177a9cb410ff61f20015ad";
@@ -60,31 +60,41 @@ fn app_of(alloc: Global, appid: &str, program: Arc<Verified>) -> Result<App, All
     Ok(App::new(String::from_str(alloc, appid)?, program, releases))
 }
 
-fn app(alloc: Global, appid: &str, text: &str) -> Result<App, Fail> {
+fn app(alloc: Global, appid: &str, text: &str, shape: &Shape) -> Result<App, Fail> {
     let flow = Flow::check(alloc, &assemble(alloc, text)?)?;
-    let program = verify(alloc, flow, &Shape::plain(alloc, 1))?;
+    let program = verify(alloc, flow, shape)?;
     Ok(app_of(alloc, appid, Arc::new(alloc, program)?)?)
 }
 
-/// The ruleset of a server `prod` that knows the app `x`, which has one release and this program.
-pub fn rules(alloc: Global, text: &str) -> Result<Arc<Ruleset>, Fail> {
-    let apps = vec![in alloc; app(alloc, "x", text)?]?;
+/// The ruleset of a server `prod` that knows the app `x` of this shape, which has this program.
+pub(crate) fn rules_over(alloc: Global, text: &str, shape: &Shape) -> Result<Arc<Ruleset>, Fail> {
+    let apps = vec![in alloc; app(alloc, "x", text, shape)?]?;
     let server = String::from_str(alloc, "prod")?;
     Ok(Arc::new(alloc, Ruleset::new(server, apps)?)?)
 }
 
+/// The ruleset of a server `prod` that knows the app `x`, which has one release and this program.
+pub(crate) fn rules(alloc: Global, text: &str) -> Result<Arc<Ruleset>, Fail> {
+    rules_over(alloc, text, &Shape::plain(alloc, 1))
+}
+
 /// A server with one worker.
 #[derive(Drop)]
-pub struct Server {
-    pub publisher: Publisher,
-    pub watcher: Watcher,
-    pub cells: PlainCells,
-    pub pass: PlainPass,
+pub(crate) struct Server {
+    pub(crate) publisher: Publisher,
+    pub(crate) watcher: Watcher,
+    pub(crate) cells: PlainCells,
+    pub(crate) pass: PlainPass,
 }
 
 /// The server whose app `x` has this program.
-pub fn server_of(alloc: Global, text: &str) -> Result<Server, Fail> {
-    let mut publisher = Publisher::new(alloc, rules(alloc, text)?, 1)?;
+pub(crate) fn server_of(alloc: Global, text: &str) -> Result<Server, Fail> {
+    server_under(alloc, rules(alloc, text)?)
+}
+
+/// The server under a ruleset.
+pub(crate) fn server_under(alloc: Global, rules: Arc<Ruleset>) -> Result<Server, Fail> {
+    let mut publisher = Publisher::new(alloc, rules, 1)?;
     let watcher = publisher.watcher()?;
     let (cells, pass) = PlainCells::new(alloc)?;
     Ok(Server {
@@ -97,26 +107,26 @@ pub fn server_of(alloc: Global, text: &str) -> Result<Server, Fail> {
 
 /// How a device behaves: how many bytes it takes a call, and which call fails, if any (from 1).
 #[derive(Clone, Copy)]
-pub struct Device {
-    pub piece: usize,
-    pub fails: u64,
+pub(crate) struct Device {
+    pub(crate) piece: usize,
+    pub(crate) fails: u64,
 }
 
 /// A device that takes what it is given.
-pub const WHOLE: Device = Device {
+pub(crate) const WHOLE: Device = Device {
     piece: 1_000_000,
     fails: 0,
 };
 
 /// What came of a request, and what was written.
 #[derive(Drop)]
-pub struct Heard {
-    pub outcome: Result<u16, AnswerFault>,
-    pub written: Vec<u8>,
+pub(crate) struct Heard {
+    pub(crate) outcome: Result<u16, AnswerFault>,
+    pub(crate) written: Vec<u8>,
 }
 
 /// One request to the server.
-pub fn exchange<H: Wait>(
+pub(crate) fn exchange<H: Wait>(
     rt: &H,
     alloc: Global,
     server: &mut Server,
@@ -142,8 +152,31 @@ pub fn exchange<H: Wait>(
     }
 }
 
+/// One request to a server of its own, whose app `x` has this program.
+pub(crate) fn answered<H: Wait>(
+    rt: &H,
+    alloc: Global,
+    program: &str,
+    input: &[u8],
+    reads: Device,
+    writes: Device,
+) -> Result<Heard, Fail> {
+    let mut server = server_of(alloc, program)?;
+    Ok(exchange(rt, alloc, &mut server, input, reads, writes))
+}
+
+/// How a request came out, in words.
+pub(crate) fn told(alloc: Global, outcome: Result<u16, AnswerFault>) -> Result<String, AllocError> {
+    match outcome {
+        Ok(status) => format!(in alloc; "{status}"),
+        Err(AnswerFault::Ended) => String::from_str(alloc, "ended"),
+        Err(AnswerFault::Reading) => String::from_str(alloc, "reading"),
+        Err(AnswerFault::Writing(count)) => format!(in alloc; "writing after {count}"),
+    }
+}
+
 /// A POST of a body, with its head.
-pub fn post(alloc: Global, body: &str) -> Result<Vec<u8>, AllocError> {
+pub(crate) fn post(alloc: Global, body: &str) -> Result<Vec<u8>, AllocError> {
     let size = body.len();
     let text = format!(in alloc;
         "POST /service/update2/json HTTP/1.1\r\nHost: h\r\nContent-Length: {size}\r\n\r\n{body}"
@@ -152,7 +185,7 @@ pub fn post(alloc: Global, body: &str) -> Result<Vec<u8>, AllocError> {
 }
 
 /// The bytes of a reply of status 200.
-pub fn success(alloc: Global, text: &str) -> Result<Vec<u8>, AllocError> {
+pub(crate) fn success(alloc: Global, text: &str) -> Result<Vec<u8>, AllocError> {
     let size = text.len();
     let reply = format!(in alloc;
         "HTTP/1.1 200 OK\r\nContent-Type: application/json; charset=utf-8\r\n\
@@ -162,6 +195,6 @@ pub fn success(alloc: Global, text: &str) -> Result<Vec<u8>, AllocError> {
 }
 
 /// Asserts that these are the bytes.
-pub fn same<A: Abort>(rt: &A, name: &str, written: &[u8], wanted: &[u8]) {
+pub(crate) fn same<A: Abort>(rt: &A, name: &str, written: &[u8], wanted: &[u8]) {
     assert!(rt; written == wanted, "{name}");
 }

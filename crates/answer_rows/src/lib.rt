@@ -5,6 +5,8 @@
 #[cfg(test)]
 mod client;
 #[cfg(test)]
+mod counters;
+#[cfg(test)]
 mod exchange;
 #[cfg(test)]
 mod refusals;

@@ -1,196 +1,167 @@
 //! Every refusal, by each way to get it, with its status and its line. None makes a run.
 
-use crate::exchange::{NOTHING, WHOLE, exchange, post, same, server_of};
+use crate::exchange::{NOTHING, WHOLE, answered, post, told};
 use std::alloc::{AllocError, Global};
-use std::process::Abort;
 use std::sync::Wait;
 use std::test::Fail;
-use workers::AnswerFault;
 
-/// The bytes of a refusal, with what stands before the line `Connection`.
-fn refusal(alloc: Global, status: &str, allow: &str, line: &str) -> Result<Vec<u8>, AllocError> {
+/// The bytes of a refusal. One of the method names the method that is allowed.
+fn refusal(alloc: Global, status: &str, line: &str) -> Result<String, AllocError> {
     let size = line.len() + 1;
-    let text = format!(in alloc;
+    let allow = match line {
+        "P3 Method" => "Allow: POST\r\n",
+        _ => "",
+    };
+    format!(in alloc;
         "HTTP/1.1 {status}\r\nContent-Type: text/plain\r\n\
             Content-Length: {size}\r\n{allow}Connection: close\r\n\r\n{line}\n"
-    )?;
-    Ok(text.into_bytes())
+    )
 }
 
-/// A name, what a client sends, the status, and the line.
-const HEADS: [(&str, &[u8], &str, &str, u16); 9] = [
-    ("no head", b"\x00", "400 Bad Request", "P1 Head", 400),
-    (
-        "a length that is no number",
-        b"POST /service/update2/json HTTP/1.1\r\nContent-Length: x\r\n\r\n",
-        "400 Bad Request",
-        "P1 Head",
-        400,
-    ),
-    (
-        "two lengths",
-        b"POST /service/update2/json HTTP/1.1\r\nContent-Length: 1\r\nContent-Length: 2\r\n\r\n",
-        "400 Bad Request",
-        "P1 Head",
-        400,
-    ),
-    (
-        "another target",
-        b"POST /service/update HTTP/1.1\r\nContent-Length: 1\r\n\r\n",
-        "404 Not Found",
-        "P2 Path",
-        404,
-    ),
-    (
-        "no length",
-        b"POST /service/update2/json HTTP/1.1\r\nHost: h\r\n\r\n",
-        "411 Length Required",
-        "P4 Length",
-        411,
-    ),
-    (
-        "chunks",
-        b"POST /service/update2/json HTTP/1.1\r\nTransfer-Encoding: chunked\r\n\r\n",
-        "411 Length Required",
-        "P4 Length",
-        411,
-    ),
-    (
-        "a large body",
-        b"POST /service/update2/json HTTP/1.1\r\nContent-Length: 1048577\r\n\r\n",
-        "413 Content Too Large",
-        "P5 TooLarge",
-        413,
-    ),
-    (
-        "a large head",
-        &[b'a'; 16384],
-        "431 Request Header Fields Too Large",
-        "P6 HeadTooLarge",
-        431,
-    ),
-    (
-        "another target and method",
-        b"post /service/update2/jso HTTP/1.1\r\nContent-Length: 1\r\n\r\n",
-        "404 Not Found",
-        "P2 Path",
-        404,
-    ),
-];
+/// Whether these bytes are refused with this status and this line.
+pub(crate) fn is_refused<H: Wait>(
+    rt: &H,
+    alloc: Global,
+    input: &[u8],
+    status: &str,
+    line: &str,
+) -> Result<bool, Fail> {
+    let heard = answered(rt, alloc, NOTHING, input, WHOLE, WHOLE)?;
+    let wanted = refusal(alloc, status, line)?;
+    let outcome = told(alloc, heard.outcome)?;
+    let is_status = status.starts_with(outcome.as_str());
+    Ok(is_status && heard.written.as_slice() == wanted.as_bytes())
+}
+
+/// The status, the line, a name, and the head that a client sends, without its last two ends of a
+/// line.
+const HEADS: &str = r#"
+- 400 Bad Request | P1 Head | a length that is no number
+POST /service/update2/json HTTP/1.1
+Content-Length: x
+- 400 Bad Request | P1 Head | two lengths
+POST /service/update2/json HTTP/1.1
+Content-Length: 1
+Content-Length: 2
+- 404 Not Found | P2 Path | another target
+POST /service/update HTTP/1.1
+Content-Length: 1
+- 404 Not Found | P2 Path | another target and method
+post /service/update2/jso HTTP/1.1
+Content-Length: 1
+- 405 Method Not Allowed | P3 Method | another method
+GET /service/update2/json HTTP/1.1
+Content-Length: 1
+- 411 Length Required | P4 Length | no length
+POST /service/update2/json HTTP/1.1
+Host: h
+- 411 Length Required | P4 Length | chunks
+POST /service/update2/json HTTP/1.1
+Transfer-Encoding: chunked
+- 413 Content Too Large | P5 TooLarge | a large body
+POST /service/update2/json HTTP/1.1
+Content-Length: 1048577"#;
+
+/// The bytes of a head that is written in lines.
+pub(crate) fn head_of(alloc: Global, lines: &str) -> Result<String, AllocError> {
+    let head = lines.replace(alloc, "\n", "\r\n")?;
+    format!(in alloc; "{head}\r\n\r\n")
+}
 
 #[test]
 fn heads_are_refused(rt: HostRuntime) -> Result<(), Fail> {
-    for (name, input, status, line, code) in HEADS {
-        let mut server = server_of(rt.alloc(), NOTHING)?;
-        let got = exchange(&rt, rt.alloc(), &mut server, input, WHOLE, WHOLE);
-        let wanted = refusal(rt.alloc(), status, "", line)?;
-        assert_eq!(rt; got.outcome, Ok(code), "{name}");
-        same(&rt, name, &got.written, &wanted);
+    for row in HEADS.split("\n- ").skip(1) {
+        let (wanted, lines) = row.split_once('\n').ok_or("no head")?;
+        let (status, rest) = wanted.split_once(" | ").ok_or("no line")?;
+        let (line, _name) = rest.split_once(" | ").ok_or("no name")?;
+        let head = head_of(rt.alloc(), lines)?;
+        assert!(rt;
+            is_refused(&rt, rt.alloc(), head.as_bytes(), status, line)?,
+            "{row}"
+        );
     }
     Ok(())
 }
 
-#[test]
-fn method_is_refused(rt: HostRuntime) -> Result<(), Fail> {
-    let mut server = server_of(rt.alloc(), NOTHING)?;
-    let input = b"GET /service/update2/json HTTP/1.1\r\nContent-Length: 1\r\n\r\n";
-    let got = exchange(&rt, rt.alloc(), &mut server, input, WHOLE, WHOLE);
-    let wanted = refusal(
-        rt.alloc(),
-        "405 Method Not Allowed",
-        "Allow: POST\r\n",
-        "P3 Method",
-    )?;
-    assert_eq!(rt; got.outcome, Ok(405));
-    same(&rt, "GET", &got.written, &wanted);
-    Ok(())
-}
-
-/// A name, a body, and the line.
-const BODIES: [(&str, &str, &str); 11] = [
-    ("an empty body", "", "O1 Json"),
-    ("no JSON", "{", "O1 Json"),
-    ("a large number", "{\"a\":1e999}", "O1 Json"),
-    ("a list", "[]", "O2 Shape"),
-    ("no request", "{}", "O2 Shape"),
-    ("a request that is no object", "{\"request\":1}", "O2 Shape"),
-    ("no protocol", "{\"request\":{}}", "O3 Protocol"),
+/// Bytes that are no head, the status, and the line.
+const NO_HEADS: [(&[u8], &str, &str); 2] = [
+    (b"\x00", "400 Bad Request", "P1 Head"),
     (
-        "protocol 3.0",
-        "{\"request\":{\"protocol\":\"3.0\",\"app\":1}}",
-        "O3 Protocol",
-    ),
-    (
-        "apps that are no list",
-        "{\"request\":{\"protocol\":\"3.1\",\"app\":null}}",
-        "O2 Shape",
-    ),
-    (
-        "an app that is no object",
-        "{\"request\":{\"protocol\":\"3.1\",\"app\":[1]}}",
-        "O2 Shape",
-    ),
-    (
-        "an app with no appid",
-        "{\"request\":{\"protocol\":\"3.1\",\"app\":[{\"appid\":1}]}}",
-        "O2 Shape",
+        &[b'a'; 16384],
+        "431 Request Header Fields Too Large",
+        "P6 HeadTooLarge",
     ),
 ];
 
-fn refused<H: Wait + Abort>(
-    rt: &H,
-    alloc: Global,
-    name: &str,
-    body: &str,
-    line: &str,
-) -> Result<(), Fail> {
-    let mut server = server_of(alloc, NOTHING)?;
-    let input = post(alloc, body)?;
-    let got = exchange(rt, alloc, &mut server, &input, WHOLE, WHOLE);
-    let wanted = refusal(alloc, "400 Bad Request", "", line)?;
-    assert_eq!(rt; got.outcome, Ok(400), "{name}");
-    same(rt, name, &got.written, &wanted);
+#[test]
+fn other_bytes_are_refused(rt: HostRuntime) -> Result<(), Fail> {
+    for (input, status, line) in NO_HEADS {
+        assert!(rt; is_refused(&rt, rt.alloc(), input, status, line)?, "{line}");
+    }
     Ok(())
+}
+
+/// A body, and its line.
+const BODIES: &str = r#"
+ => O1 Json
+{ => O1 Json
+{"a":1e999} => O1 Json
+[] => O2 Shape
+{} => O2 Shape
+{"request":1} => O2 Shape
+{"request":{}} => O3 Protocol
+{"request":{"protocol":"3.0","app":1}} => O3 Protocol
+{"request":{"protocol":"3.1","app":null}} => O2 Shape
+{"request":{"protocol":"3.1","app":[1]}} => O2 Shape
+{"request":{"protocol":"3.1","app":[{"appid":1}]}} => O2 Shape
+"#;
+
+fn is_body_refused<H: Wait>(rt: &H, alloc: Global, body: &str, line: &str) -> Result<bool, Fail> {
+    let input = post(alloc, body)?;
+    is_refused(rt, alloc, &input, "400 Bad Request", line)
 }
 
 #[test]
 fn bodies_are_refused(rt: HostRuntime) -> Result<(), Fail> {
-    for (name, body, line) in BODIES {
-        refused(&rt, rt.alloc(), name, body, line)?;
+    for row in BODIES.lines().skip(1) {
+        let (body, line) = row.split_once(" => ").ok_or("a row of two parts")?;
+        assert!(rt; is_body_refused(&rt, rt.alloc(), body, line)?, "{row}");
     }
     Ok(())
 }
 
 #[test]
 fn many_apps_are_refused(rt: HostRuntime) -> Result<(), Fail> {
-    let mut body = String::from_str(rt.alloc(), "{\"request\":{\"protocol\":\"3.1\",\"app\":[0")?;
-    for _ in 0..256 {
-        body.push_str(",0")?;
-    }
-    body.push_str("]}}")?;
-    refused(&rt, rt.alloc(), "257 apps", body.as_str(), "O4 TooManyApps")
+    let apps = "0,".repeat(rt.alloc(), 256)?;
+    let body = format!(in rt.alloc();
+        "{{\"request\":{{\"protocol\":\"3.1\",\"app\":[{apps}0]}}}}"
+    )?;
+    assert!(rt; is_body_refused(&rt, rt.alloc(), body.as_str(), "O4 TooManyApps")?);
+    Ok(())
 }
 
-/// A name, and what a client sends before it ends.
-const CUT: [(&str, &[u8]); 3] = [
-    ("nothing", b""),
-    (
-        "a head",
-        b"POST /service/update2/json HTTP/1.1\r\nHost: h\r\n",
-    ),
-    (
-        "a body",
-        b"POST /service/update2/json HTTP/1.1\r\nContent-Length: 2\r\n\r\n{",
-    ),
+/// What a client sends before it ends.
+const CUT: [&[u8]; 3] = [
+    b"",
+    b"POST /service/update2/json HTTP/1.1\r\nHost: h\r\n",
+    b"POST /service/update2/json HTTP/1.1\r\nContent-Length: 2\r\n\r\n{",
 ];
+
+/// How a request came out, where nothing was written.
+fn unwritten<H: Wait>(rt: &H, alloc: Global, input: &[u8]) -> Result<String, Fail> {
+    let heard = answered(rt, alloc, NOTHING, input, WHOLE, WHOLE)?;
+    if heard.written.is_empty() {
+        Ok(told(alloc, heard.outcome)?)
+    } else {
+        Ok(String::from_str(alloc, "something was written")?)
+    }
+}
 
 #[test]
 fn requests_that_end_get_nothing(rt: HostRuntime) -> Result<(), Fail> {
-    for (name, input) in CUT {
-        let mut server = server_of(rt.alloc(), NOTHING)?;
-        let got = exchange(&rt, rt.alloc(), &mut server, input, WHOLE, WHOLE);
-        assert_eq!(rt; got.outcome, Err(AnswerFault::Ended), "{name}");
-        assert!(rt; got.written.is_empty(), "{name}");
+    for input in CUT {
+        let found = unwritten(&rt, rt.alloc(), input)?;
+        assert!(rt; found.as_str() == "ended", "{} bytes: {found}", input.len());
     }
     Ok(())
 }

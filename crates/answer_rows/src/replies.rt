@@ -1,18 +1,19 @@
 //! Replies to requests, and that reading in pieces changes none of them.
 
-use crate::exchange::{
-    BELOW_2000, Device, NOTHING, WHOLE, exchange, post, same, server_of, success,
-};
+use crate::exchange::{BELOW_2000, Device, NOTHING, answered, post, success};
+use std::alloc::Global;
+use std::sync::Wait;
 use std::test::Fail;
 
 /// Two apps, of which the ruleset knows one.
-pub const TWO_APPS: &str =
+pub(crate) const TWO_APPS: &str =
     "{\"request\":{\"protocol\":\"3.1\",\"requestid\":\"\",\"sessionid\":\"\",\
     \"app\":[{\"appid\":\"x\",\"version\":\"1.0\",\"updatecheck\":{}},\
     {\"appid\":\"y\",\"version\":\"1.0\",\"updatecheck\":{}}]}}";
 
 /// The reply to it where the program offers nothing.
-pub const NO_UPDATE: &str = ")]}'\n{\"response\":{\"app\":[{\"appid\":\"x\",\"cohort\":\"b:6037\",\
+pub(crate) const NO_UPDATE: &str =
+    ")]}'\n{\"response\":{\"app\":[{\"appid\":\"x\",\"cohort\":\"b:6037\",\
     \"status\":\"ok\",\"updatecheck\":{\"status\":\"noupdate\"}},\
     {\"appid\":\"y\",\"status\":\"error-unknownApplication\"}],\
     \"daystart\":{\"elapsed_days\":7000,\"elapsed_seconds\":3600},\"protocol\":\"3.1\",\
@@ -54,28 +55,32 @@ const ROWS: [(&str, &str, &str, &str); 4] = [
     ),
 ];
 
-#[test]
-fn replies_are_written(rt: HostRuntime) -> Result<(), Fail> {
-    for (name, program, body, text) in ROWS {
-        let input = post(rt.alloc(), body)?;
-        let wanted = success(rt.alloc(), text)?;
-        for piece in [1, 7, 1_000_000] {
-            let mut server = server_of(rt.alloc(), program)?;
-            let device = Device { piece, fails: 0 };
-            let got = exchange(&rt, rt.alloc(), &mut server, &input, device, device);
-            assert_eq!(rt; got.outcome, Ok(200), "{name}");
-            same(&rt, name, &got.written, &wanted);
-        }
-    }
-    Ok(())
+/// Whether a body is replied with this text, where both devices take so many bytes a call.
+fn is_replied<H: Wait>(
+    rt: &H,
+    alloc: Global,
+    (program, body, text): (&str, &str, &str),
+    piece: usize,
+) -> Result<bool, Fail> {
+    let device = Device { piece, fails: 0 };
+    let input = post(alloc, body)?;
+    let heard = answered(rt, alloc, program, &input, device, device)?;
+    let wanted = success(alloc, text)?;
+    Ok(heard.outcome == Ok(200) && heard.written.as_slice() == wanted.as_slice())
 }
 
 #[test]
-fn reply_has_248_bytes(rt: HostRuntime) -> Result<(), Fail> {
+fn replies_are_written(rt: HostRuntime) -> Result<(), Fail> {
+    for (name, program, body, text) in ROWS {
+        for piece in [1, 7, 1_000_000] {
+            let row = (program, body, text);
+            assert!(rt;
+                is_replied(&rt, rt.alloc(), row, piece)?,
+                "{name}, {piece} bytes a call"
+            );
+        }
+    }
     assert_eq!(rt; NO_UPDATE.len(), 248);
-    let mut server = server_of(rt.alloc(), NOTHING)?;
-    let input = post(rt.alloc(), TWO_APPS)?;
-    let got = exchange(&rt, rt.alloc(), &mut server, &input, WHOLE, WHOLE);
-    assert_eq!(rt; got.written.len(), 106 + 248);
+    assert_eq!(rt; success(rt.alloc(), NO_UPDATE)?.len(), 106 + 248);
     Ok(())
 }

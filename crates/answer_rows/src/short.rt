@@ -1,42 +1,51 @@
 //! Devices that fail at each of their calls, or take less than they are given.
 
-use crate::exchange::{Device, NOTHING, WHOLE, exchange, post, server_of, success};
+use crate::exchange::{Device, NOTHING, WHOLE, answered, post, success, told};
 use crate::replies::{NO_UPDATE, TWO_APPS};
+use std::alloc::Global;
+use std::sync::Wait;
 use std::test::Fail;
-use workers::AnswerFault;
+
+/// How the request came out over these devices, and the bytes that were written.
+fn heard<H: Wait>(
+    rt: &H,
+    alloc: Global,
+    reads: Device,
+    writes: Device,
+) -> Result<(String, Vec<u8>), Fail> {
+    let input = post(alloc, TWO_APPS)?;
+    let heard = answered(rt, alloc, NOTHING, &input, reads, writes)?;
+    Ok((told(alloc, heard.outcome)?, heard.written))
+}
 
 #[test]
 fn reader_that_fails_gets_nothing(rt: HostRuntime) -> Result<(), Fail> {
-    let input = post(rt.alloc(), TWO_APPS)?;
     for fails in [1, 2, 9] {
-        let mut server = server_of(rt.alloc(), NOTHING)?;
         let reads = Device { piece: 20, fails };
-        let got = exchange(&rt, rt.alloc(), &mut server, &input, reads, WHOLE);
-        assert_eq!(rt; got.outcome, Err(AnswerFault::Reading), "at call {fails}");
-        assert!(rt; got.written.is_empty(), "at call {fails}");
+        let (outcome, written) = heard(&rt, rt.alloc(), reads, WHOLE)?;
+        assert!(rt; outcome.as_str() == "reading", "at call {fails}");
+        assert!(rt; written.is_empty(), "at call {fails}");
     }
     Ok(())
 }
 
-/// How many bytes a write takes, the call that fails, and how many bytes were written before.
-const WRITES: [(usize, u64, usize); 5] = [
-    (1_000_000, 1, 0),
-    (1_000_000, 2, 106),
-    (50, 1, 0),
-    (50, 3, 100),
-    (50, 5, 156),
+/// How many bytes a write takes, the call that fails, how many bytes were written before, and how
+/// that is told.
+const WRITES: [(usize, u64, usize, &str); 5] = [
+    (1_000_000, 1, 0, "writing after 0"),
+    (1_000_000, 2, 106, "writing after 106"),
+    (50, 1, 0, "writing after 0"),
+    (50, 3, 100, "writing after 100"),
+    (50, 5, 156, "writing after 156"),
 ];
 
 #[test]
 fn writer_that_fails_has_a_beginning(rt: HostRuntime) -> Result<(), Fail> {
-    let input = post(rt.alloc(), TWO_APPS)?;
     let whole = success(rt.alloc(), NO_UPDATE)?;
-    for (piece, fails, count) in WRITES {
-        let mut server = server_of(rt.alloc(), NOTHING)?;
-        let writes = Device { piece, fails };
-        let got = exchange(&rt, rt.alloc(), &mut server, &input, WHOLE, writes);
-        assert_eq!(rt; got.outcome, Err(AnswerFault::Writing(count)));
-        assert!(rt; Some(got.written.as_slice()) == whole.get(..count));
+    for (piece, fails, count, want) in WRITES {
+        let (outcome, written) = heard(&rt, rt.alloc(), WHOLE, Device { piece, fails })?;
+        assert!(rt; outcome.as_str() == want, "{want}: {outcome}");
+        assert!(rt; Some(written.as_slice()) == whole.get(..count), "{want}");
     }
     Ok(())
 }
