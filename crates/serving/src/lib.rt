@@ -7,9 +7,13 @@
 
 mod crew;
 mod fault;
+mod manifests;
 mod ports;
 mod running;
+mod server;
 
 pub use fault::ServingFault;
+pub use manifests::{ManifestFault, Manifests};
 pub use ports::{Ports, bind};
 pub use running::run;
+pub use server::{PrepareFault, Server, prepare};
