@@ -13,7 +13,7 @@ use Rattle.clap.specs.Words.{kind_of, subcommand_of, subcommand_rows_of}
 use Rattle.rollout.specs.declared.request.Request.{Request}
 use Rattle.rollout.specs.Commands.{AsksForHelp, HasFault, IsNoAnswer}
 use Rattle.rollout.specs.Grammar.{commands}
-use Rattle.rollout.specs.Words.{IsAsked}
+use Rattle.rollout.specs.Words.{IsAsked, IsNothingAsked}
 
 are_simple : is_simple commands ≡ true
 are_simple = refl
@@ -42,6 +42,12 @@ pub request_asked : (a : App) (words : List Text) (m : ArgMatches) (request : Re
     → IsAsked (subcommand_of commands words) request
 request_asked a words m request is has asked =
     subst (λ (r : Option (Text × List Row)). IsAsked r request) (rows_are a words m is has) asked
+
+pub nothing_asked : (a : App) (words : List Text) (m : ArgMatches) → a ≡ commands
+    → HasMatchesOf a words m → IsNothingAsked (subcommand_rows_of m)
+    → IsNothingAsked (subcommand_of commands words)
+nothing_asked a words m is has asked =
+    subst (λ (r : Option (Text × List Row)). IsNothingAsked r) (rows_are a words m is has) asked
 
 pub fault_found : (a : App) (words : List Text) (e : Error) → a ≡ commands
     → (is_simple_and_free a ≡ true → HasKind (fault_of a words) e) → IsNoAnswer (kind_of e)

@@ -5,7 +5,8 @@ use Rattle.std.specs.Option.{option_copied}
 use Rattle.std.specs.String.{string_bytes}
 use Rattle.bpf_semantics.specs.Program.{ShapedProgram}
 use Rattle.rollout.specs.declared.fault.Answer.{Answer}
-use Rattle.rollout.specs.declared.fault.Answer.TheVariants.{Assembled, Listed, Accepted, Chosen}
+use Rattle.rollout.specs.declared.fault.Answer.TheVariants.{Assembled, Compiled, Listed}
+use Rattle.rollout.specs.declared.fault.Answer.TheVariants.{Accepted, Chosen}
 use Rattle.rollout.specs.declared.fault.Fault.{Fault}
 use Rattle.rollout.specs.declared.fault.Fault.TheVariants.{Memory}
 use Rattle.rollout.specs.declared.request.Bucket.{Bucket}
@@ -16,6 +17,7 @@ use Rattle.rollout.specs.Assembly.{most_text, IsAssembled, IsAssemblyRefusal}
 use Rattle.rollout.specs.Assembly.{IsListed, IsListingRefusal}
 use Rattle.rollout.specs.Files.{IsFileRefusal, OfBytes}
 use Rattle.rollout.specs.Programs.{IsProgramFor, IsProgramRefusal, RunsTo}
+use Rattle.rollout.specs.Rules.{HasCompiled, IsRuleRefusal}
 
 -- an accepted program has so many slots
 abbrev pub HasSlots : DeclaredShape → ℕ → Type 0
@@ -30,6 +32,7 @@ HasChosen shape version bucket choice count =
 abbrev pub IsAnswer : Request → Answer → Type 0
 IsAnswer (request.Assemble text out) (Assembled program) =
     OfBytes most_text (IsAssembled program.items)
+IsAnswer (request.Compile text shape out) (Compiled slots) = HasCompiled shape slots
 IsAnswer (request.List path) (Listed text) = OfBytes most_text (IsListed (string_bytes text))
 IsAnswer (request.Verify path shape) (Accepted slots) = HasSlots shape slots
 IsAnswer (request.Run path shape version bucket) (Chosen choice instructions) =
@@ -39,6 +42,7 @@ IsAnswer asked answer = ⊥
 abbrev pub IsRefused : Request → Fault → Type 0
 IsRefused (request.Assemble text out) fault =
     IsFileRefusal fault ⊎ OfBytes most_text (IsAssemblyRefusal fault)
+IsRefused (request.Compile text shape out) fault = IsRuleRefusal shape fault
 IsRefused (request.List path) fault =
     IsFileRefusal fault ⊎ OfBytes most_text (IsListingRefusal fault)
 IsRefused (request.Verify path shape) fault = IsProgramRefusal shape fault

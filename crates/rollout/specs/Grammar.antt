@@ -46,6 +46,10 @@ command name arguments = record (new_shape name) { rules = arguments }
 abbrev pub assemble_command : Shape
 assemble_command = command (codes "asm") (file (codes "IN") ∷ file (codes "OUT") ∷ [])
 
+abbrev pub compile_command : Shape
+compile_command =
+    command (codes "compile") (file (codes "IN") ∷ file (codes "OUT") ∷ releases ∷ arrays ∷ [])
+
 abbrev pub list_command : Shape
 list_command = command (codes "list") (file (codes "IN") ∷ [])
 
@@ -63,5 +67,5 @@ run_command =
 abbrev pub commands : App
 commands = record {
   top = record (new_shape (codes "rollout")) { is_leaf = false; subcommand_required = true };
-  subs = assemble_command ∷ list_command ∷ run_command ∷ verify_command ∷ [];
+  subs = assemble_command ∷ compile_command ∷ list_command ∷ run_command ∷ verify_command ∷ [];
 }

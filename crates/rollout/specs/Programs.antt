@@ -67,12 +67,18 @@ IsProgramFault shape (Flow fault) bytes = IsFlowFault bytes fault
 IsProgramFault shape (Rule refusal) bytes = IsRuleFault bytes shape refusal
 IsProgramFault shape fault bytes = ⊥
 
--- why a file has no such program: the shape comes first, then the file, then its bytes
-pub data IsProgramRefusal (asked : DeclaredShape) (fault : Fault) : Type 0 where
-  of_shape : IsShapeRefusal asked fault → IsProgramRefusal asked fault
-  of_file : {s : AppShape} → IsShapeOf asked s → IsFileRefusal fault → IsProgramRefusal asked fault
-  of_bytes : {s : AppShape} → IsShapeOf asked s
-      → OfBytes most_program (IsProgramFault s fault) → IsProgramRefusal asked fault
+-- why a file is refused: the shape comes first, then the file, then its bytes, by the faults that
+-- they have under a shape
+pub data IsRefusedUnder (asked : DeclaredShape) (most : ℕ)
+    (faults : AppShape → Fault → List ℕ → Type 0) (fault : Fault) : Type 0 where
+  of_shape : IsShapeRefusal asked fault → IsRefusedUnder asked most faults fault
+  of_file : {s : AppShape} → IsShapeOf asked s → IsFileRefusal fault
+      → IsRefusedUnder asked most faults fault
+  of_bytes : {s : AppShape} → IsShapeOf asked s → OfBytes most (faults s fault)
+      → IsRefusedUnder asked most faults fault
+
+abbrev pub IsProgramRefusal : DeclaredShape → Fault → Type 0
+IsProgramRefusal asked fault = IsRefusedUnder asked most_program IsProgramFault fault
 
 -- ---- runs
 

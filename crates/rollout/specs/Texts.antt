@@ -4,7 +4,8 @@ use Rattle.std.specs.Fmt.{decimal}
 use Rattle.std.specs.String.{string_bytes}
 use Rattle.bpf_text.specs.Faults.{asm_fault_text, list_fault_text}
 use Rattle.rollout.specs.declared.fault.Answer.{Answer}
-use Rattle.rollout.specs.declared.fault.Answer.TheVariants.{Assembled, Listed, Accepted, Chosen}
+use Rattle.rollout.specs.declared.fault.Answer.TheVariants.{Assembled, Compiled, Listed}
+use Rattle.rollout.specs.declared.fault.Answer.TheVariants.{Accepted, Chosen}
 use Rattle.rollout.specs.declared.fault.Fault.{Fault}
 use Rattle.rollout.specs.declared.fault.Fault.TheVariants.{File, Memory, Text, Bytes}
 
@@ -14,13 +15,15 @@ line text = text ++ codes "\n"
 
 abbrev pub answer_text : Answer → List ℕ
 answer_text (Assembled program) = line (decimal (length program.items / 8) ++ codes " slots")
+answer_text (Compiled slots) = line (decimal slots ++ codes " slots")
 answer_text (Listed text) = string_bytes text
 answer_text (Accepted slots) = line (codes "accepted " ++ decimal slots ++ codes " slots")
 answer_text (Chosen choice instructions) =
     line (codes "choice " ++ decimal choice
     ++ codes " after " ++ decimal instructions ++ codes " instructions")
 
--- no text is stated of arrays that are refused, the graph's faults and the verifier's refusals
+-- no text is stated of arrays and rules that are refused, the graph's faults and the verifier's
+-- refusals
 abbrev pub fault_text : Fault → Option (List ℕ)
 fault_text File = Some (codes "B3 File")
 fault_text Memory = Some (codes "B4 Memory")

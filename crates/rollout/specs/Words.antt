@@ -66,6 +66,7 @@ LacksShape rows = (shape : DeclaredShape) → ¬ HasShape rows shape
 abbrev pub verb_named : Text → Option Verb
 verb_named name =
     if bytes_eq name (codes "asm") then Some verb.Assemble
+    else if bytes_eq name (codes "compile") then Some verb.Compile
     else if bytes_eq name (codes "list") then Some verb.List
     else if bytes_eq name (codes "verify") then Some verb.Verify
     else if bytes_eq name (codes "run") then Some verb.Run
@@ -75,6 +76,8 @@ verb_named name =
 abbrev pub Asks : Option Verb → List Row → Request → Type 0
 Asks (Some verb.Assemble) rows (request.Assemble text out) =
     HasText (codes "IN") rows text.now × HasText (codes "OUT") rows out.now
+Asks (Some verb.Compile) rows (request.Compile text shape out) =
+    HasText (codes "IN") rows text.now × HasText (codes "OUT") rows out.now × HasShape rows shape
 Asks (Some verb.List) rows (request.List path) = HasText (codes "IN") rows path.now
 Asks (Some verb.Verify) rows (request.Verify path shape) =
     HasText (codes "IN") rows path.now × HasShape rows shape

@@ -3,7 +3,7 @@
 ghost use Rattle.std.specs.Prelude.{IfOk, IfErr};
 ghost use Rattle.rollout.specs.Answers.{IsAnswer, IsRefused};
 
-use crate::commands::{assemble_file, list_file, run_file, verify_file};
+use crate::commands::{assemble_file, compile_file, list_file, run_file, verify_file};
 use crate::fault::{Answer, Fault};
 use crate::request::Request;
 use std::rt::Files;
@@ -16,6 +16,9 @@ pub fn answer<R: Files + AllocGlobal>(rt: &R, request: &Request<'_>) -> Result<A
     match request {
         Request::Assemble { text, out } => Ok(Answer::Assembled {
             program: assemble_file(rt, text, out)?,
+        }),
+        Request::Compile { text, shape, out } => Ok(Answer::Compiled {
+            slots: compile_file(rt, text, shape, out)?,
         }),
         Request::List { path } => Ok(Answer::Listed {
             text: list_file(rt, path)?,

@@ -1,11 +1,13 @@
 //! The commands, a file each: from its arguments to its answer.
 
 mod asm;
+mod compile;
 mod list;
 mod run;
 mod verify;
 
 pub use asm::assemble_file;
+pub use compile::compile_file;
 pub use list::list_file;
 pub use run::run_file;
 pub use verify::verify_file;

@@ -7,6 +7,8 @@ use bpf_text::{AsmFault, ListFault};
 use bpf_verify::Refusal;
 use cells::CellsFault;
 use flow_check::FlowFault;
+use rule_compile::CompileFault;
+use rule_lang::RuleFault;
 use std::fmt;
 
 /// Why a request is refused.
@@ -20,6 +22,10 @@ pub enum Fault {
     Arrays(CellsFault),
     /// A1 to A7: the text stands for no bytes.
     Text(AsmFault),
+    /// L1 to L5: the text spells no rule.
+    RuleText(RuleFault),
+    /// C1 and C2: the rule has no program.
+    Compile(CompileFault),
     /// I1 to I7: the bytes spell no instructions.
     Bytes(ListFault),
     /// F1 to F9: the bytes are no program, or its graph isn't one that ends.
@@ -37,6 +43,8 @@ impl fmt::Display for Fault {
             Fault::Memory => f.write_str("B4 Memory"),
             Fault::Arrays(fault) => write!(f, "{fault}"),
             Fault::Text(fault) => write!(f, "{fault}"),
+            Fault::RuleText(fault) => write!(f, "{fault}"),
+            Fault::Compile(fault) => write!(f, "{fault}"),
             Fault::Bytes(fault) => write!(f, "{fault}"),
             Fault::Flow(fault) => write!(f, "{fault}"),
             Fault::Rule(refusal) => write!(f, "{refusal}"),
@@ -49,6 +57,8 @@ impl fmt::Display for Fault {
 pub enum Answer {
     /// The text was assembled into these bytes, of which the number of slots is printed.
     Assembled { program: Vec<u8> },
+    /// The rule was compiled into a program of so many slots.
+    Compiled { slots: usize },
     /// The listing of the bytes: a line an instruction.
     Listed { text: String },
     /// The program is accepted; its length in slots.
@@ -66,6 +76,7 @@ impl fmt::Display for Answer {
                 let slots = program.len() / 8;
                 writeln!(f, "{slots} slots")
             }
+            Answer::Compiled { slots } => writeln!(f, "{slots} slots"),
             Answer::Listed { text } => f.write_str(text),
             Answer::Accepted { slots } => writeln!(f, "accepted {slots} slots"),
             Answer::Chosen {

@@ -21,6 +21,18 @@ fn assemble_command<'a>(alloc: Global) -> Result<Command<'a>, AllocError>
         .arg(file_argument(alloc, "OUT", "File that gets the program's bytes"))
 }
 
+fn compile_command<'a>(alloc: Global) -> Result<Command<'a>, AllocError>
+    ensures shape { IfOk result (λ c. shape_of c ≡ grammar.compile_command) }
+    ensures local { IfOk result (λ c. (fields_of c).has_globals ≡ false) }
+{
+    Command::new(alloc, "compile")
+        .about("Compile a rule into an accepted program's bytes: `N slots`")
+        .arg(file_argument(alloc, "IN", "File of the rule's text"))?
+        .arg(file_argument(alloc, "OUT", "File that gets the program's bytes"))?
+        .arg(releases_option(alloc))?
+        .arg(arrays_option(alloc))
+}
+
 fn list_command<'a>(alloc: Global) -> Result<Command<'a>, AllocError>
     ensures shape { IfOk result (λ c. shape_of c ≡ grammar.list_command) }
     ensures local { IfOk result (λ c. (fields_of c).has_globals ≡ false) }
@@ -75,6 +87,7 @@ pub fn grammar<'a>(alloc: Global) -> Result<Command<'a>, AllocError>
         .about("Decide by verified BPF programs which release an app is offered")
         .subcommand_required(true)
         .subcommand(assemble_command(alloc)?)?
+        .subcommand(compile_command(alloc)?)?
         .subcommand(list_command(alloc)?)?
         .subcommand(run_command(alloc)?)?
         .subcommand(verify_command(alloc)?)

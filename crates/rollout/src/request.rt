@@ -21,6 +21,12 @@ pub enum Request<'a> {
         text: &'a str,
         out: &'a str,
     },
+    /// Compile the rule of one file into another.
+    Compile {
+        text: &'a str,
+        shape: DeclaredShape,
+        out: &'a str,
+    },
     /// List the instructions of a file's bytes.
     List {
         path: &'a str,

@@ -5,6 +5,7 @@ mod arrays;
 mod memory;
 mod programs;
 mod refusals;
+mod rules;
 mod texts;
 mod usage;
 

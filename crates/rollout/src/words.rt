@@ -16,6 +16,7 @@ use std::alloc::Global;
 #[derive(Clone, Copy)]
 pub enum Verb {
     Assemble,
+    Compile,
     List,
     Verify,
     Run,
@@ -41,6 +42,7 @@ fn verb_named(name: &str) -> Option<Verb>
 {
     match name {
         "asm" => Some(Verb::Assemble),
+        "compile" => Some(Verb::Compile),
         "list" => Some(Verb::List),
         "verify" => Some(Verb::Verify),
         "run" => Some(Verb::Run),
@@ -60,6 +62,7 @@ fn request_named<'a>(
 {
     match verb {
         Some(Verb::Assemble) => assemble_asked(found),
+        Some(Verb::Compile) => compile_asked(alloc, found),
         Some(Verb::List) => list_asked(found),
         Some(Verb::Verify) => verify_asked(alloc, found),
         Some(Verb::Run) => run_asked(alloc, found),
@@ -75,6 +78,17 @@ fn assemble_asked<'a>(found: &ArgMatches<'a>) -> Result<Request<'a>, NoRequest>
     let text = text_of(found, "IN")?;
     let out = text_of(found, "OUT")?;
     Ok(Request::Assemble { text, out })
+}
+
+fn compile_asked<'a>(alloc: Global, found: &ArgMatches<'a>) -> Result<Request<'a>, NoRequest>
+    ensures asked { IfOk result (Asks (Some Verb.Compile) (rows_of (found_of found.now))) }
+    ensures nothing { result ≡ Err NoRequest.Wrong
+        → AsksNothing (Some Verb.Compile) (rows_of (found_of found.now)) }
+{
+    let text = text_of(found, "IN")?;
+    let out = text_of(found, "OUT")?;
+    let shape = shape_of(alloc, found)?;
+    Ok(Request::Compile { text, shape, out })
 }
 
 fn list_asked<'a>(found: &ArgMatches<'a>) -> Result<Request<'a>, NoRequest>

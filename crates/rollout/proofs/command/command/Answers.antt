@@ -1,5 +1,6 @@
-use Rattle.std.proofs.Common.{inl, inr, map}
-use Rattle.rollout.proofs.Doing.{fault_found, help_asked, request_asked, of_written}
+use Rattle.std.proofs.Common.{ap, inl, inr, map}
+use Rattle.std.specs.Prelude.{Err}
+use Rattle.rollout.proofs.Doing.{fault_found, help_asked, nothing_asked, request_asked, of_written}
 use Rattle.rollout.proofs.command.command.Goals as goal
 
 pub returns-in-Err-clause-done : goal.returns-in-Err-clause-done
@@ -21,3 +22,9 @@ pub returns-in-Err-clause-wrong : goal.returns-in-Err-clause-wrong
 returns-in-Err-clause-wrong g c two =
     inl (fault_found _ (map g.S.AsStr.text c.args.words.now) c.in-Err.error c.in-Ok.ensures
     c.in-Err.ensures.kinds (c.usage.ensures.fault two))
+
+pub returns-in-Err-Wrong-clause-wrong : goal.returns-in-Err-Wrong-clause-wrong
+returns-in-Err-Wrong-clause-wrong g c two =
+    inr (nothing_asked _ (map g.S.AsStr.text c.args.words.now) _ c.in-Ok.ensures
+    c.in-Ok-try_get_matches_from.ensures.matches
+    (c.in-Err-Wrong.ensures.nothing (ap (λ e. Err e) c.in-Err-Wrong.field-0-is)))

@@ -10,11 +10,14 @@ returns c =
     with_one_more _ _ _ _ _ top c.in_ok-assemble_command.ensures.shape
     c.in_ok-assemble_command.ensures.local c.in_ok-subcommand.ensures in
     let second =
-    with_one_more _ _ _ _ _ first c.in_ok-list_command.ensures.shape
-    c.in_ok-list_command.ensures.local c.in_ok-subcommand-2.ensures in
+    with_one_more _ _ _ _ _ first c.in_ok-compile_command.ensures.shape
+    c.in_ok-compile_command.ensures.local c.in_ok-subcommand-2.ensures in
     let third =
-    with_one_more _ _ _ _ _ second c.in_ok-run_command.ensures.shape
-    c.in_ok-run_command.ensures.local c.in_ok-subcommand-3.ensures in
-    IfOk-weaker _ _ _ (λ d adds. with_one_more _ _ _ _ _ third
+    with_one_more _ _ _ _ _ second c.in_ok-list_command.ensures.shape
+    c.in_ok-list_command.ensures.local c.in_ok-subcommand-3.ensures in
+    let fourth =
+    with_one_more _ _ _ _ _ third c.in_ok-run_command.ensures.shape
+    c.in_ok-run_command.ensures.local c.in_ok-subcommand-4.ensures in
+    IfOk-weaker _ _ _ (λ d adds. with_one_more _ _ _ _ _ fourth
     c.in_ok-verify_command.ensures.shape c.in_ok-verify_command.ensures.local adds)
-    c.subcommand-4.ensures
+    c.subcommand-5.ensures

@@ -1,4 +1,4 @@
-use Rattle.rollout.specs.Programs.IsProgramRefusal.{of_file, of_bytes}
+use Rattle.rollout.specs.Programs.IsRefusedUnder.{of_file, of_bytes}
 use Rattle.rollout.proofs.program.program_of_file.Goals as goal
 
 pub returns-in-Err-clause-fault : goal.returns-in-Err-clause-fault

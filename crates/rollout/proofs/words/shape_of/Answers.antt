@@ -1,4 +1,5 @@
 use Rattle.rollout.proofs.words.shape_of.Goals as goal
 
 pub returns-in_default-clause-lacking : goal.returns-in_default-clause-lacking
-returns-in_default-clause-lacking c wrong shape has = c.in_default.ensures.lacking shape.releases has.0
+returns-in_default-clause-lacking c wrong shape has =
+    c.in_default.ensures.lacking shape.releases has.0

@@ -27,7 +27,8 @@ returns-clause-run c =
       ends = subst (λ (a : Attributes).
           Ends c.args.program (opening a) events c.run.result.0 c.run.result.1) app end_of_program;
       lawful = c.keeps-2.ensures.lawful (opening c.in-Ok-new.attrs.value) events
-          c.run.result.0 c.run.result.1 (c.keeps-2.ensures.opens c.in-Ok-new.attrs.value (rw c.deref-facts.ensures at c.keeps.ensures.texts))
+          c.run.result.0 c.run.result.1 (c.keeps-2.ensures.opens c.in-Ok-new.attrs.value
+          (rw c.deref-facts.ensures at c.keeps.ensures.texts))
           (all_fit c.events_fit.ensures c.in-Ok-new-2.pass events c.run.new.pass c.keeps-3.ensures
           c.run.ensures.runs.grown) end_of_program;
     }
