@@ -48,26 +48,50 @@ const CHOICES: [(&str, &str, &str, &str); 9] = [
     (STAGED, "--bucket", "100", "choice 0 after "),
 ];
 
+/// Compiles a rule into a file, and removes the rule's.
+fn compile<R: Files + AllocGlobal + Abort>(
+    rt: &R,
+    id: u32,
+    text: &str,
+    program: &str,
+) -> Result<(), Fail> {
+    let rule = format!(in rt.alloc(); "/tmp/rollout-{id}-rule.txt")?;
+    let rule = rule.as_str();
+    fs::write(rt, rule, text.as_bytes())?;
+    let words = vec![in rt.alloc(); "compile", rule, program]?;
+    let (status, out, err) = under_shape(rt, words.as_slice())?;
+    assert_eq!(rt; err.as_str(), "", "of {text}");
+    assert_eq!(rt; status, 0, "of {text}");
+    let slots = fs::read(rt, program)?.len() / 8;
+    let written = format!(in rt.alloc(); "{slots} slots\n")?;
+    assert_eq!(rt; out.as_str(), written.as_str(), "of {text}");
+    fs::remove_file(rt, rule)?;
+    Ok(())
+}
+
+/// Runs a program with an option, and gives what it printed.
+fn run<R: Files + AllocGlobal>(
+    rt: &R,
+    program: &str,
+    option: &'static str,
+    value: &'static str,
+) -> Result<String, Fail> {
+    let words = vec![in rt.alloc(); "run", program, option, value]?;
+    let (_, out, _) = under_shape(rt, words.as_slice())?;
+    Ok(out)
+}
+
 /// A rule's program is written, and is one that `run` accepts under the same shape.
 #[test]
 fn choices(rt: HostRuntime) -> Result<(), Fail> {
     let id = process::id(rt.process());
-    let rule = format!(in rt.alloc(); "/tmp/rollout-{id}-rule.txt")?;
     let program = format!(in rt.alloc(); "/tmp/rollout-{id}-rule.bin")?;
-    let (rule, program) = (rule.as_str(), program.as_str());
     for (text, option, value, line) in CHOICES {
-        fs::write(&rt, rule, text.as_bytes())?;
-        let (status, out, err) = under_shape(&rt, &["compile", rule, program])?;
-        assert_eq!(rt; err.as_str(), "", "of {text}");
-        assert_eq!(rt; status, 0, "of {text}");
-        let bytes = fs::read(&rt, program)?;
-        let slots = format!(in rt.alloc(); "{} slots\n", bytes.len() / 8)?;
-        assert_eq!(rt; out.as_str(), slots.as_str(), "of {text}");
-        let (_, out, _) = under_shape(&rt, &["run", program, option, value])?;
-        assert!(rt; out.starts_with(line), "{out} of {text} at {value}");
+        compile(&rt, id, text, program.as_str())?;
+        let out = run(&rt, program.as_str(), option, value)?;
+        assert!(rt; out.starts_with(line), "{out} of {text}");
     }
-    fs::remove_file(&rt, rule)?;
-    fs::remove_file(&rt, program)?;
+    fs::remove_file(&rt, program.as_str())?;
     Ok(())
 }
 
@@ -99,23 +123,45 @@ const REFUSED: [(&[u8], &str); 8] = [
 ];
 
 /// A rule that is refused writes no file.
-#[test]
-fn refused(rt: HostRuntime) -> Result<(), Fail> {
-    let id = process::id(rt.process());
+fn refuses<R: Files + AllocGlobal + Abort>(
+    rt: &R,
+    id: u32,
+    text: &[u8],
+    line: &str,
+) -> Result<(), Fail> {
     let rule = format!(in rt.alloc(); "/tmp/rollout-{id}-no_rule.txt")?;
     let program = format!(in rt.alloc(); "/tmp/rollout-{id}-no_rule.bin")?;
     let (rule, program) = (rule.as_str(), program.as_str());
+    fs::write(rt, rule, text)?;
+    let words = vec![in rt.alloc(); "compile", rule, program]?;
+    let (status, out, err) = under_shape(rt, words.as_slice())?;
+    assert_eq!(rt; err.as_str(), line);
+    assert_eq!(rt; out.as_str(), "");
+    assert_eq!(rt; status, 1);
+    let written = fs::read(rt, program).is_ok();
+    assert!(rt; !written);
+    fs::remove_file(rt, rule)?;
+    Ok(())
+}
+
+#[test]
+fn refused(rt: HostRuntime) -> Result<(), Fail> {
+    let id = process::id(rt.process());
     for (text, line) in REFUSED {
-        fs::write(&rt, rule, text)?;
-        let (status, out, err) = under_shape(&rt, &["compile", rule, program])?;
-        assert_eq!(rt; err.as_str(), line);
-        assert_eq!(rt; out.as_str(), "");
-        assert_eq!(rt; status, 1);
-        let written = fs::read(&rt, program).is_ok();
-        assert!(rt; !written);
+        refuses(&rt, id, text, line)?;
     }
+    Ok(())
+}
+
+/// A program that can't be written is B3.
+#[test]
+fn unwritten(rt: HostRuntime) -> Result<(), Fail> {
+    let id = process::id(rt.process());
+    let rule = format!(in rt.alloc(); "/tmp/rollout-{id}-unwritten.txt")?;
+    let rule = rule.as_str();
     fs::write(&rt, rule, b"otherwise none;")?;
-    let (status, _, err) = under_shape(&rt, &["compile", rule, "/"])?;
+    let words = vec![in rt.alloc(); "compile", rule, "/"]?;
+    let (status, _, err) = under_shape(&rt, words.as_slice())?;
     assert_eq!(rt; err.as_str(), "refused B3 File\n");
     assert_eq!(rt; status, 1);
     fs::remove_file(&rt, rule)?;
