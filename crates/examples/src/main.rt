@@ -1,6 +1,6 @@
-//! The programs under `examples/`, each assembled, verified and run for the apps of a table, and the
-//! rules. What is printed is compared with the file `stdout`, whose choices and counts were worked
-//! out by hand.
+//! The programs under `examples/`, each assembled, verified and run for the apps of a table, and
+//! the rules. What is printed is compared with the file `stdout`, whose choices and counts were
+//! worked out by hand.
 #![tactic(auto)]
 
 mod rules;

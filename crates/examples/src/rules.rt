@@ -17,8 +17,8 @@ use std::{fs, str};
 /// The arrays that the rules name.
 const ARRAYS: &str = "asked:64:1,first:64:1:2";
 
-/// A rule, and the apps that ask it, an app a line: its version, its cohort, its `ap` and the day of
-/// its installation, in columns; `-` is none.
+/// A rule, and the apps that ask it, an app a line: its version, its cohort, its `ap` and the day
+/// of its installation, in columns; `-` is none.
 struct Case {
     file: &'static str,
     askers: &'static str,

@@ -1,12 +1,12 @@
 -- What each request is answered, and why it is refused. Which bytes a file gave no contract can
--- say; of memory that was refused no claim is made.
-use Rattle.std.specs.Prelude.{◌≡◌, ◌⊎◌, ℕ, List, length, Option}
+-- say, nor what a server replies; of memory that was refused no claim is made.
+use Rattle.std.specs.Prelude.{◌≡◌, ◌⊎◌, ℕ, List, [], length, Option, Ok}
 use Rattle.std.specs.Option.{option_copied}
 use Rattle.std.specs.String.{string_bytes}
 use Rattle.bpf_semantics.specs.Program.{ShapedProgram}
 use Rattle.rollout.specs.declared.fault.Answer.{Answer}
 use Rattle.rollout.specs.declared.fault.Answer.TheVariants.{Assembled, Compiled, Listed}
-use Rattle.rollout.specs.declared.fault.Answer.TheVariants.{Accepted, Chosen}
+use Rattle.rollout.specs.declared.fault.Answer.TheVariants.{Accepted, Chosen, Told, Ready}
 use Rattle.rollout.specs.declared.fault.Fault.{Fault}
 use Rattle.rollout.specs.declared.fault.Fault.TheVariants.{Memory}
 use Rattle.rollout.specs.declared.request.Bucket.{Bucket}
@@ -18,6 +18,7 @@ use Rattle.rollout.specs.Assembly.{IsListed, IsListingRefusal}
 use Rattle.rollout.specs.Files.{IsFileRefusal, OfBytes}
 use Rattle.rollout.specs.Programs.{IsProgramFor, IsProgramRefusal, RunsTo}
 use Rattle.rollout.specs.Rules.{HasCompiled, IsRuleRefusal}
+use Rattle.serving.specs.Manifests.{LoadsSome}
 
 -- an accepted program has so many slots
 abbrev pub HasSlots : DeclaredShape → ℕ → Type 0
@@ -37,6 +38,9 @@ IsAnswer (request.List path) (Listed text) = OfBytes most_text (IsListed (string
 IsAnswer (request.Verify path shape) (Accepted slots) = HasSlots shape slots
 IsAnswer (request.Run path shape version bucket) (Chosen choice instructions) =
     HasChosen shape (option_copied version) bucket choice instructions
+IsAnswer (request.Ask line port) (Told text) = Unit {0}
+IsAnswer (request.Serve manifest plan) (Ready server kept) =
+    LoadsSome [] (Ok server.rules) server.directory × (kept ≡ plan)
 IsAnswer asked answer = ⊥
 
 abbrev pub IsRefused : Request → Fault → Type 0
@@ -48,3 +52,5 @@ IsRefused (request.List path) fault =
 IsRefused (request.Verify path shape) fault = IsProgramRefusal shape fault
 IsRefused (request.Run path shape version bucket) fault =
     (fault ≡ Memory) ⊎ IsProgramRefusal shape fault
+IsRefused (request.Ask line port) fault = Unit {0}
+IsRefused (request.Serve manifest plan) fault = Unit {0}

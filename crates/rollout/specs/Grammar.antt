@@ -1,6 +1,6 @@
 -- The commands of the command line, with their arguments.
-use Rattle.std.specs.Prelude.{pos, List, [], ◌∷◌, Some, true, false, codes}
-use Rattle.clap.specs.declared.builder.action.ArgAction.TheVariants.{Set}
+use Rattle.std.specs.Prelude.{ℕ, pos, List, [], ◌∷◌, ◌++◌, Some, true, false, codes}
+use Rattle.clap.specs.declared.builder.action.ArgAction.TheVariants.{Set, SetTrue}
 use Rattle.clap.specs.declared.builder.value_parser.ValueParser.TheVariants.{Signed}
 use Rattle.clap.specs.Simple.{Shape, new_shape}
 use Rattle.clap.specs.Words.{App, Rule, Text, new_rule}
@@ -38,6 +38,28 @@ bucket = record (option (codes "bucket")) {
   parser = Some (Signed (pos 0) (pos 9999));
 }
 
+-- `--NAME N`, which has to be there, from 1
+abbrev pub number : Text → ℕ → Rule
+number name most = record (option name) {
+  required = true;
+  parser = Some (Signed (pos 1) (pos most));
+}
+
+-- `--operator P`, the operator's port
+abbrev pub operator : Rule
+operator = number (codes "operator") 65535
+
+-- `--timeout S`, 30 by default
+abbrev pub timeout : Rule
+timeout = record (option (codes "timeout")) {
+  defaults = codes "30" ∷ [];
+  parser = Some (Signed (pos 1) (pos 3600));
+}
+
+-- `--log`
+abbrev pub log : Rule
+log = record (new_rule (codes "log")) { long = Some (codes "log"); action = Some SetTrue }
+
 -- ---- commands
 
 abbrev pub command : Text → List Rule → Shape
@@ -64,8 +86,27 @@ abbrev pub run_command : Shape
 run_command =
     command (codes "run") (file (codes "IN") ∷ releases ∷ arrays ∷ version ∷ bucket ∷ [])
 
+-- what `serve` has first
+abbrev pub server_ports : Shape
+server_ports = command (codes "serve")
+    (file (codes "MANIFEST") ∷ number (codes "port") 65535 ∷ operator ∷ [])
+
+abbrev pub serve_command : Shape
+serve_command = record server_ports {
+  rules = server_ports.rules ++ number (codes "workers") 64 ∷ timeout ∷ log ∷ [];
+}
+
+abbrev pub load_command : Shape
+load_command = command (codes "load") (file (codes "PATH") ∷ operator ∷ [])
+
+-- of the operator's port alone
+abbrev pub operator_command : Text → Shape
+operator_command name = command name (operator ∷ [])
+
 abbrev pub commands : App
 commands = record {
   top = record (new_shape (codes "rollout")) { is_leaf = false; subcommand_required = true };
-  subs = assemble_command ∷ compile_command ∷ list_command ∷ run_command ∷ verify_command ∷ [];
+  subs = assemble_command ∷ operator_command (codes "cells") ∷ compile_command ∷ list_command
+      ∷ load_command ∷ run_command ∷ serve_command ∷ operator_command (codes "show")
+      ∷ operator_command (codes "stop") ∷ verify_command ∷ [];
 }

@@ -5,13 +5,19 @@ use Rattle.std.specs.String.{string_bytes}
 use Rattle.bpf_text.specs.Faults.{asm_fault_text, list_fault_text}
 use Rattle.rollout.specs.declared.fault.Answer.{Answer}
 use Rattle.rollout.specs.declared.fault.Answer.TheVariants.{Assembled, Compiled, Listed}
-use Rattle.rollout.specs.declared.fault.Answer.TheVariants.{Accepted, Chosen}
+use Rattle.rollout.specs.declared.fault.Answer.TheVariants.{Accepted, Chosen, Ready}
+use Rattle.rollout.specs.declared.fault.Answer.TheVariants as answer
 use Rattle.rollout.specs.declared.fault.Fault.{Fault}
 use Rattle.rollout.specs.declared.fault.Fault.TheVariants.{File, Memory, Text, Bytes}
+use Rattle.rollout.specs.declared.fault.Fault.TheVariants.{Word, Connect, Bind}
+use Rattle.rollout.specs.declared.fault.Fault.TheVariants as fault
 
 -- a text, ended by LF
 abbrev pub line : List ℕ → List ℕ
 line text = text ++ codes "\n"
+
+abbrev pub serving_line : List ℕ
+serving_line = line (codes "serving generation 1")
 
 abbrev pub answer_text : Answer → List ℕ
 answer_text (Assembled program) = line (decimal (length program.items / 8) ++ codes " slots")
@@ -21,15 +27,21 @@ answer_text (Accepted slots) = line (codes "accepted " ++ decimal slots ++ codes
 answer_text (Chosen choice instructions) =
     line (codes "choice " ++ decimal choice
     ++ codes " after " ++ decimal instructions ++ codes " instructions")
+answer_text (answer.Told text) = string_bytes text
+answer_text (Ready server plan) = serving_line
 
--- no text is stated of arrays and rules that are refused, the graph's faults and the verifier's
--- refusals
+-- no text is stated of arrays, rules and manifests that are refused, the graph's faults and the
+-- verifier's refusals
 abbrev pub fault_text : Fault → Option (List ℕ)
 fault_text File = Some (codes "B3 File")
 fault_text Memory = Some (codes "B4 Memory")
 fault_text (Text fault) = Some (asm_fault_text fault)
 fault_text (Bytes fault) = Some (list_fault_text fault)
-fault_text fault = None
+fault_text Word = Some (codes "B1 Word")
+fault_text Connect = Some (codes "B5 Connect")
+fault_text Bind = Some (codes "B6 Bind")
+fault_text (fault.Told text) = Some (string_bytes text)
+fault_text refused = None
 
 abbrev pub refused_line : List ℕ → List ℕ
 refused_line text = line (codes "refused " ++ text)

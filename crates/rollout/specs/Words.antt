@@ -1,5 +1,6 @@
 -- What the words of a command line ask for.
-use Rattle.std.specs.Prelude.{◌≡◌, ℕ, ◌≤◌, List, [], Option, Some, None, if◌then◌else◌}
+use Rattle.std.specs.Prelude.{◌≡◌, ℕ, ◌≤◌, ◌<◌, ◌^◌, List, [], Option, Some, None, if◌then◌else◌}
+use Rattle.std.specs.Prelude.{Bool, true, false}
 use Rattle.std.specs.Prelude.{codes, option_copied}
 use Rattle.std.specs.Str.{bytes_eq}
 use Rattle.std.specs.Str.Parse.{IsNumeral, digits_value, without_leading_plus}
@@ -8,6 +9,8 @@ use Rattle.cells.specs.Directory.{Declaration}
 use Rattle.declarations.specs.Spec.{declarations_in}
 use Rattle.rollout.specs.declared.request.Bucket.{Bucket}
 use Rattle.rollout.specs.declared.request.DeclaredShape.{DeclaredShape}
+use Rattle.rollout.specs.declared.request.Line.TheVariants as line
+use Rattle.rollout.specs.declared.request.Plan.{Plan}
 use Rattle.rollout.specs.declared.request.Request.{Request}
 use Rattle.rollout.specs.declared.request.Request.TheVariants as request
 use Rattle.rollout.specs.declared.words.Verb.{Verb}
@@ -60,6 +63,28 @@ HasShape rows shape = HasReleases rows shape.releases × HasArrays rows shape.ar
 abbrev pub LacksShape : List Row → Type 0
 LacksShape rows = (shape : DeclaredShape) → ¬ HasShape rows shape
 
+-- the option was given this number, of 16 bits
+abbrev pub HasShort : Text → List Row → ℕ → Type 0
+HasShort id rows n = (n < 2 ^ 16) × HasNumber id rows n
+
+abbrev pub LacksShort : Text → List Row → Type 0
+LacksShort id rows = (n : ℕ) → ¬ HasShort id rows n
+
+-- the flag stands, or doesn't
+pub record HasFlag (id : Text) (rows : List Row) (flag : Bool) : Type 0 where
+  pub absent : one_of id rows ≡ None → flag ≡ false
+  pub set : one_of id rows ≡ Some (codes "true") → flag ≡ true
+
+pub record HasPlan (rows : List Row) (plan : Plan) : Type 0 where
+  pub port : HasShort (codes "port") rows plan.port
+  pub operator : HasShort (codes "operator") rows plan.operator
+  pub workers : HasShort (codes "workers") rows plan.workers
+  pub timeout : HasShort (codes "timeout") rows plan.timeout
+  pub log : HasFlag (codes "log") rows plan.log
+
+abbrev pub LacksPlan : List Row → Type 0
+LacksPlan rows = (plan : Plan) → ¬ HasPlan rows plan
+
 -- ---- commands
 
 -- the command of a name
@@ -70,6 +95,11 @@ verb_named name =
     else if bytes_eq name (codes "list") then Some verb.List
     else if bytes_eq name (codes "verify") then Some verb.Verify
     else if bytes_eq name (codes "run") then Some verb.Run
+    else if bytes_eq name (codes "serve") then Some verb.Serve
+    else if bytes_eq name (codes "load") then Some verb.Load
+    else if bytes_eq name (codes "show") then Some verb.Show
+    else if bytes_eq name (codes "cells") then Some verb.Cells
+    else if bytes_eq name (codes "stop") then Some verb.Stop
     else None
 
 -- the command, with these arguments, asks for this
@@ -85,6 +115,13 @@ Asks (Some verb.Run) rows (request.Run path shape version bucket) =
     HasText (codes "IN") rows path.now × HasShape rows shape
     × (first_of (codes "version") rows ≡ option_copied version)
     × HasBucket rows bucket
+Asks (Some verb.Serve) rows (request.Serve manifest plan) =
+    HasText (codes "MANIFEST") rows manifest.now × HasPlan rows plan
+Asks (Some verb.Load) rows (request.Ask (line.Load path) port) =
+    HasText (codes "PATH") rows path.now × HasShort (codes "operator") rows port
+Asks (Some verb.Show) rows (request.Ask line.Show port) = HasShort (codes "operator") rows port
+Asks (Some verb.Cells) rows (request.Ask line.Cells port) = HasShort (codes "operator") rows port
+Asks (Some verb.Stop) rows (request.Ask line.Stop port) = HasShort (codes "operator") rows port
 Asks verb rows request = ⊥
 
 -- they ask for no request at all

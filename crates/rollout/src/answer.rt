@@ -3,13 +3,18 @@
 ghost use Rattle.std.specs.Prelude.{IfOk, IfErr};
 ghost use Rattle.rollout.specs.Answers.{IsAnswer, IsRefused};
 
-use crate::commands::{assemble_file, compile_file, list_file, run_file, verify_file};
+use crate::commands::{
+    ask_server, assemble_file, compile_file, list_file, prepare_server, run_file, verify_file,
+};
 use crate::fault::{Answer, Fault};
 use crate::request::Request;
+use std::net::{Net, TcpListener, TcpStream};
 use std::rt::Files;
 
-/// Does what is asked.
-pub fn answer<R: Files + AllocGlobal>(rt: &R, request: &Request<'_>) -> Result<Answer, Fault>
+/// Does what is asked. A server of a manifest is made ready, and doesn't serve yet.
+pub fn answer<R>(rt: &R, request: &Request<'_>) -> Result<Answer, Fault>
+where
+    R: Files + AllocGlobal + Net<Listener = TcpListener, Stream = TcpStream>,
     ensures answer { IfOk result (IsAnswer request.now) }
     ensures fault { IfErr result (IsRefused request.now) }
 {
@@ -38,5 +43,12 @@ pub fn answer<R: Files + AllocGlobal>(rt: &R, request: &Request<'_>) -> Result<A
                 instructions,
             })
         }
+        Request::Serve { manifest, plan } => Ok(Answer::Ready {
+            server: prepare_server(rt, manifest, plan)?,
+            plan: *plan,
+        }),
+        Request::Ask { line, port } => Ok(Answer::Told {
+            text: ask_server(rt, line, *port)?,
+        }),
     }
 }

@@ -73,6 +73,71 @@ pub fn bucket_option<'a>(alloc: Global) -> Arg<'a>
         .help("Bucket of the app, 0 to 9999")
 }
 
+/// `--NAME N`, which has to be there, from 1 to 65535.
+pub fn port_option<'a>(alloc: Global, name: &'a str, help: &'a str) -> Arg<'a>
+    ensures rule { rule_of result ≡ grammar.number name.now 65535 }
+    ensures local { result.global ≡ false }
+{
+    Arg::new(alloc, name)
+        .long(name)
+        .value_name("P")
+        .required(true)
+        .action(ArgAction::Set)
+        .value_parser(value_parser!(u16).range(1..=65535))
+        .help(help)
+}
+
+/// `--operator P`, which has to be there.
+pub fn operator_option<'a>(alloc: Global) -> Arg<'a>
+    ensures rule { rule_of result ≡ grammar.operator }
+    ensures local { result.global ≡ false }
+{
+    port_option(
+        alloc,
+        "operator",
+        "Operator's port, on loopback: 1 to 65535",
+    )
+}
+
+/// `--workers N`, which has to be there.
+pub fn workers_option<'a>(alloc: Global) -> Arg<'a>
+    ensures rule { rule_of result ≡ grammar.number (codes "workers") 64 }
+    ensures local { result.global ≡ false }
+{
+    Arg::new(alloc, "workers")
+        .long("workers")
+        .value_name("N")
+        .required(true)
+        .action(ArgAction::Set)
+        .value_parser(value_parser!(u16).range(1..=64))
+        .help("Worker threads: 1 to 64")
+}
+
+/// `--timeout S`, 30 by default.
+pub fn timeout_option<'a>(alloc: Global) -> Arg<'a>
+    ensures rule { rule_of result ≡ grammar.timeout }
+    ensures local { result.global ≡ false }
+{
+    Arg::new(alloc, "timeout")
+        .long("timeout")
+        .value_name("S")
+        .action(ArgAction::Set)
+        .default_value("30")
+        .value_parser(value_parser!(u16).range(1..=3600))
+        .help("Seconds that a connection may last: 1 to 3600")
+}
+
+/// `--log`.
+pub fn log_option<'a>(alloc: Global) -> Arg<'a>
+    ensures rule { rule_of result ≡ grammar.log }
+    ensures local { result.global ≡ false }
+{
+    Arg::new(alloc, "log")
+        .long("log")
+        .action(ArgAction::SetTrue)
+        .help("Write a line a connection to standard error")
+}
+
 /// `--version T`.
 pub fn version_option<'a>(alloc: Global) -> Arg<'a>
     ensures rule { rule_of result ≡ grammar.version }

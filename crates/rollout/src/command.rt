@@ -3,18 +3,26 @@
 ghost use Rattle.std.specs.Prelude.{◌≡◌, ◌≤◌, map, OnOk, if◌then◌else◌};
 ghost use Rattle.clap.specs.Values.{kind_of};
 ghost use Rattle.std.specs.IoError.{error_kind};
+ghost use Rattle.std.specs.Io.KnownBytes.{Appends};
 ghost use Rattle.rollout.specs.Commands.{AreWrong, IsDone, IsNoAnswer, PrintsRefusal};
+ghost use Rattle.rollout.specs.Texts.{serving_line};
 
 use crate::answer::answer;
-use crate::fault::Fault;
+use crate::commands::serve_until_stopped;
+use crate::fault::{Answer, Fault};
 use crate::grammar::grammar;
-use crate::request::NoRequest;
+use crate::request::{NoRequest, Plan};
 use crate::words::request_of;
 use clap::Error;
 use clap::error::ErrorKind as ParseFault;
+use serving::Server;
 use std::convert::AsStr;
 use std::io::{self, ErrorKind, Write};
+use std::net::{Net, TcpListener, TcpStream};
 use std::rt::Files;
+use std::sync::Wait;
+use std::thread::Threads;
+use std::time::Clock;
 
 /// The command did what it was asked.
 const DONE: u8 = 0;
@@ -25,12 +33,16 @@ const USAGE: u8 = 2;
 
 /// Does what the words ask, the first of which is the program's name. Results go to `out`, and
 /// refusals and usage to `err`. The status is 0 done, 1 refused or after a failed write, 2 usage.
-pub fn command<R: Files + AllocGlobal, S: AsStr, O: Write, E: Write>(
-    rt: &R,
-    words: &[S],
-    out: &mut O,
-    err: &mut E,
-) -> u8
+/// A server has served once the status is there.
+pub fn command<R, S, O, E>(rt: &R, words: &[S], out: &mut O, err: &mut E) -> u8
+where
+    R: Files + Threads + Wait + AllocGlobal + Clock + Eprint + Sync,
+    R: Net<Listener = TcpListener, Stream = TcpStream>,
+    R::File: Send,
+    R::Dir: Send,
+    S: AsStr,
+    O: Write,
+    E: Write,
     ensures within { result ≤ 2 }
     ensures done { result ≡ 0 → IsDone (map S.text words.now)
         (O.contents out.old) (O.contents out.new) }
@@ -51,9 +63,39 @@ pub fn command<R: Files + AllocGlobal, S: AsStr, O: Write, E: Write>(
         Err(NoRequest::Memory) => return refused(err, &Fault::Memory),
     };
     match answer(rt, &request) {
+        Ok(Answer::Ready { server, plan }) => serve(rt, server, &plan, out, err),
         Ok(answer) => status_of(write!(out, "{answer}").is_ok(), DONE),
         Err(fault) => refused(err, &fault),
     }
+}
+
+// Says that a server is ready, and serves until its operator stops it.
+fn serve<R, O, E>(rt: &R, server: Server, plan: &Plan, out: &mut O, err: &mut E) -> u8
+where
+    R: Files + Threads + Wait + AllocGlobal + Clock + Eprint + Sync,
+    R: Net<Listener = TcpListener, Stream = TcpStream>,
+    R::File: Send,
+    R::Dir: Send,
+    O: Write,
+    E: Write,
+    ensures within { result ≤ 1 }
+    ensures done { result ≡ 0 → Appends (O.contents out.old) (O.contents out.new) serving_line }
+    ensures silent { result ≡ 0 → err.new ≡ err.old }
+{
+    if say_ready(out).is_err() {
+        return REFUSED;
+    }
+    match serve_until_stopped(rt, server, plan) {
+        Ok(()) => DONE,
+        Err(fault) => refused(err, &fault),
+    }
+}
+
+fn say_ready<O: Write>(out: &mut O) -> io::Result<()>
+    ensures { OnOk result (Appends (O.contents out.old) (O.contents out.new) serving_line) }
+{
+    writeln!(out, "serving generation 1")?;
+    out.flush()
 }
 
 /// What words are answered that can't be read: their memory was refused, or one isn't UTF-8.

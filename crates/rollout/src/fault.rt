@@ -3,12 +3,14 @@
 ghost use Rattle.std.specs.Prelude.{Some};
 ghost use Rattle.rollout.specs.Texts.{answer_text, fault_text};
 
+use crate::request::Plan;
 use bpf_text::{AsmFault, ListFault};
 use bpf_verify::Refusal;
 use cells::CellsFault;
 use flow_check::FlowFault;
 use rule_compile::CompileFault;
 use rule_lang::RuleFault;
+use serving::{ManifestFault, Server};
 use std::fmt;
 
 /// Why a request is refused.
@@ -32,6 +34,16 @@ pub enum Fault {
     Flow(FlowFault),
     /// V1 to V15: the verifier doesn't accept the program.
     Rule(Refusal),
+    /// B3, B4, M1 to M8: the manifest of a server comes to no ruleset.
+    Manifest(ManifestFault),
+    /// B1: no line says what the operator asks.
+    Word,
+    /// B5: nobody answers at the operator's port.
+    Connect,
+    /// B6: a port can't be bound.
+    Bind,
+    /// The server refuses, in these words.
+    Told(String),
 }
 
 impl fmt::Display for Fault {
@@ -48,12 +60,17 @@ impl fmt::Display for Fault {
             Fault::Bytes(fault) => write!(f, "{fault}"),
             Fault::Flow(fault) => write!(f, "{fault}"),
             Fault::Rule(refusal) => write!(f, "{refusal}"),
+            Fault::Manifest(fault) => write!(f, "{fault}"),
+            Fault::Word => f.write_str("B1 Word"),
+            Fault::Connect => f.write_str("B5 Connect"),
+            Fault::Bind => f.write_str("B6 Bind"),
+            Fault::Told(text) => f.write_str(text),
         }
     }
 }
 
 /// What a request is answered, by lines that are each ended by LF.
-#[derive(Debug, Drop)]
+#[derive(Drop)]
 pub enum Answer {
     /// The text was assembled into these bytes, of which the number of slots is printed.
     Assembled { program: Vec<u8> },
@@ -65,6 +82,10 @@ pub enum Answer {
     Accepted { slots: usize },
     /// The program chose a release, or none, and did so many instructions.
     Chosen { choice: u8, instructions: u32 },
+    /// The lines of a server's reply.
+    Told { text: String },
+    /// The server of a manifest is ready to serve.
+    Ready { server: Server, plan: Plan },
 }
 
 impl fmt::Display for Answer {
@@ -83,6 +104,8 @@ impl fmt::Display for Answer {
                 choice,
                 instructions,
             } => writeln!(f, "choice {choice} after {instructions} instructions"),
+            Answer::Told { text } => f.write_str(text),
+            Answer::Ready { .. } => f.write_str("serving generation 1\n"),
         }
     }
 }

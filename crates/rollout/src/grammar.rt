@@ -1,12 +1,13 @@
 //! The commands of the command line.
 
-ghost use Rattle.std.specs.Prelude.{◌≡◌, IfOk, false};
+ghost use Rattle.std.specs.Prelude.{◌≡◌, IfOk, codes, false};
 ghost use Rattle.clap.specs.Words.{app_of, shape_of};
 ghost use Rattle.clap.specs.declared.builder.command.Command.TheViews.{out-Command as fields_of};
 ghost use Rattle.rollout.specs.Grammar as grammar;
 
 use crate::arguments::{
-    arrays_option, bucket_option, file_argument, program_argument, releases_option, version_option,
+    arrays_option, bucket_option, file_argument, log_option, operator_option, port_option,
+    program_argument, releases_option, timeout_option, version_option, workers_option,
 };
 use clap::Command;
 use std::alloc::{AllocError, Global};
@@ -79,6 +80,81 @@ fn run_command<'a>(alloc: Global) -> Result<Command<'a>, AllocError>
         .arg(bucket_option(alloc))
 }
 
+fn serve_command<'a>(alloc: Global) -> Result<Command<'a>, AllocError>
+    ensures shape { IfOk result (λ c. shape_of c ≡ grammar.serve_command) }
+    ensures local { IfOk result (λ c. (fields_of c).has_globals ≡ false) }
+{
+    server_ports(alloc)?
+        .arg(workers_option(alloc))?
+        .arg(timeout_option(alloc))?
+        .arg(log_option(alloc))
+}
+
+// What `serve` has first: the manifest and both ports.
+fn server_ports<'a>(alloc: Global) -> Result<Command<'a>, AllocError>
+    ensures shape { IfOk result (λ c. shape_of c ≡ grammar.server_ports) }
+    ensures local { IfOk result (λ c. (fields_of c).has_globals ≡ false) }
+{
+    Command::new(alloc, "serve")
+        .about("Serve a manifest's ruleset: `serving generation 1`, until the operator stops it")
+        .arg(file_argument(alloc, "MANIFEST", "File of the manifest"))?
+        .arg(port_option(
+            alloc,
+            "port",
+            "Port of the service, on loopback: 1 to 65535",
+        ))?
+        .arg(operator_option(alloc))
+}
+
+fn load_command<'a>(alloc: Global) -> Result<Command<'a>, AllocError>
+    ensures shape { IfOk result (λ c. shape_of c ≡ grammar.load_command) }
+    ensures local { IfOk result (λ c. (fields_of c).has_globals ≡ false) }
+{
+    Command::new(alloc, "load")
+        .about("Have a server load a manifest: `generation G`, or its refusal")
+        .arg(file_argument(alloc, "PATH", "Manifest, as the server sees it"))?
+        .arg(operator_option(alloc))
+}
+
+// A command of the operator's port alone.
+fn operator_command<'a>(
+    alloc: Global,
+    name: &'a str,
+    about: &'a str,
+) -> Result<Command<'a>, AllocError>
+    ensures shape { IfOk result (λ c. shape_of c ≡ grammar.operator_command name.now) }
+    ensures local { IfOk result (λ c. (fields_of c).has_globals ≡ false) }
+{
+    Command::new(alloc, name)
+        .about(about)
+        .arg(operator_option(alloc))
+}
+
+fn show_command<'a>(alloc: Global) -> Result<Command<'a>, AllocError>
+    ensures shape { IfOk result (λ c. shape_of c ≡ grammar.operator_command (codes "show")) }
+    ensures local { IfOk result (λ c. (fields_of c).has_globals ≡ false) }
+{
+    operator_command(alloc, "show", "Tell a server's generation and its apps")
+}
+
+fn cells_command<'a>(alloc: Global) -> Result<Command<'a>, AllocError>
+    ensures shape { IfOk result (λ c. shape_of c ≡ grammar.operator_command (codes "cells")) }
+    ensures local { IfOk result (λ c. (fields_of c).has_globals ≡ false) }
+{
+    operator_command(
+        alloc,
+        "cells",
+        "Tell a server's counters that aren't 0: `NAME[I] V`",
+    )
+}
+
+fn stop_command<'a>(alloc: Global) -> Result<Command<'a>, AllocError>
+    ensures shape { IfOk result (λ c. shape_of c ≡ grammar.operator_command (codes "stop")) }
+    ensures local { IfOk result (λ c. (fields_of c).has_globals ≡ false) }
+{
+    operator_command(alloc, "stop", "End a server: `stopping`")
+}
+
 /// The grammar of the command line.
 pub fn grammar<'a>(alloc: Global) -> Result<Command<'a>, AllocError>
     ensures { IfOk result (λ c. app_of c ≡ grammar.commands) }
@@ -87,8 +163,13 @@ pub fn grammar<'a>(alloc: Global) -> Result<Command<'a>, AllocError>
         .about("Decide by verified BPF programs which release an app is offered")
         .subcommand_required(true)
         .subcommand(assemble_command(alloc)?)?
+        .subcommand(cells_command(alloc)?)?
         .subcommand(compile_command(alloc)?)?
         .subcommand(list_command(alloc)?)?
+        .subcommand(load_command(alloc)?)?
         .subcommand(run_command(alloc)?)?
+        .subcommand(serve_command(alloc)?)?
+        .subcommand(show_command(alloc)?)?
+        .subcommand(stop_command(alloc)?)?
         .subcommand(verify_command(alloc)?)
 }

@@ -36,6 +36,16 @@ pub enum Request<'a> {
         path: &'a str,
         shape: DeclaredShape,
     },
+    /// Serve the ruleset of a manifest.
+    Serve {
+        manifest: &'a str,
+        plan: Plan,
+    },
+    /// Ask a server at its operator's port.
+    Ask {
+        line: Line<'a>,
+        port: u16,
+    },
     /// Verify it, and run it for one app.
     Run {
         path: &'a str,
@@ -43,6 +53,28 @@ pub enum Request<'a> {
         version: Option<&'a str>,
         bucket: Bucket,
     },
+}
+
+/// How a server serves: its two ports, its workers, the seconds of a connection, and whether each
+/// connection is logged.
+#[derive(Clone, Copy)]
+pub struct Plan {
+    pub port: u16,
+    pub operator: u16,
+    pub workers: u16,
+    pub timeout: u16,
+    pub log: bool,
+    pub ghost some: { 1 ≤ workers },
+    pub ghost few: { workers ≤ 64 },
+}
+
+/// What an operator asks.
+#[derive(Clone, Copy)]
+pub enum Line<'a> {
+    Load(&'a str),
+    Show,
+    Cells,
+    Stop,
 }
 
 /// A bucket: 0 to 9999.

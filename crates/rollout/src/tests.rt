@@ -6,6 +6,7 @@ mod memory;
 mod programs;
 mod refusals;
 mod rules;
+mod server;
 mod texts;
 mod usage;
 
@@ -13,9 +14,13 @@ use crate::command::command;
 use bpf_text::assemble;
 use std::alloc::Global;
 use std::fs;
+use std::net::{Net, TcpListener, TcpStream};
 use std::process::Abort;
 use std::rt::Files;
+use std::sync::Wait;
 use std::test::Fail;
+use std::thread::Threads;
+use std::time::Clock;
 
 /// A program: the text that it is assembled from, or its bytes where they spell none.
 #[derive(Clone, Copy)]
@@ -45,7 +50,13 @@ struct Row<'a> {
 }
 
 /// Writes the file, whose name has the process in it, does the command and compares.
-fn check<R: Files + AllocGlobal + Abort>(rt: &R, process: u32, row: &Row<'_>) -> Result<(), Fail> {
+fn check<R>(rt: &R, process: u32, row: &Row<'_>) -> Result<(), Fail>
+where
+    R: Files + Threads + Wait + AllocGlobal + Clock + Eprint + Sync + Abort,
+    R: Net<Listener = TcpListener, Stream = TcpStream>,
+    R::File: Send,
+    R::Dir: Send,
+{
     let path = format!(in rt.alloc(); "/tmp/rollout-{}-{}.bin", process, row.name)?;
     fs::write(rt, path.as_str(), &row.program.bytes(rt.alloc())?)?;
     let mut words = vec![in rt.alloc(); "rollout", row.verb, path.as_str()]?;

@@ -1,13 +1,14 @@
 //! What the words of a command line ask for.
 
-ghost use Rattle.std.specs.Prelude.{◌≡◌, ◌≤◌, IfNone, IfOk, IfSome, Err, Some};
+ghost use Rattle.std.specs.Prelude.{◌≡◌, ℕ, ◌≤◌, IfNone, IfOk, IfSome, Err, Some};
 ghost use Rattle.clap.specs.Words.{found_of, rows_of, subcommand_rows_of};
 ghost use Rattle.rollout.specs.Words.{Asks, AsksNothing, IsAsked, IsNothingAsked, verb_named};
 ghost use Rattle.rollout.specs.Words.{HasArrays, HasBucket, HasReleases, HasShape, HasText};
 ghost use Rattle.rollout.specs.Words.{LacksArrays, LacksBucket, LacksReleases, LacksShape};
 ghost use Rattle.rollout.specs.Words.{LacksText};
+ghost use Rattle.rollout.specs.Words.{HasPlan, HasShort, LacksPlan, LacksShort};
 
-use crate::request::{Bucket, DeclaredShape, NoRequest, Request};
+use crate::request::{Bucket, DeclaredShape, Line, NoRequest, Plan, Request};
 use clap::ArgMatches;
 use declarations::{ArrayDeclaration, SpecFault, read_spec};
 use std::alloc::Global;
@@ -20,6 +21,11 @@ pub enum Verb {
     List,
     Verify,
     Run,
+    Serve,
+    Load,
+    Show,
+    Cells,
+    Stop,
 }
 
 /// The request that the matches hold, if they hold one. Those of a parse by the grammar do where
@@ -46,6 +52,11 @@ fn verb_named(name: &str) -> Option<Verb>
         "list" => Some(Verb::List),
         "verify" => Some(Verb::Verify),
         "run" => Some(Verb::Run),
+        "serve" => Some(Verb::Serve),
+        "load" => Some(Verb::Load),
+        "show" => Some(Verb::Show),
+        "cells" => Some(Verb::Cells),
+        "stop" => Some(Verb::Stop),
         _ => None,
     }
 }
@@ -66,6 +77,11 @@ fn request_named<'a>(
         Some(Verb::List) => list_asked(found),
         Some(Verb::Verify) => verify_asked(alloc, found),
         Some(Verb::Run) => run_asked(alloc, found),
+        Some(Verb::Serve) => serve_asked(found),
+        Some(Verb::Load) => load_asked(found),
+        Some(Verb::Show) => show_asked(found),
+        Some(Verb::Cells) => cells_asked(found),
+        Some(Verb::Stop) => stop_asked(found),
         None => Err(NoRequest::Wrong),
     }
 }
@@ -124,6 +140,98 @@ fn run_asked<'a>(alloc: Global, found: &ArgMatches<'a>) -> Result<Request<'a>, N
         version: found.get_str("version"),
         bucket,
     })
+}
+
+fn serve_asked<'a>(found: &ArgMatches<'a>) -> Result<Request<'a>, NoRequest>
+    ensures asked { IfOk result (Asks (Some Verb.Serve) (rows_of (found_of found.now))) }
+    ensures nothing { result ≡ Err NoRequest.Wrong
+        → AsksNothing (Some Verb.Serve) (rows_of (found_of found.now)) }
+{
+    let manifest = text_of(found, "MANIFEST")?;
+    let plan = plan_of(found)?;
+    Ok(Request::Serve { manifest, plan })
+}
+
+fn load_asked<'a>(found: &ArgMatches<'a>) -> Result<Request<'a>, NoRequest>
+    ensures asked { IfOk result (Asks (Some Verb.Load) (rows_of (found_of found.now))) }
+    ensures nothing { result ≡ Err NoRequest.Wrong
+        → AsksNothing (Some Verb.Load) (rows_of (found_of found.now)) }
+{
+    let path = text_of(found, "PATH")?;
+    let port = number_of(found, "operator")?;
+    let line = Line::Load(path);
+    Ok(Request::Ask { line, port })
+}
+
+fn show_asked<'a>(found: &ArgMatches<'a>) -> Result<Request<'a>, NoRequest>
+    ensures asked { IfOk result (Asks (Some Verb.Show) (rows_of (found_of found.now))) }
+    ensures nothing { result ≡ Err NoRequest.Wrong
+        → AsksNothing (Some Verb.Show) (rows_of (found_of found.now)) }
+{
+    let port = number_of(found, "operator")?;
+    Ok(Request::Ask {
+        line: Line::Show,
+        port,
+    })
+}
+
+fn cells_asked<'a>(found: &ArgMatches<'a>) -> Result<Request<'a>, NoRequest>
+    ensures asked { IfOk result (Asks (Some Verb.Cells) (rows_of (found_of found.now))) }
+    ensures nothing { result ≡ Err NoRequest.Wrong
+        → AsksNothing (Some Verb.Cells) (rows_of (found_of found.now)) }
+{
+    let port = number_of(found, "operator")?;
+    Ok(Request::Ask {
+        line: Line::Cells,
+        port,
+    })
+}
+
+fn stop_asked<'a>(found: &ArgMatches<'a>) -> Result<Request<'a>, NoRequest>
+    ensures asked { IfOk result (Asks (Some Verb.Stop) (rows_of (found_of found.now))) }
+    ensures nothing { result ≡ Err NoRequest.Wrong
+        → AsksNothing (Some Verb.Stop) (rows_of (found_of found.now)) }
+{
+    let port = number_of(found, "operator")?;
+    Ok(Request::Ask {
+        line: Line::Stop,
+        port,
+    })
+}
+
+// How the options say that a server serves.
+fn plan_of(found: &ArgMatches<'_>) -> Result<Plan, NoRequest>
+    ensures given { IfOk result (HasPlan (rows_of (found_of found.now))) }
+    ensures lacking { result ≡ Err NoRequest.Wrong → LacksPlan (rows_of (found_of found.now)) }
+{
+    let port = number_of(found, "port")?;
+    let operator = number_of(found, "operator")?;
+    let workers = number_of(found, "workers")?;
+    let timeout = number_of(found, "timeout")?;
+    if workers < 1 || workers > 64 {
+        return Err(NoRequest::Wrong);
+    }
+    Ok(Plan {
+        port,
+        operator,
+        workers,
+        timeout,
+        log: found.get_flag("log"),
+    })
+}
+
+// The number of an option, of 16 bits.
+fn number_of(found: &ArgMatches<'_>, id: &str) -> Result<u16, NoRequest>
+    ensures given { IfOk result (HasShort id.now (rows_of (found_of found.now))) }
+    ensures only { IfOk result
+        (λ n. (m : ℕ) → HasShort id.now (rows_of (found_of found.now)) m → m ≡ n) }
+    ensures lacking { result ≡ Err NoRequest.Wrong
+        → LacksShort id.now (rows_of (found_of found.now)) }
+{
+    match found.get_one::<u16>(id) {
+        Some(number) => Ok(number),
+        None => Err(NoRequest::Wrong),
+    }
 }
 
 // The text of an argument.

@@ -3,7 +3,12 @@
 use crate::command::{command, unreadable_words, usage};
 use std::alloc::AllocError;
 use std::io::ErrorKind;
+use std::net::{Net, TcpListener, TcpStream};
+use std::rt::Files;
+use std::sync::Wait;
 use std::test::Fail;
+use std::thread::Threads;
+use std::time::Clock;
 use std::{fs, io, process};
 
 /// The memory that the words want is the command's own: B4, and no fault of the words.
@@ -34,7 +39,13 @@ fn path_of(rt: &HostRuntime) -> Result<String, AllocError> {
 }
 
 /// The status, and what is printed in room that stands ready.
-fn run_none(rt: &HostRuntime, path: &str) -> (u8, [u8; 32], [u8; 32]) {
+fn run_none<R>(rt: &R, path: &str) -> (u8, [u8; 32], [u8; 32])
+where
+    R: Files + Threads + Wait + AllocGlobal + Clock + Eprint + Sync,
+    R: Net<Listener = TcpListener, Stream = TcpStream>,
+    R::File: Send,
+    R::Dir: Send,
+{
     let mut room = [0; 32];
     let mut said = [0; 32];
     let mut out: &mut [u8] = &mut room;

@@ -1,19 +1,26 @@
 //! Rules that are compiled, and the choices of the programs that come of them.
 
 use crate::command::command;
-use std::fs;
-use std::process::{self, Abort};
+use std::net::{Net, TcpListener, TcpStream};
+use std::process::Abort;
 use std::rt::Files;
+use std::sync::Wait;
 use std::test::Fail;
+use std::thread::Threads;
+use std::time::Clock;
+use std::{fs, process};
 
 /// The shape of each row: one release, and an array with a quota.
 const SHAPE: [&str; 4] = ["--releases", "1", "--arrays", "q:64:1:2"];
 
 /// Does a command under that shape, and gives its status and what it printed.
-fn under_shape<R: Files + AllocGlobal>(
-    rt: &R,
-    words: &[&str],
-) -> Result<(u8, String, String), Fail> {
+fn under_shape<R>(rt: &R, words: &[&str]) -> Result<(u8, String, String), Fail>
+where
+    R: Files + Threads + Wait + AllocGlobal + Clock + Eprint + Sync + Abort,
+    R: Net<Listener = TcpListener, Stream = TcpStream>,
+    R::File: Send,
+    R::Dir: Send,
+{
     let mut all = vec![in rt.alloc(); "rollout"]?;
     for word in words {
         all.push(*word)?;
@@ -49,12 +56,13 @@ const CHOICES: [(&str, &str, &str, &str); 9] = [
 ];
 
 /// Compiles a rule into a file, and removes the rule's.
-fn compile<R: Files + AllocGlobal + Abort>(
-    rt: &R,
-    id: u32,
-    text: &str,
-    program: &str,
-) -> Result<(), Fail> {
+fn compile<R>(rt: &R, id: u32, text: &str, program: &str) -> Result<(), Fail>
+where
+    R: Files + Threads + Wait + AllocGlobal + Clock + Eprint + Sync + Abort,
+    R: Net<Listener = TcpListener, Stream = TcpStream>,
+    R::File: Send,
+    R::Dir: Send,
+{
     let rule = format!(in rt.alloc(); "/tmp/rollout-{id}-rule.txt")?;
     let rule = rule.as_str();
     fs::write(rt, rule, text.as_bytes())?;
@@ -70,12 +78,13 @@ fn compile<R: Files + AllocGlobal + Abort>(
 }
 
 /// Runs a program with an option, and gives what it printed.
-fn run<R: Files + AllocGlobal>(
-    rt: &R,
-    program: &str,
-    option: &'static str,
-    value: &'static str,
-) -> Result<String, Fail> {
+fn run<R>(rt: &R, program: &str, option: &'static str, value: &'static str) -> Result<String, Fail>
+where
+    R: Files + Threads + Wait + AllocGlobal + Clock + Eprint + Sync + Abort,
+    R: Net<Listener = TcpListener, Stream = TcpStream>,
+    R::File: Send,
+    R::Dir: Send,
+{
     let words = vec![in rt.alloc(); "run", program, option, value]?;
     let (_, out, _) = under_shape(rt, words.as_slice())?;
     Ok(out)
@@ -123,12 +132,13 @@ const REFUSED: [(&[u8], &str); 8] = [
 ];
 
 /// A rule that is refused writes no file.
-fn refuses<R: Files + AllocGlobal + Abort>(
-    rt: &R,
-    id: u32,
-    text: &[u8],
-    line: &str,
-) -> Result<(), Fail> {
+fn refuses<R>(rt: &R, id: u32, text: &[u8], line: &str) -> Result<(), Fail>
+where
+    R: Files + Threads + Wait + AllocGlobal + Clock + Eprint + Sync + Abort,
+    R: Net<Listener = TcpListener, Stream = TcpStream>,
+    R::File: Send,
+    R::Dir: Send,
+{
     let rule = format!(in rt.alloc(); "/tmp/rollout-{id}-no_rule.txt")?;
     let program = format!(in rt.alloc(); "/tmp/rollout-{id}-no_rule.bin")?;
     let (rule, program) = (rule.as_str(), program.as_str());

@@ -1,10 +1,14 @@
 //! Texts that are assembled, bytes that are listed, and the files that come of it.
 
 use crate::command::command;
-use std::fs;
-use std::process::{self, Abort};
+use std::net::{Net, TcpListener, TcpStream};
+use std::process::Abort;
 use std::rt::Files;
+use std::sync::Wait;
 use std::test::Fail;
+use std::thread::Threads;
+use std::time::Clock;
+use std::{fs, process};
 
 /// A text with comments and a label, and its listing.
 const WRITTEN: &str = "; the last release where the version is known, and else the one before it
@@ -20,13 +24,13 @@ end:
 const LISTED: &str = "ldxb r2, [r1+18]\nand r2, 1\nmov r0, 2\njge r2, 1, +1\nmov r0, 1\nexit\n";
 
 /// Does the command and compares.
-fn answers<R: Files + AllocGlobal + Abort>(
-    rt: &R,
-    words: &[&str],
-    status: u8,
-    out: &str,
-    err: &str,
-) {
+fn answers<R>(rt: &R, words: &[&str], status: u8, out: &str, err: &str)
+where
+    R: Files + Threads + Wait + AllocGlobal + Clock + Eprint + Sync + Abort,
+    R: Net<Listener = TcpListener, Stream = TcpStream>,
+    R::File: Send,
+    R::Dir: Send,
+{
     let mut printed = Vec::new(rt.alloc());
     let mut said = Vec::new(rt.alloc());
     let got = command(rt, words, &mut printed, &mut said);
@@ -70,12 +74,13 @@ fn text_to_choice(rt: HostRuntime) -> Result<(), Fail> {
 }
 
 /// A text that is refused writes no file.
-fn refuses<R: Files + AllocGlobal + Abort>(
-    rt: &R,
-    id: u32,
-    text: &[u8],
-    err: &str,
-) -> Result<(), Fail> {
+fn refuses<R>(rt: &R, id: u32, text: &[u8], err: &str) -> Result<(), Fail>
+where
+    R: Files + Threads + Wait + AllocGlobal + Clock + Eprint + Sync + Abort,
+    R: Net<Listener = TcpListener, Stream = TcpStream>,
+    R::File: Send,
+    R::Dir: Send,
+{
     let path = format!(in rt.alloc(); "/tmp/rollout-{id}-refused.txt")?;
     let bytes = format!(in rt.alloc(); "/tmp/rollout-{id}-refused.bin")?;
     let (path, bytes) = (path.as_str(), bytes.as_str());

@@ -4,7 +4,7 @@ use crate::command::command;
 use std::test::Fail;
 use std::{fs, process};
 
-const WRONG: [&[&str]; 12] = [
+const WRONG: [&[&str]; 17] = [
     &["rollout"],
     &["rollout", "frob"],
     &["rollout", "asm", "a.txt"],
@@ -41,6 +41,11 @@ const WRONG: [&[&str]; 12] = [
         "1",
     ],
     &["rollout", "verify", "a.bin", "b.bin", "--releases", "0"],
+    &["rollout", "stop"],
+    &["rollout", "load", "--operator", "8081"],
+    &["rollout", "show", "--operator", "0"],
+    &["rollout", "cells", "--operator", "65536"],
+    &["rollout", "serve", "a.toml", "--port", "8080"],
 ];
 
 /// Wrong words are status 2, before the file is read; the usage stands on standard error.

@@ -1,0 +1,45 @@
+//! `serve`: a server, from its manifest to its operator's stop.
+
+ghost use Rattle.std.specs.Prelude.{[], Ok, IfOk};
+ghost use Rattle.serving.specs.Manifests.{LoadsSome};
+
+use crate::fault::Fault;
+use crate::request::Plan;
+use serving::{PrepareFault, Server, prepare};
+use std::net::{Net, TcpListener, TcpStream};
+use std::rt::Files;
+use std::sync::Wait;
+use std::thread::Threads;
+use std::time::{Clock, Duration};
+use workers::Service;
+
+/// The server of a manifest, whose ports listen.
+pub fn prepare_server<R>(rt: &R, manifest: &str, plan: &Plan) -> Result<Server, Fault>
+where
+    R: Files + AllocGlobal + Net<Listener = TcpListener, Stream = TcpStream>,
+    ensures { IfOk result (λ s. LoadsSome [] (Ok s.rules) s.directory) }
+{
+    match prepare(rt, manifest, plan.port, plan.operator) {
+        Ok(server) => Ok(server),
+        Err(PrepareFault::Manifest(fault)) => Err(Fault::Manifest(fault)),
+        Err(PrepareFault::Port(_)) => Err(Fault::Bind),
+    }
+}
+
+/// Serves until the operator stops the server. B4 where memory or a thread is refused.
+pub fn serve_until_stopped<R>(rt: &R, server: Server, plan: &Plan) -> Result<(), Fault>
+where
+    R: Files + Threads + Wait + AllocGlobal + Clock + Eprint + Sync,
+    R: Net<Listener = TcpListener, Stream = TcpStream>,
+    R::File: Send,
+    R::Dir: Send,
+{
+    let service = Service {
+        timeout: Duration::from_secs(u64::from(plan.timeout)),
+        log: plan.log,
+    };
+    match server.serve(rt, usize::from(plan.workers), service) {
+        Ok(()) => Ok(()),
+        Err(_) => Err(Fault::Memory),
+    }
+}
