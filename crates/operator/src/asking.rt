@@ -33,10 +33,15 @@ where
         return Err(AskFault::Connect);
     };
     match exchange(rt.alloc(), &stream, line) {
-        Ok(reply) if reply.ends_with(b"\n") => Ok(reply),
+        Ok(reply) if is_whole(line, &reply) => Ok(reply),
         Err(error) if error.kind() == ErrorKind::OutOfMemory => Err(AskFault::Memory),
         _ => Err(AskFault::Connect),
     }
+}
+
+// Whether a reply came to its end. That to `cells` has no line where all counters are 0.
+fn is_whole(line: &str, reply: &[u8]) -> bool {
+    reply.ends_with(b"\n") || (reply.is_empty() && line == "cells")
 }
 
 // Sends a line, and reads all that is sent back.
