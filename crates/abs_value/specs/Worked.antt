@@ -46,6 +46,7 @@ abbrev pub three : AbsState → Abs × Abs × AbsSlot
 three e = (value_at e 0, value_at e 6, slot_at e.stack 63)
 
 -- on an edge of a comparison of R0
-abbrev pub compared : Abs → Abs → Bits → Condition → Operand → Bool → Option (Abs × Abs × AbsSlot)
+abbrev pub compared : Abs → Abs → Bits → Condition → Operand → Bool
+    → Option (Abs × Abs × AbsSlot)
 compared a b bits condition right jumps =
     option_map three (refined_state (holding a b) bits condition R0 right jumps)

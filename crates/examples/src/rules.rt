@@ -127,7 +127,7 @@ fn choice(
 }
 
 /// Each rule is asked by its apps in turn, and what each is offered is printed.
-pub fn ask_all<R: Files + Print + AllocGlobal>(rt: &R) -> Result<()> {
+pub(crate) fn ask_all<R: Files + Print + AllocGlobal>(rt: &R) -> Result<()> {
     for case in &CASES {
         let program = compiled(rt.alloc(), &fs::read(rt, case.file)?)?;
         let (cells, mut pass) = PlainCells::new(rt.alloc())?;

@@ -17,7 +17,8 @@ WritesBeginning old new bytes (Err e) =
 
 -- some bytes came behind the first ones of a buffer
 abbrev pub GainsBytes :
-    {E : Type 0} → Option (List ℕ) → Option (List ℕ) → List ℕ → List ℕ → ℕ → Result ℕ E → Type 0
+    {E : Type 0} → Option (List ℕ) → Option (List ℕ) → List ℕ → List ℕ → ℕ
+    → Result ℕ E → Type 0
 GainsBytes old new first buf filled (Ok n) =
     (gained : List ℕ) × Consumes old new gained × (length gained ≡ n)
     × (take (filled + n) buf ≡ first ++ gained)

@@ -18,7 +18,8 @@ const ROWS: &str = r#"
 - neither | rule = "y.rule" =>  | M2 Field
 - an appid twice | appid = "y" => appid = "x" | M3 Duplicate
 - an array twice | [[app]] => [[array]] / name = "q" / width = 64 / length = 1 / [[app]] | M3 Duplicate
-- too many cells | [[app]] => [[array]] / name = "r" / width = 64 / length = 4096 / [[app]] | M7 Cells N1 CellsFull in array 2
+- too many cells | [[app]] => [[array]] / name = "r"
+width = 64 / length = 4096 / [[app]] | M7 Cells N1 CellsFull in array 2
 - no such file | "x.bpf" => "z.bpf" | M4 File in app 1
 - a file that can't be read | "x.bpf" => "unreadable.bpf" | M4 File in app 1
 - no such file of a rule | "y.rule" => "z.rule" | M4 File in app 2
@@ -39,9 +40,11 @@ const ROWS: &str = r#"
 - 65537 bytes | "y.rule" => "long.rule" | M6 Rule L4 Range at line 1 in app 2
 - over 4096 slots | "y.rule" => "costly.rule" | M6 Rule C1 TooLong in app 2
 - M2 before M3 | quota = 2 => limit = 2 & appid = "y" => appid = "x" | M2 Field
-- M3 before M7 | appid = "y" => appid = "x" & [[app]] => [[array]] / name = "r" / width = 64 / length = 4096 / [[app]] | M3 Duplicate
-- M7 before M4 | "x.bpf" => "z.bpf" & [[app]] => [[array]] / name = "r" / width = 64 / length = 4096 / [[app]] | M7 Cells N1 CellsFull in array 2
-- app 1 before app 2 | "x.bpf" => "unset.bpf" & "y.rule" => "z.rule" | M5 Program V1 Unusable at slot 0 in app 1
+- M3 before M7 | appid = "y" => appid = "x" & [[app]] => [[array]] / name = "r"
+width = 64 / length = 4096 / [[app]] | M3 Duplicate
+- M7 before M4 | "x.bpf" => "z.bpf" & [[app]] => [[array]] / name = "r"
+width = 64 / length = 4096 / [[app]] | M7 Cells N1 CellsFull in array 2
+- app 1 first | "x.bpf" => "unset.bpf" & "y.rule" => "z.rule" | M5 Program V1 Unusable at slot 0 in app 1
 - app 1 before app 2, turned | "x.bpf" => "z.bpf" & "y.rule" => "shape.rule" | M4 File in app 1
 "#;
 
@@ -100,8 +103,10 @@ fn each_way(rt: HostRuntime) -> Result<(), Fail> {
 /// Manifests that follow a good one, in its directory.
 const LATER: &str = r#"
 - another quota | quota = 2 => quota = 3 | M7 Cells N2 Redefined in array 1
-- a new array, and an app without a choice | [[app]] => [[array]] / name = "z" / width = 64 / length = 1 / [[app]] & rule = "y.rule" => program = "unset.bpf" | M5 Program V1 Unusable at slot 0 in app 2
-- an array of the manifest before | name = "q" => name = "r" & "x.bpf" => "none.bpf" | M6 Rule L3 Name at line 1 in app 2
+- a new array, and an app without a choice | [[app]] => [[array]] / name = "z"
+width = 64 / length = 1
+[[app]] & rule = "y.rule" => program = "unset.bpf" | M5 Program V1 Unusable at slot 0 in app 2
+- an old array | name = "q" => name = "r" & "x.bpf" => "none.bpf" | M6 Rule L3 Name at line 1 in app 2
 - the same once more |  | ok
 "#;
 

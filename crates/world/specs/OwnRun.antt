@@ -59,7 +59,8 @@ pub record IsOwnRun (w : WorldState) (k : ℕ) (events : List Event) (answers : 
       program (opening (arc_value attrs)) choice instructions
 
 -- what a worker's run comes to by these events
-abbrev pub ComesTo : WorldState → ℕ → Worker → List Event → List Answer → ℕ → ℕ → ℕ → Type 0
+abbrev pub ComesTo : WorldState → ℕ → Worker → List Event → List Answer → ℕ → ℕ → ℕ
+    → Type 0
 ComesTo w k Idle events answers number choice instructions = ⊥
 ComesTo w k (Running n program s) events answers number choice instructions =
     (number ≡ n) × EndsDuring w k events answers program s choice instructions

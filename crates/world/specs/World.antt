@@ -13,7 +13,8 @@ use Rattle.ruleset.specs.Rules.{Rules, Offers}
 pub data Worker : Type 0 where
   Idle : Worker
   Running : (number : ℕ) → (program : ShapedProgram) → State → Worker
-  Ended : (number : ℕ) → (program : ShapedProgram) → Attributes → (choice instructions : ℕ) → Worker
+  Ended : (number : ℕ) → (program : ShapedProgram) → Attributes → (choice instructions : ℕ)
+      → Worker
 
 -- all workers share one row of 8192 counters, each with its value
 pub record WorldState : Type 0 where

@@ -96,7 +96,8 @@ abbrev pub counted : OrFault Statement → Draft → Draft
 counted (Ok statement) d = with_statement statement d
 counted (Err e) d = with_fault e d
 
-abbrev pub statement_next : AppShape → Draft → Token → (line : ℕ) → (ts after : List Placed) → Next
+abbrev pub statement_next : AppShape → Draft → Token → (line : ℕ) → (ts after : List Placed)
+    → Next
 statement_next s d (token.Keyword keyword.Count) line ts after =
     behind COUNT ts >>? λ rest. Ok (counted (count_of s ts) d, rest)
 statement_next s d (token.Keyword keyword.When) line ts after =
