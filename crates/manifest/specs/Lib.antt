@@ -8,3 +8,4 @@ pub mod Array
 pub mod App
 pub mod Twice
 pub mod Manifest
+pub mod Texts

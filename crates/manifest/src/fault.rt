@@ -1,7 +1,12 @@
 //! Why a manifest is refused.
 
+ghost use Rattle.std.specs.Prelude.{Some};
+ghost use Rattle.manifest.specs.Texts.{toml_text, twice_text};
+
 use crate::misfit::Misfit;
 use crate::quote::Quote;
+use std::fmt;
+use std::fmt::{Display, Formatter, Write};
 use thiserror::Error;
 
 /// What is wrong, with the numbers that are printed. `Display` gives number and name alone; what
@@ -23,20 +28,41 @@ pub enum ManifestFault {
 }
 
 /// Why bytes are no document.
-#[derive(Clone, Copy, Debug, Drop, PartialEq, Eq, Error)]
+#[derive(Clone, Copy, Debug, Drop, PartialEq, Eq)]
 pub enum TomlFault {
-    #[error("more than 1048576 bytes")]
+    /// They are more than 1048576.
     TooLong,
     /// They are no UTF-8, or no TOML.
-    #[error("{0}")]
     Text(toml::de::Error),
 }
 
+impl Display for TomlFault {
+    ghost output = { toml_text };
+
+    fn fmt<W: Write>(&self, f: &mut Formatter<W>) -> fmt::Result {
+        match self {
+            TomlFault::TooLong => f.write_str("more than 1048576 bytes"),
+            TomlFault::Text(error) => write!(f, "{error}"),
+        }
+    }
+}
+
 /// What stands twice.
-#[derive(Debug, Drop, Error)]
+#[derive(Debug, Drop)]
 pub enum Twice {
-    #[error("array {0}")]
+    /// The name of an array.
     Array(Quote),
-    #[error("app {0}")]
+    /// An appid.
     App(Quote),
+}
+
+impl Display for Twice {
+    ghost output = { λ twice. Some (twice_text twice) };
+
+    fn fmt<W: Write>(&self, f: &mut Formatter<W>) -> fmt::Result {
+        match self {
+            Twice::Array(name) => write!(f, "array {name}"),
+            Twice::App(appid) => write!(f, "app {appid}"),
+        }
+    }
 }

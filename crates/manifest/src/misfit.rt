@@ -2,10 +2,13 @@
 //! a list are numbered from 1. `Unknown` has the key of a member that such a table doesn't have.
 //! `Display` tells the path and what is wanted, as `app[2].release[1].version: ..`.
 
+ghost use Rattle.std.specs.Prelude.{Some};
+ghost use Rattle.manifest.specs.Texts.{app_text, array_text, misfit_text, package_text};
+ghost use Rattle.manifest.specs.Texts.{release_text};
+
 use crate::quote::Quote;
 use std::fmt;
 use std::fmt::{Display, Formatter, Write};
-use thiserror::Error;
 
 /// What is wrong in a manifest.
 #[derive(Debug, Drop)]
@@ -28,17 +31,12 @@ pub enum InList<M> {
 }
 
 /// What is wrong in the table of an array.
-#[derive(Debug, Drop, Error)]
+#[derive(Debug, Drop)]
 pub enum ArrayMisfit {
-    #[error("{0}: no member of an array")]
     Unknown(Quote),
-    #[error("name: a letter or _, then letters, digits and _, at most 32 in all")]
     Name,
-    #[error("width: 32 or 64")]
     Width,
-    #[error("length: a whole number from 1 to 4096")]
     Length,
-    #[error("quota: a whole number from 1 to 9223372036854775807, with width 64 alone")]
     Quota,
 }
 
@@ -62,43 +60,70 @@ pub enum ReleaseMisfit {
 }
 
 /// What is wrong in the table of a package.
-#[derive(Debug, Drop, Error)]
+#[derive(Debug, Drop)]
 pub enum PackageMisfit {
-    #[error("{0}: no member of a package")]
     Unknown(Quote),
-    #[error("name: a text")]
     Name,
-    #[error("hash_sha256: 64 lower case hexadecimal digits")]
     Hash,
-    #[error("size: a whole number from 0 to 9007199254740991")]
     Size,
-    #[error("required: true or false")]
     Required,
 }
 
 impl Display for Misfit {
+    ghost output = { λ misfit. Some (misfit_text misfit) };
+
     fn fmt<W: Write>(&self, f: &mut Formatter<W>) -> fmt::Result {
         match self {
             Misfit::Unknown(key) => write!(f, "{key}: no member of a manifest"),
             Misfit::Server => f.write_str("server: a text"),
-            Misfit::Arrays(list) => write_list(f, "array", "at most 64 tables", list),
-            Misfit::Apps(list) => write_list(f, "app", "1 to 256 tables", list),
+            Misfit::Arrays(InList::Count) => f.write_str("array: at most 64 tables"),
+            Misfit::Arrays(InList::NoTable(number)) => write!(f, "array[{number}]: a table"),
+            Misfit::Arrays(InList::At(number, misfit)) => write!(f, "array[{number}].{misfit}"),
+            Misfit::Apps(InList::Count) => f.write_str("app: 1 to 256 tables"),
+            Misfit::Apps(InList::NoTable(number)) => write!(f, "app[{number}]: a table"),
+            Misfit::Apps(InList::At(number, misfit)) => write!(f, "app[{number}].{misfit}"),
+        }
+    }
+}
+
+impl Display for ArrayMisfit {
+    ghost output = { λ misfit. Some (array_text misfit) };
+
+    fn fmt<W: Write>(&self, f: &mut Formatter<W>) -> fmt::Result {
+        match self {
+            ArrayMisfit::Unknown(key) => write!(f, "{key}: no member of an array"),
+            ArrayMisfit::Name => {
+                f.write_str("name: a letter or _, then letters, digits and _, at most 32 in all")
+            }
+            ArrayMisfit::Width => f.write_str("width: 32 or 64"),
+            ArrayMisfit::Length => f.write_str("length: a whole number from 1 to 4096"),
+            ArrayMisfit::Quota => f.write_str(
+                "quota: a whole number from 1 to 9223372036854775807, with width 64 alone",
+            ),
         }
     }
 }
 
 impl Display for AppMisfit {
+    ghost output = { λ misfit. Some (app_text misfit) };
+
     fn fmt<W: Write>(&self, f: &mut Formatter<W>) -> fmt::Result {
         match self {
             AppMisfit::Unknown(key) => write!(f, "{key}: no member of an app"),
             AppMisfit::Appid => f.write_str("appid: a text of 1 to 1024 bytes"),
             AppMisfit::Source => f.write_str("program or rule: one of the two, the name of a file"),
-            AppMisfit::Releases(list) => write_list(f, "release", "at most 64 tables", list),
+            AppMisfit::Releases(InList::Count) => f.write_str("release: at most 64 tables"),
+            AppMisfit::Releases(InList::NoTable(number)) => write!(f, "release[{number}]: a table"),
+            AppMisfit::Releases(InList::At(number, misfit)) => {
+                write!(f, "release[{number}].{misfit}")
+            }
         }
     }
 }
 
 impl Display for ReleaseMisfit {
+    ghost output = { λ misfit. Some (release_text misfit) };
+
     fn fmt<W: Write>(&self, f: &mut Formatter<W>) -> fmt::Result {
         match self {
             ReleaseMisfit::Unknown(key) => write!(f, "{key}: no member of a release"),
@@ -106,21 +131,27 @@ impl Display for ReleaseMisfit {
                 f.write_str("version: one to four numbers below 4294967296, joined by dots")
             }
             ReleaseMisfit::Codebase => f.write_str("codebase: a text"),
-            ReleaseMisfit::Packages(list) => write_list(f, "package", "1 to 16 tables", list),
+            ReleaseMisfit::Packages(InList::Count) => f.write_str("package: 1 to 16 tables"),
+            ReleaseMisfit::Packages(InList::NoTable(number)) => {
+                write!(f, "package[{number}]: a table")
+            }
+            ReleaseMisfit::Packages(InList::At(number, misfit)) => {
+                write!(f, "package[{number}].{misfit}")
+            }
         }
     }
 }
 
-// A misfit in the list of this key.
-fn write_list<W: Write, M: Display>(
-    f: &mut Formatter<W>,
-    key: &str,
-    wanted: &str,
-    misfit: &InList<M>,
-) -> fmt::Result {
-    match misfit {
-        InList::Count => write!(f, "{key}: {wanted}"),
-        InList::NoTable(number) => write!(f, "{key}[{number}]: a table"),
-        InList::At(number, misfit) => write!(f, "{key}[{number}].{misfit}"),
+impl Display for PackageMisfit {
+    ghost output = { λ misfit. Some (package_text misfit) };
+
+    fn fmt<W: Write>(&self, f: &mut Formatter<W>) -> fmt::Result {
+        match self {
+            PackageMisfit::Unknown(key) => write!(f, "{key}: no member of a package"),
+            PackageMisfit::Name => f.write_str("name: a text"),
+            PackageMisfit::Hash => f.write_str("hash_sha256: 64 lower case hexadecimal digits"),
+            PackageMisfit::Size => f.write_str("size: a whole number from 0 to 9007199254740991"),
+            PackageMisfit::Required => f.write_str("required: true or false"),
+        }
     }
 }

@@ -1,6 +1,6 @@
 //! A text of a manifest that a fault tells.
 
-ghost use Rattle.std.specs.Prelude.{◌≡◌, string_bytes};
+ghost use Rattle.std.specs.Prelude.{◌≡◌, string_bytes, Some};
 
 use std::fmt;
 use std::marker::Model;
@@ -36,6 +36,8 @@ impl Quote {
 }
 
 impl fmt::Display for Quote {
+    ghost output = { λ text. Some text };
+
     fn fmt<W: fmt::Write>(&self, f: &mut fmt::Formatter<W>) -> fmt::Result {
         f.write_str(self.as_str())
     }
