@@ -19,6 +19,9 @@ use world::{Effect, Event, World, WorldFault, play};
 pub(crate) const BELOW_100: &str =
     "ldxh r2, [r1+16]\nmov r0, 0\njge r2, 100, +1\nmov r0, 1\nexit\n";
 
+/// Two slots, and no release.
+pub(crate) const NONE: &str = "mov r0, 0\nexit\n";
+
 const HASH: &str = "ba7816bf8f01cfea414140de5dae2223b00361a396177a9cb410ff61f20015ad";
 
 /// The app that runs this program, with as many releases as its shape says.
@@ -55,34 +58,41 @@ fn package(alloc: Global) -> Result<Package, AllocError> {
     Ok(Package::new(name, hash, 3, true))
 }
 
-/// The app that runs the program of a text, with so many releases.
-pub(crate) fn app(alloc: Global, appid: &str, text: &str, releases: u8) -> Result<App, Fail>
-    requires { releases ≤ 64 }
-{
+/// The app that runs the program of a text, of this shape.
+pub(crate) fn app_over(alloc: Global, appid: &str, text: &str, shape: &Shape) -> Result<App, Fail> {
     let flow = Flow::check(alloc, &assemble(alloc, text)?)?;
-    let program = verify(alloc, flow, &Shape::plain(alloc, releases))?;
+    let program = verify(alloc, flow, shape)?;
     Ok(app_of(alloc, appid, Arc::new(alloc, program)?)?)
 }
 
-/// The ruleset of one app.
+/// The ruleset of one app, of this shape.
+pub(crate) fn rules_over(
+    alloc: Global,
+    appid: &str,
+    text: &str,
+    shape: &Shape,
+) -> Result<Arc<Ruleset>, Fail> {
+    let apps = vec![in alloc; app_over(alloc, appid, text, shape)?]?;
+    Ok(Arc::new(alloc, Ruleset::new(String::new(alloc), apps)?)?)
+}
+
+/// The ruleset of one app, which has so many releases and no array.
 pub(crate) fn rules(
     alloc: Global,
     appid: &str,
     text: &str,
     releases: u8,
-) -> Result<Arc<Ruleset>, Fail>
-    requires { releases ≤ 64 }
-{
-    let apps = vec![in alloc; app(alloc, appid, text, releases)?]?;
-    Ok(Arc::new(alloc, Ruleset::new(String::new(alloc), apps)?)?)
+) -> Result<Arc<Ruleset>, Fail> {
+    rules_over(alloc, appid, text, &Shape::plain(alloc, releases.min(64)))
 }
 
-/// A world of so many workers.
-pub(crate) fn world_over(alloc: Global, workers: usize, rules: Arc<Ruleset>) -> Result<World, Fail>
-    requires at_least { 1 ≤ workers }
-    requires at_most { workers ≤ 64 }
-{
-    Ok(World::new(alloc, workers, rules)?)
+/// A world of 1 to 64 workers: of none it has one, and above 64 it has 64.
+pub(crate) fn world_over(
+    alloc: Global,
+    workers: usize,
+    rules: Arc<Ruleset>,
+) -> Result<World, Fail> {
+    Ok(World::new(alloc, workers.max(1).min(64), rules)?)
 }
 
 /// A Start of a run for a bucket, of 9999 where it is greater.

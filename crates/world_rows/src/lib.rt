@@ -13,4 +13,6 @@ mod rulesets;
 #[cfg(test)]
 mod swaps;
 #[cfg(test)]
+mod table;
+#[cfg(test)]
 mod world_cells;

@@ -189,6 +189,10 @@ const ANSWERS: [Result<Effect, WorldFault>; 6] = [
     }),
 ];
 
+fn are_played(answers: &[Result<Effect, WorldFault>]) -> bool {
+    answers == ANSWERS.as_slice()
+}
+
 /// A Start, a Step and a Finish want no memory: they are asked once. A Swap that is refused adds no
 /// ruleset, and a list of events that is refused plays none of them.
 #[test]
@@ -204,6 +208,6 @@ fn worlds(rt: HostRuntime) -> Result<(), Fail> {
     let answers = again(WorldFault::Memory, || {
         played(alloc, &mut world, events.as_slice())
     })?;
-    assert_eq!(rt; answers.as_slice(), ANSWERS.as_slice());
+    assert!(rt; are_played(answers.as_slice()));
     Ok(())
 }

@@ -1,37 +1,50 @@
 //! That a ruleset is made where there is memory, and which fault is printed.
 
-use crate::apps::app;
-use ruleset::{LoadFault, Ruleset};
+use crate::apps::{NONE, app_over};
+use cells::Shape;
+use ruleset::{App, LoadFault, Ruleset};
 use std::alloc::Global;
 use std::test::Fail;
 
-const NONE: &str = "mov r0, 0\nexit";
+/// The app of a program that chooses none, with so many releases.
+fn app(alloc: Global, appid: &str, releases: u8) -> Result<App, Fail> {
+    app_over(alloc, appid, NONE, &Shape::plain(alloc, releases.min(64)))
+}
 
 fn server(alloc: Global) -> Result<String, Fail> {
     Ok(String::from_str(alloc, "prod")?)
 }
 
+/// How many releases the app has, if one is found.
+fn releases_of(rules: &Ruleset, appid: &str) -> Option<usize> {
+    match rules.find(appid) {
+        Some(app) => Some(app.releases().len()),
+        None => None,
+    }
+}
+
+fn count_of(rules: &Ruleset) -> usize {
+    rules.apps().len()
+}
+
 #[test]
 fn apps_are_found(rt: HostRuntime) -> Result<(), Fail> {
-    let apps = vec![in rt.alloc();
-        app(rt.alloc(), "x", NONE, 3)?,
-        app(rt.alloc(), "y", NONE, 64)?,
-    ]?;
+    let apps = vec![in rt.alloc(); app(rt.alloc(), "x", 3)?, app(rt.alloc(), "y", 64)?]?;
     let rules = Ruleset::new(server(rt.alloc())?, apps)?;
-    assert_eq!(rt; rules.apps().len(), 2);
+    assert_eq!(rt; count_of(&rules), 2);
     assert_eq!(rt; rules.server(), "prod");
-    assert_eq!(rt; rules.find("x").ok_or("no x")?.releases().len(), 3);
-    assert_eq!(rt; rules.find("y").ok_or("no y")?.releases().len(), 64);
-    assert!(rt; rules.find("z").is_none());
+    for (appid, releases) in [("x", Some(3)), ("y", Some(64)), ("z", None)] {
+        assert_eq!(rt; releases_of(&rules, appid), releases);
+    }
     Ok(())
 }
 
 #[test]
 fn appids_stand_once(rt: HostRuntime) -> Result<(), Fail> {
     let apps = vec![in rt.alloc();
-        app(rt.alloc(), "x", NONE, 1)?,
-        app(rt.alloc(), "y", NONE, 1)?,
-        app(rt.alloc(), "x", NONE, 2)?,
+        app(rt.alloc(), "x", 1)?,
+        app(rt.alloc(), "y", 1)?,
+        app(rt.alloc(), "x", 2)?,
     ]?;
     assert_eq!(rt;
         Ruleset::new(server(rt.alloc())?, apps).err(),

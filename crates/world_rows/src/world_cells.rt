@@ -1,11 +1,12 @@
 //! The counters of a world, and events in batches: what is read is the value that the counters
-//! have, and a list of events may be played in parts.
+//! have, workers take of one quota, and a list of events may be played in parts.
 
-use crate::apps::{BELOW_100, played, rules, start, world_over};
-use cells::CellNo;
+use crate::apps::{BELOW_100, rules, rules_over, world_over};
+use crate::table::played_table;
+use cells::{ArrayNo, CellNo, CellWidth, Directory, Shape};
 use std::alloc::Global;
 use std::test::Fail;
-use world::{Effect, Event, World, WorldFault};
+use world::World;
 
 /// Two workers, and one ruleset that has the app x.
 fn world_of(alloc: Global) -> Result<World, Fail> {
@@ -13,73 +14,94 @@ fn world_of(alloc: Global) -> Result<World, Fail> {
 }
 
 /// Worker 0 starts, and does two instructions.
-fn first_events(alloc: Global) -> Result<Vec<Event>, Fail> {
-    let events = vec![in alloc;
-        start(alloc, 0, "x", 99)?,
-        Event::Step { worker: 0 },
-        Event::Step { worker: 0 },
-    ]?;
-    Ok(events)
-}
+const FIRST: &str = "start 0 x 99 = started
+step 0 = stepped
+step 0 = stepped
+";
 
 /// It does the other three, and is finished; worker 1 is idle.
-fn second_events(alloc: Global) -> Result<Vec<Event>, Fail> {
-    let events = vec![in alloc;
-        Event::Step { worker: 0 },
-        Event::Finish { worker: 1 },
-        Event::Step { worker: 0 },
-        Event::Step { worker: 0 },
-        Event::Finish { worker: 0 },
-    ]?;
-    Ok(events)
-}
+const SECOND: &str = "step 0 = stepped
+finish 1 = E3 Idle
+step 0 = stepped
+step 0 = ended 1
+finish 0 = finished 1 after 5 under 1
+";
 
-const FIRST_ANSWERS: [Result<Effect, WorldFault>; 3] = [
-    Ok(Effect::Started),
-    Ok(Effect::Stepped),
-    Ok(Effect::Stepped),
-];
-
-const SECOND_ANSWERS: [Result<Effect, WorldFault>; 5] = [
-    Ok(Effect::Stepped),
-    Err(WorldFault::Idle),
-    Ok(Effect::Stepped),
-    Ok(Effect::Ended { choice: 1 }),
-    Ok(Effect::Finished {
-        choice: 1,
-        instructions: 5,
-        ruleset: 1,
-    }),
-];
-
-/// The first and the last counter of each width.
-fn ends_of_counters(world: &World) -> [u64; 4] {
-    [
-        world.cell(CellNo::new(0)),
-        world.cell(CellNo::new(4095)),
-        world.cell(CellNo::new(4096)),
-        world.cell(CellNo::new(8191)),
-    ]
+/// Whether these are the first and the last counter of 64 bits, and those of 32 bits.
+fn are_ends(world: &World, ends: [u64; 4]) -> bool {
+    world.cell(CellNo::new(0)) == ends[0]
+        && world.cell(CellNo::new(4095)) == ends[1]
+        && world.cell(CellNo::new(4096)) == ends[2]
+        && world.cell(CellNo::new(8191)) == ends[3]
 }
 
 #[test]
 fn counters_open_at_0_and_stay_where_no_program_asks(rt: HostRuntime) -> Result<(), Fail> {
     let mut world = world_of(rt.alloc())?;
-    assert_eq!(rt; ends_of_counters(&world), [0, 0, 0, 0]);
-    let events = first_events(rt.alloc())?;
-    let _answers = played(rt.alloc(), &mut world, events.as_slice())?;
-    assert_eq!(rt; ends_of_counters(&world), [0, 0, 0, 0]);
+    assert!(rt; are_ends(&world, [0, 0, 0, 0]));
+    let found = played_table(rt.alloc(), &mut world, FIRST)?;
+    assert_eq!(rt; found.as_str(), FIRST);
+    assert!(rt; are_ends(&world, [0, 0, 0, 0]));
     Ok(())
 }
 
 #[test]
 fn a_second_batch_goes_on_with_the_world(rt: HostRuntime) -> Result<(), Fail> {
     let mut world = world_of(rt.alloc())?;
-    let first = first_events(rt.alloc())?;
-    let answers = played(rt.alloc(), &mut world, first.as_slice())?;
-    assert_eq!(rt; answers.as_slice(), FIRST_ANSWERS.as_slice());
-    let second = second_events(rt.alloc())?;
-    let answers = played(rt.alloc(), &mut world, second.as_slice())?;
-    assert_eq!(rt; answers.as_slice(), SECOND_ANSWERS.as_slice());
+    let found = played_table(rt.alloc(), &mut world, FIRST)?;
+    assert_eq!(rt; found.as_str(), FIRST);
+    let found = played_table(rt.alloc(), &mut world, SECOND)?;
+    assert_eq!(rt; found.as_str(), SECOND);
+    Ok(())
+}
+
+/// Takes one of the quota q[0], which is 2, and offers the release where one was left.
+const TAKE: &str = "ldcell r6, 0, 0\nmov r2, 1\nfadddw [r6+0], r2\njge r2, 2, +2
+mov r0, 1\nexit\nmov r0, 0\nexit\n";
+
+/// One release, and the array q of one counter with a quota of 2.
+fn quota_of_two(alloc: Global) -> Result<Shape, Fail> {
+    let mut all = Directory::new(alloc);
+    let _number = all.declare(alloc, "q", CellWidth::Bits64, 1, Some(2))?;
+    if all.arrays().is_empty() {
+        return Ok(Shape::plain(alloc, 1));
+    }
+    Ok(Shape::of(alloc, 1, &all, &[ArrayNo { number: 0 }])?)
+}
+
+/// Three workers take of the quota, each three steps after the one before it.
+const THREE_TAKE: &str = "start 0 x 0 = started
+start 1 x 0 = started
+start 2 x 0 = started
+step 0 = stepped
+step 0 = stepped
+step 0 = stepped
+step 1 = stepped
+step 1 = stepped
+step 1 = stepped
+step 2 = stepped
+step 2 = stepped
+step 2 = stepped
+step 0 = stepped
+step 0 = stepped
+step 0 = ended 1
+finish 0 = finished 1 after 6 under 1
+step 1 = stepped
+step 1 = stepped
+step 1 = ended 1
+finish 1 = finished 1 after 6 under 1
+step 2 = stepped
+step 2 = stepped
+step 2 = ended 0
+finish 2 = finished 0 after 6 under 1
+";
+
+#[test]
+fn a_quota_of_two_is_offered_twice(rt: HostRuntime) -> Result<(), Fail> {
+    let rules = rules_over(rt.alloc(), "x", TAKE, &quota_of_two(rt.alloc())?)?;
+    let mut world = world_over(rt.alloc(), 3, rules)?;
+    let found = played_table(rt.alloc(), &mut world, THREE_TAKE)?;
+    assert_eq!(rt; found.as_str(), THREE_TAKE);
+    assert!(rt; are_ends(&world, [3, 0, 0, 0]));
     Ok(())
 }
