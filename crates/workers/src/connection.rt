@@ -1,6 +1,8 @@
 // A connection that has to be done by a time. Before each read and write the socket's time-out is
 // set to what is left until then, so that a client that sends a byte now and then is dropped as
-// one that sends none.
+// one that sends none. A call that a signal interrupts is made again, within the same time.
+
+ghost use Rattle.std.specs.Prelude.{◌≡◌};
 
 use std::io::{self, ErrorKind, Read, Write};
 use std::net::{Shutdown, TcpStream};
@@ -20,7 +22,10 @@ pub struct Timed<'a, R: Clock> {
 
 impl<'a, R: Clock> Timed<'a, R> {
     /// A direction that ends at that time.
-    pub fn new(stream: &'a TcpStream, clock: &'a R, until: Instant) -> Timed<'a, R> {
+    pub fn new(stream: &'a TcpStream, clock: &'a R, until: Instant) -> Timed<'a, R>
+        ensures until { result.until ≡ until }
+        ensures bytes { result.bytes ≡ 0 }
+    {
         Timed {
             stream,
             clock,
@@ -30,7 +35,9 @@ impl<'a, R: Clock> Timed<'a, R> {
     }
 
     /// How many bytes went this way.
-    pub fn bytes(&self) -> u64 {
+    pub fn bytes(&self) -> u64
+        ensures { result ≡ self.now.bytes }
+    {
         self.bytes
     }
 
@@ -51,21 +58,37 @@ impl<'a, R: Clock> Timed<'a, R> {
 
 impl<R: Clock> Read for Timed<'_, R> {
     fn read(&mut self, buf: &mut [u8]) -> io::Result<usize> {
-        let left = self.left()?;
-        self.stream.set_read_timeout(Some(left))?;
-        let n = self.stream.read(buf)?;
-        self.count(n);
-        Ok(n)
+        for _ in 0..u64::MAX {
+            let left = self.left()?;
+            self.stream.set_read_timeout(Some(left))?;
+            match self.stream.read(buf) {
+                Err(error) if error.kind() == ErrorKind::Interrupted => {}
+                Err(error) => return Err(error),
+                Ok(n) => {
+                    self.count(n);
+                    return Ok(n);
+                }
+            }
+        }
+        Err(io::Error::from(ErrorKind::TimedOut))
     }
 }
 
 impl<R: Clock> Write for Timed<'_, R> {
     fn write(&mut self, buf: &[u8]) -> io::Result<usize> {
-        let left = self.left()?;
-        self.stream.set_write_timeout(Some(left))?;
-        let n = self.stream.write(buf)?;
-        self.count(n);
-        Ok(n)
+        for _ in 0..u64::MAX {
+            let left = self.left()?;
+            self.stream.set_write_timeout(Some(left))?;
+            match self.stream.write(buf) {
+                Err(error) if error.kind() == ErrorKind::Interrupted => {}
+                Err(error) => return Err(error),
+                Ok(n) => {
+                    self.count(n);
+                    return Ok(n);
+                }
+            }
+        }
+        Err(io::Error::from(ErrorKind::TimedOut))
     }
 
     fn flush(&mut self) -> io::Result<()> {

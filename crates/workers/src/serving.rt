@@ -6,7 +6,7 @@ ghost use Rattle.std.specs.Prelude.{All};
 use crate::answering::answer;
 use crate::connection::{Timed, drain};
 use crate::gate::Gate;
-use crate::log::note;
+use crate::log::{Peer, note};
 use cells::CellSteps;
 use crossbeam_channel::{Receiver, Sender};
 use hot_swap::Watcher;
@@ -21,6 +21,9 @@ use thiserror::Error;
 
 /// How many accepted connections may wait for a worker.
 const WAITING: usize = 64;
+
+/// How long nothing is accepted after a connection that couldn't be.
+const PAUSE_MILLIS: u64 = 10;
 
 /// Why a server doesn't serve.
 #[derive(Clone, Copy, Debug, Drop, Error, PartialEq, Eq)]
@@ -47,8 +50,8 @@ pub struct Service {
 }
 
 /// Answers each connection within the limit of time, until `stop` is set and one more connection
-/// comes, which isn't answered; those that were accepted before are. Each pair of a pass and a
-/// watcher is a worker of its own.
+/// comes, which isn't answered; those that were accepted before are, while the port is closed. Each
+/// pair of a pass and a watcher is a worker of its own.
 pub fn serve<H, G, C>(
     rt: &H,
     gate: &G,
@@ -90,7 +93,7 @@ where
             }
             drop(from);
             if made.is_ok() {
-                accept(rt, &listener, &to, stop);
+                accept(rt, listener, &to, stop);
             }
             drop(to);
             made
@@ -98,18 +101,25 @@ where
     )
 }
 
-// Hands each connection to the workers. One that can't be accepted is passed over.
-fn accept<H: Wait>(rt: &H, listener: &TcpListener, to: &Sender<Call>, stop: &AtomicBool) {
+// Hands each connection to the workers, and closes the port at the end. One that can't be accepted
+// is passed over; since the next can't be either where file descriptors have run out, the thread
+// sleeps before it goes on.
+fn accept<H>(rt: &H, listener: TcpListener, to: &Sender<Call>, stop: &AtomicBool)
+where
+    H: Wait + Clock,
+{
     let mut number = 0u64;
     for stream in listener.incoming() {
         if stop.load(Ordering::SeqCst) {
             break;
         }
-        if let Ok(stream) = stream {
-            number = number.saturating_add(1);
-            if to.send(rt, Call { number, stream }).is_err() {
-                break;
-            }
+        let Ok(stream) = stream else {
+            thread::sleep(rt, Duration::from_millis(PAUSE_MILLIS));
+            continue;
+        };
+        number = number.saturating_add(1);
+        if to.send(rt, Call { number, stream }).is_err() {
+            break;
         }
     }
 }
@@ -138,7 +148,9 @@ where
     }
 }
 
-// Answers one connection.
+// Answers one connection. The address of the client is asked for first, since one that has reset
+// the connection has none. After a 200 nothing more is read: a client that sends more than the
+// body that it told may find the connection reset (RFC 9112, section 9.6).
 fn attend<H, C>(
     rt: &H,
     stream: &TcpStream,
@@ -154,6 +166,11 @@ where
     ensures { C.belongs cells.now pass.new }
 {
     let begun = Instant::now(rt)?;
+    let peer = if service.log {
+        stream.peer_addr().ok()
+    } else {
+        None
+    };
     let Some(until) = begun.checked_add(service.timeout) else {
         return Ok(());
     };
@@ -173,7 +190,7 @@ where
     if service.log {
         let _noted = note(
             rt,
-            stream,
+            Peer(peer),
             moment,
             outcome,
             writer.into_inner().bytes(),
