@@ -6,12 +6,15 @@ ghost use Rattle.load.specs.Folder as specs;
 
 use crate::files::{FileFault, Files};
 use std::alloc::{AllocError, Global};
-use std::io::ErrorKind;
+use std::io::{self, ErrorKind, Read};
 use std::path::{Path, PathBuf};
 use std::{fs, rt};
 
+/// The most bytes that are taken from a file.
+const FILE_LIMIT: usize = 0x100_0000;
+
 /// Files of the device, named from the folder of a manifest. A name that is an absolute path is
-/// taken as it stands.
+/// taken as it stands. A file of more than 16 MiB counts as one that can't be read.
 #[derive(Drop)]
 pub struct FolderFiles<'a, R> {
     rt: &'a R,
@@ -43,7 +46,7 @@ impl<'a, R: rt::Files + AllocGlobal> Files for FolderFiles<'a, R> {
         let Ok(path) = path_beside(self.rt.alloc(), self.manifest, name) else {
             return Err(FileFault::Memory);
         };
-        match fs::read(self.rt, path) {
+        match read_file(self.rt, path) {
             Ok(bytes) => Ok(bytes),
             Err(error) if error.kind() == ErrorKind::OutOfMemory => Err(FileFault::Memory),
             Err(_) => {
@@ -56,6 +59,16 @@ impl<'a, R: rt::Files + AllocGlobal> Files for FolderFiles<'a, R> {
     fn failures(&self) -> u64 {
         self.failures
     }
+}
+
+// The bytes of a file. No more of it is read than shows that it is too long.
+fn read_file<R: rt::Files + AllocGlobal>(rt: &R, path: PathBuf) -> io::Result<Vec<u8>> {
+    let mut bytes = Vec::new(rt.alloc());
+    let mut file = fs::open(rt, path)?.take(FILE_LIMIT as u64 + 1);
+    if file.read_to_end(&mut bytes)? > FILE_LIMIT {
+        return Err(io::Error::from(ErrorKind::FileTooLarge));
+    }
+    Ok(bytes)
 }
 
 // The path of a name from the folder of a manifest.
