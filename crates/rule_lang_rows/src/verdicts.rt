@@ -116,12 +116,11 @@ fn text_of(alloc: Global, row: &str) -> Result<String, Fail> {
 
 fn each_is_told(rt: &impl Abort, alloc: Global, rows: &str) -> Result<(), Fail> {
     let shape = shape(alloc, 1)?;
-    for row in rows.lines() {
-        if let Some((text, want)) = row.split_once(" => ") {
-            let text = text_of(alloc, text)?;
-            let got = told(alloc, text.as_str(), &shape)?;
-            assert_eq!(rt; got.as_str(), want, "of {row}");
-        }
+    for row in rows.lines().skip(1) {
+        let (text, want) = row.split_once(" => ").ok_or("a row of another form")?;
+        let text = text_of(alloc, text)?;
+        let got = told(alloc, text.as_str(), &shape)?;
+        assert_eq!(rt; got.as_str(), want, "of {row}");
     }
     Ok(())
 }
