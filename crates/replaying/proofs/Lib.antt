@@ -1,0 +1,2 @@
+mod Walk
+mod OneRun

@@ -1,0 +1,45 @@
+-- What the lines of a script ask, one after another: a swap line asks for the ruleset of its
+-- manifest, whose arrays are declared in the directory that the lines before it left.
+use Rattle.std.specs.Prelude.{◌≡◌, List, [], ◌∷◌, Some}
+use Rattle.std.specs.Arc.{arc_value}
+use Rattle.cells.specs.declared.array.CellArray.{CellArray}
+use Rattle.load.specs.Files.{Known}
+use Rattle.replay.specs.Acts.{IsAskedBy}
+use Rattle.replay.specs.declared.act.Act.{Act}
+use Rattle.replay.specs.declared.act.Act.TheVariants.{Once}
+use Rattle.script.specs.declared.line.EventLine.{EventLine}
+use Rattle.script.specs.declared.line.EventLine.TheVariants as line
+use Rattle.world.specs.declared.event.Event.TheVariants as event
+use Rattle.replaying.specs.Loaded.{IsLoadedFrom, RefusesPath}
+use Rattle.replaying.specs.declared.fault.ReplayFault.{ReplayFault}
+use Rattle.replaying.specs.declared.fault.ReplayFault.TheVariants.{Memory}
+
+module _ (known : Known) where
+  abbrev pub IsActOf : EventLine → List CellArray → Act → List CellArray → Type 0
+  IsActOf (line.Swap manifest) old (Once (event.Swap rules)) new =
+      IsLoadedFrom known manifest old (arc_value rules) new
+  IsActOf (line.Swap manifest) old act new = ⊥
+  IsActOf asked old act new = IsAskedBy asked (Some act) × (new ≡ old)
+
+  abbrev pub AreActsOf : List EventLine → List CellArray → List Act → List CellArray → Type 0
+  AreActsOf [] old [] new = new ≡ old
+  AreActsOf (asked ∷ lines) old (act ∷ acts) new =
+      (between : List CellArray) × IsActOf asked old act between
+      × AreActsOf lines between acts new
+  AreActsOf lines old acts new = ⊥
+
+  -- why a line asks nothing: its manifest is refused
+  abbrev pub RefusesLine : EventLine → List CellArray → ReplayFault → Type 0
+  RefusesLine (line.Swap manifest) old fault = RefusesPath known manifest old fault
+  RefusesLine asked old Memory = Unit {0}
+  RefusesLine asked old fault = ⊥
+
+  -- the fault of the first line that is refused
+  pub data RefusesLines : List EventLine → List CellArray → ReplayFault → Type 0 where
+    no_memory : {lines : List EventLine} {old : List CellArray} → RefusesLines lines old Memory
+    this : {asked : EventLine} {lines : List EventLine} {old : List CellArray}
+        {fault : ReplayFault} → RefusesLine asked old fault
+        → RefusesLines (asked ∷ lines) old fault
+    later : {asked : EventLine} {lines : List EventLine} {old : List CellArray} (act : Act)
+        (between : List CellArray) {fault : ReplayFault} → IsActOf asked old act between
+        → RefusesLines lines between fault → RefusesLines (asked ∷ lines) old fault

@@ -1,0 +1,4 @@
+pub mod Loaded
+pub mod Asked
+pub mod Replayed
+pub mod Replays

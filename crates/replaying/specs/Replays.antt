@@ -1,0 +1,55 @@
+-- What a manifest and a script, by their paths, come to.
+use Rattle.std.specs.Prelude.{ℕ, List, [], Some, None}
+use Rattle.cells.specs.declared.array.CellArray.{CellArray}
+use Rattle.load.specs.Files.{Known, Gives}
+use Rattle.replay.specs.declared.act.Act.{Act}
+use Rattle.replay.specs.declared.reply.Reply.{Reply}
+use Rattle.ruleset.specs.Rules.{Rules}
+use Rattle.script.specs.Script.{IsScript, IsScriptFault}
+use Rattle.script.specs.declared.fault.ScriptFault.TheVariants.{Malformed}
+use Rattle.script.specs.declared.line.EventLine.{EventLine}
+use Rattle.world.specs.World.{opening_world}
+use Rattle.replaying.specs.Asked.{AreActsOf, RefusesLines}
+use Rattle.replaying.specs.Loaded.{IsLoadedFrom, RefusesPath}
+use Rattle.replaying.specs.Replayed.{AreRepliesTo}
+use Rattle.replaying.specs.declared.fault.ReplayFault.{ReplayFault}
+use Rattle.replaying.specs.declared.fault.ReplayFault.TheVariants.{File, Memory, Script}
+
+-- the lines of the script at a path
+pub record AreLinesOf (known : Known) (path : List ℕ) (lines : List EventLine) : Type 0 where
+  pub bytes : List ℕ
+  pub given : Gives known path (Some bytes)
+  pub script : IsScript bytes lines
+
+-- the file can't be read, or a line of its bytes is malformed
+abbrev pub RefusesScript : Known → List ℕ → ReplayFault → Type 0
+RefusesScript known path File = Gives known path None
+RefusesScript known path (Script line) =
+    (bytes : List ℕ) × Gives known path (Some bytes) × IsScriptFault bytes (Malformed line)
+RefusesScript known path Memory = Unit {0}
+RefusesScript known path fault = ⊥
+
+module _ (known : Known) (manifest script : List ℕ) where
+  -- the script is read, the manifest is loaded into an empty directory, and then those of the swap
+  -- lines; the replies are those of 64 workers, whose first ruleset is the manifest's
+  pub record IsReplay (replies : List Reply) : Type 0 where
+    pub lines : List EventLine
+    pub read : AreLinesOf known script lines
+    pub first : Rules
+    pub between : List CellArray
+    pub loaded : IsLoadedFrom known manifest [] first between
+    pub acts : List Act
+    pub after : List CellArray
+    pub asked : AreActsOf known lines between acts after
+    pub replied : AreRepliesTo (opening_world first 64) acts replies
+
+  -- the fault that counts: of the script, or else of the manifest, or else of a swap line
+  pub data IsReplayFault : ReplayFault → Type 0 where
+    of_memory : IsReplayFault Memory
+    of_script : {fault : ReplayFault} → RefusesScript known script fault → IsReplayFault fault
+    of_manifest : {fault : ReplayFault} (lines : List EventLine) → AreLinesOf known script lines
+        → RefusesPath known manifest [] fault → IsReplayFault fault
+    of_swap : {fault : ReplayFault} (lines : List EventLine) (first : Rules)
+        (between : List CellArray) → AreLinesOf known script lines
+        → IsLoadedFrom known manifest [] first between → RefusesLines known lines between fault
+        → IsReplayFault fault

@@ -1,0 +1,57 @@
+// What the lines of a script ask, with the rulesets that their manifests give.
+
+ghost use Rattle.std.specs.Prelude.{IfOk, IfErr};
+ghost use Rattle.replaying.specs.Asked.{IsActOf, AreActsOf, RefusesLine, RefusesLines};
+
+use crate::disk::Disk;
+use crate::fault::ReplayFault;
+use crate::loaded::load_path;
+use cells::Directory;
+use replay::Act;
+use script::EventLine;
+use std::alloc::Global;
+use world::Event;
+
+/// The acts of all lines, in their order.
+pub(crate) fn acts_of<D: Disk>(
+    alloc: Global,
+    disk: &D,
+    lines: &[EventLine],
+    directory: &mut Directory,
+) -> Result<Vec<Act>, ReplayFault>
+    ensures acts { IfOk result (λ acts.
+        AreActsOf (D.known disk.now) lines.now directory.old acts.items directory.new) }
+    ensures fault { IfErr result (RefusesLines (D.known disk.now) lines.now directory.old) }
+{
+    let mut acts = Vec::new(alloc);
+    for line in lines {
+        let act = act_of(alloc, disk, line, directory)?;
+        let Ok(()) = acts.push(act) else {
+            return Err(ReplayFault::Memory);
+        };
+    }
+    Ok(acts)
+}
+
+fn act_of<D: Disk>(
+    alloc: Global,
+    disk: &D,
+    line: &EventLine,
+    directory: &mut Directory,
+) -> Result<Act, ReplayFault>
+    ensures act { IfOk result (λ act.
+        IsActOf (D.known disk.now) line.now directory.old act directory.new) }
+    ensures fault { IfErr result (RefusesLine (D.known disk.now) line.now directory.old) }
+{
+    if let EventLine::Swap { manifest } = line {
+        let rules = load_path(alloc, disk, manifest.as_str(), directory)?;
+        return Ok(Act::Once {
+            event: Event::Swap { rules },
+        });
+    }
+    match Act::of(alloc, line) {
+        Ok(Some(act)) => Ok(act),
+        Ok(None) => unreachable!(),
+        Err(_) => Err(ReplayFault::Memory),
+    }
+}

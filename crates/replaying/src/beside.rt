@@ -1,0 +1,69 @@
+//! The files that lie in the folder of a manifest.
+
+ghost use Rattle.std.specs.Prelude.{◌≡◌, IfOk};
+ghost use Rattle.std.specs.Path.{path_buf_bytes};
+ghost use Rattle.load.specs.Folder as specs;
+
+use crate::disk::Disk;
+use load::{FileFault, Files};
+use std::alloc::{AllocError, Global};
+use std::path::{Path, PathBuf};
+
+/// Files named from the folder of a manifest. A name that is an absolute path is taken as it stands.
+#[derive(Drop)]
+pub(crate) struct Beside<'a, D> {
+    alloc: Global,
+    disk: &'a D,
+    manifest: &'a str,
+    failures: u64,
+}
+
+impl<'a, D> Beside<'a, D> {
+    /// The files beside the manifest of this path, of which none was read yet.
+    pub(crate) fn manifest(alloc: Global, disk: &'a D, manifest: &'a str) -> Beside<'a, D>
+        ensures disk { result.disk.now ≡ disk.now }
+        ensures manifest { result.manifest.now ≡ manifest.now }
+        ensures failures { result.failures ≡ 0 }
+    {
+        Beside {
+            alloc,
+            disk,
+            manifest,
+            failures: 0,
+        }
+    }
+}
+
+impl<'a, D: Disk> Files for Beside<'a, D> {
+    ghost use Rattle.replaying.specs.Loaded.{known_beside};
+
+    ghost known = { λ files. known_beside (D.known files.disk.now) files.manifest.now };
+
+    ghost failed = { λ files. files.failures };
+
+    fn bytes(&mut self, name: &str) -> Result<Vec<u8>, FileFault> {
+        let Ok(path) = path_beside(self.alloc, self.manifest, name) else {
+            return Err(FileFault::Memory);
+        };
+        match self.disk.read(path.as_str()) {
+            Ok(bytes) => Ok(bytes),
+            Err(FileFault::Memory) => Err(FileFault::Memory),
+            Err(FileFault::Failed) => {
+                self.failures += 1;
+                Err(FileFault::Failed)
+            }
+        }
+    }
+
+    fn failures(&self) -> u64 {
+        self.failures
+    }
+}
+
+// The path of a name from the folder of a manifest.
+fn path_beside(alloc: Global, manifest: &str, name: &str) -> Result<PathBuf, AllocError>
+    ensures { IfOk result (λ path. path_buf_bytes path ≡ specs.path_beside manifest.now name.now) }
+{
+    let folder = Path::new(manifest).parent().unwrap_or(Path::new(""));
+    folder.join(alloc, name)
+}

@@ -1,0 +1,80 @@
+//! A whole replay, from two paths.
+
+ghost use Rattle.std.specs.Prelude.{IfOk, IfErr};
+ghost use Rattle.std.specs.Arc.{arc_value};
+ghost use Rattle.replaying.specs.Replayed.{AreRepliesTo};
+ghost use Rattle.replaying.specs.Replays.{AreLinesOf, RefusesScript, IsReplay, IsReplayFault};
+ghost use Rattle.world.specs.World.{opening_world};
+
+use crate::acts::acts_of;
+use crate::disk::Disk;
+use crate::fault::ReplayFault;
+use crate::loaded::load_path;
+use cells::Directory;
+use load::FileFault;
+use replay::{Act, Reply, replay};
+use ruleset::Ruleset;
+use script::{EventLine, ScriptFault, read_script};
+use std::alloc::{AllocError, Global};
+use std::sync::Arc;
+use world::{World, batches_compose};
+
+/// What the lines of a script come to, each in turn, on a world of 64 workers whose first ruleset is
+/// that of the manifest. Both are paths, and so is the manifest of a swap line; where they aren't
+/// absolute they are all taken from the working folder, and the files that a manifest names from
+/// that manifest's folder.
+///
+/// The faults come in this order: B3 of a script that can't be read; B2 of its first malformed line;
+/// B3 of the manifest, or M1 to M7 of its load; and then those of the swap lines' manifests, one by
+/// one. After any of them no line was played. B4, or M8 in a load, comes where memory is refused.
+pub fn replay_files<D: Disk>(
+    alloc: Global,
+    disk: &D,
+    manifest: &str,
+    script: &str,
+) -> Result<Vec<Reply>, ReplayFault>
+    ensures replies { IfOk result (λ replies.
+        IsReplay (D.known disk.now) manifest.now script.now replies.items) }
+    ensures fault { IfErr result (IsReplayFault (D.known disk.now) manifest.now script.now) }
+{
+    let lines = read_lines(alloc, disk, script)?;
+    let mut directory = Directory::new(alloc);
+    let first = load_path(alloc, disk, manifest, &mut directory)?;
+    let acts = acts_of(alloc, disk, &lines, &mut directory)?;
+    match play_acts(alloc, first, &acts) {
+        Ok(replies) => Ok(replies),
+        Err(_) => Err(ReplayFault::Memory),
+    }
+}
+
+// The lines of the script at a path.
+fn read_lines<D: Disk>(alloc: Global, disk: &D, path: &str) -> Result<Vec<EventLine>, ReplayFault>
+    ensures lines { IfOk result (λ lines. AreLinesOf (D.known disk.now) path.now lines.items) }
+    ensures fault { IfErr result (RefusesScript (D.known disk.now) path.now) }
+{
+    let bytes = match disk.read(path) {
+        Ok(bytes) => bytes,
+        Err(FileFault::Failed) => return Err(ReplayFault::File),
+        Err(FileFault::Memory) => return Err(ReplayFault::Memory),
+    };
+    match read_script(alloc, &bytes) {
+        Ok(lines) => Ok(lines),
+        Err(ScriptFault::Malformed { line }) => Err(ReplayFault::Script { line }),
+        Err(ScriptFault::Memory) => Err(ReplayFault::Memory),
+    }
+}
+
+// The replies to acts, from where a server of 64 workers begins.
+fn play_acts(alloc: Global, first: Arc<Ruleset>, acts: &[Act]) -> Result<Vec<Reply>, AllocError>
+    ensures { IfOk result (λ replies.
+        AreRepliesTo (opening_world (arc_value first) 64) acts.now replies.items) }
+{
+    batches_compose();
+    let Ok(mut world) = World::new(alloc, 64, first) else {
+        return Err(AllocError);
+    };
+    match replay(alloc, &mut world, acts) {
+        Ok(replies) => Ok(replies),
+        Err(_) => Err(AllocError),
+    }
+}
