@@ -6,4 +6,4 @@ mod ruleset;
 mod twice;
 
 pub use app::App;
-pub use ruleset::{LoadFault, Ruleset};
+pub use ruleset::{Ruleset, RulesetFault};

@@ -11,13 +11,10 @@ use thiserror::Error;
 
 /// Why no ruleset was made.
 #[derive(Clone, Copy, Debug, Drop, Error, PartialEq, Eq)]
-pub enum LoadFault {
+pub enum RulesetFault {
     /// An appid stands twice.
     #[error("M3 Duplicate")]
     Duplicate,
-    /// Memory was refused.
-    #[error("M8 Memory")]
-    Memory,
 }
 
 /// The apps that a server knows, in order, and the text that names the server. No appid stands
@@ -45,15 +42,15 @@ impl Ruleset {
     ghost use Rattle.ruleset.specs.Rules.{app_of, appids_of};
 
     /// The ruleset of these apps, for a server of this name; it takes no memory. M3 exactly where
-    /// an appid stands twice, and nothing else.
-    pub fn new(server: String, apps: Vec<App>) -> Result<Ruleset, LoadFault>
+    /// an appid stands twice.
+    pub fn new(server: String, apps: Vec<App>) -> Result<Ruleset, RulesetFault>
         ensures apps { IfOk result (λ r. r.apps ≡ apps.items) }
         ensures server { IfOk result (λ r. r.server ≡ string_bytes server) }
-        ensures duplicate { (result ≡ Err LoadFault.Duplicate) ↔ HasTwice (appids_of apps.items) }
-        ensures fault { IfErr result (λ e. e ≡ LoadFault.Duplicate) }
+        ensures twice { (result ≡ Err RulesetFault.Duplicate) ↔ HasTwice (appids_of apps.items) }
+        ensures fault { IfErr result (λ e. e ≡ RulesetFault.Duplicate) }
     {
         if has_twice(apps.as_slice()) {
-            return Err(LoadFault::Duplicate);
+            return Err(RulesetFault::Duplicate);
         }
         all_end(apps.as_slice());
         Ok(Ruleset { server, apps })

@@ -1,4 +1,4 @@
-// Whether an appid stands twice in a list of apps: each place is compared with those before it.
+//! Whether an appid stands twice in a list of apps: each place is compared with those before it.
 
 ghost use Rattle.std.specs.Prelude.{◌≡◌, ◌<◌, ◌↔◌, [], length, IsTrue, slice_index_or};
 ghost use Rattle.ruleset.specs.Rules.{HasTwice, StandsBefore, appids_of};

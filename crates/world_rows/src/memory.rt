@@ -11,7 +11,7 @@ use bpf_text::{AsmFault, AsmFaultKind, ListFault, assemble, listing};
 use bpf_verify::{Refusal, Rule, Verified, verify};
 use cells::Shape;
 use flow_check::{Flow, FlowFault, FlowRule};
-use ruleset::{LoadFault, Ruleset};
+use ruleset::Ruleset;
 use std::alloc::Global;
 use std::sync::Arc;
 use std::test::Fail;
@@ -128,30 +128,30 @@ fn listings(rt: HostRuntime) -> Result<(), Fail> {
     Ok(())
 }
 
-/// The ruleset of these two apps.
-fn rules_of(alloc: Global, appids: [&str; 2]) -> Result<Ruleset, LoadFault> {
+/// The ruleset of these two apps; none where their appids are one.
+fn rules_of(alloc: Global, appids: [&str; 2]) -> Result<Option<Ruleset>, WorldFault> {
     let mut apps = Vec::new(alloc);
     for appid in appids {
-        let program = below_100(alloc, 1).map_err(|_| LoadFault::Memory)?;
-        let program = Arc::new(alloc, program).map_err(|_| LoadFault::Memory)?;
-        let app = app_of(alloc, appid, program).map_err(|_| LoadFault::Memory)?;
-        apps.push(app).map_err(|_| LoadFault::Memory)?;
+        let program = below_100(alloc, 1).map_err(|_| WorldFault::Memory)?;
+        let program = Arc::new(alloc, program).map_err(|_| WorldFault::Memory)?;
+        let app = app_of(alloc, appid, program).map_err(|_| WorldFault::Memory)?;
+        apps.push(app).map_err(|_| WorldFault::Memory)?;
     }
-    Ruleset::new(String::new(alloc), apps)
+    Ok(Ruleset::new(String::new(alloc), apps).ok())
 }
 
 #[test]
 fn rulesets(rt: HostRuntime) -> Result<(), Fail> {
     let alloc = rt.alloc();
-    let rules = again(LoadFault::Memory, || rules_of(alloc, ["x", "y"]))?;
+    let rules = again(WorldFault::Memory, || rules_of(alloc, ["x", "y"]))?.ok_or("no ruleset")?;
     assert!(rt; rules.find("x").is_some() && rules.find("y").is_some());
-    let twice = again(LoadFault::Memory, || rules_of(alloc, ["x", "x"])).err();
-    assert_eq!(rt; twice, Some(LoadFault::Duplicate));
+    let twice = again(WorldFault::Memory, || rules_of(alloc, ["x", "x"]))?;
+    assert!(rt; twice.is_none());
     Ok(())
 }
 
 fn shared_rules(alloc: Global) -> Result<Arc<Ruleset>, WorldFault> {
-    let rules = rules_of(alloc, ["x", "y"]).map_err(|_| WorldFault::Memory)?;
+    let rules = rules_of(alloc, ["x", "y"])?.ok_or(WorldFault::Memory)?;
     Arc::new(alloc, rules).map_err(|_| WorldFault::Memory)
 }
 

@@ -2,7 +2,7 @@
 
 use crate::apps::{NONE, app_over};
 use cells::Shape;
-use ruleset::{App, LoadFault, Ruleset};
+use ruleset::{App, Ruleset, RulesetFault};
 use std::alloc::Global;
 use std::test::Fail;
 
@@ -48,20 +48,16 @@ fn appids_stand_once(rt: HostRuntime) -> Result<(), Fail> {
     ]?;
     assert_eq!(rt;
         Ruleset::new(server(rt.alloc())?, apps).err(),
-        Some(LoadFault::Duplicate)
+        Some(RulesetFault::Duplicate)
     );
     Ok(())
 }
 
 #[test]
-fn faults_are_printed(rt: HostRuntime) -> Result<(), Fail> {
+fn fault_is_printed(rt: HostRuntime) -> Result<(), Fail> {
     assert_eq!(rt;
-        format!(in rt.alloc(); "{}", LoadFault::Duplicate)?.as_str(),
+        format!(in rt.alloc(); "{}", RulesetFault::Duplicate)?.as_str(),
         "M3 Duplicate"
-    );
-    assert_eq!(rt;
-        format!(in rt.alloc(); "{}", LoadFault::Memory)?.as_str(),
-        "M8 Memory"
     );
     Ok(())
 }

@@ -39,4 +39,4 @@ unreachable-requires g c =
     c.in_ok-numbers.numbers.items c.in_ok-manifest.manifest.apps c.in_ok-apps.apps.items
     = search rules in
     never_twice _ _ _ c.in_ok-manifest.manifest _ c.in_ok-manifest.ensures.manifest.1 are
-    (c.in_default-new.ensures.duplicate.0 (ap Err c.in_default-new.ensures.fault))
+    (c.in_default-new.ensures.twice.0 (ap Err c.in_default-new.ensures.fault))
