@@ -13,22 +13,26 @@ use Rattle.cells.specs.Directory.{Declaration, declaration}
 use Rattle.cells.specs.Names.{is_spelled}
 
 -- one ASCII digit or more, which write a number of 64 bits
-abbrev pub is_number : List ℕ → Bool
-is_number text =
+abbrev pub is_long_number : List ℕ → Bool
+is_long_number text =
     all_ascii_digits text && nat_lt 0 (length text) && nat_lt (digits_value 10 text) (2 ^ 64)
 
-abbrev pub decimal_number : List ℕ → Option ℕ
-decimal_number text = if is_number text then Some (digits_value 10 text) else None
+abbrev pub long_number : List ℕ → Option ℕ
+long_number text = if is_long_number text then Some (digits_value 10 text) else None
 
 abbrev pub within : ℕ → ℕ → ℕ → Option ℕ
 within from to n = if nat_le from n && nat_le n to then Some n else None
 
 -- a number from the one to the other
-abbrev pub number_of : ℕ → ℕ → List ℕ → Option ℕ
-number_of from to text = option_and_then (within from to) (decimal_number text)
+abbrev pub number_within : ℕ → ℕ → List ℕ → Option ℕ
+number_within from to text = option_and_then (within from to) (long_number text)
+
+-- a letter or `_`, then letters, digits and `_`, at most 32 in all
+abbrev pub is_name : List ℕ → Bool
+is_name text = is_spelled text && nat_le (length text) 32
 
 abbrev pub name_of : List ℕ → Option (List ℕ)
-name_of text = if is_spelled text && nat_le (length text) 32 then Some text else None
+name_of text = if is_name text then Some text else None
 
 abbrev pub width_of : List ℕ → Option CellWidth
 width_of text =
@@ -38,12 +42,12 @@ width_of text =
 
 -- 1 to 4096 cells
 abbrev pub length_of : List ℕ → Option ℕ
-length_of text = number_of 1 4096 text
+length_of text = number_within 1 4096 text
 
 -- a quota stands over 64-bit cells alone
 abbrev pub quota_of : CellWidth → Option (List ℕ) → Option (Option ℕ)
 quota_of w None = Some None
-quota_of Bits64 (Some limit) = option_map (λ q. Some q) (number_of 1 (2 ^ 63 - 1) limit)
+quota_of Bits64 (Some limit) = option_map (λ q. Some q) (number_within 1 (2 ^ 63 - 1) limit)
 quota_of Bits32 (Some limit) = None
 
 abbrev pub declaration_of : (name width length : List ℕ) → (limit : Option (List ℕ))

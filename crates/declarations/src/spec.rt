@@ -97,7 +97,7 @@ fn read_values(
     let Some(width) = width_of(width) else {
         return Err(SpecFault::Malformed);
     };
-    let Some(length) = number_of(length, 1, MAX_LENGTH) else {
+    let Some(length) = number_within(length, 1, MAX_LENGTH) else {
         return Err(SpecFault::Malformed);
     };
     let Some(quota) = quota_of(width, limit) else {
@@ -127,16 +127,16 @@ fn quota_of(width: CellWidth, limit: Option<&str>) -> Option<Option<u64>>
         return Some(None);
     };
     match width {
-        CellWidth::Bits64 => Some(Some(number_of(limit, 1, MAX_QUOTA)?)),
+        CellWidth::Bits64 => Some(Some(number_within(limit, 1, MAX_QUOTA)?)),
         CellWidth::Bits32 => None,
     }
 }
 
 // A number from the one to the other.
-fn number_of(text: &str, from: u64, to: u64) -> Option<u64>
-    ensures { result ≡ specs.number_of from to text.now }
+fn number_within(text: &str, from: u64, to: u64) -> Option<u64>
+    ensures { result ≡ specs.number_within from to text.now }
 {
-    let number = decimal_number(text)?;
+    let number = long_number(text)?;
     if from <= number && number <= to {
         Some(number)
     } else {
@@ -145,8 +145,8 @@ fn number_of(text: &str, from: u64, to: u64) -> Option<u64>
 }
 
 // A number of 64 bits. `parse` alone would allow a plus in front.
-fn decimal_number(text: &str) -> Option<u64>
-    ensures { result ≡ specs.decimal_number text.now }
+fn long_number(text: &str) -> Option<u64>
+    ensures { result ≡ specs.long_number text.now }
 {
     if text.starts_with('+') {
         return None;

@@ -1,20 +1,16 @@
 -- The table of an array of counters.
-use Rattle.std.specs.Prelude.{ℕ, List, length, codes, Bool, ◌&&◌, ◌==◌, nat_le, if◌then◌else◌}
+use Rattle.std.specs.Prelude.{ℕ, codes, ◌==◌, if◌then◌else◌}
 use Rattle.std.specs.Prelude.{Option, Some, None, option_and_then, option_map, Result, Ok}
 use Rattle.toml.specs.Data.{Data, Members, get_member}
 use Rattle.cells.specs.declared.array.CellWidth.{CellWidth}
 use Rattle.cells.specs.declared.array.CellWidth.TheVariants.{Bits32, Bits64}
 use Rattle.cells.specs.Directory.{Declaration, declaration}
-use Rattle.cells.specs.Names.{is_spelled}
+use Rattle.declarations.specs.Spec.{is_name}
 use Rattle.manifest.specs.declared.kind.Kind.TheVariants as kind
 use Rattle.manifest.specs.declared.misfit.ArrayMisfit.{ArrayMisfit}
 use Rattle.manifest.specs.declared.misfit.ArrayMisfit.TheVariants as misfit
 use Rattle.manifest.specs.Kind.{only}
 use Rattle.manifest.specs.Member.{required, number, text_that, needs}
-
--- a letter or `_`, then letters, digits and `_`, at most 32 in all
-abbrev pub is_name : List ℕ → Bool
-is_name text = is_spelled text && nat_le (length text) 32
 
 abbrev pub width_from : ℕ → Option CellWidth
 width_from n = if n == 32 then Some Bits32 else if n == 64 then Some Bits64 else None

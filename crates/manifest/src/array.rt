@@ -1,6 +1,7 @@
 //! The table of an array of counters.
 
 ghost use Rattle.std.specs.Prelude.{◌≡◌, codes, option_copied, option_map, IsTrue};
+ghost use Rattle.declarations.specs.Spec.{is_name};
 ghost use Rattle.toml.specs.Data.{get_member};
 ghost use Rattle.toml.specs.View.{view, table_view};
 ghost use Rattle.manifest.specs.Member.{required, text_that};
@@ -59,7 +60,7 @@ fn read_array(alloc: Global, table: &Table) -> Result<ArrayDeclaration, Unread<A
 
 fn name(table: &Table) -> Option<&str>
     ensures { option_copied result
-        ≡ required (text_that specs.is_name) (codes "name") (table_view table.now) }
+        ≡ required (text_that is_name) (codes "name") (table_view table.now) }
 {
     match text(table, "name") {
         Some(text) if ArrayName::is_name(text) => Some(text),
