@@ -26,7 +26,7 @@ pub enum Attempt {
 
 impl Interpreter {
     /// Goes on at a slot, if there is one to go to.
-    pub fn jump_to(&mut self, slot: Option<usize>) -> Attempt
+    pub(crate) fn jump_to(&mut self, slot: Option<usize>) -> Attempt
         requires { HasRoom (state_of self.old) }
         ensures { let s = state_of self.old in
             Comes (outcome.jump_to s slot) s result (state_of self.new) }
@@ -41,7 +41,7 @@ impl Interpreter {
     }
 
     /// Jumps where the condition holds, and else goes on.
-    pub fn branch(&mut self, offset: i16, taken: Option<bool>) -> Attempt
+    pub(crate) fn branch(&mut self, offset: i16, taken: Option<bool>) -> Attempt
         requires { HasRoom (state_of self.old) }
         ensures { let s = state_of self.old in
             Comes (outcome.branch s offset taken) s result (state_of self.new) }
@@ -60,7 +60,7 @@ impl Interpreter {
     }
 
     /// Sets a register, and goes on after so many slots. R10 is read-only.
-    pub fn write(&mut self, width: usize, dst: Reg, value: Option<u64>) -> Attempt
+    pub(crate) fn write(&mut self, width: usize, dst: Reg, value: Option<u64>) -> Attempt
         requires room { HasRoom (state_of self.old) }
         requires width { width ≤ 2 }
         ensures { let s = state_of self.old in
@@ -78,7 +78,7 @@ impl Interpreter {
     }
 
     /// Takes a helper's result, and goes on.
-    pub fn answer(&mut self, value: Option<u64>) -> Attempt
+    pub(crate) fn answer(&mut self, value: Option<u64>) -> Attempt
         requires { HasRoom (state_of self.old) }
         ensures { let s = state_of self.old in
             Comes (outcome.answer s value) s result (state_of self.new) }
@@ -95,7 +95,7 @@ impl Interpreter {
     }
 
     /// Takes a counter's reply, and goes on.
-    pub fn take_reply(&mut self, into: Option<Reg>, reply: u64)
+    pub(crate) fn take_reply(&mut self, into: Option<Reg>, reply: u64)
         requires { HasRoom (state_of self.old) }
         ensures { state_of self.new ≡ replied (state_of self.old) into reply }
     {

@@ -54,7 +54,7 @@ fn lookup(shape: &Shape, map: u64, key: u64) -> Option<u64>
 
 impl Interpreter {
     /// R0 after a call; a helper with another number isn't defined.
-    pub fn helper_result(&self, shape: &Shape, helper: i32) -> Option<u64>
+    pub(crate) fn helper_result(&self, shape: &Shape, helper: i32) -> Option<u64>
         ensures { result ≡ calls.helper_result shape.now (state_of self.now) helper }
     {
         match helper {

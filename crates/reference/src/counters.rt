@@ -108,7 +108,13 @@ fn fetched(op: AtomicOp, src: Reg) -> Option<Reg>
 
 impl Interpreter {
     /// Reads a counter, or else context or stack.
-    pub fn load(&mut self, kind: LoadKind, dst: Reg, base: Option<u64>, offset: i16) -> Attempt
+    pub(crate) fn load(
+        &mut self,
+        kind: LoadKind,
+        dst: Reg,
+        base: Option<u64>,
+        offset: i16,
+    ) -> Attempt
         requires { HasRoom (state_of self.old) }
         ensures { let s = state_of self.old in
             Comes (semantics.load s kind dst base offset) s result (state_of self.new) }
@@ -123,7 +129,7 @@ impl Interpreter {
     }
 
     /// Writes a counter, or else the stack.
-    pub fn store(
+    pub(crate) fn store(
         &mut self,
         size: Size,
         base: Option<u64>,
@@ -191,7 +197,14 @@ impl Interpreter {
     }
 
     /// One atomic operation on a counter.
-    pub fn atomic(&self, op: AtomicOp, size: AtomicSize, dst: Reg, src: Reg, offset: i16) -> Attempt
+    pub(crate) fn atomic(
+        &self,
+        op: AtomicOp,
+        size: AtomicSize,
+        dst: Reg,
+        src: Reg,
+        offset: i16,
+    ) -> Attempt
         ensures { let s = state_of self.now in
             Comes (needed (counters.atomic_asks s op size dst src offset)) s result s }
     {

@@ -114,7 +114,7 @@ impl Interpreter {
     }
 
     /// What a load of context or stack gives.
-    pub fn loaded(&self, kind: LoadKind, base: Option<u64>, offset: i16) -> Option<u64>
+    pub(crate) fn loaded(&self, kind: LoadKind, base: Option<u64>, offset: i16) -> Option<u64>
         ensures { result ≡ reads.loaded (state_of self.now) kind base offset }
     {
         let address = add_offset(base?, offset);
@@ -124,7 +124,7 @@ impl Interpreter {
 
     /// Helper 2: whether an attribute's bytes are those at an address of the stack, at most 64. Of
     /// no bytes nothing is asked.
-    pub fn compared(&self, number: u64, address: u64, count: u64) -> Option<u64>
+    pub(crate) fn compared(&self, number: u64, address: u64, count: u64) -> Option<u64>
         ensures { result ≡ calls.compared (state_of self.now) number address count }
     {
         if count > 64 {

@@ -72,7 +72,7 @@ impl Interpreter {
     }
 
     /// One instruction of a program for an app of this shape.
-    pub fn perform(&mut self, shape: &Shape, insn: Insn) -> Attempt
+    pub(crate) fn perform(&mut self, shape: &Shape, insn: Insn) -> Attempt
         requires { HasRoom (state_of self.old) }
         ensures { let s = state_of self.old in
             Comes (semantics.act shape.now s insn) s result (state_of self.new) }

@@ -5,7 +5,7 @@ ghost use Rattle.std.specs.Prelude.{◌+◌, ◌<◌, ◌≤◌, ◌^◌, List, 
 ghost use Rattle.cells.specs.Grown.{GrewBy};
 ghost use Rattle.cells.specs.declared.event.CellEvent.{CellEvent};
 ghost use Rattle.reference.specs.Marks.{state_of};
-ghost use Rattle.reference.specs.Observed.{shaped};
+ghost use Rattle.bpf_semantics.specs.Program.{shaped};
 ghost use Rattle.reference.specs.Runs.{IsRun};
 
 use crate::observed::{Observed, RunEnd};

@@ -69,21 +69,21 @@ impl Interpreter {
     }
 
     /// What a register has, if it is set.
-    pub fn register(&self, register: Reg) -> Option<u64>
+    pub(crate) fn register(&self, register: Reg) -> Option<u64>
         ensures { result ≡ reads.register (state_of self.now) register }
     {
         self.registers[register.index()]
     }
 
     /// Sets a register.
-    pub fn set(&mut self, register: Reg, value: u64)
+    pub(crate) fn set(&mut self, register: Reg, value: u64)
         ensures { state_of self.new ≡ with_register (state_of self.old) (number_of register) value }
     {
         self.registers[register.index()] = Some(value);
     }
 
     /// Sets R0 to a helper's result, and unsets its arguments, R1 to R5.
-    pub fn set_result(&mut self, value: u64)
+    pub(crate) fn set_result(&mut self, value: u64)
         ensures { state_of self.new ≡ with_result (state_of self.old) value }
     {
         self.registers[0] = Some(value);
@@ -95,7 +95,7 @@ impl Interpreter {
     }
 
     /// Goes on at a slot, with one instruction more done.
-    pub fn go(&mut self, slot: usize)
+    pub(crate) fn go(&mut self, slot: usize)
         requires { (state_of self.old).count < 2 ^ 64 - 1 }
         ensures { state_of self.new ≡ moved_to (state_of self.old) slot }
     {
@@ -104,7 +104,7 @@ impl Interpreter {
     }
 
     /// Sets the bytes of the stack from a place on to the low bytes of a number, the least first.
-    pub fn put(&mut self, place: usize, count: usize, value: u64)
+    pub(crate) fn put(&mut self, place: usize, count: usize, value: u64)
         requires { place + count ≤ 512 }
         ensures { state_of self.new ≡ with_stack (state_of self.old) place count value }
     {
@@ -112,7 +112,7 @@ impl Interpreter {
     }
 
     /// Reads the bytes of the stack from a place on, and says whether all of them are set.
-    pub fn read(&self, place: usize, into: &mut [u8]) -> bool
+    pub(crate) fn read(&self, place: usize, into: &mut [u8]) -> bool
         requires { place + length into.old ≤ 512 }
         ensures { let s = state_of self.now in
             set_bytes s.stack place (length into.old) ≡ (if result then Some into.new else None) }

@@ -4,7 +4,8 @@ ghost use Rattle.std.specs.Prelude.{◌-◌, ◌<◌, ◌≤◌, ◌^◌, length
 ghost use Rattle.bpf_semantics.specs.Step as semantics;
 ghost use Rattle.reference.specs.Attempts.{Comes};
 ghost use Rattle.reference.specs.Marks.{state_of};
-ghost use Rattle.reference.specs.Observed.{IsStep, Grew, shaped};
+ghost use Rattle.bpf_semantics.specs.Program.{shaped};
+ghost use Rattle.reference.specs.Observed.{IsStep, Grew};
 
 use crate::attempt::Attempt;
 use crate::observed::Observed;
