@@ -1,50 +1,28 @@
 -- A rule that is read fits its shape: each of its parts does.
-use Rattle.std.proofs.Common.{◌≡◌, ℕ, zero, suc, ◌-◌, List, [], ◌∷◌, ◌++◌, replicate}
-use Rattle.std.proofs.Common.{Option, Some, None}
-use Rattle.std.proofs.Common.{Ok, Err, Bool, true, false, if◌then◌else◌, refl, ap, ◌∙◌, subst}
+use Rattle.std.proofs.Common.{◌≡◌, ℕ, zero, suc, List, [], ◌∷◌, ◌++◌, replicate, Option, Some, None}
+use Rattle.std.proofs.Common.{Ok, Err, Bool, true, false, if◌then◌else◌, refl, ◌∙◌}
 use Rattle.std.specs.Cmp.Derive.{both_true}
 use Rattle.std.specs.List.{list_all}
 use Rattle.std.proofs.lemmas.List.Folds.{list_all-append}
 use Rattle.cells.specs.Arrays.{AppShape}
 use Rattle.rule_lang.specs.declared.condition.Step.TheVariants as step
-use Rattle.rule_lang.specs.declared.draft.Mode.{Mode}
-use Rattle.rule_lang.specs.declared.draft.Mode.TheVariants as mode
 use Rattle.rule_lang.specs.declared.fault.RuleFault.{RuleFault}
-use Rattle.rule_lang.specs.declared.frame.Frame.{Frame}
-use Rattle.rule_lang.specs.declared.keyword.Keyword.TheVariants as keyword
-use Rattle.rule_lang.specs.declared.phrase.TheConstants.{COUNT, OFFER, OTHERWISE}
-use Rattle.rule_lang.specs.declared.phrase.Want.{Want}
 use Rattle.rule_lang.specs.declared.rule.Statement.{Statement}
 use Rattle.rule_lang.specs.declared.rule.Statement.TheVariants.{When}
 use Rattle.rule_lang.specs.declared.test.Test.{Test}
-use Rattle.rule_lang.specs.declared.token.Token.TheVariants as token
-use Rattle.rule_lang.specs.Reader.Drafts.{Pending, begin, denied, opened, joined, parted, fact_done}
-use Rattle.rule_lang.specs.Reader.Drafts.{term_done, and_step, or_step, closed_to, is_empty}
-use Rattle.rule_lang.specs.Fits.{is_release, test_fits, step_fits}
-use Rattle.rule_lang.specs.Fits.{statement_fits, fits}
+use Rattle.rule_lang.specs.Reader.Drafts.{Pending, fact_done, term_done, and_step, or_step}
+use Rattle.rule_lang.specs.Fits.{is_release, test_fits, step_fits, statement_fits}
 use Rattle.rule_lang.specs.Lexed.{Placed}
-use Rattle.rule_lang.specs.Parts.{OrFault, ◌>>?◌, part}
-use Rattle.rule_lang.specs.Parts.{release}
-use Rattle.rule_lang.specs.Parts.{out_of_range}
-use Rattle.rule_lang.specs.Phrases.{behind, misplaced, test_phrase}
-use Rattle.rule_lang.specs.Reader.Reading.{Draft, Next, with_fault_if, in_mode, with_condition}
-use Rattle.rule_lang.specs.Reader.Reading.{counted, statement_next, too_deep, with_test}
-use Rattle.rule_lang.specs.Reader.Reading.{test_next}
-use Rattle.rule_lang.specs.Reader.Reading.{fact_next, closed_next, offered, offer_next}
-use Rattle.rule_lang.specs.Reader.Reading.{operator_next}
-use Rattle.rule_lang.specs.Reader.Reading.{unless_noted, next_in, next, first_draft, verdict}
-use Rattle.rule_lang.specs.Reader.Reading.{Reads, ended, refused, goes_on}
-use Rattle.rule_lang.specs.Says.{count_of}
-use Rattle.rule_lang.specs.Tests.{test_of}
-use Rattle.rule_lang.specs.Tokens.{Token}
-use Rattle.rule_lang.proofs.Keeping.{same_ok, no_ok, bound}
-use Rattle.rule_lang.proofs.FittingParts.{release_is, IfRead, count_fits, by_words}
+use Rattle.rule_lang.specs.Parts.{OrFault, release}
+use Rattle.rule_lang.specs.Reader.Reading.{Draft, with_fault_if, counted, with_test, offered}
+use Rattle.rule_lang.specs.Reader.Reading.{unless_noted}
+use Rattle.rule_lang.proofs.FittingParts.{release_is, IfRead}
 
 -- ---- what a rule so far keeps
 
-record Fitting (s : AppShape) (d : Draft) : Type 0 where
-  statements : list_all (statement_fits s) d.statements ≡ true
-  steps : list_all (step_fits s) d.condition.steps ≡ true
+pub record Fitting (s : AppShape) (d : Draft) : Type 0 where
+  pub statements : list_all (statement_fits s) d.statements ≡ true
+  pub steps : list_all (step_fits s) d.condition.steps ≡ true
 
 appended : {A : Type 0} (holds : A → Bool) (xs ys : List A) → list_all holds xs ≡ true
     → list_all holds ys ≡ true → list_all holds (xs ++ ys) ≡ true
@@ -64,23 +42,23 @@ or_fits : (s : AppShape) (b : Bool) → list_all (step_fits s) (if b then step.O
 or_fits s true = refl
 or_fits s false = refl
 
-abbrev StepsFit : AppShape → Pending → Type 0
+abbrev pub StepsFit : AppShape → Pending → Type 0
 StepsFit s p = list_all (step_fits s) p.steps ≡ true
 
-fact_fits : (s : AppShape) (p : Pending) → StepsFit s p → StepsFit s (fact_done p)
+pub fact_fits : (s : AppShape) (p : Pending) → StepsFit s p → StepsFit s (fact_done p)
 fact_fits s p h = appended (step_fits s) (p.steps ++ replicate p.top.nots step.Not) (and_step p.top)
     (appended (step_fits s) p.steps (replicate p.top.nots step.Not) h (nots_fit s p.top.nots))
     (and_fits s p.top.and)
 
-term_fits : (s : AppShape) (p : Pending) → StepsFit s p → StepsFit s (term_done p)
+pub term_fits : (s : AppShape) (p : Pending) → StepsFit s p → StepsFit s (term_done p)
 term_fits s p h = appended (step_fits s) p.steps (or_step p.top) h (or_fits s p.top.or)
 
-fault_fits : (s : AppShape) (b : Bool) (e : RuleFault) (d : Draft) → Fitting s d
+pub fault_fits : (s : AppShape) (b : Bool) (e : RuleFault) (d : Draft) → Fitting s d
     → Fitting s (with_fault_if b e d)
 fault_fits s true e d h = record { statements = h.statements; steps = h.steps }
 fault_fits s false e d h = h
 
-counted_fits : (s : AppShape) (o : OrFault Statement) (d : Draft) → IfRead (statement_fits s) o
+pub counted_fits : (s : AppShape) (o : OrFault Statement) (d : Draft) → IfRead (statement_fits s) o
     → Fitting s d → Fitting s (counted o d)
 counted_fits s (Ok x) d fit h = record {
   statements = appended (statement_fits s) d.statements (x ∷ []) h.statements (both_true fit refl);
@@ -88,7 +66,7 @@ counted_fits s (Ok x) d fit h = record {
 }
 counted_fits s (Err e) d fit h = record { statements = h.statements; steps = h.steps }
 
-tested_fits : (s : AppShape) (line : ℕ) (o : OrFault Test) (d : Draft) → IfRead (test_fits s) o
+pub tested_fits : (s : AppShape) (line : ℕ) (o : OrFault Test) (d : Draft) → IfRead (test_fits s) o
     → Fitting s d → Fitting s (with_test line o d)
 tested_fits s line (Ok t) d fit h = record {
   statements = h.statements;
@@ -111,7 +89,8 @@ when_fits s k None d e fit h g = record {
 }
 when_fits s k (Some f) d e fit h g = g
 
-offered_fits : (s : AppShape) (o : OrFault ℕ) (d : Draft) → IfRead (is_release s) o → Fitting s d
+pub offered_fits : (s : AppShape) (o : OrFault ℕ) (d : Draft) → IfRead (is_release s) o
+    → Fitting s d
     → Fitting s (offered o d)
 offered_fits s (Ok k) d fit h = when_fits s k d.noted d _ fit h (record {
   statements = h.statements;
@@ -119,146 +98,9 @@ offered_fits s (Ok k) d fit h = when_fits s k d.noted d _ fit h (record {
 })
 offered_fits s (Err e) d fit h = record { statements = h.statements; steps = h.steps }
 
-release_fits : (s : AppShape) (p : Placed) → IfRead (is_release s) (release s p)
+pub release_fits : (s : AppShape) (p : Placed) → IfRead (is_release s) (release s p)
 release_fits s p = by_result (release s p) refl
   where
     by_result : (o : OrFault ℕ) → release s p ≡ o → IfRead (is_release s) o
     by_result (Ok k) h = release_is s p k h
     by_result (Err e) h = tt
-
--- ---- each phrase
-
-kept : (s : AppShape) (p q : Draft × List Placed) → ◌≡◌ {A = Next} (Ok p) (Ok q) → Fitting s p.0
-    → Fitting s q.0
-kept s p q h k = subst (λ (r : Draft × List Placed). Fitting s r.0) (same_ok p q h) k
-
-phrase_kept : (s : AppShape) (ws : List Want) (ts : List Placed) (d : Draft) (q : Draft × List
-    Placed) → (behind ws ts >>? λ rest. Ok (d, rest)) ≡ Ok q → Fitting s d → Fitting s q.0
-phrase_kept s ws ts d q h k =
-    let b = bound (behind ws ts) (λ rest. Ok (d, rest)) q h in
-    kept s (d, b.value) q b.after k
-
-again : (s : AppShape) (d e : Draft) → e.statements ≡ d.statements
-    → e.condition.steps ≡ d.condition.steps → Fitting s d → Fitting s e
-again s d e same_statements same_steps h = record {
-  statements = ap (list_all (statement_fits s)) same_statements ∙ h.statements;
-  steps = ap (list_all (step_fits s)) same_steps ∙ h.steps;
-}
-
--- with the same statements
-anew : (s : AppShape) (d e : Draft) → e.statements ≡ d.statements → StepsFit s e.condition
-    → Fitting s d → Fitting s e
-anew s d e same_statements steps h = record {
-  statements = ap (list_all (statement_fits s)) same_statements ∙ h.statements;
-  steps = steps;
-}
-
-statement_kept : (s : AppShape) (d : Draft) (t : Token) (line : ℕ) (ts after : List Placed) (q :
-    Draft × List Placed) → Fitting s d → statement_next s d t line ts after ≡ Ok q → Fitting s q.0
-statement_kept s d (token.Keyword keyword.Count) line ts after q f h =
-    phrase_kept s COUNT ts (counted (count_of s ts) d) q h (counted_fits s (count_of s ts) d
-    (count_fits s ts) f)
-statement_kept s d (token.Keyword keyword.When) line ts after q f h =
-    let e = in_mode mode.Fact (with_condition begin d) in
-    kept s (e, after) q h (anew s d e refl refl f)
-statement_kept s d (token.Keyword keyword.Otherwise) line ts after q f h =
-    let e = in_mode mode.Done d in
-    phrase_kept s OTHERWISE ts e q h (again s d e refl refl f)
-statement_kept s d t line ts after q f h = absurd (no_ok (misplaced line) q h)
-
-test_kept : (s : AppShape) (d : Draft) (line : ℕ) (o : Option (List Want)) (ts : List Placed) (q
-    : Draft × List Placed) → Fitting s d → test_next s d line o ts ≡ Ok q → Fitting s q.0
-test_kept s d line None ts q f h = absurd (no_ok (misplaced line) q h)
-test_kept s d line (Some ws) ts q f h =
-    let e = with_test line (test_of s ts) d in
-    let fit = tested_fits s line (test_of s ts) d (by_words s ts (part ts 0).token (part ts
-    1).token) f in
-    phrase_kept s ws ts (in_mode mode.Operator e) q h (again s e (in_mode mode.Operator e) refl refl
-    fit)
-
-fact_kept : (s : AppShape) (d : Draft) (t : Token) (p : Placed) (ts after : List Placed) (q :
-    Draft × List Placed) → Fitting s d → fact_next s d t p ts after ≡ Ok q → Fitting s q.0
-fact_kept s d (token.Keyword keyword.Not) p ts after q f h =
-    let noted = with_fault_if (too_deep d) (out_of_range p) d in
-    let e = with_condition (denied noted.condition) noted in
-    kept s (e, after) q h (again s noted e refl refl (fault_fits s (too_deep d) (out_of_range p) d
-    f))
-fact_kept s d token.Open p ts after q f h =
-    let noted = with_fault_if (too_deep d) (out_of_range p) d in
-    let e = with_condition (opened noted.condition) noted in
-    kept s (e, after) q h (again s noted e refl refl (fault_fits s (too_deep d) (out_of_range p) d
-    f))
-fact_kept s d t p ts after q f h = test_kept s d p.line (test_phrase t (part ts 1).token) ts q f h
-
-closed_kept : (s : AppShape) (d : Draft) (fs : List Frame) (line : ℕ) (ts after : List Placed) (q
-    : Draft × List Placed) → Fitting s d
-    → closed_next (closed_to d.condition fs) d line after ≡ Ok q → Fitting s q.0
-closed_kept s d [] line ts after q f h = absurd (no_ok (misplaced line) q h)
-closed_kept s d (g ∷ gs) line ts after q f h =
-    let outer : Pending = record {
-      steps = d.condition.steps ++ or_step d.condition.top;
-      below = gs;
-      top = g;
-      depth = d.condition.depth - 1;
-    } in
-    let e = with_condition (fact_done outer) d in
-    kept s (e, after) q h (anew s d e refl (fact_fits s outer (term_fits s d.condition f.steps)) f)
-
-offer_kept : (s : AppShape) (d : Draft) (b : Bool) (line : ℕ) (ts : List Placed) (q : Draft ×
-    List Placed) → Fitting s d → offer_next s d b line ts ≡ Ok q → Fitting s q.0
-offer_kept s d false line ts q f h = absurd (no_ok (misplaced line) q h)
-offer_kept s d true line ts q f h =
-    let ended = with_condition (term_done d.condition) d in
-    let given = offered (release s (part ts 1)) ended in
-    let fit = offered_fits s (release s (part ts 1)) ended (release_fits s (part ts 1)) (anew s d
-    ended refl (term_fits s d.condition f.steps) f) in
-    phrase_kept s OFFER ts (in_mode mode.Statement given) q h (again s given (in_mode mode.Statement
-    given) refl refl fit)
-
-operator_kept : (s : AppShape) (d : Draft) (t : Token) (line : ℕ) (ts after : List Placed) (q :
-    Draft × List Placed) → Fitting s d → operator_next s d t line ts after ≡ Ok q → Fitting s q.0
-operator_kept s d (token.Keyword keyword.And) line ts after q f h =
-    let e = in_mode mode.Fact (with_condition (joined d.condition) d) in
-    kept s (e, after) q h (again s d e refl refl f)
-operator_kept s d (token.Keyword keyword.Or) line ts after q f h =
-    let e = in_mode mode.Fact (with_condition (parted d.condition) d) in
-    kept s (e, after) q h (anew s d e refl (term_fits s d.condition f.steps) f)
-operator_kept s d token.Close line ts after q f h =
-    closed_kept s d d.condition.below line ts after q f h
-operator_kept s d (token.Keyword keyword.Offer) line ts after q f h =
-    offer_kept s d (is_empty d.condition.below) line ts q f h
-operator_kept s d t line ts after q f h = absurd (no_ok (misplaced line) q h)
-
--- ---- the whole
-
-mode_kept : (s : AppShape) (d : Draft) (m : Mode) (p : Placed) (ts after : List Placed) (q :
-    Draft × List Placed) → Fitting s d → next_in s d m p ts after ≡ Ok q → Fitting s q.0
-mode_kept s d mode.Statement p ts after q f h = statement_kept s d p.token p.line ts after q f h
-mode_kept s d mode.Fact p ts after q f h = fact_kept s d p.token p ts after q f h
-mode_kept s d mode.Operator p ts after q f h = operator_kept s d p.token p.line ts after q f h
-mode_kept s d mode.Done p ts after q f h = absurd (no_ok (misplaced p.line) q h)
-
-next_fits : (s : AppShape) (d : Draft) (ts : List Placed) (q : Draft × List Placed)
-    → Fitting s d → next s d ts ≡ Ok q → Fitting s q.0
-unfolding next
-next_fits s d [] q f h = absurd (no_ok (misplaced 0) q h)
-next_fits s d (p ∷ after) q f h = mode_kept s d d.mode p (p ∷ after) after q f h
-
-verdict_fits : (s : AppShape) (d : Draft) (o : Option RuleFault) → Fitting s d
-    → IfRead (fits s) (verdict d o)
-verdict_fits s d None f = f.statements
-verdict_fits s d (Some e) f = tt
-
-reads_fit : (s : AppShape) (d : Draft) (ts : List Placed) (v : OrFault (List Statement))
-    → Fitting s d → Reads s d ts v → IfRead (fits s) v
-reads_fit s d ts v f (ended done) = verdict_fits s d d.noted f
-reads_fit s d ts v f (refused going h) = tt
-reads_fit s d ts v f (goes_on {e = e} {rest = rest} going h later) =
-    reads_fit s e rest v (next_fits s d ts (e, rest) f h) later
-
-pub rule_fits : (s : AppShape) (ts : List Placed) (rule : List Statement)
-    → Reads s first_draft ts (Ok rule) → fits s rule ≡ true
-rule_fits s ts rule r = reads_fit s first_draft ts (Ok rule) (record {
-  statements = refl;
-  steps = refl;
-}) r

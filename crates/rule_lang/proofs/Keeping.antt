@@ -1,39 +1,30 @@
 -- Each phrase leaves a rule that is read sound, and some of the tokens.
 use Rattle.std.proofs.Common.{◌≡◌, ℕ, suc, zero, ◌+◌, ◌-◌, ◌≤◌, List, [], ◌∷◌, ◌++◌, length, drop}
 use Rattle.std.proofs.Common.{Option, Some, None, Ok, Err, Bool, true, false, if◌then◌else◌, refl}
-use Rattle.std.proofs.Common.{sym, ap, ◌∙◌, arith, subst, ◌⊎◌, inl, inr}
+use Rattle.std.proofs.Common.{sym, ap, ◌∙◌, arith, subst}
 use Rattle.cells.specs.Arrays.{AppShape}
 use Rattle.rule_lang.specs.declared.condition.Step.TheVariants as step
 use Rattle.rule_lang.specs.declared.draft.Mode.{Mode}
 use Rattle.rule_lang.specs.declared.draft.Mode.TheVariants as mode
 use Rattle.rule_lang.specs.declared.fault.RuleFault.{RuleFault}
-use Rattle.rule_lang.specs.declared.fault.RuleFault.TheVariants.{Memory}
-use Rattle.rule_lang.specs.declared.frame.Frame.{Frame}
 use Rattle.rule_lang.specs.declared.keyword.Keyword.TheVariants as keyword
-use Rattle.rule_lang.specs.declared.phrase.TheConstants.{COUNT, OFFER, OTHERWISE}
+use Rattle.rule_lang.specs.declared.phrase.TheConstants.{COUNT, OTHERWISE}
 use Rattle.rule_lang.specs.declared.phrase.Want.{Want}
 use Rattle.rule_lang.specs.declared.rule.Statement.{Statement}
 use Rattle.rule_lang.specs.declared.test.Test.{Test}
 use Rattle.rule_lang.specs.declared.token.Token.TheVariants as token
-use Rattle.rule_lang.specs.Reader.Drafts.{Pending, first_frame, begin, denied, opened, joined}
-use Rattle.rule_lang.specs.Reader.Drafts.{parted, closed_to, fact_done, term_done, is_empty}
-use Rattle.rule_lang.specs.Reader.Drafts.{or_step}
-use Rattle.rule_lang.specs.declared.lexer.Placed as the_placed
+use Rattle.rule_lang.specs.Reader.Drafts.{Pending, first_frame, begin, denied, opened}
 use Rattle.rule_lang.specs.Lexed.{Placed}
-use Rattle.rule_lang.specs.Named.{Bytes, placed_all}
-use Rattle.rule_lang.specs.Parts.{OrFault, ◌>>?◌, part, out_of_range, release}
+use Rattle.rule_lang.specs.Parts.{OrFault, ◌>>?◌, part, out_of_range}
 use Rattle.rule_lang.specs.Phrases.{behind, misplaced, test_phrase, takes}
 use Rattle.rule_lang.specs.Reader.Reading.{Draft, Next, first_of, with_fault_if, in_mode}
 use Rattle.rule_lang.specs.Reader.Reading.{with_condition, counted, statement_next, too_deep}
-use Rattle.rule_lang.specs.Reader.Reading.{with_test, test_next, fact_next, closed_next, offered}
-use Rattle.rule_lang.specs.Reader.Reading.{offer_next, operator_next, next_in, next, is_done}
-use Rattle.rule_lang.specs.Reader.Reading.{verdict, Reads, ended, refused}
+use Rattle.rule_lang.specs.Reader.Reading.{with_test, test_next, fact_next, next}
 use Rattle.rule_lang.specs.Says.{count_of}
-use Rattle.rule_lang.specs.Reader.Sound.{HasTrees, one_if, all_waiting, IsSoundAfter, IsSoundIn}
-use Rattle.rule_lang.specs.Reader.Sound.{IsSound}
+use Rattle.rule_lang.specs.Reader.Sound.{HasTrees, all_waiting, IsSoundAfter, IsSoundIn, IsSound}
 use Rattle.rule_lang.specs.Tests.{test_of}
 use Rattle.rule_lang.specs.Tokens.{Token}
-use Rattle.rule_lang.proofs.Sounds.{recount, test_added, or_ended, fact_sound}
+use Rattle.rule_lang.proofs.Sounds.{recount, test_added, fact_sound}
 
 -- ---- results
 
@@ -103,7 +94,8 @@ pub record Keeps (ts : List Placed) (q : Draft × List Placed) : Type 0 where
   pub sound : IsSound q.0
   pub rest : IsRest q.1 ts
 
-kept : (ts : List Placed) (p q : Draft × List Placed) → ◌≡◌ {A = Next} (Ok p) (Ok q) → Keeps ts p
+pub kept : (ts : List Placed) (p q : Draft × List Placed) → ◌≡◌ {A = Next} (Ok p) (Ok q)
+    → Keeps ts p
     → Keeps ts q
 kept ts p q h k = subst (λ (r : Draft × List Placed). Keeps ts r) (same_ok p q h) k
 
@@ -114,7 +106,7 @@ pub mode_counted : (o : OrFault Statement) (d : Draft) → (counted o d).mode �
 mode_counted (Ok statement) d = refl
 mode_counted (Err e) d = refl
 
-phrase_keeps : (ws : List Want) (ts : List Placed) (d : Draft) (q : Draft × List Placed)
+pub phrase_keeps : (ws : List Want) (ts : List Placed) (d : Draft) (q : Draft × List Placed)
     → IsSound d → (behind ws ts >>? λ rest. Ok (d, rest)) ≡ Ok q → Keeps ts q
 phrase_keeps ws ts d q sound h =
     let b = bound (behind ws ts) (λ rest. Ok (d, rest)) q h in
@@ -127,7 +119,8 @@ phrase_keeps ws ts d q sound h =
 empty_trees : HasTrees [] (all_waiting (first_frame ∷ []))
 empty_trees = record { trees = []; made = refl; count = refl }
 
-statement_keeps : (s : AppShape) (d : Draft) (t : Token) (line : ℕ) (ts after : List Placed) (q :
+pub statement_keeps : (s : AppShape) (d : Draft) (t : Token) (line : ℕ)
+    (ts after : List Placed) (q :
     Draft × List Placed) → d.mode ≡ mode.Statement → IsRest after ts
     → statement_next s d t line ts after ≡ Ok q → Keeps ts q
 statement_keeps s d (token.Keyword keyword.Count) line ts after q m r h =
@@ -194,7 +187,7 @@ pub mode_noted : (b : Bool) (e : RuleFault) (d : Draft) → (with_fault_if b e d
 mode_noted true e d = refl
 mode_noted false e d = refl
 
-fact_keeps : (s : AppShape) (d : Draft) (t : Token) (p : Placed) (ts after : List Placed) (q :
+pub fact_keeps : (s : AppShape) (d : Draft) (t : Token) (p : Placed) (ts after : List Placed) (q :
     Draft × List Placed) → d.mode ≡ mode.Fact → IsSound d → IsRest after ts
     → fact_next s d t p ts after ≡ Ok q → Keeps ts q
 fact_keeps s d (token.Keyword keyword.Not) p ts after q m sound r h =
@@ -219,179 +212,5 @@ fact_keeps s d t p ts after q m sound r h =
 
 -- ---- operators
 
-abbrev OperatorSound : Draft → Type 0
+abbrev pub OperatorSound : Draft → Type 0
 OperatorSound d = d.noted ≡ None → IsSoundAfter d.condition
-
-in_operator : (d : Draft) → d.mode ≡ mode.Operator → IsSound d → OperatorSound d
-in_operator d e h = λ clean. subst (λ (m : Mode). IsSoundIn m d.condition) e (h clean)
-
-to_operator : (d : Draft) → d.mode ≡ mode.Operator → OperatorSound d → IsSound d
-to_operator d e h = λ clean. subst (λ (m : Mode). IsSoundIn m d.condition) (sym e) (h clean)
-
-joined_trees : (p : Pending) → IsSoundAfter p → HasTrees p.steps (all_waiting ((joined p).top ∷
-    p.below))
-joined_trees p h =
-    let no_and : one_if p.top.and ≡ 0 = ap one_if h.joined in
-    let o = one_if p.top.or in
-    let w = all_waiting p.below in
-    recount p.steps (1 + ((one_if p.top.and + o) + w)) ((1 + o) + w) (omega (arith, no_and)) h.trees
-
--- the trees once a term has ended
-term_trees : (p : Pending) → IsSoundAfter p → HasTrees (p.steps ++ or_step p.top) (1 +
-    all_waiting p.below)
-term_trees p h =
-    let no_and : one_if p.top.and ≡ 0 = ap one_if h.joined in
-    let o = one_if p.top.or in
-    let w = all_waiting p.below in
-    or_ended p.steps p.top.or w (recount p.steps (1 + ((one_if p.top.and + o) + w)) (1 + (o + w))
-    (omega (arith, no_and)) h.trees)
-
-parted_trees : (p : Pending) → IsSoundAfter p → HasTrees (p.steps ++ or_step p.top) (all_waiting
-    ((parted p).top ∷ p.below))
-parted_trees p h =
-    let no_and : one_if p.top.and ≡ 0 = ap one_if h.joined in
-    let w = all_waiting p.below in
-    recount (p.steps ++ or_step p.top) (1 + w) ((one_if p.top.and + 1) + w) (omega (
-      arith,
-      no_and,
-    )) (term_trees p h)
-
-closed_keeps : (d : Draft) (p : Pending) (fs : List Frame) (line : ℕ) (ts after : List Placed) (q
-    : Draft × List Placed) → p.below ≡ fs → d.mode ≡ mode.Operator → (d.noted ≡ None
-    → IsSoundAfter p) → IsRest after ts → closed_next (closed_to p fs) d line after ≡ Ok q
-    → Keeps ts q
-closed_keeps d p [] line ts after q e m sound r h = absurd (no_ok (misplaced line) q h)
-closed_keeps d p (f ∷ fs) line ts after q e m sound r h =
-    let outer : Pending = record {
-      steps = p.steps ++ or_step p.top;
-      below = fs;
-      top = f;
-      depth =
-          p.depth - 1;
-    } in
-    let trees : d.noted ≡ None → HasTrees (p.steps ++ or_step p.top) (1 + all_waiting (f ∷ fs)) =
-    λ clean. subst (λ (gs : List Frame). HasTrees (p.steps ++ or_step p.top) (1 + all_waiting
-    gs)) e (term_trees p (sound clean)) in
-    let next : Draft = with_condition (fact_done outer) d in
-    kept ts (next, after) q h (record {
-      sound = to_operator next m (λ clean. fact_sound outer (trees clean));
-      rest = r;
-    })
-
-offer_keeps : (s : AppShape) (d : Draft) (b : Bool) (line : ℕ) (ts : List Placed) (q : Draft ×
-    List Placed) → offer_next s d b line ts ≡ Ok q → Keeps ts q
-offer_keeps s d false line ts q h = absurd (no_ok (misplaced line) q h)
-offer_keeps s d true line ts q h =
-    phrase_keeps OFFER ts (in_mode mode.Statement (offered (release s (part ts 1))
-    (with_condition (term_done d.condition) d))) q (λ clean. tt) h
-
-operator_keeps : (s : AppShape) (d : Draft) (t : Token) (line : ℕ) (ts after : List Placed) (q :
-    Draft × List Placed) → d.mode ≡ mode.Operator → IsSound d → IsRest after ts
-    → operator_next s d t line ts after ≡ Ok q → Keeps ts q
-operator_keeps s d (token.Keyword keyword.And) line ts after q m sound r h =
-    kept ts (in_mode mode.Fact (with_condition (joined d.condition) d), after) q h (record {
-      sound = λ clean. joined_trees d.condition (in_operator d m sound clean);
-      rest = r;
-    })
-operator_keeps s d (token.Keyword keyword.Or) line ts after q m sound r h =
-    kept ts (in_mode mode.Fact (with_condition (parted d.condition) d), after) q h (record {
-      sound = λ clean. parted_trees d.condition (in_operator d m sound clean);
-      rest = r;
-    })
-operator_keeps s d token.Close line ts after q m sound r h =
-    closed_keeps d d.condition d.condition.below line ts after q refl m (in_operator d m sound) r h
-operator_keeps s d (token.Keyword keyword.Offer) line ts after q m sound r h =
-    offer_keeps s d (is_empty d.condition.below) line ts q h
-operator_keeps s d t line ts after q m sound r h = absurd (no_ok (misplaced line) q h)
-
--- ---- the whole
-
-mode_keeps : (s : AppShape) (d : Draft) (m : Mode) (p : Placed) (ts after : List Placed) (q :
-    Draft × List Placed) → d.mode ≡ m → IsSound d → IsRest after ts
-    → next_in s d m p ts after ≡ Ok q → Keeps ts q
-mode_keeps s d mode.Statement p ts after q m sound r h = statement_keeps s d p.token p.line ts
-    after q m r h
-mode_keeps s d mode.Fact p ts after q m sound r h = fact_keeps s d p.token p ts after q m sound r h
-mode_keeps s d mode.Operator p ts after q m sound r h = operator_keeps s d p.token p.line ts
-    after q m sound r h
-mode_keeps s d mode.Done p ts after q m sound r h = absurd (no_ok (misplaced p.line) q h)
-
-pub next_keeps : (s : AppShape) (d : Draft) (ts : List Placed) (q : Draft × List Placed)
-    → IsSound d → next s d ts ≡ Ok q → Keeps ts q
-unfolding next
-next_keeps s d [] q sound h = absurd (no_ok (misplaced 0) q h)
-next_keeps s d (p ∷ after) q sound h = mode_keeps s d d.mode p (p ∷ after) after q refl sound
-    (later all) h
-
--- ---- places among the tokens
-
-drop_placed : (n : ℕ) (ts : List (the_placed.Placed Bytes))
-    → placed_all (drop n ts) ≡ drop n (placed_all ts)
-drop_placed zero ts = refl
-drop_placed (suc n) [] = refl
-drop_placed (suc n) (t ∷ ts) = drop_placed n ts
-
-size_placed : (ts : List (the_placed.Placed Bytes)) → length (placed_all ts) ≡ length ts
-size_placed [] = refl
-size_placed (t ∷ ts) = ap suc (size_placed ts)
-
-rest_drop : (n : ℕ) (ts : List Placed) → IsRest (drop n ts) ts
-rest_drop zero ts = all
-rest_drop (suc n) [] = all
-rest_drop (suc n) (t ∷ ts) = later (rest_drop n ts)
-
-rest_of_rest : (a b c : List Placed) → IsRest a b → IsRest b c → IsRest a c
-rest_of_rest a b c r all = r
-rest_of_rest a b (t ∷ c) r (later q) = later (rest_of_rest a b c r q)
-
--- a phrase at a place, and the place behind it
-pub next_place : (s : AppShape) (d e : Draft) (tokens rest back : List (the_placed.Placed Bytes))
-    (place : ℕ) → IsSound d → rest ≡ drop place tokens
-    → next s d (placed_all rest) ≡ Ok (e, placed_all back)
-    → next s d (drop place (placed_all tokens)) ≡ Ok (
-      e,
-      drop (length tokens - length back)
-          (placed_all tokens),
-    )
-next_place s d e tokens rest back place sound is h =
-    let whole : placed_all rest ≡ drop place (placed_all tokens) = ap placed_all is
-    ∙ drop_placed place tokens in
-    let kept = next_keeps s d (placed_all rest) (e, placed_all back) sound h in
-    let inside : IsRest (placed_all rest) (placed_all tokens) = subst (λ (us : List Placed).
-    IsRest us (placed_all tokens)) (sym whole) (rest_drop place (placed_all tokens)) in
-    let tail = rest_is (placed_all back) (placed_all tokens) (rest_of_rest (placed_all back)
-    (placed_all rest) (placed_all tokens) kept.rest inside) in
-    let sizes : length (placed_all tokens) - length (placed_all back) ≡ length tokens - length
-    back = rw (size_placed tokens, size_placed back) refl in
-    sym (ap (next s d) whole) ∙ h
-    ∙ ap (λ (us : List Placed). Ok (e, us)) (sym tail
-    ∙ ap (λ (n : ℕ). drop n (placed_all tokens)) sizes)
-
-pub sound_next : (s : AppShape) (d e : Draft) (ts rest : List Placed) → IsSound d
-    → next s d ts ≡ Ok (e, rest) → IsSound e
-sound_next s d e ts rest sound h = (next_keeps s d ts (e, rest) sound h).sound
-
--- ---- how reading ends
-
-done_is : (m : Mode) → is_done m ≡ true → m ≡ mode.Done
-done_is mode.Done h = refl
-done_is mode.Statement h = cc
-done_is mode.Fact h = cc
-done_is mode.Operator h = cc
-
-pub ended_ok : (s : AppShape) (d : Draft) (ts : List Placed) → is_done d.mode ≡ true
-    → d.noted ≡ None → Reads s d ts (Ok d.statements)
-ended_ok s d ts done clean = subst (λ (o : Option RuleFault). Reads s d ts (verdict d o)) clean
-    (ended (done_is d.mode done))
-
-pub ended_err : (s : AppShape) (d : Draft) (ts : List Placed) (e : RuleFault)
-    → is_done d.mode ≡ true → d.noted ≡ Some e → Reads s d ts (Err e)
-ended_err s d ts e done noted = subst (λ (o : Option RuleFault). Reads s d ts (verdict d o))
-    noted (ended (done_is d.mode done))
-
-pub fault_read : (s : AppShape) (first d : Draft) (us ts : List Placed) (e : RuleFault)
-    → is_done d.mode ≡ false
-    → ((v : OrFault (List Statement)) → Reads s d ts v → Reads s first us v)
-    → (e ≡ Memory) ⊎ (next s d ts ≡ Err e) → (e ≡ Memory) ⊎ Reads s first us (Err e)
-fault_read s first d us ts e going so_far (inl m) = inl m
-fault_read s first d us ts e going so_far (inr h) = inr (so_far (Err e) (refused going h))

@@ -3,10 +3,13 @@ pub mod Lexing
 pub mod Digits
 pub mod Sounds
 pub mod Keeping
+pub mod OperatorsKept
+pub mod ReadOn
 pub mod Parsing
 pub mod Laws
 pub mod FittingParts
 pub mod Fitting
+pub mod PhraseFitting
 pub mod Machine
 pub mod StepsBack
 pub mod Completions
@@ -18,4 +21,5 @@ pub mod Noted
 pub mod Adds
 pub mod TestValues
 pub mod Values
+pub mod ConditionValues
 pub mod RuleValues

@@ -30,7 +30,8 @@ use Rattle.rule_lang.proofs.Noted.{Noted}
 use Rattle.rule_lang.proofs.Adds.{AddsCond}
 use Rattle.rule_lang.proofs.Machine.{tail}
 use Rattle.rule_lang.proofs.TestValues.{going_on, first_taken}
-use Rattle.rule_lang.proofs.Values.{IsAtCond, cond_reads}
+use Rattle.rule_lang.proofs.Values.{IsAtCond}
+use Rattle.rule_lang.proofs.ConditionValues.{cond_reads}
 
 -- ---- statements
 

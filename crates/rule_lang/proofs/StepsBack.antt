@@ -128,7 +128,8 @@ offered p ts is f =
 
 -- a test by its first word
 tested : (n : ℕ) (k : Keyword) (ws : List Want) (p : Placed) (ts : List Placed)
-    → p.token ≡ token.Keyword k → ((rest : List Placed) → g.IsPhrase (want.Keyword k ∷ ws) (p ∷ ts)
+    → p.token ≡ token.Keyword k
+    → ((rest : List Placed) → g.IsPhrase (want.Keyword k ∷ ws) (p ∷ ts)
     rest → g.IsTest (p ∷ ts) rest) → Completes (state ws (AtOperator n)) ts
     → IsFactAhead n (p ∷ ts)
 tested n k ws p ts is made h = record {

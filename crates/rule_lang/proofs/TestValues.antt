@@ -75,8 +75,10 @@ after_test d line o = in_mode mode.Operator (with_test line o d)
 -- a test by its first word
 word_next : (s : AppShape) (d : Draft) (k : Keyword) (ws : List Want) (p : Placed)
     (ts rest : List Placed) (o : Option (List Want)) (v : OrFault Test)
-    → ((t : Token) → t ≡ token.Keyword k → fact_next s d t p (p ∷ ts) ts ≡ test_next s d p.line o (p
-    ∷ ts)) → o ≡ Some (want.Keyword k ∷ ws) → test_by s (p ∷ ts) (token.Keyword k) (part (p ∷ ts)
+    → ((t : Token) → t ≡ token.Keyword k
+    → fact_next s d t p (p ∷ ts) ts ≡ test_next s d p.line o (p
+    ∷ ts)) → o ≡ Some (want.Keyword k ∷ ws)
+    → test_by s (p ∷ ts) (token.Keyword k) (part (p ∷ ts)
     1).token ≡ v → behind (want.Keyword k ∷ ws) (p ∷ ts) ≡ Ok rest
     → fact_next s d p.token p (p ∷ ts) ts ≡ Ok (after_test d p.line v, rest)
 word_next s d k ws p ts rest o v goes wants says h =

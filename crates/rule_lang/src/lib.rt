@@ -16,6 +16,7 @@ mod pending;
 mod phrase;
 mod reader;
 mod rule;
+mod statements;
 mod test;
 mod test_reader;
 mod token;

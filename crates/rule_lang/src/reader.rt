@@ -6,97 +6,26 @@ ghost use Rattle.rule_lang.specs.Named.{token_named, placed_named, placed_all, s
 ghost use Rattle.rule_lang.specs.Parts as parts;
 ghost use Rattle.rule_lang.specs.Parts.{out_of_range as out_of};
 ghost use Rattle.rule_lang.specs.Reader.Reading as reading;
-ghost use Rattle.rule_lang.specs.Says as says;
 ghost use Rattle.rule_lang.specs.Tests as tests;
 ghost use Rattle.rule_lang.specs.Reader.Advances.{Advances};
-ghost use Rattle.rule_lang.specs.Reader.Results.{IsFaultOf, IsReadFault, LeadsTo, Makes};
+ghost use Rattle.rule_lang.specs.Reader.Results.{IsReadFault, ReadsTo, Makes};
 ghost use Rattle.rule_lang.specs.Reader.Sound.{IsSound, IsSoundAfter};
 ghost use Rattle.rule_lang.specs.Trees.{IsCondition};
 
 use crate::condition::Step;
-use crate::draft::{Draft, Mode, add, add_when, expect, first_draft, note, note_if};
+use crate::draft::{Draft, Mode, add_when, expect, first_draft, note, note_if};
 use crate::fault::{RuleFault, RuleFaultKind};
-use crate::frame::Frames;
 use crate::keyword::Keyword;
 use crate::lexer::Placed;
-use crate::part::{array, index, out_of_range, part, release};
+use crate::part::{out_of_range, part, release};
 use crate::pending::{self, MOST_DEPTH};
-use crate::phrase::{COUNT, OFFER, OTHERWISE, behind, misplaced, test_phrase};
-use crate::rule::{Rule, Statement};
+use crate::phrase::{OFFER, behind, misplaced, test_phrase};
+use crate::rule::Rule;
+use crate::statements::read_statement;
 use crate::test_reader::test_of;
 use crate::token::Token;
-use cells::{ArrayName, Shape};
+use cells::Shape;
 use std::alloc::Global;
-
-fn count_of<'a>(
-    alloc: Global,
-    shape: &Shape,
-    tokens: &[Placed<&'a str>],
-) -> Result<Statement, RuleFault>
-    ensures statement { IfOk result (λ s. says.count_of shape.now (placed_all tokens.now) ≡ Ok
-        s) }
-    ensures fault { IfErr result (IsFaultOf (says.count_of shape.now (placed_all tokens.now))) }
-{
-    let array = array(shape, false, part(tokens, 1))?;
-    let index = index(array, part(tokens, 3))?;
-    let array = ArrayName::of(alloc, array.name.as_str())?;
-    Ok(Statement::Count { array, index })
-}
-
-// `count`.
-fn read_count<'a>(
-    alloc: Global,
-    shape: &Shape,
-    draft: &mut Draft,
-    tokens: &[Placed<&'a str>],
-) -> Result<(), RuleFault>
-    ensures { Makes result (draft_seen draft.new) (reading.counted (says.count_of shape.now
-        (placed_all tokens.now)) (draft_seen draft.old)) }
-{
-    match count_of(alloc, shape, tokens) {
-        Ok(statement) => Ok(add(draft, statement)?),
-        Err(RuleFault::Memory) => Err(RuleFault::Memory),
-        Err(fault) => {
-            note(draft, fault);
-            Ok(())
-        }
-    }
-}
-
-// One phrase where a statement may stand.
-fn read_statement<'t, 'a>(
-    alloc: Global,
-    shape: &Shape,
-    draft: &mut Draft,
-    first: Placed<&'a str>,
-    tokens: &'t [Placed<&'a str>],
-    after: &'t [Placed<&'a str>],
-) -> Result<&'t [Placed<&'a str>], RuleFault>
-    requires { length after.now < length tokens.now }
-    ensures next { LeadsTo result (draft_seen draft.new) (reading.statement_next shape.now
-        (draft_seen draft.old) (token_named first.entry.token) first.entry.line (placed_all
-        tokens.now) (placed_all after.now)) }
-    ensures shorter { IfOk result (λ rest. length rest.now < length tokens.now) }
-{
-    match first.token {
-        Token::Keyword(Keyword::Count) => {
-            let rest = behind(&COUNT, tokens)?;
-            read_count(alloc, shape, draft, tokens)?;
-            Ok(rest)
-        }
-        Token::Keyword(Keyword::When) => {
-            pending::begin(&mut draft.condition, Frames::new(alloc));
-            expect(draft, Mode::Fact);
-            Ok(after)
-        }
-        Token::Keyword(Keyword::Otherwise) => {
-            let rest = behind(&OTHERWISE, tokens)?;
-            expect(draft, Mode::Done);
-            Ok(rest)
-        }
-        _ => Err(misplaced(first)),
-    }
-}
 
 // `not` or `(`, of which 32 may be open.
 fn read_opener<'a>(draft: &mut Draft, first: Placed<&'a str>)
@@ -141,7 +70,7 @@ fn read_fact<'t, 'a>(
     after: &'t [Placed<&'a str>],
 ) -> Result<&'t [Placed<&'a str>], RuleFault>
     requires { length after.now < length tokens.now }
-    ensures next { LeadsTo result (draft_seen draft.new) (reading.fact_next shape.now (draft_seen
+    ensures next { ReadsTo result (draft_seen draft.new) (reading.fact_next shape.now (draft_seen
         draft.old) (token_named first.entry.token) (placed_named first.entry) (placed_all
         tokens.now) (placed_all after.now)) }
     ensures shorter { IfOk result (λ rest. length rest.now < length tokens.now) }
@@ -200,7 +129,7 @@ fn read_operator<'t, 'a>(
 ) -> Result<&'t [Placed<&'a str>], RuleFault>
     requires shorter { length after.now < length tokens.now }
     requires sound { draft.old.noted ≡ None → IsSoundAfter (seen draft.old.condition) }
-    ensures next { LeadsTo result (draft_seen draft.new) (reading.operator_next shape.now
+    ensures next { ReadsTo result (draft_seen draft.new) (reading.operator_next shape.now
         (draft_seen draft.old) (token_named first.entry.token) first.entry.line (placed_all
         tokens.now) (placed_all after.now)) }
     ensures shorter { IfOk result (λ rest. length rest.now < length tokens.now) }
@@ -245,7 +174,7 @@ fn read_next<'t, 'a>(
     tokens: &'t [Placed<&'a str>],
 ) -> Result<&'t [Placed<&'a str>], RuleFault>
     requires { IsSound (draft_seen draft.old) }
-    ensures next { LeadsTo result (draft_seen draft.new) (reading.next shape.now (draft_seen
+    ensures next { ReadsTo result (draft_seen draft.new) (reading.next shape.now (draft_seen
         draft.old) (placed_all tokens.now)) }
     ensures shorter { IfOk result (λ rest. length rest.now < length tokens.now) }
 {
@@ -264,7 +193,6 @@ fn read_next<'t, 'a>(
 }
 
 // One phrase at a place; it answers the place behind it.
-
 fn advance<'a>(
     alloc: Global,
     shape: &Shape,

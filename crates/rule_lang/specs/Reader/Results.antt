@@ -18,10 +18,10 @@ Makes (Ok x) new want = new ≡ want
 Makes (Err e) new want = e ≡ Memory
 
 -- the tokens behind a phrase, and what it makes of the rule so far
-abbrev pub LeadsTo : Result (Bor (List (the_placed.Placed (Bor (List ℕ))))) RuleFault → Draft
+abbrev pub ReadsTo : Result (Bor (List (the_placed.Placed (Bor (List ℕ))))) RuleFault → Draft
     → Next → Type 0
-LeadsTo (Ok rest) new next = next ≡ Ok (new, placed_all rest.now)
-LeadsTo (Err e) new next = (e ≡ Memory) ⊎ (next ≡ Err e)
+ReadsTo (Ok rest) new next = next ≡ Ok (new, placed_all rest.now)
+ReadsTo (Err e) new next = (e ≡ Memory) ⊎ (next ≡ Err e)
 
 -- the fault of tokens, or a refusal of memory
 abbrev pub IsReadFault : AppShape → List Placed → RuleFault → Type 0

@@ -8,7 +8,7 @@ use Rattle.rule_lang.specs.Reader.Results.{IsReadFault}
 use Rattle.rule_lang.specs.Verdicts.{IsVerdict, IsRuleFault, too_long}
 use Rattle.rule_lang.proofs.Laws.{spelled}
 use Rattle.rule_lang.specs.Fits.{fits}
-use Rattle.rule_lang.proofs.Fitting.{rule_fits}
+use Rattle.rule_lang.proofs.PhraseFitting.{rule_fits}
 use Rattle.rule_lang.proofs.Parsing.{token_fault, read_fault, ok_then, err_then}
 use Rattle.rule_lang.proofs.parser.parse.Goals as goal
 

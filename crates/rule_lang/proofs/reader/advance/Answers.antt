@@ -1,7 +1,7 @@
 use Rattle.std.proofs.Common.{rules, ◌≡◌, Ok}
 use Rattle.rule_lang.specs.Named.{draft_seen, placed_all}
 use Rattle.rule_lang.specs.Reader.Reading.{Next, next}
-use Rattle.rule_lang.proofs.Keeping.{next_place}
+use Rattle.rule_lang.proofs.ReadOn.{next_place}
 use Rattle.rule_lang.proofs.reader.advance.Goals as goal
 
 pub returns-clause-next : goal.returns-clause-next

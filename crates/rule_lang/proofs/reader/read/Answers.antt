@@ -4,7 +4,7 @@ use Rattle.rule_lang.specs.declared.fault.RuleFault.{RuleFault}
 use Rattle.rule_lang.specs.Named.{draft_seen, placed_all}
 use Rattle.rule_lang.specs.Reader.Reading.{Draft, Next, next, Reads, goes_on, first_draft, is_done}
 use Rattle.rule_lang.specs.Reader.Sound.{IsSound}
-use Rattle.rule_lang.proofs.Keeping.{sound_next, ended_ok, ended_err, fault_read}
+use Rattle.rule_lang.proofs.ReadOn.{sound_next, ended_ok, ended_err, fault_read}
 use Rattle.rule_lang.proofs.reader.read.Goals as goal
 
 pub loop-alloc-init : goal.loop-alloc-init
