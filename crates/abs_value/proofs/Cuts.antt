@@ -1,5 +1,5 @@
 -- What a class takes of a number is a number of the class, and the cut range holds it.
-use Rattle.std.proofs.Common.{ℕ, ◌%◌, ◌^◌, ◌<◌, ◌≤◌, arith}
+use Rattle.std.proofs.Common.{ℕ, ◌%◌, ◌^◌, ◌≤◌, arith}
 use mir.Val.{bits}
 use Rattle.bpf_insn.specs.declared.operand.Bits.{Bits}
 use Rattle.bpf_insn.specs.declared.operand.Bits.TheVariants.{Bits64, Bits32}
@@ -23,10 +23,6 @@ cut_holds Bits32 a x h = grind arith
 -- any number of the class
 pub full_holds : (w : Bits) (x : ℕ) → IsOf w x → Holds (full w) x
 full_holds w x h = (omega arith, h)
-
-pub below_modulus : (w : Bits) (x : ℕ) → IsOf w x → x < 2 ^ bits (word_width w)
-below_modulus Bits64 x h = omega arith
-below_modulus Bits32 x h = omega arith
 
 pub mod_is_of : (w : Bits) (x : ℕ) → IsOf w (x % 2 ^ bits (word_width w))
 mod_is_of Bits64 x = omega arith

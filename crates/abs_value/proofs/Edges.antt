@@ -1,4 +1,5 @@
--- An edge that a run takes isn't dropped, and the ranges that are left on it hold the numbers that were compared.
+-- An edge that a run takes isn't dropped, and the ranges that are left on it hold the numbers that
+-- were compared.
 use Rattle.std.proofs.Common.{◌≡◌, ◌≢◌, ℕ, ◌+◌, ◌-◌, ◌<◌, ◌≤◌, min, max, Option, Some, Bool, true, false, refl, sym, ◌∙◌, arith, inl, inr}
 use Rattle.std.specs.Prelude.{◌⊎◌, nat_lt, nat_le, int_lt, int_le, option_map}
 use Rattle.std.specs.Int.{w32, w64, cast_signed}
@@ -38,12 +39,22 @@ IsRelated Unknown x y = Unit {0}
 at_most_keeps : (a b : Number) (x y : ℕ) → Holds a x → Holds b y → x ≤ y → Keeps (at_most a b) x y
 at_most_keeps a b x y h k le =
     let test : nat_le a.lo b.hi ≡ true = grind arith in
-    record { pair = (number a.lo (min a.hi b.hi), number (max a.lo b.lo) b.hi); is = rw test refl; first = (omega arith, omega arith); second = (omega arith, omega arith) }
+    record {
+      pair = (number a.lo (min a.hi b.hi), number (max a.lo b.lo) b.hi);
+      is = rw test refl;
+      first = (omega arith, omega arith);
+      second = (omega arith, omega arith);
+    }
 
 below_keeps : (a b : Number) (x y : ℕ) → Holds a x → Holds b y → x < y → Keeps (below a b) x y
 below_keeps a b x y h k lt =
     let test : nat_lt a.lo b.hi ≡ true = grind arith in
-    record { pair = (number a.lo (min a.hi (b.hi - 1)), number (max (a.lo + 1) b.lo) b.hi); is = rw test refl; first = (omega arith, omega arith); second = (omega arith, omega arith) }
+    record {
+      pair = (number a.lo (min a.hi (b.hi - 1)), number (max (a.lo + 1) b.lo) b.hi);
+      is = rw test refl;
+      first = (omega arith, omega arith);
+      second = (omega arith, omega arith);
+    }
 
 equal_keeps : (a b : Number) (x y : ℕ) → Holds a x → Holds b y → x ≡ y → Keeps (equal a b) x y
 equal_keeps a b x y h k same =
@@ -65,33 +76,44 @@ apart_holds b a y x k h apart = elim (cases_Bool (is_single b)) [
 ]
 
 swapped_keeps : (o : Option Pair) (x y : ℕ) → Keeps o y x → Keeps (option_map swapped o) x y
-swapped_keeps o x y k = record { pair = (k.pair.1, k.pair.0); is = rw k.is refl; first = k.second; second = k.first }
+swapped_keeps o x y k =
+    record { pair = (k.pair.1, k.pair.0); is = rw k.is refl; first = k.second; second = k.first }
 
-left_by_keeps : (r : Relation) (a b : Number) (x y : ℕ) → Holds a x → Holds b y → IsRelated r x y → Keeps (left_by r a b) x y
+left_by_keeps : (r : Relation) (a b : Number) (x y : ℕ) → Holds a x → Holds b y → IsRelated r x y
+    → Keeps (left_by r a b) x y
 left_by_keeps Equal a b x y h k is = equal_keeps a b x y h k is
-left_by_keeps Unequal a b x y h k is = record { pair = (apart_from b a, apart_from a b); is = refl; first = apart_holds b a y x k h is; second = apart_holds a b x y h k (λ e. is (sym e)) }
+left_by_keeps Unequal a b x y h k is = record {
+  pair = (apart_from b a, apart_from a b);
+  is = refl;
+  first = apart_holds b a y x k h is;
+  second = apart_holds a b x y h k (λ e. is (sym e));
+}
 left_by_keeps Less a b x y h k is = below_keeps a b x y h k is
 left_by_keeps AtMost a b x y h k is = at_most_keeps a b x y h k is
 left_by_keeps More a b x y h k is = swapped_keeps (below b a) x y (below_keeps b a y x k h is)
-left_by_keeps AtLeast a b x y h k is = swapped_keeps (at_most b a) x y (at_most_keeps b a y x k h is)
+left_by_keeps AtLeast a b x y h k is =
+    swapped_keeps (at_most b a) x y (at_most_keeps b a y x k h is)
 left_by_keeps Unknown a b x y h k is = record { pair = (a, b); is = refl; first = h; second = k }
 
 -- ---- what an edge tells
 
 -- on one side of the sign bit
 abbrev pub OnOneSide : Bits → ℕ → ℕ → Type 0
-OnOneSide w x y = ((x < sign_bit w) × (y < sign_bit w)) ⊎ ((sign_bit w ≤ x) × (x ≤ greatest w) × (sign_bit w ≤ y) × (y ≤ greatest w))
+OnOneSide w x y = ((x < sign_bit w) × (y < sign_bit w))
+    ⊎ ((sign_bit w ≤ x) × (x ≤ greatest w) × (sign_bit w ≤ y) × (y ≤ greatest w))
 
 abbrev pub IsSided : Bits → Condition → ℕ → ℕ → Type 0
 IsSided w c x y = is_signed c ≡ true → OnOneSide w x y
 
-signed_lt : (w : Bits) (x y : ℕ) → OnOneSide w x y → int_lt (cast_signed (word_width w) x) (cast_signed (word_width w) y) ≡ nat_lt x y
+signed_lt : (w : Bits) (x y : ℕ) → OnOneSide w x y
+    → int_lt (cast_signed (word_width w) x) (cast_signed (word_width w) y) ≡ nat_lt x y
 signed_lt Bits64 x y (inl h) = rw (to_z_pos w64 x h.0, to_z_pos w64 y h.1) refl
 signed_lt Bits32 x y (inl h) = rw (to_z_pos w32 x h.0, to_z_pos w32 y h.1) refl
 signed_lt Bits64 x y (inr h) = grind arith
 signed_lt Bits32 x y (inr h) = grind arith
 
-signed_le : (w : Bits) (x y : ℕ) → OnOneSide w x y → int_le (cast_signed (word_width w) x) (cast_signed (word_width w) y) ≡ nat_le x y
+signed_le : (w : Bits) (x y : ℕ) → OnOneSide w x y
+    → int_le (cast_signed (word_width w) x) (cast_signed (word_width w) y) ≡ nat_le x y
 signed_le Bits64 x y (inl h) = rw (to_z_pos w64 x h.0, to_z_pos w64 y h.1) refl
 signed_le Bits32 x y (inl h) = rw (to_z_pos w32 x h.0, to_z_pos w32 y h.1) refl
 signed_le Bits64 x y (inr h) = grind arith
@@ -101,7 +123,8 @@ turned : (w : Bits) (x y : ℕ) → OnOneSide w x y → OnOneSide w y x
 turned w x y (inl h) = inl (h.1, h.0)
 turned w x y (inr h) = inr (h.2, h.3, h.0, h.1)
 
-true_related : (w : Bits) (c : Condition) (x y : ℕ) → IsSided w c x y → compares (word_width w) c x y ≡ true → IsRelated (relation c) x y
+true_related : (w : Bits) (c : Condition) (x y : ℕ)
+    → IsSided w c x y → compares (word_width w) c x y ≡ true → IsRelated (relation c) x y
 true_related w jump.Eq x y s t = grind arith
 true_related w jump.Ne x y s t = λ e. grind arith
 true_related w jump.Lt x y s t = ltb-true x y t
@@ -114,7 +137,8 @@ true_related w jump.Sgt x y s t = ltb-true y x (sym (signed_lt w y x (turned w x
 true_related w jump.Sge x y s t = leb-true y x (sym (signed_le w y x (turned w x y (s refl))) ∙ t)
 true_related w jump.Set x y s t = tt
 
-false_related : (w : Bits) (c : Condition) (x y : ℕ) → IsSided w c x y → compares (word_width w) c x y ≡ false → IsRelated (opposite (relation c)) x y
+false_related : (w : Bits) (c : Condition) (x y : ℕ) → IsSided w c x y
+    → compares (word_width w) c x y ≡ false → IsRelated (opposite (relation c)) x y
 false_related w jump.Eq x y s t = λ e. grind arith
 false_related w jump.Ne x y s t = grind arith
 false_related w jump.Lt x y s t = ltb-false x y t
@@ -127,29 +151,36 @@ false_related w jump.Sgt x y s t = ltb-false y x (sym (signed_lt w y x (turned w
 false_related w jump.Sge x y s t = leb-false y x (sym (signed_le w y x (turned w x y (s refl))) ∙ t)
 false_related w jump.Set x y s t = tt
 
-taken_related : (w : Bits) (c : Condition) (jumps : Bool) (x y : ℕ) → IsSided w c x y → is_taken jumps (compares (word_width w) c x y) ≡ true → IsRelated (learnt c jumps) x y
+taken_related : (w : Bits) (c : Condition) (jumps : Bool) (x y : ℕ) → IsSided w c x y
+    → is_taken jumps (compares (word_width w) c x y) ≡ true → IsRelated (learnt c jumps) x y
 taken_related w c true x y s t = true_related w c x y s t
-taken_related w c false x y s t = false_related w c x y s (not-true (compares (word_width w) c x y) t)
+taken_related w c false x y s t =
+    false_related w c x y s (not-true (compares (word_width w) c x y) t)
 
 -- ---- where the ranges are comparable
 
-sided : (w : Bits) (c : Condition) (a b : Number) (x y : ℕ) → Holds a x → Holds b y → is_comparable w c a b ≡ true → IsSided w c x y
+sided : (w : Bits) (c : Condition) (a b : Number) (x y : ℕ)
+    → Holds a x → Holds b y → is_comparable w c a b ≡ true → IsSided w c x y
 sided w c a b x y h k t s = grind arith
 
 same_word : (w : Bits) (x : ℕ) → x ≤ greatest w → word w x ≡ x
 same_word Bits64 x h = refl
 same_word Bits32 x h = omega arith
 
-comparable_keeps : (w : Bits) (c : Condition) (jumps : Bool) (a b : Number) (x y : ℕ) → Holds a x → Holds b y → is_comparable w c a b ≡ true → is_taken jumps (holds w c x y) ≡ true → Keeps (left_by (learnt c jumps) a b) x y
+comparable_keeps : (w : Bits) (c : Condition) (jumps : Bool) (a b : Number) (x y : ℕ)
+    → Holds a x → Holds b y → is_comparable w c a b ≡ true → is_taken jumps (holds w c x y) ≡ true
+    → Keeps (left_by (learnt c jumps) a b) x y
 comparable_keeps w c jumps a b x y h k t taken =
     let first : x ≤ greatest w = grind arith in
     let second : y ≤ greatest w = grind arith in
     let one : word w x ≡ x = same_word w x first in
     let two : word w y ≡ y = same_word w y second in
     let there : is_taken jumps (compares (word_width w) c x y) ≡ true = rw (one, two) at taken in
-    left_by_keeps (learnt c jumps) a b x y h k (taken_related w c jumps x y (sided w c a b x y h k t) there)
+    left_by_keeps (learnt c jumps) a b x y h k
+    (taken_related w c jumps x y (sided w c a b x y h k t) there)
 
-pub narrowed_keeps : (w : Bits) (c : Condition) (jumps : Bool) (a b : Number) (x y : ℕ) → Holds a x → Holds b y → is_taken jumps (holds w c x y) ≡ true → Keeps (narrowed w c jumps a b) x y
+pub narrowed_keeps : (w : Bits) (c : Condition) (jumps : Bool) (a b : Number) (x y : ℕ) → Holds a x
+    → Holds b y → is_taken jumps (holds w c x y) ≡ true → Keeps (narrowed w c jumps a b) x y
 narrowed_keeps w c jumps a b x y h k taken = elim (cases_Bool (are_single a b)) [
   | inl is ↦
       let first : a.lo ≡ x = grind (arith, h, is) in

@@ -38,7 +38,8 @@ use Rattle.abs_value.proofs.Moves.{context_in_order}
 -- ---- arithmetic
 
 -- one of two ranges
-chosen : (b : Bool) (one other : Number) → IsRange one → IsRange other → IsRange (if b then one else other)
+chosen : (b : Bool) (one other : Number) → IsRange one → IsRange other
+    → IsRange (if b then one else other)
 chosen true one other h k = h
 chosen false one other h k = k
 
@@ -55,23 +56,33 @@ cut_range Bits32 a h = grind arith
 right_range : (a : Number) (count : ℕ) → IsRange a → IsRange (shifted_right a count)
 right_range a count h = (shifted_right_holds a count a.hi (h, omega arith)).0
 
-bounds_range : (w : Bits) (op : AluOp) (a b : Number) → IsRange a → IsRange b → IsRange (bounds w op a b)
+bounds_range : (w : Bits) (op : AluOp) (a b : Number) → IsRange a → IsRange b
+    → IsRange (bounds w op a b)
 bounds_range w Add a b h k = fitting_range w (a.lo + b.lo) (a.hi + b.hi) (omega (arith, h, k))
 bounds_range w Sub a b h k = grind arith
 bounds_range w Or a b h k = omega arith
 bounds_range w And a b h k = omega arith
-bounds_range w Lsh a b h k = chosen (is_single b) (shifted_left w a (b.lo % bits (word_width w))) (full w) (fitting_range w (a.lo * 2 ^ (b.lo % bits (word_width w))) (a.hi * 2 ^ (b.lo % bits (word_width w))) (mul-le-mul_right (2 ^ (b.lo % bits (word_width w))) h)) (full_range w)
-bounds_range w Rsh a b h k = chosen (is_single b) (shifted_right a (b.lo % bits (word_width w))) (full w) (right_range a (b.lo % bits (word_width w)) h) (full_range w)
+bounds_range w Lsh a b h k =
+    chosen (is_single b) (shifted_left w a (b.lo % bits (word_width w))) (full w) (fitting_range w
+    (a.lo * 2 ^ (b.lo % bits (word_width w))) (a.hi * 2 ^ (b.lo % bits (word_width w)))
+    (mul-le-mul_right (2 ^ (b.lo % bits (word_width w))) h)) (full_range w)
+bounds_range w Rsh a b h k = chosen (is_single b) (shifted_right a (b.lo % bits (word_width w)))
+    (full w) (right_range a (b.lo % bits (word_width w)) h) (full_range w)
 bounds_range w Xor a b h k = omega arith
-bounds_range w Arsh a b h k = chosen (is_single b) (shifted_signed w a (b.lo % bits (word_width w))) (full w) (chosen (nat_lt a.hi (sign_bit w)) (shifted_right a (b.lo % bits (word_width w))) (full w) (right_range a (b.lo % bits (word_width w)) h) (full_range w)) (full_range w)
+bounds_range w Arsh a b h k = chosen (is_single b) (shifted_signed w a (b.lo % bits (word_width w)))
+    (full w) (chosen (nat_lt a.hi (sign_bit w)) (shifted_right a (b.lo % bits (word_width w)))
+    (full w) (right_range a (b.lo % bits (word_width w)) h) (full_range w)) (full_range w)
 
-pub alu_range : (w : Bits) (op : AluOp) (a b : Number) → IsRange a → IsRange b → IsRange (alu_number w op a b)
+pub alu_range : (w : Bits) (op : AluOp) (a b : Number) → IsRange a → IsRange b
+    → IsRange (alu_number w op a b)
 alu_range w op a b h k = elim (cases_Bool (are_single a b)) [
   | inl is ↦ rw is (omega arith)
   | inr is ↦ rw is (bounds_range w op (cut w a) (cut w b) (cut_range w a h) (cut_range w b k))
 ]
 
-pointer_inhabited : (op : AluOp) (from : Places) (by : Number) (o : Option Places) → moved_in_context op from by ≡ o → from.lo ≤ from.hi → IsRange by → IsInhabited (or_unusable (option_map Ctx o))
+pointer_inhabited : (op : AluOp) (from : Places) (by : Number) (o : Option Places)
+    → moved_in_context op from by ≡ o → from.lo ≤ from.hi → IsRange by
+    → IsInhabited (or_unusable (option_map Ctx o))
 pointer_inhabited op from by None e h k = tt
 pointer_inhabited op from by (Some r) e h k = context_in_order op from r by e h k
 
@@ -79,9 +90,11 @@ stack_inhabited : (o : Option ℕ) → IsInhabited (or_unusable (option_map Stk 
 stack_inhabited None = tt
 stack_inhabited (Some n) = tt
 
-pub alu_inhabited : (w : Bits) (op : AluOp) (a b : Abs) → IsInhabited a → IsInhabited b → IsInhabited (alu_value w op a b)
+pub alu_inhabited : (w : Bits) (op : AluOp) (a b : Abs) → IsInhabited a → IsInhabited b
+    → IsInhabited (alu_value w op a b)
 alu_inhabited w op (Num a) (Num b) h k = alu_range w op a b h k
-alu_inhabited Bits64 op (Ctx from) (Num by) h k = pointer_inhabited op from by (moved_in_context op from by) refl h k
+alu_inhabited Bits64 op (Ctx from) (Num by) h k =
+    pointer_inhabited op from by (moved_in_context op from by) refl h k
 alu_inhabited Bits64 op (Stk place) (Num by) h k = stack_inhabited (moved_in_stack op place by)
 alu_inhabited Bits64 op a b h k = tt
 alu_inhabited Bits32 op a b h k = tt
@@ -92,11 +105,14 @@ copied_inhabited Bits64 a h = h
 copied_inhabited Bits32 a h = tt
 
 pub extended_inhabited : (e : Extension) (a : Abs) → IsInhabited (extended_value e a)
-extended_inhabited e (Num a) = chosen (is_single a) (single (extended e a.lo)) (full (extension_class e)) (omega arith) (full_range (extension_class e))
+extended_inhabited e (Num a) = chosen (is_single a) (single (extended e a.lo))
+    (full (extension_class e)) (omega arith) (full_range (extension_class e))
 extended_inhabited e a = tt
 
-pub reordered_inhabited : (o : ByteOrder) (size : EndSize) (a : Abs) → IsInhabited (reordered_value o size a)
-reordered_inhabited o size (Num a) = chosen (is_single a) (single (reordered o size a.lo)) (up_to (2 ^ bits (end_width size) - 1)) (omega arith) (omega arith)
+pub reordered_inhabited : (o : ByteOrder) (size : EndSize) (a : Abs)
+    → IsInhabited (reordered_value o size a)
+reordered_inhabited o size (Num a) = chosen (is_single a) (single (reordered o size a.lo))
+    (up_to (2 ^ bits (end_width size) - 1)) (omega arith) (omega arith)
 reordered_inhabited o size a = tt
 
 pub loaded_inhabited : (kind : LoadKind) → IsInhabited (loaded_value kind)
@@ -119,13 +135,17 @@ answer_inhabited : (lookup : Lookup) (found : Bool) → IsInhabited (answer_of l
 answer_inhabited lookup true = tt
 answer_inhabited lookup false = omega arith
 
-chosen_inhabited : (b : Bool) (v w : Abs) → IsInhabited v → IsInhabited w → IsInhabited (if b then v else w)
+chosen_inhabited : (b : Bool) (v w : Abs) → IsInhabited v → IsInhabited w
+    → IsInhabited (if b then v else w)
 chosen_inhabited true v w h k = h
 chosen_inhabited false v w h k = k
 
-pub with_answer_inhabited : (call : ℕ) (found : Bool) (v : Abs) → IsInhabited v → IsInhabited (with_answer call found v)
-with_answer_inhabited call found (MayCell lookup) h = chosen_inhabited (lookup.slot == call) (answer_of lookup found) (MayCell lookup) (answer_inhabited lookup found) h
-with_answer_inhabited call found (Cell (Found lookup)) h = chosen_inhabited (lookup.slot == call) (answer_of lookup found) (Cell (Found lookup)) (answer_inhabited lookup found) h
+pub with_answer_inhabited : (call : ℕ) (found : Bool) (v : Abs) → IsInhabited v
+    → IsInhabited (with_answer call found v)
+with_answer_inhabited call found (MayCell lookup) h = chosen_inhabited (lookup.slot == call)
+    (answer_of lookup found) (MayCell lookup) (answer_inhabited lookup found) h
+with_answer_inhabited call found (Cell (Found lookup)) h = chosen_inhabited (lookup.slot == call)
+    (answer_of lookup found) (Cell (Found lookup)) (answer_inhabited lookup found) h
 with_answer_inhabited call found v h = h
 
 lookup_inhabited : (slot : ℕ) (v : Abs) → IsInhabited (lookup_value slot v)
@@ -185,23 +205,30 @@ left_by_ranges More a b h k = swapped_ranges (below b a) (below_ranges b a k h)
 left_by_ranges AtLeast a b h k = swapped_ranges (at_most b a) (at_most_ranges b a k h)
 left_by_ranges Unknown a b h k = (h, k)
 
-chosen_ranges : (b : Bool) (one other : Option Pair) → AreRanges one → AreRanges other → AreRanges (if b then one else other)
+chosen_ranges : (b : Bool) (one other : Option Pair) → AreRanges one → AreRanges other
+    → AreRanges (if b then one else other)
 chosen_ranges true one other h k = h
 chosen_ranges false one other h k = k
 
-narrowed_ranges : (w : Bits) (c : Condition) (jumps : Bool) (a b : Number) → IsRange a → IsRange b → AreRanges (narrowed w c jumps a b)
+narrowed_ranges : (w : Bits) (c : Condition) (jumps : Bool) (a b : Number) → IsRange a → IsRange b
+    → AreRanges (narrowed w c jumps a b)
 unfolding AreRanges
 narrowed_ranges w c jumps a b h k =
     let comparable = left_by (learnt c jumps) a b in
-    chosen_ranges (are_single a b) (if is_taken jumps (holds w c a.lo b.lo) then Some (a, b) else None) (if is_comparable w c a b then comparable else Some (a, b))
+    chosen_ranges (are_single a b)
+    (if is_taken jumps (holds w c a.lo b.lo) then Some (a, b) else None)
+    (if is_comparable w c a b then comparable else Some (a, b))
     (chosen_ranges (is_taken jumps (holds w c a.lo b.lo)) (Some (a, b)) None (h, k) tt)
-    (chosen_ranges (is_comparable w c a b) comparable (Some (a, b)) (left_by_ranges (learnt c jumps) a b h k) (h, k))
+    (chosen_ranges (is_comparable w c a b) comparable (Some (a, b))
+    (left_by_ranges (learnt c jumps) a b h k) (h, k))
 
 numbers_inhabited : (o : Option Pair) → AreRanges o → AreInhabited (option_map numbers o)
 unfolding AreRanges
 numbers_inhabited None h = tt
 numbers_inhabited (Some p) h = h
 
-pub refined_inhabited : (w : Bits) (c : Condition) (jumps : Bool) (a b : Abs) → IsInhabited a → IsInhabited b → AreInhabited (refined w c jumps a b)
-refined_inhabited w c jumps (Num a) (Num b) h k = numbers_inhabited (narrowed w c jumps a b) (narrowed_ranges w c jumps a b h k)
+pub refined_inhabited : (w : Bits) (c : Condition) (jumps : Bool) (a b : Abs)
+    → IsInhabited a → IsInhabited b → AreInhabited (refined w c jumps a b)
+refined_inhabited w c jumps (Num a) (Num b) h k =
+    numbers_inhabited (narrowed w c jumps a b) (narrowed_ranges w c jumps a b h k)
 refined_inhabited w c jumps a b h k = (h, k)

@@ -8,6 +8,7 @@ mod Computes
 mod Slots
 mod Writes
 mod Known
+mod KnownEdges
 mod Calls
 mod Stores
 mod Loads

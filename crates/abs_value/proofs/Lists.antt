@@ -15,7 +15,8 @@ pub set_at : (X : Type 0) (xs : List X) (i : ℕ) (v d : X) (j : ℕ) → SetAt 
 set_at X xs i v d j = elim (cases_eq j i) [
   | inl same ↦ elim (cases_lt i (length xs)) [
     | inl lt ↦ here same (get_or-set_at xs i j v d same lt)
-    | inr le ↦ past (ap (λ (l : List X). get_or l j d) (set_past xs i v le) ∙ get_or_past xs j d (omega (arith, same, le)))
+    | inr le ↦ past (ap (λ (l : List X). get_or l j d) (set_past xs i v le)
+        ∙ get_or_past xs j d (omega (arith, same, le)))
   ]
   | inr apart ↦ other apart (get_or-set_other xs i j v d apart)
 ]
@@ -26,10 +27,15 @@ set_at X xs i v d j = elim (cases_eq j i) [
 abbrev pub IsMapped : {X : Type 0} → (X → X) → List X → ℕ → List X → Type 0
 IsMapped f old i new = new ≡ map f (take i old) ++ drop i old
 
-mapped_length : {X : Type 0} (f : X → X) (xs ys : List X) (i : ℕ) → IsMapped f xs i ys → length ys ≡ length xs
-mapped_length f xs ys i h = ap length h ∙ length-append (map f (take i xs)) (drop i xs) ∙ ap (λ n. n + length (drop i xs)) (length-map (take i xs) f) ∙ sym (length-append (take i xs) (drop i xs)) ∙ ap length (take-append-drop i xs)
+mapped_length : {X : Type 0} (f : X → X) (xs ys : List X) (i : ℕ) → IsMapped f xs i ys
+    → length ys ≡ length xs
+mapped_length f xs ys i h = ap length h ∙ length-append (map f (take i xs)) (drop i xs)
+    ∙ ap (λ n. n + length (drop i xs)) (length-map (take i xs) f)
+    ∙ sym (length-append (take i xs) (drop i xs)) ∙ ap length (take-append-drop i xs)
 
-pub mapped_more : {X : Type 0} (f : X → X) (xs ys : List X) (i : ℕ) (v d : X) → i < length xs → IsMapped f xs i ys → v ≡ f (get_or ys i d) → IsMapped f xs (i + 1) (set ys i v)
+pub mapped_more : {X : Type 0} (f : X → X) (xs ys : List X) (i : ℕ) (v d : X) → i < length xs
+    → IsMapped f xs i ys → v ≡ f (get_or ys i d) → IsMapped f xs (i + 1) (set ys i v)
 mapped_more f xs ys i v d lt h e =
     let long = mapped_length f xs ys i h in
-    ap (λ w. set ys i w) e ∙ map_over_more f xs ys i (get_or ys i d) lt h (get_or_default ys i d (get_or ys i d) (omega (arith, long, lt)))
+    ap (λ w. set ys i w) e ∙ map_over_more f xs ys i (get_or ys i d) lt h
+    (get_or_default ys i d (get_or ys i d) (omega (arith, long, lt)))

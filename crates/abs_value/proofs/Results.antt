@@ -1,5 +1,5 @@
 -- What the machine computes of the numbers of two ranges lies in the range that is computed.
-use Rattle.std.proofs.Common.{◌≡◌, ℕ, ◌+◌, ◌*◌, ◌%◌, ◌^◌, true, subst, arith, inl, inr}
+use Rattle.std.proofs.Common.{◌≡◌, ℕ, ◌+◌, ◌*◌, ◌%◌, ◌^◌, subst, arith, inl, inr}
 use Rattle.std.specs.Prelude.{if◌then◌else◌}
 use mir.Val.{bits}
 use Rattle.std.proofs.lemmas.Bool.{cases_Bool}
@@ -17,7 +17,8 @@ use Rattle.abs_value.specs.Covers.{Holds, IsWord}
 use Rattle.abs_value.proofs.Cuts.{IsOf, word_is_of, cut_holds, full_holds, mod_is_of}
 use Rattle.abs_value.proofs.ShiftedRanges.{fitting_holds, shifted_left_holds, shifted_right_holds, shifted_signed_holds, arsh_is_of, disjunction_holds}
 
-difference_holds : (w : Bits) (a b : Number) (x y : ℕ) → Holds a x → Holds b y → IsOf w x → IsOf w y → Holds (difference w a b) (arithmetic (word_width w) Sub x y)
+difference_holds : (w : Bits) (a b : Number) (x y : ℕ) → Holds a x → Holds b y → IsOf w x → IsOf w y
+    → Holds (difference w a b) (arithmetic (word_width w) Sub x y)
 difference_holds Bits64 a b x y h k fits fits2 = grind arith
 difference_holds Bits32 a b x y h k fits fits2 = grind arith
 
@@ -26,42 +27,55 @@ word_of Bits64 x h = omega arith
 word_of Bits32 x h = omega arith
 
 -- by a single count, or by any
-by_count : (b : Number) (y z : ℕ) (one other : Number) → Holds b y → (b.lo ≡ y → Holds one z) → Holds other z → Holds (if is_single b then one else other) z
+by_count : (b : Number) (y z : ℕ) (one other : Number) → Holds b y → (b.lo ≡ y → Holds one z)
+    → Holds other z → Holds (if is_single b then one else other) z
 by_count b y z one other h first second = elim (cases_Bool (is_single b)) [
   | inl is ↦ let e : b.lo ≡ y = grind (arith, h, is) in rw is (first e)
   | inr is ↦ rw is second
 ]
 
-bounds_hold : (w : Bits) (op : AluOp) (a b : Number) (x y : ℕ) → Holds a x → Holds b y → IsOf w x → IsOf w y → Holds (bounds w op a b) (arithmetic (word_width w) op x y)
-bounds_hold w Add a b x y h k fx fy = fitting_holds w (a.lo + b.lo) (a.hi + b.hi) (x + y) (omega (arith, h.0, k.0)) (omega (arith, h.1, k.1))
+bounds_hold : (w : Bits) (op : AluOp) (a b : Number) (x y : ℕ) → Holds a x → Holds b y → IsOf w x
+    → IsOf w y → Holds (bounds w op a b) (arithmetic (word_width w) op x y)
+bounds_hold w Add a b x y h k fx fy = fitting_holds w (a.lo + b.lo) (a.hi + b.hi) (x + y)
+    (omega (arith, h.0, k.0)) (omega (arith, h.1, k.1))
 bounds_hold w Sub a b x y h k fx fy = difference_holds w a b x y h k fx fy
-bounds_hold w Or a b x y h k fx fy = disjunction_holds a b x y (arithmetic (word_width w) Or x y) h k (word_of w x fx) (word_of w y fy) (λ n p q. or_lt n x y p q)
+bounds_hold w Or a b x y h k fx fy = disjunction_holds a b x y (arithmetic (word_width w) Or x y) h
+    k (word_of w x fx) (word_of w y fy) (λ n p q. or_lt n x y p q)
 bounds_hold w And a b x y h k fx fy = grind (arith, and_le_l, and_le_r)
 bounds_hold w Lsh a b x y h k fx fy =
-    by_count b y ((x * 2 ^ (y % bits (word_width w))) % 2 ^ bits (word_width w)) (shifted_left w a (b.lo % bits (word_width w))) (full w) k
-    (λ e. subst (λ (n : ℕ). Holds (shifted_left w a (b.lo % bits (word_width w))) ((x * 2 ^ (n % bits (word_width w))) % 2 ^ bits (word_width w))) e
+    by_count b y ((x * 2 ^ (y % bits (word_width w))) % 2 ^ bits (word_width w))
+    (shifted_left w a (b.lo % bits (word_width w))) (full w) k
+    (λ e. subst (λ (n : ℕ). Holds (shifted_left w a (b.lo % bits (word_width w)))
+    ((x * 2 ^ (n % bits (word_width w))) % 2 ^ bits (word_width w))) e
     (shifted_left_holds w a (b.lo % bits (word_width w)) x h))
-    (full_holds w ((x * 2 ^ (y % bits (word_width w))) % 2 ^ bits (word_width w)) (mod_is_of w (x * 2 ^ (y % bits (word_width w)))))
+    (full_holds w ((x * 2 ^ (y % bits (word_width w))) % 2 ^ bits (word_width w))
+    (mod_is_of w (x * 2 ^ (y % bits (word_width w)))))
 bounds_hold w Rsh a b x y h k fx fy =
-    by_count b y (arithmetic (word_width w) Rsh x y) (shifted_right a (b.lo % bits (word_width w))) (full w) k
-    (λ e. subst (λ (n : ℕ). Holds (shifted_right a (b.lo % bits (word_width w))) (arithmetic (word_width w) Rsh x n)) e
+    by_count b y (arithmetic (word_width w) Rsh x y)
+    (shifted_right a (b.lo % bits (word_width w))) (full w) k
+    (λ e. subst (λ (n : ℕ).
+    Holds (shifted_right a (b.lo % bits (word_width w))) (arithmetic (word_width w) Rsh x n)) e
     (shifted_right_holds a (b.lo % bits (word_width w)) x h))
-    (let part = shr_le x (y % bits (word_width w)) in full_holds w (arithmetic (word_width w) Rsh x y) (omega (arith, part, fx)))
-bounds_hold w Xor a b x y h k fx fy = disjunction_holds a b x y (arithmetic (word_width w) Xor x y) h k (word_of w x fx) (word_of w y fy) (λ n p q. xor_lt n x y p q)
+    (let part = shr_le x (y % bits (word_width w)) in
+    full_holds w (arithmetic (word_width w) Rsh x y) (omega (arith, part, fx)))
+bounds_hold w Xor a b x y h k fx fy = disjunction_holds a b x y (arithmetic (word_width w) Xor x y)
+    h k (word_of w x fx) (word_of w y fy) (λ n p q. xor_lt n x y p q)
 bounds_hold w Arsh a b x y h k fx fy =
-    by_count b y (arithmetic (word_width w) Arsh x y) (shifted_signed w a (b.lo % bits (word_width w))) (full w) k
-    (λ e. subst (λ (n : ℕ). Holds (shifted_signed w a (b.lo % bits (word_width w))) (arithmetic (word_width w) Arsh x n)) e
+    by_count b y (arithmetic (word_width w) Arsh x y)
+    (shifted_signed w a (b.lo % bits (word_width w))) (full w) k
+    (λ e. subst (λ (n : ℕ).
+    Holds (shifted_signed w a (b.lo % bits (word_width w))) (arithmetic (word_width w) Arsh x n)) e
     (shifted_signed_holds w a (b.lo % bits (word_width w)) x h fx))
-    (full_holds w (arithmetic (word_width w) Arsh x y) (arsh_is_of w x (y % bits (word_width w)) fx))
+    (full_holds w (arithmetic (word_width w) Arsh x y)
+    (arsh_is_of w x (y % bits (word_width w)) fx))
 
-single_is : (a : Number) (x : ℕ) → is_single a ≡ true → Holds a x → a.lo ≡ x
-single_is a x is h = grind (arith, h, is)
-
-pub alu_number_holds : (w : Bits) (op : AluOp) (a b : Number) (x y : ℕ) → IsWord x → IsWord y → Holds a x → Holds b y → Holds (alu_number w op a b) (alu_result w op x y)
+pub alu_number_holds : (w : Bits) (op : AluOp) (a b : Number) (x y : ℕ) → IsWord x → IsWord y
+    → Holds a x → Holds b y → Holds (alu_number w op a b) (alu_result w op x y)
 alu_number_holds w op a b x y wx wy h k = elim (cases_Bool (are_single a b)) [
   | inl is ↦
       let first : a.lo ≡ x = grind (arith, h, is) in
       let second : b.lo ≡ y = grind (arith, k, is) in
       rw (is, first, second) (omega arith, omega arith)
-  | inr is ↦ rw is (bounds_hold w op (cut w a) (cut w b) (word w x) (word w y) (cut_holds w a x h) (cut_holds w b y k) (word_is_of w x wx) (word_is_of w y wy))
+  | inr is ↦ rw is (bounds_hold w op (cut w a) (cut w b) (word w x) (word w y) (cut_holds w a x h)
+      (cut_holds w b y k) (word_is_of w x wx) (word_is_of w y wy))
 ]

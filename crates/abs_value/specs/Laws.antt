@@ -75,8 +75,8 @@ pub record IsLeft (g : Answers) (o : Option (Abs × Abs)) (x y : ℕ) : Type 0 w
   pub second : Includes g pair.1 y
 
 -- on the edge that a run takes
-abbrev pub KeepsEdges : Type 0
-KeepsEdges =
+abbrev pub KeepsTaken : Type 0
+KeepsTaken =
     (g : Answers) (bits : Bits) (condition : Condition) (jumps : Bool) (a b : Abs) (x y : ℕ)
     → Includes g a x → Includes g b y → is_taken jumps (holds bits condition x y) ≡ true
     → IsLeft g (refined bits condition jumps a b) x y

@@ -19,7 +19,7 @@ pub fn results_are_included()
 /// The edge that a run takes at a jump is not dropped, and what is left of the two values on it
 /// includes the numbers that were compared. So an edge that is dropped is taken by no run.
 pub fn edges_are_kept()
-    ensures { laws.KeepsEdges }
+    ensures { laws.KeepsTaken }
 {}
 
 /// A register whose value is usable is set; writing one, and learning something of one, covers the
@@ -73,7 +73,7 @@ pub fn bytes_are_there()
     ensures { laws.BytesAreThere }
 {}
 
-/// From ranges with numbers in them no empty range is computed,
+/// From ranges with numbers in them no operation on values computes an empty range.
 pub fn ranges_have_numbers()
     ensures alu { ranges.InhabitsResults }
     ensures copied { ranges.InhabitsCopies }
@@ -87,7 +87,8 @@ pub fn ranges_have_numbers()
     ensures called { ranges.InhabitsCalls }
 {}
 
-/// in no register and no slot of the stack either.
+/// From states whose ranges all have numbers in them no operation on states makes one with an empty
+/// range.
 pub fn states_have_numbers()
     ensures opening { ranges.InhabitsOpening }
     ensures operands { ranges.InhabitsOperands }

@@ -58,7 +58,7 @@ pub fn moved_in_stack(op: AluOp, place: u16, by: Number) -> Option<u16>
     }
 }
 
-/// A single number counts by its signed view: it is added,
+/// Where a place leads to which a single number is added; the number counts by its signed view.
 fn moved_up(size: u16, place: u16, n: u64) -> Option<u16>
     ensures { result ≡ values.moved size place (values.distance AluOp.Add n) }
 {
@@ -70,7 +70,7 @@ fn moved_up(size: u16, place: u16, n: u64) -> Option<u16>
     }
 }
 
-/// or taken.
+/// Where a place leads from which a single number is taken; the number counts by its signed view.
 fn moved_down(size: u16, place: u16, n: u64) -> Option<u16>
     ensures { result ≡ values.moved size place (values.distance AluOp.Sub n) }
 {

@@ -91,7 +91,8 @@ keeps_rules i Imm = keeps_imm i
 keeps_rules i Offset = keeps_offset i
 keeps_rules i e = tt
 
-pub is_second_half : (v : WideValue) → IsSecondHalf (source_code (wide_source v)) (second_half (next_imm v))
+pub is_second_half : (v : WideValue)
+    → IsSecondHalf (source_code (wide_source v)) (second_half (next_imm v))
 is_second_half (Number n) = grind arith
 is_second_half (Map k) = grind arith
 is_second_half (Cell k o) = grind arith

@@ -58,6 +58,6 @@ SpellsOrHasFault bytes slot =
     (i : Insn) (e : InsnFault) → Spells bytes slot i → ¬ HasFault bytes slot e
 
 -- the one instruction that the bytes from this slot on spell
-pub record IsSpelled (bytes : List ℕ) (slot : ℕ) (i : Insn) : Type 0 where
+pub record IsOnlySpelling (bytes : List ℕ) (slot : ℕ) (i : Insn) : Type 0 where
   pub spells : Spells bytes slot i
   pub only : (j : Insn) → Spells bytes slot j → i ≡ j

@@ -1,6 +1,6 @@
-// Putting an instruction together from the fields of its halves. The registers and the unused
-// fields are judged by the row alone; then each class of instructions reads its parts, and a number
-// that names no part is its fault.
+//! Putting an instruction together from the fields of its halves. The registers and the unused
+//! fields are judged by the row alone; then each class of instructions reads its parts, and a
+//! number that names no part is its fault.
 
 ghost use Rattle.std.specs.Prelude.{◌≡◌, ◌≢◌, IfOk, IfErr, IfSome, IfNone, None};
 ghost use Rattle.bpf_insn.specs.Halves.{IsOfRow, IsInOrder, IsRowFault, IsTheInsn};

@@ -1,12 +1,12 @@
-// Reading the instruction that bytes spell: the fields of its first half are split, their row is
-// looked up by the opcode, and where the row finds no fault the instruction is put together. A wide
-// load reads its second half too.
+//! Reading the instruction that bytes spell: the fields of its first half are split, their row is
+//! looked up by the opcode, and where the row finds no fault the instruction is put together. A
+//! wide load reads its second half too.
 
 ghost use Rattle.std.specs.Prelude.{◌≡◌, ◌<◌, ◌≤◌, ◌+◌, ◌*◌, length, IfSome, IfNone, IfOk, IfErr};
 ghost use Rattle.bpf_insn.specs.declared.insn.Insn.{Insn};
 ghost use Rattle.bpf_insn.specs.declared.fields.InsnFault.{InsnFault};
 ghost use Rattle.bpf_insn.specs.Spelling.{width_of, HasFields, Spells, IsLeastFault};
-ghost use Rattle.bpf_insn.specs.Halves.{IsOfRow, IsSpelled, SpellsOrHasFault};
+ghost use Rattle.bpf_insn.specs.Halves.{IsOfRow, IsOnlySpelling, SpellsOrHasFault};
 
 use crate::build::{common_fault, insn_in, wide_in};
 use crate::fault::is_second_half;
@@ -33,7 +33,7 @@ fn wide_at(bytes: &[u8], slot: usize, first: Fields) -> Result<Insn, InsnFault>
     requires room { 8 * slot + 8 ≤ length bytes.now }
     requires first { HasFields bytes.now slot first }
     requires row { IsOfRow Form.Wide first }
-    ensures insn { IfOk result (λ i. IsSpelled bytes.now slot i) }
+    ensures insn { IfOk result (λ i. IsOnlySpelling bytes.now slot i) }
     ensures fault { IfErr result (λ e. IsLeastFault bytes.now slot e) }
 {
     let Some(second) = half_at(bytes, slot + 1) else {
@@ -53,7 +53,7 @@ fn row_at(bytes: &[u8], slot: usize, form: Form, first: Fields) -> Result<Insn, 
     requires room { 8 * slot + 8 ≤ length bytes.now }
     requires first { HasFields bytes.now slot first }
     requires row { IsOfRow form first }
-    ensures insn { IfOk result (λ i. IsSpelled bytes.now slot i) }
+    ensures insn { IfOk result (λ i. IsOnlySpelling bytes.now slot i) }
     ensures fault { IfErr result (λ e. IsLeastFault bytes.now slot e) }
     ensures exclusive { SpellsOrHasFault bytes.now slot }
 {
@@ -65,7 +65,7 @@ fn row_at(bytes: &[u8], slot: usize, form: Form, first: Fields) -> Result<Insn, 
 
 /// The instruction that the bytes from this slot on spell.
 fn insn_at(bytes: &[u8], slot: usize) -> Result<Insn, InsnFault>
-    ensures insn { IfOk result (λ i. IsSpelled bytes.now slot i) }
+    ensures insn { IfOk result (λ i. IsOnlySpelling bytes.now slot i) }
     ensures fault { IfErr result (λ e. IsLeastFault bytes.now slot e) }
     ensures exclusive { SpellsOrHasFault bytes.now slot }
 {

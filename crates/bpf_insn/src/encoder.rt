@@ -1,5 +1,5 @@
-// Writing an instruction: its row gives the opcode, its parts give the other fields, and the halves
-// stand one after the other.
+//! Writing an instruction: its row gives the opcode, its parts give the other fields, and the
+//! halves stand one after the other.
 
 ghost use Rattle.std.specs.Prelude.{◌≡◌, ℕ, ◌≤◌, length, take, slice_index, IfSome};
 ghost use Rattle.bpf_insn.specs.Spelling.{fields_of, second_of, encoding, HasWideNumber};

@@ -1,5 +1,5 @@
-// Eight bytes and their fields, both ways: opcode, dst in the low four bits of the second byte and
-// src in the high ones, offset and imm, least byte first.
+//! Eight bytes and their fields, both ways: opcode, dst in the low four bits of the second byte and
+//! src in the high ones, offset and imm, least byte first.
 
 ghost use Rattle.std.specs.Prelude.{◌≡◌, ◌<◌, length};
 ghost use Rattle.bpf_insn.specs.Spelling.{bytes_of, IsFields};

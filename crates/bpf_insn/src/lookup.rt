@@ -1,5 +1,5 @@
-// The parts of an instruction that imm, offset or src names by a number: each number is looked up,
-// and no part has another.
+//! The parts of an instruction that imm, offset or src names by a number: each number is looked up,
+//! and no part has another.
 
 ghost use Rattle.std.specs.Prelude.{◌≡◌, pos, IfSome, Some};
 ghost use Rattle.bpf_insn.specs.declared.operand.EndSize.{EndSize};

@@ -1,4 +1,4 @@
-// The numbers that stand for the parts of an instruction in its fields.
+//! The numbers that stand for the parts of an instruction in its fields.
 
 ghost use Rattle.std.specs.Prelude.{◌≡◌, ◌≤◌, ◌<◌, pos};
 ghost use Rattle.bpf_insn.specs.Table.{number_of};

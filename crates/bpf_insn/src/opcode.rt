@@ -1,5 +1,5 @@
-// The rows by their opcodes: an opcode is divided into its class, its code and its source, and each
-// part is looked up by itself (RFC 9669, "Instruction Encoding").
+//! The rows by their opcodes: an opcode is divided into its class, its code and its source, and
+//! each part is looked up by itself (RFC 9669, "Instruction Encoding").
 
 ghost use Rattle.std.specs.Prelude.{◌≡◌, ◌≢◌, ◌⊎◌, ◌/◌, ◌%◌, IfSome};
 ghost use Rattle.bpf_insn.specs.declared.operand.AluOp.{AluOp};

@@ -1,5 +1,5 @@
-// What an instruction's first half holds: its form, which gives the opcode, and the other fields,
-// each 0 where its row doesn't use it.
+//! What an instruction's first half holds: its form, which gives the opcode, and the other fields,
+//! each 0 where its row doesn't use it.
 
 ghost use Rattle.std.specs.Prelude.{◌≡◌, ◌≤◌};
 ghost use Rattle.bpf_insn.specs.Spelling.{form_of, fields_of};

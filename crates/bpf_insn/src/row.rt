@@ -1,5 +1,5 @@
-// The rows themselves: of each form the opcode, and what it allows in each field. The decoder finds
-// the faults of bytes by them, and the encoder writes their opcodes.
+//! The rows themselves: of each form the opcode, and what it allows in each field. The decoder
+//! finds the faults of bytes by them, and the encoder writes their opcodes.
 
 ghost use Rattle.std.specs.Prelude.{◌≡◌};
 ghost use Rattle.bpf_insn.specs.Table.{alu_code, condition_code, size_code, load_code};

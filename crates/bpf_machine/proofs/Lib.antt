@@ -1,8 +1,11 @@
 pub mod Agree
 pub mod Accesses
+pub mod Stores
+pub mod Loads
 pub mod Asking
 pub mod Results
 pub mod Updates
 pub mod Advances
 pub mod Steps
+pub mod Outcomes
 pub mod Comes

@@ -1,5 +1,5 @@
-// Loads and stores (RFC 9669, "Load and Store Instructions"): what each form leads to. Below the
-// addresses of the counters lie context and stack, and from there on counters alone.
+//! Loads and stores (RFC 9669, "Load and Store Instructions"): what each form leads to. Below the
+//! addresses of the counters lie context and stack, and from there on counters alone.
 
 ghost use Rattle.std.specs.Prelude.{◌≡◌, IsSome, Some};
 ghost use Rattle.attrs.specs.Attributes.{Attributes};

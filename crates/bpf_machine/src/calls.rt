@@ -1,4 +1,4 @@
-// Calls of helpers: R0 is the result, from R1 to R3 and what the run has beside its words.
+//! Calls of helpers: R0 is the result, from R1 to R3 and what the run has beside its words.
 
 ghost use Rattle.std.specs.Prelude.{◌≡◌, ◌≤◌, ◌<◌, ◌-◌, IsSome, IsTrue};
 ghost use Rattle.std.specs.Prelude.{Some, slice_index, take, drop};

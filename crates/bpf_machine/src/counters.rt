@@ -1,4 +1,4 @@
-// Counters by their addresses, and atomic operations on them (RFC 9669, "Atomic Operations").
+//! Counters by their addresses, and atomic operations on them (RFC 9669, "Atomic Operations").
 
 ghost use Rattle.std.specs.Prelude.{◌≡◌, ◌<◌, IsTrue};
 ghost use Rattle.attrs.specs.Attributes.{Attributes};

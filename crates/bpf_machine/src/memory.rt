@@ -1,5 +1,5 @@
-// The memory of a run: reads of the context and the stack, and writes of the stack. An access of
-// 1, 2, 4 or 8 bytes is one load or store of that width.
+//! The memory of a run: reads of the context and the stack, and writes of the stack. An access of
+//! 1, 2, 4 or 8 bytes is one load or store of that width.
 
 ghost use Rattle.std.specs.Prelude.{◌≡◌, ◌+◌, ◌≤◌, ◌<◌, ◌-◌, length, take, drop, IsTrue};
 ghost use Rattle.std.specs.List.{splice};

@@ -48,17 +48,21 @@ gives (Some x) h = record { result = x; is = refl }
 
 -- ---- lookup
 
-is_there : (o : Option CellArray) (key : ℕ) → IsSome o → IsSome (o >>= λ a. Some (if nat_lt key a.length then cell_address (a.base + key) else 0))
+is_there : (o : Option CellArray) (key : ℕ) → IsSome o
+    → IsSome (o >>= λ a. Some (if nat_lt key a.length then cell_address (a.base + key) else 0))
 is_there None key h = absurd cc
 is_there (Some a) key h = refl
 
-map_is : (shape : AppShape) (map index : ℕ) → map ≡ map_start + index → array_of shape map ≡ slice_get shape.arrays index
+map_is : (shape : AppShape) (map index : ℕ) → map ≡ map_start + index
+    → array_of shape map ≡ slice_get shape.arrays index
 map_is shape map index e =
     let le : nat_le map_start map ≡ true = grind arith in
     let is : map - map_start ≡ index = omega arith in rw (le, is) refl
 
-looked_up : (g : Answers) (v : Abs) (map key : ℕ) → is_map v ≡ true → Includes g v map → IsSome (lookup g.shape map key)
-looked_up g (Map index) map key is h = rw (map_is g.shape map index h.0) (is_there (slice_get g.shape.arrays index) key h.1)
+looked_up : (g : Answers) (v : Abs) (map key : ℕ) → is_map v ≡ true → Includes g v map
+    → IsSome (lookup g.shape map key)
+looked_up g (Map index) map key is h =
+    rw (map_is g.shape map index h.0) (is_there (slice_get g.shape.arrays index) key h.1)
 looked_up g Unusable map key is h = absurd cc
 looked_up g (Num n) map key is h = absurd cc
 looked_up g (Ctx from) map key is h = absurd cc
@@ -68,30 +72,38 @@ looked_up g (Cell origin) map key is h = absurd cc
 
 -- ---- texts
 
-bytes_there : (s : State) (o : Option (List ℕ)) (number : ℕ) → IsSome o → IsSome (o >>= λ bytes. Some (attr_is s.attributes number bytes))
+bytes_there : (s : State) (o : Option (List ℕ)) (number : ℕ) → IsSome o
+    → IsSome (o >>= λ bytes. Some (attr_is s.attributes number bytes))
 bytes_there s None number h = absurd cc
 bytes_there s (Some bytes) number h = refl
 
 in_stack : (place n : ℕ) → place + n ≤ stack_size → is_in_stack (stack_start + place) n ≡ true
 in_stack place n within =
     let from : nat_le stack_start (stack_start + place) ≡ true = grind arith in
-    let to : nat_le (stack_start + place + n) (stack_start + stack_size) ≡ true = grind (arith, within) in
+    let to : nat_le (stack_start + place + n) (stack_start + stack_size) ≡ true =
+    grind (arith, within) in
     rw (from, to) refl
 
 or_true : (a b : Bool) → b ≡ true → (a || b) ≡ true
 or_true true b h = refl
 or_true false b h = h
 
-text_at : (given : Given) (shape : AppShape) (e : AbsState) (s : State) (place n number : ℕ) (h : IsStoodFor shape e s) → HasWords s → n ≤ 64 → place + n ≤ stack_size → has_unset e.stack (pos place) n ≡ false
+text_at : (given : Given) (shape : AppShape) (e : AbsState) (s : State) (place n number : ℕ)
+    (h : IsStoodFor shape e s) → HasWords s → n ≤ 64 → place + n ≤ stack_size
+    → has_unset e.stack (pos place) n ≡ false
     → IsSome (compared s number (stack_start + place) n)
 text_at given shape e s place n number h words short within set =
     let few : nat_le n 64 ≡ true = grind (arith, short) in
     let inside : is_in_stack (stack_start + place) n ≡ true = in_stack place n within in
-    let either : ((n == 0) || is_in_stack (stack_start + place) n) ≡ true = or_true (n == 0) (is_in_stack (stack_start + place) n) inside in
+    let either : ((n == 0) || is_in_stack (stack_start + place) n) ≡ true =
+    or_true (n == 0) (is_in_stack (stack_start + place) n) inside in
     let start : stack_start + place - stack_start ≡ place = omega arith in
-    rw (few, either, start) (bytes_there s (set_bytes s.stack place n) number (given.bytes (answers h) e s place n within words h.covers set))
+    rw (few, either, start) (bytes_there s (set_bytes s.stack place n) number
+    (given.bytes (answers h) e s place n within words h.covers set))
 
-text_there : (given : Given) (shape : AppShape) (e : AbsState) (s : State) (v w : Abs) (number address n : ℕ) (h : IsStoodFor shape e s) → HasWords s → is_text v w ≡ true → text_unset e v w ≡ false → Includes (answers h) v address → Includes (answers h) w n
+text_there : (given : Given) (shape : AppShape) (e : AbsState) (s : State) (v w : Abs)
+    (number address n : ℕ) (h : IsStoodFor shape e s) → HasWords s → is_text v w ≡ true
+    → text_unset e v w ≡ false → Includes (answers h) v address → Includes (answers h) w n
     → IsSome (compared s number address n)
 text_there given shape e s (Stk place) (Num m) number address n h words is set at length =
     let parts = true_and (is_single m && nat_le m.lo 64) (nat_le (place + m.lo) stack_size) is in
@@ -100,7 +112,8 @@ text_there given shape e s (Stk place) (Num m) number address n h words is set a
     let short : n ≤ 64 = grind (arith, more.1, one) in
     let up : place + m.lo ≤ stack_size = leb-true (place + m.lo) stack_size parts.1 in
     let within : place + n ≤ stack_size = omega (arith, up, one) in
-    let unset : has_unset e.stack (pos place +ℤ pos 0) (min m.lo stack_size) ≡ false = rw more.0 at set in
+    let unset : has_unset e.stack (pos place +ℤ pos 0) (min m.lo stack_size) ≡ false =
+    rw more.0 at set in
     let none : place + 0 ≡ place = omega arith in
     let start : pos place +ℤ pos 0 ≡ pos place = ap pos none in
     let least : min m.lo stack_size ≡ n = omega (arith, one, short) in
@@ -111,62 +124,87 @@ text_there given shape e s v w number address n h words is set at length = absur
 
 -- a helper of a number, and what is asked of its arguments
 record Asked (e : AbsState) (helper : Option Helper) : Type 0 where
-  usable : (list_any (λ r. is_unusable (value_of e r)) (arguments helper) || compares_unset e helper) ≡ false
+  usable : (list_any (λ r. is_unusable (value_of e r)) (arguments helper)
+      || compares_unset e helper) ≡ false
   taken : takes e helper ≡ true
 
-lookup_gives : (given : Given) (shape : AppShape) (e : AbsState) (s : State) (h : IsStoodFor shape e s) → Asked e (Some Lookup) → IsSome (s.registers 1 >>= λ map. s.registers 2 >>= λ key. lookup shape map key)
+lookup_gives : (given : Given) (shape : AppShape) (e : AbsState) (s : State)
+    (h : IsStoodFor shape e s) → Asked e (Some Lookup)
+    → IsSome (s.registers 1 >>= λ map. s.registers 2 >>= λ key. lookup shape map key)
 lookup_gives given shape e s h asked =
-    let usable = two_usable (is_unusable (value_of e R1)) (is_unusable (value_of e R2)) false asked.usable in
+    let usable =
+    two_usable (is_unusable (value_of e R1)) (is_unusable (value_of e R2)) false asked.usable in
     let map = there given shape e s R1 h usable.0 in
     let key = there given shape e s R2 h usable.1 in
     let taken = true_and (is_map (value_of e R1)) (is_number (value_of e R2)) asked.taken in
-    rw (map.is, key.is) (looked_up (answers h) (value_of e R1) map.number key.number taken.0 map.included)
+    rw (map.is, key.is)
+    (looked_up (answers h) (value_of e R1) map.number key.number taken.0 map.included)
 
-text_gives : (given : Given) (shape : AppShape) (e : AbsState) (s : State) (h : IsStoodFor shape e s) → HasWords s → Asked e (Some AttrIs)
-    → IsSome (s.registers 1 >>= λ number. s.registers 2 >>= λ address. s.registers 3 >>= λ k. compared s number address k)
+text_gives : (given : Given) (shape : AppShape) (e : AbsState) (s : State)
+    (h : IsStoodFor shape e s) → HasWords s → Asked e (Some AttrIs)
+    → IsSome (s.registers 1 >>= λ number. s.registers 2 >>= λ address. s.registers 3 >>= λ k.
+    compared s number address k)
 text_gives given shape e s h words asked =
-    let usable = three_usable (is_unusable (value_of e R1)) (is_unusable (value_of e R2)) (is_unusable (value_of e R3)) (text_unset e (value_of e R2) (value_of e R3)) asked.usable in
+    let usable = three_usable (is_unusable (value_of e R1)) (is_unusable (value_of e R2))
+    (is_unusable (value_of e R3)) (text_unset e (value_of e R2) (value_of e R3)) asked.usable in
     let number = there given shape e s R1 h usable.0 in
     let address = there given shape e s R2 h usable.1 in
     let count = there given shape e s R3 h usable.2 in
-    let taken = true_and (is_number (value_of e R1)) (is_text (value_of e R2) (value_of e R3)) asked.taken in
-    rw (number.is, address.is, count.is) (text_there given shape e s (value_of e R2) (value_of e R3) number.number address.number count.number h words taken.1 usable.3 address.included count.included)
+    let taken =
+    true_and (is_number (value_of e R1)) (is_text (value_of e R2) (value_of e R3)) asked.taken in
+    rw (number.is, address.is, count.is)
+    (text_there given shape e s (value_of e R2) (value_of e R3) number.number address.number
+    count.number h words taken.1 usable.3 address.included count.included)
 
-only_gives : (given : Given) (shape : AppShape) (e : AbsState) (s : State) (f : ℕ → ℕ) (h : IsStoodFor shape e s) → (is_unusable (value_of e R1) || false || false) ≡ false → IsSome (only f (s.registers 1))
+only_gives : (given : Given) (shape : AppShape) (e : AbsState) (s : State) (f : ℕ
+    → ℕ) (h : IsStoodFor shape e s) → (is_unusable (value_of e R1) || false || false) ≡ false
+    → IsSome (only f (s.registers 1))
 only_gives given shape e s f h u =
     let usable = one_usable (is_unusable (value_of e R1)) false u in
     let number = there given shape e s R1 h usable.0 in
     rw number.is refl
 
-by_test : (b : Bool) (o q : Option ℕ) → (b ≡ true → IsSome o) → (b ≡ false → IsSome q) → IsSome (if b then o else q)
+by_test : (b : Bool) (o q : Option ℕ) → (b ≡ true → IsSome o) → (b ≡ false → IsSome q)
+    → IsSome (if b then o else q)
 by_test true o q h k = h refl
 by_test false o q h k = k refl
 
-no_helper : (e : AbsState) (n : ℕ) → (n == 1) ≡ false → (n == 2) ≡ false → (n == 3) ≡ false → (n == 4) ≡ false → takes e (helper_of (pos n)) ≡ true → ⊥
+no_helper : (e : AbsState) (n : ℕ) → (n == 1) ≡ false → (n == 2) ≡ false → (n == 3) ≡ false
+    → (n == 4) ≡ false → takes e (helper_of (pos n)) ≡ true → ⊥
 no_helper e n a b c d taken = let none : takes e None ≡ true = rw (a, b, c, d) at taken in cc
 
-helper_gives : (given : Given) (shape : AppShape) (e : AbsState) (s : State) (helper : ℤ) (h : IsStoodFor shape e s) → HasWords s → Asked e (helper_of helper) → IsSome (helper_result shape s helper)
+helper_gives : (given : Given) (shape : AppShape) (e : AbsState) (s : State) (helper : ℤ)
+    (h : IsStoodFor shape e s) → HasWords s → Asked e (helper_of helper)
+    → IsSome (helper_result shape s helper)
 helper_gives given shape e s (negsuc n) h words asked = let none = asked.taken in absurd cc
 helper_gives given shape e s (pos n) h words asked =
     by_test (n == 1) _ _ (λ a. lookup_gives given shape e s h (rw a at asked)) (λ a.
     by_test (n == 2) _ _ (λ b. text_gives given shape e s h words (rw (a, b) at asked)) (λ b.
-    by_test (n == 3) _ _ (λ c. only_gives given shape e s (attr_len s.attributes) h (let one : Asked e (Some AttrLen) = rw (a, b, c) at asked in one.usable)) (λ c.
-    by_test (n == 4) _ _ (λ d. only_gives given shape e s (bucket_of s.attributes) h (let one : Asked e (Some Bucket) = rw (a, b, c, d) at asked in one.usable))
+    by_test (n == 3) _ _ (λ c. only_gives given shape e s (attr_len s.attributes) h
+    (let one : Asked e (Some AttrLen) = rw (a, b, c) at asked in one.usable)) (λ c.
+    by_test (n == 4) _ _ (λ d. only_gives given shape e s (bucket_of s.attributes) h
+    (let one : Asked e (Some Bucket) = rw (a, b, c, d) at asked in one.usable))
     (λ d. absurd (no_helper e n a b c d asked.taken)))))
 
 -- ---- the step
 
-pub call_safe : (given : Given) (shape : AppShape) (e : AbsState) (s : State) (helper : ℤ) → IsStoodFor shape e s → HasWords s → Passes shape e (Call helper)
+pub call_safe : (given : Given) (shape : AppShape) (e : AbsState) (s : State) (helper : ℤ)
+    → IsStoodFor shape e s → HasWords s → Passes shape e (Call helper)
     → IsSafe shape (edges shape s.slot e (Call helper)) (act shape s (Call helper))
 unfolding edges
 call_safe given shape e s helper h words ok =
-    let asked : Asked e (helper_of helper) = record { usable = ok.usable; taken = not_false (takes e (helper_of helper)) ok.helper } in
-    let given_result = gives (helper_result shape s helper) (helper_gives given shape e s helper h words asked) in
+    let asked : Asked e (helper_of helper) =
+    record { usable = ok.usable; taken = not_false (takes e (helper_of helper)) ok.helper } in
+    let given_result =
+    gives (helper_result shape s helper) (helper_gives given shape e s helper h words asked) in
     let x = given_result.result in
     let after = given.calls (answers h) e s helper x words h.before h.covers given_result.is in
-    let stands : IsStoodFor shape (called e helper s.slot) (moved_to (with_result s x) (s.slot + 1)) = record {
+    let stands : IsStoodFor shape (called e helper s.slot)
+    (moved_to (with_result s x) (s.slot + 1)) = record {
       by = (answering (answers h) s.slot x).by;
       before = given.answering (answers h) s.slot (s.slot + 1) x (omega arith) h.before;
-      covers = moved_covers (answering (answers h) s.slot x) (called e helper s.slot) (with_result s x) (s.slot + 1) after;
+      covers = moved_covers (answering (answers h) s.slot x) (called e helper s.slot)
+          (with_result s x) (s.slot + 1) after;
     } in
-    rw given_result.is (leads shape (called e helper s.slot) (moved_to (with_result s x) (s.slot + 1)) stands)
+    rw given_result.is
+    (leads shape (called e helper s.slot) (moved_to (with_result s x) (s.slot + 1)) stands)

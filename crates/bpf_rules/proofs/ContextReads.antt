@@ -61,7 +61,8 @@ bytes_4 n {rest = rest} h = both_bytes (to_le_bytes w32 n) rest (low_first 0 4 n
 context_are_bytes : (c : Context) → AreBytes (context_bytes c)
 unfolding context_bytes
 context_are_bytes c =
-    bytes_4 (slice_index c.version 0) (bytes_4 (slice_index c.version 1) (bytes_4 (slice_index c.version 2) (bytes_4 (slice_index c.version 3)
+    bytes_4 (slice_index c.version 0) (bytes_4 (slice_index c.version 1)
+    (bytes_4 (slice_index c.version 2) (bytes_4 (slice_index c.version 3)
     (bytes_2 c.bucket (byte (omega arith) (byte {b = 0} (omega arith)
     (bytes_4 c.install_day (bytes_4 c.today (bytes_4 c.seconds (zeros 32))))))))))
 
@@ -72,11 +73,24 @@ pub record Reads (s : State) (address n : ℕ) : Type 0 where
   pub is : read_at s address n ≡ Some number
   pub small : number < 256 ^ n
 
-pub reads : (s : State) (address n : ℕ) → context_start ≤ address → address + n ≤ context_start + context_size → Reads s address n
+pub reads : (s : State) (address n : ℕ)
+    → context_start ≤ address → address + n ≤ context_start + context_size → Reads s address n
 reads s address n low high =
     let a : nat_le context_start address ≡ true = grind arith in
     let b : nat_le (address + n) (context_start + context_size) ≡ true = grind arith in
     let len : length (context_part s (address - context_start) n) ≡ n =
-    omega (arith, length-take n (drop (address - context_start) (context_bytes s.attributes.context)), length-drop (address - context_start) (context_bytes s.attributes.context), context_length s.attributes.context) in
-    let small = little_endian-lt (context_part s (address - context_start) n) (take_bytes n (drop (address - context_start) (context_bytes s.attributes.context)) (drop_bytes (address - context_start) (context_bytes s.attributes.context) (context_are_bytes s.attributes.context))) in
-    record { number = little_endian (context_part s (address - context_start) n); is = rw (a, b) refl; small = rw len at small }
+    omega (
+      arith,
+      length-take n (drop (address - context_start) (context_bytes s.attributes.context)),
+      length-drop (address - context_start) (context_bytes s.attributes.context),
+      context_length s.attributes.context,
+    ) in
+    let small = little_endian-lt (context_part s (address - context_start) n)
+    (take_bytes n (drop (address - context_start) (context_bytes s.attributes.context))
+    (drop_bytes (address - context_start) (context_bytes s.attributes.context)
+    (context_are_bytes s.attributes.context))) in
+    record {
+      number = little_endian (context_part s (address - context_start) n);
+      is = rw (a, b) refl;
+      small = rw len at small;
+    }

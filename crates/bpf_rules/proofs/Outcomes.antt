@@ -21,36 +21,61 @@ abbrev pub answers : {shape : AppShape} {e : AbsState} {s : State} → IsStoodFo
 answers {shape = shape} h = record { shape = shape; by = h.by }
 
 -- slot and count are no part of what is covered
-pub moved_covers : (g : Answers) (e : AbsState) (s : State) (slot : ℕ) → Covers g e s → Covers g e (moved_to s slot)
+pub moved_covers : (g : Answers) (e : AbsState) (s : State) (slot : ℕ) → Covers g e s
+    → Covers g e (moved_to s slot)
 moved_covers g e s slot h = record { registers = h.registers; stack = h.stack }
 
 -- at a later slot the answers are still before it
-pub stands_later : (given : Given) (shape : AppShape) (by : ℕ → Option ℕ) (slot : ℕ) (e : AbsState) (t : State) → slot ≤ t.slot → AreBefore slot (record { shape = shape; by = by }) → Covers (record { shape = shape; by = by }) e t
+pub stands_later : (given : Given) (shape : AppShape) (by : ℕ → Option ℕ) (slot : ℕ) (e : AbsState)
+    (t : State) → slot ≤ t.slot → AreBefore slot (record { shape = shape; by = by })
+    → Covers (record { shape = shape; by = by }) e t
     → IsStoodFor shape e t
-stands_later given shape by slot e t le before covers = record { by = by; before = given.before (record { shape = shape; by = by }) slot t.slot le before; covers = covers }
+stands_later given shape by slot e t le before covers = record {
+  by = by;
+  before = given.before (record { shape = shape; by = by }) slot t.slot le before;
+  covers = covers;
+}
 
-pub leads : (shape : AppShape) (e : AbsState) (t : State) → IsStoodFor shape e t → Leads shape (edge_to t.slot e ∷ []) t
+pub leads : (shape : AppShape) (e : AbsState) (t : State) → IsStoodFor shape e t
+    → Leads shape (edge_to t.slot e ∷ []) t
 leads shape e t h = record { entry = e; along = (0, omega arith, refl); stands = h }
 
 -- the state that is covered after it was moved on
-pub leads_on : (given : Given) (shape : AppShape) (e f : AbsState) (s t : State) (k : ℕ) (h : IsStoodFor shape e s) → t.slot ≡ s.slot → Covers (answers h) f t → Leads shape (edge_to (s.slot + k) f ∷ []) (moved_to t (s.slot + k))
+pub leads_on : (given : Given) (shape : AppShape) (e f : AbsState) (s t : State) (k : ℕ)
+    (h : IsStoodFor shape e s) → t.slot ≡ s.slot → Covers (answers h) f t
+    → Leads shape (edge_to (s.slot + k) f ∷ []) (moved_to t (s.slot + k))
 leads_on given shape e f s t k h same covers =
-    leads shape f (moved_to t (s.slot + k)) (stands_later given shape h.by s.slot f (moved_to t (s.slot + k)) (omega arith) h.before (moved_covers (answers h) f t (s.slot + k) covers))
+    leads shape f (moved_to t (s.slot + k))
+    (stands_later given shape h.by s.slot f (moved_to t (s.slot + k)) (omega arith) h.before
+    (moved_covers (answers h) f t (s.slot + k) covers))
 
 -- a register is written that a value stands for
-pub write_safe : (given : Given) (shape : AppShape) (e : AbsState) (s : State) (k : ℕ) (dst : Reg) (v : Abs) (w : Option ℕ) (x : ℕ) (h : IsStoodFor shape e s) → (number_of dst == 10) ≡ false → w ≡ Some x → Includes (answers h) v x
+pub write_safe : (given : Given) (shape : AppShape) (e : AbsState) (s : State) (k : ℕ) (dst : Reg)
+    (v : Abs) (w : Option ℕ) (x : ℕ) (h : IsStoodFor shape e s)
+    → (number_of dst == 10) ≡ false → w ≡ Some x → Includes (answers h) v x
     → IsSafe shape (edge_to (s.slot + k) (with_value e dst v) ∷ []) (write s k dst w)
 write_safe given shape e s k dst v w x h frame is inc =
-    rw (is, frame) (leads_on given shape e (with_value e dst v) s (with_register s (number_of dst) x) k h refl (given.writes (answers h) e s dst v x h.covers inc))
+    rw (is, frame)
+    (leads_on given shape e (with_value e dst v) s (with_register s (number_of dst) x) k h refl
+    (given.writes (answers h) e s dst v x h.covers inc))
 
 -- a counter is asked, and its reply goes into a register
-pub fetch_safe : (given : Given) (shape : AppShape) (e : AbsState) (s : State) (cell : ℕ) (op : CellOp) (dst : Reg) (v : Abs) (h : IsStoodFor shape e s) → (number_of dst == 10) ≡ false → IsLawful shape cell op
+pub fetch_safe : (given : Given) (shape : AppShape) (e : AbsState) (s : State) (cell : ℕ)
+    (op : CellOp) (dst : Reg) (v : Abs) (h : IsStoodFor shape e s) → (number_of dst == 10) ≡ false
+    → IsLawful shape cell op
     → ((reply : ℕ) → CanReply cell op reply → Includes (answers h) v reply)
     → IsSafe shape (edge_to (s.slot + 1) (with_value e dst v) ∷ []) (ask s cell op (Some dst))
 fetch_safe given shape e s cell op dst v h frame lawful inc =
-    rw frame (lawful, λ reply fits. leads_on given shape e (with_value e dst v) s (with_register s (number_of dst) reply) 1 h refl (given.writes (answers h) e s dst v reply h.covers (inc reply fits)))
+    rw frame (
+      lawful,
+      λ reply fits.
+          leads_on given shape e (with_value e dst v) s (with_register s (number_of dst) reply) 1 h
+          refl (given.writes (answers h) e s dst v reply h.covers (inc reply fits)),
+    )
 
 -- or nowhere
-pub ask_safe : (given : Given) (shape : AppShape) (e : AbsState) (s : State) (cell : ℕ) (op : CellOp) (h : IsStoodFor shape e s) → IsLawful shape cell op
+pub ask_safe : (given : Given) (shape : AppShape) (e : AbsState) (s : State) (cell : ℕ)
+    (op : CellOp) (h : IsStoodFor shape e s) → IsLawful shape cell op
     → IsSafe shape (edge_to (s.slot + 1) e ∷ []) (ask s cell op None)
-ask_safe given shape e s cell op h lawful = (lawful, λ reply fits. leads_on given shape e e s s 1 h refl h.covers)
+ask_safe given shape e s cell op h lawful =
+    (lawful, λ reply fits. leads_on given shape e e s s 1 h refl h.covers)

@@ -24,11 +24,13 @@ pub record Passes (shape : AppShape) (e : AbsState) (i : Insn) : Type 0 where
   pub result : wrong_result shape e i ≡ false
   pub quota : breaks_quota shape e i ≡ false
 
-none_cond : (b : Bool) (r : Rule) (x : Option Rule) → cond b (Some r) x ≡ None → (b ≡ false) × (x ≡ None)
+none_cond : (b : Bool) (r : Rule) (x : Option Rule) → cond b (Some r) x ≡ None
+    → (b ≡ false) × (x ≡ None)
 none_cond true r x h = absurd cc
 none_cond false r x h = (refl, h)
 
-pub passes : (shape : AppShape) (e : AbsState) (i : Insn) → first_rule shape e i ≡ None → Passes shape e i
+pub passes : (shape : AppShape) (e : AbsState) (i : Insn) → first_rule shape e i ≡ None
+    → Passes shape e i
 unfolding first_rule
 passes shape e i h =
     let a = none_cond (reads_unusable e i) rule.Unusable _ h in
@@ -82,12 +84,14 @@ pub one_usable : (a z : Bool) → ((a || false) || z) ≡ false → (a ≡ false
 one_usable true z h = absurd cc
 one_usable false z h = (refl, h)
 
-pub two_usable : (a b z : Bool) → ((a || (b || false)) || z) ≡ false → (a ≡ false) × (b ≡ false) × (z ≡ false)
+pub two_usable : (a b z : Bool) → ((a || (b || false)) || z) ≡ false
+    → (a ≡ false) × (b ≡ false) × (z ≡ false)
 two_usable true b z h = absurd cc
 two_usable false true z h = absurd cc
 two_usable false false z h = (refl, refl, h)
 
-pub three_usable : (a b c z : Bool) → ((a || (b || (c || false))) || z) ≡ false → (a ≡ false) × (b ≡ false) × (c ≡ false) × (z ≡ false)
+pub three_usable : (a b c z : Bool) → ((a || (b || (c || false))) || z) ≡ false
+    → (a ≡ false) × (b ≡ false) × (c ≡ false) × (z ≡ false)
 three_usable true b c z h = absurd cc
 three_usable false true c z h = absurd cc
 three_usable false false true z h = absurd cc

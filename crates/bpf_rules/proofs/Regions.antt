@@ -41,30 +41,18 @@ no_cell_at address n low =
     let other : is_cell_address address ≡ false = grind arith in
     rw other refl
 
-no_load_cell : (kind : LoadKind) (base : ℕ) (offset : ℤ) → address_of base offset < cell_start → load_cell kind (Some base) offset ≡ None
+no_load_cell : (kind : LoadKind) (base : ℕ) (offset : ℤ) → address_of base offset < cell_start
+    → load_cell kind (Some base) offset ≡ None
 no_load_cell load.Word base offset low = no_cell_at (address_of base offset) 4 low
 no_load_cell load.Double base offset low = no_cell_at (address_of base offset) 8 low
 no_load_cell kind base offset low = refl
 
-some_bytes : (kind : LoadKind) → 0 < load_count kind
-some_bytes load.Byte = omega arith
-some_bytes load.Half = omega arith
-some_bytes load.Word = omega arith
-some_bytes load.Double = omega arith
-some_bytes load.SignedByte = omega arith
-some_bytes load.SignedHalf = omega arith
-some_bytes load.SignedWord = omega arith
-
-some_written : (size : Size) → 0 < byte_count size
-some_written size.Byte = omega arith
-some_written size.Half = omega arith
-some_written size.Word = omega arith
-some_written size.Double = omega arith
-
 -- ---- where an access lies
 
-in_context : (lo hi x n : ℕ) (offset : ℤ) → FitsSigned w16 offset → lies_in context_size lo hi offset n ≡ true → context_start + lo ≤ x → x ≤ context_start + hi
-    → (context_start ≤ address_of x offset) × (address_of x offset + n ≤ context_start + context_size)
+in_context : (lo hi x n : ℕ) (offset : ℤ) → FitsSigned w16 offset
+    → lies_in context_size lo hi offset n ≡ true → context_start + lo ≤ x → x ≤ context_start + hi
+    → (context_start ≤ address_of x offset)
+    × (address_of x offset + n ≤ context_start + context_size)
 in_context lo hi x n (pos m) f h p q = grind (arith, ints)
 in_context lo hi x n (negsuc m) f h p q = grind (arith, ints)
 
@@ -75,63 +63,113 @@ record Lies (place : ℕ) (offset : ℤ) (n : ℕ) : Type 0 where
   within : at + n ≤ stack_size
   address : address_of (stack_start + place) offset ≡ stack_start + at
 
-lies : (place : ℕ) (offset : ℤ) (n : ℕ) → FitsSigned w16 offset → lies_in stack_size place place offset n ≡ true → Lies place offset n
-lies place (pos m) n f h = record { at = place + m; is = refl; within = grind (arith, ints); address = grind (arith, ints) }
+lies : (place : ℕ) (offset : ℤ) (n : ℕ)
+    → FitsSigned w16 offset → lies_in stack_size place place offset n ≡ true → Lies place offset n
+lies place (pos m) n f h = record {
+  at = place + m;
+  is = refl;
+  within = grind (arith, ints);
+  address = grind (arith, ints);
+}
 lies place (negsuc m) n f h =
     let above : suc m ≤ place = grind (arith, ints) in
-    record { at = place - suc m; is = grind (arith, ints); within = grind (arith, ints); address = grind (arith, ints) }
+    record {
+      at = place - suc m;
+      is = grind (arith, ints);
+      within = grind (arith, ints);
+      address = grind (arith, ints);
+    }
 
 -- the place of such bytes
-at_place : (place : ℕ) (offset : ℤ) (n : ℕ) → lies_in stack_size place place offset n ≡ true → (l : Lies place offset n) → stack_place (Stk place) offset n ≡ Some l.at
+at_place : (place : ℕ) (offset : ℤ) (n : ℕ) → lies_in stack_size place place offset n ≡ true
+    → (l : Lies place offset n) → stack_place (Stk place) offset n ≡ Some l.at
 at_place place offset n h l = rw h (ap (λ (z : ℤ). Some (unsigned_abs z)) l.is)
 
 -- ---- loads
 
-load_reads : (given : Given) (shape : AppShape) (e : AbsState) (s : State) (kind : LoadKind) (dst : Reg) (offset : ℤ) (v : Abs) (x number : ℕ) (h : IsStoodFor shape e s) → (number_of dst == 10) ≡ false → address_of x offset < cell_start
-    → read_at s (address_of x offset) (load_count kind) ≡ Some number → Includes (answers h) v (filled kind number) → IsSafe shape (edge_to (s.slot + 1) (with_value e dst v) ∷ []) (step.load s kind dst (Some x) offset)
+load_reads : (given : Given) (shape : AppShape) (e : AbsState) (s : State) (kind : LoadKind)
+    (dst : Reg) (offset : ℤ) (v : Abs) (x number : ℕ) (h : IsStoodFor shape e s)
+    → (number_of dst == 10) ≡ false → address_of x offset < cell_start
+    → read_at s (address_of x offset) (load_count kind) ≡ Some number
+    → Includes (answers h) v (filled kind number) → IsSafe shape
+    (edge_to (s.slot + 1) (with_value e dst v) ∷ []) (step.load s kind dst (Some x) offset)
 load_reads given shape e s kind dst offset v x number h frame low is inc =
-    rw (no_load_cell kind x offset low) (write_safe given shape e s 1 dst v (loaded s kind (Some x) offset) (filled kind number) h frame (rw is refl) inc)
+    rw (no_load_cell kind x offset low) (write_safe given shape e s 1 dst v
+    (loaded s kind (Some x) offset) (filled kind number) h frame (rw is refl) inc)
 
-pub context_load_safe : (given : Given) (shape : AppShape) (e : AbsState) (s : State) (kind : LoadKind) (dst : Reg) (offset : ℤ) (from : Places) (x : ℕ) (h : IsStoodFor shape e s) → FitsSigned w16 offset → (number_of dst == 10) ≡ false
-    → lies_in context_size from.lo from.hi offset (load_count kind) ≡ true → IsInContext from x → IsSafe shape (edge_to (s.slot + 1) (with_value e dst (loaded_value kind)) ∷ []) (step.load s kind dst (Some x) offset)
+pub context_load_safe : (given : Given) (shape : AppShape) (e : AbsState) (s : State)
+    (kind : LoadKind) (dst : Reg) (offset : ℤ) (from : Places) (x : ℕ) (h : IsStoodFor shape e s)
+    → FitsSigned w16 offset → (number_of dst == 10) ≡ false
+    → lies_in context_size from.lo from.hi offset (load_count kind) ≡ true → IsInContext from x
+    → IsSafe shape (edge_to (s.slot + 1) (with_value e dst (loaded_value kind)) ∷ [])
+    (step.load s kind dst (Some x) offset)
 context_load_safe given shape e s kind dst offset from x h f frame inside inc =
     let at = in_context from.lo from.hi x (load_count kind) offset f inside inc.0 inc.1 in
     let r = reads s (address_of x offset) (load_count kind) at.0 at.1 in
-    load_reads given shape e s kind dst offset (loaded_value kind) x r.number h frame (omega (arith, at.1)) r.is (given.loaded (answers h) kind r.number r.small)
+    load_reads given shape e s kind dst offset (loaded_value kind) x r.number h frame
+    (omega (arith, at.1)) r.is (given.loaded (answers h) kind r.number r.small)
 
-pub stack_load_safe : (given : Given) (shape : AppShape) (e : AbsState) (s : State) (kind : LoadKind) (dst : Reg) (offset : ℤ) (place x : ℕ) (h : IsStoodFor shape e s) → HasWords s → FitsSigned w16 offset → (number_of dst == 10) ≡ false
-    → lies_in stack_size place place offset (load_count kind) ≡ true → has_unset e.stack (pos place +ℤ offset) (load_count kind) ≡ false → x ≡ stack_start + place
-    → IsSafe shape (edge_to (s.slot + 1) (with_value e dst (loaded_at e (stack_place (Stk place) offset (load_count kind)) kind)) ∷ []) (step.load s kind dst (Some x) offset)
+pub stack_load_safe : (given : Given) (shape : AppShape) (e : AbsState) (s : State)
+    (kind : LoadKind) (dst : Reg) (offset : ℤ) (place x : ℕ) (h : IsStoodFor shape e s)
+    → HasWords s → FitsSigned w16 offset → (number_of dst == 10) ≡ false
+    → lies_in stack_size place place offset (load_count kind) ≡ true
+    → has_unset e.stack (pos place +ℤ offset) (load_count kind) ≡ false → x ≡ stack_start + place
+    → IsSafe shape (edge_to (s.slot + 1)
+    (with_value e dst (loaded_at e (stack_place (Stk place) offset (load_count kind)) kind)) ∷ [])
+    (step.load s kind dst (Some x) offset)
 stack_load_safe given shape e s kind dst offset place x h w f frame inside unset same =
     let l = lies place offset (load_count kind) f inside in
-    let r = given.loads (answers h) e s l.at kind l.within w h.covers (subst (λ (z : ℤ). has_unset e.stack z (load_count kind) ≡ false) l.is unset) in
-    let here : address_of x offset ≡ stack_start + l.at = ap (λ (y : ℕ). address_of y offset) same ∙ l.address in
-    subst (λ (o : Option ℕ). IsSafe shape (edge_to (s.slot + 1) (with_value e dst (loaded_at e o kind)) ∷ []) (step.load s kind dst (Some x) offset)) (sym (at_place place offset (load_count kind) inside l))
-    (load_reads given shape e s kind dst offset (loaded_from e.stack l.at kind) x r.number h frame (omega (arith, here, l.within)) (ap (λ (a : ℕ). read_at s a (load_count kind)) here ∙ r.is) r.included)
+    let r = given.loads (answers h) e s l.at kind l.within w h.covers
+    (subst (λ (z : ℤ). has_unset e.stack z (load_count kind) ≡ false) l.is unset) in
+    let here : address_of x offset ≡ stack_start + l.at =
+    ap (λ (y : ℕ). address_of y offset) same ∙ l.address in
+    subst (λ (o : Option ℕ).
+    IsSafe shape (edge_to (s.slot + 1) (with_value e dst (loaded_at e o kind)) ∷ [])
+    (step.load s kind dst (Some x) offset)) (sym (at_place place offset (load_count kind) inside l))
+    (load_reads given shape e s kind dst offset (loaded_from e.stack l.at kind) x r.number h frame
+    (omega (arith, here, l.within))
+    (ap (λ (a : ℕ). read_at s a (load_count kind)) here ∙ r.is) r.included)
 
 -- ---- stores
 
 -- a store leaves the run where it is
-slot_of : (inside : Bool) (s t : State) (stack : ℕ → Option ℕ) → (if inside then Some (record s { stack = stack }) else None) ≡ Some t → t.slot ≡ s.slot
-slot_of true s t stack h = sym (ap (λ (u : State). u.slot) (same_Some (record s { stack = stack }) t h))
+slot_of : (inside : Bool) (s t : State) (stack : ℕ → Option ℕ)
+    → (if inside then Some (record s { stack = stack }) else None) ≡ Some t → t.slot ≡ s.slot
+slot_of true s t stack h =
+    sym (ap (λ (u : State). u.slot) (same_Some (record s { stack = stack }) t h))
 slot_of false s t stack h = absurd cc
 
 same_slot : (s t : State) (address n v : ℕ) → written_at s address n v ≡ Some t → t.slot ≡ s.slot
-same_slot s t address n v h = slot_of (is_in_stack address n) s t (with_bytes s.stack (address - stack_start) n v) h
+same_slot s t address n v h =
+    slot_of (is_in_stack address n) s t (with_bytes s.stack (address - stack_start) n v) h
 
-moved_safe : (given : Given) (shape : AppShape) (e f : AbsState) (s : State) (o : Option State) (h : IsStoodFor shape e s) → ((t : State) → o ≡ Some t → t.slot ≡ s.slot) → CoversAfter (answers h) f o
+moved_safe : (given : Given) (shape : AppShape) (e f : AbsState) (s : State) (o : Option State)
+    (h : IsStoodFor shape e s) → ((t : State) → o ≡ Some t → t.slot ≡ s.slot)
+    → CoversAfter (answers h) f o
     → IsSafe shape (edge_to (s.slot + 1) f ∷ []) (moved o)
 moved_safe given shape e f s None h same covers = absurd covers
 moved_safe given shape e f s (Some t) h same covers =
-    subst (λ k. Leads shape (edge_to (s.slot + 1) f ∷ []) (moved_to t (k + 1))) (sym (same t refl)) (leads_on given shape e f s t 1 h (same t refl) covers)
+    subst (λ k. Leads shape (edge_to (s.slot + 1) f ∷ []) (moved_to t (k + 1))) (sym (same t refl))
+    (leads_on given shape e f s t 1 h (same t refl) covers)
 
-pub stack_store_safe : (given : Given) (shape : AppShape) (e : AbsState) (s : State) (size : Size) (offset : ℤ) (place x : ℕ) (a : Abs) (v : ℕ) (h : IsStoodFor shape e s) → FitsSigned w16 offset
-    → lies_in stack_size place place offset (byte_count size) ≡ true → x ≡ stack_start + place → IsWord v → Includes (answers h) a v
-    → IsSafe shape (edge_to (s.slot + 1) (stored_at e (stack_place (Stk place) offset (byte_count size)) (byte_count size) a) ∷ []) (step.store s size (Some x) offset (Some v))
+pub stack_store_safe : (given : Given) (shape : AppShape) (e : AbsState) (s : State) (size : Size)
+    (offset : ℤ) (place x : ℕ) (a : Abs) (v : ℕ) (h : IsStoodFor shape e s) → FitsSigned w16 offset
+    → lies_in stack_size place place offset (byte_count size) ≡ true → x ≡ stack_start + place
+    → IsWord v → Includes (answers h) a v
+    → IsSafe shape (edge_to (s.slot + 1)
+    (stored_at e (stack_place (Stk place) offset (byte_count size)) (byte_count size) a) ∷ [])
+    (step.store s size (Some x) offset (Some v))
 stack_store_safe given shape e s size offset place x a v h f inside same word inc =
     let l = lies place offset (byte_count size) f inside in
-    let here : address_of x offset ≡ stack_start + l.at = ap (λ (y : ℕ). address_of y offset) same ∙ l.address in
-    let covers = subst (λ (b : ℕ). CoversAfter (answers h) (with_stored e l.at (byte_count size) a) (written_at s b (byte_count size) v)) (sym here) (given.stores (answers h) e s l.at size a v l.within h.covers word inc) in
-    subst (λ (o : Option ℕ). IsSafe shape (edge_to (s.slot + 1) (stored_at e o (byte_count size) a) ∷ []) (step.store s size (Some x) offset (Some v))) (sym (at_place place offset (byte_count size) inside l))
+    let here : address_of x offset ≡ stack_start + l.at =
+    ap (λ (y : ℕ). address_of y offset) same ∙ l.address in
+    let covers = subst (λ (b : ℕ). CoversAfter (answers h) (with_stored e l.at (byte_count size) a)
+    (written_at s b (byte_count size) v)) (sym here)
+    (given.stores (answers h) e s l.at size a v l.within h.covers word inc) in
+    subst (λ (o : Option ℕ). IsSafe shape (edge_to (s.slot + 1) (stored_at e o (byte_count size) a)
+    ∷ []) (step.store s size (Some x) offset (Some v)))
+    (sym (at_place place offset (byte_count size) inside l))
     (rw (no_cell_at (address_of x offset) (byte_count size) (omega (arith, here, l.within)))
-    (moved_safe given shape e (with_stored e l.at (byte_count size) a) s (written_at s (address_of x offset) (byte_count size) v) h (λ t. same_slot s t (address_of x offset) (byte_count size) v) covers))
+    (moved_safe given shape e (with_stored e l.at (byte_count size) a) s
+    (written_at s (address_of x offset) (byte_count size) v) h
+    (λ t. same_slot s t (address_of x offset) (byte_count size) v) covers))

@@ -14,7 +14,7 @@ use Rattle.abs_value.specs.declared.state.AbsState.{AbsState}
 use Rattle.abs_value.specs.Covers.{IsStoodFor}
 use Rattle.abs_value.specs.Laws.{CoversFirst, CoversSecond, CoversOpening}
 use Rattle.bpf_rules.specs.Transfer.{edges}
-use Rattle.bpf_rules.specs.Sound.{IsSafe, JumpsForward, StepsAreSafe, FirstStands, SecondStands, OpeningStands}
+use Rattle.bpf_rules.specs.Sound.{IsSafe, JumpsForward, EveryStepIsSafe, FirstStands, SecondStands, OpeningStands}
 use Rattle.bpf_rules.proofs.Given.{Given}
 use Rattle.bpf_rules.proofs.Passes.{Passes, passes}
 use Rattle.bpf_rules.proofs.Outcomes.{answers}
@@ -29,32 +29,54 @@ fits_imm : (src : Operand) → FitsSigned w32 (imm_field src) → FitsImm src
 fits_imm (Imm k) f = f
 fits_imm (Register r) f = tt
 
-step_safe : (given : Given) (shape : AppShape) (e : AbsState) (s : State) (i : Insn) → IsShape shape → IsEncodable i → JumpsForward i → HasWords s → IsStoodFor shape e s → Passes shape e i → IsSafe shape (edges shape s.slot e i) (act shape s i)
-step_safe given shape e s (Alu bits op dst src) fits f forward w h ok = alu_safe given shape e s bits op dst src (fits_imm src f.first.imm) w h ok
-step_safe given shape e s (Mov bits dst src) fits f forward w h ok = mov_safe given shape e s bits dst src h ok
-step_safe given shape e s (MovSx extension dst src) fits f forward w h ok = movsx_safe given shape e s extension dst src h ok
-step_safe given shape e s (Neg bits dst) fits f forward w h ok = neg_safe given shape e s bits dst w h ok
-step_safe given shape e s (End order size dst) fits f forward w h ok = end_safe given shape e s order size dst h ok
-step_safe given shape e s (Jump distance) fits f forward w h ok = jump_safe given shape e s distance (forward distance refl) h
-step_safe given shape e s (JumpIf bits condition left right offset) fits f forward w h ok = jump_if_safe given shape e s bits condition left right offset (forward (Short offset) refl) h ok
-step_safe given shape e s (Call helper) fits f forward w h ok = call_safe given shape e s helper h w ok
+step_safe : (given : Given) (shape : AppShape) (e : AbsState) (s : State) (i : Insn) → IsShape shape
+    → IsEncodable i → JumpsForward i → HasWords s → IsStoodFor shape e s → Passes shape e i
+    → IsSafe shape (edges shape s.slot e i) (act shape s i)
+step_safe given shape e s (Alu bits op dst src) fits f forward w h ok =
+    alu_safe given shape e s bits op dst src (fits_imm src f.first.imm) w h ok
+step_safe given shape e s (Mov bits dst src) fits f forward w h ok =
+    mov_safe given shape e s bits dst src h ok
+step_safe given shape e s (MovSx extension dst src) fits f forward w h ok =
+    movsx_safe given shape e s extension dst src h ok
+step_safe given shape e s (Neg bits dst) fits f forward w h ok =
+    neg_safe given shape e s bits dst w h ok
+step_safe given shape e s (End order size dst) fits f forward w h ok =
+    end_safe given shape e s order size dst h ok
+step_safe given shape e s (Jump distance) fits f forward w h ok =
+    jump_safe given shape e s distance (forward distance refl) h
+step_safe given shape e s (JumpIf bits condition left right offset) fits f forward w h ok =
+    jump_if_safe given shape e s bits condition left right offset (forward (Short offset) refl) h ok
+step_safe given shape e s (Call helper) fits f forward w h ok =
+    call_safe given shape e s helper h w ok
 step_safe given shape e s Exit fits f forward w h ok = exit_safe given shape e s h ok
-step_safe given shape e s (Load kind dst src offset) fits f forward w h ok = load_safe given shape e s kind dst src offset fits f.first.offset w h ok
-step_safe given shape e s (StoreImm size dst offset imm) fits f forward w h ok = store_imm_safe given shape e s size dst offset imm fits f.first.offset f.first.imm h ok
-step_safe given shape e s (Store size dst src offset) fits f forward w h ok = store_safe given shape e s size dst src offset fits f.first.offset w h ok
-step_safe given shape e s (Atomic op size dst src offset) fits f forward w h ok = atomic_safe given shape e s op size dst src offset h fits ok
-step_safe given shape e s (Wide dst value) fits f forward w h ok = wide_safe given shape e s dst value h fits ok
+step_safe given shape e s (Load kind dst src offset) fits f forward w h ok =
+    load_safe given shape e s kind dst src offset fits f.first.offset w h ok
+step_safe given shape e s (StoreImm size dst offset imm) fits f forward w h ok =
+    store_imm_safe given shape e s size dst offset imm fits f.first.offset f.first.imm h ok
+step_safe given shape e s (Store size dst src offset) fits f forward w h ok =
+    store_safe given shape e s size dst src offset fits f.first.offset w h ok
+step_safe given shape e s (Atomic op size dst src offset) fits f forward w h ok =
+    atomic_safe given shape e s op size dst src offset h fits ok
+step_safe given shape e s (Wide dst value) fits f forward w h ok =
+    wide_safe given shape e s dst value h fits ok
 
-pub steps_safe : Given → StepsAreSafe
-steps_safe given shape e s i fits f forward w h ok = step_safe given shape e s i fits f forward w h (passes shape e i ok)
+pub steps_safe : Given → EveryStepIsSafe
+steps_safe given shape e s i fits f forward w h ok =
+    step_safe given shape e s i fits f forward w h (passes shape e i ok)
 
 -- ---- joins, and the start
 
 pub first_stands : CoversFirst → FirstStands
-first_stands law shape e f s h = record { by = h.by; before = h.before; covers = law (answers h) e f s h.covers }
+first_stands law shape e f s h =
+    record { by = h.by; before = h.before; covers = law (answers h) e f s h.covers }
 
 pub second_stands : CoversSecond → SecondStands
-second_stands law shape e f s h = record { by = h.by; before = h.before; covers = law (answers h) e f s h.covers }
+second_stands law shape e f s h =
+    record { by = h.by; before = h.before; covers = law (answers h) e f s h.covers }
 
 pub opening_stands : CoversOpening → OpeningStands
-opening_stands law shape a = record { by = λ call. None; before = λ call le. refl; covers = law (record { shape = shape; by = λ call. None }) a }
+opening_stands law shape a = record {
+  by = λ call. None;
+  before = λ call le. refl;
+  covers = law (record { shape = shape; by = λ call. None }) a;
+}

@@ -37,19 +37,28 @@ record Loads (g : Answers) (v : Option Abs) (o : Option ℕ) : Type 0 where
 some_is : (o : Option CellArray) (a : CellArray) → o ≡ Some a → IsSome o
 some_is o a e = rw e refl
 
-map_loads : (g : Answers) (i : ℕ) (o : Option CellArray) → slice_get g.shape.arrays i ≡ o → is_none (o >>= λ a. Some (Map i)) ≡ false → Loads g (o >>= λ a. Some (Map i)) (o >>= λ a. Some (map_start + i))
+map_loads : (g : Answers) (i : ℕ) (o : Option CellArray)
+    → slice_get g.shape.arrays i ≡ o → is_none (o >>= λ a. Some (Map i)) ≡ false
+    → Loads g (o >>= λ a. Some (Map i)) (o >>= λ a. Some (map_start + i))
 map_loads g i None e known = absurd cc
-map_loads g i (Some a) e known = record { number = map_start + i; is = refl; included = (refl, some_is (slice_get g.shape.arrays i) a e) }
+map_loads g i (Some a) e known = record {
+  number = map_start + i;
+  is = refl;
+  included = (refl, some_is (slice_get g.shape.arrays i) a e);
+}
 
 first_at_most : (w : CellWidth) → first_cell w ≤ 4096
 first_at_most Bits64 = omega arith
 first_at_most Bits32 = omega arith
 
-address_is : (base n : ℕ) → base + n / 8 < 8192 → n % 8 ≡ 0 → address_of (cell_address base) (pos n) ≡ cell_address (base + n / 8)
+address_is : (base n : ℕ) → base + n / 8 < 8192 → n % 8 ≡ 0
+    → address_of (cell_address base) (pos n) ≡ cell_address (base + n / 8)
 address_is base n lt whole = omega (arith, lt, whole)
 
-behind : (g : Answers) (i n : ℕ) (a : CellArray) → IsArray a → slice_get g.shape.arrays i ≡ Some a → is_none (option_map fixed_cell (cell_behind a n)) ≡ false
-    → Loads g (option_map fixed_cell (cell_behind a n)) (Some (address_of (cell_address a.base) (pos n)))
+behind : (g : Answers) (i n : ℕ) (a : CellArray) → IsArray a → slice_get g.shape.arrays i ≡ Some a
+    → is_none (option_map fixed_cell (cell_behind a n)) ≡ false
+    → Loads g (option_map fixed_cell (cell_behind a n))
+    (Some (address_of (cell_address a.base) (pos n)))
 behind g i n a array e known = elim (cases_Bool ((n % 8 == 0) && nat_lt (n / 8) a.length)) [
   | inl is ↦
       let parts = true_and (n % 8 == 0) (nat_lt (n / 8) a.length) is in
@@ -57,26 +66,42 @@ behind g i n a array e known = elim (cases_Bool ((n % 8 == 0) && nat_lt (n / 8) 
       let lt : n / 8 < a.length = grind (arith, parts.1) in
       let first = first_at_most a.width in
       let below : a.base + n / 8 < 8192 = omega (arith, lt, first, array.to) in
-      rw is (record { number = address_of (cell_address a.base) (pos n); is = refl; included = (address_is a.base n below whole, (i, record { array = a; there = e; has = (omega arith, omega (arith, lt)) })) })
+      rw is (record {
+        number = address_of (cell_address a.base) (pos n);
+        is = refl;
+        included = (
+          address_is a.base n below whole,
+          (i, record { array = a; there = e; has = (omega arith, omega (arith, lt)) }),
+        );
+      })
   | inr isnt ↦ let none : is_none {T = Abs} None ≡ false = rw isnt at known in absurd cc
 ]
 
-cell_loads : (g : Answers) (i n : ℕ) (o : Option CellArray) → IsShape g.shape → slice_get g.shape.arrays i ≡ o → is_none (o >>= λ a. option_map fixed_cell (cell_behind a n)) ≡ false
-    → Loads g (o >>= λ a. option_map fixed_cell (cell_behind a n)) (o >>= λ a. Some (address_of (cell_address a.base) (pos n)))
+cell_loads : (g : Answers) (i n : ℕ) (o : Option CellArray)
+    → IsShape g.shape → slice_get g.shape.arrays i ≡ o
+    → is_none (o >>= λ a. option_map fixed_cell (cell_behind a n)) ≡ false
+    → Loads g (o >>= λ a. option_map fixed_cell (cell_behind a n))
+    (o >>= λ a. Some (address_of (cell_address a.base) (pos n)))
 cell_loads g i n None shaped e known = absurd cc
 cell_loads g i n (Some a) shaped e known = behind g i n a (array_is g.shape i a shaped e) e known
 
-wide_loads : (g : Answers) (value : WideValue) → IsShape g.shape → is_none (wide_abs g.shape value) ≡ false → Loads g (wide_abs g.shape value) (wide_value g.shape value)
-wide_loads g (wide.Number n) shaped known = record { number = n; is = refl; included = (omega arith, omega arith) }
+wide_loads : (g : Answers) (value : WideValue)
+    → IsShape g.shape → is_none (wide_abs g.shape value) ≡ false
+    → Loads g (wide_abs g.shape value) (wide_value g.shape value)
+wide_loads g (wide.Number n) shaped known =
+    record { number = n; is = refl; included = (omega arith, omega arith) }
 wide_loads g (wide.Map (pos i)) shaped known = map_loads g i (slice_get g.shape.arrays i) refl known
 wide_loads g (wide.Map (negsuc i)) shaped known = absurd cc
-wide_loads g (wide.Cell (pos i) (pos n)) shaped known = cell_loads g i n (slice_get g.shape.arrays i) shaped refl known
+wide_loads g (wide.Cell (pos i) (pos n)) shaped known =
+    cell_loads g i n (slice_get g.shape.arrays i) shaped refl known
 wide_loads g (wide.Cell (pos i) (negsuc n)) shaped known = absurd cc
 wide_loads g (wide.Cell (negsuc i) offset) shaped known = absurd cc
 
-pub wide_safe : (given : Given) (shape : AppShape) (e : AbsState) (s : State) (dst : Reg) (value : WideValue) → IsStoodFor shape e s → IsShape shape → Passes shape e (Wide dst value)
+pub wide_safe : (given : Given) (shape : AppShape) (e : AbsState) (s : State) (dst : Reg)
+    (value : WideValue) → IsStoodFor shape e s → IsShape shape → Passes shape e (Wide dst value)
     → IsSafe shape (edges shape s.slot e (Wide dst value)) (act shape s (Wide dst value))
 unfolding edges
 wide_safe given shape e s dst value h shaped ok =
     let loads = wide_loads (answers h) value shaped ok.array in
-    write_safe given shape e s 2 dst (or_unusable (wide_abs shape value)) (wide_value shape value) loads.number h ok.frame loads.is loads.included
+    write_safe given shape e s 2 dst (or_unusable (wide_abs shape value))
+    (wide_value shape value) loads.number h ok.frame loads.is loads.included

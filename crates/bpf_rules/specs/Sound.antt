@@ -62,8 +62,8 @@ abbrev pub JumpsForward : Insn → Type 0
 JumpsForward i = (d : Distance) → jump_of i ≡ Some d → pos 0 ≤ℤ slots_moved d
 
 -- from a state that is stood for, where no rule fails
-abbrev pub StepsAreSafe : Type 0
-StepsAreSafe =
+abbrev pub EveryStepIsSafe : Type 0
+EveryStepIsSafe =
     (shape : AppShape) (e : AbsState) (s : State) (i : Insn)
     → IsShape shape → IsEncodable i → JumpsForward i → HasWords s → IsStoodFor shape e s
     → first_rule shape e i ≡ None → IsSafe shape (edges shape s.slot e i) (act shape s i)

@@ -13,7 +13,7 @@ use abs_value::{
 /// edge that isn't dropped stands for the state that it leads to, what it asks of a counter is
 /// lawful, and a choice is 0 or one of the releases.
 pub fn steps_are_safe()
-    ensures { sound.StepsAreSafe }
+    ensures { sound.EveryStepIsSafe }
 {
     results_are_included();
     registers_cover();

@@ -31,15 +31,18 @@ pub set_word : (o : Option ℕ) → ((v : ℕ) → o ≡ Some v → IsWord v) �
 set_word None h = tt
 set_word (Some v) h = h v refl
 
-pub after : {A : Type 0} (o : Option A) (f : A → Option ℕ) → ((x : A) → Words (f x)) → Words (o >>= f)
+pub after : {A : Type 0} (o : Option A) (f : A → Option ℕ) → ((x : A) → Words (f x))
+    → Words (o >>= f)
 after None f h = tt
 after (Some x) f h = h x
 
-pub only_word : (f : ℕ → ℕ) (o : Option ℕ) → Words o → ((x : ℕ) → IsWord x → IsWord (f x)) → Words (only f o)
+pub only_word : (f : ℕ → ℕ) (o : Option ℕ) → Words o → ((x : ℕ) → IsWord x → IsWord (f x))
+    → Words (only f o)
 only_word f None h keeps = tt
 only_word f (Some x) h keeps = keeps x h
 
-pub both_word : (f : ℕ → ℕ → ℕ) (o q : Option ℕ) → Words o → Words q → ((x y : ℕ) → IsWord x → IsWord y → IsWord (f x y)) → Words (both f o q)
+pub both_word : (f : ℕ → ℕ → ℕ) (o q : Option ℕ) → Words o → Words q
+    → ((x y : ℕ) → IsWord x → IsWord y → IsWord (f x y)) → Words (both f o q)
 both_word f None q h k keeps = tt
 both_word f (Some x) None h k keeps = tt
 both_word f (Some x) (Some y) h k keeps = keeps x y h k
@@ -55,11 +58,15 @@ all_at P (x ∷ xs) (suc k) h = all_at P xs k (All-tail P x xs h)
 
 -- ---- wide loads
 
-pub wide_word : (shape : AppShape) (value : WideValue) → FitsSigned w32 (wide_imm value) → IsWideNumber value → Words (wide_value shape value)
+pub wide_word : (shape : AppShape) (value : WideValue)
+    → FitsSigned w32 (wide_imm value) → IsWideNumber value → Words (wide_value shape value)
 wide_word shape (Number n) fits number = number
-wide_word shape (Map (pos i)) fits number = after (slice_get shape.arrays i) (λ a. Some (map_start + i)) (λ a. omega (arith, ints, fits.sfits))
+wide_word shape (Map (pos i)) fits number = after (slice_get shape.arrays i)
+    (λ a. Some (map_start + i)) (λ a. omega (arith, ints, fits.sfits))
 wide_word shape (Map (negsuc i)) fits number = tt
-wide_word shape (Cell (pos i) offset) fits number = after (slice_get shape.arrays i) (λ a. Some (address_of (cell_address a.base) offset)) (λ a. mod_below (cell_address a.base + cast_unsigned w64 offset) (2 ^ 64) (omega arith))
+wide_word shape (Cell (pos i) offset) fits number =
+    after (slice_get shape.arrays i) (λ a. Some (address_of (cell_address a.base) offset))
+    (λ a. mod_below (cell_address a.base + cast_unsigned w64 offset) (2 ^ 64) (omega arith))
 wide_word shape (Cell (negsuc i) offset) fits number = tt
 
 -- ---- lookup
@@ -68,14 +75,16 @@ first_at_most : (w : CellWidth) → first_cell w ≤ 4096
 first_at_most Bits64 = omega arith
 first_at_most Bits32 = omega arith
 
-found : (key : ℕ) (o : Option CellArray) → IfSome o IsArray → Words (o >>= λ a. Some (if nat_lt key a.length then cell_address (a.base + key) else 0))
+found : (key : ℕ) (o : Option CellArray) → IfSome o IsArray
+    → Words (o >>= λ a. Some (if nat_lt key a.length then cell_address (a.base + key) else 0))
 found key None h = tt
 found key (Some a) h = let first = first_at_most a.width in grind (arith, first, h.to)
 
 array_is : (shape : AppShape) (map : ℕ) → IsShape shape → IfSome (array_of shape map) IsArray
 array_is shape map h = by_test (nat_le map_start map)
   where
-    by_test : (b : Bool) → IfSome (if b then slice_get shape.arrays (map - map_start) else None) IsArray
+    by_test : (b : Bool)
+        → IfSome (if b then slice_get shape.arrays (map - map_start) else None) IsArray
     by_test true = all_at IsArray shape.arrays (map - map_start) h.arrays
     by_test false = tt
 
@@ -93,8 +102,10 @@ text_is_word bytes (Some text) = answer (bytes_eq text bytes)
     answer false = omega arith
 
 compared_word : (s : State) (number address n : ℕ) → Words (compared s number address n)
-compared_word s number address n = either_word (nat_le n 64) (stack_bytes s address n >>= λ bytes. Some (attr_is s.attributes number bytes)) None
-    (after (stack_bytes s address n) (λ bytes. Some (attr_is s.attributes number bytes)) (λ bytes. text_is_word bytes (attribute s.attributes number))) tt
+compared_word s number address n = either_word (nat_le n 64)
+    (stack_bytes s address n >>= λ bytes. Some (attr_is s.attributes number bytes)) None
+    (after (stack_bytes s address n) (λ bytes. Some (attr_is s.attributes number bytes))
+    (λ bytes. text_is_word bytes (attribute s.attributes number))) tt
 
 length_word : (o : Option (List ℕ)) → IfSome o (λ text. length text ≤ 1024) → IsWord (text_length o)
 length_word None h = omega arith
@@ -105,16 +116,25 @@ bucket_word a salt = omega arith
 
 -- ---- calls
 
-pub helper_word : (shape : AppShape) (s : State) (helper : ℤ) → IsShape shape → HasWords s → Words (helper_result shape s helper)
+pub helper_word : (shape : AppShape) (s : State) (helper : ℤ) → IsShape shape → HasWords s
+    → Words (helper_result shape s helper)
 helper_word shape s (negsuc n) shaped h = tt
 helper_word shape s (pos n) shaped h =
     either_word (n == 1) (s.registers 1 >>= λ map. s.registers 2 >>= λ key. lookup shape map key) _
-    (after (s.registers 1) (λ map. s.registers 2 >>= λ key. lookup shape map key) (λ map. after (s.registers 2) (λ key. lookup shape map key) (λ key. lookup_word shape map key shaped)))
-    (either_word (n == 2) (s.registers 1 >>= λ number. s.registers 2 >>= λ address. s.registers 3 >>= λ k. compared s number address k) _
-    (after (s.registers 1) (λ number. s.registers 2 >>= λ address. s.registers 3 >>= λ k. compared s number address k) (λ number.
-    after (s.registers 2) (λ address. s.registers 3 >>= λ k. compared s number address k) (λ address.
-    after (s.registers 3) (λ k. compared s number address k) (λ k. compared_word s number address k))))
+    (after (s.registers 1) (λ map. s.registers 2 >>= λ key. lookup shape map key) (λ map.
+    after (s.registers 2) (λ key. lookup shape map key) (λ key. lookup_word shape map key shaped)))
+    (either_word (n == 2) (s.registers 1 >>= λ number. s.registers 2 >>= λ address.
+    s.registers 3 >>= λ k. compared s number address k) _
+    (after (s.registers 1) (λ number. s.registers 2 >>= λ address. s.registers 3 >>= λ k.
+    compared s number address k) (λ number.
+    after (s.registers 2)
+    (λ address. s.registers 3 >>= λ k. compared s number address k) (λ address.
+    after (s.registers 3) (λ k. compared s number address k)
+    (λ k. compared_word s number address k))))
     (either_word (n == 3) (only (attr_len s.attributes) (s.registers 1)) _
-    (after (s.registers 1) (λ number. Some (attr_len s.attributes number)) (λ number. length_word (attribute s.attributes number) (all_at (λ text. length text ≤ 1024) s.attributes.texts number h.texts)))
+    (after (s.registers 1) (λ number. Some (attr_len s.attributes number))
+    (λ number. length_word (attribute s.attributes number)
+    (all_at (λ text. length text ≤ 1024) s.attributes.texts number h.texts)))
     (either_word (n == 4) (only (bucket_of s.attributes) (s.registers 1)) None
-    (after (s.registers 1) (λ salt. Some (bucket_of s.attributes salt)) (bucket_word s.attributes)) tt)))
+    (after (s.registers 1) (λ salt. Some (bucket_of s.attributes salt)) (bucket_word s.attributes))
+    tt)))

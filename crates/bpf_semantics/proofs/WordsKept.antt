@@ -43,25 +43,37 @@ moves : (s : State) (slot : ℕ) → HasWords s → HasWords (moved_to s slot)
 moves s slot h = record { registers = h.registers; stack = h.stack; texts = h.texts }
 
 sets : (s : State) (r v : ℕ) → IsWord v → HasWords s → HasWords (with_register s r v)
-sets s r v small h = record { registers = λ q. by_place q (q == r); stack = h.stack; texts = h.texts }
+sets s r v small h =
+    record { registers = λ q. by_place q (q == r); stack = h.stack; texts = h.texts }
   where
-    by_place : (q : ℕ) (b : Bool) (x : ℕ) → (if b then Some v else s.registers q) ≡ Some x → IsWord x
+    by_place : (q : ℕ) (b : Bool) (x : ℕ)
+        → (if b then Some v else s.registers q) ≡ Some x → IsWord x
     by_place q true x e = let is : v ≡ x = cc in omega (arith, is, small)
     by_place q false x e = h.registers q x e
 
 gives : (s : State) (v : ℕ) → IsWord v → HasWords s → HasWords (with_result s v)
-gives s v small h = record { registers = λ q. by_place q (q == 0) (nat_le q 5); stack = h.stack; texts = h.texts }
+gives s v small h =
+    record { registers = λ q. by_place q (q == 0) (nat_le q 5); stack = h.stack; texts = h.texts }
   where
-    by_place : (q : ℕ) (b c : Bool) (x : ℕ) → (if b then Some v else if c then None else s.registers q) ≡ Some x → IsWord x
+    by_place : (q : ℕ) (b c : Bool) (x : ℕ)
+        → (if b then Some v else if c then None else s.registers q) ≡ Some x → IsWord x
     by_place q true c x e = let is : v ≡ x = cc in omega (arith, is, small)
     by_place q false true x e = absurd cc
     by_place q false false x e = h.registers q x e
 
-stores : (s : State) (place n v : ℕ) → HasWords s → HasWords (record s { stack = with_bytes s.stack place n v })
-stores s place n v h = record { registers = h.registers; stack = λ k. by_place k (nat_le place k && nat_lt k (place + n)); texts = h.texts }
+stores : (s : State) (place n v : ℕ) → HasWords s
+    → HasWords (record s { stack = with_bytes s.stack place n v })
+stores s place n v h = record {
+  registers = h.registers;
+  stack = λ k. by_place k (nat_le place k && nat_lt k (place + n));
+  texts = h.texts;
+}
   where
-    by_place : (k : ℕ) (inside : Bool) (b : ℕ) → (if inside then Some (v / 256 ^ (k - place) % 256) else s.stack k) ≡ Some b → IsByte b
-    by_place k true b e = let is : v / 256 ^ (k - place) % 256 ≡ b = cc in let small = mod_below (v / 256 ^ (k - place)) 256 (omega arith) in omega (arith, is, small)
+    by_place : (k : ℕ) (inside : Bool) (b : ℕ)
+        → (if inside then Some (v / 256 ^ (k - place) % 256) else s.stack k) ≡ Some b → IsByte b
+    by_place k true b e =
+        let is : v / 256 ^ (k - place) % 256 ≡ b = cc in
+        let small = mod_below (v / 256 ^ (k - place)) 256 (omega arith) in omega (arith, is, small)
     by_place k false b e = h.stack k b e
 
 -- ---- outcomes
@@ -70,18 +82,22 @@ either : (b : Bool) (o q : Outcome) → GivesWords o → GivesWords q → GivesW
 either true o q left right = left
 either false o q left right = right
 
-write_words : (s : State) (width : ℕ) (dst : Reg) (o : Option ℕ) → HasWords s → Words o → GivesWords (write s width dst o)
+write_words : (s : State) (width : ℕ) (dst : Reg) (o : Option ℕ) → HasWords s → Words o
+    → GivesWords (write s width dst o)
 write_words s width dst None h v = tt
-write_words s width dst (Some x) h v = either (number_of dst == 10) Trap (go_to (with_register s (number_of dst) x) (s.slot + width)) tt
+write_words s width dst (Some x) h v = either (number_of dst == 10) Trap
+    (go_to (with_register s (number_of dst) x) (s.slot + width)) tt
     (moves (with_register s (number_of dst) x) (s.slot + width) (sets s (number_of dst) x v h))
 
 jump_words : (s : State) (o : Option ℕ) → HasWords s → GivesWords (jump_to s o)
 jump_words s None h = tt
 jump_words s (Some slot) h = moves s slot h
 
-branch_words : (s : State) (offset : ℤ) (o : Option Bool) → HasWords s → GivesWords (branch s offset o)
+branch_words : (s : State) (offset : ℤ) (o : Option Bool) → HasWords s
+    → GivesWords (branch s offset o)
 branch_words s offset None h = tt
-branch_words s offset (Some taken) h = either taken (jump_to s (landing s.slot offset)) (go_to s (s.slot + 1)) (jump_words s (landing s.slot offset) h) (moves s (s.slot + 1) h)
+branch_words s offset (Some taken) h = either taken (jump_to s (landing s.slot offset))
+    (go_to s (s.slot + 1)) (jump_words s (landing s.slot offset) h) (moves s (s.slot + 1) h)
 
 finish_words : (o : Option ℕ) → Words o → GivesWords (finish o)
 finish_words None h = tt
@@ -115,50 +131,72 @@ reply_word c (cell.Xor x) reply h = below_limit c reply h
 reply_word c (cell.Swap x) reply h = below_limit c reply h
 reply_word c (cell.CompareExchange x y) reply h = below_limit c reply h
 
-ask_words : (s : State) (c : ℕ) (op : CellOp) (dst : Option Reg) → HasWords s → GivesWords (ask s c op dst)
+ask_words : (s : State) (c : ℕ) (op : CellOp) (dst : Option Reg) → HasWords s
+    → GivesWords (ask s c op dst)
 ask_words s c op None h = λ reply fits. moves s (s.slot + 1) h
-ask_words s c op (Some dst) h = either (number_of dst == 10) Trap (Asks c op (λ reply. moved_to (with_register s (number_of dst) reply) (s.slot + 1))) tt
-    (λ reply fits. moves (with_register s (number_of dst) reply) (s.slot + 1) (sets s (number_of dst) reply (reply_word c op reply fits) h))
+ask_words s c op (Some dst) h = either (number_of dst == 10) Trap
+    (Asks c op (λ reply. moved_to (with_register s (number_of dst) reply) (s.slot + 1))) tt
+    (λ reply fits. moves (with_register s (number_of dst) reply) (s.slot + 1)
+    (sets s (number_of dst) reply (reply_word c op reply fits) h))
 
-reach_words : (o : Option ℕ) (counter : ℕ → Outcome) (memory : Outcome) → ((c : ℕ) → GivesWords (counter c)) → GivesWords memory → GivesWords (reach o counter memory)
+reach_words : (o : Option ℕ) (counter : ℕ → Outcome) (memory : Outcome)
+    → ((c : ℕ) → GivesWords (counter c)) → GivesWords memory → GivesWords (reach o counter memory)
 reach_words None counter memory at_cell else_memory = else_memory
 reach_words (Some c) counter memory at_cell else_memory = at_cell c
 
-store_asks_words : (s : State) (size : Size) (o : Option ℕ) (c : ℕ) → HasWords s → GivesWords (store_asks s size o c)
+store_asks_words : (s : State) (size : Size) (o : Option ℕ) (c : ℕ) → HasWords s
+    → GivesWords (store_asks s size o c)
 store_asks_words s size None c h = tt
 store_asks_words s size (Some v) c h = ask_words s c (cell.Store (cut (byte_count size) v)) None h
 
-atomic_words : (s : State) (op : AtomicOp) (size : AtomicSize) (dst src : Reg) (offset : ℤ) → HasWords s → GivesWords (needed (atomic_asks s op size dst src offset))
+atomic_words : (s : State) (op : AtomicOp) (size : AtomicSize) (dst src : Reg) (offset : ℤ)
+    → HasWords s → GivesWords (needed (atomic_asks s op size dst src offset))
 atomic_words s op size dst src offset h = on_base (register s dst)
   where
-    on_operands : (c : ℕ) (o q : Option ℕ) → GivesWords (needed (o >>= λ r0. q >>= λ v. Some (ask s c (cell_op op (cut (atomic_count size) r0) (cut (atomic_count size) v)) (fetched op src))))
+    on_operands : (c : ℕ) (o q : Option ℕ) → GivesWords (needed (o >>= λ r0. q >>= λ v. Some (ask s
+        c (cell_op op (cut (atomic_count size) r0) (cut (atomic_count size) v)) (fetched op src))))
     on_operands c None q = tt
     on_operands c (Some r0) None = tt
-    on_operands c (Some r0) (Some v) = ask_words s c (cell_op op (cut (atomic_count size) r0) (cut (atomic_count size) v)) (fetched op src) h
+    on_operands c (Some r0) (Some v) = ask_words s c
+        (cell_op op (cut (atomic_count size) r0) (cut (atomic_count size) v)) (fetched op src) h
 
-    on_cell : (o : Option ℕ) → GivesWords (needed (o >>= λ c. expected op s >>= λ r0. register s src >>= λ v. Some (ask s c (cell_op op (cut (atomic_count size) r0) (cut (atomic_count size) v)) (fetched op src))))
+    on_cell : (o : Option ℕ)
+        → GivesWords (needed (o >>= λ c. expected op s >>= λ r0. register s src >>= λ v. Some (ask s
+        c (cell_op op (cut (atomic_count size) r0) (cut (atomic_count size) v)) (fetched op src))))
     on_cell None = tt
     on_cell (Some c) = on_operands c (expected op s) (register s src)
 
-    on_base : (o : Option ℕ) → GivesWords (needed (o >>= λ base. cell_at (address_of base offset) (atomic_count size) >>= λ c. expected op s >>= λ r0. register s src >>= λ v. Some (ask s c (cell_op op (cut (atomic_count size) r0) (cut (atomic_count size) v)) (fetched op src))))
+    on_base : (o : Option ℕ)
+        → GivesWords (needed (o >>= λ base. cell_at (address_of base offset) (atomic_count size)
+        >>= λ c. expected op s >>= λ r0. register s src >>= λ v. Some (ask s c
+        (cell_op op (cut (atomic_count size) r0) (cut (atomic_count size) v)) (fetched op src))))
     on_base None = tt
     on_base (Some base) = on_cell (cell_at (address_of base offset) (atomic_count size))
 
 -- ---- loads and stores
 
-filled_words : (kind : LoadKind) (o : Option ℕ) → IfSome o (IsBelow (load_count kind)) → Words (o >>= λ n. Some (filled kind n))
+filled_words : (kind : LoadKind) (o : Option ℕ) → IfSome o (IsBelow (load_count kind))
+    → Words (o >>= λ n. Some (filled kind n))
 filled_words kind None h = tt
 filled_words kind (Some n) h = filled_word kind n h
 
-loaded_words : (s : State) (kind : LoadKind) (base : Option ℕ) (offset : ℤ) → HasWords s → Words (loaded s kind base offset)
+loaded_words : (s : State) (kind : LoadKind) (base : Option ℕ) (offset : ℤ) → HasWords s
+    → Words (loaded s kind base offset)
 loaded_words s kind None offset h = tt
-loaded_words s kind (Some b) offset h = filled_words kind (read_at s (address_of b offset) (load_count kind)) (read_lt s (address_of b offset) (load_count kind) h)
+loaded_words s kind (Some b) offset h =
+    filled_words kind (read_at s (address_of b offset) (load_count kind))
+    (read_lt s (address_of b offset) (load_count kind) h)
 
-store_words : (s : State) (size : Size) (base : Option ℕ) (offset : ℤ) (value : Option ℕ) → HasWords s → GivesWords (store s size base offset value)
+store_words : (s : State) (size : Size) (base : Option ℕ) (offset : ℤ) (value : Option ℕ)
+    → HasWords s → GivesWords (store s size base offset value)
 store_words s size None offset value h = tt
-store_words s size (Some b) offset None h = reach_words (store_cell size (Some b) offset) (store_asks s size None) Trap (λ c. store_asks_words s size None c h) tt
-store_words s size (Some b) offset (Some v) h = reach_words (store_cell size (Some b) offset) (store_asks s size (Some v)) _ (λ c. store_asks_words s size (Some v) c h)
-    (moved_words (record s { stack = with_bytes s.stack (address_of b offset - stack_start) (byte_count size) v }) (is_in_stack (address_of b offset) (byte_count size))
+store_words s size (Some b) offset None h = reach_words (store_cell size (Some b) offset)
+    (store_asks s size None) Trap (λ c. store_asks_words s size None c h) tt
+store_words s size (Some b) offset (Some v) h = reach_words (store_cell size (Some b) offset)
+    (store_asks s size (Some v)) _ (λ c. store_asks_words s size (Some v) c h)
+    (moved_words (record s {
+      stack = with_bytes s.stack (address_of b offset - stack_start) (byte_count size) v;
+    }) (is_in_stack (address_of b offset) (byte_count size))
     (stores s (address_of b offset - stack_start) (byte_count size) v h))
 
 -- ---- one instruction
@@ -166,31 +204,55 @@ store_words s size (Some b) offset (Some v) h = reach_words (store_cell size (So
 register_word : (s : State) (r : Reg) → HasWords s → Words (register s r)
 register_word s r h = set_word (register s r) (h.registers (number_of r))
 
-operand_word : (s : State) (bits : Bits) (o : Operand) → FitsSigned w32 (imm_field o) → HasWords s → Words (operand s bits o)
+operand_word : (s : State) (bits : Bits) (o : Operand) → FitsSigned w32 (imm_field o) → HasWords s
+    → Words (operand s bits o)
 operand_word s bits (Imm k) fits h = immediate_word bits k fits
 operand_word s bits (Register r) fits h = register_word s r h
 
-act_words : (shape : AppShape) (s : State) (i : Insn) → IsShape shape → IsEncodable i → HasWords s → GivesWords (act shape s i)
-act_words shape s (Alu bits op dst src) shaped e h = write_words s 1 dst (both (alu_result bits op) (register s dst) (operand s bits src)) h
-    (both_word (alu_result bits op) (register s dst) (operand s bits src) (register_word s dst h) (operand_word s bits src e.first.imm h) (alu_word bits op))
-act_words shape s (Mov bits dst src) shaped e h = write_words s 1 dst (only (word bits) (operand s bits src)) h (only_word (word bits) (operand s bits src) (operand_word s bits src e.first.imm h) (is_word bits))
-act_words shape s (MovSx extension dst src) shaped e h = write_words s 1 dst (only (extended extension) (register s src)) h
-    (only_word (extended extension) (register s src) (register_word s src h) (λ x small. extended_word extension x))
-act_words shape s (Neg bits dst) shaped e h = write_words s 1 dst (only (negated bits) (register s dst)) h (only_word (negated bits) (register s dst) (register_word s dst h) (negated_word bits))
-act_words shape s (End order size dst) shaped e h = write_words s 1 dst (only (reordered order size) (register s dst)) h
-    (only_word (reordered order size) (register s dst) (register_word s dst h) (λ x small. reordered_word order size x))
-act_words shape s (Jump distance) shaped e h = jump_words s (landing s.slot (slots_moved distance)) h
-act_words shape s (JumpIf bits condition left right offset) shaped e h = branch_words s offset (both (holds bits condition) (register s left) (operand s bits right)) h
-act_words shape s (Call helper) shaped e h = answer_words s (helper_result shape s helper) h (helper_word shape s helper shaped h)
-act_words shape s Exit shaped e h = finish_words (s.registers 0) (set_word (s.registers 0) (h.registers 0))
-act_words shape s (Load kind dst src offset) shaped e h = reach_words (load_cell kind (register s src) offset) (λ c. ask s c cell.Load (Some dst)) (write s 1 dst (loaded s kind (register s src) offset))
-    (λ c. ask_words s c cell.Load (Some dst) h) (write_words s 1 dst (loaded s kind (register s src) offset) h (loaded_words s kind (register s src) offset h))
-act_words shape s (StoreImm size dst offset imm) shaped e h = store_words s size (register s dst) offset (Some (immediate Bits64 imm)) h
-act_words shape s (Store size dst src offset) shaped e h = store_words s size (register s dst) offset (register s src) h
-act_words shape s (Atomic op size dst src offset) shaped e h = atomic_words s op size dst src offset h
-act_words shape s (Wide dst value) shaped e h = write_words s 2 dst (wide_value shape value) h (wide_word shape value e.first.imm e.number)
+act_words : (shape : AppShape) (s : State) (i : Insn) → IsShape shape → IsEncodable i → HasWords s
+    → GivesWords (act shape s i)
+act_words shape s (Alu bits op dst src) shaped e h =
+    write_words s 1 dst (both (alu_result bits op) (register s dst) (operand s bits src)) h
+    (both_word (alu_result bits op) (register s dst) (operand s bits src) (register_word s dst h)
+    (operand_word s bits src e.first.imm h) (alu_word bits op))
+act_words shape s (Mov bits dst src) shaped e h =
+    write_words s 1 dst (only (word bits) (operand s bits src)) h (only_word (word bits)
+    (operand s bits src) (operand_word s bits src e.first.imm h) (is_word bits))
+act_words shape s (MovSx extension dst src) shaped e h =
+    write_words s 1 dst (only (extended extension) (register s src)) h
+    (only_word (extended extension) (register s src) (register_word s src h)
+    (λ x small. extended_word extension x))
+act_words shape s (Neg bits dst) shaped e h =
+    write_words s 1 dst (only (negated bits) (register s dst)) h
+    (only_word (negated bits) (register s dst) (register_word s dst h) (negated_word bits))
+act_words shape s (End order size dst) shaped e h =
+    write_words s 1 dst (only (reordered order size) (register s dst)) h
+    (only_word (reordered order size) (register s dst) (register_word s dst h)
+    (λ x small. reordered_word order size x))
+act_words shape s (Jump distance) shaped e h =
+    jump_words s (landing s.slot (slots_moved distance)) h
+act_words shape s (JumpIf bits condition left right offset) shaped e h =
+    branch_words s offset (both (holds bits condition) (register s left) (operand s bits right)) h
+act_words shape s (Call helper) shaped e h =
+    answer_words s (helper_result shape s helper) h (helper_word shape s helper shaped h)
+act_words shape s Exit shaped e h =
+    finish_words (s.registers 0) (set_word (s.registers 0) (h.registers 0))
+act_words shape s (Load kind dst src offset) shaped e h =
+    reach_words (load_cell kind (register s src) offset) (λ c. ask s c cell.Load (Some dst))
+    (write s 1 dst (loaded s kind (register s src) offset))
+    (λ c. ask_words s c cell.Load (Some dst) h) (write_words s 1 dst
+    (loaded s kind (register s src) offset) h (loaded_words s kind (register s src) offset h))
+act_words shape s (StoreImm size dst offset imm) shaped e h =
+    store_words s size (register s dst) offset (Some (immediate Bits64 imm)) h
+act_words shape s (Store size dst src offset) shaped e h =
+    store_words s size (register s dst) offset (register s src) h
+act_words shape s (Atomic op size dst src offset) shaped e h =
+    atomic_words s op size dst src offset h
+act_words shape s (Wide dst value) shaped e h =
+    write_words s 2 dst (wide_value shape value) h (wide_word shape value e.first.imm e.number)
 
-at_words : (shape : AppShape) (s : State) (o : Option Insn) → IsShape shape → ((i : Insn) → o ≡ Some i → IsEncodable i) → HasWords s → GivesWords (act_at shape s o)
+at_words : (shape : AppShape) (s : State) (o : Option Insn) → IsShape shape
+    → ((i : Insn) → o ≡ Some i → IsEncodable i) → HasWords s → GivesWords (act_at shape s o)
 at_words shape s None shaped code h = tt
 at_words shape s (Some i) shaped code h = act_words shape s i shaped (code i refl) h
 

@@ -29,8 +29,8 @@ atomic_program op width base offset =
 -- ---- helpers
 
 -- mov r1, MAP / mov r2, 0 / call 1
-abbrev pub lookup_program : ℤ → Program
-lookup_program map =
+abbrev pub missing_map_program : ℤ → Program
+missing_map_program map =
     layout (Mov Bits64 R1 (Imm map) ∷ Mov Bits64 R2 (Imm (pos 0)) ∷ Call (pos 1) ∷ [])
 
 -- ldmap r1, 0 / call 1

@@ -20,7 +20,7 @@ use Rattle.cells.specs.declared.array.CellWidth.TheVariants as width
 use Rattle.cells.specs.declared.event.CellEvent.{CellEvent}
 use Rattle.cells.specs.declared.event.CellOp.{CellOp}
 use Rattle.cells.specs.declared.event.CellOp.TheVariants as cell
-use Rattle.cells.specs.Events.{limit, after, reply_of}
+use Rattle.cells.specs.Events.{event, limit, after, reply_of}
 use Rattle.attrs.specs.Attributes.{Attributes}
 use Rattle.bpf_semantics.specs.Program.{ShapedProgram}
 use Rattle.bpf_semantics.specs.State.{opening}
@@ -48,9 +48,6 @@ one_narrow = array width.Bits32 4096 1 None
 
 abbrev pub quota_of_two : CellArray
 quota_of_two = array width.Bits64 0 1 (Some 2)
-
-abbrev pub event : ℕ → CellOp → ℕ → CellEvent
-event c op reply = record { cell = c; op = op; reply = reply }
 
 -- ---- lookups
 

@@ -100,8 +100,8 @@ pub fn unknown_helpers()
     ensures zero { AlwaysTraps (single (Call (pos 0))) 0 }
     ensures five { AlwaysTraps (single (Call (pos 5))) 0 }
     ensures negative { AlwaysTraps (single (Call (negsuc 0))) 0 }
-    ensures past_map { TrapsOver one_wide (traps.lookup_program (pos 0x40000001)) 2 }
-    ensures no_map { TrapsOver one_wide (traps.lookup_program (pos 0)) 2 }
+    ensures past_map { TrapsOver one_wide (traps.missing_map_program (pos 0x40000001)) 2 }
+    ensures no_map { TrapsOver one_wide (traps.missing_map_program (pos 0)) 2 }
 {}
 
 /// `stb [r10-8], 0 / mov r1, 1 / mov r2, r10 / add r2, PLACE / mov r3, COUNT / call 2` compares at

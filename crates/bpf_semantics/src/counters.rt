@@ -3,6 +3,7 @@
 ghost use Rattle.std.specs.Prelude.{◌≡◌, ℕ, pos, [], ◌∷◌, Some, slice_get};
 ghost use Rattle.attrs.specs.Attributes.{Attributes};
 ghost use Rattle.cells.specs.declared.event.CellOp.TheVariants as cell;
+ghost use Rattle.cells.specs.Events.{event};
 ghost use Rattle.bpf_semantics.specs.Run.{EndsWith};
 ghost use Rattle.bpf_semantics.specs.WorkedCells as worked;
 ghost use Rattle.bpf_semantics.specs.WorkedCells.{EndsOver, TrapsOver, AreValues};
@@ -22,7 +23,7 @@ pub fn lookups()
 pub fn loads_of_counters()
     ensures { (value : ℕ)
         → EndsOver worked.one_wide worked.checked_program
-        (worked.event 0 cell.Load value ∷ []) 0 8 }
+        (event 0 cell.Load value ∷ []) 0 8 }
 {}
 
 /// `ldcell r6, 0, 0 / mov32 r2, -1 / stxw [r6+0], r2 / mov r2, 1 / faddw [r6+0], r2 / mov r0, 0 /
@@ -47,11 +48,11 @@ pub fn cut_operands()
 /// / exit` takes 1 of a quota of two: the replies 0 and 1 lead to release 1, and 2 leads to none.
 pub fn takes()
     ensures first { EndsOver worked.quota_of_two worked.take_program
-        (worked.event 0 (cell.Add 1) 0 ∷ []) 1 6 }
+        (event 0 (cell.Add 1) 0 ∷ []) 1 6 }
     ensures second { EndsOver worked.quota_of_two worked.take_program
-        (worked.event 0 (cell.Add 1) 1 ∷ []) 1 6 }
+        (event 0 (cell.Add 1) 1 ∷ []) 1 6 }
     ensures third { EndsOver worked.quota_of_two worked.take_program
-        (worked.event 0 (cell.Add 1) 2 ∷ []) 0 6 }
+        (event 0 (cell.Add 1) 2 ∷ []) 0 6 }
 {}
 
 /// `stb [r10-8], 49 / mov r1, 1 / mov r2, r10 / add r2, -8 / mov r3, 1 / call 2 / exit` ends with 1

@@ -31,7 +31,8 @@ abbrev pub tokens_of_argument : Argument → Tokens
 tokens_of_argument (argument.Register r) = Word (register_text r) ∷ []
 tokens_of_argument (argument.Imm k) = Number (imm_figure k) ∷ []
 tokens_of_argument (argument.Number n) = Number (figure Absent n) ∷ []
-tokens_of_argument (argument.Memory r k) = Open ∷ Word (register_text r) ∷ Number (signed_figure k) ∷ Close ∷ []
+tokens_of_argument (argument.Memory r k) =
+    Open ∷ Word (register_text r) ∷ Number (signed_figure k) ∷ Close ∷ []
 tokens_of_argument (argument.Distance d) = Number (signed_figure (slots_moved d)) ∷ []
 
 abbrev pub item_of_argument : Argument → Item Name
@@ -62,15 +63,18 @@ one_front : (t : Token Name) (o : Option Tokens) → front t o ≡ onto (t ∷ [
 one_front t None = refl
 one_front t (Some ts) = refl
 
-four_front : (a b c d : Token Name) (o : Option Tokens) → front a (front b (front c (front d o))) ≡ onto (a ∷ b ∷ c ∷ d ∷ []) o
+four_front : (a b c d : Token Name) (o : Option Tokens)
+    → front a (front b (front c (front d o))) ≡ onto (a ∷ b ∷ c ∷ d ∷ []) o
 four_front a b c d None = refl
 four_front a b c d (Some ts) = refl
 
-imm_token : (k : ℤ) (rest : List ℕ) → IsShort k → goes_on rest ≡ false → tokens_of (signed_decimal k ++ rest) ≡ front (Number (imm_figure k)) (tokens_of rest)
+imm_token : (k : ℤ) (rest : List ℕ) → IsShort k → goes_on rest ≡ false
+    → tokens_of (signed_decimal k ++ rest) ≡ front (Number (imm_figure k)) (tokens_of rest)
 imm_token (pos n) rest short ends = decimal_token n rest short ends
 imm_token (negsuc n) rest short ends = minus_token (suc n) rest short ends
 
-signed_token : (k : ℤ) (rest : List ℕ) → IsShort k → goes_on rest ≡ false → tokens_of (with_sign k ++ rest) ≡ front (Number (signed_figure k)) (tokens_of rest)
+signed_token : (k : ℤ) (rest : List ℕ) → IsShort k → goes_on rest ≡ false
+    → tokens_of (with_sign k ++ rest) ≡ front (Number (signed_figure k)) (tokens_of rest)
 signed_token (pos n) rest short ends = plus_token n rest short ends
 signed_token (negsuc n) rest short ends = minus_token (suc n) rest short ends
 
@@ -78,27 +82,37 @@ sign_ends : (k : ℤ) (rest : List ℕ) → goes_on (with_sign k ++ rest) ≡ fa
 sign_ends (pos n) rest = refl
 sign_ends (negsuc n) rest = refl
 
-memory_text : (r : Reg) (k : ℤ) (rest : List ℕ) → argument_text (argument.Memory r k) ++ rest ≡ 91 ∷ (register_text r ++ (with_sign k ++ (93 ∷ rest)))
+memory_text : (r : Reg) (k : ℤ) (rest : List ℕ) → argument_text (argument.Memory r k) ++ rest ≡ 91
+    ∷ (register_text r ++ (with_sign k ++ (93 ∷ rest)))
 memory_text r k rest =
     ap (λ (t : List ℕ). 91 ∷ t)
-    (append_assoc (register_text r ++ with_sign k) (93 ∷ []) rest ∙ append_assoc (register_text r) (with_sign k) (93 ∷ rest))
+    (append_assoc (register_text r ++ with_sign k) (93 ∷ []) rest
+    ∙ append_assoc (register_text r) (with_sign k) (93 ∷ rest))
 
-pub argument_tokens : (a : Argument) (rest : List ℕ) → HasShort a → goes_on rest ≡ false → tokens_of (argument_text a ++ rest) ≡ onto (tokens_of_argument a) (tokens_of rest)
+pub argument_tokens : (a : Argument) (rest : List ℕ) → HasShort a → goes_on rest ≡ false
+    → tokens_of (argument_text a ++ rest) ≡ onto (tokens_of_argument a) (tokens_of rest)
 argument_tokens (argument.Register r) rest short ends =
-    word_token (register_text r) rest (register_is_named r).is_text ends ∙ one_front (Word (register_text r)) (tokens_of rest)
-argument_tokens (argument.Imm k) rest short ends = imm_token k rest short ends ∙ one_front (Number (imm_figure k)) (tokens_of rest)
-argument_tokens (argument.Number n) rest short ends = decimal_token n rest short ends ∙ one_front (Number (figure Absent n)) (tokens_of rest)
+    word_token (register_text r) rest (register_is_named r).is_text ends
+    ∙ one_front (Word (register_text r)) (tokens_of rest)
+argument_tokens (argument.Imm k) rest short ends =
+    imm_token k rest short ends ∙ one_front (Number (imm_figure k)) (tokens_of rest)
+argument_tokens (argument.Number n) rest short ends =
+    decimal_token n rest short ends ∙ one_front (Number (figure Absent n)) (tokens_of rest)
 argument_tokens (argument.Distance d) rest short ends =
-    signed_token (slots_moved d) rest short ends ∙ one_front (Number (signed_figure (slots_moved d))) (tokens_of rest)
+    signed_token (slots_moved d) rest short ends
+    ∙ one_front (Number (signed_figure (slots_moved d))) (tokens_of rest)
 argument_tokens (argument.Memory r k) rest short ends =
     ap tokens_of (memory_text r k rest)
     ∙ open_token (register_text r ++ (with_sign k ++ (93 ∷ rest)))
-    ∙ ap (front Open) (word_token (register_text r) (with_sign k ++ (93 ∷ rest)) (register_is_named r).is_text (sign_ends k (93 ∷ rest))
-    ∙ ap (front (Word (register_text r))) (signed_token k (93 ∷ rest) short refl ∙ ap (front (Number (signed_figure k))) (close_token rest)))
+    ∙ ap (front Open) (word_token (register_text r) (with_sign k ++ (93 ∷ rest))
+    (register_is_named r).is_text (sign_ends k (93 ∷ rest))
+    ∙ ap (front (Word (register_text r))) (signed_token k (93 ∷ rest) short refl
+    ∙ ap (front (Number (signed_figure k))) (close_token rest)))
     ∙ four_front Open (Word (register_text r)) (Number (signed_figure k)) Close (tokens_of rest)
 
 -- ---- from its tokens to the operand
 
-pub item_again : (a : Argument) (rest : Tokens) → item_at_front (tokens_of_argument a ++ rest) ≡ Some (item_of_argument a, rest)
+pub item_again : (a : Argument) (rest : Tokens)
+    → item_at_front (tokens_of_argument a ++ rest) ≡ Some (item_of_argument a, rest)
 item_again (argument.Register r) rest = refl
 item_again a rest = refl

@@ -45,7 +45,8 @@ use Rattle.bpf_text.proofs.Statements.{insn_again}
 abbrev is_plain : List ℕ → Bool
 is_plain t = list_all (λ c. nat_le 32 c) t
 
-plain_append : (xs ys : List ℕ) → is_plain xs ≡ true → is_plain ys ≡ true → is_plain (xs ++ ys) ≡ true
+plain_append : (xs ys : List ℕ) → is_plain xs ≡ true → is_plain ys ≡ true
+    → is_plain (xs ++ ys) ≡ true
 plain_append xs ys h k =
     list_all-append (λ c. nat_le 32 c) xs ys ∙ ap (λ (b : Bool). b && is_plain ys) h ∙ k
 
@@ -67,7 +68,8 @@ plain_word (c ∷ w) h =
     let e = plain_name_byte c name in simp e (plain_names w parts.0)
 
 plain_decimal : (n : ℕ) → n < 2 ^ 64 → is_plain (decimal n) ≡ true
-plain_decimal n small = plain_names (decimal n) (digit_names (decimal n) (decimal_is_IsNumeral n small).0.1)
+plain_decimal n small =
+    plain_names (decimal n) (digit_names (decimal n) (decimal_is_IsNumeral n small).0.1)
 
 plain_signed : (k : ℤ) → IsShort k → is_plain (signed_decimal k) ≡ true
 plain_signed (pos n) h = plain_decimal n h
@@ -85,11 +87,13 @@ plain_argument (argument.Distance d) h = plain_with_sign (slots_moved d) h
 plain_argument (argument.Memory r k) h =
     plain_append ((codes "[" ++ register_text r) ++ with_sign k) (codes "]")
     (plain_append (codes "[" ++ register_text r) (with_sign k)
-    (plain_append (codes "[") (register_text r) refl (plain_word (register_text r) (register_is_named r).is_text))
+    (plain_append (codes "[") (register_text r) refl
+    (plain_word (register_text r) (register_is_named r).is_text))
     (plain_with_sign k h))
     refl
 
-plain_behind : (divider : List ℕ) (o : Option arguments.Argument) → is_plain divider ≡ true → HasShortOption o → is_plain (text_behind divider o) ≡ true
+plain_behind : (divider : List ℕ) (o : Option arguments.Argument)
+    → is_plain divider ≡ true → HasShortOption o → is_plain (text_behind divider o) ≡ true
 plain_behind divider None d h = refl
 plain_behind divider (Some a) d h = plain_append divider (argument_text a) d (plain_argument a h)
 
@@ -97,12 +101,15 @@ plain_line : (i : Insn) → IsEncodable i → is_plain (line_text i) ≡ true
 plain_line i p =
     let a = arguments_of i in
     let short = are_short i p in
-    plain_append (word_of (mnemonic_of i)) (arguments_text a) (plain_word (word_of (mnemonic_of i)) (is_named (mnemonic_of i)).is_text)
-    (plain_append (text_behind (codes " ") a.first) (text_behind (codes ", ") a.second ++ (text_behind (codes ", ") a.third ++ []))
+    plain_append (word_of (mnemonic_of i)) (arguments_text a)
+    (plain_word (word_of (mnemonic_of i)) (is_named (mnemonic_of i)).is_text)
+    (plain_append (text_behind (codes " ") a.first)
+    (text_behind (codes ", ") a.second ++ (text_behind (codes ", ") a.third ++ []))
     (plain_behind (codes " ") a.first refl short.first)
     (plain_append (text_behind (codes ", ") a.second) (text_behind (codes ", ") a.third ++ [])
     (plain_behind (codes ", ") a.second refl short.second)
-    (plain_append (text_behind (codes ", ") a.third) [] (plain_behind (codes ", ") a.third refl short.third) refl)))
+    (plain_append (text_behind (codes ", ") a.third) []
+    (plain_behind (codes ", ") a.third refl short.third) refl)))
 
 -- ---- its lines
 
@@ -115,11 +122,13 @@ plain_no_newline c h = grind arith
 plain_no_return : (c : ℕ) → nat_le 32 c ≡ true → (c == 13) ≡ false
 plain_no_return c h = grind arith
 
-split_plain : (xs ys : List ℕ) → is_plain xs ≡ true → slice_split is_newline (xs ++ (10 ∷ ys)) ≡ xs ∷ slice_split is_newline ys
+split_plain : (xs ys : List ℕ) → is_plain xs ≡ true
+    → slice_split is_newline (xs ++ (10 ∷ ys)) ≡ xs ∷ slice_split is_newline ys
 split_plain [] ys h = refl
 split_plain (c ∷ xs) ys h =
     let both = and_both (nat_le 32 c) (is_plain xs) h in
-    slice_split-cons_no is_newline c (xs ++ (10 ∷ ys)) (plain_no_newline c both.0) ∙ ap (onto_first c) (split_plain xs ys both.1)
+    slice_split-cons_no is_newline c (xs ++ (10 ∷ ys)) (plain_no_newline c both.0)
+    ∙ ap (onto_first c) (split_plain xs ys both.1)
 
 no_return : (xs : List ℕ) (i : ℕ) → is_plain xs ≡ true → (slice_index xs i == 13) ≡ false
 no_return [] i h = refl
@@ -131,17 +140,21 @@ keeps_plain xs h = let e = no_return xs (length xs - 1) h in simp e refl
 
 line_of_plain : (xs ys : List ℕ) → is_plain xs ≡ true → lines (xs ++ (10 ∷ ys)) ≡ xs ∷ lines ys
 line_of_plain xs ys h =
-    let some : 0 < length (slice_split is_newline ys) = omega (arith, length-slice_split is_newline ys) in
+    let some : 0 < length (slice_split is_newline ys) =
+    omega (arith, length-slice_split is_newline ys) in
     ap lines_of_parts (split_plain xs ys h) ∙ parts_cons xs (slice_split is_newline ys) some
     ∙ ap (λ (x : List ℕ). x ∷ lines ys) (keeps_plain xs h)
 
-lines_again : (is : List Insn) → AllByRecursion IsEncodable is → lines_in tables (listing_of is) ≡ map as_line is
+lines_again : (is : List Insn) → AllByRecursion IsEncodable is
+    → lines_in tables (listing_of is) ≡ map as_line is
 lines_again [] all = refl
 lines_again (i ∷ is) all =
     let t = line_text i in
     let text : line_of i ++ listing_of is ≡ t ++ (10 ∷ listing_of is) =
-    ap (λ (u : List ℕ). u ++ listing_of is) (line_ends i) ∙ append_assoc t (10 ∷ []) (listing_of is) in
-    ap (lines_in tables) text ∙ ap (map (read_line tables)) (line_of_plain t (listing_of is) (plain_line i all.0))
+    ap (λ (u : List ℕ). u ++ listing_of is) (line_ends i)
+    ∙ append_assoc t (10 ∷ []) (listing_of is) in
+    ap (lines_in tables) text
+    ∙ ap (map (read_line tables)) (line_of_plain t (listing_of is) (plain_line i all.0))
     ∙ ap (λ (l : Line). l ∷ lines_in tables (listing_of is)) (line_again i all.0)
     ∙ ap (λ (ls : List Line). as_line i ∷ ls) (lines_again is all.1)
 
@@ -155,52 +168,73 @@ width_again i = refl
 not_too_long : (n : ℕ) → n ≤ 4096 → too_long n ≡ None
 not_too_long n h = grind arith
 
-no_fault : (before : List Line) (is : List Insn) → slots_in before + length (layout is) ≤ 4096 → first_fault before (map as_line is) ≡ None
+no_fault : (before : List Line) (is : List Insn) → slots_in before + length (layout is) ≤ 4096
+    → first_fault before (map as_line is) ≡ None
 no_fault before [] short = refl
 no_fault before (i ∷ is) short =
     let n = slots_of_word (mnemonic_of i) in
-    let len : length (layout (i ∷ is)) ≡ n + length (layout is) = length-append (slots i) (layout is) ∙ ap (λ (m : ℕ). m + length (layout is)) (length-slots i ∙ width_again i) in
-    let fine : line_fault before (as_line i) ≡ None = not_too_long (slots_in before + n) (omega (arith, short, len)) in
+    let len : length (layout (i ∷ is)) ≡ n + length (layout is) =
+    length-append (slots i) (layout is)
+    ∙ ap (λ (m : ℕ). m + length (layout is)) (length-slots i ∙ width_again i) in
+    let fine : line_fault before (as_line i) ≡ None =
+    not_too_long (slots_in before + n) (omega (arith, short, len)) in
     let more = slots_more before (as_line i) in
-    ap (λ (o : Option _). fault_or (length before + 1) o (first_fault (before ++ (as_line i ∷ [])) (map as_line is))) fine
+    ap (λ (o : Option _).
+    fault_or (length before + 1) o (first_fault (before ++ (as_line i ∷ [])) (map as_line is))) fine
     ∙ no_fault (before ++ (as_line i ∷ [])) is (omega (arith, short, len, more))
 
-argument_again : (slot_of : Name → Option ℕ) (s : ℕ) (a : Option arguments.Argument) → argument_if slot_of s (option_map Argument a) ≡ Ok a
+argument_again : (slot_of : Name → Option ℕ) (s : ℕ) (a : Option arguments.Argument)
+    → argument_if slot_of s (option_map Argument a) ≡ Ok a
 argument_again slot_of s None = refl
 argument_again slot_of s (Some a) = refl
 
-arguments_again : (slot_of : Name → Option ℕ) (s : ℕ) (a : UpToThree arguments.Argument) → arguments_at slot_of s (map_three Argument a) ≡ Ok a
+arguments_again : (slot_of : Name → Option ℕ) (s : ℕ) (a : UpToThree arguments.Argument)
+    → arguments_at slot_of s (map_three Argument a) ≡ Ok a
 arguments_again slot_of s a =
     let y = argument_if slot_of s (option_map Argument a.second) in
     let z = argument_if slot_of s (option_map Argument a.third) in
-    ap (λ (r : Result (Option arguments.Argument) AsmFaultKind). in_turn r y z) (argument_again slot_of s a.first)
-    ∙ ap (λ (r : Result (Option arguments.Argument) AsmFaultKind). in_turn (Ok a.first) r z) (argument_again slot_of s a.second)
-    ∙ ap (λ (r : Result (Option arguments.Argument) AsmFaultKind). in_turn (Ok a.first) (Ok a.second) r) (argument_again slot_of s a.third)
+    ap (λ (r : Result (Option arguments.Argument) AsmFaultKind). in_turn r y z)
+    (argument_again slot_of s a.first)
+    ∙ ap (λ (r : Result (Option arguments.Argument) AsmFaultKind). in_turn (Ok a.first) r z)
+    (argument_again slot_of s a.second)
+    ∙ ap (λ (r : Result (Option arguments.Argument) AsmFaultKind).
+    in_turn (Ok a.first) (Ok a.second) r) (argument_again slot_of s a.third)
 
-stated_again : (slot_of : Name → Option ℕ) (n s : ℕ) (i : Insn) → insn_at tables slot_of (record { line = n; slot = s; statement = stated i }) ≡ Ok i
+stated_again : (slot_of : Name → Option ℕ) (n s : ℕ) (i : Insn)
+    → insn_at tables slot_of (record { line = n; slot = s; statement = stated i }) ≡ Ok i
 stated_again slot_of n s i =
-    ap (λ (r : Result (UpToThree arguments.Argument) AsmFaultKind). r >>? λ a. needs kind.Operand (insn_of (mnemonic_of i) a)) (arguments_again slot_of s (arguments_of i))
+    ap (λ (r : Result (UpToThree arguments.Argument) AsmFaultKind). r >>? λ a.
+    needs kind.Operand (insn_of (mnemonic_of i) a)) (arguments_again slot_of s (arguments_of i))
     ∙ ap (needs kind.Operand) (insn_again i)
 
-bytes_again : (slot_of : Name → Option ℕ) (n s : ℕ) (is : List Insn) → bytes_of_placed tables slot_of (placed n s (map as_line is)) ≡ Ok (encodings is)
+bytes_again : (slot_of : Name → Option ℕ) (n s : ℕ) (is : List Insn)
+    → bytes_of_placed tables slot_of (placed n s (map as_line is)) ≡ Ok (encodings is)
 bytes_again slot_of n s [] = refl
 bytes_again slot_of n s (i ∷ is) =
-    let more = bytes_of_placed tables slot_of (placed (n + 1) (s + slots_of_word (mnemonic_of i)) (map as_line is)) in
+    let more = bytes_of_placed tables slot_of
+    (placed (n + 1) (s + slots_of_word (mnemonic_of i)) (map as_line is)) in
     ap (λ (r : Result Insn AsmFaultKind). bytes_onto n r more) (stated_again slot_of n s i)
-    ∙ ap (onto_bytes (encoding i)) (bytes_again slot_of (n + 1) (s + slots_of_word (mnemonic_of i)) is)
+    ∙ ap (onto_bytes (encoding i))
+    (bytes_again slot_of (n + 1) (s + slots_of_word (mnemonic_of i)) is)
 
-lines_assemble : (is : List Insn) → length (layout is) ≤ 4096 → assembly_of_lines tables (map as_line is) ≡ Ok (encodings is)
+lines_assemble : (is : List Insn) → length (layout is) ≤ 4096
+    → assembly_of_lines tables (map as_line is) ≡ Ok (encodings is)
 lines_assemble is short =
-    ap (λ (o : Option AsmFault). unless_fault o (bytes_of_placed tables (label_slot 0 (map as_line is)) (placed 1 0 (map as_line is)))) (no_fault [] is (omega (arith, short)))
+    ap (λ (o : Option AsmFault). unless_fault o
+    (bytes_of_placed tables (label_slot 0 (map as_line is)) (placed 1 0 (map as_line is))))
+    (no_fault [] is (omega (arith, short)))
     ∙ bytes_again (label_slot 0 (map as_line is)) 1 0 is
 
-assembly_again : (bytes text : List ℕ) → Lists bytes text → length bytes ≤ 8 * 4096 → assembly_of tables text ≡ Ok bytes
+assembly_again : (bytes text : List ℕ) → Lists bytes text → length bytes ≤ 8 * 4096
+    → assembly_of tables text ≡ Ok bytes
 unfolding assembly_of
 assembly_again bytes text h short =
     let is = h.0 in
     let len : length bytes ≡ 8 * length (layout is) = ap length h.2 ∙ length-encodings is in
-    ap (assembly_of tables) h.3 ∙ ap (assembly_of_lines tables) (lines_again is h.1) ∙ lines_assemble is (omega (arith, len, short)) ∙ ap Ok (sym h.2)
+    ap (assembly_of tables) h.3 ∙ ap (assembly_of_lines tables) (lines_again is h.1)
+    ∙ lines_assemble is (omega (arith, len, short)) ∙ ap Ok (sym h.2)
 
 -- the text that lists bytes stands for them
-pub listing_assembles : (bytes text : List ℕ) → Lists bytes text → length bytes ≤ 8 * 4096 → Assembles text (Ok bytes)
+pub listing_assembles : (bytes text : List ℕ) → Lists bytes text → length bytes ≤ 8 * 4096
+    → Assembles text (Ok bytes)
 listing_assembles bytes text h short = by_tables text (Ok bytes) (assembly_again bytes text h short)

@@ -24,7 +24,8 @@ use Rattle.bpf_text.proofs.Statements.{Has, insn_found, insn_again}
 
 -- ---- what a search finds passes its test
 
-by_test : {A : Type 0} (p : A → Bool) (x : A) (rest : Option A) (b : Bool) → p x ≡ b → IfSome rest (λ y. p y ≡ true) → IfSome (cond b (Some x) rest) (λ y. p y ≡ true)
+by_test : {A : Type 0} (p : A → Bool) (x : A) (rest : Option A) (b : Bool)
+    → p x ≡ b → IfSome rest (λ y. p y ≡ true) → IfSome (cond b (Some x) rest) (λ y. p y ≡ true)
 by_test p x rest true e h = e
 by_test p x rest false e h = h
 
@@ -39,13 +40,15 @@ mnemonic_found : (w : Name) (m : Mnemonic) → mnemonic_named w ≡ Some m → w
 unfolding mnemonic_named
 mnemonic_found w m e =
     let test = λ (n : Mnemonic). bytes_eq w (word_of n) in
-    (bytes_eq-Decides w (word_of m)).0 (some_if (λ n. test n ≡ true) (find test MNEMONICS) m e (passes test MNEMONICS))
+    (bytes_eq-Decides w (word_of m)).0
+    (some_if (λ n. test n ≡ true) (find test MNEMONICS) m e (passes test MNEMONICS))
 
 register_found : (w : Name) (r : Reg) → register_named w ≡ Some r → w ≡ register_text r
 unfolding register_named
 register_found w r e =
     let test = λ (s : Reg). bytes_eq w (register_text s) in
-    (bytes_eq-Decides w (register_text r)).0 (some_if (λ s. test s ≡ true) (find test REGISTERS) r e (passes test REGISTERS))
+    (bytes_eq-Decides w (register_text r)).0
+    (some_if (λ s. test s ≡ true) (find test REGISTERS) r e (passes test REGISTERS))
 
 again : (m : Mnemonic) (a : UpToThree Argument) (i : Insn) → Has m a i → insn_of m a ≡ Some i
 again m a i h =
@@ -60,7 +63,8 @@ tables_exact = record {
 
 -- ---- two that are exact are the same
 
-same_option : {A : Type 0} (o p : Option A) → ((x : A) → o ≡ Some x → p ≡ Some x) → ((x : A) → p ≡ Some x → o ≡ Some x) → o ≡ p
+same_option : {A : Type 0} (o p : Option A) → ((x : A) → o ≡ Some x → p ≡ Some x)
+    → ((x : A) → p ≡ Some x → o ≡ Some x) → o ≡ p
 same_option (Some x) p h k = sym (h x refl)
 same_option None None h k = refl
 same_option None (Some x) h k = k x refl
@@ -90,16 +94,20 @@ same_vocabulary v w p q = λ i. record {
         (λ i e. (q.insns m a i).1 ((p.insns m a i).0 e))
         (λ i e. (p.insns m a i).1 ((q.insns m a i).0 e))
 
-pub one_assembly : (text : List ℕ) (a b : Result (List ℕ) AsmFault) → Assembles text a → Assembles text b → a ≡ b
+pub one_assembly : (text : List ℕ) (a b : Result (List ℕ) AsmFault)
+    → Assembles text a → Assembles text b → a ≡ b
 one_assembly text a b h k =
     sym h.2 ∙ ap (λ (v : Vocabulary). assembly_of v text) (same_vocabulary h.0 k.0 h.1 k.1) ∙ k.2
 
 -- ---- verdicts by the reader's vocabulary
 
-pub by_tables : (text : List ℕ) (verdict : Result (List ℕ) AsmFault) → assembly_of tables text ≡ verdict → Assembles text verdict
+pub by_tables : (text : List ℕ) (verdict : Result (List ℕ) AsmFault)
+    → assembly_of tables text ≡ verdict → Assembles text verdict
 by_tables text verdict e = (tables, tables_exact, e)
 
-pub bytes_by_tables : {A : Type 0} (items : A → List ℕ) (text : List ℕ) (o : Result A AsmFault) → IfOk o (λ v. assembly_of tables text ≡ Ok (items v)) → IfOk o (λ v. Assembles text (Ok (items v)))
+pub bytes_by_tables : {A : Type 0} (items : A → List ℕ) (text : List ℕ) (o : Result A AsmFault)
+    → IfOk o (λ v. assembly_of tables text ≡ Ok (items v))
+    → IfOk o (λ v. Assembles text (Ok (items v)))
 bytes_by_tables items text (Ok v) h = by_tables text (Ok (items v)) h
 bytes_by_tables items text (Err e) h = tt
 
@@ -107,6 +115,7 @@ fault_by_tables : (text : List ℕ) (e : AsmFault) → IsTableFault text e → I
 fault_by_tables text e (inl h) = inl h
 fault_by_tables text e (inr h) = inr (by_tables text (Err e) h)
 
-pub faults_by_tables : {A : Type 0} (text : List ℕ) (o : Result A AsmFault) → IfErr o (IsTableFault text) → IfErr o (IsAsmFault text)
+pub faults_by_tables : {A : Type 0} (text : List ℕ) (o : Result A AsmFault)
+    → IfErr o (IsTableFault text) → IfErr o (IsAsmFault text)
 faults_by_tables text (Ok v) h = tt
 faults_by_tables text (Err e) h = fault_by_tables text e h

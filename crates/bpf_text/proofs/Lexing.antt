@@ -25,8 +25,11 @@ and_no false = refl
 
 -- ---- one piece
 
-piece_whole : (c : ℕ) (w rest : List ℕ) → (c == 59) ≡ false → is_blank c ≡ false → is_mark c ≡ false → list_all is_name_byte w ≡ true → goes_on rest ≡ false → pieces ((c ∷ w) ++ rest) ≡ (c ∷ w) ∷ pieces rest
-piece_whole c [] rest semicolon blank mark names ends = pieces_alone c rest semicolon blank (simp (mark, ends) refl)
+piece_whole : (c : ℕ) (w rest : List ℕ) → (c == 59) ≡ false → is_blank c ≡ false
+    → is_mark c ≡ false → list_all is_name_byte w ≡ true → goes_on rest ≡ false
+    → pieces ((c ∷ w) ++ rest) ≡ (c ∷ w) ∷ pieces rest
+piece_whole c [] rest semicolon blank mark names ends =
+    pieces_alone c rest semicolon blank (simp (mark, ends) refl)
 piece_whole c (d ∷ w) rest semicolon blank mark names ends =
     let both = and_both (is_name_byte d) (list_all is_name_byte w) names in
     let plain = name_plain d both.0 in
@@ -36,23 +39,29 @@ piece_whole c (d ∷ w) rest semicolon blank mark names ends =
 abbrev pub front : Token Name → Option (List (Token Name)) → Option (List (Token Name))
 front t o = option_map (λ ts. t ∷ ts) o
 
-token_piece : (c : ℕ) (w rest : List ℕ) (t : Token Name) → (c == 59) ≡ false → is_blank c ≡ false → is_mark c ≡ false → list_all is_name_byte w ≡ true → goes_on rest ≡ false → token_of (c ∷ w) ≡ Some t → tokens_of ((c ∷ w) ++ rest) ≡ front t (tokens_of rest)
+token_piece : (c : ℕ) (w rest : List ℕ) (t : Token Name) → (c == 59) ≡ false → is_blank c ≡ false
+    → is_mark c ≡ false → list_all is_name_byte w ≡ true → goes_on rest ≡ false
+    → token_of (c ∷ w) ≡ Some t → tokens_of ((c ∷ w) ++ rest) ≡ front t (tokens_of rest)
 token_piece c w rest t semicolon blank mark names ends is =
-    ap tokens_in (piece_whole c w rest semicolon blank mark names ends) ∙ with_piece (c ∷ w) (pieces rest) t is (tokens_of rest) refl
+    ap tokens_in (piece_whole c w rest semicolon blank mark names ends)
+    ∙ with_piece (c ∷ w) (pieces rest) t is (tokens_of rest) refl
 
 -- ---- words and marks
 
-pub word_token : (w rest : List ℕ) → is_word_text w ≡ true → goes_on rest ≡ false → tokens_of (w ++ rest) ≡ front (Word w) (tokens_of rest)
+pub word_token : (w rest : List ℕ) → is_word_text w ≡ true → goes_on rest ≡ false
+    → tokens_of (w ++ rest) ≡ front (Word w) (tokens_of rest)
 word_token [] rest is ends = absurd (false_is_true is)
   where
     false_is_true : ◌≡◌ {A = Bool} false true → ⊥
     false_is_true h = cc
 word_token (c ∷ w) rest is ends =
-    let letter = and_both (is_letter c) (list_all is_name_byte w && nat_le (length (c ∷ w)) 32) is in
+    let letter =
+    and_both (is_letter c) (list_all is_name_byte w && nat_le (length (c ∷ w)) 32) is in
     let parts = and_both (list_all is_name_byte w) (nat_le (length (c ∷ w)) 32) letter.1 in
     let named : is_name_byte c ≡ true = simp letter.0 refl in
     let plain = name_plain c named in
-    token_piece c w rest (Word (c ∷ w)) plain.0 plain.1 plain.2 parts.0 ends (simp (plain.2, letter.0, parts.1) refl)
+    token_piece c w rest (Word (c ∷ w)) plain.0 plain.1 plain.2 parts.0 ends
+    (simp (plain.2, letter.0, parts.1) refl)
 
 pub comma_token : (rest : List ℕ) → tokens_of (44 ∷ rest) ≡ front Comma (tokens_of rest)
 comma_token rest = with_piece (44 ∷ []) (pieces rest) Comma refl (tokens_of rest) refl
@@ -88,33 +97,44 @@ is_digit c value = let r = digit_from_value c value in range_digit c r.0 r.1 val
 
 pub digit_names : (ds : List ℕ) → AllDigits 10 ds → list_all is_name_byte ds ≡ true
 digit_names [] h = refl
-digit_names (c ∷ ds) h = let d = is_digit c h.0 in let e : is_name_byte c ≡ true = d.name in simp e (digit_names ds h.1)
+digit_names (c ∷ ds) h =
+    let d = is_digit c h.0 in let e : is_name_byte c ≡ true = d.name in simp e (digit_names ds h.1)
 
 digit_tests : (ds : List ℕ) → AllDigits 10 ds → list_all (λ c. nat_lt (digit_value c) 10) ds ≡ true
 digit_tests [] h = refl
-digit_tests (c ∷ ds) h = let d = is_digit c h.0 in let e : nat_lt (digit_value c) 10 ≡ true = d.test in simp e (digit_tests ds h.1)
+digit_tests (c ∷ ds) h =
+    let d = is_digit c h.0 in
+    let e : nat_lt (digit_value c) 10 ≡ true = d.test in simp e (digit_tests ds h.1)
 
 abbrev pub figure : Sign → ℕ → Figure
 figure s n = record { sign = s; magnitude = Some n }
 
-numeral_is : (s : Sign) (ds : List ℕ) (n : ℕ) → IsNumeral 10 ds → digits_value 10 ds ≡ n → n < 2 ^ 64 → numeral s 10 ds ≡ Some (Number (figure s n))
+numeral_is : (s : Sign) (ds : List ℕ) (n : ℕ) → IsNumeral 10 ds → digits_value 10 ds ≡ n
+    → n < 2 ^ 64 → numeral s 10 ds ≡ Some (Number (figure s n))
 numeral_is s [] n h value small = absurd (omega (arith, h.0))
 numeral_is s (c ∷ ds) n h value small =
     let some : (length (c ∷ ds) == 0) ≡ false = grind arith in
-    let test : is_numeral 10 (c ∷ ds) ≡ true = ap (λ (b : Bool). not b && list_all (λ c. nat_lt (digit_value c) 10) (c ∷ ds)) some ∙ digit_tests (c ∷ ds) h.1 in
-    let number : number_if_small (digits_value 10 (c ∷ ds)) ≡ Some n = ap number_if_small value ∙ small_number n small in
+    let test : is_numeral 10 (c ∷ ds) ≡ true =
+    ap (λ (b : Bool). not b && list_all (λ c. nat_lt (digit_value c) 10) (c ∷ ds)) some
+    ∙ digit_tests (c ∷ ds) h.1 in
+    let number : number_if_small (digits_value 10 (c ∷ ds)) ≡ Some n =
+    ap number_if_small value ∙ small_number n small in
     simp test (ap (λ (m : Option ℕ). Some (Number (record { sign = s; magnitude = m }))) number)
 
 no_x : (ds : List ℕ) → AllDigits 10 ds → (slice_index_or ds 0 0 == 120) ≡ false
 no_x [] h = refl
 no_x (c ∷ ds) h = (is_digit c h.0).x
 
-unsigned_is : (c : ℕ) (ds : List ℕ) → AllDigits 10 ds → unsigned_number (c ∷ ds) ≡ numeral Absent 10 (c ∷ ds)
+unsigned_is : (c : ℕ) (ds : List ℕ) → AllDigits 10 ds
+    → unsigned_number (c ∷ ds) ≡ numeral Absent 10 (c ∷ ds)
 unsigned_is c ds h =
-    let test : ((slice_index_or (c ∷ ds) 0 0 == 48) && (slice_index_or (c ∷ ds) 1 0 == 120)) ≡ false = ap (λ (b : Bool). (c == 48) && b) (no_x ds h) ∙ and_no (c == 48) in
+    let test : ((slice_index_or (c ∷ ds) 0 0 == 48) && (slice_index_or (c ∷ ds) 1 0 == 120))
+    ≡ false = ap (λ (b : Bool). (c == 48) && b) (no_x ds h) ∙ and_no (c == 48) in
     simp test refl
 
-numeral_token : (ds rest : List ℕ) (n : ℕ) → IsNumeral 10 ds → digits_value 10 ds ≡ n → n < 2 ^ 64 → goes_on rest ≡ false → tokens_of (ds ++ rest) ≡ front (Number (figure Absent n)) (tokens_of rest)
+numeral_token : (ds rest : List ℕ) (n : ℕ)
+    → IsNumeral 10 ds → digits_value 10 ds ≡ n → n < 2 ^ 64 → goes_on rest ≡ false
+    → tokens_of (ds ++ rest) ≡ front (Number (figure Absent n)) (tokens_of rest)
 numeral_token [] rest n h value small ends = absurd (omega (arith, h.0))
 numeral_token (c ∷ ds) rest n h value small ends =
     let d = is_digit c h.1.0 in
@@ -122,19 +142,27 @@ numeral_token (c ∷ ds) rest n h value small ends =
     let minus : (c == 45) ≡ false = d.minus in
     let plus : (c == 43) ≡ false = d.plus in
     let plain = name_plain c d.name in
-    let is : token_of (c ∷ ds) ≡ unsigned_number (c ∷ ds) = simp (plain.2, letter, minus, plus) refl in
-    token_piece c ds rest (Number (figure Absent n)) plain.0 plain.1 plain.2 (digit_names ds h.1.1) ends
+    let is : token_of (c ∷ ds) ≡ unsigned_number (c ∷ ds) =
+    simp (plain.2, letter, minus, plus) refl in
+    token_piece c ds rest (Number (figure Absent n)) plain.0 plain.1 plain.2
+    (digit_names ds h.1.1) ends
     (is ∙ unsigned_is c ds h.1.1 ∙ numeral_is Absent (c ∷ ds) n h value small)
 
-pub decimal_token : (n : ℕ) (rest : List ℕ) → n < 2 ^ 64 → goes_on rest ≡ false → tokens_of (decimal n ++ rest) ≡ front (Number (figure Absent n)) (tokens_of rest)
-decimal_token n rest small ends = let h = decimal_is_IsNumeral n small in numeral_token (decimal n) rest n h.0 h.1 small ends
+pub decimal_token : (n : ℕ) (rest : List ℕ) → n < 2 ^ 64 → goes_on rest ≡ false
+    → tokens_of (decimal n ++ rest) ≡ front (Number (figure Absent n)) (tokens_of rest)
+decimal_token n rest small ends =
+    let h = decimal_is_IsNumeral n small in numeral_token (decimal n) rest n h.0 h.1 small ends
 
-pub minus_token : (n : ℕ) (rest : List ℕ) → n < 2 ^ 64 → goes_on rest ≡ false → tokens_of ((45 ∷ decimal n) ++ rest) ≡ front (Number (figure Minus n)) (tokens_of rest)
+pub minus_token : (n : ℕ) (rest : List ℕ) → n < 2 ^ 64 → goes_on rest ≡ false
+    → tokens_of ((45 ∷ decimal n) ++ rest) ≡ front (Number (figure Minus n)) (tokens_of rest)
 minus_token n rest small ends =
     let h = decimal_is_IsNumeral n small in
-    token_piece 45 (decimal n) rest (Number (figure Minus n)) refl refl refl (digit_names (decimal n) h.0.1) ends (numeral_is Minus (decimal n) n h.0 h.1 small)
+    token_piece 45 (decimal n) rest (Number (figure Minus n)) refl refl refl
+    (digit_names (decimal n) h.0.1) ends (numeral_is Minus (decimal n) n h.0 h.1 small)
 
-pub plus_token : (n : ℕ) (rest : List ℕ) → n < 2 ^ 64 → goes_on rest ≡ false → tokens_of ((43 ∷ decimal n) ++ rest) ≡ front (Number (figure Plus n)) (tokens_of rest)
+pub plus_token : (n : ℕ) (rest : List ℕ) → n < 2 ^ 64 → goes_on rest ≡ false
+    → tokens_of ((43 ∷ decimal n) ++ rest) ≡ front (Number (figure Plus n)) (tokens_of rest)
 plus_token n rest small ends =
     let h = decimal_is_IsNumeral n small in
-    token_piece 43 (decimal n) rest (Number (figure Plus n)) refl refl refl (digit_names (decimal n) h.0.1) ends (numeral_is Plus (decimal n) n h.0 h.1 small)
+    token_piece 43 (decimal n) rest (Number (figure Plus n)) refl refl refl
+    (digit_names (decimal n) h.0.1) ends (numeral_is Plus (decimal n) n h.0 h.1 small)

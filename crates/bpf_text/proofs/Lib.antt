@@ -10,8 +10,11 @@ pub mod Arguments
 pub mod Statements
 pub mod Exact
 pub mod Again
+pub mod ReadAgain
 pub mod Rereading
 pub mod Back
 pub mod Once
 pub mod States
+pub mod Successes
 pub mod Stated
+pub mod Distances

@@ -5,33 +5,39 @@ use Rattle.std.proofs.Math.Seq.{take-add, take-length}
 use Rattle.std.specs.List.{AllByRecursion}
 use Rattle.bpf_insn.specs.declared.insn.Insn.{Insn}
 use Rattle.bpf_insn.specs.declared.insn.Insn.TheVariants.{Wide}
-use Rattle.bpf_insn.specs.declared.fields.InsnFault.{InsnFault}
-use Rattle.bpf_insn.specs.Spelling.{IsEncodable, IsLeastFault, Spells, encoding, width_of, slots_of}
+use Rattle.bpf_insn.specs.Spelling.{IsEncodable, Spells, encoding, width_of, slots_of}
 use Rattle.bpf_insn.specs.Program.{encodings, layout, slots}
-use Rattle.bpf_text.specs.Listing.{Lists, IsFirstFault, IsNext, listing_of, line_of}
+use Rattle.bpf_text.specs.Listing.{Lists, IsNextLine, listing_of, line_of}
 
 -- ---- one instruction more at the end
 
-pub all_more : (P : Insn → Type 0) (is : List Insn) (i : Insn) → AllByRecursion P is → P i → AllByRecursion P (is ++ (i ∷ []))
+pub all_more : (P : Insn → Type 0) (is : List Insn) (i : Insn) → AllByRecursion P is → P i
+    → AllByRecursion P (is ++ (i ∷ []))
 all_more P [] i all h = (h, tt)
 all_more P (j ∷ is) i all h = (all.0, all_more P is i all.1 h)
 
-pub encodings_more : (is : List Insn) (i : Insn) → encodings (is ++ (i ∷ [])) ≡ encodings is ++ encoding i
+pub encodings_more : (is : List Insn) (i : Insn)
+    → encodings (is ++ (i ∷ [])) ≡ encodings is ++ encoding i
 encodings_more [] i = append-nil (encoding i)
-encodings_more (j ∷ is) i = ap (λ (bs : List ℕ). encoding j ++ bs) (encodings_more is i) ∙ sym (append_assoc (encoding j) (encodings is) (encoding i))
+encodings_more (j ∷ is) i = ap (λ (bs : List ℕ). encoding j ++ bs) (encodings_more is i)
+    ∙ sym (append_assoc (encoding j) (encodings is) (encoding i))
 
-pub listing_more : (is : List Insn) (i : Insn) → listing_of (is ++ (i ∷ [])) ≡ listing_of is ++ line_of i
+pub listing_more : (is : List Insn) (i : Insn)
+    → listing_of (is ++ (i ∷ [])) ≡ listing_of is ++ line_of i
 listing_more [] i = append-nil (line_of i)
-listing_more (j ∷ is) i = ap (λ (bs : List ℕ). line_of j ++ bs) (listing_more is i) ∙ sym (append_assoc (line_of j) (listing_of is) (line_of i))
+listing_more (j ∷ is) i = ap (λ (bs : List ℕ). line_of j ++ bs) (listing_more is i)
+    ∙ sym (append_assoc (line_of j) (listing_of is) (line_of i))
 
 pub length-slots : (i : Insn) → length (slots i) ≡ slots_of (width_of i)
 length-slots (Wide dst value) = refl
 length-slots i = refl
 
-pub length-layout_more : (is : List Insn) (i : Insn) → length (layout (is ++ (i ∷ []))) ≡ length (layout is) + slots_of (width_of i)
+pub length-layout_more : (is : List Insn) (i : Insn)
+    → length (layout (is ++ (i ∷ []))) ≡ length (layout is) + slots_of (width_of i)
 length-layout_more [] i = ap length (append-nil (slots i)) ∙ length-slots i ∙ omega arith
 length-layout_more (j ∷ is) i =
-    length-append (slots j) (layout (is ++ (i ∷ []))) ∙ ap (λ (n : ℕ). length (slots j) + n) (length-layout_more is i)
+    length-append (slots j) (layout (is ++ (i ∷ [])))
+    ∙ ap (λ (n : ℕ). length (slots j) + n) (length-layout_more is i)
     ∙ omega (arith, length-append (slots j) (layout is))
 
 pub length-encoding : (i : Insn) → length (encoding i) ≡ 8 * slots_of (width_of i)
@@ -58,23 +64,17 @@ pub record HasListed (bytes : List ℕ) (slot : ℕ) (text : List ℕ) : Type 0 
   pub within : 8 * slot ≤ length bytes
   pub text_is : text ≡ listing_of is
 
-pub nothing_listed : (bytes : List ℕ) (text : List ℕ) → text ≡ [] → HasListed bytes 0 text
-nothing_listed bytes text e = record {
-  is = [];
-  encodable = tt;
-  slot_is = refl;
-  bytes_are = refl;
-  within = omega arith;
-  text_is = e;
-}
-
-spelled_within : (bytes : List ℕ) (slot : ℕ) (i : Insn) → 8 * slot < length bytes → Spells bytes slot i → 8 * (slot + slots_of (width_of i)) ≤ length bytes
+spelled_within : (bytes : List ℕ) (slot : ℕ) (i : Insn) → 8 * slot < length bytes
+    → Spells bytes slot i → 8 * (slot + slots_of (width_of i)) ≤ length bytes
 spelled_within bytes slot i inside p =
     let n = 8 * slots_of (width_of i) in
-    let len : length (take n (drop (8 * slot) bytes)) ≡ n = ap length p.bytes_are ∙ length-encoding i in
+    let len : length (take n (drop (8 * slot) bytes)) ≡ n =
+    ap length p.bytes_are ∙ length-encoding i in
     omega (arith, length-take n (drop (8 * slot) bytes), length-drop (8 * slot) bytes)
 
-pub listed_more : (bytes : List ℕ) (slot : ℕ) (text : List ℕ) (i : Insn) → HasListed bytes slot text → 8 * slot < length bytes → Spells bytes slot i → HasListed bytes (slot + slots_of (width_of i)) (text ++ line_of i)
+pub listed_more : (bytes : List ℕ) (slot : ℕ) (text : List ℕ) (i : Insn)
+    → HasListed bytes slot text → 8 * slot < length bytes → Spells bytes slot i
+    → HasListed bytes (slot + slots_of (width_of i)) (text ++ line_of i)
 listed_more bytes slot text i h inside p = record {
   is = h.is ++ (i ∷ []);
   encodable = all_more IsEncodable h.is i h.encodable p.fits;
@@ -89,15 +89,20 @@ listed_more bytes slot text i h inside p = record {
   text_is = ap (λ (bs : List ℕ). bs ++ line_of i) h.text_is ∙ sym (listing_more h.is i);
 }
 
-pub listed_whole : (bytes : List ℕ) (slot : ℕ) (text : List ℕ) → HasListed bytes slot text → length bytes ≤ 8 * slot → Lists bytes text
+pub listed_whole : (bytes : List ℕ) (slot : ℕ) (text : List ℕ)
+    → HasListed bytes slot text → length bytes ≤ 8 * slot → Lists bytes text
 listed_whole bytes slot text h past =
-    let e : 8 * slot ≡ length bytes = let w : 8 * slot ≤ length bytes = h.within in omega arith in
-    (h.is, h.encodable, sym (take-length bytes) ∙ ap (λ (m : ℕ). take m bytes) (sym e) ∙ h.bytes_are, h.text_is)
+    let e : 8 * slot ≡ length bytes = let w : 8 * slot ≤ length bytes = h.within in omega arith in (
+      h.is,
+      h.encodable,
+      sym (take-length bytes) ∙ ap (λ (m : ℕ). take m bytes) (sym e) ∙ h.bytes_are,
+      h.text_is,
+    )
 
-pub first_fault_at : (bytes : List ℕ) (slot : ℕ) (text : List ℕ) (e : InsnFault) → HasListed bytes slot text → 8 * slot < length bytes → IsLeastFault bytes slot e → IsFirstFault bytes slot e
-first_fault_at bytes slot text e h inside least = (h.is, h.encodable, h.slot_is, h.bytes_are, inside, least)
-
-pub listed_next : (bytes : List ℕ) (slot : ℕ) (before after : List ℕ) (next : ℕ) → HasListed bytes slot before → 8 * slot < length bytes → IsNext bytes slot before after next → HasListed bytes next after
+pub listed_next : (bytes : List ℕ) (slot : ℕ) (before after : List ℕ) (next : ℕ)
+    → HasListed bytes slot before → 8 * slot < length bytes
+    → IsNextLine bytes slot before after next
+    → HasListed bytes next after
 listed_next bytes slot before after next h inside step =
     let more = listed_more bytes slot before step.0 h inside step.1 in
     let P : ℕ → Type 0 = λ n. HasListed bytes n after in

@@ -23,12 +23,14 @@ use Rattle.bpf_text.specs.Words.{word_of}
 use Rattle.bpf_text.proofs.Named.{is_named}
 use Rattle.bpf_text.proofs.Lexing.{front, word_token, comma_token}
 use Rattle.bpf_text.proofs.Arguments.{onto, tokens_of_argument, item_of_argument, argument_tokens}
-use Rattle.bpf_text.proofs.Again.{HasShortOption, all_fit, is_short_if, arguments_again, Shaped, Nothing, Single, Pair, Triple, shape_of, behind, at_front, tokens_of_arguments, items_again}
+use Rattle.bpf_text.proofs.Again.{HasShortOption, all_fit, is_short_if}
+use Rattle.bpf_text.proofs.ReadAgain.{Nothing, Single, Pair, Triple, arguments_again, Shaped, shape_of, behind, at_front, tokens_of_arguments, items_again}
 
 -- ---- the line's text, grouped from its end
 
 abbrev pub arguments_text : UpToThree arguments.Argument → List ℕ
-arguments_text a = text_behind (codes " ") a.first ++ (text_behind (codes ", ") a.second ++ (text_behind (codes ", ") a.third ++ []))
+arguments_text a = text_behind (codes " ") a.first
+    ++ (text_behind (codes ", ") a.second ++ (text_behind (codes ", ") a.third ++ []))
 
 abbrev pub line_text : Insn → List ℕ
 line_text i = word_of (mnemonic_of i) ++ arguments_text (arguments_of i)
@@ -41,7 +43,9 @@ regroup w a b c =
 pub line_ends : (i : Insn) → line_of i ≡ line_text i ++ (10 ∷ [])
 line_ends i =
     ap (λ (t : List ℕ). t ++ (10 ∷ []))
-    (regroup (word_of (mnemonic_of i)) (text_behind (codes " ") ((arguments_of i).first)) (text_behind (codes ", ") ((arguments_of i).second)) (text_behind (codes ", ") ((arguments_of i).third)))
+    (regroup (word_of (mnemonic_of i)) (text_behind (codes " ") ((arguments_of i).first))
+    (text_behind (codes ", ") ((arguments_of i).second))
+    (text_behind (codes ", ") ((arguments_of i).third)))
 
 -- ---- its numbers are short
 
@@ -67,28 +71,37 @@ same_option : (o : Option Tokens) → o ≡ option_map (λ ts. ts) o
 same_option None = refl
 same_option (Some ts) = refl
 
-comma_onto : (a : arguments.Argument) (o : Option Tokens) → front Comma (onto (tokens_of_argument a) o) ≡ option_map (behind (Some a)) o
+comma_onto : (a : arguments.Argument) (o : Option Tokens)
+    → front Comma (onto (tokens_of_argument a) o) ≡ option_map (behind (Some a)) o
 comma_onto a None = refl
 comma_onto a (Some ts) = refl
 
-comma_tokens : (o : Option arguments.Argument) (rest : List ℕ) → HasShortOption o → goes_on rest ≡ false → tokens_of (text_behind (codes ", ") o ++ rest) ≡ option_map (behind o) (tokens_of rest)
+comma_tokens : (o : Option arguments.Argument) (rest : List ℕ)
+    → HasShortOption o → goes_on rest ≡ false
+    → tokens_of (text_behind (codes ", ") o ++ rest) ≡ option_map (behind o) (tokens_of rest)
 comma_tokens None rest short ends = same_option (tokens_of rest)
 comma_tokens (Some a) rest short ends =
-    comma_token (32 ∷ (argument_text a ++ rest)) ∙ ap (front Comma) (argument_tokens a rest short ends) ∙ comma_onto a (tokens_of rest)
+    comma_token (32 ∷ (argument_text a ++ rest))
+    ∙ ap (front Comma) (argument_tokens a rest short ends) ∙ comma_onto a (tokens_of rest)
 
-space_tokens : (o : Option arguments.Argument) (rest : List ℕ) → HasShortOption o → goes_on rest ≡ false → tokens_of (text_behind (codes " ") o ++ rest) ≡ option_map (at_front o) (tokens_of rest)
+space_tokens : (o : Option arguments.Argument) (rest : List ℕ)
+    → HasShortOption o → goes_on rest ≡ false
+    → tokens_of (text_behind (codes " ") o ++ rest) ≡ option_map (at_front o) (tokens_of rest)
 space_tokens None rest short ends = same_option (tokens_of rest)
 space_tokens (Some a) rest short ends = argument_tokens a rest short ends
 
-comma_ends : (o : Option arguments.Argument) (rest : List ℕ) → goes_on rest ≡ false → goes_on (text_behind (codes ", ") o ++ rest) ≡ false
+comma_ends : (o : Option arguments.Argument) (rest : List ℕ) → goes_on rest ≡ false
+    → goes_on (text_behind (codes ", ") o ++ rest) ≡ false
 comma_ends None rest h = h
 comma_ends (Some a) rest h = refl
 
-space_ends : (o : Option arguments.Argument) (rest : List ℕ) → goes_on rest ≡ false → goes_on (text_behind (codes " ") o ++ rest) ≡ false
+space_ends : (o : Option arguments.Argument) (rest : List ℕ) → goes_on rest ≡ false
+    → goes_on (text_behind (codes " ") o ++ rest) ≡ false
 space_ends None rest h = h
 space_ends (Some a) rest h = refl
 
-arguments_tokens : (a : UpToThree arguments.Argument) → AreShort a → tokens_of (arguments_text a) ≡ Some (tokens_of_arguments a)
+arguments_tokens : (a : UpToThree arguments.Argument) → AreShort a
+    → tokens_of (arguments_text a) ≡ Some (tokens_of_arguments a)
 arguments_tokens a short =
     let last = text_behind (codes ", ") a.third ++ [] in
     let more = text_behind (codes ", ") a.second ++ last in
@@ -96,26 +109,35 @@ arguments_tokens a short =
     let more_ends = comma_ends a.second last last_ends in
     space_tokens a.first more short.first more_ends
     ∙ ap (option_map (at_front a.first))
-    (comma_tokens a.second last short.second last_ends ∙ ap (option_map (behind a.second)) (comma_tokens a.third [] short.third refl))
+    (comma_tokens a.second last short.second last_ends
+    ∙ ap (option_map (behind a.second)) (comma_tokens a.third [] short.third refl))
 
-line_tokens : (m : Mnemonic) (a : UpToThree arguments.Argument) → AreShort a → tokens_of (word_of m ++ arguments_text a) ≡ Some (Word (word_of m) ∷ tokens_of_arguments a)
+line_tokens : (m : Mnemonic) (a : UpToThree arguments.Argument) → AreShort a
+    → tokens_of (word_of m ++ arguments_text a) ≡ Some (Word (word_of m) ∷ tokens_of_arguments a)
 line_tokens m a short =
     let last = text_behind (codes ", ") a.third ++ [] in
     let more = text_behind (codes ", ") a.second ++ last in
     let ends = space_ends a.first more (comma_ends a.second last (comma_ends a.third [] refl)) in
-    word_token (word_of m) (arguments_text a) (is_named m).is_text ends ∙ ap (front (Word (word_of m))) (arguments_tokens a short)
+    word_token (word_of m) (arguments_text a) (is_named m).is_text ends
+    ∙ ap (front (Word (word_of m))) (arguments_tokens a short)
 
 -- ---- what the tokens say
 
-no_colon : (w : Name) (a : arguments.Argument) (rest : Tokens) → split_label (Word w ∷ (tokens_of_argument a ++ rest)) ≡ (None, Word w ∷ (tokens_of_argument a ++ rest))
+no_colon : (w : Name) (a : arguments.Argument) (rest : Tokens)
+    → split_label (Word w ∷ (tokens_of_argument a ++ rest)) ≡ (
+      None,
+      Word w ∷ (tokens_of_argument a ++ rest),
+    )
 no_colon w (argument.Register r) rest = refl
 no_colon w a rest = refl
 
-no_label : (w : Name) (a : UpToThree arguments.Argument) → Shaped a → split_label (Word w ∷ tokens_of_arguments a) ≡ (None, Word w ∷ tokens_of_arguments a)
+no_label : (w : Name) (a : UpToThree arguments.Argument) → Shaped a
+    → split_label (Word w ∷ tokens_of_arguments a) ≡ (None, Word w ∷ tokens_of_arguments a)
 no_label w _ Nothing = refl
 no_label w _ (Single a) = no_colon w a []
 no_label w _ (Pair a b) = no_colon w a (Comma ∷ (tokens_of_argument b ++ []))
-no_label w _ (Triple a b c) = no_colon w a (Comma ∷ (tokens_of_argument b ++ (Comma ∷ (tokens_of_argument c ++ []))))
+no_label w _ (Triple a b c) =
+    no_colon w a (Comma ∷ (tokens_of_argument b ++ (Comma ∷ (tokens_of_argument c ++ []))))
 
 abbrev labelled : Option Name × Tokens → Line
 labelled p = record { label = p.0; body = body_of tables p.1 }
@@ -124,7 +146,10 @@ labelled p = record { label = p.0; body = body_of tables p.1 }
 abbrev pub stated : Insn → Statement
 stated i = record { mnemonic = mnemonic_of i; arguments = map_three Argument (arguments_of i) }
 
-body_again : (w : Name) (ts : Tokens) (m : Mnemonic) (items : Items) (a : UpToThree (Given Name)) → tables.mnemonic_named w ≡ Some m → items_of ts ≡ Some items → items_as tables (kinds_of m) items ≡ Ok a → body_of tables (Word w ∷ ts) ≡ Ok (Some (record { mnemonic = m; arguments = a }))
+body_again : (w : Name) (ts : Tokens) (m : Mnemonic) (items : Items) (a : UpToThree (Given Name))
+    → tables.mnemonic_named w ≡ Some m → items_of ts ≡ Some items
+    → items_as tables (kinds_of m) items ≡ Ok a
+    → body_of tables (Word w ∷ ts) ≡ Ok (Some (record { mnemonic = m; arguments = a }))
 body_again w ts m items a named some is = simp (named, some, is) refl
 
 -- the instruction alone
@@ -139,4 +164,6 @@ line_again i p =
     ap (line_if_tokens tables) (line_tokens m a (are_short i p))
     ∙ ap labelled (no_label (word_of m) a (shape_of i))
     ∙ ap (λ (b : Body). let l : Line = record { label = None; body = b } in l)
-    (body_again (word_of m) (tokens_of_arguments a) m (map_three item_of_argument a) (map_three Argument a) (is_named m).found (items_again a (shape_of i)) (arguments_again (kinds_of m) a (all_fit i p)))
+    (body_again (word_of m) (tokens_of_arguments a) m (map_three item_of_argument a)
+    (map_three Argument a) (is_named m).found (items_again a (shape_of i))
+    (arguments_again (kinds_of m) a (all_fit i p)))

@@ -34,7 +34,8 @@ of_one word.JumpLong (Distance (Long k)) = (refl, refl)
 of_one word.Call (Imm k) = (refl, refl)
 of_one m a = tt
 
-of_load : (m : Mnemonic) (r : Reg) (a : Argument) → IfSome (load_of m r a) (Has m (two (Register r) a))
+of_load : (m : Mnemonic) (r : Reg) (a : Argument)
+    → IfSome (load_of m r a) (Has m (two (Register r) a))
 of_load (word.Alu bits op) r (Register s) = (refl, refl)
 of_load (word.Alu bits op) r (Imm k) = (refl, refl)
 of_load (word.Mov bits) r (Register s) = (refl, refl)
@@ -45,7 +46,8 @@ of_load word.LoadNumber r (Number n) = (refl, refl)
 of_load word.LoadMap r (Imm k) = (refl, refl)
 of_load m r a = tt
 
-of_store : (m : Mnemonic) (r : Reg) (k : ℤ) (a : Argument) → IfSome (store_of m r k a) (Has m (two (Memory r k) a))
+of_store : (m : Mnemonic) (r : Reg) (k : ℤ) (a : Argument)
+    → IfSome (store_of m r k a) (Has m (two (Memory r k) a))
 of_store (word.StoreImm size) r k (Imm i) = (refl, refl)
 of_store (word.Store size) r k (Register s) = (refl, refl)
 of_store (word.Atomic op size) r k (Register s) = (refl, refl)
@@ -56,17 +58,22 @@ of_two m (Register r) b = of_load m r b
 of_two m (Memory r k) b = of_store m r k b
 of_two m a b = tt
 
-of_jump : (bits : Bits) (condition : Condition) (l : Reg) (a : Argument) (k : ℤ) → let j = Distance (Short k) in IfSome (insn_of_three (word.JumpIf bits condition) (Register l) a j) (Has (word.JumpIf bits condition) (three (Register l) a j))
+of_jump : (bits : Bits) (condition : Condition) (l : Reg) (a : Argument) (k : ℤ) →
+    let j = Distance (Short k) in
+    IfSome (insn_of_three (word.JumpIf bits condition) (Register l) a j)
+    (Has (word.JumpIf bits condition) (three (Register l) a j))
 of_jump bits condition l (Register r) k = (refl, refl)
 of_jump bits condition l (Imm r) k = (refl, refl)
 of_jump bits condition l a k = tt
 
 of_three : (m : Mnemonic) (a b c : Argument) → IfSome (insn_of_three m a b c) (Has m (three a b c))
-of_three (word.JumpIf bits condition) (Register l) a (Distance (Short k)) = of_jump bits condition l a k
+of_three (word.JumpIf bits condition) (Register l) a (Distance (Short k)) =
+    of_jump bits condition l a k
 of_three word.LoadCell (Register r) (Imm i) (Imm k) = (refl, refl)
 of_three m a b c = tt
 
-with_arguments : (m : Mnemonic) (a b c : Option Argument) → IfSome (insn_with m a b c) (Has m (record { first = a; second = b; third = c }))
+with_arguments : (m : Mnemonic) (a b c : Option Argument)
+    → IfSome (insn_with m a b c) (Has m (record { first = a; second = b; third = c }))
 with_arguments m None None None = of_none m
 with_arguments m (Some a) None None = of_one m a
 with_arguments m (Some a) (Some b) None = of_two m a b
@@ -92,11 +99,14 @@ no_truth h = cc
 abbrev Found : Mnemonic → UpToThree Argument → Type 0
 Found m a = (i : Insn) × (mnemonic_of i ≡ m) × (arguments_of i ≡ a)
 
-found_if : (m : Mnemonic) (a : UpToThree Argument) (o : Option Insn) → IfSome o (Has m a) → is_some o ≡ true → Found m a
+found_if : (m : Mnemonic) (a : UpToThree Argument) (o : Option Insn)
+    → IfSome o (Has m a) → is_some o ≡ true → Found m a
 found_if m a (Some i) h e = (i, h.0, h.1)
 found_if m a None h e = absurd (no_truth e)
 
-has_insn : (m : Mnemonic) (a b c : Option Argument) → are_of (kinds_of m) (record { first = a; second = b; third = c }) ≡ true → is_some (insn_with m a b c) ≡ true
+has_insn : (m : Mnemonic) (a b c : Option Argument)
+    → are_of (kinds_of m) (record { first = a; second = b; third = c }) ≡ true
+    → is_some (insn_with m a b c) ≡ true
 has_insn (word.Alu bits op) (Some (Register d)) (Some (Register s)) None h = refl
 has_insn (word.Alu bits op) (Some (Register d)) (Some (Imm k)) None h = refl
 has_insn (word.Mov bits) (Some (Register d)) (Some (Register s)) None h = refl
@@ -106,8 +116,10 @@ has_insn (word.Neg bits) (Some (Register d)) None None h = refl
 has_insn (word.End order size) (Some (Register d)) None None h = refl
 has_insn word.Jump (Some (Distance (Short k))) None None h = refl
 has_insn word.JumpLong (Some (Distance (Long k))) None None h = refl
-has_insn (word.JumpIf bits condition) (Some (Register l)) (Some (Register r)) (Some (Distance (Short k))) h = refl
-has_insn (word.JumpIf bits condition) (Some (Register l)) (Some (Imm r)) (Some (Distance (Short k))) h = refl
+has_insn (word.JumpIf bits
+    condition) (Some (Register l)) (Some (Register r)) (Some (Distance (Short k))) h = refl
+has_insn (word.JumpIf bits
+    condition) (Some (Register l)) (Some (Imm r)) (Some (Distance (Short k))) h = refl
 has_insn word.Call (Some (Imm k)) None None h = refl
 has_insn word.Exit None None None h = refl
 has_insn (word.Load kind) (Some (Register d)) (Some (Memory s k)) None h = refl
@@ -130,5 +142,6 @@ of_kinds i = refl
 pub kinds_agree : KindsAgree
 kinds_agree m a = (
   λ h. found_if m a (insn_of m a) (insn_found m a) (has_insn m a.first a.second a.third h),
-  λ f. ap (are_of (kinds_of m)) (sym f.2) ∙ ap (λ (n : Mnemonic). are_of (kinds_of n) (arguments_of f.0)) (sym f.1) ∙ of_kinds f.0,
+  λ f. ap (are_of (kinds_of m)) (sym f.2)
+      ∙ ap (λ (n : Mnemonic). are_of (kinds_of n) (arguments_of f.0)) (sym f.1) ∙ of_kinds f.0,
 )

@@ -11,83 +11,118 @@ use Rattle.bpf_text.specs.Names.{Bytes, token_named}
 use Rattle.bpf_text.specs.Tokens.{Name, is_blank, is_mark, is_name_byte, goes_on, onto_piece, pieces, piece_len, token_of, tokens_in, tokens_of, number_if_small, magnitude}
 
 -- a letter, a digit or _ is no mark, no blank and no semicolon
-pub name_plain : (d : ℕ) → is_name_byte d ≡ true → (◌==◌ d 59 ≡ false) × (is_blank d ≡ false) × (is_mark d ≡ false)
+pub name_plain : (d : ℕ) → is_name_byte d ≡ true
+    → (◌==◌ d 59 ≡ false) × (is_blank d ≡ false) × (is_mark d ≡ false)
 name_plain d h = (grind arith, grind arith, grind arith)
 
-pub pieces_alone : (c : ℕ) (rest : List ℕ) → (c == 59) ≡ false → is_blank c ≡ false → (is_mark c || not (goes_on rest)) ≡ true → pieces (c ∷ rest) ≡ (c ∷ []) ∷ pieces rest
+pub pieces_alone : (c : ℕ) (rest : List ℕ) → (c == 59) ≡ false → is_blank c ≡ false
+    → (is_mark c || not (goes_on rest)) ≡ true → pieces (c ∷ rest) ≡ (c ∷ []) ∷ pieces rest
 pieces_alone c rest semicolon blank alone = simp (semicolon, blank, alone) refl
 
-pub pieces_onto : (c : ℕ) (rest : List ℕ) → (c == 59) ≡ false → is_blank c ≡ false → (is_mark c || not (goes_on rest)) ≡ false → pieces (c ∷ rest) ≡ onto_piece c (pieces rest)
+pub pieces_onto : (c : ℕ) (rest : List ℕ) → (c == 59) ≡ false → is_blank c ≡ false
+    → (is_mark c || not (goes_on rest)) ≡ false → pieces (c ∷ rest) ≡ onto_piece c (pieces rest)
 pieces_onto c rest semicolon blank on = simp (semicolon, blank, on) refl
 
 abbrev Run : ℕ → List ℕ → Type 0
-Run c rest = pieces (c ∷ rest) ≡ (c ∷ take (prefix_len is_name_byte rest) rest) ∷ pieces (drop (prefix_len is_name_byte rest) rest)
+Run c rest = pieces (c ∷ rest) ≡ (c ∷ take (prefix_len is_name_byte rest) rest)
+    ∷ pieces (drop (prefix_len is_name_byte rest) rest)
 
-run_stops : (d : ℕ) (rest : List ℕ) → is_name_byte d ≡ false → prefix_len is_name_byte (d ∷ rest) ≡ 0
+run_stops : (d : ℕ) (rest : List ℕ) → is_name_byte d ≡ false
+    → prefix_len is_name_byte (d ∷ rest) ≡ 0
 run_stops d rest e = simp e refl
 
-run_goes_on : (d : ℕ) (rest : List ℕ) → is_name_byte d ≡ true → prefix_len is_name_byte (d ∷ rest) ≡ suc (prefix_len is_name_byte rest)
+run_goes_on : (d : ℕ) (rest : List ℕ) → is_name_byte d ≡ true
+    → prefix_len is_name_byte (d ∷ rest) ≡ suc (prefix_len is_name_byte rest)
 run_goes_on d rest e =
     let k = prefix_len is_name_byte rest in
     let one : 1 + k ≡ suc k = omega arith in
     simp e one
 
-run_step : (c d : ℕ) (rest : List ℕ) → (c == 59) ≡ false → is_blank c ≡ false → is_mark c ≡ false → (b : Bool) → is_name_byte d ≡ b → (is_name_byte d ≡ true → Run d rest) → Run c (d ∷ rest)
+run_step : (c d : ℕ) (rest : List ℕ)
+    → (c == 59) ≡ false → is_blank c ≡ false → is_mark c ≡ false → (b : Bool)
+    → is_name_byte d ≡ b → (is_name_byte d ≡ true → Run d rest) → Run c (d ∷ rest)
 run_step c d rest semicolon blank mark false e next =
-    let P : ℕ → Type 0 = λ k. pieces (c ∷ d ∷ rest) ≡ (c ∷ take k (d ∷ rest)) ∷ pieces (drop k (d ∷ rest)) in
-    subst P (sym (run_stops d rest e)) (pieces_alone c (d ∷ rest) semicolon blank (simp (mark, e) refl))
+    let P : ℕ → Type 0 =
+    λ k. pieces (c ∷ d ∷ rest) ≡ (c ∷ take k (d ∷ rest)) ∷ pieces (drop k (d ∷ rest)) in
+    subst P (sym (run_stops d rest e))
+    (pieces_alone c (d ∷ rest) semicolon blank (simp (mark, e) refl))
 run_step c d rest semicolon blank mark true e next =
-    let P : ℕ → Type 0 = λ k. pieces (c ∷ d ∷ rest) ≡ (c ∷ take k (d ∷ rest)) ∷ pieces (drop k (d ∷ rest)) in
-    subst P (sym (run_goes_on d rest e)) (pieces_onto c (d ∷ rest) semicolon blank (simp (mark, e) refl) ∙ ap (onto_piece c) (next e))
+    let P : ℕ → Type 0 =
+    λ k. pieces (c ∷ d ∷ rest) ≡ (c ∷ take k (d ∷ rest)) ∷ pieces (drop k (d ∷ rest)) in
+    subst P (sym (run_goes_on d rest e))
+    (pieces_onto c (d ∷ rest) semicolon blank (simp (mark, e) refl) ∙ ap (onto_piece c) (next e))
 
 -- the run of letters, digits and _ behind a character that is no mark
-piece_run : (c : ℕ) (rest : List ℕ) → (c == 59) ≡ false → is_blank c ≡ false → is_mark c ≡ false → Run c rest
+piece_run : (c : ℕ) (rest : List ℕ)
+    → (c == 59) ≡ false → is_blank c ≡ false → is_mark c ≡ false → Run c rest
 piece_run c [] semicolon blank mark = pieces_alone c [] semicolon blank (simp mark refl)
 piece_run c (d ∷ rest) semicolon blank mark =
-    run_step c d rest semicolon blank mark (is_name_byte d) refl (λ h. let p = name_plain d h in piece_run d rest p.0 p.1 p.2)
+    run_step c d rest semicolon blank mark (is_name_byte d) refl
+    (λ h. let p = name_plain d h in piece_run d rest p.0 p.1 p.2)
 
-piece_by_mark : (c : ℕ) (rest : List ℕ) (b : Bool) → (c == 59) ≡ false → is_blank c ≡ false → is_mark c ≡ b → pieces (c ∷ rest) ≡ take (piece_len c rest) (c ∷ rest) ∷ pieces (drop (piece_len c rest) (c ∷ rest))
+piece_by_mark : (c : ℕ) (rest : List ℕ) (b : Bool)
+    → (c == 59) ≡ false → is_blank c ≡ false → is_mark c ≡ b → pieces (c ∷ rest)
+    ≡ take (piece_len c rest) (c ∷ rest) ∷ pieces (drop (piece_len c rest) (c ∷ rest))
 piece_by_mark c rest true semicolon blank mark =
-    let P : ℕ → Type 0 = λ k. pieces (c ∷ rest) ≡ take k (c ∷ rest) ∷ pieces (drop k (c ∷ rest)) in
+    let P : ℕ
+    → Type 0 = λ k. pieces (c ∷ rest) ≡ take k (c ∷ rest) ∷ pieces (drop k (c ∷ rest)) in
     let one : piece_len c rest ≡ 1 = simp mark refl in
     subst P (sym one) (pieces_alone c rest semicolon blank (simp mark refl))
 piece_by_mark c rest false semicolon blank mark =
-    let P : ℕ → Type 0 = λ k. pieces (c ∷ rest) ≡ take k (c ∷ rest) ∷ pieces (drop k (c ∷ rest)) in
+    let P : ℕ
+    → Type 0 = λ k. pieces (c ∷ rest) ≡ take k (c ∷ rest) ∷ pieces (drop k (c ∷ rest)) in
     let k = prefix_len is_name_byte rest in
     let more : 1 + k ≡ suc k = omega arith in
     let len : piece_len c rest ≡ suc k = simp mark more in
     subst P (sym len) (piece_run c rest semicolon blank mark)
 
 -- the piece at the front, and those behind it
-pub pieces_first : (c : ℕ) (rest : List ℕ) → (c == 59) ≡ false → is_blank c ≡ false → pieces (c ∷ rest) ≡ take (piece_len c rest) (c ∷ rest) ∷ pieces (drop (piece_len c rest) (c ∷ rest))
+pub pieces_first : (c : ℕ) (rest : List ℕ) → (c == 59) ≡ false → is_blank c ≡ false
+    → pieces (c ∷ rest) ≡ take (piece_len c rest) (c ∷ rest)
+    ∷ pieces (drop (piece_len c rest) (c ∷ rest))
 pieces_first c rest semicolon blank = piece_by_mark c rest (is_mark c) semicolon blank refl
 
 -- ---- tokens
 
-pub with_piece : (p : List ℕ) (ps : List (List ℕ)) (t : Token Name) → token_of p ≡ Some t → (o : Option (List (Token Name))) → tokens_in ps ≡ o → tokens_in (p ∷ ps) ≡ option_map (λ ts. t ∷ ts) o
+pub with_piece : (p : List ℕ) (ps : List (List ℕ)) (t : Token Name)
+    → token_of p ≡ Some t → (o : Option (List (Token Name))) → tokens_in ps ≡ o
+    → tokens_in (p ∷ ps) ≡ option_map (λ ts. t ∷ ts) o
 with_piece p ps t e None h = simp (e, h) refl
 with_piece p ps t e (Some ts) h = simp (e, h) refl
 
 no_piece : (p : List ℕ) (ps : List (List ℕ)) → token_of p ≡ None → tokens_in (p ∷ ps) ≡ None
 no_piece p ps e = simp e refl
 
-tokens_onto : (xs : List (Token Bytes)) (t : Token Bytes) (ts : List (Token Name)) → map token_named (xs ++ (t ∷ [])) ++ ts ≡ map token_named xs ++ (token_named t ∷ ts)
+tokens_onto : (xs : List (Token Bytes)) (t : Token Bytes) (ts : List (Token Name))
+    → map token_named (xs ++ (t ∷ [])) ++ ts ≡ map token_named xs ++ (token_named t ∷ ts)
 tokens_onto [] t ts = refl
-tokens_onto (x ∷ xs) t ts = ap (λ (us : List (Token Name)). token_named x ∷ us) (tokens_onto xs t ts)
+tokens_onto (x ∷ xs) t ts =
+    ap (λ (us : List (Token Name)). token_named x ∷ us) (tokens_onto xs t ts)
 
-onto_option : (xs ys : List (Token Bytes)) (t : Token Bytes) (o : Option (List (Token Name))) → ys ≡ xs ++ (t ∷ []) → option_map (λ ts. map token_named xs ++ ts) (option_map (λ ts. token_named t ∷ ts) o) ≡ option_map (λ ts. map token_named ys ++ ts) o
+onto_option : (xs ys : List (Token Bytes)) (t : Token Bytes) (o : Option (List (Token Name)))
+    → ys ≡ xs ++ (t ∷ []) → option_map (λ ts. map token_named xs ++ ts)
+    (option_map (λ ts. token_named t ∷ ts) o) ≡ option_map (λ ts. map token_named ys ++ ts) o
 onto_option xs ys t None e = refl
-onto_option xs ys t (Some ts) e = ap Some (sym (ap (λ (zs : List (Token Bytes)). map token_named zs ++ ts) e ∙ tokens_onto xs t ts))
+onto_option xs ys t (Some ts) e = ap Some
+    (sym (ap (λ (zs : List (Token Bytes)). map token_named zs ++ ts) e ∙ tokens_onto xs t ts))
 
 -- a line whose tokens so far are xs, and one token more
-pub token_more : (line rest p after : List ℕ) (xs ys : List (Token Bytes)) (t : Token Bytes) → tokens_of line ≡ option_map (λ ts. map token_named xs ++ ts) (tokens_of rest) → pieces rest ≡ p ∷ pieces after → Some (token_named t) ≡ token_of p → ys ≡ xs ++ (t ∷ []) → tokens_of line ≡ option_map (λ ts. map token_named ys ++ ts) (tokens_of after)
+pub token_more : (line rest p after : List ℕ) (xs ys : List (Token Bytes)) (t : Token Bytes)
+    → tokens_of line ≡ option_map (λ ts. map token_named xs ++ ts) (tokens_of rest)
+    → pieces rest ≡ p ∷ pieces after → Some (token_named t) ≡ token_of p → ys ≡ xs ++ (t ∷ [])
+    → tokens_of line ≡ option_map (λ ts. map token_named ys ++ ts) (tokens_of after)
 token_more line rest p after xs ys t h first e more =
-    h ∙ ap (λ (o : Option (List (Token Name))). option_map (λ ts. map token_named xs ++ ts) o) (ap tokens_in first ∙ with_piece p (pieces after) (token_named t) (sym e) (tokens_of after) refl)
+    h ∙ ap (λ (o : Option (List (Token Name))). option_map (λ ts. map token_named xs ++ ts) o)
+    (ap tokens_in first
+    ∙ with_piece p (pieces after) (token_named t) (sym e) (tokens_of after) refl)
     ∙ onto_option xs ys t (tokens_of after) more
 
-pub token_missing : (line rest p after : List ℕ) (xs : List (Token Bytes)) → tokens_of line ≡ option_map (λ ts. map token_named xs ++ ts) (tokens_of rest) → pieces rest ≡ p ∷ pieces after → None ≡ token_of p → tokens_of line ≡ None
+pub token_missing : (line rest p after : List ℕ) (xs : List (Token Bytes))
+    → tokens_of line ≡ option_map (λ ts. map token_named xs ++ ts) (tokens_of rest)
+    → pieces rest ≡ p ∷ pieces after → None ≡ token_of p → tokens_of line ≡ None
 token_missing line rest p after xs h first e =
-    h ∙ ap (λ (o : Option (List (Token Name))). option_map (λ ts. map token_named xs ++ ts) o) (ap tokens_in first ∙ no_piece p (pieces after) (sym e))
+    h ∙ ap (λ (o : Option (List (Token Name))). option_map (λ ts. map token_named xs ++ ts) o)
+    (ap tokens_in first ∙ no_piece p (pieces after) (sym e))
 
 -- ---- numbers
 
@@ -103,26 +138,35 @@ no_number n h = grind arith
 some_number : (n m : ℕ) → number_if_small n ≡ Some m → m ≡ n
 some_number n m h = grind arith
 
-pub too_large : (radix : ℕ) (ds : List ℕ) (i n d : ℕ) → 1 ≤ radix → i < length ds → n ≡ digits_value radix (take i ds) → d ≡ digit_value (get_or ds i 0) → number_if_small (n * radix + d) ≡ None → magnitude radix ds ≡ None
+pub too_large : (radix : ℕ) (ds : List ℕ) (i n d : ℕ) → 1 ≤ radix → i < length ds
+    → n ≡ digits_value radix (take i ds) → d ≡ digit_value (get_or ds i 0)
+    → number_if_small (n * radix + d) ≡ None → magnitude radix ds ≡ None
 too_large radix ds i n d base inside so_far digit none =
     let more : digits_value radix (take (i + 1) ds) ≡ n * radix + d =
     digits_value_more radix ds i inside ∙ rw (← so_far, ← digit) in
-    let whole : digits_value radix (take (i + 1) ds) ≤ digits_value radix ds = digits_value-take-le radix ds (i + 1) base in
+    let whole : digits_value radix (take (i + 1) ds) ≤ digits_value radix ds =
+    digits_value-take-le radix ds (i + 1) base in
     let over : 2 ^ 64 ≤ n * radix + d = large_number (n * radix + d) none in
     no_number (digits_value radix ds) (omega (arith, more, whole, over))
 
-pub digit_more : (radix : ℕ) (ds : List ℕ) (i n d m : ℕ) → i < length ds → n ≡ digits_value radix (take i ds) → d ≡ digit_value (get_or ds i 0) → number_if_small (n * radix + d) ≡ Some m → m ≡ digits_value radix (take (i + 1) ds)
+pub digit_more : (radix : ℕ) (ds : List ℕ) (i n d m : ℕ)
+    → i < length ds → n ≡ digits_value radix (take i ds) → d ≡ digit_value (get_or ds i 0)
+    → number_if_small (n * radix + d) ≡ Some m → m ≡ digits_value radix (take (i + 1) ds)
 digit_more radix ds i n d m inside so_far digit some =
-    some_number (n * radix + d) m some ∙ sym (digits_value_more radix ds i inside ∙ rw (← so_far, ← digit))
+    some_number (n * radix + d) m some
+    ∙ sym (digits_value_more radix ds i inside ∙ rw (← so_far, ← digit))
 
-pub all_digits : (radix : ℕ) (ds : List ℕ) (i n : ℕ) → length ds ≤ i → n ≡ digits_value radix (take i ds) → n < 2 ^ 64 → Some n ≡ magnitude radix ds
+pub all_digits : (radix : ℕ) (ds : List ℕ) (i n : ℕ) → length ds ≤ i
+    → n ≡ digits_value radix (take i ds) → n < 2 ^ 64 → Some n ≡ magnitude radix ds
 all_digits radix ds i n past so_far small =
     let e : n ≡ digits_value radix ds = so_far ∙ ap (digits_value radix) (take_all i ds past) in
     sym (ap number_if_small (sym e) ∙ small_number n small)
 
 -- ---- the piece at the front of a text
 
-pub piece_at : (text rest front back : List ℕ) (c n : ℕ) → text ≡ c ∷ rest → (c == 59) ≡ false → is_blank c ≡ false → n ≡ piece_len c rest → front ≡ take n text → back ≡ drop n text → pieces text ≡ front ∷ pieces back
+pub piece_at : (text rest front back : List ℕ) (c n : ℕ) → text ≡ c ∷ rest → (c == 59) ≡ false
+    → is_blank c ≡ false → n ≡ piece_len c rest → front ≡ take n text → back ≡ drop n text
+    → pieces text ≡ front ∷ pieces back
 piece_at text rest front back c n whole semicolon blank len at_front at_back =
     ap pieces whole ∙ pieces_first c rest semicolon blank
     ∙ ap (λ (k : ℕ). take k (c ∷ rest) ∷ pieces (drop k (c ∷ rest))) (sym len)

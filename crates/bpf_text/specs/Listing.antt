@@ -81,14 +81,14 @@ IsListFault bytes (list_fault.Insn slot e) = IsFirstFault bytes slot e
 IsListFault bytes list_fault.Memory = Unit {0}
 
 -- the verdict on bytes: their listing, or where they have none
-abbrev pub IsVerdict : List ℕ → Result (List ℕ) ListFault → Type 0
-IsVerdict bytes (Ok text) = Lists bytes text
-IsVerdict bytes (Err (list_fault.Insn slot e)) = IsFirstFault bytes slot e
-IsVerdict bytes (Err list_fault.Memory) = ⊥
+abbrev pub IsListing : List ℕ → Result (List ℕ) ListFault → Type 0
+IsListing bytes (Ok text) = Lists bytes text
+IsListing bytes (Err (list_fault.Insn slot e)) = IsFirstFault bytes slot e
+IsListing bytes (Err list_fault.Memory) = ⊥
 
 abbrev pub HasOneListing : List ℕ → Type 0
 HasOneListing bytes =
-    (a b : Result (List ℕ) ListFault) → IsVerdict bytes a → IsVerdict bytes b → a ≡ b
+    (a b : Result (List ℕ) ListFault) → IsListing bytes a → IsListing bytes b → a ≡ b
 
 -- ---- one line of the listing
 
@@ -96,8 +96,8 @@ abbrev pub Appends : String Global → String Global → List ℕ → Type 0
 Appends before after text = string_bytes after ≡ string_bytes before ++ text
 
 -- an instruction begins at this slot, the next slot is behind it, and the text grows by its line
-abbrev pub IsNext : List ℕ → ℕ → List ℕ → List ℕ → ℕ → Type 0
-IsNext bytes slot before after next =
+abbrev pub IsNextLine : List ℕ → ℕ → List ℕ → List ℕ → ℕ → Type 0
+IsNextLine bytes slot before after next =
     (i : Insn) × Spells bytes slot i × (next ≡ slot + slots_of (width_of i))
     × (after ≡ before ++ line_of i)
 

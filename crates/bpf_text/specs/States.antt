@@ -22,13 +22,13 @@ use Rattle.bpf_text.specs.Vocabulary.{Vocabulary}
 use Rattle.bpf_text.specs.Words.{word_of}
 
 -- a distance leads from the instruction behind slot s to the label
-abbrev pub LeadsTo : SlotOf → ℕ → Name → ℤ → Type 0
-LeadsTo slot_of s w z = (t : ℕ) × (slot_of w ≡ Some t) × (z ≡ pos t -ℤ pos (s + 1))
+abbrev pub IsDistanceTo : SlotOf → ℕ → Name → ℤ → Type 0
+IsDistanceTo slot_of s w z = (t : ℕ) × (slot_of w ≡ Some t) × (z ≡ pos t -ℤ pos (s + 1))
 
 -- an operand of the line at slot s is this argument
 abbrev pub IsArgument : SlotOf → ℕ → Item Name → Argument → Type 0
 IsArgument slot_of s (item.Name w) (Register r) = w ≡ register_text r
-IsArgument slot_of s (item.Name w) (Distance d) = LeadsTo slot_of s w (slots_moved d)
+IsArgument slot_of s (item.Name w) (Distance d) = IsDistanceTo slot_of s w (slots_moved d)
 IsArgument slot_of s (item.Number f) (Imm k) = imm_of f ≡ Some k
 IsArgument slot_of s (item.Number f) (Number n) = wide_of f ≡ Some n
 IsArgument slot_of s (item.Number f) (Distance (Short k)) = short_of f ≡ Some k

@@ -12,7 +12,7 @@ ghost use Rattle.bpf_text.specs.Listing.{
   line_of,
   Lists,
   IsListFault,
-  IsNext,
+  IsNextLine,
   IsFaultAt,
 };
 ghost use Rattle.bpf_text.specs.Assembly.{AssemblesAgain};
@@ -111,7 +111,8 @@ fn push_line(out: &mut String, insn: Insn) -> Result<(), AllocError>
 // Writes the line of the instruction that begins at a slot, and answers the slot after it.
 fn push_next(out: &mut String, bytes: &[u8], slot: usize) -> Result<usize, ListFault>
     requires { 8 * slot < length bytes.now }
-    ensures is { IfOk result (IsNext bytes.now slot (string_bytes out.old) (string_bytes out.new)) }
+    ensures is { IfOk result
+        (IsNextLine bytes.now slot (string_bytes out.old) (string_bytes out.new)) }
     ensures fault { IfErr result (IsFaultAt bytes.now slot) }
 {
     match decode_at(bytes, slot) {

@@ -5,19 +5,22 @@ use Rattle.std.proofs.lemmas.Bool.{cases_lt}
 use Rattle.bpf_verify.specs.Count.{count}
 
 -- what passes both tests passes the second
-pub count_within : (f g : ℕ → Bool) (n : ℕ) → ((m : ℕ) → m < n → f m ≡ true → g m ≡ true) → count f n ≤ count g n
+pub count_within : (f g : ℕ → Bool) (n : ℕ) → ((m : ℕ) → m < n → f m ≡ true → g m ≡ true)
+    → count f n ≤ count g n
 unfolding count
 count_within f g zero h = omega arith
 count_within f g (suc n) h =
     let rest : count f n ≤ count g n = count_within f g n (λ m lt. h m (omega (arith, lt))) in
     last (f n) (g n) rest (h n (omega arith))
   where
-    last : (a b : Bool) → count f n ≤ count g n → (a ≡ true → b ≡ true) → count f n + (if a then 1 else 0) ≤ count g n + (if b then 1 else 0)
+    last : (a b : Bool) → count f n ≤ count g n → (a ≡ true → b ≡ true)
+        → count f n + (if a then 1 else 0) ≤ count g n + (if b then 1 else 0)
     last false b le k = grind arith
     last true true le k = omega (arith, le)
     last true false le k = absurd (grind (arith, k refl))
 
-pub count_same : (f g : ℕ → Bool) (n : ℕ) → ((m : ℕ) → m < n → f m ≡ g m) → count f n ≡ count g n
+pub count_same : (f g : ℕ → Bool) (n : ℕ) → ((m : ℕ) → m < n → f m ≡ g m)
+    → count f n ≡ count g n
 unfolding count
 count_same f g zero h = refl
 count_same f g (suc n) h =
@@ -26,7 +29,8 @@ count_same f g (suc n) h =
     rw (rest, last) refl
 
 -- one number more passes
-pub count_more : (f g : ℕ → Bool) (m n : ℕ) → m < n → f m ≡ false → g m ≡ true → ((k : ℕ) → k ≢ m → g k ≡ f k) → count g n ≡ count f n + 1
+pub count_more : (f g : ℕ → Bool) (m n : ℕ) → m < n → f m ≡ false → g m ≡ true
+    → ((k : ℕ) → k ≢ m → g k ≡ f k) → count g n ≡ count f n + 1
 unfolding count
 count_more f g m zero lt out into same = absurd (omega (arith, lt))
 count_more f g m (suc n) lt out into same = elim (cases_lt m n) [
@@ -37,7 +41,8 @@ count_more f g m (suc n) lt out into same = elim (cases_lt m n) [
       rw (rest, last) (omega arith)
   | inr above ↦
       let is : m ≡ n = omega (arith, lt, above) in
-      let rest : count g n ≡ count f n = count_same g f n (λ k below. same k (omega (arith, below, is))) in
+      let rest : count g n ≡ count f n =
+      count_same g f n (λ k below. same k (omega (arith, below, is))) in
       let a : f n ≡ false = rw (← is) out in
       let b : g n ≡ true = rw (← is) into in
       rw (rest, a, b) (omega arith)

@@ -38,7 +38,8 @@ edge_has (Some t) (Some e) h = (h, tt)
 edge_has (Some t) None h = tt
 edge_has None o h = tt
 
-if_has : (b : Bool) (e : AbsState) (es : List AbsState) → IsInhabitedState e → AllHave es → AllHave (if b then e ∷ es else es)
+if_has : (b : Bool) (e : AbsState) (es : List AbsState) → IsInhabitedState e → AllHave es
+    → AllHave (if b then e ∷ es else es)
 unfolding AllHave
 if_has true e es h k = (h, k)
 if_has false e es h k = k
@@ -46,14 +47,18 @@ if_has false e es h k = k
 to_place_has : (m : ℕ) (ds : List Edge) → EdgesHave ds → AllHave (to_place m ds)
 unfolding EdgesHave AllHave
 to_place_has m [] h = tt
-to_place_has m (d ∷ ds) h = if_has (d.target == m) d.entry (to_place m ds) h.0 (to_place_has m ds h.1)
+to_place_has m (d ∷ ds) h =
+    if_has (d.target == m) d.entry (to_place m ds) h.0 (to_place_has m ds h.1)
 
-some_has : (o : Option AbsState) (e : AbsState) → IfSome o IsInhabitedState → o ≡ Some e → IsInhabitedState e
+some_has : (o : Option AbsState) (e : AbsState) → IfSome o IsInhabitedState → o ≡ Some e
+    → IsInhabitedState e
 some_has None e h is = absurd (none-some e is)
 some_has (Some f) e h is = subst IsInhabitedState (same_Some _ _ is) h
 
-module _ (opening : InhabitsOpening) (meetings : InhabitsMeetings) (jumps : InhabitsJumping) (goes : InhabitsGoingOn) where
-  joined_has : (e : AbsState) (es : List AbsState) → IsInhabitedState e → AllHave es → IsInhabitedState (joined e es)
+module _ (opening : InhabitsOpening) (meetings : InhabitsMeetings) (jumps : InhabitsJumping)
+    (goes : InhabitsGoingOn) where
+  joined_has : (e : AbsState) (es : List AbsState) → IsInhabitedState e → AllHave es
+      → IsInhabitedState (joined e es)
   unfolding AllHave
   joined_has e [] h k = h
   joined_has e (f ∷ fs) h k = joined_has (join_states e f) fs (meetings e f h k.0) k.1
@@ -63,12 +68,16 @@ module _ (opening : InhabitsOpening) (meetings : InhabitsMeetings) (jumps : Inha
   join_all_has [] h = tt
   join_all_has (e ∷ es) h = joined_has e es h.0 h.1
 
-  edges_have : (shape : AppShape) (s : ℕ) (e : AbsState) (i : Insn) → IsInhabitedState e → EdgesHave (edges shape s e i)
+  edges_have : (shape : AppShape) (s : ℕ) (e : AbsState) (i : Insn) → IsInhabitedState e
+      → EdgesHave (edges shape s e i)
   unfolding edges
-  edges_have shape s e i h = edges_append (edge (target_of s i) (jumping e i)) (edge (next_target s i) (going_on shape s e i))
-      (edge_has (target_of s i) (jumping e i) (jumps e i h)) (edge_has (next_target s i) (going_on shape s e i) (goes shape s e i h))
+  edges_have shape s e i h = edges_append (edge (target_of s i) (jumping e i))
+      (edge (next_target s i) (going_on shape s e i))
+      (edge_has (target_of s i) (jumping e i) (jumps e i h))
+      (edge_has (next_target s i) (going_on shape s e i) (goes shape s e i h))
 
-  edges_of_have : (shape : AppShape) (s : ℕ) (o : Option AbsState) (w : Option Insn) → IfSome o IsInhabitedState → EdgesHave (edges_of shape s o w)
+  edges_of_have : (shape : AppShape) (s : ℕ) (o : Option AbsState) (w : Option Insn)
+      → IfSome o IsInhabitedState → EdgesHave (edges_of shape s o w)
   unfolding EdgesHave
   edges_of_have shape s (Some e) (Some i) h = edges_have shape s e i h
   edges_of_have shape s (Some e) None h = tt
@@ -78,8 +87,13 @@ module _ (opening : InhabitsOpening) (meetings : InhabitsMeetings) (jumps : Inha
   unfolding incoming AllHave
   incoming_have p zero m = if_has (m == 0) opening_state [] opening tt
   incoming_have p (suc k) m =
-      all_append (incoming p k m) (to_place m (edges_of p.shape k (join_all (incoming p k k)) (at p.code k))) (incoming_have p k m)
-      (to_place_has m (edges_of p.shape k (join_all (incoming p k k)) (at p.code k)) (edges_of_have p.shape k (join_all (incoming p k k)) (at p.code k) (join_all_has (incoming p k k) (incoming_have p k k))))
+      all_append (incoming p k m)
+      (to_place m (edges_of p.shape k (join_all (incoming p k k)) (at p.code k)))
+      (incoming_have p k m)
+      (to_place_has m (edges_of p.shape k (join_all (incoming p k k)) (at p.code k))
+      (edges_of_have p.shape k (join_all (incoming p k k)) (at p.code k)
+      (join_all_has (incoming p k k) (incoming_have p k k))))
 
   pub no_empty_range : (p : ShapedProgram) → HasNoEmptyRange p
-  no_empty_range p s e is = some_has (entry_of p s) e (join_all_has (incoming p s s) (incoming_have p s s)) is
+  no_empty_range p s e is =
+      some_has (entry_of p s) e (join_all_has (incoming p s s) (incoming_have p s s)) is

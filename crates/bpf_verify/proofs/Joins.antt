@@ -34,7 +34,8 @@ place_hull-comm : (a b : Places) → place_hull a b ≡ place_hull b a
 place_hull-comm a b = let lo = min-comm a.lo b.lo in let hi = max-comm a.hi b.hi in rw (lo, hi) refl
 
 -- what is the same may be taken from either side
-either : (f : ℕ → Abs) (a b : ℕ) → (if a == b then f a else Unusable) ≡ (if b == a then f b else Unusable)
+either : (f : ℕ → Abs) (a b : ℕ)
+    → (if a == b then f a else Unusable) ≡ (if b == a then f b else Unusable)
 either f a b = elim (cases_Bool (a == b)) [
   | inl same ↦ let is : a ≡ b = grind (arith, same) in rw is refl
   | inr other ↦ let back : (b == a) ≡ false = grind (arith, other) in rw (other, back) refl
@@ -49,7 +50,8 @@ lookup_is a b h =
     let slot : a.slot ≡ b.slot = grind (arith, h) in
     of-parts a.array b.array a.slot b.slot array slot
   where
-    of-parts : (i j s t : ℕ) → i ≡ j → s ≡ t → ◌≡◌ {A = Lookup} (record { array = i; slot = s }) (record { array = j; slot = t })
+    of-parts : (i j s t : ℕ) → i ≡ j → s ≡ t
+        → ◌≡◌ {A = Lookup} (record { array = i; slot = s }) (record { array = j; slot = t })
     of-parts i j s t e f = rw (e, f) refl
 
 origin_is : (a b : Origin) → same_origin a b ≡ true → a ≡ b
@@ -64,16 +66,19 @@ same_origin-comm (Fixed a) (Fixed b) = grind arith
 same_origin-comm (Found a) (Fixed b) = refl
 same_origin-comm (Fixed a) (Found b) = refl
 
-may-comm : (a b : Lookup) → join_values (MayCell a) (MayCell b) ≡ join_values (MayCell b) (MayCell a)
+may-comm : (a b : Lookup)
+    → join_values (MayCell a) (MayCell b) ≡ join_values (MayCell b) (MayCell a)
 may-comm a b = elim (cases_Bool (same_lookup a b)) [
   | inl same ↦ let is = lookup_is a b same in rw is refl
-  | inr other ↦ let back : same_lookup b a ≡ false = same_lookup-comm b a ∙ other in rw (other, back) refl
+  | inr other ↦
+      let back : same_lookup b a ≡ false = same_lookup-comm b a ∙ other in rw (other, back) refl
 ]
 
 cell-comm : (a b : Origin) → join_values (Cell a) (Cell b) ≡ join_values (Cell b) (Cell a)
 cell-comm a b = elim (cases_Bool (same_origin a b)) [
   | inl same ↦ let is = origin_is a b same in rw is refl
-  | inr other ↦ let back : same_origin b a ≡ false = same_origin-comm b a ∙ other in rw (other, back) refl
+  | inr other ↦
+      let back : same_origin b a ≡ false = same_origin-comm b a ∙ other in rw (other, back) refl
 ]
 
 pub values-comm : (a b : Abs) → join_values a b ≡ join_values b a
@@ -96,17 +101,24 @@ slots-comm (Kept a) (Bytes n) = ap Bytes (and_comm (mask_of (Kept a)) n)
 slots-comm (Bytes m) (Kept b) = ap Bytes (and_comm m (mask_of (Kept b)))
 slots-comm (Bytes m) (Bytes n) = ap Bytes (and_comm m n)
 
-map-same : {X Y : Type 0} (f g : X → Y) (xs : List X) → ((x : X) → f x ≡ g x) → map f xs ≡ map g xs
+map-same : {X Y : Type 0} (f g : X → Y) (xs : List X) → ((x : X) → f x ≡ g x)
+    → map f xs ≡ map g xs
 map-same f g [] h = refl
 map-same f g (x ∷ xs) h = let first = h x in let rest = map-same f g xs h in rw (first, rest) refl
 
 registers-comm : (a b : List Abs) → join_registers a b ≡ join_registers b a
 unfolding join_registers
-registers-comm a b = map-same (λ r. join_values (register_at a r) (register_at b r)) (λ r. join_values (register_at b r) (register_at a r)) (range_with_len 0 11) (λ r. values-comm (register_at a r) (register_at b r))
+registers-comm a b = map-same (λ r. join_values (register_at a r) (register_at b r))
+    (λ r. join_values (register_at b r) (register_at a r)) (range_with_len 0 11)
+    (λ r. values-comm (register_at a r) (register_at b r))
 
 stacks-comm : (a b : List AbsSlot) → join_stacks a b ≡ join_stacks b a
 unfolding join_stacks
-stacks-comm a b = map-same (λ i. join_slots (slot_at a i) (slot_at b i)) (λ i. join_slots (slot_at b i) (slot_at a i)) (range_with_len 0 64) (λ i. slots-comm (slot_at a i) (slot_at b i))
+stacks-comm a b = map-same (λ i. join_slots (slot_at a i) (slot_at b i))
+    (λ i. join_slots (slot_at b i) (slot_at a i)) (range_with_len 0 64)
+    (λ i. slots-comm (slot_at a i) (slot_at b i))
 
 pub states-comm : (e f : AbsState) → join_states e f ≡ join_states f e
-states-comm e f = let first = registers-comm e.registers f.registers in let rest = stacks-comm e.stack f.stack in rw (first, rest) refl
+states-comm e f =
+    let first = registers-comm e.registers f.registers in
+    let rest = stacks-comm e.stack f.stack in rw (first, rest) refl

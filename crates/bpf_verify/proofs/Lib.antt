@@ -1,6 +1,7 @@
 pub mod Counts
 pub mod Lists
 pub mod Pools
+pub mod WaitingThen
 pub mod Joins
 pub mod Places
 pub mod Joining

@@ -30,7 +30,8 @@ jumps_later p k (suc d) m h =
     rw (e, before) refl
 
 jumps_after : (p : Program) (k n m : ℕ) → k ≤ n → jumps_to p k m ≡ true → jumps_to p n m ≡ true
-jumps_after p k n m le h = let e : n - k + k ≡ n = omega (arith, le) in let l = jumps_later p k (n - k) m h in rw e at l
+jumps_after p k n m le h =
+    let e : n - k + k ≡ n = omega (arith, le) in let l = jumps_later p k (n - k) m h in rw e at l
 
 most_later : (p : Program) (k d : ℕ) → most_ahead p k ≤ most_ahead p (d + k)
 unfolding most_ahead
@@ -41,7 +42,8 @@ most_later p k (suc d) =
     rw e (omega (arith, before))
 
 pub most_after : (p : Program) (k n : ℕ) → k ≤ n → most_ahead p k ≤ most_ahead p n
-most_after p k n le = let e : n - k + k ≡ n = omega (arith, le) in let l = most_later p k (n - k) in rw e at l
+most_after p k n le =
+    let e : n - k + k ≡ n = omega (arith, le) in let l = most_later p k (n - k) in rw e at l
 
 ahead_most : (p : Program) (k n : ℕ) → k < n → ahead p k ≤ most_ahead p n
 unfolding most_ahead
@@ -49,7 +51,8 @@ ahead_most p k n lt = let l = most_after p (suc k) n lt in omega (arith, l)
 
 -- ---- one place
 
-module _ (p : ShapedProgram) (k : ℕ) (i : Insn) (layout : IsLayout p.code) (is : at p.code k ≡ Some i) where
+module _ (p : ShapedProgram) (k : ℕ) (i : Insn) (layout : IsLayout p.code)
+    (is : at p.code k ≡ Some i) where
   -- a place after an instruction is the next one, or behind it
   next_within : (m : ℕ) → k < m → IsSome (at p.code m) → next_of k i ≤ m
   next_within m lt some = elim (cases_lt m (next_of k i)) [
@@ -79,21 +82,29 @@ module _ (p : ShapedProgram) (k : ℕ) (i : Insn) (layout : IsLayout p.code) (is
     pub held_most : held w1 ≤ w1.most
     pub added : IsAdded target jump w1 w2
     pub edges_are : edges_of p.shape k (entry_of p k) (at p.code k) ≡ edge target jump ++ rest
-    pub rest_is : (m : ℕ) (x : Option AbsState) → with_edges m rest x ≡ (if next_of k i == m then arrived x here else x)
+    pub rest_is : (m : ℕ) (x : Option AbsState)
+        → with_edges m rest x ≡ (if next_of k i == m then arrived x here else x)
     pub target_is : (u : ℕ) → target ≡ Some u → IsAwaited p.code (suc k) u
     pub fine : IsFine p k
-    pub jump_is : IsSome (entry_of p k) → jump_edges k (entry_of p k) (at p.code k) ≡ edge target jump
+    pub jump_is : IsSome (entry_of p k)
+        → jump_edges k (entry_of p k) (at p.code k) ≡ edge target jump
 
-  module _ (here here2 : Option AbsState) (w w1 w2 : Waiting) (h : IsSwept p k here w) (l : Leaves here2 w w1 w2) where
-    waits_then : (m : ℕ) → k < m → m < length p.code → waits_at w2 m ≡ with_edges m (edge l.target l.jump) (join_all (incoming p k m))
+  module _ (here here2 : Option AbsState) (w w1 w2 : Waiting) (h : IsSwept p k here w)
+      (l : Leaves here2 w w1 w2) where
+    waits_then : (m : ℕ) → k < m → m < length p.code
+        → waits_at w2 m ≡ with_edges m (edge l.target l.jump) (join_all (incoming p k m))
     waits_then m lt within =
         let ne : m ≢ k = omega (arith, lt) in
-        added_is l.target l.jump w1 w2 l.added m ∙ ap (with_edges m (edge l.target l.jump)) (l.gave.elsewhere m ne ∙ h.later m lt within)
+        added_is l.target l.jump w1 w2 l.added m
+        ∙ ap (with_edges m (edge l.target l.jump)) (l.gave.elsewhere m ne ∙ h.later m lt within)
 
-    comes_then : (m : ℕ) → k < m → m < length p.code → (if next_of k i == m then arrived (waits_at w2 m) here2 else waits_at w2 m) ≡ join_all (incoming p (next_of k i) m)
+    comes_then : (m : ℕ) → k < m → m < length p.code
+        → (if next_of k i == m then arrived (waits_at w2 m) here2 else waits_at w2 m)
+        ≡ join_all (incoming p (next_of k i) m)
     unfolding incoming
     comes_then m lt within =
-        sym (ap join_all (past p k m i layout is) ∙ with_edges-to_place m (edges_of p.shape k (join_all (incoming p k k)) (at p.code k)) (incoming p k m)
+        sym (ap join_all (past p k m i layout is) ∙ with_edges-to_place m
+        (edges_of p.shape k (join_all (incoming p k k)) (at p.code k)) (incoming p k m)
         ∙ ap (λ ds. with_edges m ds (join_all (incoming p k m))) l.edges_are
         ∙ with_edges-append m (edge l.target l.jump) l.rest (join_all (incoming p k m))
         ∙ ap (with_edges m l.rest) (sym (waits_then m lt within))
@@ -105,30 +116,40 @@ module _ (p : ShapedProgram) (k : ℕ) (i : Insn) (layout : IsLayout p.code) (is
       | inr old ↦ was (cases_Bool (m == k)) old
     ]
       where
-        was : ((m == k) ≡ true) ⊎ ((m == k) ≡ false) → IsSome (waits_at w1 m) → IsAwaited p.code (suc k) m
+        was : ((m == k) ≡ true) ⊎ ((m == k) ≡ false) → IsSome (waits_at w1 m)
+            → IsAwaited p.code (suc k) m
         was (inl same) old =
             let at : m ≡ k = grind (arith, same) in
-            let none : is_some (waits_at w1 m) ≡ false = ap is_some (ap (waits_at w1) at ∙ l.gave.here) in
+            let none : is_some (waits_at w1 m) ≡ false =
+            ap is_some (ap (waits_at w1) at ∙ l.gave.here) in
             absurd (grind (arith, none, old))
         was (inr other) old =
             let ne : m ≢ k = grind (arith, other) in
             let a = h.waits m (ap is_some (sym (l.gave.elsewhere m ne)) ∙ old) in
-            record { ahead = omega (arith, ne, a.ahead); place = a.place; target = jumps_after p.code k (suc k) m (omega arith) a.target }
+            record {
+              ahead = omega (arith, ne, a.ahead);
+              place = a.place;
+              target = jumps_after p.code k (suc k) m (omega arith) a.target;
+            }
 
     -- as many wait as are counted
     held_is : IsSome (entry_of p k) → kept p k ≡ 1 + held w2
     held_is some =
-        let len : length w2.entries ≡ length p.code = added_len l.target l.jump w1 w2 l.added ∙ l.gave.len ∙ h.len in
-        let same = count_same (λ m. nat_lt k m && is_some (awaited p k m)) (λ m. is_some (waits_at w2 m)) (length p.code) each in
+        let len : length w2.entries ≡ length p.code =
+        added_len l.target l.jump w1 w2 l.added ∙ l.gave.len ∙ h.len in
+        let same = count_same (λ m. nat_lt k m && is_some (awaited p k m))
+        (λ m. is_some (waits_at w2 m)) (length p.code) each in
         rw (same, len) refl
       where
-        each : (m : ℕ) → m < length p.code → (nat_lt k m && is_some (awaited p k m)) ≡ is_some (waits_at w2 m)
+        each : (m : ℕ) → m < length p.code
+            → (nat_lt k m && is_some (awaited p k m)) ≡ is_some (waits_at w2 m)
         each m within = elim (cases_lt k m) [
           | inl lt ↦
               let test : nat_lt k m ≡ true = grind (arith, lt) in
               let at : awaited p k m ≡ waits_at w2 m =
               with_edges-to_place m (jump_edges k (entry_of p k) (at p.code k)) (incoming p k m)
-              ∙ ap (λ ds. with_edges m ds (join_all (incoming p k m))) (l.jump_is some) ∙ sym (waits_then m lt within) in
+              ∙ ap (λ ds. with_edges m ds (join_all (incoming p k m))) (l.jump_is some)
+              ∙ sym (waits_then m lt within) in
               rw (test, at) refl
           | inr le ↦
               let test : nat_lt k m ≡ false = grind (arith, le) in
@@ -141,12 +162,18 @@ module _ (p : ShapedProgram) (k : ℕ) (i : Insn) (layout : IsLayout p.code) (is
 
     within_ahead : held w2 ≤ ahead p.code k
     within_ahead =
-        let len : length w2.entries ≡ length p.code = added_len l.target l.jump w1 w2 l.added ∙ l.gave.len ∙ h.len in
-        let le = count_within (λ m. is_some (waits_at w2 m)) (λ m. nat_lt k m && jumps_to p.code (suc k) m) (length w2.entries) (λ m lt some. each m (awaited_then m some)) in
+        let len : length w2.entries ≡ length p.code =
+        added_len l.target l.jump w1 w2 l.added ∙ l.gave.len ∙ h.len in
+        let le =
+        count_within (λ m. is_some (waits_at w2 m)) (λ m. nat_lt k m && jumps_to p.code (suc k) m)
+        (length w2.entries) (λ m lt some. each m (awaited_then m some)) in
         subst (λ n. held w2 ≤ count (λ m. nat_lt k m && jumps_to p.code (suc k) m) n) len le
       where
-        each : (m : ℕ) → IsAwaited p.code (suc k) m → (nat_lt k m && jumps_to p.code (suc k) m) ≡ true
-        each m a = let test : nat_lt k m ≡ true = grind (arith, a.ahead) in let there = a.target in rw (test, there) refl
+        each : (m : ℕ) → IsAwaited p.code (suc k) m
+            → (nat_lt k m && jumps_to p.code (suc k) m) ≡ true
+        each m a =
+            let test : nat_lt k m ≡ true = grind (arith, a.ahead) in
+            let there = a.target in rw (test, there) refl
 
     most_is : IsMost w1 w2
     most_is = added_most l.target l.jump w1 w2 l.added l.held_most
@@ -155,12 +182,27 @@ module _ (p : ShapedProgram) (k : ℕ) (i : Insn) (layout : IsLayout p.code) (is
     swept_next = record {
       place = next_at p.code layout k i is;
       len = added_len l.target l.jump w1 w2 l.added ∙ l.gave.len ∙ h.len;
-      entry = λ within. let test : (next_of k i == next_of k i) ≡ true = grind arith in let came = comes_then (next_of k i) (after k i) within in rw test at came;
-      later = λ m lt within. let test : (next_of k i == m) ≡ false = grind (arith, lt) in let came = comes_then m (let a = after k i in omega (arith, a, lt)) within in rw test at came;
-      waits = λ m some. let a = awaited_then m some in record { ahead = next_within m a.ahead a.place; place = a.place; target = jumps_after p.code (suc k) (next_of k i) m (after k i) a.target };
+      entry = λ within.
+          let test : (next_of k i == next_of k i) ≡ true = grind arith in
+          let came = comes_then (next_of k i) (after k i) within in rw test at came;
+      later = λ m lt within.
+          let test : (next_of k i == m) ≡ false = grind (arith, lt) in
+          let came = comes_then m (let a = after k i in omega (arith, a, lt)) within in
+          rw test at came;
+      waits = λ m some.
+          let a = awaited_then m some in
+          record {
+            ahead = next_within m a.ahead a.place;
+            place = a.place;
+            target = jumps_after p.code (suc k) (next_of k i) m (after k i) a.target;
+          };
       fine = λ s lt. fine_at s (past_k s true lt);
       least = λ s lt some there. least_at s (past_k s true lt) some there;
-      most = let m = most_is in let a = ahead_most p.code k (next_of k i) (after k i) in let b = most_after p.code k (next_of k i) (let c = after k i in omega (arith, c)) in omega (arith, m.least, a, b, within_ahead, l.same_most, h.most);
+      most =
+          let m = most_is in
+          let a = ahead_most p.code k (next_of k i) (after k i) in
+          let b = most_after p.code k (next_of k i) (let c = after k i in omega (arith, c)) in
+          omega (arith, m.least, a, b, within_ahead, l.same_most, h.most);
     }
       where
         fine_at : (s : ℕ) → (s < k) ⊎ ((s ≡ k) ⊎ (at p.code s ≡ None)) → IsFine p s
@@ -168,11 +210,16 @@ module _ (p : ShapedProgram) (k : ℕ) (i : Insn) (layout : IsLayout p.code) (is
         fine_at s (inr (inl same)) = subst (IsFine p) (sym same) l.fine
         fine_at s (inr (inr none)) = λ e j entry there. absurd (none-some j (sym none ∙ there))
 
-        least_at : (s : ℕ) → (s < k) ⊎ ((s ≡ k) ⊎ (at p.code s ≡ None)) → IsSome (entry_of p s) → IsSome (at p.code s) → kept p s ≤ w2.most + 1
-        least_at s (inl below) some there = let m = most_is in let le = h.least s below some there in omega (arith, le, m.grows, l.same_most)
+        least_at : (s : ℕ) → (s < k) ⊎ ((s ≡ k) ⊎ (at p.code s ≡ None)) → IsSome (entry_of p s)
+            → IsSome (at p.code s) → kept p s ≤ w2.most + 1
+        least_at s (inl below) some there =
+            let m = most_is in
+            let le = h.least s below some there in omega (arith, le, m.grows, l.same_most)
         least_at s (inr (inl same)) some there =
             let m = most_is in
             let e = held_is (subst (λ n. IsSome (entry_of p n)) same some) in
             let at : kept p s ≡ kept p k = ap (kept p) same in
             omega (arith, e, at, m.within)
-        least_at s (inr (inr none)) some there = let no : is_some (at p.code s) ≡ false = ap is_some none in absurd (grind (arith, no, there))
+        least_at s (inr (inr none)) some there =
+            let no : is_some (at p.code s) ≡ false = ap is_some none in
+            absurd (grind (arith, no, there))

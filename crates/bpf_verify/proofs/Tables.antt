@@ -10,7 +10,7 @@ use Rattle.std.proofs.lemmas.Nat.Bits.{bit_at_and, bit_at_ones}
 use Rattle.bpf_insn.specs.declared.insn.Insn.{Insn}
 use Rattle.bpf_insn.specs.Program.{Program, at}
 use Rattle.bpf_semantics.specs.Memory.{stack_size}
-use Rattle.bpf_semantics.specs.Program.{ShapedProgram}
+use Rattle.bpf_semantics.specs.Program.{ShapedProgram, shaped}
 use Rattle.cells.specs.Arrays.{AppShape}
 use Rattle.abs_value.specs.declared.origin.Lookup.{Lookup}
 use Rattle.abs_value.specs.declared.origin.Origin.{Origin}
@@ -24,7 +24,7 @@ use Rattle.abs_value.specs.Values.{same_lookup, same_origin, is_unusable, join_v
 use Rattle.abs_value.specs.Stack.{mask_of, slot_at, is_set, kept_slot, join_slots, join_stacks}
 use Rattle.abs_value.specs.States.{register_at, value_at, join_registers, join_states, opening_state}
 use Rattle.bpf_rules.specs.Transfer.{Edge}
-use Rattle.bpf_verify.specs.Accepted.{to_place, joined, join_all, edges_of, incoming, shaped, IsAccepted}
+use Rattle.bpf_verify.specs.Accepted.{to_place, joined, join_all, edges_of, incoming, IsAccepted}
 use Rattle.bpf_verify.specs.Table.{Known, IsWider, Knows, IsTable}
 
 -- ---- values
@@ -57,8 +57,10 @@ same_join d a b itself h g = sym itself ∙ ap (λ (v : Abs). join_values v d) h
 
 wider_join : (d a b : Abs) → IsWider d a → IsWider d b → IsWider d (join_values a b)
 wider_join Unusable a b h g = tt
-wider_join (Num c) (Num a) (Num b) h g = (omega (arith, h.0, g.0), omega (arith, h.1, g.1), omega (arith, h.2, g.2))
-wider_join (Ctx c) (Ctx a) (Ctx b) h g = (omega (arith, h.0, g.0), omega (arith, h.1, g.1), omega (arith, h.2, g.2))
+wider_join (Num c) (Num a) (Num b) h g =
+    (omega (arith, h.0, g.0), omega (arith, h.1, g.1), omega (arith, h.2, g.2))
+wider_join (Ctx c) (Ctx a) (Ctx b) h g =
+    (omega (arith, h.0, g.0), omega (arith, h.1, g.1), omega (arith, h.2, g.2))
 wider_join (Num c) (Num a) b h g = absurd cc
 wider_join (Num c) a b h g = absurd cc
 wider_join (Ctx c) (Ctx a) b h g = absurd cc
@@ -68,20 +70,27 @@ wider_join (Map c) a b h g = same_join (Map c) a b (map_itself c) h g
 wider_join (MayCell c) a b h g = same_join (MayCell c) a b (may_itself c) h g
 wider_join (Cell c) a b h g = same_join (Cell c) a b (cell_itself c) h g
 
-registers_join : (d : Known) (e f : AbsState) → length e.registers ≡ 11 → (r : ℕ) → IsWider (register_at d.registers r) (value_at e r) → IsWider (register_at d.registers r) (value_at f r)
+registers_join : (d : Known) (e f : AbsState)
+    → length e.registers ≡ 11 → (r : ℕ) → IsWider (register_at d.registers r) (value_at e r)
+    → IsWider (register_at d.registers r) (value_at f r)
     → IsWider (register_at d.registers r) (register_at (join_registers e.registers f.registers) r)
 unfolding join_registers
 registers_join d e f long r h g =
     let meet : ℕ → Abs = λ (q : ℕ). join_values (value_at e q) (value_at f q) in
     elim (cases_lt r 11) [
-      | inl lt ↦ rw (get_or-map-range_with_len meet 0 11 r r Unusable lt (omega arith)) (wider_join (register_at d.registers r) (value_at e r) (value_at f r) h g)
-      | inr le ↦ let past : value_at e r ≡ Unusable = get_or_past e.registers r Unusable (omega (arith, long)) in
-          rw (get_or_past (map meet (range_with_len 0 11)) r Unusable (omega (arith, length-map-range_with_len meet 0 11))) (rw past at h)
+      | inl lt ↦ rw (get_or-map-range_with_len meet 0 11 r r Unusable lt (omega arith))
+          (wider_join (register_at d.registers r) (value_at e r) (value_at f r) h g)
+      | inr le ↦
+          let past : value_at e r ≡ Unusable =
+          get_or_past e.registers r Unusable (omega (arith, long)) in
+          rw (get_or_past (map meet (range_with_len 0 11)) r Unusable
+          (omega (arith, length-map-range_with_len meet 0 11))) (rw past at h)
     ]
 
 registers_long : (a b : List Abs) → length (join_registers a b) ≡ 11
 unfolding join_registers
-registers_long a b = length-map-range_with_len (λ (q : ℕ). join_values (register_at a q) (register_at b q)) 0 11
+registers_long a b =
+    length-map-range_with_len (λ (q : ℕ). join_values (register_at a q) (register_at b q)) 0 11
 
 -- ---- bytes of the stack
 
@@ -103,28 +112,35 @@ kept_bit v k lt = elim (cases_Bool (is_unusable v)) [
   | inr is ↦ rw is (all_bits k lt)
 ]
 
-slots_join : (a b : AbsSlot) (k : ℕ) → k < 8 → bit_at (mask_of a) k ≡ 1 → bit_at (mask_of b) k ≡ 1 → bit_at (mask_of (join_slots a b)) k ≡ 1
+slots_join : (a b : AbsSlot) (k : ℕ) → k < 8 → bit_at (mask_of a) k ≡ 1 → bit_at (mask_of b) k ≡ 1
+    → bit_at (mask_of (join_slots a b)) k ≡ 1
 slots_join (Kept v) (Kept w) k lt h g = kept_bit (join_values v w) k lt
 slots_join (Kept v) (Bytes n) k lt h g = both_bits 255 n k h g
 slots_join (Bytes m) (Kept w) k lt h g = both_bits m 255 k h g
 slots_join (Bytes m) (Bytes n) k lt h g = both_bits m n k h g
 
-slot_at-join : (a b : List AbsSlot) (i : ℕ) → i < 64 → slot_at (join_stacks a b) i ≡ join_slots (slot_at a i) (slot_at b i)
+slot_at-join : (a b : List AbsSlot) (i : ℕ) → i < 64
+    → slot_at (join_stacks a b) i ≡ join_slots (slot_at a i) (slot_at b i)
 unfolding join_stacks
-slot_at-join a b i lt = get_or-map-range_with_len (λ (q : ℕ). join_slots (slot_at a q) (slot_at b q)) 0 64 i i (Bytes 0) lt (omega arith)
+slot_at-join a b i lt =
+    get_or-map-range_with_len (λ (q : ℕ). join_slots (slot_at a q) (slot_at b q)) 0 64 i i
+    (Bytes 0) lt (omega arith)
 
 stacks_wide : (a b : List AbsSlot) → length (join_stacks a b) ≡ 64
 unfolding join_stacks
 stacks_wide a b = length-map-range_with_len (λ (q : ℕ). join_slots (slot_at a q) (slot_at b q)) 0 64
 
-stacks_join : (a b : List AbsSlot) (place : ℕ) → place < stack_size → is_set a place ≡ true → is_set b place ≡ true → is_set (join_stacks a b) place ≡ true
+stacks_join : (a b : List AbsSlot) (place : ℕ) → place < stack_size → is_set a place ≡ true
+    → is_set b place ≡ true → is_set (join_stacks a b) place ≡ true
 stacks_join a b place lt h g =
     let i : ℕ = place / 8 in
     let within : i < 64 = omega (arith, lt) in
     let k : ℕ = place % 8 in
     let few : k < 8 = omega arith in
-    let bit = slots_join (slot_at a i) (slot_at b i) k few (bit_is (bit_at (mask_of (slot_at a i)) k) h) (bit_is (bit_at (mask_of (slot_at b i)) k) g) in
-    rw (slot_at-join a b i within) (is_bit (bit_at (mask_of (join_slots (slot_at a i) (slot_at b i))) k) bit)
+    let bit = slots_join (slot_at a i) (slot_at b i) k few
+    (bit_is (bit_at (mask_of (slot_at a i)) k) h) (bit_is (bit_at (mask_of (slot_at b i)) k) g) in
+    rw (slot_at-join a b i within)
+    (is_bit (bit_at (mask_of (join_slots (slot_at a i) (slot_at b i))) k) bit)
 
 -- ---- what is known of both is known of their join
 
@@ -133,52 +149,74 @@ knows_join d e f h g = record {
   long = registers_long e.registers f.registers;
   wide = stacks_wide e.stack f.stack;
   each = λ r. registers_join d e f h.long r (h.each r) (g.each r);
-  bytes = λ place lt set. stacks_join e.stack f.stack place lt (h.bytes place lt set) (g.bytes place lt set);
+  bytes = λ place lt set.
+      stacks_join e.stack f.stack place lt (h.bytes place lt set) (g.bytes place lt set);
 }
 
-knows_joined : (d : Known) (e : AbsState) (fs : List AbsState) → Knows d e → AllByRecursion (Knows d) fs → Knows d (joined e fs)
+knows_joined : (d : Known) (e : AbsState) (fs : List AbsState)
+    → Knows d e → AllByRecursion (Knows d) fs → Knows d (joined e fs)
 knows_joined d e [] h all = h
-knows_joined d e (f ∷ fs) h all = knows_joined d (join_states e f) fs (knows_join d e f h all.0) all.1
+knows_joined d e (f ∷ fs) h all =
+    knows_joined d (join_states e f) fs (knows_join d e f h all.0) all.1
 
-knows_all : (d : Known) (e : AbsState) (es : List AbsState) → AllByRecursion (Knows d) es → join_all es ≡ Some e → Knows d e
+knows_all : (d : Known) (e : AbsState) (es : List AbsState)
+    → AllByRecursion (Knows d) es → join_all es ≡ Some e → Knows d e
 knows_all d e [] all is = absurd cc
-knows_all d e (f ∷ fs) all is = let same : joined f fs ≡ e = cc in subst (Knows d) same (knows_joined d f fs all.0 all.1)
+knows_all d e (f ∷ fs) all is =
+    let same : joined f fs ≡ e = cc in subst (Knows d) same (knows_joined d f fs all.0 all.1)
 
 -- ---- what comes to each place
 
-all_append : {A : Type 0} (P : A → Type 0) (xs ys : List A) → AllByRecursion P xs → AllByRecursion P ys → AllByRecursion P (xs ++ ys)
+all_append : {A : Type 0} (P : A → Type 0) (xs ys : List A)
+    → AllByRecursion P xs → AllByRecursion P ys → AllByRecursion P (xs ++ ys)
 all_append P [] ys h g = g
 all_append P (x ∷ xs) ys h g = (h.0, all_append P xs ys h.1 g)
 
-module _ (code : Program) (shape : AppShape) (table : ℕ → Known) (is_table : IsTable code shape table) where
+module _ (code : Program) (shape : AppShape) (table : ℕ → Known)
+    (is_table : IsTable code shape table) where
   abbrev p : ShapedProgram
   p = shaped code shape
 
   abbrev KnowsEdge : Edge → Type 0
   KnowsEdge d = Knows (table d.target) d.entry
 
-  all_if : (m : ℕ) (d : Edge) (es : List AbsState) (b : Bool) → (d.target == m) ≡ b → KnowsEdge d → AllByRecursion (Knows (table m)) es → AllByRecursion (Knows (table m)) (if b then d.entry ∷ es else es)
-  all_if m d es true is h all = let same : d.target ≡ m = grind (arith, is) in (subst (λ (n : ℕ). Knows (table n) d.entry) same h, all)
+  all_if : (m : ℕ) (d : Edge) (es : List AbsState) (b : Bool)
+      → (d.target == m) ≡ b → KnowsEdge d → AllByRecursion (Knows (table m)) es
+      → AllByRecursion (Knows (table m)) (if b then d.entry ∷ es else es)
+  all_if m d es true is h all =
+      let same : d.target ≡ m = grind (arith, is) in
+      (subst (λ (n : ℕ). Knows (table n) d.entry) same h, all)
   all_if m d es false is h all = all
 
-  all_to_place : (m : ℕ) (ds : List Edge) → AllByRecursion KnowsEdge ds → AllByRecursion (Knows (table m)) (to_place m ds)
+  all_to_place : (m : ℕ) (ds : List Edge) → AllByRecursion KnowsEdge ds
+      → AllByRecursion (Knows (table m)) (to_place m ds)
   all_to_place m [] all = tt
-  all_to_place m (d ∷ ds) all = all_if m d (to_place m ds) (d.target == m) refl all.0 (all_to_place m ds all.1)
+  all_to_place m (d ∷ ds) all =
+      all_if m d (to_place m ds) (d.target == m) refl all.0 (all_to_place m ds all.1)
 
-  all_edges : (k : ℕ) (es : List AbsState) (o : Option AbsState) (w : Option Insn) → AllByRecursion (Knows (table k)) es → join_all es ≡ o → at code k ≡ w → AllByRecursion KnowsEdge (edges_of shape k o w)
+  all_edges : (k : ℕ) (es : List AbsState) (o : Option AbsState) (w : Option Insn)
+      → AllByRecursion (Knows (table k)) es → join_all es ≡ o → at code k ≡ w
+      → AllByRecursion KnowsEdge (edges_of shape k o w)
   all_edges k es None w all is at_is = tt
   all_edges k es (Some e) None all is at_is = tt
-  all_edges k es (Some e) (Some i) all is at_is = is_table.leads k e i at_is (knows_all (table k) e es all is)
+  all_edges k es (Some e) (Some i) all is at_is =
+      is_table.leads k e i at_is (knows_all (table k) e es all is)
 
-  opening_if : (m : ℕ) (b : Bool) → (m == 0) ≡ b → AllByRecursion (Knows (table m)) (if b then opening_state ∷ [] else [])
-  opening_if m true is = let same : 0 ≡ m = grind (arith, is) in (subst (λ (n : ℕ). Knows (table n) opening_state) same is_table.start, tt)
+  opening_if : (m : ℕ) (b : Bool) → (m == 0) ≡ b
+      → AllByRecursion (Knows (table m)) (if b then opening_state ∷ [] else [])
+  opening_if m true is =
+      let same : 0 ≡ m = grind (arith, is) in
+      (subst (λ (n : ℕ). Knows (table n) opening_state) same is_table.start, tt)
   opening_if m false is = tt
 
   all_incoming : (k m : ℕ) → AllByRecursion (Knows (table m)) (incoming p k m)
   unfolding incoming
   all_incoming zero m = opening_if m (m == 0) refl
-  all_incoming (suc k) m = all_append (Knows (table m)) (incoming p k m) (to_place m (edges_of shape k (join_all (incoming p k k)) (at code k))) (all_incoming k m)
-      (all_to_place m (edges_of shape k (join_all (incoming p k k)) (at code k)) (all_edges k (incoming p k k) (join_all (incoming p k k)) (at code k) (all_incoming k k) refl refl))
+  all_incoming (suc k) m = all_append (Knows (table m)) (incoming p k m)
+      (to_place m (edges_of shape k (join_all (incoming p k k)) (at code k))) (all_incoming k m)
+      (all_to_place m (edges_of shape k (join_all (incoming p k k)) (at code k)) (all_edges k
+      (incoming p k k) (join_all (incoming p k k)) (at code k) (all_incoming k k) refl refl))
 
   pub table_accepted : IsAccepted code shape
-  table_accepted s e i entry_is at_is = is_table.passes s e i at_is (knows_all (table s) e (incoming p s s) (all_incoming s s) entry_is)
+  table_accepted s e i entry_is at_is = is_table.passes s e i at_is
+      (knows_all (table s) e (incoming p s s) (all_incoming s s) entry_is)

@@ -22,15 +22,19 @@ use Rattle.bpf_verify.proofs.Places.{at_within, start_at}
 use Rattle.bpf_verify.proofs.Joining.{falls, arrived_none}
 use Rattle.bpf_verify.proofs.Swept.{swept_next, most_after}
 
-first_ahead : (p : Program) (k : ℕ) (t : Option ℕ) (rest : List ℕ) (u : ℕ) → AllByRecursion (IsAhead p k) (option_to_list t ++ rest) → t ≡ Some u → IsAhead p k u
+first_ahead : (p : Program) (k : ℕ) (t : Option ℕ) (rest : List ℕ) (u : ℕ)
+    → AllByRecursion (IsAhead p k) (option_to_list t ++ rest) → t ≡ Some u → IsAhead p k u
 first_ahead p k None rest u a e = absurd (none-some u e)
 first_ahead p k (Some v) rest u a e = subst (IsAhead p k) (same_Some v u e) a.0
 
 -- where the jump of a place leads
-pub target_ahead : (p : Program) (k : ℕ) (i : Insn) → IsForward p → at p k ≡ Some i → (u : ℕ) → target_of k i ≡ Some u → IsAhead p k u
-target_ahead p k i flow is u e = first_ahead p k (target_of k i) (if goes_on i then next_of k i ∷ [] else []) u (flow.ahead k i is) e
+pub target_ahead : (p : Program) (k : ℕ) (i : Insn)
+    → IsForward p → at p k ≡ Some i → (u : ℕ) → target_of k i ≡ Some u → IsAhead p k u
+target_ahead p k i flow is u e = first_ahead p k (target_of k i)
+    (if goes_on i then next_of k i ∷ [] else []) u (flow.ahead k i is) e
 
-jumps_here : (p : Program) (k u : ℕ) (i : Insn) → at p k ≡ Some i → target_of k i ≡ Some u → jumps_to p (suc k) u ≡ true
+jumps_here : (p : Program) (k u : ℕ) (i : Insn) → at p k ≡ Some i → target_of k i ≡ Some u
+    → jumps_to p (suc k) u ≡ true
 unfolding jumps_to
 jumps_here p k u i is e =
     let leads : (at p k >>= target_of k) ≡ Some u = rw is e in
@@ -41,16 +45,22 @@ jumps_here p k u i is e =
     last true = refl
     last false = refl
 
-pub within_length : (p : Program) (k : ℕ) (i : Insn) (n : ℕ) → IsForward p → at p k ≡ Some i → n ≡ length p → IfSome (target_of k i) (λ t. t < n)
+pub within_length : (p : Program) (k : ℕ) (i : Insn) (n : ℕ)
+    → IsForward p → at p k ≡ Some i → n ≡ length p → IfSome (target_of k i) (λ t. t < n)
 within_length p k i n flow is len = each (target_of k i) refl
   where
     each : (t : Option ℕ) → target_of k i ≡ t → IfSome t (λ u. u < n)
     each None e = tt
-    each (Some u) e = let a = target_ahead p k i flow is u e in let lt = at_within p u a.1 in omega (arith, lt, len)
+    each (Some u) e =
+        let a = target_ahead p k i flow is u e in
+        let lt = at_within p u a.1 in omega (arith, lt, len)
 
-module _ (p : ShapedProgram) (k : ℕ) (i : Insn) (layout : IsLayout p.code) (flow : IsForward p.code) (is : at p.code k ≡ Some i)
-    (here here1 : Option AbsState) (w w1 : Waiting) (h : IsSwept p k here w) (arrives : here1 ≡ arrived (waits_at w k) here)
-    (gave : IsChanged w w1 k None) (same_most : w1.most ≡ w.most) (held_most : held w1 ≤ w1.most) where
+module _ (p : ShapedProgram) (k : ℕ) (i : Insn) (layout : IsLayout p.code) (flow : IsForward p.code)
+    (is : at p.code k ≡ Some i)
+    (here here1 : Option AbsState) (w w1 : Waiting) (h : IsSwept p k here w)
+    (arrives : here1 ≡ arrived (waits_at w k) here)
+    (gave : IsChanged w w1 k None) (same_most : w1.most ≡ w.most)
+    (held_most : held w1 ≤ w1.most) where
   pub entry_is : entry_of p k ≡ here1
   entry_is = let within = at_within p.code k (ap is_some is) in sym (arrives ∙ h.entry within)
 
@@ -81,10 +91,13 @@ module _ (p : ShapedProgram) (k : ℕ) (i : Insn) (layout : IsLayout p.code) (fl
     pub refused : (rule : Rule) → first_rule p.shape e i ≡ Some rule → IsRefusedAt p k rule
     refused rule fails = record {
       before = λ s lt. h.fine s lt;
-      fails = record { entry = e; insn = i; entry_is = entry_is ∙ some; insn_is = is; rule_is = fails };
+      fails =
+          record { entry = e; insn = i; entry_is = entry_is ∙ some; insn_is = is; rule_is = fails };
     }
 
-    pub gone_on : (here2 : Option AbsState) (w2 : Waiting) → first_rule p.shape e i ≡ None → IsAdded (target_of k i) (jumping e i) w1 w2 → here2 ≡ falling p.shape k e i → IsSwept p (next_of k i) here2 w2
+    pub gone_on : (here2 : Option AbsState) (w2 : Waiting) → first_rule p.shape e i ≡ None
+        → IsAdded (target_of k i) (jumping e i) w1 w2 → here2 ≡ falling p.shape k e i
+        → IsSwept p (next_of k i) here2 w2
     unfolding edges
     gone_on here2 w2 passes added falls_to =
         let entry : entry_of p k ≡ Some e = entry_is ∙ some in
@@ -98,21 +111,29 @@ module _ (p : ShapedProgram) (k : ℕ) (i : Insn) (layout : IsLayout p.code) (fl
           added = added;
           edges_are = rw (entry, is) refl;
           rest_is = λ m x. falls (next_of k i) (goes_on i) (going_on p.shape k e i) m x;
-          target_is = λ u leads. let a = target_ahead p.code k i flow is u leads in record { ahead = a.0; place = a.1; target = jumps_here p.code k u i is leads };
-          fine = λ f j entry_f there. ap (λ x. first_rule p.shape x j) (same_Some f e (sym entry_f ∙ entry)) ∙ ap (λ x. first_rule p.shape e x) (same_Some j i (sym there ∙ is)) ∙ passes;
+          target_is = λ u leads.
+              let a = target_ahead p.code k i flow is u leads in
+              record { ahead = a.0; place = a.1; target = jumps_here p.code k u i is leads };
+          fine = λ f j entry_f there.
+              ap (λ x. first_rule p.shape x j) (same_Some f e (sym entry_f ∙ entry))
+              ∙ ap (λ x. first_rule p.shape e x) (same_Some j i (sym there ∙ is)) ∙ passes;
           jump_is = λ there. rw (entry, is) refl;
         }))
 
 -- ---- start and end
 
-pub swept_start : (p : ShapedProgram) (here : Option AbsState) (w : Waiting) → IsLayout p.code → here ≡ Some opening_state → w.entries ≡ replicate (length p.code) None → w.most ≡ 0 → IsSwept p 0 here w
+pub swept_start : (p : ShapedProgram) (here : Option AbsState) (w : Waiting) → IsLayout p.code
+    → here ≡ Some opening_state → w.entries ≡ replicate (length p.code) None → w.most ≡ 0
+    → IsSwept p 0 here w
 unfolding incoming most_ahead
 swept_start p here w layout opens none most = record {
   place = start_at p.code layout;
   len = ap length none ∙ length-replicate {A = Option AbsState} (length p.code) None;
   entry = λ lt. let no = nones 0 in rw (no, opens) refl;
   later = λ m lt within. nones m ∙ sym (nothing m lt);
-  waits = λ m some. let no : is_some (waits_at w m) ≡ false = ap is_some (nones m) in absurd (grind (arith, no, some));
+  waits = λ m some.
+      let no : is_some (waits_at w m) ≡ false = ap is_some (nones m) in
+      absurd (grind (arith, no, some));
   fine = λ s lt. absurd (omega (arith, lt));
   least = λ s lt. absurd (omega (arith, lt));
   most = omega (arith, most);
@@ -131,7 +152,8 @@ swept_start p here w layout opens none most = record {
     nothing (suc m) lt = let test : (suc m == 0) ≡ false = grind arith in rw test refl
 
 -- the bound holds to the end
-pub swept_most : (p : ShapedProgram) (k : ℕ) (here : Option AbsState) (w : Waiting) → IsSwept p k here w → w.most ≤ greatest_ahead p.code
+pub swept_most : (p : ShapedProgram) (k : ℕ) (here : Option AbsState) (w : Waiting)
+    → IsSwept p k here w → w.most ≤ greatest_ahead p.code
 swept_most p k here w h =
     let le : k ≤ length p.code = elim h.place [
       | inl is ↦ omega (arith, is)
@@ -140,11 +162,13 @@ swept_most p k here w h =
     let m = most_after p.code k (length p.code) le in
     omega (arith, m, h.most)
 
-pub at_end : (p : ShapedProgram) (k : ℕ) (here : Option AbsState) (w : Waiting) → length p.code ≤ k → IsSwept p k here w → k ≡ length p.code
+pub at_end : (p : ShapedProgram) (k : ℕ) (here : Option AbsState) (w : Waiting)
+    → length p.code ≤ k → IsSwept p k here w → k ≡ length p.code
 at_end p k here w le h = elim h.place [
   | inl is ↦ is
   | inr some ↦ let lt = at_within p.code k some in absurd (omega (arith, lt, le))
 ]
 
-pub fine_all : (p : ShapedProgram) → ((s : ℕ) → s < length p.code → IsFine p s) → (s : ℕ) → IsFine p s
+pub fine_all : (p : ShapedProgram) → ((s : ℕ) → s < length p.code → IsFine p s) → (s : ℕ)
+    → IsFine p s
 fine_all p each s e i is what = each s (at_within p.code s (ap is_some what)) e i is what

@@ -3,7 +3,7 @@ use Rattle.std.specs.Prelude.{◌≡◌, ℕ, zero, suc, ◌<◌, List, [], ◌�
 use Rattle.std.specs.Prelude.{◌==◌, if◌then◌else◌}
 use Rattle.bpf_insn.specs.declared.insn.Insn.{Insn}
 use Rattle.bpf_insn.specs.Program.{Program, at}
-use Rattle.bpf_semantics.specs.Program.{ShapedProgram}
+use Rattle.bpf_semantics.specs.Program.{ShapedProgram, shaped}
 use Rattle.cells.specs.Arrays.{AppShape}
 use Rattle.abs_value.specs.declared.state.AbsState.{AbsState}
 use Rattle.abs_value.specs.States.{join_states, opening_state}
@@ -45,9 +45,6 @@ abbrev pub entry_of : ShapedProgram → ℕ → Option AbsState
 entry_of p s = join_all (incoming p s s)
 
 -- ---- accepted and refused
-
-abbrev pub shaped : Program → AppShape → ShapedProgram
-shaped code shape = record { code = code; shape = shape }
 
 -- no rule fails at the place; without an entry it isn't judged
 abbrev pub IsFine : ShapedProgram → ℕ → Type 0

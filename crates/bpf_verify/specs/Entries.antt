@@ -4,7 +4,7 @@ use Rattle.abs_value.specs.declared.state.AbsState.{AbsState}
 use Rattle.bpf_insn.specs.Program.{Program}
 use Rattle.cells.specs.Arrays.{AppShape}
 use Rattle.bpf_verify.specs.Pool.{waits_at}
-use Rattle.bpf_verify.specs.Accepted.{shaped}
+use Rattle.bpf_semantics.specs.Program.{shaped}
 use Rattle.bpf_verify.specs.Sweep.{arrived, IsSwept}
 use Rattle.bpf_verify.specs.declared.entries.Entries.{Entries}
 

@@ -5,7 +5,8 @@
 ghost use Rattle.std.specs.Prelude.{◌≡◌, ◌<◌, ◌≤◌, ◌+◌, length, OnOk, IfErr, OnErr, Some};
 ghost use Rattle.bpf_insn.specs.Program.{at};
 ghost use Rattle.flow_check.specs.Edges.{next_of};
-ghost use Rattle.bpf_verify.specs.Accepted.{shaped, IsRefusal, IsAccepted};
+ghost use Rattle.bpf_semantics.specs.Program.{shaped};
+ghost use Rattle.bpf_verify.specs.Accepted.{IsRefusal, IsAccepted};
 ghost use Rattle.bpf_verify.specs.Entries.{AreSwept};
 ghost use Rattle.bpf_verify.specs.Kept.{KeptAtMost, refused_at, judged, greatest_ahead};
 

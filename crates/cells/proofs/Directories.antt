@@ -19,7 +19,8 @@ use Rattle.cells.specs.Directory.Declares.{again, anew}
 
 -- a place of a list with one element more
 pub pushed_place : {X : Type 0} (xs : List X) (y : X) (i : ℕ) (x : X)
-    → slice_get (xs ++ y ∷ []) i ≡ Some x → (slice_get xs i ≡ Some x) ⊎ ((i ≡ length xs) × (y ≡ x))
+    → slice_get (xs ++ y ∷ []) i ≡ Some x
+    → (slice_get xs i ≡ Some x) ⊎ ((i ≡ length xs) × (y ≡ x))
 pushed_place {X} [] y zero x e = inr (refl, ap (λ (o : Option X). unwrap_or o y) e)
 pushed_place [] y (suc i) x e = inl e
 pushed_place (z ∷ zs) y zero x e = inl e

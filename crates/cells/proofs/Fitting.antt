@@ -21,7 +21,8 @@ reply_fits cell v (Swap x) h = h
 reply_fits cell v (CompareExchange expected new) h = h
 
 -- a value of a cell that isn't there is no value
-cells_with : (values : List ℕ) (c v : ℕ) → AreCells values → v < limit c → AreCells (slice_set values c v)
+cells_with : (values : List ℕ) (c v : ℕ) → AreCells values → v < limit c
+    → AreCells (slice_set values c v)
 cells_with values c v cells small = elim (cases_lt c 8192) [
   | inl room ↦ AreCells-set values c v room cells small
   | inr past ↦

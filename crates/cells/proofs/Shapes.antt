@@ -154,7 +154,8 @@ shares_none a b h c p q = h c q p
 
 -- two arrays of a directory are one, or share no cell
 pub apart_in : (directory : List CellArray) (m n : ℕ) (a b : CellArray) → IsDirectory directory
-    → slice_get directory m ≡ Some a → slice_get directory n ≡ Some b → (a ≡ b) ⊎ SharesNoCell a b
+    → slice_get directory m ≡ Some a → slice_get directory n ≡ Some b
+    → (a ≡ b) ⊎ SharesNoCell a b
 apart_in directory m n a b known at_m at_n = elim (cases_lt m n) [
   | inl before ↦ inr (apart_of a b (in_order directory m n a b known before at_m at_n))
   | inr after ↦ elim (cases_lt n m) [

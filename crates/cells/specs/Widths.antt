@@ -4,9 +4,9 @@ use Rattle.cells.specs.declared.event.CellEvent.{CellEvent}
 use Rattle.cells.specs.Events.{AreCells, CanReply, IsEvent}
 
 -- the cells after an event on cells, and its reply
-pub record Fits (e : CellEvent) (new : List ℕ) : Type 0 where
+pub record FitsWidths (e : CellEvent) (new : List ℕ) : Type 0 where
   pub cells : AreCells new
   pub reply : CanReply e.cell e.op e.reply
 
 abbrev pub EventsFit : Type 0
-EventsFit = (old new : List ℕ) (e : CellEvent) → AreCells old → IsEvent old e new → Fits e new
+EventsFit = (old new : List ℕ) (e : CellEvent) → AreCells old → IsEvent old e new → FitsWidths e new

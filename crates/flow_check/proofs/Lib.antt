@@ -3,4 +3,5 @@ pub mod Places
 pub mod Marks
 pub mod Graph
 pub mod Readings
+pub mod Beginnings
 pub mod Verdicts

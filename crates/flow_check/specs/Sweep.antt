@@ -13,7 +13,7 @@ abbrev pub marked : List Bool → Option ℕ → List Bool
 marked marks None = marks
 marked marks (Some t) = slice_set marks t true
 
-pub record IsSwept (p : Program) (k : ℕ) (marks : List Bool) : Type 0 where
+pub record IsMarkedTo (p : Program) (k : ℕ) (marks : List Bool) : Type 0 where
   pub length_is : length marks ≡ length p
   pub start : IsMarked marks 0
   pub sound : (m : ℕ) → IsMarked marks m → Reached p m

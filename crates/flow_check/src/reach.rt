@@ -5,7 +5,7 @@ ghost use Rattle.std.specs.Prelude.{◌≡◌, true, false, ℕ, ◌<◌, ◌≤
 ghost use Rattle.std.specs.Prelude.{All, Contains, length, replicate, slice_set};
 ghost use Rattle.flow_check.specs.Edges.{successors};
 ghost use Rattle.flow_check.specs.Flow.{LeadsAhead};
-ghost use Rattle.flow_check.specs.Sweep.{IsMarked, IsSwept, IsLowestUnreached, MarksOnly, marked};
+ghost use Rattle.flow_check.specs.Sweep.{IsMarked, IsMarkedTo, IsLowestUnreached, MarksOnly, marked};
 
 use crate::edges::{jump_target, next_place};
 use bpf_insn::Insn;
@@ -37,7 +37,7 @@ fn mark_successors(marks: &mut [bool], slot: usize, insn: Insn)
 fn sweep(marks: &mut [bool], code: &[Option<Insn>]) -> Option<usize>
     requires short { length code.now ≤ 4096 }
     requires ahead { LeadsAhead code.now }
-    requires start { IsSwept code.now 0 marks.old }
+    requires start { IsMarkedTo code.now 0 marks.old }
     ensures { IsLowestUnreached code.now result }
 {
     for (slot, place) in code.iter().enumerate() {

@@ -1,8 +1,8 @@
 -- The program that the bytes of a file are.
 use Rattle.std.specs.Prelude.{ℕ, List}
 use Rattle.bpf_insn.specs.Program.{Program}
-use Rattle.bpf_semantics.specs.Program.{ShapedProgram}
-use Rattle.bpf_verify.specs.Accepted.{IsAccepted, IsRefusedAt, shaped}
+use Rattle.bpf_semantics.specs.Program.{ShapedProgram, shaped}
+use Rattle.bpf_verify.specs.Accepted.{IsAccepted, IsRefusedAt}
 use Rattle.cells.specs.Arrays.{AppShape}
 use Rattle.flow_check.specs.Fault.{IsFlowFault}
 use Rattle.flow_check.specs.Flow.{IsAcceptedAs}

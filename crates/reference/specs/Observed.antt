@@ -11,9 +11,6 @@ use Rattle.bpf_semantics.specs.Step.{step}
 use Rattle.reference.specs.declared.observed.Observed.{Observed}
 use Rattle.reference.specs.declared.observed.Observed.TheVariants as observed
 
-abbrev pub shaped : Program → AppShape → ShapedProgram
-shaped code shape = record { code = code; shape = shape }
-
 -- the semantics' step asks for this event, and goes on with its reply
 pub record IsEventStep (p : ShapedProgram) (s : State) (e : CellEvent) (t : State) : Type 0 where
   pub next : ℕ → State

@@ -12,10 +12,6 @@ use Rattle.rule_lang.specs.Shapes.{array_named, cell_of, quota_of, granted}
 use Rattle.rule_compile.specs.Code.{place_named, array_size, size_of}
 use Rattle.rule_compile.proofs.Counters.{IsCellOf}
 
-pub true_is : (b : Bool) → b ≡ true → (c : Bool) → (b && c) ≡ c
-true_is true h c = refl
-true_is false h c = absurd cc
-
 pub both_true : (b c : Bool) → (b && c) ≡ true → (b ≡ true) × (c ≡ true)
 both_true true c h = (refl, h)
 both_true false c h = absurd cc

@@ -149,10 +149,6 @@ pub test_longer : (s : AppShape) (t : the_test.Test) (sense : Bool) (l : ℕ) (q
     → length q ≤ length (test_code s t sense l q)
 test_longer s t sense l q = (test_before s t sense l q).longer
 
-pub trees_longer : (s : AppShape) (ts : List Tree) (gs : List Goal) (q : Program)
-    → length q ≤ length (trees_code s ts gs q)
-trees_longer s ts gs q = (trees_before s ts gs q).longer
-
 pub made_longer : (s : AppShape) (o : Option (List Tree)) (gs : List Goal) (q : Program)
     → length q ≤ length (made_code s o gs q)
 made_longer s o gs q = (made_before s o gs q).longer

@@ -25,7 +25,8 @@ use Rattle.bpf_verify.specs.Table.{Known, Knows}
 use Rattle.rule_compile.specs.Instructions as insn
 use Rattle.rule_compile.proofs.Counters.{IsCellOf}
 use Rattle.rule_compile.proofs.Typed.{IsStep}
-use Rattle.rule_compile.proofs.Entries.{any, Takes, writes, knows_write, wider_at, number_in}
+use Rattle.rule_compile.proofs.Entries.{any, Takes, writes, knows_write}
+use Rattle.rule_compile.proofs.Narrowings.{wider_at, number_in}
 use Rattle.rule_compile.proofs.InsnSteps.{onward}
 
 -- ---- no other array has a cell of this one

@@ -18,7 +18,7 @@ use Rattle.rule_compile.specs.Means.{Means}
 use Rattle.rule_compile.specs.Ranges.{IsRuleInRange, AreMade}
 use Rattle.rule_compile.specs.Writing.{CanEncode}
 use Rattle.rule_compile.proofs.RuleRuns.{rule_means}
-use Rattle.rule_compile.proofs.RuleFronts.{rule_flow, rule_table}
+use Rattle.rule_compile.proofs.StatementFronts.{rule_flow, rule_table}
 
 pub refuted : (p : Program) (s : AppShape) (r : Refusal) (slot : ℕ) (rule : Rule)
     → HasOneVerdict p s → IsAccepted p s → r ≡ refusal.Rule slot rule → IsRefusal p s r → ⊥

@@ -19,7 +19,7 @@ use Rattle.rule_compile.specs.declared.goals.Goal.{Goal}
 use Rattle.bpf_insn.specs.declared.reg.Reg.TheVariants.{R0}
 use Rattle.rule_compile.specs.Instructions as insn
 use Rattle.rule_compile.specs.Blocks as code
-use Rattle.rule_compile.specs.Code.{version_code, four_of, test_code, tree_code, made_code, goal, steps_code, step_code, statements_code, rule_code}
+use Rattle.rule_compile.specs.Code.{version_code, four_of, test_code, tree_code, made_code, goal, steps_code, step_code, statements_code}
 use Rattle.rule_compile.specs.Ranges.{IsInRange, IsStepInRange, AreInRange, IsRuleInRange}
 
 -- ---- a test has at most 22 slots
@@ -171,10 +171,6 @@ statements_length s (When steps release ∷ xs) range =
     let f = statements_length s xs range.1 in
     let g = steps_length s steps true 2 (statements_code s xs) range.0 in
     omega (arith, f, g)
-
-pub rule_length : (s : AppShape) (xs : List Statement) → IsRuleInRange xs
-    → length (rule_code s xs) ≤ cost xs
-rule_length s xs range = let f = statements_length s xs range in omega (arith, f)
 
 -- ---- steps and statements one by one
 

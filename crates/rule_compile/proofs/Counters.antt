@@ -1,5 +1,5 @@
 -- Counters: one is added to a cell, and the run goes on, by the reply or whatever it is.
-use Rattle.std.proofs.Common.{◌≡◌, ℕ, ◌+◌, ◌-◌, ◌*◌, ◌<◌, ◌≤◌, pos, ◌∷◌, drop, length, Option, Some, None, Bool, true, false, refl, ap, subst, ◌∙◌, arith}
+use Rattle.std.proofs.Common.{◌≡◌, ℕ, ◌+◌, ◌*◌, ◌<◌, ◌≤◌, pos, ◌∷◌, Option, Some, None, Bool, true, false, refl, ap, subst, ◌∙◌, arith}
 use Rattle.std.specs.Prelude.{nat_le, nat_lt, slice_get, if◌then◌else◌}
 use Rattle.std.proofs.lemmas.Bool.{lt-ltb}
 use Rattle.attrs.specs.Attributes.{Attributes}
@@ -14,16 +14,14 @@ use Rattle.bpf_insn.specs.Program.{Program, ◌>>=◌}
 use Rattle.bpf_semantics.specs.Memory.{address_of, cell_address, cell_number, is_cell_address, cell_at}
 use Rattle.bpf_semantics.specs.Program.{ShapedProgram}
 use Rattle.bpf_semantics.specs.State.{State, with_register}
-use Rattle.bpf_semantics.specs.Outcome.{Outcome, write, branch, needed, ask}
+use Rattle.bpf_semantics.specs.Outcome.{write}
 use Rattle.bpf_semantics.specs.Outcome as outcome
-use Rattle.bpf_semantics.specs.Reads.{both}
 use Rattle.bpf_semantics.specs.Counters.{atomic_count}
 use Rattle.bpf_semantics.specs.Step.{act}
 use Rattle.rule_lang.specs.Meaning.{Behaviour, Asks}
 use Rattle.rule_compile.specs.Instructions as insn
-use Rattle.rule_compile.specs.Blocks as code
-use Rattle.rule_compile.proofs.Labels.{from_label, next_here, later_here, next_wide}
-use Rattle.rule_compile.proofs.Runs.{EndsAs, Comes, Nothing, Has, quiet, asks}
+use Rattle.rule_compile.proofs.Labels.{next_here, next_wide}
+use Rattle.rule_compile.proofs.Runs.{Comes, Nothing, Has, quiet, asks}
 
 -- ---- addresses
 
@@ -75,7 +73,7 @@ module _ (p : ShapedProgram) (a : Attributes) where
   abbrev pub HasOne : ℕ → State → Type 0
   HasOne c s = HasCell c s × (s.registers 2 ≡ Some 1)
 
-  cell_then : (array index c : ℕ) (found : CellArray) (q : Program) (choice : ℕ) (b : Behaviour)
+  pub cell_then : (array index c : ℕ) (found : CellArray) (q : Program) (choice : ℕ) (b : Behaviour)
       → slice_get p.shape.arrays array ≡ Some found → found.base + index ≡ c → c < 8192
       → Comes p a (HasCell c) q choice b
       → Comes p a (Nothing p a) (Some (insn.load_cell array index) ∷ None ∷ q) choice b
@@ -98,7 +96,8 @@ module _ (p : ShapedProgram) (a : Attributes) where
         attributes = h.attributes;
       }) refl)
 
-  one_then : (c : ℕ) (q : Program) (choice : ℕ) (b : Behaviour) → Comes p a (HasOne c) q choice b
+  pub one_then : (c : ℕ) (q : Program) (choice : ℕ) (b : Behaviour)
+      → Comes p a (HasOne c) q choice b
       → Comes p a (HasCell c) (Some (insn.set_argument R2 1) ∷ q) choice b
   one_then c q choice b rest s h known =
       quiet p a s (record (with_register s 2 1) { slot = s.slot + 1; count = s.count + 1 })
@@ -118,11 +117,11 @@ module _ (p : ShapedProgram) (a : Attributes) where
   found_cell Double c h = rw (own_address c (omega (arith, h))) (reached Double c h)
   found_cell Word c h = rw (own_address c h.1) (reached Word c h)
 
-  below_all : (size : AtomicSize) (c : ℕ) → IsCellOf size c → c < 8192
+  pub below_all : (size : AtomicSize) (c : ℕ) → IsCellOf size c → c < 8192
   below_all Double c h = omega (arith, h)
   below_all Word c h = h.1
 
-  add_then : (size : AtomicSize) (c : ℕ) (q : Program) (choice : ℕ) (b : Behaviour)
+  pub add_then : (size : AtomicSize) (c : ℕ) (q : Program) (choice : ℕ) (b : Behaviour)
       → IsCellOf size c → Comes p a (Nothing p a) q choice b
       → Comes p a (HasOne c) (Some (insn.add_to_cell size) ∷ q) choice (Asks c (Add 1) (λ r. b))
   add_then size c q choice b cell rest s h known =
@@ -145,7 +144,7 @@ module _ (p : ShapedProgram) (a : Attributes) where
       adds Word three two is = rw (three, is, two) refl
       adds Double three two is = rw (three, is, two) refl
 
-  take_then : (c : ℕ) (q : Program) (choice : ℕ) (next : ℕ → Behaviour) → c < 4096
+  pub take_then : (c : ℕ) (q : Program) (choice : ℕ) (next : ℕ → Behaviour) → c < 4096
       → ((r : ℕ) → Comes p a (Has p a 2 r) q choice (next r))
       → Comes p a (HasOne c) (Some insn.take_from_cell ∷ q) choice (Asks c (Add 1) next)
   take_then c q choice next cell rest s h known =
@@ -165,102 +164,3 @@ module _ (p : ShapedProgram) (a : Attributes) where
       takes : act p.shape s insn.take_from_cell ≡ outcome.Asks c (Add 1)
           (λ r. record (with_register s 2 r) { slot = s.slot + 1; count = s.count + 1 })
       takes = rw (known.0, is, known.1) refl
-
-  -- ---- count, as a piece
-
-  pub count_runs : (size : AtomicSize) (array index c : ℕ) (found : CellArray) (q : Program)
-      (choice : ℕ) (b : Behaviour) → slice_get p.shape.arrays array ≡ Some found
-      → found.base + index ≡ c → IsCellOf size c
-      → Comes p a (Nothing p a) q choice b
-      → Comes p a (Nothing p a) (code.count_code size array index q) choice
-      (Asks c (Add 1) (λ r. b))
-  count_runs size array index c found q choice b is sum cell rest =
-      let asked : Behaviour = Asks c (Add 1) (λ r. b) in
-      cell_then array index c found (Some (insn.set_argument R2 1) ∷ Some
-      (insn.add_to_cell size) ∷ q) choice asked is sum (below_all size c cell)
-      (one_then c (Some (insn.add_to_cell size) ∷ q) choice asked
-      (add_then size c q choice b cell rest))
-
-  -- ---- take, as a piece
-
-  -- the reply is in R2, and the quota in R4
-  abbrev pub HasBoth : ℕ → ℕ → State → Type 0
-  HasBoth r quota s = (s.registers 2 ≡ Some r) × (s.registers 4 ≡ Some quota)
-
-  quota_then : (r quota : ℕ) (q : Program) (choice : ℕ) (b : Behaviour)
-      → Comes p a (HasBoth r quota) q choice b
-      → Comes p a (Has p a 2 r) (Some (insn.load_quota quota) ∷ None ∷ q) choice b
-  quota_then r quota q choice b rest s h known =
-      quiet p a s (record (with_register s 4 quota) { slot = s.slot + 2; count = s.count + 1 })
-      (insn.load_quota quota) (None ∷ q) choice b h refl
-      (rest _ (record {
-        place = next_wide p.code s.slot
-            (Some (insn.load_quota quota)) None q h.place;
-        context = h.context;
-        choice_is = h.choice_is;
-        top = h.top;
-        attributes = h.attributes;
-      }) (known, refl))
-
-  within_then : (sense : Bool) (k r quota : ℕ) (q : Program) (choice : ℕ) (there on : Behaviour)
-      → Comes p a (Nothing p a) (drop k q) choice there → Comes p a (Nothing p a) q choice on
-      → Comes p a (HasBoth r quota) (Some (insn.jump_on_quota sense k) ∷ q) choice
-      (if taken sense r quota then there else on)
-  within_then sense k r quota q choice there on to next s h known =
-      by_case (taken sense r quota) refl
-    where
-      branch_is : act p.shape s (insn.jump_on_quota sense k) ≡ branch s (pos k)
-          (Some (taken sense r quota))
-      branch_is = ap (λ (o : Option ℕ). branch s (pos k)
-          (both (holds Bits64 (insn.below sense)) o (s.registers 4))) known.0
-          ∙ ap (λ (o : Option ℕ). branch s (pos k)
-          (both (holds Bits64 (insn.below sense)) (Some r) o)) known.1
-
-      by_case : (b : Bool) → taken sense r quota ≡ b → EndsAs p a s (if b then there else on)
-      by_case true is =
-          quiet p a s (record s { slot = s.slot + 1 + k; count = s.count + 1 })
-          (insn.jump_on_quota sense k) q choice there h
-          (branch_is ∙ ap (λ (b : Bool). branch s (pos k) (Some b)) is)
-          (to _ (record {
-            place = later_here p.code s.slot k
-                (Some (insn.jump_on_quota sense k)) q h.place;
-            context = h.context;
-            choice_is = h.choice_is;
-            top = h.top;
-            attributes = h.attributes;
-          }) tt)
-      by_case false is =
-          quiet p a s (record s { slot = s.slot + 1; count = s.count + 1 })
-          (insn.jump_on_quota sense k) q choice on h
-          (branch_is ∙ ap (λ (b : Bool). branch s (pos k) (Some b)) is)
-          (next _ (record {
-            place = next_here p.code s.slot
-                (Some (insn.jump_on_quota sense k)) q h.place;
-            context = h.context;
-            choice_is = h.choice_is;
-            top = h.top;
-            attributes = h.attributes;
-          }) tt)
-
-  pub take_runs : (array index c quota : ℕ) (found : CellArray) (sense : Bool) (l : ℕ) (q : Program)
-      (choice : ℕ) (x y : Behaviour) → slice_get p.shape.arrays array ≡ Some found
-      → found.base + index ≡ c → c < 4096
-      → Comes p a (Nothing p a) (from_label q l) choice x → Comes p a (Nothing p a) q choice y
-      → Comes p a (Nothing p a) (code.take_code array index quota sense l q) choice
-      (Asks c (Add 1) (λ r. if nat_lt r quota then (if sense then x else y)
-      else (if sense then y else x)))
-  unfolding from_label
-  take_runs array index c quota found sense l q choice x y is sum cell to on =
-      let jump : Program = Some (insn.jump_on_quota sense (length q - l)) ∷ q in
-      let next = λ (r : ℕ). if nat_lt r quota then (if sense then x else y)
-      else (if sense then y else x) in
-      cell_then array index c found (Some (insn.set_argument R2 1) ∷ Some insn.take_from_cell ∷ Some
-      (insn.load_quota quota) ∷ None ∷ jump) choice (Asks c (Add 1) next) is sum
-      (omega (arith, cell))
-      (one_then c (Some insn.take_from_cell ∷ Some (insn.load_quota quota) ∷ None ∷ jump) choice
-      (Asks c (Add 1) next)
-      (take_then c (Some (insn.load_quota quota) ∷ None ∷ jump) choice next cell
-      (λ r. quota_then r quota jump choice (next r)
-      (subst (λ (b : Behaviour). Comes p a (HasBoth r quota) jump choice b)
-      (by_quota sense r quota x y) (within_then sense
-      (length q - l) r quota q choice x y to on)))))

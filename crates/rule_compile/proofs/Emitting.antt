@@ -33,17 +33,6 @@ behind_longer s (x ∷ xs) (suc k) =
     let g = statement_longer s x (statements_code s xs) in
     omega (arith, f, g)
 
-pub end_written : (s : AppShape) (xs : List Statement) (gs : List Goal) (rest : Program) → gs ≡ []
-    → rest ≡ statements_code s [] → IsWrittenFrom s xs (length xs) gs rest
-end_written s xs gs rest none is =
-    let nothing = nothing_left xs in
-    record {
-      code = is ∙ ap (statements_code s) (sym nothing);
-      goals = none;
-      range = subst IsRuleInRange (sym nothing) tt;
-      made = subst AreMade (sym nothing) tt;
-    }
-
 pub end_stands : (s : AppShape) (xs : List Statement) (k : ℕ) (gs : List Goal) (rest : Program)
     → IsWrittenFrom s xs k gs rest → 2 ≤ length rest
 end_stands s xs k gs rest h = subst (λ (p : Program). 2 ≤ length p) (sym h.code)

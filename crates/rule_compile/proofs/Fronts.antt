@@ -17,7 +17,9 @@ use Rattle.rule_compile.specs.Instructions as insn
 use Rattle.rule_compile.specs.Blocks as code
 use Rattle.rule_compile.proofs.Typed.{IsStep, IsTyped, nothing}
 use Rattle.rule_compile.proofs.Entries.{any, none_set, frame, choice, chosen, forgets, Takes}
-use Rattle.rule_compile.proofs.InsnSteps.{load_step, mask_step, jump_step, wide_step, bucket_step}
+use Rattle.rule_compile.proofs.InsnSteps.{wide_step, bucket_step}
+use Rattle.rule_compile.proofs.FieldSteps.{load_step, mask_step}
+use Rattle.rule_compile.proofs.JumpSteps.{jump_step}
 
 -- what stands first is what its entry says
 pub takes_here : (i : Insn) (q : Program) (d : Known) (ds : List Known)

@@ -5,7 +5,7 @@ use Rattle.std.specs.Prelude.{option_and_then, if◌then◌else◌}
 use Rattle.std.specs.List.{list_all}
 use Rattle.attrs.specs.Attributes.{Attributes}
 use Rattle.bpf_insn.specs.Program.{Program, at}
-use Rattle.bpf_semantics.specs.Program.{ShapedProgram}
+use Rattle.bpf_semantics.specs.Program.{ShapedProgram, shaped}
 use Rattle.bpf_semantics.specs.State.{State, opening, with_register}
 use Rattle.bpf_semantics.specs.Memory.{context_start}
 use Rattle.bpf_semantics.specs.Run.{Ends, more}
@@ -23,11 +23,11 @@ use Rattle.rule_lang.specs.Shapes.{array_named, cell_of}
 use Rattle.rule_lang.specs.Trees.{Tree, Asked, Negated, Both, Either, with_step, trees_from}
 use Rattle.rule_compile.specs.Code.{tree_code, made_code, goal, steps_code, array_size, place_named, end_code, statements_code, rule_code}
 use Rattle.rule_compile.proofs.Fields.{FitFields, fit_fields}
-use Rattle.rule_compile.specs.Means.{Means, shaped}
+use Rattle.rule_compile.specs.Means.{Means}
 use Rattle.rule_compile.specs.Ranges.{IsInRange, IsStepInRange, AreInRange, IsRuleInRange, AreMade}
 use Rattle.rule_compile.proofs.Labels.{from_label, at_start, IsBefore}
 use Rattle.rule_compile.proofs.Runs.{IsAt, Comes, Nothing, set_then, end_then}
-use Rattle.rule_compile.proofs.Counters.{count_runs}
+use Rattle.rule_compile.proofs.CounterPieces.{count_runs}
 use Rattle.rule_compile.proofs.Arrays.{can_count_is, both_true}
 use Rattle.rule_compile.proofs.TestRuns.{test_runs}
 use Rattle.rule_compile.proofs.Before.{tree_before, end_before}
@@ -204,7 +204,8 @@ module _ (p : ShapedProgram) (a : Attributes) (fit : FitFields a) (shape : IsSha
         (r.0, more first_step (more second_step r.1))
 
 pub rule_means : (s : AppShape) (xs : List Statement) (code : Program) → IsShape s
-    → IsRuleInRange xs → fits s xs ≡ true → AreMade xs → code ≡ rule_code s xs → (a : Attributes)
+    → IsRuleInRange xs → fits s xs ≡ true → AreMade xs → code ≡ rule_code s xs
+    → (a : Attributes)
     → Means a xs (shaped code s)
 rule_means s xs code shape range fit made is a ranges es choice follows =
     rule_runs (shaped code s) a (fit_fields a ranges) shape xs is range fit made es choice follows

@@ -1,6 +1,6 @@
 -- Texts: what stores leave on the stack, and what the helper reads there.
 use Rattle.std.proofs.Common.{◌≡◌, ℕ, zero, suc, ◌+◌, ◌-◌, ◌*◌, ◌/◌, ◌%◌, ◌<◌, ◌≤◌, ◌^◌, pos, negsuc, List, [], ◌∷◌, ◌++◌, length, ℤ, Option, Some, None, Bool, true, false, refl, sym, ap, subst, ◌∙◌, arith, append_assoc, append-nil, length-append}
-use Rattle.std.specs.Prelude.{slice_get, nat_le, nat_lt, ◌==◌, ◌&&◌, ◌||◌, bytes_eq, if◌then◌else◌}
+use Rattle.std.specs.Prelude.{slice_get, nat_le, nat_lt, ◌&&◌, ◌||◌, if◌then◌else◌}
 use Rattle.std.specs.Int.{w32, w64, cast_unsigned, cast_signed}
 use mir.Val.{sel}
 use lib.Dec.{is_le}
@@ -8,28 +8,22 @@ use Prim.Native.Nat.{compare}
 use Rattle.std.proofs.lemmas.Bool.{le-leb, lt-leb, lt-ltb}
 use Rattle.std.proofs.Math.Nat.{pow-succ', div-div-eq-div-mul}
 use Rattle.attrs.specs.Attributes.{Attributes}
-use Rattle.attrs.specs.Helpers.{attribute, is_text, attr_is}
 use Rattle.bpf_insn.specs.declared.operand.Size.TheVariants as size
 use Rattle.bpf_insn.specs.Words.{little_endian}
-use Rattle.bpf_insn.specs.Program.{Program, ◌>>=◌}
+use Rattle.bpf_insn.specs.Program.{Program}
 use Rattle.bpf_semantics.specs.Memory.{address_of, cell_start, stack_top, stack_start, cell_at, is_in_stack, set_bytes}
 use Rattle.bpf_semantics.specs.Program.{ShapedProgram}
-use Rattle.bpf_semantics.specs.State.{State, with_bytes, written_at, with_register, with_result, stack_bytes}
+use Rattle.bpf_semantics.specs.State.{State, with_bytes, written_at}
 use Rattle.bpf_semantics.specs.Step.{store}
-use Rattle.bpf_semantics.specs.Outcome.{Going, moved, write, answer}
-use Rattle.bpf_semantics.specs.Calls.{compared}
-use Rattle.bpf_insn.specs.declared.reg.Reg.TheVariants.{R0, R1, R2, R3}
-use Rattle.bpf_insn.specs.declared.operand.Condition.TheVariants.{Ne}
-use Rattle.bpf_insn.specs.Conditions.{compares}
+use Rattle.bpf_semantics.specs.Outcome.{Going, moved}
 use Rattle.bpf_semantics.specs.Counters.{reach, store_asks}
 use Rattle.rule_lang.specs.Meaning.{Behaviour}
 use Rattle.rule_compile.specs.Instructions as insn
 use Rattle.rule_compile.specs.Blocks as code
-use Rattle.rule_compile.proofs.Labels.{next_here, from_label}
-use Rattle.rule_compile.proofs.Compares.{by_sense}
-use Rattle.rule_compile.proofs.Runs.{Comes, Nothing, Has, knowing, quiet, jump_then}
+use Rattle.rule_compile.proofs.Labels.{next_here}
+use Rattle.rule_compile.proofs.Runs.{Comes, quiet}
 
-or_true : {A : Type 0} (b : Bool) (x : Option A) → (if (b || true) then x else None) ≡ x
+pub or_true : {A : Type 0} (b : Bool) (x : Option A) → (if (b || true) then x else None) ≡ x
 or_true true x = refl
 or_true false x = refl
 
@@ -73,7 +67,8 @@ byte_is w i b h lt is = byte_of (cast_unsigned w64 (cast_signed w32 w)) i lt
     ∙ ap (λ (v : ℕ). v / 256 ^ i % 256) (low_is w h) ∙ is
 
 -- the byte that a store of a word at place k puts i places on
-stored_byte : (stack : ℕ → Option ℕ) (k w i b : ℕ) → w < 2 ^ 32 → i < 4 → w / 256 ^ i % 256 ≡ b
+stored_byte : (stack : ℕ → Option ℕ) (k w i b : ℕ) → w < 2 ^ 32 → i < 4
+    → w / 256 ^ i % 256 ≡ b
     → with_bytes stack k 4 (cast_unsigned w64 (cast_signed w32 w)) (k + i) ≡ Some b
 stored_byte stack k w i b h lt is =
     let shift : k + i - k ≡ i = omega arith in
@@ -93,10 +88,6 @@ kept_byte stack k w j lt =
     (cast_unsigned w64 (cast_signed w32 w) / 256 ^ (j - k) % 256) else stack j) below
 
 -- ---- texts on the stack
-
--- the text stands on the stack from 64 bytes below the top on
-text_start : ℕ
-text_start = 448
 
 -- bytes stand from a place on
 abbrev pub Stands : List ℕ → ℕ → (ℕ → Option ℕ) → Type 0
@@ -228,7 +219,7 @@ module _ (p : ShapedProgram) (a : Attributes) where
       subst (λ (bytes : List ℕ). Comes p a (OnStack bytes) q choice b)
       (sym (append_assoc done chunk rest)) h
 
-  stores_then : (done text : List ℕ) (left : ℕ) (q : Program) (choice : ℕ) (b : Behaviour)
+  pub stores_then : (done text : List ℕ) (left : ℕ) (q : Program) (choice : ℕ) (b : Behaviour)
       → length done % 4 ≡ 0 → left ≡ 63 - length done → length done + length text ≤ 64
       → AreBytes text
       → Comes p a (OnStack (done ++ text)) q choice b
@@ -248,158 +239,3 @@ module _ (p : ShapedProgram) (a : Attributes) where
       (omega arith) (bytes.0, (bytes.1.0, (bytes.1.1.0, (bytes.1.1.1.0, tt))))
       (stores_then (done ++ chunk) text (left - 4) q choice b (omega arith) (omega arith)
       (omega arith) bytes.1.1.1.1 (stored done chunk text choice b q rest))
-
-  -- ---- the comparison
-
-  -- the text stands, and the registers so far are the helper's arguments
-  abbrev pub HasNumber : List ℕ → ℕ → State → Type 0
-  HasNumber text n s = OnStack text s × (s.registers 1 ≡ Some n)
-
-  abbrev pub HasAddress : List ℕ → ℕ → ℕ → State → Type 0
-  HasAddress text n x s = OnStack text s × (s.registers 1 ≡ Some n) × (s.registers 2 ≡ Some x)
-
-  abbrev pub HasLength : List ℕ → ℕ → State → Type 0
-  HasLength text n s = OnStack text s × (s.registers 1 ≡ Some n)
-      × (s.registers 2 ≡ Some (stack_top - 64)) × (s.registers 3 ≡ Some (length text))
-
-  number_then : (text : List ℕ) (n : ℕ) (q : Program) (choice : ℕ) (b : Behaviour)
-      → Comes p a (HasNumber text n) q choice b
-      → Comes p a (OnStack text) (Some (insn.set_argument R1 n) ∷ q) choice b
-  number_then text n q choice b rest s h known =
-      quiet p a s (record (with_register s 1 n) { slot = s.slot + 1; count = s.count + 1 })
-      (insn.set_argument R1 n) q choice b h refl
-      (rest _ (record {
-        place = next_here p.code s.slot
-            (Some (insn.set_argument R1 n)) q h.place;
-        context = h.context;
-        choice_is = h.choice_is;
-        top = h.top;
-        attributes = h.attributes;
-      }) (known, refl))
-
-  top_then : (text : List ℕ) (n : ℕ) (q : Program) (choice : ℕ) (b : Behaviour)
-      → Comes p a (HasAddress text n stack_top) q choice b
-      → Comes p a (HasNumber text n) (Some insn.copy_top ∷ q) choice b
-  top_then text n q choice b rest s h known =
-      quiet p a s (record (with_register s 2 stack_top) { slot = s.slot + 1; count = s.count + 1 })
-      insn.copy_top q choice b h
-      (ap (λ (o : Option ℕ). write s 1 R2 (o >>= λ x. Some x)) h.top)
-      (rest _ (record {
-        place = next_here p.code s.slot (Some insn.copy_top) q h.place;
-        context = h.context;
-        choice_is = h.choice_is;
-        top = h.top;
-        attributes = h.attributes;
-      })
-      (known.0, known.1, refl))
-
-  point_then : (text : List ℕ) (n : ℕ) (q : Program) (choice : ℕ) (b : Behaviour)
-      → Comes p a (HasAddress text n (stack_top - 64)) q choice b
-      → Comes p a (HasAddress text n stack_top) (Some insn.point_at_text ∷ q) choice b
-  point_then text n q choice b rest s h known =
-      quiet p a s (record (with_register s 2 (stack_top - 64))
-      { slot = s.slot + 1; count = s.count + 1 }) insn.point_at_text q choice b h
-      (ap (λ (o : Option ℕ). write s 1 R2 (o >>= λ x. Some ((x + (2 ^ 64 - 64)) % 2 ^ 64))) known.2)
-      (rest _ (record {
-        place = next_here p.code s.slot
-            (Some insn.point_at_text) q h.place;
-        context = h.context;
-        choice_is = h.choice_is;
-        top = h.top;
-        attributes = h.attributes;
-      }) (known.0, known.1, refl))
-
-  length_then : (text : List ℕ) (n : ℕ) (q : Program) (choice : ℕ) (b : Behaviour)
-      → Comes p a (HasLength text n) q choice b
-      → Comes p a (HasAddress text n (stack_top - 64))
-      (Some (insn.set_argument R3 (length text)) ∷ q) choice b
-  length_then text n q choice b rest s h known =
-      quiet p a s (record (with_register s 3 (length text))
-      { slot = s.slot + 1; count = s.count + 1 })
-      (insn.set_argument R3 (length text)) q choice b h refl
-      (rest _ (record {
-        place = next_here p.code s.slot
-            (Some (insn.set_argument R3 (length text))) q h.place;
-        context = h.context;
-        choice_is = h.choice_is;
-        top = h.top;
-        attributes = h.attributes;
-      }) (known.0, known.1, known.2, refl))
-
-  -- what the helper reads
-  bytes_read : (s : State) (text : List ℕ) → length text ≤ 64 → OnStack text s
-      → stack_bytes s (stack_top - 64) (length text) ≡ Some text
-  bytes_read s text short known =
-      let low : nat_le stack_start (stack_top - 64) ≡ true = refl in
-      let high : nat_le (stack_top - 64 + length text) (stack_start + 512) ≡ true =
-      le-leb (stack_top - 64 + length text) (stack_start + 512) (omega (arith, short)) in
-      ap (λ (b : Bool). if ((length text == 0) || b) then set_bytes s.stack 448
-      (length text) else None) high ∙ or_true (length text == 0)
-      (set_bytes s.stack 448 (length text)) ∙ read_back text 448 s.stack known
-
-  compare_then : (text : List ℕ) (n : ℕ) (q : Program) (choice : ℕ) (b : Behaviour)
-      → length text ≤ 64 → Comes p a (Has p a 0 (attr_is a n text)) q choice b
-      → Comes p a (HasLength text n) (Some (insn.call 2) ∷ q) choice b
-  compare_then text n q choice b short rest s h known =
-      quiet p a s (record (with_result s (attr_is a n text))
-      { slot = s.slot + 1; count = s.count + 1 }) (insn.call 2) q choice b h
-      (ap (λ (o : Option ℕ). answer s
-      (o >>= λ number. s.registers 2 >>= λ address. s.registers 3 >>= λ k. compared s number
-      address k)) known.1
-      ∙ ap (λ (o : Option ℕ). answer s
-      (o >>= λ address. s.registers 3 >>= λ k. compared s n address k)) known.2
-      ∙ ap (λ (o : Option ℕ). answer s (o >>= λ k. compared s n (stack_top - 64) k)) known.3
-      ∙ ap (λ (b : Bool). answer s (if b
-      then (stack_bytes s (stack_top - 64) (length text) >>= λ bytes. Some
-      (attr_is s.attributes n bytes)) else None)) (le-leb (length text) 64 short)
-      ∙ ap (λ (o : Option (List ℕ)). answer s (o >>= λ bytes. Some (attr_is s.attributes n bytes)))
-      (bytes_read s text short known.0)
-      ∙ ap (λ (c : Attributes). answer s (Some (attr_is c n text))) h.attributes)
-      (rest _ (record {
-        place = next_here p.code s.slot (Some (insn.call 2)) q h.place;
-        context = h.context;
-        choice_is = h.choice_is;
-        top = h.top;
-        attributes = h.attributes;
-      }) refl)
-
-  -- ---- an attribute's text, as a piece
-
-  small_answer : (n : ℕ) (text : List ℕ) → attr_is a n text < 2 ^ 32
-  small_answer n text = on_text (attribute a n)
-    where
-      on_bool : (b : Bool) → (if b then 1 else 0) < 2 ^ 32
-      on_bool true = omega arith
-      on_bool false = omega arith
-
-      on_text : (o : Option (List ℕ)) → is_text text o < 2 ^ 32
-      on_text None = omega arith
-      on_text (Some t) = on_bool (bytes_eq t text)
-
-  pub attribute_runs : (n : ℕ) (text : List ℕ) (sense : Bool) (l : ℕ) (q : Program) (choice : ℕ)
-      (x y : Behaviour) → length text ≤ 64 → AreBytes text
-      → Comes p a (Nothing p a) (from_label q l) choice x → Comes p a (Nothing p a) q choice y
-      → Comes p a (Nothing p a) (code.attribute_code n text sense l q) choice
-      (if compares w32 Ne (attr_is a n text) 0 then (if sense then x else y)
-      else (if sense then y else x))
-  unfolding from_label
-  attribute_runs n text sense l q choice x y short bytes to on =
-      let jump : Program = Some (insn.jump_if (insn.turned sense Ne) R0 0 (length q - l)) ∷ q in
-      let v : ℕ = attr_is a n text in
-      let b : Behaviour = if compares w32 Ne v 0 then (if sense then x else y)
-      else (if sense then y else x) in
-      let jumps : Comes p a (Has p a 0 v) jump choice b =
-      subst (Comes p a (Has p a 0 v) jump choice) (by_sense Ne sense v 0 x y tt)
-      (jump_then p a (insn.turned sense Ne) R0 0 (length q - l) v q choice x y (small_answer n text)
-      (omega arith) to (knowing p a (Has p a 0 v) q choice y on)) in
-      let fourth : Program = Some (insn.call 2) ∷ jump in
-      let third : Program = Some (insn.set_argument R3 (length text)) ∷ fourth in
-      let second : Program = Some insn.point_at_text ∷ third in
-      let first : Program = Some insn.copy_top ∷ second in
-      λ s h known. stores_then [] text 63 (Some (insn.set_argument R1 n) ∷ first) choice b refl refl
-      (omega (arith, short)) bytes
-      (number_then text n first choice b
-      (top_then text n second choice b
-      (point_then text n third choice b
-      (length_then text n fourth choice b (compare_then text n jump choice b short jumps))))) s
-      h (λ i c is. absurd cc)

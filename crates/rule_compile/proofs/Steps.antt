@@ -2,12 +2,11 @@
 use Rattle.std.proofs.Common.{◌≡◌, ℕ, zero, suc, ◌+◌, ◌-◌, ◌*◌, ◌<◌, ◌≤◌, List, [], ◌∷◌, ◌++◌, take, drop, length, get_or, Option, Some, None, Bool, true, false, refl, sym, ap, subst, ◌∙◌, arith, add-one, drop-cons}
 use Rattle.std.specs.Prelude.{not, option_and_then, if◌then◌else◌}
 use Rattle.std.proofs.lemmas.List.Elements.{All-nil, All-cons, All-head, All-tail}
-use Rattle.std.proofs.Math.Seq.{take-length}
 use Rattle.bpf_insn.specs.Program.{Program}
 use Rattle.cells.specs.Arrays.{AppShape}
 use Rattle.rule_lang.specs.declared.condition.Step.{Step}
 use Rattle.rule_lang.specs.declared.condition.Step.TheVariants as step
-use Rattle.rule_lang.specs.Trees.{Tree, with_step, trees_from, IsCondition}
+use Rattle.rule_lang.specs.Trees.{Tree, with_step, trees_from}
 use Rattle.rule_compile.specs.declared.goals.Goal.{Goal}
 use Rattle.rule_compile.specs.Code.{test_code, made_code, goal, steps_code, step_goals, step_code}
 use Rattle.rule_compile.specs.Ranges.{IsStepInRange, AreInRange}
@@ -189,24 +188,6 @@ module _ (s : AppShape) (steps : List Step) (label : ℕ) (first : Program) (k :
 nothing_left : (steps : List Step) → drop (length steps) steps ≡ []
 nothing_left [] = refl
 nothing_left (x ∷ steps) = nothing_left steps
-
--- before the last step nothing is written, and after the first one everything
-pub none_written : (s : AppShape) (steps : List Step) (label : ℕ) (first : Program)
-    → IsCondition steps → label ≤ length first
-    → AreWritten s steps label first (length steps) (goal true label ∷ []) first
-none_written s steps label first made within =
-    let all : take (length steps) steps ≡ steps = take-length steps in
-    record {
-      code = ap (λ (xs : List Step). made_code s (trees_from [] xs) (goal true label ∷ []) first)
-          all;
-      goals = subst (λ (xs : List Step). HaveGoals (trees_from [] xs) (goal true label ∷ []))
-          (sym all) (subst (λ (o : Option (List Tree)). HaveGoals o (goal true label ∷ []))
-          (sym made.1) refl);
-      labels = one_within first (goal true label) [] within
-          (All-nil (λ (g : Goal). g.label ≤ length first));
-      range = subst AreInRange (sym (nothing_left steps)) tt;
-      size = omega arith;
-    }
 
 pub all_written : (s : AppShape) (steps : List Step) (label : ℕ) (first : Program) (gs : List Goal)
     (rest : Program) → AreWritten s steps label first 0 gs rest

@@ -32,8 +32,9 @@ use Rattle.rule_compile.proofs.Runs.{Comes, Nothing, Reads}
 use Rattle.rule_compile.proofs.Fields.{FitFields, bucket_reads, today_reads, installed_reads, first_reads, second_reads, third_reads, fourth_reads}
 use Rattle.rule_compile.proofs.Compares.{IsRelation, by_sense, field_runs, flag_runs, salted_runs}
 use Rattle.rule_compile.proofs.VersionWords.{AreRead, equal_runs, order_runs}
-use Rattle.rule_compile.proofs.Counters.{take_runs}
-use Rattle.rule_compile.proofs.StackTexts.{AreBytes, attribute_runs}
+use Rattle.rule_compile.proofs.CounterPieces.{take_runs}
+use Rattle.rule_compile.proofs.StackTexts.{AreBytes}
+use Rattle.rule_compile.proofs.TextComparisons.{attribute_runs}
 use Rattle.rule_compile.proofs.Arrays.{CanTake, can_take_is, both_true}
 use Rattle.rule_compile.proofs.Relations.{relates_is, IsOrder, strict_of, ordered_is, equal_is, unequal_is}
 

@@ -20,9 +20,11 @@ use Rattle.rule_compile.specs.Blocks as code
 use Rattle.rule_compile.proofs.Counters.{IsCellOf}
 use Rattle.rule_compile.proofs.Typed.{nothing}
 use Rattle.rule_compile.proofs.Entries.{any, none_set, frame, choice, chosen, Takes}
-use Rattle.rule_compile.proofs.InsnSteps.{set_step, copy_step, wide_step, quota_jump_step}
+use Rattle.rule_compile.proofs.InsnSteps.{set_step, copy_step, wide_step}
+use Rattle.rule_compile.proofs.JumpSteps.{quota_jump_step}
 use Rattle.rule_compile.proofs.CellSteps.{cell_step, add_step, take_step}
-use Rattle.rule_compile.proofs.StackSteps.{text_set, with_text, store_step, point_step, compare_step, text_place}
+use Rattle.rule_compile.proofs.StackSteps.{store_step, point_step, compare_step}
+use Rattle.rule_compile.proofs.StackBytes.{text_set, with_text, text_place}
 use Rattle.rule_compile.proofs.Fronts.{IsLabel, IsRest, IsTail, IsFront, takes_here, takes_behind, takes_more, tail_itself, put, put_half, put_first, front_of, asked, answer_tail}
 
 -- ---- texts

@@ -57,7 +57,8 @@ if_equal word k (n ∷ []) met unmet = if compares w32 Eq (word k) n then met el
 if_equal word k (n ∷ m ∷ ns) met unmet =
     if compares w32 Ne (word k) n then unmet else if_equal word (suc k) (m ∷ ns) met unmet
 
-abbrev pub if_ordered : Condition → Condition → (ℕ → ℕ) → ℕ → List ℕ → Behaviour → Behaviour
+abbrev pub if_ordered : Condition → Condition → (ℕ → ℕ) → ℕ → List ℕ
+    → Behaviour → Behaviour
     → Behaviour
 if_ordered strict last word k [] met unmet = unmet
 if_ordered strict last word k (n ∷ []) met unmet =

@@ -67,7 +67,7 @@ call n = Call (pos n)
 
 -- ---- texts, in the 64 bytes below the top of the stack
 
--- stw [r10-64+offset], word
+-- stw [r10-1-left], word
 abbrev pub store_word : ℕ → ℕ → Insn
 store_word left word = StoreImm size.Word R10 (negsuc left) (imm_of word)
 

@@ -11,9 +11,6 @@ use Rattle.cells.specs.declared.event.CellEvent.{CellEvent}
 use Rattle.rule_lang.specs.declared.rule.Statement.{Statement}
 use Rattle.rule_lang.specs.Meaning.{behaviour, Follows}
 
-abbrev pub shaped : Program → AppShape → ShapedProgram
-shaped code shape = record { code = code; shape = shape }
-
 -- for attributes whose context is in its ranges, and for whatever the cells reply: the run makes
 -- the events that the rule means, and ends with its choice
 abbrev pub Means : Attributes → List Statement → ShapedProgram → Type 0

@@ -21,7 +21,8 @@ use Rattle.world.proofs.During.{made_by_other, made_idle, later_end, goes_during
 use Rattle.world.proofs.During.{RestsDuring, later_rest}
 
 -- as `ComesTo`, and a run that has ended asks nothing more
-abbrev pub Comes : WorldState → ℕ → Worker → List Event → List Answer → ℕ → ℕ → ℕ → Type 0
+abbrev pub Comes : WorldState → ℕ → Worker → List Event → List Answer → ℕ → ℕ
+    → ℕ → Type 0
 Comes w k Idle es rs number choice instructions = ⊥
 Comes w k (Running n program s) es rs number choice instructions =
     (number ≡ n) × EndsDuring w k es rs program s choice instructions

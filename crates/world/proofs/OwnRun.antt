@@ -76,7 +76,8 @@ record IsOfWorker (w : WorldState) (k : ℕ) (x : Worker) (es : List Event) (rs 
   none : HasNoStart k es rs place
   comes : Comes w k x (take place es) (take place rs) number choice instructions
 
-abbrev Found : WorldState → ℕ → Worker → List Event → List Answer → ℕ → ℕ → ℕ → ℕ → Type 0
+abbrev Found : WorldState → ℕ → Worker → List Event → List Answer → ℕ → ℕ → ℕ
+    → ℕ → Type 0
 Found w k x es rs place number choice instructions =
     IsOwnRun w k es rs place number choice instructions
     ⊎ IsOfWorker w k x es rs place number choice instructions

@@ -1,4 +1,4 @@
-// A run of the world: events, one after the other, with their answers.
+//! A run of the world: events, one after the other, with their answers.
 
 ghost use Rattle.std.specs.Prelude.{◌≡◌, IfOk, IfErr};
 ghost use Rattle.world.specs.Headline.{ArePlayed, AllWorldsAreSafe, EachFinishIsOfItsRun};

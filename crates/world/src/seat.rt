@@ -1,5 +1,5 @@
-// The seat of a worker: empty, or taken by a run. What a step and a finish make of a seat is said
-// for every worker that the seat stands for.
+//! The seat of a worker: empty, or taken by a run. What a step and a finish make of a seat is said
+//! for every worker that the seat stands for.
 
 ghost use Rattle.std.specs.Prelude.{◌≡◌, IfErr, IsTrue, IsFalse};
 

@@ -1,4 +1,4 @@
-// The classes ALU64 and ALU.
+//! The classes ALU64 and ALU.
 
 ghost use Rattle.std.specs.Prelude.{◌≡◌, ◌≤◌, pos, true, false, IfOk, IfErr, None};
 ghost use Rattle.bpf_insn.specs.declared.operand.Operand.{Operand};

@@ -1,4 +1,4 @@
-// The classes JMP and JMP32.
+//! The classes JMP and JMP32.
 
 ghost use Rattle.std.specs.Prelude.{None};
 ghost use Rattle.bpf_insn.specs.declared.form.Form.{Form};

@@ -1,4 +1,4 @@
-// The classes LDX, ST and STX.
+//! The classes LDX, ST and STX.
 
 ghost use Rattle.std.specs.Prelude.{IfOk, IfErr, None};
 ghost use Rattle.bpf_insn.specs.declared.form.Form.{Form};

@@ -1,4 +1,4 @@
-// A wide load, of two halves.
+//! A wide load, of two halves.
 
 ghost use Rattle.std.specs.Prelude.{◌≡◌, Some};
 ghost use Rattle.bpf_insn.specs.declared.operand.WideValue.{WideValue};

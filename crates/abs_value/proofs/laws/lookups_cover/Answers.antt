@@ -1,4 +1,5 @@
-use Rattle.abs_value.proofs.Known.{covers_answered, covers_edge}
+use Rattle.abs_value.proofs.Known.{covers_answered}
+use Rattle.abs_value.proofs.KnownEdges.{covers_edge}
 use Rattle.abs_value.proofs.laws.lookups_cover.Goals as goal
 
 pub returns : goal.returns

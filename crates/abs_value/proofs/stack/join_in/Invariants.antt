@@ -6,6 +6,7 @@ use Rattle.abs_value.proofs.stack.join_in.Given as goal
 abbrev pub invariant-loop-i : goal.invariant-loop-i
 invariant-loop-i l = record {
   all : length l.stack ≡ 64;
-  joined : (k : ℕ) → k < l.i → slot_at l.stack k ≡ join_slots (slot_at l.fn.stack k) (slot_at l.other k);
+  joined : (k : ℕ) → k < l.i
+      → slot_at l.stack k ≡ join_slots (slot_at l.fn.stack k) (slot_at l.other k);
   rest : (k : ℕ) → l.i ≤ k → slot_at l.stack k ≡ slot_at l.fn.stack k;
 }

@@ -8,6 +8,8 @@ use Rattle.bpf_semantics.proofs.context.versions.Goals as goal
 
 pub returns : goal.returns
 returns c = record {
-  small = λ a e shape. more (ap (write (opening a) 1 R2) (version_read a e)) (more refl (more refl (more refl (last refl refl))));
-  largest = λ a e shape. more (ap (write (opening a) 1 R2) (version_read a e)) (more refl (more refl (last refl refl)));
+  small = λ a e shape. more (ap (write (opening a) 1 R2) (version_read a e))
+      (more refl (more refl (more refl (last refl refl))));
+  largest = λ a e shape. more (ap (write (opening a) 1 R2) (version_read a e))
+      (more refl (more refl (last refl refl)));
 }

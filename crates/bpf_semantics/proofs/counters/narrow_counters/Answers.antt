@@ -4,7 +4,9 @@ use Rattle.bpf_semantics.proofs.counters.narrow_counters.Goals as goal
 
 pub returns : goal.returns
 returns c = record {
-  ends = λ b. more refl (more refl (asked refl (more refl (asked refl (more refl (more refl (asked refl (more refl (last refl refl)))))))));
+  ends = λ b. more refl (more refl (asked refl
+      (more refl (asked refl (more refl (more refl (asked refl (more refl (last refl refl)))))))));
   values = (refl, refl, (refl, refl, (refl, refl, tt)));
-  fetched = λ b. more refl (more refl (asked refl (more refl (asked refl (more refl (last refl refl))))));
+  fetched =
+      λ b. more refl (more refl (asked refl (more refl (asked refl (more refl (last refl refl))))));
 }

@@ -9,4 +9,5 @@ abbrev pub invariant-loop-placed : goal.invariant-loop-placed
 invariant-loop-placed l =
     let slot_of = slot_at l.reading.labels in
     let items = l.reading.placed.items in
-    bytes_of_placed tables slot_of (map placed_named items) ≡ onto_bytes l.out.items (bytes_of_placed tables slot_of (map placed_named (drop l.placed-index items)))
+    bytes_of_placed tables slot_of (map placed_named items) ≡ onto_bytes l.out.items
+    (bytes_of_placed tables slot_of (map placed_named (drop l.placed-index items)))

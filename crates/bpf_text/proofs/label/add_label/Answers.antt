@@ -3,4 +3,5 @@ use Rattle.std.proofs.lemmas.Map.Text.{btree_map_updates_str}
 use Rattle.bpf_text.proofs.label.add_label.Goals as goal
 
 pub returns : goal.returns
-returns c = btree_map_updates_str c.args.name.now c.args.labels.now c.insert.new.self (Some c.args.slot) c.in_ok-insert.ensures.updates
+returns c = btree_map_updates_str c.args.name.now c.args.labels.now c.insert.new.self
+    (Some c.args.slot) c.in_ok-insert.ensures.updates

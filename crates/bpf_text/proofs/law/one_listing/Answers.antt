@@ -8,7 +8,8 @@ loop-slot-init c = λ k h. absurd (omega (arith, h))
 
 pub loop-slot-preserved : goal.loop-slot-preserved
 loop-slot-preserved c =
-    below_more _ _ c.loop-slot.invariant (decodes_once c.args.bytes.now c.loop-slot.slot c.decode_at.result c.decode_at.ensures.only c.decode_at.ensures.fault_only)
+    below_more _ _ c.loop-slot.invariant (decodes_once c.args.bytes.now c.loop-slot.slot
+    c.decode_at.result c.decode_at.ensures.only c.decode_at.ensures.fault_only)
 
 pub returns : goal.returns
 returns c = one_listing c.args.bytes.now (λ k h. c.loop-slot.invariant k (omega (arith, h)))

@@ -9,5 +9,6 @@ pub returns-clause-on : goal.returns-clause-on
 returns-clause-on c =
     let before = c.args.reading.now in
     let l = line_named c.args.line in
-    let fine : fault_of_body before.slots (has_slot (slot_at before.labels) l.label) l.body ≡ None = search rules in
+    let fine : fault_of_body before.slots (has_slot (slot_at before.labels) l.label) l.body ≡ None =
+    search rules in
     read_on before _ l c.requires.small fine refl (search rules) (search rules) (search rules)

@@ -9,4 +9,5 @@ pub loop-c-preserved : goal.loop-c-preserved
 loop-c-preserved c = grind (arith, digit_more)
 
 pub returns : goal.returns
-returns c = all_digits _ _ _ _ c.loop-c-test.false c.loop-c.invariant.so_far c.loop-c.invariant.small
+returns c =
+    all_digits _ _ _ _ c.loop-c-test.false c.loop-c.invariant.so_far c.loop-c.invariant.small

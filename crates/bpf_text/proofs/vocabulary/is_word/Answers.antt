@@ -6,5 +6,6 @@ use Rattle.bpf_text.proofs.vocabulary.is_word.Goals as goal
 
 pub returns-in-None : goal.returns-in-None
 returns-in-None c =
-    let stem : bytes_eq (take (length (stem_of c.args.mnemonic)) c.args.word.now) (stem_of c.args.mnemonic) ≡ false = search rules in
+    let stem : bytes_eq (take (length (stem_of c.args.mnemonic)) c.args.word.now)
+    (stem_of c.args.mnemonic) ≡ false = search rules in
     no_stem c.args.word.now (stem_of c.args.mnemonic) (suffix_of c.args.mnemonic) stem

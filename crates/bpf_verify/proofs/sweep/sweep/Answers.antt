@@ -1,19 +1,24 @@
 use Rattle.std.proofs.Common.{arith}
-use Rattle.bpf_verify.specs.Accepted.{shaped}
+use Rattle.bpf_semantics.specs.Program.{shaped}
 use Rattle.bpf_verify.specs.Entries.{at_hand}
 use Rattle.bpf_verify.proofs.Visits.{swept_most, at_end, fine_all}
 use Rattle.bpf_verify.proofs.sweep.sweep.Goals as goal
 
 pub returns-in_err-visit-clause-most : goal.returns-in_err-visit-clause-most
 returns-in_err-visit-clause-most c =
-    let most = swept_most (shaped c.args.flow.now c.args.shape.now) c.loop-slot.slot (at_hand c.loop-slot.entries) c.loop-slot.entries.waiting c.loop-slot.invariant in
+    let most = swept_most (shaped c.args.flow.now c.args.shape.now) c.loop-slot.slot
+    (at_hand c.loop-slot.entries) c.loop-slot.entries.waiting c.loop-slot.invariant in
     omega (arith, most, c.in_err-visit.ensures.most)
 
 pub returns-clause-accepted : goal.returns-clause-accepted
 returns-clause-accepted c =
     let p = shaped c.args.flow.now c.args.shape.now in
-    let end = at_end (shaped c.args.flow.now c.args.shape.now) c.loop-slot.slot (at_hand c.loop-slot.entries) c.loop-slot.entries.waiting (omega (arith, c.loop-slot-test.false, c.len.ensures)) c.loop-slot.invariant in
-    fine_all (shaped c.args.flow.now c.args.shape.now) (λ s lt. c.loop-slot.invariant.fine s (omega (arith, lt, end)))
+    let end = at_end (shaped c.args.flow.now c.args.shape.now) c.loop-slot.slot
+    (at_hand c.loop-slot.entries) c.loop-slot.entries.waiting
+    (omega (arith, c.loop-slot-test.false, c.len.ensures)) c.loop-slot.invariant in
+    fine_all (shaped c.args.flow.now c.args.shape.now)
+    (λ s lt. c.loop-slot.invariant.fine s (omega (arith, lt, end)))
 
 pub returns-clause-most : goal.returns-clause-most
-returns-clause-most c = swept_most (shaped c.args.flow.now c.args.shape.now) c.loop-slot.slot (at_hand c.loop-slot.entries) c.loop-slot.entries.waiting c.loop-slot.invariant
+returns-clause-most c = swept_most (shaped c.args.flow.now c.args.shape.now) c.loop-slot.slot
+    (at_hand c.loop-slot.entries) c.loop-slot.entries.waiting c.loop-slot.invariant

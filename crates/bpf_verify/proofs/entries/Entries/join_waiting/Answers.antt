@@ -5,4 +5,5 @@ use Rattle.bpf_verify.proofs.entries.Entries.join_waiting.Goals as goal
 pub returns-then-self-clause-here : goal.returns-then-self-clause-here
 returns-then-self-clause-here c =
     let found = c.in-Some.ensures in
-    rw (c.if-self.true, ← found) (ap Some (c.join_in.ensures ∙ states-comm c.args.self.now.here c.in-Some.found.now))
+    rw (c.if-self.true, ← found)
+    (ap Some (c.join_in.ensures ∙ states-comm c.args.self.now.here c.in-Some.found.now))

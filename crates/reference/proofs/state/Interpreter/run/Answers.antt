@@ -1,6 +1,6 @@
 use Rattle.std.proofs.Common.{[], ◌+◌, ◌<◌, arith, refl}
 use Rattle.reference.specs.Marks.{state_of}
-use Rattle.reference.specs.Observed.{shaped}
+use Rattle.bpf_semantics.specs.Program.{shaped}
 use Rattle.reference.specs.Runs.GoesOn.{stays}
 use Rattle.reference.proofs.Runs.{IsGoing, one_step, counted, choice_of, trap_of}
 use Rattle.reference.proofs.state.Interpreter.run.Goals as goal

@@ -1,6 +1,6 @@
 use Rattle.std.proofs.Common.{◌≡◌, ◌+◌}
 use Rattle.reference.specs.Marks.{state_of}
-use Rattle.reference.specs.Observed.{shaped}
+use Rattle.bpf_semantics.specs.Program.{shaped}
 use Rattle.reference.proofs.Runs.{RunsTo}
 use Rattle.reference.proofs.state.Interpreter.run.Given as goal
 
