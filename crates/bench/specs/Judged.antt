@@ -21,13 +21,13 @@ pub record AreAccepted (bytes : List ℕ) : Type 0 where
   pub accepted : IsAccepted program bench_shape
 
 -- the verifier refuses the program that the bytes are
-abbrev pub IsRuleFault : List ℕ → Refusal → Type 0
-IsRuleFault bytes refusal =
+abbrev pub HasRefusal : List ℕ → Refusal → Type 0
+HasRefusal bytes refusal =
     (p : Program) × (program_bytes p ≡ bytes) × IsFlow p × IsRefusal p bench_shape refusal
 
 -- the graph's fault, or the verifier's refusal
 abbrev pub IsProgramFault : List ℕ → Fault → Type 0
 IsProgramFault bytes (Flow fault) = IsFlowFault bytes fault
-IsProgramFault bytes (Rule refusal) = IsRuleFault bytes refusal
+IsProgramFault bytes (Rule refusal) = HasRefusal bytes refusal
 IsProgramFault bytes Memory = ⊥
 IsProgramFault bytes Output = ⊥

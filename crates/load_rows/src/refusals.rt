@@ -17,18 +17,18 @@ const ROWS: &str = r#"
 - a program and a rule | rule = "y.rule" => rule = "y.rule" / program = "x.bpf" | M2 Field
 - neither | rule = "y.rule" =>  | M2 Field
 - an appid twice | appid = "y" => appid = "x" | M3 Duplicate
-- an array twice | [[app]] => [[array]] / name = "q" / width = 64 / length = 1 / [[app]] | M3 Duplicate
+- array twice | [[app]] => [[array]] / name = "q" / width = 64 / length = 1 / [[app]] | M3 Duplicate
 - too many cells | [[app]] => [[array]] / name = "r"
 width = 64 / length = 4096 / [[app]] | M7 Cells N1 CellsFull in array 2
 - no such file | "x.bpf" => "z.bpf" | M4 File in app 1
 - a file that can't be read | "x.bpf" => "unreadable.bpf" | M4 File in app 1
 - no such file of a rule | "y.rule" => "z.rule" | M4 File in app 2
 - no bytes | "x.bpf" => "empty.bpf" | M5 Program F6 Empty at slot 0 in app 1
-- a part of an instruction | "x.bpf" => "truncated.bpf" | M5 Program F8 Insn I1 Truncated at slot 0 in app 1
+- half a slot | "x.bpf" => "truncated.bpf" | M5 Program F8 Insn I1 Truncated at slot 0 in app 1
 - unreached | "x.bpf" => "unreached.bpf" | M5 Program F5 Unreached at slot 2 in app 1
 - no choice | "x.bpf" => "unset.bpf" | M5 Program V1 Unusable at slot 0 in app 1
-- a release that isn't there | "x.bpf" => "second.bpf" | M5 Program V13 Result at slot 1 in app 1
-- an array that isn't there | "x.bpf" => "other_array.bpf" | M5 Program V11 MapIndex at slot 0 in app 1
+- no such release | "x.bpf" => "second.bpf" | M5 Program V13 Result at slot 1 in app 1
+- no such array | "x.bpf" => "other_array.bpf" | M5 Program V11 MapIndex at slot 0 in app 1
 - a text as a program | "x.bpf" => "y.rule" | M5 Program F8 Insn I4 UnusedField at slot 0 in app 1
 - no UTF-8 | "y.rule" => "no_text.rule" | M6 Rule L1 Token at line 1 in app 2
 - no token | "y.rule" => "token.rule" | M6 Rule L1 Token at line 1 in app 2
@@ -106,7 +106,7 @@ const LATER: &str = r#"
 - a new array, and an app without a choice | [[app]] => [[array]] / name = "z"
 width = 64 / length = 1
 [[app]] & rule = "y.rule" => program = "unset.bpf" | M5 Program V1 Unusable at slot 0 in app 2
-- an old array | name = "q" => name = "r" & "x.bpf" => "none.bpf" | M6 Rule L3 Name at line 1 in app 2
+- old array | name = "q" => name = "r" & "x.bpf" => "none.bpf" | M6 Rule L3 Name at line 1 in app 2
 - the same once more |  | ok
 "#;
 

@@ -25,8 +25,10 @@ left_from {A} xs i x within is =
     ∙ ap₂ (λ (y : A) (ys : List A). y ∷ ys) (sym is) (ap (λ (k : ℕ). drop k xs) (sym (add-one i)))
 
 pub values_from : (rules : Rules) (facts : RequestFacts)
-    → (apps : List AppFacts) (choices : List (Option ℕ)) (i : ℕ) (app : AppFacts) (choice : Option ℕ)
-    → i < length apps → i < length choices → app ≡ get_or apps i app → choice ≡ get_or choices i choice
+    → (apps : List AppFacts) (choices : List (Option ℕ)) (i : ℕ) (app : AppFacts)
+    (choice : Option ℕ)
+    → i < length apps → i < length choices → app ≡ get_or apps i app
+    → choice ≡ get_or choices i choice
     → app_values rules facts (drop i apps) (drop i choices)
     ≡ item (app_value rules facts app choice)
     (app_values rules facts (drop (i + 1) apps) (drop (i + 1) choices))

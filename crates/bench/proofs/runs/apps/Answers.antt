@@ -7,5 +7,6 @@ loop-k-preserved c =
     let more = c.in-Ok.ensures.items in
     record {
       count = length_added c.loop-k.apps.items _ app c.loop-k.k more c.loop-k.invariant.count;
-      each = apps_added (λ a. a.value) c.loop-k.apps.items _ app c.loop-k.k more c.loop-k.invariant.count c.loop-k.invariant.each c.in_ok-app_at.ensures;
+      each = apps_added (λ a. a.value) c.loop-k.apps.items _ app c.loop-k.k more
+          c.loop-k.invariant.count c.loop-k.invariant.each c.in_ok-app_at.ensures;
     }

@@ -5,7 +5,8 @@ use Rattle.bench.proofs.Apps.{app_at, run_added}
 use Rattle.bench.proofs.runs.run_times.Goals as goal
 
 pub loop-n-init : goal.loop-n-init
-loop-n-init c = record { zero = search rules; runs = rw c.fnv1a.ensures runs.none; bound = omega arith }
+loop-n-init c =
+    record { zero = search rules; runs = rw c.fnv1a.ensures runs.none; bound = omega arith }
 
 pub loop-n-preserved : goal.loop-n-preserved
 loop-n-preserved c =

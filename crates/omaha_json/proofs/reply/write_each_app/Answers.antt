@@ -11,7 +11,8 @@ loop-i-preserved c =
     let chosen : c.loop-i.i < length c.args.choices.now = omega (arith, c.requires) in (
       c.in_ok-write_app.ensures.before ∙ c.loop-i.invariant.0,
       then_item _ _ _ _ _ _ c.in_ok-write_app.ensures.tokens
-          (values_from c.args.rules.now c.args.facts.now c.args.apps.now c.args.choices.now c.loop-i.i
+          (values_from c.args.rules.now c.args.facts.now c.args.apps.now
+          c.args.choices.now c.loop-i.i
           app choice some chosen c.index-apps-i.is c.choice_at.ensures)
           c.loop-i.invariant.1,
     )
