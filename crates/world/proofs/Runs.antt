@@ -16,7 +16,7 @@ use Rattle.cells.specs.declared.event.CellOp.TheVariants.{Load, Store, Add, Or, 
 use Rattle.cells.specs.declared.event.CellOp.TheVariants.{CompareExchange}
 use Rattle.cells.specs.declared.event.CellEvent.{CellEvent}
 use Rattle.cells.specs.Events.{width, limit, after, reply_of, CanReply, AreCells}
-use Rattle.cells.specs.Widths.{Fits, EventsFit}
+use Rattle.cells.specs.Widths.{FitsWidths, EventsFit}
 use Rattle.world.specs.Counters.{asked, answered, cells_after}
 
 -- what the crates below promise of every step, and of every event on counters
@@ -41,7 +41,7 @@ follows cells s t Trap next going = absurd cc
 
 -- the event of a step that asks
 event_fits : Laws → (cells : List ℕ) (cell : ℕ) (op : CellOp) → AreCells cells
-    → Fits (record { cell = cell; op = op; reply = reply_of (slice_index cells cell) op })
+    → FitsWidths (record { cell = cell; op = op; reply = reply_of (slice_index cells cell) op })
     (slice_set cells cell (after (limit cell) (slice_index cells cell) op))
 event_fits law cells cell op fit =
     law.fit cells (slice_set cells cell (after (limit cell) (slice_index cells cell) op))

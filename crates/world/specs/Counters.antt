@@ -3,11 +3,12 @@
 use Rattle.std.specs.Prelude.{ℕ, List, [], ◌∷◌, slice_index, slice_set}
 use Rattle.bpf_semantics.specs.Outcome.{Outcome, Going, Asks, Done, Trap}
 use Rattle.cells.specs.declared.event.CellEvent.{CellEvent}
-use Rattle.cells.specs.Events.{event, limit, after, reply_of}
+use Rattle.cells.specs.Events.{limit, after, reply_of}
 
 -- the counter that is asked replies by its value; a step that asks none has no event
 abbrev pub asked : List ℕ → Outcome → List CellEvent
-asked cells (Asks cell op next) = event cell op (reply_of (slice_index cells cell) op) ∷ []
+asked cells (Asks cell op next) =
+    record { cell = cell; op = op; reply = reply_of (slice_index cells cell) op } ∷ []
 asked cells (Going t) = []
 asked cells (Done choice) = []
 asked cells Trap = []
