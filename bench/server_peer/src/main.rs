@@ -1,9 +1,13 @@
 //! A peer of `rollout serve` in plain Rust: the same replies to good requests, by threads, a lock
 //! round a ruleset, `httparse` and `serde_json`. What it decides is fixed: of the apps that it
-//! knows the release is chosen by the bucket. It checks less than the server does.
+//! knows the last release is offered to the buckets below a bound. It checks less than the server
+//! does.
 //!
 //!     server_peer serve PORT WORKERS     serves until it is killed
-//!     server_peer answer TIMES           answers one request so often, over memory
+//!     server_peer answer TIMES RULESET   answers the request on standard input so often, over memory
+//!
+//! A RULESET is `worked`, which knows the app `x` with one release, or `many`, which knows 256 apps,
+//! each with 64 releases of 16 packages.
 
 use serde_json::{json, Map, Value};
 use std::io::{self, Read, Write};
@@ -16,16 +20,20 @@ use std::time::{Duration, SystemTime, UNIX_EPOCH};
 const MAX_HEAD: usize = 16384;
 const MAX_BODY: usize = 1 << 20;
 
-struct Release {
-    version: &'static str,
-    codebase: &'static str,
-    package: &'static str,
+struct Package {
+    name: &'static str,
     hash: &'static str,
     size: u64,
 }
 
+struct Release {
+    version: &'static str,
+    codebase: &'static str,
+    packages: Vec<Package>,
+}
+
 struct App {
-    appid: &'static str,
+    appid: String,
     below: u16,
     releases: Vec<Release>,
 }
@@ -40,16 +48,33 @@ struct State {
     asked: AtomicU64,
 }
 
-fn ruleset() -> Ruleset {
-    let release = Release {
-        version: "2.0.0.0",
-        codebase: "http://dl.example/",
-        package: "x.bin",
+fn package() -> Package {
+    Package {
+        name: "x.bin",
         hash: "ba7816bf8f01cfea414140de5dae2223b00361a396177a9cb410ff61f20015ad",
         size: 3,
-    };
-    let x = App { appid: "x", below: 2000, releases: vec![release] };
-    Ruleset { server: "prod", apps: vec![x] }
+    }
+}
+
+fn release(packages: usize) -> Release {
+    Release {
+        version: "2.0.0.0",
+        codebase: "http://dl.example/",
+        packages: (0..packages).map(|_| package()).collect(),
+    }
+}
+
+fn app(appid: String, below: u16, releases: usize, packages: usize) -> App {
+    App { appid, below, releases: (0..releases).map(|_| release(packages)).collect() }
+}
+
+fn worked() -> Ruleset {
+    Ruleset { server: "prod", apps: vec![app("x".to_string(), 2000, 1, 1)] }
+}
+
+fn many() -> Ruleset {
+    let apps = (0..256).map(|number| app(format!("app{number}"), 10000, 64, 16)).collect();
+    Ruleset { server: "prod", apps }
 }
 
 fn fnv1a(bytes: &[u8]) -> u64 {
@@ -77,15 +102,16 @@ fn has(app: &Value, name: &str) -> bool {
     app.get(name).is_some_and(|value| !value.is_null())
 }
 
-fn update(release: &Release) -> Value {
+fn file(package: &Package) -> Value {
     json!({
-        "manifest": {
-            "packages": {"package": [{
-                "hash_sha256": release.hash, "name": release.package,
-                "required": true, "size": release.size,
-            }]},
-            "version": release.version,
-        },
+        "hash_sha256": package.hash, "name": package.name, "required": true, "size": package.size,
+    })
+}
+
+fn update(release: &Release) -> Value {
+    let packages: Vec<Value> = release.packages.iter().map(file).collect();
+    json!({
+        "manifest": {"packages": {"package": packages}, "version": release.version},
         "status": "ok",
         "urls": {"url": [{"codebase": release.codebase}]},
     })
@@ -107,7 +133,7 @@ fn app_reply(state: &State, ruleset: &Ruleset, request: &Value, app: &Value) -> 
     reply.insert("status".into(), "ok".into());
     if has(app, "updatecheck") {
         state.asked.fetch_add(1, Ordering::SeqCst);
-        let release = known.releases.first().filter(|_| bucket < known.below);
+        let release = known.releases.last().filter(|_| bucket < known.below);
         let answer = release.map_or(json!({"status": "noupdate"}), update);
         reply.insert("updatecheck".into(), answer);
     }
@@ -220,8 +246,9 @@ fn serve(state: Arc<State>, port: u16, workers: usize) -> io::Result<()> {
 }
 
 fn main() -> io::Result<()> {
-    let state = State { ruleset: RwLock::new(Arc::new(ruleset())), asked: AtomicU64::new(0) };
     let words: Vec<String> = std::env::args().collect();
+    let ruleset = if words.get(3).is_some_and(|word| word == "many") { many() } else { worked() };
+    let state = State { ruleset: RwLock::new(Arc::new(ruleset)), asked: AtomicU64::new(0) };
     let number = |at: usize| words.get(at).and_then(|word| word.parse::<u64>().ok()).unwrap_or(1);
     match words.get(1).map(String::as_str) {
         Some("serve") => serve(Arc::new(state), number(2) as u16, number(3) as usize),
@@ -235,6 +262,6 @@ fn main() -> io::Result<()> {
             }
             io::stdout().write_all(&written)
         }
-        _ => Err(io::Error::other("serve PORT WORKERS, or answer TIMES")),
+        _ => Err(io::Error::other("serve PORT WORKERS, or answer TIMES RULESET")),
     }
 }

@@ -1,0 +1,135 @@
+"""How the scripts of bench/ take times and counts of whole processes."""
+import os
+import platform
+import re
+import shutil
+import statistics
+import subprocess
+import sys
+import tempfile
+import time
+from pathlib import Path
+
+HERE = Path(__file__).resolve().parent
+# Seconds of processor time that a process is given.
+PATIENCE = 5
+
+
+class Trouble(Exception):
+    """A process failed, or took too long."""
+
+
+def processor_time(command, source=os.devnull):
+    """The processor time of a process in seconds, and its output; the source is its input."""
+    with tempfile.TemporaryFile() as out, tempfile.TemporaryFile() as err:
+        with open(source, "rb") as given:
+            process = subprocess.Popen(command, stdin=given, stdout=out, stderr=err)
+        pid = 0
+        while pid == 0:
+            pid, status, usage = os.wait4(process.pid, os.WNOHANG)
+            if pid == 0 and time_so_far(process.pid) > PATIENCE:
+                process.kill()
+                process.wait()
+                raise Trouble(f"not in {PATIENCE} s")
+            time.sleep(0.001)
+        process.returncode = os.waitstatus_to_exitcode(status)
+        out.seek(0)
+        err.seek(0)
+        if process.returncode != 0:
+            raise Trouble("refused: " + err.read().decode().strip())
+        return usage.ru_utime + usage.ru_stime, out.read().decode()
+
+
+def time_so_far(pid):
+    """The processor time of a process that still runs."""
+    fields = Path(f"/proc/{pid}/stat").read_text().rsplit(")", 1)[1].split()
+    return (int(fields[11]) + int(fields[12])) / os.sysconf("SC_CLK_TCK")
+
+
+class Measured:
+    """A command with a number of times in it, which is done rarely and often in each round."""
+
+    def __init__(self, command, rarely, often, source=os.devnull):
+        self.command = [str(word) for word in command]
+        self.source = source
+        self.rarely, self.often = rarely, often
+        self.took = {rarely: [], often: []}
+        self.output = None
+        self.trouble = None
+
+    def round(self):
+        for times in (self.rarely, self.often):
+            if self.trouble is None:
+                try:
+                    command = [word.replace("TIMES", str(times)) for word in self.command]
+                    took, self.output = processor_time(command, self.source)
+                    self.took[times].append(took)
+                except Trouble as trouble:
+                    self.trouble = str(trouble)
+
+    def each(self):
+        """The time of one verification or run, in each round."""
+        start = min(self.took[self.rarely])
+        return [(took - start) / (self.often - self.rarely) for took in self.took[self.often]]
+
+    def least(self):
+        return min(self.each())
+
+    def field(self, name):
+        return re.search(name + r"=(\w+)", self.output).group(1)
+
+
+def measure(cases, rounds):
+    for _ in range(rounds):
+        for case in cases:
+            case.round()
+
+
+def ratio(ours, peers):
+    """The median over the rounds of our time by the peer's."""
+    return statistics.median(a / b for a, b in zip(ours.each(), peers.each()) if b > 0)
+
+
+def counted(pattern, options, command, source=os.devnull):
+    """The number that valgrind tells of a process."""
+    words = ["valgrind", *options, *map(str, command)]
+    with open(source, "rb") as given:
+        log = subprocess.run(words, stdin=given, stdout=subprocess.DEVNULL, stderr=subprocess.PIPE, text=True).stderr
+    return int(re.search(pattern, log).group(1).replace(",", ""))
+
+
+def steps(command, source=os.devnull):
+    """How many instructions of the processor a process takes."""
+    return counted(r"Collected : (\d+)", ["--tool=callgrind", "--callgrind-out-file=/dev/null"], command, source)
+
+
+def allocations(command, source=os.devnull):
+    """How many allocations a process makes."""
+    return counted(r"total heap usage: ([\d,]+) allocs", [], command, source)
+
+
+def show_machine():
+    model = next((line.split(":", 1)[1].strip() for line in open("/proc/cpuinfo") if line.startswith("model name")), "?")
+    print(f"{time.strftime('%Y-%m-%d %H:%M', time.gmtime())} UTC, {model}, {os.cpu_count()} processors, {platform.release()}")
+    show_load("start")
+
+
+def show_load(when):
+    print(f"load at the {when}: " + " ".join(f"{x:.1f}" for x in os.getloadavg()))
+
+
+def build_server_peer(out):
+    """Builds bench/server_peer, the service in plain Rust, or says why it can't."""
+    shutil.rmtree(out / "server_peer", ignore_errors=True)
+    shutil.copytree(HERE / "server_peer", out / "server_peer")
+    words = ["cargo", "build", "--release", "--quiet", "--target-dir", str(out / "target")]
+    debian = Path("/usr/share/cargo/registry")
+    if (debian / "serde-1.0.152").exists():
+        words += ["--offline", "--config", 'source.crates-io.replace-with="debian"']
+        words += ["--config", f'source.debian.directory="{debian}"']
+    try:
+        subprocess.run(words, cwd=out / "server_peer", check=True)
+    except (OSError, subprocess.CalledProcessError) as error:
+        print(f"no peer in plain Rust: {error}", file=sys.stderr)
+        return None
+    return out / "target" / "release" / "server_peer"

@@ -1,0 +1,87 @@
+//! Answering one request over and over, by one worker whose reader and writer are memory.
+
+ghost use Rattle.std.specs.Prelude.{◌≡◌, ◌+◌, IfOk};
+ghost use Rattle.bench_answer.specs.Answered.{IsAnswered, IsTally};
+
+use anyhow::{Context, Error, Result};
+use attrs::fnv1a;
+use cells::{PlainCells, PlainPass};
+use hot_swap::{Publisher, Watcher};
+use http_front::Counted;
+use ruleset::Ruleset;
+use std::alloc::Global;
+use std::sync::{Arc, Wait};
+use workers::answer;
+
+/// 2026-03-02 01:00:00 UTC, which is day 7000 and second 3600 of Omaha's count.
+const MOMENT: i64 = 1772413200;
+
+/// What replies come to: the bytes of all of them, and the hash of the last.
+#[derive(Clone, Copy, Debug, PartialEq, Eq)]
+pub(crate) struct Tally {
+    pub(crate) bytes: u64,
+    pub(crate) reply: u64,
+}
+
+/// Answers the request once, into the room of an earlier reply.
+fn answer_once<H: Wait>(
+    rt: &H,
+    alloc: Global,
+    input: &[u8],
+    mut room: Vec<u8>,
+    pass: &mut PlainPass,
+    watcher: &mut Watcher,
+) -> Result<Vec<u8>>
+    ensures { IfOk result (λ reply.
+        IsAnswered input.now watcher.new pass.old pass.new reply.items) }
+{
+    room.clear();
+    let mut reader = Counted::new(input);
+    let mut writer = Counted::new(room);
+    let status = answer(
+        rt,
+        alloc,
+        &mut reader,
+        &mut writer,
+        &PlainCells,
+        pass,
+        watcher,
+        MOMENT,
+    )?;
+    if status != 200 {
+        return Err(Error::msg("the request is refused"));
+    }
+    Ok(writer.into_inner())
+}
+
+/// The sum, where it fits.
+fn sum(bytes: u64, more: usize) -> Result<u64>
+    ensures { IfOk result (λ n. n ≡ bytes + more) }
+{
+    bytes.checked_add(more as u64).context("too many bytes")
+}
+
+/// Answers the request so often, under one ruleset.
+pub(crate) fn answer_times<H: Wait>(
+    rt: &H,
+    alloc: Global,
+    rules: Arc<Ruleset>,
+    input: &[u8],
+    times: u32,
+) -> Result<Tally>
+    ensures { IfOk result (IsTally input.now times) }
+{
+    let mut publisher = Publisher::new(alloc, rules, 1)?;
+    let mut watcher = publisher.watcher()?;
+    let (_cells, mut pass) = PlainCells::new(alloc)?;
+    let mut reply = Vec::new(alloc);
+    let mut bytes = 0u64;
+    for n in 0..times {
+        reply = answer_once(rt, alloc, input, reply, &mut pass, &mut watcher)?;
+        bytes = sum(bytes, reply.len())?;
+    }
+    Ok(Tally {
+        bytes,
+        reply: fnv1a(&reply),
+    })
+}

@@ -1,0 +1,103 @@
+//! The rulesets under which requests are answered.
+
+ghost use Rattle.std.specs.Prelude.{◌≡◌, ◌≤◌, IfOk, length};
+
+use anyhow::Result;
+use attrs::Text;
+use bpf_text::assemble;
+use bpf_verify::{Verified, verify};
+use cells::Shape;
+use flow_check::Flow;
+use releases::{Package, Release};
+use ruleset::{App, Ruleset};
+use std::alloc::{AllocError, Global};
+use std::sync::Arc;
+
+/// Offers the first release to the buckets below 2000.
+const BELOW_2000: &str = "ldxh r2, [r1+16]\nmov r0, 0\njge r2, 2000, end\nmov r0, 1\nend:\nexit";
+
+/// Offers the last of 64 releases.
+const THE_LAST: &str = "mov r0, 64\nexit";
+
+/// The SHA-256 of `abc`.
+const HASH: &str = "ba7816bf8f01cfea414140de5dae2223b00361a396177a9cb410ff61f20015ad";
+
+/// The ruleset of a server `prod` that knows the app `x`, which has one release of one package.
+pub(crate) fn worked(alloc: Global) -> Result<Arc<Ruleset>> {
+    let program = program(alloc, BELOW_2000, 1)?;
+    let apps = vec![in alloc; app(alloc, "x", &program, 1)?]?;
+    ruleset(alloc, apps)
+}
+
+/// The ruleset of a server `prod` that knows so many apps, each of 64 releases of 16 packages.
+pub(crate) fn many(alloc: Global, count: u16) -> Result<Arc<Ruleset>> {
+    let program = program(alloc, THE_LAST, 64)?;
+    let mut apps = Vec::new(alloc);
+    for number in 0..count {
+        let appid = format!(in alloc; "app{number}")?;
+        apps.push(app(alloc, appid.as_str(), &program, 16)?)?;
+    }
+    ruleset(alloc, apps)
+}
+
+fn ruleset(alloc: Global, apps: Vec<App>) -> Result<Arc<Ruleset>> {
+    let server = String::from_str(alloc, "prod")?;
+    Ok(Arc::new(alloc, Ruleset::new(server, apps)?)?)
+}
+
+/// The program of a text, for an app with so many releases.
+fn program(alloc: Global, text: &str, releases: u8) -> Result<Arc<Verified>>
+    requires { releases ≤ 64 }
+{
+    let flow = Flow::check(alloc, &assemble(alloc, text)?)?;
+    let program = verify(alloc, flow, &Shape::plain(alloc, releases))?;
+    Ok(Arc::new(alloc, program)?)
+}
+
+/// An app with as many releases as its program has, each of so many packages.
+fn app(alloc: Global, appid: &str, program: &Arc<Verified>, packages: u8) -> Result<App, AllocError>
+    requires some { 1 ≤ packages }
+    requires few { packages ≤ 16 }
+{
+    let accepted: &Verified = program;
+    let releases = releases(alloc, accepted.shape().releases(), packages)?;
+    let program = Arc::try_clone(program).ok().ok_or(AllocError)?;
+    Ok(App::new(String::from_str(alloc, appid)?, program, releases))
+}
+
+fn releases(alloc: Global, count: u8, packages: u8) -> Result<Vec<Release>, AllocError>
+    requires some { 1 ≤ packages }
+    requires few { packages ≤ 16 }
+    ensures { IfOk result (λ releases. length releases.items ≡ count) }
+{
+    let mut releases = Vec::new(alloc);
+    for _i in 0..count {
+        releases.push(release(alloc, packages)?)?;
+    }
+    Ok(releases)
+}
+
+fn release(alloc: Global, count: u8) -> Result<Release, AllocError>
+    requires some { 1 ≤ count }
+    requires few { count ≤ 16 }
+{
+    let version = Text::new(String::from_str(alloc, "2.0.0.0")?);
+    let codebase = Text::new(String::from_str(alloc, "http://dl.example/")?);
+    Ok(Release::new(version, codebase, packages(alloc, count)?))
+}
+
+fn packages(alloc: Global, count: u8) -> Result<Vec<Package>, AllocError>
+    ensures { IfOk result (λ packages. length packages.items ≡ count) }
+{
+    let mut packages = Vec::new(alloc);
+    for _i in 0..count {
+        packages.push(package(alloc)?)?;
+    }
+    Ok(packages)
+}
+
+fn package(alloc: Global) -> Result<Package, AllocError> {
+    let name = Text::new(String::from_str(alloc, "x.bin")?);
+    let hash = Text::new(String::from_str(alloc, HASH)?);
+    Ok(Package::new(name, hash, 3, true))
+}
