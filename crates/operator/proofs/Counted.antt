@@ -1,8 +1,8 @@
 -- A pass that grew by loads of cells, and then by those of more.
-use Rattle.std.proofs.Common.{Bool, true, ◌≡◌, ℕ, zero, suc, ◌+◌, ◌<◌, ◌≤◌, List, [], ◌∷◌, ◌++◌, get_or, length, take, All, refl, ap, sym, subst, ◌∙◌, arith, append_assoc, append-nil}
+use Rattle.std.proofs.Common.{Bool, true, ◌≡◌, ℕ, ◌+◌, ◌<◌, ◌≤◌, List, [], ◌∷◌, ◌++◌, get_or, length, take, All, refl, ap, sym, subst, ◌∙◌, arith, append_assoc, append-nil}
 use Rattle.std.specs.Prelude.{if◌then◌else◌, slice_get, Some}
 use Rattle.std.proofs.lemmas.List.{take_more}
-use Rattle.std.proofs.lemmas.List.Elements.{All-append}
+use Rattle.std.proofs.lemmas.List.Elements.{All-append, All-nil, All-push}
 use Rattle.std.proofs.lemmas.List.Sums.{sum_by_more_le}
 use Rattle.std.proofs.lemmas.Option.{slice_get_read}
 use Rattle.cells.specs.Arrays.{first_cell}
@@ -44,22 +44,15 @@ within_cells arrays i array known below found =
 
 -- ---- what reads is loads alone
 
-none_of : {X : Type 0} (Of : X → Type 0) → All Of []
-none_of Of i d h = absurd (omega (arith, h))
-
-one_of : {X : Type 0} (Of : X → Type 0) (x : X) → Of x → All Of (x ∷ [])
-one_of Of x of zero d h = of
-one_of Of x of (suc i) d h = absurd (omega (arith, h))
-
 pub cells_are_loaded : {array : CellArray} {count : ℕ} {events : List CellEvent} {lines : List ℕ}
     → ReadsCells array count events lines → All IsLoad events
-cells_are_loaded no_cell = none_of IsLoad
+cells_are_loaded no_cell = All-nil IsLoad
 cells_are_loaded (one_cell {index} {events} {lines} value before) =
-    All-append IsLoad events _ (cells_are_loaded before) (one_of IsLoad _ refl)
+    All-push IsLoad events _ (cells_are_loaded before) refl
 
 pub arrays_are_loaded : {arrays : List CellArray} {events : List CellEvent} {lines : List ℕ}
     → ReadsArrays arrays events lines → All IsLoad events
-arrays_are_loaded no_array = none_of IsLoad
+arrays_are_loaded no_array = All-nil IsLoad
 arrays_are_loaded (one_array {arrays} {before} {events} first next) =
     All-append IsLoad before events (arrays_are_loaded first) (cells_are_loaded next)
 
@@ -105,8 +98,7 @@ module _ {P : Type 0} (grew : P → CellEvent → P → Type 0) where
       record {
         events = before.events ++ e ∷ [];
         grown = snoc p before.events m e q before.grown step;
-        of = All-append IsLoad before.events (e ∷ []) (cells_are_loaded before.of.reads)
-            (one_of IsLoad e refl);
+        of = All-push IsLoad before.events e (cells_are_loaded before.of.reads) refl;
       }
 
   -- ---- array after array

@@ -1,5 +1,6 @@
 pub mod Request
 pub mod Texts
+pub mod Replies
 pub mod Control
 pub mod Counters
 pub mod Perform

@@ -6,15 +6,20 @@ use crate::loader::Loader;
 use crate::reply::Reply;
 use cells::CellSteps;
 use std::fmt::Display;
-use std::io;
 use std::net::{TcpListener, TcpStream};
 use std::sync::Wait;
 use std::time::{Clock, Duration, Instant};
+use std::{io, thread};
 use workers::{Timed, drain};
+
+/// How long nothing is accepted after a connection that couldn't be.
+const PAUSE_MILLIS: u64 = 10;
 
 /// Answers connections until one has asked to stop; that the server ends is for the caller to see
 /// to. The line of a connection has to come within the limit of time, and its reply to be taken
-/// within the same again, since a load may last. A connection that fails is passed over.
+/// within the same again, since a load may last. A connection that fails is passed over; after one
+/// that can't be accepted the thread sleeps, since the next can't be either where file descriptors
+/// have run out.
 pub fn operate<H, L, C>(
     rt: &H,
     listener: &TcpListener,
@@ -33,6 +38,7 @@ where
 {
     for stream in listener.incoming() {
         let Ok(stream) = stream else {
+            thread::sleep(rt, Duration::from_millis(PAUSE_MILLIS));
             continue;
         };
         if attend(rt, &stream, loader, &mut control, cells, &mut pass, timeout) {
