@@ -10,7 +10,7 @@ use cells::CellsFault;
 use flow_check::FlowFault;
 use rule_compile::CompileFault;
 use rule_lang::RuleFault;
-use serving::{ManifestFault, Server};
+use serving::{LoaderFault, Server};
 use std::fmt;
 
 /// Why a request is refused.
@@ -35,7 +35,7 @@ pub enum Fault {
     /// V1 to V15: the verifier doesn't accept the program.
     Rule(Refusal),
     /// B3, B4, M1 to M8: the manifest of a server comes to no ruleset.
-    Manifest(ManifestFault),
+    Manifest(LoaderFault),
     /// B1: no line says what the operator asks.
     Word,
     /// B5: nobody answers at the operator's port.

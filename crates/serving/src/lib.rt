@@ -5,15 +5,15 @@
 //! told by a flag and woken by one more connection.
 #![tactic(auto)]
 
-mod crew;
 mod fault;
 mod manifests;
 mod ports;
 mod running;
 mod server;
+mod worker_list;
 
 pub use fault::ServingFault;
-pub use manifests::{ManifestFault, Manifests};
+pub use manifests::{LoaderFault, Manifests};
 pub use ports::{Ports, bind};
 pub use running::run;
 pub use server::{PrepareFault, Server, prepare};

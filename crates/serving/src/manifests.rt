@@ -15,7 +15,7 @@ const MANIFEST_LIMIT: usize = 0x10_0001;
 
 /// Why there is no ruleset.
 #[derive(Debug, Drop, Error)]
-pub enum ManifestFault {
+pub enum LoaderFault {
     /// The manifest can't be read.
     #[error("B3 File")]
     File,
@@ -43,7 +43,7 @@ impl<'a, R> Manifests<'a, R> {
 impl<'a, R: Files + AllocGlobal> Loader for Manifests<'a, R> {
     ghost use Rattle.serving.specs.Manifests.{LoadsSome};
 
-    type Fault = ManifestFault;
+    type Fault = LoaderFault;
 
     ghost loads = { λ _ _. LoadsSome };
 
@@ -52,18 +52,18 @@ impl<'a, R: Files + AllocGlobal> Loader for Manifests<'a, R> {
         alloc: Global,
         path: &str,
         directory: &mut Directory,
-    ) -> Result<Ruleset, ManifestFault> {
+    ) -> Result<Ruleset, LoaderFault> {
         let bytes = match read_manifest(self.rt, path) {
             Ok(bytes) => bytes,
             Err(error) if error.kind() == ErrorKind::OutOfMemory => {
-                return Err(ManifestFault::Memory);
+                return Err(LoaderFault::Memory);
             }
-            Err(_) => return Err(ManifestFault::File),
+            Err(_) => return Err(LoaderFault::File),
         };
         let mut files = FolderFiles::beside(self.rt, path);
         match load_ruleset(alloc, &bytes, &mut files, directory) {
             Ok(rules) => Ok(rules),
-            Err(fault) => Err(ManifestFault::Load(fault)),
+            Err(fault) => Err(LoaderFault::Load(fault)),
         }
     }
 }

@@ -1,26 +1,32 @@
 // The ports of a server. Both are on loopback.
 
+ghost use Rattle.std.specs.Prelude.{◌≡◌, IfErr};
+
 use crate::fault::ServingFault;
 use std::net::{Ipv4Addr, Net, SocketAddr, TcpListener, TcpStream};
 
-/// The two ports, which listen, and the address of the first.
+/// The two ports, which listen, and their addresses.
 #[derive(Drop)]
 pub struct Ports {
     pub(crate) service: TcpListener,
     pub(crate) operator: TcpListener,
-    pub(crate) door: SocketAddr,
-    pub(crate) back_door: SocketAddr,
+    pub(crate) service_address: SocketAddr,
+    pub(crate) operator_address: SocketAddr,
 }
 
 impl Ports {
     /// Where clients post their requests.
-    pub fn service(&self) -> SocketAddr {
-        self.door
+    pub fn service(&self) -> SocketAddr
+        ensures { result ≡ self.now.service_address }
+    {
+        self.service_address
     }
 
     /// Where the operator asks.
-    pub fn operator(&self) -> SocketAddr {
-        self.back_door
+    pub fn operator(&self) -> SocketAddr
+        ensures { result ≡ self.now.operator_address }
+    {
+        self.operator_address
     }
 }
 
@@ -28,20 +34,22 @@ impl Ports {
 pub fn bind<H>(rt: &H, service: u16, operator: u16) -> Result<Ports, ServingFault>
 where
     H: Net<Listener = TcpListener, Stream = TcpStream>,
+    ensures { IfErr result (λ e. e ≡ ServingFault.Bind) }
 {
-    let (service, door) = bind_one(rt, service)?;
-    let (operator, back_door) = bind_one(rt, operator)?;
+    let (service, service_address) = bind_one(rt, service)?;
+    let (operator, operator_address) = bind_one(rt, operator)?;
     Ok(Ports {
         service,
         operator,
-        door,
-        back_door,
+        service_address,
+        operator_address,
     })
 }
 
 fn bind_one<H>(rt: &H, port: u16) -> Result<(TcpListener, SocketAddr), ServingFault>
 where
     H: Net<Listener = TcpListener, Stream = TcpStream>,
+    ensures { IfErr result (λ e. e ≡ ServingFault.Bind) }
 {
     let Ok(listener) = TcpListener::bind(rt, (Ipv4Addr::LOCALHOST, port)) else {
         return Err(ServingFault::Bind);

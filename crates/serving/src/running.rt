@@ -2,9 +2,9 @@
 
 ghost use Rattle.std.specs.Prelude.{◌≤◌, All};
 
-use crate::crew::crew;
 use crate::fault::ServingFault;
 use crate::ports::Ports;
+use crate::worker_list::worker_list;
 use cells::{CellSteps, Directory};
 use hot_swap::{Publisher, Watcher};
 use locked_cells::LockedCells;
@@ -51,7 +51,7 @@ where
     let Ok(cells) = LockedCells::new(rt.alloc(), rt) else {
         return Err(ServingFault::Memory);
     };
-    let crew = crew(rt.alloc(), &cells, &mut publisher, workers)?;
+    let workers = worker_list(rt.alloc(), &cells, &mut publisher, workers)?;
     let control = Control::new(publisher, directory);
     run_both(
         rt,
@@ -60,7 +60,7 @@ where
         control,
         &cells,
         cells.pass(),
-        crew,
+        workers,
         service,
     )
 }
@@ -73,7 +73,7 @@ fn run_both<H, L, C>(
     control: Control,
     cells: &C,
     pass: C::Pass,
-    crew: Vec<(C::Pass, Watcher)>,
+    workers: Vec<(C::Pass, Watcher)>,
     service: Service,
 ) -> Result<(), ServingFault>
 where
@@ -89,21 +89,21 @@ where
     C: CellSteps + Sync,
     C::Pass: Send + Drop,
     requires pass { C.belongs cells.now pass }
-    requires crew { All (λ worker. C.belongs cells.now worker.0) crew.items }
+    requires workers { All (λ worker. C.belongs cells.now worker.0) workers.items }
 {
     let stop = AtomicBool::new(false);
     let Ports {
         service: listener,
         operator,
-        door,
-        back_door,
+        service_address,
+        operator_address,
     } = ports;
     thread::scope(
         thread::scope_env(),
         rt,
         |scope|
             requires pass { C.belongs cells.now pass }
-            requires crew { All (λ worker. C.belongs cells.now worker.0) crew.items }
+            requires workers { All (λ worker. C.belongs cells.now worker.0) workers.items }
         {
             let flag = &stop;
             let job = move ||
@@ -111,15 +111,15 @@ where
             {
                 operate(rt, &operator, loader, control, cells, pass, service.timeout);
                 flag.store(true, Ordering::SeqCst);
-                let _last = TcpStream::connect(rt, door);
+                let _last = TcpStream::connect(rt, service_address);
             };
             if scope.spawn(job).is_err() {
                 return Err(ServingFault::Memory);
             }
-            match serve(rt, &Open, listener, cells, crew, flag, service) {
+            match serve(rt, &Open, listener, cells, workers, flag, service) {
                 Ok(()) => Ok(()),
                 Err(_) => {
-                    let _stopped = ask(rt, back_door.port(), "stop");
+                    let _stopped = ask(rt, operator_address.port(), "stop");
                     Err(ServingFault::Memory)
                 }
             }

@@ -1,10 +1,10 @@
 // From a manifest's path to the end of the server.
 
-ghost use Rattle.std.specs.Prelude.{◌≤◌, [], IfOk};
-ghost use Rattle.serving.specs.Manifests.{LoadsSome};
+ghost use Rattle.std.specs.Prelude.{◌≡◌, ◌≤◌, [], IfOk, IfErr};
+ghost use Rattle.serving.specs.Manifests.{LoadsSome, RefusesToServe};
 
 use crate::fault::ServingFault;
-use crate::manifests::{ManifestFault, Manifests};
+use crate::manifests::{LoaderFault, Manifests};
 use crate::ports::{Ports, bind};
 use crate::running::run;
 use cells::Directory;
@@ -23,7 +23,7 @@ use workers::Service;
 pub enum PrepareFault {
     /// Its manifest comes to no ruleset.
     #[error("{0}")]
-    Manifest(ManifestFault),
+    Manifest(LoaderFault),
     /// A port can't be bound.
     #[error("{0}")]
     Port(ServingFault),
@@ -41,7 +41,8 @@ pub struct Server {
 pub fn prepare<H>(rt: &H, path: &str, service: u16, operator: u16) -> Result<Server, PrepareFault>
 where
     H: Files + AllocGlobal + Net<Listener = TcpListener, Stream = TcpStream>,
-    ensures { IfOk result (λ r. LoadsSome [] (Ok r.rules) r.directory) }
+    ensures loaded { IfOk result (λ r. LoadsSome [] (Ok r.rules) r.directory) }
+    ensures refused { IfErr result RefusesToServe }
 {
     let mut directory = Directory::new(rt.alloc());
     let rules = match Manifests::of(rt).load(rt.alloc(), path, &mut directory) {
@@ -60,7 +61,9 @@ where
 
 impl Server {
     /// The two ports.
-    pub fn ports(&self) -> &Ports {
+    pub fn ports(&self) -> &Ports
+        ensures { result.now ≡ self.now.ports }
+    {
         &self.ports
     }
 

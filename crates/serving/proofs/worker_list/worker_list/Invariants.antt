@@ -1,5 +1,5 @@
 use Rattle.std.proofs.Common.{◌≡◌, length}
-use Rattle.serving.proofs.crew.crew.Given as goal
+use Rattle.serving.proofs.worker_list.worker_list.Given as goal
 
 -- a worker each time, and the publisher shows what it did
 abbrev pub invariant-loop : goal.invariant-loop

@@ -9,7 +9,7 @@ use std::alloc::Global;
 use std::sync::Wait;
 
 /// So many workers of these cells, which watch this publisher.
-pub(crate) fn crew<R: Wait + Drop>(
+pub(crate) fn worker_list<R: Wait + Drop>(
     alloc: Global,
     cells: &LockedCells<R>,
     publisher: &mut Publisher,
