@@ -1,0 +1,4 @@
+mod Listed
+mod Nth
+mod Once
+mod Passing

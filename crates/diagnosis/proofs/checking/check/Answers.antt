@@ -1,0 +1,12 @@
+use Rattle.std.proofs.Common.{inl}
+use Rattle.load.specs.Load.IsLoadFault.{of_bytes}
+use Rattle.diagnosis.proofs.Passing.{passes}
+use Rattle.diagnosis.proofs.checking.check.Goals as goal
+
+pub returns-in-Ok-tell_accepted-clause-passes : goal.returns-in-Ok-tell_accepted-clause-passes
+returns-in-Ok-tell_accepted-clause-passes g c =
+    passes _ _ _ _ _ _ _ _ c.new-directory.ensures c.in-Ok.ensures.loads c.arrays.ensures.arrays
+    c.apps.ensures c.in-Ok-tell_accepted.ensures
+
+pub returns-clause-fails : goal.returns-clause-fails
+returns-clause-fails g c = record { refused = of_bytes tt; told = inl c.new.ensures.bytes }

@@ -1,0 +1,22 @@
+-- What comes of the check of a manifest, which is loaded over no arrays.
+use Rattle.std.specs.Prelude.{◌≡◌, ◌⊎◌, ℕ, List, []}
+use Rattle.cells.specs.declared.array.CellArray.{CellArray}
+use Rattle.diagnosis.specs.Reason.{IsReason}
+use Rattle.diagnosis.specs.Texts.{accepted_text}
+use Rattle.load.specs.Files.{Known}
+use Rattle.load.specs.Load.{IsRulesetOf, IsLoadFault}
+use Rattle.load.specs.declared.fault.LoadFault.{LoadFault}
+use Rattle.ruleset.specs.Rules.{Rules}
+
+module _ (known : Known) (bytes : List ℕ) where
+  -- it comes to a ruleset, and this is told of its arrays and its apps
+  pub record Passes (text : List ℕ) : Type 0 where
+    pub rules : Rules
+    pub arrays : List CellArray
+    pub loaded : IsRulesetOf known [] bytes rules arrays
+    pub text_is : text ≡ accepted_text loaded.manifest.arrays rules.apps
+
+  -- it has this fault, and this is told of where and why, if not for want of memory nothing
+  pub record Fails (fault : LoadFault) (reason : List ℕ) : Type 0 where
+    pub refused : IsLoadFault known [] bytes fault
+    pub told : (reason ≡ []) ⊎ IsReason known bytes fault reason

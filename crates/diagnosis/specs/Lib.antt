@@ -1,0 +1,4 @@
+pub mod Texts
+pub mod Shown
+pub mod Reason
+pub mod Check

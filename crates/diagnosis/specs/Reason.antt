@@ -1,0 +1,77 @@
+-- Where and why a manifest is refused.
+use Rattle.std.specs.Prelude.{◌≡◌, ℕ, ◌-◌, List, [], ◌++◌, codes, slice_get, Some, Ok}
+use Rattle.cells.specs.Directory.{Declaration}
+use Rattle.diagnosis.specs.declared.shown.Place.{Place}
+use Rattle.diagnosis.specs.declared.shown.Place.TheVariants.{Whole, Slot, Line}
+use Rattle.diagnosis.specs.Shown.{Shows}
+use Rattle.diagnosis.specs.Texts.{line, file_line, cells_line}
+use Rattle.load.specs.Files.{Known}
+use Rattle.load.specs.Source.{file_of}
+use Rattle.load.specs.declared.fault.LoadFault.{LoadFault}
+use Rattle.load.specs.declared.fault.LoadFault.TheVariants.{Toml, Field, Duplicate, Cells, File}
+use Rattle.load.specs.declared.fault.LoadFault.TheVariants.{Program, Rule, Memory}
+use Rattle.load.specs.declared.fault.ProgramFault.{ProgramFault}
+use Rattle.load.specs.declared.fault.ProgramFault.TheVariants.{Flow, Verify}
+use Rattle.load.specs.declared.fault.RuleTextFault.{RuleTextFault}
+use Rattle.load.specs.declared.fault.RuleTextFault.TheVariants as rule
+use Rattle.manifest.specs.App.{AppEntry}
+use Rattle.manifest.specs.Manifest.{Manifest, Reads}
+use Rattle.manifest.specs.Texts.{misfit_text, twice_text}
+use Rattle.manifest.specs.declared.fault.TomlFault.{TomlFault}
+use Rattle.manifest.specs.declared.fault.TomlFault.TheVariants as toml
+
+-- ---- entries by their numbers, from 1
+
+abbrev pub IsArrayAt : List ℕ → ℕ → Declaration → Type 0
+IsArrayAt bytes number array = (manifest : Manifest) × Reads bytes (Ok manifest)
+    × (slice_get manifest.arrays (number - 1) ≡ Some array)
+
+abbrev pub IsAppAt : List ℕ → ℕ → AppEntry → Type 0
+IsAppAt bytes number app = (manifest : Manifest) × Reads bytes (Ok manifest)
+    × (slice_get manifest.apps (number - 1) ≡ Some app)
+
+-- ---- faults of the manifest's bytes, and of its arrays
+
+-- of what the reader of TOML says nothing is promised
+abbrev pub IsTomlReason : TomlFault → List ℕ → Type 0
+IsTomlReason toml.TooLong text = text ≡ line (codes "more than 1048576 bytes")
+IsTomlReason (toml.Text error) text = Unit {0}
+
+abbrev pub IsCellsReason : List ℕ → ℕ → List ℕ → Type 0
+IsCellsReason bytes number text =
+    (array : Declaration) × IsArrayAt bytes number array × (text ≡ cells_line number array.name)
+
+-- ---- faults of files
+
+-- where the fault of a program lies in its file, and that of a rule
+abbrev pub slot_of : ProgramFault → Place
+slot_of (Flow slot fault) = Slot slot
+slot_of (Verify slot fault) = Slot slot
+
+abbrev pub line_of : RuleTextFault → Place
+line_of (rule.Text number kind) = Line number
+line_of rule.TooLong = Whole
+
+-- the name of the file, and what is shown of it
+pub record IsTold (known : Known) (number : ℕ) (place : Place) (app : AppEntry) (text : List ℕ)
+    : Type 0 where
+  pub place_text : List ℕ
+  pub shows : Shows known (file_of app.source) place place_text
+  pub text_is : text ≡ file_line number app.source ++ place_text
+
+module _ (known : Known) (bytes : List ℕ) where
+  -- of the app of this number
+  abbrev pub IsFileReason : ℕ → Place → List ℕ → Type 0
+  IsFileReason number place text =
+      (app : AppEntry) × IsAppAt bytes number app × IsTold known number place app text
+
+  -- the lines beside a refusal
+  abbrev pub IsReason : LoadFault → List ℕ → Type 0
+  IsReason (Toml fault) text = IsTomlReason fault text
+  IsReason (Field misfit) text = text ≡ line (misfit_text misfit)
+  IsReason (Duplicate twice) text = text ≡ twice_text twice ++ codes " stands twice\n"
+  IsReason (Cells number fault) text = IsCellsReason bytes number text
+  IsReason (File number) text = IsFileReason number Whole text
+  IsReason (Program number fault) text = IsFileReason number (slot_of fault) text
+  IsReason (Rule number fault) text = IsFileReason number (line_of fault) text
+  IsReason Memory text = text ≡ []

@@ -1,0 +1,56 @@
+-- The lines that are told of a manifest, each ended by a line feed.
+use Rattle.std.specs.Prelude.{ℕ, List, ◌++◌, length, codes, decimal, flat_map}
+use Rattle.cells.specs.Directory.{Declaration, declaration}
+use Rattle.cells.specs.declared.array.CellArray.{CellArray}
+use Rattle.declarations.specs.Texts.{declaration_text}
+use Rattle.load.specs.Source.{file_of}
+use Rattle.manifest.specs.declared.app.Source.{Source}
+use Rattle.manifest.specs.declared.app.Source.TheVariants.{Program, Rule}
+use Rattle.ruleset.specs.Rules.{AppRule}
+
+abbrev pub line : List ℕ → List ℕ
+line text = text ++ codes "\n"
+
+-- ---- of a manifest that is accepted
+
+-- an array as a command line declares it
+abbrev pub array_line : Declaration → List ℕ
+array_line d = line (codes "array " ++ declaration_text d)
+
+abbrev pub app_line : AppRule → List ℕ
+app_line app = line (codes "app " ++ app.appid
+    ++ codes " releases " ++ decimal (length app.releases)
+    ++ codes " slots " ++ decimal (length app.program.code))
+
+-- a line an array, and then a line an app
+abbrev pub accepted_text : List Declaration → List AppRule → List ℕ
+accepted_text arrays apps = flat_map array_line arrays ++ flat_map app_line apps
+
+-- an array of a directory as it was declared
+abbrev pub as_declared : CellArray → Declaration
+as_declared a = declaration a.name a.width a.length a.quota
+
+abbrev pub declared_line : CellArray → List ℕ
+declared_line a = array_line (as_declared a)
+
+abbrev pub loaded_text : List CellArray → List AppRule → List ℕ
+loaded_text arrays apps = flat_map declared_line arrays ++ flat_map app_line apps
+
+-- ---- of one that is refused: the path of a member, in which tables are numbered from 1
+
+abbrev pub source_key : Source → List ℕ
+source_key (Program file) = codes "program"
+source_key (Rule file) = codes "rule"
+
+-- the name of an app's file
+abbrev pub file_line : ℕ → Source → List ℕ
+file_line number source = line (codes "app[" ++ decimal number ++ codes "]." ++ source_key source
+    ++ codes ": " ++ file_of source)
+
+unfoldable pub passes_cells : List ℕ
+passes_cells = codes "passes the 4096 cells that all arrays of a width have"
+
+-- an array for which too few cells are left
+abbrev pub cells_line : ℕ → List ℕ → List ℕ
+cells_line number name = line (codes "array[" ++ decimal number ++ codes "].length: " ++ name
+    ++ codes " " ++ passes_cells)

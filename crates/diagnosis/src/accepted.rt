@@ -1,0 +1,77 @@
+// What is told of a manifest that is accepted.
+
+ghost use Rattle.std.specs.Prelude.{◌≡◌, ◌++◌, flat_map, IfOk, OnOk, string_bytes};
+ghost use Rattle.declarations.specs.Texts as declarations;
+ghost use Rattle.diagnosis.specs.Texts.{app_line, declared_line, loaded_text};
+
+use bpf_verify::Verified;
+use cells::{CellArray, CellWidth};
+use ruleset::App;
+use std::alloc::{AllocError, Global};
+use std::fmt::Write;
+
+/// A line an array, and then a line an app.
+pub(crate) fn tell_accepted(
+    alloc: Global,
+    arrays: &[CellArray],
+    apps: &[App],
+) -> Result<String, AllocError>
+    ensures { IfOk result (λ text. string_bytes text ≡ loaded_text arrays.now apps.now) }
+{
+    let mut text = String::new(alloc);
+    tell_arrays(&mut text, arrays)?;
+    tell_apps(&mut text, apps)?;
+    Ok(text)
+}
+
+fn tell_arrays(text: &mut String, arrays: &[CellArray]) -> Result<(), AllocError>
+    ensures { OnOk result
+        (string_bytes text.new ≡ string_bytes text.old ++ flat_map declared_line arrays.now) }
+{
+    for array in arrays {
+        tell_array(text, array)?;
+    }
+    Ok(())
+}
+
+fn tell_array(text: &mut String, array: &CellArray) -> Result<(), AllocError>
+    ensures { OnOk result
+        (string_bytes text.new ≡ string_bytes text.old ++ declared_line array.now) }
+{
+    let name = array.name.as_str();
+    let width = width_text(array.width);
+    let length = array.length;
+    match array.quota {
+        None => writeln!(text, "array {name}:{width}:{length}"),
+        Some(quota) => writeln!(text, "array {name}:{width}:{length}:{quota}"),
+    }
+}
+
+fn width_text(width: CellWidth) -> &'static str
+    ensures { result.now ≡ declarations.width_text width }
+{
+    match width {
+        CellWidth::Bits32 => "32",
+        CellWidth::Bits64 => "64",
+    }
+}
+
+fn tell_apps(text: &mut String, apps: &[App]) -> Result<(), AllocError>
+    ensures { OnOk result
+        (string_bytes text.new ≡ string_bytes text.old ++ flat_map app_line apps.now) }
+{
+    for app in apps {
+        tell_app(text, app)?;
+    }
+    Ok(())
+}
+
+fn tell_app(text: &mut String, app: &App) -> Result<(), AllocError>
+    ensures { OnOk result (string_bytes text.new ≡ string_bytes text.old ++ app_line app.now) }
+{
+    let program: &Verified = app.program();
+    let appid = app.appid();
+    let releases = app.releases().len();
+    let slots = program.len();
+    writeln!(text, "app {appid} releases {releases} slots {slots}")
+}

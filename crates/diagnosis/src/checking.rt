@@ -1,0 +1,65 @@
+//! From the bytes of a manifest to what is told of them.
+
+ghost use Rattle.std.specs.Prelude.{◌≡◌, ◌^◌, ◌-◌, ◌<◌, IfOk, IfErr, string_bytes};
+ghost use Rattle.diagnosis.specs.Check.{Fails, Passes};
+
+use crate::accepted::tell_accepted;
+use crate::reason::reason_of;
+use cells::Directory;
+use load::{Files, LoadFault, load_ruleset};
+use std::alloc::Global;
+
+/// Why a manifest is refused, and where.
+#[derive(Debug, Drop)]
+pub struct Refused {
+    /// The fault that the load of the manifest has.
+    pub fault: LoadFault,
+    /// Lines, each ended by a line feed. There are none where memory for them was refused.
+    pub reason: String,
+}
+
+/// Checks a manifest: it is loaded with its files, into a directory of its own.
+///
+/// Of one that is accepted the text has a line an array, in its order, as `array q:64:1:2` (a quota
+/// comes last, where there is one), and then a line an app: `app APPID releases R slots S`. Lines
+/// are ended by a line feed.
+///
+/// Of one that is refused the reason begins with the path of a member and what is wanted there, in
+/// which tables of a list are numbered from 1:
+///
+/// - M1: that the bytes are too many, or what the crate `toml` says, of which nothing is promised.
+/// - M2: `app[2].release[1].size: a whole number from 0 to 9007199254740991`.
+/// - M3: `array q stands twice` or `app x stands twice`.
+/// - M4 to M6: `app[1].rule: x.rule`, the name of the file as the manifest has it. Where M6 has a
+///   line, the line follows with its text, as `line 2: count q[0];`, which is empty at the text's
+///   end. Where M5 has a slot at which an instruction begins, it follows as it is listed:
+///   `slot 1: exit`. The file is read once more for that line, which is left out where it can't be
+///   read again; and a device may give other bytes than before.
+/// - M7: `array[2].length: r passes the 4096 cells that all arrays of a width have`.
+///
+/// M8 comes where memory for the load or for the text of an accepted manifest is refused. Where it
+/// is refused for the reason, the reason is left out, in whole or but for the file's name.
+pub fn check<F: Files>(alloc: Global, manifest: &[u8], files: &mut F) -> Result<String, Refused>
+    requires { F.failed files.old < 2 ^ 64 - 2 }
+    ensures known { F.known files.new ≡ F.known files.old }
+    ensures passes { IfOk result (λ text.
+        Passes (F.known files.old) manifest.now (string_bytes text)) }
+    ensures fails { IfErr result (λ r.
+        Fails (F.known files.old) manifest.now r.fault (string_bytes r.reason)) }
+{
+    let mut directory = Directory::new(alloc);
+    let rules = match load_ruleset(alloc, manifest, files, &mut directory) {
+        Ok(rules) => rules,
+        Err(fault) => {
+            let reason = reason_of(alloc, manifest, files, &fault);
+            return Err(Refused { fault, reason });
+        }
+    };
+    match tell_accepted(alloc, directory.arrays(), rules.apps()) {
+        Ok(text) => Ok(text),
+        Err(_) => Err(Refused {
+            fault: LoadFault::Memory,
+            reason: String::new(alloc),
+        }),
+    }
+}

@@ -1,0 +1,103 @@
+// The file of an app, and the place in it at which its fault lies.
+
+ghost use Rattle.std.specs.Prelude.{◌≡◌, ◌^◌, ◌-◌, ◌<◌, ◌++◌, OnOk, IfSome, string_bytes};
+ghost use Rattle.diagnosis.specs.Reason.{IsFileReason, IsTold};
+ghost use Rattle.diagnosis.specs.Shown.{Shows};
+ghost use Rattle.diagnosis.specs.Texts.{file_line, source_key};
+ghost use Rattle.load.specs.Source as specs;
+
+use crate::shown::{Place, show};
+use load::Files;
+use manifest::{AppEntry, Source, read_manifest};
+use std::alloc::{AllocError, Global};
+use std::fmt::Write;
+
+/// The name of the file of the app of this number, and its place; None where memory is refused.
+pub(crate) fn tell_file<F: Files>(
+    alloc: Global,
+    manifest: &[u8],
+    files: &mut F,
+    app: usize,
+    place: Place,
+) -> Option<String>
+    requires { F.failed files.old < 2 ^ 64 - 1 }
+    ensures known { F.known files.new ≡ F.known files.old }
+    ensures told { IfSome result (λ text.
+        IsFileReason (F.known files.old) manifest.now app place (string_bytes text)) }
+{
+    let Ok(manifest) = read_manifest(alloc, manifest) else {
+        return None;
+    };
+    let Some(entry) = manifest.apps().get(app.saturating_sub(1)) else {
+        return None;
+    };
+    tell_entry(alloc, files, app, place, entry)
+}
+
+fn tell_entry<F: Files>(
+    alloc: Global,
+    files: &mut F,
+    app: usize,
+    place: Place,
+    entry: &AppEntry,
+) -> Option<String>
+    requires { F.failed files.old < 2 ^ 64 - 1 }
+    ensures known { F.known files.new ≡ F.known files.old }
+    ensures told { IfSome result (λ text.
+        IsTold (F.known files.old) app place entry.now (string_bytes text)) }
+{
+    let mut text = String::new(alloc);
+    let Ok(()) = tell_name(&mut text, app, entry.source()) else {
+        return None;
+    };
+    let shown = show_again(alloc, files, entry.source(), place);
+    match text.push_str(shown.as_str()) {
+        Ok(()) => Some(text),
+        Err(_) => None,
+    }
+}
+
+fn tell_name(text: &mut String, app: usize, source: &Source) -> Result<(), AllocError>
+    ensures { OnOk result
+        (string_bytes text.new ≡ string_bytes text.old ++ file_line app source.now) }
+{
+    let key = key_of(source);
+    let file = file_of(source);
+    writeln!(text, "app[{app}].{key}: {file}")
+}
+
+fn key_of(source: &Source) -> &'static str
+    ensures { result.now ≡ source_key source.now }
+{
+    match source {
+        Source::Program(_) => "program",
+        Source::Rule(_) => "rule",
+    }
+}
+
+// The place in the file, which is read once more.
+fn show_again<F: Files>(alloc: Global, files: &mut F, source: &Source, place: Place) -> String
+    requires { F.failed files.old < 2 ^ 64 - 1 }
+    ensures known { F.known files.new ≡ F.known files.old }
+    ensures shows { Shows (F.known files.old) (specs.file_of source.now) place (string_bytes result) }
+{
+    if place == Place::Whole {
+        return String::new(alloc);
+    }
+    let Ok(bytes) = files.bytes(file_of(source)) else {
+        return String::new(alloc);
+    };
+    match show(alloc, place, bytes.as_slice()) {
+        Some(text) => text,
+        None => String::new(alloc),
+    }
+}
+
+fn file_of(source: &Source) -> &str
+    ensures { result.now ≡ specs.file_of source.now }
+{
+    match source {
+        Source::Program(file) => file.as_str(),
+        Source::Rule(file) => file.as_str(),
+    }
+}

@@ -1,0 +1,18 @@
+//! The check of a manifest, for the person who writes it: what an accepted one declares, and of a
+//! refused one where it is wrong and why.
+#![tactic(auto)]
+
+// How a manifest is checked. It is loaded over no arrays, as a server's first manifest is, and the
+// fault is the load's own. A fault of the manifest's bytes holds its reason already: what the
+// reader of TOML says, the member that doesn't fit, or the name that stands twice. All others have
+// a number, of an array or an app. So the manifest is read once more to find the entry of that
+// number, and where the fault lies in an app's file, that file is read once more to show the line
+// of the rule, or the instruction of the program, at which it lies.
+
+mod accepted;
+mod checking;
+mod file;
+mod reason;
+mod shown;
+
+pub use checking::{Refused, check};

@@ -1,0 +1,117 @@
+// Where and why a manifest is refused.
+
+ghost use Rattle.std.specs.Prelude.{◌≡◌, ◌^◌, ◌-◌, ◌<◌, ◌++◌, ◌⊎◌, [], OnOk, IfSome, string_bytes};
+ghost use Rattle.diagnosis.specs.Reason.{IsCellsReason, IsReason, IsTomlReason};
+ghost use Rattle.diagnosis.specs.Reason as specs;
+ghost use Rattle.diagnosis.specs.Texts.{cells_line};
+ghost use Rattle.diagnosis.specs.Texts as texts;
+
+use crate::file::tell_file;
+use crate::shown::Place;
+use load::{Files, LoadFault, ProgramFault, RuleTextFault};
+use manifest::{TomlFault, read_manifest};
+use std::alloc::{AllocError, Global};
+use std::fmt::Write;
+
+/// The lines beside the refusal of a manifest; none where memory for them is refused.
+pub(crate) fn reason_of<F: Files>(
+    alloc: Global,
+    manifest: &[u8],
+    files: &mut F,
+    fault: &LoadFault,
+) -> String
+    requires { F.failed files.old < 2 ^ 64 - 1 }
+    ensures known { F.known files.new ≡ F.known files.old }
+    ensures told { (string_bytes result ≡ [])
+        ⊎ IsReason (F.known files.old) manifest.now fault.now (string_bytes result) }
+{
+    match tell_reason(alloc, manifest, files, fault) {
+        Some(text) => text,
+        None => String::new(alloc),
+    }
+}
+
+fn tell_reason<F: Files>(
+    alloc: Global,
+    manifest: &[u8],
+    files: &mut F,
+    fault: &LoadFault,
+) -> Option<String>
+    requires { F.failed files.old < 2 ^ 64 - 1 }
+    ensures known { F.known files.new ≡ F.known files.old }
+    ensures told { IfSome result (λ text.
+        IsReason (F.known files.old) manifest.now fault.now (string_bytes text)) }
+{
+    match fault {
+        LoadFault::Toml(fault) => tell_toml(alloc, fault),
+        LoadFault::Field(misfit) => format!(in alloc; "{misfit}\n").ok(),
+        LoadFault::Duplicate(twice) => format!(in alloc; "{twice} stands twice\n").ok(),
+        LoadFault::File { app } => tell_file(alloc, manifest, files, *app, Place::Whole),
+        LoadFault::Program { app, fault } => {
+            tell_file(alloc, manifest, files, *app, slot_of(*fault))
+        }
+        LoadFault::Rule { app, fault } => tell_file(alloc, manifest, files, *app, line_of(*fault)),
+        LoadFault::Cells { array, .. } => tell_array(alloc, manifest, *array),
+        LoadFault::Memory => None,
+    }
+}
+
+// What the reader of TOML says ends its own lines.
+fn tell_toml(alloc: Global, fault: &TomlFault) -> Option<String>
+    ensures { IfSome result (λ text. IsTomlReason fault.now (string_bytes text)) }
+{
+    match fault {
+        TomlFault::TooLong => format!(in alloc; "{fault}\n").ok(),
+        TomlFault::Text(error) => format!(in alloc; "{error}").ok(),
+    }
+}
+
+fn slot_of(fault: ProgramFault) -> Place
+    ensures { result ≡ specs.slot_of fault }
+{
+    match fault {
+        ProgramFault::Flow { slot, .. } => Place::Slot(slot),
+        ProgramFault::Verify { slot, .. } => Place::Slot(slot),
+    }
+}
+
+fn line_of(fault: RuleTextFault) -> Place
+    ensures { result ≡ specs.line_of fault }
+{
+    match fault {
+        RuleTextFault::Text { line, .. } => Place::Line(line),
+        RuleTextFault::TooLong => Place::Whole,
+    }
+}
+
+// The array of this number, for which too few cells are left.
+fn tell_array(alloc: Global, manifest: &[u8], number: usize) -> Option<String>
+    ensures { IfSome result (λ text. IsCellsReason manifest.now number (string_bytes text)) }
+{
+    let Ok(manifest) = read_manifest(alloc, manifest) else {
+        return None;
+    };
+    let Some(array) = manifest.arrays().get(number.saturating_sub(1)) else {
+        return None;
+    };
+    let mut text = String::new(alloc);
+    match tell_cells(&mut text, number, array.name()) {
+        Ok(()) => Some(text),
+        Err(_) => None,
+    }
+}
+
+fn tell_cells(text: &mut String, number: usize, name: &str) -> Result<(), AllocError>
+    ensures { OnOk result
+        (string_bytes text.new ≡ string_bytes text.old ++ cells_line number name.now) }
+{
+    let passes = passes_cells();
+    writeln!(text, "array[{number}].length: {name} {passes}")
+}
+
+#[tactic(auto, unfolding(crate::specs::Texts::passes_cells))]
+fn passes_cells() -> &'static str
+    ensures { result.now ≡ texts.passes_cells }
+{
+    "passes the 4096 cells that all arrays of a width have"
+}
