@@ -1,9 +1,10 @@
-//! The programs under `examples/`, each assembled, verified and run for the apps of a table, and
-//! the rules. What is printed is compared with the file `stdout`, whose choices and counts were
-//! worked out by hand.
+//! The programs under `examples/`, each assembled, verified and run for the apps of a table, the
+//! rules, and the server's example. What is printed is compared with the file `stdout`, whose
+//! choices and counts were worked out by hand.
 #![tactic(auto)]
 
 mod rules;
+mod staged;
 
 ghost use Rattle.std.specs.Prelude.{◌<◌};
 
@@ -85,5 +86,6 @@ fn main(rt: HostRuntime) -> Result<()> {
         print!(rt; "version.bpf, version {version:?}: ")?;
         show(&rt, &by_version, Some(version), 0)?;
     }
-    rules::ask_all(&rt)
+    rules::ask_all(&rt)?;
+    staged::tell_all(&rt)
 }
