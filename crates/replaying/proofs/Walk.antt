@@ -37,7 +37,8 @@ module _ (known : Known) where
   goes_on lines i asked old between new done longer act within found grown so_far is =
       let here = rw (left lines i asked within found) at so_far in record {
         asks = λ more end are.
-            rw (grown, append_assoc done (act ∷ []) more) (here.asks (act ∷ more) end (new, is, are));
+            rw (grown, append_assoc done (act ∷ []) more)
+            (here.asks (act ∷ more) end (new, is, are));
         refuses = λ fault refused. here.refuses fault (later act new is refused);
       }
 

@@ -19,8 +19,8 @@ module _ (known : Known) (path : List ℕ) (old : List CellArray) where
     pub given : Gives known path (Some bytes)
     pub loaded : IsRulesetOf (known_beside known path) old bytes rules new
 
-  -- the file can't be read, or its bytes come to no ruleset; of want of memory nothing is said, here
-  -- and below
+  -- the file can't be read, or its bytes come to no ruleset; of want of memory nothing is said,
+  -- here and below
   abbrev pub RefusesPath : ReplayFault → Type 0
   RefusesPath File = Gives known path None
   RefusesPath (Load fault) =

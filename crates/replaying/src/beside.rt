@@ -9,7 +9,8 @@ use load::{FileFault, Files};
 use std::alloc::{AllocError, Global};
 use std::path::{Path, PathBuf};
 
-/// Files named from the folder of a manifest. A name that is an absolute path is taken as it stands.
+/// Files named from the folder of a manifest. A name that is an absolute path is taken as it
+/// stands.
 #[derive(Drop)]
 pub(crate) struct Beside<'a, D> {
     alloc: Global,

@@ -12,7 +12,7 @@ pub enum ReplayFault {
     /// Memory was refused, but to the load of a manifest (M8).
     #[error("B4 Memory")]
     Memory,
-    /// The first line of the script that says no event, from 1; of a script that isn't UTF-8 line 1.
+    /// The first line of the script that says no event, from 1; of one that isn't UTF-8 line 1.
     #[error("B2 Script at line {line}")]
     Script { line: usize },
     /// M1 to M8: a manifest and its files come to no ruleset.
