@@ -1,6 +1,8 @@
 //! A program with a counter behind a quota: which apps of a request get the release, and that no
 //! refused request takes of it.
 
+ghost use Rattle.std.specs.Prelude.{◌^◌, ◌<◌, ◌≤◌};
+
 use crate::exchange::{Server, WHOLE, exchange, post, rules_over, server_under, told};
 use crate::refusals::head_of;
 use cells::{ArrayNo, CellNo, CellWidth, Directory, Shape};
@@ -9,13 +11,16 @@ use std::sync::Wait;
 use std::test::Fail;
 
 /// Takes one of the quota q[0], which is 1, and offers the release where one was left.
-const TAKE: &str =
-    "ldcell r6, 0, 0\nmov r2, 1\nfadddw [r6+0], r2\njge r2, 1, +2\nmov r0, 1\nexit\nmov r0, 0\nexit";
+const TAKE: &str = "ldcell r6, 0, 0\nmov r2, 1\nfadddw [r6+0], r2\njge r2, 1, +2\n\
+    mov r0, 1\nexit\nmov r0, 0\nexit";
 
-/// One release, and the array q of one counter with a quota of 1.
-fn quota_of_one(alloc: Global) -> Result<Shape, Fail> {
+/// One release, and the array q of one counter with this quota.
+pub(crate) fn quota_of(alloc: Global, quota: u64) -> Result<Shape, Fail>
+    requires some { 1 ≤ quota }
+    requires few { quota < 2 ^ 63 }
+{
     let mut all = Directory::new(alloc);
-    let _number = all.declare(alloc, "q", CellWidth::Bits64, 1, Some(1))?;
+    let _number = all.declare(alloc, "q", CellWidth::Bits64, 1, Some(quota))?;
     if all.arrays().is_empty() {
         return Ok(Shape::plain(alloc, 1));
     }
@@ -23,22 +28,22 @@ fn quota_of_one(alloc: Global) -> Result<Shape, Fail> {
 }
 
 fn counting_server(alloc: Global) -> Result<Server, Fail> {
-    let shape = quota_of_one(alloc)?;
-    server_under(alloc, rules_over(alloc, TAKE, &shape)?)
+    let shape = quota_of(alloc, 1)?;
+    Ok(server_under(alloc, rules_over(alloc, TAKE, &shape)?)?)
 }
 
 /// The apps of a request: each is x, and asks for an update unless it only pings.
-const ASKS: &str = "{\"appid\":\"x\",\"updatecheck\":{}}";
+pub(crate) const ASKS: &str = "{\"appid\":\"x\",\"updatecheck\":{}}";
 
 const PINGS: &str = "{\"appid\":\"x\",\"ping\":{}}";
 
-fn request(alloc: Global, apps: &str) -> Result<Vec<u8>, Fail> {
+pub(crate) fn request(alloc: Global, apps: &str) -> Result<Vec<u8>, Fail> {
     let body = format!(in alloc; "{{\"request\":{{\"protocol\":\"3.1\",\"app\":[{apps}]}}}}")?;
     Ok(post(alloc, body.as_str())?)
 }
 
 /// What the reply has for an app that is offered the release, and for one that isn't.
-const OFFER: &str = "\"version\":\"2.0.0.0\"";
+pub(crate) const OFFER: &str = "\"version\":\"2.0.0.0\"";
 
 const NONE: &str = "\"noupdate\"";
 

@@ -5,7 +5,7 @@ ghost use Rattle.std.specs.Prelude.{◌≡◌, IfOk, length};
 use attrs::Text;
 use bpf_text::assemble;
 use bpf_verify::{Verified, verify};
-use cells::{PlainCells, PlainPass, Shape};
+use cells::{CellSteps, PlainCells, PlainPass, Shape};
 use flow_check::Flow;
 use hot_swap::{Publisher, Watcher};
 use http_front::{Counted, FailAt};
@@ -60,21 +60,21 @@ fn app_of(alloc: Global, appid: &str, program: Arc<Verified>) -> Result<App, All
     Ok(App::new(String::from_str(alloc, appid)?, program, releases))
 }
 
-fn app(alloc: Global, appid: &str, text: &str, shape: &Shape) -> Result<App, Fail> {
+fn app(alloc: Global, appid: &str, text: &str, shape: &Shape) -> anyhow::Result<App> {
     let flow = Flow::check(alloc, &assemble(alloc, text)?)?;
     let program = verify(alloc, flow, shape)?;
     Ok(app_of(alloc, appid, Arc::new(alloc, program)?)?)
 }
 
 /// The ruleset of a server `prod` that knows the app `x` of this shape, which has this program.
-pub(crate) fn rules_over(alloc: Global, text: &str, shape: &Shape) -> Result<Arc<Ruleset>, Fail> {
+pub(crate) fn rules_over(alloc: Global, text: &str, shape: &Shape) -> anyhow::Result<Arc<Ruleset>> {
     let apps = vec![in alloc; app(alloc, "x", text, shape)?]?;
     let server = String::from_str(alloc, "prod")?;
     Ok(Arc::new(alloc, Ruleset::new(server, apps)?)?)
 }
 
 /// The ruleset of a server `prod` that knows the app `x`, which has one release and this program.
-pub(crate) fn rules(alloc: Global, text: &str) -> Result<Arc<Ruleset>, Fail> {
+pub(crate) fn rules(alloc: Global, text: &str) -> anyhow::Result<Arc<Ruleset>> {
     rules_over(alloc, text, &Shape::plain(alloc, 1))
 }
 
@@ -88,12 +88,12 @@ pub(crate) struct Server {
 }
 
 /// The server whose app `x` has this program.
-pub(crate) fn server_of(alloc: Global, text: &str) -> Result<Server, Fail> {
+pub(crate) fn server_of(alloc: Global, text: &str) -> anyhow::Result<Server> {
     server_under(alloc, rules(alloc, text)?)
 }
 
 /// The server under a ruleset.
-pub(crate) fn server_under(alloc: Global, rules: Arc<Ruleset>) -> Result<Server, Fail> {
+pub(crate) fn server_under(alloc: Global, rules: Arc<Ruleset>) -> anyhow::Result<Server> {
     let mut publisher = Publisher::new(alloc, rules, 1)?;
     let watcher = publisher.watcher()?;
     let (cells, pass) = PlainCells::new(alloc)?;
@@ -134,6 +134,22 @@ pub(crate) fn exchange<H: Wait>(
     reads: Device,
     writes: Device,
 ) -> Heard {
+    let worker = (&server.cells, &mut server.pass, &mut server.watcher);
+    exchange_over(rt, alloc, worker, input, reads, writes)
+}
+
+/// One request to the worker of this pass and this watcher.
+pub(crate) fn exchange_over<H: Wait, C: CellSteps>(
+    rt: &H,
+    alloc: Global,
+    worker: (&C, &mut C::Pass, &mut Watcher),
+    input: &[u8],
+    reads: Device,
+    writes: Device,
+) -> Heard
+    requires { C.belongs worker.0.now worker.1.now }
+{
+    let (cells, pass, watcher) = worker;
     let mut reader = Counted::new(FailAt::new(input, reads.piece, reads.fails));
     let mut writer = Counted::new(FailAt::new(Vec::new(alloc), writes.piece, writes.fails));
     let outcome = answer(
@@ -141,9 +157,9 @@ pub(crate) fn exchange<H: Wait>(
         alloc,
         &mut reader,
         &mut writer,
-        &server.cells,
-        &mut server.pass,
-        &mut server.watcher,
+        cells,
+        pass,
+        watcher,
         MOMENT,
     );
     Heard {

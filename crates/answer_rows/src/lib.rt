@@ -9,6 +9,12 @@ mod counters;
 #[cfg(test)]
 mod exchange;
 #[cfg(test)]
+mod meeting;
+#[cfg(test)]
+mod memory;
+#[cfg(test)]
+mod quota;
+#[cfg(test)]
 mod refusals;
 #[cfg(test)]
 mod replies;

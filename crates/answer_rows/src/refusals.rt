@@ -6,7 +6,7 @@ use std::sync::Wait;
 use std::test::Fail;
 
 /// The bytes of a refusal. One of the method names the method that is allowed.
-fn refusal(alloc: Global, status: &str, line: &str) -> Result<String, AllocError> {
+pub(crate) fn refusal(alloc: Global, status: &str, line: &str) -> Result<String, AllocError> {
     let size = line.len() + 1;
     let allow = match line {
         "P3 Method" => "Allow: POST\r\n",

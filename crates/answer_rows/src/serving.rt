@@ -1,9 +1,8 @@
 //! The server over loopback, with both ends in one process: workers in their threads, and a client.
 
-ghost use Rattle.std.specs.Prelude.{◌≤◌};
-
 use crate::client::{asked, connect, halt, head, is_reply, reply, send};
 use crate::exchange::{NOTHING, rules};
+use crate::meeting::{Meeting, awaits, gate_that};
 use crate::replies::TWO_APPS;
 use hot_swap::Publisher;
 use locked_cells::LockedCells;
@@ -15,56 +14,7 @@ use std::test::Fail;
 use std::thread::Threads;
 use std::time::{Clock, Duration};
 use std::{io, thread};
-use workers::{Gate, Open, Service, serve};
-
-/// How often one waits for what another thread does.
-const TURNS: u32 = 10_000_000;
-
-/// Waits until it is set, and says whether it was.
-fn awaits(flag: &AtomicBool) -> bool {
-    for _ in 0..TURNS {
-        if flag.load(Ordering::SeqCst) {
-            return true;
-        }
-        thread::yield_now();
-    }
-    false
-}
-
-/// A gate that tells when a call is reached or made, and may hold the first until the second was.
-#[derive(Drop)]
-struct Meeting {
-    holds: bool,
-    begun: AtomicBool,
-    made: AtomicBool,
-    ran_out: AtomicBool,
-}
-
-fn gate_that(holds: bool) -> Meeting {
-    Meeting {
-        holds,
-        begun: AtomicBool::new(false),
-        made: AtomicBool::new(false),
-        ran_out: AtomicBool::new(false),
-    }
-}
-
-impl Gate for Meeting {
-    fn before(&self, call: u64) {
-        if call == 1 {
-            self.begun.store(true, Ordering::SeqCst);
-            if self.holds && !awaits(&self.made) {
-                self.ran_out.store(true, Ordering::SeqCst);
-            }
-        }
-    }
-
-    fn after(&self, call: u64) {
-        if call == 2 {
-            self.made.store(true, Ordering::SeqCst);
-        }
-    }
-}
+use workers::{Gate, Service, serve};
 
 /// Serves with so many workers, each connection for so many seconds. None where it can't.
 fn served<H, G>(
@@ -79,10 +29,8 @@ fn served<H, G>(
 where
     H: Threads + Wait + AllocGlobal + Clock + Eprint + Sync,
     G: Gate + Sync,
-    requires some { 1 ≤ count }
-    requires few { count ≤ 65 }
 {
-    let mut publisher = Publisher::new(rt.alloc(), rules, count).ok()?;
+    let mut publisher = Publisher::new(rt.alloc(), rules, count.clamp(1, 65)).ok()?;
     let cells = LockedCells::new(rt.alloc(), rt).ok()?;
     let mut workers = Vec::new(rt.alloc());
     for _ in 0..count {
@@ -109,28 +57,6 @@ where
     Ok(is_reply(&later) && is_reply(&sooner))
 }
 
-#[test]
-fn two_answers_at_once(rt: HostRuntime) -> Result<(), Fail> {
-    let listener = TcpListener::bind(&rt, "127.0.0.1:0")?;
-    let place = listener.local_addr()?;
-    let stop = AtomicBool::new(false);
-    let gate = gate_that(true);
-    let rules = rules(rt.alloc(), NOTHING)?;
-    let (ended, heard) = thread::join(
-        &rt,
-        || served(&rt, &gate, listener, rules, 2, &stop, 30),
-        || {
-            let heard = two(&rt, place);
-            halt(&rt, place, &stop);
-            heard
-        },
-    );
-    assert!(rt; ended.is_some());
-    assert!(rt; heard?);
-    assert!(rt; !gate.ran_out.load(Ordering::SeqCst));
-    Ok(())
-}
-
 /// A request whose body comes once another one was answered.
 fn held<H>(rt: &H, place: SocketAddr, gate: &Meeting) -> io::Result<bool>
 where
@@ -147,62 +73,53 @@ where
     Ok(came && answered && is_reply(&later) && is_reply(&sooner))
 }
 
-#[test]
-fn head_held(rt: HostRuntime) -> Result<(), Fail> {
-    let listener = TcpListener::bind(&rt, "127.0.0.1:0")?;
-    let place = listener.local_addr()?;
-    let stop = AtomicBool::new(false);
-    let gate = gate_that(false);
-    let rules = rules(rt.alloc(), NOTHING)?;
-    let (ended, heard) = thread::join(
-        &rt,
-        || served(&rt, &gate, listener, rules, 2, &stop, 30),
-        || {
-            let heard = held(&rt, place, &gate);
-            halt(&rt, place, &stop);
-            heard
-        },
-    );
-    assert!(rt; ended.is_some());
-    assert!(rt; heard?);
-    Ok(())
-}
-
-/// Two clients that stall, one of which sends a byte now and then, and a third one that asks.
-fn stalled<H>(rt: &H, place: SocketAddr) -> io::Result<bool>
+/// A client that sends nothing, and a second one that asks the one worker.
+fn silent<H>(rt: &H, place: SocketAddr) -> io::Result<bool>
 where
-    H: Net<Stream = TcpStream> + AllocGlobal + Clock,
+    H: Net<Stream = TcpStream> + AllocGlobal,
 {
     let silent = connect(rt, place)?;
-    let slow = connect(rt, place)?;
-    let third = asked(rt, place)?;
-    for byte in b"POST /serv" {
-        let _dropped = send(&slow, &[*byte]);
-        thread::sleep(rt, Duration::from_millis(200));
-    }
-    let heard = reply(rt.alloc(), &third)?;
+    let second = asked(rt, place)?;
+    let heard = reply(rt.alloc(), &second)?;
     let none = reply(rt.alloc(), &silent).unwrap_or(Vec::new(rt.alloc()));
     Ok(is_reply(&heard) && none.is_empty())
 }
 
-#[test]
-fn stalled_clients_are_dropped(rt: HostRuntime) -> Result<(), Fail> {
-    let listener = TcpListener::bind(&rt, "127.0.0.1:0")?;
-    let place = listener.local_addr()?;
-    let stop = AtomicBool::new(false);
-    let rules = rules(rt.alloc(), NOTHING)?;
-    let (ended, heard) = thread::join(
-        &rt,
-        || served(&rt, &Open, listener, rules, 2, &stop, 1),
-        || {
-            let heard = stalled(&rt, place);
-            halt(&rt, place, &stop);
-            heard
-        },
-    );
-    assert!(rt; ended.is_some());
-    assert!(rt; heard?);
-    Ok(())
+/// A client that sends a byte now and then for three seconds, and a second one that asks the one
+/// worker. It is answered by then, as the limit is one second of the whole connection.
+fn slow<H>(rt: &H, place: SocketAddr) -> io::Result<bool>
+where
+    H: Net<Stream = TcpStream> + AllocGlobal + Clock,
+{
+    let slow = connect(rt, place)?;
+    let second = asked(rt, place)?;
+    for byte in b"POST /service/u" {
+        let _dropped = send(&slow, &[*byte]);
+        thread::sleep(rt, Duration::from_millis(200));
+    }
+    second.set_read_timeout(Some(Duration::from_millis(300)))?;
+    let heard = reply(rt.alloc(), &second)?;
+    Ok(is_reply(&heard))
+}
+
+/// Three requests to one worker, of which the first is held until the server was told to stop.
+fn waiting<H>(rt: &H, place: SocketAddr, gate: &Meeting, stop: &AtomicBool) -> io::Result<bool>
+where
+    H: Net<Stream = TcpStream> + AllocGlobal + Clock,
+{
+    let first = asked(rt, place)?;
+    let came = awaits(&gate.begun);
+    let second = asked(rt, place)?;
+    let third = asked(rt, place)?;
+    thread::sleep(rt, Duration::from_millis(500));
+    halt(rt, place, stop);
+    gate.made.store(true, Ordering::SeqCst);
+    let mut all = came;
+    for stream in [&first, &second, &third] {
+        let heard = reply(rt.alloc(), stream)?;
+        all = all && is_reply(&heard);
+    }
+    Ok(all)
 }
 
 /// A client that sends more than is read of it, and hears the whole refusal.
@@ -222,22 +139,102 @@ where
     Ok(heard.starts_with(b"HTTP/1.1 413 ") && heard.ends_with(b"\r\n\r\nP5 TooLarge\n"))
 }
 
-#[test]
-fn refusal_is_heard(rt: HostRuntime) -> Result<(), Fail> {
-    let listener = TcpListener::bind(&rt, "127.0.0.1:0")?;
+/// What the clients of a server do.
+#[derive(Clone, Copy)]
+enum Clients {
+    Two,
+    Held,
+    Silent,
+    Slow,
+    Waiting,
+    Refused,
+}
+
+/// Whether the clients heard what they should, after which the server is told to stop.
+fn heard<H>(
+    rt: &H,
+    place: SocketAddr,
+    gate: &Meeting,
+    stop: &AtomicBool,
+    clients: Clients,
+) -> io::Result<bool>
+where
+    H: Net<Stream = TcpStream> + AllocGlobal + Clock,
+{
+    let heard = match clients {
+        Clients::Two => two(rt, place),
+        Clients::Held => held(rt, place, gate),
+        Clients::Silent => silent(rt, place),
+        Clients::Slow => slow(rt, place),
+        Clients::Waiting => waiting(rt, place, gate, stop),
+        Clients::Refused => refused(rt, place),
+    };
+    halt(rt, place, stop);
+    heard
+}
+
+/// Whether the clients heard what they should, the gate didn't run out, and the server ended: one
+/// of so many workers, each connection of which may last so many seconds.
+fn is_served<H>(
+    rt: &H,
+    clients: Clients,
+    holds: bool,
+    workers: usize,
+    seconds: u64,
+) -> Result<bool, Fail>
+where
+    H: Threads
+        + Wait
+        + AllocGlobal
+        + Clock
+        + Eprint
+        + Sync
+        + Net<Listener = TcpListener, Stream = TcpStream>,
+{
+    let listener = TcpListener::bind(rt, "127.0.0.1:0")?;
     let place = listener.local_addr()?;
     let stop = AtomicBool::new(false);
+    let gate = gate_that(holds);
     let rules = rules(rt.alloc(), NOTHING)?;
     let (ended, heard) = thread::join(
-        &rt,
-        || served(&rt, &Open, listener, rules, 1, &stop, 30),
-        || {
-            let heard = refused(&rt, place);
-            halt(&rt, place, &stop);
-            heard
-        },
+        rt,
+        || served(rt, &gate, listener, rules, workers, &stop, seconds),
+        || heard(rt, place, &gate, &stop, clients),
     );
-    assert!(rt; ended.is_some());
-    assert!(rt; heard?);
+    let is_heard = heard?;
+    Ok(is_heard && ended.is_some() && !gate.ran_out.load(Ordering::SeqCst))
+}
+
+#[test]
+fn two_answers_at_once(rt: HostRuntime) -> Result<(), Fail> {
+    assert!(rt; is_served(&rt, Clients::Two, true, 2, 30)?);
+    Ok(())
+}
+
+#[test]
+fn head_held(rt: HostRuntime) -> Result<(), Fail> {
+    assert!(rt; is_served(&rt, Clients::Held, false, 2, 30)?);
+    Ok(())
+}
+
+#[test]
+fn stalled_clients_are_dropped(rt: HostRuntime) -> Result<(), Fail> {
+    assert!(rt;
+        is_served(&rt, Clients::Silent, false, 1, 1)?,
+        "a silent one"
+    );
+    assert!(rt; is_served(&rt, Clients::Slow, false, 1, 1)?, "a slow one");
+    Ok(())
+}
+
+#[test]
+fn accepted_before_a_stop(rt: HostRuntime) -> Result<(), Fail> {
+    assert!(rt; is_served(&rt, Clients::Waiting, true, 1, 30)?);
+    Ok(())
+}
+
+#[test]
+fn refusal_is_heard(rt: HostRuntime) -> Result<(), Fail> {
+    assert!(rt; is_served(&rt, Clients::Refused, false, 1, 30)?);
     Ok(())
 }
