@@ -1,6 +1,6 @@
-// How many tables a list has, and what is no table.
+// How many tables a list has.
 
-use crate::sample::{changed, told};
+use crate::sample::told;
 use std::alloc::Global;
 use std::test::Fail;
 
@@ -74,99 +74,50 @@ fn of_arrays(alloc: Global, count: usize) -> Result<String, Fail> {
     Ok(format!(in alloc; "server = \"\"\n[[app]]\nappid = \"x\"\nrule = \"x\"\n{arrays}")?)
 }
 
-#[test]
-fn packages(rt: HostRuntime) -> Result<(), Fail> {
-    let alloc = rt.alloc();
-    for (count, want) in [
-        (0, "M2 app[1].release[1].package: 1 to 16 tables"),
-        (1, "ok"),
-        (16, "ok"),
-        (17, "M2 app[1].release[1].package: 1 to 16 tables"),
-    ] {
-        let manifest = of_packages(alloc, count)?;
-        assert_eq!(rt;
-            told(alloc, manifest.as_bytes())?.as_str(),
-            want,
-            "at {count}"
-        );
+/// A manifest with so many tables of this kind in one list.
+fn manifest_of(alloc: Global, kind: &str, count: usize) -> Result<String, Fail> {
+    if kind == "package" {
+        return of_packages(alloc, count);
     }
-    Ok(())
+    if kind == "release" {
+        return of_releases(alloc, count);
+    }
+    if kind == "app" {
+        return of_apps(alloc, count);
+    }
+    of_arrays(alloc, count)
+}
+
+/// The tables of a list, and what is told.
+const COUNTS: &str = r#"
+package 0 => M2 app[1].release[1].package: 1 to 16 tables
+package 1 => ok
+package 16 => ok
+package 17 => M2 app[1].release[1].package: 1 to 16 tables
+release 0 => ok
+release 64 => ok
+release 65 => M2 app[1].release: at most 64 tables
+app 0 => M2 app: 1 to 256 tables
+app 256 => ok
+app 257 => M2 app: 1 to 256 tables
+array 0 => ok
+array 64 => ok
+array 65 => M2 array: at most 64 tables
+"#;
+
+fn number(digits: &str) -> Option<usize> {
+    digits.parse().ok()
 }
 
 #[test]
-fn releases(rt: HostRuntime) -> Result<(), Fail> {
-    let alloc = rt.alloc();
-    for (count, want) in [
-        (0, "ok"),
-        (64, "ok"),
-        (65, "M2 app[1].release: at most 64 tables"),
-    ] {
-        let manifest = of_releases(alloc, count)?;
-        assert_eq!(rt;
-            told(alloc, manifest.as_bytes())?.as_str(),
-            want,
-            "at {count}"
-        );
-    }
-    Ok(())
-}
-
-#[test]
-fn apps(rt: HostRuntime) -> Result<(), Fail> {
-    let alloc = rt.alloc();
-    for (count, want) in [
-        (0, "M2 app: 1 to 256 tables"),
-        (256, "ok"),
-        (257, "M2 app: 1 to 256 tables"),
-    ] {
-        let manifest = of_apps(alloc, count)?;
-        assert_eq!(rt;
-            told(alloc, manifest.as_bytes())?.as_str(),
-            want,
-            "at {count}"
-        );
-    }
-    Ok(())
-}
-
-#[test]
-fn arrays(rt: HostRuntime) -> Result<(), Fail> {
-    let alloc = rt.alloc();
-    for (count, want) in [(0, "ok"), (64, "ok"), (65, "M2 array: at most 64 tables")] {
-        let manifest = of_arrays(alloc, count)?;
-        assert_eq!(rt;
-            told(alloc, manifest.as_bytes())?.as_str(),
-            want,
-            "at {count}"
-        );
-    }
-    Ok(())
-}
-
-#[test]
-fn no_tables(rt: HostRuntime) -> Result<(), Fail> {
-    let alloc = rt.alloc();
-    for (line, new, want) in [
-        ("[[app]]", "[app]", "M2 app: 1 to 256 tables"),
-        ("[[array]]", "[array]", "M2 array: at most 64 tables"),
-        ("[[array]]", "array = [1]/[[app]]", "M2 array[1]: a table"),
-        (
-            "[[app.release]]",
-            "[app.release]",
-            "M2 app[1].release: at most 64 tables",
-        ),
-        (
-            "required = true",
-            "required = true/[[app]]",
-            "M2 app[2].appid: a text of 1 to 1024 bytes",
-        ),
-    ] {
-        let manifest = changed(alloc, line, new)?;
-        assert_eq!(rt;
-            told(alloc, manifest.as_bytes())?.as_str(),
-            want,
-            "at {line} as {new}"
-        );
+fn tables(rt: HostRuntime) -> Result<(), Fail> {
+    for row in COUNTS.lines().skip(1) {
+        let (tables, want) = row.split_once(" => ").ok_or("a row of two parts")?;
+        let (kind, count) = tables.split_once(' ').ok_or("a kind and a count")?;
+        let count = number(count).ok_or("no number")?;
+        let manifest = manifest_of(rt.alloc(), kind, count)?;
+        let got = told(rt.alloc(), manifest.as_bytes())?;
+        assert!(rt; got.as_str() == want, "{row}: {got}");
     }
     Ok(())
 }

@@ -1,5 +1,6 @@
-// Members: absent, of another kind, out of range, and unknown. A row is a line of the sample, what
-// stands in its place, `/` being the end of a line, and how what is told then begins.
+// Members: absent, of another kind, out of range, and unknown; and what is no list of tables. A row
+// is a line of the sample, what stands in its place, `/` being the end of a line, and what is told
+// then: all of it, or its beginning up to a colon.
 
 use crate::sample::{changed, told};
 use std::alloc::Global;
@@ -35,7 +36,7 @@ length = 1 => length = 1.0 => M2 array[1].length: a whole number from 1 to 4096
 length = 1 => length = 65537 => M2 array[1].length: a whole number from 1 to 4096
 quota = 2 =>  => ok
 quota = 2 => quota = 1 => ok
-quota = 2 => quota = 0 => M2 array[1].quota: a whole number from 1 to 9223372036854775807
+= 2 => = 0 => M2 array[1].quota: a whole number from 1 to 9223372036854775807, with width 64 alone
 quota = 2 => quota = true => M2 array[1].quota:
 quota = 2 => quota = 9223372036854775807 => ok
 width = 64 => width = 32 => M2 array[1].quota:
@@ -57,7 +58,8 @@ program = "x.bpf" => program = ""/[[app]]/appid = "y" => M2 app[2].program or ru
 "#;
 
 const OF_A_RELEASE: &str = r#"
-version = "2.0.0.0" =>  => M2 app[1].release[1].version: one to four numbers below 4294967296
+version = "2.0.0.0" =>  => M2 app[1].release[1].version:
+"2.0.0.0" => 2 => M2 app[1].release[1].version: one to four numbers below 4294967296, joined by dots
 version = "2.0.0.0" => version = "2.0.0.0.0" => M2 app[1].release[1].version:
 version = "2.0.0.0" => version = "2." => M2 app[1].release[1].version:
 version = "2.0.0.0" => version = "4294967296" => M2 app[1].release[1].version:
@@ -65,7 +67,7 @@ version = "2.0.0.0" => version = "4294967295" => ok
 version = "2.0.0.0" => version = 2.0 => M2 app[1].release[1].version:
 codebase = "http" =>  => M2 app[1].release[1].codebase: a text
 codebase = "http" => codebase = 1 => M2 app[1].release[1].codebase: a text
-codebase = "http" => codebase = ""/notes = "" => M2 app[1].release[1].notes: no member
+codebase = "http" => codebase = ""/notes = "" => M2 app[1].release[1].notes: no member of a release
 "#;
 
 const OF_A_PACKAGE: &str = r#"
@@ -88,14 +90,26 @@ required = true => required = 1 => M2 app[1].release[1].package[1].required: tru
 required = true => required = true/sha1 = "" => M2 app[1].release[1].package[1].sha1:
 "#;
 
+const NO_TABLES: &str = r#"
+[[app]] => [app] => M2 app: 1 to 256 tables
+[[array]] => [array] => M2 array: at most 64 tables
+[[array]] => array = [1]/[[app]] => M2 array[1]: a table
+[[app.release]] => [app.release] => M2 app[1].release: at most 64 tables
+required = true => required = true/[[app]] => M2 app[2].appid: a text of 1 to 1024 bytes
+"#;
+
+/// Whether that is what is wanted, or begins so where no more is said.
+fn fits(got: &str, want: &str) -> bool {
+    got == want || (want.ends_with(':') && got.starts_with(want))
+}
+
 fn each_is_told(rt: &impl Abort, alloc: Global, rows: &str) -> Result<(), Fail> {
-    for row in rows.lines() {
-        if let Some((line, rest)) = row.split_once(" => ") {
-            let (new, want) = rest.split_once("=> ").ok_or("a row of two parts")?;
-            let manifest = changed(alloc, line, new)?;
-            let got = told(alloc, manifest.as_bytes())?;
-            assert!(rt; got.as_str().starts_with(want), "{row}: {got}");
-        }
+    for row in rows.lines().skip(1) {
+        let (line, rest) = row.split_once(" => ").ok_or("a row of three parts")?;
+        let (new, want) = rest.split_once("=> ").ok_or("a row of three parts")?;
+        let manifest = changed(alloc, line, new)?;
+        let got = told(alloc, manifest.as_bytes())?;
+        assert!(rt; fits(got.as_str(), want), "{row}: {got}");
     }
     Ok(())
 }
@@ -108,6 +122,7 @@ fn members(rt: HostRuntime) -> Result<(), Fail> {
         OF_AN_APP,
         OF_A_RELEASE,
         OF_A_PACKAGE,
+        NO_TABLES,
     ] {
         each_is_told(&rt, rt.alloc(), rows)?;
     }

@@ -3,51 +3,33 @@
 use crate::sample::told;
 use std::test::Fail;
 
-const ROWS: [(&str, &str); 6] = [
-    (
-        "array = [{ name = \"q\", width = 64, length = 1 },
-{ name = \"q\", width = 64, length = 1 }]
-app = [{ appid = \"x\", rule = \"x\" }]",
-        "M3 array q",
-    ),
-    (
-        "array = [{ name = \"q\", width = 64, length = 1 },
-{ name = \"Q\", width = 64, length = 1 }]
-app = [{ appid = \"x\", rule = \"x\" }]",
-        "ok",
-    ),
-    (
-        "app = [{ appid = \"x\", rule = \"x\" }, { appid = \"y\", rule = \"x\" }]",
-        "ok",
-    ),
-    (
-        "app = [{ appid = \"y\", rule = \"x\" }, { appid = \"x\", rule = \"x\" }, \
-{ appid = \"x\", program = \"x\" }]",
-        "M3 app x",
-    ),
-    // The names of arrays come before the appids.
-    (
-        "app = [{ appid = \"x\", rule = \"x\" }, { appid = \"x\", rule = \"x\" }]
-array = [{ name = \"q\", width = 64, length = 1 }, { name = \"q\", width = 32, length = 2 }]",
-        "M3 array q",
-    ),
-    // A misfit anywhere comes before a name that stands twice.
-    (
-        "app = [{ appid = \"x\", rule = \"x\" }, { appid = \"x\", rule = 1 }]",
-        "M2 app[2].program or rule: one of the two, the name of a file",
-    ),
-];
+/// What is told, and the tables behind the server's text. The names of arrays come before the
+/// appids, and a misfit anywhere before a name that stands twice.
+const ROWS: &str = r#"
+- M3 array q
+array = [{ name = "q", width = 64, length = 1 }, { name = "q", width = 64, length = 1 }]
+app = [{ appid = "x", rule = "x" }]
+- ok
+array = [{ name = "q", width = 64, length = 1 }, { name = "Q", width = 64, length = 1 }]
+app = [{ appid = "x", rule = "x" }]
+- ok
+app = [{ appid = "x", rule = "x" }, { appid = "y", rule = "x" }]
+- M3 app x
+app = [{ appid = "y", rule = "x" }, { appid = "x", rule = "x" }, { appid = "x", program = "x" }]
+- M3 array q
+app = [{ appid = "x", rule = "x" }, { appid = "x", rule = "x" }]
+array = [{ name = "q", width = 64, length = 1 }, { name = "q", width = 32, length = 2 }]
+- M2 app[2].program or rule: one of the two, the name of a file
+app = [{ appid = "x", rule = "x" }, { appid = "x", rule = 1 }]
+"#;
 
 #[test]
 fn names_stand_once(rt: HostRuntime) -> Result<(), Fail> {
-    let alloc = rt.alloc();
-    for (tables, want) in ROWS {
-        let manifest = format!(in alloc; "server = \"\"\n{tables}\n")?;
-        assert_eq!(rt;
-            told(alloc, manifest.as_bytes())?.as_str(),
-            want,
-            "at {tables}"
-        );
+    for row in ROWS.split("\n- ").skip(1) {
+        let (want, tables) = row.split_once('\n').ok_or("a row of two parts")?;
+        let manifest = format!(in rt.alloc(); "server = \"\"\n{tables}\n")?;
+        let got = told(rt.alloc(), manifest.as_bytes())?;
+        assert!(rt; got.as_str() == want, "{row}: {got}");
     }
     Ok(())
 }
