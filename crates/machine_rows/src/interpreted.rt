@@ -86,6 +86,10 @@ const ENDS: &str = r#"
 - 64 | 1.0 1.0 1.0 | choice 1 after 6, choice 1 after 6, choice 0 after 6 | 3
   ldcell r6, 0, 0 / mov r2, 1 / fadddw [r6+0], r2 / jge r2, 2, +2 / mov r0, 1 / exit / mov r0, 0
   exit
+- 64 | 1.0 | choice 0 after 4 | 0
+  ldxb r2, [r1+18] / mov r0, 0 / jset r2, 2, +1 / mov r0, 1 / exit
+- 64 | 1.0 x | choice 0 after 4, choice 1 after 5 | 0
+  ldxb r2, [r1+18] / mov r0, 0 / jset r2, 1, +1 / mov r0, 1 / exit
 - 64 | 1 01 | choice 1 after 7, choice 0 after 7 | 0
   stb [r10-8], 49 / mov r1, 1 / mov r2, r10 / add r2, -8 / mov r3, 1 / call 2 / exit
 "#;

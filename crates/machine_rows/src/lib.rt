@@ -1,5 +1,5 @@
-//! Tests of a program's graph, the verifier, the machine and the interpreter: programs with the
-//! verdict, choice and count that were worked out by hand.
+//! Tests of a program's graph, the machine and the interpreter: programs with the fault, choice and
+//! count that were worked out by hand.
 #![tactic(auto)]
 
 #[cfg(test)]
@@ -10,5 +10,3 @@ mod graph;
 mod interpreted;
 #[cfg(test)]
 mod row;
-#[cfg(test)]
-mod verifier;

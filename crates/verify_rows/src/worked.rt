@@ -1,6 +1,7 @@
 //! Worked programs.
 
 use crate::row::{Arrays, have_their_verdicts};
+use bpf_verify::Refusal;
 use std::test::Fail;
 
 const WITHOUT_ARRAYS: &str = r#"
@@ -40,6 +41,34 @@ const WITHOUT_ARRAYS: &str = r#"
   ldxh r2, [r1+16] / mov r0, 0 / jge r2, 100, +1 / mov r0, 1 / exit
 - a bucket below a limit, and no release | 0 | V13 Result at slot 4
   ldxh r2, [r1+16] / mov r0, 0 / jge r2, 100, +1 / mov r0, 1 / exit
+- two paths to one exit | 2 | ok
+  ldxh r2, [r1+16] / jge r2, 100, +2 / mov r0, 1 / ja +1 / mov r0, 2 / exit
+- two paths to one exit, the second too high | 1 | V13 Result at slot 5
+  ldxh r2, [r1+16] / jge r2, 100, +2 / mov r0, 1 / ja +1 / mov r0, 2 / exit
+- a comparison bounds a number from above | 0 | ok
+  ldxh r2, [r1+16] / jge r2, 57, +2 / add r1, r2 / ldxdw r3, [r1+0] / mov r0, 0 / exit
+- a comparison bounds a number one too high | 0 | V6 Access at slot 3
+  ldxh r2, [r1+16] / jge r2, 58, +2 / add r1, r2 / ldxdw r3, [r1+0] / mov r0, 0 / exit
+- bytes above the stack's top | 0 | V6 Access at slot 0
+  ldxdw r2, [r10+0] / mov r0, 0 / exit
+- an unset register is copied | 0 | V1 Unusable at slot 0
+  mov r1, r2 / mov r0, 0 / exit
+- a slot whose edges are all dropped | 0 | ok
+  mov r2, 5 / jge r2, 3, +1 / mov r1, r7 / mov r0, 0 / exit
+- no number is below zero | 0 | ok
+  ldxh r2, [r1+16] / jge r2, 0, +1 / mov r1, r7 / mov r0, 0 / exit
+- the context's end is a place | 0 | ok
+  mov r2, 64 / add r1, r2 / ldxb r3, [r1-1] / mov r0, 0 / exit
+- past the context's end | 0 | V4 OffsetRange at slot 1
+  mov r2, 65 / add r1, r2 / mov r0, 0 / exit
+- below the context | 0 | V4 OffsetRange at slot 1
+  mov r2, -1 / add r1, r2 / mov r0, 0 / exit
+- back and forth in the context | 0 | ok
+  mov r2, 8 / add r1, r2 / mov r2, -8 / add r1, r2 / ldxdw r3, [r1+0] / mov r0, 0 / exit
+- a byte that is added may be too much | 0 | V4 OffsetRange at slot 1
+  ldxb r2, [r1+0] / add r1, r2 / mov r0, 0 / exit
+- a sum of two numbers wraps | 1 | ok
+  mov r0, -1 / mov r2, 2 / add r0, r2 / exit
 "#;
 
 const WITH_WIDE_CELLS: &str = r#"
@@ -83,5 +112,12 @@ fn worked(rt: HostRuntime) -> Result<(), Fail> {
     ] {
         have_their_verdicts(&rt, rt.alloc(), arrays, rows)?;
     }
+    Ok(())
+}
+
+#[test]
+fn refused_memory_is_printed(rt: HostRuntime) -> Result<(), Fail> {
+    let memory = format!(in rt.alloc(); "{}", Refusal::Memory)?;
+    assert_eq!(rt; memory.as_str(), "V15 Memory");
     Ok(())
 }
