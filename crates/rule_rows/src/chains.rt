@@ -16,6 +16,7 @@ C1 TooLong | 2045 | when bucket<1 |or bucket<1 |offer 1;otherwise none;
 C1 TooLong | 371 | when version<1 |or version<1 |offer 1;otherwise none;
 4093 slots | 1022 | |count c[0];|otherwise none;
 C1 TooLong | 1023 | |count c[0];|otherwise none;
+224 slots | 73 | |when bucket<1 offer 1;|otherwise none;
 4094 slots | 1363 | |when bucket<1 offer 1;|otherwise none;
 C1 TooLong | 1364 | |when bucket<1 offer 1;|otherwise none;
 C1 TooLong | 5954 | when today<1|and today<1| offer 1;otherwise none;
