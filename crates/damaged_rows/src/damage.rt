@@ -134,6 +134,8 @@ fn found(alloc: Global, text: &str, array: &str, releases: u8) -> Result<Tally, 
     Ok(judge.tally)
 }
 
+/// Judged are all beginnings and changes: of n bytes, n + 255 n. How many are accepted was counted:
+/// a change of the verifier's rules changes it.
 #[test]
 fn damaged_programs(rt: HostRuntime) -> Result<(), Fail> {
     let rows = [
