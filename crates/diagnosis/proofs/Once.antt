@@ -73,7 +73,8 @@ all_declared : {old new : List CellArray} {ds : List Declaration} {numbers : Lis
     → map as_declared new ≡ map as_declared old ++ ds
 all_declared none free once = sym (append-nil _)
 all_declared {old} (next {between = between} {d = d} {ds = ds} first others) free once =
-    let parts = stands_once (list_any (bytes_eq d.name) (names ds)) d.name (repeated (names ds)) once in
+    let stands = list_any (bytes_eq d.name) (names ds) in
+    let parts = stands_once stands d.name (repeated (names ds)) once in
     let added = is_added ds first free in
     let more = free_more ds old (next_array d old) (free_rest d ds old free) parts.0 in
     let still : AreFree ds between = rw added more in

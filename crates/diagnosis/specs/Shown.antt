@@ -28,5 +28,5 @@ IsShown (Line number) bytes text =
 -- or because there is no such place
 pub data Shows (known : Known) (file : List ℕ) (place : Place) : List ℕ → Type 0 where
   nothing : Shows known file place []
-  shown : {text : List ℕ} (bytes : List ℕ) → Gives known file (Some bytes) → IsShown place bytes text
-      → Shows known file place text
+  shown : {text : List ℕ} (bytes : List ℕ) → Gives known file (Some bytes)
+      → IsShown place bytes text → Shows known file place text

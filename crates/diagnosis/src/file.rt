@@ -79,7 +79,8 @@ fn key_of(source: &Source) -> &'static str
 fn show_again<F: Files>(alloc: Global, files: &mut F, source: &Source, place: Place) -> String
     requires { F.failed files.old < 2 ^ 64 - 1 }
     ensures known { F.known files.new ≡ F.known files.old }
-    ensures shows { Shows (F.known files.old) (specs.file_of source.now) place (string_bytes result) }
+    ensures shows { Shows (F.known files.old) (specs.file_of source.now) place
+        (string_bytes result) }
 {
     if place == Place::Whole {
         return String::new(alloc);
