@@ -5,6 +5,8 @@
 #[cfg(test)]
 mod client;
 #[cfg(test)]
+mod folder;
+#[cfg(test)]
 mod lines;
 #[cfg(test)]
 mod session;

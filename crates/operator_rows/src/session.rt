@@ -54,12 +54,17 @@ post|0
 cells;|q[0] 12;
 stop;|stopping;";
 
-/// The first row whose reply is another one.
-fn first_wrong<H>(rt: &H, service: SocketAddr, operator: SocketAddr) -> Option<&'static str>
+/// The first row whose reply is another one; then the server is stopped.
+pub(crate) fn first_wrong<H>(
+    rt: &H,
+    rows: &'static str,
+    service: SocketAddr,
+    operator: SocketAddr,
+) -> Option<&'static str>
 where
     H: Net<Stream = TcpStream> + AllocGlobal,
 {
-    for row in SESSION.split('\n') {
+    for row in rows.split('\n') {
         if !is_right(rt, service, operator, row).unwrap_or(false) {
             let _stopped = ask(rt, operator.port(), "stop");
             return Some(row);
@@ -92,7 +97,7 @@ fn session(rt: HostRuntime) -> Result<(), Fail> {
     let (ended, wrong) = thread::join(
         &rt,
         || served(&rt, ports, "quota"),
-        || first_wrong(&rt, service, operator),
+        || first_wrong(&rt, SESSION, service, operator),
     );
     assert_eq!(rt; ended, Ok(()));
     assert_eq!(rt; wrong, None);
@@ -126,5 +131,35 @@ fn ask_and_stop(rt: HostRuntime) -> Result<(), Fail> {
     assert_eq!(rt; ended, Ok(()));
     assert_eq!(rt; told.0?.as_slice(), b"generation 2\n".as_slice());
     assert_eq!(rt; told.1?.as_slice(), b"stopping\n".as_slice());
+    Ok(())
+}
+
+/// The first line that is answered at the port of the clients; then the server is stopped.
+fn first_answered<H>(rt: &H, service: u16, operator: u16) -> Option<&'static str>
+where
+    H: Net<Stream = TcpStream> + AllocGlobal,
+{
+    let mut answered = None;
+    for line in ["stop", "show", "cells", "load no"] {
+        if ask(rt, service, line).err() != Some(AskFault::Connect) {
+            answered = Some(line);
+        }
+    }
+    let _stopped = ask(rt, operator, "stop");
+    answered
+}
+
+/// The port of the clients is no operator's.
+#[test]
+fn ask_at_the_wrong_port(rt: HostRuntime) -> Result<(), Fail> {
+    let ports = bind(&rt, 0, 0)?;
+    let (service, operator) = (ports.service().port(), ports.operator().port());
+    let (ended, answered) = thread::join(
+        &rt,
+        || served(&rt, ports, "yes"),
+        || first_answered(&rt, service, operator),
+    );
+    assert_eq!(rt; ended, Ok(()));
+    assert_eq!(rt; answered, None);
     Ok(())
 }
