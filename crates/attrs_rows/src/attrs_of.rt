@@ -1,21 +1,16 @@
-// The attributes of an app by its request, and a program's helpers. What no clause says is that the
-// definitions give the protocol's values, and that memory suffices.
+//! The context of an app by its request. What no clause says is that the definitions give the
+//! protocol's values, and that memory suffices.
 
-ghost use Rattle.std.specs.Prelude.{◌<◌};
-
-use attrs::{
-    AppFacts, AttrFault, Attrs, Context, Elapsed, RequestFacts, Text, app_bucket, fnv1a,
-    four_digits, helper_attr_is, helper_attr_len, helper_bucket,
-};
+use attrs::{AppFacts, AttrFault, Attrs, Context, Elapsed, RequestFacts, Text, app_bucket, fnv1a};
 use std::alloc::{AllocError, Global};
 use std::test::Fail;
 
-fn text(alloc: Global, text: &str) -> Result<Option<Text>, AllocError> {
+pub(crate) fn text(alloc: Global, text: &str) -> Result<Option<Text>, AllocError> {
     Ok(Some(Text::new(String::from_str(alloc, text)?)))
 }
 
 // An app with an appid alone.
-fn bare_app(alloc: Global) -> Result<AppFacts, AllocError> {
+pub(crate) fn bare_app(alloc: Global) -> Result<AppFacts, AllocError> {
     Ok(AppFacts {
         appid: Text::new(String::from_str(alloc, "x")?),
         version: None,
@@ -30,7 +25,7 @@ fn bare_app(alloc: Global) -> Result<AppFacts, AllocError> {
     })
 }
 
-fn app_of_version(alloc: Global, version: &str) -> Result<AppFacts, AllocError> {
+pub(crate) fn app_of_version(alloc: Global, version: &str) -> Result<AppFacts, AllocError> {
     let mut app = bare_app(alloc)?;
     app.version = text(alloc, version)?;
     Ok(app)
@@ -63,7 +58,7 @@ fn asking_app(
 }
 
 // A request with these ids, and no platform.
-fn request_of(
+pub(crate) fn request_of(
     alloc: Global,
     requestid: Option<&str>,
     sessionid: Option<&str>,
@@ -92,21 +87,37 @@ fn context_at(alloc: Global, app: &AppFacts, moment: i64) -> Result<Context, Att
     Ok(Attrs::of(alloc, app, &request, moment)?.context())
 }
 
+// The contexts of apps in such a request.
+fn of_cohort(alloc: Global, cohort: &str) -> Result<Context, Fail> {
+    let app = app_of_cohort(alloc, cohort)?;
+    Ok(context_at(alloc, &app, 0)?)
+}
+
+fn of_day(alloc: Global, installdate: u64) -> Result<Context, Fail> {
+    let app = app_of_day(alloc, installdate)?;
+    Ok(context_at(alloc, &app, 0)?)
+}
+
+fn of_version(alloc: Global, version: &str) -> Result<Context, Fail> {
+    let app = app_of_version(alloc, version)?;
+    Ok(context_at(alloc, &app, 0)?)
+}
+
+fn flags_of(alloc: Global, updatecheck: bool, ping: bool, event: bool) -> Result<u8, Fail> {
+    let app = asking_app(alloc, updatecheck, ping, event)?;
+    Ok(context_at(alloc, &app, 0)?.flags)
+}
+
+// The bucket of an app in a request with these ids.
+fn bucket_of(alloc: Global, requestid: Option<&str>, sessionid: Option<&str>) -> Result<u16, Fail> {
+    let app = bare_app(alloc)?;
+    let request = request_of(alloc, requestid, sessionid)?;
+    Ok(app_bucket(&app, &request))
+}
+
 // The calls under test, without their clauses: a proof would compute with the rows.
 fn hash_of(text: &str) -> u64 {
     fnv1a(text.as_bytes())
-}
-
-fn length_of(attrs: &Attrs, number: u64) -> u64 {
-    helper_attr_len(attrs, number)
-}
-
-fn is_text(attrs: &Attrs, number: u64, text: &str) -> u64 {
-    helper_attr_is(attrs, number, text.as_bytes())
-}
-
-fn salted(attrs: &Attrs, salt: u64) -> u64 {
-    helper_bucket(attrs, salt)
 }
 
 #[test]
@@ -140,7 +151,7 @@ fn cohorts_name_buckets(rt: HostRuntime) -> Result<(), Fail> {
         ("", (6037, 0)),
     ];
     for (cohort, expected) in rows {
-        let context = context_at(alloc, &app_of_cohort(alloc, cohort)?, 0)?;
+        let context = of_cohort(alloc, cohort)?;
         assert_eq!(rt; (context.bucket, context.flags), expected, "at {cohort:?}");
     }
     Ok(())
@@ -148,18 +159,16 @@ fn cohorts_name_buckets(rt: HostRuntime) -> Result<(), Fail> {
 
 #[test]
 fn requests_hash_into_buckets(rt: HostRuntime) -> Result<(), Fail> {
-    let alloc = rt.alloc();
-    let app = bare_app(alloc)?;
     let rows = [
-        (request_of(alloc, None, None)?, 6037),
-        (request_of(alloc, Some(""), Some(""))?, 6037),
-        (request_of(alloc, Some("a"), None)?, 1996),
-        (request_of(alloc, Some("a"), Some("b"))?, 1996),
-        (request_of(alloc, None, Some("a"))?, 1996),
-        (request_of(alloc, Some(""), Some("a"))?, 1996),
+        (None, None, 6037),
+        (Some(""), Some(""), 6037),
+        (Some("a"), None, 1996),
+        (Some("a"), Some("b"), 1996),
+        (None, Some("a"), 1996),
+        (Some(""), Some("a"), 1996),
     ];
-    for (request, bucket) in &rows {
-        assert_eq!(rt; app_bucket(&app, request), *bucket);
+    for (requestid, sessionid, bucket) in rows {
+        assert_eq!(rt; bucket_of(rt.alloc(), requestid, sessionid)?, bucket);
     }
     Ok(())
 }
@@ -207,7 +216,7 @@ fn install_days_are_known(rt: HostRuntime) -> Result<(), Fail> {
         (u64::MAX, (4294967295, 0)),
     ];
     for (installdate, expected) in rows {
-        let context = context_at(alloc, &app_of_day(alloc, installdate)?, 0)?;
+        let context = of_day(alloc, installdate)?;
         assert_eq!(rt;
             (context.install_day, context.flags),
             expected,
@@ -227,165 +236,23 @@ fn versions_are_known(rt: HostRuntime) -> Result<(), Fail> {
         ("", ([0; 4], 0)),
     ];
     for (version, expected) in rows {
-        let context = context_at(alloc, &app_of_version(alloc, version)?, 0)?;
-        assert_eq!(rt;
-            (context.version, context.flags),
-            expected,
-            "at {version:?}"
-        );
+        let context = of_version(alloc, version)?;
+        let numbers = context.version;
+        assert_eq!(rt; (numbers, context.flags), expected, "at {version:?}");
     }
     Ok(())
 }
 
 #[test]
 fn flags_add_up(rt: HostRuntime) -> Result<(), Fail> {
-    let alloc = rt.alloc();
     let rows = [
-        (asking_app(alloc, true, false, false)?, 2),
-        (asking_app(alloc, false, true, false)?, 4),
-        (asking_app(alloc, false, false, true)?, 8),
-        (asking_app(alloc, true, true, true)?, 14),
+        (true, false, false, 2),
+        (false, true, false, 4),
+        (false, false, true, 8),
+        (true, true, true, 14),
     ];
-    for (app, flags) in &rows {
-        assert_eq!(rt; context_at(alloc, app, 0)?.flags, *flags);
+    for (updatecheck, ping, event, flags) in rows {
+        assert_eq!(rt; flags_of(rt.alloc(), updatecheck, ping, event)?, flags);
     }
-    Ok(())
-}
-
-// An app and a request with all their texts.
-fn full_facts(alloc: Global) -> Result<(AppFacts, RequestFacts), AllocError> {
-    let mut app = app_of_version(alloc, "1.0")?;
-    app.brand = text(alloc, "brand")?;
-    app.ap = text(alloc, "ap")?;
-    app.lang = text(alloc, "de-CH")?;
-    app.cohort = text(alloc, "b:0042")?;
-    app.installdate = Some(7000);
-    app.updatecheck = true;
-    let mut request = request_of(alloc, None, None)?;
-    request.platform = text(alloc, "linux")?;
-    Ok((app, request))
-}
-
-fn full_attributes(alloc: Global) -> Result<Attrs, AttrFault> {
-    match full_facts(alloc) {
-        Ok((app, request)) => Attrs::of(alloc, &app, &request, 0),
-        Err(_) => Err(AttrFault::Memory),
-    }
-}
-
-#[test]
-fn texts_have_numbers(rt: HostRuntime) -> Result<(), Fail> {
-    let attrs = full_attributes(rt.alloc())?;
-    assert_eq!(rt; attrs.context().flags, 1 + 2 + 16 + 32);
-    let rows = [
-        (0, "x", 1),
-        (1, "1.0", 3),
-        (2, "brand", 5),
-        (3, "ap", 2),
-        (4, "de-CH", 5),
-        (5, "b:0042", 6),
-        (6, "linux", 5),
-    ];
-    for (number, text, length) in rows {
-        assert_eq!(rt; attrs.text(number), text);
-        assert_eq!(rt; length_of(&attrs, number), length);
-        assert_eq!(rt; is_text(&attrs, number, text), 1);
-        assert_eq!(rt; is_text(&attrs, number, "x1"), 0);
-    }
-    Ok(())
-}
-
-// A number is compared whole, and an unknown one has no text, not even an empty one.
-#[test]
-fn unknown_numbers_have_no_text(rt: HostRuntime) -> Result<(), Fail> {
-    let attrs = full_attributes(rt.alloc())?;
-    for number in [7, 256, 4294967296, u64::MAX] {
-        assert_eq!(rt; attrs.text(number), "");
-        assert_eq!(rt; helper_attr_len(&attrs, number), 0);
-        assert_eq!(rt; helper_attr_is(&attrs, number, b""), 0);
-        assert_eq!(rt; helper_attr_is(&attrs, number, b"x"), 0);
-    }
-    Ok(())
-}
-
-// Attributes with a brand of so many bytes, and a version of so many zeros.
-fn long_attributes(alloc: Global, brand: usize, zeros: usize) -> Result<Attrs, Fail> {
-    let mut app = bare_app(alloc)?;
-    app.brand = Some(Text::new("b".repeat(alloc, brand)?));
-    app.version = Some(Text::new("0".repeat(alloc, zeros)?));
-    Ok(Attrs::of(alloc, &app, &request_of(alloc, None, None)?, 0)?)
-}
-
-#[test]
-fn long_texts_are_not_kept(rt: HostRuntime) -> Result<(), Fail> {
-    let kept = long_attributes(rt.alloc(), 1024, 1024)?;
-    assert_eq!(rt;
-        (helper_attr_len(&kept, 2), helper_attr_len(&kept, 1)),
-        (1024, 1024)
-    );
-    assert_eq!(rt; kept.context().flags, 1);
-    let empty = long_attributes(rt.alloc(), 1025, 1025)?;
-    assert_eq!(rt;
-        (helper_attr_len(&empty, 2), helper_attr_len(&empty, 1)),
-        (0, 0)
-    );
-    assert_eq!(rt; helper_attr_is(&empty, 2, b""), 1);
-    assert_eq!(rt; empty.context().flags, 1);
-    Ok(())
-}
-
-fn plain_of(alloc: Global, bucket: u16) -> Result<Attrs, AttrFault>
-    requires { bucket < 10000 }
-{
-    Attrs::plain(alloc, "x", None, bucket)
-}
-
-#[test]
-fn salts_divide_buckets(rt: HostRuntime) -> Result<(), Fail> {
-    let alloc = rt.alloc();
-    let rows = [
-        (0, 0, 661),
-        (42, 0, 2107),
-        (42, 1, 2698),
-        (9999, u64::MAX, 225),
-        (1234, 0x0102_0304_0506_0708, 941),
-    ];
-    for (bucket, salt, expected) in rows {
-        let attrs = plain_of(alloc, bucket)?;
-        assert_eq!(rt; salted(&attrs, salt), expected, "at {bucket}, {salt}");
-    }
-    Ok(())
-}
-
-// Memory that is refused once: the second answer is the untroubled one.
-#[test]
-fn refused_memory_is_told(rt: HostRuntime) -> Result<(), Fail> {
-    let attrs = match full_attributes(rt.alloc()) {
-        Err(AttrFault::Memory) => full_attributes(rt.alloc())?,
-        Ok(attrs) => attrs,
-    };
-    assert_eq!(rt; attrs.text(0), "x");
-    assert_eq!(rt; attrs.text(6), "linux");
-    assert_eq!(rt; attrs.context().bucket, 42);
-    Ok(())
-}
-
-#[test]
-fn buckets_have_four_digits(rt: HostRuntime) {
-    for (bucket, digits) in [
-        (0, b"0000"),
-        (42, b"0042"),
-        (1234, b"1234"),
-        (9999, b"9999"),
-    ] {
-        assert_eq!(rt; four_digits(bucket), *digits);
-    }
-}
-
-#[test]
-fn texts_are_given_back(rt: HostRuntime) -> Result<(), Fail> {
-    let text = Text::new(String::from_str(rt.alloc(), "de-CH")?);
-    assert_eq!(rt; text.as_str(), "de-CH");
-    assert_eq!(rt; text.into_string().as_str(), "de-CH");
     Ok(())
 }

@@ -6,3 +6,5 @@
 mod attributes;
 #[cfg(test)]
 mod attrs_of;
+#[cfg(test)]
+mod texts;
