@@ -68,6 +68,9 @@ command name arguments = record (new_shape name) { rules = arguments }
 abbrev pub assemble_command : Shape
 assemble_command = command (codes "asm") (file (codes "IN") ∷ file (codes "OUT") ∷ [])
 
+abbrev pub check_command : Shape
+check_command = command (codes "check") (file (codes "MANIFEST") ∷ [])
+
 abbrev pub compile_command : Shape
 compile_command =
     command (codes "compile") (file (codes "IN") ∷ file (codes "OUT") ∷ releases ∷ arrays ∷ [])
@@ -85,6 +88,10 @@ verify_command = program_command (codes "verify")
 abbrev pub run_command : Shape
 run_command =
     command (codes "run") (file (codes "IN") ∷ releases ∷ arrays ∷ version ∷ bucket ∷ [])
+
+abbrev pub replay_command : Shape
+replay_command =
+    command (codes "replay") (file (codes "MANIFEST") ∷ file (codes "SCRIPT") ∷ [])
 
 -- what `serve` has first
 abbrev pub server_ports : Shape
@@ -106,7 +113,7 @@ operator_command name = command name (operator ∷ [])
 abbrev pub commands : App
 commands = record {
   top = record (new_shape (codes "rollout")) { is_leaf = false; subcommand_required = true };
-  subs = assemble_command ∷ operator_command (codes "cells") ∷ compile_command ∷ list_command
-      ∷ load_command ∷ run_command ∷ serve_command ∷ operator_command (codes "show")
-      ∷ operator_command (codes "stop") ∷ verify_command ∷ [];
+  subs = assemble_command ∷ operator_command (codes "cells") ∷ check_command ∷ compile_command
+      ∷ list_command ∷ load_command ∷ replay_command ∷ run_command ∷ serve_command
+      ∷ operator_command (codes "show") ∷ operator_command (codes "stop") ∷ verify_command ∷ [];
 }

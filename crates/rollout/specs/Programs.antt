@@ -57,14 +57,14 @@ pub record IsProgramFor (asked : DeclaredShape) (p : ShapedProgram) : Type 0 whe
   pub within : IsWithin most_program (program_bytes p.code)
 
 -- the verifier refuses the program that the bytes are
-abbrev pub IsRuleFault : List ℕ → AppShape → Refusal → Type 0
-IsRuleFault bytes shape refusal =
+abbrev pub HasRefusal : List ℕ → AppShape → Refusal → Type 0
+HasRefusal bytes shape refusal =
     (p : Program) × (program_bytes p ≡ bytes) × IsFlow p × IsRefusal p shape refusal
 
 -- the graph's fault, or the verifier's refusal
 abbrev pub IsProgramFault : AppShape → Fault → List ℕ → Type 0
 IsProgramFault shape (Flow fault) bytes = IsFlowFault bytes fault
-IsProgramFault shape (Rule refusal) bytes = IsRuleFault bytes shape refusal
+IsProgramFault shape (Rule refusal) bytes = HasRefusal bytes shape refusal
 IsProgramFault shape fault bytes = ⊥
 
 -- why a file is refused: the shape comes first, then the file, then its bytes, by the faults that

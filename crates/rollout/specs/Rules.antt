@@ -51,14 +51,14 @@ IsTextFault shape fault bytes =
     ⊎ ((¬ IsUtf8 bytes) × (fault ≡ At 1 Token))
 
 -- a rule whose program would be too long has a cost over 4096; of memory no claim is made
-abbrev pub IsRuleFault : AppShape → Fault → List ℕ → Type 0
-IsRuleFault shape (RuleText fault) bytes =
+abbrev pub IsCompileFault : AppShape → Fault → List ℕ → Type 0
+IsCompileFault shape (RuleText fault) bytes =
     (length bytes ≤ most_text) × IsTextFault shape fault bytes
-IsRuleFault shape (Compile compile.TooLong) bytes =
+IsCompileFault shape (Compile compile.TooLong) bytes =
     (rule : List Statement) × IsSpelled shape rule bytes × (4096 < cost rule)
-IsRuleFault shape (Compile compile.Memory) bytes = Unit {0}
-IsRuleFault shape File bytes = most_text < length bytes
-IsRuleFault shape fault bytes = ⊥
+IsCompileFault shape (Compile compile.Memory) bytes = Unit {0}
+IsCompileFault shape File bytes = most_text < length bytes
+IsCompileFault shape fault bytes = ⊥
 
 abbrev pub IsRuleRefusal : DeclaredShape → Fault → Type 0
-IsRuleRefusal asked fault = IsRefusedUnder asked most_text IsRuleFault fault
+IsRuleRefusal asked fault = IsRefusedUnder asked most_text IsCompileFault fault

@@ -4,13 +4,15 @@ use Rattle.std.specs.Fmt.{decimal}
 use Rattle.std.specs.String.{string_bytes}
 use Rattle.bpf_text.specs.Faults.{asm_fault_text, list_fault_text}
 use Rattle.rollout.specs.declared.fault.Answer.{Answer}
-use Rattle.rollout.specs.declared.fault.Answer.TheVariants.{Assembled, Compiled, Listed}
-use Rattle.rollout.specs.declared.fault.Answer.TheVariants.{Accepted, Chosen, Ready}
+use Rattle.rollout.specs.declared.fault.Answer.TheVariants.{Assembled, Checked, Compiled, Listed}
+use Rattle.rollout.specs.declared.fault.Answer.TheVariants.{Accepted, Chosen, Replayed, Ready}
 use Rattle.rollout.specs.declared.fault.Answer.TheVariants as answer
 use Rattle.rollout.specs.declared.fault.Fault.{Fault}
 use Rattle.rollout.specs.declared.fault.Fault.TheVariants.{File, Memory, Text, Bytes}
 use Rattle.rollout.specs.declared.fault.Fault.TheVariants.{Word, Connect, Bind}
 use Rattle.rollout.specs.declared.fault.Fault.TheVariants as fault
+use Rattle.rollout.specs.declared.request.Line.{Line}
+use Rattle.rollout.specs.declared.request.Line.TheVariants as request
 
 -- a text, ended by LF
 abbrev pub line : List ℕ → List ℕ
@@ -21,17 +23,26 @@ serving_line = line (codes "serving generation 1")
 
 abbrev pub answer_text : Answer → List ℕ
 answer_text (Assembled program) = line (decimal (length program.items / 8) ++ codes " slots")
+answer_text (Checked text) = string_bytes text
 answer_text (Compiled slots) = line (decimal slots ++ codes " slots")
 answer_text (Listed text) = string_bytes text
 answer_text (Accepted slots) = line (codes "accepted " ++ decimal slots ++ codes " slots")
 answer_text (Chosen choice instructions) =
     line (codes "choice " ++ decimal choice
     ++ codes " after " ++ decimal instructions ++ codes " instructions")
+answer_text (Replayed text) = string_bytes text
 answer_text (answer.Told text) = string_bytes text
 answer_text (Ready server plan) = serving_line
 
--- no text is stated of arrays, rules and manifests that are refused, the graph's faults and the
--- verifier's refusals
+-- the line that a server's operator's port is sent
+abbrev pub line_words : Line → List ℕ
+line_words (request.Load path) = codes "load " ++ path.now
+line_words request.Show = codes "show"
+line_words request.Cells = codes "cells"
+line_words request.Stop = codes "stop"
+
+-- no text is stated of arrays, rules, manifests and scripts that are refused, the graph's faults
+-- and the verifier's refusals
 abbrev pub fault_text : Fault → Option (List ℕ)
 fault_text File = Some (codes "B3 File")
 fault_text Memory = Some (codes "B4 Memory")

@@ -70,9 +70,10 @@ HasShort id rows n = (n < 2 ^ 16) × HasNumber id rows n
 abbrev pub LacksShort : Text → List Row → Type 0
 LacksShort id rows = (n : ℕ) → ¬ HasShort id rows n
 
--- the flag stands, or doesn't
+-- the flag stands, or doesn't: then it has its default
 pub record HasFlag (id : Text) (rows : List Row) (flag : Bool) : Type 0 where
   pub absent : one_of id rows ≡ None → flag ≡ false
+  pub unset : one_of id rows ≡ Some (codes "false") → flag ≡ false
   pub set : one_of id rows ≡ Some (codes "true") → flag ≡ true
 
 pub record HasPlan (rows : List Row) (plan : Plan) : Type 0 where
@@ -91,10 +92,12 @@ LacksPlan rows = (plan : Plan) → ¬ HasPlan rows plan
 abbrev pub verb_named : Text → Option Verb
 verb_named name =
     if bytes_eq name (codes "asm") then Some verb.Assemble
+    else if bytes_eq name (codes "check") then Some verb.Check
     else if bytes_eq name (codes "compile") then Some verb.Compile
     else if bytes_eq name (codes "list") then Some verb.List
     else if bytes_eq name (codes "verify") then Some verb.Verify
     else if bytes_eq name (codes "run") then Some verb.Run
+    else if bytes_eq name (codes "replay") then Some verb.Replay
     else if bytes_eq name (codes "serve") then Some verb.Serve
     else if bytes_eq name (codes "load") then Some verb.Load
     else if bytes_eq name (codes "show") then Some verb.Show
@@ -106,6 +109,8 @@ verb_named name =
 abbrev pub Asks : Option Verb → List Row → Request → Type 0
 Asks (Some verb.Assemble) rows (request.Assemble text out) =
     HasText (codes "IN") rows text.now × HasText (codes "OUT") rows out.now
+Asks (Some verb.Check) rows (request.Check manifest) =
+    HasText (codes "MANIFEST") rows manifest.now
 Asks (Some verb.Compile) rows (request.Compile text shape out) =
     HasText (codes "IN") rows text.now × HasText (codes "OUT") rows out.now × HasShape rows shape
 Asks (Some verb.List) rows (request.List path) = HasText (codes "IN") rows path.now
@@ -115,6 +120,8 @@ Asks (Some verb.Run) rows (request.Run path shape version bucket) =
     HasText (codes "IN") rows path.now × HasShape rows shape
     × (first_of (codes "version") rows ≡ option_copied version)
     × HasBucket rows bucket
+Asks (Some verb.Replay) rows (request.Replay manifest script) =
+    HasText (codes "MANIFEST") rows manifest.now × HasText (codes "SCRIPT") rows script.now
 Asks (Some verb.Serve) rows (request.Serve manifest plan) =
     HasText (codes "MANIFEST") rows manifest.now × HasPlan rows plan
 Asks (Some verb.Load) rows (request.Ask (line.Load path) port) =

@@ -4,7 +4,8 @@ ghost use Rattle.std.specs.Prelude.{IfOk, IfErr};
 ghost use Rattle.rollout.specs.Answers.{IsAnswer, IsRefused};
 
 use crate::commands::{
-    ask_server, assemble_file, compile_file, list_file, prepare_server, run_file, verify_file,
+    ask_server, assemble_file, check_file, compile_file, list_file, prepare_server, replay_script,
+    run_file, verify_file,
 };
 use crate::fault::{Answer, Fault};
 use crate::request::Request;
@@ -21,6 +22,9 @@ where
     match request {
         Request::Assemble { text, out } => Ok(Answer::Assembled {
             program: assemble_file(rt, text, out)?,
+        }),
+        Request::Check { manifest } => Ok(Answer::Checked {
+            text: check_file(rt, manifest)?,
         }),
         Request::Compile { text, shape, out } => Ok(Answer::Compiled {
             slots: compile_file(rt, text, shape, out)?,
@@ -43,6 +47,9 @@ where
                 instructions,
             })
         }
+        Request::Replay { manifest, script } => Ok(Answer::Replayed {
+            text: replay_script(rt, manifest, script)?,
+        }),
         Request::Serve { manifest, plan } => Ok(Answer::Ready {
             server: prepare_server(rt, manifest, plan)?,
             plan: *plan,

@@ -95,7 +95,7 @@ pub fn operator_option<'a>(alloc: Global) -> Arg<'a>
     port_option(
         alloc,
         "operator",
-        "Operator's port, on loopback: 1 to 65535",
+        "Operator's port, on loopback, without a password: 1 to 65535",
     )
 }
 

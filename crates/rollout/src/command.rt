@@ -65,7 +65,7 @@ where
     match answer(rt, &request) {
         Ok(Answer::Ready { server, plan }) => serve(rt, server, &plan, out, err),
         Ok(answer) => status_of(write!(out, "{answer}").is_ok(), DONE),
-        Err(fault) => refused(err, &fault),
+        Err(fault) => refused_for(out, err, &fault),
     }
 }
 
@@ -134,6 +134,23 @@ fn wrong_words<E: Write>(err: &mut E) -> u8
         "error: '--arrays' wants name:width:length, or name:64:length:limit, joined by commas"
     );
     status_of(said.is_ok(), USAGE)
+}
+
+// Prints where and why a manifest is refused on standard output, and the refusal.
+fn refused_for<O: Write, E: Write>(out: &mut O, err: &mut E, fault: &Fault) -> u8
+    ensures { result ≡ 1 }
+{
+    if let Fault::Diagnosed(diagnosis) = fault {
+        let _said = print_reason(out, diagnosis.reason.as_str());
+    }
+    refused(err, fault)
+}
+
+fn print_reason<O: Write>(out: &mut O, reason: &str) -> io::Result<()>
+    ensures { OnOk result (Appends (O.contents out.old) (O.contents out.new) reason.now) }
+{
+    out.write_all(reason.as_bytes())?;
+    out.flush()
 }
 
 fn refused<E: Write>(err: &mut E, fault: &Fault) -> u8

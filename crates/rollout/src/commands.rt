@@ -2,16 +2,20 @@
 
 mod ask;
 mod asm;
+mod check;
 mod compile;
 mod list;
+mod playing;
 mod run;
 mod serve;
 mod verify;
 
 pub use ask::ask_server;
 pub use asm::assemble_file;
+pub use check::check_file;
 pub use compile::compile_file;
 pub use list::list_file;
+pub use playing::replay_script;
 pub use run::run_file;
 pub use serve::{prepare_server, serve_until_stopped};
 pub use verify::verify_file;

@@ -7,7 +7,9 @@ use crate::request::Plan;
 use bpf_text::{AsmFault, ListFault};
 use bpf_verify::Refusal;
 use cells::CellsFault;
+use diagnosis::Refused;
 use flow_check::FlowFault;
+use replaying::ReplayFault;
 use rule_compile::CompileFault;
 use rule_lang::RuleFault;
 use serving::{LoaderFault, Server};
@@ -36,6 +38,10 @@ pub enum Fault {
     Rule(Refusal),
     /// B3, B4, M1 to M8: the manifest of a server comes to no ruleset.
     Manifest(LoaderFault),
+    /// M1 to M8: a manifest comes to no ruleset, and where and why.
+    Diagnosed(Refused),
+    /// B2 to B4, M1 to M8: a script, or a manifest of it, isn't taken.
+    Replay(ReplayFault),
     /// B1: no line says what the operator asks.
     Word,
     /// B5: nobody answers at the operator's port.
@@ -61,6 +67,8 @@ impl fmt::Display for Fault {
             Fault::Flow(fault) => write!(f, "{fault}"),
             Fault::Rule(refusal) => write!(f, "{refusal}"),
             Fault::Manifest(fault) => write!(f, "{fault}"),
+            Fault::Diagnosed(refused) => write!(f, "{}", refused.fault),
+            Fault::Replay(fault) => write!(f, "{fault}"),
             Fault::Word => f.write_str("B1 Word"),
             Fault::Connect => f.write_str("B5 Connect"),
             Fault::Bind => f.write_str("B6 Bind"),
@@ -74,6 +82,8 @@ impl fmt::Display for Fault {
 pub enum Answer {
     /// The text was assembled into these bytes, of which the number of slots is printed.
     Assembled { program: Vec<u8> },
+    /// The manifest comes to a ruleset; the lines of its arrays and apps.
+    Checked { text: String },
     /// The rule was compiled into a program of so many slots.
     Compiled { slots: usize },
     /// The listing of the bytes: a line an instruction.
@@ -82,6 +92,8 @@ pub enum Answer {
     Accepted { slots: usize },
     /// The program chose a release, or none, and did so many instructions.
     Chosen { choice: u8, instructions: u32 },
+    /// The script was played; the lines of its events.
+    Replayed { text: String },
     /// The lines of a server's reply.
     Told { text: String },
     /// The server of a manifest is ready to serve.
@@ -97,6 +109,7 @@ impl fmt::Display for Answer {
                 let slots = program.len() / 8;
                 writeln!(f, "{slots} slots")
             }
+            Answer::Checked { text } => f.write_str(text),
             Answer::Compiled { slots } => writeln!(f, "{slots} slots"),
             Answer::Listed { text } => f.write_str(text),
             Answer::Accepted { slots } => writeln!(f, "accepted {slots} slots"),
@@ -104,6 +117,7 @@ impl fmt::Display for Answer {
                 choice,
                 instructions,
             } => writeln!(f, "choice {choice} after {instructions} instructions"),
+            Answer::Replayed { text } => f.write_str(text),
             Answer::Told { text } => f.write_str(text),
             Answer::Ready { .. } => f.write_str("serving generation 1\n"),
         }

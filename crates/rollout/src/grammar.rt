@@ -17,9 +17,18 @@ fn assemble_command<'a>(alloc: Global) -> Result<Command<'a>, AllocError>
     ensures local { IfOk result (λ c. (fields_of c).has_globals ≡ false) }
 {
     Command::new(alloc, "asm")
-        .about("Assemble a text into a program's bytes: `N slots`")
+        .about("Assemble a text into a program's bytes; prints `N slots`")
         .arg(file_argument(alloc, "IN", "File of assembly text"))?
         .arg(file_argument(alloc, "OUT", "File that gets the program's bytes"))
+}
+
+fn check_command<'a>(alloc: Global) -> Result<Command<'a>, AllocError>
+    ensures shape { IfOk result (λ c. shape_of c ≡ grammar.check_command) }
+    ensures local { IfOk result (λ c. (fields_of c).has_globals ≡ false) }
+{
+    Command::new(alloc, "check")
+        .about("Tell what a manifest declares, or where and why it is refused")
+        .arg(file_argument(alloc, "MANIFEST", "File of the manifest"))
 }
 
 fn compile_command<'a>(alloc: Global) -> Result<Command<'a>, AllocError>
@@ -27,7 +36,7 @@ fn compile_command<'a>(alloc: Global) -> Result<Command<'a>, AllocError>
     ensures local { IfOk result (λ c. (fields_of c).has_globals ≡ false) }
 {
     Command::new(alloc, "compile")
-        .about("Compile a rule into an accepted program's bytes: `N slots`")
+        .about("Compile a rule into an accepted program's bytes; prints `N slots`")
         .arg(file_argument(alloc, "IN", "File of the rule's text"))?
         .arg(file_argument(alloc, "OUT", "File that gets the program's bytes"))?
         .arg(releases_option(alloc))?
@@ -66,7 +75,7 @@ fn verify_command<'a>(alloc: Global) -> Result<Command<'a>, AllocError>
     program_command(
         alloc,
         "verify",
-        "Tell whether a program is accepted: `accepted N slots`, or its refusal",
+        "Tell whether a program is accepted; prints `accepted N slots`, or its refusal",
     )
 }
 
@@ -74,10 +83,40 @@ fn run_command<'a>(alloc: Global) -> Result<Command<'a>, AllocError>
     ensures shape { IfOk result (λ c. shape_of c ≡ grammar.run_command) }
     ensures local { IfOk result (λ c. (fields_of c).has_globals ≡ false) }
 {
-    let about = "Verify a program and run it for one app: `choice K after N instructions`";
+    let about = "Verify a program and run it for one app; prints `choice K after N instructions`";
     program_command(alloc, "run", about)?
         .arg(version_option(alloc))?
         .arg(bucket_option(alloc))
+}
+
+// What `replay --help` ends with.
+const SCRIPT: &str = "\
+A script has a line an event. Empty lines and those that begin with # are passed over.
+
+  # Worker 0 (of 0 to 63) starts a run for the app agent: bucket 4998, and no version.
+  start 0 agent 4998 -
+  # It does one instruction, then five (1 to 4097 at once), and gives its choice.
+  step 0
+  step 0 5
+  finish 0
+  # The rest of the line is a manifest's path. A run that has started keeps its ruleset.
+  swap examples/staged/next.toml
+  start 0 agent 4999 1.2.0
+  step 0 5
+  finish 0
+
+Each event prints `started`, `stepped N`, `finished K after N under R`, `swapped R`, or
+`refused CODE Name`. All lines are read, and all manifests loaded, before the first event.";
+
+fn replay_command<'a>(alloc: Global) -> Result<Command<'a>, AllocError>
+    ensures shape { IfOk result (λ c. shape_of c ≡ grammar.replay_command) }
+    ensures local { IfOk result (λ c. (fields_of c).has_globals ≡ false) }
+{
+    Command::new(alloc, "replay")
+        .about("Play a script of runs and swaps, without a server; prints a line an event")
+        .after_help(SCRIPT)
+        .arg(file_argument(alloc, "MANIFEST", "File of the first manifest"))?
+        .arg(file_argument(alloc, "SCRIPT", "File of the script"))
 }
 
 fn serve_command<'a>(alloc: Global) -> Result<Command<'a>, AllocError>
@@ -96,7 +135,9 @@ fn server_ports<'a>(alloc: Global) -> Result<Command<'a>, AllocError>
     ensures local { IfOk result (λ c. (fields_of c).has_globals ≡ false) }
 {
     Command::new(alloc, "serve")
-        .about("Serve a manifest's ruleset: `serving generation 1`, until the operator stops it")
+        .about(
+            "Serve a manifest's ruleset until the operator stops it; prints `serving generation 1`",
+        )
         .arg(file_argument(alloc, "MANIFEST", "File of the manifest"))?
         .arg(port_option(
             alloc,
@@ -111,7 +152,7 @@ fn load_command<'a>(alloc: Global) -> Result<Command<'a>, AllocError>
     ensures local { IfOk result (λ c. (fields_of c).has_globals ≡ false) }
 {
     Command::new(alloc, "load")
-        .about("Have a server load a manifest: `generation G`, or its refusal")
+        .about("Have a server load a manifest; prints `generation G`, or its refusal")
         .arg(file_argument(alloc, "PATH", "Manifest, as the server sees it"))?
         .arg(operator_option(alloc))
 }
@@ -144,7 +185,7 @@ fn cells_command<'a>(alloc: Global) -> Result<Command<'a>, AllocError>
     operator_command(
         alloc,
         "cells",
-        "Tell a server's counters that aren't 0: `NAME[I] V`",
+        "Tell a server's counters that aren't 0; prints `NAME[I] V` for each",
     )
 }
 
@@ -152,7 +193,7 @@ fn stop_command<'a>(alloc: Global) -> Result<Command<'a>, AllocError>
     ensures shape { IfOk result (λ c. shape_of c ≡ grammar.operator_command (codes "stop")) }
     ensures local { IfOk result (λ c. (fields_of c).has_globals ≡ false) }
 {
-    operator_command(alloc, "stop", "End a server: `stopping`")
+    operator_command(alloc, "stop", "End a server; prints `stopping`")
 }
 
 /// The grammar of the command line.
@@ -164,9 +205,11 @@ pub fn grammar<'a>(alloc: Global) -> Result<Command<'a>, AllocError>
         .subcommand_required(true)
         .subcommand(assemble_command(alloc)?)?
         .subcommand(cells_command(alloc)?)?
+        .subcommand(check_command(alloc)?)?
         .subcommand(compile_command(alloc)?)?
         .subcommand(list_command(alloc)?)?
         .subcommand(load_command(alloc)?)?
+        .subcommand(replay_command(alloc)?)?
         .subcommand(run_command(alloc)?)?
         .subcommand(serve_command(alloc)?)?
         .subcommand(show_command(alloc)?)?

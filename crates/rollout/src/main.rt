@@ -1,5 +1,6 @@
-//! The program `rollout`: it assembles, lists, verifies and runs rollout programs. `command` does
-//! what the words ask, over any two writers.
+//! The program `rollout`: it serves updates by a manifest's rules, asks a server that runs, checks
+//! manifests, replays scripts, and assembles, compiles, lists, verifies and runs single programs.
+//! `command` does what the words ask, over any two writers.
 #![tactic(auto)]
 
 mod answer;
@@ -9,6 +10,7 @@ mod commands;
 mod fault;
 mod files;
 mod grammar;
+mod options;
 mod program;
 mod request;
 #[cfg(test)]

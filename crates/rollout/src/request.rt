@@ -27,6 +27,10 @@ pub enum Request<'a> {
         shape: DeclaredShape,
         out: &'a str,
     },
+    /// Tell where and why a manifest is refused, or what it declares.
+    Check {
+        manifest: &'a str,
+    },
     /// List the instructions of a file's bytes.
     List {
         path: &'a str,
@@ -35,6 +39,11 @@ pub enum Request<'a> {
     Verify {
         path: &'a str,
         shape: DeclaredShape,
+    },
+    /// Play a script on a world whose first ruleset is a manifest's.
+    Replay {
+        manifest: &'a str,
+        script: &'a str,
     },
     /// Serve the ruleset of a manifest.
     Serve {

@@ -1,10 +1,13 @@
 //! The program's rows: words and a file's program, and what the command prints and answers. The
-//! expected lines come from `docs/PROGRAM.md` and from runs worked out by hand.
+//! expected lines come from `docs/PROGRAM.md` and from runs worked out by hand. A test runs in a
+//! folder of its own, where its files lie.
 
 mod arrays;
+mod checks;
 mod memory;
 mod programs;
 mod refusals;
+mod replays;
 mod rules;
 mod server;
 mod texts;
@@ -12,8 +15,7 @@ mod usage;
 
 use crate::command::command;
 use bpf_text::assemble;
-use std::alloc::Global;
-use std::fs;
+use std::io::ErrorKind;
 use std::net::{Net, TcpListener, TcpStream};
 use std::process::Abort;
 use std::rt::Files;
@@ -21,64 +23,92 @@ use std::sync::Wait;
 use std::test::Fail;
 use std::thread::Threads;
 use std::time::Clock;
+use std::{fs, io};
 
-/// A program: the text that it is assembled from, or its bytes where they spell none.
-#[derive(Clone, Copy)]
-enum Program {
-    Text(&'static str),
-    Bytes(&'static [u8]),
+/// What a command came to: its status, and what it printed on standard output and standard error.
+#[derive(Drop)]
+struct Printed {
+    status: u8,
+    out: String,
+    err: String,
 }
 
-impl Program {
-    fn bytes(&self, alloc: Global) -> Result<Vec<u8>, Fail> {
-        match self {
-            Program::Text(text) => Ok(assemble(alloc, text)?),
-            Program::Bytes(bytes) => Ok(Vec::from_slice(alloc, bytes)?),
-        }
+/// Does the command of a line of words, of which `''` is the empty one.
+fn told<R>(rt: &R, line: &str) -> io::Result<Printed>
+where
+    R: Files + Threads + Wait + AllocGlobal + Clock + Eprint + Sync,
+    R: Net<Listener = TcpListener, Stream = TcpStream>,
+    R::File: Send,
+    R::Dir: Send,
+{
+    let mut words = Vec::new(rt.alloc());
+    for word in line.split_whitespace() {
+        words.push(word.trim_matches('\''))?;
     }
+    let mut out = Vec::new(rt.alloc());
+    let mut err = Vec::new(rt.alloc());
+    let status = command(rt, words.as_slice(), &mut out, &mut err);
+    Ok(Printed {
+        status,
+        out: text_of(out)?,
+        err: text_of(err)?,
+    })
 }
 
-/// A program's file, the words round its name, and the line that is printed: on standard error with
-/// status 1 where it is a refusal, and else on standard output with status 0.
-#[derive(Clone, Copy)]
-struct Row<'a> {
-    name: &'a str,
-    program: Program,
-    verb: &'a str,
-    options: &'a [&'a str],
-    line: &'a str,
+fn text_of(bytes: Vec<u8>) -> io::Result<String> {
+    String::from_utf8(bytes).map_err(|_| io::Error::from(ErrorKind::InvalidData))
 }
 
-/// Writes the file, whose name has the process in it, does the command and compares.
-fn check<R>(rt: &R, process: u32, row: &Row<'_>) -> Result<(), Fail>
+/// Asserts what a command prints: a refusal on standard error with status 1, and any other line on
+/// standard output with status 0. The line `usage` stands for an error of the words, with status 2.
+fn prints<R>(rt: &R, words: &str, line: &str) -> Result<(), Fail>
 where
     R: Files + Threads + Wait + AllocGlobal + Clock + Eprint + Sync + Abort,
     R: Net<Listener = TcpListener, Stream = TcpStream>,
     R::File: Send,
     R::Dir: Send,
 {
-    let path = format!(in rt.alloc(); "/tmp/rollout-{}-{}.bin", process, row.name)?;
-    fs::write(rt, path.as_str(), &row.program.bytes(rt.alloc())?)?;
-    let mut words = vec![in rt.alloc(); "rollout", row.verb, path.as_str()]?;
-    for option in row.options {
-        words.push(*option)?;
-    }
-    let mut out = Vec::new(rt.alloc());
-    let mut err = Vec::new(rt.alloc());
-    let status = command(rt, words.as_slice(), &mut out, &mut err);
-    fs::remove_file(rt, path.as_str())?;
-    let (wanted, printed, silent) = if row.line.starts_with("refused ") {
-        (1, &err, &out)
+    let told = told(rt, words)?;
+    let line = format!(in rt.alloc(); "{line}\n")?;
+    let right = if line.as_str() == "usage\n" {
+        told.status == 2 && told.out.is_empty() && told.err.starts_with("error: ")
+    } else if line.starts_with("refused ") {
+        told.status == 1 && told.out.is_empty() && told.err.as_str() == line.as_str()
     } else {
-        (0, &out, &err)
+        told.status == 0 && told.out.as_str() == line.as_str() && told.err.is_empty()
     };
-    assert_eq!(rt;
-        printed.as_slice(),
-        row.line.as_bytes(),
-        "line of {}",
-        row.name
-    );
-    assert!(rt; silent.is_empty(), "another line of {}", row.name);
-    assert_eq!(rt; status, wanted, "status of {}", row.name);
+    assert!(rt; right, "{words}: {} {}{}", told.status, told.out, told.err);
+    Ok(())
+}
+
+/// Writes the program of a text, whose lines are divided by ` / ` too.
+fn write_program<R: Files + AllocGlobal>(rt: &R, path: &str, text: &str) -> Result<(), Fail> {
+    let text = text.replace(rt.alloc(), " / ", "\n")?;
+    fs::write(rt, path, &assemble(rt.alloc(), text.as_str())?)?;
+    Ok(())
+}
+
+/// Does the commands of a table, each of which stands before ` -> ` and what it prints. The lines
+/// before it are the text of the program in the file.
+fn does<R>(rt: &R, path: &str, table: &str) -> Result<(), Fail>
+where
+    R: Files + Threads + Wait + AllocGlobal + Clock + Eprint + Sync + Abort,
+    R: Net<Listener = TcpListener, Stream = TcpStream>,
+    R::File: Send,
+    R::Dir: Send,
+{
+    let mut text = String::new(rt.alloc());
+    for row in table.lines() {
+        if let Some((words, line)) = row.split_once(" -> ") {
+            write_program(rt, path, text.as_str())?;
+            prints(rt, words, line)?;
+        } else if row.is_empty() {
+            text.clear();
+        } else {
+            text.push_str(row)?;
+            text.push('\n')?;
+        }
+    }
+    fs::remove_file(rt, path)?;
     Ok(())
 }

@@ -1,26 +1,24 @@
 //! What the words of a command line ask for.
 
-ghost use Rattle.std.specs.Prelude.{◌≡◌, ℕ, ◌≤◌, IfNone, IfOk, IfSome, Err, Some};
+ghost use Rattle.std.specs.Prelude.{◌≡◌, IfOk, Err, Some};
 ghost use Rattle.clap.specs.Words.{found_of, rows_of, subcommand_rows_of};
 ghost use Rattle.rollout.specs.Words.{Asks, AsksNothing, IsAsked, IsNothingAsked, verb_named};
-ghost use Rattle.rollout.specs.Words.{HasArrays, HasBucket, HasReleases, HasShape, HasText};
-ghost use Rattle.rollout.specs.Words.{LacksArrays, LacksBucket, LacksReleases, LacksShape};
-ghost use Rattle.rollout.specs.Words.{LacksText};
-ghost use Rattle.rollout.specs.Words.{HasPlan, HasShort, LacksPlan, LacksShort};
 
-use crate::request::{Bucket, DeclaredShape, Line, NoRequest, Plan, Request};
+use crate::options::{bucket_of, number_of, plan_of, shape_of, text_of};
+use crate::request::{Line, NoRequest, Request};
 use clap::ArgMatches;
-use declarations::{ArrayDeclaration, SpecFault, read_spec};
 use std::alloc::Global;
 
 /// A command.
 #[derive(Clone, Copy)]
 pub enum Verb {
     Assemble,
+    Check,
     Compile,
     List,
     Verify,
     Run,
+    Replay,
     Serve,
     Load,
     Show,
@@ -48,10 +46,12 @@ fn verb_named(name: &str) -> Option<Verb>
 {
     match name {
         "asm" => Some(Verb::Assemble),
+        "check" => Some(Verb::Check),
         "compile" => Some(Verb::Compile),
         "list" => Some(Verb::List),
         "verify" => Some(Verb::Verify),
         "run" => Some(Verb::Run),
+        "replay" => Some(Verb::Replay),
         "serve" => Some(Verb::Serve),
         "load" => Some(Verb::Load),
         "show" => Some(Verb::Show),
@@ -73,10 +73,12 @@ fn request_named<'a>(
 {
     match verb {
         Some(Verb::Assemble) => assemble_asked(found),
+        Some(Verb::Check) => check_asked(found),
         Some(Verb::Compile) => compile_asked(alloc, found),
         Some(Verb::List) => list_asked(found),
         Some(Verb::Verify) => verify_asked(alloc, found),
         Some(Verb::Run) => run_asked(alloc, found),
+        Some(Verb::Replay) => replay_asked(found),
         Some(Verb::Serve) => serve_asked(found),
         Some(Verb::Load) => load_asked(found),
         Some(Verb::Show) => show_asked(found),
@@ -94,6 +96,15 @@ fn assemble_asked<'a>(found: &ArgMatches<'a>) -> Result<Request<'a>, NoRequest>
     let text = text_of(found, "IN")?;
     let out = text_of(found, "OUT")?;
     Ok(Request::Assemble { text, out })
+}
+
+fn check_asked<'a>(found: &ArgMatches<'a>) -> Result<Request<'a>, NoRequest>
+    ensures asked { IfOk result (Asks (Some Verb.Check) (rows_of (found_of found.now))) }
+    ensures nothing { result ≡ Err NoRequest.Wrong
+        → AsksNothing (Some Verb.Check) (rows_of (found_of found.now)) }
+{
+    let manifest = text_of(found, "MANIFEST")?;
+    Ok(Request::Check { manifest })
 }
 
 fn compile_asked<'a>(alloc: Global, found: &ArgMatches<'a>) -> Result<Request<'a>, NoRequest>
@@ -140,6 +151,16 @@ fn run_asked<'a>(alloc: Global, found: &ArgMatches<'a>) -> Result<Request<'a>, N
         version: found.get_str("version"),
         bucket,
     })
+}
+
+fn replay_asked<'a>(found: &ArgMatches<'a>) -> Result<Request<'a>, NoRequest>
+    ensures asked { IfOk result (Asks (Some Verb.Replay) (rows_of (found_of found.now))) }
+    ensures nothing { result ≡ Err NoRequest.Wrong
+        → AsksNothing (Some Verb.Replay) (rows_of (found_of found.now)) }
+{
+    let manifest = text_of(found, "MANIFEST")?;
+    let script = text_of(found, "SCRIPT")?;
+    Ok(Request::Replay { manifest, script })
 }
 
 fn serve_asked<'a>(found: &ArgMatches<'a>) -> Result<Request<'a>, NoRequest>
@@ -197,97 +218,4 @@ fn stop_asked<'a>(found: &ArgMatches<'a>) -> Result<Request<'a>, NoRequest>
         line: Line::Stop,
         port,
     })
-}
-
-// How the options say that a server serves.
-fn plan_of(found: &ArgMatches<'_>) -> Result<Plan, NoRequest>
-    ensures given { IfOk result (HasPlan (rows_of (found_of found.now))) }
-    ensures lacking { result ≡ Err NoRequest.Wrong → LacksPlan (rows_of (found_of found.now)) }
-{
-    let port = number_of(found, "port")?;
-    let operator = number_of(found, "operator")?;
-    let workers = number_of(found, "workers")?;
-    let timeout = number_of(found, "timeout")?;
-    if workers < 1 || workers > 64 {
-        return Err(NoRequest::Wrong);
-    }
-    Ok(Plan {
-        port,
-        operator,
-        workers,
-        timeout,
-        log: found.get_flag("log"),
-    })
-}
-
-// The number of an option, of 16 bits.
-fn number_of(found: &ArgMatches<'_>, id: &str) -> Result<u16, NoRequest>
-    ensures given { IfOk result (HasShort id.now (rows_of (found_of found.now))) }
-    ensures only { IfOk result
-        (λ n. (m : ℕ) → HasShort id.now (rows_of (found_of found.now)) m → m ≡ n) }
-    ensures lacking { result ≡ Err NoRequest.Wrong
-        → LacksShort id.now (rows_of (found_of found.now)) }
-{
-    match found.get_one::<u16>(id) {
-        Some(number) => Ok(number),
-        None => Err(NoRequest::Wrong),
-    }
-}
-
-// The text of an argument.
-fn text_of<'a>(found: &ArgMatches<'a>, id: &str) -> Result<&'a str, NoRequest>
-    ensures given { IfOk result (λ t. HasText id.now (rows_of (found_of found.now)) t.now) }
-    ensures lacking { result ≡ Err NoRequest.Wrong
-        → LacksText id.now (rows_of (found_of found.now)) }
-{
-    match found.get_str(id) {
-        Some(text) => Ok(text),
-        None => Err(NoRequest::Wrong),
-    }
-}
-
-// The shape that the options declare.
-fn shape_of(alloc: Global, found: &ArgMatches<'_>) -> Result<DeclaredShape, NoRequest>
-    ensures given { IfOk result (HasShape (rows_of (found_of found.now))) }
-    ensures lacking { result ≡ Err NoRequest.Wrong → LacksShape (rows_of (found_of found.now)) }
-{
-    let Some(releases) = releases_of(found) else {
-        return Err(NoRequest::Wrong);
-    };
-    let arrays = arrays_of(alloc, found)?;
-    Ok(DeclaredShape { releases, arrays })
-}
-
-fn releases_of(found: &ArgMatches<'_>) -> Option<u8>
-    ensures given { IfSome result (HasReleases (rows_of (found_of found.now))) }
-    ensures lacking { IfNone result (LacksReleases (rows_of (found_of found.now))) }
-{
-    match found.get_one::<u8>("releases") {
-        Some(releases) if releases <= 64 => Some(releases),
-        _ => None,
-    }
-}
-
-fn arrays_of(alloc: Global, found: &ArgMatches<'_>) -> Result<Vec<ArrayDeclaration>, NoRequest>
-    ensures given { IfOk result (λ v. HasArrays (rows_of (found_of found.now)) v.items) }
-    ensures lacking { result ≡ Err NoRequest.Wrong → LacksArrays (rows_of (found_of found.now)) }
-{
-    let Some(text) = found.get_str("arrays") else {
-        return Ok(Vec::new(alloc));
-    };
-    match read_spec(alloc, text) {
-        Ok(arrays) => Ok(arrays),
-        Err(SpecFault::Malformed) => Err(NoRequest::Wrong),
-        Err(SpecFault::Memory) => Err(NoRequest::Memory),
-    }
-}
-
-fn bucket_of(found: &ArgMatches<'_>) -> Result<Bucket, NoRequest>
-    ensures given { IfOk result (HasBucket (rows_of (found_of found.now))) }
-    ensures lacking { result ≡ Err NoRequest.Wrong → LacksBucket (rows_of (found_of found.now)) }
-{
-    match found.get_one::<u16>("bucket") {
-        Some(number) if number < 10000 => Ok(Bucket { number }),
-        _ => Err(NoRequest::Wrong),
-    }
 }

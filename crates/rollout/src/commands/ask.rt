@@ -1,5 +1,9 @@
 //! `load`, `show`, `cells` and `stop`: a line to a server's operator's port, and its reply.
 
+ghost use Rattle.std.specs.Prelude.{◌≡◌, IfOk};
+ghost use Rattle.std.specs.String.{string_bytes};
+ghost use Rattle.rollout.specs.Texts.{line_words};
+
 use crate::fault::Fault;
 use crate::request::Line;
 use operator::{AskFault, ask};
@@ -24,7 +28,9 @@ where
 }
 
 // The line as it is sent.
-fn words_of(alloc: Global, line: &Line<'_>) -> Result<String, AllocError> {
+fn words_of(alloc: Global, line: &Line<'_>) -> Result<String, AllocError>
+    ensures { IfOk result (λ words. string_bytes words ≡ line_words line.now) }
+{
     match line {
         Line::Load(path) => format!(in alloc; "load {path}"),
         Line::Show => String::from_str(alloc, "show"),

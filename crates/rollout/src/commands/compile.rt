@@ -1,7 +1,7 @@
 //! `compile`: the program of a file's rule.
 
 ghost use Rattle.std.specs.Prelude.{IfOk, IfErr};
-ghost use Rattle.rollout.specs.Rules.{HasCompiled, IsRuleFault, IsRuleProgram, IsRuleRefusal};
+ghost use Rattle.rollout.specs.Rules.{HasCompiled, IsCompileFault, IsRuleProgram, IsRuleRefusal};
 
 use super::MOST_TEXT;
 use crate::fault::Fault;
@@ -44,7 +44,7 @@ pub fn compile_file<R: Files + AllocGlobal>(
 // The program of the rule that the bytes spell.
 fn compiled(alloc: Global, shape: &Shape, bytes: &[u8]) -> Result<Verified, Fault>
     ensures program { IfOk result (λ p. IsRuleProgram shape.now p bytes.now) }
-    ensures fault { IfErr result (λ e. IsRuleFault shape.now e bytes.now) }
+    ensures fault { IfErr result (λ e. IsCompileFault shape.now e bytes.now) }
 {
     if bytes.len() > MOST_TEXT as usize {
         return Err(Fault::File);

@@ -1,6 +1,7 @@
 //! `serve`: a server, from its manifest to its operator's stop.
 
-ghost use Rattle.std.specs.Prelude.{[], Ok, IfOk};
+ghost use Rattle.std.specs.Prelude.{[], Ok, IfOk, IfErr};
+ghost use Rattle.rollout.specs.Manifests.{IsServeRefusal};
 ghost use Rattle.serving.specs.Manifests.{LoadsSome};
 
 use crate::fault::Fault;
@@ -17,7 +18,8 @@ use workers::Service;
 pub fn prepare_server<R>(rt: &R, manifest: &str, plan: &Plan) -> Result<Server, Fault>
 where
     R: Files + AllocGlobal + Net<Listener = TcpListener, Stream = TcpStream>,
-    ensures { IfOk result (λ s. LoadsSome [] (Ok s.rules) s.directory) }
+    ensures server { IfOk result (λ s. LoadsSome [] (Ok s.rules) s.directory) }
+    ensures fault { IfErr result IsServeRefusal }
 {
     match prepare(rt, manifest, plan.port, plan.operator) {
         Ok(server) => Ok(server),

@@ -1,4 +1,5 @@
 //! Memory that is refused to the command: a refusal of its own, status 1, and nothing printed else.
+//! And a write that fails.
 
 use crate::command::{command, unreadable_words, usage};
 use std::alloc::AllocError;
@@ -9,7 +10,7 @@ use std::sync::Wait;
 use std::test::Fail;
 use std::thread::Threads;
 use std::time::Clock;
-use std::{fs, io, process};
+use std::{fs, io};
 
 /// The memory that the words want is the command's own: B4, and no fault of the words.
 #[test]
@@ -31,62 +32,55 @@ fn refused_to_the_words(rt: HostRuntime) {
 // mov r0, 0 / exit
 const NONE: &[u8] = b"\xb7\0\0\0\0\0\0\0\x95\0\0\0\0\0\0\0";
 
-fn path_of(rt: &HostRuntime) -> Result<String, AllocError> {
-    format!(in rt.alloc();
-        "/tmp/rollout-{}-refused_once.bin",
-        process::id(rt.process())
-    )
-}
+const WORDS: [&str; 7] = [
+    "rollout",
+    "run",
+    "m.bin",
+    "--releases",
+    "0",
+    "--arrays",
+    "a:64:1",
+];
 
-/// The status, and what is printed in room that stands ready.
-fn run_none<R>(rt: &R, path: &str) -> (u8, [u8; 32], [u8; 32])
+/// The status of a run, which prints into room that stands ready.
+fn run_none<R>(rt: &R, room: &mut [u8], said: &mut [u8]) -> u8
 where
     R: Files + Threads + Wait + AllocGlobal + Clock + Eprint + Sync,
     R: Net<Listener = TcpListener, Stream = TcpStream>,
     R::File: Send,
     R::Dir: Send,
 {
-    let mut room = [0; 32];
-    let mut said = [0; 32];
-    let mut out: &mut [u8] = &mut room;
-    let mut err: &mut [u8] = &mut said;
-    let words = [
-        "rollout",
-        "run",
-        path,
-        "--releases",
-        "0",
-        "--arrays",
-        "a:64:1",
-    ];
-    let status = command(rt, &words, &mut out, &mut err);
-    (status, room, said)
+    let mut out: &mut [u8] = room;
+    let mut err: &mut [u8] = said;
+    command(rt, &WORDS, &mut out, &mut err)
 }
+
+const REFUSALS: [&[u8]; 4] = [
+    b"refused B4 Memory\n",
+    b"refused N3 Memory\n",
+    b"refused F9 Memory\n",
+    b"refused V15 Memory\n",
+];
 
 /// Asked again the command answers, so this passes wherever one growth of it is refused, as
 /// `rt try --test --fail-alloc N -- memory` does.
 #[test]
 fn refused_once(rt: HostRuntime) -> Result<(), Fail> {
-    let path = match path_of(&rt) {
-        Ok(path) => path,
-        Err(_) => path_of(&rt)?,
-    };
-    fs::write(&rt, path.as_str(), NONE)?;
-    let (mut status, mut room, said) = run_none(&rt, path.as_str());
+    fs::write(&rt, "m.bin", NONE)?;
+    let mut room = [0; 32];
+    let mut said = [0; 32];
+    let mut status = run_none(&rt, &mut room, &mut said);
     if status != 0 {
         assert_eq!(rt; status, 1);
         assert_eq!(rt; room, [0; 32]);
-        let lines = [
-            "refused B4 Memory\n",
-            "refused N3 Memory\n",
-            "refused F9 Memory\n",
-            "refused V15 Memory\n",
-        ];
-        assert!(rt; lines.iter().any(|line| said.starts_with(line.as_bytes())));
-        (status, room, _) = run_none(&rt, path.as_str());
+        assert!(rt; REFUSALS.iter().any(|line| said.starts_with(line)));
+        status = run_none(&rt, &mut room, &mut said);
     }
-    fs::remove_file(&rt, path.as_str())?;
     assert_eq!(rt; status, 0);
     assert!(rt; room.starts_with(b"choice 0 after 2 instructions\n"));
+    // An answer that can't be written is status 1.
+    let mut narrow = [0; 10];
+    assert_eq!(rt; run_none(&rt, &mut narrow, &mut said), 1);
+    fs::remove_file(&rt, "m.bin")?;
     Ok(())
 }

@@ -1,74 +1,183 @@
-//! The commands of a server where there is none, and how a server is asked for.
+//! A server, from its words to its operator's stop: both ends in one process.
 
-use crate::command::command;
-use std::net::{Net, TcpListener, TcpStream};
-use std::process::Abort;
+use super::{Printed, prints, text_of, told, write_program};
+use std::io::{self, Read, Write};
+use std::net::{Ipv4Addr, Net, TcpListener, TcpStream};
 use std::rt::Files;
 use std::sync::Wait;
 use std::test::Fail;
 use std::thread::Threads;
-use std::time::Clock;
+use std::time::{Clock, Duration};
+use std::{fs, thread};
 
-/// The words of a command, divided by blanks, and the refusal.
-const REFUSED: [(&str, &str); 6] = [
-    ("show --operator 1", "refused B5 Connect\n"),
-    ("cells --operator 1", "refused B5 Connect\n"),
-    ("stop --operator 1", "refused B5 Connect\n"),
-    ("load a.toml --operator 1", "refused B5 Connect\n"),
-    (
-        "serve /tmp/no/manifest --port 1 --operator 1 --workers 1",
-        "refused B3 File\n",
-    ),
-    (
-        "serve /tmp/no/manifest --port 1 --operator 1 --workers 64 --timeout 3600 --log",
-        "refused B3 File\n",
-    ),
-];
+/// One app, which counts its runs and is offered nothing.
+const FIRST: &[u8] = br#"server = "prod"
+array = [{ name = "a", width = 64, length = 1 }]
+app = [{ appid = "x", program = "s_count.bin" }]
+"#;
 
-/// Words of `serve` with a number out of its range.
-const WRONG: [&str; 6] = [
-    "serve a.toml --port 0 --operator 8081 --workers 4",
-    "serve a.toml --port 8080 --operator 65536 --workers 4",
-    "serve a.toml --port 8080 --operator 8081 --workers 0",
-    "serve a.toml --port 8080 --operator 8081 --workers 65",
-    "serve a.toml --port 8080 --operator 8081 --workers 4 --timeout 0",
-    "serve a.toml --port 8080 --operator 8081 --workers 4 --timeout 3601",
-];
+/// The program of the second app ends without a choice.
+const UNSET: &[u8] = br#"server = "prod"
+array = [{ name = "z", width = 64, length = 1 }]
+app = [{ appid = "x", program = "s_none.bin" }, { appid = "y", program = "s_exit.bin" }]
+"#;
 
-/// Does a command, which prints no result; its status, and what was said.
-fn said<R>(rt: &R, line: &'static str) -> Result<(u8, Vec<u8>), Fail>
+const NEXT: &[u8] = br#"server = "next"
+app = [{ appid = "x", program = "s_none.bin" }]
+"#;
+
+/// What is asked and what it is answered, in turn: `post` is a request for the apps x and y, which
+/// is answered by a server of this name, and else it is the operator's words. In answers `;` stands
+/// for the line feed.
+const SESSION: &str = "show|generation 1;app x releases 0 slots 6;
+cells|
+post|prod
+cells|a[0] 1;
+load s_unset.toml|refused M5 Program V1 Unusable at slot 0 in app 2;
+load s_unset.toml|refused M5 Program V1 Unusable at slot 0 in app 2;
+load s_no.toml|refused B3 File;
+show|generation 1;app x releases 0 slots 6;
+cells|a[0] 1;
+post|prod
+load s_next.toml|generation 2;
+show|generation 2;app x releases 0 slots 2;
+post|next
+cells|a[0] 2;
+stop|stopping;";
+
+const REQUEST: &[u8] = b"POST /service/update2/json HTTP/1.1\r\nContent-Length: 162\r\n\r\n\
+{\"request\":{\"protocol\":\"3.1\",\"requestid\":\"\",\"sessionid\":\"\",\"app\":[\
+{\"appid\":\"x\",\"version\":\"1.0\",\"updatecheck\":{}},\
+{\"appid\":\"y\",\"version\":\"1.0\",\"updatecheck\":{}}]}}";
+
+/// The reply's apps: nothing for x, and y is unknown.
+const APPS: &str = ")]}'\n{\"response\":{\"app\":[\
+{\"appid\":\"x\",\"cohort\":\"b:6037\",\"status\":\"ok\",\
+\"updatecheck\":{\"status\":\"noupdate\"}},\
+{\"appid\":\"y\",\"status\":\"error-unknownApplication\"}],\"daystart\":{\"elapsed_days\":";
+
+/// Whether the service's reply is that of a server of this name.
+fn is_reply_of<R>(rt: &R, service: u16, server: &str) -> io::Result<bool>
 where
-    R: Files + Threads + Wait + AllocGlobal + Clock + Eprint + Sync + Abort,
+    R: Net<Stream = TcpStream> + AllocGlobal,
+{
+    let stream = TcpStream::connect(rt, (Ipv4Addr::LOCALHOST, service))?;
+    let mut both = &stream;
+    both.write_all(REQUEST)?;
+    let mut bytes = Vec::new(rt.alloc());
+    let _count = both.read_to_end(&mut bytes)?;
+    let reply = text_of(bytes)?;
+    let end = format!(in rt.alloc(); "}},\"protocol\":\"3.1\",\"server\":\"{server}\"}}}}")?;
+    Ok(
+        reply.starts_with("HTTP/1.1 200 OK\r\n")
+            && reply.contains(APPS)
+            && reply.ends_with(end.as_str()),
+    )
+}
+
+/// What an operator's words are answered.
+fn told_operator<R>(rt: &R, operator: u16, words: &str) -> io::Result<Printed>
+where
+    R: Files + Threads + Wait + AllocGlobal + Clock + Eprint + Sync,
     R: Net<Listener = TcpListener, Stream = TcpStream>,
     R::File: Send,
     R::Dir: Send,
 {
-    let mut words = vec![in rt.alloc(); "rollout"]?;
-    for word in line.split(' ') {
-        words.push(word)?;
-    }
-    let mut out = Vec::new(rt.alloc());
-    let mut err = Vec::new(rt.alloc());
-    let status = command(rt, words.as_slice(), &mut out, &mut err);
-    assert_eq!(rt; out.as_slice(), b"".as_slice(), "of {line}");
-    Ok((status, err))
+    let line = format!(in rt.alloc(); "rollout {words} --operator {operator}")?;
+    told(rt, line.as_str())
 }
 
-#[test]
-fn nobody_answers(rt: HostRuntime) -> Result<(), Fail> {
-    for (line, refusal) in REFUSED {
-        let (status, err) = said(&rt, line)?;
-        assert_eq!(rt; status, 1, "of {line}");
-        assert_eq!(rt; err.as_slice(), refusal.as_bytes(), "of {line}");
+fn is_right<R>(rt: &R, service: u16, operator: u16, row: &str) -> io::Result<bool>
+where
+    R: Files + Threads + Wait + AllocGlobal + Clock + Eprint + Sync,
+    R: Net<Listener = TcpListener, Stream = TcpStream>,
+    R::File: Send,
+    R::Dir: Send,
+{
+    let (words, wanted) = row.split_once('|').unwrap_or((row, ""));
+    if words == "post" {
+        return is_reply_of(rt, service, wanted);
     }
-    Ok(())
+    let told = told_operator(rt, operator, words)?;
+    let wanted = wanted.replace(rt.alloc(), ";", "\n")?;
+    let (printed, silent) = if wanted.starts_with("refused ") {
+        (&told.err, &told.out)
+    } else {
+        (&told.out, &told.err)
+    };
+    Ok(printed.as_str() == wanted.as_str() && silent.is_empty())
 }
 
-#[test]
-fn wrong_numbers(rt: HostRuntime) -> Result<(), Fail> {
-    for line in WRONG {
-        let (status, _) = said(&rt, line)?;
-        assert_eq!(rt; status, 2, "of {line}");
+/// The first row whose answer is another one, once the operator's port answers.
+fn first_wrong<R>(rt: &R, service: u16, operator: u16) -> Option<&'static str>
+where
+    R: Files + Threads + Wait + AllocGlobal + Clock + Eprint + Sync,
+    R: Net<Listener = TcpListener, Stream = TcpStream>,
+    R::File: Send,
+    R::Dir: Send,
+{
+    for _ in 0..500 {
+        if TcpStream::connect(rt, (Ipv4Addr::LOCALHOST, operator)).is_ok() {
+            break;
+        }
+        thread::sleep(rt, Duration::from_millis(10));
     }
-    Ok(())
+    for row in SESSION.split('\n') {
+        if !is_right(rt, service, operator, row).unwrap_or(false) {
+            let _stopped = told_operator(rt, operator, "stop");
+            return Some(row);
+        }
+    }
+    None
+}
+
+/// Two ports of loopback that are free.
+fn free_ports<R>(rt: &R) -> io::Result<(u16, u16)>
+where
+    R: Net<Listener = TcpListener, Stream = TcpStream>,
+{
+    let first = TcpListener::bind(rt, (Ipv4Addr::LOCALHOST, 0))?;
+    let second = TcpListener::bind(rt, (Ipv4Addr::LOCALHOST, 0))?;
+    Ok((first.local_addr()?.port(), second.local_addr()?.port()))
+}
+
+fn write_files<R: Files + AllocGlobal>(rt: &R) -> Result<(), Fail> {
+    fs::write(rt, "s_first.toml", FIRST)?;
+    fs::write(rt, "s_unset.toml", UNSET)?;
+    fs::write(rt, "s_next.toml", NEXT)?;
+    let count = "ldcell r6, 0, 0 / mov r2, 1 / fadddw [r6+0], r2 / mov r0, 0 / exit";
+    write_program(rt, "s_count.bin", count)?;
+    write_program(rt, "s_none.bin", "mov r0, 0 / exit")?;
+    write_program(rt, "s_exit.bin", "exit")
+}
+
+/// Refused loads change nothing, a load is generation 2, and a stop ends the server: without the
+/// log and with it. A port that is taken can't be bound.
+#[test]
+fn sessions(rt: HostRuntime) -> Result<(), Fail> {
+    write_files(&rt)?;
+    for options in ["", " --timeout 5 --log"] {
+        let (service, operator) = free_ports(&rt)?;
+        let words = format!(in rt.alloc();
+            "rollout serve s_first.toml --port {service} --operator {operator} --workers 2{options}"
+        )?;
+        let (served, wrong) = thread::join(
+            &rt,
+            || told(&rt, words.as_str()).ok(),
+            || first_wrong(&rt, service, operator),
+        );
+        assert_eq!(rt; wrong, None);
+        let right = served.is_some_and(|served| {
+            served.status == 0
+                && served.out.as_str() == "serving generation 1\n"
+                && served.err.is_empty()
+        });
+        assert!(rt; right, "{words}");
+    }
+    let held = TcpListener::bind(&rt, (Ipv4Addr::LOCALHOST, 0))?;
+    let taken = held.local_addr()?.port();
+    let words = format!(in rt.alloc();
+        "rollout serve s_first.toml --port {taken} --operator {taken} --workers 1"
+    )?;
+    prints(&rt, words.as_str(), "refused B6 Bind")
 }

@@ -1,99 +1,67 @@
-//! Wrong words, help, and a failed write.
+//! Wrong words, help, and commands of a server where there is none.
 
-use crate::command::command;
+use super::{prints, told};
 use std::test::Fail;
-use std::{fs, process};
 
-const WRONG: [&[&str]; 17] = [
-    &["rollout"],
-    &["rollout", "frob"],
-    &["rollout", "asm", "a.txt"],
-    &["rollout", "run", "--releases", "0"],
-    &["rollout", "run", "a.bin"],
-    &["rollout", "run", "a.bin", "--releases", "65"],
-    &["rollout", "run", "a.bin", "--releases", "-1"],
-    &["rollout", "run", "a.bin", "--releases", "x"],
-    &[
-        "rollout",
-        "run",
-        "a.bin",
-        "--releases",
-        "0",
-        "--bucket",
-        "10000",
-    ],
-    &[
-        "rollout",
-        "run",
-        "a.bin",
-        "--releases",
-        "0",
-        "--releases",
-        "0",
-    ],
-    &[
-        "rollout",
-        "verify",
-        "a.bin",
-        "--releases",
-        "0",
-        "--bucket",
-        "1",
-    ],
-    &["rollout", "verify", "a.bin", "b.bin", "--releases", "0"],
-    &["rollout", "stop"],
-    &["rollout", "load", "--operator", "8081"],
-    &["rollout", "show", "--operator", "0"],
-    &["rollout", "cells", "--operator", "65536"],
-    &["rollout", "serve", "a.toml", "--port", "8080"],
-];
+/// Words, and what they are answered, before a file is looked for that isn't there.
+const WORDS: &str = "rollout -> usage
+rollout frob -> usage
+rollout asm a.txt -> usage
+rollout run --releases 0 -> usage
+rollout run a.bin -> usage
+rollout run a.bin --releases 65 -> usage
+rollout run a.bin --releases -1 -> usage
+rollout run a.bin --releases x -> usage
+rollout run a.bin --releases 0 --bucket 10000 -> usage
+rollout run a.bin --releases 0 --releases 0 -> usage
+rollout verify a.bin --releases 0 --bucket 1 -> usage
+rollout verify a.bin b.bin --releases 0 -> usage
+rollout check -> usage
+rollout check a.toml b.toml -> usage
+rollout replay a.toml -> usage
+rollout replay a.toml a.script --bucket 1 -> usage
+rollout stop -> usage
+rollout load --operator 8081 -> usage
+rollout show --operator 0 -> usage
+rollout cells --operator 65536 -> usage
+rollout serve a.toml --port 8080 -> usage
+rollout serve a.toml --port 0 --operator 8081 --workers 4 -> usage
+rollout serve a.toml --port 8080 --operator 65536 --workers 4 -> usage
+rollout serve a.toml --port 8080 --operator 8081 --workers 0 -> usage
+rollout serve a.toml --port 8080 --operator 8081 --workers 65 -> usage
+rollout serve a.toml --port 8080 --operator 8081 --workers 4 --timeout 0 -> usage
+rollout serve a.toml --port 8080 --operator 8081 --workers 4 --timeout 3601 -> usage
+rollout show --operator 1 -> refused B5 Connect
+rollout cells --operator 1 -> refused B5 Connect
+rollout stop --operator 1 -> refused B5 Connect
+rollout load a.toml --operator 1 -> refused B5 Connect
+rollout serve no.toml --port 1 --operator 1 --workers 1 -> refused B3 File
+rollout serve no.toml --port 1 --operator 1 --workers 64 --timeout 3600 --log -> refused B3 File";
 
-/// Wrong words are status 2, before the file is read; the usage stands on standard error.
 #[test]
-fn wrong_words(rt: HostRuntime) -> Result<(), Fail> {
-    for words in WRONG {
-        let mut out = Vec::new(rt.alloc());
-        let mut err = Vec::new(rt.alloc());
-        assert_eq!(rt; command(&rt, words, &mut out, &mut err), 2, "at {words:?}");
-        assert_eq!(rt; out.as_slice(), b"".as_slice());
-        assert!(rt; !err.is_empty());
+fn words(rt: HostRuntime) -> Result<(), Fail> {
+    for row in WORDS.lines() {
+        let (words, line) = row.split_once(" -> ").unwrap_or((row, ""));
+        prints(&rt, words, line)?;
     }
     Ok(())
 }
+
+/// Pages of help, and what they name.
+const PAGES: &str = "rollout --help -> verify
+rollout run --help -> --bucket
+rollout verify --help -> name:width:length
+rollout check --help -> MANIFEST
+rollout replay --help -> start 0 agent 4998 -";
 
 /// Help is status 0 and names what there is.
 #[test]
 fn help(rt: HostRuntime) -> Result<(), Fail> {
-    let pages: [(&[&str], &str); 3] = [
-        (&["rollout", "--help"], "verify"),
-        (&["rollout", "run", "--help"], "--bucket"),
-        (&["rollout", "verify", "--help"], "name:width:length"),
-    ];
-    for (words, want) in pages {
-        let mut out = Vec::new(rt.alloc());
-        let mut err = Vec::new(rt.alloc());
-        assert_eq!(rt; command(&rt, words, &mut out, &mut err), 0, "at {words:?}");
-        let text = String::from_utf8(out)?;
-        assert!(rt; text.contains(want), "{want} in {text}");
-        assert_eq!(rt; err.as_slice(), b"".as_slice());
+    for row in PAGES.lines() {
+        let (words, named) = row.split_once(" -> ").unwrap_or((row, ""));
+        let page = told(&rt, words)?;
+        let right = page.status == 0 && page.err.is_empty() && page.out.contains(named);
+        assert!(rt; right, "{words}: {}", page.out);
     }
-    Ok(())
-}
-
-/// An answer that can't be written is status 1.
-#[test]
-fn failed_write(rt: HostRuntime) -> Result<(), Fail> {
-    let path = format!(in rt.alloc();
-        "/tmp/rollout-{}-failed_write.bin",
-        process::id(rt.process())
-    )?;
-    fs::write(&rt, path.as_str(), b"\xb7\0\0\0\0\0\0\0\x95\0\0\0\0\0\0\0")?;
-    let words = ["rollout", "run", path.as_str(), "--releases", "0"];
-    let mut room = [0; 10];
-    let mut out: &mut [u8] = &mut room;
-    let mut err = Vec::new(rt.alloc());
-    let status = command(&rt, &words, &mut out, &mut err);
-    fs::remove_file(&rt, path.as_str())?;
-    assert_eq!(rt; status, 1);
     Ok(())
 }

@@ -1,7 +1,7 @@
 use Rattle.std.proofs.Common.{codes, ◌≡◌, arith}
 use Rattle.clap.specs.Words.{found_of}
 use Rattle.rollout.proofs.Reading.{number_missing, number_read, number_same}
-use Rattle.rollout.proofs.words.bucket_of.Goals as goal
+use Rattle.rollout.proofs.options.bucket_of.Goals as goal
 
 pub returns-in-Some-clause-given : goal.returns-in-Some-clause-given
 returns-in-Some-clause-given c =

@@ -4,7 +4,7 @@ use Rattle.cells.specs.Directory.{Declaration}
 use Rattle.clap.specs.Words.{found_of}
 use Rattle.rollout.specs.Words.{declared_by}
 use Rattle.rollout.proofs.Reading.{text_is, text_read}
-use Rattle.rollout.proofs.words.arrays_of.Goals as goal
+use Rattle.rollout.proofs.options.arrays_of.Goals as goal
 
 pub returns-in_default-clause-given : goal.returns-in_default-clause-given
 returns-in_default-clause-given c =

@@ -1,4 +1,4 @@
-use Rattle.rollout.proofs.words.shape_of.Goals as goal
+use Rattle.rollout.proofs.options.shape_of.Goals as goal
 
 pub returns-in_default-clause-lacking : goal.returns-in_default-clause-lacking
 returns-in_default-clause-lacking c wrong shape has =

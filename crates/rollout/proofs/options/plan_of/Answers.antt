@@ -1,7 +1,7 @@
 use Rattle.std.proofs.Common.{codes, rules, ◌∙◌}
 use Rattle.clap.proofs.WalkLemmas.{one_text-rows}
 use Rattle.clap.specs.Words.{found_of}
-use Rattle.rollout.proofs.words.plan_of.Goals as goal
+use Rattle.rollout.proofs.options.plan_of.Goals as goal
 
 pub returns-in_err-port-clause-lacking : goal.returns-in_err-port-clause-lacking
 returns-in_err-port-clause-lacking c = λ wrong plan has.
@@ -28,6 +28,8 @@ returns-clause-given c = record {
   log = record {
     absent = λ none.
         c.get_flag.ensures.none (one_text-rows (found_of c.args.found.now) (codes "log") ∙ none);
+    unset = λ no.
+        c.get_flag.ensures.other (one_text-rows (found_of c.args.found.now) (codes "log") ∙ no);
     set = λ set.
         c.get_flag.ensures.value (one_text-rows (found_of c.args.found.now) (codes "log") ∙ set);
   };

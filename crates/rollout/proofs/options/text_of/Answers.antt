@@ -1,6 +1,6 @@
 use Rattle.clap.specs.Words.{found_of}
 use Rattle.rollout.proofs.Reading.{text_is, text_missing}
-use Rattle.rollout.proofs.words.text_of.Goals as goal
+use Rattle.rollout.proofs.options.text_of.Goals as goal
 
 pub returns-in-Some-clause-given : goal.returns-in-Some-clause-given
 returns-in-Some-clause-given c =

@@ -1,0 +1,82 @@
+//! Manifests that are checked: what an accepted one declares, and where and why others are refused.
+
+use super::{told, write_program};
+use std::fs;
+use std::test::Fail;
+
+/// A manifest, what is printed of it, and its refusal.
+const ROWS: [(&str, &str, &str); 7] = [
+    (
+        "server = \"prod\"
+array = [{ name = \"q\", width = 64, length = 1, quota = 2 },
+    { name = \"n\", width = 32, length = 9 }]
+app = [{ appid = \"x\", program = \"k_take.bin\" }, { appid = \"y\", rule = \"k.rule\" }]",
+        "array q:64:1:2\narray n:32:9\napp x releases 0 slots 6\napp y releases 0 slots 2\n",
+        "",
+    ),
+    (
+        "server = \"\"\napp = [{ appid = 3, rule = \"k.rule\" }]",
+        "app[1].appid: a text of 1 to 1024 bytes\n",
+        "refused M2 Field\n",
+    ),
+    (
+        "server = \"\"
+app = [{ appid = \"x\", program = \"k_none.bin\" }, { appid = \"x\", program = \"k_none.bin\" }]",
+        "app x stands twice\n",
+        "refused M3 Duplicate\n",
+    ),
+    (
+        "server = \"\"\napp = [{ appid = \"x\", program = \"k_no_file.bin\" }]",
+        "app[1].program: k_no_file.bin\n",
+        "refused M4 File in app 1\n",
+    ),
+    (
+        "server = \"\"
+app = [{ appid = \"x\", program = \"k_none.bin\" }, { appid = \"y\", program = \"k_unset.bin\" }]",
+        "app[2].program: k_unset.bin\nslot 1: exit\n",
+        "refused M5 Program V1 Unusable at slot 1 in app 2\n",
+    ),
+    (
+        "server = \"\"\napp = [{ appid = \"x\", rule = \"k_wrong.rule\" }]",
+        "app[1].rule: k_wrong.rule\nline 2: count q[0];\n",
+        "refused M6 Rule L3 Name at line 2 in app 1\n",
+    ),
+    (
+        "server = \"\"
+array = [{ name = \"q\", width = 64, length = 4096 }, { name = \"r\", width = 64, length = 1 }]
+app = [{ appid = \"x\", program = \"k_none.bin\" }]",
+        "array[2].length: r passes the 4096 cells that all arrays of a width have\n",
+        "refused M7 Cells N1 CellsFull in array 2\n",
+    ),
+];
+
+/// Where and why stands on standard output, beside the refusal on standard error.
+#[test]
+fn checks(rt: HostRuntime) -> Result<(), Fail> {
+    let take = "ldcell r6, 0, 0 / mov r2, 1 / fadddw [r6+0], r2 / mov r0, 0 / exit";
+    write_program(&rt, "k_take.bin", take)?;
+    write_program(&rt, "k_none.bin", "mov r0, 0 / exit")?;
+    write_program(&rt, "k_unset.bin", "mov r1, 0 / exit")?;
+    fs::write(&rt, "k.rule", b"otherwise none;")?;
+    fs::write(
+        &rt,
+        "k_wrong.rule",
+        b"# No array.\ncount q[0];\notherwise none;\n",
+    )?;
+    for (manifest, out, err) in ROWS {
+        fs::write(&rt, "k.toml", manifest.as_bytes())?;
+        let checked = told(&rt, "rollout check k.toml")?;
+        assert_eq!(rt; checked.out.as_str(), out);
+        assert_eq!(rt; checked.err.as_str(), err);
+        assert_eq!(rt; checked.status, if err.is_empty() { 0 } else { 1 });
+    }
+    // What is said of text that is no TOML is the reader's own.
+    fs::write(&rt, "k.toml", b"server = \"\nprod\"\n")?;
+    let checked = told(&rt, "rollout check k.toml")?;
+    assert!(rt; checked.out.contains("line 1"), "{}", checked.out);
+    assert_eq!(rt; checked.err.as_str(), "refused M1 Toml\n");
+    let checked = told(&rt, "rollout check k_there_is_none.toml")?;
+    assert!(rt; checked.status == 1 && checked.out.is_empty());
+    assert_eq!(rt; checked.err.as_str(), "refused B3 File\n");
+    Ok(())
+}
