@@ -10,7 +10,7 @@ const ROWS: [(&str, &str, &str); 7] = [
         "server = \"prod\"
 array = [{ name = \"q\", width = 64, length = 1, quota = 2 },
     { name = \"n\", width = 32, length = 9 }]
-app = [{ appid = \"x\", program = \"k_take.bin\" }, { appid = \"y\", rule = \"k.rule\" }]",
+app = [{ appid = \"x\", program = \"k_take.bin\" }, { appid = \"y\", program = \"k_none.bin\" }]",
         "array q:64:1:2\narray n:32:9\napp x releases 0 slots 6\napp y releases 0 slots 2\n",
         "",
     ),
@@ -57,7 +57,6 @@ fn checks(rt: HostRuntime) -> Result<(), Fail> {
     write_program(&rt, "k_take.bin", take)?;
     write_program(&rt, "k_none.bin", "mov r0, 0 / exit")?;
     write_program(&rt, "k_unset.bin", "mov r1, 0 / exit")?;
-    fs::write(&rt, "k.rule", b"otherwise none;")?;
     fs::write(
         &rt,
         "k_wrong.rule",
