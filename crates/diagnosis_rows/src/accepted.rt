@@ -7,9 +7,12 @@ use std::test::Fail;
 /// What is changed, and what is told.
 const ROWS: &str = r#"
 -  | array q:64:1:2 / array n:32:10 / app x releases 1 slots 9 / app y releases 0 slots 5 /
-- quota = 2 =>  | array q:64:1 / array n:32:10 / app x releases 1 slots 9 / app y releases 0 slots 5 /
-- name = "q" => name = "n" & name = "n" / width = 32 => name = "a" / width = 32 | array n:64:1:2 / array a:32:10 / app x releases 1 slots 9 / app y releases 0 slots 5 /
-- length = 1 => length = 4096 & quota = 2 => quota = 9223372036854775807 | array q:64:4096:9223372036854775807 / array n:32:10 / app x releases 1 slots 9 / app y releases 0 slots 5 /
+- quota = 2 => 
+ | array q:64:1 / array n:32:10 / app x releases 1 slots 9 / app y releases 0 slots 5 /
+- name = "q" => name = "n" & name = "n" / width = 32 => name = "a" / width = 32
+ | array n:64:1:2 / array a:32:10 / app x releases 1 slots 9 / app y releases 0 slots 5 /
+- length = 1 => length = 4096 & quota = 2 => quota = 9223372036854775807
+ | array q:64:4096:9223372036854775807 / array n:32:10 / app x releases 1 slots 9 / app y releases 0 slots 5 /
 "#;
 
 #[test]

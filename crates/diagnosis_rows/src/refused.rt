@@ -12,32 +12,49 @@ const ROWS: &str = r#"
 - server = "prod" => server = 1 | M2 Field / server: a text /
 - length = 10 => length = 4097 | M2 Field / array[2].length: a whole number from 1 to 4096 /
 - quota = 2 => limit = 2 | M2 Field / array[1].limit: no member of an array /
-- rule = "y.rule" => rule = "y.rule" / program = "x.bpf" | M2 Field / app[2].program or rule: one of the two, the name of a file /
-- version = "2.0.0.0" => version = "two" | M2 Field / app[1].release[1].version: one to four numbers below 4294967296, joined by dots /
-- size = 3 => size = -1 | M2 Field / app[1].release[1].package[1].size: a whole number from 0 to 9007199254740991 /
+- rule = "y.rule" => rule = "y.rule" / program = "x.bpf"
+ | M2 Field / app[2].program or rule: one of the two, the name of a file /
+- version = "2.0.0.0" => version = "two"
+ | M2 Field / app[1].release[1].version: one to four numbers below 4294967296, joined by dots /
+- size = 3 => size = -1
+ | M2 Field / app[1].release[1].package[1].size: a whole number from 0 to 9007199254740991 /
 - rule = "y.rule" => rule = "y.rule" / release = [1] | M2 Field / app[2].release[1]: a table /
 - rule = "y.rule" => rule = "y.rule" / release = 1 | M2 Field / app[2].release: at most 64 tables /
 - name = "n" => name = "q" | M3 Duplicate / array q stands twice /
 - appid = "y" => appid = "x" | M3 Duplicate / app x stands twice /
-- width = 32 / length = 10 => width = 64 / length = 4096 | M7 Cells N1 CellsFull in array 2 / array[2].length: n passes the 4096 cells that all arrays of a width have /
+- width = 32 / length = 10 => width = 64 / length = 4096 | 
+M7 Cells N1 CellsFull in array 2 / array[2].length: n passes the 4096 cells that all arrays of a width have /
 - "x.bpf" => "z.bpf" | M4 File in app 1 / app[1].program: z.bpf /
 - "x.bpf" => "unreadable.bpf" | M4 File in app 1 / app[1].program: unreadable.bpf /
 - "y.rule" => "z.rule" | M4 File in app 2 / app[2].rule: z.rule /
 - "x.bpf" => "empty.bpf" | M5 Program F6 Empty at slot 0 in app 1 / app[1].program: empty.bpf /
-- "x.bpf" => "truncated.bpf" | M5 Program F8 Insn I1 Truncated at slot 0 in app 1 / app[1].program: truncated.bpf /
-- "x.bpf" => "back.bpf" | M5 Program F1 BackJump at slot 1 in app 1 / app[1].program: back.bpf / slot 1: ja -2 /
-- "x.bpf" => "unreached.bpf" | M5 Program F5 Unreached at slot 2 in app 1 / app[1].program: unreached.bpf / slot 2: exit /
-- "x.bpf" => "unset.bpf" | M5 Program V1 Unusable at slot 0 in app 1 / app[1].program: unset.bpf / slot 0: exit /
-- "x.bpf" => "second.bpf" | M5 Program V13 Result at slot 1 in app 1 / app[1].program: second.bpf / slot 1: exit /
-- "x.bpf" => "wide.bpf" | M5 Program V11 MapIndex at slot 2 in app 1 / app[1].program: wide.bpf / slot 2: ldcell r7, 2, 8 /
+- "x.bpf" => "truncated.bpf"
+ | M5 Program F8 Insn I1 Truncated at slot 0 in app 1 / app[1].program: truncated.bpf /
+- "x.bpf" => "back.bpf"
+ | M5 Program F1 BackJump at slot 1 in app 1 / app[1].program: back.bpf / slot 1: ja -2 /
+- "x.bpf" => "unreached.bpf"
+ | M5 Program F5 Unreached at slot 2 in app 1 / app[1].program: unreached.bpf / slot 2: exit /
+- "x.bpf" => "unset.bpf"
+ | M5 Program V1 Unusable at slot 0 in app 1 / app[1].program: unset.bpf / slot 0: exit /
+- "x.bpf" => "second.bpf"
+ | M5 Program V13 Result at slot 1 in app 1 / app[1].program: second.bpf / slot 1: exit /
+- "x.bpf" => "wide.bpf"
+ | M5 Program V11 MapIndex at slot 2 in app 1 / app[1].program: wide.bpf / slot 2: ldcell r7, 2, 8 /
 - "y.rule" => "no_text.rule" | M6 Rule L1 Token at line 1 in app 2 / app[2].rule: no_text.rule /
-- "y.rule" => "token.rule" | M6 Rule L1 Token at line 2 in app 2 / app[2].rule: token.rule / line 2: otherwise none; $ /
-- "y.rule" => "shape.rule" | M6 Rule L2 Shape at line 1 in app 2 / app[2].rule: shape.rule / line 1: when offer 1; /
-- "y.rule" => "name.rule" | M6 Rule L4 Range at line 1 in app 2 / app[2].rule: name.rule / line 1: when take(q, 0) offer 1; /
-- "y.rule" => "count.rule" | M6 Rule L3 Name at line 2 in app 2 / app[2].rule: count.rule / line 2:   count q[0]; /
-- "y.rule" => "unfinished.rule" | M6 Rule L2 Shape at line 1 in app 2 / app[2].rule: unfinished.rule / line 1: count n[0]; /
-- "y.rule" => "ended.rule" | M6 Rule L2 Shape at line 2 in app 2 / app[2].rule: ended.rule / line 2:  /
-- program = "x.bpf" => rule = "costly.rule" | M6 Rule C1 TooLong in app 1 / app[1].rule: costly.rule /
+- "y.rule" => "token.rule"
+ | M6 Rule L1 Token at line 2 in app 2 / app[2].rule: token.rule / line 2: otherwise none; $ /
+- "y.rule" => "shape.rule"
+ | M6 Rule L2 Shape at line 1 in app 2 / app[2].rule: shape.rule / line 1: when offer 1; /
+- "y.rule" => "name.rule"
+ | M6 Rule L4 Range at line 1 in app 2 / app[2].rule: name.rule / line 1: when take(q, 0) offer 1; /
+- "y.rule" => "count.rule"
+ | M6 Rule L3 Name at line 2 in app 2 / app[2].rule: count.rule / line 2:   count q[0]; /
+- "y.rule" => "unfinished.rule"
+ | M6 Rule L2 Shape at line 1 in app 2 / app[2].rule: unfinished.rule / line 1: count n[0]; /
+- "y.rule" => "ended.rule"
+ | M6 Rule L2 Shape at line 2 in app 2 / app[2].rule: ended.rule / line 2:  /
+- program = "x.bpf" => rule = "costly.rule"
+ | M6 Rule C1 TooLong in app 1 / app[1].rule: costly.rule /
 "#;
 
 #[test]
