@@ -17,3 +17,9 @@ module _ {P : Type 0} (grew : P → CellEvent → P → Type 0) where
   abbrev pub GrowsByAppend : Type 0
   GrowsByAppend = (p : P) (es : List CellEvent) (m : P) (ds : List CellEvent) (q : P)
       → GrewBy p es m → GrewBy m ds q → GrewBy p (es ++ ds) q
+
+  -- the pass grew by events of which this holds
+  pub record Grows (before after : P) (Of : List CellEvent → Type 0) : Type 0 where
+    pub events : List CellEvent
+    pub grown : GrewBy before events after
+    pub of : Of events

@@ -8,7 +8,7 @@ use Rattle.std.proofs.lemmas.Option.{slice_get_read}
 use Rattle.cells.specs.Arrays.{first_cell}
 use Rattle.cells.specs.Directory.{same_width, cells_of, taken, IsDirectory}
 use Rattle.cells.specs.Events.{event}
-use Rattle.cells.specs.Grown.{GrowsByAppend, GrowsBySnoc}
+use Rattle.cells.specs.Grown.{Grows, GrowsByAppend, GrowsBySnoc}
 use Rattle.cells.specs.declared.array.CellArray.{CellArray}
 use Rattle.cells.specs.declared.array.CellWidth.{CellWidth}
 use Rattle.cells.specs.declared.array.CellWidth.TheVariants.{Bits32, Bits64}
@@ -16,7 +16,6 @@ use Rattle.cells.specs.declared.event.CellEvent.{CellEvent}
 use Rattle.cells.specs.declared.event.CellOp.TheVariants.{Load}
 use Rattle.operator.specs.Counters.{ReadsCells, ReadsArrays, no_cell, one_cell, no_array, one_array, IsLoad, Tells}
 use Rattle.operator.specs.Texts.{cell_text}
-use Rattle.workers.specs.Apps.{Grows}
 
 -- ---- the cells of an array lie among all cells
 

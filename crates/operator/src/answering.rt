@@ -4,7 +4,7 @@ ghost use Rattle.std.specs.Prelude.{◌≡◌, IfSome, IfNone, OnOk};
 ghost use Rattle.std.specs.Io.KnownBytes.{Appends};
 ghost use Rattle.operator.specs.Perform.{Answers};
 ghost use Rattle.operator.specs.Texts.{reply_text};
-ghost use Rattle.workers.specs.Apps.{Grows};
+ghost use Rattle.cells.specs.Grown.{Grows};
 
 use crate::control::Control;
 use crate::line::{LineFault, read_line};

@@ -10,7 +10,7 @@ use std::net::{TcpListener, TcpStream};
 use std::sync::Wait;
 use std::time::{Clock, Duration, Instant};
 use std::{io, thread};
-use workers::{Timed, drain};
+use timed_stream::{Timed, drain};
 
 /// How long nothing is accepted after a connection that couldn't be.
 const PAUSE_MILLIS: u64 = 10;

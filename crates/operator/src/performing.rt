@@ -1,7 +1,7 @@
 // What is done for a request.
 
 ghost use Rattle.operator.specs.Perform.{Performs};
-ghost use Rattle.workers.specs.Apps.{Grows};
+ghost use Rattle.cells.specs.Grown.{Grows};
 
 use crate::control::Control;
 use crate::loader::Loader;

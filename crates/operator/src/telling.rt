@@ -6,7 +6,7 @@ ghost use Rattle.cells.specs.Directory.{IsDirectory};
 ghost use Rattle.hot_swap.specs.Latest.{latest};
 ghost use Rattle.operator.specs.Counters.{IsLoad, ReadsArrays, ReadsCells, Tells};
 ghost use Rattle.operator.specs.Texts.{app_line, cell_text, ruleset_text};
-ghost use Rattle.workers.specs.Apps.{Grows};
+ghost use Rattle.cells.specs.Grown.{Grows};
 
 use bpf_verify::Verified;
 use cells::{CellArray, CellNo, CellOp, CellSteps, growth};

@@ -9,10 +9,10 @@ use Rattle.bpf_machine.specs.StandsFor.{Held, RunStandsFor, Runs}
 use Rattle.bpf_semantics.specs.Program.{ShapedProgram}
 use Rattle.bpf_semantics.specs.Run.{Ends}
 use Rattle.bpf_semantics.specs.State.{opening}
-use Rattle.cells.specs.Grown.{GrowsByAppend}
+use Rattle.cells.specs.Grown.{Grows, GrowsByAppend}
 use Rattle.cells.specs.declared.event.CellEvent.{CellEvent}
 use Rattle.ruleset.specs.Rules.{AppRule, Rules, app_of}
-use Rattle.workers.specs.Apps.{Grows, RunsApp, RunsApps, RunsFew, ran, none, then}
+use Rattle.workers.specs.Apps.{RunsApp, RunsApps, RunsFew, ran, none, then}
 
 pub not_true : (b : Bool) → not b ≡ true → b ≡ false
 not_true true h = sym h

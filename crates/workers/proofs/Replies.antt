@@ -1,7 +1,7 @@
 -- Which reply a body and an input have, put together from what the calls say.
 use Rattle.std.proofs.Common.{◌≡◌, ◌≢◌, ◌∙◌, ℕ, List, [], Option, Result, Ok, Err, refl, ap, sym, subst}
 use Rattle.std.specs.Prelude.{ℤ}
-use Rattle.cells.specs.Grown.{GrewBy}
+use Rattle.cells.specs.Grown.{GrewBy, Grows}
 use Rattle.cells.specs.declared.event.CellEvent.{CellEvent}
 use Rattle.hot_swap.specs.Latest.{Latest, IsLatest}
 use Rattle.http_front.specs.Post.{Answers}
@@ -11,7 +11,7 @@ use Rattle.omaha_json.specs.Reply.{reply_text}
 use Rattle.omaha_json.specs.declared.fault.OmahaFault.{OmahaFault}
 use Rattle.omaha_json.specs.declared.fault.OmahaFault.TheVariants.{Json, Shape, Protocol, TooManyApps, Memory}
 use Rattle.ruleset.specs.Rules.{Rules}
-use Rattle.workers.specs.Apps.{Grows, RunsApps, RunsFew}
+use Rattle.workers.specs.Apps.{RunsApps, RunsFew}
 use Rattle.workers.specs.Answer.{RepliesToRequest, RepliesToBody, RepliesTo, IsReplyTo}
 use Rattle.workers.specs.Answer.{replied, unowned, broken_off, asked, refused, unread, taken, rejected}
 use Rattle.workers.specs.Reply.{Reply, success, omaha_rejection}

@@ -13,7 +13,8 @@ use Rattle.omaha_json.specs.Reply.{reply_text}
 use Rattle.omaha_json.specs.declared.fault.OmahaFault.{OmahaFault}
 use Rattle.omaha_json.specs.declared.fault.OmahaFault.TheVariants as omaha
 use Rattle.ruleset.specs.Rules.{Rules}
-use Rattle.workers.specs.Apps.{Grows, RunsApps, RunsFew}
+use Rattle.cells.specs.Grown.{Grows}
+use Rattle.workers.specs.Apps.{RunsApps, RunsFew}
 use Rattle.workers.specs.Reply.{Reply, success, rejection, post_name}
 use Rattle.workers.specs.Reply.{omaha_rejection, no_place, reply_of}
 use Rattle.workers.specs.declared.answering.AnswerFault.{AnswerFault}

@@ -6,7 +6,6 @@ use Rattle.attrs.specs.declared.facts.AppFacts.{AppFacts}
 use Rattle.attrs.specs.declared.facts.RequestFacts.{RequestFacts}
 use Rattle.bpf_semantics.specs.Run.{Ends}
 use Rattle.bpf_semantics.specs.State.{opening}
-use Rattle.cells.specs.Grown.{GrewBy}
 use Rattle.cells.specs.declared.event.CellEvent.{CellEvent}
 use Rattle.ruleset.specs.Rules.{AppRule, Rules, app_of}
 
@@ -35,10 +34,3 @@ module _ (rules : Rules) (facts : RequestFacts) (moment : ℤ) where
   abbrev pub RunsFew : List AppFacts → List CellEvent → Type 0
   RunsFew apps events =
       (few : ℕ) × (choices : List (Option ℕ)) × RunsApps (take few apps) choices events
-
--- the pass grew by events of which this holds
-module _ {P : Type 0} (grew : P → CellEvent → P → Type 0) where
-  pub record Grows (before after : P) (Of : List CellEvent → Type 0) : Type 0 where
-    pub events : List CellEvent
-    pub grown : GrewBy grew before events after
-    pub of : Of events

@@ -5,7 +5,8 @@ ghost use Rattle.std.specs.Arc.{arc_value};
 ghost use Rattle.attrs.specs.Facts.{attributes_of};
 ghost use Rattle.bpf_semantics.specs.State.{opening};
 ghost use Rattle.bpf_machine.specs.StandsFor.{RunStandsFor};
-ghost use Rattle.workers.specs.Apps.{Grows, RunsApp, RunsApps, RunsFew};
+ghost use Rattle.cells.specs.Grown.{Grows};
+ghost use Rattle.workers.specs.Apps.{RunsApp, RunsApps, RunsFew};
 
 use attrs::{AppFacts, Attrs, Moment, RequestFacts};
 use bpf_machine::{Choice, Run};

@@ -2,7 +2,7 @@
 
 ghost use Rattle.std.specs.Prelude.{◌≡◌};
 ghost use Rattle.hot_swap.specs.Latest.{GoesOnwards};
-ghost use Rattle.workers.specs.Apps.{Grows};
+ghost use Rattle.cells.specs.Grown.{Grows};
 ghost use Rattle.workers.specs.Answer.{RepliesToRequest, RepliesToBody};
 ghost use Rattle.workers.specs.Reply.{reply_of};
 

@@ -13,7 +13,6 @@
 
 mod answering;
 mod apps;
-mod connection;
 mod gate;
 mod judging;
 mod log;
@@ -21,6 +20,5 @@ mod rejection;
 mod serving;
 
 pub use answering::{AnswerFault, answer};
-pub use connection::{Timed, drain};
 pub use gate::{Gate, Open};
 pub use serving::{ServeFault, Service, serve};

@@ -4,7 +4,6 @@
 ghost use Rattle.std.specs.Prelude.{All};
 
 use crate::answering::answer;
-use crate::connection::{Timed, drain};
 use crate::gate::Gate;
 use crate::log::{Peer, note};
 use cells::CellSteps;
@@ -18,6 +17,7 @@ use std::thread::Threads;
 use std::time::{Clock, Duration, Instant, SystemTime, UNIX_EPOCH};
 use std::{io, thread};
 use thiserror::Error;
+use timed_stream::{Timed, drain};
 
 /// How many accepted connections may wait for a worker.
 const WAITING: usize = 64;

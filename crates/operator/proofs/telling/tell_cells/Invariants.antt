@@ -2,7 +2,7 @@ use Rattle.std.proofs.Common.{◌≤◌}
 use Rattle.std.specs.String.{string_bytes}
 use Rattle.operator.specs.Counters.{ReadsCells, Tells}
 use Rattle.operator.proofs.telling.tell_cells.Given as goal
-use Rattle.workers.specs.Apps.{Grows}
+use Rattle.cells.specs.Grown.{Grows}
 
 -- the cells so far, with their lines
 abbrev pub invariant-loop-index : goal.invariant-loop-index

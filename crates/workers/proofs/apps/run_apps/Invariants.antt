@@ -1,5 +1,6 @@
 use Rattle.std.proofs.Common.{take}
-use Rattle.workers.specs.Apps.{RunsApps, Grows}
+use Rattle.cells.specs.Grown.{Grows}
+use Rattle.workers.specs.Apps.{RunsApps}
 use Rattle.workers.proofs.apps.run_apps.Given as goal
 
 -- the runs of the apps that were passed, and their choices

@@ -1,6 +1,4 @@
-// A connection that has to be done by a time. Before each read and write the socket's time-out is
-// set to what is left until then, so that a client that sends a byte now and then is dropped as
-// one that sends none. A call that a signal interrupts is made again, within the same time.
+// One direction of a connection, with its limit of time.
 
 ghost use Rattle.std.specs.Prelude.{◌≡◌};
 
