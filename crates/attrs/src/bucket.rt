@@ -1,5 +1,5 @@
-// Which of 10000 buckets an app is in: the one that its cohort names, or else a hash of the
-// request's id or its session's, so that all apps of one request are in one bucket.
+//! Which of 10000 buckets an app is in: the one that its cohort names, or else a hash of the
+//! request's id or its session's, so that all apps of one request are in one bucket.
 
 ghost use Rattle.std.specs.Prelude.{◌≡◌, ℕ, ◌<◌, IfSome, unwrap_or};
 ghost use Rattle.attrs.specs.Bucket as specs;
@@ -8,12 +8,49 @@ use crate::facts::{AppFacts, RequestFacts};
 use crate::hash::fnv1a;
 use crate::text::lent;
 use crate::version::read_number;
+use std::marker::Model;
 
 /// How many buckets there are.
 pub(crate) const BUCKETS: u64 = 10000;
 
 /// How long a cohort is that names a bucket.
 const COHORT_LENGTH: usize = 6;
+
+/// A bucket by its number, 0 to 9999.
+#[derive(Clone, Copy, Debug, PartialEq, Eq)]
+pub struct Bucket {
+    value: u16,
+}
+
+impl Model for Bucket {
+    ghost use Rattle.std.specs.Prelude.{ℕ, ◌<◌};
+
+    ghost Value = { ℕ };
+
+    ghost view = { λ b. b.value };
+
+    ghost inverse = { λ n. record { value = n } };
+
+    ghost invariant = { λ b. b.value < 10000 };
+}
+
+impl Bucket {
+    /// The bucket of this number.
+    pub fn new(number: u16) -> Bucket
+        requires { number < 10000 }
+        ensures { result ≡ number }
+    {
+        Bucket { value: number }
+    }
+
+    /// Its number.
+    pub fn number(&self) -> u16
+        ensures number { result ≡ self.now }
+        ensures range { result < 10000 }
+    {
+        self.value
+    }
+}
 
 /// A bucket as four ASCII digits, as a cohort has them behind its `b:`.
 pub fn four_digits(bucket: u16) -> [u8; 4]

@@ -14,7 +14,7 @@ mod text;
 mod version;
 
 pub use attributes::{AttrFault, Attrs};
-pub use bucket::{app_bucket, cohort_keeps_bucket, four_digits};
+pub use bucket::{Bucket, app_bucket, cohort_keeps_bucket, four_digits};
 pub use context::Context;
 pub use facts::{AppFacts, RequestFacts};
 pub use hash::fnv1a;

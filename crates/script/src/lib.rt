@@ -15,13 +15,11 @@
 //! worker's is at most 4294967295, a bucket's 9999. Lines end at LF, or at CR LF.
 #![tactic(auto)]
 
-mod bucket;
 mod fault;
 mod line;
 mod lines;
 mod number;
 
-pub use bucket::Bucket;
 pub use fault::ScriptFault;
 pub use line::EventLine;
 pub use lines::read_script;

@@ -4,9 +4,8 @@ ghost use Rattle.std.specs.Prelude.{◌≡◌, ◌==◌, Err, IfOk, Some, None, 
 ghost use Rattle.std.specs.List.{slice_split, before_first, after_first};
 ghost use Rattle.script.specs.Script as specs;
 
-use crate::bucket::Bucket;
 use crate::number::{decimal, number_within};
-use attrs::Text;
+use attrs::{Bucket, Text};
 use std::alloc::{AllocError, Global};
 
 /// What a line says. Workers are numbered from 0.
