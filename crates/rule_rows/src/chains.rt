@@ -1,7 +1,8 @@
 //! Rules on both sides of 4096 slots and of a cost of 4096, and the longest chains that a text has
 //! room for.
 
-use crate::told::{shape, told};
+use crate::given::{chain, shape};
+use crate::told::told;
 use std::alloc::Global;
 use std::test::Fail;
 
@@ -30,15 +31,6 @@ C1 TooLong | 3276 | |when today<1offer 1;|otherwise none;
 const TEST: &str =
     r#"attr ap is "aaaaaaaaaaaaaaaaaaaaaaaaaaaaaaaaaaaaaaaaaaaaaaaaaaaaaaaaaaaaaaaa" "#;
 
-fn chain(alloc: Global, front: &str, link: &str, times: usize, back: &str) -> Result<String, Fail> {
-    let mut text = String::from_str(alloc, front)?;
-    for _ in 0..times {
-        text.push_str(link)?;
-    }
-    text.push_str(back)?;
-    Ok(text)
-}
-
 /// What is told of a row's text, from its number of links on.
 fn told_of(alloc: Global, row: &str) -> Result<String, Fail> {
     let (times, parts) = row.split_once(" | ").ok_or("no number")?;
@@ -46,7 +38,7 @@ fn told_of(alloc: Global, row: &str) -> Result<String, Fail> {
     let (link, back) = rest.split_once('|').ok_or("no back")?;
     let times = times.parse::<u16>().ok().ok_or("no number")?;
     let text = chain(alloc, front, link, times as usize, back)?;
-    told(alloc, text.as_str(), &shape(alloc)?)
+    told(alloc, text.as_str(), &shape(alloc, 1)?)
 }
 
 #[test]
@@ -65,7 +57,7 @@ fn told_of_tests(alloc: Global, times: usize, counts: &str) -> Result<String, Fa
     let link = format!(in alloc; "and {TEST}")?;
     let back = format!(in alloc; "offer 1;{counts}otherwise none;")?;
     let text = chain(alloc, front.as_str(), link.as_str(), times, back.as_str())?;
-    told(alloc, text.as_str(), &shape(alloc)?)
+    told(alloc, text.as_str(), &shape(alloc, 1)?)
 }
 
 /// 85 tests and one statement cost 4096; one statement more, or one test more, costs more and is

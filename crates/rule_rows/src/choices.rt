@@ -1,7 +1,8 @@
 //! Each test of the language at its boundaries, for one app and for one of which nothing is known:
 //! a rule that asks the test, and one that asks its opposite.
 
-use crate::told::{app, bare_app, chosen, shape};
+use crate::given::{app, bare_app, shape};
+use crate::told::chosen;
 use attrs::Attrs;
 use std::alloc::Global;
 use std::test::Fail;
@@ -122,7 +123,7 @@ const BARE_APP: &str = r#"
 "#;
 
 fn chosen_of(alloc: Global, text: &str, attrs: Attrs) -> Result<u8, Fail> {
-    chosen(alloc, text, &shape(alloc)?, attrs)
+    chosen(alloc, text, &shape(alloc, 1)?, attrs)
 }
 
 /// The choice of the rule that asks the condition, and of that which asks its opposite.

@@ -1,6 +1,7 @@
 //! Rules with counters, run for several apps over one set of cells.
 
-use crate::told::{bare_app, choice, program, shape};
+use crate::given::{bare_app, shape};
+use crate::told::{choice, program};
 use cells::{CellNo, PlainCells};
 use std::alloc::Global;
 use std::test::Fail;
@@ -74,7 +75,7 @@ fn counted(
     cell: u16,
     text: &str,
 ) -> Result<(Vec<u8>, u64), Fail> {
-    let shape = shape(alloc)?;
+    let shape = shape(alloc, 1)?;
     let (cells, mut pass) = PlainCells::new(alloc)?;
     let mut choices = Vec::new(alloc);
     for bucket in buckets {

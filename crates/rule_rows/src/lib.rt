@@ -1,8 +1,11 @@
-//! Tests of compiled rules. A text is read and compiled, and its program is run on the machine over
-//! counters that the runs share, or measured: each test at its boundaries and in both senses,
-//! counters, the slots that each kind of test takes, and the longest texts.
+//! Tests of rules. Texts are read: their verdicts, lengths and depths on both sides of their
+//! bounds, and the longest chains. Texts are compiled, and their programs run on the machine over
+//! counters that the runs share, or measured: each test of the language at its boundaries and in
+//! both senses, counters, and the slots that each kind of test takes.
 #![tactic(auto)]
 
+#[cfg(test)]
+mod bounds;
 #[cfg(test)]
 mod chains;
 #[cfg(test)]
@@ -10,6 +13,12 @@ mod choices;
 #[cfg(test)]
 mod counters;
 #[cfg(test)]
+mod given;
+#[cfg(test)]
+mod longest;
+#[cfg(test)]
 mod sizes;
 #[cfg(test)]
 mod told;
+#[cfg(test)]
+mod verdicts;

@@ -1,6 +1,7 @@
 //! How many slots the code of each test takes in each sense, and that no jump leads to a jump.
 
-use crate::told::{program, shape};
+use crate::given::shape;
+use crate::told::program;
 use bpf_insn::Insn;
 use bpf_verify::Verified;
 use flow_check::jump_target;
@@ -49,7 +50,7 @@ fn leads_to_jump(program: &Verified, slot: usize) -> bool {
 /// The slots of the condition alone.
 fn slots_of(alloc: Global, condition: &str) -> Result<usize, Fail> {
     let text = format!(in alloc; "when {condition} offer 1; otherwise none;")?;
-    let program = program(alloc, text.as_str(), &shape(alloc)?)?;
+    let program = program(alloc, text.as_str(), &shape(alloc, 1)?)?;
     for slot in 0..program.len() {
         if leads_to_jump(&program, slot) {
             return Err(Fail::from("a jump to a jump"));

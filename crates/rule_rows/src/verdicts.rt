@@ -1,7 +1,8 @@
-// Texts, each with the number of its statements or with its fault. A row is a text, in which `/`
-// stands for LF, `~` for CR and `|` for a tab, and what is told of it.
+//! Texts that are read, each with the number of its statements or with its fault. A row is a text,
+//! in which `/` stands for LF, `~` for CR and `|` for a tab, and what is told of it.
 
-use crate::told::{shape, told};
+use crate::given::shape;
+use crate::told::told_as_read;
 use std::alloc::Global;
 use std::process::Abort;
 use std::test::Fail;
@@ -119,7 +120,7 @@ fn each_is_told(rt: &impl Abort, alloc: Global, rows: &str) -> Result<(), Fail> 
     for row in rows.lines().skip(1) {
         let (text, want) = row.split_once(" => ").ok_or("a row of another form")?;
         let text = text_of(alloc, text)?;
-        let got = told(alloc, text.as_str(), &shape)?;
+        let got = told_as_read(alloc, text.as_str(), &shape)?;
         assert_eq!(rt; got.as_str(), want, "of {row}");
     }
     Ok(())

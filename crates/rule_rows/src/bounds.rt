@@ -1,23 +1,14 @@
-// Lengths and depths on both sides of their bounds: a literal of 64 bytes, a name of 32, and 32
-// openers, of which `not` and parentheses count together.
+//! Lengths and depths that a text may have, on both sides of their bounds: a literal of 64 bytes, a
+//! name of 32, and 32 openers, of which `not` and parentheses count together.
 
-use crate::told::{shape, told};
+use crate::given::{chain, shape};
+use crate::told::told_as_read;
 use std::alloc::Global;
 use std::process::Abort;
 use std::test::Fail;
 
-// The front, a text so many times, and the back.
-fn around(alloc: Global, front: &str, text: &str, times: u8, back: &str) -> Result<String, Fail> {
-    let mut whole = String::from_str(alloc, front)?;
-    for _ in 0..times {
-        whole.push_str(text)?;
-    }
-    whole.push_str(back)?;
-    Ok(whole)
-}
-
 // Each row is a front, what is repeated and how often, a back, and what is told.
-const LENGTHS: [(&str, &str, u8, &str, &str); 6] = [
+const LENGTHS: [(&str, &str, usize, &str, &str); 6] = [
     (
         "when attr ap is \"",
         "a",
@@ -60,19 +51,25 @@ const LENGTHS: [(&str, &str, u8, &str, &str); 6] = [
 fn lengths(rt: HostRuntime) -> Result<(), Fail> {
     let shape = shape(rt.alloc(), 1)?;
     for (front, text, times, back, want) in LENGTHS {
-        let whole = around(rt.alloc(), front, text, times, back)?;
-        let got = told(rt.alloc(), whole.as_str(), &shape)?;
+        let whole = chain(rt.alloc(), front, text, times, back)?;
+        let got = told_as_read(rt.alloc(), whole.as_str(), &shape)?;
         assert_eq!(rt; got.as_str(), want, "of {front}");
     }
     Ok(())
 }
 
 // What opens, what closes it, how many openers one is, and how many of it are lawful.
-const OPENERS: [(&str, &str, u8); 3] = [("not ", "", 32), ("(", ")", 32), ("not (", ")", 16)];
+const OPENERS: [(&str, &str, usize); 3] = [("not ", "", 32), ("(", ")", 32), ("not (", ")", 16)];
 
-fn nested(alloc: Global, opens: &str, closes: &str, times: u8, last: &str) -> Result<String, Fail> {
-    let inner = around(alloc, "when ", opens, times, last)?;
-    around(
+fn nested(
+    alloc: Global,
+    opens: &str,
+    closes: &str,
+    times: usize,
+    last: &str,
+) -> Result<String, Fail> {
+    let inner = chain(alloc, "when ", opens, times, last)?;
+    chain(
         alloc,
         inner.as_str(),
         closes,
@@ -83,7 +80,7 @@ fn nested(alloc: Global, opens: &str, closes: &str, times: u8, last: &str) -> Re
 
 fn is_told(rt: &impl Abort, alloc: Global, text: &str, want: &str) -> Result<(), Fail> {
     let shape = shape(alloc, 1)?;
-    let got = told(alloc, text, &shape)?;
+    let got = told_as_read(alloc, text, &shape)?;
     assert_eq!(rt; got.as_str(), want, "of {text}");
     Ok(())
 }
@@ -104,9 +101,9 @@ fn depths(rt: HostRuntime) -> Result<(), Fail> {
 // An L2 comes before the 33rd opener, wherever it stands.
 #[test]
 fn deep_and_misplaced(rt: HostRuntime) -> Result<(), Fail> {
-    let open = around(rt.alloc(), "when ", "(", 33, "\nflag ping")?;
+    let open = chain(rt.alloc(), "when ", "(", 33, "\nflag ping")?;
     is_told(&rt, rt.alloc(), open.as_str(), "L2 Shape at line 2")?;
-    let whole = around(
+    let whole = chain(
         rt.alloc(),
         open.as_str(),
         ")",
@@ -114,7 +111,7 @@ fn deep_and_misplaced(rt: HostRuntime) -> Result<(), Fail> {
         " offer 1;otherwise none;",
     )?;
     is_told(&rt, rt.alloc(), whole.as_str(), "L4 Range at line 1")?;
-    let more = around(rt.alloc(), whole.as_str(), "\n;", 1, "")?;
+    let more = chain(rt.alloc(), whole.as_str(), "\n;", 1, "")?;
     is_told(&rt, rt.alloc(), more.as_str(), "L2 Shape at line 3")
 }
 
@@ -122,7 +119,7 @@ fn deep_and_misplaced(rt: HostRuntime) -> Result<(), Fail> {
 fn releases(rt: HostRuntime) -> Result<(), Fail> {
     let two = shape(rt.alloc(), 2)?;
     let text = "when flag ping offer 2; otherwise none;";
-    let got = told(rt.alloc(), text, &two)?;
+    let got = told_as_read(rt.alloc(), text, &two)?;
     assert_eq!(rt; got.as_str(), "1");
     is_told(&rt, rt.alloc(), text, "L4 Range at line 1")
 }

@@ -1,6 +1,7 @@
-// The longest texts of each kind of chain: they are read and let go by loops.
+//! The longest texts of each kind of chain: they are read and let go by loops.
 
-use crate::told::{shape, told};
+use crate::given::shape;
+use crate::told::told_as_read;
 use std::alloc::Global;
 use std::test::Fail;
 
@@ -14,7 +15,7 @@ fn has_room(text: &str, link: &str, back: &str) -> bool {
 }
 
 // As many links between the two ends as a text has room for, and then blanks up to its full length.
-fn chain(alloc: Global, front: &str, link: &str, back: &str) -> Result<String, Fail> {
+fn filled(alloc: Global, front: &str, link: &str, back: &str) -> Result<String, Fail> {
     let mut text = String::from_str(alloc, front)?;
     for _ in 0..MOST_BYTES {
         if has_room(text.as_str(), link, back) {
@@ -58,12 +59,12 @@ const CHAINS: [(&str, &str, &str, &str); 7] = [
 fn longest(rt: HostRuntime) -> Result<(), Fail> {
     let shape = shape(rt.alloc(), 1)?;
     for (front, link, back, want) in CHAINS {
-        let mut text = chain(rt.alloc(), front, link, back)?;
+        let mut text = filled(rt.alloc(), front, link, back)?;
         assert_eq!(rt; text.len(), MOST_BYTES);
-        let got = told(rt.alloc(), text.as_str(), &shape)?;
+        let got = told_as_read(rt.alloc(), text.as_str(), &shape)?;
         assert_eq!(rt; got.as_str(), want, "of {link}");
         text.push_str("@")?;
-        let got = told(rt.alloc(), text.as_str(), &shape)?;
+        let got = told_as_read(rt.alloc(), text.as_str(), &shape)?;
         assert_eq!(rt; got.as_str(), "L4 Range at line 1", "of {link}");
     }
     Ok(())
