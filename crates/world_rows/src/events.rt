@@ -1,7 +1,7 @@
 //! A worked list of events with its answers, and that the calls succeed where there is memory.
 
 use crate::apps::{BELOW_100, rules, world_over};
-use crate::table::{applied_table, played_table};
+use crate::table::{is_applied, is_played};
 use std::alloc::Global;
 use std::test::Fail;
 use world::{World, WorldFault};
@@ -36,17 +36,13 @@ start 1 y 1 = E4 NoApp
 #[test]
 fn worked_events_are_applied(rt: HostRuntime) -> Result<(), Fail> {
     let mut world = workers(rt.alloc(), 2)?;
-    let found = applied_table(rt.alloc(), &mut world, WORKED)?;
-    assert_eq!(rt; found.as_str(), WORKED);
-    Ok(())
+    is_applied(&rt, rt.alloc(), &mut world, WORKED)
 }
 
 #[test]
 fn worked_events_are_played(rt: HostRuntime) -> Result<(), Fail> {
     let mut world = workers(rt.alloc(), 2)?;
-    let found = played_table(rt.alloc(), &mut world, WORKED)?;
-    assert_eq!(rt; found.as_str(), WORKED);
-    Ok(())
+    is_played(&rt, rt.alloc(), &mut world, WORKED)
 }
 
 const OF_64_WORKERS: &str = "start 64 x 0 = E1 NoWorker
@@ -56,9 +52,7 @@ start 63 x 0 = started
 #[test]
 fn workers_are_numbered_from_0_to_63(rt: HostRuntime) -> Result<(), Fail> {
     let mut world = workers(rt.alloc(), 64)?;
-    let found = applied_table(rt.alloc(), &mut world, OF_64_WORKERS)?;
-    assert_eq!(rt; found.as_str(), OF_64_WORKERS);
-    Ok(())
+    is_applied(&rt, rt.alloc(), &mut world, OF_64_WORKERS)
 }
 
 #[test]

@@ -12,42 +12,45 @@ use bpf_verify::{Refusal, Rule, Verified, verify};
 use cells::Shape;
 use flow_check::{Flow, FlowFault, FlowRule};
 use ruleset::Ruleset;
-use std::alloc::Global;
+use std::alloc::{AllocError, Global};
 use std::sync::Arc;
 use std::test::Fail;
 use world::{Effect, Event, World, WorldFault};
 
 /// The answer of a call, or of a second one where the first is this refusal of memory.
-fn again<T, E: PartialEq + Drop, F: FnMut() -> Result<T, E>>(memory: E, mut call: F) -> Result<T, E>
-    requires { F.IsAlwaysCallable call }
-{
-    match call() {
-        Err(fault) if fault == memory => call(),
-        answer => answer,
-    }
+macro_rules! again {
+    ($memory:pat, $call:expr) => {
+        match $call {
+            Err($memory) => $call,
+            answer => answer,
+        }
+    };
 }
 
 // ldxh r2, [r1+16] / mov r0, 0 / jge r2, 100, +1 / mov r0, 1 / exit
 const BELOW_100: &[u8] = b"\x69\x12\x10\0\0\0\0\0\xb7\0\0\0\0\0\0\0\x35\x02\x01\0\x64\0\0\0\
     \xb7\0\0\0\x01\0\0\0\x95\0\0\0\0\0\0\0";
 
-#[test]
-fn attributes(rt: HostRuntime) -> Result<(), Fail> {
-    let alloc = rt.alloc();
-    let attrs = again(AttrFault::Memory, || {
-        Attrs::plain(alloc, "x", Some("1.2.3.4"), 9999)
-    })?;
-    assert_eq!(rt; attrs.text(0), "x");
-    assert_eq!(rt; attrs.text(1), "1.2.3.4");
-    assert_eq!(rt; attrs.context().version, [1, 2, 3, 4]);
-    Ok(())
+fn has_texts(alloc: Global, version: &str) -> Result<bool, AttrFault> {
+    let attrs = Attrs::plain(alloc, "x", Some(version), 9999)?;
+    Ok(attrs.text(0) == "x" && attrs.text(1) == version && attrs.context().version == [1, 2, 3, 4])
 }
 
 #[test]
-fn graphs(rt: HostRuntime) -> Result<(), Fail> {
-    let alloc = rt.alloc();
-    let flow = again(FlowFault::Memory, || Flow::check(alloc, BELOW_100))?;
-    assert_eq!(rt; flow.bytes(), BELOW_100);
+fn attributes(rt: HostRuntime) {
+    let answer = again!(AttrFault::Memory, has_texts(rt.alloc(), "1.2.3.4"));
+    assert!(rt; answer == Ok(true));
+}
+
+/// Whether the graph of these bytes keeps them.
+fn keeps_bytes(alloc: Global, bytes: &[u8]) -> Result<bool, FlowFault> {
+    Ok(Flow::check(alloc, bytes)?.bytes() == bytes)
+}
+
+#[test]
+fn graphs(rt: HostRuntime) {
+    let answer = again!(FlowFault::Memory, keeps_bytes(rt.alloc(), BELOW_100));
+    assert!(rt; answer == Ok(true));
     let rows: [(&[u8], FlowRule); 3] = [
         (b"\x95\0\0\0\0\0\0\0\x95\0\0\0\0\0\0\0", FlowRule::Unreached),
         (
@@ -60,10 +63,9 @@ fn graphs(rt: HostRuntime) -> Result<(), Fail> {
         ),
     ];
     for (bytes, rule) in rows {
-        let fault = again(FlowFault::Memory, || Flow::check(alloc, bytes)).err();
-        assert_eq!(rt; fault, Some(FlowFault::Rule { slot: 1, rule }));
+        let answer = again!(FlowFault::Memory, keeps_bytes(rt.alloc(), bytes));
+        assert!(rt; answer == Err(FlowFault::Rule { slot: 1, rule }));
     }
-    Ok(())
 }
 
 /// The program under so many releases, or its refusal.
@@ -74,106 +76,135 @@ fn below_100(alloc: Global, releases: u8) -> Result<Verified, Refusal> {
     verify(alloc, flow, &Shape::plain(alloc, releases.min(64)))
 }
 
+fn is_accepted(alloc: Global, releases: u8) -> Result<bool, Refusal> {
+    Ok(below_100(alloc, releases)?.bytes() == BELOW_100)
+}
+
 #[test]
-fn verdicts(rt: HostRuntime) -> Result<(), Fail> {
-    let alloc = rt.alloc();
-    let verified = again(Refusal::Memory, || below_100(alloc, 1))?;
-    assert_eq!(rt; verified.bytes(), BELOW_100);
-    assert_eq!(rt;
-        again(Refusal::Memory, || below_100(alloc, 0)).err(),
-        Some(Refusal::Rule {
-            slot: 4,
-            rule: Rule::Result
-        })
-    );
-    Ok(())
+fn verdicts(rt: HostRuntime) {
+    let answer = again!(Refusal::Memory, is_accepted(rt.alloc(), 1));
+    assert!(rt; answer == Ok(true));
+    let answer = again!(Refusal::Memory, is_accepted(rt.alloc(), 0));
+    let rule = Rule::Result;
+    assert!(rt; answer == Err(Refusal::Rule { slot: 4, rule }));
 }
 
 // The same program, with more labels than one node of their map holds.
 const LABELS: &str = "a:\nb:\nc:\nd:\ne:\nf:\ng:\nh:\ni:\nj:\nk:\nl:\nm:\nn:\no:\np:\nq:
 ldxh r2, [r1+16]\nr: mov r0, 0\njge r2, 100, u\ns: mov r0, 1\nu: exit\n";
 
+/// Whether the text has the program's bytes.
+fn is_below_100(alloc: Global, text: &str) -> Result<bool, AsmFault> {
+    Ok(assemble(alloc, text)?.as_slice() == BELOW_100)
+}
+
 #[test]
-fn texts(rt: HostRuntime) -> Result<(), Fail> {
-    let alloc = rt.alloc();
-    let memory = AsmFault::Memory;
-    let bytes = again(memory, || assemble(alloc, LABELS))?;
-    assert_eq!(rt; bytes.as_slice(), BELOW_100);
+fn texts(rt: HostRuntime) {
+    let answer = again!(AsmFault::Memory, is_below_100(rt.alloc(), LABELS));
+    assert!(rt; answer == Ok(true));
     for (text, line, kind) in [
         ("exit\nja nowhere", 2, AsmFaultKind::Label),
         ("a: exit\nmov r0, @", 2, AsmFaultKind::Token),
         ("mov r0, 0\nadd r1, 4294967296", 2, AsmFaultKind::Range),
     ] {
-        let fault = again(memory, || assemble(alloc, text)).err();
-        assert_eq!(rt; fault, Some(AsmFault::At { line, kind }));
+        let answer = again!(AsmFault::Memory, is_below_100(rt.alloc(), text));
+        assert!(rt; answer == Err(AsmFault::At { line, kind }));
     }
-    Ok(())
+}
+
+const LINES: &str = "ldxh r2, [r1+16]\nmov r0, 0\njge r2, 100, +1\nmov r0, 1\nexit\n";
+
+/// Whether the bytes have the program's lines.
+fn is_listed(alloc: Global, bytes: &[u8]) -> Result<bool, ListFault> {
+    Ok(listing(alloc, bytes)?.as_str() == LINES)
 }
 
 #[test]
-fn listings(rt: HostRuntime) -> Result<(), Fail> {
-    let alloc = rt.alloc();
-    let text = again(ListFault::Memory, || listing(alloc, BELOW_100))?;
-    assert_eq!(rt;
-        text.as_str(),
-        "ldxh r2, [r1+16]\nmov r0, 0\njge r2, 100, +1\nmov r0, 1\nexit\n"
-    );
-    assert_eq!(rt;
-        again(ListFault::Memory, || listing(alloc, &BELOW_100[..39])).err(),
-        Some(ListFault::Insn {
-            slot: 4,
-            fault: InsnFault::Truncated
-        })
-    );
-    Ok(())
+fn listings(rt: HostRuntime) {
+    let answer = again!(ListFault::Memory, is_listed(rt.alloc(), BELOW_100));
+    assert!(rt; answer == Ok(true));
+    let answer = again!(ListFault::Memory, is_listed(rt.alloc(), &BELOW_100[..39]));
+    let fault = InsnFault::Truncated;
+    assert!(rt; answer == Err(ListFault::Insn { slot: 4, fault }));
+}
+
+fn program(alloc: Global) -> Result<Arc<Verified>, AllocError> {
+    match below_100(alloc, 1) {
+        Ok(program) => Ok(Arc::new(alloc, program)?),
+        Err(_) => Err(AllocError),
+    }
 }
 
 /// The ruleset of these two apps; none where their appids are one.
-fn rules_of(alloc: Global, appids: [&str; 2]) -> Result<Option<Ruleset>, WorldFault> {
+fn rules_of(alloc: Global, appids: [&str; 2]) -> Result<Option<Ruleset>, AllocError> {
     let mut apps = Vec::new(alloc);
     for appid in appids {
-        let program = below_100(alloc, 1).map_err(|_| WorldFault::Memory)?;
-        let program = Arc::new(alloc, program).map_err(|_| WorldFault::Memory)?;
-        let app = app_of(alloc, appid, program).map_err(|_| WorldFault::Memory)?;
-        apps.push(app).map_err(|_| WorldFault::Memory)?;
+        apps.push(app_of(alloc, appid, program(alloc)?)?)?;
     }
     Ok(Ruleset::new(String::new(alloc), apps).ok())
 }
 
-#[test]
-fn rulesets(rt: HostRuntime) -> Result<(), Fail> {
-    let alloc = rt.alloc();
-    let rules = again(WorldFault::Memory, || rules_of(alloc, ["x", "y"]))?.ok_or("no ruleset")?;
-    assert!(rt; rules.find("x").is_some() && rules.find("y").is_some());
-    let twice = again(WorldFault::Memory, || rules_of(alloc, ["x", "x"]))?;
-    assert!(rt; twice.is_none());
-    Ok(())
+/// Whether the ruleset has both apps; none where there is no ruleset.
+fn has_both(alloc: Global, appids: [&str; 2]) -> Result<Option<bool>, AllocError> {
+    Ok(match rules_of(alloc, appids)? {
+        Some(rules) => Some(rules.find(appids[0]).is_some() && rules.find(appids[1]).is_some()),
+        None => None,
+    })
 }
 
-fn shared_rules(alloc: Global) -> Result<Arc<Ruleset>, WorldFault> {
-    let rules = rules_of(alloc, ["x", "y"])?.ok_or(WorldFault::Memory)?;
-    Arc::new(alloc, rules).map_err(|_| WorldFault::Memory)
+#[test]
+fn rulesets(rt: HostRuntime) {
+    let answer = again!(AllocError, has_both(rt.alloc(), ["x", "y"]));
+    assert!(rt; answer == Ok(Some(true)));
+    let answer = again!(AllocError, has_both(rt.alloc(), ["x", "x"]));
+    assert!(rt; answer == Ok(None));
+}
+
+fn shared_rules(alloc: Global) -> Result<Arc<Ruleset>, AllocError> {
+    match rules_of(alloc, ["x", "y"])? {
+        Some(rules) => Ok(Arc::new(alloc, rules)?),
+        None => Err(AllocError),
+    }
 }
 
 /// A world of two workers.
 fn world_of(alloc: Global) -> Result<World, WorldFault> {
-    World::new(alloc, 2, shared_rules(alloc)?)
+    match shared_rules(alloc) {
+        Ok(rules) => World::new(alloc, 2, rules),
+        Err(_) => Err(WorldFault::Memory),
+    }
 }
 
-/// A whole run of one worker, the first event apart.
-fn events_of(alloc: Global) -> Result<(Event, Vec<Event>), WorldFault> {
-    let attrs = Attrs::plain(alloc, "x", None, 99).map_err(|_| WorldFault::Memory)?;
-    let attrs = Arc::new(alloc, attrs).map_err(|_| WorldFault::Memory)?;
+fn start(alloc: Global) -> Result<Event, AllocError> {
+    let Ok(attrs) = Attrs::plain(alloc, "x", None, 99) else {
+        return Err(AllocError);
+    };
+    let attrs = Arc::new(alloc, attrs)?;
+    Ok(Event::Start { worker: 1, attrs })
+}
+
+fn starts(alloc: Global, world: &mut World) -> Result<bool, WorldFault> {
+    match start(alloc) {
+        Ok(start) => Ok(applied(world, &start)? == Effect::Started),
+        Err(_) => Err(WorldFault::Memory),
+    }
+}
+
+fn swaps(alloc: Global, world: &mut World) -> Result<bool, WorldFault> {
+    match shared_rules(alloc) {
+        Ok(rules) => Ok(applied(world, &Event::Swap { rules })? == Effect::Swapped { ruleset: 2 }),
+        Err(_) => Err(WorldFault::Memory),
+    }
+}
+
+/// The rest of a whole run.
+fn steps(alloc: Global) -> Result<Vec<Event>, AllocError> {
     let mut events = Vec::new(alloc);
     for _ in 0..5 {
-        events
-            .push(Event::Step { worker: 1 })
-            .map_err(|_| WorldFault::Memory)?;
+        events.push(Event::Step { worker: 1 })?;
     }
-    events
-        .push(Event::Finish { worker: 1 })
-        .map_err(|_| WorldFault::Memory)?;
-    Ok((Event::Start { worker: 1, attrs }, events))
+    events.push(Event::Finish { worker: 1 })?;
+    Ok(events)
 }
 
 const ANSWERS: [Result<Effect, WorldFault>; 6] = [
@@ -189,25 +220,22 @@ const ANSWERS: [Result<Effect, WorldFault>; 6] = [
     }),
 ];
 
-fn are_played(answers: &[Result<Effect, WorldFault>]) -> bool {
-    answers == ANSWERS.as_slice()
+fn plays(alloc: Global, world: &mut World) -> Result<bool, WorldFault> {
+    match steps(alloc) {
+        Ok(events) => Ok(played(alloc, world, events.as_slice())?.as_slice() == ANSWERS.as_slice()),
+        Err(_) => Err(WorldFault::Memory),
+    }
 }
 
-/// A Start, a Step and a Finish want no memory: they are asked once. A Swap that is refused adds no
-/// ruleset, and a list of events that is refused plays none of them.
+/// A Start, a Step and a Finish want no memory. A Swap that is refused adds no ruleset, and a list
+/// of events that is refused plays none of them.
 #[test]
 fn worlds(rt: HostRuntime) -> Result<(), Fail> {
     let alloc = rt.alloc();
-    let mut world = again(WorldFault::Memory, || world_of(alloc))?;
-    let (start, events) = again(WorldFault::Memory, || events_of(alloc))?;
-    let rules = again(WorldFault::Memory, || shared_rules(alloc))?;
-    let swap = Event::Swap { rules };
-    assert_eq!(rt; applied(&mut world, &start), Ok(Effect::Started));
-    let swapped = again(WorldFault::Memory, || applied(&mut world, &swap))?;
-    assert_eq!(rt; swapped, Effect::Swapped { ruleset: 2 });
-    let answers = again(WorldFault::Memory, || {
-        played(alloc, &mut world, events.as_slice())
-    })?;
-    assert!(rt; are_played(answers.as_slice()));
+    let mut world = again!(WorldFault::Memory, world_of(alloc))?;
+    let started = again!(WorldFault::Memory, starts(alloc, &mut world));
+    let swapped = again!(WorldFault::Memory, swaps(alloc, &mut world));
+    let played = again!(WorldFault::Memory, plays(alloc, &mut world));
+    assert!(rt; started == Ok(true) && swapped == Ok(true) && played == Ok(true));
     Ok(())
 }

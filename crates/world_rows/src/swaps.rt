@@ -2,7 +2,7 @@
 //! under the newest.
 
 use crate::apps::{rules, world_over};
-use crate::table::played_table;
+use crate::table::is_played;
 use std::alloc::Global;
 use std::test::Fail;
 use world::World;
@@ -49,15 +49,11 @@ finish 0 = E5 NotDone
 #[test]
 fn a_run_goes_on_under_its_ruleset(rt: HostRuntime) -> Result<(), Fail> {
     let mut world = world_of(rt.alloc())?;
-    let found = played_table(rt.alloc(), &mut world, WITHIN_A_RUN)?;
-    assert_eq!(rt; found.as_str(), WITHIN_A_RUN);
-    Ok(())
+    is_played(&rt, rt.alloc(), &mut world, WITHIN_A_RUN)
 }
 
 #[test]
 fn a_start_is_under_the_newest(rt: HostRuntime) -> Result<(), Fail> {
     let mut world = world_of(rt.alloc())?;
-    let found = played_table(rt.alloc(), &mut world, TO_ANOTHER_APP)?;
-    assert_eq!(rt; found.as_str(), TO_ANOTHER_APP);
-    Ok(())
+    is_played(&rt, rt.alloc(), &mut world, TO_ANOTHER_APP)
 }

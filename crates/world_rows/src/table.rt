@@ -3,6 +3,7 @@
 
 use crate::apps::{NONE, applied, played, rules, start};
 use std::alloc::{AllocError, Global};
+use std::process::Abort;
 use std::test::Fail;
 use world::{Effect, Event, World, WorldFault};
 
@@ -80,18 +81,32 @@ fn table_of(
     Ok(text)
 }
 
-/// The table as the world answers it, its events played at once.
-pub(crate) fn played_table(alloc: Global, world: &mut World, table: &str) -> Result<String, Fail> {
+/// Asserts that the world answers as the table has it, its events played at once.
+pub(crate) fn is_played(
+    rt: &impl Abort,
+    alloc: Global,
+    world: &mut World,
+    table: &str,
+) -> Result<(), Fail> {
     let events = events_of(alloc, table)?;
     let answers = played(alloc, world, events.as_slice())?;
-    table_of(alloc, table, answers.as_slice())
+    let found = table_of(alloc, table, answers.as_slice())?;
+    assert!(rt; found.as_str() == table, "{found}");
+    Ok(())
 }
 
-/// The table as the world answers it, its events applied one by one.
-pub(crate) fn applied_table(alloc: Global, world: &mut World, table: &str) -> Result<String, Fail> {
+/// Asserts the same of its events applied one by one.
+pub(crate) fn is_applied(
+    rt: &impl Abort,
+    alloc: Global,
+    world: &mut World,
+    table: &str,
+) -> Result<(), Fail> {
     let mut answers = Vec::new(alloc);
     for event in &events_of(alloc, table)? {
         answers.push(applied(world, event))?;
     }
-    table_of(alloc, table, answers.as_slice())
+    let found = table_of(alloc, table, answers.as_slice())?;
+    assert!(rt; found.as_str() == table, "{found}");
+    Ok(())
 }
