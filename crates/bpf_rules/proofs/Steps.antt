@@ -1,7 +1,6 @@
 -- Where no rule fails, a step is safe, whatever the instruction is.
 use Rattle.std.proofs.Common.{None, refl, FitsSigned}
 use Rattle.std.specs.Int.{w32}
-use Rattle.bpf_insn.specs.declared.operand.Distance.TheVariants.{Short}
 use Rattle.bpf_insn.specs.declared.operand.Operand.{Operand}
 use Rattle.bpf_insn.specs.declared.operand.Operand.TheVariants.{Imm, Register}
 use Rattle.bpf_insn.specs.declared.insn.Insn.{Insn}
@@ -13,8 +12,9 @@ use Rattle.bpf_semantics.specs.Step.{act}
 use Rattle.abs_value.specs.declared.state.AbsState.{AbsState}
 use Rattle.abs_value.specs.Covers.{IsStoodFor}
 use Rattle.abs_value.specs.Laws.{CoversFirst, CoversSecond, CoversOpening}
+use Rattle.flow_check.specs.Edges.{JumpsForward}
 use Rattle.bpf_rules.specs.Transfer.{edges}
-use Rattle.bpf_rules.specs.Sound.{IsSafe, JumpsForward, EveryStepIsSafe, FirstStands, SecondStands, OpeningStands}
+use Rattle.bpf_rules.specs.Sound.{IsSafe, EveryStepIsSafe, FirstStands, SecondStands, OpeningStands}
 use Rattle.bpf_rules.proofs.Given.{Given}
 use Rattle.bpf_rules.proofs.Passes.{Passes, passes}
 use Rattle.bpf_rules.proofs.Outcomes.{answers}
@@ -43,9 +43,9 @@ step_safe given shape e s (Neg bits dst) fits f forward w h ok =
 step_safe given shape e s (End order size dst) fits f forward w h ok =
     end_safe given shape e s order size dst h ok
 step_safe given shape e s (Jump distance) fits f forward w h ok =
-    jump_safe given shape e s distance (forward distance refl) h
+    jump_safe given shape e s distance forward h
 step_safe given shape e s (JumpIf bits condition left right offset) fits f forward w h ok =
-    jump_if_safe given shape e s bits condition left right offset (forward (Short offset) refl) h ok
+    jump_if_safe given shape e s bits condition left right offset forward h ok
 step_safe given shape e s (Call helper) fits f forward w h ok =
     call_safe given shape e s helper h w ok
 step_safe given shape e s Exit fits f forward w h ok = exit_safe given shape e s h ok

@@ -1,11 +1,9 @@
 -- What one step comes to where no rule fails: it is no trap, leads along an edge whose entry stands
 -- for the state that it makes, and asks of counters only what the shape allows.
-use Rattle.std.specs.Prelude.{◌≡◌, ℕ, ◌≤◌, pos, ◌≤ℤ◌, List, Contains, Some, None, IsSome, IfSome}
+use Rattle.std.specs.Prelude.{◌≡◌, ℕ, ◌≤◌, List, Contains, None, IsSome, IfSome}
 use Rattle.attrs.specs.Attributes.{Attributes}
-use Rattle.bpf_insn.specs.declared.operand.Distance.{Distance}
 use Rattle.bpf_insn.specs.declared.insn.Insn.{Insn}
 use Rattle.bpf_insn.specs.Spelling.{IsEncodable}
-use Rattle.bpf_insn.specs.Program.{slots_moved}
 use Rattle.cells.specs.declared.array.CellArray.{CellArray}
 use Rattle.cells.specs.declared.event.CellOp.{CellOp}
 use Rattle.cells.specs.declared.event.CellOp.TheVariants.{Load, Add}
@@ -14,7 +12,7 @@ use Rattle.cells.specs.Events.{CanReply}
 use Rattle.bpf_semantics.specs.State.{State, HasWords, opening}
 use Rattle.bpf_semantics.specs.Outcome.{Outcome, Going, Asks, Done, Trap}
 use Rattle.bpf_semantics.specs.Step.{act}
-use Rattle.flow_check.specs.Edges.{jump_of}
+use Rattle.flow_check.specs.Edges.{JumpsForward}
 use Rattle.abs_value.specs.declared.state.AbsState.{AbsState}
 use Rattle.abs_value.specs.States.{opening_state, join_states}
 use Rattle.abs_value.specs.Covers.{IsStoodFor}
@@ -56,10 +54,6 @@ IsSafe shape edges (Done n) = n ≤ shape.releases
 IsSafe shape edges Trap = ⊥
 
 -- ---- laws
-
--- it jumps to no place before the next one, if it jumps
-abbrev pub JumpsForward : Insn → Type 0
-JumpsForward i = (d : Distance) → jump_of i ≡ Some d → pos 0 ≤ℤ slots_moved d
 
 -- from a state that is stood for, where no rule fails
 abbrev pub EveryStepIsSafe : Type 0
