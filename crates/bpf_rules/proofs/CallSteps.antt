@@ -28,7 +28,7 @@ use Rattle.bpf_rules.specs.declared.helper.Helper.{Helper}
 use Rattle.bpf_rules.specs.declared.helper.Helper.TheVariants.{Lookup, AttrIs, AttrLen, Bucket}
 use Rattle.bpf_rules.specs.Memory.{text_unset}
 use Rattle.bpf_rules.specs.Reads.{helper_of, arguments}
-use Rattle.bpf_rules.specs.Rules.{compares_unset, is_map, is_text, takes}
+use Rattle.bpf_rules.specs.Rules.{compares_unset, is_map, is_stack_text, takes}
 use Rattle.bpf_rules.specs.Sound.{IsSafe}
 use Rattle.bpf_rules.specs.Transfer.{edges}
 use Rattle.bpf_rules.proofs.Given.{Given}
@@ -102,7 +102,7 @@ text_at given shape e s place n number h words short within set =
     (given.bytes (answers h) e s place n within words h.covers set))
 
 text_there : (given : Given) (shape : AppShape) (e : AbsState) (s : State) (v w : Abs)
-    (number address n : ℕ) (h : IsStoodFor shape e s) → HasWords s → is_text v w ≡ true
+    (number address n : ℕ) (h : IsStoodFor shape e s) → HasWords s → is_stack_text v w ≡ true
     → text_unset e v w ≡ false → Includes (answers h) v address → Includes (answers h) w n
     → IsSome (compared s number address n)
 text_there given shape e s (Stk place) (Num m) number address n h words is set at length =
@@ -151,7 +151,8 @@ text_gives given shape e s h words asked =
     let address = there given shape e s R2 h usable.1 in
     let count = there given shape e s R3 h usable.2 in
     let taken =
-    true_and (is_number (value_of e R1)) (is_text (value_of e R2) (value_of e R3)) asked.taken in
+    true_and (is_number (value_of e R1)) (is_stack_text (value_of e R2) (value_of e R3))
+    asked.taken in
     rw (number.is, address.is, count.is)
     (text_there given shape e s (value_of e R2) (value_of e R3) number.number address.number
     count.number h words taken.1 usable.3 address.included count.included)

@@ -162,15 +162,15 @@ is_map (Map index) = true
 is_map v = false
 
 -- a text in the stack: its address, and a single length of at most 64
-abbrev pub is_text : Abs → Abs → Bool
-is_text (Stk place) (Num n) =
+abbrev pub is_stack_text : Abs → Abs → Bool
+is_stack_text (Stk place) (Num n) =
     is_single n && nat_le n.lo 64 && nat_le (place + n.lo) stack_size
-is_text address length = false
+is_stack_text address length = false
 
 abbrev pub takes : AbsState → Option Helper → Bool
 takes e None = false
 takes e (Some Lookup) = is_map (value_of e R1) && is_number (value_of e R2)
-takes e (Some AttrIs) = is_number (value_of e R1) && is_text (value_of e R2) (value_of e R3)
+takes e (Some AttrIs) = is_number (value_of e R1) && is_stack_text (value_of e R2) (value_of e R3)
 takes e (Some AttrLen) = is_number (value_of e R1)
 takes e (Some Bucket) = is_number (value_of e R1)
 

@@ -45,8 +45,8 @@ fn compares_unset(e: &AbsState, helper: Option<Helper>) -> bool
 }
 
 /// Whether it is a text in the stack: an address, and a single length of at most 64.
-fn is_text(address: Abs, length: Abs) -> bool
-    ensures { result ≡ rules.is_text address length }
+fn is_stack_text(address: Abs, length: Abs) -> bool
+    ensures { result ≡ rules.is_stack_text address length }
 {
     match (address, length) {
         (Abs::Stk { place }, Abs::Num(n)) => {
@@ -69,7 +69,7 @@ fn takes(e: &AbsState, helper: Option<Helper>) -> bool
     match helper {
         Some(Helper::Lookup) => is_map(e.value(Reg::R1)) && e.value(Reg::R2).is_number(),
         Some(Helper::AttrIs) => {
-            e.value(Reg::R1).is_number() && is_text(e.value(Reg::R2), e.value(Reg::R3))
+            e.value(Reg::R1).is_number() && is_stack_text(e.value(Reg::R2), e.value(Reg::R3))
         }
         Some(_) => e.value(Reg::R1).is_number(),
         None => false,
