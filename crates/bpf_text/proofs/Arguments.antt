@@ -11,7 +11,7 @@ use Rattle.bpf_text.specs.declared.argument.Argument.{Argument}
 use Rattle.bpf_text.specs.declared.argument.Argument.TheVariants as argument
 use Rattle.bpf_text.specs.declared.item.Item.{Item}
 use Rattle.bpf_text.specs.declared.item.Item.TheVariants as item
-use Rattle.bpf_text.specs.Tokens.{Name, goes_on, tokens_of}
+use Rattle.bpf_text.specs.Tokens.{Name, word_goes_on, tokens_of}
 use Rattle.bpf_text.specs.Items.{Tokens, item_at_front}
 use Rattle.bpf_text.specs.Listing.{register_text, with_sign, argument_text}
 use Rattle.bpf_text.proofs.Named.{register_is_named}
@@ -68,17 +68,17 @@ four_front : (a b c d : Token Name) (o : Option Tokens)
 four_front a b c d None = refl
 four_front a b c d (Some ts) = refl
 
-imm_token : (k : ℤ) (rest : List ℕ) → IsShort k → goes_on rest ≡ false
+imm_token : (k : ℤ) (rest : List ℕ) → IsShort k → word_goes_on rest ≡ false
     → tokens_of (signed_decimal k ++ rest) ≡ front (Number (imm_figure k)) (tokens_of rest)
 imm_token (pos n) rest short ends = decimal_token n rest short ends
 imm_token (negsuc n) rest short ends = minus_token (suc n) rest short ends
 
-signed_token : (k : ℤ) (rest : List ℕ) → IsShort k → goes_on rest ≡ false
+signed_token : (k : ℤ) (rest : List ℕ) → IsShort k → word_goes_on rest ≡ false
     → tokens_of (with_sign k ++ rest) ≡ front (Number (signed_figure k)) (tokens_of rest)
 signed_token (pos n) rest short ends = plus_token n rest short ends
 signed_token (negsuc n) rest short ends = minus_token (suc n) rest short ends
 
-sign_ends : (k : ℤ) (rest : List ℕ) → goes_on (with_sign k ++ rest) ≡ false
+sign_ends : (k : ℤ) (rest : List ℕ) → word_goes_on (with_sign k ++ rest) ≡ false
 sign_ends (pos n) rest = refl
 sign_ends (negsuc n) rest = refl
 
@@ -89,7 +89,7 @@ memory_text r k rest =
     (append_assoc (register_text r ++ with_sign k) (93 ∷ []) rest
     ∙ append_assoc (register_text r) (with_sign k) (93 ∷ rest))
 
-pub argument_tokens : (a : Argument) (rest : List ℕ) → HasShort a → goes_on rest ≡ false
+pub argument_tokens : (a : Argument) (rest : List ℕ) → HasShort a → word_goes_on rest ≡ false
     → tokens_of (argument_text a ++ rest) ≡ onto (tokens_of_argument a) (tokens_of rest)
 argument_tokens (argument.Register r) rest short ends =
     word_token (register_text r) rest (register_is_named r).is_text ends

@@ -1,5 +1,6 @@
 -- A listing assembles to the bytes that it was written of.
 use Rattle.std.proofs.Common.{◌≡◌, ℕ, zero, suc, ◌+◌, ◌-◌, ◌*◌, ◌<◌, ◌≤◌, ◌^◌, ℤ, pos, negsuc, List, [], ◌∷◌, ◌++◌, length, map, Option, Some, None, Result, Ok, option_map, Bool, true, false, ◌&&◌, ◌==◌, nat_le, slice_index, codes, refl, sym, ap, ◌∙◌, append_assoc, length-append, arith}
+use Rattle.std.specs.Prelude.{ok_or}
 use Rattle.std.proofs.lemmas.List.Folds.{list_all-append}
 use Rattle.std.proofs.lemmas.List.Splits.{slice_split-cons_no, length-slice_split}
 use Rattle.std.proofs.lemmas.Fmt.{decimal_is_IsNumeral}
@@ -23,11 +24,11 @@ use Rattle.bpf_text.specs.Arguments.{mnemonic_of, arguments_of}
 use Rattle.bpf_text.specs.Assembly.{slots_in, slots_of_word, too_long, line_fault, fault_or, first_fault, placed, argument_if, arguments_at, insn_at, bytes_onto, bytes_of_placed, onto_bytes, unless_fault, label_slot, assembly_of, assembly_of_lines, Assembles}
 use Rattle.bpf_text.specs.Lines.{Line, lines_in, read_line}
 use Rattle.bpf_text.specs.Listing.{Lists, listing_of, line_of, register_text, with_sign, argument_text, text_behind}
-use Rattle.bpf_text.specs.Results.{needs, ◌>>?◌, in_turn}
+use Rattle.bpf_text.specs.Results.{◌>>?◌, in_turn}
 use Rattle.bpf_text.specs.Statements.{insn_of}
 use Rattle.bpf_text.specs.Tables.{tables}
 use Rattle.bpf_text.specs.Three.{map_three}
-use Rattle.bpf_text.specs.Tokens.{Name, is_letter, is_name_byte}
+use Rattle.bpf_text.specs.Tokens.{Name, is_word_start, is_word_byte}
 use Rattle.bpf_text.specs.Words.{word_of}
 use Rattle.bpf_text.proofs.Named.{is_word_text, is_named, register_is_named}
 use Rattle.bpf_text.proofs.Lexing.{and_both, digit_names}
@@ -50,21 +51,22 @@ plain_append : (xs ys : List ℕ) → is_plain xs ≡ true → is_plain ys ≡ t
 plain_append xs ys h k =
     list_all-append (λ c. nat_le 32 c) xs ys ∙ ap (λ (b : Bool). b && is_plain ys) h ∙ k
 
-plain_name_byte : (c : ℕ) → is_name_byte c ≡ true → nat_le 32 c ≡ true
+plain_name_byte : (c : ℕ) → is_word_byte c ≡ true → nat_le 32 c ≡ true
 plain_name_byte c h = grind arith
 
-plain_names : (w : List ℕ) → list_all is_name_byte w ≡ true → is_plain w ≡ true
+plain_names : (w : List ℕ) → list_all is_word_byte w ≡ true → is_plain w ≡ true
 plain_names [] h = refl
 plain_names (c ∷ w) h =
-    let both = and_both (is_name_byte c) (list_all is_name_byte w) h in
+    let both = and_both (is_word_byte c) (list_all is_word_byte w) h in
     let e = plain_name_byte c both.0 in simp e (plain_names w both.1)
 
 plain_word : (w : List ℕ) → is_word_text w ≡ true → is_plain w ≡ true
 plain_word [] h = refl
 plain_word (c ∷ w) h =
-    let letter = and_both (is_letter c) (list_all is_name_byte w && nat_le (length (c ∷ w)) 32) h in
-    let parts = and_both (list_all is_name_byte w) (nat_le (length (c ∷ w)) 32) letter.1 in
-    let name : is_name_byte c ≡ true = let l = letter.0 in simp l refl in
+    let letter = and_both (is_word_start c)
+    (list_all is_word_byte w && nat_le (length (c ∷ w)) 32) h in
+    let parts = and_both (list_all is_word_byte w) (nat_le (length (c ∷ w)) 32) letter.1 in
+    let name : is_word_byte c ≡ true = let l = letter.0 in simp l refl in
     let e = plain_name_byte c name in simp e (plain_names w parts.0)
 
 plain_decimal : (n : ℕ) → n < 2 ^ 64 → is_plain (decimal n) ≡ true
@@ -204,8 +206,8 @@ stated_again : (slot_of : Name → Option ℕ) (n s : ℕ) (i : Insn)
     → insn_at tables slot_of (record { line = n; slot = s; statement = stated i }) ≡ Ok i
 stated_again slot_of n s i =
     ap (λ (r : Result (UpToThree arguments.Argument) AsmFaultKind). r >>? λ a.
-    needs kind.Operand (insn_of (mnemonic_of i) a)) (arguments_again slot_of s (arguments_of i))
-    ∙ ap (needs kind.Operand) (insn_again i)
+    ok_or (insn_of (mnemonic_of i) a) kind.Operand) (arguments_again slot_of s (arguments_of i))
+    ∙ ap (λ o. ok_or o kind.Operand) (insn_again i)
 
 bytes_again : (slot_of : Name → Option ℕ) (n s : ℕ) (is : List Insn)
     → bytes_of_placed tables slot_of (placed n s (map as_line is)) ≡ Ok (encodings is)

@@ -11,7 +11,7 @@ use Rattle.bpf_text.specs.declared.token.Sign.TheVariants.{Absent, Minus, Plus}
 use Rattle.bpf_text.specs.declared.token.Figure.{Figure}
 use Rattle.bpf_text.specs.declared.token.Token.{Token}
 use Rattle.bpf_text.specs.declared.token.Token.TheVariants.{Word, Number, Comma, Open, Close}
-use Rattle.bpf_text.specs.Tokens.{Name, is_blank, is_letter, is_mark, is_name_byte, goes_on, pieces, onto_piece, token_of, tokens_in, tokens_of, is_numeral, numeral, unsigned_number, number_if_small}
+use Rattle.bpf_text.specs.Tokens.{Name, is_blank, is_word_start, is_mark, is_word_byte, word_goes_on, pieces, onto_piece, token_of, tokens_in, tokens_of, is_numeral, numeral, unsigned_number, number_if_small}
 use Rattle.bpf_text.proofs.Named.{is_word_text}
 use Rattle.bpf_text.proofs.Tokenizing.{name_plain, pieces_alone, pieces_onto, with_piece, small_number}
 
@@ -26,12 +26,12 @@ and_no false = refl
 -- ---- one piece
 
 piece_whole : (c : ℕ) (w rest : List ℕ) → (c == 59) ≡ false → is_blank c ≡ false
-    → is_mark c ≡ false → list_all is_name_byte w ≡ true → goes_on rest ≡ false
+    → is_mark c ≡ false → list_all is_word_byte w ≡ true → word_goes_on rest ≡ false
     → pieces ((c ∷ w) ++ rest) ≡ (c ∷ w) ∷ pieces rest
 piece_whole c [] rest semicolon blank mark names ends =
     pieces_alone c rest semicolon blank (simp (mark, ends) refl)
 piece_whole c (d ∷ w) rest semicolon blank mark names ends =
-    let both = and_both (is_name_byte d) (list_all is_name_byte w) names in
+    let both = and_both (is_word_byte d) (list_all is_word_byte w) names in
     let plain = name_plain d both.0 in
     pieces_onto c ((d ∷ w) ++ rest) semicolon blank (simp (mark, both.0) refl)
     ∙ ap (onto_piece c) (piece_whole d w rest plain.0 plain.1 plain.2 both.1 ends)
@@ -40,7 +40,7 @@ abbrev pub front : Token Name → Option (List (Token Name)) → Option (List (T
 front t o = option_map (λ ts. t ∷ ts) o
 
 token_piece : (c : ℕ) (w rest : List ℕ) (t : Token Name) → (c == 59) ≡ false → is_blank c ≡ false
-    → is_mark c ≡ false → list_all is_name_byte w ≡ true → goes_on rest ≡ false
+    → is_mark c ≡ false → list_all is_word_byte w ≡ true → word_goes_on rest ≡ false
     → token_of (c ∷ w) ≡ Some t → tokens_of ((c ∷ w) ++ rest) ≡ front t (tokens_of rest)
 token_piece c w rest t semicolon blank mark names ends is =
     ap tokens_in (piece_whole c w rest semicolon blank mark names ends)
@@ -48,7 +48,7 @@ token_piece c w rest t semicolon blank mark names ends is =
 
 -- ---- words and marks
 
-pub word_token : (w rest : List ℕ) → is_word_text w ≡ true → goes_on rest ≡ false
+pub word_token : (w rest : List ℕ) → is_word_text w ≡ true → word_goes_on rest ≡ false
     → tokens_of (w ++ rest) ≡ front (Word w) (tokens_of rest)
 word_token [] rest is ends = absurd (false_is_true is)
   where
@@ -56,9 +56,9 @@ word_token [] rest is ends = absurd (false_is_true is)
     false_is_true h = cc
 word_token (c ∷ w) rest is ends =
     let letter =
-    and_both (is_letter c) (list_all is_name_byte w && nat_le (length (c ∷ w)) 32) is in
-    let parts = and_both (list_all is_name_byte w) (nat_le (length (c ∷ w)) 32) letter.1 in
-    let named : is_name_byte c ≡ true = simp letter.0 refl in
+    and_both (is_word_start c) (list_all is_word_byte w && nat_le (length (c ∷ w)) 32) is in
+    let parts = and_both (list_all is_word_byte w) (nat_le (length (c ∷ w)) 32) letter.1 in
+    let named : is_word_byte c ≡ true = simp letter.0 refl in
     let plain = name_plain c named in
     token_piece c w rest (Word (c ∷ w)) plain.0 plain.1 plain.2 parts.0 ends
     (simp (plain.2, letter.0, parts.1) refl)
@@ -75,8 +75,8 @@ close_token rest = with_piece (93 ∷ []) (pieces rest) Close refl (tokens_of re
 -- ---- numbers
 
 record IsDigit (c : ℕ) : Type 0 where
-  name : is_name_byte c ≡ true
-  letter : is_letter c ≡ false
+  name : is_word_byte c ≡ true
+  letter : is_word_start c ≡ false
   minus : (c == 45) ≡ false
   plus : (c == 43) ≡ false
   x : (c == 120) ≡ false
@@ -95,10 +95,10 @@ range_digit c low high value = record {
 is_digit : (c : ℕ) → digit_value c < 10 → IsDigit c
 is_digit c value = let r = digit_from_value c value in range_digit c r.0 r.1 value
 
-pub digit_names : (ds : List ℕ) → AllDigits 10 ds → list_all is_name_byte ds ≡ true
+pub digit_names : (ds : List ℕ) → AllDigits 10 ds → list_all is_word_byte ds ≡ true
 digit_names [] h = refl
 digit_names (c ∷ ds) h =
-    let d = is_digit c h.0 in let e : is_name_byte c ≡ true = d.name in simp e (digit_names ds h.1)
+    let d = is_digit c h.0 in let e : is_word_byte c ≡ true = d.name in simp e (digit_names ds h.1)
 
 digit_tests : (ds : List ℕ) → AllDigits 10 ds → list_all (λ c. nat_lt (digit_value c) 10) ds ≡ true
 digit_tests [] h = refl
@@ -133,12 +133,12 @@ unsigned_is c ds h =
     simp test refl
 
 numeral_token : (ds rest : List ℕ) (n : ℕ)
-    → IsNumeral 10 ds → digits_value 10 ds ≡ n → n < 2 ^ 64 → goes_on rest ≡ false
+    → IsNumeral 10 ds → digits_value 10 ds ≡ n → n < 2 ^ 64 → word_goes_on rest ≡ false
     → tokens_of (ds ++ rest) ≡ front (Number (figure Absent n)) (tokens_of rest)
 numeral_token [] rest n h value small ends = absurd (omega (arith, h.0))
 numeral_token (c ∷ ds) rest n h value small ends =
     let d = is_digit c h.1.0 in
-    let letter : is_letter c ≡ false = d.letter in
+    let letter : is_word_start c ≡ false = d.letter in
     let minus : (c == 45) ≡ false = d.minus in
     let plus : (c == 43) ≡ false = d.plus in
     let plain = name_plain c d.name in
@@ -148,19 +148,19 @@ numeral_token (c ∷ ds) rest n h value small ends =
     (digit_names ds h.1.1) ends
     (is ∙ unsigned_is c ds h.1.1 ∙ numeral_is Absent (c ∷ ds) n h value small)
 
-pub decimal_token : (n : ℕ) (rest : List ℕ) → n < 2 ^ 64 → goes_on rest ≡ false
+pub decimal_token : (n : ℕ) (rest : List ℕ) → n < 2 ^ 64 → word_goes_on rest ≡ false
     → tokens_of (decimal n ++ rest) ≡ front (Number (figure Absent n)) (tokens_of rest)
 decimal_token n rest small ends =
     let h = decimal_is_IsNumeral n small in numeral_token (decimal n) rest n h.0 h.1 small ends
 
-pub minus_token : (n : ℕ) (rest : List ℕ) → n < 2 ^ 64 → goes_on rest ≡ false
+pub minus_token : (n : ℕ) (rest : List ℕ) → n < 2 ^ 64 → word_goes_on rest ≡ false
     → tokens_of ((45 ∷ decimal n) ++ rest) ≡ front (Number (figure Minus n)) (tokens_of rest)
 minus_token n rest small ends =
     let h = decimal_is_IsNumeral n small in
     token_piece 45 (decimal n) rest (Number (figure Minus n)) refl refl refl
     (digit_names (decimal n) h.0.1) ends (numeral_is Minus (decimal n) n h.0 h.1 small)
 
-pub plus_token : (n : ℕ) (rest : List ℕ) → n < 2 ^ 64 → goes_on rest ≡ false
+pub plus_token : (n : ℕ) (rest : List ℕ) → n < 2 ^ 64 → word_goes_on rest ≡ false
     → tokens_of ((43 ∷ decimal n) ++ rest) ≡ front (Number (figure Plus n)) (tokens_of rest)
 plus_token n rest small ends =
     let h = decimal_is_IsNumeral n small in

@@ -18,7 +18,7 @@ use Rattle.bpf_text.specs.Operands.{items_as}
 use Rattle.bpf_text.specs.Signatures.{kinds_of}
 use Rattle.bpf_text.specs.Tables.{tables}
 use Rattle.bpf_text.specs.Three.{map_three}
-use Rattle.bpf_text.specs.Tokens.{Name, goes_on, tokens_of}
+use Rattle.bpf_text.specs.Tokens.{Name, word_goes_on, tokens_of}
 use Rattle.bpf_text.specs.Words.{word_of}
 use Rattle.bpf_text.proofs.Named.{is_named}
 use Rattle.bpf_text.proofs.Lexing.{front, word_token, comma_token}
@@ -77,7 +77,7 @@ comma_onto a None = refl
 comma_onto a (Some ts) = refl
 
 comma_tokens : (o : Option arguments.Argument) (rest : List ℕ)
-    → HasShortOption o → goes_on rest ≡ false
+    → HasShortOption o → word_goes_on rest ≡ false
     → tokens_of (text_behind (codes ", ") o ++ rest) ≡ option_map (behind o) (tokens_of rest)
 comma_tokens None rest short ends = same_option (tokens_of rest)
 comma_tokens (Some a) rest short ends =
@@ -85,18 +85,18 @@ comma_tokens (Some a) rest short ends =
     ∙ ap (front Comma) (argument_tokens a rest short ends) ∙ comma_onto a (tokens_of rest)
 
 space_tokens : (o : Option arguments.Argument) (rest : List ℕ)
-    → HasShortOption o → goes_on rest ≡ false
+    → HasShortOption o → word_goes_on rest ≡ false
     → tokens_of (text_behind (codes " ") o ++ rest) ≡ option_map (at_front o) (tokens_of rest)
 space_tokens None rest short ends = same_option (tokens_of rest)
 space_tokens (Some a) rest short ends = argument_tokens a rest short ends
 
-comma_ends : (o : Option arguments.Argument) (rest : List ℕ) → goes_on rest ≡ false
-    → goes_on (text_behind (codes ", ") o ++ rest) ≡ false
+comma_ends : (o : Option arguments.Argument) (rest : List ℕ) → word_goes_on rest ≡ false
+    → word_goes_on (text_behind (codes ", ") o ++ rest) ≡ false
 comma_ends None rest h = h
 comma_ends (Some a) rest h = refl
 
-space_ends : (o : Option arguments.Argument) (rest : List ℕ) → goes_on rest ≡ false
-    → goes_on (text_behind (codes " ") o ++ rest) ≡ false
+space_ends : (o : Option arguments.Argument) (rest : List ℕ) → word_goes_on rest ≡ false
+    → word_goes_on (text_behind (codes " ") o ++ rest) ≡ false
 space_ends None rest h = h
 space_ends (Some a) rest h = refl
 

@@ -1,5 +1,6 @@
 -- Each line that states an instruction is read as it, and no other line is.
 use Rattle.std.proofs.Common.{◌≡◌, ℕ, ◌+◌, ℤ, pos, ◌-ℤ◌, FitsSigned, w16, w32, ◌∷◌, Option, Some, None, option_map, Ok, Bool, true, false, ◌&&◌, not, if◌then◌else◌, refl, sym, ap, ◌∙◌}
+use Rattle.std.specs.Prelude.{ok_or}
 use Rattle.bpf_insn.specs.declared.reg.Reg.{Reg}
 use Rattle.bpf_insn.specs.declared.insn.Insn.{Insn}
 use Rattle.bpf_insn.specs.declared.operand.Distance.TheVariants.{Short, Long}
@@ -24,7 +25,7 @@ use Rattle.bpf_text.specs.Lines.{body_of}
 use Rattle.bpf_text.specs.Listing.{register_text}
 use Rattle.bpf_text.specs.Operands.{has_plus, has_sign, if_of_kind, register_given, memory_given, item_as, item_if, all_given, items_as}
 use Rattle.bpf_text.specs.Ranges.{imm_of, wide_of, short_of, long_of}
-use Rattle.bpf_text.specs.Results.{OrFault, needs, ◌>>?◌, map_ok, in_turn}
+use Rattle.bpf_text.specs.Results.{OrFault, ◌>>?◌, map_ok, in_turn}
 use Rattle.bpf_text.specs.Signatures.{kinds_of, is_of, is_of_if}
 use Rattle.bpf_text.specs.States.{IsDistanceTo, IsArgument, IsArgumentIf, States, IsReadAs, ReadsAsStated}
 use Rattle.bpf_text.specs.Tokens.{Name}
@@ -51,7 +52,7 @@ to_distance z k false a h = absurd (no_truth h)
 leads_ok : (slot_of : SlotOf) (s : ℕ) (w : Name) (z : ℤ) → IsDistanceTo slot_of s w z
     → slots_to slot_of s w ≡ Ok z
 leads_ok slot_of s w z h =
-    ap (λ (o : Option ℕ). needs fault.Label o >>? λ t. Ok (pos t -ℤ pos (s + 1))) h.1
+    ap (λ (o : Option ℕ). ok_or o fault.Label >>? λ t. Ok (pos t -ℤ pos (s + 1))) h.1
     ∙ ap Ok (sym h.2)
 
 module _ (v : Vocabulary) (exact : IsExact v) (slot_of : SlotOf) (s : ℕ) where
@@ -69,8 +70,8 @@ module _ (v : Vocabulary) (exact : IsExact v) (slot_of : SlotOf) (s : ℕ) where
   short_way kind.ShortWay w z h f l = (
     given.ShortTo w,
     refl,
-    ap (λ r. r >>? λ y. needs fault.Range (short_distance y)) (leads_ok slot_of s w z l)
-        ∙ ap (needs fault.Range)
+    ap (λ r. r >>? λ y. ok_or (short_distance y) fault.Range) (leads_ok slot_of s w z l)
+        ∙ ap (λ o. ok_or o fault.Range)
         (to_distance z z (in_field 15 z) (argument.Distance (Short z)) (fits_15 z f)),
   )
   short_way k w z h f l = absurd (no_truth h)
@@ -81,8 +82,8 @@ module _ (v : Vocabulary) (exact : IsExact v) (slot_of : SlotOf) (s : ℕ) where
   long_way kind.LongWay w z h f l = (
     given.LongTo w,
     refl,
-    ap (λ r. r >>? λ y. needs fault.Range (long_distance y)) (leads_ok slot_of s w z l)
-        ∙ ap (needs fault.Range)
+    ap (λ r. r >>? λ y. ok_or (long_distance y) fault.Range) (leads_ok slot_of s w z l)
+        ∙ ap (λ o. ok_or o fault.Range)
         (to_distance z z (in_field 31 z) (argument.Distance (Long z)) (fits_31 z f)),
   )
   long_way k w z h f l = absurd (no_truth h)
@@ -214,9 +215,9 @@ stated_all v exact slot_of s tokens i fits h =
       record { mnemonic = m; arguments = g },
       ap (body_of v) h.word ∙ body_read v (word_of m) h.rest m h.items g
           ((exact.mnemonics (word_of m) m).1 refl) h.operands given,
-      ap (λ (r : OrFault (UpToThree Argument)). r >>? λ b. needs fault.Operand (v.insn_of m b))
+      ap (λ (r : OrFault (UpToThree Argument)). r >>? λ b. ok_or (v.insn_of m b) fault.Operand)
           placed
-          ∙ ap (needs fault.Operand) ((exact.insns m a i).1 (refl, refl)),
+          ∙ ap (λ o. ok_or o fault.Operand) ((exact.insns m a i).1 (refl, refl)),
     )
 
 pub reads_as_stated : (v : Vocabulary) → IsExact v → ReadsAsStated v

@@ -1,5 +1,6 @@
 -- A line is read as an instruction only where it states it.
 use Rattle.std.proofs.Common.{◌≡◌, ℕ, ◌+◌, ℤ, pos, ◌-ℤ◌, ◌∷◌, [], Option, Some, None, option_map, Ok, Bool, true, false, not, if◌then◌else◌, refl, sym, ap, ◌∙◌, subst}
+use Rattle.std.specs.Prelude.{ok_or}
 use Rattle.bpf_insn.specs.declared.insn.Insn.{Insn}
 use Rattle.bpf_insn.specs.declared.reg.Reg.{Reg}
 use Rattle.bpf_insn.specs.declared.operand.Distance.TheVariants.{Short, Long}
@@ -21,13 +22,12 @@ use Rattle.bpf_text.specs.Items.{Items, Tokens, items_of}
 use Rattle.bpf_text.specs.Lines.{Statement, body_of}
 use Rattle.bpf_text.specs.Operands.{has_plus, has_sign, if_of_kind, register_given, memory_given, item_as, item_if, items_as}
 use Rattle.bpf_text.specs.Ranges.{imm_of, wide_of, short_of, long_of}
-use Rattle.bpf_text.specs.Results.{needs}
 use Rattle.bpf_text.specs.Signatures.{kinds_of}
 use Rattle.bpf_text.specs.States.{IsDistanceTo, IsArgument, IsArgumentIf, States, IsReadAs}
 use Rattle.bpf_text.specs.Tokens.{Name}
 use Rattle.bpf_text.specs.Vocabulary.{Vocabulary, IsExact}
 use Rattle.bpf_text.specs.Words.{word_of}
-use Rattle.bpf_text.proofs.Successes.{all_given_ok, bind_ok, err_ok, in_turn_ok, map_ok_is, mapped, needs_ok, none_some, same_ok, same_some}
+use Rattle.bpf_text.proofs.Successes.{all_given_ok, bind_ok, err_ok, in_turn_ok, map_ok_is, mapped, ok_or_ok, none_some, same_ok, same_some}
 
 -- ---- one operand
 
@@ -61,8 +61,8 @@ then_some false b a h = absurd (none_some h)
 leads : (slot_of : SlotOf) (s : ℕ) (w : Name) (z : ℤ) → slots_to slot_of s w ≡ Ok z
     → IsDistanceTo slot_of s w z
 leads slot_of s w z h =
-    let p = bind_ok (needs fault.Label (slot_of w)) (λ t. Ok (pos t -ℤ pos (s + 1))) z h in
-    (p.0, needs_ok fault.Label (slot_of w) p.0 p.1, sym (same_ok p.2))
+    let p = bind_ok (ok_or (slot_of w) fault.Label) (λ t. Ok (pos t -ℤ pos (s + 1))) z h in
+    (p.0, ok_or_ok fault.Label (slot_of w) p.0 p.1, sym (same_ok p.2))
 
 module _ (v : Vocabulary) (exact : IsExact v) (slot_of : SlotOf) (s : ℕ) where
   name_is : (w : Name) (g : Given Name) (a : Argument) → register_given (v.register_named w) ≡ Ok g
@@ -114,17 +114,17 @@ module _ (v : Vocabulary) (exact : IsExact v) (slot_of : SlotOf) (s : ℕ) where
   short_to : (w : Name) (a : Argument) → argument_at slot_of s (given.ShortTo w) ≡ Ok a
       → IsArgument slot_of s (item.Name w) a
   short_to w a h =
-      let p = bind_ok (slots_to slot_of s w) (λ z. needs fault.Range (short_distance z)) a h in
+      let p = bind_ok (slots_to slot_of s w) (λ z. ok_or (short_distance z) fault.Range) a h in
       let e = then_some (in_field 15 p.0) (argument.Distance (Short p.0)) a
-      (needs_ok fault.Range (short_distance p.0) a p.2) in
+      (ok_or_ok fault.Range (short_distance p.0) a p.2) in
       subst (IsArgument slot_of s (item.Name w)) e (leads slot_of s w p.0 p.1)
 
   long_to : (w : Name) (a : Argument) → argument_at slot_of s (given.LongTo w) ≡ Ok a
       → IsArgument slot_of s (item.Name w) a
   long_to w a h =
-      let p = bind_ok (slots_to slot_of s w) (λ z. needs fault.Range (long_distance z)) a h in
+      let p = bind_ok (slots_to slot_of s w) (λ z. ok_or (long_distance z) fault.Range) a h in
       let e = then_some (in_field 31 p.0) (argument.Distance (Long p.0)) a
-      (needs_ok fault.Range (long_distance p.0) a p.2) in
+      (ok_or_ok fault.Range (long_distance p.0) a p.2) in
       subst (IsArgument slot_of s (item.Name w)) e (leads slot_of s w p.0 p.1)
 
   item_is : (k : Kind) (i : Item Name) (g : Given Name) (a : Argument)
@@ -169,8 +169,8 @@ body_is : (v : Vocabulary) (tokens : Tokens) (b : Statement) → body_of v token
     → IsBody v tokens b
 body_is v [] b h = absurd (none_some (same_ok h))
 body_is v (Word w ∷ rest) b h =
-    let p = bind_ok (needs fault.Mnemonic (v.mnemonic_named w)) _ (Some b) h in
-    let q = bind_ok (needs fault.Operand (items_of rest)) _ (Some b) p.2 in
+    let p = bind_ok (ok_or (v.mnemonic_named w) fault.Mnemonic) _ (Some b) h in
+    let q = bind_ok (ok_or (items_of rest) fault.Operand) _ (Some b) p.2 in
     let r = bind_ok (items_as v (kinds_of p.0) q.0) _ (Some b) q.2 in
     let e = same_some (same_ok r.2) in
     record {
@@ -178,9 +178,9 @@ body_is v (Word w ∷ rest) b h =
       rest = rest;
       items = q.0;
       tokens_are = refl;
-      named = needs_ok fault.Mnemonic (v.mnemonic_named w) p.0 p.1
+      named = ok_or_ok fault.Mnemonic (v.mnemonic_named w) p.0 p.1
           ∙ ap (λ (t : Statement). Some t.mnemonic) e;
-      items_are = needs_ok fault.Operand (items_of rest) q.0 q.1;
+      items_are = ok_or_ok fault.Operand (items_of rest) q.0 q.1;
       given =
           let P : Statement → Type 0 = λ t. items_as v (kinds_of t.mnemonic) q.0 ≡ Ok t.arguments in
           subst P e r.1;
@@ -196,9 +196,9 @@ stated_only v exact slot_of s tokens i read =
     let e = read.2 in
     let l = body_is v tokens b h in
     let p = bind_ok (arguments_at slot_of s b.arguments)
-    (λ a. needs fault.Operand (v.insn_of b.mnemonic a)) i e in
+    (λ a. ok_or (v.insn_of b.mnemonic a) fault.Operand) i e in
     let is =
-    (exact.insns b.mnemonic p.0 i).0 (needs_ok fault.Operand (v.insn_of b.mnemonic p.0) i p.2) in
+    (exact.insns b.mnemonic p.0 i).0 (ok_or_ok fault.Operand (v.insn_of b.mnemonic p.0) i p.2) in
     let k = kinds_of b.mnemonic in
     let x = all_given_ok _ _ _ b.arguments l.given in
     let y = in_turn_ok _ _ _ p.0 p.1 in

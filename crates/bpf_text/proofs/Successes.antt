@@ -1,11 +1,12 @@
 -- What a row of steps answers where none of them fails.
 use Rattle.std.proofs.Common.{◌≡◌, Option, Some, None, option_map, Ok, Err, Bool, true, false, ◌||◌, if◌then◌else◌, refl, ap}
+use Rattle.std.specs.Prelude.{ok_or}
 use Rattle.bpf_text.specs.declared.fault.AsmFaultKind.{AsmFaultKind}
 use Rattle.bpf_text.specs.declared.fault.AsmFaultKind.TheVariants as fault
 use Rattle.bpf_text.specs.declared.operand.Given.{Given}
 use Rattle.bpf_text.specs.declared.three.UpToThree.{UpToThree}
 use Rattle.bpf_text.specs.Operands.{is_other_kind, all_given}
-use Rattle.bpf_text.specs.Results.{OrFault, needs, ◌>>?◌, map_ok, in_turn}
+use Rattle.bpf_text.specs.Results.{OrFault, ◌>>?◌, map_ok, in_turn}
 use Rattle.bpf_text.specs.Tokens.{Name}
 
 -- ---- steps that didn't fail
@@ -27,10 +28,10 @@ pub bind_ok : {A B : Type 0} (r : OrFault A) (f : A → OrFault B) (y : B) → (
 bind_ok (Ok x) f y h = (x, refl, h)
 bind_ok (Err e) f y h = absurd (err_ok h)
 
-pub needs_ok : {A : Type 0} (e : AsmFaultKind) (o : Option A) (x : A) → needs e o ≡ Ok x
+pub ok_or_ok : {A : Type 0} (e : AsmFaultKind) (o : Option A) (x : A) → ok_or o e ≡ Ok x
     → o ≡ Some x
-needs_ok e (Some y) x h = ap Some (same_ok h)
-needs_ok e None x h = absurd (err_ok h)
+ok_or_ok e (Some y) x h = ap Some (same_ok h)
+ok_or_ok e None x h = absurd (err_ok h)
 
 pub map_ok_is : {A B : Type 0} (f : A → B) (r : OrFault A) (y : B) → map_ok f r ≡ Ok y
     → (x : A) × (r ≡ Ok x) × (f x ≡ y)

@@ -8,39 +8,40 @@ use Rattle.std.specs.Char.{digit_value}
 use Rattle.std.specs.Str.Parse.{digits_value}
 use Rattle.bpf_text.specs.declared.token.Token.{Token}
 use Rattle.bpf_text.specs.Names.{Bytes, token_named}
-use Rattle.bpf_text.specs.Tokens.{Name, is_blank, is_mark, is_name_byte, goes_on, onto_piece, pieces, piece_len, token_of, tokens_in, tokens_of, number_if_small, magnitude}
+use Rattle.bpf_text.specs.Tokens.{Name, is_blank, is_mark, is_word_byte, word_goes_on, onto_piece, pieces, piece_len, token_of, tokens_in, tokens_of, number_if_small, magnitude}
 
 -- a letter, a digit or _ is no mark, no blank and no semicolon
-pub name_plain : (d : ℕ) → is_name_byte d ≡ true
+pub name_plain : (d : ℕ) → is_word_byte d ≡ true
     → (◌==◌ d 59 ≡ false) × (is_blank d ≡ false) × (is_mark d ≡ false)
 name_plain d h = (grind arith, grind arith, grind arith)
 
 pub pieces_alone : (c : ℕ) (rest : List ℕ) → (c == 59) ≡ false → is_blank c ≡ false
-    → (is_mark c || not (goes_on rest)) ≡ true → pieces (c ∷ rest) ≡ (c ∷ []) ∷ pieces rest
+    → (is_mark c || not (word_goes_on rest)) ≡ true → pieces (c ∷ rest) ≡ (c ∷ []) ∷ pieces rest
 pieces_alone c rest semicolon blank alone = simp (semicolon, blank, alone) refl
 
 pub pieces_onto : (c : ℕ) (rest : List ℕ) → (c == 59) ≡ false → is_blank c ≡ false
-    → (is_mark c || not (goes_on rest)) ≡ false → pieces (c ∷ rest) ≡ onto_piece c (pieces rest)
+    → (is_mark c || not (word_goes_on rest)) ≡ false
+    → pieces (c ∷ rest) ≡ onto_piece c (pieces rest)
 pieces_onto c rest semicolon blank on = simp (semicolon, blank, on) refl
 
 abbrev Run : ℕ → List ℕ → Type 0
-Run c rest = pieces (c ∷ rest) ≡ (c ∷ take (prefix_len is_name_byte rest) rest)
-    ∷ pieces (drop (prefix_len is_name_byte rest) rest)
+Run c rest = pieces (c ∷ rest) ≡ (c ∷ take (prefix_len is_word_byte rest) rest)
+    ∷ pieces (drop (prefix_len is_word_byte rest) rest)
 
-run_stops : (d : ℕ) (rest : List ℕ) → is_name_byte d ≡ false
-    → prefix_len is_name_byte (d ∷ rest) ≡ 0
+run_stops : (d : ℕ) (rest : List ℕ) → is_word_byte d ≡ false
+    → prefix_len is_word_byte (d ∷ rest) ≡ 0
 run_stops d rest e = simp e refl
 
-run_goes_on : (d : ℕ) (rest : List ℕ) → is_name_byte d ≡ true
-    → prefix_len is_name_byte (d ∷ rest) ≡ suc (prefix_len is_name_byte rest)
+run_goes_on : (d : ℕ) (rest : List ℕ) → is_word_byte d ≡ true
+    → prefix_len is_word_byte (d ∷ rest) ≡ suc (prefix_len is_word_byte rest)
 run_goes_on d rest e =
-    let k = prefix_len is_name_byte rest in
+    let k = prefix_len is_word_byte rest in
     let one : 1 + k ≡ suc k = omega arith in
     simp e one
 
 run_step : (c d : ℕ) (rest : List ℕ)
     → (c == 59) ≡ false → is_blank c ≡ false → is_mark c ≡ false → (b : Bool)
-    → is_name_byte d ≡ b → (is_name_byte d ≡ true → Run d rest) → Run c (d ∷ rest)
+    → is_word_byte d ≡ b → (is_word_byte d ≡ true → Run d rest) → Run c (d ∷ rest)
 run_step c d rest semicolon blank mark false e next =
     let P : ℕ → Type 0 =
     λ k. pieces (c ∷ d ∷ rest) ≡ (c ∷ take k (d ∷ rest)) ∷ pieces (drop k (d ∷ rest)) in
@@ -57,7 +58,7 @@ piece_run : (c : ℕ) (rest : List ℕ)
     → (c == 59) ≡ false → is_blank c ≡ false → is_mark c ≡ false → Run c rest
 piece_run c [] semicolon blank mark = pieces_alone c [] semicolon blank (simp mark refl)
 piece_run c (d ∷ rest) semicolon blank mark =
-    run_step c d rest semicolon blank mark (is_name_byte d) refl
+    run_step c d rest semicolon blank mark (is_word_byte d) refl
     (λ h. let p = name_plain d h in piece_run d rest p.0 p.1 p.2)
 
 piece_by_mark : (c : ℕ) (rest : List ℕ) (b : Bool)
@@ -71,7 +72,7 @@ piece_by_mark c rest true semicolon blank mark =
 piece_by_mark c rest false semicolon blank mark =
     let P : ℕ
     → Type 0 = λ k. pieces (c ∷ rest) ≡ take k (c ∷ rest) ∷ pieces (drop k (c ∷ rest)) in
-    let k = prefix_len is_name_byte rest in
+    let k = prefix_len is_word_byte rest in
     let more : 1 + k ≡ suc k = omega arith in
     let len : piece_len c rest ≡ suc k = simp mark more in
     subst P (sym len) (piece_run c rest semicolon blank mark)

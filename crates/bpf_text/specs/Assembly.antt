@@ -1,6 +1,6 @@
 -- The bytes that a text stands for, or its first fault: lines one by one, then jumps to labels.
 use Rattle.std.specs.Prelude.{◌≡◌, ℕ, ◌+◌, ◌*◌, ◌≤◌, ◌⊎◌, ◌^◌, ℤ, pos, neg_ℤ, ◌-ℤ◌, int_le, int_lt}
-use Rattle.std.specs.Prelude.{List, [], ◌∷◌, ◌++◌, length, Option, Some, None, is_some}
+use Rattle.std.specs.Prelude.{List, [], ◌∷◌, ◌++◌, length, Option, Some, None, is_some, ok_or}
 use Rattle.std.specs.Prelude.{Result, Ok, Err, Bool, true, false, nat_lt, ◌&&◌, if◌then◌else◌}
 use Rattle.std.specs.Str.{bytes_eq}
 use Rattle.bpf_insn.specs.declared.operand.Distance.TheVariants.{Short, Long}
@@ -19,7 +19,7 @@ use Rattle.bpf_text.specs.declared.operand.Given.TheVariants as given
 use Rattle.bpf_text.specs.declared.scan.Placed as the_placed
 use Rattle.bpf_text.specs.declared.three.UpToThree.{UpToThree}
 use Rattle.bpf_text.specs.Lines.{Line, Body, lines_in}
-use Rattle.bpf_text.specs.Results.{OrFault, needs, ◌>>?◌, map_ok, in_turn}
+use Rattle.bpf_text.specs.Results.{OrFault, ◌>>?◌, map_ok, in_turn}
 use Rattle.bpf_text.specs.Tokens.{Name}
 use Rattle.bpf_text.specs.Vocabulary.{Vocabulary, IsExact}
 
@@ -121,14 +121,14 @@ long_distance z = if in_field 31 z then Some (Distance (Long z)) else None
 
 -- slots are counted from the instruction after the jump
 abbrev pub slots_to : SlotOf → ℕ → Name → OrFault ℤ
-slots_to slot_of s name = needs kind.Label (slot_of name) >>? λ t. Ok (pos t -ℤ pos (s + 1))
+slots_to slot_of s name = ok_or (slot_of name) kind.Label >>? λ t. Ok (pos t -ℤ pos (s + 1))
 
 abbrev pub argument_at : SlotOf → ℕ → Given Name → OrFault Argument
 argument_at slot_of s (given.Argument a) = Ok a
 argument_at slot_of s (given.ShortTo name) =
-    slots_to slot_of s name >>? λ z. needs kind.Range (short_distance z)
+    slots_to slot_of s name >>? λ z. ok_or (short_distance z) kind.Range
 argument_at slot_of s (given.LongTo name) =
-    slots_to slot_of s name >>? λ z. needs kind.Range (long_distance z)
+    slots_to slot_of s name >>? λ z. ok_or (long_distance z) kind.Range
 
 abbrev pub argument_if : SlotOf → ℕ → Option (Given Name) → OrFault (Option Argument)
 argument_if slot_of s None = Ok None
@@ -145,7 +145,7 @@ arguments_at slot_of s g =
 abbrev pub insn_at : Vocabulary → SlotOf → Placed → OrFault Insn
 insn_at v slot_of p =
     arguments_at slot_of p.slot p.statement.arguments >>? λ a.
-    needs kind.Operand (v.insn_of p.statement.mnemonic a)
+    ok_or (v.insn_of p.statement.mnemonic a) kind.Operand
 
 abbrev pub onto_bytes : List ℕ → BytesOrFault → BytesOrFault
 onto_bytes bs (Ok more) = Ok (bs ++ more)

@@ -1,5 +1,5 @@
 -- What a line says: an optional label, and an optional statement or the fault in its place.
-use Rattle.std.specs.Prelude.{List, [], ◌∷◌, ℕ, map, Option, Some, None, Ok, Err}
+use Rattle.std.specs.Prelude.{List, [], ◌∷◌, ℕ, map, Option, Some, None, ok_or, Ok, Err}
 use Rattle.std.specs.Str.Lines.{lines}
 use Rattle.bpf_text.specs.declared.fault.AsmFaultKind.TheVariants as fault
 use Rattle.bpf_text.specs.declared.line.Line as the_line
@@ -7,7 +7,7 @@ use Rattle.bpf_text.specs.declared.line.Statement as the_statement
 use Rattle.bpf_text.specs.declared.token.Token.TheVariants.{Word, Colon}
 use Rattle.bpf_text.specs.Items.{Tokens, items_of}
 use Rattle.bpf_text.specs.Operands.{items_as}
-use Rattle.bpf_text.specs.Results.{OrFault, needs, ◌>>?◌}
+use Rattle.bpf_text.specs.Results.{OrFault, ◌>>?◌}
 use Rattle.bpf_text.specs.Signatures.{kinds_of}
 use Rattle.bpf_text.specs.Tokens.{Name, tokens_of}
 use Rattle.bpf_text.specs.Vocabulary.{Vocabulary}
@@ -25,8 +25,8 @@ Body = OrFault (Option Statement)
 abbrev pub body_of : Vocabulary → Tokens → Body
 body_of v [] = Ok None
 body_of v (Word w ∷ rest) =
-    needs fault.Mnemonic (v.mnemonic_named w) >>? λ m.
-    needs fault.Operand (items_of rest) >>? λ items.
+    ok_or (v.mnemonic_named w) fault.Mnemonic >>? λ m.
+    ok_or (items_of rest) fault.Operand >>? λ items.
     items_as v (kinds_of m) items >>? λ a.
     Ok (Some (record { mnemonic = m; arguments = a }))
 body_of v tokens = Err fault.Mnemonic

@@ -1,14 +1,10 @@
 -- Steps that may fail, one after the other.
-use Rattle.std.specs.Prelude.{Option, Some, None, Result, Ok, Err}
+use Rattle.std.specs.Prelude.{Option, Result, Ok, Err}
 use Rattle.bpf_text.specs.declared.fault.AsmFaultKind.{AsmFaultKind}
 use Rattle.bpf_text.specs.declared.three.UpToThree.{UpToThree}
 
 abbrev pub OrFault : Type 0 → Type 0
 OrFault A = Result A AsmFaultKind
-
-abbrev pub needs : {A : Type 0} → AsmFaultKind → Option A → OrFault A
-needs e None = Err e
-needs e (Some x) = Ok x
 
 infixl 10 ◌>>?◌
 abbrev pub ◌>>?◌ : {A B : Type 0} → OrFault A → (A → OrFault B) → OrFault B

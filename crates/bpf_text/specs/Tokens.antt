@@ -18,11 +18,11 @@ Name = List ℕ
 abbrev pub is_blank : ℕ → Bool
 is_blank c = (c == 32) || (c == 9)
 
-abbrev pub is_letter : ℕ → Bool
-is_letter c = is_ascii_alphabetic c || (c == 95)
+abbrev pub is_word_start : ℕ → Bool
+is_word_start c = is_ascii_alphabetic c || (c == 95)
 
-abbrev pub is_name_byte : ℕ → Bool
-is_name_byte c = is_letter c || is_ascii_digit c
+abbrev pub is_word_byte : ℕ → Bool
+is_word_byte c = is_word_start c || is_ascii_digit c
 
 abbrev pub mark_of : ℕ → Option (Token Name)
 mark_of c =
@@ -37,9 +37,9 @@ is_mark c = ((c == 44) || (c == 58)) || ((c == 91) || (c == 93))
 -- ---- the pieces of a line
 
 -- a letter, a digit or _ goes on with the piece before it
-abbrev pub goes_on : List ℕ → Bool
-goes_on [] = false
-goes_on (c ∷ rest) = is_name_byte c
+abbrev pub word_goes_on : List ℕ → Bool
+word_goes_on [] = false
+word_goes_on (c ∷ rest) = is_word_byte c
 
 abbrev pub onto_piece : ℕ → List (List ℕ) → List (List ℕ)
 onto_piece c [] = (c ∷ []) ∷ []
@@ -51,12 +51,12 @@ pieces [] = []
 pieces (c ∷ rest) =
     if c == 59 then []
     else if is_blank c then pieces rest
-    else if is_mark c || not (goes_on rest) then (c ∷ []) ∷ pieces rest
+    else if is_mark c || not (word_goes_on rest) then (c ∷ []) ∷ pieces rest
     else onto_piece c (pieces rest)
 
 -- how long the piece is that begins with c, which is no blank
 abbrev pub piece_len : ℕ → List ℕ → ℕ
-piece_len c rest = if is_mark c then 1 else 1 + prefix_len is_name_byte rest
+piece_len c rest = if is_mark c then 1 else 1 + prefix_len is_word_byte rest
 
 -- ---- the token that a piece is
 
@@ -88,7 +88,7 @@ abbrev pub token_of : List ℕ → Option (Token Name)
 token_of [] = None
 token_of (c ∷ rest) =
     if is_mark c then mark_of c
-    else if is_letter c
+    else if is_word_start c
     then (if nat_le (length (c ∷ rest)) 32 then Some (Word (c ∷ rest)) else None)
     else if c == 45 then numeral Minus 10 rest
     else if c == 43 then numeral Plus 10 rest

@@ -24,11 +24,11 @@ ghost use Rattle.std.specs.List.{list_all, prefix_len};
 ghost use Rattle.bpf_text.specs.Names.{token_named, tokens_if};
 ghost use Rattle.bpf_text.specs.Tokens.{
   is_blank,
-  is_letter,
-  is_name_byte,
+  is_word_start,
+  is_word_byte,
   is_mark,
   mark_of,
-  goes_on,
+  word_goes_on,
   pieces,
   is_numeral,
   magnitude,
@@ -74,16 +74,16 @@ fn is_blank(c: u8) -> bool
     c == b' ' || c == b'\t'
 }
 
-fn is_letter(c: u8) -> bool
-    ensures { result ≡ is_letter c }
+fn is_word_start(c: u8) -> bool
+    ensures { result ≡ is_word_start c }
 {
     c.is_ascii_alphabetic() || c == b'_'
 }
 
-fn is_name_byte(c: u8) -> bool
-    ensures { result ≡ is_name_byte c }
+fn is_word_byte(c: u8) -> bool
+    ensures { result ≡ is_word_byte c }
 {
-    is_letter(c) || c.is_ascii_digit()
+    is_word_start(c) || c.is_ascii_digit()
 }
 
 fn is_mark(c: u8) -> bool
@@ -180,7 +180,7 @@ fn token_of<'a>(piece: &'a [u8]) -> Option<Token<&'a [u8]>>
     let first = *first;
     if is_mark(first) {
         mark_of(first)
-    } else if is_letter(first) {
+    } else if is_word_start(first) {
         if piece.len() <= 32 {
             Some(Token::Word(piece))
         } else {
@@ -197,11 +197,11 @@ fn token_of<'a>(piece: &'a [u8]) -> Option<Token<&'a [u8]>>
 
 // How many letters, digits and underscores stand at the front.
 fn name_length(s: &[u8]) -> usize
-    ensures is { result ≡ prefix_len is_name_byte s.now }
+    ensures is { result ≡ prefix_len is_word_byte s.now }
     ensures within { result ≤ length s.now }
 {
     let mut n = 0;
-    while n < s.len() && is_name_byte(s[n]) {
+    while n < s.len() && is_word_byte(s[n]) {
         n += 1;
     }
     n

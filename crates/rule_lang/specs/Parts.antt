@@ -1,7 +1,7 @@
 -- What the tokens of a phrase say: numbers within their limits (or L4), and names that are known
 -- (or L3). The fault has the line of its token.
 use Rattle.std.specs.Prelude.{ℕ, ◌^◌, List, [], Option, Some, None, is_some, Result, Ok, Err}
-use Rattle.std.specs.Prelude.{slice_index_or}
+use Rattle.std.specs.Prelude.{ok_or, slice_index_or}
 use Rattle.std.specs.Prelude.{Bool, true, false, nat_le, nat_lt, if◌then◌else◌}
 use Rattle.std.specs.Str.Parse.{digits_value}
 use Rattle.attrs.specs.Version.{version_of}
@@ -30,11 +30,6 @@ infixl 10 ◌>>?◌
 abbrev pub ◌>>?◌ : {A B : Type 0} → OrFault A → (A → OrFault B) → OrFault B
 (Ok x) >>? f = f x
 (Err e) >>? f = Err e
-
--- or else this fault
-abbrev pub needs : {A : Type 0} → RuleFault → Option A → OrFault A
-needs e (Some x) = Ok x
-needs e None = Err e
 
 abbrev pub unknown : Placed → RuleFault
 unknown p = At p.line kind.Name
@@ -70,7 +65,7 @@ abbrev pub magnitude : List ℕ → Option ℕ
 magnitude digits = number_if_small (digits_value 10 digits)
 
 abbrev pub salt : Placed → OrFault ℕ
-salt p = needs (out_of_range p) (magnitude (text_of p.token))
+salt p = ok_or (magnitude (text_of p.token)) (out_of_range p)
 
 -- a number for which a test holds
 abbrev pub within : (ℕ → Bool) → Placed → ℕ → OrFault ℕ
@@ -80,7 +75,7 @@ abbrev pub number : Placed → OrFault ℕ
 number p = salt p >>? λ n. within (λ n. nat_le n 4294967295) p n
 
 abbrev pub version : Placed → OrFault (List ℕ)
-version p = needs (out_of_range p) (version_of (text_of p.token))
+version p = ok_or (version_of (text_of p.token)) (out_of_range p)
 
 abbrev pub release : AppShape → Placed → OrFault ℕ
 release s p = number p >>? λ n. within (is_release s) p n
@@ -91,11 +86,11 @@ index a p = number p >>? λ n. within (λ n. nat_lt n a.length) p n
 -- ---- names
 
 abbrev pub flag : Placed → OrFault Flag
-flag p = needs (unknown p) (flag_named (text_of p.token))
+flag p = ok_or (flag_named (text_of p.token)) (unknown p)
 
 abbrev pub attribute_by : Placed → Token → OrFault Attribute
 attribute_by p (token.Keyword keyword.Version) = Ok attributes.Version
-attribute_by p t = needs (unknown p) (attribute_named (text_of t))
+attribute_by p t = ok_or (attribute_named (text_of t)) (unknown p)
 
 -- the word `version` is the name of an attribute, too
 abbrev pub attribute : Placed → OrFault Attribute

@@ -28,9 +28,6 @@ Piece = the_piece.Piece Text
 
 -- ---- classes of bytes, in ASCII
 
-abbrev pub is_letter : ℕ → Bool
-is_letter c = names.is_letter c
-
 abbrev pub is_in : the_class.Class → ℕ → Bool
 is_in class.Name c = names.is_name_byte c
 is_in class.Digit c = is_ascii_digit c
@@ -138,7 +135,7 @@ piece_of s c rest =
     else if c == 35 then Some (piece.Blank (1 + prefix_len (is_in class.Line) rest))
     else if c == 10 then Some (piece.LineEnd 1)
     else if (c == 13) && has_at rest 0 10 then Some (piece.LineEnd 2)
-    else if is_letter c then Some (word_of (take 32 s))
+    else if names.is_letter c then Some (word_of (take 32 s))
     else if is_ascii_digit c then Some (number_at s)
     else if c == 34 then text_at rest
     else symbol_at c (has_at rest 0 61)

@@ -2,6 +2,7 @@
 
 ghost use Rattle.std.specs.Prelude.{◌≡◌, ◌≤◌, ◌∷◌, take, length, option_map, true};
 ghost use Rattle.std.specs.List.{prefix_len};
+ghost use Rattle.cells.specs.Names as names;
 ghost use Rattle.rule_lang.specs.Named.{piece_named};
 ghost use Rattle.rule_lang.specs.Tokens as tokens;
 ghost use Rattle.rule_lang.specs.declared.token.Class.TheVariants.{Number as number};
@@ -53,7 +54,7 @@ pub enum Class {
 }
 
 fn is_letter(c: u8) -> bool
-    ensures { result ≡ tokens.is_letter c }
+    ensures { result ≡ names.is_letter c }
 {
     c.is_ascii_alphabetic() || c == b'_'
 }
