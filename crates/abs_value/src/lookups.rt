@@ -59,7 +59,7 @@ fn answer_in_stack(stack: &mut [AbsSlot; 64], call: u16, found: bool)
 
 impl AbsState {
     /// Makes each copy of the answer to the CALL at this slot known: the address of a cell, or 0.
-    pub fn narrow_lookup(&mut self, call: u16, found: bool)
+    pub(crate) fn narrow_lookup(&mut self, call: u16, found: bool)
         ensures { self.new ≡ lookups.state_with_answer self.old call found }
     {
         answer_in_registers(&mut self.registers, call, found);

@@ -125,7 +125,7 @@ fn is_comparable(bits: Bits, condition: Condition, a: Number, b: Number) -> bool
 impl Number {
     /// What is left of the two on the edge that jumps, or on the one that goes on; none where no
     /// run takes it. Whether both are the same register is for the caller to ask first.
-    pub fn narrowed(
+    pub(crate) fn narrowed(
         self,
         bits: Bits,
         condition: Condition,

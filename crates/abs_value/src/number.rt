@@ -35,14 +35,14 @@ impl Number {
     }
 
     /// Any number of the class.
-    pub fn full(bits: Bits) -> Number
+    pub(crate) fn full(bits: Bits) -> Number
         ensures { result ≡ numbers.full bits }
     {
         Number::up_to(greatest(bits))
     }
 
     /// What a class takes of it: of a range that goes past 32 bits any number of 32 bits.
-    pub fn cut(self, bits: Bits) -> Number
+    pub(crate) fn cut(self, bits: Bits) -> Number
         ensures { result ≡ numbers.cut bits self }
     {
         match bits {
@@ -54,7 +54,7 @@ impl Number {
     }
 
     /// The least range that holds both.
-    pub fn hull(self, other: Number) -> Number
+    pub(crate) fn hull(self, other: Number) -> Number
         ensures { result ≡ numbers.hull self other }
     {
         Number {

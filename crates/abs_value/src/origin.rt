@@ -15,7 +15,7 @@ pub struct Lookup {
 }
 
 impl Lookup {
-    pub fn is_same(self, other: Lookup) -> bool
+    pub(crate) fn is_same(self, other: Lookup) -> bool
         ensures { result ≡ values.same_lookup self other }
     {
         self.array == other.array && self.slot == other.slot
@@ -43,7 +43,7 @@ pub enum Origin {
 }
 
 impl Origin {
-    pub fn is_found_by(self, lookup: Lookup) -> bool
+    pub(crate) fn is_found_by(self, lookup: Lookup) -> bool
         ensures { result ≡ values.is_found_by self lookup }
     {
         match self {
@@ -52,7 +52,7 @@ impl Origin {
         }
     }
 
-    pub fn is_same(self, other: Origin) -> bool
+    pub(crate) fn is_same(self, other: Origin) -> bool
         ensures { result ≡ values.same_origin self other }
     {
         match (self, other) {

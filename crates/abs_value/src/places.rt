@@ -23,7 +23,7 @@ pub struct Places {
 
 impl Places {
     /// The least range that holds both.
-    pub fn hull(self, other: Places) -> Places
+    pub(crate) fn hull(self, other: Places) -> Places
         ensures { result ≡ values.place_hull self other }
     {
         Places {
@@ -33,7 +33,7 @@ impl Places {
     }
 
     /// Where arithmetic leads in the context; `None` where that may be outside.
-    pub fn moved(self, op: AluOp, by: Number) -> Option<Places>
+    pub(crate) fn moved(self, op: AluOp, by: Number) -> Option<Places>
         ensures { result ≡ values.moved_in_context op self by }
     {
         let (lo, hi) = if by.is_single() {

@@ -48,7 +48,7 @@ impl Relation {
     }
 
     /// What is learnt where the jump is taken, or where it isn't.
-    pub fn learnt(condition: Condition, jumps: bool) -> Relation
+    pub(crate) fn learnt(condition: Condition, jumps: bool) -> Relation
         ensures { result ≡ narrowing.learnt condition jumps }
     {
         let relation = Relation::of(condition);

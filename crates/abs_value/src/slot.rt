@@ -22,7 +22,7 @@ pub enum AbsSlot {
 
 impl AbsSlot {
     /// The bytes that are set: all of a slot that keeps a value.
-    pub fn mask(self) -> u8
+    pub(crate) fn mask(self) -> u8
         ensures { result ≡ slots.mask_of self }
     {
         match self {
@@ -32,7 +32,7 @@ impl AbsSlot {
     }
 
     /// Whether this byte of the slot is set, from 0 to 7.
-    pub fn has_set(self, byte: u16) -> bool
+    pub(crate) fn has_set(self, byte: u16) -> bool
         requires { byte < 8 }
         ensures { result ≡ (bit_at (slots.mask_of self) byte == 1) }
     {
@@ -40,14 +40,14 @@ impl AbsSlot {
     }
 
     /// What is known once these bytes are written too: which bytes are set.
-    pub fn with_set(self, mask: u8) -> AbsSlot
+    pub(crate) fn with_set(self, mask: u8) -> AbsSlot
         ensures { result ≡ AbsSlot.Bytes (bit_or (slots.mask_of self) mask) }
     {
         AbsSlot::Bytes(self.mask() | mask)
     }
 
     /// The value that the whole slot keeps, or else the other.
-    pub fn kept_or(self, other: Abs) -> Abs
+    pub(crate) fn kept_or(self, other: Abs) -> Abs
         ensures { result ≡ slots.kept_or self other }
     {
         match self {
@@ -57,7 +57,7 @@ impl AbsSlot {
     }
 
     /// What it is where a lookup is known to have found a cell, or none.
-    pub fn with_answer(self, call: u16, found: bool) -> AbsSlot
+    pub(crate) fn with_answer(self, call: u16, found: bool) -> AbsSlot
         ensures { result ≡ slot_with_answer call found self }
     {
         match self {
@@ -77,7 +77,7 @@ impl AbsSlot {
     }
 
     /// What stands for both.
-    pub fn join(self, other: AbsSlot) -> AbsSlot
+    pub(crate) fn join(self, other: AbsSlot) -> AbsSlot
         ensures { result ≡ slots.join_slots self other }
     {
         match (self, other) {

@@ -132,7 +132,7 @@ impl Abs {
     /// What is left of the two values that a jump compares, on the edge that jumps or on the one
     /// that goes on; `None` where no run takes that edge. Of a pointer nothing is learnt. Whether
     /// both are the same register is for the caller to ask first: then nothing is learnt either.
-    pub fn refined(
+    pub(crate) fn refined(
         self,
         bits: Bits,
         condition: Condition,
@@ -152,7 +152,7 @@ impl Abs {
 
     /// What it is where the lookup by the CALL at this slot is known to have found a cell, or to
     /// have found none: then 0 stands in place of its answer.
-    pub fn with_answer(self, call: u16, found: bool) -> Abs
+    pub(crate) fn with_answer(self, call: u16, found: bool) -> Abs
         ensures { result ≡ lookups.with_answer call found self }
     {
         match self {
@@ -163,7 +163,7 @@ impl Abs {
     }
 
     /// What a CALL at this slot leaves in R0, by the number of its helper. It was R1 before.
-    pub fn called(self, helper: i32, slot: u16) -> Abs
+    pub(crate) fn called(self, helper: i32, slot: u16) -> Abs
         ensures { result ≡ lookups.call_value helper slot self }
     {
         match (helper, self) {
@@ -176,7 +176,7 @@ impl Abs {
     }
 
     /// What stands for both.
-    pub fn join(self, other: Abs) -> Abs
+    pub(crate) fn join(self, other: Abs) -> Abs
         ensures { result ≡ values.join_values self other }
     {
         match (self, other) {
