@@ -1,4 +1,4 @@
-// A ruleset with its generation, as it is shown and as it is kept.
+//! A ruleset with its generation, as it is shown and as it is kept.
 
 ghost use Rattle.std.specs.Prelude.{◌≡◌, ◌<◌, ◌≤◌, IfOk, MatchOption};
 

@@ -1,4 +1,4 @@
-// The publisher: it installs rulesets one after another, and makes watchers.
+//! The publisher: it installs rulesets one after another, and makes watchers.
 
 ghost use Rattle.std.specs.Prelude.{◌≡◌, ◌≢◌, ◌↔◌, ◌+◌, ◌-◌, ◌^◌, ◌<◌, ◌≤◌, Err, IfOk, IfErr};
 

@@ -1,4 +1,4 @@
-// A watcher: it gives the newest ruleset, and keeps it.
+//! A watcher: it gives the newest ruleset, and keeps it.
 
 ghost use Rattle.std.specs.Prelude.{◌≡◌, IfOk, IfErr};
 

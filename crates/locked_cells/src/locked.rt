@@ -1,6 +1,6 @@
-// The values of all cells stand under a lock, so an operation waits for those of other threads. No
-// contract can name what a lock holds: of an operation it says which event it is, and that the
-// reply fits the cell.
+//! The values of all cells stand under a lock, so an operation waits for those of other threads. No
+//! contract can name what a lock holds: of an operation it says which event it is, and that the
+//! reply fits the cell.
 
 ghost use Rattle.std.specs.Prelude.{◌≡◌, IfErr};
 ghost use Rattle.cells.specs.Events.{CanReply};

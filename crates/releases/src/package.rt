@@ -1,4 +1,4 @@
-// A file of a release.
+//! A file of a release.
 
 ghost use Rattle.std.specs.Prelude.{◌≡◌};
 ghost use Rattle.std.specs.List.{list_all};

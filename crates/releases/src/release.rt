@@ -1,4 +1,4 @@
-// A release, which contracts see as its texts and the list of its packages.
+//! A release, which contracts see as its texts and the list of its packages.
 
 ghost use Rattle.std.specs.Prelude.{◌≡◌};
 

@@ -1,4 +1,4 @@
-// One direction of a connection, with its limit of time.
+//! One direction of a connection, with its limit of time.
 
 ghost use Rattle.std.specs.Prelude.{◌≡◌};
 
