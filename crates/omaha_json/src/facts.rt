@@ -1,4 +1,4 @@
-// What the members of a request's objects say. A member of another kind counts as absent.
+//! What the members of a request's objects say. A member of another kind counts as absent.
 
 ghost use Rattle.std.specs.Prelude.{◌≡◌, IfOk, option_map};
 ghost use Rattle.serde_json.specs.View.{view};

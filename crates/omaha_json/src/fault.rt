@@ -1,4 +1,4 @@
-// What is wrong with a request.
+//! What is wrong with a request.
 
 use thiserror::Error;
 

@@ -3,6 +3,7 @@
 //! runs came to, to the bytes of the reply.
 #![tactic(auto)]
 
+mod app;
 mod cohort;
 mod facts;
 mod fault;

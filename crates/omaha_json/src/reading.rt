@@ -1,4 +1,4 @@
-// From the bytes of a body to a request.
+//! From the bytes of a body to a request.
 
 ghost use Rattle.std.specs.Prelude.{◌≡◌, ◌≢◌, codes, Some, None, Ok, IfOk, IfErr, option_map};
 ghost use Rattle.serde_json.specs.View.{view, items_view};

@@ -1,4 +1,4 @@
-// A request as it was read.
+//! A request as it was read.
 
 ghost use Rattle.std.specs.Prelude.{◌≡◌};
 

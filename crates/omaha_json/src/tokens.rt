@@ -1,4 +1,4 @@
-// Tokens of JSON, written one after another.
+//! Tokens of JSON, written one after another.
 
 ghost use Rattle.std.specs.Prelude.{◌≡◌, [], ◌∷◌, map, decimal, OnOk};
 ghost use Rattle.json.specs.Token.{key, number};

@@ -1,5 +1,5 @@
-// What an `updatecheck` is answered: the release that a choice names, or none. Each function writes
-// one object, with its members in the order of their names.
+//! What an `updatecheck` is answered: the release that a choice names, or none. Each function
+//! writes one object, with its members in the order of their names.
 
 ghost use Rattle.std.specs.Prelude.{◌≡◌, map, option_copied, OnOk};
 ghost use Rattle.serde_json.specs.View.{items_of};

@@ -2,7 +2,7 @@ use Rattle.std.proofs.Common.{OnOk, subst}
 use Rattle.serde_json.specs.Data.{Data}
 use Rattle.omaha_json.specs.Tokens.{Adds, tokens_of}
 use Rattle.omaha_json.proofs.Apps.{known_is}
-use Rattle.omaha_json.proofs.reply.write_app.Goals as goal
+use Rattle.omaha_json.proofs.app.write_app.Goals as goal
 
 pub returns-in-Some : goal.returns-in-Some
 returns-in-Some c =

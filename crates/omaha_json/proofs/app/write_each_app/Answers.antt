@@ -1,7 +1,7 @@
 use Rattle.std.proofs.Common.{◌<◌, length, arith, ◌∙◌}
 use Rattle.omaha_json.proofs.Added.{then_item}
 use Rattle.omaha_json.proofs.Apps.{values_from}
-use Rattle.omaha_json.proofs.reply.write_each_app.Goals as goal
+use Rattle.omaha_json.proofs.app.write_each_app.Goals as goal
 
 pub loop-i-preserved : goal.loop-i-preserved
 loop-i-preserved c =

@@ -1,7 +1,7 @@
 use Rattle.std.proofs.Common.{◌≡◌, ◌++◌, drop}
 use Rattle.omaha_json.specs.Tokens.{item_tokens}
 use Rattle.omaha_json.specs.Reply.{app_values}
-use Rattle.omaha_json.proofs.reply.write_each_app.Given as goal
+use Rattle.omaha_json.proofs.app.write_each_app.Given as goal
 
 abbrev pub invariant-loop-i : goal.invariant-loop-i
 invariant-loop-i l =

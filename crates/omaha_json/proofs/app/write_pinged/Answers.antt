@@ -1,5 +1,5 @@
 use Rattle.omaha_json.proofs.Added.{then_adds}
-use Rattle.omaha_json.proofs.reply.write_pinged.Goals as goal
+use Rattle.omaha_json.proofs.app.write_pinged.Goals as goal
 
 pub returns : goal.returns
 returns c = rw c.if-not-ping.false
