@@ -9,7 +9,8 @@ use Rattle.cells.specs.declared.array.ArrayNo.{ArrayNo}
 use Rattle.cells.specs.declared.array.CellArray.{CellArray}
 use Rattle.declarations.specs.Order.{AreDeclared}
 use Rattle.declarations.specs.Order.AreDeclared.{none, next}
-use Rattle.diagnosis.specs.Texts.{app_line, as_declared, array_line, declared_line}
+use Rattle.ruleset.specs.Texts.{app_line}
+use Rattle.diagnosis.specs.Texts.{as_declared, array_line, declared_line}
 use Rattle.diagnosis.specs.Texts.{accepted_text, loaded_text}
 use Rattle.manifest.specs.Manifest.{Manifest, none_of, once}
 use Rattle.manifest.specs.Twice.{repeated}

@@ -2,16 +2,16 @@
 use Rattle.std.proofs.Common.{◌≡◌, ℕ, List, [], Some, ◌∙◌, subst}
 use Rattle.cells.specs.declared.array.CellArray.{CellArray}
 use Rattle.diagnosis.specs.Check.{Passes}
-use Rattle.diagnosis.specs.Shown.{IsShown, Shows}
-use Rattle.diagnosis.specs.Shown.Shows.{shown}
+use Rattle.diagnosis.specs.Shown.{IsShown, ShowsPlace}
+use Rattle.diagnosis.specs.Shown.ShowsPlace.{shown}
 use Rattle.diagnosis.specs.Texts.{loaded_text}
 use Rattle.diagnosis.specs.declared.shown.Place.{Place}
 use Rattle.diagnosis.proofs.Once.{told_as_declared}
-use Rattle.load.specs.Files.{Known, Gives}
+use Rattle.load.specs.Files.{KnownFiles, Gives}
 use Rattle.load.specs.Load.{IsRulesetOf}
 use Rattle.ruleset.specs.Rules.{AppRule, Rules}
 
-pub passes : (known : Known) (old : List CellArray) (bytes text : List ℕ) (rules : Rules)
+pub passes : (known : KnownFiles) (old : List CellArray) (bytes text : List ℕ) (rules : Rules)
     (arrays lent : List CellArray) (apps : List AppRule) → old ≡ []
     → IsRulesetOf known old bytes rules arrays → lent ≡ arrays → apps ≡ rules.apps
     → text ≡ loaded_text lent apps → Passes known bytes text
@@ -26,9 +26,9 @@ passes known old bytes text rules arrays lent apps is loaded same_arrays same_ap
           rules.apps over_none.read.1 over_none.declared;
     }
 
-pub is_shown : (known : Known) (file lent bytes slice text : List ℕ) (place : Place)
+pub is_shown : (known : KnownFiles) (file lent bytes slice text : List ℕ) (place : Place)
     → lent ≡ file → Gives known lent (Some bytes) → slice ≡ bytes → IsShown place slice text
-    → Shows known file place text
+    → ShowsPlace known file place text
 is_shown known file lent bytes slice text place same gives whole is =
     shown bytes (subst (λ (name : List ℕ). Gives known name (Some bytes)) same gives)
     (subst (λ (b : List ℕ). IsShown place b text) whole is)

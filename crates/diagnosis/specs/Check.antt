@@ -3,12 +3,12 @@ use Rattle.std.specs.Prelude.{◌≡◌, ◌⊎◌, ℕ, List, []}
 use Rattle.cells.specs.declared.array.CellArray.{CellArray}
 use Rattle.diagnosis.specs.Reason.{IsReason}
 use Rattle.diagnosis.specs.Texts.{accepted_text}
-use Rattle.load.specs.Files.{Known}
+use Rattle.load.specs.Files.{KnownFiles}
 use Rattle.load.specs.Load.{IsRulesetOf, IsLoadFault}
 use Rattle.load.specs.declared.fault.LoadFault.{LoadFault}
 use Rattle.ruleset.specs.Rules.{Rules}
 
-module _ (known : Known) (bytes : List ℕ) where
+module _ (known : KnownFiles) (bytes : List ℕ) where
   -- it comes to a ruleset, and this is told of its arrays and its apps
   pub record Passes (text : List ℕ) : Type 0 where
     pub rules : Rules

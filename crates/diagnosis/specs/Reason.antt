@@ -3,9 +3,10 @@ use Rattle.std.specs.Prelude.{◌≡◌, ℕ, ◌-◌, List, [], ◌++◌, codes
 use Rattle.cells.specs.Directory.{Declaration}
 use Rattle.diagnosis.specs.declared.shown.Place.{Place}
 use Rattle.diagnosis.specs.declared.shown.Place.TheVariants.{Whole, Slot, Line}
-use Rattle.diagnosis.specs.Shown.{Shows}
-use Rattle.diagnosis.specs.Texts.{line, file_line, cells_line}
-use Rattle.load.specs.Files.{Known}
+use Rattle.diagnosis.specs.Shown.{ShowsPlace}
+use Rattle.diagnosis.specs.Texts.{file_line, cells_line}
+use Rattle.ruleset.specs.Texts.{line}
+use Rattle.load.specs.Files.{KnownFiles}
 use Rattle.load.specs.Source.{file_of}
 use Rattle.load.specs.declared.fault.LoadFault.{LoadFault}
 use Rattle.load.specs.declared.fault.LoadFault.TheVariants.{Toml, Field, Duplicate, Cells, File}
@@ -15,7 +16,7 @@ use Rattle.load.specs.declared.fault.ProgramFault.TheVariants.{Flow, Verify}
 use Rattle.load.specs.declared.fault.RuleTextFault.{RuleTextFault}
 use Rattle.load.specs.declared.fault.RuleTextFault.TheVariants as rule
 use Rattle.manifest.specs.App.{AppEntry}
-use Rattle.manifest.specs.Manifest.{Manifest, Reads}
+use Rattle.manifest.specs.Manifest.{Manifest, ReadsManifest}
 use Rattle.manifest.specs.Texts.{misfit_text, twice_text}
 use Rattle.manifest.specs.declared.fault.TomlFault.{TomlFault}
 use Rattle.manifest.specs.declared.fault.TomlFault.TheVariants as toml
@@ -23,11 +24,11 @@ use Rattle.manifest.specs.declared.fault.TomlFault.TheVariants as toml
 -- ---- entries by their numbers, from 1
 
 abbrev pub IsArrayAt : List ℕ → ℕ → Declaration → Type 0
-IsArrayAt bytes number array = (manifest : Manifest) × Reads bytes (Ok manifest)
+IsArrayAt bytes number array = (manifest : Manifest) × ReadsManifest bytes (Ok manifest)
     × (slice_get manifest.arrays (number - 1) ≡ Some array)
 
 abbrev pub IsAppAt : List ℕ → ℕ → AppEntry → Type 0
-IsAppAt bytes number app = (manifest : Manifest) × Reads bytes (Ok manifest)
+IsAppAt bytes number app = (manifest : Manifest) × ReadsManifest bytes (Ok manifest)
     × (slice_get manifest.apps (number - 1) ≡ Some app)
 
 -- ---- faults of the manifest's bytes, and of its arrays
@@ -53,13 +54,13 @@ line_of (rule.Text number kind) = Line number
 line_of rule.TooLong = Whole
 
 -- the name of the file, and what is shown of it
-pub record IsTold (known : Known) (number : ℕ) (place : Place) (app : AppEntry) (text : List ℕ)
+pub record IsTold (known : KnownFiles) (number : ℕ) (place : Place) (app : AppEntry) (text : List ℕ)
     : Type 0 where
   pub place_text : List ℕ
-  pub shows : Shows known (file_of app.source) place place_text
+  pub shows : ShowsPlace known (file_of app.source) place place_text
   pub text_is : text ≡ file_line number app.source ++ place_text
 
-module _ (known : Known) (bytes : List ℕ) where
+module _ (known : KnownFiles) (bytes : List ℕ) where
   -- of the app of this number
   abbrev pub IsFileReason : ℕ → Place → List ℕ → Type 0
   IsFileReason number place text =

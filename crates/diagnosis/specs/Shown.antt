@@ -7,8 +7,8 @@ use Rattle.bpf_insn.specs.declared.insn.Insn.{Insn}
 use Rattle.bpf_text.specs.Listing.{line_of}
 use Rattle.diagnosis.specs.declared.shown.Place.{Place}
 use Rattle.diagnosis.specs.declared.shown.Place.TheVariants.{Whole, Slot, Line}
-use Rattle.diagnosis.specs.Texts.{line}
-use Rattle.load.specs.Files.{Known, Gives}
+use Rattle.ruleset.specs.Texts.{line}
+use Rattle.load.specs.Files.{KnownFiles, Gives}
 
 -- the text of this line, counted from 1; it is empty behind the last
 abbrev pub text_at : ℕ → List ℕ → List ℕ
@@ -26,7 +26,7 @@ IsShown (Line number) bytes text =
 
 -- the file is read again, and its place is shown; or nothing is, for want of memory or of the file,
 -- or because there is no such place
-pub data Shows (known : Known) (file : List ℕ) (place : Place) : List ℕ → Type 0 where
-  nothing : Shows known file place []
+pub data ShowsPlace (known : KnownFiles) (file : List ℕ) (place : Place) : List ℕ → Type 0 where
+  nothing : ShowsPlace known file place []
   shown : {text : List ℕ} (bytes : List ℕ) → Gives known file (Some bytes)
-      → IsShown place bytes text → Shows known file place text
+      → IsShown place bytes text → ShowsPlace known file place text

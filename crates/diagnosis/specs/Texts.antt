@@ -1,5 +1,5 @@
 -- The lines that are told of a manifest, each ended by a line feed.
-use Rattle.std.specs.Prelude.{ℕ, List, ◌++◌, length, codes, decimal, flat_map}
+use Rattle.std.specs.Prelude.{ℕ, List, ◌++◌, codes, decimal, flat_map}
 use Rattle.cells.specs.Directory.{Declaration, declaration}
 use Rattle.cells.specs.declared.array.CellArray.{CellArray}
 use Rattle.declarations.specs.Texts.{declaration_text}
@@ -7,20 +7,13 @@ use Rattle.load.specs.Source.{file_of}
 use Rattle.manifest.specs.declared.app.Source.{Source}
 use Rattle.manifest.specs.declared.app.Source.TheVariants.{Program, Rule}
 use Rattle.ruleset.specs.Rules.{AppRule}
-
-abbrev pub line : List ℕ → List ℕ
-line text = text ++ codes "\n"
+use Rattle.ruleset.specs.Texts.{line, app_line}
 
 -- ---- of a manifest that is accepted
 
 -- an array as a command line declares it
 abbrev pub array_line : Declaration → List ℕ
 array_line d = line (codes "array " ++ declaration_text d)
-
-abbrev pub app_line : AppRule → List ℕ
-app_line app = line (codes "app " ++ app.appid
-    ++ codes " releases " ++ decimal (length app.releases)
-    ++ codes " slots " ++ decimal (length app.program.code))
 
 -- a line an array, and then a line an app
 abbrev pub accepted_text : List Declaration → List AppRule → List ℕ

@@ -1,12 +1,11 @@
-// What is told of a manifest that is accepted.
+//! What is told of a manifest that is accepted.
 
 ghost use Rattle.std.specs.Prelude.{◌≡◌, ◌++◌, flat_map, IfOk, OnOk, string_bytes};
 ghost use Rattle.declarations.specs.Texts as declarations;
-ghost use Rattle.diagnosis.specs.Texts.{app_line, declared_line, loaded_text};
+ghost use Rattle.diagnosis.specs.Texts.{declared_line, loaded_text};
 
-use bpf_verify::Verified;
 use cells::{CellArray, CellWidth};
-use ruleset::App;
+use ruleset::{App, tell_apps};
 use std::alloc::{AllocError, Global};
 use std::fmt::Write;
 
@@ -54,24 +53,4 @@ fn width_text(width: CellWidth) -> &'static str
         CellWidth::Bits32 => "32",
         CellWidth::Bits64 => "64",
     }
-}
-
-fn tell_apps(text: &mut String, apps: &[App]) -> Result<(), AllocError>
-    ensures { OnOk result
-        (string_bytes text.new ≡ string_bytes text.old ++ flat_map app_line apps.now) }
-{
-    for app in apps {
-        tell_app(text, app)?;
-    }
-    Ok(())
-}
-
-fn tell_app(text: &mut String, app: &App) -> Result<(), AllocError>
-    ensures { OnOk result (string_bytes text.new ≡ string_bytes text.old ++ app_line app.now) }
-{
-    let program: &Verified = app.program();
-    let appid = app.appid();
-    let releases = app.releases().len();
-    let slots = program.len();
-    writeln!(text, "app {appid} releases {releases} slots {slots}")
 }

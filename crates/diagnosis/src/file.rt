@@ -1,8 +1,8 @@
-// The file of an app, and the place in it at which its fault lies.
+//! The file of an app, and the place in it at which its fault lies.
 
 ghost use Rattle.std.specs.Prelude.{◌≡◌, ◌^◌, ◌-◌, ◌<◌, ◌++◌, OnOk, IfSome, string_bytes};
 ghost use Rattle.diagnosis.specs.Reason.{IsFileReason, IsTold};
-ghost use Rattle.diagnosis.specs.Shown.{Shows};
+ghost use Rattle.diagnosis.specs.Shown.{ShowsPlace};
 ghost use Rattle.diagnosis.specs.Texts.{file_line, source_key};
 ghost use Rattle.load.specs.Source as specs;
 
@@ -79,7 +79,7 @@ fn key_of(source: &Source) -> &'static str
 fn show_again<F: Files>(alloc: Global, files: &mut F, source: &Source, place: Place) -> String
     requires { F.failed files.old < 2 ^ 64 - 1 }
     ensures known { F.known files.new ≡ F.known files.old }
-    ensures shows { Shows (F.known files.old) (specs.file_of source.now) place
+    ensures shows { ShowsPlace (F.known files.old) (specs.file_of source.now) place
         (string_bytes result) }
 {
     if place == Place::Whole {

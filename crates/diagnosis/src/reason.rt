@@ -1,4 +1,4 @@
-// Where and why a manifest is refused.
+//! Where and why a manifest is refused.
 
 ghost use Rattle.std.specs.Prelude.{◌≡◌, ◌^◌, ◌-◌, ◌<◌, ◌++◌, ◌⊎◌, [], OnOk, IfSome, string_bytes};
 ghost use Rattle.diagnosis.specs.Reason.{IsCellsReason, IsReason, IsTomlReason};

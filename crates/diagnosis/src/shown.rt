@@ -1,4 +1,4 @@
-// What is shown of an app's file: the place at which its fault lies.
+//! What is shown of an app's file: the place at which its fault lies.
 
 ghost use Rattle.std.specs.Prelude.{◌≡◌, IfOk, IfSome, string_bytes};
 ghost use Rattle.bpf_text.specs.Listing.{line_of};

@@ -69,15 +69,15 @@ OffersSafely rules = (appid : List ℕ) (program : ShapedProgram)
     → Offers rules appid program → AlwaysEndsWell program
 
 -- a program's choices are the releases of its app
-abbrev pub HasReleases : ShapedProgram → List Release → Type 0
-HasReleases program releases = length releases ≡ program.shape.releases
+abbrev pub ChoosesAmong : ShapedProgram → List Release → Type 0
+ChoosesAmong program releases = length releases ≡ program.shape.releases
 
 -- what an app keeps
 pub record IsApp (program : ShapedProgram) (releases : List Release) : Type 0 where
   pub ends : AlwaysEndsWell program
-  pub all : HasReleases program releases
+  pub all : ChoosesAmong program releases
 
 -- what the apps of a ruleset keep
-pub record AreKept (apps : List AppRule) : Type 0 where
+pub record AppsAreKept (apps : List AppRule) : Type 0 where
   pub once : ¬ HasTwice (appids_of apps)
   pub ends : All (λ app. AlwaysEndsWell app.program) apps

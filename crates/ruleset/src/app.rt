@@ -35,12 +35,12 @@ impl Model for App {
 
 impl App {
     ghost use Rattle.std.specs.Prelude.{string_bytes};
-    ghost use Rattle.ruleset.specs.Rules.{AlwaysEndsWell, HasReleases};
+    ghost use Rattle.ruleset.specs.Rules.{AlwaysEndsWell, ChoosesAmong};
 
     /// The app of this appid, which runs this program to choose among these releases; it takes no
     /// memory. The program's shape has as many releases.
     pub fn new(appid: String, program: Arc<Verified>, releases: Vec<Release>) -> App
-        requires { HasReleases (arc_value program) releases.items }
+        requires { ChoosesAmong (arc_value program) releases.items }
         ensures appid { result.appid ≡ string_bytes appid }
         ensures program { result.program ≡ arc_value program }
         ensures releases { result.releases ≡ releases.items }
@@ -58,7 +58,7 @@ impl App {
     pub fn keeps(&self)
         // Every run of its program ends, with 0 or one of its releases.
         ensures ends { AlwaysEndsWell self.now.program }
-        ensures all { HasReleases self.now.program self.now.releases }
+        ensures all { ChoosesAmong self.now.program self.now.releases }
     {
         let _releases = &self.releases;
     }
@@ -80,7 +80,7 @@ impl App {
     /// Its releases, at most 64; a choice is the place of one, from 1 on.
     pub fn releases(&self) -> &[Release]
         ensures lent { result.now ≡ self.now.releases }
-        ensures all { HasReleases self.now.program result.now }
+        ensures all { ChoosesAmong self.now.program result.now }
     {
         self.releases.as_slice()
     }

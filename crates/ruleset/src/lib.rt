@@ -3,7 +3,9 @@
 
 mod app;
 mod ruleset;
+mod telling;
 mod twice;
 
 pub use app::App;
 pub use ruleset::{Ruleset, RulesetFault};
+pub use telling::tell_apps;

@@ -27,13 +27,13 @@ pub struct Ruleset {
 
 impl Model for Ruleset {
     ghost use Rattle.std.specs.Prelude.{string_bytes};
-    ghost use Rattle.ruleset.specs.Rules.{Rules, AreKept};
+    ghost use Rattle.ruleset.specs.Rules.{Rules, AppsAreKept};
 
     ghost Value = { Rules };
 
     ghost view = { λ r. record { server = string_bytes r.server; apps = r.apps.items } };
 
-    ghost invariant = { λ r. AreKept r.apps.items };
+    ghost invariant = { λ r. AppsAreKept r.apps.items };
 }
 
 impl Ruleset {

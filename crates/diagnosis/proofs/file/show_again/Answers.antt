@@ -1,4 +1,4 @@
-use Rattle.diagnosis.specs.Shown.Shows.{nothing}
+use Rattle.diagnosis.specs.Shown.ShowsPlace.{nothing}
 use Rattle.diagnosis.proofs.Passing.{is_shown}
 use Rattle.diagnosis.proofs.file.show_again.Goals as goal
 

@@ -1,6 +1,6 @@
 use Rattle.std.proofs.Common.{◌≡◌, ◌++◌, take, flat_map, string_bytes}
-use Rattle.diagnosis.specs.Texts.{app_line}
-use Rattle.diagnosis.proofs.accepted.tell_apps.Given as goal
+use Rattle.ruleset.specs.Texts.{app_line}
+use Rattle.ruleset.proofs.telling.tell_apps.Given as goal
 
 -- the lines of the apps so far
 abbrev pub invariant-loop-app : goal.invariant-loop-app

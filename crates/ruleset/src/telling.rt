@@ -1,0 +1,31 @@
+//! How apps are told: a line each.
+
+ghost use Rattle.std.specs.Prelude.{◌≡◌, ◌++◌, flat_map, OnOk, string_bytes};
+ghost use Rattle.ruleset.specs.Texts.{app_line};
+
+use crate::app::App;
+use bpf_verify::Verified;
+use std::alloc::AllocError;
+use std::fmt::Write;
+
+/// Puts a line for each app behind a text: its appid, how many releases it has, and how many slots
+/// its program has.
+pub fn tell_apps(text: &mut String, apps: &[App]) -> Result<(), AllocError>
+    ensures { OnOk result
+        (string_bytes text.new ≡ string_bytes text.old ++ flat_map app_line apps.now) }
+{
+    for app in apps {
+        tell_app(text, app)?;
+    }
+    Ok(())
+}
+
+fn tell_app(text: &mut String, app: &App) -> Result<(), AllocError>
+    ensures { OnOk result (string_bytes text.new ≡ string_bytes text.old ++ app_line app.now) }
+{
+    let program: &Verified = app.program();
+    let appid = app.appid();
+    let releases = app.releases().len();
+    let slots = program.len();
+    writeln!(text, "app {appid} releases {releases} slots {slots}")
+}
