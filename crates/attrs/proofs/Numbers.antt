@@ -6,7 +6,7 @@ use Rattle.std.specs.Str.Parse.{ParsesUnsigned, digits_value}
 use Rattle.std.proofs.lemmas.Str.Parse.{IsNumeralModel, digits_value_short, parse_plain, numerals_by_value, tells_all_ascii_digits}
 use Rattle.std.proofs.lemmas.Option.{cond_some, none-some}
 use Rattle.std.proofs.lemmas.Grind.{common_steps}
-use Rattle.attrs.specs.Version.{decimal_number, is_number}
+use Rattle.attrs.specs.Version.{decimal_number, is_decimal_number}
 
 pub decimal_number-None : (b : Bool) (n : ℕ) → cond b (Some n) None ≡ None → b ≡ false
 decimal_number-None true n h = absurd (none-some n (sym h))
@@ -30,7 +30,7 @@ decimal_number-parse {E} part (Err e) plain h =
 pub decimal_number-short : (part : List ℕ) (n : ℕ)
     → length part ≤ 4 → decimal_number part ≡ Some n → n < 10000
 decimal_number-short part n short is =
-    let number = cond_some (is_number part) (digits_value 10 part) n is in
+    let number = cond_some (is_decimal_number part) (digits_value 10 part) n is in
     let digits : all_ascii_digits part ≡ true = grind (arith, common_steps, number.0) in
     let value = digits_value_short digits_are part 4 digits short in
     rw (← number.1) value

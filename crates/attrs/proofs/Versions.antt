@@ -6,7 +6,7 @@ use Rattle.std.proofs.lemmas.Iterator.{YieldsList}
 use Rattle.std.proofs.lemmas.Option.{cond_some}
 use Rattle.std.proofs.lemmas.List.Folds.{list_all-append}
 use Rattle.std.proofs.lemmas.Grind.{common_steps}
-use Rattle.attrs.specs.Version.{decimal_number, is_number, parts_of, version_of}
+use Rattle.attrs.specs.Version.{decimal_number, is_decimal_number, parts_of, version_of}
 use Rattle.attrs.proofs.Numbers.{decimal_number-None}
 
 set_next : (f : List ℕ → ℕ) (done : List (List ℕ)) (part : List ℕ) (k : ℕ)
@@ -25,7 +25,7 @@ pub record IsRead {S A : Type 0} (steps : S → Option A → S → Type 0) (v : 
   pub yields : YieldsList steps v s rest
   pub count_is : length done ≡ count
   pub few : count ≤ 4
-  pub each : list_all is_number done ≡ true
+  pub each : list_all is_decimal_number done ≡ true
   pub numbers_are : numbers ≡ map (digits_value 10) done ++ replicate (4 - count) 0
 
 -- the next part
@@ -64,8 +64,9 @@ module _ {S A : Type 0} {steps : S → Option A → S → Type 0} {v : A → Lis
       → decimal_number (v x) ≡ None → version_of text ≡ None
   read-not_number {s} t x h step none =
       let k = next t x h.rest h.yields step in
-      let wrong : is_number (v x) ≡ false = decimal_number-None (is_number (v x)) _ none in
-      let some : list_all is_number (parts_of text) ≡ false =
+      let wrong : is_decimal_number (v x) ≡ false =
+      decimal_number-None (is_decimal_number (v x)) _ none in
+      let some : list_all is_decimal_number (parts_of text) ≡ false =
       rw (h.parts, k.1, list_all-append, h.each, wrong) refl in
       grind (arith, common_steps)
 
@@ -74,7 +75,7 @@ module _ {S A : Type 0} {steps : S → Option A → S → Type 0} {v : A → Lis
       → decimal_number (v x) ≡ Some n → IsRead steps v text t (count + 1) (set numbers count n)
   read-number {s} {count} t x n h step room is =
       let k = next t x h.rest h.yields step in
-      let good = cond_some (is_number (v x)) (digits_value 10 (v x)) n is in
+      let good = cond_some (is_decimal_number (v x)) (digits_value 10 (v x)) n is in
       let left : 4 - count ≡ suc (4 - (count + 1)) = omega arith in
       record {
         done = h.done ++ (v x ∷ []);

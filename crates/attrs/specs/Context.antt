@@ -11,7 +11,7 @@ pub record Context : Type 0 where
   pub seconds : ℕ
 
 -- the ranges that the type of a context keeps
-pub record HasRanges (c : Context) : Type 0 where
+pub record HasContextRanges (c : Context) : Type 0 where
   pub version : All (λ n. n < 2 ^ 32) c.version
   pub install_day : c.install_day < 2 ^ 32
   pub today : c.today < 2 ^ 32

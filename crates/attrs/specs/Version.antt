@@ -7,19 +7,19 @@ use Rattle.std.specs.Str.{all_ascii_digits, byte}
 use Rattle.std.specs.Str.Parse.{digits_value}
 
 -- one ASCII digit or more, which write a number of 32 bits
-abbrev pub is_number : List ℕ → Bool
-is_number part =
+abbrev pub is_decimal_number : List ℕ → Bool
+is_decimal_number part =
     all_ascii_digits part && nat_lt 0 (length part) && nat_lt (digits_value 10 part) (2 ^ 32)
 
 abbrev pub decimal_number : List ℕ → Option ℕ
-decimal_number part = if is_number part then Some (digits_value 10 part) else None
+decimal_number part = if is_decimal_number part then Some (digits_value 10 part) else None
 
 -- the parts between the dots
 abbrev pub parts_of : List ℕ → List (List ℕ)
 parts_of text = slice_split (λ b. b == byte ".") text
 
 abbrev pub is_version : List (List ℕ) → Bool
-is_version parts = nat_le (length parts) 4 && list_all is_number parts
+is_version parts = nat_le (length parts) 4 && list_all is_decimal_number parts
 
 -- the four numbers that the parts write
 abbrev pub numbers_of : List (List ℕ) → List ℕ

@@ -1,5 +1,5 @@
-// The context of an app: from what its request says and the moment at which it asks, or from a
-// version and a bucket alone.
+//! The context of an app: from what its request says and the moment at which it asks, or from a
+//! version and a bucket alone.
 
 ghost use Rattle.std.specs.Prelude.{◌≡◌, ◌<◌, ◌≤◌, option_copied};
 ghost use Rattle.attrs.specs.Attributes.{plain_context};

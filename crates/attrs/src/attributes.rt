@@ -1,8 +1,8 @@
-// The attributes of an app: its context, and seven texts by number.
+//! The attributes of an app: its context, and seven texts by number.
 
 ghost use Rattle.std.specs.Prelude.{◌≡◌, ◌<◌, ◌≤◌, length, [], slice_index_or};
 ghost use Rattle.std.specs.Prelude.{IfOk, string_bytes, option_copied};
-ghost use Rattle.attrs.specs.Context.{HasRanges};
+ghost use Rattle.attrs.specs.Context.{HasContextRanges};
 ghost use Rattle.attrs.specs.Attributes.{kept_text, AreShort};
 
 use crate::app_context::{context_of, plain_context};
@@ -115,7 +115,7 @@ impl Attrs {
 
     /// The facts that the type keeps: the context is in its ranges, and no text is over 1024 bytes.
     pub fn keeps(&self)
-        ensures context { HasRanges self.now.context }
+        ensures context { HasContextRanges self.now.context }
         ensures texts { AreShort self.now.texts }
     {
         self.context.keeps();

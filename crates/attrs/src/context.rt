@@ -1,4 +1,4 @@
-// The context of an app: 64 bytes, little-endian, that a program may read at any offset.
+//! The context of an app: 64 bytes, little-endian, that a program may read at any offset.
 
 ghost use Rattle.std.specs.Prelude.{◌≡◌, ◌+◌, ◌<◌, ◌≤◌, length, All};
 ghost use Rattle.std.specs.List.{splice};
@@ -50,7 +50,7 @@ impl Model for Context {
 }
 
 impl Context {
-    ghost use Rattle.attrs.specs.Context.{context_bytes, HasRanges};
+    ghost use Rattle.attrs.specs.Context.{context_bytes, HasContextRanges};
     ghost use Rattle.attrs.specs.Context.{version_known, updatecheck, ping, event};
     ghost use Rattle.attrs.specs.Context.{cohort_known, installdate_known, unknown_day};
 
@@ -83,7 +83,7 @@ impl Context {
 
     /// What the type keeps: each number lies in its range.
     pub fn keeps(&self)
-        ensures { HasRanges self.now }
+        ensures { HasContextRanges self.now }
     {
         let [_first, _second, _third, _fourth] = self.version;
         let _install_day = self.install_day;

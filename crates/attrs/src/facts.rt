@@ -1,5 +1,5 @@
-// What an Omaha 3.1 request says: of itself, and of one of its apps. Each member is as it was read,
-// and absent where the request has none, or one of another kind.
+//! What an Omaha 3.1 request says: of itself, and of one of its apps. Each member is as it was
+//! read, and absent where the request has none, or one of another kind.
 
 use crate::text::Text;
 

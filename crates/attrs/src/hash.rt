@@ -1,4 +1,4 @@
-// FNV-1a with 64 bits, a hash that is the same in every build and on every machine.
+//! FNV-1a with 64 bits, a hash that is the same in every build and on every machine.
 
 ghost use Rattle.std.specs.Prelude.{◌≡◌};
 ghost use Rattle.attrs.specs.Hash as specs;

@@ -1,5 +1,5 @@
-// What a program may ask of its app by CALL: whether an attribute has some bytes, its length, and a
-// bucket by a salt of the program's own. Each answers for any arguments, and takes no memory.
+//! What a program may ask of its app by CALL: whether an attribute has some bytes, its length, and
+//! a bucket by a salt of the program's own. Each answers for any arguments, and takes no memory.
 
 ghost use Rattle.std.specs.Prelude.{◌≡◌};
 ghost use Rattle.attrs.specs.Helpers.{attr_is, attr_len, bucket_of};

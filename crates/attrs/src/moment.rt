@@ -1,4 +1,4 @@
-// A moment, and the days and seconds of it from 2007-01-01 UTC on, where Omaha's count begins.
+//! A moment, and the days and seconds of it from 2007-01-01 UTC on, where Omaha's count begins.
 
 ghost use Rattle.std.specs.Prelude.{◌≡◌, ◌<◌, ◌≤◌};
 ghost use Rattle.attrs.specs.Moment.{elapsed, elapsed_days, elapsed_seconds};

@@ -1,4 +1,4 @@
-// A text of a request, which contracts see as its bytes.
+//! A text of a request, which contracts see as its bytes.
 
 ghost use Rattle.std.specs.Prelude.{◌≡◌, string_bytes, option_copied};
 

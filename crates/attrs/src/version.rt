@@ -1,5 +1,5 @@
-// The numbers of a version text: one to four decimal numbers joined by single dots. The text is
-// split at its dots, and each part is read as one number.
+//! The numbers of a version text: one to four decimal numbers joined by single dots. The text is
+//! split at its dots, and each part is read as one number.
 
 ghost use Rattle.std.specs.Prelude.{◌≡◌};
 ghost use Rattle.attrs.specs.Version.{version_of, decimal_number};

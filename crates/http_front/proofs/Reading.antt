@@ -20,7 +20,7 @@ use Rattle.http_front.specs.declared.fault.PostFault.TheVariants as fault
 use Rattle.http_front.specs.declared.head.Found.{Found}
 use Rattle.http_front.specs.Device.{GainsBytes}
 use Rattle.http_front.specs.Post.{Posts, whole, cut_short, refused, malformed, long, many, ended}
-use Rattle.http_front.specs.Post.{HasHead, IsBegun, IsHeadFault, IsAnswer, Answers}
+use Rattle.http_front.specs.Post.{HasHead, IsBegun, IsHeadFault, IsPostAnswer, AnswersPost}
 use Rattle.http_front.specs.Post.{head_limit, line_limit}
 use Rattle.http_front.specs.Head.{asked, asked_by}
 use Rattle.http_front.specs.Reading.{IsFilled, IsFound, IsBody, IsBodyBehind, asked_at}
@@ -49,7 +49,7 @@ nothing_more a b c seen (x ∷ gained) e f g = absurd (omega arith)
 
 -- the head can't be one, or has too many lines
 pub head_fault : (a b : Option (List ℕ)) (seen : List ℕ) (e : PostFault)
-    → Consumes a b seen → length seen ≤ head_limit → IsHeadFault seen e → Answers a (Err e)
+    → Consumes a b seen → length seen ≤ head_limit → IsHeadFault seen e → AnswersPost a (Err e)
 head_fault None b seen e f short h = tt
 head_fault (Some xs) None seen e f short h = absurd f
 head_fault (Some xs) (Some ys) seen fault.Head f short h =
@@ -63,7 +63,7 @@ head_fault (Some xs) (Some ys) seen e f short h = absurd h
 -- 16,384 bytes, and no head
 pub too_long : (a b : Option (List ℕ)) (seen : List ℕ)
     → Consumes a b seen → length seen ≡ head_limit → IsBegun seen
-    → Answers a (Err fault.HeadTooLarge)
+    → AnswersPost a (Err fault.HeadTooLarge)
 too_long None b seen f full h = tt
 too_long (Some xs) None seen f full h = absurd f
 too_long (Some xs) (Some ys) seen f full h =
@@ -77,7 +77,7 @@ too_long (Some xs) (Some ys) seen f full h =
 -- the input ended, and no head
 pub head_ended : (a b : Option (List ℕ)) (seen : List ℕ)
     → Consumes a b seen → length seen < head_limit → IsAtEnd b → IsBegun seen
-    → Answers a (Err fault.Ended)
+    → AnswersPost a (Err fault.Ended)
 head_ended None b seen f short end h = tt
 head_ended (Some xs) None seen f short end h = absurd f
 head_ended (Some xs) (Some ys) seen f short end h =
@@ -112,7 +112,7 @@ asked_same seen headers r h a =
     ∙ ap (asked h.target h.method) a.fields
 
 body_answer : (xs rest : List ℕ) (h : RequestHead) (n : ℕ) (r : Result (List ℕ) PostFault)
-    → HasHead xs h rest → asked_by h ≡ Ok n → IsBody rest n r → IsAnswer xs r
+    → HasHead xs h rest → asked_by h ≡ Ok n → IsBody rest n r → IsPostAnswer xs r
 body_answer xs rest h n (Ok body) head e b =
     let P : List ℕ → Type 0 = λ z. Posts xs (Ok z) in
     subst P (sym b.1) (whole head e b.0)
@@ -159,7 +159,7 @@ told {seen = seen} {headers = headers} {r = r} s =
 post_read : (a b : Option (List ℕ)) (seen : List ℕ) (headers : List HeaderSpan) (r : RequestSpans)
     (n : ℕ) (first : List ℕ) (answer : Result (List ℕ) PostFault)
     → Stands a b seen headers r → asked_at seen headers r ≡ Ok n → first ≡ drop r.len seen
-    → IsBodyBehind first b n answer → Answers a answer
+    → IsBodyBehind first b n answer → AnswersPost a answer
 post_read None b seen headers r n first answer s e split h = tt
 post_read (Some xs) None seen headers r n first answer s e split h = absurd s.bytes
 post_read (Some xs) (Some ys) seen headers r n first answer s e split h =
@@ -171,13 +171,13 @@ post_read (Some xs) (Some ys) seen headers r n first answer s e split h =
 pub body_at : {a b : Option (List ℕ)} {seen : List ℕ} {headers : List HeaderSpan} {r : RequestSpans}
     → Stands a b seen headers r → (n : ℕ) (first : List ℕ) (answer : Result (List ℕ) PostFault)
     → asked_at seen headers r ≡ Ok n → first ≡ drop r.len seen
-    → IsBodyBehind first b n answer → Answers a answer
+    → IsBodyBehind first b n answer → AnswersPost a answer
 body_at {a = a} {b = b} {seen = seen} {headers = headers} {r = r} s n first answer e split h =
     post_read a b seen headers r n first answer s e split h
 
 post_refused : (a b : Option (List ℕ)) (seen : List ℕ) (headers : List HeaderSpan)
     (r : RequestSpans) (x : PostFault)
-    → Stands a b seen headers r → asked_at seen headers r ≡ Err x → Answers a (Err x)
+    → Stands a b seen headers r → asked_at seen headers r ≡ Err x → AnswersPost a (Err x)
 post_refused None b seen headers r x s e = tt
 post_refused (Some xs) None seen headers r x s e = absurd s.bytes
 post_refused (Some xs) (Some ys) seen headers r fault.Device s e = tt
@@ -188,7 +188,7 @@ post_refused (Some xs) (Some ys) seen headers r x s e = refused (known_head s) (
 pub refused_at : {a b : Option (List ℕ)} {seen : List ℕ} {headers : List HeaderSpan}
     {r : RequestSpans}
     → Stands a b seen headers r → (x : PostFault) → asked_at seen headers r ≡ Err x
-    → Answers a (Err x)
+    → AnswersPost a (Err x)
 refused_at {a = a} {b = b} {seen = seen} {headers = headers} {r = r} s x e =
     post_refused a b seen headers r x s e
 
@@ -196,7 +196,7 @@ refused_at {a = a} {b = b} {seen = seen} {headers = headers} {r = r} s x e =
 
 pub fault_at : {a b : Option (List ℕ)} {buf : List ℕ} {filled : ℕ}
     → IsFilled a b buf filled → length buf ≡ head_limit → (e : PostFault)
-    → IsHeadFault (take filled buf) e → Answers a (Err e)
+    → IsHeadFault (take filled buf) e → AnswersPost a (Err e)
 fault_at {a = a} {b = b} {buf = buf} {filled = filled} f room e h =
     let short : length (take filled buf) ≤ head_limit =
     omega (arith, seen_size a b buf filled f, f.fits) in
@@ -204,7 +204,7 @@ fault_at {a = a} {b = b} {buf = buf} {filled = filled} f room e h =
 
 pub long_at : {a b : Option (List ℕ)} {buf : List ℕ} {filled : ℕ}
     → IsFilled a b buf filled → filled ≡ head_limit → IsBegun (take filled buf)
-    → Answers a (Err fault.HeadTooLarge)
+    → AnswersPost a (Err fault.HeadTooLarge)
 long_at {a = a} {b = b} {buf = buf} {filled = filled} f full h =
     too_long a b (take filled buf) f.bytes (seen_size a b buf filled f ∙ full) h
 
@@ -212,7 +212,7 @@ pub ended_at : {a b : Option (List ℕ)} {buf : List ℕ} {filled : ℕ}
     → IsFilled a b buf filled → (c : Option (List ℕ)) (more : List ℕ) (n : ℕ)
     → filled < head_limit → n ≡ 0
     → GainsBytes {E = Failed} b c (take filled buf) more filled (Ok n) → IsAtEnd c
-    → IsBegun (take filled buf) → Answers a (Err fault.Ended)
+    → IsBegun (take filled buf) → AnswersPost a (Err fault.Ended)
 ended_at {a = a} {b = b} {buf = buf} {filled = filled} f c more n short none g end h =
     let seen = take filled buf in
     let all = nothing_more a b c seen g.0 (g.2 ∙ none) f.bytes g.1 in

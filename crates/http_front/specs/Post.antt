@@ -51,15 +51,15 @@ pub data Posts (xs : List ℕ) : Result (List ℕ) PostFault → Type 0 where
   ended : length xs < head_limit → IsBegun xs → Posts xs (Err fault.Ended)
 
 -- nobody knows when a device fails or memory is refused
-abbrev pub IsAnswer : List ℕ → Result (List ℕ) PostFault → Type 0
-IsAnswer xs (Err fault.Device) = Unit {0}
-IsAnswer xs (Err fault.Memory) = Unit {0}
-IsAnswer xs answer = Posts xs answer
+abbrev pub IsPostAnswer : List ℕ → Result (List ℕ) PostFault → Type 0
+IsPostAnswer xs (Err fault.Device) = Unit {0}
+IsPostAnswer xs (Err fault.Memory) = Unit {0}
+IsPostAnswer xs answer = Posts xs answer
 
 -- of a reader that doesn't tell its bytes nothing is said
-abbrev pub Answers : Option (List ℕ) → Result (List ℕ) PostFault → Type 0
-Answers None answer = Unit {0}
-Answers (Some xs) answer = IsAnswer xs answer
+abbrev pub AnswersPost : Option (List ℕ) → Result (List ℕ) PostFault → Type 0
+AnswersPost None answer = Unit {0}
+AnswersPost (Some xs) answer = IsPostAnswer xs answer
 
 -- a failure is counted where it is the answer, and nowhere else
 abbrev pub CountsDevice : {A : Type 0} → ℕ → ℕ → Result A PostFault → Type 0

@@ -1,7 +1,7 @@
 // A request is read: its head, and then its body.
 
 ghost use Rattle.std.specs.Prelude.{◌≡◌, ◌-◌, ◌^◌, ◌<◌, length, Ok, Err, IfOk, IfErr};
-ghost use Rattle.http_front.specs.Post.{Answers, CountsDevice};
+ghost use Rattle.http_front.specs.Post.{AnswersPost, CountsDevice};
 
 use crate::asked::asked;
 use crate::body::{read_body, room_for};
@@ -28,8 +28,8 @@ fn read_by<R: Read>(
     requires count { reader.old.failures < 2 ^ 64 - 1 }
     requires room { length buf.old ≡ 16384 }
     requires lines { length headers.old ≡ 64 }
-    ensures body { IfOk result (λ v. Answers (R.remaining reader.old.inner) (Ok v.items)) }
-    ensures refused { IfErr result (λ e. Answers (R.remaining reader.old.inner) (Err e)) }
+    ensures body { IfOk result (λ v. AnswersPost (R.remaining reader.old.inner) (Ok v.items)) }
+    ensures refused { IfErr result (λ e. AnswersPost (R.remaining reader.old.inner) (Err e)) }
     ensures count { CountsDevice reader.old.failures reader.new.failures result }
 {
     let found = match read_head(reader, buf, headers) {
@@ -52,8 +52,8 @@ fn read_by<R: Read>(
 /// bytes than the request has; they are lost.
 pub fn read_post<R: Read>(alloc: Global, reader: &mut Counted<R>) -> Result<Vec<u8>, PostFault>
     requires { reader.old.failures < 2 ^ 64 - 1 }
-    ensures body { IfOk result (λ v. Answers (R.remaining reader.old.inner) (Ok v.items)) }
-    ensures refused { IfErr result (λ e. Answers (R.remaining reader.old.inner) (Err e)) }
+    ensures body { IfOk result (λ v. AnswersPost (R.remaining reader.old.inner) (Ok v.items)) }
+    ensures refused { IfErr result (λ e. AnswersPost (R.remaining reader.old.inner) (Err e)) }
     ensures count { CountsDevice reader.old.failures reader.new.failures result }
 {
     let Ok(mut room) = room_for(alloc, HEAD_LIMIT) else {

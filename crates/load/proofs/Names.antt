@@ -10,13 +10,13 @@ use Rattle.manifest.specs.App.{AppEntry}
 use Rattle.manifest.specs.Manifest.{Manifest, none_of, once}
 use Rattle.manifest.specs.Twice.{repeated}
 use Rattle.ruleset.specs.Rules.{AppRule, HasTwice, appids_of}
-use Rattle.load.specs.Files.{Known}
+use Rattle.load.specs.Files.{KnownFiles}
 use Rattle.load.specs.Apps.{AreAppsOf, none, next}
 
 abbrev pub entry_appids : List AppEntry → List (List ℕ)
 entry_appids entries = map (λ (a : AppEntry). a.appid) entries
 
-module _ (known : Known) (directory : List CellArray) (numbers : List ArrayNo) where
+module _ (known : KnownFiles) (directory : List CellArray) (numbers : List ArrayNo) where
   pub same_appids : (entries : List AppEntry) (apps : List AppRule)
       → AreAppsOf known directory numbers entries apps → appids_of apps ≡ entry_appids entries
   same_appids [] [] none = refl
@@ -52,7 +52,7 @@ none_in None fault other y e = (refl, e)
 none_in (Some x) fault other y e = absurd cc
 
 -- so the apps of a manifest in which names stand once have no appid twice
-module _ (known : Known) (directory : List CellArray) (numbers : List ArrayNo) where
+module _ (known : KnownFiles) (directory : List CellArray) (numbers : List ArrayNo) where
   pub never_twice : (manifest : Manifest) (apps : List AppRule) → once manifest ≡ Ok manifest
       → AreAppsOf known directory numbers manifest.apps apps → ¬ HasTwice (appids_of apps)
   never_twice manifest apps is are twice =

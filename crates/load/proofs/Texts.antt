@@ -5,10 +5,10 @@ use Rattle.rule_lang.specs.declared.fault.RuleFault.{RuleFault}
 use Rattle.rule_lang.specs.declared.fault.RuleFault.TheVariants.{At}
 use Rattle.rule_lang.specs.declared.fault.RuleFaultKind.{RuleFaultKind}
 use Rattle.rule_lang.specs.Verdicts.{IsRuleFault}
-use Rattle.load.specs.Rule.{IsTextFault, no_rule}
+use Rattle.load.specs.Rule.{IsRuleTextFault, no_rule}
 
 pub text_fault : {shape : AppShape} {text bytes : List ℕ} {fault : RuleFault} (line : ℕ)
     (kind : RuleFaultKind) → fault ≡ At line kind → IsUtf8 bytes → text ≡ bytes
-    → IsRuleFault shape text fault → IsTextFault bytes shape line kind
+    → IsRuleFault shape text fault → IsRuleTextFault bytes shape line kind
 text_fault line kind at utf8 is (inl memory) = absurd cc
 text_fault line kind at utf8 is (inr verdict) = no_rule utf8 (rw (at, is) at verdict)

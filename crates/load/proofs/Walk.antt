@@ -6,11 +6,11 @@ use Rattle.manifest.specs.App.{AppEntry}
 use Rattle.ruleset.specs.Rules.{AppRule}
 use Rattle.load.specs.declared.fault.AppFault.{AppFault}
 use Rattle.load.specs.declared.fault.AppFault.TheVariants.{File, Program, Rule, Memory}
-use Rattle.load.specs.Files.{Known}
+use Rattle.load.specs.Files.{KnownFiles}
 use Rattle.load.specs.App.{IsAppOf, RefusesApp, CountsApp}
 use Rattle.load.specs.Apps.{AreAppsOf, none, next, RefusesApps, CountsLoad, in_app}
 
-module _ (known : Known) (directory : List CellArray) (numbers : List ArrayNo) where
+module _ (known : KnownFiles) (directory : List CellArray) (numbers : List ArrayNo) where
   pub one_more : (entries : List AppEntry) (apps : List AppRule) {entry : AppEntry} {app : AppRule}
       → AreAppsOf known directory numbers entries apps → IsAppOf known directory numbers entry app
       → AreAppsOf known directory numbers (entries ++ entry ∷ []) (apps ++ app ∷ [])

@@ -7,7 +7,7 @@ use Rattle.manifest.specs.App.{AppEntry}
 use Rattle.ruleset.specs.Rules.{AppRule}
 use Rattle.load.specs.declared.fault.AppFault.{AppFault}
 use Rattle.load.specs.declared.fault.AppFault.TheVariants.{File, Memory}
-use Rattle.load.specs.Files.{Known}
+use Rattle.load.specs.Files.{KnownFiles}
 use Rattle.load.specs.Source.{IsProgramIn, RefusesSource}
 
 -- the shape of an app: the number of its releases, and all arrays of the manifest in their order,
@@ -17,7 +17,7 @@ pub record IsShapeOf (directory : List CellArray) (numbers : List ArrayNo) (entr
   pub releases_are : shape.releases ≡ length entry.releases
   pub arrays_are : AreNumbered directory numbers shape.arrays
 
-module _ (known : Known) (directory : List CellArray) (numbers : List ArrayNo) where
+module _ (known : KnownFiles) (directory : List CellArray) (numbers : List ArrayNo) where
   -- the app of an entry
   pub record IsAppOf (entry : AppEntry) (app : AppRule) : Type 0 where
     pub appid_is : app.appid ≡ entry.appid

@@ -8,10 +8,10 @@ use Rattle.load.specs.declared.fault.AppFault.{AppFault}
 use Rattle.load.specs.declared.fault.AppFault.TheVariants as app
 use Rattle.load.specs.declared.fault.LoadFault.{LoadFault}
 use Rattle.load.specs.declared.fault.LoadFault.TheVariants.{File, Program, Rule, Memory}
-use Rattle.load.specs.Files.{Known}
+use Rattle.load.specs.Files.{KnownFiles}
 use Rattle.load.specs.App.{IsAppOf, RefusesApp}
 
-module _ (known : Known) (directory : List CellArray) (numbers : List ArrayNo) where
+module _ (known : KnownFiles) (directory : List CellArray) (numbers : List ArrayNo) where
   -- each entry has its app
   pub data AreAppsOf : List AppEntry → List AppRule → Type 0 where
     none : AreAppsOf [] []

@@ -6,18 +6,18 @@ use Rattle.load.specs.declared.files.FileFault.TheVariants.{Failed, Memory}
 
 -- what is known of files: the bytes that each name gives, or nothing where it can't be read; of the
 -- files of a device nothing is known
-abbrev pub Known : Type 0
-Known = Option (List ℕ → Option (List ℕ))
+abbrev pub KnownFiles : Type 0
+KnownFiles = Option (List ℕ → Option (List ℕ))
 
 -- for all that is known, the name may give this
-abbrev pub Gives : Known → List ℕ → Option (List ℕ) → Type 0
+abbrev pub Gives : KnownFiles → List ℕ → Option (List ℕ) → Type 0
 Gives known name given = IfSome known (λ files. files name ≡ given)
 
 -- of want of memory nothing is said
-abbrev pub Reads : Known → List ℕ → Result (Vec ℕ Global) FileFault → Type 0
-Reads known name (Ok v) = Gives known name (Some v.items)
-Reads known name (Err Failed) = Gives known name None
-Reads known name (Err Memory) = Unit {0}
+abbrev pub ReadsFile : KnownFiles → List ℕ → Result (Vec ℕ Global) FileFault → Type 0
+ReadsFile known name (Ok v) = Gives known name (Some v.items)
+ReadsFile known name (Err Failed) = Gives known name None
+ReadsFile known name (Err Memory) = Unit {0}
 
 -- a file that couldn't be read is counted
 abbrev pub Counts : ℕ → ℕ → Result (Vec ℕ Global) FileFault → Type 0

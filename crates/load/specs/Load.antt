@@ -7,21 +7,21 @@ use Rattle.cells.specs.declared.array.ArrayNo.{ArrayNo}
 use Rattle.cells.specs.declared.array.CellArray.{CellArray}
 use Rattle.cells.specs.declared.fault.CellsFault.TheVariants as cells
 use Rattle.declarations.specs.Order.{AreDeclared, IsRefusedArray}
-use Rattle.manifest.specs.Manifest.{Manifest, Reads}
+use Rattle.manifest.specs.Manifest.{Manifest, ReadsManifest}
 use Rattle.manifest.specs.declared.fault.ManifestFault.TheVariants as manifest
 use Rattle.ruleset.specs.Rules.{Rules}
 use Rattle.load.specs.declared.fault.LoadFault.{LoadFault}
 use Rattle.load.specs.declared.fault.LoadFault.TheVariants.{Toml, Field, Duplicate, Cells, Memory}
-use Rattle.load.specs.Files.{Known}
+use Rattle.load.specs.Files.{KnownFiles}
 use Rattle.load.specs.Apps.{AreAppsOf, RefusesApps}
 
 -- why bytes are no manifest; of want of memory nothing is said, here and below
-abbrev pub RefusesBytes : List ℕ → LoadFault → Type 0
-RefusesBytes bytes (Toml fault) = Reads bytes (Err (manifest.Toml fault))
-RefusesBytes bytes (Field misfit) = Reads bytes (Err (manifest.Field misfit))
-RefusesBytes bytes (Duplicate twice) = Reads bytes (Err (manifest.Duplicate twice))
-RefusesBytes bytes Memory = Unit {0}
-RefusesBytes bytes fault = ⊥
+abbrev pub RefusesManifest : List ℕ → LoadFault → Type 0
+RefusesManifest bytes (Toml fault) = ReadsManifest bytes (Err (manifest.Toml fault))
+RefusesManifest bytes (Field misfit) = ReadsManifest bytes (Err (manifest.Field misfit))
+RefusesManifest bytes (Duplicate twice) = ReadsManifest bytes (Err (manifest.Duplicate twice))
+RefusesManifest bytes Memory = Unit {0}
+RefusesManifest bytes fault = ⊥
 
 -- the first array of a manifest that isn't declared
 abbrev pub RefusesArrays : List CellArray → List Declaration → LoadFault → Type 0
@@ -31,21 +31,21 @@ RefusesArrays old arrays (Cells number fault) =
 RefusesArrays old arrays Memory = Unit {0}
 RefusesArrays old arrays fault = ⊥
 
-module _ (known : Known) (old : List CellArray) (bytes : List ℕ) where
+module _ (known : KnownFiles) (old : List CellArray) (bytes : List ℕ) where
   -- the fault that counts: of the bytes, or else of the arrays, or else of the apps
   pub data IsLoadFault : LoadFault → Type 0 where
-    of_bytes : {fault : LoadFault} → RefusesBytes bytes fault → IsLoadFault fault
-    of_arrays : {manifest : Manifest} {fault : LoadFault} → Reads bytes (Ok manifest)
+    of_bytes : {fault : LoadFault} → RefusesManifest bytes fault → IsLoadFault fault
+    of_arrays : {manifest : Manifest} {fault : LoadFault} → ReadsManifest bytes (Ok manifest)
         → RefusesArrays old manifest.arrays fault → IsLoadFault fault
     of_apps : {manifest : Manifest} (numbers : List ArrayNo) (between : List CellArray)
-        {fault : LoadFault} → Reads bytes (Ok manifest)
+        {fault : LoadFault} → ReadsManifest bytes (Ok manifest)
         → AreDeclared old manifest.arrays numbers between
         → RefusesApps known between numbers manifest.apps fault → IsLoadFault fault
 
   -- the ruleset of the bytes, and the directory after it
   pub record IsRulesetOf (rules : Rules) (new : List CellArray) : Type 0 where
     pub manifest : Manifest
-    pub read : Reads bytes (Ok manifest)
+    pub read : ReadsManifest bytes (Ok manifest)
     pub numbers : List ArrayNo
     pub declared : AreDeclared old manifest.arrays numbers new
     pub server_is : rules.server ≡ manifest.server

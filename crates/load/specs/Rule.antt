@@ -28,14 +28,14 @@ pub record IsProgramOfRule (bytes : List ℕ) (program : ShapedProgram) : Type 0
   pub accepted : IsAccepted program.code program.shape
 
 -- the fault of a text; bytes that aren't UTF-8 are no token in line 1
-pub data IsTextFault (bytes : List ℕ) (shape : AppShape) : ℕ → RuleFaultKind → Type 0 where
-  no_text : ¬ IsUtf8 bytes → IsTextFault bytes shape 1 Token
+pub data IsRuleTextFault (bytes : List ℕ) (shape : AppShape) : ℕ → RuleFaultKind → Type 0 where
+  no_text : ¬ IsUtf8 bytes → IsRuleTextFault bytes shape 1 Token
   no_rule : {line : ℕ} {kind : RuleFaultKind} → IsUtf8 bytes
-      → IsVerdict shape bytes (Err (At line kind)) → IsTextFault bytes shape line kind
+      → IsVerdict shape bytes (Err (At line kind)) → IsRuleTextFault bytes shape line kind
 
 -- why they spell no rule of the shape; a rule is too long only where its cost is above 4096
 abbrev pub RefusesRule : List ℕ → AppShape → AppFault → Type 0
-RefusesRule bytes shape (app.Rule (Text line kind)) = IsTextFault bytes shape line kind
+RefusesRule bytes shape (app.Rule (Text line kind)) = IsRuleTextFault bytes shape line kind
 RefusesRule bytes shape (app.Rule TooLong) =
     (rule : List Statement) × IsTextOf bytes shape rule × (4096 < cost rule)
 RefusesRule bytes shape app.Memory = Unit {0}

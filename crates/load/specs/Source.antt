@@ -6,7 +6,7 @@ use Rattle.manifest.specs.declared.app.Source.{Source}
 use Rattle.manifest.specs.declared.app.Source.TheVariants as source
 use Rattle.load.specs.declared.fault.AppFault.{AppFault}
 use Rattle.load.specs.declared.fault.AppFault.TheVariants as app
-use Rattle.load.specs.Files.{Known, Gives}
+use Rattle.load.specs.Files.{KnownFiles, Gives}
 use Rattle.load.specs.Program.{IsProgramOf, RefusesProgram}
 use Rattle.load.specs.Rule.{IsProgramOfRule, RefusesRule}
 
@@ -20,17 +20,17 @@ IsProgramFrom (source.Program file) bytes program = IsProgramOf bytes program
 IsProgramFrom (source.Rule file) bytes program = IsProgramOfRule bytes program
 
 -- why the bytes of the file give none
-abbrev pub RefusesBytes : Source → List ℕ → AppShape → AppFault → Type 0
-RefusesBytes (source.Program file) bytes shape fault = RefusesProgram bytes shape fault
-RefusesBytes (source.Rule file) bytes shape fault = RefusesRule bytes shape fault
+abbrev pub RefusesFile : Source → List ℕ → AppShape → AppFault → Type 0
+RefusesFile (source.Program file) bytes shape fault = RefusesProgram bytes shape fault
+RefusesFile (source.Rule file) bytes shape fault = RefusesRule bytes shape fault
 
-abbrev pub IsProgramIn : Known → Source → ShapedProgram → Type 0
+abbrev pub IsProgramIn : KnownFiles → Source → ShapedProgram → Type 0
 IsProgramIn known from program =
     (bytes : List ℕ) × Gives known (file_of from) (Some bytes) × IsProgramFrom from bytes program
 
 -- why there is none: no file, or what its bytes are
-abbrev pub RefusesSource : Known → Source → AppShape → AppFault → Type 0
+abbrev pub RefusesSource : KnownFiles → Source → AppShape → AppFault → Type 0
 RefusesSource known from shape app.File = Gives known (file_of from) None
 RefusesSource known from shape app.Memory = Unit {0}
 RefusesSource known from shape fault =
-    (bytes : List ℕ) × Gives known (file_of from) (Some bytes) × RefusesBytes from bytes shape fault
+    (bytes : List ℕ) × Gives known (file_of from) (Some bytes) × RefusesFile from bytes shape fault

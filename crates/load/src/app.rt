@@ -1,4 +1,4 @@
-// One app of a manifest, with its program.
+//! One app of a manifest, with its program.
 
 ghost use Rattle.std.specs.Prelude.{◌≡◌, ◌^◌, ◌-◌, ◌<◌, length, All, IfOk, IfErr};
 ghost use Rattle.load.specs.Source.{IsProgramIn, RefusesSource};

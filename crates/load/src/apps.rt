@@ -1,4 +1,4 @@
-// The apps of a manifest, in their order.
+//! The apps of a manifest, in their order.
 
 ghost use Rattle.std.specs.Prelude.{◌≡◌, ◌^◌, ◌-◌, ◌<◌, length, All, IfOk, IfErr};
 ghost use Rattle.load.specs.Apps as specs;

@@ -1,7 +1,7 @@
 //! The files that a manifest names.
 
 ghost use Rattle.std.specs.Prelude.{◌≡◌, ◌^◌, ◌-◌, ◌<◌, List, ℕ, Option};
-ghost use Rattle.load.specs.Files.{Reads, Counts};
+ghost use Rattle.load.specs.Files.{ReadsFile, Counts};
 
 use thiserror::Error;
 
@@ -29,7 +29,7 @@ pub trait Files {
     fn bytes(&mut self, name: &str) -> Result<Vec<u8>, FileFault>
         requires { failed self.old < 2 ^ 64 - 1 }
         ensures known { known self.new ≡ known self.old }
-        ensures read { Reads (known self.old) name.now result }
+        ensures read { ReadsFile (known self.old) name.now result }
         ensures count { Counts (failed self.old) (failed self.new) result };
 
     /// How many files couldn't be read so far.

@@ -3,8 +3,8 @@
 ghost use Rattle.std.specs.Prelude.{◌≡◌, ◌^◌, ◌-◌, ◌<◌, length, All, IfOk, IfErr};
 ghost use Rattle.declarations.specs.Order.{AreDeclared};
 ghost use Rattle.load.specs.Apps.{CountsLoad};
-ghost use Rattle.load.specs.Load.{Loads, RefusesArrays, RefusesBytes};
-ghost use Rattle.manifest.specs.Manifest.{Reads};
+ghost use Rattle.load.specs.Load.{Loads, RefusesArrays, RefusesManifest};
+ghost use Rattle.manifest.specs.Manifest.{ReadsManifest};
 
 use crate::apps::load_apps;
 use crate::fault::LoadFault;
@@ -52,8 +52,8 @@ pub fn load_ruleset<F: Files>(
 }
 
 fn read(alloc: Global, bytes: &[u8]) -> Result<Manifest, LoadFault>
-    ensures manifest { IfOk result (λ manifest. Reads bytes.now (Ok manifest)) }
-    ensures fault { IfErr result (RefusesBytes bytes.now) }
+    ensures manifest { IfOk result (λ manifest. ReadsManifest bytes.now (Ok manifest)) }
+    ensures fault { IfErr result (RefusesManifest bytes.now) }
 {
     match read_manifest(alloc, bytes) {
         Ok(manifest) => Ok(manifest),

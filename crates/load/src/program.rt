@@ -1,4 +1,4 @@
-// From the bytes of a file to an accepted program.
+//! From the bytes of a file to an accepted program.
 
 ghost use Rattle.std.specs.Prelude.{◌≡◌, IfOk, IfErr};
 ghost use Rattle.load.specs.Program.{IsProgramOf, RefusesProgram};

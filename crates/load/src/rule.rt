@@ -1,4 +1,4 @@
-// From the text of a rule to its program.
+//! From the text of a rule to its program.
 
 ghost use Rattle.std.specs.Prelude.{◌≡◌, IfOk, IfErr};
 ghost use Rattle.load.specs.Rule.{IsProgramOfRule, RefusesRule};

@@ -77,13 +77,13 @@ pub record HasTables (bytes : List ℕ) (tables : Result Manifest Misfit) : Type
   pub tables_are : tables_of tree ≡ tables
 
 -- what a manifest's bytes are read as; of want of memory nothing is said
-abbrev pub Reads : List ℕ → Result Manifest ManifestFault → Type 0
-Reads bytes (Ok manifest) = HasTables bytes (Ok manifest) × (once manifest ≡ Ok manifest)
-Reads bytes (Err (Toml fault)) = HasNoTree bytes fault
-Reads bytes (Err (Field misfit)) = HasTables bytes (Err misfit)
-Reads bytes (Err (Duplicate twice)) =
+abbrev pub ReadsManifest : List ℕ → Result Manifest ManifestFault → Type 0
+ReadsManifest bytes (Ok manifest) = HasTables bytes (Ok manifest) × (once manifest ≡ Ok manifest)
+ReadsManifest bytes (Err (Toml fault)) = HasNoTree bytes fault
+ReadsManifest bytes (Err (Field misfit)) = HasTables bytes (Err misfit)
+ReadsManifest bytes (Err (Duplicate twice)) =
     (manifest : Manifest) × HasTables bytes (Ok manifest) × (once manifest ≡ Err twice)
-Reads bytes (Err Memory) = Unit {0}
+ReadsManifest bytes (Err Memory) = Unit {0}
 
 -- what is answered where there is no tree
 abbrev pub RefusesTree : List ℕ → ManifestFault → Type 0

@@ -5,13 +5,13 @@ use Rattle.std.specs.declared.alloc.Global.{Global}
 use Rattle.manifest.specs.declared.unread.Unread.{Unread}
 use Rattle.manifest.specs.declared.unread.Unread.TheVariants.{Misfit, Memory}
 
-abbrev pub Answers : {X M : Type 0} → Result X M → Result X (Unread M) → Type 0
-Answers defined (Ok x) = defined ≡ Ok x
-Answers defined (Err (Misfit m)) = defined ≡ Err m
-Answers defined (Err Memory) = Unit {0}
+abbrev pub ReadsAs : {X M : Type 0} → Result X M → Result X (Unread M) → Type 0
+ReadsAs defined (Ok x) = defined ≡ Ok x
+ReadsAs defined (Err (Misfit m)) = defined ≡ Err m
+ReadsAs defined (Err Memory) = Unit {0}
 
-abbrev pub AnswersList :
+abbrev pub ReadsListAs :
     {X M : Type 0} → Result (List X) M → Result (Vec X Global) (Unread M) → Type 0
-AnswersList defined (Ok v) = defined ≡ Ok v.items
-AnswersList defined (Err (Misfit m)) = defined ≡ Err m
-AnswersList defined (Err Memory) = Unit {0}
+ReadsListAs defined (Ok v) = defined ≡ Ok v.items
+ReadsListAs defined (Err (Misfit m)) = defined ≡ Err m
+ReadsListAs defined (Err Memory) = Unit {0}

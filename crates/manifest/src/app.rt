@@ -4,7 +4,7 @@ ghost use Rattle.std.specs.Prelude.{◌≡◌, ◌≤◌, length, codes, option_
 ghost use Rattle.toml.specs.Data.{get_member};
 ghost use Rattle.toml.specs.View.{view, table_view};
 ghost use Rattle.manifest.specs.Member.{required, text_that};
-ghost use Rattle.manifest.specs.Unread.{Answers, AnswersList};
+ghost use Rattle.manifest.specs.Unread.{ReadsAs, ReadsListAs};
 ghost use Rattle.manifest.specs.App as specs;
 
 use crate::kind::{Kind, unknown_member};
@@ -115,7 +115,7 @@ impl Row for AppEntry {
 }
 
 fn read_app(alloc: Global, table: &Table) -> Result<AppEntry, Unread<AppMisfit>>
-    ensures { Answers (specs.app_of (table_view table.now)) result }
+    ensures { ReadsAs (specs.app_of (table_view table.now)) result }
 {
     if let Some(key) = unknown_member(Kind::App, table) {
         return Err(Unread::Misfit(AppMisfit::Unknown(quote(alloc, key)?)));
@@ -148,7 +148,7 @@ fn appid(table: &Table) -> Option<&str>
 
 // Either a program or a rule.
 fn read_source(alloc: Global, table: &Table) -> Result<Source, Unread<AppMisfit>>
-    ensures { Answers (specs.source_in (table_view table.now)) result }
+    ensures { ReadsAs (specs.source_in (table_view table.now)) result }
 {
     match (member(table, "program"), member(table, "rule")) {
         (Some(program), None) => match program.as_str() {
@@ -167,7 +167,7 @@ fn read_releases(
     alloc: Global,
     table: &Table,
 ) -> Result<Vec<Release>, Unread<InList<ReleaseMisfit>>>
-    ensures releases { AnswersList (specs.releases_of (table_view table.now)) result }
+    ensures releases { ReadsListAs (specs.releases_of (table_view table.now)) result }
     ensures count { IfOk result (λ v. length v.items ≤ 64) }
 {
     read_rows(alloc, table, "release", 0, MAX_RELEASES)

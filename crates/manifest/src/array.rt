@@ -5,7 +5,7 @@ ghost use Rattle.declarations.specs.Spec.{is_name};
 ghost use Rattle.toml.specs.Data.{get_member};
 ghost use Rattle.toml.specs.View.{view, table_view};
 ghost use Rattle.manifest.specs.Member.{required, text_that};
-ghost use Rattle.manifest.specs.Unread.{Answers};
+ghost use Rattle.manifest.specs.Unread.{ReadsAs};
 ghost use Rattle.manifest.specs.Array as specs;
 
 use crate::kind::{Kind, unknown_member};
@@ -35,7 +35,7 @@ impl Row for ArrayDeclaration {
 }
 
 fn read_array(alloc: Global, table: &Table) -> Result<ArrayDeclaration, Unread<ArrayMisfit>>
-    ensures { Answers (specs.array_of (table_view table.now)) result }
+    ensures { ReadsAs (specs.array_of (table_view table.now)) result }
 {
     if let Some(key) = unknown_member(Kind::Array, table) {
         return Err(Unread::Misfit(ArrayMisfit::Unknown(quote(alloc, key)?)));

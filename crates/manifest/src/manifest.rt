@@ -2,7 +2,7 @@
 
 ghost use Rattle.std.specs.Prelude.{◌≡◌};
 ghost use Rattle.toml.specs.View.{table_view};
-ghost use Rattle.manifest.specs.Unread.{Answers, AnswersList};
+ghost use Rattle.manifest.specs.Unread.{ReadsAs, ReadsListAs};
 ghost use Rattle.manifest.specs.Manifest as specs;
 
 use crate::app::AppEntry;
@@ -93,7 +93,7 @@ impl Manifest {
 
 /// The manifest that a table is, whatever names stand twice.
 pub(crate) fn read_tables(alloc: Global, table: &Table) -> Result<Manifest, Unread<Misfit>>
-    ensures { Answers (specs.tables_of (table_view table.now)) result }
+    ensures { ReadsAs (specs.tables_of (table_view table.now)) result }
 {
     if let Some(key) = unknown_member(Kind::Manifest, table) {
         return Err(Unread::Misfit(Misfit::Unknown(quote(alloc, key)?)));
@@ -122,20 +122,20 @@ fn read_arrays(
     alloc: Global,
     table: &Table,
 ) -> Result<Vec<ArrayDeclaration>, Unread<InList<ArrayMisfit>>>
-    ensures { AnswersList (specs.arrays_of (table_view table.now)) result }
+    ensures { ReadsListAs (specs.arrays_of (table_view table.now)) result }
 {
     read_rows(alloc, table, "array", 0, MAX_ARRAYS)
 }
 
 fn read_apps(alloc: Global, table: &Table) -> Result<Vec<AppEntry>, Unread<InList<AppMisfit>>>
-    ensures { AnswersList (specs.apps_of (table_view table.now)) result }
+    ensures { ReadsListAs (specs.apps_of (table_view table.now)) result }
 {
     read_rows(alloc, table, "app", 1, MAX_APPS)
 }
 
 /// A manifest in which no name stands twice.
 pub(crate) fn read_once(alloc: Global, manifest: Manifest) -> Result<Manifest, Unread<Twice>>
-    ensures { Answers (specs.once manifest) result }
+    ensures { ReadsAs (specs.once manifest) result }
 {
     if let Some(name) = repeated_name(manifest.arrays()) {
         return Err(Unread::Misfit(Twice::Array(quote(alloc, name)?)));

@@ -4,7 +4,7 @@ ghost use Rattle.std.specs.Prelude.{◌≡◌, codes, option_copied};
 ghost use Rattle.toml.specs.View.{table_view};
 ghost use Rattle.releases.specs.Release.{is_hash};
 ghost use Rattle.manifest.specs.Member.{required, text_that};
-ghost use Rattle.manifest.specs.Unread.{Answers};
+ghost use Rattle.manifest.specs.Unread.{ReadsAs};
 ghost use Rattle.manifest.specs.Package as specs;
 
 use crate::kind::{Kind, unknown_member};
@@ -31,7 +31,7 @@ impl Row for Package {
 }
 
 fn read_package(alloc: Global, table: &Table) -> Result<Package, Unread<PackageMisfit>>
-    ensures { Answers (specs.package_of (table_view table.now)) result }
+    ensures { ReadsAs (specs.package_of (table_view table.now)) result }
 {
     if let Some(key) = unknown_member(Kind::Package, table) {
         return Err(Unread::Misfit(PackageMisfit::Unknown(quote(alloc, key)?)));

@@ -2,7 +2,7 @@
 
 ghost use Rattle.std.specs.Prelude.{◌≡◌, IfOk, IfErr};
 ghost use Rattle.toml.specs.View.{table_view};
-ghost use Rattle.manifest.specs.Manifest.{IsTree, RefusesTree, Reads};
+ghost use Rattle.manifest.specs.Manifest.{IsTree, RefusesTree, ReadsManifest};
 
 use crate::fault::{ManifestFault, TomlFault};
 use crate::manifest::{Manifest, read_once, read_tables};
@@ -18,7 +18,7 @@ const MAX_BYTES: usize = 1048576;
 /// M1 where the bytes are more or no document, M2 with the first misfit in the order of the
 /// format, M3 where the name of an array or an appid stands twice, M8 where memory is refused.
 pub fn read_manifest(alloc: Global, bytes: &[u8]) -> Result<Manifest, ManifestFault>
-    ensures { Reads bytes.now result }
+    ensures { ReadsManifest bytes.now result }
 {
     let table = read_tree(alloc, bytes)?;
     let manifest = match read_tables(alloc, &table) {

@@ -3,7 +3,7 @@
 ghost use Rattle.std.specs.Prelude.{◌≡◌, ◌≤◌, length, codes, option_copied, IfOk};
 ghost use Rattle.toml.specs.View.{table_view};
 ghost use Rattle.manifest.specs.Member.{required, text_that};
-ghost use Rattle.manifest.specs.Unread.{Answers, AnswersList};
+ghost use Rattle.manifest.specs.Unread.{ReadsAs, ReadsListAs};
 ghost use Rattle.manifest.specs.Release as specs;
 
 use crate::kind::{Kind, unknown_member};
@@ -30,7 +30,7 @@ impl Row for Release {
 }
 
 fn read_release(alloc: Global, table: &Table) -> Result<Release, Unread<ReleaseMisfit>>
-    ensures { Answers (specs.release_of (table_view table.now)) result }
+    ensures { ReadsAs (specs.release_of (table_view table.now)) result }
 {
     if let Some(key) = unknown_member(Kind::Release, table) {
         return Err(Unread::Misfit(ReleaseMisfit::Unknown(quote(alloc, key)?)));
@@ -57,7 +57,7 @@ fn read_packages(
     alloc: Global,
     table: &Table,
 ) -> Result<Vec<Package>, Unread<InList<PackageMisfit>>>
-    ensures packages { AnswersList (specs.packages_of (table_view table.now)) result }
+    ensures packages { ReadsListAs (specs.packages_of (table_view table.now)) result }
     ensures some { IfOk result (λ v. 1 ≤ length v.items) }
     ensures few { IfOk result (λ v. length v.items ≤ 16) }
 {

@@ -4,7 +4,7 @@ ghost use Rattle.std.specs.Prelude.{◌≡◌, ◌≤◌, map, length, option_ma
 ghost use Rattle.toml.specs.Data.{Members, get_member};
 ghost use Rattle.toml.specs.View.{view, table_view};
 ghost use Rattle.manifest.specs.Rows.{rows_of, items_in, are_between, items_from, item_of};
-ghost use Rattle.manifest.specs.Unread.{Answers, AnswersList};
+ghost use Rattle.manifest.specs.Unread.{ReadsAs, ReadsListAs};
 
 use crate::member::member;
 use crate::misfit::InList;
@@ -19,7 +19,7 @@ pub(crate) trait Row: Drop {
     ghost row_of: { Members → Result Self Self.Misfit };
 
     fn read(alloc: Global, table: &Table) -> Result<Self, Unread<Self::Misfit>>
-        ensures { Answers (row_of (table_view table.now)) result };
+        ensures { ReadsAs (row_of (table_view table.now)) result };
 }
 
 /// The rows of a member that is a list of so many tables; one that may be empty may be absent.
@@ -30,7 +30,7 @@ pub(crate) fn read_rows<R: Row>(
     from: usize,
     to: usize,
 ) -> Result<Vec<R>, Unread<InList<R::Misfit>>>
-    ensures rows { AnswersList
+    ensures rows { ReadsListAs
         (rows_of R.row_of from to (get_member key.now (table_view table.now))) result }
     ensures from { IfOk result (λ v. from ≤ length v.items) }
     ensures to { IfOk result (λ v. length v.items ≤ to) }
@@ -65,7 +65,7 @@ fn has_count(items: &[Value], from: usize, to: usize) -> bool
 }
 
 fn read_items<R: Row>(alloc: Global, items: &[Value]) -> Result<Vec<R>, Unread<InList<R::Misfit>>>
-    ensures rows { AnswersList (items_from R.row_of 1 (map view items.now)) result }
+    ensures rows { ReadsListAs (items_from R.row_of 1 (map view items.now)) result }
     ensures count { IfOk result (λ v. length v.items ≡ length items.now) }
 {
     let Ok(mut rows) = Vec::with_capacity(alloc, items.len()) else {
@@ -87,7 +87,7 @@ fn read_item<R: Row>(
     number: usize,
     item: &Value,
 ) -> Result<R, Unread<InList<R::Misfit>>>
-    ensures { Answers (item_of R.row_of number (view item.now)) result }
+    ensures { ReadsAs (item_of R.row_of number (view item.now)) result }
 {
     let Some(table) = item.as_table() else {
         return Err(Unread::Misfit(InList::NoTable(number)));

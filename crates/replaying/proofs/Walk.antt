@@ -3,13 +3,13 @@ use Rattle.std.proofs.Common.{◌≡◌, ℕ, ◌+◌, ◌<◌, ◌≤◌, List,
 use Rattle.std.proofs.Common.{append_assoc, append-nil, refl, sym, ap, ◌∙◌}
 use Rattle.std.proofs.lemmas.List.{drop_more, drop_all}
 use Rattle.cells.specs.declared.array.CellArray.{CellArray}
-use Rattle.load.specs.Files.{Known}
+use Rattle.load.specs.Files.{KnownFiles}
 use Rattle.replay.specs.declared.act.Act.{Act}
 use Rattle.script.specs.declared.line.EventLine.{EventLine}
 use Rattle.replaying.specs.Asked.{IsActOf, AreActsOf, RefusesLine, RefusesLines, this, later}
 use Rattle.replaying.specs.declared.fault.ReplayFault.{ReplayFault}
 
-module _ (known : Known) where
+module _ (known : KnownFiles) where
   -- whatever the lines that are left come to, all lines come to with the acts so far before it
   pub record Leads (lines rest : List EventLine) (old between : List CellArray)
       (done : List Act) : Type 0 where

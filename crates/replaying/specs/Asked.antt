@@ -3,7 +3,7 @@
 use Rattle.std.specs.Prelude.{◌≡◌, List, [], ◌∷◌, Some}
 use Rattle.std.specs.Arc.{arc_value}
 use Rattle.cells.specs.declared.array.CellArray.{CellArray}
-use Rattle.load.specs.Files.{Known}
+use Rattle.load.specs.Files.{KnownFiles}
 use Rattle.replay.specs.Acts.{IsAskedBy}
 use Rattle.replay.specs.declared.act.Act.{Act}
 use Rattle.replay.specs.declared.act.Act.TheVariants.{Once}
@@ -14,7 +14,7 @@ use Rattle.replaying.specs.Loaded.{IsLoadedFrom, RefusesPath}
 use Rattle.replaying.specs.declared.fault.ReplayFault.{ReplayFault}
 use Rattle.replaying.specs.declared.fault.ReplayFault.TheVariants.{Memory}
 
-module _ (known : Known) where
+module _ (known : KnownFiles) where
   abbrev pub IsActOf : EventLine → List CellArray → Act → List CellArray → Type 0
   IsActOf (line.Swap manifest) old (Once (event.Swap rules)) new =
       IsLoadedFrom known manifest old (arc_value rules) new

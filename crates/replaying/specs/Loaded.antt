@@ -1,7 +1,7 @@
 -- The ruleset of a manifest at a path, or why there is none.
 use Rattle.std.specs.Prelude.{ℕ, List, Some, None, option_map}
 use Rattle.cells.specs.declared.array.CellArray.{CellArray}
-use Rattle.load.specs.Files.{Known, Gives}
+use Rattle.load.specs.Files.{KnownFiles, Gives}
 use Rattle.load.specs.Folder.{path_beside}
 use Rattle.load.specs.Load.{IsRulesetOf, IsLoadFault}
 use Rattle.ruleset.specs.Rules.{Rules}
@@ -9,10 +9,10 @@ use Rattle.replaying.specs.declared.fault.ReplayFault.{ReplayFault}
 use Rattle.replaying.specs.declared.fault.ReplayFault.TheVariants.{File, Memory, Load}
 
 -- what the names in a manifest give: each is taken from the folder of that manifest
-abbrev pub known_beside : Known → List ℕ → Known
+abbrev pub known_beside : KnownFiles → List ℕ → KnownFiles
 known_beside known manifest = option_map (λ files. λ name. files (path_beside manifest name)) known
 
-module _ (known : Known) (path : List ℕ) (old : List CellArray) where
+module _ (known : KnownFiles) (path : List ℕ) (old : List CellArray) where
   -- the ruleset of the file's bytes, and the directory after it
   pub record IsLoadedFrom (rules : Rules) (new : List CellArray) : Type 0 where
     pub bytes : List ℕ

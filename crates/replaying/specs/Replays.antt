@@ -1,7 +1,7 @@
 -- What a manifest and a script, by their paths, come to.
 use Rattle.std.specs.Prelude.{ℕ, List, [], Some, None}
 use Rattle.cells.specs.declared.array.CellArray.{CellArray}
-use Rattle.load.specs.Files.{Known, Gives}
+use Rattle.load.specs.Files.{KnownFiles, Gives}
 use Rattle.replay.specs.declared.act.Act.{Act}
 use Rattle.replay.specs.declared.reply.Reply.{Reply}
 use Rattle.ruleset.specs.Rules.{Rules}
@@ -16,20 +16,20 @@ use Rattle.replaying.specs.declared.fault.ReplayFault.{ReplayFault}
 use Rattle.replaying.specs.declared.fault.ReplayFault.TheVariants.{File, Memory, Script}
 
 -- the lines of the script at a path
-pub record AreLinesOf (known : Known) (path : List ℕ) (lines : List EventLine) : Type 0 where
+pub record AreLinesOf (known : KnownFiles) (path : List ℕ) (lines : List EventLine) : Type 0 where
   pub bytes : List ℕ
   pub given : Gives known path (Some bytes)
   pub script : IsScript bytes lines
 
 -- the file can't be read, or a line of its bytes is malformed
-abbrev pub RefusesScript : Known → List ℕ → ReplayFault → Type 0
+abbrev pub RefusesScript : KnownFiles → List ℕ → ReplayFault → Type 0
 RefusesScript known path File = Gives known path None
 RefusesScript known path (Script line) =
     (bytes : List ℕ) × Gives known path (Some bytes) × IsScriptFault bytes (Malformed line)
 RefusesScript known path Memory = Unit {0}
 RefusesScript known path fault = ⊥
 
-module _ (known : Known) (manifest script : List ℕ) where
+module _ (known : KnownFiles) (manifest script : List ℕ) where
   -- the script is read, the manifest is loaded into an empty directory, and then those of the swap
   -- lines; the replies are those of 64 workers, whose first ruleset is the manifest's
   pub record IsReplay (replies : List Reply) : Type 0 where

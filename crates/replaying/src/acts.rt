@@ -1,4 +1,4 @@
-// What the lines of a script ask, with the rulesets that their manifests give.
+//! What the lines of a script ask, with the rulesets that their manifests give.
 
 ghost use Rattle.std.specs.Prelude.{IfOk, IfErr};
 ghost use Rattle.replaying.specs.Asked.{IsActOf, AreActsOf, RefusesLine, RefusesLines};

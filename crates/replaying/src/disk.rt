@@ -1,7 +1,7 @@
 //! Files by their paths.
 
 ghost use Rattle.std.specs.Prelude.{List, ℕ, Option};
-ghost use Rattle.load.specs.Files.{Reads};
+ghost use Rattle.load.specs.Files.{ReadsFile};
 
 use load::FileFault;
 use std::io::ErrorKind;
@@ -15,7 +15,7 @@ pub trait Disk {
 
     /// The bytes of a file.
     fn read(&self, path: &str) -> Result<Vec<u8>, FileFault>
-        ensures { Reads (known self.now) path.now result };
+        ensures { ReadsFile (known self.now) path.now result };
 }
 
 /// The files of the device. A path that isn't absolute is taken from the working folder.

@@ -1,4 +1,4 @@
-// A manifest by its path.
+//! A manifest by its path.
 
 ghost use Rattle.std.specs.Prelude.{IfOk, IfErr};
 ghost use Rattle.std.specs.Arc.{arc_value};

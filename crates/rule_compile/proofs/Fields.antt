@@ -3,7 +3,7 @@ use Rattle.std.proofs.Common.{◌≡◌, ℕ, zero, suc, List, [], ◌∷◌, �
 use Rattle.std.specs.Prelude.{All, slice_index}
 use Rattle.std.proofs.lemmas.List.Elements.{All-head, All-tail}
 use Rattle.attrs.specs.Attributes.{Attributes}
-use Rattle.attrs.specs.Context.{context_bytes, HasRanges}
+use Rattle.attrs.specs.Context.{context_bytes, HasContextRanges}
 use Rattle.bpf_insn.specs.declared.reg.Reg.TheVariants.{R2}
 use Rattle.bpf_insn.specs.declared.operand.LoadKind.TheVariants.{Byte, Half, Word}
 use Rattle.bpf_insn.specs.Words.{little_endian}
@@ -25,7 +25,7 @@ all_below [] k all = omega arith
 all_below (n ∷ ns) zero all = All-head (λ n. n < 2 ^ 32) n ns all
 all_below (n ∷ ns) (suc k) all = all_below ns k (All-tail (λ n. n < 2 ^ 32) n ns all)
 
-pub fit_fields : (a : Attributes) → HasRanges a.context → FitFields a
+pub fit_fields : (a : Attributes) → HasContextRanges a.context → FitFields a
 fit_fields a h = record {
   version = λ k. all_below a.context.version k h.version;
   bucket = omega (arith, h.bucket);

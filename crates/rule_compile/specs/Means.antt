@@ -1,7 +1,7 @@
 -- What it is for a program to have a rule's meaning.
 use Rattle.std.specs.Prelude.{ℕ, List}
 use Rattle.attrs.specs.Attributes.{Attributes}
-use Rattle.attrs.specs.Context.{HasRanges}
+use Rattle.attrs.specs.Context.{HasContextRanges}
 use Rattle.bpf_insn.specs.Program.{Program}
 use Rattle.bpf_semantics.specs.Program.{ShapedProgram}
 use Rattle.bpf_semantics.specs.Run.{Ends}
@@ -15,6 +15,6 @@ use Rattle.rule_lang.specs.Meaning.{behaviour, Follows}
 -- the events that the rule means, and ends with its choice
 abbrev pub Means : Attributes → List Statement → ShapedProgram → Type 0
 Means a rule p =
-    HasRanges a.context → (es : List CellEvent) (choice : ℕ)
+    HasContextRanges a.context → (es : List CellEvent) (choice : ℕ)
     → Follows (behaviour a p.shape rule) es choice
     → (count : ℕ) × Ends p (opening a) es choice count

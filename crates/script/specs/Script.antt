@@ -22,13 +22,11 @@ use Rattle.script.specs.declared.line.EventLine.TheVariants.{Start, Step, Steps,
 abbrev pub is_blank : ℕ → Bool
 is_blank b = b == byte " "
 
--- a number from the one to the other
-abbrev pub within : ℕ → ℕ → ℕ → Option ℕ
-within from to n = if nat_le from n && nat_le n to then Some n else None
-
--- written in one decimal digit or more
-abbrev pub number_of : ℕ → ℕ → List ℕ → Option ℕ
-number_of from to field = option_and_then (within from to) (decimal_number field)
+-- a number from the one to the other, written in one decimal digit or more
+abbrev pub decimal_within : ℕ → ℕ → List ℕ → Option ℕ
+decimal_within from to field =
+    option_and_then (λ n. if nat_le from n && nat_le n to then Some n else None)
+    (decimal_number field)
 
 abbrev pub text : List ℕ → Option (List ℕ)
 text [] = None
@@ -45,7 +43,7 @@ abbrev pub start : (worker appid bucket version : List ℕ) → Option EventLine
 start worker appid bucket version =
     option_and_then (λ w. option_and_then (λ b. option_and_then (λ a.
     option_map (λ v. Start w a b v) (version_text version)) (text appid))
-    (number_of 0 9999 bucket)) (decimal_number worker)
+    (decimal_within 0 9999 bucket)) (decimal_number worker)
 
 abbrev pub with_worker : (word worker : List ℕ) → Option EventLine
 with_worker word worker =
@@ -56,7 +54,7 @@ with_worker word worker =
 abbrev pub steps : (word worker count : List ℕ) → Option EventLine
 steps word worker count =
     if bytes_eq word (codes "step")
-    then option_and_then (λ w. option_map (λ n. Steps w n) (number_of 1 4097 count))
+    then option_and_then (λ w. option_map (λ n. Steps w n) (decimal_within 1 4097 count))
     (decimal_number worker)
     else None
 
@@ -99,9 +97,9 @@ pub record AreSaid (lines : List (List ℕ)) (events : List EventLine) : Type 0 
   pub events_are : events ≡ filter_map said_by lines
 
 -- the number of the first malformed line, from 1
-abbrev pub IsLineFault : List (List ℕ) → ScriptFault → Type 0
-IsLineFault lines (Malformed line) = position_from is_malformed 1 lines ≡ Some line
-IsLineFault lines Memory = Unit {0}
+abbrev pub IsFirstMalformed : List (List ℕ) → ScriptFault → Type 0
+IsFirstMalformed lines (Malformed line) = position_from is_malformed 1 lines ≡ Some line
+IsFirstMalformed lines Memory = Unit {0}
 
 pub record IsScript (bytes : List ℕ) (events : List EventLine) : Type 0 where
   pub is_text : IsUtf8 bytes
@@ -111,5 +109,5 @@ pub record IsScript (bytes : List ℕ) (events : List EventLine) : Type 0 where
 abbrev pub IsScriptFault : List ℕ → ScriptFault → Type 0
 IsScriptFault bytes Memory = Unit {0}
 IsScriptFault bytes (Malformed line) =
-    (IsUtf8 bytes × IsLineFault (lines bytes) (Malformed line))
+    (IsUtf8 bytes × IsFirstMalformed (lines bytes) (Malformed line))
     ⊎ ((¬ IsUtf8 bytes) × (line ≡ 1))

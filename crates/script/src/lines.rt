@@ -31,7 +31,7 @@ fn lines<'a>(alloc: Global, text: &'a str) -> Result<Vec<&'a str>, AllocError>
 
 fn read_lines(alloc: Global, lines: &[&str]) -> Result<Vec<EventLine>, ScriptFault>
     ensures events { IfOk result (λ v. specs.AreSaid (map (λ line. line.now) lines.now) v.items) }
-    ensures fault { IfErr result (specs.IsLineFault (map (λ line. line.now) lines.now)) }
+    ensures fault { IfErr result (specs.IsFirstMalformed (map (λ line. line.now) lines.now)) }
 {
     let mut events = Vec::new(alloc);
     let mut number = 1;

@@ -2,7 +2,7 @@
 
 ghost use Rattle.std.specs.Prelude.{◌≡◌};
 ghost use Rattle.attrs.specs.Version.{decimal_number};
-ghost use Rattle.script.specs.Script.{number_of};
+ghost use Rattle.script.specs.Script.{decimal_within};
 
 /// A number of 32 bits. `parse` alone would allow a plus in front.
 pub fn decimal(text: &str) -> Option<u32>
@@ -16,7 +16,7 @@ pub fn decimal(text: &str) -> Option<u32>
 
 /// A number from the one to the other.
 pub fn number_within(text: &str, from: u32, to: u32) -> Option<u32>
-    ensures { result ≡ number_of from to text.now }
+    ensures { result ≡ decimal_within from to text.now }
 {
     let number = decimal(text)?;
     if from <= number && number <= to {

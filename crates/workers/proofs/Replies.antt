@@ -4,7 +4,7 @@ use Rattle.std.specs.Prelude.{ℤ}
 use Rattle.cells.specs.Grown.{GrewBy, Grows}
 use Rattle.cells.specs.declared.event.CellEvent.{CellEvent}
 use Rattle.hot_swap.specs.Latest.{Latest, IsLatest}
-use Rattle.http_front.specs.Post.{Answers}
+use Rattle.http_front.specs.Post.{AnswersPost}
 use Rattle.http_front.specs.Reply.{code_of}
 use Rattle.omaha_json.specs.Request.{Request, request_in}
 use Rattle.omaha_json.specs.Reply.{reply_text}
@@ -89,7 +89,7 @@ module _ {P : Type 0} (grew : P → CellEvent → P → Type 0)
     (told : Option (List ℕ)) (watcher : Latest) (moment : ℤ) where
   -- a body was read, and judged
   pub is_taken : (p q : P) (body slice : List ℕ) (reply : Reply)
-      → Answers told (Ok body) → slice ≡ body
+      → AnswersPost told (Ok body) → slice ≡ body
       → Grows grew p q (λ events. RepliesToBody slice watcher moment events reply)
       → IsReplyTo grew told watcher moment p q reply
   is_taken p q body slice reply b e a =

@@ -5,7 +5,7 @@ use Rattle.std.specs.Prelude.{◌≡◌, ℕ, ℤ, List, [], Option, Some, Resul
 use Rattle.cells.specs.declared.event.CellEvent.{CellEvent}
 use Rattle.hot_swap.specs.Latest.{Latest, IsLatest}
 use Rattle.http_front.specs.Faults.{status_of}
-use Rattle.http_front.specs.Post.{Answers}
+use Rattle.http_front.specs.Post.{AnswersPost}
 use Rattle.http_front.specs.declared.fault.PostFault.{PostFault}
 use Rattle.http_front.specs.declared.status.Status.{Status}
 use Rattle.omaha_json.specs.Request.{Request, request_in}
@@ -52,19 +52,19 @@ pub data RepliesToBody (body : List ℕ) (watcher : Latest) (moment : ℤ)
 -- of the bytes of a reader, where it tells them
 pub data RepliesTo (told : Option (List ℕ)) (watcher : Latest) (moment : ℤ)
     : List CellEvent → Reply → Type 0 where
-  taken : {events : List CellEvent} {reply : Reply} (body : List ℕ) → Answers told (Ok body)
+  taken : {events : List CellEvent} {reply : Reply} (body : List ℕ) → AnswersPost told (Ok body)
       → RepliesToBody body watcher moment events reply
       → RepliesTo told watcher moment events reply
   -- there is no body to read, and the client is told why
-  rejected : (fault : PostFault) (status : Status) → Answers told (Err fault)
+  rejected : (fault : PostFault) (status : Status) → AnswersPost told (Err fault)
       → status_of fault ≡ Some status
       → RepliesTo told watcher moment [] (rejection status (post_name fault))
 
 -- the faults after which nothing is written
-abbrev pub IsUnread : AnswerFault → Type 0
-IsUnread answer.Ended = Unit {0}
-IsUnread answer.Reading = Unit {0}
-IsUnread (answer.Writing written) = ⊥
+abbrev pub IsReadingFault : AnswerFault → Type 0
+IsReadingFault answer.Ended = Unit {0}
+IsReadingFault answer.Reading = Unit {0}
+IsReadingFault (answer.Writing written) = ⊥
 
 -- the reply is that to the bytes of the reader, and the pass grew by the events of its runs
 module _ {P : Type 0} (grew : P → CellEvent → P → Type 0) where
@@ -77,4 +77,4 @@ module _ {P : Type 0} (grew : P → CellEvent → P → Type 0) where
       → Result (Result (Vec ℕ A) Reply) AnswerFault → Type 0
   Settles told watcher moment before after (Ok outcome) =
       IsReplyTo told watcher moment before after (reply_of outcome)
-  Settles told watcher moment before after (Err e) = IsUnread e × (after ≡ before)
+  Settles told watcher moment before after (Err e) = IsReadingFault e × (after ≡ before)

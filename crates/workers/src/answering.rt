@@ -1,14 +1,14 @@
-// One request, from the bytes of a reader to those of a writer.
+//! One request, from the bytes of a reader to those of a writer.
 
 ghost use Rattle.std.specs.Prelude.{◌≡◌, ◌≢◌, ◌+◌, ◌-◌, ◌^◌, ◌<◌, ◌≤◌, ℕ};
 ghost use Rattle.std.specs.Prelude.{Ok, Err, length, take, IfOk, IfErr};
 ghost use Rattle.std.specs.Io.KnownBytes.{Appends};
 ghost use Rattle.hot_swap.specs.Latest.{GoesOnwards};
 ghost use Rattle.http_front.specs.Device.{CountsFailure, WritesBeginning};
-ghost use Rattle.http_front.specs.Post.{Answers};
+ghost use Rattle.http_front.specs.Post.{AnswersPost};
 ghost use Rattle.http_front.specs.Reply.{code_of};
 ghost use Rattle.http_front.specs.declared.fault.PostFault.TheVariants as fault;
-ghost use Rattle.workers.specs.Answer.{IsReplyTo, IsUnread, Settles};
+ghost use Rattle.workers.specs.Answer.{IsReplyTo, IsReadingFault, Settles};
 ghost use Rattle.workers.specs.Reply.{Reply, bytes_of, reply_of};
 
 use crate::judging::judge;
@@ -71,9 +71,9 @@ pub fn answer<H: Wait, R: Read, W: Write, C: CellSteps>(
 
     // Or nothing was, and nothing else happened.
     ensures unread { IfErr result
-        (λ e. IsUnread e → (pass.new ≡ pass.old) × (writer.new ≡ writer.old)) }
+        (λ e. IsReadingFault e → (pass.new ≡ pass.old) × (writer.new ≡ writer.old)) }
     ensures ended { result ≡ Err AnswerFault.Ended
-        → Answers (R.remaining reader.old.inner) (Err fault.Ended) }
+        → AnswersPost (R.remaining reader.old.inner) (Err fault.Ended) }
     ensures unreadable { result ≡ Err AnswerFault.Reading
         → reader.new.failures ≡ reader.old.failures + 1 }
 {
@@ -101,7 +101,7 @@ fn settle<H: Wait, R: Read, C: CellSteps>(
     ensures settles { Settles C.grew (R.remaining reader.old.inner) watcher.new moment.now
         pass.old pass.new result }
     ensures ended { result ≡ Err AnswerFault.Ended
-        → Answers (R.remaining reader.old.inner) (Err fault.Ended) }
+        → AnswersPost (R.remaining reader.old.inner) (Err fault.Ended) }
     ensures unreadable { result ≡ Err AnswerFault.Reading
         → reader.new.failures ≡ reader.old.failures + 1 }
 {

@@ -1,4 +1,4 @@
-// The runs of a request, app after app.
+//! The runs of a request, app after app.
 
 ghost use Rattle.std.specs.Prelude.{◌≡◌, false, IfOk, MatchResult};
 ghost use Rattle.std.specs.Arc.{arc_value};

@@ -1,4 +1,4 @@
-// What a server does round each of its answers.
+//! What a server does round each of its answers.
 
 /// What is called before and after each answer, by the worker that makes it. Calls are numbered
 /// from 1 in the order in which their connections were accepted.

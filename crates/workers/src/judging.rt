@@ -1,4 +1,4 @@
-// What a body is answered with.
+//! What a body is answered with.
 
 ghost use Rattle.std.specs.Prelude.{◌≡◌};
 ghost use Rattle.hot_swap.specs.Latest.{GoesOnwards};

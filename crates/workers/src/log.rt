@@ -1,4 +1,4 @@
-// The log: one line a connection, on standard error.
+//! The log: one line a connection, on standard error.
 
 use crate::answering::AnswerFault;
 use std::fmt::{self, Display};

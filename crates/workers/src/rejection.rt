@@ -1,5 +1,5 @@
-// What is sent where there is no reply to a request: a status, and a line that names what is wrong.
-// The lines are constants, so that they are there where memory is refused.
+//! What is sent where there is no reply to a request: a status, and a line that names what is
+//! wrong. The lines are constants, so that they are there where memory is refused.
 
 ghost use Rattle.std.specs.Prelude.{◌≡◌};
 ghost use Rattle.workers.specs.Reply as specs;

@@ -1,5 +1,5 @@
-// One thread accepts connections, and the workers answer them. The connections go through a
-// channel with 64 places; who gets which is nobody's promise.
+//! One thread accepts connections, and the workers answer them. The connections go through a
+//! channel with 64 places; who gets which is nobody's promise.
 
 ghost use Rattle.std.specs.Prelude.{All};
 

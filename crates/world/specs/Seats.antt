@@ -49,14 +49,14 @@ pub record GoesWell (run : Held) : Type 0 where
   pub ends : (s : State) → machine.RunStandsFor run s → EndsWell run.program s
 
 -- a run that has ended with its choice, none or a release, in time
-pub record HasChosen (run : Held) (choice : ℕ) : Type 0 where
+pub record KeepsChoice (run : Held) (choice : ℕ) : Type 0 where
   pub release : choice ≤ run.program.shape.releases
   pub short : run.count + 1 ≤ length run.program.code
 
 abbrev pub SeatKeeps : Seat → Type 0
 SeatKeeps Empty = Unit {0}
 SeatKeeps (Taken run number None) = GoesWell run
-SeatKeeps (Taken run number (Some choice)) = HasChosen run choice
+SeatKeeps (Taken run number (Some choice)) = KeepsChoice run choice
 
 -- a seat's run is of the program that its ruleset has for the app
 abbrev pub SeatIsOffered : List Rules → Seat → Type 0
