@@ -41,7 +41,9 @@ impl Watcher {
         ensures newest { IfOk result (λ r. IsLatest self.new r.0 (arc_value r.1)) }
         ensures place { IfErr result (λ e. e ≡ SwapFault.NoPlace) }
     {
-        match self.shown.lock(rt).newer_than(self.latest.generation()) {
+        let seen = self.latest.generation();
+        let newer = self.shown.lock(rt).newer_than(seen);
+        match newer {
             Ok(Some(newer)) => self.latest = newer,
             Ok(None) => {}
             Err(_) => return Err(SwapFault::NoPlace),
