@@ -1,4 +1,4 @@
-// What a whole head asks for.
+//! What a whole head asks for.
 
 ghost use Rattle.std.specs.Prelude.{◌≡◌, length, IfErr};
 ghost use Rattle.httparse.specs.Spans.{IsRequestWithin};

@@ -1,4 +1,4 @@
-// The body is read: into room that is taken once, as much as the head's length says.
+//! The body is read: into room that is taken once, as much as the head's length says.
 
 ghost use Rattle.std.specs.Prelude.{◌≡◌, ◌+◌, ◌-◌, ◌^◌, ◌<◌, ◌≤◌, ◌++◌, length, drop};
 ghost use Rattle.std.specs.Prelude.{Ok, Err, OnOk, IfOk, IfErr};

@@ -1,4 +1,4 @@
-// A device that counts its failures, so that what says that a device failed can be held to it.
+//! A device that counts its failures, so that what says that a device failed can be held to it.
 
 ghost use Rattle.std.specs.Prelude.{◌≡◌, ◌-◌, ◌^◌, ◌<◌, ◌≤◌, length, MatchResult};
 ghost use Rattle.std.specs.Io.KnownBytes.{ReadConsumes};

@@ -1,4 +1,4 @@
-// A device for tests: it reads and writes in small pieces, and fails once.
+//! A device for tests: it reads and writes in small pieces, and fails once.
 
 ghost use Rattle.std.specs.Prelude.{◌≡◌, ◌<◌};
 

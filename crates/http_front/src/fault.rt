@@ -1,4 +1,4 @@
-// Why a connection has no request to read.
+//! Why a connection has no request to read.
 
 ghost use Rattle.std.specs.Prelude.{◌≡◌};
 ghost use Rattle.http_front.specs.Faults.{status_of};

@@ -1,4 +1,4 @@
-// How a head is read: as its bytes come, and no more of them than a head may have.
+//! How a head is read: as its bytes come, and no more of them than a head may have.
 
 ghost use Rattle.std.specs.Prelude.{◌≡◌, ◌+◌, ◌-◌, ◌^◌, ◌<◌, ◌≤◌, length, take};
 ghost use Rattle.std.specs.Prelude.{Err, IfOk, IfErr, MatchOption};

@@ -1,5 +1,5 @@
-// The length of a body, from the values that tell it. Numbers are compared by their significant
-// digits, so that those of any length can be.
+//! The length of a body, from the values that tell it. Numbers are compared by their significant
+//! digits, so that those of any length can be.
 
 ghost use Rattle.std.specs.Prelude.{◌≡◌};
 ghost use Rattle.std.specs.List.{list_all};

@@ -1,4 +1,4 @@
-// The header lines of a name, and the length of the body that they tell.
+//! The header lines of a name, and the length of the body that they tell.
 
 ghost use Rattle.std.specs.Prelude.{◌≡◌, ℕ, ◌≤◌, List, length, map, All, IfErr, option_copied};
 ghost use Rattle.std.specs.List.{list_all};

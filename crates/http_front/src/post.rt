@@ -1,4 +1,4 @@
-// A request is read: its head, and then its body.
+//! A request is read: its head, and then its body.
 
 ghost use Rattle.std.specs.Prelude.{◌≡◌, ◌-◌, ◌^◌, ◌<◌, length, Ok, Err, IfOk, IfErr};
 ghost use Rattle.http_front.specs.Post.{AnswersPost, CountsDevice};
@@ -48,8 +48,8 @@ fn read_by<R: Read>(
 }
 
 /// Reads the one POST of a connection, and gives its body. Never more than 16,384 bytes are read
-/// while no head is whole, and none of a body that is refused. The reader may have given more
-/// bytes than the request has; they are lost.
+/// while no head is whole, and of a body that is refused no more than came with its head. The
+/// reader may have given more bytes than the request has; they are lost.
 pub fn read_post<R: Read>(alloc: Global, reader: &mut Counted<R>) -> Result<Vec<u8>, PostFault>
     requires { reader.old.failures < 2 ^ 64 - 1 }
     ensures body { IfOk result (λ v. AnswersPost (R.remaining reader.old.inner) (Ok v.items)) }

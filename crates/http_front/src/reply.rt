@@ -1,5 +1,5 @@
-// A reply is written: its head is put into a fixed buffer, since a reply has to be made where
-// memory is refused too, and goes out in one piece; then the body.
+//! A reply is written: its head is put into a fixed buffer, since a reply has to be made where
+//! memory is refused too, and goes out in one piece; then the body.
 
 ghost use Rattle.std.specs.Prelude.{◌≡◌, ◌+◌, ◌-◌, ◌^◌, ◌<◌, ◌≤◌, ◌++◌, length};
 ghost use Rattle.arrayvec.specs.ArrayVec.{array_vec_len};

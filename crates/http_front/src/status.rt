@@ -1,4 +1,4 @@
-// The statuses of a reply.
+//! The statuses of a reply.
 
 ghost use Rattle.std.specs.Prelude.{◌≡◌, ◌≤◌, length};
 ghost use Rattle.http_front.specs.Reply.{code_of, reason_of, type_of, allow_line};

@@ -1,4 +1,4 @@
-// The tables of a manifest, and the members that each may have.
+//! The tables of a manifest, and the members that each may have.
 
 ghost use Rattle.std.specs.Prelude.{◌≡◌, option_copied};
 ghost use Rattle.std.specs.Str.{bytes_eq};

@@ -1,4 +1,4 @@
-// The members of a table, by the kinds of their values.
+//! The members of a table, by the kinds of their values.
 
 ghost use Rattle.std.specs.Prelude.{◌≡◌, option_map, option_copied};
 ghost use Rattle.toml.specs.Data.{get_member, as_str, as_bool};

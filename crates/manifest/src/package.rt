@@ -1,4 +1,4 @@
-// The table of a package.
+//! The table of a package.
 
 ghost use Rattle.std.specs.Prelude.{◌≡◌, codes, option_copied};
 ghost use Rattle.toml.specs.View.{table_view};

@@ -1,4 +1,4 @@
-// The table of a release.
+//! The table of a release.
 
 ghost use Rattle.std.specs.Prelude.{◌≡◌, ◌≤◌, length, codes, option_copied, IfOk};
 ghost use Rattle.toml.specs.View.{table_view};

@@ -1,4 +1,4 @@
-// Lists of tables, which are numbered from 1.
+//! Lists of tables, which are numbered from 1.
 
 ghost use Rattle.std.specs.Prelude.{◌≡◌, ◌≤◌, map, length, option_map, Result, IfOk, IsTrue};
 ghost use Rattle.toml.specs.Data.{Members, get_member};

@@ -1,4 +1,4 @@
-// Names that stand twice in a list.
+//! Names that stand twice in a list.
 
 ghost use Rattle.std.specs.Prelude.{◌≡◌, List, ℕ, map, option_copied};
 ghost use Rattle.std.specs.List.{list_any};

@@ -1,4 +1,4 @@
-// Why a table wasn't read.
+//! Why a table wasn't read.
 
 ghost use Rattle.std.specs.Prelude.{◌≡◌, IfOk, IfErr};
 
