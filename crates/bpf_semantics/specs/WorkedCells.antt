@@ -18,7 +18,6 @@ use Rattle.cells.specs.declared.array.CellArray.{CellArray}
 use Rattle.cells.specs.declared.array.CellWidth.{CellWidth}
 use Rattle.cells.specs.declared.array.CellWidth.TheVariants as width
 use Rattle.cells.specs.declared.event.CellEvent.{CellEvent}
-use Rattle.cells.specs.declared.event.CellOp.{CellOp}
 use Rattle.cells.specs.declared.event.CellOp.TheVariants as cell
 use Rattle.cells.specs.Events.{event, limit, after, reply_of}
 use Rattle.attrs.specs.Attributes.{Attributes}
