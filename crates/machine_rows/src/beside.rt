@@ -1,8 +1,8 @@
 //! Accepted programs on the machine and on the reference interpreter, step by step: the same step
 //! each time, after the same number of instructions.
 
+use crate::given::{attributes, code_of};
 use crate::row::row_of;
-use attrs::Attrs;
 use bpf_insn::Insn;
 use bpf_machine::{Progress, Run};
 use bpf_text::assemble;
@@ -37,20 +37,6 @@ fn accepted(alloc: Global, text: &str) -> Result<Verified, Fail> {
     Ok(verify(alloc, flow, &Shape::plain(alloc, 64))?)
 }
 
-/// The slots of a program.
-fn code_of(alloc: Global, program: &Verified) -> Result<Vec<Option<Insn>>, Fail> {
-    let mut code: Vec<Option<Insn>> = Vec::new(alloc);
-    for slot in 0..program.len() {
-        code.push(program.at(slot))?;
-    }
-    Ok(code)
-}
-
-fn attributes(alloc: Global) -> Result<Arc<Attrs>, Fail> {
-    let attrs = Attrs::plain(alloc, "x", Some("1.2.3.4"), 42)?;
-    Ok(Arc::new(alloc, attrs)?)
-}
-
 /// One step of both, each over its own counters; none where they have not done the same number of
 /// instructions.
 fn step_both(
@@ -75,8 +61,8 @@ fn step_both(
 fn run_both(alloc: Global, text: &str) -> Result<Option<(u64, u64)>, Fail> {
     let program = accepted(alloc, text)?;
     let code = code_of(alloc, &program)?;
-    let mut run = Run::start(Arc::new(alloc, program)?, attributes(alloc)?);
-    let mut interpreter = Interpreter::start(attributes(alloc)?);
+    let mut run = Run::start(Arc::new(alloc, program)?, attributes(alloc, "1.2.3.4")?);
+    let mut interpreter = Interpreter::start(attributes(alloc, "1.2.3.4")?);
     let shape = Shape::plain(alloc, 64);
     let (cells, mut pass) = PlainCells::new(alloc)?;
     let (_others, mut other) = PlainCells::new(alloc)?;

@@ -4,11 +4,12 @@
 
 ghost use Rattle.std.specs.Prelude.{◌≤◌, length};
 
+use crate::given::{attributes, shape_over};
 use crate::row::row_of;
 use attrs::Attrs;
 use bpf_insn::{Insn, Width, decode_at};
 use bpf_text::assemble;
-use cells::{ArrayNo, CellNo, CellWidth, Directory, PlainCells, PlainPass, Shape};
+use cells::{CellNo, PlainCells, PlainPass, Shape};
 use reference::{Interpreter, RunEnd};
 use std::alloc::{AllocError, Global};
 use std::sync::Arc;
@@ -95,7 +96,7 @@ const ENDS: &str = r#"
 "#;
 
 /// The instructions that bytes spell, slot by slot.
-fn code_of(alloc: Global, bytes: &[u8]) -> Result<Vec<Option<Insn>>, Fail> {
+fn decoded(alloc: Global, bytes: &[u8]) -> Result<Vec<Option<Insn>>, Fail> {
     let mut code: Vec<Option<Insn>> = Vec::new(alloc);
     for slot in 0..bytes.len() / 8 {
         if code.len() <= slot {
@@ -112,22 +113,7 @@ fn code_of(alloc: Global, bytes: &[u8]) -> Result<Vec<Option<Insn>>, Fail> {
 /// The instructions of a text.
 fn code(alloc: Global, text: &str) -> Result<Vec<Option<Insn>>, Fail> {
     let bytes = assemble(alloc, text)?;
-    code_of(alloc, &bytes)
-}
-
-/// The shape of an app over one array of four counters.
-fn shape_over(alloc: Global, width: CellWidth) -> Result<Shape, Fail> {
-    let mut directory = Directory::new(alloc);
-    let _number = directory.declare(alloc, "a", width, 4, None)?;
-    if directory.arrays().is_empty() {
-        return Ok(Shape::plain(alloc, 64));
-    }
-    Ok(Shape::of(alloc, 64, &directory, &[ArrayNo { number: 0 }])?)
-}
-
-fn attributes(alloc: Global, version: &str) -> Result<Arc<Attrs>, Fail> {
-    let attrs = Attrs::plain(alloc, "x", Some(version), 0)?;
-    Ok(Arc::new(alloc, attrs)?)
+    decoded(alloc, &bytes)
 }
 
 /// A run from the opening state: its end, and how many instructions were done, an EXIT among them.
@@ -181,12 +167,12 @@ fn ends(
 
 /// The ends of a program's runs, and the first counter's value after them.
 fn outcome(alloc: Global, width: &str, versions: &str, text: &str) -> Result<String, Fail> {
-    let (width, first) = match width {
-        "64" => (CellWidth::Bits64, CellNo::new(0)),
-        _ => (CellWidth::Bits32, CellNo::new(4096)),
+    let (array, first) = match width {
+        "64" => ("a:64:4", CellNo::new(0)),
+        _ => ("a:32:4", CellNo::new(4096)),
     };
     let code = code(alloc, text)?;
-    let shape = shape_over(alloc, width)?;
+    let shape = shape_over(alloc, 64, array)?;
     let (cells, mut pass) = PlainCells::new(alloc)?;
     if code.len() > 4096 {
         return Ok(String::from_str(alloc, "too long")?);

@@ -2,6 +2,7 @@
 
 ghost use Rattle.std.specs.Prelude.{◌≤◌, length};
 
+use crate::given::code_of;
 use crate::replies::{Events, Replies};
 use attrs::Attrs;
 use bpf_insn::Insn;
@@ -14,7 +15,7 @@ use std::sync::Arc;
 use std::test::Fail;
 
 /// A choice, the number of instructions, and the events.
-#[derive(Clone, Copy, Debug, PartialEq, Eq)]
+#[derive(Clone, Copy, PartialEq)]
 struct Came {
     choice: u64,
     count: u64,
@@ -23,15 +24,6 @@ struct Came {
 
 /// What counters reply: 0, 1, and the greatest number of their width.
 const REPLIES: [u64; 3] = [0, 1, u64::MAX];
-
-/// The instructions of a program, slot by slot.
-fn code_of(alloc: Global, program: &Verified) -> Result<Vec<Option<Insn>>, Fail> {
-    let mut code: Vec<Option<Insn>> = Vec::new(alloc);
-    for slot in 0..program.len() {
-        code.push(program.at(slot))?;
-    }
-    Ok(code)
-}
 
 /// The interpreter's run; none where it traps, or has no end.
 fn interpreted(code: &[Option<Insn>], shape: &Shape, attrs: Arc<Attrs>, number: u64) -> Option<Came>

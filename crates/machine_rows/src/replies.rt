@@ -15,7 +15,7 @@ pub(crate) struct Replies {
 }
 
 /// The events in their order.
-#[derive(Clone, Copy, Debug, PartialEq, Eq)]
+#[derive(Clone, Copy, PartialEq)]
 pub(crate) struct Events {
     events: [Option<CellEvent>; MOST_EVENTS],
     count: usize,

@@ -2,12 +2,12 @@
 //! bits, and a take of a quota. Each beginning of their bytes and each change of one byte is
 //! judged, and run where it is accepted.
 
+use crate::given::{attributes, shape_over};
 use crate::runs::runs_alike;
 use attrs::Attrs;
 use bpf_text::assemble;
-use bpf_verify::{Shape, verify};
-use cells::Directory;
-use declarations::{declare_all, read_spec};
+use bpf_verify::verify;
+use cells::Shape;
 use flow_check::Flow;
 use std::alloc::Global;
 use std::sync::Arc;
@@ -48,54 +48,41 @@ mov r0, 0
 exit
 "#;
 
-/// How many texts were judged, how many of them are accepted, and how many of those run otherwise
-/// on the machine than on the interpreter.
-#[derive(Clone, Copy, Debug, PartialEq, Eq)]
-struct Tally {
+/// The app for which texts are judged, and so far: how many were judged, how many of them are
+/// accepted, and how many of those run otherwise on the machine than on the interpreter.
+#[derive(Drop)]
+struct Judge {
+    shape: Shape,
+    attrs: Arc<Attrs>,
     judged: u32,
     accepted: u32,
     apart: u32,
 }
 
-/// The app for which texts are judged, with what was found so far.
-#[derive(Drop)]
-struct Judge {
-    shape: Shape,
-    attrs: Arc<Attrs>,
-    tally: Tally,
-}
-
 impl Judge {
     /// For an app of so many releases, over the array that is declared.
     fn over(alloc: Global, array: &str, releases: u8) -> Result<Judge, Fail> {
-        let mut directory = Directory::new(alloc);
-        let declared = declare_all(alloc, &mut directory, &read_spec(alloc, array)?);
-        let Ok(numbers) = declared else {
-            return Err(Fail::from("an array is refused"));
-        };
         Ok(Judge {
-            shape: Shape::of(alloc, releases.min(64), &directory, &numbers)?,
-            attrs: Arc::new(alloc, Attrs::plain(alloc, "x", Some("1.0"), 42)?)?,
-            tally: Tally {
-                judged: 0,
-                accepted: 0,
-                apart: 0,
-            },
+            shape: shape_over(alloc, releases, array)?,
+            attrs: attributes(alloc, "1.0")?,
+            judged: 0,
+            accepted: 0,
+            apart: 0,
         })
     }
 
     /// Judges one text.
     fn judge(&mut self, alloc: Global, bytes: &[u8]) -> Result<(), Fail> {
-        self.tally.judged = self.tally.judged.wrapping_add(1);
+        self.judged = self.judged.wrapping_add(1);
         let Ok(flow) = Flow::check(alloc, bytes) else {
             return Ok(());
         };
         let Ok(program) = verify(alloc, flow, &self.shape) else {
             return Ok(());
         };
-        self.tally.accepted = self.tally.accepted.wrapping_add(1);
+        self.accepted = self.accepted.wrapping_add(1);
         if !runs_alike(alloc, program, &self.shape, &self.attrs)? {
-            self.tally.apart = self.tally.apart.wrapping_add(1);
+            self.apart = self.apart.wrapping_add(1);
         }
         Ok(())
     }
@@ -126,12 +113,16 @@ fn changes(alloc: Global, judge: &mut Judge, bytes: &[u8]) -> Result<(), Fail> {
 }
 
 /// What all texts of a program come to.
-fn found(alloc: Global, text: &str, array: &str, releases: u8) -> Result<Tally, Fail> {
+fn found(alloc: Global, text: &str, array: &str, releases: u8) -> Result<String, Fail> {
     let bytes = assemble(alloc, text)?;
     let mut judge = Judge::over(alloc, array, releases)?;
     beginnings(alloc, &mut judge, &bytes)?;
     changes(alloc, &mut judge, &bytes)?;
-    Ok(judge.tally)
+    let (accepted, apart) = (judge.accepted, judge.apart);
+    Ok(format!(in alloc;
+        "{} judged, {accepted} accepted, {apart} apart",
+        judge.judged
+    )?)
 }
 
 /// Judged are all beginnings and changes: of n bytes, n + 255 n. How many are accepted was counted:
@@ -139,21 +130,18 @@ fn found(alloc: Global, text: &str, array: &str, releases: u8) -> Result<Tally, 
 #[test]
 fn damaged_programs(rt: HostRuntime) -> Result<(), Fail> {
     let rows = [
-        (LOOKUP, "a:64:4", 2, 18432, 1159),
-        (EXCHANGES, "b:32:1", 1, 22528, 4154),
-        (TAKE, "q:64:1:2", 1, 18432, 1130),
+        (LOOKUP, "a:64:4", 2, "18432 judged, 1159 accepted, 0 apart"),
+        (
+            EXCHANGES,
+            "b:32:1",
+            1,
+            "22528 judged, 4154 accepted, 0 apart",
+        ),
+        (TAKE, "q:64:1:2", 1, "18432 judged, 1130 accepted, 0 apart"),
     ];
-    for (text, array, releases, judged, accepted) in rows {
-        let wanted = Tally {
-            judged,
-            accepted,
-            apart: 0,
-        };
-        assert_eq!(rt;
-            found(rt.alloc(), text, array, releases)?,
-            wanted,
-            "{array}"
-        );
+    for (text, array, releases, want) in rows {
+        let found = found(rt.alloc(), text, array, releases)?;
+        assert!(rt; found.as_str() == want, "{array}: {found}");
     }
     Ok(())
 }

@@ -1,0 +1,36 @@
+//! What a program is run for: a shape, and an app's attributes; and its instructions, as the
+//! interpreter takes them.
+
+use attrs::Attrs;
+use bpf_insn::Insn;
+use bpf_verify::Verified;
+use cells::{Directory, Shape};
+use declarations::{declare_all, read_spec};
+use std::alloc::Global;
+use std::sync::Arc;
+use std::test::Fail;
+
+/// So many releases, over the arrays that the text declares.
+pub(crate) fn shape_over(alloc: Global, releases: u8, arrays: &str) -> Result<Shape, Fail> {
+    let mut directory = Directory::new(alloc);
+    let declared = declare_all(alloc, &mut directory, &read_spec(alloc, arrays)?);
+    let Ok(numbers) = declared else {
+        return Err(Fail::from("an array is refused"));
+    };
+    Ok(Shape::of(alloc, releases.min(64), &directory, &numbers)?)
+}
+
+/// The app x of a version, in bucket 42.
+pub(crate) fn attributes(alloc: Global, version: &str) -> Result<Arc<Attrs>, Fail> {
+    let attrs = Attrs::plain(alloc, "x", Some(version), 42)?;
+    Ok(Arc::new(alloc, attrs)?)
+}
+
+/// The instructions of a program, slot by slot.
+pub(crate) fn code_of(alloc: Global, program: &Verified) -> Result<Vec<Option<Insn>>, Fail> {
+    let mut code: Vec<Option<Insn>> = Vec::new(alloc);
+    for slot in 0..program.len() {
+        code.push(program.at(slot))?;
+    }
+    Ok(code)
+}
