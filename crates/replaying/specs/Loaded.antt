@@ -1,5 +1,6 @@
 -- The ruleset of a manifest at a path, or why there is none.
-use Rattle.std.specs.Prelude.{ℕ, List, Some, None, option_map}
+use Rattle.std.specs.Prelude.{ℕ, ◌^◌, nat_le, if◌then◌else◌, List, length}
+use Rattle.std.specs.Prelude.{Option, Some, None, option_map}
 use Rattle.cells.specs.declared.array.CellArray.{CellArray}
 use Rattle.load.specs.Files.{KnownFiles, Gives}
 use Rattle.load.specs.Folder.{path_beside}
@@ -8,9 +9,22 @@ use Rattle.ruleset.specs.Rules.{Rules}
 use Rattle.replaying.specs.declared.fault.ReplayFault.{ReplayFault}
 use Rattle.replaying.specs.declared.fault.ReplayFault.TheVariants.{File, Memory, Load}
 
+-- the most bytes of a script, and of a file that a manifest names: 16 MiB
+abbrev pub most_bytes : ℕ
+most_bytes = 2 ^ 24
+
+-- a longer file counts as one that can't be read
+abbrev pub if_within : Option (List ℕ) → Option (List ℕ)
+if_within None = None
+if_within (Some bytes) = if nat_le (length bytes) most_bytes then Some bytes else None
+
+abbrev pub within_limit : KnownFiles → KnownFiles
+within_limit known = option_map (λ files. λ path. if_within (files path)) known
+
 -- what the names in a manifest give: each is taken from the folder of that manifest
 abbrev pub known_beside : KnownFiles → List ℕ → KnownFiles
-known_beside known manifest = option_map (λ files. λ name. files (path_beside manifest name)) known
+known_beside known manifest =
+    option_map (λ files. λ name. files (path_beside manifest name)) (within_limit known)
 
 module _ (known : KnownFiles) (path : List ℕ) (old : List CellArray) where
   -- the ruleset of the file's bytes, and the directory after it

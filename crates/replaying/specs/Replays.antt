@@ -10,7 +10,7 @@ use Rattle.script.specs.declared.fault.ScriptFault.TheVariants.{Malformed}
 use Rattle.script.specs.declared.line.EventLine.{EventLine}
 use Rattle.world.specs.World.{opening_world}
 use Rattle.replaying.specs.Asked.{AreActsOf, RefusesLines}
-use Rattle.replaying.specs.Loaded.{IsLoadedFrom, RefusesPath}
+use Rattle.replaying.specs.Loaded.{IsLoadedFrom, RefusesPath, within_limit}
 use Rattle.replaying.specs.Replayed.{AreRepliesTo}
 use Rattle.replaying.specs.declared.fault.ReplayFault.{ReplayFault}
 use Rattle.replaying.specs.declared.fault.ReplayFault.TheVariants.{File, Memory, Script}
@@ -18,14 +18,15 @@ use Rattle.replaying.specs.declared.fault.ReplayFault.TheVariants.{File, Memory,
 -- the lines of the script at a path
 pub record AreLinesOf (known : KnownFiles) (path : List ℕ) (lines : List EventLine) : Type 0 where
   pub bytes : List ℕ
-  pub given : Gives known path (Some bytes)
+  pub given : Gives (within_limit known) path (Some bytes)
   pub script : IsScript bytes lines
 
 -- the file can't be read, or a line of its bytes is malformed
 abbrev pub RefusesScript : KnownFiles → List ℕ → ReplayFault → Type 0
-RefusesScript known path File = Gives known path None
+RefusesScript known path File = Gives (within_limit known) path None
 RefusesScript known path (Script line) =
-    (bytes : List ℕ) × Gives known path (Some bytes) × IsScriptFault bytes (Malformed line)
+    (bytes : List ℕ) × Gives (within_limit known) path (Some bytes)
+    × IsScriptFault bytes (Malformed line)
 RefusesScript known path Memory = Unit {0}
 RefusesScript known path fault = ⊥
 

@@ -4,13 +4,13 @@ ghost use Rattle.std.specs.Prelude.{◌≡◌, IfOk};
 ghost use Rattle.std.specs.Path.{path_buf_bytes};
 ghost use Rattle.load.specs.Folder as specs;
 
-use crate::disk::Disk;
+use crate::disk::{Disk, read_within};
 use load::{FileFault, Files};
 use std::alloc::{AllocError, Global};
 use std::path::{Path, PathBuf};
 
 /// Files named from the folder of a manifest. A name that is an absolute path is taken as it
-/// stands.
+/// stands. A file of more than 16 MiB counts as one that can't be read.
 #[derive(Drop)]
 pub(crate) struct Beside<'a, D> {
     alloc: Global,
@@ -46,7 +46,7 @@ impl<'a, D: Disk> Files for Beside<'a, D> {
         let Ok(path) = path_beside(self.alloc, self.manifest, name) else {
             return Err(FileFault::Memory);
         };
-        match self.disk.read(path.as_str()) {
+        match read_within(self.disk, path.as_str()) {
             Ok(bytes) => Ok(bytes),
             Err(FileFault::Memory) => Err(FileFault::Memory),
             Err(FileFault::Failed) => {

@@ -7,7 +7,7 @@ ghost use Rattle.replaying.specs.Replays.{AreLinesOf, RefusesScript, IsReplay, I
 ghost use Rattle.world.specs.World.{opening_world};
 
 use crate::acts::acts_of;
-use crate::disk::Disk;
+use crate::disk::{Disk, read_within};
 use crate::fault::ReplayFault;
 use crate::loaded::load_path;
 use cells::Directory;
@@ -24,10 +24,10 @@ use world::{World, batches_compose};
 /// aren't absolute they are all taken from the working folder, and the files that a manifest names
 /// from that manifest's folder.
 ///
-/// The faults come in this order: B3 of a script that can't be read; B2 of its first malformed
-/// line; B3 of the manifest, or M1 to M7 of its load; and then those of the swap lines' manifests,
-/// one by one. After any of them no line was played. B4, or M8 in a load, comes where memory is
-/// refused.
+/// The faults come in this order: B3 of a script that can't be read, or is longer than 16 MiB; B2
+/// of its first malformed line; B3 of the manifest, or M1 to M7 of its load; and then those of the
+/// swap lines' manifests, one by one. After any of them no line was played. B4, or M8 in a load,
+/// comes where memory is refused.
 pub fn replay_files<D: Disk>(
     alloc: Global,
     disk: &D,
@@ -53,7 +53,7 @@ fn read_lines<D: Disk>(alloc: Global, disk: &D, path: &str) -> Result<Vec<EventL
     ensures lines { IfOk result (λ lines. AreLinesOf (D.known disk.now) path.now lines.items) }
     ensures fault { IfErr result (RefusesScript (D.known disk.now) path.now) }
 {
-    let bytes = match disk.read(path) {
+    let bytes = match read_within(disk, path) {
         Ok(bytes) => bytes,
         Err(FileFault::Failed) => return Err(ReplayFault::File),
         Err(FileFault::Memory) => return Err(ReplayFault::Memory),
