@@ -2,6 +2,7 @@
 
 use crate::apps::told;
 use omaha_json::OmahaFault;
+use std::alloc::{AllocError, Global};
 use std::test::Fail;
 
 /// Bodies, and what is wrong with them first. Of those that are requests, members of another kind
@@ -41,25 +42,24 @@ null => O2 Shape
 fn the_first_fault_is_told(rt: HostRuntime) -> Result<(), Fail> {
     for row in BODIES.lines().skip(1) {
         let (body, want) = row.split_once(" => ").ok_or("a row of two parts")?;
-        let found = told(rt.alloc(), body.as_bytes())?;
-        assert!(rt; found.as_str() == want, "{row}: {found}");
+        assert!(rt; is_told(rt.alloc(), body.as_bytes(), want)?, "{row}");
     }
     Ok(())
 }
 
-/// Bytes that no line of a table has.
-const OTHERS: [(&[u8], &str); 2] = [
-    (b"\"\xff\"", "O1 Json"),
-    (b" {\"request\" : {\"protocol\":\"3.1\"} }\n", "ok"),
-];
+/// Whether a body is told so.
+fn is_told(alloc: Global, body: &[u8], want: &str) -> Result<bool, AllocError> {
+    let found = told(alloc, body)?;
+    Ok(found.as_str() == want)
+}
 
+/// Bytes that no line of a table has.
 #[test]
 fn other_bytes(rt: HostRuntime) -> Result<(), Fail> {
-    for (body, want) in OTHERS {
-        let found = told(rt.alloc(), body)?;
-        assert!(rt; found.as_str() == want, "{want}: {found}");
-    }
-    let memory = format!(in rt.alloc(); "{}", OmahaFault::Memory)?;
-    assert_eq!(rt; memory.as_str(), "O5 Memory");
+    let alloc = rt.alloc();
+    let spaced = b" {\"request\" : {\"protocol\":\"3.1\"} }\n";
+    assert!(rt; is_told(alloc, spaced, "ok")?);
+    assert!(rt; is_told(alloc, b"\"\xff\"", "O1 Json")?);
+    assert!(rt; format!(in alloc; "{}", OmahaFault::Memory)?.as_str() == "O5 Memory");
     Ok(())
 }

@@ -5,53 +5,57 @@ use attrs::{AppFacts, RequestFacts, Text};
 use std::alloc::{AllocError, Global};
 use std::test::Fail;
 
-/// A text that was given, behind its name.
-fn push(text: &mut String, name: &str, value: &Option<Text>) -> Result<(), AllocError> {
-    if let Some(value) = value {
-        text.push_str(name)?;
-        text.push_str(value.as_str())?;
+/// A text that was given, or `-`.
+fn given(text: &Option<Text>) -> &str {
+    match text {
+        Some(text) => text.as_str(),
+        None => "-",
     }
-    Ok(())
 }
 
-fn push_request(text: &mut String, facts: &RequestFacts) -> Result<(), AllocError> {
-    push(text, "requestid ", &facts.requestid)?;
-    push(text, ", sessionid ", &facts.sessionid)?;
-    push(text, ", platform ", &facts.platform)
+/// The word, or `-`.
+fn flag(is_set: bool, word: &str) -> &str {
+    if is_set { word } else { "-" }
 }
 
-fn push_app(text: &mut String, alloc: Global, facts: &AppFacts) -> Result<(), AllocError> {
-    text.push_str("\n")?;
-    text.push_str(facts.appid.as_str())?;
-    push(text, ", version ", &facts.version)?;
-    push(text, ", brand ", &facts.brand)?;
-    push(text, ", ap ", &facts.ap)?;
-    push(text, ", lang ", &facts.lang)?;
-    push(text, ", cohort ", &facts.cohort)?;
-    if let Some(day) = facts.installdate {
-        text.push_str(format!(in alloc; ", installdate {day}")?.as_str())?;
-    }
-    push_flag(text, ", updatecheck", facts.updatecheck)?;
-    push_flag(text, ", ping", facts.ping)?;
-    push_flag(text, ", event", facts.event)
+fn told_request(alloc: Global, facts: &RequestFacts) -> Result<String, AllocError> {
+    let texts = [
+        given(&facts.requestid),
+        given(&facts.sessionid),
+        given(&facts.platform),
+    ];
+    texts.join(alloc, " ")
 }
 
-fn push_flag(text: &mut String, name: &str, is_set: bool) -> Result<(), AllocError> {
-    if is_set {
-        text.push_str(name)?;
-    }
-    Ok(())
+/// An app in a line: its texts, the day of its installation, and what it asks for.
+fn told_app(alloc: Global, facts: &AppFacts) -> Result<String, AllocError> {
+    let day = match facts.installdate {
+        Some(day) => format!(in alloc; "{day}")?,
+        None => String::from_str(alloc, "-")?,
+    };
+    let words = [
+        facts.appid.as_str(),
+        given(&facts.version),
+        given(&facts.brand),
+        given(&facts.ap),
+        given(&facts.lang),
+        given(&facts.cohort),
+        day.as_str(),
+        flag(facts.updatecheck, "updatecheck"),
+        flag(facts.ping, "ping"),
+        flag(facts.event, "event"),
+    ];
+    words.join(alloc, " ")
 }
 
-/// What is read of a body.
+/// What is read of a body, in lines.
 fn told(alloc: Global, body: &str) -> Result<String, Fail> {
     let request = read(alloc, body.as_bytes())?;
-    let mut text = String::new(alloc);
-    push_request(&mut text, request.facts())?;
+    let mut lines = vec![in alloc; told_request(alloc, request.facts())?]?;
     for app in request.apps() {
-        push_app(&mut text, alloc, app)?;
+        lines.push(told_app(alloc, app)?)?;
     }
-    Ok(text)
+    Ok(lines.join(alloc, "\n")?)
 }
 
 const BODY: &str = r#"
@@ -62,11 +66,10 @@ const BODY: &str = r#"
 {"appid":"z","installdate":4294967295,"cohort":null,"event":false}]}}
 "#;
 
-const FACTS: &str = "requestid r, sessionid s, platform linux
-x, version 1.2.3.4.5, brand b, ap a, lang de, cohort b:0042, installdate 7000, updatecheck, ping, \
-event
-y, ping
-z, installdate 4294967295, event";
+const FACTS: &str = "r s linux
+x 1.2.3.4.5 b a de b:0042 7000 updatecheck ping event
+y - - - - - - - ping -
+z - - - - - 4294967295 - - event";
 
 #[test]
 fn facts(rt: HostRuntime) -> Result<(), Fail> {
