@@ -1,69 +1,170 @@
--- The line at the front of what a reader gives, where that is known.
-use Rattle.std.proofs.Common.{◌≡◌, ℕ, ◌<◌, List, [], length, take, Option, Some, None, refl, ap, ◌∙◌, subst}
-use Rattle.std.specs.Prelude.{Result, Ok, IfOk, Vec, IfSome, IfNone, if◌then◌else◌, ◌==◌}
-use Rattle.std.specs.Io.BufRead.{first_piece}
-use Rattle.std.specs.Io.Buffered.{reader_remaining, reader_capacity, reader_buffer, reader_inner}
-use Rattle.std.specs.Io.KnownBytes.{prepend_known}
-use Rattle.std.specs.Io.Take.{take_remaining, take_limit, take_inner}
-use Rattle.std.specs.Option.{option_map}
-use Rattle.std.specs.Vec.{vec_items}
-use Rattle.std.specs.declared.alloc.Global.{Global}
-use Rattle.std.specs.declared.io.buffered.BufReader.{BufReader}
-use Rattle.std.specs.declared.io.traits.Take.{Take}
-use Rattle.operator.specs.Request.{line_of, Asks, AsksNothing, IsAsked}
+-- The line at the front of what a reader gives, piece by piece, and what it asks.
+use Rattle.std.proofs.Common.{◌≡◌, ℕ, ◌+◌, ◌-◌, ◌<◌, ◌≤◌, List, ◌++◌, length, take, drop}
+use Rattle.std.proofs.Common.{Bool, Option, Some, None, ap, ◌∙◌, sym, subst, arith, take-take}
+use Rattle.std.proofs.Common.{append_assoc, length-take, length-drop, length-append, take_all}
+use Rattle.std.proofs.Common.{length-take-le}
+use Rattle.std.proofs.lemmas.Bool.Decides.{nat_tests}
+use Rattle.std.proofs.lemmas.List.{take-append-le}
+use Rattle.std.proofs.lemmas.List.Folds.{prefix_len-append}
+use Rattle.std.proofs.lemmas.List.Quantifiers.{position-Some}
+use Rattle.std.proofs.lemmas.List.Sums.{position_or_len_is, prefix_len-le-length}
+use Rattle.std.proofs.Math.Seq.{take-append-add}
+use Rattle.std.specs.Prelude.{IfSome, IfNone, cond, not, nat_lt}
+use Rattle.std.specs.List.{position, position_or_len, prefix_len}
+use Rattle.std.specs.Io.KnownBytes.{Consumes}
+use borrow.Rule.Slice.PartMut.{put_mid, post_of}
+use Rattle.operator.specs.Line.{GoesOn, IsPiece, IsWhole}
+use Rattle.operator.specs.Request.{is_line_feed, line_of, line_limit, Asks, AsksNothing, IsAsked}
+use Rattle.operator.specs.declared.line.Piece.TheVariants.{Last, Further}
 use Rattle.operator.specs.declared.request.Request.{Request}
 
-none_before : (known : Option (List ℕ)) → prepend_known [] known ≡ known
-none_before None = refl
-none_before (Some xs) = refl
+-- ---- a piece
 
--- what a buffer that is empty yet has to give: the first bytes of its reader's
-pub first_known : {R A : Type 0} (remaining : R → Option (List ℕ)) (b : BufReader (Take R) A)
-    (t : Take R) (reader : R) → reader_inner b ≡ t → reader_buffer b ≡ []
-    → reader_capacity b ≡ 4097 → take_limit t ≡ 4097 → take_inner t ≡ reader
-    → reader_remaining (take_remaining remaining) b ≡ option_map (take 4097) (remaining reader)
-first_known {R} remaining b t reader inner empty capacity limit own =
-    let known : ℕ → List ℕ → Take R → Option (List ℕ) = λ n xs u.
-    if n == 0 then None else prepend_known xs (take_remaining remaining u) in
-    let taken : ℕ → R → Option (List ℕ) = λ n r.
-    prepend_known [] (option_map (take n) (remaining r)) in
-    ap (λ (n : ℕ). known n (reader_buffer b) (reader_inner b)) capacity
-    ∙ ap (λ (xs : List ℕ). known 4097 xs (reader_inner b)) empty
-    ∙ ap (λ (u : Take R). known 4097 [] u) inner
-    ∙ ap (λ (n : ℕ). taken n (take_inner t)) limit
-    ∙ ap (λ (r : R). taken 4097 r) own
-    ∙ none_before (option_map (take 4097) (remaining reader))
+-- no line feed among the first bytes
+further : (xs ys : List ℕ) → position_or_len is_line_feed xs ≡ length xs
+    → line_of (xs ++ ys) ≡ xs ++ line_of ys
+further xs ys e =
+    let test : ℕ → Bool = λ c. not (is_line_feed c) in
+    let size : prefix_len test (xs ++ ys) ≡ length xs + prefix_len test ys =
+    grind (arith, prefix_len-append test xs ys, e) in
+    ap (λ (n : ℕ). take n (xs ++ ys)) size ∙ take-append-add xs ys (prefix_len test ys)
 
--- the first piece of these is the line
-pub line_known : (told known : Option (List ℕ)) (line : List ℕ)
-    → known ≡ option_map (take 4097) told
-    → IfSome known (λ xs. (0 < length xs) × (line ≡ first_piece 10 xs))
-    → IfSome told (λ sent. line ≡ line_of sent)
-line_known None known line e h = tt
-line_known (Some sent) known line e h =
-    let Is : Option (List ℕ) → Type 0 = λ o.
-    IfSome o (λ xs. (0 < length xs) × (line ≡ first_piece 10 xs)) in
-    (subst Is e h).1
+-- a line feed among them
+ends : (xs ys : List ℕ) → position_or_len is_line_feed xs < length xs
+    → line_of (xs ++ ys) ≡ line_of xs
+ends xs ys h =
+    let test : ℕ → Bool = λ c. not (is_line_feed c) in
+    let n = prefix_len test xs in
+    let size : prefix_len test (xs ++ ys) ≡ n = grind (arith, prefix_len-append test xs ys, h) in
+    ap (λ (n : ℕ). take n (xs ++ ys)) size ∙ take-append-le n xs ys (omega (arith, h))
 
--- what comes first of a split at line feeds
-pub piece_known : {E : Type 0} (piece : Result (Vec ℕ Global) E) (line : Vec ℕ Global)
-    (known : Option (List ℕ)) (byte : ℕ) (Rest : Type 0) → piece ≡ Ok line → byte ≡ 10
-    → IfOk piece (λ v. IfSome known (λ xs. (0 < length xs) × (vec_items v ≡ first_piece byte xs))
-    × Rest)
-    → IfSome known (λ xs. (0 < length xs) × (line.items ≡ first_piece 10 xs))
-piece_known {E} piece line known byte Rest is at h =
-    let Of : Result (Vec ℕ Global) E → Type 0 = λ r. IfOk r (λ v. IfSome known (λ xs.
-    (0 < length xs) × (vec_items v ≡ first_piece byte xs)) × Rest) in
-    let By : ℕ → Type 0 = λ n. IfSome known (λ xs.
-    (0 < length xs) × (line.items ≡ first_piece n xs)) in
-    subst By at (subst Of is h).0
+-- it is the first that passes
+found : (xs : List ℕ) (i : ℕ) → position is_line_feed xs ≡ Some i
+    → (position_or_len is_line_feed xs ≡ i) × (i < length xs)
+found xs i e =
+    let at = position-Some is_line_feed xs i 0 e in
+    (position_or_len_is is_line_feed xs i 0 (omega (arith, at.0)) at.2 (λ h. at.1), at.0)
 
--- what a line was found to ask is what the reader's bytes ask
-pub is_asked : (told : Option (List ℕ)) (line lent : List ℕ) (asked : Option Request)
-    → IfSome told (λ sent. line ≡ line_of sent) → lent ≡ line
-    → IfSome asked (Asks lent) → IfNone asked (AsksNothing lent) → IsAsked told asked
-is_asked None line lent asked e same some nothing = tt
-is_asked (Some sent) line lent None e same some nothing =
-    subst AsksNothing (same ∙ e) nothing
-is_asked (Some sent) line lent (Some request) e same some nothing =
-    let Of : List ℕ → Type 0 = λ l. Asks l request in subst Of (same ∙ e) some
+nowhere : (n size : ℕ) → n ≤ size → cond (nat_lt n size) (Some n) None ≡ None → n ≡ size
+nowhere n size h e = grind (arith, nat_tests, e)
+
+pub last_piece : (a b : Option (List ℕ)) (room : List ℕ) (n i : ℕ) → n ≤ length room
+    → Consumes a b (take n room) → position is_line_feed (take n room) ≡ Some i
+    → IsPiece a b room (Last i)
+last_piece a b room n i fits bytes e = (omega (arith, fits, below), within a b bytes)
+  where
+    piece : List ℕ
+    piece = take n room
+
+    at : (position_or_len is_line_feed piece ≡ i) × (i < length piece)
+    at = found piece i e
+
+    below : i < n
+    below = omega (arith, at.1, length-take {A = ℕ} n room)
+
+    is : line_of piece ≡ take i room
+    is = ap (λ (m : ℕ). take m piece) at.0 ∙ take-take i n room (omega (arith, below))
+
+    within : (a b : Option (List ℕ)) → Consumes a b piece → IsWhole a (take i room)
+    within None b c = tt
+    within (Some xs) None c = absurd c
+    within (Some xs) (Some ys) c =
+        ap line_of c ∙ ends piece ys (omega (arith, at.0, at.1)) ∙ is
+
+pub further_piece : (a b : Option (List ℕ)) (room : List ℕ) (n : ℕ) → 0 < n → n ≤ length room
+    → Consumes a b (take n room) → position is_line_feed (take n room) ≡ None
+    → IsPiece a b room (Further n)
+further_piece a b room n some fits bytes e = (some, fits, within a b bytes)
+  where
+    piece : List ℕ
+    piece = take n room
+
+    all : position_or_len is_line_feed piece ≡ length piece
+    all =
+        nowhere (position_or_len is_line_feed piece) (length piece)
+        (prefix_len-le-length (λ c. not (is_line_feed c)) piece) e
+
+    within : (a b : Option (List ℕ)) → Consumes a b piece → GoesOn a b piece
+    within None b c = tt
+    within (Some xs) None c = absurd c
+    within (Some xs) (Some ys) c = ap line_of c ∙ further piece ys all
+
+-- ---- one piece behind the other
+
+goes_further : (a b c : Option (List ℕ)) (seen piece : List ℕ)
+    → GoesOn a b seen → GoesOn b c piece → GoesOn a c (seen ++ piece)
+goes_further None b c seen piece h k = tt
+goes_further (Some xs) None c seen piece h k = absurd h
+goes_further (Some xs) (Some ys) None seen piece h k = absurd k
+goes_further (Some xs) (Some ys) (Some zs) seen piece h k =
+    h ∙ ap (λ (l : List ℕ). seen ++ l) k ∙ sym (append_assoc seen piece (line_of zs))
+
+-- a piece was read to the room behind the first bytes
+module _ (a b c : Option (List ℕ)) (room part : List ℕ) (size n : ℕ) (fits : size ≤ length room)
+    (same : length part ≡ length room - size) (seen : GoesOn a b (take size room)) where
+  abbrev pub Grown : List ℕ
+  Grown = put_mid size (length room - size) room part
+
+  abbrev Rest : List ℕ
+  Rest = part ++ post_of size (length room - size) room
+
+  grown : n ≤ length part → take (size + n) Grown ≡ take size room ++ take n part
+  grown h =
+      ap (λ (m : ℕ). take (m + n) (take size room ++ Rest)) (sym (length-take-le size room fits))
+      ∙ take-append-add (take size room) Rest n
+      ∙ ap (λ (l : List ℕ). take size room ++ l)
+      (take-append-le n part (post_of size (length room - size) room) h)
+
+  pub long : length Grown ≡ length room
+  long =
+      omega (
+        arith,
+        fits,
+        same,
+        length-take-le size room fits,
+        length-append {A = ℕ} (take size room) Rest,
+        length-append {A = ℕ} part (post_of size (length room - size) room),
+        length-drop {A = ℕ} (length room - size) (drop size room),
+        length-drop {A = ℕ} size room,
+      )
+
+  pub goes_on : IsPiece b c part (Further n) → GoesOn a c (take (size + n) Grown)
+  goes_on piece =
+      let Of : List ℕ → Type 0 = λ l. GoesOn a c l in
+      subst Of (sym (grown piece.1))
+      (goes_further a b c (take size room) (take n part) seen piece.2)
+
+-- ---- what the line asks
+
+-- one byte more than a line may have shows whether it is longer
+module _ (line : List ℕ) where
+  abbrev Shown : List ℕ
+  Shown = take (line_limit + 1) line
+
+  all_shown : length Shown ≤ line_limit → Shown ≡ line
+  all_shown h =
+      take_all (line_limit + 1) line
+      (omega (arith, h, length-take {A = ℕ} (line_limit + 1) line))
+
+  asks_shown : (request : Request) → Asks Shown request → Asks line request
+  asks_shown request h =
+      let Of : List ℕ → Type 0 = λ l. Asks l request in subst Of (all_shown h.short) h
+
+  shows_asked : (request : Request) → Asks line request → Asks Shown request
+  shows_asked request h =
+      let Of : List ℕ → Type 0 = λ l. Asks l request in
+      subst Of (sym (take_all (line_limit + 1) line (omega (arith, h.short)))) h
+
+-- what is found to be asked is what the reader's bytes ask
+pub is_asked : (told : Option (List ℕ)) (shown : List ℕ) (room : ℕ) (asked : Option Request)
+    → room ≡ line_limit + 1 → IfSome told (λ sent. shown ≡ take room (line_of sent))
+    → IfSome asked (Asks shown) → IfNone asked (AsksNothing shown) → IsAsked told asked
+is_asked None shown room asked size same some nothing = tt
+is_asked (Some sent) shown room None size same some nothing =
+    let Of : List ℕ → Type 0 = λ l. AsksNothing l in
+    let none = subst Of (same ∙ ap (λ (n : ℕ). take n (line_of sent)) size) nothing in
+    λ request asks. none request (shows_asked (line_of sent) request asks)
+is_asked (Some sent) shown room (Some request) size same some nothing =
+    let Of : List ℕ → Type 0 = λ l. Asks l request in
+    let asks = subst Of (same ∙ ap (λ (n : ℕ). take n (line_of sent)) size) some in
+    asks_shown (line_of sent) request asks

@@ -1,4 +1,5 @@
 pub mod Request
+pub mod Line
 pub mod Texts
 pub mod Replies
 pub mod Control

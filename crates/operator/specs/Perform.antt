@@ -44,10 +44,8 @@ module _ {F : Type 0} (loads : Loading F) where
         → Performs (Some request.Cells) old events (reply.Refused refusal.Memory) old
 
   -- what a connection is answered, which sends these bytes, if they are told
-  pub data Answers (told : Option (List ℕ)) (old : Controlled)
-      : List CellEvent → Reply F → Controlled → Type 0 where
-    answered : {events : List CellEvent} {replied : Reply F} {new : Controlled}
-        (asked : Option Request) → IsAsked told asked → Performs asked old events replied new
-        → Answers told old events replied new
-    -- memory for its line is refused
-    unread : Answers told old [] (reply.Refused refusal.Memory) old
+  pub record Answers (told : Option (List ℕ)) (old : Controlled)
+      (events : List CellEvent) (replied : Reply F) (new : Controlled) : Type 0 where
+    pub asked : Option Request
+    pub is_asked : IsAsked told asked
+    pub performs : Performs asked old events replied new

@@ -1,7 +1,7 @@
 -- What the line of a connection asks.
-use Rattle.std.specs.Prelude.{◌≡◌, ◌≢◌, ℕ, ◌+◌, ◌≤◌, List, [], ◌++◌, length, take, codes}
-use Rattle.std.specs.Prelude.{Option, None, Some, IfSome}
-use Rattle.std.specs.Io.BufRead.{first_piece}
+use Rattle.std.specs.Prelude.{◌≡◌, ◌≢◌, ℕ, ◌≤◌, List, [], ◌++◌, length, codes}
+use Rattle.std.specs.Prelude.{Bool, ◌==◌, Option, None, Some, IfSome}
+use Rattle.std.specs.List.{before_first}
 use Rattle.std.specs.Str.{IsUtf8}
 use Rattle.operator.specs.declared.request.Request.{Request}
 use Rattle.operator.specs.declared.request.Request.TheVariants.{Load, Show, Cells, Stop}
@@ -10,10 +10,12 @@ use Rattle.operator.specs.declared.request.Request.TheVariants.{Load, Show, Cell
 abbrev pub line_limit : ℕ
 line_limit = 4096
 
--- the line that a connection sends: what stands before the first line feed, or before the end. It
--- is looked for in one byte more than a line may have, so that a longer one shows
+abbrev pub is_line_feed : ℕ → Bool
+is_line_feed c = c == 10
+
+-- the line that a connection sends: what stands before the first line feed, or before the end
 abbrev pub line_of : List ℕ → List ℕ
-line_of sent = first_piece 10 (take (line_limit + 1) sent)
+line_of sent = before_first is_line_feed sent
 
 -- the words of a request
 abbrev pub IsSpelled : List ℕ → Request → Type 0

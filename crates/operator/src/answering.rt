@@ -1,47 +1,57 @@
 // A connection, from the bytes of its line to those of the reply.
 
-ghost use Rattle.std.specs.Prelude.{◌≡◌, IfSome, IfNone, OnOk};
+ghost use Rattle.std.specs.Prelude.{◌≡◌, ◌+◌, ◌-◌, ◌^◌, ◌<◌, IfSome, IfNone, OnOk, OnSome};
 ghost use Rattle.std.specs.Io.KnownBytes.{Appends};
 ghost use Rattle.operator.specs.Perform.{Answers};
 ghost use Rattle.operator.specs.Texts.{reply_text};
 ghost use Rattle.cells.specs.Grown.{Grows};
 
 use crate::control::Control;
-use crate::line::{LineFault, read_line};
+use crate::line::read_line;
 use crate::loader::Loader;
 use crate::performing::perform;
-use crate::reply::{Refusal, Reply};
-use crate::request::Request;
+use crate::reply::Reply;
+use crate::request::{LINE_LIMIT, Request};
 use cells::CellSteps;
+use http_front::Counted;
 use std::alloc::Global;
 use std::fmt::Display;
 use std::io::{self, Read, Write};
 use std::sync::Wait;
 
+/// More bytes by one than a line may have, so that a longer one shows.
+const LINE_ROOM: usize = LINE_LIMIT + 1;
+
 /// Reads a line, does what it asks, and gives the reply. None where the reader failed; then nothing
 /// was done.
-pub fn answer<H: Wait, R: Read + Drop, L: Loader, C: CellSteps>(
+pub fn answer<H: Wait, R: Read, L: Loader, C: CellSteps>(
     rt: &H,
     alloc: Global,
-    reader: R,
+    reader: &mut Counted<R>,
     loader: &L,
     control: &mut Control,
     cells: &C,
     pass: &mut C::Pass,
 ) -> Option<Reply<L::Fault>>
-    requires { C.belongs cells.now pass.old }
+    requires belongs { C.belongs cells.now pass.old }
+    requires reads { reader.old.failures < 2 ^ 64 - 1 }
     ensures belongs { C.belongs cells.now pass.new }
+
+    // A line that came is heard.
     ensures answers { IfSome result (λ reply. Grows C.grew pass.old pass.new
-        (λ events. Answers (L.loads loader.now) (R.remaining reader)
+        (λ events. Answers (L.loads loader.now) (R.remaining reader.old.inner)
         control.old events reply control.new)) }
+    ensures heard { OnSome result (reader.new.failures ≡ reader.old.failures) }
+
+    // Or the reader failed, and nothing happened.
     ensures unheard { IfNone result ((control.new ≡ control.old) × (pass.new ≡ pass.old)) }
+    ensures unreadable { IfNone result (reader.new.failures ≡ reader.old.failures + 1) }
 {
-    let line = match read_line(alloc, reader) {
-        Ok(line) => line,
-        Err(LineFault::Memory) => return Some(Reply::Refused(Refusal::Memory)),
-        Err(LineFault::Device) => return None,
+    let mut room = [0; LINE_ROOM];
+    let Ok(size) = read_line(reader, &mut room) else {
+        return None;
     };
-    let request = Request::of(&line);
+    let request = Request::of(&room[..size]);
     let reply = perform(rt, alloc, loader, control, cells, pass, request);
     Some(reply)
 }

@@ -23,7 +23,7 @@ mod telling;
 pub use answering::{answer, write_reply};
 pub use asking::{AskFault, ask};
 pub use control::Control;
-pub use line::{LineFault, read_line};
+pub use line::read_line;
 pub use loader::Loader;
 pub use operating::operate;
 pub use performing::perform;

@@ -1,44 +1,64 @@
 // The line of a connection.
 
-ghost use Rattle.std.specs.Prelude.{◌≡◌, IfOk, IfSome};
-ghost use Rattle.operator.specs.Request.{line_of};
+ghost use Rattle.std.specs.Prelude.{◌≡◌, ◌-◌, ◌^◌, ◌<◌, ◌≤◌, length, take, IfOk, IfSome};
+ghost use Rattle.std.specs.List.{position};
+ghost use Rattle.http_front.specs.Device.{CountsFailure};
+ghost use Rattle.operator.specs.Request.{is_line_feed, line_of};
+ghost use Rattle.operator.specs.Line.{IsPiece};
 
-use crate::request::LINE_LIMIT;
-use std::alloc::Global;
-use std::io::{self, BufRead, BufReader, ErrorKind, Read};
+use http_front::{Counted, Failed};
+use std::io::Read;
 
-/// Why there is no line.
-#[derive(Clone, Copy, Debug, Drop, PartialEq, Eq)]
-pub enum LineFault {
-    /// The reader failed.
-    Device,
-    /// Memory was refused.
-    Memory,
+/// A piece of a line: so many bytes of it.
+#[derive(Clone, Copy, Drop)]
+pub(crate) enum Piece {
+    /// The line ends behind it.
+    Last(usize),
+    /// The line may go on.
+    Further(usize),
 }
 
-/// The bytes before the first line feed, or before the input's end. Of a longer line as many are
-/// given as show that it has more than 4096; no more than those are asked of the reader.
-pub fn read_line<R: Read + Drop>(alloc: Global, reader: R) -> Result<Vec<u8>, LineFault>
-    ensures { IfOk result
-        (λ line. IfSome (R.remaining reader) (λ sent. line.items ≡ line_of sent)) }
+/// Reads the bytes before the first line feed, or before the input's end, to the front of `room`,
+/// and gives their number; of a longer line as many as there is room for. No more bytes than that
+/// are asked of the reader.
+pub fn read_line<R: Read>(reader: &mut Counted<R>, room: &mut [u8]) -> Result<usize, Failed>
+    requires { reader.old.failures < 2 ^ 64 - 1 }
+    ensures within { IfOk result (λ n. n ≤ length room.new) }
+    ensures line { IfOk result (λ n. IfSome (R.remaining reader.old.inner)
+        (λ sent. take n room.new ≡ take (length room.new) (line_of sent))) }
+    ensures count { CountsFailure reader.old.failures reader.new.failures result }
 {
-    let room = LINE_LIMIT + 1;
-    let Ok(buffered) = BufReader::with_capacity(alloc, room, reader.take(room as u64)) else {
-        return Err(LineFault::Memory);
-    };
-    let mut pieces = buffered.split(alloc, b'\n');
-    let Some(piece) = pieces.next() else {
-        return Ok(Vec::new(alloc));
-    };
-    match piece {
-        Ok(line) => Ok(line),
-        Err(error) => Err(fault_of(&error)),
+    let mut size = 0;
+    while size < room.len() {
+        match read_piece(reader, &mut room[size..])? {
+            Piece::Last(gained) => return Ok(size + gained),
+            Piece::Further(gained) => size += gained,
+        }
+    }
+    Ok(size)
+}
+
+// Reads some bytes to the front of `room`, of which the first are a piece of the line.
+fn read_piece<R: Read>(reader: &mut Counted<R>, room: &mut [u8]) -> Result<Piece, Failed>
+    requires count { reader.old.failures < 2 ^ 64 - 1 }
+    requires room { 0 < length room.old }
+    ensures piece { IfOk result
+        (IsPiece (R.remaining reader.old.inner) (R.remaining reader.new.inner) room.new) }
+    ensures count { CountsFailure reader.old.failures reader.new.failures result }
+{
+    let gained = reader.read_some(room)?;
+    if gained == 0 {
+        return Ok(Piece::Last(0));
+    }
+    match line_feed(&room[..gained]) {
+        Some(size) => Ok(Piece::Last(size)),
+        None => Ok(Piece::Further(gained)),
     }
 }
 
-fn fault_of(error: &io::Error) -> LineFault {
-    match error.kind() {
-        ErrorKind::OutOfMemory => LineFault::Memory,
-        _ => LineFault::Device,
-    }
+// Where the first line feed stands.
+fn line_feed(bytes: &[u8]) -> Option<usize>
+    ensures { result ≡ position is_line_feed bytes.now }
+{
+    bytes.iter().position(|byte| *byte == b'\n')
 }

@@ -5,6 +5,7 @@ use crate::control::Control;
 use crate::loader::Loader;
 use crate::reply::Reply;
 use cells::CellSteps;
+use http_front::Counted;
 use std::fmt::Display;
 use std::net::{TcpListener, TcpStream};
 use std::sync::Wait;
@@ -67,8 +68,8 @@ where
     let Some(until) = until(rt, timeout) else {
         return false;
     };
-    let reader = Timed::new(stream, rt, until);
-    let Some(reply) = answer(rt, rt.alloc(), reader, loader, control, cells, pass) else {
+    let mut reader = Counted::new(Timed::new(stream, rt, until));
+    let Some(reply) = answer(rt, rt.alloc(), &mut reader, loader, control, cells, pass) else {
         return false;
     };
     let _sent = send(rt, stream, &reply, timeout);

@@ -3,7 +3,7 @@
 use crate::shelf::{Shelf, ShelfFault};
 use cells::{Directory, PlainCells, PlainPass};
 use hot_swap::Publisher;
-use http_front::FailAt;
+use http_front::{Counted, FailAt};
 use operator::{Control, Loader, Reply, answer, write_reply};
 use std::alloc::{AllocError, Global};
 use std::process::Abort;
@@ -38,11 +38,11 @@ fn replied<H: Wait>(
     piece: usize,
     fails: u64,
 ) -> Option<Reply<ShelfFault>> {
-    let reader = FailAt::new(input, piece, fails);
+    let mut reader = Counted::new(FailAt::new(input, piece, fails));
     answer(
         rt,
         alloc,
-        reader,
+        &mut reader,
         &Shelf,
         &mut server.control,
         &server.cells,

@@ -1,12 +1,24 @@
-use Rattle.std.proofs.Common.{◌∙◌}
-use Rattle.operator.proofs.Lines.{first_known, line_known, piece_known}
+use Rattle.std.proofs.Common.{◌≡◌, ◌-◌, ◌∙◌, length, length-drop, subst, arith}
+use Rattle.operator.specs.Line.{IsPiece}
+use Rattle.operator.specs.declared.line.Piece.{Piece}
+use Rattle.operator.proofs.Lines.{goes_on, long}
 use Rattle.operator.proofs.line.read_line.Goals as goal
 
-pub returns-in-Ok-piece : goal.returns-in-Ok-piece
-returns-in-Ok-piece g c =
-    let taken = first_known (g.R.Read.remaining) c.in-Ok.buffered c.take.result c.args.reader
-    c.in-Ok.ensures.inner c.in-Ok.ensures.empty c.in-Ok.ensures.capacity c.take.ensures.limit
-    c.take.ensures.inner in
-    let piece = piece_known c.in-Some.piece c.in-Ok-piece.line _ _ _ c.in-Ok-piece.is
-    c.split-pieces.ensures.byte c.in-Some.ensures.steps.2 in
-    line_known (g.R.Read.remaining c.args.reader) _ _ (c.split-pieces.ensures.bytes ∙ taken) piece
+pub loop-size-preserved : goal.loop-size-preserved
+loop-size-preserved g c =
+    let old = g.R.Read.remaining c.args.reader.now.inner in
+    let mid = g.R.Read.remaining c.loop-size.reader.inner in
+    let new = g.R.Read.remaining c.read_piece.new.reader.inner in
+    let room = c.loop-size.room in
+    let part = c.read_piece.new.room in
+    let size = c.loop-size.size in
+    let n = c.in-Further.gained in
+    let was = c.loop-size.invariant in
+    let Of : Piece → Type 0 = λ p. IsPiece mid new part p in
+    let piece = subst Of c.in-Further.is c.in_ok-gained.ensures.piece in
+    let same : length part ≡ length room - size =
+    omega (arith, c.read_piece.auto.room, length-drop size room, was.1) in (
+      goes_on old mid new room part size n was.1 same was.0 piece,
+      omega (arith, was.1, same, piece.1, long old mid new room part size n was.1 same was.0),
+      c.in_ok-gained.ensures.count ∙ was.2,
+    )
