@@ -11,7 +11,7 @@ use std::io::Read;
 
 /// A piece of a line: so many bytes of it.
 #[derive(Clone, Copy, Drop)]
-pub(crate) enum Piece {
+enum Piece {
     /// The line ends behind it.
     Last(usize),
     /// The line may go on.
@@ -21,7 +21,7 @@ pub(crate) enum Piece {
 /// Reads the bytes before the first line feed, or before the input's end, to the front of `room`,
 /// and gives their number; of a longer line as many as there is room for. No more bytes than that
 /// are asked of the reader.
-pub fn read_line<R: Read>(reader: &mut Counted<R>, room: &mut [u8]) -> Result<usize, Failed>
+pub(crate) fn read_line<R: Read>(reader: &mut Counted<R>, room: &mut [u8]) -> Result<usize, Failed>
     requires { reader.old.failures < 2 ^ 64 - 1 }
     ensures within { IfOk result (λ n. n ≤ length room.new) }
     ensures line { IfOk result (λ n. IfSome (R.remaining reader.old.inner)

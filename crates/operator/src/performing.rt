@@ -14,7 +14,7 @@ use std::sync::Wait;
 
 /// Does what is asked, and gives the reply; None is a line that asks nothing. That the server ends
 /// is for the caller to see to.
-pub fn perform<R: Wait, L: Loader, C: CellSteps>(
+pub(crate) fn perform<R: Wait, L: Loader, C: CellSteps>(
     rt: &R,
     alloc: Global,
     loader: &L,
