@@ -6,9 +6,9 @@ use Rattle.std.specs.Str.{bytes_eq}
 use Rattle.std.specs.List.{starts_with, ends_with, list_all}
 use Rattle.cells.specs.Names.{is_name_byte}
 use Rattle.operator.specs.Request.{Asks}
-use Rattle.operator.specs.Texts.{line}
 use Rattle.operator.specs.declared.request.Request.{Request}
 use Rattle.operator.specs.declared.request.Request.TheVariants.{Load, Show, Cells, Stop}
+use Rattle.ruleset.specs.Texts.{line}
 
 -- lines, of which the first begins with this word
 abbrev pub begins_lines : List ℕ → List ℕ → Bool

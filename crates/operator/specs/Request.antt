@@ -1,7 +1,7 @@
 -- What the line of a connection asks.
 use Rattle.std.specs.Prelude.{◌≡◌, ◌≢◌, ℕ, ◌≤◌, List, [], ◌++◌, length, codes}
-use Rattle.std.specs.Prelude.{Bool, ◌==◌, Option, None, Some, IfSome}
-use Rattle.std.specs.List.{before_first}
+use Rattle.std.specs.Prelude.{Bool, ◌==◌, IsFalse, Option, None, Some, IfSome}
+use Rattle.std.specs.List.{before_first, list_any}
 use Rattle.std.specs.Str.{IsUtf8}
 use Rattle.operator.specs.declared.request.Request.{Request}
 use Rattle.operator.specs.declared.request.Request.TheVariants.{Load, Show, Cells, Stop}
@@ -28,6 +28,7 @@ IsSpelled line Stop = line ≡ codes "stop"
 -- the line asks this
 pub record Asks (line : List ℕ) (request : Request) : Type 0 where
   pub short : length line ≤ line_limit
+  pub single : IsFalse (list_any is_line_feed line)
   pub spelled : IsSpelled line request
 
 abbrev pub AsksNothing : List ℕ → Type 0

@@ -1,5 +1,5 @@
 -- The texts that an operator is sent: lines, each ended by a line feed.
-use Rattle.std.specs.Prelude.{ℕ, List, [], ◌++◌, length, codes, decimal, Option, Some}
+use Rattle.std.specs.Prelude.{ℕ, List, [], ◌++◌, codes, decimal, Option, Some}
 use Rattle.std.specs.Prelude.{◌==◌, if◌then◌else◌}
 use Rattle.std.specs.List.{flat_map}
 use Rattle.std.specs.Option.{option_map}
@@ -12,20 +12,12 @@ use Rattle.operator.specs.declared.reply.Refusal.{Refusal}
 use Rattle.operator.specs.declared.reply.Refusal.TheVariants as refusal
 use Rattle.operator.specs.declared.reply.Reply.{Reply}
 use Rattle.operator.specs.declared.reply.Reply.TheVariants as reply
-use Rattle.ruleset.specs.Rules.{AppRule}
-
-abbrev pub line : List ℕ → List ℕ
-line text = text ++ codes "\n"
+use Rattle.ruleset.specs.Texts.{line, app_line}
 
 -- ---- what is told of a ruleset and of the counters
 
 abbrev pub generation_line : ℕ → List ℕ
 generation_line generation = line (codes "generation " ++ decimal generation)
-
-abbrev pub app_line : AppRule → List ℕ
-app_line app = line (codes "app " ++ app.appid
-    ++ codes " releases " ++ decimal (length app.releases)
-    ++ codes " slots " ++ decimal (length app.program.code))
 
 abbrev pub ruleset_text : Latest → List ℕ
 ruleset_text latest = generation_line latest.generation ++ flat_map app_line latest.rules.apps

@@ -1,7 +1,8 @@
 // The operator's side: a line is sent to a server, and its reply is read.
 
-ghost use Rattle.std.specs.Prelude.{◌≡◌, IfOk};
+ghost use Rattle.std.specs.Prelude.{◌≡◌, ◌↔◌, Err, IfOk};
 ghost use Rattle.operator.specs.Replies as specs;
+ghost use Rattle.operator.specs.Request.{AsksNothing};
 
 use crate::request::Request;
 use std::alloc::Global;
@@ -28,14 +29,12 @@ pub enum AskFault {
 pub fn ask<H>(rt: &H, port: u16, line: &str) -> Result<Vec<u8>, AskFault>
 where
     H: Net<Stream = TcpStream> + AllocGlobal,
-    ensures { IfOk result (λ reply. specs.IsReplyTo line.now reply.items) }
+    ensures replied { IfOk result (λ reply. specs.IsReplyTo line.now reply.items) }
+    ensures word { result ≡ Err AskFault.Word ↔ AsksNothing line.now }
 {
     let Some(request) = Request::of(line.as_bytes()) else {
         return Err(AskFault::Word);
     };
-    if line.as_bytes().contains(&b'\n') {
-        return Err(AskFault::Word);
-    }
     let Ok(stream) = TcpStream::connect(rt, (Ipv4Addr::LOCALHOST, port)) else {
         return Err(AskFault::Connect);
     };

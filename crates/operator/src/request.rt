@@ -23,13 +23,13 @@ pub enum Request<'a> {
 
 impl<'a> Request<'a> {
     /// The request of a line, which is given without its line feed. None where the line has more
-    /// than 4096 bytes, is none of the words, or is `load` without a path or with one that isn't
-    /// UTF-8.
+    /// than 4096 bytes or a line feed, is none of the words, or is `load` without a path or with
+    /// one that isn't UTF-8.
     pub fn of(line: &'a [u8]) -> Option<Request<'a>>
         ensures some { IfSome result (Asks line.now) }
         ensures none { IfNone result (AsksNothing line.now) }
     {
-        if line.len() > LINE_LIMIT {
+        if line.len() > LINE_LIMIT || line.contains(&b'\n') {
             return None;
         }
         if line == b"show".as_slice() {

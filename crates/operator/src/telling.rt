@@ -5,13 +5,12 @@ ghost use Rattle.std.specs.String.{string_bytes};
 ghost use Rattle.cells.specs.Directory.{IsDirectory};
 ghost use Rattle.hot_swap.specs.Latest.{latest};
 ghost use Rattle.operator.specs.Counters.{IsLoad, ReadsArrays, ReadsCells, Tells};
-ghost use Rattle.operator.specs.Texts.{app_line, cell_text, ruleset_text};
+ghost use Rattle.operator.specs.Texts.{cell_text, ruleset_text};
 ghost use Rattle.cells.specs.Grown.{Grows};
 
-use bpf_verify::Verified;
 use cells::{CellArray, CellNo, CellOp, CellSteps, growth};
 use hot_swap::Generation;
-use ruleset::{App, Ruleset};
+use ruleset::{Ruleset, tell_apps};
 use std::alloc::{AllocError, Global};
 use std::fmt::Write;
 
@@ -25,20 +24,8 @@ pub fn tell_ruleset(
         (λ text. string_bytes text ≡ ruleset_text (latest generation rules.now)) }
 {
     let mut text = format!(in alloc; "generation {generation}\n")?;
-    for app in rules.apps() {
-        tell_app(&mut text, app)?;
-    }
+    tell_apps(&mut text, rules.apps())?;
     Ok(text)
-}
-
-fn tell_app(text: &mut String, app: &App) -> Result<(), AllocError>
-    ensures { OnOk result (string_bytes text.new ≡ string_bytes text.old ++ app_line app.now) }
-{
-    let program: &Verified = app.program();
-    let appid = app.appid();
-    let releases = app.releases().len();
-    let slots = program.len();
-    writeln!(text, "app {appid} releases {releases} slots {slots}")
 }
 
 /// A line for each cell of the arrays that isn't 0. Where memory is refused, some cells were read.
