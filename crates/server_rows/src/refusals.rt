@@ -1,9 +1,10 @@
 //! Every refusal, by each way to get it, with its status and its line. None makes a run.
 
-use crate::exchange::{NOTHING, WHOLE, answered, post, told};
+use crate::exchange::{WHOLE, answered, post};
 use std::alloc::{AllocError, Global};
 use std::sync::Wait;
 use std::test::Fail;
+use workers::AnswerFault;
 
 /// The bytes of a refusal. One of the method names the method that is allowed.
 pub(crate) fn refusal(alloc: Global, status: &str, line: &str) -> Result<String, AllocError> {
@@ -19,18 +20,17 @@ pub(crate) fn refusal(alloc: Global, status: &str, line: &str) -> Result<String,
 }
 
 /// Whether these bytes are refused with this status and this line.
-pub(crate) fn is_refused<H: Wait>(
+fn is_refused<H: Wait>(
     rt: &H,
     alloc: Global,
     input: &[u8],
     status: &str,
     line: &str,
 ) -> Result<bool, Fail> {
-    let heard = answered(rt, alloc, NOTHING, input, WHOLE, WHOLE)?;
+    let heard = answered(rt, alloc, "nothing", input, WHOLE, WHOLE)?;
     let wanted = refusal(alloc, status, line)?;
-    let outcome = told(alloc, heard.outcome)?;
-    let is_status = status.starts_with(outcome.as_str());
-    Ok(is_status && heard.written.as_slice() == wanted.as_bytes())
+    let code = format!(in alloc; "{}", heard.outcome.unwrap_or(0))?;
+    Ok(status.starts_with(code.as_str()) && heard.written.as_slice() == wanted.as_bytes())
 }
 
 /// The status, the line, a name, and the head that a client sends, without its last two ends of a
@@ -68,35 +68,19 @@ pub(crate) fn head_of(alloc: Global, lines: &str) -> Result<String, AllocError> 
     format!(in alloc; "{head}\r\n\r\n")
 }
 
+/// Whether the head of a row is refused as the row says.
+fn is_head_refused<H: Wait>(rt: &H, alloc: Global, row: &str) -> Result<bool, Fail> {
+    let (wanted, lines) = row.split_once('\n').ok_or("no head")?;
+    let (status, rest) = wanted.split_once(" | ").ok_or("no line")?;
+    let (line, _name) = rest.split_once(" | ").ok_or("no name")?;
+    let head = head_of(alloc, lines)?;
+    is_refused(rt, alloc, head.as_bytes(), status, line)
+}
+
 #[test]
 fn heads_are_refused(rt: HostRuntime) -> Result<(), Fail> {
     for row in HEADS.split("\n- ").skip(1) {
-        let (wanted, lines) = row.split_once('\n').ok_or("no head")?;
-        let (status, rest) = wanted.split_once(" | ").ok_or("no line")?;
-        let (line, _name) = rest.split_once(" | ").ok_or("no name")?;
-        let head = head_of(rt.alloc(), lines)?;
-        assert!(rt;
-            is_refused(&rt, rt.alloc(), head.as_bytes(), status, line)?,
-            "{row}"
-        );
-    }
-    Ok(())
-}
-
-/// Bytes that are no head, the status, and the line.
-const NO_HEADS: [(&[u8], &str, &str); 2] = [
-    (b"\x00", "400 Bad Request", "P1 Head"),
-    (
-        &[b'a'; 16384],
-        "431 Request Header Fields Too Large",
-        "P6 HeadTooLarge",
-    ),
-];
-
-#[test]
-fn other_bytes_are_refused(rt: HostRuntime) -> Result<(), Fail> {
-    for (input, status, line) in NO_HEADS {
-        assert!(rt; is_refused(&rt, rt.alloc(), input, status, line)?, "{line}");
+        assert!(rt; is_head_refused(&rt, rt.alloc(), row)?, "{row}");
     }
     Ok(())
 }
@@ -121,47 +105,48 @@ fn is_body_refused<H: Wait>(rt: &H, alloc: Global, body: &str, line: &str) -> Re
     is_refused(rt, alloc, &input, "400 Bad Request", line)
 }
 
+/// Whether a request of 257 apps is refused.
+fn are_too_many<H: Wait>(rt: &H, alloc: Global) -> Result<bool, Fail> {
+    let apps = "0,".repeat(alloc, 256)?;
+    let body = format!(in alloc; "{{\"request\":{{\"protocol\":\"3.1\",\"app\":[{apps}0]}}}}")?;
+    is_body_refused(rt, alloc, body.as_str(), "O4 TooManyApps")
+}
+
 #[test]
 fn bodies_are_refused(rt: HostRuntime) -> Result<(), Fail> {
     for row in BODIES.lines().skip(1) {
         let (body, line) = row.split_once(" => ").ok_or("a row of two parts")?;
         assert!(rt; is_body_refused(&rt, rt.alloc(), body, line)?, "{row}");
     }
+    assert!(rt; are_too_many(&rt, rt.alloc())?, "257 apps");
     Ok(())
 }
 
-#[test]
-fn many_apps_are_refused(rt: HostRuntime) -> Result<(), Fail> {
-    let apps = "0,".repeat(rt.alloc(), 256)?;
-    let body = format!(in rt.alloc();
-        "{{\"request\":{{\"protocol\":\"3.1\",\"app\":[{apps}0]}}}}"
-    )?;
-    assert!(rt; is_body_refused(&rt, rt.alloc(), body.as_str(), "O4 TooManyApps")?);
-    Ok(())
+/// What a client sends before it ends, in which `;` stands for the end of a line.
+const CUT: &str = "
+POST /service/update2/json HTTP/1.1;Host: h;
+POST /service/update2/json HTTP/1.1;Content-Length: 2;;{";
+
+/// Whether nothing is written where the input ends so.
+fn is_unwritten<H: Wait>(rt: &H, alloc: Global, row: &str) -> Result<bool, Fail> {
+    let input = row.replace(alloc, ";", "\r\n")?;
+    let heard = answered(rt, alloc, "nothing", input.as_bytes(), WHOLE, WHOLE)?;
+    Ok(heard.outcome == Err(AnswerFault::Ended) && heard.written.is_empty())
 }
 
-/// What a client sends before it ends.
-const CUT: [&[u8]; 3] = [
-    b"",
-    b"POST /service/update2/json HTTP/1.1\r\nHost: h\r\n",
-    b"POST /service/update2/json HTTP/1.1\r\nContent-Length: 2\r\n\r\n{",
-];
-
-/// How a request came out, where nothing was written.
-fn unwritten<H: Wait>(rt: &H, alloc: Global, input: &[u8]) -> Result<String, Fail> {
-    let heard = answered(rt, alloc, NOTHING, input, WHOLE, WHOLE)?;
-    if heard.written.is_empty() {
-        Ok(told(alloc, heard.outcome)?)
-    } else {
-        Ok(String::from_str(alloc, "something was written")?)
-    }
+/// Whether a head without an end is refused once as much was read as a head may have.
+fn is_long_refused<H: Wait>(rt: &H, alloc: Global) -> Result<bool, Fail> {
+    let input = "a".repeat(alloc, 16384)?;
+    let status = "431 Request Header Fields Too Large";
+    is_refused(rt, alloc, input.as_bytes(), status, "P6 HeadTooLarge")
 }
 
 #[test]
-fn requests_that_end_get_nothing(rt: HostRuntime) -> Result<(), Fail> {
-    for input in CUT {
-        let found = unwritten(&rt, rt.alloc(), input)?;
-        assert!(rt; found.as_str() == "ended", "{} bytes: {found}", input.len());
+fn other_bytes(rt: HostRuntime) -> Result<(), Fail> {
+    for row in CUT.split('\n') {
+        assert!(rt; is_unwritten(&rt, rt.alloc(), row)?, "{row}");
     }
+    assert!(rt; is_refused(&rt, rt.alloc(), b"\x00", "400 Bad Request", "P1 Head")?);
+    assert!(rt; is_long_refused(&rt, rt.alloc())?);
     Ok(())
 }

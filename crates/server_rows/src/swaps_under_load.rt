@@ -1,13 +1,11 @@
 //! Rulesets are swapped while clients ask: each reply is wholly of one generation, and none is
 //! lost.
 
-use crate::client::{count_of, posted};
-use crate::session::served;
-use operator::ask;
-use serving::bind;
+use crate::exchange::times;
+use crate::session::{FOUR_APPS, asked, ports_of, posted, served};
 use std::net::{Net, SocketAddr, TcpStream};
 use std::test::Fail;
-use std::thread;
+use std::{io, thread};
 
 /// How many requests each of two clients makes.
 const REQUESTS: u32 = 200;
@@ -17,8 +15,8 @@ const LOADS: u64 = 60;
 
 /// Whether all apps of the reply were answered under the ruleset that it names.
 fn is_whole(reply: &[u8]) -> bool {
-    let offered = count_of(reply, b"\"manifest\"");
-    let refused = count_of(reply, b"\"noupdate\"");
+    let offered = times(reply, "\"manifest\"");
+    let refused = times(reply, "\"noupdate\"");
     (reply.ends_with(b"\"server\":\"yes\"}}") && offered == 4 && refused == 0)
         || (reply.ends_with(b"\"server\":\"no\"}}") && offered == 0 && refused == 4)
 }
@@ -30,7 +28,7 @@ where
 {
     let mut whole = 0u32;
     for _ in 0..REQUESTS {
-        match posted(rt, place) {
+        match posted(rt, place, FOUR_APPS) {
             Ok(reply) if is_whole(&reply) => whole = whole.saturating_add(1),
             _ => {}
         }
@@ -38,18 +36,24 @@ where
     whole
 }
 
-/// How many loads were answered by the next generation.
+/// Whether a load is answered by the next generation.
+fn is_installed<H>(rt: &H, port: u16, i: u64) -> io::Result<bool>
+where
+    H: Net<Stream = TcpStream> + AllocGlobal,
+{
+    let line = if i % 2 == 0 { "load no" } else { "load yes" };
+    let want = format!(in rt.alloc(); "generation {}\n", i.saturating_add(2))?;
+    Ok(asked(rt, port, line)?.as_slice() == want.as_bytes())
+}
+
+/// How many loads were answered so.
 fn installed<H>(rt: &H, port: u16) -> u64
 where
     H: Net<Stream = TcpStream> + AllocGlobal,
 {
     let mut installed = 0u64;
     for i in 0..LOADS {
-        let line = if i % 2 == 0 { "load no" } else { "load yes" };
-        let Ok(wanted) = format!(in rt.alloc(); "generation {}\n", i + 2) else {
-            continue;
-        };
-        if ask(rt, port, line).is_ok_and(|reply| reply.as_slice() == wanted.as_bytes()) {
+        if is_installed(rt, port, i).unwrap_or(false) {
             installed = installed.saturating_add(1);
         }
     }
@@ -58,24 +62,21 @@ where
 
 #[test]
 fn swaps_under_load(rt: HostRuntime) -> Result<(), Fail> {
-    let ports = bind(&rt, 0, 0)?;
-    let (service, operator) = (ports.service(), ports.operator().port());
-    let clients = || {
-        thread::join(
-            &rt,
-            || whole_replies(&rt, service),
-            || whole_replies(&rt, service),
-        )
-    };
+    let ports = ports_of(&rt, 0, 0)?;
+    let (service, port) = (ports.service(), ports.operator().port());
+    let client = || whole_replies(&rt, service);
     let work = || {
-        let done = thread::join(&rt, || installed(&rt, operator), clients);
-        let _stopped = ask(&rt, operator, "stop");
+        let clients = || thread::join(&rt, client, client);
+        let done = thread::join(&rt, || installed(&rt, port), clients);
+        let _stopped = asked(&rt, port, "stop");
         done
     };
     let (ended, (loads, (first, second))) = thread::join(&rt, || served(&rt, ports, "yes"), work);
     assert_eq!(rt; ended, Ok(()));
-    assert_eq!(rt; loads, LOADS);
-    assert_eq!(rt; first, REQUESTS);
-    assert_eq!(rt; second, REQUESTS);
+    assert!(rt; loads == LOADS, "{loads} loads");
+    assert!(rt;
+        first == REQUESTS && second == REQUESTS,
+        "{first} and {second} replies"
+    );
     Ok(())
 }

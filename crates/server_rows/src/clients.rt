@@ -1,0 +1,119 @@
+//! Clients of a server over loopback, and what they hear.
+
+use crate::exchange::post;
+use crate::loopback::{reply, send, sent};
+use crate::meeting::{Meeting, awaits};
+use crate::replies::TWO_APPS;
+use std::net::{Net, SocketAddr, TcpStream};
+use std::sync::atomic::{AtomicBool, Ordering};
+use std::time::{Clock, Duration};
+use std::{io, thread};
+
+/// A connection that has sent a whole request.
+fn asked<H>(rt: &H, place: SocketAddr) -> io::Result<TcpStream>
+where
+    H: Net<Stream = TcpStream> + AllocGlobal,
+{
+    sent(rt, place, &post(rt.alloc(), TWO_APPS)?)
+}
+
+/// Whether what the server sends until it ends is the reply of the server `prod`.
+fn is_replied<H: AllocGlobal>(rt: &H, stream: &TcpStream) -> io::Result<bool> {
+    let bytes = reply(rt.alloc(), stream)?;
+    Ok(bytes.starts_with(b"HTTP/1.1 200 OK\r\n") && bytes.ends_with(b"\"server\":\"prod\"}}"))
+}
+
+/// Ends a server.
+pub(crate) fn halt<H: Net<Stream = TcpStream>>(rt: &H, place: SocketAddr, stop: &AtomicBool) {
+    stop.store(true, Ordering::SeqCst);
+    let _last = TcpStream::connect(rt, place);
+}
+
+/// Two requests at once, of which the second is answered first.
+pub(crate) fn two<H>(rt: &H, place: SocketAddr) -> io::Result<bool>
+where
+    H: Net<Stream = TcpStream> + AllocGlobal,
+{
+    let first = asked(rt, place)?;
+    let second = asked(rt, place)?;
+    Ok(is_replied(rt, &second)? && is_replied(rt, &first)?)
+}
+
+/// A request whose body comes once another one was answered.
+pub(crate) fn held<H>(rt: &H, place: SocketAddr, gate: &Meeting) -> io::Result<bool>
+where
+    H: Net<Stream = TcpStream> + AllocGlobal,
+{
+    let whole = post(rt.alloc(), TWO_APPS)?;
+    let (head, body) = whole.split_at(whole.len().saturating_sub(TWO_APPS.len()));
+    let first = sent(rt, place, head)?;
+    let came = awaits(&gate.begun);
+    let second = asked(rt, place)?;
+    let answered = awaits(&gate.made);
+    let later = is_replied(rt, &second)?;
+    send(&first, body)?;
+    Ok(came && answered && later && is_replied(rt, &first)?)
+}
+
+/// A client that sends nothing, and a second one that asks the one worker.
+pub(crate) fn silent<H>(rt: &H, place: SocketAddr) -> io::Result<bool>
+where
+    H: Net<Stream = TcpStream> + AllocGlobal,
+{
+    let silent = sent(rt, place, b"")?;
+    let second = asked(rt, place)?;
+    let heard = is_replied(rt, &second)?;
+    let none = reply(rt.alloc(), &silent).unwrap_or(Vec::new(rt.alloc()));
+    Ok(heard && none.is_empty())
+}
+
+/// A client that sends a byte now and then for three seconds, and a second one that asks the one
+/// worker. It is answered by then, as the limit is one second of the whole connection.
+pub(crate) fn slow<H>(rt: &H, place: SocketAddr) -> io::Result<bool>
+where
+    H: Net<Stream = TcpStream> + AllocGlobal + Clock,
+{
+    let slow = sent(rt, place, b"")?;
+    let second = asked(rt, place)?;
+    for byte in b"POST /service/u" {
+        let _dropped = send(&slow, &[*byte]);
+        thread::sleep(rt, Duration::from_millis(200));
+    }
+    second.set_read_timeout(Some(Duration::from_millis(300)))?;
+    is_replied(rt, &second)
+}
+
+/// Three requests to one worker, of which the first is held until the server was told to stop.
+pub(crate) fn waiting<H>(
+    rt: &H,
+    place: SocketAddr,
+    gate: &Meeting,
+    stop: &AtomicBool,
+) -> io::Result<bool>
+where
+    H: Net<Stream = TcpStream> + AllocGlobal + Clock,
+{
+    let first = asked(rt, place)?;
+    let came = awaits(&gate.begun);
+    let second = asked(rt, place)?;
+    let third = asked(rt, place)?;
+    thread::sleep(rt, Duration::from_millis(500));
+    halt(rt, place, stop);
+    gate.made.store(true, Ordering::SeqCst);
+    Ok(came && is_replied(rt, &first)? && is_replied(rt, &second)? && is_replied(rt, &third)?)
+}
+
+/// A client that sends more than is read of it, and hears the whole refusal.
+pub(crate) fn refused<H>(rt: &H, place: SocketAddr) -> io::Result<bool>
+where
+    H: Net<Stream = TcpStream> + AllocGlobal,
+{
+    let head = b"POST /service/update2/json HTTP/1.1\r\nContent-Length: 2000000\r\n\r\n";
+    let stream = sent(rt, place, head)?;
+    let piece = " ".repeat(rt.alloc(), 4096)?;
+    for _ in 0..20 {
+        send(&stream, piece.as_bytes())?;
+    }
+    let heard = reply(rt.alloc(), &stream)?;
+    Ok(heard.starts_with(b"HTTP/1.1 413 ") && heard.ends_with(b"\r\n\r\nP5 TooLarge\n"))
+}

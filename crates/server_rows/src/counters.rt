@@ -1,0 +1,105 @@
+//! A program with a counter behind a quota: which apps of a request get the release, and that no
+//! refused request takes of it.
+
+use crate::exchange::{Server, WHOLE, exchange, post, server_of, times};
+use crate::refusals::head_of;
+use cells::CellNo;
+use std::alloc::Global;
+use std::sync::Wait;
+use std::test::Fail;
+
+/// An app that asks for an update.
+const ASKS: &str = "{\"appid\":\"x\",\"updatecheck\":{}}";
+
+const PINGS: &str = "{\"appid\":\"x\",\"ping\":{}}";
+
+/// A request of these apps.
+fn request(alloc: Global, apps: &str) -> Result<Vec<u8>, Fail> {
+    let body = format!(in alloc; "{{\"request\":{{\"protocol\":\"3.1\",\"app\":[{apps}]}}}}")?;
+    Ok(post(alloc, body.as_str())?)
+}
+
+/// A request of an app that asks for an update.
+pub(crate) fn asking(alloc: Global) -> Result<Vec<u8>, Fail> {
+    request(alloc, ASKS)
+}
+
+/// What the reply has for an app that is offered the release, and for one that isn't.
+pub(crate) const OFFER: &str = "\"version\":\"2.0.0.0\"";
+
+const NONE: &str = "\"noupdate\"";
+
+/// The status of the reply, how many apps are offered the release and how many none, whether the
+/// offer stands first, and the counter after it.
+fn taken<H: Wait>(
+    rt: &H,
+    alloc: Global,
+    server: &mut Server,
+    input: &[u8],
+) -> Result<String, Fail> {
+    let heard = exchange(rt, alloc, server, input, WHOLE, WHOLE);
+    let status = heard.outcome.unwrap_or(0);
+    let text = str::from_utf8(heard.written.as_slice()).unwrap_or("");
+    let (offers, nones) = (times(text.as_bytes(), OFFER), times(text.as_bytes(), NONE));
+    let is_first = text.find(OFFER) < text.find(NONE);
+    let count = server.pass.value(CellNo::new(0));
+    Ok(format!(in alloc; "{status}: {offers} {nones} {is_first}, q[0] {count}")?)
+}
+
+/// Whether this is taken by a request of these apps.
+fn is_taken<H: Wait>(
+    rt: &H,
+    alloc: Global,
+    server: &mut Server,
+    apps: &str,
+    want: &str,
+) -> Result<bool, Fail> {
+    let input = request(alloc, apps)?;
+    let found = taken(rt, alloc, server, &input)?;
+    Ok(found.as_str() == want)
+}
+
+/// Whether two apps that ask and one that pings take in order, and one that pings takes none.
+fn is_in_order<H: Wait>(rt: &H, alloc: Global) -> Result<bool, Fail> {
+    let apps = format!(in alloc; "{ASKS},{ASKS},{PINGS}")?;
+    let mut server = server_of(alloc, "one")?;
+    let is_first = is_taken(
+        rt,
+        alloc,
+        &mut server,
+        apps.as_str(),
+        "200: 1 1 true, q[0] 2",
+    )?;
+    let is_second = is_taken(rt, alloc, &mut server, PINGS, "200: 0 0 false, q[0] 2")?;
+    Ok(is_first && is_second)
+}
+
+/// Whether a request to another path takes nothing.
+fn is_untaken<H: Wait>(rt: &H, alloc: Global) -> Result<bool, Fail> {
+    let head = head_of(alloc, "POST /service/update HTTP/1.1\nContent-Length: 0")?;
+    let mut server = server_of(alloc, "one")?;
+    let found = taken(rt, alloc, &mut server, head.as_bytes())?;
+    Ok(found.as_str() == "404: 0 0 false, q[0] 0")
+}
+
+/// Whether all of 256 apps take.
+fn is_most<H: Wait>(rt: &H, alloc: Global) -> Result<bool, Fail> {
+    let before = format!(in alloc; "{ASKS},")?.repeat(alloc, 255)?;
+    let apps = format!(in alloc; "{before}{ASKS}")?;
+    let mut server = server_of(alloc, "one")?;
+    is_taken(
+        rt,
+        alloc,
+        &mut server,
+        apps.as_str(),
+        "200: 1 255 true, q[0] 256",
+    )
+}
+
+#[test]
+fn a_quota_is_taken(rt: HostRuntime) -> Result<(), Fail> {
+    assert!(rt; is_in_order(&rt, rt.alloc())?, "in order");
+    assert!(rt; is_untaken(&rt, rt.alloc())?, "another path");
+    assert!(rt; is_most(&rt, rt.alloc())?, "256 apps");
+    Ok(())
+}

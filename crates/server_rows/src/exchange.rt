@@ -1,0 +1,151 @@
+//! A server over memory, with a ruleset, a watcher and cells; and one exchange with it.
+
+use crate::shelf::rules;
+use cells::{CellSteps, PlainCells, PlainPass};
+use hot_swap::{Publisher, Watcher};
+use http_front::{Counted, FailAt};
+use std::alloc::{AllocError, Global};
+use std::fmt::Display;
+use std::sync::Wait;
+use workers::{AnswerFault, answer};
+
+/// 2026-03-02 01:00:00 UTC, which is day 7000 and second 3600 of Omaha's count.
+const MOMENT: i64 = 1772413200;
+
+/// A server with one worker.
+#[derive(Drop)]
+pub(crate) struct Server {
+    pub(crate) publisher: Publisher,
+    pub(crate) watcher: Watcher,
+    pub(crate) cells: PlainCells,
+    pub(crate) pass: PlainPass,
+}
+
+/// The server of a manifest of the shelf.
+pub(crate) fn server_of(alloc: Global, path: &str) -> Result<Server, &'static str> {
+    let Ok(mut publisher) = Publisher::new(alloc, rules(alloc, path)?, 1) else {
+        return Err("memory");
+    };
+    let Ok(watcher) = publisher.watcher() else {
+        return Err("memory");
+    };
+    let Ok((cells, pass)) = PlainCells::new(alloc) else {
+        return Err("memory");
+    };
+    Ok(Server {
+        publisher,
+        watcher,
+        cells,
+        pass,
+    })
+}
+
+/// How a device behaves: how many bytes it takes a call, and which call fails, if any (from 1).
+#[derive(Clone, Copy)]
+pub(crate) struct Device {
+    pub(crate) piece: usize,
+    pub(crate) fails: u64,
+}
+
+/// A device that takes what it is given.
+pub(crate) const WHOLE: Device = Device {
+    piece: 1_000_000,
+    fails: 0,
+};
+
+/// What came of a request, and what was written.
+#[derive(Drop)]
+pub(crate) struct Heard {
+    pub(crate) outcome: Result<u16, AnswerFault>,
+    pub(crate) written: Vec<u8>,
+}
+
+/// One request to the worker of this pass and this watcher.
+pub(crate) fn exchange_over<H: Wait, C: CellSteps>(
+    rt: &H,
+    alloc: Global,
+    worker: (&C, &mut C::Pass, &mut Watcher),
+    input: &[u8],
+    reads: Device,
+    writes: Device,
+) -> Heard
+    requires { C.belongs worker.0.now worker.1.now }
+{
+    let (cells, pass, watcher) = worker;
+    let mut reader = Counted::new(FailAt::new(input, reads.piece, reads.fails));
+    let mut writer = Counted::new(FailAt::new(Vec::new(alloc), writes.piece, writes.fails));
+    let outcome = answer(
+        rt,
+        alloc,
+        &mut reader,
+        &mut writer,
+        cells,
+        pass,
+        watcher,
+        MOMENT,
+    );
+    Heard {
+        outcome,
+        written: writer.into_inner().into_inner(),
+    }
+}
+
+/// One request to the server.
+pub(crate) fn exchange<H: Wait>(
+    rt: &H,
+    alloc: Global,
+    server: &mut Server,
+    input: &[u8],
+    reads: Device,
+    writes: Device,
+) -> Heard {
+    let worker = (&server.cells, &mut server.pass, &mut server.watcher);
+    exchange_over(rt, alloc, worker, input, reads, writes)
+}
+
+/// One request to a server of its own, by a manifest of the shelf.
+pub(crate) fn answered<H: Wait>(
+    rt: &H,
+    alloc: Global,
+    path: &str,
+    input: &[u8],
+    reads: Device,
+    writes: Device,
+) -> Result<Heard, &'static str> {
+    let mut server = server_of(alloc, path)?;
+    Ok(exchange(rt, alloc, &mut server, input, reads, writes))
+}
+
+/// A POST of a body, with its head.
+pub(crate) fn post(alloc: Global, body: &str) -> Result<Vec<u8>, AllocError> {
+    let size = body.len();
+    let text = format!(in alloc;
+        "POST /service/update2/json HTTP/1.1\r\nHost: h\r\nContent-Length: {size}\r\n\r\n{body}"
+    )?;
+    Ok(text.into_bytes())
+}
+
+/// The bytes of a reply of status 200.
+pub(crate) fn success(alloc: Global, text: &str) -> Result<Vec<u8>, AllocError> {
+    let size = text.len();
+    let reply = format!(in alloc;
+        "HTTP/1.1 200 OK\r\nContent-Type: application/json; charset=utf-8\r\n\
+            Content-Length: {size}\r\nConnection: close\r\n\r\n{text}"
+    )?;
+    Ok(reply.into_bytes())
+}
+
+/// Whether a fault is printed so. It is generic, so that no proof reads how a fault is printed.
+pub(crate) fn is_printed<F: Display>(
+    alloc: Global,
+    fault: &F,
+    want: &str,
+) -> Result<bool, AllocError> {
+    Ok(format!(in alloc; "{fault}")?.as_str() == want)
+}
+
+/// How often a text stands in the bytes.
+pub(crate) fn times(bytes: &[u8], part: &str) -> usize {
+    let text = str::from_utf8(bytes).unwrap_or("");
+    text.split(part).count().saturating_sub(1)
+}

@@ -1,0 +1,39 @@
+//! Whole answers of a server: requests and an operator's lines over memory, byte for byte, and both
+//! ends of a server over loopback. They stand in a crate of their own, since a crate with tests is
+//! proved twice.
+#![tactic(auto)]
+
+#[cfg(test)]
+mod clients;
+#[cfg(test)]
+mod counters;
+#[cfg(test)]
+mod exchange;
+#[cfg(test)]
+mod folder;
+#[cfg(test)]
+mod lines;
+#[cfg(test)]
+mod loopback;
+#[cfg(test)]
+mod meeting;
+#[cfg(test)]
+mod memory;
+#[cfg(test)]
+mod quota;
+#[cfg(test)]
+mod refusals;
+#[cfg(test)]
+mod replies;
+#[cfg(test)]
+mod serving;
+#[cfg(test)]
+mod session;
+#[cfg(test)]
+mod shelf;
+#[cfg(test)]
+mod short;
+#[cfg(test)]
+mod swaps;
+#[cfg(test)]
+mod swaps_under_load;

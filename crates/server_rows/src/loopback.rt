@@ -1,0 +1,38 @@
+//! What a client sends over loopback, and what comes back.
+
+use std::alloc::Global;
+use std::io::{self, Read, Write};
+use std::net::{Net, SocketAddr, TcpStream};
+
+/// A connection that has sent these bytes.
+pub(crate) fn sent<H>(rt: &H, place: SocketAddr, bytes: &[u8]) -> io::Result<TcpStream>
+where
+    H: Net<Stream = TcpStream>,
+{
+    let stream = TcpStream::connect(rt, place)?;
+    send(&stream, bytes)?;
+    Ok(stream)
+}
+
+/// Sends the bytes.
+pub(crate) fn send(stream: &TcpStream, bytes: &[u8]) -> io::Result<()> {
+    let mut to = stream;
+    to.write_all(bytes)
+}
+
+/// What the server sends until it ends.
+pub(crate) fn reply(alloc: Global, stream: &TcpStream) -> io::Result<Vec<u8>> {
+    let mut bytes = Vec::new(alloc);
+    let mut from = stream;
+    let _count = from.read_to_end(&mut bytes)?;
+    Ok(bytes)
+}
+
+/// Sends all of the bytes, and gives what comes back until the other side ends.
+pub(crate) fn told<H>(rt: &H, place: SocketAddr, bytes: &[u8]) -> io::Result<Vec<u8>>
+where
+    H: Net<Stream = TcpStream> + AllocGlobal,
+{
+    let stream = sent(rt, place, bytes)?;
+    reply(rt.alloc(), &stream)
+}

@@ -1,0 +1,143 @@
+//! The server over loopback, with both ends in one process: workers in their threads, and clients.
+
+use crate::clients::{halt, held, refused, silent, slow, two, waiting};
+use crate::meeting::{Meeting, gate_that};
+use crate::shelf::rules;
+use hot_swap::{Publisher, Watcher};
+use locked_cells::{LockedCells, LockedPass};
+use std::alloc::Global;
+use std::net::{Net, SocketAddr, TcpListener, TcpStream};
+use std::sync::Wait;
+use std::sync::atomic::{AtomicBool, Ordering};
+use std::test::Fail;
+use std::thread::Threads;
+use std::time::{Clock, Duration};
+use std::{io, thread};
+use workers::{Service, serve};
+
+/// So many workers of a server that offers nothing.
+fn workers_of(alloc: Global, count: usize) -> Result<Vec<(LockedPass, Watcher)>, Fail> {
+    let mut publisher = Publisher::new(alloc, rules(alloc, "nothing")?, count.clamp(1, 65))?;
+    let mut workers = Vec::new(alloc);
+    for _ in 0..count {
+        workers.push((LockedPass, publisher.watcher()?))?;
+    }
+    Ok(workers)
+}
+
+/// Serves with these workers, each connection for so many seconds, and says whether it could.
+fn serves<H>(
+    rt: &H,
+    gate: &Meeting,
+    listener: TcpListener,
+    workers: Vec<(LockedPass, Watcher)>,
+    stop: &AtomicBool,
+    seconds: u64,
+) -> bool
+where
+    H: Threads + Wait + AllocGlobal + Clock + Eprint + Sync,
+{
+    let Ok(cells) = LockedCells::new(rt.alloc(), rt) else {
+        return false;
+    };
+    let service = Service {
+        timeout: Duration::from_secs(seconds),
+        log: false,
+    };
+    serve(rt, gate, listener, &cells, workers, stop, service).is_ok()
+}
+
+/// What the clients of a server do.
+#[derive(Clone, Copy)]
+enum Clients {
+    Two,
+    Held,
+    Silent,
+    Slow,
+    Waiting,
+    Refused,
+}
+
+/// Whether the clients heard what they should, after which the server is told to stop.
+fn heard<H>(
+    rt: &H,
+    place: SocketAddr,
+    gate: &Meeting,
+    stop: &AtomicBool,
+    clients: Clients,
+) -> io::Result<bool>
+where
+    H: Net<Stream = TcpStream> + AllocGlobal + Clock,
+{
+    let heard = match clients {
+        Clients::Two => two(rt, place),
+        Clients::Held => held(rt, place, gate),
+        Clients::Silent => silent(rt, place),
+        Clients::Slow => slow(rt, place),
+        Clients::Waiting => waiting(rt, place, gate, stop),
+        Clients::Refused => refused(rt, place),
+    };
+    halt(rt, place, stop);
+    heard
+}
+
+/// Whether the clients heard what they should, the gate didn't run out, and the server ended: one
+/// of so many workers, each connection of which may last so many seconds.
+fn is_served<H>(
+    rt: &H,
+    clients: Clients,
+    holds: bool,
+    workers: usize,
+    seconds: u64,
+) -> Result<bool, Fail>
+where
+    H: Threads
+        + Wait
+        + AllocGlobal
+        + Clock
+        + Eprint
+        + Sync
+        + Net<Listener = TcpListener, Stream = TcpStream>,
+{
+    let listener = TcpListener::bind(rt, "127.0.0.1:0")?;
+    let place = listener.local_addr()?;
+    let stop = AtomicBool::new(false);
+    let gate = gate_that(holds);
+    let workers = workers_of(rt.alloc(), workers)?;
+    let (ended, heard) = thread::join(
+        rt,
+        || serves(rt, &gate, listener, workers, &stop, seconds),
+        || heard(rt, place, &gate, &stop, clients),
+    );
+    let is_heard = heard?;
+    Ok(is_heard && ended && !gate.ran_out.load(Ordering::SeqCst))
+}
+
+#[test]
+fn clients_are_served(rt: HostRuntime) -> Result<(), Fail> {
+    assert!(rt;
+        is_served(&rt, Clients::Two, true, 2, 30)?,
+        "two answers at once"
+    );
+    assert!(rt;
+        is_served(&rt, Clients::Held, false, 2, 30)?,
+        "a head is held"
+    );
+    assert!(rt;
+        is_served(&rt, Clients::Silent, false, 1, 1)?,
+        "a silent one is dropped"
+    );
+    assert!(rt;
+        is_served(&rt, Clients::Slow, false, 1, 1)?,
+        "a slow one is dropped"
+    );
+    assert!(rt;
+        is_served(&rt, Clients::Waiting, true, 1, 30)?,
+        "accepted before a stop"
+    );
+    assert!(rt;
+        is_served(&rt, Clients::Refused, false, 1, 30)?,
+        "a refusal is heard"
+    );
+    Ok(())
+}

@@ -1,0 +1,224 @@
+//! A server over loopback, and its operator: both ends in one process.
+
+use crate::exchange::{post, times};
+use crate::loopback::told;
+use crate::shelf::{Shelf, ruleset};
+use cells::Directory;
+use operator::ask;
+use serving::{Ports, ServingFault, bind, run};
+use std::net::{Net, SocketAddr, TcpListener, TcpStream};
+use std::sync::Wait;
+use std::test::Fail;
+use std::thread::Threads;
+use std::time::{Clock, Duration};
+use std::{io, thread};
+use workers::Service;
+
+/// Each connection may last ten seconds.
+pub(crate) fn service() -> Service {
+    Service {
+        timeout: Duration::from_secs(10),
+        log: false,
+    }
+}
+
+/// Serves a manifest of the shelf with four workers, until it is stopped.
+pub(crate) fn served<H>(rt: &H, ports: Ports, path: &str) -> Result<(), ServingFault>
+where
+    H: Threads + Wait + AllocGlobal + Clock + Eprint + Sync,
+    H: Net<Listener = TcpListener, Stream = TcpStream>,
+{
+    let mut directory = Directory::new(rt.alloc());
+    let Ok(rules) = ruleset(rt.alloc(), path, &mut directory) else {
+        return Err(ServingFault::Memory);
+    };
+    run(rt, ports, &Shelf, rules, directory, 4, service())
+}
+
+/// Two free ports.
+pub(crate) fn ports_of<H>(rt: &H, service: u16, operator: u16) -> Result<Ports, ServingFault>
+where
+    H: Net<Listener = TcpListener, Stream = TcpStream>,
+{
+    bind(rt, service, operator)
+}
+
+/// An app that asks for an update.
+const ONE_APP: &str =
+    "{\"request\":{\"protocol\":\"3.1\",\"app\":[{\"appid\":\"x\",\"updatecheck\":{}}]}}";
+
+/// Four apps that ask for an update.
+pub(crate) const FOUR_APPS: &str = "{\"request\":{\"protocol\":\"3.1\",\"app\":[\
+    {\"appid\":\"x\",\"updatecheck\":{}},{\"appid\":\"x\",\"updatecheck\":{}},\
+    {\"appid\":\"x\",\"updatecheck\":{}},{\"appid\":\"x\",\"updatecheck\":{}}]}}";
+
+/// The reply to a request.
+pub(crate) fn posted<H>(rt: &H, place: SocketAddr, body: &str) -> io::Result<Vec<u8>>
+where
+    H: Net<Stream = TcpStream> + AllocGlobal,
+{
+    told(rt, place, &post(rt.alloc(), body)?)
+}
+
+/// How many apps of a request are offered a release, in digits.
+fn offered<H>(rt: &H, place: SocketAddr, body: &str) -> io::Result<Vec<u8>>
+where
+    H: Net<Stream = TcpStream> + AllocGlobal,
+{
+    let reply = posted(rt, place, body)?;
+    let count = times(&reply, "\"manifest\"");
+    Ok(format!(in rt.alloc(); "{count}")?.into_bytes())
+}
+
+/// What the operator's side of a port gives for a line, or its printed fault.
+pub(crate) fn asked<H>(rt: &H, port: u16, line: &str) -> io::Result<Vec<u8>>
+where
+    H: Net<Stream = TcpStream> + AllocGlobal,
+{
+    match ask(rt, port, line) {
+        Ok(reply) => Ok(reply),
+        Err(fault) => Ok(format!(in rt.alloc(); "{fault}")?.into_bytes()),
+    }
+}
+
+/// What is sent to the operator's port, and the reply; `post` is a request of four apps and `one`
+/// of one, whose reply is how many of them are offered a release. Behind `ask` a line is asked by
+/// the operator's side, and behind `wrong` at the clients' port. In lines `;` stands for the line
+/// feed.
+const SESSION: &str = "show;|generation 1;app x releases 1 slots 9;
+cells;|
+post|2
+cells;|q[0] 4;
+frob;|refused B1 Word;
+load unset;|refused a program;
+load other_quota;|refused an array;
+show;|generation 1;app x releases 1 slots 9;
+post|0
+cells;|q[0] 8;
+load yes;|generation 2;
+show;|generation 2;app x releases 1 slots 2;
+post|4
+load no;|generation 3;
+post|0
+cells;|q[0] 8;
+load quota;|generation 4;
+post|0
+cells;|q[0] 12;
+stop;|stopping;";
+
+/// Requests that take of a quota of two, one after the other.
+const TAKEN: &str = "one|1
+one|1
+one|0
+cells;|q[0] 3;
+show;|generation 1;app x releases 1 slots 9;
+frob;|refused B1 Word;
+stop;|stopping;";
+
+/// No line of the operator's side is answered at the clients' port.
+const ASKED: &str = "wrong stop|B5 Connect
+wrong show|B5 Connect
+wrong cells|B5 Connect
+wrong load no|B5 Connect
+ask load no|generation 2;
+ask stop|stopping;";
+
+/// The first row whose reply is another one; then the server is stopped.
+pub(crate) fn first_wrong<H>(
+    rt: &H,
+    rows: &'static str,
+    service: SocketAddr,
+    operator: SocketAddr,
+) -> Option<&'static str>
+where
+    H: Net<Stream = TcpStream> + AllocGlobal,
+{
+    for row in rows.split('\n') {
+        if !is_right(rt, service, operator, row).unwrap_or(false) {
+            let _stopped = asked(rt, operator.port(), "stop");
+            return Some(row);
+        }
+    }
+    None
+}
+
+fn is_right<H>(rt: &H, service: SocketAddr, operator: SocketAddr, row: &str) -> io::Result<bool>
+where
+    H: Net<Stream = TcpStream> + AllocGlobal,
+{
+    let (sent, want) = row.split_once('|').unwrap_or((row, ""));
+    let want = want.replace(rt.alloc(), ";", "\n")?;
+    let heard = heard(rt, service, operator, sent)?;
+    Ok(heard.as_slice() == want.as_bytes())
+}
+
+/// What is heard of what is sent.
+fn heard<H>(rt: &H, service: SocketAddr, operator: SocketAddr, sent: &str) -> io::Result<Vec<u8>>
+where
+    H: Net<Stream = TcpStream> + AllocGlobal,
+{
+    if sent == "post" {
+        return offered(rt, service, FOUR_APPS);
+    }
+    if sent == "one" {
+        return offered(rt, service, ONE_APP);
+    }
+    match sent.split_once(' ') {
+        Some(("ask", line)) => asked(rt, operator.port(), line),
+        Some(("wrong", line)) => asked(rt, service.port(), line),
+        _ => {
+            let lines = sent.replace(rt.alloc(), ";", "\n")?;
+            told(rt, operator, lines.as_bytes())
+        }
+    }
+}
+
+/// Whether a server of this manifest answers these rows, and then ends.
+fn is_played<H>(rt: &H, path: &'static str, rows: &'static str) -> Result<bool, Fail>
+where
+    H: Threads + Wait + AllocGlobal + Clock + Eprint + Sync,
+    H: Net<Listener = TcpListener, Stream = TcpStream>,
+{
+    let ports = ports_of(rt, 0, 0)?;
+    let (service, operator) = (ports.service(), ports.operator());
+    let (ended, wrong) = thread::join(
+        rt,
+        || served(rt, ports, path),
+        || first_wrong(rt, rows, service, operator),
+    );
+    ended?;
+    match wrong {
+        Some(row) => Err(Fail::from(row)),
+        None => Ok(true),
+    }
+}
+
+#[test]
+fn sessions(rt: HostRuntime) -> Result<(), Fail> {
+    assert!(rt; is_played(&rt, "quota", SESSION)?);
+    assert!(rt; is_played(&rt, "quota", TAKEN)?);
+    assert!(rt; is_played(&rt, "yes", ASKED)?);
+    Ok(())
+}
+
+/// Whether the operator's side tells this of a line.
+fn is_asked<H>(rt: &H, port: u16, line: &str, want: &str) -> io::Result<bool>
+where
+    H: Net<Stream = TcpStream> + AllocGlobal,
+{
+    Ok(asked(rt, port, line)?.as_slice() == want.as_bytes())
+}
+
+/// A port that is taken can't be bound, and where nobody listens nobody answers.
+#[test]
+fn ports(rt: HostRuntime) -> Result<(), Fail> {
+    let ports = ports_of(&rt, 0, 0)?;
+    let taken = ports.operator().port();
+    assert!(rt; ports_of(&rt, 0, taken).err() == Some(ServingFault::Bind));
+    assert!(rt; ports_of(&rt, taken, 0).err() == Some(ServingFault::Bind));
+    drop(ports);
+    assert!(rt; is_asked(&rt, taken, "show", "B5 Connect")?);
+    assert!(rt; is_asked(&rt, taken, "frob", "B1 Word")?);
+    assert!(rt; is_asked(&rt, taken, "load a\nb", "B1 Word")?);
+    Ok(())
+}

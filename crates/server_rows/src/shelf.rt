@@ -1,0 +1,158 @@
+//! The manifests of the tests, by their paths. Each has one app, `x`, with one release.
+
+ghost use Rattle.std.specs.Prelude.{◌≡◌};
+
+use attrs::Text;
+use bpf_text::assemble;
+use bpf_verify::{Verified, verify};
+use cells::{Directory, Shape};
+use declarations::{declare_all, read_spec};
+use flow_check::Flow;
+use operator::Loader;
+use releases::{Package, Release};
+use ruleset::{App, Ruleset};
+use std::alloc::{AllocError, Global};
+use std::sync::Arc;
+
+/// A path, the server's text, the arrays, and the program of the app, in which `;` stands for the
+/// line feed. Those that take of `q[0]` offer the release to as many as its quota. The program of
+/// `unset` is refused after the array was declared.
+const MANIFESTS: &str = "nothing|prod||mov r0, 0;exit
+below_2000|prod||ldxh r2, [r1+16];mov r0, 0;jge r2, 2000, end;mov r0, 1;end:;exit
+one|prod|q:64:1:1|ldcell r6, 0, 0;mov r2, 1;fadddw [r6+0], r2;jge r2, 1, +2;\
+    mov r0, 1;exit;mov r0, 0;exit
+thousand|prod|q:64:1:1000|ldcell r6, 0, 0;mov r2, 1;fadddw [r6+0], r2;jge r2, 1000, +2;\
+    mov r0, 1;exit;mov r0, 0;exit
+quota|quota|q:64:1:2,w:32:3|ldcell r6, 0, 0;mov r2, 1;fadddw [r6+0], r2;jge r2, 2, +2;\
+    mov r0, 1;exit;mov r0, 0;exit
+yes|yes|z:64:2|mov r0, 1;exit
+no|no|z:64:2|mov r0, 0;exit
+unset|unset|z:64:1|exit
+other_quota|other|q:64:1:3|mov r0, 0;exit";
+
+/// The loader of these manifests. It says in words why there is no ruleset.
+pub(crate) struct Shelf;
+
+impl Loader for Shelf {
+    type Fault = &'static str;
+
+    ghost loads = { λ _ _ _ _ _. Unit {0} };
+
+    fn load(
+        &self,
+        alloc: Global,
+        path: &str,
+        directory: &mut Directory,
+    ) -> Result<Ruleset, &'static str> {
+        ruleset(alloc, path, directory)
+    }
+}
+
+/// The ruleset of a path, alone on a server.
+pub(crate) fn rules(alloc: Global, path: &str) -> Result<Arc<Ruleset>, &'static str> {
+    let mut directory = Directory::new(alloc);
+    let rules = ruleset(alloc, path, &mut directory)?;
+    Arc::new(alloc, rules).or(Err("memory"))
+}
+
+/// The ruleset of a path, whose arrays are declared in the directory.
+pub(crate) fn ruleset(
+    alloc: Global,
+    path: &str,
+    directory: &mut Directory,
+) -> Result<Ruleset, &'static str> {
+    let Some(row) = row_of(path) else {
+        return Err("no such manifest");
+    };
+    let mut parts = row.split('|');
+    let server = parts.next().unwrap_or("");
+    let shape = shape(alloc, parts.next().unwrap_or(""), directory)?;
+    let program = program(alloc, parts.next().unwrap_or(""), &shape)?;
+    match ruleset_of(alloc, server, program) {
+        Ok(Some(rules)) => Ok(rules),
+        _ => Err("memory"),
+    }
+}
+
+/// What stands behind a path.
+fn row_of(path: &str) -> Option<&'static str> {
+    for row in MANIFESTS.lines() {
+        if let Some((name, rest)) = row.split_once('|') {
+            if name == path {
+                return Some(rest);
+            }
+        }
+    }
+    None
+}
+
+fn shape(alloc: Global, arrays: &str, directory: &mut Directory) -> Result<Shape, &'static str> {
+    if arrays.is_empty() {
+        return Ok(Shape::plain(alloc, 1));
+    }
+    let Ok(declared) = read_spec(alloc, arrays) else {
+        return Err("an array");
+    };
+    let Ok(numbers) = declare_all(alloc, directory, &declared) else {
+        return Err("an array");
+    };
+    match Shape::of(alloc, 1, directory, &numbers) {
+        Ok(shape) => Ok(shape),
+        Err(_) => Err("memory"),
+    }
+}
+
+fn program(alloc: Global, text: &str, shape: &Shape) -> Result<Verified, &'static str> {
+    let Ok(lines) = text.replace(alloc, ";", "\n") else {
+        return Err("memory");
+    };
+    let Ok(bytes) = assemble(alloc, lines.as_str()) else {
+        return Err("a program");
+    };
+    let Ok(flow) = Flow::check(alloc, &bytes) else {
+        return Err("a program");
+    };
+    match verify(alloc, flow, shape) {
+        Ok(program) => Ok(program),
+        Err(_) => Err("a program"),
+    }
+}
+
+/// The app `x` of a program that chooses among one release.
+fn app_of(alloc: Global, program: Verified) -> Result<App, AllocError>
+    requires { program.shape.releases ≡ 1 }
+{
+    let appid = String::from_str(alloc, "x")?;
+    let releases = vec![in alloc; release(alloc)?]?;
+    Ok(App::new(appid, Arc::new(alloc, program)?, releases))
+}
+
+fn ruleset_of(
+    alloc: Global,
+    server: &str,
+    program: Verified,
+) -> Result<Option<Ruleset>, AllocError> {
+    if program.shape().releases() != 1 {
+        return Ok(None);
+    }
+    let server = String::from_str(alloc, server)?;
+    let apps = vec![in alloc; app_of(alloc, program)?]?;
+    Ok(Ruleset::new(server, apps).ok())
+}
+
+fn release(alloc: Global) -> Result<Release, AllocError> {
+    let version = Text::new(String::from_str(alloc, "2.0.0.0")?);
+    let codebase = text_of(alloc, "http://dl.example/")?;
+    let packages = vec![in alloc; package(alloc)?]?;
+    Ok(Release::new(version, codebase, packages))
+}
+
+fn package(alloc: Global) -> Result<Package, AllocError> {
+    let hash = "ba7816bf8f01cfea414140de5dae2223b00361a396177a9cb410ff61f20015ad";
+    let hash = Text::new(String::from_str(alloc, hash)?);
+    Ok(Package::new(text_of(alloc, "x.bin")?, hash, 3, true))
+}
+
+fn text_of(alloc: Global, text: &str) -> Result<Text, AllocError> {
+    Ok(Text::new(String::from_str(alloc, text)?))
+}
