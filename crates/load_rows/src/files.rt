@@ -1,9 +1,10 @@
-// Files in memory, some of which can't be read.
+//! Files in memory, some of which can't be read.
 
 ghost use Rattle.std.specs.Prelude.{◌≡◌, option_copied};
 ghost use Rattle.load_rows.specs.Files as specs;
 
 use load::{FileFault, Files};
+use replaying::Disk;
 use std::alloc::{AllocError, Global};
 use std::marker::Model;
 
@@ -91,6 +92,23 @@ impl Files for MemFiles {
 
     fn failures(&self) -> u64 {
         self.failures
+    }
+}
+
+impl Disk for MemFiles {
+    ghost use Rattle.std.specs.Prelude.{Some};
+    ghost use Rattle.load_rows.specs.Files as specs;
+
+    ghost known = { λ m. Some (specs.given m.files.items) };
+
+    fn read(&self, path: &str) -> Result<Vec<u8>, FileFault> {
+        let Some(bytes) = find(self.files.as_slice(), path) else {
+            return Err(FileFault::Failed);
+        };
+        match Vec::from_slice(self.alloc, bytes) {
+            Ok(bytes) => Ok(bytes),
+            Err(_) => Err(FileFault::Memory),
+        }
     }
 }
 

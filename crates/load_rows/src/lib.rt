@@ -1,15 +1,18 @@
-//! Tests of loads: what good manifests give, and each refusal with ways to get it.
+//! Tests of what a server's owner writes. Manifests: each refusal with each way to get it, and the
+//! ranges on both sides. Loads: what good manifests give with their files, and each refusal.
+//! Checks: what is told of a manifest, and each refusal with its reason. Scripts: their texts, and
+//! what their lines print when they are played from files.
 #![tactic(auto)]
 
 #[cfg(test)]
-mod counts;
+mod checks;
 #[cfg(test)]
 mod files;
 #[cfg(test)]
-mod good;
+mod loads;
 #[cfg(test)]
-mod memory;
-#[cfg(test)]
-mod refusals;
+mod manifests;
 #[cfg(test)]
 mod sample;
+#[cfg(test)]
+mod scripts;

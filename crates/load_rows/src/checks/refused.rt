@@ -1,6 +1,7 @@
-// Each refusal with its reason, by changes of the sample.
+//! Each refusal with its reason, by changes of the sample.
 
-use crate::sample::{changed, files, repeated, told};
+use super::{RULES, SAMPLE, told};
+use crate::sample::{changed, files, repeated};
 use std::process::Abort;
 use std::test::Fail;
 
@@ -60,10 +61,10 @@ M7 Cells N1 CellsFull in array 2 / array[2].length: n passes the 4096 cells that
 #[test]
 fn each(rt: HostRuntime) -> Result<(), Fail> {
     let alloc = rt.alloc();
-    let mut files = files(alloc)?;
+    let mut files = files(alloc, RULES)?;
     for row in ROWS.split("\n- ").skip(1) {
         let (changes, want) = row.split_once(" | ").ok_or("a row of another form")?;
-        let manifest = changed(alloc, changes)?;
+        let manifest = changed(alloc, SAMPLE, changes)?;
         let told = told(alloc, &mut files, manifest.as_str())?;
         // what the reader of TOML says behind its place is its own affair
         let right = match want.starts_with("M1") {
@@ -78,7 +79,7 @@ fn each(rt: HostRuntime) -> Result<(), Fail> {
 #[test]
 fn too_long(rt: HostRuntime) -> Result<(), Fail> {
     let alloc = rt.alloc();
-    let mut files = files(alloc)?;
+    let mut files = files(alloc, RULES)?;
     let manifest = repeated(alloc, 1048577, "\n")?;
     let told = told(alloc, &mut files, manifest.as_str())?;
     let want = "M1 Toml / more than 1048576 bytes / ";

@@ -1,6 +1,6 @@
-// Names that stand twice, and the order of the refusals.
+//! Names that stand twice, and the order of the refusals.
 
-use crate::sample::told;
+use super::told;
 use std::test::Fail;
 
 /// What is told, and the tables behind the server's text. The names of arrays come before the

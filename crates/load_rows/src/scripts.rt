@@ -1,12 +1,15 @@
-// Manifests with their programs, each in a folder of its own.
+//! Scripts: manifests with their programs, each in a folder of its own.
 
-use crate::disk::MemDisk;
+mod lines;
+mod played;
+
+use crate::files::MemFiles;
 use bpf_text::assemble;
 use std::alloc::Global;
 use std::test::Fail;
 
-// Folder, quota, number of releases, and the program: for the first runs up to a quota of two
-// release 1, the third release after eight instructions, and no release.
+/// Folder, quota, number of releases, and the program: for the first runs up to a quota of two
+/// release 1, the third release after eight instructions, and no release.
 const FOLDERS: &str = r"
 quota|2|1|ldcell r6, 0, 0/mov r2, 1/fadddw [r6+0], r2/jge r2, 2, +2/mov r0, 1/exit/mov r0, 0/exit
 third|2|3|mov r2, 0/mov r2, 0/mov r2, 0/mov r2, 0/mov r2, 0/mov r2, 0/mov r0, 3/exit
@@ -38,25 +41,25 @@ fn manifest(alloc: Global, quota: &str, releases: &str) -> Result<Vec<u8>, Fail>
     Ok(Vec::from_slice(alloc, text.as_bytes())?)
 }
 
-fn add_folder(alloc: Global, disk: &mut MemDisk, row: &str) -> Result<(), Fail> {
+fn add_folder(alloc: Global, disk: &mut MemFiles, row: &str) -> Result<(), Fail> {
     let (folder, row) = row.split_once("|").ok_or("a row without a folder")?;
     let (quota, row) = row.split_once("|").ok_or("a row without a quota")?;
     let (releases, program) = row.split_once("|").ok_or("a row without a program")?;
     let text = program.replace(alloc, "/", "\n")?;
     let path = format!(in alloc; "{folder}/m.toml")?;
-    disk.add(path.as_str(), manifest(alloc, quota, releases)?)?;
+    disk.add(path.as_str(), Some(manifest(alloc, quota, releases)?))?;
     let path = format!(in alloc; "{folder}/x.bpf")?;
-    disk.add(path.as_str(), assemble(alloc, text.as_str())?)?;
+    disk.add(path.as_str(), Some(assemble(alloc, text.as_str())?))?;
     Ok(())
 }
 
 /// All folders, one whose manifest names a file that isn't there, and the script.
-pub(crate) fn disk(alloc: Global, script: &[u8]) -> Result<MemDisk, Fail> {
-    let mut disk = MemDisk::new(alloc);
+fn disk(alloc: Global, script: &[u8]) -> Result<MemFiles, Fail> {
+    let mut disk = MemFiles::new(alloc);
     for row in FOLDERS.trim().lines() {
         add_folder(alloc, &mut disk, row)?;
     }
-    disk.add("bare/m.toml", manifest(alloc, "2", "1")?)?;
-    disk.add("script.txt", Vec::from_slice(alloc, script)?)?;
+    disk.add("bare/m.toml", Some(manifest(alloc, "2", "1")?))?;
+    disk.add("script.txt", Some(Vec::from_slice(alloc, script)?))?;
     Ok(disk)
 }

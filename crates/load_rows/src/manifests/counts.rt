@@ -1,6 +1,7 @@
-// How many tables a list has.
+//! How many tables a list has.
 
-use crate::sample::told;
+use super::told;
+use crate::sample::repeated;
 use std::alloc::Global;
 use std::test::Fail;
 
@@ -9,13 +10,9 @@ const PACKAGE: &str = "{ name = \"\", hash_sha256 = \
 
 /// A list of so many equal items.
 fn list(alloc: Global, count: usize, item: &str) -> Result<String, Fail> {
-    let mut text = String::from_str(alloc, "[")?;
-    for _ in 0..count {
-        text.push_str(item)?;
-        text.push_str(", ")?;
-    }
-    text.push_str("]")?;
-    Ok(text)
+    let item = format!(in alloc; "{item}, ")?;
+    let items = repeated(alloc, count, item.as_str())?;
+    Ok(format!(in alloc; "[{items}]")?)
 }
 
 /// Tables with a number each: `head`, the number, `tail`.

@@ -1,6 +1,6 @@
-// The bytes: their number, UTF-8, and TOML; and what a manifest tells once it is read.
+//! The bytes: their number, UTF-8, and TOML; and what a manifest tells once it is read.
 
-use crate::sample::{SAMPLE, read, told};
+use super::{SAMPLE, read, told};
 use cells::CellWidth;
 use declarations::ArrayDeclaration;
 use manifest::{AppEntry, ManifestFault, Source, TomlFault};

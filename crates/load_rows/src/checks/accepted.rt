@@ -1,6 +1,7 @@
-// What is told of manifests that are accepted.
+//! What is told of manifests that are accepted.
 
-use crate::sample::{changed, files, repeated, told};
+use super::{RULES, SAMPLE, told};
+use crate::sample::{changed, files, repeated};
 use std::process::Abort;
 use std::test::Fail;
 
@@ -18,10 +19,10 @@ const ROWS: &str = r#"
 #[test]
 fn each(rt: HostRuntime) -> Result<(), Fail> {
     let alloc = rt.alloc();
-    let mut files = files(alloc)?;
+    let mut files = files(alloc, RULES)?;
     for row in ROWS.split("\n- ").skip(1) {
         let (changes, want) = row.split_once(" | ").ok_or("a row of another form")?;
-        let manifest = changed(alloc, changes)?;
+        let manifest = changed(alloc, SAMPLE, changes)?;
         let told = told(alloc, &mut files, manifest.as_str())?;
         assert!(&rt; told.as_str().trim() == want.trim(), "{row}: {told}");
     }
@@ -31,7 +32,7 @@ fn each(rt: HostRuntime) -> Result<(), Fail> {
 #[test]
 fn no_array(rt: HostRuntime) -> Result<(), Fail> {
     let alloc = rt.alloc();
-    let mut files = files(alloc)?;
+    let mut files = files(alloc, RULES)?;
     let appid = repeated(alloc, 1024, "i")?;
     let manifest = format!(in alloc;
         "server = \"\"\n[[app]]\nappid = \"{appid}\"\nrule = \"y.rule\"\n"

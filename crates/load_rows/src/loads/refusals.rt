@@ -1,7 +1,8 @@
-// Each refusal, by changes of the sample.
+//! Each refusal, by changes of the sample.
 
+use super::{RULES, SAMPLE, told};
 use crate::files::MemFiles;
-use crate::sample::{changed, files, told};
+use crate::sample::{changed, files};
 use cells::Directory;
 use load::Files;
 use std::alloc::Global;
@@ -44,7 +45,8 @@ width = 64 / length = 4096 / [[app]] | M7 Cells N1 CellsFull in array 2
 width = 64 / length = 4096 / [[app]] | M3 Duplicate
 - M7 before M4 | "x.bpf" => "z.bpf" & [[app]] => [[array]] / name = "r"
 width = 64 / length = 4096 / [[app]] | M7 Cells N1 CellsFull in array 2
-- app 1 first | "x.bpf" => "unset.bpf" & "y.rule" => "z.rule" | M5 Program V1 Unusable at slot 0 in app 1
+- app 1 first
+ | "x.bpf" => "unset.bpf" & "y.rule" => "z.rule" | M5 Program V1 Unusable at slot 0 in app 1
 - app 1 before app 2, turned | "x.bpf" => "z.bpf" & "y.rule" => "shape.rule" | M4 File in app 1
 "#;
 
@@ -75,14 +77,14 @@ fn load_twice(alloc: Global, files: &mut MemFiles, manifest: &str) -> Result<Tol
 #[test]
 fn each_way(rt: HostRuntime) -> Result<(), Fail> {
     let alloc = rt.alloc();
-    let mut files = files(alloc)?;
+    let mut files = files(alloc, RULES)?;
     for row in ROWS.split("\n- ").skip(1) {
         let (_, rest) = row
             .trim_end()
             .split_once(" | ")
             .ok_or("a row of another form")?;
         let (changes, answer) = rest.split_once(" | ").ok_or("a row of another form")?;
-        let manifest = changed(alloc, changes)?;
+        let manifest = changed(alloc, SAMPLE, changes)?;
         let told = load_twice(alloc, &mut files, manifest.as_str())?;
         assert!(&rt; told.first.as_str() == answer, "{row}: {}", told.first);
         assert!(&rt;
@@ -113,9 +115,9 @@ width = 64 / length = 1
 #[test]
 fn after_a_good_one(rt: HostRuntime) -> Result<(), Fail> {
     let alloc = rt.alloc();
-    let mut files = files(alloc)?;
+    let mut files = files(alloc, RULES)?;
     let mut directory = Directory::new(alloc);
-    let good = changed(alloc, "")?;
+    let good = changed(alloc, SAMPLE, "")?;
     let first = told(alloc, &mut files, &mut directory, good.as_str())?;
     assert!(&rt; first.as_str() == "ok", "{first}");
     for row in LATER.split("\n- ").skip(1) {
@@ -124,7 +126,7 @@ fn after_a_good_one(rt: HostRuntime) -> Result<(), Fail> {
             .split_once(" | ")
             .ok_or("a row of another form")?;
         let (changes, answer) = rest.split_once(" | ").ok_or("a row of another form")?;
-        let manifest = changed(alloc, changes)?;
+        let manifest = changed(alloc, SAMPLE, changes)?;
         let told = told(alloc, &mut files, &mut directory, manifest.as_str())?;
         assert!(&rt; told.as_str() == answer, "{row}: {told}");
         assert!(&rt; directory.arrays().len() == 1, "{row}");

@@ -1,10 +1,15 @@
-// A manifest with each table and each member, and what is told of one that was changed.
+//! Manifests: one with each table and each member, and what is told of a manifest.
+
+mod counts;
+mod fields;
+mod names;
+mod texts;
 
 use manifest::{Manifest, ManifestFault, read_manifest};
 use std::alloc::Global;
 use std::test::Fail;
 
-pub(crate) const SAMPLE: &str = "server = \"prod\"
+const SAMPLE: &str = "server = \"prod\"
 [[array]]
 name = \"q\"
 width = 64
@@ -24,32 +29,16 @@ required = true
 ";
 
 /// The manifest that bytes are. It has no clauses, so that no proof reads the bytes of a test.
-pub(crate) fn read(alloc: Global, bytes: &[u8]) -> Result<Manifest, ManifestFault> {
+fn read(alloc: Global, bytes: &[u8]) -> Result<Manifest, ManifestFault> {
     read_manifest(alloc, bytes)
 }
 
 /// What is told of a manifest: that it is one, or the refusal and where it is.
-pub(crate) fn told(alloc: Global, bytes: &[u8]) -> Result<String, Fail> {
+fn told(alloc: Global, bytes: &[u8]) -> Result<String, Fail> {
     match read(alloc, bytes) {
         Ok(_) => Ok(String::from_str(alloc, "ok")?),
         Err(ManifestFault::Field(misfit)) => Ok(format!(in alloc; "M2 {misfit}")?),
         Err(ManifestFault::Duplicate(twice)) => Ok(format!(in alloc; "M3 {twice}")?),
         Err(fault) => Ok(format!(in alloc; "{fault}")?),
     }
-}
-
-/// The sample with these lines, between slashes, in place of a text that stands in it.
-pub(crate) fn changed(alloc: Global, text: &str, lines: &str) -> Result<String, Fail> {
-    let (before, after) = SAMPLE.split_once(text).ok_or("no such text")?;
-    let mut manifest = String::from_str(alloc, before)?;
-    let mut is_first = true;
-    for line in lines.split('/') {
-        if !is_first {
-            manifest.push_str("\n")?;
-        }
-        manifest.push_str(line)?;
-        is_first = false;
-    }
-    manifest.push_str(after)?;
-    Ok(manifest)
 }

@@ -1,10 +1,10 @@
-// What a good manifest gives.
+//! What a good manifest gives.
 
-use crate::files::MemFiles;
-use crate::sample::{changed, files, ruleset_from};
+use super::{RULES, SAMPLE, ruleset_from};
+use crate::sample::files;
 use bpf_text::listing;
 use cells::Directory;
-use ruleset::{App, Ruleset};
+use ruleset::App;
 use std::alloc::Global;
 use std::process::Abort;
 use std::test::Fail;
@@ -14,22 +14,12 @@ fn listed(alloc: Global, app: &App) -> Result<String, Fail> {
     Ok(listing(alloc, app.program().bytes())?)
 }
 
-fn ruleset_of(
-    alloc: Global,
-    files: &mut MemFiles,
-    directory: &mut Directory,
-    changes: &str,
-) -> Result<Ruleset, Fail> {
-    let manifest = changed(alloc, changes)?;
-    Ok(ruleset_from(alloc, files, directory, manifest.as_str())?)
-}
-
 #[test]
 fn two_apps(rt: HostRuntime) -> Result<(), Fail> {
     let alloc = rt.alloc();
-    let mut files = files(alloc)?;
+    let mut files = files(alloc, RULES)?;
     let mut directory = Directory::new(alloc);
-    let rules = ruleset_of(alloc, &mut files, &mut directory, "")?;
+    let rules = ruleset_from(alloc, &mut files, &mut directory, SAMPLE)?;
     assert!(&rt; rules.server() == "prod" && rules.apps().len() == 2);
     let x = rules.find("x").ok_or("no x")?;
     let y = rules.find("y").ok_or("no y")?;

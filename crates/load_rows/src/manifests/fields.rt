@@ -1,8 +1,9 @@
-// Members: absent, of another kind, out of range, and unknown; and what is no list of tables. A row
-// is a line of the sample, what stands in its place, `/` being the end of a line, and what is told
-// then: all of it, or its beginning up to a colon.
+//! Members: absent, of another kind, out of range, and unknown; and what is no list of tables. A
+//! row is a line of the sample, what stands in its place, ` / ` being the end of a line, and what
+//! is told then: all of it, or its beginning up to a colon.
 
-use crate::sample::{changed, told};
+use super::{SAMPLE, told};
+use crate::sample::changed;
 use std::alloc::Global;
 use std::process::Abort;
 use std::test::Fail;
@@ -11,7 +12,7 @@ const OF_THE_TOP: &str = r#"
 server = "prod" =>  => M2 server: a text
 server = "prod" => server = 1 => M2 server: a text
 server = "prod" => server = "" => ok
-server = "prod" => server = ""/apps = [] => M2 apps: no member of a manifest
+server = "prod" => server = "" / apps = [] => M2 apps: no member of a manifest
 server = "prod" => SERVER = "prod" => M2 SERVER: no member of a manifest
 "#;
 
@@ -49,12 +50,12 @@ appid = "x" => appid = "" => M2 app[1].appid: a text of 1 to 1024 bytes
 appid = "x" => appid = 2026-11-22 => M2 app[1].appid: a text of 1 to 1024 bytes
 program = "x.bpf" =>  => M2 app[1].program or rule: one of the two, the name of a file
 program = "x.bpf" => rule = "x.rule" => ok
-program = "x.bpf" => program = "x.bpf"/rule = "x.rule" => M2 app[1].program or rule:
+program = "x.bpf" => program = "x.bpf" / rule = "x.rule" => M2 app[1].program or rule:
 program = "x.bpf" => program = 1 => M2 app[1].program or rule:
 program = "x.bpf" => rule = ["x.rule"] => M2 app[1].program or rule:
-program = "x.bpf" => program = "x.bpf"/[app.rest] => M2 app[1].rest: no member of an app
-program = "x.bpf" => program = ""/version = "1" => M2 app[1].version: no member of an app
-program = "x.bpf" => program = ""/[[app]]/appid = "y" => M2 app[2].program or rule:
+program = "x.bpf" => program = "x.bpf" / [app.rest] => M2 app[1].rest: no member of an app
+program = "x.bpf" => program = "" / version = "1" => M2 app[1].version: no member of an app
+program = "x.bpf" => program = "" / [[app]] / appid = "y" => M2 app[2].program or rule:
 "#;
 
 const OF_A_RELEASE: &str = r#"
@@ -67,7 +68,7 @@ version = "2.0.0.0" => version = "4294967295" => ok
 version = "2.0.0.0" => version = 2.0 => M2 app[1].release[1].version:
 codebase = "http" =>  => M2 app[1].release[1].codebase: a text
 codebase = "http" => codebase = 1 => M2 app[1].release[1].codebase: a text
-codebase = "http" => codebase = ""/notes = "" => M2 app[1].release[1].notes: no member of a release
+"http" => "" / notes = "" => M2 app[1].release[1].notes: no member of a release
 "#;
 
 const OF_A_PACKAGE: &str = r#"
@@ -87,15 +88,15 @@ size = 3 => size = 3e0 => M2 app[1].release[1].package[1].size:
 required = true =>  => M2 app[1].release[1].package[1].required: true or false
 required = true => required = false => ok
 required = true => required = 1 => M2 app[1].release[1].package[1].required: true or false
-required = true => required = true/sha1 = "" => M2 app[1].release[1].package[1].sha1:
+required = true => required = true / sha1 = "" => M2 app[1].release[1].package[1].sha1:
 "#;
 
 const NO_TABLES: &str = r#"
 [[app]] => [app] => M2 app: 1 to 256 tables
 [[array]] => [array] => M2 array: at most 64 tables
-[[array]] => array = [1]/[[app]] => M2 array[1]: a table
+[[array]] => array = [1] / [[app]] => M2 array[1]: a table
 [[app.release]] => [app.release] => M2 app[1].release: at most 64 tables
-required = true => required = true/[[app]] => M2 app[2].appid: a text of 1 to 1024 bytes
+required = true => required = true / [[app]] => M2 app[2].appid: a text of 1 to 1024 bytes
 "#;
 
 /// Whether that is what is wanted, or begins so where no more is said.
@@ -105,9 +106,8 @@ fn fits(got: &str, want: &str) -> bool {
 
 fn each_is_told(rt: &impl Abort, alloc: Global, rows: &str) -> Result<(), Fail> {
     for row in rows.lines().skip(1) {
-        let (line, rest) = row.split_once(" => ").ok_or("a row of three parts")?;
-        let (new, want) = rest.split_once("=> ").ok_or("a row of three parts")?;
-        let manifest = changed(alloc, line, new)?;
+        let (change, want) = row.rsplit_once(" => ").ok_or("a row of three parts")?;
+        let manifest = changed(alloc, SAMPLE, change)?;
         let got = told(alloc, manifest.as_bytes())?;
         assert!(rt; fits(got.as_str(), want), "{row}: {got}");
     }

@@ -1,6 +1,6 @@
 //! Whole scripts with the lines that they print.
 
-use crate::sample::disk;
+use super::disk;
 use replaying::replay_files;
 use std::alloc::Global;
 use std::test::Fail;

@@ -1,6 +1,7 @@
-// As many tables as a manifest may have.
+//! As many tables as a manifest may have.
 
-use crate::sample::{files, repeated, ruleset_from};
+use super::{RULES, ruleset_from};
+use crate::sample::{files, repeated};
 use cells::Directory;
 use std::alloc::Global;
 use std::process::Abort;
@@ -35,7 +36,7 @@ fn manifest(alloc: Global, arrays: usize, apps: usize, releases: usize) -> Resul
 
 /// The numbers of arrays, apps, and releases and arrays of the last app's shape.
 fn loaded(alloc: Global, text: &str) -> Result<(usize, usize, usize, usize), Fail> {
-    let mut files = files(alloc)?;
+    let mut files = files(alloc, RULES)?;
     let mut directory = Directory::new(alloc);
     let rules = ruleset_from(alloc, &mut files, &mut directory, text)?;
     let apps = rules.apps().len();
@@ -66,7 +67,7 @@ fn at_their_limits(rt: HostRuntime) -> Result<(), Fail> {
 #[test]
 fn each_app_its_own(rt: HostRuntime) -> Result<(), Fail> {
     let alloc = rt.alloc();
-    let mut files = files(alloc)?;
+    let mut files = files(alloc, RULES)?;
     let mut directory = Directory::new(alloc);
     let text = manifest(alloc, 0, 2, 1)?;
     let rules = ruleset_from(alloc, &mut files, &mut directory, text.as_str())?;
