@@ -6,8 +6,8 @@ ghost use Rattle.std.specs.Prelude.{None};
 ghost use Rattle.cells.specs.Directory.{declaration, IsDeclaration};
 
 use cells::{
-    ArrayName, ArrayNo, CellNo, CellOp, CellSteps, CellWidth, CellsFault, Directory, PlainCells,
-    PlainPass, Shape,
+    ArrayName, ArrayNo, CellArray, CellNo, CellOp, CellSteps, CellWidth, CellsFault, Directory,
+    PlainCells, PlainPass, Shape,
 };
 use std::alloc::Global;
 use std::test::Fail;
@@ -15,13 +15,13 @@ use std::test::Fail;
 const HALF: u64 = 4294967295;
 
 /// The answer of a call, or of a second one where memory was refused.
-fn again<T, F: FnMut() -> Result<T, CellsFault>>(mut call: F) -> Result<T, CellsFault>
-    requires { F.IsAlwaysCallable call }
-{
-    match call() {
-        Err(CellsFault::Memory) => call(),
-        answer => answer,
-    }
+macro_rules! again {
+    ($call:expr) => {
+        match $call {
+            Err(CellsFault::Memory) => $call,
+            answer => answer,
+        }
+    };
 }
 
 /// One operation on a cell, with the reply and the value after.
@@ -35,7 +35,7 @@ struct Act {
 
 /// The acts in turn, from cells that are 0.
 fn acts_in_turn(alloc: Global, acts: &[Act]) -> Result<Option<usize>, CellsFault> {
-    let (cells, mut pass): (PlainCells, PlainPass) = again(|| PlainCells::new(alloc))?;
+    let (cells, mut pass): (PlainCells, PlainPass) = again!(PlainCells::new(alloc))?;
     for (place, act) in acts.iter().enumerate() {
         if act.cell >= 8192 {
             return Ok(Some(place));
@@ -59,7 +59,7 @@ fn on(cell: u16, op: CellOp, reply: u64, value: u64) -> Act {
 }
 
 #[test]
-fn narrow_counters(rt: HostRuntime) -> Result<(), Fail> {
+fn narrow_counters(rt: HostRuntime) {
     let acts = [
         on(4096, CellOp::Add(HALF), 0, HALF),
         on(4096, CellOp::Add(2), HALF, 1),
@@ -81,12 +81,11 @@ fn narrow_counters(rt: HostRuntime) -> Result<(), Fail> {
         on(8191, CellOp::Load, 0, 0),
         on(4095, CellOp::Load, 0, 0),
     ];
-    assert_eq!(rt; acts_in_turn(rt.alloc(), &acts)?, None);
-    Ok(())
+    assert!(rt; acts_in_turn(rt.alloc(), &acts) == Ok(None));
 }
 
 #[test]
-fn wide_counters(rt: HostRuntime) -> Result<(), Fail> {
+fn wide_counters(rt: HostRuntime) {
     let acts = [
         on(0, CellOp::Add(HALF), 0, HALF),
         on(0, CellOp::Add(2), HALF, HALF + 2),
@@ -103,8 +102,7 @@ fn wide_counters(rt: HostRuntime) -> Result<(), Fail> {
         on(4095, CellOp::Add(1), 0, 1),
         on(4096, CellOp::Load, 0, 0),
     ];
-    assert_eq!(rt; acts_in_turn(rt.alloc(), &acts)?, None);
-    Ok(())
+    assert!(rt; acts_in_turn(rt.alloc(), &acts) == Ok(None));
 }
 
 /// What a declaration without a quota gives, asked again where memory was refused.
@@ -117,36 +115,34 @@ fn declare(
 ) -> Result<ArrayNo, CellsFault>
     requires { IsDeclaration (declaration name.now width length None) }
 {
-    match directory.declare(alloc, name, width, length, None) {
-        Err(CellsFault::Memory) => directory.declare(alloc, name, width, length, None),
-        answer => answer,
-    }
+    again!(directory.declare(alloc, name, width, length, None))
+}
+
+/// The answers to five declarations in turn, and how many arrays there are after them.
+fn declared(alloc: Global) -> ([Result<ArrayNo, CellsFault>; 5], usize) {
+    let mut all = Directory::new(alloc);
+    let answers = [
+        declare(&mut all, alloc, "a", CellWidth::Bits64, 4096),
+        declare(&mut all, alloc, "b", CellWidth::Bits64, 1),
+        declare(&mut all, alloc, "a", CellWidth::Bits64, 4096),
+        declare(&mut all, alloc, "a", CellWidth::Bits32, 4096),
+        declare(&mut all, alloc, "c", CellWidth::Bits32, 4096),
+    ];
+    (answers, all.arrays().len())
 }
 
 #[test]
-fn declarations(rt: HostRuntime) -> Result<(), Fail> {
-    let alloc = rt.alloc();
-    let mut all = Directory::new(alloc);
-    let first = Ok(ArrayNo { number: 0 });
-    let second = Ok(ArrayNo { number: 1 });
-    assert_eq!(rt;
-        declare(&mut all, alloc, "a", CellWidth::Bits64, 4096),
-        first
-    );
-    let full = declare(&mut all, alloc, "b", CellWidth::Bits64, 1);
-    assert_eq!(rt; full, Err(CellsFault::CellsFull));
-    assert_eq!(rt;
-        declare(&mut all, alloc, "a", CellWidth::Bits64, 4096),
-        first
-    );
-    let other = declare(&mut all, alloc, "a", CellWidth::Bits32, 4096);
-    assert_eq!(rt; other, Err(CellsFault::Redefined));
-    assert_eq!(rt;
-        declare(&mut all, alloc, "c", CellWidth::Bits32, 4096),
-        second
-    );
-    assert_eq!(rt; all.arrays().len(), 2);
-    Ok(())
+fn declarations(rt: HostRuntime) {
+    let (answers, count) = declared(rt.alloc());
+    let wanted = [
+        Ok(ArrayNo { number: 0 }),
+        Err(CellsFault::CellsFull),
+        Ok(ArrayNo { number: 0 }),
+        Err(CellsFault::Redefined),
+        Ok(ArrayNo { number: 1 }),
+    ];
+    assert!(rt; answers == wanted);
+    assert!(rt; count == 2);
 }
 
 #[test]
@@ -164,7 +160,7 @@ fn names(rt: HostRuntime) {
         ("abcdefghijklmnopqrstuvwxyz0123456", false),
     ];
     for (text, is_name) in rows {
-        assert_eq!(rt; ArrayName::is_name(text), is_name, "at {text:?}");
+        assert!(rt; ArrayName::is_name(text) == is_name, "at {text:?}");
     }
 }
 
@@ -184,18 +180,24 @@ fn shape_of_three(alloc: Global) -> Result<Shape, CellsFault> {
 /// The arrays of a shape: each one's name, first cell and length.
 const PLACES: [(&str, u16, u16); 3] = [("c", 10, 30), ("b", 4096, 20), ("c", 10, 30)];
 
-#[test]
-fn shapes(rt: HostRuntime) -> Result<(), Fail> {
-    let shape = again(|| shape_of_three(rt.alloc()))?;
-    assert_eq!(rt; shape.releases(), 64);
-    assert_eq!(rt; shape.arrays().len(), 3);
-    for (place, array) in PLACES.iter().zip(shape.arrays()) {
+fn are_places(arrays: &[CellArray]) -> bool {
+    let mut are = arrays.len() == PLACES.len();
+    for (array, place) in arrays.iter().zip(PLACES) {
         let found = (array.name.as_str(), array.base, array.length);
-        assert_eq!(rt; found, *place);
-        assert_eq!(rt; array.quota, None);
+        are = are && found == place && array.quota.is_none();
     }
+    are
+}
+
+fn has_places(alloc: Global) -> Result<bool, CellsFault> {
+    let shape = shape_of_three(alloc)?;
+    Ok(shape.releases() == 64 && are_places(shape.arrays()))
+}
+
+#[test]
+fn shapes(rt: HostRuntime) {
+    assert!(rt; again!(has_places(rt.alloc())) == Ok(true));
     assert!(rt; Shape::plain(rt.alloc(), 3).arrays().is_empty());
-    Ok(())
 }
 
 #[test]

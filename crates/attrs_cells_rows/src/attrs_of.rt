@@ -1,0 +1,170 @@
+//! The context of an app by its request. What no clause says is that the definitions give the
+//! protocol's values, and that memory suffices.
+
+use crate::facts::{app_of, attributes_at, request_of};
+use attrs::{Context, Elapsed, app_bucket, fnv1a};
+use std::alloc::Global;
+use std::test::Fail;
+
+/// A cohort that names no bucket leaves that of the empty text, 6037. A row is the app's and the
+/// request's facts, and what the context has then.
+const COHORTS: &str = r#"
+cohort=b:0042 => bucket=42 flags=16
+cohort=b:0000 => bucket=0 flags=16
+cohort=b:9999 => bucket=9999 flags=16
+cohort=b:42 => bucket=6037 flags=0
+cohort=b:00042 => bucket=6037 flags=0
+cohort=B:0042 => bucket=6037 flags=0
+cohort=b:+042 => bucket=6037 flags=0
+cohort=b: 042 => bucket=6037 flags=0
+cohort=b:004x => bucket=6037 flags=0
+cohort=b:٣٣ => bucket=6037 flags=0
+cohort=0042 => bucket=6037 flags=0
+cohort= => bucket=6037 flags=0
+"#;
+
+const INSTALL_DAYS: &str = r#"
+installdate=0 => install_day=0 flags=32
+installdate=7000 => install_day=7000 flags=32
+installdate=4294967294 => install_day=4294967294 flags=32
+installdate=4294967295 => install_day=4294967295 flags=0
+installdate=4294967296 => install_day=4294967295 flags=0
+installdate=18446744073709551615 => install_day=4294967295 flags=0
+"#;
+
+const VERSIONS: &str = r#"
+version=1.2.3.4 => version=1.2.3.4 flags=1
+version=1.0 => version=1.0.0.0 flags=1
+version=1.2.3.4.5 => version=0.0.0.0 flags=0
+version= => version=0.0.0.0 flags=0
+"#;
+
+/// What the app asks.
+const FLAGS: &str = r#"
+updatecheck= => flags=2
+ping= => flags=4
+event= => flags=8
+updatecheck= & ping= & event= => flags=14
+"#;
+
+/// Of day 7000, an hour after midnight.
+const MOMENT: i64 = 1772413200;
+
+const TODAY: &str = r#"
+none= => today=7000 seconds=3600 version=0.0.0.0 flags=0 install_day=4294967295
+"#;
+
+fn context_of(alloc: Global, facts: &str) -> Result<Context, Fail> {
+    Ok(attributes_at(alloc, facts, MOMENT)?.context())
+}
+
+/// What the context of the facts has, word by word.
+fn told(alloc: Global, facts: &str) -> Result<String, Fail> {
+    let context = context_of(alloc, facts)?;
+    let [first, second, third, fourth] = context.version;
+    let numbers = format!(in alloc; "{first}.{second}.{third}.{fourth}")?;
+    let days = format!(in alloc;
+        "install_day={} today={}",
+        context.install_day, context.today
+    )?;
+    let flags = format!(in alloc; "flags={} seconds={}", context.flags, context.seconds)?;
+    Ok(format!(in alloc;
+        "version={numbers} bucket={} {flags} {days}",
+        context.bucket
+    )?)
+}
+
+/// Whether each word that is wanted is one of those that are told.
+fn has_words(told: &str, wanted: &str) -> bool {
+    let mut has = true;
+    for word in wanted.split(' ') {
+        has = has && has_word(told, word);
+    }
+    has
+}
+
+fn has_word(told: &str, wanted: &str) -> bool {
+    for word in told.split(' ') {
+        if word == wanted {
+            return true;
+        }
+    }
+    false
+}
+
+#[test]
+fn contexts(rt: HostRuntime) -> Result<(), Fail> {
+    for rows in [COHORTS, INSTALL_DAYS, VERSIONS, FLAGS, TODAY] {
+        for row in rows.lines().skip(1) {
+            let (facts, wanted) = row.rsplit_once(" => ").ok_or("a row of another form")?;
+            let found = told(rt.alloc(), facts)?;
+            assert!(rt; has_words(found.as_str(), wanted), "{row}: {found}");
+        }
+    }
+    Ok(())
+}
+
+/// The request's ids, and the bucket of an app that names none.
+const REQUESTS: [(&str, u16); 6] = [
+    ("none=", 6037),
+    ("requestid= & sessionid=", 6037),
+    ("requestid=a", 1996),
+    ("requestid=a & sessionid=b", 1996),
+    ("sessionid=a", 1996),
+    ("requestid= & sessionid=a", 1996),
+];
+
+fn bucket_of(alloc: Global, facts: &str) -> Result<u16, Fail> {
+    let app = app_of(alloc, "none=")?;
+    Ok(app_bucket(&app, &request_of(alloc, facts)?))
+}
+
+#[test]
+fn requests_hash_into_buckets(rt: HostRuntime) -> Result<(), Fail> {
+    for (facts, bucket) in REQUESTS {
+        let found = bucket_of(rt.alloc(), facts)?;
+        assert!(rt; found == bucket, "{facts}: {found}");
+    }
+    Ok(())
+}
+
+// The call under test, without its clauses: a proof would compute with the rows.
+fn hash_of(text: &str) -> u64 {
+    fnv1a(text.as_bytes())
+}
+
+#[test]
+fn hashes_of_fnv1a(rt: HostRuntime) {
+    let rows = [
+        ("", 0xcbf2_9ce4_8422_2325),
+        ("a", 0xaf63_dc4c_8601_ec8c),
+        ("foobar", 0x8594_4171_f739_67e8),
+    ];
+    for (text, hash) in rows {
+        assert!(rt; hash_of(text) == hash, "at {text:?}");
+    }
+}
+
+#[test]
+fn moments_have_a_day(rt: HostRuntime) {
+    let rows = [
+        (1772413200, 7000, 3600),
+        (1167609600, 0, 0),
+        (1167695999, 0, 86399),
+        (1167696000, 1, 0),
+        (1167609599, 0, 0),
+        (0, 0, 0),
+        (-1, 0, 0),
+        (i64::MIN, 0, 0),
+        (253402300799, 2919382, 86399),
+        (253402300800, 2919382, 86399),
+        (i64::MAX, 2919382, 86399),
+    ];
+    for (moment, days, seconds) in rows {
+        let elapsed = Elapsed::at(moment);
+        assert!(rt;
+            elapsed.days == days && elapsed.seconds == seconds,
+            "at {moment}"
+        );
+    }
+}

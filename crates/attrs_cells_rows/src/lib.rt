@@ -1,0 +1,15 @@
+//! Tests of `attrs` and `cells`, against values that were worked out by hand: the attributes of an
+//! app of a request, and a program's helpers; directories, shapes and plain counters. A crate with
+//! tests is proved twice, so they stand apart from the two.
+#![tactic(auto)]
+
+#[cfg(test)]
+mod attributes;
+#[cfg(test)]
+mod attrs_of;
+#[cfg(test)]
+mod counters;
+#[cfg(test)]
+mod facts;
+#[cfg(test)]
+mod texts;
