@@ -15,8 +15,8 @@ pub(crate) fn value<'a>(facts: &'a str, key: &str) -> Option<&'a str> {
     None
 }
 
-/// Makes the texts of facts, and keeps whether memory was refused: so a struct of many texts is made
-/// in one go.
+/// Makes the texts of facts, and keeps whether memory was refused: so a struct of many texts is
+/// made in one go.
 #[derive(Clone, Copy)]
 struct Texts<'a> {
     alloc: Global,
