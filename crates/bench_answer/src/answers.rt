@@ -38,7 +38,7 @@ fn answer_once<H: Wait>(
     room.clear();
     let mut reader = Counted::new(input);
     let mut writer = Counted::new(room);
-    let status = answer(
+    let sent = answer(
         rt,
         alloc,
         &mut reader,
@@ -48,7 +48,7 @@ fn answer_once<H: Wait>(
         watcher,
         MOMENT,
     )?;
-    if status != 200 {
+    if sent.status != 200 {
         return Err(Error::msg("the request is refused"));
     }
     Ok(writer.into_inner())

@@ -85,7 +85,10 @@ pub(crate) fn exchange_over<H: Wait, C: CellSteps>(
         MOMENT,
     );
     Heard {
-        outcome,
+        outcome: match outcome {
+            Ok(sent) => Ok(sent.status),
+            Err(fault) => Err(fault),
+        },
         written: writer.into_inner().into_inner(),
     }
 }

@@ -5,4 +5,4 @@
 
 mod timed;
 
-pub use timed::{Timed, drain};
+pub use timed::{Timed, drain, take_rest};

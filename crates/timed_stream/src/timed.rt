@@ -9,6 +9,9 @@ use std::time::{Clock, Duration, Instant};
 /// How long a client may go on sending after a refusal.
 const DRAIN_SECONDS: u64 = 1;
 
+/// Room for what a client sends behind its request.
+const REST_ROOM: usize = 512;
+
 /// One direction of a connection.
 #[derive(Drop)]
 pub struct Timed<'a, R: Clock> {
@@ -109,5 +112,15 @@ pub fn drain<R: Clock>(stream: &TcpStream, clock: &R) -> io::Result<()> {
             break;
         }
     }
+    Ok(())
+}
+
+/// Takes what has come behind the request, up to 512 bytes, and doesn't wait for more: clients are
+/// known that end a body with a line's end that they don't count (RFC 9112, section 2.2). The
+/// stream doesn't wait from then on.
+pub fn take_rest(stream: &TcpStream) -> io::Result<()> {
+    stream.set_nonblocking(true)?;
+    let mut rest = stream;
+    let _taken = rest.read(&mut [0; REST_ROOM])?;
     Ok(())
 }

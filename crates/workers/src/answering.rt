@@ -9,10 +9,11 @@ ghost use Rattle.http_front.specs.Post.{AnswersPost};
 ghost use Rattle.http_front.specs.Reply.{code_of};
 ghost use Rattle.http_front.specs.declared.fault.PostFault.TheVariants as fault;
 ghost use Rattle.workers.specs.Answer.{IsReplyTo, IsReadingFault, Settles};
-ghost use Rattle.workers.specs.Reply.{Reply, bytes_of, reply_of};
+ghost use Rattle.workers.specs.Reply.{IsLineOf, Reply, bytes_of, reply_of};
 
 use crate::judging::judge;
 use crate::rejection::Rejection;
+use crate::sent::Sent;
 use attrs::Moment;
 use cells::CellSteps;
 use hot_swap::Watcher;
@@ -36,7 +37,7 @@ pub enum AnswerFault {
     Writing(usize),
 }
 
-/// Reads a request, answers it, and gives the status of the reply.
+/// Reads a request, answers it, and tells the reply that was sent.
 pub fn answer<H: Wait, R: Read, W: Write, C: CellSteps>(
     rt: &H,
     alloc: Global,
@@ -46,7 +47,7 @@ pub fn answer<H: Wait, R: Read, W: Write, C: CellSteps>(
     pass: &mut C::Pass,
     watcher: &mut Watcher,
     moment: Moment,
-) -> Result<u16, AnswerFault>
+) -> Result<Sent, AnswerFault>
     requires belongs { C.belongs cells.now pass.old }
     requires reads { reader.old.failures < 2 ^ 64 - 1 }
     requires writes { writer.old.failures < 2 ^ 64 - 1 }
@@ -54,11 +55,13 @@ pub fn answer<H: Wait, R: Read, W: Write, C: CellSteps>(
     ensures watched { GoesOnwards watcher.old watcher.new }
 
     // What was written is the reply to what was read, under the ruleset that the watcher gave.
-    ensures replied { IfOk result (λ n. (reply : Reply) × (code_of reply.status ≡ n)
+    ensures replied { IfOk result (λ sent. (reply : Reply)
+        × (code_of reply.status ≡ sent.status) × IsLineOf reply sent.line.now
         × IsReplyTo C.grew (R.remaining reader.old.inner) watcher.new moment pass.old pass.new reply
         × Appends (W.contents writer.old.inner) (W.contents writer.new.inner) (bytes_of reply)) }
     // A request that isn't one makes no run.
-    ensures idle { IfOk result (λ n. n ≢ 200 → n ≢ 500 → pass.new ≡ pass.old) }
+    ensures idle { IfOk result (λ sent.
+        sent.status ≢ 200 → sent.status ≢ 500 → pass.new ≡ pass.old) }
 
     // Or a beginning of it was written.
     ensures begun { (n : ℕ) → result ≡ Err (AnswerFault.Writing n)
@@ -79,7 +82,7 @@ pub fn answer<H: Wait, R: Read, W: Write, C: CellSteps>(
 {
     let outcome = settle(rt, alloc, reader, cells, pass, watcher, &moment)?;
     match send(writer, &outcome) {
-        Ok(status) => Ok(status),
+        Ok(sent) => Ok(sent),
         Err(WriteFault { written }) => Err(AnswerFault::Writing(written)),
     }
 }
@@ -121,21 +124,32 @@ fn settle<H: Wait, R: Read, C: CellSteps>(
     }
 }
 
-// Writes the reply, and gives its status.
+// Writes the reply, and tells of it.
 fn send<W: Write>(
     writer: &mut Counted<W>,
     outcome: &Result<Vec<u8>, Rejection>,
-) -> Result<u16, WriteFault>
+) -> Result<Sent, WriteFault>
     requires { writer.old.failures < 2 ^ 64 - 1 }
-    ensures status { IfOk result (λ n. code_of (reply_of outcome.now).status ≡ n) }
+    ensures status { IfOk result (λ sent. code_of (reply_of outcome.now).status ≡ sent.status) }
+    ensures line { IfOk result (λ sent. IsLineOf (reply_of outcome.now) sent.line.now) }
     ensures bytes { WritesBeginning (W.contents writer.old.inner) (W.contents writer.new.inner)
         (bytes_of (reply_of outcome.now)) result }
     ensures count { CountsFailure writer.old.failures writer.new.failures result }
 {
-    let (status, text) = match outcome {
-        Ok(text) => (Status::Success, text.as_slice()),
-        Err(rejection) => (rejection.status(), rejection.line()),
-    };
-    write_reply(writer, status, text)?;
-    Ok(status.code())
+    match outcome {
+        Ok(text) => {
+            write_reply(writer, Status::Success, text.as_slice())?;
+            Ok(Sent {
+                status: Status::Success.code(),
+                line: b"",
+            })
+        }
+        Err(rejection) => {
+            write_reply(writer, rejection.status(), rejection.line())?;
+            Ok(Sent {
+                status: rejection.status().code(),
+                line: rejection.line(),
+            })
+        }
+    }
 }

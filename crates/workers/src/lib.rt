@@ -17,8 +17,10 @@ mod gate;
 mod judging;
 mod log;
 mod rejection;
+mod sent;
 mod serving;
 
 pub use answering::{AnswerFault, answer};
 pub use gate::{Gate, Open};
+pub use sent::Sent;
 pub use serving::{ServeFault, Service, serve};

@@ -3,9 +3,10 @@
 
 ghost use Rattle.std.specs.Prelude.{All};
 
-use crate::answering::answer;
+use crate::answering::{AnswerFault, answer};
 use crate::gate::Gate;
-use crate::log::{Peer, note};
+use crate::log::{Peer, note, note_unaccepted};
+use crate::sent::Sent;
 use cells::CellSteps;
 use crossbeam_channel::{Receiver, Sender};
 use hot_swap::Watcher;
@@ -17,7 +18,7 @@ use std::thread::Threads;
 use std::time::{Clock, Duration, Instant, SystemTime, UNIX_EPOCH};
 use std::{io, thread};
 use thiserror::Error;
-use timed_stream::{Timed, drain};
+use timed_stream::{Timed, drain, take_rest};
 
 /// How many accepted connections may wait for a worker.
 const WAITING: usize = 64;
@@ -45,7 +46,8 @@ struct Call {
 pub struct Service {
     /// How long a connection may last.
     pub timeout: Duration,
-    /// Whether each connection has a line of the log, on standard error.
+    /// Whether each connection has a line of the log, on standard error, also one that couldn't be
+    /// accepted.
     pub log: bool,
 }
 
@@ -93,7 +95,7 @@ where
             }
             drop(from);
             if made.is_ok() {
-                accept(rt, listener, &to, stop);
+                accept(rt, listener, &to, stop, service.log);
             }
             drop(to);
             made
@@ -104,18 +106,24 @@ where
 // Hands each connection to the workers, and closes the port at the end. One that can't be accepted
 // is passed over; since the next can't be either where file descriptors have run out, the thread
 // sleeps before it goes on.
-fn accept<H>(rt: &H, listener: TcpListener, to: &Sender<Call>, stop: &AtomicBool)
+fn accept<H>(rt: &H, listener: TcpListener, to: &Sender<Call>, stop: &AtomicBool, log: bool)
 where
-    H: Wait + Clock,
+    H: Wait + AllocGlobal + Clock + Eprint,
 {
     let mut number = 0u64;
     for stream in listener.incoming() {
         if stop.load(Ordering::SeqCst) {
             break;
         }
-        let Ok(stream) = stream else {
-            thread::sleep(rt, Duration::from_millis(PAUSE_MILLIS));
-            continue;
+        let stream = match stream {
+            Ok(stream) => stream,
+            Err(error) => {
+                if log {
+                    let _noted = note_unaccepted(rt, unix_second(rt), &error);
+                }
+                thread::sleep(rt, Duration::from_millis(PAUSE_MILLIS));
+                continue;
+            }
         };
         number = number.saturating_add(1);
         if to.send(rt, Call { number, stream }).is_err() {
@@ -149,8 +157,8 @@ where
 }
 
 // Answers one connection. The address of the client is asked for first, since one that has reset
-// the connection has none. After a 200 nothing more is read: a client that sends more than the
-// body that it told may find the connection reset (RFC 9112, section 9.6).
+// the connection has none. Where the clock can't tell when the connection has to be done, nothing
+// is read, as of a client that can't be read.
 fn attend<H, C>(
     rt: &H,
     stream: &TcpStream,
@@ -165,21 +173,25 @@ where
     requires { C.belongs cells.now pass.old }
     ensures { C.belongs cells.now pass.new }
 {
-    let begun = Instant::now(rt)?;
+    let limits = begin(rt, service.timeout);
     let peer = if service.log {
-        stream.peer_addr().ok()
+        Peer(stream.peer_addr().ok())
     } else {
-        None
+        Peer(None)
     };
-    let Some(until) = begun.checked_add(service.timeout) else {
+    let moment = unix_second(rt);
+    let Some((begun, until)) = limits else {
+        if service.log {
+            let _noted = note(rt, peer, moment, &Err(AnswerFault::Reading), 0, None);
+        }
         return Ok(());
     };
     let mut reader = Counted::new(Timed::new(stream, rt, until));
     let mut writer = Counted::new(Timed::new(stream, rt, until));
-    let moment = unix_second(rt);
+    let alloc = rt.alloc();
     let outcome = answer(
         rt,
-        rt.alloc(),
+        alloc,
         &mut reader,
         &mut writer,
         cells,
@@ -188,18 +200,31 @@ where
         moment,
     );
     if service.log {
-        let _noted = note(
-            rt,
-            Peer(peer),
-            moment,
-            outcome,
-            writer.into_inner().bytes(),
-            begun,
-        );
+        let bytes = writer.into_inner().bytes();
+        let _noted = note(rt, peer, moment, &outcome, bytes, Some(begun));
     }
+    finish(rt, stream, &outcome)
+}
+
+// When a connection begins, which is now, and when it has to be done.
+fn begin<H: Clock>(rt: &H, timeout: Duration) -> Option<(Instant, Instant)> {
+    let begun = Instant::now(rt).ok()?;
+    let until = begun.checked_add(timeout)?;
+    Some((begun, until))
+}
+
+// Takes what a client sent beyond its request, since a socket that is closed with bytes unread is
+// reset, and the reply may be lost with it (RFC 9112, section 9.6). After a 200 that is what has
+// come, and nothing is waited for; a client that was refused may go on sending for a while.
+fn finish<H: Clock>(
+    rt: &H,
+    stream: &TcpStream,
+    outcome: &Result<Sent, AnswerFault>,
+) -> io::Result<()> {
     match outcome {
-        Ok(200) | Err(_) => Ok(()),
+        Ok(sent) if sent.status == 200 => take_rest(stream),
         Ok(_) => drain(stream, rt),
+        Err(_) => Ok(()),
     }
 }
 
