@@ -1,59 +1,33 @@
 //! Lengths and depths that a text may have, on both sides of their bounds: a literal of 64 bytes, a
 //! name of 32, and 32 openers, of which `not` and parentheses count together.
 
-use crate::given::{chain, shape};
+use crate::given::{chain, chain_of, shape};
 use crate::told::told_as_read;
 use std::alloc::Global;
 use std::process::Abort;
 use std::test::Fail;
 
-// Each row is a front, what is repeated and how often, a back, and what is told.
-const LENGTHS: [(&str, &str, usize, &str, &str); 6] = [
-    (
-        "when attr ap is \"",
-        "a",
-        64,
-        "\" offer 1;otherwise none;",
-        "1",
-    ),
-    (
-        "when attr ap is \"",
-        "a",
-        65,
-        "\" offer 1;otherwise none;",
-        "L1 Token at line 1",
-    ),
-    (
-        "count ",
-        "a",
-        32,
-        "[0];otherwise none;",
-        "L3 Name at line 1",
-    ),
-    (
-        "count ",
-        "a",
-        33,
-        "[0];otherwise none;",
-        "L2 Shape at line 1",
-    ),
-    ("when today < ", "0", 99, "1 offer 1;otherwise none;", "1"),
-    (
-        "when bucket(",
-        "9",
-        21,
-        ") < 1 offer 1;otherwise none;",
-        "L4 Range at line 1",
-    ),
-];
+/// What is told, how often the link stands in the text, and its front, its link and its back.
+const LENGTHS: &str = r#"
+1 | 64 | when attr ap is "|a|" offer 1;otherwise none;
+L1 Token at line 1 | 65 | when attr ap is "|a|" offer 1;otherwise none;
+L3 Name at line 1 | 32 | count |a|[0];otherwise none;
+L2 Shape at line 1 | 33 | count |a|[0];otherwise none;
+1 | 99 | when today < |0|1 offer 1;otherwise none;
+L4 Range at line 1 | 21 | when bucket(|9|) < 1 offer 1;otherwise none;
+"#;
+
+fn told_of(alloc: Global, row: &str) -> Result<String, Fail> {
+    let text = chain_of(alloc, row)?;
+    told_as_read(alloc, text.as_str(), &shape(alloc, 1)?)
+}
 
 #[test]
 fn lengths(rt: HostRuntime) -> Result<(), Fail> {
-    let shape = shape(rt.alloc(), 1)?;
-    for (front, text, times, back, want) in LENGTHS {
-        let whole = chain(rt.alloc(), front, text, times, back)?;
-        let got = told_as_read(rt.alloc(), whole.as_str(), &shape)?;
-        assert_eq!(rt; got.as_str(), want, "of {front}");
+    for row in LENGTHS.lines().skip(1) {
+        let (want, rest) = row.split_once(" | ").ok_or("a row of another form")?;
+        let found = told_of(rt.alloc(), rest)?;
+        assert!(rt; found.as_str() == want, "{row}: {found}");
     }
     Ok(())
 }

@@ -1,7 +1,7 @@
 //! Rules on both sides of 4096 slots and of a cost of 4096, and the longest chains that a text has
 //! room for.
 
-use crate::given::{chain, shape};
+use crate::given::{chain, chain_of, shape};
 use crate::told::told;
 use std::alloc::Global;
 use std::test::Fail;
@@ -31,13 +31,8 @@ C1 TooLong | 3276 | |when today<1offer 1;|otherwise none;
 const TEST: &str =
     r#"attr ap is "aaaaaaaaaaaaaaaaaaaaaaaaaaaaaaaaaaaaaaaaaaaaaaaaaaaaaaaaaaaaaaaa" "#;
 
-/// What is told of a row's text, from its number of links on.
 fn told_of(alloc: Global, row: &str) -> Result<String, Fail> {
-    let (times, parts) = row.split_once(" | ").ok_or("no number")?;
-    let (front, rest) = parts.split_once('|').ok_or("no front")?;
-    let (link, back) = rest.split_once('|').ok_or("no back")?;
-    let times = times.parse::<u16>().ok().ok_or("no number")?;
-    let text = chain(alloc, front, link, times as usize, back)?;
+    let text = chain_of(alloc, row)?;
     told(alloc, text.as_str(), &shape(alloc, 1)?)
 }
 

@@ -23,8 +23,47 @@ pub(crate) fn shape(alloc: Global, releases: u8) -> Result<Shape, Fail> {
     Ok(Shape::of(alloc, releases.min(64), &directory, &numbers)?)
 }
 
-fn text(alloc: Global, text: &str) -> Result<Option<Text>, AllocError> {
-    Ok(Some(Text::new(String::from_str(alloc, text)?)))
+/// Makes texts, and keeps whether memory was refused: so a struct of many texts is made in one go.
+#[derive(Clone, Copy)]
+struct Texts {
+    alloc: Global,
+    is_refused: bool,
+}
+
+impl Texts {
+    fn text(&mut self, text: &str) -> Option<Text> {
+        match String::from_str(self.alloc, text) {
+            Ok(text) => Some(Text::new(text)),
+            Err(_) => {
+                self.is_refused = true;
+                None
+            }
+        }
+    }
+}
+
+fn app_facts(alloc: Global) -> Result<AppFacts, AllocError> {
+    let appid = Text::new(String::from_str(alloc, "x")?);
+    let mut texts = Texts {
+        alloc,
+        is_refused: false,
+    };
+    let app = AppFacts {
+        appid,
+        version: texts.text("1.2.3.4"),
+        brand: texts.text("GGLS"),
+        ap: texts.text("aaaaaaaaaaaaaaaaaaaaaaaaaaaaaaaaaaaaaaaaaaaaaaaaaaaaaaaaaaaaaaaa"),
+        lang: texts.text("en-GB"),
+        cohort: texts.text("b:1996"),
+        installdate: Some(5000),
+        updatecheck: true,
+        ping: false,
+        event: true,
+    };
+    if texts.is_refused {
+        return Err(AllocError);
+    }
+    Ok(app)
 }
 
 /// An app of version 1.2.3.4 and bucket 1996, installed on day 5000, that asks for an update on day
@@ -34,22 +73,9 @@ pub(crate) fn app(alloc: Global) -> Result<Attrs, Fail> {
     let request = RequestFacts {
         requestid: None,
         sessionid: None,
-        platform: text(alloc, "win")?,
+        platform: Some(Text::new(String::from_str(alloc, "win")?)),
     };
-    let ap = "a".repeat(alloc, 64)?;
-    let app = AppFacts {
-        appid: Text::new(String::from_str(alloc, "x")?),
-        version: text(alloc, "1.2.3.4")?,
-        brand: text(alloc, "GGLS")?,
-        ap: Some(Text::new(ap)),
-        lang: text(alloc, "en-GB")?,
-        cohort: text(alloc, "b:1996")?,
-        installdate: Some(5000),
-        updatecheck: true,
-        ping: false,
-        event: true,
-    };
-    Ok(Attrs::of(alloc, &app, &request, 1772409605)?)
+    Ok(Attrs::of(alloc, &app_facts(alloc)?, &request, 1772409605)?)
 }
 
 /// An app with an appid alone, of a bucket, on day 0.
@@ -71,4 +97,13 @@ pub(crate) fn chain(
     }
     text.push_str(back)?;
     Ok(text)
+}
+
+/// The chain of a row's end: how often the link stands, and its front, its link and its back.
+pub(crate) fn chain_of(alloc: Global, row: &str) -> Result<String, Fail> {
+    let (times, parts) = row.split_once(" | ").ok_or("no number")?;
+    let (front, rest) = parts.split_once('|').ok_or("no front")?;
+    let (link, back) = rest.split_once('|').ok_or("no back")?;
+    let times = times.parse::<u16>().ok().ok_or("no number")?;
+    chain(alloc, front, link, times as usize, back)
 }
