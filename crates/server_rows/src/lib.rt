@@ -4,6 +4,8 @@
 #![tactic(auto)]
 
 #[cfg(test)]
+mod both_ends;
+#[cfg(test)]
 mod clients;
 #[cfg(test)]
 mod counters;
@@ -25,8 +27,6 @@ mod quota;
 mod refusals;
 #[cfg(test)]
 mod replies;
-#[cfg(test)]
-mod serving;
 #[cfg(test)]
 mod session;
 #[cfg(test)]
