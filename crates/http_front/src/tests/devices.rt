@@ -1,6 +1,7 @@
 //! Devices that fail at each of their calls, or take less than they are given.
 
 use crate::{Counted, FailAt, PostFault, Status, WriteFault, read_post, write_reply};
+use std::alloc::Global;
 use std::test::Fail;
 
 const POST: &[u8] = b"POST /service/update2/json HTTP/1.1\r\nContent-Length: 4\r\n\r\nbody";
@@ -69,16 +70,22 @@ fn writer_with_room_for_40_bytes(rt: HostRuntime) {
 /// A body that is too large by one byte.
 const TOO_LARGE: &[u8] = b"POST /service/update2/json HTTP/1.1\r\nContent-Length: 1048577\r\n\r\n";
 
+/// Whether input that comes byte by byte, and fails at this read, has this fault before that read.
+fn is_refused_before(alloc: Global, input: &[u8], call: u64, fault: PostFault) -> bool {
+    let mut reader = Counted::new(FailAt::new(input, 1, call));
+    let is_fault = match read_post(alloc, &mut reader) {
+        Ok(_body) => false,
+        Err(found) => found == fault,
+    };
+    is_fault && reader.failures() == 0
+}
+
 #[test]
 fn refusal_that_reads_no_further(rt: HostRuntime) -> Result<(), Fail> {
-    let mut reader = Counted::new(FailAt::new(TOO_LARGE, 1, 65));
-    let answer = read_post(rt.alloc(), &mut reader);
-    assert!(rt; matches!(answer, Err(PostFault::TooLarge)));
-    assert_eq!(rt; reader.failures(), 0);
-    let endless = Vec::from_elem(rt.alloc(), b'A', 20_000)?;
-    let mut reader = Counted::new(FailAt::new(endless.as_slice(), 1, 16_385));
-    let answer = read_post(rt.alloc(), &mut reader);
-    assert!(rt; matches!(answer, Err(PostFault::HeadTooLarge)));
-    assert_eq!(rt; reader.failures(), 0);
+    let alloc = rt.alloc();
+    let endless = Vec::from_elem(alloc, b'A', 20_000)?;
+    assert!(rt; is_refused_before(alloc, TOO_LARGE, 65, PostFault::TooLarge));
+    assert!(rt; is_refused_before(alloc, &endless, 16_385, PostFault::HeadTooLarge));
+    assert!(rt; is_refused_before(alloc, b"\x00POST", 2, PostFault::Head));
     Ok(())
 }
