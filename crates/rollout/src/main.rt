@@ -1,23 +1,12 @@
 //! The program `rollout`: it serves updates by a manifest's rules, asks a server that runs, checks
 //! manifests, replays scripts, and assembles, compiles, lists, verifies and runs single programs.
-//! `command` does what the words ask, over any two writers.
+//! `command` of the library `commands` does what the words ask.
 #![tactic(auto)]
 
-mod answer;
-mod arguments;
-mod command;
-mod commands;
-mod fault;
-mod files;
-mod grammar;
-mod options;
-mod program;
-mod request;
 #[cfg(test)]
 mod tests;
-mod words;
 
-use crate::command::{command, unreadable_words};
+use commands::{command, unreadable_words};
 use std::process::ExitCode;
 use std::{env, io};
 

@@ -13,8 +13,8 @@ mod server;
 mod texts;
 mod usage;
 
-use crate::command::command;
 use bpf_text::assemble;
+use commands::command;
 use std::io::ErrorKind;
 use std::net::{Net, TcpListener, TcpStream};
 use std::process::Abort;

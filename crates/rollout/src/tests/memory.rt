@@ -1,8 +1,8 @@
 //! Memory that is refused to the command: a refusal of its own, status 1, and nothing printed else.
 //! And a write that fails.
 
-use crate::command::{command, unreadable_words, usage};
-use std::alloc::AllocError;
+use command_line::WordsFault;
+use commands::{command, unreadable_words, usage};
 use std::io::ErrorKind;
 use std::net::{Net, TcpListener, TcpStream};
 use std::rt::Files;
@@ -21,10 +21,7 @@ fn refused_to_the_words(rt: HostRuntime) {
     let mut err: &mut [u8] = &mut said;
     let reading = io::Error::from(ErrorKind::OutOfMemory);
     assert_eq!(rt; unreadable_words(&reading, &mut err), 1);
-    assert_eq!(rt;
-        usage(&clap::Error::from(AllocError), &mut out, &mut err),
-        1
-    );
+    assert_eq!(rt; usage(&WordsFault::Memory, &mut out, &mut err), 1);
     assert_eq!(rt; room, [0; 32]);
     assert_eq!(rt; said, *b"refused B4 Memory\nrefused B4 Memory\n");
 }

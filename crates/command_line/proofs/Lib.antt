@@ -1,0 +1,4 @@
+mod Built
+mod Reading
+mod Asking
+mod Parsed

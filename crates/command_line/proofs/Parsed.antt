@@ -1,0 +1,64 @@
+-- What clap's clauses of a parse say of the words.
+use Rattle.std.proofs.Common.{◌≡◌, ◌∙◌, sym, subst, ap, refl, inl, inr, List, Option}
+use Rattle.std.proofs.Common.{true}
+use Rattle.std.specs.Prelude.{◌≢◌}
+use Rattle.clap.specs.declared.error.Error.{Error}
+use Rattle.clap.specs.declared.error.kind.ErrorKind.{ErrorKind}
+use Rattle.clap.specs.declared.error.kind.ErrorKind.TheVariants.{DisplayHelp, OutOfMemory}
+use Rattle.clap.specs.declared.parser.matches.ArgMatches.{ArgMatches}
+use Rattle.clap.specs.Kinds.{HasKind, IsAmong}
+use Rattle.clap.specs.Words.{Text, App, Row, HasMatchesOf, fault_of, is_simple, is_simple_and_free}
+use Rattle.clap.specs.Words.{kind_of, subcommand_of, subcommand_rows_of}
+use Rattle.command_line.specs.declared.request.Request.{Request}
+use Rattle.command_line.specs.Grammar.{commands}
+use Rattle.command_line.specs.Requests.{AskFor, AskForHelp, AskForNothing, TellsFault}
+use Rattle.command_line.specs.Words.{IsAsked, IsNothingAsked}
+
+are_simple : is_simple commands ≡ true
+are_simple = refl
+
+are_free : is_simple_and_free commands ≡ true
+are_free = refl
+
+pub rows_are : (a : App) (words : List Text) (m : ArgMatches) → a ≡ commands
+    → HasMatchesOf a words m → subcommand_rows_of m ≡ subcommand_of commands words
+rows_are a words m is has =
+    (has (ap is_simple is ∙ are_simple)).1 ∙ ap (λ (x : App). subcommand_of x words) is
+
+pub kind_is : (a : App) (words : List Text) (e : Error) → a ≡ commands
+    → (is_simple_and_free a ≡ true → HasKind (fault_of a words) e)
+    → HasKind (fault_of commands words) e
+kind_is a words e is kinds =
+    subst (λ (x : App). HasKind (fault_of x words) e) is
+    (kinds (ap is_simple_and_free is ∙ are_free))
+
+pub asks_for_help : (words : List Text) (e : Error) → HasKind (fault_of commands words) e
+    → kind_of e ≡ DisplayHelp → AskForHelp words
+asks_for_help words e (inl memory) help =
+    let bad : DisplayHelp ≡ OutOfMemory = sym help ∙ memory in cc
+asks_for_help words e (inr among) help = record {
+  found = subst (λ (k : ErrorKind). IsAmong k (fault_of commands words)) help among;
+}
+
+pub tells_fault : (words : List Text) (e : Error) → HasKind (fault_of commands words) e
+    → kind_of e ≢ DisplayHelp → kind_of e ≢ OutOfMemory → TellsFault words e
+tells_fault words e (inl memory) no_help no_memory = absurd (no_memory memory)
+tells_fault words e (inr among) no_help no_memory = record {
+  fault = record { kind = kind_of e; found = among; no_help = no_help };
+  kind_is = refl;
+  no_memory = no_memory;
+}
+
+pub asks_for : (words : List Text) (m : ArgMatches) (request : Request)
+    → subcommand_rows_of m ≡ subcommand_of commands words → IsAsked (subcommand_rows_of m) request
+    → AskFor words request
+asks_for words m request is asked = record {
+  asked = subst (λ (r : Option (Text × List Row)). IsAsked r request) is asked;
+}
+
+pub asks_for_nothing : (words : List Text) (m : ArgMatches)
+    → subcommand_rows_of m ≡ subcommand_of commands words
+    → IsNothingAsked (subcommand_rows_of m) → AskForNothing words
+asks_for_nothing words m is nothing = record {
+  nothing = subst (λ (r : Option (Text × List Row)). IsNothingAsked r) is nothing;
+}

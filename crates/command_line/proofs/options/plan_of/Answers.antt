@@ -1,0 +1,36 @@
+use Rattle.std.proofs.Common.{codes, rules, ◌∙◌}
+use Rattle.clap.proofs.WalkLemmas.{one_text-rows}
+use Rattle.clap.specs.Words.{found_of}
+use Rattle.command_line.proofs.options.plan_of.Goals as goal
+
+pub returns-in_err-port-clause-lacking : goal.returns-in_err-port-clause-lacking
+returns-in_err-port-clause-lacking c = λ wrong plan has.
+    c.in_err-port.ensures.lacking (search rules) plan.port has.port
+
+pub returns-in_err-operator-clause-lacking : goal.returns-in_err-operator-clause-lacking
+returns-in_err-operator-clause-lacking c = λ wrong plan has.
+    c.in_err-operator.ensures.lacking (search rules) plan.operator has.operator
+
+pub returns-in_err-workers-clause-lacking : goal.returns-in_err-workers-clause-lacking
+returns-in_err-workers-clause-lacking c = λ wrong plan has.
+    c.in_err-workers.ensures.lacking (search rules) plan.workers has.workers
+
+pub returns-in_err-timeout-clause-lacking : goal.returns-in_err-timeout-clause-lacking
+returns-in_err-timeout-clause-lacking c = λ wrong plan has.
+    c.in_err-timeout.ensures.lacking (search rules) plan.timeout has.timeout
+
+pub returns-clause-given : goal.returns-clause-given
+returns-clause-given c = record {
+  port = c.in_ok-port.ensures.given;
+  operator = c.in_ok-operator.ensures.given;
+  workers = c.in_ok-workers.ensures.given;
+  timeout = c.in_ok-timeout.ensures.given;
+  log = record {
+    absent = λ none.
+        c.get_flag.ensures.none (one_text-rows (found_of c.args.found.now) (codes "log") ∙ none);
+    unset = λ no.
+        c.get_flag.ensures.other (one_text-rows (found_of c.args.found.now) (codes "log") ∙ no);
+    set = λ set.
+        c.get_flag.ensures.value (one_text-rows (found_of c.args.found.now) (codes "log") ∙ set);
+  };
+}

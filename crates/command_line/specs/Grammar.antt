@@ -1,0 +1,110 @@
+-- The commands of the command line, with their arguments.
+use Rattle.std.specs.Prelude.{ℕ, pos, List, [], ◌∷◌, Some, true, false, codes}
+use Rattle.clap.specs.declared.builder.action.ArgAction.TheVariants.{Set, SetTrue}
+use Rattle.clap.specs.declared.builder.value_parser.ValueParser.TheVariants.{Signed}
+use Rattle.clap.specs.Simple.{Shape, new_shape}
+use Rattle.clap.specs.Words.{App, Rule, Text, new_rule}
+
+-- a word by its place, which has to be there
+abbrev pub file : Text → Rule
+file id = record (new_rule id) { required = true; action = Some Set }
+
+-- `--releases N`, which has to be there
+abbrev pub releases : Rule
+releases = record (new_rule (codes "releases")) {
+  long = Some (codes "releases");
+  value_names = 1;
+  required = true;
+  action = Some Set;
+  parser = Some (Signed (pos 0) (pos 64));
+}
+
+-- `--NAME VALUE`
+abbrev pub option : Text → Rule
+option name = record (new_rule name) { long = Some name; value_names = 1; action = Some Set }
+
+-- `--arrays SPEC`
+abbrev pub arrays : Rule
+arrays = option (codes "arrays")
+
+-- `--version T`
+abbrev pub version : Rule
+version = option (codes "version")
+
+-- `--bucket N`, 0 by default
+abbrev pub bucket : Rule
+bucket = record (option (codes "bucket")) {
+  defaults = codes "0" ∷ [];
+  parser = Some (Signed (pos 0) (pos 9999));
+}
+
+-- `--NAME N`, which has to be there, from 1
+abbrev pub number : Text → ℕ → Rule
+number name most = record (option name) {
+  required = true;
+  parser = Some (Signed (pos 1) (pos most));
+}
+
+-- `--operator P`, the operator's port
+abbrev pub operator : Rule
+operator = number (codes "operator") 65535
+
+-- `--timeout S`, 30 by default
+abbrev pub timeout : Rule
+timeout = record (option (codes "timeout")) {
+  defaults = codes "30" ∷ [];
+  parser = Some (Signed (pos 1) (pos 3600));
+}
+
+-- `--log`
+abbrev pub log : Rule
+log = record (new_rule (codes "log")) { long = Some (codes "log"); action = Some SetTrue }
+
+-- ---- commands
+
+abbrev pub command : Text → List Rule → Shape
+command name arguments = record (new_shape name) { rules = arguments }
+
+abbrev pub assemble_command : Shape
+assemble_command = command (codes "asm") (file (codes "IN") ∷ file (codes "OUT") ∷ [])
+
+abbrev pub check_command : Shape
+check_command = command (codes "check") (file (codes "MANIFEST") ∷ [])
+
+abbrev pub compile_command : Shape
+compile_command =
+    command (codes "compile") (file (codes "IN") ∷ file (codes "OUT") ∷ releases ∷ arrays ∷ [])
+
+abbrev pub list_command : Shape
+list_command = command (codes "list") (file (codes "IN") ∷ [])
+
+abbrev pub verify_command : Shape
+verify_command = command (codes "verify") (file (codes "IN") ∷ releases ∷ arrays ∷ [])
+
+abbrev pub run_command : Shape
+run_command =
+    command (codes "run") (file (codes "IN") ∷ releases ∷ arrays ∷ version ∷ bucket ∷ [])
+
+abbrev pub replay_command : Shape
+replay_command =
+    command (codes "replay") (file (codes "MANIFEST") ∷ file (codes "SCRIPT") ∷ [])
+
+abbrev pub serve_command : Shape
+serve_command = command (codes "serve")
+    (file (codes "MANIFEST") ∷ number (codes "port") 65535 ∷ operator
+    ∷ number (codes "workers") 64 ∷ timeout ∷ log ∷ [])
+
+abbrev pub load_command : Shape
+load_command = command (codes "load") (file (codes "PATH") ∷ operator ∷ [])
+
+-- of the operator's port alone
+abbrev pub operator_command : Text → Shape
+operator_command name = command name (operator ∷ [])
+
+abbrev pub commands : App
+commands = record {
+  top = record (new_shape (codes "rollout")) { is_leaf = false; subcommand_required = true };
+  subs = assemble_command ∷ operator_command (codes "cells") ∷ check_command ∷ compile_command
+      ∷ list_command ∷ load_command ∷ replay_command ∷ run_command ∷ serve_command
+      ∷ operator_command (codes "show") ∷ operator_command (codes "stop") ∷ verify_command ∷ [];
+}

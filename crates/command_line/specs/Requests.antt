@@ -1,0 +1,46 @@
+-- What the words of a command line ask for, and why they ask for nothing.
+use Rattle.std.specs.Prelude.{◌≡◌, ◌≢◌, List}
+use Rattle.clap.specs.declared.error.Error.{Error}
+use Rattle.clap.specs.declared.error.kind.ErrorKind.{ErrorKind}
+use Rattle.clap.specs.declared.error.kind.ErrorKind.TheVariants.{DisplayHelp, OutOfMemory}
+use Rattle.clap.specs.Kinds.{IsAmong}
+use Rattle.clap.specs.Values.{kind_of}
+use Rattle.clap.specs.Words.{Text, fault_of, subcommand_of}
+use Rattle.command_line.specs.declared.fault.WordsFault.{WordsFault}
+use Rattle.command_line.specs.declared.fault.WordsFault.TheVariants.{Help, Usage, Nothing, Memory}
+use Rattle.command_line.specs.declared.request.Request.{Request}
+use Rattle.command_line.specs.Grammar.{commands}
+use Rattle.command_line.specs.Words.{IsAsked, IsNothingAsked}
+
+-- the words ask for this request
+pub record AskFor (words : List Text) (request : Request) : Type 0 where
+  pub asked : IsAsked (subcommand_of commands words) request
+
+-- clap finds that they ask for help
+pub record AskForHelp (words : List Text) : Type 0 where
+  pub found : IsAmong DisplayHelp (fault_of commands words)
+
+-- clap finds a fault in them, and no call for help
+pub record HasFault (words : List Text) : Type 0 where
+  pub kind : ErrorKind
+  pub found : IsAmong kind (fault_of commands words)
+  pub no_help : kind ≢ DisplayHelp
+
+-- they ask for no request at all
+pub record AskForNothing (words : List Text) : Type 0 where
+  pub nothing : IsNothingAsked (subcommand_of commands words)
+
+-- ---- why there is no request
+
+-- the error tells of a fault of the words, and not of memory
+pub record TellsFault (words : List Text) (error : Error) : Type 0 where
+  pub fault : HasFault words
+  pub kind_is : fault.kind ≡ kind_of error
+  pub no_memory : kind_of error ≢ OutOfMemory
+
+-- of memory no claim is made
+abbrev pub IsWordsFault : List Text → WordsFault → Type 0
+IsWordsFault words (Help page) = AskForHelp words × (kind_of page ≡ DisplayHelp)
+IsWordsFault words (Usage error) = TellsFault words error
+IsWordsFault words Nothing = AskForNothing words
+IsWordsFault words Memory = Unit {0}

@@ -1,0 +1,107 @@
+//! What the values of arguments and options are.
+
+ghost use Rattle.std.specs.Prelude.{◌≡◌, ℕ, ◌≤◌, IfNone, IfOk, IfSome, Err};
+ghost use Rattle.clap.specs.Words.{found_of, rows_of};
+ghost use Rattle.command_line.specs.Words.{HasArrays, HasBucket, HasPlan, HasReleases, HasShape};
+ghost use Rattle.command_line.specs.Words.{HasShort, HasText, LacksArrays, LacksBucket, LacksPlan};
+ghost use Rattle.command_line.specs.Words.{LacksReleases, LacksShape, LacksShort, LacksText};
+
+use crate::request::{DeclaredShape, NoRequest, Plan};
+use attrs::Bucket;
+use clap::ArgMatches;
+use declarations::{ArrayDeclaration, SpecFault, read_spec};
+use std::alloc::Global;
+
+/// How the options say that a server serves.
+pub fn plan_of(found: &ArgMatches<'_>) -> Result<Plan, NoRequest>
+    ensures given { IfOk result (HasPlan (rows_of (found_of found.now))) }
+    ensures lacking { result ≡ Err NoRequest.Wrong → LacksPlan (rows_of (found_of found.now)) }
+{
+    let port = number_of(found, "port")?;
+    let operator = number_of(found, "operator")?;
+    let workers = number_of(found, "workers")?;
+    let timeout = number_of(found, "timeout")?;
+    if workers < 1 || workers > 64 {
+        return Err(NoRequest::Wrong);
+    }
+    Ok(Plan {
+        port,
+        operator,
+        workers,
+        timeout,
+        log: found.get_flag("log"),
+    })
+}
+
+/// The number of an option, of 16 bits.
+pub fn number_of(found: &ArgMatches<'_>, id: &str) -> Result<u16, NoRequest>
+    ensures given { IfOk result (HasShort id.now (rows_of (found_of found.now))) }
+    ensures only { IfOk result
+        (λ n. (m : ℕ) → HasShort id.now (rows_of (found_of found.now)) m → m ≡ n) }
+    ensures lacking { result ≡ Err NoRequest.Wrong
+        → LacksShort id.now (rows_of (found_of found.now)) }
+{
+    match found.get_one::<u16>(id) {
+        Some(number) => Ok(number),
+        None => Err(NoRequest::Wrong),
+    }
+}
+
+/// The text of an argument.
+pub fn text_of<'a>(found: &ArgMatches<'a>, id: &str) -> Result<&'a str, NoRequest>
+    ensures given { IfOk result (λ t. HasText id.now (rows_of (found_of found.now)) t.now) }
+    ensures lacking { result ≡ Err NoRequest.Wrong
+        → LacksText id.now (rows_of (found_of found.now)) }
+{
+    match found.get_str(id) {
+        Some(text) => Ok(text),
+        None => Err(NoRequest::Wrong),
+    }
+}
+
+/// The shape that the options declare.
+pub fn shape_of(alloc: Global, found: &ArgMatches<'_>) -> Result<DeclaredShape, NoRequest>
+    ensures given { IfOk result (HasShape (rows_of (found_of found.now))) }
+    ensures lacking { result ≡ Err NoRequest.Wrong → LacksShape (rows_of (found_of found.now)) }
+{
+    let Some(releases) = releases_of(found) else {
+        return Err(NoRequest::Wrong);
+    };
+    let arrays = arrays_of(alloc, found)?;
+    Ok(DeclaredShape { releases, arrays })
+}
+
+fn releases_of(found: &ArgMatches<'_>) -> Option<u8>
+    ensures given { IfSome result (HasReleases (rows_of (found_of found.now))) }
+    ensures lacking { IfNone result (LacksReleases (rows_of (found_of found.now))) }
+{
+    match found.get_one::<u8>("releases") {
+        Some(releases) if releases <= 64 => Some(releases),
+        _ => None,
+    }
+}
+
+fn arrays_of(alloc: Global, found: &ArgMatches<'_>) -> Result<Vec<ArrayDeclaration>, NoRequest>
+    ensures given { IfOk result (λ v. HasArrays (rows_of (found_of found.now)) v.items) }
+    ensures lacking { result ≡ Err NoRequest.Wrong → LacksArrays (rows_of (found_of found.now)) }
+{
+    let Some(text) = found.get_str("arrays") else {
+        return Ok(Vec::new(alloc));
+    };
+    match read_spec(alloc, text) {
+        Ok(arrays) => Ok(arrays),
+        Err(SpecFault::Malformed) => Err(NoRequest::Wrong),
+        Err(SpecFault::Memory) => Err(NoRequest::Memory),
+    }
+}
+
+/// The bucket of an option, or its default.
+pub fn bucket_of(found: &ArgMatches<'_>) -> Result<Bucket, NoRequest>
+    ensures given { IfOk result (HasBucket (rows_of (found_of found.now))) }
+    ensures lacking { result ≡ Err NoRequest.Wrong → LacksBucket (rows_of (found_of found.now)) }
+{
+    match found.get_one::<u16>("bucket") {
+        Some(number) if number < 10000 => Ok(Bucket::new(number)),
+        _ => Err(NoRequest::Wrong),
+    }
+}

@@ -1,0 +1,97 @@
+//! What a command line asks for.
+
+ghost use Rattle.std.specs.Prelude.{◌≤◌};
+
+use attrs::Bucket;
+use declarations::ArrayDeclaration;
+
+/// The shape that a program is judged under, as the words declare it: how many releases the app
+/// has, and the arrays that the program may use.
+#[derive(Drop)]
+pub struct DeclaredShape {
+    pub releases: u8,
+    pub arrays: Vec<ArrayDeclaration>,
+    pub ghost releases_in_range: { releases ≤ 64 },
+}
+
+/// One request of the command line.
+#[derive(Drop)]
+pub enum Request<'a> {
+    /// Assemble the text of one file into another.
+    Assemble {
+        text: &'a str,
+        out: &'a str,
+    },
+    /// Compile the rule of one file into another.
+    Compile {
+        text: &'a str,
+        shape: DeclaredShape,
+        out: &'a str,
+    },
+    /// Tell where and why a manifest is refused, or what it declares.
+    Check {
+        manifest: &'a str,
+    },
+    /// List the instructions of a file's bytes.
+    List {
+        path: &'a str,
+    },
+    /// Verify a file's program.
+    Verify {
+        path: &'a str,
+        shape: DeclaredShape,
+    },
+    /// Play a script on a world whose first ruleset is a manifest's.
+    Replay {
+        manifest: &'a str,
+        script: &'a str,
+    },
+    /// Serve the ruleset of a manifest.
+    Serve {
+        manifest: &'a str,
+        plan: Plan,
+    },
+    /// Ask a server at its operator's port.
+    Ask {
+        line: Line<'a>,
+        port: u16,
+    },
+    /// Verify it, and run it for one app.
+    Run {
+        path: &'a str,
+        shape: DeclaredShape,
+        version: Option<&'a str>,
+        bucket: Bucket,
+    },
+}
+
+/// How a server serves: its two ports, its workers, the seconds of a connection, and whether each
+/// connection is logged.
+#[derive(Clone, Copy)]
+pub struct Plan {
+    pub port: u16,
+    pub operator: u16,
+    pub workers: u16,
+    pub timeout: u16,
+    pub log: bool,
+    pub ghost some: { 1 ≤ workers },
+    pub ghost few: { workers ≤ 64 },
+}
+
+/// What an operator asks.
+#[derive(Clone, Copy)]
+pub enum Line<'a> {
+    Load(&'a str),
+    Show,
+    Cells,
+    Stop,
+}
+
+/// Why the words ask for nothing.
+#[derive(Clone, Copy)]
+pub enum NoRequest {
+    /// They name no command, or lack something that it wants.
+    Wrong,
+    /// Memory was refused.
+    Memory,
+}

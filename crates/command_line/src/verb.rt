@@ -1,0 +1,42 @@
+//! The commands, by their names.
+
+ghost use Rattle.std.specs.Prelude.{◌≡◌};
+ghost use Rattle.command_line.specs.Words.{verb_named};
+
+/// A command.
+#[derive(Clone, Copy)]
+pub enum Verb {
+    Assemble,
+    Check,
+    Compile,
+    List,
+    Verify,
+    Run,
+    Replay,
+    Serve,
+    Load,
+    Show,
+    Cells,
+    Stop,
+}
+
+/// The command of a name.
+pub fn verb_named(name: &str) -> Option<Verb>
+    ensures { result ≡ verb_named name.now }
+{
+    match name {
+        "asm" => Some(Verb::Assemble),
+        "check" => Some(Verb::Check),
+        "compile" => Some(Verb::Compile),
+        "list" => Some(Verb::List),
+        "verify" => Some(Verb::Verify),
+        "run" => Some(Verb::Run),
+        "replay" => Some(Verb::Replay),
+        "serve" => Some(Verb::Serve),
+        "load" => Some(Verb::Load),
+        "show" => Some(Verb::Show),
+        "cells" => Some(Verb::Cells),
+        "stop" => Some(Verb::Stop),
+        _ => None,
+    }
+}

@@ -1,0 +1,3 @@
+mod Spelled
+mod Written
+mod Events

@@ -1,0 +1,20 @@
+use Rattle.std.proofs.Common.{subst}
+use Rattle.commands.proofs.Written.{of_written}
+use Rattle.commands.specs.Answers.{IsAnswer}
+use Rattle.commands.specs.declared.fault.Answer.TheVariants.{Ready}
+use Rattle.commands.proofs.status.perform.Goals as goal
+
+pub returns-in-Ok-clause-done : goal.returns-in-Ok-clause-done
+returns-in-Ok-clause-done g c zero = record {
+  answer = c.in-Ok.answer;
+  answers = c.in-Ok.ensures.answer;
+  printed = of_written _ _ _ _ c.status_of.ensures c.is_ok.ensures.value c.write.ensures.bytes zero;
+}
+
+pub returns-in-Ok-Ready-clause-done : goal.returns-in-Ok-Ready-clause-done
+returns-in-Ok-Ready-clause-done g c zero = record {
+  answer = Ready c.in-Ok-Ready.server c.in-Ok-Ready.plan;
+  answers = subst (λ a. IsAnswer c.args.request.now a) c.in-Ok-Ready.field-0-is
+      c.in-Ok-Ready.ensures.answer;
+  printed = c.serve.ensures.done zero;
+}

@@ -1,0 +1,68 @@
+//! `run`: the run of a file's program for one app.
+
+ghost use Rattle.std.specs.Prelude.{◌≡◌, ◌≤◌, ◌⊎◌, length, IfOk, IfErr, option_copied};
+ghost use Rattle.commands.specs.Answers.{HasChosen};
+ghost use Rattle.commands.specs.Programs.{IsProgramRefusal, RunsTo};
+
+use crate::fault::Fault;
+use crate::program::program_of_file;
+use attrs::{Attrs, Bucket};
+use bpf_machine::Run;
+use bpf_verify::Verified;
+use cells::{PlainCells, events_fit};
+use command_line::DeclaredShape;
+use std::alloc::Global;
+use std::rt::Files;
+use std::sync::Arc;
+
+/// The choice of a file's program, once it is accepted, and the number of its instructions.
+pub fn run_file<R: Files + AllocGlobal>(
+    rt: &R,
+    path: &str,
+    shape: &DeclaredShape,
+    version: Option<&str>,
+    bucket: Bucket,
+) -> Result<(u8, u32), Fault>
+    ensures run { IfOk result (λ c.
+        HasChosen shape.now (option_copied version.entry) bucket c.0 c.1) }
+    ensures fault { IfErr result (λ e. (e ≡ Fault.Memory) ⊎ IsProgramRefusal shape.now e) }
+{
+    match program_of_file(rt, path, shape) {
+        Ok(program) => choose(rt.alloc(), program, version, bucket),
+        Err(fault) => Err(fault),
+    }
+}
+
+/// The program's run for an app with no appid, and this version and bucket, on cells of its own
+/// that open at 0: its choice and the number of its instructions.
+pub fn choose(
+    alloc: Global,
+    program: Verified,
+    version: Option<&str>,
+    bucket: Bucket,
+) -> Result<(u8, u32), Fault>
+    ensures run { IfOk result (λ c.
+        RunsTo program (option_copied version.entry) bucket c.0 c.1) }
+    ensures release { IfOk result (λ c. c.0 ≤ program.shape.releases) }
+    ensures ends { IfOk result (λ c. c.1 ≤ length program.code) }
+    ensures fault { IfErr result (λ e. e ≡ Fault.Memory) }
+{
+    let Ok(attrs) = Attrs::plain(alloc, "", version, bucket.number()) else {
+        return Err(Fault::Memory);
+    };
+    let Ok(attrs) = Arc::new(alloc, attrs) else {
+        return Err(Fault::Memory);
+    };
+    let Ok((cells, mut pass)) = PlainCells::new(alloc) else {
+        return Err(Fault::Memory);
+    };
+    let facts: &Attrs = &attrs;
+    facts.keeps();
+    program.keeps();
+    pass.keeps();
+    events_fit();
+    let Ok(program) = Arc::new(alloc, program) else {
+        return Err(Fault::Memory);
+    };
+    Ok(Run::start(program, attrs).run(&cells, &mut pass))
+}

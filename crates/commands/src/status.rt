@@ -1,0 +1,170 @@
+//! The status of a command, and what it prints: on standard output, or on standard error.
+
+ghost use Rattle.std.specs.Prelude.{◌≡◌, ◌≤◌, List, ℕ, map, OnOk, if◌then◌else◌};
+ghost use Rattle.std.specs.IoError.{error_kind};
+ghost use Rattle.std.specs.Io.KnownBytes.{Appends};
+ghost use Rattle.command_line.specs.Requests.{AskForHelp, IsWordsFault};
+ghost use Rattle.commands.specs.Commands.{AreWrong, IsAnswered, IsDone, PrintsRefusal};
+ghost use Rattle.commands.specs.Texts.{serving_line};
+
+use crate::answer::answer;
+use crate::fault::{Answer, Fault};
+use crate::serve::serve_until_stopped;
+use command_line::{Plan, Request, WordsFault, read_words};
+use serving::Server;
+use std::convert::AsStr;
+use std::io::{self, ErrorKind, Write};
+use std::net::{Net, TcpListener, TcpStream};
+use std::rt::Files;
+use std::sync::Wait;
+use std::thread::Threads;
+use std::time::Clock;
+
+/// The command did what it was asked.
+const DONE: u8 = 0;
+/// What was asked is refused, or its answer couldn't be written.
+const REFUSED: u8 = 1;
+/// The words are wrong.
+const USAGE: u8 = 2;
+
+/// Does what the words ask, the first of which is the program's name. Results go to `out`, and
+/// refusals and usage to `err`. The status is 0 done, 1 refused or after a failed write, 2 usage.
+/// A server has served once the status is there.
+pub fn command<R, S, O, E>(rt: &R, words: &[S], out: &mut O, err: &mut E) -> u8
+where
+    R: Files + Threads + Wait + AllocGlobal + Clock + Eprint + Sync,
+    R: Net<Listener = TcpListener, Stream = TcpStream>,
+    R::File: Send,
+    R::Dir: Send,
+    S: AsStr,
+    O: Write,
+    E: Write,
+    ensures within { result ≤ 2 }
+    ensures done { result ≡ 0 → IsDone (map S.text words.now)
+        (O.contents out.old) (O.contents out.new) }
+    ensures silent { result ≡ 0 → err.new ≡ err.old }
+    ensures wrong { result ≡ 2 → AreWrong (map S.text words.now) }
+    ensures usage { result ≡ 2 → out.new ≡ out.old }
+{
+    match read_words(rt.alloc(), words) {
+        Ok(request) => perform(rt, &request, out, err),
+        Err(fault) => usage(&fault, out, err),
+    }
+}
+
+// Does what a request asks, and prints the answer or the refusal.
+fn perform<R, O, E>(rt: &R, request: &Request<'_>, out: &mut O, err: &mut E) -> u8
+where
+    R: Files + Threads + Wait + AllocGlobal + Clock + Eprint + Sync,
+    R: Net<Listener = TcpListener, Stream = TcpStream>,
+    R::File: Send,
+    R::Dir: Send,
+    O: Write,
+    E: Write,
+    ensures within { result ≤ 1 }
+    ensures done { result ≡ 0 → IsAnswered request.now
+        (O.contents out.old) (O.contents out.new) }
+    ensures silent { result ≡ 0 → err.new ≡ err.old }
+{
+    match answer(rt, request) {
+        Ok(Answer::Ready { server, plan }) => serve(rt, server, &plan, out, err),
+        Ok(answer) => status_of(write!(out, "{answer}").is_ok(), DONE),
+        Err(fault) => refused_for(out, err, &fault),
+    }
+}
+
+// Says that a server is ready, and serves until its operator stops it.
+fn serve<R, O, E>(rt: &R, server: Server, plan: &Plan, out: &mut O, err: &mut E) -> u8
+where
+    R: Files + Threads + Wait + AllocGlobal + Clock + Eprint + Sync,
+    R: Net<Listener = TcpListener, Stream = TcpStream>,
+    R::File: Send,
+    R::Dir: Send,
+    O: Write,
+    E: Write,
+    ensures within { result ≤ 1 }
+    ensures done { result ≡ 0 → Appends (O.contents out.old) (O.contents out.new) serving_line }
+    ensures silent { result ≡ 0 → err.new ≡ err.old }
+{
+    if say_ready(out).is_err() {
+        return REFUSED;
+    }
+    match serve_until_stopped(rt, server, plan) {
+        Ok(()) => DONE,
+        Err(fault) => refused(err, &fault),
+    }
+}
+
+fn say_ready<O: Write>(out: &mut O) -> io::Result<()>
+    ensures { OnOk result (Appends (O.contents out.old) (O.contents out.new) serving_line) }
+{
+    writeln!(out, "serving generation 1")?;
+    out.flush()
+}
+
+/// What words are answered that can't be read: their memory was refused, or one isn't UTF-8.
+pub fn unreadable_words<E: Write>(error: &io::Error, err: &mut E) -> u8
+    ensures within { (1 ≤ result) × (result ≤ 2) }
+    ensures memory { error_kind error.now ≡ ErrorKind.OutOfMemory → result ≡ 1 }
+{
+    match error.kind() {
+        ErrorKind::OutOfMemory => refused(err, &Fault::Memory),
+        _ => status_of(writeln!(err, "error: a word isn't UTF-8").is_ok(), USAGE),
+    }
+}
+
+/// What words are answered that are no request: help, what is wrong with them, or that memory was
+/// refused.
+pub fn usage<O: Write, E: Write>(fault: &WordsFault, out: &mut O, err: &mut E) -> u8
+    ensures within { result ≤ 2 }
+    ensures memory { fault.now ≡ WordsFault.Memory → result ≡ 1 }
+    ensures help { result ≡ 0 → (words : List (List ℕ)) → IsWordsFault words fault.now
+        → AskForHelp words }
+    ensures silent { result ≡ 0 → err.new ≡ err.old }
+    ensures wrong { result ≡ 2 → (words : List (List ℕ)) → IsWordsFault words fault.now
+        → AreWrong words }
+    ensures usage { result ≡ 2 → out.new ≡ out.old }
+{
+    match fault {
+        WordsFault::Help(_) => status_of(write!(out, "{fault}").is_ok(), DONE),
+        WordsFault::Memory => refused(err, &Fault::Memory),
+        _ => status_of(write!(err, "{fault}").is_ok(), USAGE),
+    }
+}
+
+// Prints where and why a manifest is refused on standard output, and the refusal.
+fn refused_for<O: Write, E: Write>(out: &mut O, err: &mut E, fault: &Fault) -> u8
+    ensures { result ≡ 1 }
+{
+    if let Fault::Diagnosed(diagnosis) = fault {
+        let _said = print_reason(out, diagnosis.reason.as_str());
+    }
+    refused(err, fault)
+}
+
+fn print_reason<O: Write>(out: &mut O, reason: &str) -> io::Result<()>
+    ensures { OnOk result (Appends (O.contents out.old) (O.contents out.new) reason.now) }
+{
+    out.write_all(reason.as_bytes())?;
+    out.flush()
+}
+
+fn refused<E: Write>(err: &mut E, fault: &Fault) -> u8
+    ensures { result ≡ 1 }
+{
+    status_of(print_refusal(err, fault).is_ok(), REFUSED)
+}
+
+fn print_refusal<E: Write>(err: &mut E, fault: &Fault) -> io::Result<()>
+    ensures { OnOk result (PrintsRefusal fault.now (E.contents err.old) (E.contents err.new)) }
+{
+    writeln!(err, "refused {fault}")
+}
+
+// The status of what was written, or after a failed write.
+fn status_of(written: bool, status: u8) -> u8
+    requires { status ≤ 2 }
+    ensures { result ≡ (if written then status else 1) }
+{
+    if written { status } else { REFUSED }
+}

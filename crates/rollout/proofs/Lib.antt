@@ -1,4 +1,0 @@
-mod Reading
-mod Asking
-mod Doing
-mod Events
