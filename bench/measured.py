@@ -94,13 +94,15 @@ def counted(pattern, options, command, source=os.devnull):
     """The number that valgrind tells of a process."""
     words = ["valgrind", *options, *map(str, command)]
     with open(source, "rb") as given:
-        log = subprocess.run(words, stdin=given, stdout=subprocess.DEVNULL, stderr=subprocess.PIPE, text=True).stderr
+        how = {"stdin": given, "stdout": subprocess.DEVNULL, "stderr": subprocess.PIPE}
+        log = subprocess.run(words, text=True, **how).stderr
     return int(re.search(pattern, log).group(1).replace(",", ""))
 
 
 def steps(command, source=os.devnull):
     """How many instructions of the processor a process takes."""
-    return counted(r"Collected : (\d+)", ["--tool=callgrind", "--callgrind-out-file=/dev/null"], command, source)
+    options = ["--tool=callgrind", "--callgrind-out-file=/dev/null"]
+    return counted(r"Collected : (\d+)", options, command, source)
 
 
 def allocations(command, source=os.devnull):
@@ -109,8 +111,10 @@ def allocations(command, source=os.devnull):
 
 
 def show_machine():
-    model = next((line.split(":", 1)[1].strip() for line in open("/proc/cpuinfo") if line.startswith("model name")), "?")
-    print(f"{time.strftime('%Y-%m-%d %H:%M', time.gmtime())} UTC, {model}, {os.cpu_count()} processors, {platform.release()}")
+    model = re.search(r"^model name\s*: (.*)", Path("/proc/cpuinfo").read_text(), re.M)
+    moment = time.strftime("%Y-%m-%d %H:%M", time.gmtime())
+    machine = f"{model[1] if model else '?'}, {os.cpu_count()} processors, {platform.release()}"
+    print(f"{moment} UTC, {machine}")
     show_load("start")
 
 
