@@ -183,11 +183,10 @@ fn start(alloc: Global) -> Result<Event, AllocError> {
     Ok(Event::Start { worker: 1, attrs })
 }
 
-fn starts(alloc: Global, world: &mut World) -> Result<bool, WorldFault> {
-    match start(alloc) {
-        Ok(start) => Ok(applied(world, &start)? == Effect::Started),
-        Err(_) => Err(WorldFault::Memory),
-    }
+/// Whether a Start is done that is asked once.
+fn starts(alloc: Global, world: &mut World) -> Result<bool, AllocError> {
+    let start = again!(AllocError, start(alloc))?;
+    Ok(applied(world, &start) == Ok(Effect::Started))
 }
 
 fn swaps(alloc: Global, world: &mut World) -> Result<bool, WorldFault> {
@@ -227,13 +226,13 @@ fn plays(alloc: Global, world: &mut World) -> Result<bool, WorldFault> {
     }
 }
 
-/// A Start, a Step and a Finish want no memory. A Swap that is refused adds no ruleset, and a list
-/// of events that is refused plays none of them.
+/// A Start, a Step and a Finish want no memory: a Start is asked once. A Swap that is refused adds
+/// no ruleset, and a list of events that is refused plays none of them.
 #[test]
 fn worlds(rt: HostRuntime) -> Result<(), Fail> {
     let alloc = rt.alloc();
     let mut world = again!(WorldFault::Memory, world_of(alloc))?;
-    let started = again!(WorldFault::Memory, starts(alloc, &mut world));
+    let started = starts(alloc, &mut world);
     let swapped = again!(WorldFault::Memory, swaps(alloc, &mut world));
     let played = again!(WorldFault::Memory, plays(alloc, &mut world));
     assert!(rt; started == Ok(true) && swapped == Ok(true) && played == Ok(true));
