@@ -1,4 +1,4 @@
-//! One direction of a connection, with its limit of time.
+//! One direction of a connection, with its limit of time, and what is read at a connection's end.
 
 ghost use Rattle.std.specs.Prelude.{◌≡◌};
 
@@ -97,8 +97,7 @@ impl<R: Clock> Write for Timed<'_, R> {
     }
 }
 
-/// Reads what a client goes on to send after its reply, for at most a second: a socket that is
-/// closed with bytes unread is reset, and the reply may be lost with it.
+/// Reads what a client goes on to send after its reply, for at most a second.
 pub fn drain<R: Clock>(stream: &TcpStream, clock: &R) -> io::Result<()> {
     stream.shutdown(Shutdown::Write)?;
     let now = Instant::now(clock)?;
@@ -116,8 +115,8 @@ pub fn drain<R: Clock>(stream: &TcpStream, clock: &R) -> io::Result<()> {
 }
 
 /// Takes what has come behind the request, up to 512 bytes, and doesn't wait for more: clients are
-/// known that end a body with a line's end that they don't count (RFC 9112, section 2.2). The
-/// stream doesn't wait from then on.
+/// known that end a body with a line's end that they don't count (RFC 9112, section 2.2). Where
+/// nothing has come it fails with `WouldBlock`. The stream doesn't wait from then on.
 pub fn take_rest(stream: &TcpStream) -> io::Result<()> {
     stream.set_nonblocking(true)?;
     let mut rest = stream;

@@ -2,42 +2,81 @@
 
 use crate::answering::AnswerFault;
 use crate::sent::Sent;
-use std::fmt::{self, Display};
+use std::alloc::Global;
+use std::fmt::{self, Display, Write};
 use std::io;
 use std::net::SocketAddr;
-use std::time::{Clock, Instant};
 
-/// The address of a client; `-` where it is gone before it was asked for.
+/// How many bytes of lines are enough to be written. With one line more, which has at most 150,
+/// they still go out in one piece, since up to 1024 bytes are printed by one write.
+const ENOUGH: usize = 800;
+
+/// The line of a connection, as it is printed: the moment, the client's address, the reply or the
+/// fault, how many bytes were written, and how many microseconds it took.
 #[derive(Clone, Copy)]
-pub struct Peer(pub Option<SocketAddr>);
+pub struct LogLine<'a> {
+    /// When the connection's turn came, in seconds since 1970.
+    pub moment: i64,
+    pub peer: SocketAddr,
+    pub outcome: &'a Result<Sent, AnswerFault>,
+    pub bytes: u64,
+    /// 0 where the clock fails.
+    pub micros: u64,
+}
 
-impl Display for Peer {
+impl Display for LogLine<'_> {
     fn fmt<W: fmt::Write>(&self, f: &mut fmt::Formatter<W>) -> fmt::Result {
-        match self.0 {
-            Some(address) => write!(f, "{address}"),
-            None => f.write_str("-"),
+        let (moment, peer, bytes, micros) = (self.moment, self.peer, self.bytes, self.micros);
+        match self.outcome {
+            Ok(sent) => writeln!(f, "{moment} {peer} {sent} {bytes} {micros}"),
+            Err(fault) => writeln!(f, "{moment} {peer} {fault} {bytes} {micros}"),
         }
     }
 }
 
-/// Writes the line of a connection: the moment, the client's address, the reply or the fault, how
-/// many bytes were written, and how many microseconds it took, 0 where the clock fails. It goes out
-/// in one piece, so that lines of several threads don't mix.
-pub fn note<H: AllocGlobal + Clock + Eprint>(
-    rt: &H,
-    peer: Peer,
+/// The lines of a worker that aren't written yet. They are written in one piece, so that those of
+/// several workers don't mix: before the worker waits for a connection, where there are enough of
+/// them, and before it attends to a connection of a later second. So a line is late by a second,
+/// and by the time of the next connection, at most.
+#[derive(Drop)]
+pub struct Log {
+    lines: String,
+    /// The moment of these lines.
     moment: i64,
-    outcome: &Result<Sent, AnswerFault>,
-    bytes: u64,
-    begun: Option<Instant>,
-) -> io::Result<()> {
-    let micros = micros_since(rt, begun);
-    let alloc = rt.alloc();
-    let line = match outcome {
-        Ok(sent) => format!(in alloc; "{moment} {peer} {sent} {bytes} {micros}\n")?,
-        Err(fault) => format!(in alloc; "{moment} {peer} {fault} {bytes} {micros}\n")?,
-    };
-    rt.eprint(line)
+}
+
+impl Log {
+    /// A log without a line.
+    pub fn new(alloc: Global) -> Log {
+        Log {
+            lines: String::new(alloc),
+            moment: 0,
+        }
+    }
+
+    /// Puts a line behind the others. It is lost where memory is refused.
+    pub fn note<H: Eprint>(&mut self, rt: &H, line: &LogLine<'_>) {
+        let _noted = write!(self.lines, "{line}");
+        self.moment = line.moment;
+        if self.lines.len() >= ENOUGH {
+            self.write_out(rt);
+        }
+    }
+
+    /// Writes the lines of an earlier second than this.
+    pub fn write_earlier<H: Eprint>(&mut self, rt: &H, moment: i64) {
+        if self.moment != moment {
+            self.write_out(rt);
+        }
+    }
+
+    /// Writes all lines. They are lost where standard error fails.
+    pub fn write_out<H: Eprint>(&mut self, rt: &H) {
+        if !self.lines.is_empty() {
+            let _written = rt.eprint(self.lines.as_str());
+            self.lines.clear();
+        }
+    }
 }
 
 /// Writes the line of a connection that couldn't be accepted: the moment, `-` for the client that
@@ -50,15 +89,4 @@ pub fn note_unaccepted<H: AllocGlobal + Eprint>(
     let alloc = rt.alloc();
     let line = format!(in alloc; "{moment} - accept failed: {error}\n")?;
     rt.eprint(line)
-}
-
-// How many microseconds it is since then.
-fn micros_since<H: Clock>(rt: &H, begun: Option<Instant>) -> u128 {
-    let Some(begun) = begun else {
-        return 0;
-    };
-    match begun.elapsed(rt) {
-        Ok(elapsed) => elapsed.as_micros(),
-        Err(_) => 0,
-    }
 }

@@ -5,13 +5,13 @@ ghost use Rattle.std.specs.Prelude.{All};
 
 use crate::answering::{AnswerFault, answer};
 use crate::gate::Gate;
-use crate::log::{Peer, note, note_unaccepted};
+use crate::log::{Log, LogLine, note_unaccepted};
 use crate::sent::Sent;
 use cells::CellSteps;
 use crossbeam_channel::{Receiver, Sender};
 use hot_swap::Watcher;
 use http_front::Counted;
-use std::net::{TcpListener, TcpStream};
+use std::net::{SocketAddr, TcpListener, TcpStream};
 use std::sync::Wait;
 use std::sync::atomic::{AtomicBool, Ordering};
 use std::thread::Threads;
@@ -34,11 +34,12 @@ pub enum ServeFault {
     Memory,
 }
 
-/// A connection with its number, from 1 on.
+/// A connection with its number, from 1 on, and its client's address.
 #[derive(Drop)]
 struct Call {
     number: u64,
     stream: TcpStream,
+    peer: SocketAddr,
 }
 
 /// How a server serves.
@@ -47,7 +48,8 @@ pub struct Service {
     /// How long a connection may last.
     pub timeout: Duration,
     /// Whether each connection has a line of the log, on standard error, also one that couldn't be
-    /// accepted.
+    /// accepted. Where connections wait for a worker its lines are written together, late by a
+    /// second and by a connection's time at most.
     pub log: bool,
 }
 
@@ -111,12 +113,13 @@ where
     H: Wait + AllocGlobal + Clock + Eprint,
 {
     let mut number = 0u64;
-    for stream in listener.incoming() {
+    for _ in rt.forever() {
+        let accepted = listener.accept();
         if stop.load(Ordering::SeqCst) {
             break;
         }
-        let stream = match stream {
-            Ok(stream) => stream,
+        let (stream, peer) = match accepted {
+            Ok(accepted) => accepted,
             Err(error) => {
                 if log {
                     let _noted = note_unaccepted(rt, unix_second(rt), &error);
@@ -126,7 +129,12 @@ where
             }
         };
         number = number.saturating_add(1);
-        if to.send(rt, Call { number, stream }).is_err() {
+        let call = Call {
+            number,
+            stream,
+            peer,
+        };
+        if to.send(rt, call).is_err() {
             break;
         }
     }
@@ -149,23 +157,37 @@ where
     C::Pass: Drop,
     requires { C.belongs cells.now pass }
 {
-    for call in from.iter(rt) {
+    let mut log = Log::new(rt.alloc());
+    for _ in rt.forever() {
+        let Some(call) = next(rt, &from, &mut log) else {
+            break;
+        };
         gate.before(call.number);
-        let _attended = attend(rt, &call.stream, cells, &mut pass, &mut watcher, service);
+        let _attended = attend(rt, &call, cells, &mut pass, &mut watcher, service, &mut log);
         gate.after(call.number);
     }
 }
 
-// Answers one connection. The address of the client is asked for first, since one that has reset
-// the connection has none. Where the clock can't tell when the connection has to be done, nothing
-// is read, as of a client that can't be read.
+// The next connection, or none where the channel is closed. Before it waits for one it writes the
+// log out, so that no line is left at the end.
+fn next<H: Wait + Eprint>(rt: &H, from: &Receiver<Call>, log: &mut Log) -> Option<Call> {
+    if let Ok(call) = from.try_recv(rt) {
+        return Some(call);
+    }
+    log.write_out(rt);
+    from.recv(rt).ok()
+}
+
+// Answers one connection. Where the clock can't tell when the connection has to be done, nothing is
+// read, as of a client that can't be read.
 fn attend<H, C>(
     rt: &H,
-    stream: &TcpStream,
+    call: &Call,
     cells: &C,
     pass: &mut C::Pass,
     watcher: &mut Watcher,
     service: Service,
+    log: &mut Log,
 ) -> io::Result<()>
 where
     H: Wait + AllocGlobal + Clock + Eprint,
@@ -174,18 +196,41 @@ where
     ensures { C.belongs cells.now pass.new }
 {
     let limits = begin(rt, service.timeout);
-    let peer = if service.log {
-        Peer(stream.peer_addr().ok())
-    } else {
-        Peer(None)
-    };
     let moment = unix_second(rt);
-    let Some((begun, until)) = limits else {
-        if service.log {
-            let _noted = note(rt, peer, moment, &Err(AnswerFault::Reading), 0, None);
-        }
-        return Ok(());
+    log.write_earlier(rt, moment);
+    let (outcome, bytes) = match limits {
+        Some((_, until)) => answer_until(rt, &call.stream, cells, pass, watcher, moment, until),
+        None => (Err(AnswerFault::Reading), 0),
     };
+    if service.log {
+        let line = LogLine {
+            moment,
+            peer: call.peer,
+            outcome: &outcome,
+            bytes,
+            micros: micros_since(rt, limits),
+        };
+        log.note(rt, &line);
+    }
+    finish(rt, &call.stream, &outcome)
+}
+
+// Answers one connection until then, and tells how many bytes were written.
+fn answer_until<H, C>(
+    rt: &H,
+    stream: &TcpStream,
+    cells: &C,
+    pass: &mut C::Pass,
+    watcher: &mut Watcher,
+    moment: i64,
+    until: Instant,
+) -> (Result<Sent, AnswerFault>, u64)
+where
+    H: Wait + AllocGlobal + Clock,
+    C: CellSteps,
+    requires { C.belongs cells.now pass.old }
+    ensures { C.belongs cells.now pass.new }
+{
     let mut reader = Counted::new(Timed::new(stream, rt, until));
     let mut writer = Counted::new(Timed::new(stream, rt, until));
     let alloc = rt.alloc();
@@ -199,11 +244,7 @@ where
         watcher,
         moment,
     );
-    if service.log {
-        let bytes = writer.into_inner().bytes();
-        let _noted = note(rt, peer, moment, &outcome, bytes, Some(begun));
-    }
-    finish(rt, stream, &outcome)
+    (outcome, writer.into_inner().bytes())
 }
 
 // When a connection begins, which is now, and when it has to be done.
@@ -225,6 +266,17 @@ fn finish<H: Clock>(
         Ok(sent) if sent.status == 200 => take_rest(stream),
         Ok(_) => drain(stream, rt),
         Err(_) => Ok(()),
+    }
+}
+
+// How many microseconds it is since a connection began; 0 where that isn't known.
+fn micros_since<H: Clock>(rt: &H, limits: Option<(Instant, Instant)>) -> u64 {
+    let Some((begun, _)) = limits else {
+        return 0;
+    };
+    match begun.elapsed(rt) {
+        Ok(elapsed) => u64::try_from(elapsed.as_micros()).unwrap_or(u64::MAX),
+        Err(_) => 0,
     }
 }
 
