@@ -1,4 +1,5 @@
-// A connection, from the bytes of its line to those of the reply.
+//! A connection, from the bytes of its line to those of the reply. The line is read into room on
+//! the stack, so that one that came is heard also where memory is refused.
 
 ghost use Rattle.std.specs.Prelude.{◌≡◌, ◌+◌, ◌-◌, ◌^◌, ◌<◌, IfSome, IfNone, OnOk, OnSome};
 ghost use Rattle.std.specs.Io.KnownBytes.{Appends};

@@ -1,6 +1,7 @@
-// The operator's side: a line is sent to a server, and its reply is read.
+//! The operator's side: a line is sent to a server, and its reply is read and looked at, since
+//! another server may listen at the port.
 
-ghost use Rattle.std.specs.Prelude.{◌≡◌, ◌↔◌, Err, IfOk};
+ghost use Rattle.std.specs.Prelude.{◌≡◌, ◌↔◌, ◌^◌, ◌≤◌, length, Err, IfOk};
 ghost use Rattle.operator.specs.Replies as specs;
 ghost use Rattle.operator.specs.Request.{AsksNothing};
 
@@ -8,7 +9,15 @@ use crate::request::Request;
 use std::alloc::Global;
 use std::io::{self, ErrorKind, Read, Write};
 use std::net::{Ipv4Addr, Net, TcpStream};
+use std::time::Duration;
 use thiserror::Error;
+
+/// The most bytes of a reply: 8192 counters have lines of at most 60 bytes, and the apps of a
+/// ruleset are told in fewer bytes than its manifest has, which are at most as many as these.
+const REPLY_LIMIT: usize = 0x10_0000;
+
+/// How long a server may send nothing: it may be at another connection, or at a load.
+const SILENCE_SECONDS: u64 = 600;
 
 /// Why there is no reply.
 #[derive(Clone, Copy, Debug, Drop, Error, PartialEq, Eq)]
@@ -19,17 +28,21 @@ pub enum AskFault {
     /// Memory was refused.
     #[error("B4 Memory")]
     Memory,
-    /// Nobody answers at the port, or not to the end, or it is no operator's port.
+    /// Nobody answers at the port, or not to the end, or nothing came for ten minutes, or it is no
+    /// operator's port.
     #[error("B5 Connect")]
     Connect,
 }
 
 /// Asks the server whose operator's port this is, on this machine, and gives the lines of its
-/// reply: those of a refusal begin with `refused `. What another port sends is no reply.
+/// reply, of at most 1 MiB: those of a refusal begin with `refused `. What another port sends is no
+/// reply. It waits ten minutes for each piece of the reply, which outlasts a load; after B5 a load
+/// or a stop may still have been done.
 pub fn ask<H>(rt: &H, port: u16, line: &str) -> Result<Vec<u8>, AskFault>
 where
     H: Net<Stream = TcpStream> + AllocGlobal,
     ensures replied { IfOk result (λ reply. specs.IsReplyTo line.now reply.items) }
+    ensures short { IfOk result (λ reply. length reply.items ≤ 2 ^ 20) }
     ensures word { result ≡ Err AskFault.Word ↔ AsksNothing line.now }
 {
     let Some(request) = Request::of(line.as_bytes()) else {
@@ -102,11 +115,18 @@ fn is_counter_byte(byte: u8) -> bool
         || byte == b'\n'
 }
 
-// Sends a line, and reads all that is sent back.
-fn exchange(alloc: Global, mut stream: &TcpStream, line: &str) -> io::Result<Vec<u8>> {
+// Sends a line, and reads all that is sent back, unless it is more than a reply may have.
+fn exchange(alloc: Global, mut stream: &TcpStream, line: &str) -> io::Result<Vec<u8>>
+    ensures { IfOk result (λ reply. length reply.items ≤ 2 ^ 20) }
+{
+    stream.set_read_timeout(Some(Duration::from_secs(SILENCE_SECONDS)))?;
     stream.write_all(line.as_bytes())?;
     stream.write_all(b"\n")?;
     let mut reply = Vec::new(alloc);
-    let _size = stream.read_to_end(&mut reply)?;
+    let mut from = stream.take(REPLY_LIMIT as u64 + 1);
+    let _size = from.read_to_end(&mut reply)?;
+    if reply.len() > REPLY_LIMIT {
+        return Err(io::Error::from(ErrorKind::InvalidData));
+    }
     Ok(reply)
 }

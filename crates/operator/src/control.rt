@@ -1,4 +1,5 @@
-// The ruleset and the arrays of a server, which its operator alone changes.
+//! The ruleset and the arrays of a server, which its operator alone changes: both at a load, or
+//! neither.
 
 ghost use Rattle.std.specs.Prelude.{◌≡◌, IfOk, IfErr, OnErr};
 ghost use Rattle.operator.specs.Control.{IsInstalled, IsRefusedLoad};

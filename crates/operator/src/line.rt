@@ -1,4 +1,5 @@
-// The line of a connection.
+//! The line of a connection: the bytes before the first line feed, or before the input's end. It is
+//! read piece by piece into room that the caller has.
 
 ghost use Rattle.std.specs.Prelude.{◌≡◌, ◌-◌, ◌^◌, ◌<◌, ◌≤◌, length, take, IfOk, IfSome};
 ghost use Rattle.std.specs.List.{position};

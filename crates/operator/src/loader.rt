@@ -1,4 +1,5 @@
-// Where a server's rulesets come from.
+//! Where a server's rulesets come from: a trait, so that the port is proved over any files, and
+//! tests load from memory.
 
 use cells::Directory;
 use ruleset::Ruleset;

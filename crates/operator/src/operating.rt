@@ -1,4 +1,5 @@
-// The operator's port: one connection after another, each with a limit of time.
+//! The operator's port: one connection after another, each with a limit of time. It ends with the
+//! connection that asks to stop, or once it is told to.
 
 use crate::answering::{answer, write_reply};
 use crate::control::Control;
@@ -9,6 +10,7 @@ use http_front::Counted;
 use std::fmt::Display;
 use std::net::{TcpListener, TcpStream};
 use std::sync::Wait;
+use std::sync::atomic::{AtomicBool, Ordering};
 use std::time::{Clock, Duration, Instant};
 use std::{io, thread};
 use timed_stream::{Timed, drain};
@@ -16,11 +18,11 @@ use timed_stream::{Timed, drain};
 /// How long nothing is accepted after a connection that couldn't be.
 const PAUSE_MILLIS: u64 = 10;
 
-/// Answers connections until one has asked to stop; that the server ends is for the caller to see
-/// to. The line of a connection has to come within the limit of time, and its reply to be taken
-/// within the same again, since a load may last. A connection that fails is passed over; after one
-/// that can't be accepted the thread sleeps, since the next can't be either where file descriptors
-/// have run out.
+/// Answers connections until one has asked to stop, or until `stop` is set and one more comes,
+/// which isn't answered; that the server ends is for the caller to see to. The line of a connection
+/// has to come within the limit of time, and its reply to be taken within the same again, since a
+/// load may last. A connection that fails is passed over; after one that can't be accepted the
+/// thread sleeps, since the next can't be either where file descriptors have run out.
 pub fn operate<H, L, C>(
     rt: &H,
     listener: &TcpListener,
@@ -28,6 +30,7 @@ pub fn operate<H, L, C>(
     mut control: Control,
     cells: &C,
     mut pass: C::Pass,
+    stop: &AtomicBool,
     timeout: Duration,
 )
 where
@@ -38,6 +41,9 @@ where
     requires { C.belongs cells.now pass }
 {
     for stream in listener.incoming() {
+        if stop.load(Ordering::SeqCst) {
+            break;
+        }
         let Ok(stream) = stream else {
             thread::sleep(rt, Duration::from_millis(PAUSE_MILLIS));
             continue;

@@ -1,4 +1,5 @@
-// What is done for a request.
+//! What is done for a request: a load, which alone changes anything, or a look at the ruleset or at
+//! the counters.
 
 ghost use Rattle.operator.specs.Perform.{Performs};
 ghost use Rattle.cells.specs.Grown.{Grows};

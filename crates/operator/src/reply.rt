@@ -1,4 +1,5 @@
-// What an operator is told, as it is printed.
+//! What an operator is told, as it is printed: lines, of which a refusal's begins with `refused `
+//! and has the number and name of what is wrong.
 
 ghost use Rattle.std.specs.Prelude.{◌≡◌};
 ghost use Rattle.operator.specs.Texts.{install_text, refusal_text, reply_text};

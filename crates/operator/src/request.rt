@@ -1,4 +1,5 @@
-// What an operator asks: the words of a line.
+//! What an operator asks: the words of a line. A line that is none of them asks nothing, and is
+//! refused as B1.
 
 ghost use Rattle.std.specs.Prelude.{IfSome, IfNone};
 ghost use Rattle.operator.specs.Request.{Asks, AsksNothing};

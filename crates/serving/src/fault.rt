@@ -1,4 +1,4 @@
-// Why a server doesn't serve.
+//! Why a server doesn't serve: what can be wrong with it once its ruleset is loaded.
 
 use thiserror::Error;
 

@@ -1,4 +1,5 @@
-// The ports of a server. Both are on loopback.
+//! The ports of a server, for its clients and for its operator. Both are on loopback, and both are
+//! bound before anything is served.
 
 ghost use Rattle.std.specs.Prelude.{◌≡◌, IfErr};
 

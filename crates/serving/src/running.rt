@@ -1,6 +1,7 @@
-// The server's run: its workers in their threads, and the operator's port beside them.
+//! The server's run: its workers in their threads, and the operator's port beside them. Whichever
+//! side ends first sets a flag and wakes the other by a connection, so that both end.
 
-ghost use Rattle.std.specs.Prelude.{◌≤◌, All};
+ghost use Rattle.std.specs.Prelude.{◌≡◌, ◌≤◌, All, IfErr};
 
 use crate::fault::ServingFault;
 use crate::ports::Ports;
@@ -8,18 +9,23 @@ use crate::worker_list::worker_list;
 use cells::{CellSteps, Directory};
 use hot_swap::{Publisher, Watcher};
 use locked_cells::LockedCells;
-use operator::{Control, Loader, ask, operate};
+use operator::{Control, Loader, operate};
 use ruleset::Ruleset;
-use std::net::{Net, TcpListener, TcpStream};
+use std::io::ErrorKind;
+use std::net::{Net, SocketAddr, TcpListener, TcpStream};
 use std::sync::atomic::{AtomicBool, Ordering};
 use std::sync::{Arc, Wait};
 use std::thread;
 use std::thread::Threads;
-use std::time::Clock;
+use std::time::{Clock, Duration};
 use workers::{Open, Service, serve};
 
+/// How long it is until a port that couldn't be woken is tried again.
+const PAUSE_MILLIS: u64 = 10;
+
 /// Serves this ruleset, whose arrays are those of the directory, as generation 1, with so many
-/// workers, until the operator stops it. Later rulesets come from the loader.
+/// workers, until the operator stops it. Later rulesets come from the loader. B4 where memory or a
+/// thread was refused.
 pub fn run<H, L>(
     rt: &H,
     ports: Ports,
@@ -41,6 +47,7 @@ where
     L::Fault: Send,
     requires some { 1 ≤ workers }
     requires few { workers ≤ 64 }
+    ensures { IfErr result (λ e. e ≡ ServingFault.Memory) }
 {
     let Ok(rules) = Arc::new(rt.alloc(), rules) else {
         return Err(ServingFault::Memory);
@@ -90,6 +97,7 @@ where
     C::Pass: Send + Drop,
     requires pass { C.belongs cells.now pass }
     requires workers { All (λ worker. C.belongs cells.now worker.0) workers.items }
+    ensures { IfErr result (λ e. e ≡ ServingFault.Memory) }
 {
     let stop = AtomicBool::new(false);
     let Ports {
@@ -104,14 +112,24 @@ where
         |scope|
             requires pass { C.belongs cells.now pass }
             requires workers { All (λ worker. C.belongs cells.now worker.0) workers.items }
+            ensures { IfErr result (λ e. e ≡ ServingFault.Memory) }
         {
             let flag = &stop;
             let job = move ||
                 requires { C.belongs cells.now pass }
             {
-                operate(rt, &operator, loader, control, cells, pass, service.timeout);
+                operate(
+                    rt,
+                    &operator,
+                    loader,
+                    control,
+                    cells,
+                    pass,
+                    flag,
+                    service.timeout,
+                );
                 flag.store(true, Ordering::SeqCst);
-                let _last = TcpStream::connect(rt, service_address);
+                wake(rt, service_address);
             };
             if scope.spawn(job).is_err() {
                 return Err(ServingFault::Memory);
@@ -119,10 +137,28 @@ where
             match serve(rt, &Open, listener, cells, workers, flag, service) {
                 Ok(()) => Ok(()),
                 Err(_) => {
-                    let _stopped = ask(rt, operator_address.port(), "stop");
+                    flag.store(true, Ordering::SeqCst);
+                    wake(rt, operator_address);
                     Err(ServingFault::Memory)
                 }
             }
         },
     )
+}
+
+// Connects to a port, whose thread then sees the flag that was set. One that refuses is closed, and
+// nobody waits there any more. Anything else, as that file descriptors have run out, may pass, and
+// the thread that is to be woken can't end before: so it is tried until one of the two comes, or
+// until another connection has woken the thread and the port is closed.
+fn wake<H>(rt: &H, address: SocketAddr)
+where
+    H: Wait + Clock + Net<Stream = TcpStream>,
+{
+    for _ in 0..u64::MAX {
+        match TcpStream::connect(rt, address) {
+            Ok(_) => return,
+            Err(error) if error.kind() == ErrorKind::ConnectionRefused => return,
+            Err(_) => thread::sleep(rt, Duration::from_millis(PAUSE_MILLIS)),
+        }
+    }
 }

@@ -1,4 +1,5 @@
-// From a manifest's path to the end of the server.
+//! From a manifest's path to the end of the server: what can be wrong is found before the server is
+//! said to serve, but for want of memory and threads.
 
 ghost use Rattle.std.specs.Prelude.{◌≡◌, ◌≤◌, [], IfOk, IfErr};
 ghost use Rattle.serving.specs.Manifests.{LoadsSome, RefusesToServe};
@@ -67,7 +68,8 @@ impl Server {
         &self.ports
     }
 
-    /// Serves with so many workers until the operator stops the server.
+    /// Serves with so many workers until the operator stops the server. B4 where memory or a thread
+    /// was refused.
     pub fn serve<H>(self, rt: &H, workers: usize, service: Service) -> Result<(), ServingFault>
     where
         H: Files + Threads + Wait + AllocGlobal + Clock + Eprint + Sync,
@@ -76,6 +78,7 @@ impl Server {
         H::Dir: Send,
         requires some { 1 ≤ workers }
         requires few { workers ≤ 64 }
+        ensures { IfErr result (λ e. e ≡ ServingFault.Memory) }
     {
         let Server {
             ports,

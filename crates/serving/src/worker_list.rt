@@ -1,6 +1,6 @@
-// The workers of a server: a pass and a watcher each.
+//! The workers of a server: a pass to the cells and a watcher of the newest ruleset each.
 
-ghost use Rattle.std.specs.Prelude.{◌≡◌, IfOk, All, length};
+ghost use Rattle.std.specs.Prelude.{◌≡◌, IfErr, IfOk, length};
 
 use crate::fault::ServingFault;
 use hot_swap::{Publisher, Watcher};
@@ -15,6 +15,7 @@ pub(crate) fn worker_list<R: Wait + Drop>(
     publisher: &mut Publisher,
     count: usize,
 ) -> Result<Vec<(LockedPass, Watcher)>, ServingFault>
+    ensures fault { IfErr result (λ e. e ≡ ServingFault.Memory) }
     ensures all { IfOk result (λ v. length v.items ≡ count) }
     ensures latest { publisher.new.latest ≡ publisher.old.latest }
 {
