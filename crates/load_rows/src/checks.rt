@@ -4,9 +4,10 @@ mod accepted;
 mod refused;
 
 use crate::files::MemFiles;
-use diagnosis::check;
+use crate::sample::{changed, files, halves, must};
+use diagnosis::{Refused, check};
 use load::Files;
-use std::alloc::Global;
+use std::alloc::{AllocError, Global};
 use std::test::Fail;
 
 const SAMPLE: &str = r#"
@@ -46,18 +47,53 @@ unfinished.rule: count n[0];
 count.rule: count n[9]; /   count q[0]; / otherwise none;
 "#;
 
-/// What is told, with ` / ` for each line feed: the text of a manifest that is accepted, or the
-/// refusal and its reason. It has no clauses, so that no proof reads the texts of a test.
-fn told(alloc: Global, files: &mut MemFiles, manifest: &str) -> Result<String, Fail> {
+/// The check of a manifest. It has no clauses, so that no proof reads the texts of a test.
+fn checked(alloc: Global, files: &mut MemFiles, manifest: &str) -> Result<String, Refused> {
     if files.failures() >= 1000 {
         return Ok(String::new(alloc));
     }
-    let text = match check(alloc, manifest.as_bytes(), files) {
+    check(alloc, manifest.as_bytes(), files)
+}
+
+fn refusal(alloc: Global, refused: &Refused) -> Result<String, AllocError> {
+    format!(in alloc; "{}\n{}", refused.fault, refused.reason)
+}
+
+/// What is told, with ` / ` for each line feed: the text of a manifest that is accepted, or the
+/// refusal and its reason.
+fn told(alloc: Global, files: &mut MemFiles, manifest: &str) -> Result<String, Fail> {
+    let text = match checked(alloc, files, manifest) {
         Ok(text) => text,
-        Err(refused) => {
-            let reason = refused.reason.as_str();
-            format!(in alloc; "{}\n{reason}", refused.fault)?
-        }
+        Err(refused) => refusal(alloc, &refused)?,
     };
     Ok(text.replace(alloc, "\n", " / ")?)
+}
+
+/// What is told of one manifest.
+fn told_alone(alloc: Global, manifest: &str) -> Result<String, Fail> {
+    told(alloc, &mut files(alloc, RULES)?, manifest)
+}
+
+/// Whether that is what is wanted. What the reader of TOML says behind its place is its own affair.
+fn fits(told: &str, want: &str) -> bool {
+    if want.starts_with("M1") {
+        return told.starts_with(want.trim()) && told.ends_with(" / ");
+    }
+    told.trim() == want.trim()
+}
+
+fn is_told(alloc: Global, files: &mut MemFiles, row: &str) -> Result<(), Fail> {
+    let (changes, want) = halves(row, " | ")?;
+    let manifest = changed(alloc, SAMPLE, changes)?;
+    let told = told(alloc, files, manifest.as_str())?;
+    must(row, told.as_str(), fits(told.as_str(), want))
+}
+
+/// Each row: what is changed in the sample, and what is told.
+fn each_is_told(alloc: Global, rows: &str) -> Result<(), Fail> {
+    let mut files = files(alloc, RULES)?;
+    for row in rows.split("\n- ").skip(1) {
+        is_told(alloc, &mut files, row)?;
+    }
+    Ok(())
 }

@@ -6,10 +6,11 @@ mod memory;
 mod refusals;
 
 use crate::files::MemFiles;
+use crate::sample::{files, must};
 use cells::Directory;
 use load::{Files, LoadFault, load_ruleset};
 use ruleset::Ruleset;
-use std::alloc::Global;
+use std::alloc::{AllocError, Global};
 use std::test::Fail;
 
 const SAMPLE: &str = r#"
@@ -67,15 +68,42 @@ fn ruleset_from(
     load_ruleset(alloc, manifest.as_bytes(), files, directory)
 }
 
-/// `ok`, or the printed refusal.
-fn told(
-    alloc: Global,
-    files: &mut MemFiles,
-    directory: &mut Directory,
-    manifest: &str,
-) -> Result<String, Fail> {
-    match ruleset_from(alloc, files, directory, manifest) {
-        Ok(_) => Ok(String::from_str(alloc, "ok")?),
-        Err(fault) => Ok(format!(in alloc; "{fault}")?),
+/// What loads take: the files, and a directory.
+#[derive(Drop)]
+struct Loader {
+    files: MemFiles,
+    directory: Directory,
+}
+
+impl Loader {
+    /// All files, and no array yet.
+    fn new(alloc: Global) -> Result<Loader, Fail> {
+        Ok(Loader {
+            files: files(alloc, RULES)?,
+            directory: Directory::new(alloc),
+        })
+    }
+
+    fn load(&mut self, alloc: Global, manifest: &str) -> Result<Ruleset, LoadFault> {
+        ruleset_from(alloc, &mut self.files, &mut self.directory, manifest)
+    }
+
+    /// `ok`, or the printed refusal.
+    fn told(&mut self, alloc: Global, manifest: &str) -> Result<String, AllocError> {
+        match self.load(alloc, manifest) {
+            Ok(_) => String::from_str(alloc, "ok"),
+            Err(fault) => format!(in alloc; "{fault}"),
+        }
+    }
+
+    fn must_tell(
+        &mut self,
+        alloc: Global,
+        row: &str,
+        manifest: &str,
+        want: &str,
+    ) -> Result<(), Fail> {
+        let told = self.told(alloc, manifest)?;
+        must(row, told.as_str(), told.as_str() == want)
     }
 }

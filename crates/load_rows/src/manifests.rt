@@ -5,8 +5,9 @@ mod fields;
 mod names;
 mod texts;
 
+use crate::sample::must;
 use manifest::{Manifest, ManifestFault, read_manifest};
-use std::alloc::Global;
+use std::alloc::{AllocError, Global};
 use std::test::Fail;
 
 const SAMPLE: &str = "server = \"prod\"
@@ -33,12 +34,29 @@ fn read(alloc: Global, bytes: &[u8]) -> Result<Manifest, ManifestFault> {
     read_manifest(alloc, bytes)
 }
 
-/// What is told of a manifest: that it is one, or the refusal and where it is.
-fn told(alloc: Global, bytes: &[u8]) -> Result<String, Fail> {
-    match read(alloc, bytes) {
-        Ok(_) => Ok(String::from_str(alloc, "ok")?),
-        Err(ManifestFault::Field(misfit)) => Ok(format!(in alloc; "M2 {misfit}")?),
-        Err(ManifestFault::Duplicate(twice)) => Ok(format!(in alloc; "M3 {twice}")?),
-        Err(fault) => Ok(format!(in alloc; "{fault}")?),
+fn refusal(alloc: Global, fault: &ManifestFault) -> Result<String, AllocError> {
+    match fault {
+        ManifestFault::Field(misfit) => format!(in alloc; "M2 {misfit}"),
+        ManifestFault::Duplicate(twice) => format!(in alloc; "M3 {twice}"),
+        other => format!(in alloc; "{other}"),
     }
+}
+
+/// What is told of a manifest: that it is one, or the refusal and where it is.
+fn told(alloc: Global, bytes: &[u8]) -> Result<String, AllocError> {
+    match read(alloc, bytes) {
+        Ok(_) => String::from_str(alloc, "ok"),
+        Err(fault) => refusal(alloc, &fault),
+    }
+}
+
+/// Whether that is what is wanted, or begins so where no more is said.
+fn fits(told: &str, want: &str) -> bool {
+    told == want || (want.ends_with(':') && told.starts_with(want))
+}
+
+/// Fails unless that is told of a manifest.
+fn must_tell(alloc: Global, row: &str, manifest: &[u8], want: &str) -> Result<(), Fail> {
+    let told = told(alloc, manifest)?;
+    must(row, told.as_str(), fits(told.as_str(), want))
 }

@@ -1,4 +1,4 @@
-//! The files that manifests name, and texts that are changed.
+//! The files that manifests name, texts that are changed, and the rows of tables.
 
 use crate::files::MemFiles;
 use bpf_text::assemble;
@@ -19,38 +19,61 @@ mov r0, 0 / exit
 - wide.bpf: lddw r6, 0 / ldcell r7, 2, 8 / mov r0, 0 / exit
 "#;
 
-/// Bytes that are no text, and a part of an instruction.
-const NO_TEXT: [u8; 3] = [0xff, 0xfe, 0x20];
+/// Files by their bytes: no byte, a part of an instruction, no text, and a text whose last line is
+/// empty.
+const BYTES: [(&str, &[u8]); 4] = [
+    ("empty.bpf", b""),
+    ("truncated.bpf", b"\xb7\0\0\0\x01\0\0"),
+    ("no_text.rule", b"\xff\xfe\x20"),
+    ("ended.rule", b"count n[0];\n"),
+];
 
-const TRUNCATED: [u8; 7] = [0xb7, 0, 0, 0, 1, 0, 0];
+/// A statement with a text of 64 bytes: 300 of them pass 4096 slots.
+const COSTLY: &str = r#"
+when attr version is "vvvvvvvvvvvvvvvvvvvvvvvvvvvvvvvvvvvvvvvvvvvvvvvvvvvvvvvvvvvvvvvv" offer 1;"#;
 
 /// All files that the manifests of the tests name, but for those that aren't there. The rules are
 /// lines of a file's name and its text, of which ` / ` ends a line.
 pub(crate) fn files(alloc: Global, rules: &str) -> Result<MemFiles, Fail> {
     let mut files = MemFiles::new(alloc);
-    for line in PROGRAMS.split("\n- ").skip(1) {
-        let (name, text) = line.split_once(": ").ok_or("a line of another form")?;
-        let program = assemble(alloc, text.replace(alloc, " / ", "\n")?.as_str())?;
-        files.add(name, Some(program))?;
-    }
-    for line in rules.lines().skip(1) {
-        let (name, text) = line.split_once(": ").ok_or("a line of another form")?;
-        let text = text.replace(alloc, " / ", "\n")?;
-        files.add(name, Some(bytes(alloc, text.as_str())?))?;
-    }
-    files.add("empty.bpf", Some(Vec::new(alloc)))?;
-    files.add("truncated.bpf", Some(Vec::from_slice(alloc, &TRUNCATED)?))?;
-    files.add("no_text.rule", Some(Vec::from_slice(alloc, &NO_TEXT)?))?;
-    files.add("ended.rule", Some(bytes(alloc, "count n[0];\n")?))?;
-    let blanks = repeated(alloc, 65537, " ")?;
-    files.add("long.rule", Some(bytes(alloc, blanks.as_str())?))?;
-    files.add("costly.rule", Some(costly(alloc)?))?;
-    files.add("unreadable.bpf", None)?;
+    add_files(alloc, &mut files, rules)?;
     Ok(files)
 }
 
-fn bytes(alloc: Global, text: &str) -> Result<Vec<u8>, AllocError> {
-    Vec::from_slice(alloc, text.as_bytes())
+fn add_files(alloc: Global, files: &mut MemFiles, rules: &str) -> Result<(), Fail> {
+    for line in PROGRAMS.split("\n- ").skip(1) {
+        let (name, text) = halves(line, ": ")?;
+        add_program(alloc, files, name, text, " / ")?;
+    }
+    for line in rules.lines().skip(1) {
+        let (name, text) = halves(line, ": ")?;
+        files.add(name, Some(text.replace(alloc, " / ", "\n")?.into_bytes()))?;
+    }
+    for (name, bytes) in BYTES {
+        files.add(name, Some(Vec::from_slice(alloc, bytes)?))?;
+    }
+    files.add("long.rule", Some(vec![in alloc; b' '; 65537]?))?;
+    let statements = repeated(alloc, 300, COSTLY)?;
+    add_costly(files, statements)?;
+    Ok(files.add("unreadable.bpf", None)?)
+}
+
+fn add_costly(files: &mut MemFiles, statements: String) -> Result<(), AllocError> {
+    let mut text = statements;
+    text.push_str("\notherwise none;")?;
+    files.add("costly.rule", Some(text.into_bytes()))
+}
+
+/// Adds the program of a text in which the mark ends a line.
+pub(crate) fn add_program(
+    alloc: Global,
+    files: &mut MemFiles,
+    name: &str,
+    text: &str,
+    mark: &str,
+) -> Result<(), Fail> {
+    let text = text.replace(alloc, mark, "\n")?;
+    Ok(files.add(name, Some(assemble(alloc, text.as_str())?))?)
 }
 
 /// The text so many times. It has no clauses, so that no proof computes with it.
@@ -58,30 +81,33 @@ pub(crate) fn repeated(alloc: Global, count: usize, text: &str) -> Result<String
     text.repeat(alloc, count)
 }
 
-/// A rule whose code passes 4096 slots: each of its 300 statements has a text of 64 bytes.
-fn costly(alloc: Global) -> Result<Vec<u8>, Fail> {
-    let literal = repeated(alloc, 64, "v")?;
-    let statement = format!(in alloc; "when attr version is \"{literal}\" offer 1;\n")?;
-    let mut text = repeated(alloc, 300, statement.as_str())?;
-    text.push_str("otherwise none;")?;
-    Ok(bytes(alloc, text.as_str())?)
-}
-
 /// A text with these changes: `OLD => NEW`, divided by ` & `; ` / ` ends a line.
 pub(crate) fn changed(alloc: Global, whole: &str, changes: &str) -> Result<String, Fail> {
     let mut text = String::from_str(alloc, whole)?;
-    if changes.is_empty() {
-        return Ok(text);
-    }
-    for change in changes.split(" & ") {
-        let (old, new) = change.split_once(" => ").ok_or("a change of another form")?;
-        let old = old.replace(alloc, " / ", "\n")?;
-        let new = new.replace(alloc, " / ", "\n")?;
-        let (before, after) = text
-            .as_str()
-            .split_once(old.as_str())
-            .ok_or("no such text")?;
-        text = format!(in alloc; "{before}{new}{after}")?;
+    if !changes.is_empty() {
+        for change in changes.split(" & ") {
+            text = changed_once(alloc, text.as_str(), change)?;
+        }
     }
     Ok(text)
+}
+
+fn changed_once(alloc: Global, whole: &str, change: &str) -> Result<String, Fail> {
+    let change = change.replace(alloc, " / ", "\n")?;
+    let (old, new) = halves(change.as_str(), " => ")?;
+    let (before, after) = halves(whole, old)?;
+    Ok(format!(in alloc; "{before}{new}{after}")?)
+}
+
+/// What stands before the first mark of a row, and behind it.
+pub(crate) fn halves<'a>(row: &'a str, mark: &str) -> Result<(&'a str, &'a str), Fail> {
+    Ok(row.split_once(mark).ok_or("a row of another form")?)
+}
+
+/// Fails with the row and what is found of it, unless that is right.
+pub(crate) fn must(row: &str, found: &str, is_right: bool) -> Result<(), Fail> {
+    if is_right {
+        return Ok(());
+    }
+    Err(Fail::new(format_args!("{row}: {found}")))
 }

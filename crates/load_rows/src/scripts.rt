@@ -1,11 +1,15 @@
 //! Scripts: manifests with their programs, each in a folder of its own.
 
+mod limits;
 mod lines;
 mod played;
 
 use crate::files::MemFiles;
-use bpf_text::assemble;
-use std::alloc::Global;
+use crate::sample::{add_program, halves, repeated};
+use replay::Reply;
+use replaying::{ReplayFault, replay_files};
+use std::alloc::{AllocError, Global};
+use std::fmt::Write;
 use std::test::Fail;
 
 /// Folder, quota, number of releases, and the program: for the first runs up to a quota of two
@@ -31,35 +35,53 @@ required = true
 
 /// A server of the app x, whose program lies beside the manifest, over one counter with a quota.
 fn manifest(alloc: Global, quota: &str, releases: &str) -> Result<Vec<u8>, Fail> {
-    let array = format!(in alloc; "name = \"q\"\nwidth = 64\nlength = 1\nquota = {quota}\n")?;
+    let releases = repeated(alloc, releases.parse()?, RELEASE)?;
+    let array = "name = \"q\"\nwidth = 64\nlength = 1\nquota = ";
     let app = "appid = \"x\"\nprogram = \"x.bpf\"\n";
-    let mut text = format!(in alloc; "server = \"\"\n[[array]]\n{array}[[app]]\n{app}")?;
-    let count: u8 = releases.parse()?;
-    for _ in 0..count {
-        text.push_str(RELEASE)?;
-    }
-    Ok(Vec::from_slice(alloc, text.as_bytes())?)
+    let text = format!(in alloc;
+        "server = \"\"\n[[array]]\n{array}{quota}\n[[app]]\n{app}{releases}"
+    )?;
+    Ok(text.into_bytes())
 }
 
 fn add_folder(alloc: Global, disk: &mut MemFiles, row: &str) -> Result<(), Fail> {
-    let (folder, row) = row.split_once("|").ok_or("a row without a folder")?;
-    let (quota, row) = row.split_once("|").ok_or("a row without a quota")?;
-    let (releases, program) = row.split_once("|").ok_or("a row without a program")?;
-    let text = program.replace(alloc, "/", "\n")?;
+    let (folder, row) = halves(row, "|")?;
+    let (quota, row) = halves(row, "|")?;
+    let (releases, program) = halves(row, "|")?;
     let path = format!(in alloc; "{folder}/m.toml")?;
     disk.add(path.as_str(), Some(manifest(alloc, quota, releases)?))?;
     let path = format!(in alloc; "{folder}/x.bpf")?;
-    disk.add(path.as_str(), Some(assemble(alloc, text.as_str())?))?;
+    add_program(alloc, disk, path.as_str(), program, "/")
+}
+
+/// Adds all folders, one whose manifest names a file that isn't there, and the script.
+fn add_folders(alloc: Global, disk: &mut MemFiles, script: &[u8]) -> Result<(), Fail> {
+    for row in FOLDERS.trim().lines() {
+        add_folder(alloc, disk, row)?;
+    }
+    disk.add("bare/m.toml", Some(manifest(alloc, "2", "1")?))?;
+    Ok(disk.add("script.txt", Some(Vec::from_slice(alloc, script)?))?)
+}
+
+/// A replay. It has no clauses, so that no proof reads the texts of a test.
+fn replies(alloc: Global, disk: &MemFiles, manifest: &str) -> Result<Vec<Reply>, ReplayFault> {
+    replay_files(alloc, disk, manifest, "script.txt")
+}
+
+fn push_replies(text: &mut String, replies: &[Reply]) -> Result<(), AllocError> {
+    for reply in replies {
+        writeln!(text, "{reply}")?;
+    }
     Ok(())
 }
 
-/// All folders, one whose manifest names a file that isn't there, and the script.
-fn disk(alloc: Global, script: &[u8]) -> Result<MemFiles, Fail> {
-    let mut disk = MemFiles::new(alloc);
-    for row in FOLDERS.trim().lines() {
-        add_folder(alloc, &mut disk, row)?;
+/// What the script prints with the manifest of a folder.
+fn printed(alloc: Global, disk: &MemFiles, folder: &str) -> Result<String, Fail> {
+    let manifest = format!(in alloc; "{folder}/m.toml")?;
+    let mut text = String::new(alloc);
+    match replies(alloc, disk, manifest.as_str()) {
+        Ok(replies) => push_replies(&mut text, &replies)?,
+        Err(fault) => write!(text, "{fault}")?,
     }
-    disk.add("bare/m.toml", Some(manifest(alloc, "2", "1")?))?;
-    disk.add("script.txt", Some(Vec::from_slice(alloc, script)?))?;
-    Ok(disk)
+    Ok(text)
 }

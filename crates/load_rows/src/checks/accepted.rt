@@ -1,8 +1,8 @@
 //! What is told of manifests that are accepted.
 
-use super::{RULES, SAMPLE, told};
-use crate::sample::{changed, files, repeated};
-use std::process::Abort;
+use super::{each_is_told, told_alone};
+use crate::sample::{must, repeated};
+use std::alloc::{AllocError, Global};
 use std::test::Fail;
 
 /// What is changed, and what is told.
@@ -18,27 +18,22 @@ const ROWS: &str = r#"
 
 #[test]
 fn each(rt: HostRuntime) -> Result<(), Fail> {
-    let alloc = rt.alloc();
-    let mut files = files(alloc, RULES)?;
-    for row in ROWS.split("\n- ").skip(1) {
-        let (changes, want) = row.split_once(" | ").ok_or("a row of another form")?;
-        let manifest = changed(alloc, SAMPLE, changes)?;
-        let told = told(alloc, &mut files, manifest.as_str())?;
-        assert!(&rt; told.as_str().trim() == want.trim(), "{row}: {told}");
-    }
-    Ok(())
+    each_is_told(rt.alloc(), ROWS)
+}
+
+fn of_appid(alloc: Global, appid: &str) -> Result<String, AllocError> {
+    format!(in alloc; "server = \"\"\n[[app]]\nappid = \"{appid}\"\nrule = \"y.rule\"\n")
 }
 
 #[test]
 fn no_array(rt: HostRuntime) -> Result<(), Fail> {
-    let alloc = rt.alloc();
-    let mut files = files(alloc, RULES)?;
-    let appid = repeated(alloc, 1024, "i")?;
-    let manifest = format!(in alloc;
-        "server = \"\"\n[[app]]\nappid = \"{appid}\"\nrule = \"y.rule\"\n"
-    )?;
-    let told = told(alloc, &mut files, manifest.as_str())?;
-    let want = format!(in alloc; "app {appid} releases 0 slots 5 / ")?;
-    assert!(&rt; told.as_str() == want.as_str(), "{told}");
-    Ok(())
+    let appid = repeated(rt.alloc(), 1024, "i")?;
+    let told = told_alone(rt.alloc(), of_appid(rt.alloc(), appid.as_str())?.as_str())?;
+    let found = told.as_str().strip_prefix("app ").unwrap_or("");
+    let found = found.strip_suffix(" releases 0 slots 5 / ").unwrap_or("");
+    must(
+        "an appid of 1024 bytes",
+        told.as_str(),
+        found == appid.as_str(),
+    )
 }

@@ -1,8 +1,7 @@
 //! Each refusal with its reason, by changes of the sample.
 
-use super::{RULES, SAMPLE, told};
-use crate::sample::{changed, files, repeated};
-use std::process::Abort;
+use super::{each_is_told, told_alone};
+use crate::sample::{must, repeated};
 use std::test::Fail;
 
 /// What is changed, and what is told: the refusal, and the lines of its reason.
@@ -60,29 +59,13 @@ M7 Cells N1 CellsFull in array 2 / array[2].length: n passes the 4096 cells that
 
 #[test]
 fn each(rt: HostRuntime) -> Result<(), Fail> {
-    let alloc = rt.alloc();
-    let mut files = files(alloc, RULES)?;
-    for row in ROWS.split("\n- ").skip(1) {
-        let (changes, want) = row.split_once(" | ").ok_or("a row of another form")?;
-        let manifest = changed(alloc, SAMPLE, changes)?;
-        let told = told(alloc, &mut files, manifest.as_str())?;
-        // what the reader of TOML says behind its place is its own affair
-        let right = match want.starts_with("M1") {
-            true => told.as_str().starts_with(want.trim()) && told.as_str().ends_with(" / "),
-            false => told.as_str().trim() == want.trim(),
-        };
-        assert!(&rt; right, "{row}: {told}");
-    }
-    Ok(())
+    each_is_told(rt.alloc(), ROWS)
 }
 
 #[test]
 fn too_long(rt: HostRuntime) -> Result<(), Fail> {
-    let alloc = rt.alloc();
-    let mut files = files(alloc, RULES)?;
-    let manifest = repeated(alloc, 1048577, "\n")?;
-    let told = told(alloc, &mut files, manifest.as_str())?;
+    let manifest = repeated(rt.alloc(), 1048577, "\n")?;
+    let told = told_alone(rt.alloc(), manifest.as_str())?;
     let want = "M1 Toml / more than 1048576 bytes / ";
-    assert!(&rt; told.as_str() == want, "{told}");
-    Ok(())
+    must("too long", told.as_str(), told.as_str() == want)
 }

@@ -1,10 +1,10 @@
-//! As many tables as a manifest may have.
+//! As many tables as a manifest may have, and each app with its own program.
 
-use super::{RULES, ruleset_from};
-use crate::sample::{files, repeated};
-use cells::Directory;
-use std::alloc::Global;
-use std::process::Abort;
+use super::Loader;
+use crate::sample::repeated;
+use ruleset::App;
+use std::alloc::{AllocError, Global};
+use std::fmt::Write;
 use std::test::Fail;
 
 const RELEASE: &str = r#"
@@ -18,66 +18,91 @@ size = 0
 required = true
 "#;
 
-/// So many arrays and apps, each app with so many releases.
-fn manifest(alloc: Global, arrays: usize, apps: usize, releases: usize) -> Result<String, Fail> {
-    let releases = repeated(alloc, releases, RELEASE)?;
-    let mut text = String::from_str(alloc, "server = \"\"\n")?;
-    for n in 0..arrays {
-        let array = format!(in alloc; "[[array]]\nname = \"a{n}\"\nwidth = 32\nlength = 64\n")?;
-        text.push_str(array.as_str())?;
-    }
-    for n in 0..apps {
-        let file = if n % 2 == 0 { "none.bpf" } else { "first.bpf" };
-        let app = format!(in alloc; "[[app]]\nappid = \"{n}\"\nprogram = \"{file}\"{releases}")?;
-        text.push_str(app.as_str())?;
-    }
-    Ok(text)
-}
-
-/// The numbers of arrays, apps, and releases and arrays of the last app's shape.
-fn loaded(alloc: Global, text: &str) -> Result<(usize, usize, usize, usize), Fail> {
-    let mut files = files(alloc, RULES)?;
-    let mut directory = Directory::new(alloc);
-    let rules = ruleset_from(alloc, &mut files, &mut directory, text)?;
-    let apps = rules.apps().len();
-    let last = rules.apps().last().ok_or("no app")?;
-    let shape = last.program().shape();
-    Ok((
-        directory.arrays().len(),
-        apps,
-        last.releases().len(),
-        shape.arrays().len(),
-    ))
-}
-
-#[test]
-fn at_their_limits(rt: HostRuntime) -> Result<(), Fail> {
-    let alloc = rt.alloc();
-    for (arrays, apps, releases) in [(64, 1, 0), (0, 256, 1), (1, 2, 64)] {
-        let text = manifest(alloc, arrays, apps, releases)?;
-        let counts = loaded(alloc, text.as_str())?;
-        assert!(&rt;
-            counts == (arrays, apps, releases, arrays),
-            "{arrays} {apps} {releases}"
-        );
+fn push_arrays(text: &mut String, count: usize) -> Result<(), AllocError> {
+    for number in 0..count {
+        write!(
+            text,
+            "[[array]]\nname = \"a{number}\"\nwidth = 32\nlength = 64\n"
+        )?;
     }
     Ok(())
 }
 
+/// So many apps with these releases; every second one has a program that chooses the first.
+fn push_apps(text: &mut String, count: usize, releases: &str) -> Result<(), AllocError> {
+    for number in 0..count {
+        let file = if number % 2 == 0 {
+            "none.bpf"
+        } else {
+            "first.bpf"
+        };
+        write!(
+            text,
+            "[[app]]\nappid = \"{number}\"\nprogram = \"{file}\"{releases}"
+        )?;
+    }
+    Ok(())
+}
+
+/// So many arrays and apps, each app with so many releases.
+fn manifest(
+    alloc: Global,
+    arrays: usize,
+    apps: usize,
+    releases: usize,
+) -> Result<String, AllocError> {
+    let releases = repeated(alloc, releases, RELEASE)?;
+    let mut text = String::from_str(alloc, "server = \"\"\n")?;
+    push_arrays(&mut text, arrays)?;
+    push_apps(&mut text, apps, releases.as_str())?;
+    Ok(text)
+}
+
+/// The number of an app's releases, that of its shape's arrays, and the fifth byte of its program:
+/// of `mov r0, N` this is N.
+fn numbers_of(app: &App) -> (usize, usize, Option<u8>) {
+    let program = app.program();
+    let choice = program.bytes().get(4).copied();
+    (app.releases().len(), program.shape().arrays().len(), choice)
+}
+
+/// Whether a load gives so many arrays and apps, each with so many releases and all arrays, of
+/// which the first one's program is `mov r0, 0`, and the last one's has this number.
+fn is_loaded(
+    alloc: Global,
+    arrays: usize,
+    apps: usize,
+    releases: usize,
+    choice: u8,
+) -> Result<bool, Fail> {
+    let mut loader = Loader::new(alloc)?;
+    let text = manifest(alloc, arrays, apps, releases)?;
+    let rules = loader.load(alloc, text.as_str())?;
+    let all = rules.apps();
+    Ok(match (all.first(), all.last()) {
+        (Some(first), Some(last)) => {
+            loader.directory.arrays().len() == arrays
+                && all.len() == apps
+                && numbers_of(first) == (releases, arrays, Some(0))
+                && numbers_of(last) == (releases, arrays, Some(choice))
+        }
+        _ => false,
+    })
+}
+
+/// Arrays, apps and releases, and the last app's choice.
+const ROWS: [(usize, usize, usize, u8); 4] = [
+    (64, 1, 0, 0),
+    (0, 256, 1, 1),
+    (1, 2, 64, 1),
+    (0, 2, 1, 1),
+];
+
 #[test]
-fn each_app_its_own(rt: HostRuntime) -> Result<(), Fail> {
-    let alloc = rt.alloc();
-    let mut files = files(alloc, RULES)?;
-    let mut directory = Directory::new(alloc);
-    let text = manifest(alloc, 0, 2, 1)?;
-    let rules = ruleset_from(alloc, &mut files, &mut directory, text.as_str())?;
-    let apps = rules.apps();
-    assert!(&rt; apps.len() == 2);
-    // mov r0, 0 and mov r0, 1: the fifth byte is the number
-    let numbers = (
-        apps[0].program().bytes().get(4).copied(),
-        apps[1].program().bytes().get(4).copied(),
-    );
-    assert!(&rt; numbers == (Some(0), Some(1)));
+fn at_their_limits(rt: HostRuntime) -> Result<(), Fail> {
+    for (arrays, apps, releases, choice) in ROWS {
+        let is_loaded = is_loaded(rt.alloc(), arrays, apps, releases, choice)?;
+        assert!(rt; is_loaded, "{arrays} {apps} {releases}");
+    }
     Ok(())
 }

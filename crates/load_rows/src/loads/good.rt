@@ -1,34 +1,44 @@
 //! What a good manifest gives.
 
-use super::{RULES, SAMPLE, ruleset_from};
-use crate::sample::files;
-use bpf_text::listing;
+use super::{Loader, SAMPLE};
+use bpf_text::{ListFault, listing};
 use cells::Directory;
-use ruleset::App;
+use ruleset::{App, Ruleset};
 use std::alloc::Global;
-use std::process::Abort;
 use std::test::Fail;
 
-/// The listing of an app's program, a line an instruction.
-fn listed(alloc: Global, app: &App) -> Result<String, Fail> {
-    Ok(listing(alloc, app.program().bytes())?)
+fn is_x(app: &App) -> bool {
+    let program = app.program();
+    app.releases().len() == 1 && program.len() == 9 && program.shape().arrays().len() == 1
+}
+
+/// Whether the listing of its program, a line an instruction, takes of the quota.
+fn is_y(alloc: Global, app: &App) -> Result<bool, ListFault> {
+    let lines = listing(alloc, app.program().bytes())?;
+    Ok(app.releases().len() == 1 && lines.as_str().contains("fadddw"))
+}
+
+fn are_both(alloc: Global, rules: &Ruleset) -> Result<bool, ListFault> {
+    if rules.server() != "prod" || rules.apps().len() != 2 {
+        return Ok(false);
+    }
+    match (rules.find("x"), rules.find("y")) {
+        (Some(x), Some(y)) => Ok(is_x(x) && is_y(alloc, y)?),
+        _ => Ok(false),
+    }
+}
+
+fn has_q(directory: &Directory) -> bool {
+    match directory.arrays() {
+        [array] => array.name.as_str() == "q",
+        _ => false,
+    }
 }
 
 #[test]
 fn two_apps(rt: HostRuntime) -> Result<(), Fail> {
-    let alloc = rt.alloc();
-    let mut files = files(alloc, RULES)?;
-    let mut directory = Directory::new(alloc);
-    let rules = ruleset_from(alloc, &mut files, &mut directory, SAMPLE)?;
-    assert!(&rt; rules.server() == "prod" && rules.apps().len() == 2);
-    let x = rules.find("x").ok_or("no x")?;
-    let y = rules.find("y").ok_or("no y")?;
-    assert!(&rt; x.releases().len() == 1 && y.releases().len() == 1);
-    assert!(&rt; x.program().len() == 9);
-    assert!(&rt; x.program().shape().arrays().len() == 1);
-    let lines = listed(alloc, y)?;
-    assert!(&rt; lines.as_str().contains("fadddw"), "{lines}");
-    let arrays = directory.arrays();
-    assert!(&rt; arrays.len() == 1 && arrays[0].name.as_str() == "q");
+    let mut loader = Loader::new(rt.alloc())?;
+    let rules = loader.load(rt.alloc(), SAMPLE)?;
+    assert!(rt; are_both(rt.alloc(), &rules)? && has_q(&loader.directory));
     Ok(())
 }

@@ -1,12 +1,9 @@
 //! Each refusal, by changes of the sample.
 
-use super::{RULES, SAMPLE, told};
-use crate::files::MemFiles;
-use crate::sample::{changed, files};
-use cells::Directory;
+use super::{Loader, SAMPLE};
+use crate::sample::{changed, halves, must};
 use load::Files;
 use std::alloc::Global;
-use std::process::Abort;
 use std::test::Fail;
 
 /// What is changed, how, and what is told.
@@ -50,60 +47,37 @@ width = 64 / length = 4096 / [[app]] | M7 Cells N1 CellsFull in array 2
 - app 1 before app 2, turned | "x.bpf" => "z.bpf" & "y.rule" => "shape.rule" | M4 File in app 1
 "#;
 
-/// What was told of a load, once and again, and how the directory and the count of failures moved.
-#[derive(Drop)]
-struct Told {
-    first: String,
-    again: String,
-    arrays: usize,
-    failures: u64,
+/// The changes of a row, and what is told.
+fn asked_and_told(row: &str) -> Result<(&str, &str), Fail> {
+    let (_name, rest) = halves(row.trim_end(), " | ")?;
+    halves(rest, " | ")
 }
 
-fn load_twice(alloc: Global, files: &mut MemFiles, manifest: &str) -> Result<Told, Fail> {
-    let mut directory = Directory::new(alloc);
-    let before = files.failures();
-    let first = told(alloc, files, &mut directory, manifest)?;
-    let failures = files.failures().saturating_sub(before);
-    let arrays = directory.arrays().len();
-    let again = told(alloc, files, &mut directory, manifest)?;
-    Ok(Told {
-        first,
-        again,
-        arrays,
-        failures,
-    })
+/// A load is told as the row says, and then once more. A refused one declares no array, and M4
+/// alone counts a failure.
+fn is_told_twice(alloc: Global, row: &str) -> Result<(), Fail> {
+    let (changes, want) = asked_and_told(row)?;
+    let mut loader = Loader::new(alloc)?;
+    let manifest = changed(alloc, SAMPLE, changes)?;
+    loader.must_tell(alloc, row, manifest.as_str(), want)?;
+    let arrays = loader.directory.arrays().len();
+    must(row, "arrays", (arrays == 1) == (want == "ok"))?;
+    let failures = loader.files.failures();
+    must(row, "failures", (failures == 1) == want.starts_with("M4"))?;
+    loader.must_tell(alloc, row, manifest.as_str(), want)
 }
 
 #[test]
 fn each_way(rt: HostRuntime) -> Result<(), Fail> {
-    let alloc = rt.alloc();
-    let mut files = files(alloc, RULES)?;
     for row in ROWS.split("\n- ").skip(1) {
-        let (_, rest) = row
-            .trim_end()
-            .split_once(" | ")
-            .ok_or("a row of another form")?;
-        let (changes, answer) = rest.split_once(" | ").ok_or("a row of another form")?;
-        let manifest = changed(alloc, SAMPLE, changes)?;
-        let told = load_twice(alloc, &mut files, manifest.as_str())?;
-        assert!(&rt; told.first.as_str() == answer, "{row}: {}", told.first);
-        assert!(&rt;
-            told.again.as_str() == answer,
-            "{row}, again: {}",
-            told.again
-        );
-        assert!(&rt;
-            (told.arrays == 1) == (answer == "ok"),
-            "{row}: {} arrays",
-            told.arrays
-        );
-        assert!(&rt; (told.failures == 1) == answer.starts_with("M4"), "{row}");
+        is_told_twice(rt.alloc(), row)?;
     }
     Ok(())
 }
 
-/// Manifests that follow a good one, in its directory.
+/// A good manifest, and those that follow it in its directory.
 const LATER: &str = r#"
+- a good one |  | ok
 - another quota | quota = 2 => quota = 3 | M7 Cells N2 Redefined in array 1
 - a new array, and an app without a choice | [[app]] => [[array]] / name = "z"
 width = 64 / length = 1
@@ -112,24 +86,18 @@ width = 64 / length = 1
 - the same once more |  | ok
 "#;
 
+fn is_told_later(alloc: Global, loader: &mut Loader, row: &str) -> Result<(), Fail> {
+    let (changes, want) = asked_and_told(row)?;
+    let manifest = changed(alloc, SAMPLE, changes)?;
+    loader.must_tell(alloc, row, manifest.as_str(), want)?;
+    must(row, "arrays", loader.directory.arrays().len() == 1)
+}
+
 #[test]
 fn after_a_good_one(rt: HostRuntime) -> Result<(), Fail> {
-    let alloc = rt.alloc();
-    let mut files = files(alloc, RULES)?;
-    let mut directory = Directory::new(alloc);
-    let good = changed(alloc, SAMPLE, "")?;
-    let first = told(alloc, &mut files, &mut directory, good.as_str())?;
-    assert!(&rt; first.as_str() == "ok", "{first}");
+    let mut loader = Loader::new(rt.alloc())?;
     for row in LATER.split("\n- ").skip(1) {
-        let (_, rest) = row
-            .trim_end()
-            .split_once(" | ")
-            .ok_or("a row of another form")?;
-        let (changes, answer) = rest.split_once(" | ").ok_or("a row of another form")?;
-        let manifest = changed(alloc, SAMPLE, changes)?;
-        let told = told(alloc, &mut files, &mut directory, manifest.as_str())?;
-        assert!(&rt; told.as_str() == answer, "{row}: {told}");
-        assert!(&rt; directory.arrays().len() == 1, "{row}");
+        is_told_later(rt.alloc(), &mut loader, row)?;
     }
     Ok(())
 }

@@ -1,88 +1,64 @@
 //! How many tables a list has.
 
-use super::told;
-use crate::sample::repeated;
-use std::alloc::Global;
+use super::must_tell;
+use crate::sample::halves;
+use std::alloc::{AllocError, Global};
+use std::fmt::Write;
 use std::test::Fail;
 
 const PACKAGE: &str = "{ name = \"\", hash_sha256 = \
 \"ba7816bf8f01cfea414140de5dae2223b00361a396177a9cb410ff61f20015ad\", size = 0, required = true }";
 
-/// A list of so many equal items.
-fn list(alloc: Global, count: usize, item: &str) -> Result<String, Fail> {
-    let item = format!(in alloc; "{item}, ")?;
-    let items = repeated(alloc, count, item.as_str())?;
-    Ok(format!(in alloc; "[{items}]")?)
-}
-
-/// Tables with a number each: `head`, the number, `tail`.
-fn numbered(alloc: Global, count: usize, head: &str, tail: &str) -> Result<String, Fail> {
-    let mut text = String::new(alloc);
-    for number in 0..count {
-        text.push_str(format!(in alloc; "{head}{number}{tail}")?.as_str())?;
+fn push_table(text: &mut String, kind: &str, number: usize) -> Result<(), AllocError> {
+    match kind {
+        "package" => write!(text, "{PACKAGE}, "),
+        "release" => {
+            write!(
+                text,
+                "{{ version = \"1\", codebase = \"\", package = [{PACKAGE}] }}, "
+            )
+        }
+        "app" => write!(text, "[[app]]\nappid = \"x{number}\"\nprogram = \"p\"\n"),
+        _ => write!(
+            text,
+            "[[array]]\nname = \"a{number}\"\nwidth = 32\nlength = 1\n"
+        ),
     }
-    Ok(text)
 }
 
-fn of_packages(alloc: Global, count: usize) -> Result<String, Fail> {
-    let packages = list(alloc, count, PACKAGE)?;
-    Ok(format!(in alloc;
-        "server = \"\"
+/// What stands before the tables of a kind, and behind them.
+fn ends(kind: &str) -> (&'static str, &'static str) {
+    match kind {
+        "package" => (
+            "server = \"\"
 [[app]]
 appid = \"x\"
 rule = \"x\"
-release = [{{ version = \"1\", codebase = \"\", package = {packages} }}]
-"
-    )?)
-}
-
-fn of_releases(alloc: Global, count: usize) -> Result<String, Fail> {
-    let release = format!(in alloc;
-        "{{ version = \"1\", codebase = \"\", package = [{PACKAGE}] }}"
-    )?;
-    let releases = list(alloc, count, release.as_str())?;
-    Ok(format!(in alloc;
-        "server = \"\"
+release = [{ version = \"1\", codebase = \"\", package = [",
+            "] }]\n",
+        ),
+        "release" => (
+            "server = \"\"
 [[app]]
 appid = \"x\"
 rule = \"x\"
-release = {releases}
-"
-    )?)
-}
-
-fn of_apps(alloc: Global, count: usize) -> Result<String, Fail> {
-    let apps = numbered(
-        alloc,
-        count,
-        "[[app]]\nappid = \"x",
-        "\"\nprogram = \"p\"\n",
-    )?;
-    Ok(format!(in alloc; "server = \"\"\n{apps}")?)
-}
-
-fn of_arrays(alloc: Global, count: usize) -> Result<String, Fail> {
-    let arrays = numbered(
-        alloc,
-        count,
-        "[[array]]\nname = \"a",
-        "\"\nwidth = 32\nlength = 1\n",
-    )?;
-    Ok(format!(in alloc; "server = \"\"\n[[app]]\nappid = \"x\"\nrule = \"x\"\n{arrays}")?)
+release = [",
+            "]\n",
+        ),
+        "app" => ("server = \"\"\n", ""),
+        _ => ("server = \"\"\n[[app]]\nappid = \"x\"\nrule = \"x\"\n", ""),
+    }
 }
 
 /// A manifest with so many tables of this kind in one list.
-fn manifest_of(alloc: Global, kind: &str, count: usize) -> Result<String, Fail> {
-    if kind == "package" {
-        return of_packages(alloc, count);
+fn manifest_of(alloc: Global, kind: &str, count: usize) -> Result<String, AllocError> {
+    let (front, back) = ends(kind);
+    let mut text = String::from_str(alloc, front)?;
+    for number in 0..count {
+        push_table(&mut text, kind, number)?;
     }
-    if kind == "release" {
-        return of_releases(alloc, count);
-    }
-    if kind == "app" {
-        return of_apps(alloc, count);
-    }
-    of_arrays(alloc, count)
+    text.push_str(back)?;
+    Ok(text)
 }
 
 /// The tables of a list, and what is told.
@@ -102,19 +78,17 @@ array 64 => ok
 array 65 => M2 array: at most 64 tables
 "#;
 
-fn number(digits: &str) -> Option<usize> {
-    digits.parse().ok()
+fn is_told(alloc: Global, row: &str) -> Result<(), Fail> {
+    let (tables, want) = halves(row, " => ")?;
+    let (kind, count) = halves(tables, " ")?;
+    let manifest = manifest_of(alloc, kind, count.parse().ok().ok_or("no number")?)?;
+    must_tell(alloc, row, manifest.as_bytes(), want)
 }
 
 #[test]
 fn tables(rt: HostRuntime) -> Result<(), Fail> {
     for row in COUNTS.lines().skip(1) {
-        let (tables, want) = row.split_once(" => ").ok_or("a row of two parts")?;
-        let (kind, count) = tables.split_once(' ').ok_or("a kind and a count")?;
-        let count = number(count).ok_or("no number")?;
-        let manifest = manifest_of(rt.alloc(), kind, count)?;
-        let got = told(rt.alloc(), manifest.as_bytes())?;
-        assert!(rt; got.as_str() == want, "{row}: {got}");
+        is_told(rt.alloc(), row)?;
     }
     Ok(())
 }

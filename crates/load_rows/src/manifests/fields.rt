@@ -2,10 +2,9 @@
 //! row is a line of the sample, what stands in its place, ` / ` being the end of a line, and what
 //! is told then: all of it, or its beginning up to a colon.
 
-use super::{SAMPLE, told};
+use super::{SAMPLE, must_tell};
 use crate::sample::changed;
 use std::alloc::Global;
-use std::process::Abort;
 use std::test::Fail;
 
 const OF_THE_TOP: &str = r#"
@@ -99,17 +98,15 @@ const NO_TABLES: &str = r#"
 required = true => required = true / [[app]] => M2 app[2].appid: a text of 1 to 1024 bytes
 "#;
 
-/// Whether that is what is wanted, or begins so where no more is said.
-fn fits(got: &str, want: &str) -> bool {
-    got == want || (want.ends_with(':') && got.starts_with(want))
+fn is_told(alloc: Global, row: &str) -> Result<(), Fail> {
+    let (change, want) = row.rsplit_once(" => ").ok_or("a row of three parts")?;
+    let manifest = changed(alloc, SAMPLE, change)?;
+    must_tell(alloc, row, manifest.as_bytes(), want)
 }
 
-fn each_is_told(rt: &impl Abort, alloc: Global, rows: &str) -> Result<(), Fail> {
+fn each_is_told(alloc: Global, rows: &str) -> Result<(), Fail> {
     for row in rows.lines().skip(1) {
-        let (change, want) = row.rsplit_once(" => ").ok_or("a row of three parts")?;
-        let manifest = changed(alloc, SAMPLE, change)?;
-        let got = told(alloc, manifest.as_bytes())?;
-        assert!(rt; fits(got.as_str(), want), "{row}: {got}");
+        is_told(alloc, row)?;
     }
     Ok(())
 }
@@ -124,7 +121,7 @@ fn members(rt: HostRuntime) -> Result<(), Fail> {
         OF_A_PACKAGE,
         NO_TABLES,
     ] {
-        each_is_told(&rt, rt.alloc(), rows)?;
+        each_is_told(rt.alloc(), rows)?;
     }
     Ok(())
 }

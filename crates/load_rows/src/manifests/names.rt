@@ -1,6 +1,8 @@
 //! Names that stand twice, and the order of the refusals.
 
-use super::told;
+use super::must_tell;
+use crate::sample::halves;
+use std::alloc::Global;
 use std::test::Fail;
 
 /// What is told, and the tables behind the server's text. The names of arrays come before the
@@ -23,13 +25,16 @@ array = [{ name = "q", width = 64, length = 1 }, { name = "q", width = 32, lengt
 app = [{ appid = "x", rule = "x" }, { appid = "x", rule = 1 }]
 "#;
 
+fn is_told(alloc: Global, row: &str) -> Result<(), Fail> {
+    let (want, tables) = halves(row, "\n")?;
+    let manifest = format!(in alloc; "server = \"\"\n{tables}\n")?;
+    must_tell(alloc, row, manifest.as_bytes(), want)
+}
+
 #[test]
 fn names_stand_once(rt: HostRuntime) -> Result<(), Fail> {
     for row in ROWS.split("\n- ").skip(1) {
-        let (want, tables) = row.split_once('\n').ok_or("a row of two parts")?;
-        let manifest = format!(in rt.alloc(); "server = \"\"\n{tables}\n")?;
-        let got = told(rt.alloc(), manifest.as_bytes())?;
-        assert!(rt; got.as_str() == want, "{row}: {got}");
+        is_told(rt.alloc(), row)?;
     }
     Ok(())
 }

@@ -1,7 +1,8 @@
 //! Which texts are scripts, by the number of their events, and which line is malformed.
 
-use script::read_script;
-use std::alloc::Global;
+use crate::sample::must;
+use script::{ScriptFault, read_script};
+use std::alloc::{AllocError, Global};
 use std::test::Fail;
 
 /// A text, where `/` ends a line, and the number of its events or the refusal.
@@ -44,46 +45,43 @@ step 0/step = B2 Script at line 2
 run 0/walk 0 = B2 Script at line 1
 ";
 
-/// The bytes of a text.
-fn bytes(alloc: Global, text: &str) -> Result<Vec<u8>, Fail> {
-    let mut bytes = Vec::new(alloc);
-    for byte in text.as_bytes() {
-        bytes.push(if *byte == b'/' { b'\n' } else { *byte })?;
-    }
-    Ok(bytes)
+/// Bytes that are no text, and lines that end at CR LF.
+const BYTES: [(&[u8], &str); 2] = [
+    (b"step 0\nstep \xff\n", "B2 Script at line 1"),
+    (b"step 0\r\nfinish 0\r\n", "2 events"),
+];
+
+/// The number of a script's events. It has no clauses, so that no proof reads the texts of a test.
+fn count_of(alloc: Global, bytes: &[u8]) -> Result<usize, ScriptFault> {
+    Ok(read_script(alloc, bytes)?.len())
 }
 
 /// How a text reads.
-fn read(alloc: Global, bytes: &[u8]) -> Result<String, Fail> {
-    Ok(match read_script(alloc, bytes) {
-        Ok(events) => {
-            let count = events.len();
-            format!(in alloc; "{count} events")?
-        }
-        Err(fault) => format!(in alloc; "{fault}")?,
-    })
+fn told(alloc: Global, bytes: &[u8]) -> Result<String, AllocError> {
+    match count_of(alloc, bytes) {
+        Ok(count) => format!(in alloc; "{count} events"),
+        Err(fault) => format!(in alloc; "{fault}"),
+    }
+}
+
+fn must_tell(alloc: Global, row: &str, bytes: &[u8], want: &str) -> Result<(), Fail> {
+    let told = told(alloc, bytes)?;
+    must(row, told.as_str(), told.as_str() == want)
+}
+
+fn is_told(alloc: Global, row: &str) -> Result<(), Fail> {
+    let (text, want) = row.rsplit_once("= ").ok_or("a row of two parts")?;
+    let text = text.trim_end().replace(alloc, "/", "\n")?;
+    must_tell(alloc, row, text.as_bytes(), want)
 }
 
 #[test]
 fn texts_are_scripts_or_not(rt: HostRuntime) -> Result<(), Fail> {
     for row in TEXTS.trim().lines() {
-        let (text, said) = row.rsplit_once("= ").ok_or("a row of two parts")?;
-        let bytes = bytes(rt.alloc(), text.trim_end())?;
-        assert_eq!(rt; (row, read(rt.alloc(), &bytes)?.as_str()), (row, said));
+        is_told(rt.alloc(), row)?;
     }
-    Ok(())
-}
-
-#[test]
-fn bytes_that_are_no_text_are_malformed_at_line_1(rt: HostRuntime) -> Result<(), Fail> {
-    let said = read(rt.alloc(), b"step 0\nstep \xff\n")?;
-    assert_eq!(rt; said.as_str(), "B2 Script at line 1");
-    Ok(())
-}
-
-#[test]
-fn a_line_may_end_at_cr_lf(rt: HostRuntime) -> Result<(), Fail> {
-    let said = read(rt.alloc(), b"step 0\r\nfinish 0\r\n")?;
-    assert_eq!(rt; said.as_str(), "2 events");
+    for (bytes, want) in BYTES {
+        must_tell(rt.alloc(), "bytes", bytes, want)?;
+    }
     Ok(())
 }

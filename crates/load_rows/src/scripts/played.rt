@@ -1,7 +1,8 @@
 //! Whole scripts with the lines that they print.
 
-use super::disk;
-use replaying::replay_files;
+use super::{add_folders, printed};
+use crate::files::MemFiles;
+use crate::sample::{halves, must};
 use std::alloc::Global;
 use std::test::Fail;
 
@@ -111,64 +112,42 @@ bare: step 0 = M4 File in app 1
 more: swap quota/m.toml = M7 Cells N2 Redefined in array 1
 ";
 
-/// What a script prints with the manifest of a folder.
-fn printed(alloc: Global, folder: &str, script: &[u8]) -> Result<String, Fail> {
-    let disk = disk(alloc, script)?;
-    let manifest = format!(in alloc; "{folder}/m.toml")?;
-    match replay_files(alloc, &disk, manifest.as_str(), "script.txt") {
-        Ok(replies) => {
-            let mut lines = String::new(alloc);
-            for reply in &replies {
-                lines.push_str(format!(in alloc; "{reply}\n")?.as_str())?;
-            }
-            Ok(lines)
-        }
-        Err(fault) => Ok(format!(in alloc; "{fault}")?),
+/// Fails unless the script prints that with the manifest of a folder.
+fn must_print(alloc: Global, folder: &str, script: &[u8], want: &str) -> Result<(), Fail> {
+    let mut disk = MemFiles::new(alloc);
+    add_folders(alloc, &mut disk, script)?;
+    let printed = printed(alloc, &disk, folder)?;
+    must(folder, printed.as_str(), printed.as_str() == want)
+}
+
+#[test]
+fn whole_scripts(rt: HostRuntime) -> Result<(), Fail> {
+    for (folder, script, want) in [
+        ("quota", QUOTA, QUOTA_LINES),
+        ("third", SWAP, SWAP_LINES),
+        ("none", REFUSALS, REFUSALS_LINES),
+    ] {
+        must_print(rt.alloc(), folder, script.as_bytes(), want)?;
     }
+    must_print(
+        rt.alloc(),
+        "quota",
+        b"step 0\nstep \xff\n",
+        "B2 Script at line 1",
+    )
 }
 
-#[test]
-fn a_quota_is_taken_by_two_of_three(rt: HostRuntime) -> Result<(), Fail> {
-    let lines = printed(rt.alloc(), "quota", QUOTA.as_bytes())?;
-    assert_eq!(rt; lines.as_str(), QUOTA_LINES);
-    Ok(())
-}
-
-#[test]
-fn a_run_goes_on_under_its_ruleset(rt: HostRuntime) -> Result<(), Fail> {
-    let lines = printed(rt.alloc(), "third", SWAP.as_bytes())?;
-    assert_eq!(rt; lines.as_str(), SWAP_LINES);
-    Ok(())
-}
-
-#[test]
-fn refusals_are_printed(rt: HostRuntime) -> Result<(), Fail> {
-    let lines = printed(rt.alloc(), "none", REFUSALS.as_bytes())?;
-    assert_eq!(rt; lines.as_str(), REFUSALS_LINES);
-    Ok(())
-}
-
-/// What the script of a row prints, on one line.
-fn told(alloc: Global, row: &str) -> Result<String, Fail> {
-    let (folder, script) = row.split_once(": ").ok_or("a row without a folder")?;
-    let script = script.replace(alloc, ";", "\n")?;
-    let lines = printed(alloc, folder, script.as_bytes())?;
-    Ok(lines.as_str().replace(alloc, "\n", ";")?)
+fn is_printed(alloc: Global, row: &str) -> Result<(), Fail> {
+    let row = row.replace(alloc, ";", "\n")?;
+    let (asked, want) = row.as_str().rsplit_once("= ").ok_or("a row of two parts")?;
+    let (folder, script) = halves(asked.trim_end(), ": ")?;
+    must_print(alloc, folder, script.as_bytes(), want)
 }
 
 #[test]
 fn short_scripts(rt: HostRuntime) -> Result<(), Fail> {
     for row in SCRIPTS.trim().lines() {
-        let (asked, said) = row.rsplit_once("= ").ok_or("a row of two parts")?;
-        let lines = told(rt.alloc(), asked.trim_end())?;
-        assert_eq!(rt; (row, lines.as_str()), (row, said));
+        is_printed(rt.alloc(), row)?;
     }
-    Ok(())
-}
-
-#[test]
-fn bytes_that_are_no_text_are_malformed_at_line_1(rt: HostRuntime) -> Result<(), Fail> {
-    let lines = printed(rt.alloc(), "quota", b"step 0\nstep \xff\n")?;
-    assert_eq!(rt; lines.as_str(), "B2 Script at line 1");
     Ok(())
 }
