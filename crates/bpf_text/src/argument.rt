@@ -15,7 +15,7 @@ use crate::three::{UpToThree, none, one, three, two};
 use bpf_insn::{Distance, Insn, Operand, Reg, WideValue};
 
 /// One argument of an instruction.
-#[derive(Clone, Copy, Debug, PartialEq, Eq)]
+#[derive(Clone, Copy)]
 pub enum Argument {
     Register(Reg),
     /// A signed 32-bit number.

@@ -1,7 +1,8 @@
 //! From a text to its bytes: the first pass reads each line and notes where labels and
 //! instructions stand, and the second gives each jump its distance and writes the encodings.
 
-ghost use Rattle.std.specs.Prelude.{◌≡◌, Some, None, option_map, map, IfOk, IfErr, Ok};
+ghost use Rattle.std.specs.Prelude.{◌≡◌, ◌++◌, option_map, IfOk, IfErr, Ok, OnOk};
+ghost use Rattle.bpf_insn.specs.Spelling.{encoding};
 ghost use Rattle.bpf_text.specs.Assembly.{
   short_distance,
   slots_to,
@@ -34,7 +35,7 @@ use crate::scan::{Placed, Reading, add_line};
 use crate::statement::insn_of;
 use crate::three::UpToThree;
 use bpf_insn::{Distance, Insn, encode};
-use std::alloc::Global;
+use std::alloc::{AllocError, Global};
 use std::collections::BTreeMap;
 
 fn short_distance(z: i32) -> Option<Argument>
@@ -106,11 +107,20 @@ fn arguments_at<'a>(
     })
 }
 
-fn insn_at<'a>(labels: &Labels<'a>, placed: Placed<&'a [u8]>) -> Result<Insn, AsmFaultKind>
-    ensures { result ≡ insn_at tables (slot_at labels.now) (placed_named placed.entry) }
+fn insn_at<'a>(labels: &Labels<'a>, placed: &Placed<&'a [u8]>) -> Result<Insn, AsmFaultKind>
+    ensures { result ≡ insn_at tables (slot_at labels.now) (placed_named placed.now) }
 {
     let arguments = arguments_at(labels, placed.slot, placed.statement.arguments)?;
     insn_of(placed.statement.mnemonic, arguments).ok_or(AsmFaultKind::Operand)
+}
+
+// One encoding more.
+fn push_encoding(out: &mut Vec<u8>, insn: &Insn) -> Result<(), AllocError>
+    ensures { OnOk result (out.new.items ≡ out.old.items ++ encoding insn.now) }
+{
+    let (bytes, length) = encode(insn);
+    out.extend_from_slice(&bytes[..length])?;
+    Ok(())
 }
 
 // The encodings of the instructions, one after the other.
@@ -120,11 +130,8 @@ fn write_bytes<'a>(alloc: Global, reading: &Reading<'a>) -> Result<Vec<u8>, AsmF
 {
     let mut out = Vec::with_capacity(alloc, 8 * usize::from(reading.slots))?;
     for placed in &reading.placed {
-        match insn_at(&reading.labels, *placed) {
-            Ok(insn) => {
-                let (bytes, length) = encode(&insn);
-                out.extend_from_slice(&bytes[..length])?;
-            }
+        match insn_at(&reading.labels, placed) {
+            Ok(insn) => push_encoding(&mut out, &insn)?,
             Err(kind) => return Err(AsmFault::At {
                 line: placed.line,
                 kind,

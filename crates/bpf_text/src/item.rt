@@ -1,6 +1,7 @@
 //! The operands behind an instruction's word: words, numbers and memory, with commas between.
 
-ghost use Rattle.std.specs.Prelude.{◌≡◌, option_map};
+ghost use Rattle.std.specs.Prelude.{◌≡◌, ◌∷◌, option_map};
+ghost use Rattle.bpf_text.specs.declared.token.Token.TheVariants.{Open};
 ghost use Rattle.bpf_text.specs.Items.{item_at_front, item_after_comma, at_end, items_of};
 ghost use Rattle.bpf_text.specs.Names.{
   tokens_named,
@@ -14,7 +15,7 @@ use crate::three::{UpToThree, none};
 use crate::token::{Figure, Sign, Token};
 
 /// One operand as it is written.
-#[derive(Clone, Copy, Debug)]
+#[derive(Drop)]
 pub enum Item<N> {
     /// A register or a label.
     Name(N),
@@ -28,26 +29,33 @@ pub type Items<'a> = UpToThree<Item<&'a [u8]>>;
 
 type Tokens<'t, 'a> = &'t [Token<&'a [u8]>];
 
-fn item_at_front<'a, 't>(tokens: Tokens<'t, 'a>) -> Option<(Item<&'a [u8]>, Tokens<'t, 'a>)>
-    ensures { option_map front_named result ≡ item_at_front (tokens_named tokens.now) }
+// What stands behind the bracket that opens.
+fn memory_behind<'a, 't>(tokens: Tokens<'t, 'a>) -> Option<(Item<&'a [u8]>, Tokens<'t, 'a>)>
+    ensures { option_map front_named result ≡ item_at_front (Open ∷ tokens_named tokens.now) }
 {
     match tokens {
-        [Token::Word(word), rest @ ..] => Some((Item::Name(word), rest)),
-        [Token::Number(n), rest @ ..] => Some((Item::Number(*n), rest)),
-        [Token::Open, Token::Word(word), Token::Close, rest @ ..] => {
+        [Token::Word(word), Token::Close, rest @ ..] => {
             let none = Figure {
                 sign: Sign::Plus,
                 magnitude: Some(0),
             };
             Some((Item::Memory(word, none), rest))
         }
-        [
-            Token::Open,
-            Token::Word(word),
-            Token::Number(n),
-            Token::Close,
-            rest @ ..,
-        ] => Some((Item::Memory(word, *n), rest)),
+        [Token::Word(word), Token::Number(n), Token::Close, rest @ ..] => Some((
+            Item::Memory(word, *n),
+            rest,
+        )),
+        _ => None,
+    }
+}
+
+fn item_at_front<'a, 't>(tokens: Tokens<'t, 'a>) -> Option<(Item<&'a [u8]>, Tokens<'t, 'a>)>
+    ensures { option_map front_named result ≡ item_at_front (tokens_named tokens.now) }
+{
+    match tokens {
+        [Token::Word(word), rest @ ..] => Some((Item::Name(word), rest)),
+        [Token::Number(n), rest @ ..] => Some((Item::Number(*n), rest)),
+        [Token::Open, rest @ ..] => memory_behind(rest),
         _ => None,
     }
 }

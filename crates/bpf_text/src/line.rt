@@ -12,6 +12,7 @@ ghost use Rattle.bpf_text.specs.Lines.{
 };
 ghost use Rattle.bpf_text.specs.Names.{tokens_named, body_named, split_named, line_named};
 ghost use Rattle.bpf_text.specs.Tables.{tables};
+ghost use Rattle.bpf_text.specs.declared.token.Token.TheVariants.{Word};
 
 use crate::fault::AsmFaultKind;
 use crate::item::items_of;
@@ -25,33 +26,44 @@ use std::alloc::AllocError;
 
 /// An instruction as a line states it: its word, and arguments in which a label may stand for a
 /// distance.
-#[derive(Clone, Copy, Debug)]
+#[derive(Drop)]
 pub struct Statement<N> {
     pub mnemonic: Mnemonic,
     pub arguments: UpToThree<Given<N>>,
 }
 
 /// What a line says: a label, and a statement, nothing or a fault.
-#[derive(Clone, Copy, Debug)]
+#[derive(Drop)]
 pub struct Line<N> {
     pub label: Option<N>,
     pub body: Result<Option<Statement<N>>, AsmFaultKind>,
 }
 
-fn body_of<'a>(tokens: &[Token<&'a [u8]>]) -> Result<Option<Statement<&'a [u8]>>, AsmFaultKind>
+type Body<'a> = Result<Option<Statement<&'a [u8]>>, AsmFaultKind>;
+
+// An instruction's word, and the tokens behind it.
+fn statement_of<'a>(word: &'a [u8], rest: &[Token<&'a [u8]>]) -> Body<'a>
+    ensures { body_named result ≡ body_of tables (Word word.now ∷ tokens_named rest.now) }
+{
+    let Some(mnemonic) = mnemonic_named(word) else {
+        return Err(AsmFaultKind::Mnemonic);
+    };
+    let Some(items) = items_of(rest) else {
+        return Err(AsmFaultKind::Operand);
+    };
+    let arguments = items_as(kinds_of(mnemonic), items)?;
+    Ok(Some(Statement {
+        mnemonic,
+        arguments,
+    }))
+}
+
+fn body_of<'a>(tokens: &[Token<&'a [u8]>]) -> Body<'a>
     ensures { body_named result ≡ body_of tables (tokens_named tokens.now) }
 {
     match tokens {
         [] => Ok(None),
-        [Token::Word(word), rest @ ..] => {
-            let mnemonic = mnemonic_named(word).ok_or(AsmFaultKind::Mnemonic)?;
-            let items = items_of(rest).ok_or(AsmFaultKind::Operand)?;
-            let arguments = items_as(kinds_of(mnemonic), items)?;
-            Ok(Some(Statement {
-                mnemonic,
-                arguments,
-            }))
-        }
+        [Token::Word(word), rest @ ..] => statement_of(word, rest),
         _ => Err(AsmFaultKind::Mnemonic),
     }
 }

@@ -16,9 +16,12 @@ ghost use Rattle.bpf_text.specs.Listing.{
   IsFaultAt,
 };
 ghost use Rattle.bpf_text.specs.Assembly.{AssemblesAgain};
+ghost use Rattle.bpf_text.specs.Words.{word_of};
 
 use crate::argument::{Argument, arguments_of, mnemonic_of};
 use crate::fault::ListFault;
+use crate::mnemonic::Mnemonic;
+use crate::three::UpToThree;
 use bpf_insn::{Distance, Insn, Reg, Width, decode_at};
 use std::alloc::{AllocError, Global};
 use std::fmt::Write;
@@ -95,17 +98,30 @@ fn push_behind(
     Ok(())
 }
 
-fn push_line(out: &mut String, insn: Insn) -> Result<(), AllocError>
-    ensures { OnOk result (Appends out.old out.new (line_of insn)) }
+fn push_word(out: &mut String, mnemonic: Mnemonic) -> Result<(), AllocError>
+    ensures { OnOk result (Appends out.old out.new (word_of mnemonic)) }
 {
-    let mnemonic = mnemonic_of(insn);
-    let arguments = arguments_of(insn);
     out.push_str(mnemonic.stem())?;
-    out.push_str(mnemonic.suffix())?;
+    out.push_str(mnemonic.suffix())
+}
+
+// The arguments behind the word, and the line's end.
+fn push_arguments(out: &mut String, arguments: UpToThree<Argument>) -> Result<(), AllocError>
+    ensures { OnOk result (Appends out.old out.new (text_behind (codes " ") arguments.first
+        ++ text_behind (codes ", ") arguments.second ++ text_behind (codes ", ") arguments.third
+        ++ codes "\n")) }
+{
     push_behind(out, " ", arguments.first)?;
     push_behind(out, ", ", arguments.second)?;
     push_behind(out, ", ", arguments.third)?;
     out.push_str("\n")
+}
+
+fn push_line(out: &mut String, insn: Insn) -> Result<(), AllocError>
+    ensures { OnOk result (Appends out.old out.new (line_of insn)) }
+{
+    push_word(out, mnemonic_of(insn))?;
+    push_arguments(out, arguments_of(insn))
 }
 
 // Writes the line of the instruction that begins at a slot, and answers the slot after it.

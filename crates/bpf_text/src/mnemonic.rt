@@ -23,7 +23,7 @@ use bpf_insn::{
 };
 
 /// What an instruction's first word says: the form of RFC 9669's encoding, less its operands.
-#[derive(Clone, Copy, Debug, PartialEq, Eq)]
+#[derive(Clone, Copy)]
 pub enum Mnemonic {
     Alu(Bits, AluOp),
     Mov(Bits),

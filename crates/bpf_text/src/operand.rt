@@ -39,7 +39,7 @@ use crate::vocabulary::register_named;
 use bpf_insn::Distance;
 
 /// What an operand stands for: an argument, or a label in place of a distance.
-#[derive(Clone, Copy, Debug)]
+#[derive(Clone, Copy)]
 pub enum Given<N> {
     Argument(Argument),
     /// The label of a jump whose distance has 16 bits.

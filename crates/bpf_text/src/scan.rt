@@ -33,7 +33,7 @@ use crate::mnemonic::Mnemonic;
 use std::alloc::AllocError;
 
 /// A statement with its line, from 1, and its slot.
-#[derive(Clone, Copy, Debug)]
+#[derive(Drop)]
 pub struct Placed<N> {
     pub line: usize,
     pub slot: u16,
@@ -82,14 +82,14 @@ fn too_long(slots: u16) -> Option<AsmFaultKind>
 fn fault_of_body(
     slots: u16,
     twice: bool,
-    body: Result<Option<Statement<&[u8]>>, AsmFaultKind>,
+    body: &Result<Option<Statement<&[u8]>>, AsmFaultKind>,
 ) -> Option<AsmFaultKind>
     requires { slots ≤ 4096 }
-    ensures { result ≡ fault_of_body slots twice (body_named body.entry) }
+    ensures { result ≡ fault_of_body slots twice (body_named body.now) }
 {
     match body {
         Err(AsmFaultKind::Range) if twice => Some(AsmFaultKind::Label),
-        Err(kind) => Some(kind),
+        Err(kind) => Some(*kind),
         Ok(_) if twice => Some(AsmFaultKind::Label),
         Ok(None) => None,
         Ok(Some(statement)) => too_long(slots + slots_of_word(statement.mnemonic)),
@@ -122,12 +122,13 @@ fn place<'a>(
 {
     match body {
         Ok(Some(statement)) => {
+            let slots = slots_of_word(statement.mnemonic);
             placed.push(Placed {
                 line,
                 slot,
                 statement,
             })?;
-            Ok(slots_of_word(statement.mnemonic))
+            Ok(slots)
         }
         _ => Ok(0),
     }
@@ -145,7 +146,7 @@ pub fn add_line<'a>(reading: &mut Reading<'a>, line: Line<&'a [u8]>) -> Result<(
     let twice = is_taken(&reading.labels, line.label);
     let number = reading.lines + 1;
     let slot = reading.slots;
-    if let Some(kind) = fault_of_body(slot, twice, line.body) {
+    if let Some(kind) = fault_of_body(slot, twice, &line.body) {
         return Err(AsmFault::At { line: number, kind });
     }
     note_label(&mut reading.labels, line.label, slot)?;

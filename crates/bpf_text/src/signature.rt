@@ -7,7 +7,7 @@ use crate::mnemonic::Mnemonic;
 use crate::three::{UpToThree, none, one, three, two};
 
 /// What an operand is.
-#[derive(Clone, Copy, Debug, PartialEq, Eq)]
+#[derive(Clone, Copy)]
 pub enum Kind {
     Register,
     /// A register or an imm.

@@ -4,7 +4,7 @@ ghost use Rattle.std.specs.Prelude.{◌≡◌};
 ghost use Rattle.bpf_text.specs.Three.{none, one, two, three};
 
 /// The first, the second and the third, as far as they are there.
-#[derive(Clone, Copy, Debug, PartialEq, Eq)]
+#[derive(Clone, Copy)]
 pub struct UpToThree<T> {
     pub first: Option<T>,
     pub second: Option<T>,

@@ -43,7 +43,7 @@ ghost use Rattle.bpf_text.specs.Tokens.{
 use std::alloc::AllocError;
 
 /// The sign that stands before a number.
-#[derive(Clone, Copy, Debug, PartialEq, Eq)]
+#[derive(Clone, Copy)]
 pub enum Sign {
     Absent,
     Minus,
@@ -51,14 +51,14 @@ pub enum Sign {
 }
 
 /// A number as it is written. Its magnitude is `None` where 64 bits don't hold it.
-#[derive(Clone, Copy, Debug, PartialEq, Eq)]
+#[derive(Clone, Copy)]
 pub struct Figure {
     pub sign: Sign,
     pub magnitude: Option<u64>,
 }
 
 /// One token of a line, with names of type `N`: here bytes of the text, in definitions lists.
-#[derive(Clone, Copy, Debug)]
+#[derive(Clone, Copy)]
 pub enum Token<N> {
     Word(N),
     Number(Figure),
