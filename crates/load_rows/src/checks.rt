@@ -55,23 +55,28 @@ fn checked(alloc: Global, files: &mut MemFiles, manifest: &str) -> Result<String
     check(alloc, manifest.as_bytes(), files)
 }
 
-fn refusal(alloc: Global, refused: &Refused) -> Result<String, AllocError> {
-    format!(in alloc; "{}\n{}", refused.fault, refused.reason)
+fn one_line(alloc: Global, text: &str) -> Result<String, AllocError> {
+    text.replace(alloc, "\n", " / ")
+}
+
+fn told_of_refusal(alloc: Global, refused: &Refused) -> Result<String, AllocError> {
+    let text = format!(in alloc; "{}\n{}", refused.fault, refused.reason)?;
+    one_line(alloc, text.as_str())
 }
 
 /// What is told, with ` / ` for each line feed: the text of a manifest that is accepted, or the
 /// refusal and its reason.
-fn told(alloc: Global, files: &mut MemFiles, manifest: &str) -> Result<String, Fail> {
-    let text = match checked(alloc, files, manifest) {
-        Ok(text) => text,
-        Err(refused) => refusal(alloc, &refused)?,
-    };
-    Ok(text.replace(alloc, "\n", " / ")?)
+fn told(alloc: Global, files: &mut MemFiles, manifest: &str) -> Result<String, AllocError> {
+    match checked(alloc, files, manifest) {
+        Ok(text) => one_line(alloc, text.as_str()),
+        Err(refused) => told_of_refusal(alloc, &refused),
+    }
 }
 
 /// What is told of one manifest.
 fn told_alone(alloc: Global, manifest: &str) -> Result<String, Fail> {
-    told(alloc, &mut files(alloc, RULES)?, manifest)
+    let mut files = files(alloc, RULES)?;
+    Ok(told(alloc, &mut files, manifest)?)
 }
 
 /// Whether that is what is wanted. What the reader of TOML says behind its place is its own affair.

@@ -41,21 +41,35 @@ pub(crate) fn files(alloc: Global, rules: &str) -> Result<MemFiles, Fail> {
 }
 
 fn add_files(alloc: Global, files: &mut MemFiles, rules: &str) -> Result<(), Fail> {
+    add_programs(alloc, files)?;
+    add_rules(alloc, files, rules)?;
+    add_bytes(alloc, files)?;
+    add_costly(files, repeated(alloc, 300, COSTLY)?)?;
+    files.add("long.rule", Some(vec![in alloc; b' '; 65537]?))?;
+    Ok(files.add("unreadable.bpf", None)?)
+}
+
+fn add_programs(alloc: Global, files: &mut MemFiles) -> Result<(), Fail> {
     for line in PROGRAMS.split("\n- ").skip(1) {
         let (name, text) = halves(line, ": ")?;
         add_program(alloc, files, name, text, " / ")?;
     }
+    Ok(())
+}
+
+fn add_rules(alloc: Global, files: &mut MemFiles, rules: &str) -> Result<(), Fail> {
     for line in rules.lines().skip(1) {
         let (name, text) = halves(line, ": ")?;
         files.add(name, Some(text.replace(alloc, " / ", "\n")?.into_bytes()))?;
     }
+    Ok(())
+}
+
+fn add_bytes(alloc: Global, files: &mut MemFiles) -> Result<(), AllocError> {
     for (name, bytes) in BYTES {
         files.add(name, Some(Vec::from_slice(alloc, bytes)?))?;
     }
-    files.add("long.rule", Some(vec![in alloc; b' '; 65537]?))?;
-    let statements = repeated(alloc, 300, COSTLY)?;
-    add_costly(files, statements)?;
-    Ok(files.add("unreadable.bpf", None)?)
+    Ok(())
 }
 
 fn add_costly(files: &mut MemFiles, statements: String) -> Result<(), AllocError> {

@@ -44,12 +44,22 @@ fn manifest(alloc: Global, quota: &str, releases: &str) -> Result<Vec<u8>, Fail>
     Ok(text.into_bytes())
 }
 
+fn add_manifest(
+    alloc: Global,
+    disk: &mut MemFiles,
+    folder: &str,
+    quota: &str,
+    releases: &str,
+) -> Result<(), Fail> {
+    let path = format!(in alloc; "{folder}/m.toml")?;
+    Ok(disk.add(path.as_str(), Some(manifest(alloc, quota, releases)?))?)
+}
+
 fn add_folder(alloc: Global, disk: &mut MemFiles, row: &str) -> Result<(), Fail> {
     let (folder, row) = halves(row, "|")?;
     let (quota, row) = halves(row, "|")?;
     let (releases, program) = halves(row, "|")?;
-    let path = format!(in alloc; "{folder}/m.toml")?;
-    disk.add(path.as_str(), Some(manifest(alloc, quota, releases)?))?;
+    add_manifest(alloc, disk, folder, quota, releases)?;
     let path = format!(in alloc; "{folder}/x.bpf")?;
     add_program(alloc, disk, path.as_str(), program, "/")
 }
@@ -59,7 +69,7 @@ fn add_folders(alloc: Global, disk: &mut MemFiles, script: &[u8]) -> Result<(), 
     for row in FOLDERS.trim().lines() {
         add_folder(alloc, disk, row)?;
     }
-    disk.add("bare/m.toml", Some(manifest(alloc, "2", "1")?))?;
+    add_manifest(alloc, disk, "bare", "2", "1")?;
     Ok(disk.add("script.txt", Some(Vec::from_slice(alloc, script)?))?)
 }
 
@@ -75,13 +85,22 @@ fn push_replies(text: &mut String, replies: &[Reply]) -> Result<(), AllocError> 
     Ok(())
 }
 
+fn push_printed(
+    alloc: Global,
+    text: &mut String,
+    disk: &MemFiles,
+    manifest: &str,
+) -> Result<(), AllocError> {
+    match replies(alloc, disk, manifest) {
+        Ok(replies) => push_replies(text, &replies),
+        Err(fault) => write!(text, "{fault}"),
+    }
+}
+
 /// What the script prints with the manifest of a folder.
-fn printed(alloc: Global, disk: &MemFiles, folder: &str) -> Result<String, Fail> {
+fn printed(alloc: Global, disk: &MemFiles, folder: &str) -> Result<String, AllocError> {
     let manifest = format!(in alloc; "{folder}/m.toml")?;
     let mut text = String::new(alloc);
-    match replies(alloc, disk, manifest.as_str()) {
-        Ok(replies) => push_replies(&mut text, &replies)?,
-        Err(fault) => write!(text, "{fault}")?,
-    }
+    push_printed(alloc, &mut text, disk, manifest.as_str())?;
     Ok(text)
 }

@@ -25,10 +25,15 @@ fn of_appid(alloc: Global, appid: &str) -> Result<String, AllocError> {
     format!(in alloc; "server = \"\"\n[[app]]\nappid = \"{appid}\"\nrule = \"y.rule\"\n")
 }
 
+fn told_of_appid(alloc: Global, appid: &str) -> Result<String, Fail> {
+    let manifest = of_appid(alloc, appid)?;
+    told_alone(alloc, manifest.as_str())
+}
+
 #[test]
 fn no_array(rt: HostRuntime) -> Result<(), Fail> {
     let appid = repeated(rt.alloc(), 1024, "i")?;
-    let told = told_alone(rt.alloc(), of_appid(rt.alloc(), appid.as_str())?.as_str())?;
+    let told = told_of_appid(rt.alloc(), appid.as_str())?;
     let found = told.as_str().strip_prefix("app ").unwrap_or("");
     let found = found.strip_suffix(" releases 0 slots 5 / ").unwrap_or("");
     must(

@@ -2,6 +2,7 @@
 
 use super::Loader;
 use crate::sample::repeated;
+use cells::Directory;
 use ruleset::App;
 use std::alloc::{AllocError, Global};
 use std::fmt::Write;
@@ -66,42 +67,38 @@ fn numbers_of(app: &App) -> (usize, usize, Option<u8>) {
     (app.releases().len(), program.shape().arrays().len(), choice)
 }
 
-/// Whether a load gives so many arrays and apps, each with so many releases and all arrays, of
-/// which the first one's program is `mov r0, 0`, and the last one's has this number.
-fn is_loaded(
-    alloc: Global,
-    arrays: usize,
-    apps: usize,
-    releases: usize,
-    choice: u8,
-) -> Result<bool, Fail> {
-    let mut loader = Loader::new(alloc)?;
-    let text = manifest(alloc, arrays, apps, releases)?;
-    let rules = loader.load(alloc, text.as_str())?;
-    let all = rules.apps();
-    Ok(match (all.first(), all.last()) {
+/// Arrays, apps and releases, and the choice of the last app's program.
+type Numbers = (usize, usize, usize, u8);
+
+/// Whether there are so many arrays and apps, each with so many releases and all arrays, of which
+/// the first one's program is `mov r0, 0`, and the last one's has this choice.
+fn are_there(directory: &Directory, apps: &[App], numbers: Numbers) -> bool {
+    let (arrays, count, releases, choice) = numbers;
+    match (apps.first(), apps.last()) {
         (Some(first), Some(last)) => {
-            loader.directory.arrays().len() == arrays
-                && all.len() == apps
+            directory.arrays().len() == arrays
+                && apps.len() == count
                 && numbers_of(first) == (releases, arrays, Some(0))
                 && numbers_of(last) == (releases, arrays, Some(choice))
         }
         _ => false,
-    })
+    }
 }
 
-/// Arrays, apps and releases, and the last app's choice.
-const ROWS: [(usize, usize, usize, u8); 4] = [
-    (64, 1, 0, 0),
-    (0, 256, 1, 1),
-    (1, 2, 64, 1),
-    (0, 2, 1, 1),
-];
+fn is_loaded(alloc: Global, manifest: &str, numbers: Numbers) -> Result<bool, Fail> {
+    let mut loader = Loader::new(alloc)?;
+    let rules = loader.load(alloc, manifest)?;
+    Ok(are_there(&loader.directory, rules.apps(), numbers))
+}
+
+const ROWS: [Numbers; 4] = [(64, 1, 0, 0), (0, 256, 1, 1), (1, 2, 64, 1), (0, 2, 1, 1)];
 
 #[test]
 fn at_their_limits(rt: HostRuntime) -> Result<(), Fail> {
-    for (arrays, apps, releases, choice) in ROWS {
-        let is_loaded = is_loaded(rt.alloc(), arrays, apps, releases, choice)?;
+    for numbers in ROWS {
+        let (arrays, apps, releases, _) = numbers;
+        let manifest = manifest(rt.alloc(), arrays, apps, releases)?;
+        let is_loaded = is_loaded(rt.alloc(), manifest.as_str(), numbers)?;
         assert!(rt; is_loaded, "{arrays} {apps} {releases}");
     }
     Ok(())

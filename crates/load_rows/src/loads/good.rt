@@ -1,6 +1,7 @@
 //! What a good manifest gives.
 
 use super::{Loader, SAMPLE};
+use crate::sample::must;
 use bpf_text::{ListFault, listing};
 use cells::Directory;
 use ruleset::{App, Ruleset};
@@ -35,10 +36,14 @@ fn has_q(directory: &Directory) -> bool {
     }
 }
 
+fn is_good(alloc: Global, loader: &mut Loader) -> Result<bool, Fail> {
+    let rules = loader.load(alloc, SAMPLE)?;
+    Ok(has_q(&loader.directory) && are_both(alloc, &rules)?)
+}
+
 #[test]
 fn two_apps(rt: HostRuntime) -> Result<(), Fail> {
     let mut loader = Loader::new(rt.alloc())?;
-    let rules = loader.load(rt.alloc(), SAMPLE)?;
-    assert!(rt; are_both(rt.alloc(), &rules)? && has_q(&loader.directory));
-    Ok(())
+    let is_good = is_good(rt.alloc(), &mut loader)?;
+    must("two apps", "others", is_good)
 }

@@ -55,16 +55,26 @@ fn asked_and_told(row: &str) -> Result<(&str, &str), Fail> {
 
 /// A load is told as the row says, and then once more. A refused one declares no array, and M4
 /// alone counts a failure.
-fn is_told_twice(alloc: Global, row: &str) -> Result<(), Fail> {
-    let (changes, want) = asked_and_told(row)?;
-    let mut loader = Loader::new(alloc)?;
-    let manifest = changed(alloc, SAMPLE, changes)?;
-    loader.must_tell(alloc, row, manifest.as_str(), want)?;
+fn must_tell_twice(
+    alloc: Global,
+    loader: &mut Loader,
+    row: &str,
+    manifest: &str,
+    want: &str,
+) -> Result<(), Fail> {
+    loader.must_tell(alloc, row, manifest, want)?;
     let arrays = loader.directory.arrays().len();
     must(row, "arrays", (arrays == 1) == (want == "ok"))?;
     let failures = loader.files.failures();
     must(row, "failures", (failures == 1) == want.starts_with("M4"))?;
-    loader.must_tell(alloc, row, manifest.as_str(), want)
+    loader.must_tell(alloc, row, manifest, want)
+}
+
+fn is_told_twice(alloc: Global, row: &str) -> Result<(), Fail> {
+    let (changes, want) = asked_and_told(row)?;
+    let manifest = changed(alloc, SAMPLE, changes)?;
+    let mut loader = Loader::new(alloc)?;
+    must_tell_twice(alloc, &mut loader, row, manifest.as_str(), want)
 }
 
 #[test]

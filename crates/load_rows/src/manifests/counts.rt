@@ -78,10 +78,14 @@ array 64 => ok
 array 65 => M2 array: at most 64 tables
 "#;
 
+fn number(digits: &str) -> Result<usize, Fail> {
+    Ok(digits.parse().ok().ok_or("no number")?)
+}
+
 fn is_told(alloc: Global, row: &str) -> Result<(), Fail> {
     let (tables, want) = halves(row, " => ")?;
     let (kind, count) = halves(tables, " ")?;
-    let manifest = manifest_of(alloc, kind, count.parse().ok().ok_or("no number")?)?;
+    let manifest = manifest_of(alloc, kind, number(count)?)?;
     must_tell(alloc, row, manifest.as_bytes(), want)
 }
 

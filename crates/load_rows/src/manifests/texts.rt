@@ -41,11 +41,18 @@ fn documents(rt: HostRuntime) -> Result<(), Fail> {
     Ok(())
 }
 
+fn reason(alloc: Global, fault: &ManifestFault) -> Result<String, AllocError> {
+    match fault {
+        ManifestFault::Toml(TomlFault::Text(error)) => format!(in alloc; "{error}"),
+        _ => format!(in alloc; "nothing"),
+    }
+}
+
 /// What the reader of TOML says of a text.
 fn said(alloc: Global, bytes: &[u8]) -> Result<String, AllocError> {
     match read(alloc, bytes) {
-        Err(ManifestFault::Toml(TomlFault::Text(error))) => format!(in alloc; "{error}"),
-        _ => String::from_str(alloc, "nothing"),
+        Ok(_) => format!(in alloc; "it is read"),
+        Err(fault) => reason(alloc, &fault),
     }
 }
 

@@ -1,6 +1,6 @@
 //! Which texts are scripts, by the number of their events, and which line is malformed.
 
-use crate::sample::must;
+use crate::sample::{halves, must};
 use script::{ScriptFault, read_script};
 use std::alloc::{AllocError, Global};
 use std::test::Fail;
@@ -70,7 +70,7 @@ fn must_tell(alloc: Global, row: &str, bytes: &[u8], want: &str) -> Result<(), F
 }
 
 fn is_told(alloc: Global, row: &str) -> Result<(), Fail> {
-    let (text, want) = row.rsplit_once("= ").ok_or("a row of two parts")?;
+    let (text, want) = halves(row, "= ")?;
     let text = text.trim_end().replace(alloc, "/", "\n")?;
     must_tell(alloc, row, text.as_bytes(), want)
 }

@@ -139,7 +139,7 @@ fn whole_scripts(rt: HostRuntime) -> Result<(), Fail> {
 
 fn is_printed(alloc: Global, row: &str) -> Result<(), Fail> {
     let row = row.replace(alloc, ";", "\n")?;
-    let (asked, want) = row.as_str().rsplit_once("= ").ok_or("a row of two parts")?;
+    let (asked, want) = halves(row.as_str(), "= ")?;
     let (folder, script) = halves(asked.trim_end(), ": ")?;
     must_print(alloc, folder, script.as_bytes(), want)
 }
