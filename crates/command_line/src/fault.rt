@@ -13,9 +13,10 @@ pub enum WordsFault {
     #[error("{0}")]
     Usage(ClapError),
     /// The grammar takes them, and they ask for nothing: their arrays aren't well written.
-    #[error("error: '--arrays' wants name:width:length, or name:64:length:limit, joined by commas\n")]
+    #[error("error: '--arrays' wants name:width:length, or name:64:length:limit, \
+        joined by commas\n")]
     Nothing,
-    /// Memory was refused.
-    #[error("error: out of memory\n")]
+    /// B4: memory was refused.
+    #[error("refused B4 Memory\n")]
     Memory,
 }

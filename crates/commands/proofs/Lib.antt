@@ -1,3 +1,2 @@
-mod Spelled
 mod Written
-mod Events
+mod Replied

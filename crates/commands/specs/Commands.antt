@@ -3,7 +3,7 @@ use Rattle.std.specs.Prelude.{◌⊎◌, ℕ, List, Option, IfSome}
 use Rattle.std.specs.Io.KnownBytes.{Appends}
 use Rattle.command_line.specs.declared.request.Request.{Request}
 use Rattle.command_line.specs.Requests.{AskFor, AskForHelp, AskForNothing, HasFault}
-use Rattle.commands.specs.declared.fault.Answer.{Answer}
+use Rattle.commands.specs.declared.answer.Answer.{Answer}
 use Rattle.commands.specs.declared.fault.Fault.{Fault}
 use Rattle.commands.specs.Answers.{IsAnswer}
 use Rattle.commands.specs.Texts.{answer_text, fault_text, refused_line}

@@ -1,9 +1,5 @@
-pub mod Files
-pub mod Assembly
-pub mod Programs
-pub mod Rules
 pub mod Texts
-pub mod Manifests
 pub mod Asked
+pub mod Ready
 pub mod Answers
 pub mod Commands

@@ -2,21 +2,20 @@
 use Rattle.std.specs.Prelude.{ℕ, ◌/◌, List, ◌++◌, length, codes, Option, Some, None}
 use Rattle.std.specs.Fmt.{decimal}
 use Rattle.std.specs.String.{string_bytes}
-use Rattle.bpf_text.specs.Faults.{asm_fault_text, list_fault_text}
-use Rattle.commands.specs.declared.fault.Answer.{Answer}
-use Rattle.commands.specs.declared.fault.Answer.TheVariants.{Assembled, Checked, Compiled, Listed}
-use Rattle.commands.specs.declared.fault.Answer.TheVariants.{Accepted, Chosen, Replayed, Ready}
-use Rattle.commands.specs.declared.fault.Answer.TheVariants as answer
-use Rattle.commands.specs.declared.fault.Fault.{Fault}
-use Rattle.commands.specs.declared.fault.Fault.TheVariants.{File, Memory, Text, Bytes}
-use Rattle.commands.specs.declared.fault.Fault.TheVariants.{Word, Connect, Bind}
-use Rattle.commands.specs.declared.fault.Fault.TheVariants as fault
 use Rattle.command_line.specs.declared.request.Line.{Line}
 use Rattle.command_line.specs.declared.request.Line.TheVariants as request
-
--- a text, ended by LF
-abbrev pub line : List ℕ → List ℕ
-line text = text ++ codes "\n"
+use Rattle.commands.specs.declared.answer.Answer.{Answer}
+use Rattle.commands.specs.declared.answer.Answer.TheVariants.{Assembled, Checked, Compiled}
+use Rattle.commands.specs.declared.answer.Answer.TheVariants.{Listed, Accepted, Chosen, Replayed}
+use Rattle.commands.specs.declared.answer.Answer.TheVariants.{Ready}
+use Rattle.commands.specs.declared.answer.Answer.TheVariants as answer
+use Rattle.commands.specs.declared.fault.Fault.{Fault}
+use Rattle.commands.specs.declared.fault.Fault.TheVariants.{Memory, Program, Manifest}
+use Rattle.commands.specs.declared.fault.Fault.TheVariants.{Word, Connect, Bind}
+use Rattle.commands.specs.declared.fault.Fault.TheVariants as fault
+use Rattle.manifest_tools.specs.Manifests as manifest
+use Rattle.program_tools.specs.Texts as program
+use Rattle.ruleset.specs.Texts.{line}
 
 abbrev pub serving_line : List ℕ
 serving_line = line (codes "serving generation 1")
@@ -41,13 +40,11 @@ line_words request.Show = codes "show"
 line_words request.Cells = codes "cells"
 line_words request.Stop = codes "stop"
 
--- no text is stated of arrays, rules, manifests and scripts that are refused, the graph's faults
--- and the verifier's refusals
+-- no text is stated of a server's manifest that is refused
 abbrev pub fault_text : Fault → Option (List ℕ)
-fault_text File = Some (codes "B3 File")
 fault_text Memory = Some (codes "B4 Memory")
-fault_text (Text fault) = Some (asm_fault_text fault)
-fault_text (Bytes fault) = Some (list_fault_text fault)
+fault_text (Program fault) = program.fault_text fault
+fault_text (Manifest fault) = manifest.fault_text fault
 fault_text Word = Some (codes "B1 Word")
 fault_text Connect = Some (codes "B5 Connect")
 fault_text Bind = Some (codes "B6 Bind")

@@ -1,66 +1,55 @@
-//! What each request is answered.
+//! What a request is answered.
 
-ghost use Rattle.std.specs.Prelude.{IfOk, IfErr};
-ghost use Rattle.commands.specs.Answers.{IsAnswer, IsRefused};
+ghost use Rattle.std.specs.Prelude.{Some};
+ghost use Rattle.commands.specs.Texts.{answer_text};
 
-use crate::ask::ask_server;
-use crate::asm::assemble_file;
-use crate::check::check_file;
-use crate::compile::compile_file;
-use crate::fault::{Answer, Fault};
-use crate::list::list_file;
-use crate::playing::replay_script;
-use crate::run::run_file;
-use crate::serve::prepare_server;
-use crate::verify::verify_file;
-use command_line::Request;
-use std::net::{Net, TcpListener, TcpStream};
-use std::rt::Files;
+use command_line::Plan;
+use serving::Server;
+use std::fmt;
 
-/// Does what is asked. A server of a manifest is made ready, and doesn't serve yet.
-pub fn answer<R>(rt: &R, request: &Request<'_>) -> Result<Answer, Fault>
-where
-    R: Files + AllocGlobal + Net<Listener = TcpListener, Stream = TcpStream>,
-    ensures answer { IfOk result (IsAnswer request.now) }
-    ensures fault { IfErr result (IsRefused request.now) }
-{
-    match request {
-        Request::Assemble { text, out } => Ok(Answer::Assembled {
-            program: assemble_file(rt, text, out)?,
-        }),
-        Request::Check { manifest } => Ok(Answer::Checked {
-            text: check_file(rt, manifest)?,
-        }),
-        Request::Compile { text, shape, out } => Ok(Answer::Compiled {
-            slots: compile_file(rt, text, shape, out)?,
-        }),
-        Request::List { path } => Ok(Answer::Listed {
-            text: list_file(rt, path)?,
-        }),
-        Request::Verify { path, shape } => Ok(Answer::Accepted {
-            slots: verify_file(rt, path, shape)?,
-        }),
-        Request::Run {
-            path,
-            shape,
-            version,
-            bucket,
-        } => {
-            let (choice, instructions) = run_file(rt, path, shape, *version, *bucket)?;
-            Ok(Answer::Chosen {
+/// What a request is answered, by lines that are each ended by LF.
+#[derive(Drop)]
+pub enum Answer {
+    /// The text was assembled into these bytes, of which the number of slots is printed.
+    Assembled { program: Vec<u8> },
+    /// The manifest comes to a ruleset; the lines of its arrays and apps.
+    Checked { text: String },
+    /// The rule was compiled into a program of so many slots.
+    Compiled { slots: usize },
+    /// The listing of the bytes: a line an instruction.
+    Listed { text: String },
+    /// The program is accepted; its length in slots.
+    Accepted { slots: usize },
+    /// The program chose a release, or none, and did so many instructions.
+    Chosen { choice: u8, instructions: u32 },
+    /// The script was played; the lines of its events.
+    Replayed { text: String },
+    /// The lines of a server's reply.
+    Told { text: String },
+    /// The server of a manifest is ready to serve.
+    Ready { server: Server, plan: Plan },
+}
+
+impl fmt::Display for Answer {
+    ghost output = { λ answer. Some (answer_text answer) };
+
+    fn fmt<W: fmt::Write>(&self, f: &mut fmt::Formatter<W>) -> fmt::Result {
+        match self {
+            Answer::Assembled { program } => {
+                let slots = program.len() / 8;
+                writeln!(f, "{slots} slots")
+            }
+            Answer::Checked { text } => f.write_str(text),
+            Answer::Compiled { slots } => writeln!(f, "{slots} slots"),
+            Answer::Listed { text } => f.write_str(text),
+            Answer::Accepted { slots } => writeln!(f, "accepted {slots} slots"),
+            Answer::Chosen {
                 choice,
                 instructions,
-            })
+            } => writeln!(f, "choice {choice} after {instructions} instructions"),
+            Answer::Replayed { text } => f.write_str(text),
+            Answer::Told { text } => f.write_str(text),
+            Answer::Ready { .. } => f.write_str("serving generation 1\n"),
         }
-        Request::Replay { manifest, script } => Ok(Answer::Replayed {
-            text: replay_script(rt, manifest, script)?,
-        }),
-        Request::Serve { manifest, plan } => Ok(Answer::Ready {
-            server: prepare_server(rt, manifest, plan)?,
-            plan: *plan,
-        }),
-        Request::Ask { line, port } => Ok(Answer::Told {
-            text: ask_server(rt, line, *port)?,
-        }),
     }
 }

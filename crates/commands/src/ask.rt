@@ -1,8 +1,9 @@
 //! `load`, `show`, `cells` and `stop`: a line to a server's operator's port, and its reply.
 
-ghost use Rattle.std.specs.Prelude.{◌≡◌, IfOk, IfErr};
+ghost use Rattle.std.specs.Prelude.{◌≡◌, IfOk, IfErr, List, ℕ};
 ghost use Rattle.std.specs.String.{string_bytes};
-ghost use Rattle.commands.specs.Asked.{IsAskRefusal};
+ghost use Rattle.command_line.specs.declared.request.Line as asked;
+ghost use Rattle.commands.specs.Asked.{IsAskRefusal, IsDoneAs};
 ghost use Rattle.commands.specs.Texts.{line_words};
 ghost use Rattle.operator.specs.Replies.{IsReplyTo};
 
@@ -13,21 +14,26 @@ use std::alloc::{AllocError, Global};
 use std::net::{Net, TcpStream};
 use std::str;
 
-/// The lines of a server's reply. One that begins with `refused ` is the server's refusal.
+/// The lines of a server's reply, where it did what it was asked. A reply that begins with
+/// `refused ` is the server's refusal.
 pub fn ask_server<R>(rt: &R, line: &Line<'_>, port: u16) -> Result<String, Fault>
 where
     R: Net<Stream = TcpStream> + AllocGlobal,
-    ensures told { IfOk result (λ t. IsReplyTo (line_words line.now) (string_bytes t)) }
-    ensures fault { IfErr result IsAskRefusal }
+    ensures told { IfOk result (λ t. IsDoneAs (line_words line.now) (string_bytes t)) }
+    ensures fault { IfErr result (IsAskRefusal line.now) }
 {
     let Ok(words) = words_of(rt.alloc(), line) else {
         return Err(Fault::Memory);
     };
-    match ask(rt, port, words.as_str()) {
-        Ok(reply) => read_reply(rt.alloc(), &reply),
-        Err(AskFault::Word) => Err(Fault::Word),
-        Err(AskFault::Memory) => Err(Fault::Memory),
-        Err(AskFault::Connect) => Err(Fault::Connect),
+    let reply = match ask(rt, port, words.as_str()) {
+        Ok(reply) => reply,
+        Err(AskFault::Word) => return Err(Fault::Word),
+        Err(AskFault::Memory) => return Err(Fault::Memory),
+        Err(AskFault::Connect) => return Err(Fault::Connect),
+    };
+    match read_reply(rt.alloc(), reply.as_slice()) {
+        Ok(text) => Ok(text),
+        Err(fault) => Err(fault),
     }
 }
 
@@ -45,34 +51,28 @@ fn words_of(alloc: Global, line: &Line<'_>) -> Result<String, AllocError>
 
 // The lines of a reply, or the words of its refusal.
 fn read_reply(alloc: Global, reply: &[u8]) -> Result<String, Fault>
-    ensures text { IfOk result (λ t. string_bytes t ≡ reply.now) }
-    ensures fault { IfErr result IsAskRefusal }
+    ensures told { IfOk result (λ t. (words : List ℕ) → IsReplyTo words reply.now
+        → IsDoneAs words (string_bytes t)) }
+    ensures fault { IfErr result (λ e. (line : asked.Line) → IsAskRefusal line e) }
 {
     let Ok(text) = str::from_utf8(reply) else {
         return Err(Fault::Connect);
     };
-    match text.strip_prefix("refused ") {
-        Some(refusal) => Err(told(alloc, refusal)),
-        None => copy(alloc, text),
+    if let Some(refusal) = text.strip_prefix("refused ") {
+        return Err(told(alloc, refusal));
+    }
+    match String::from_str(alloc, text) {
+        Ok(text) => Ok(text),
+        Err(_) => Err(Fault::Memory),
     }
 }
 
 fn told(alloc: Global, refusal: &str) -> Fault
-    ensures { IsAskRefusal result }
+    ensures { (line : asked.Line) → IsAskRefusal line result }
 {
     let words = refusal.strip_suffix('\n').unwrap_or(refusal);
-    match copy(alloc, words) {
+    match String::from_str(alloc, words) {
         Ok(words) => Fault::Told(words),
-        Err(fault) => fault,
-    }
-}
-
-fn copy(alloc: Global, text: &str) -> Result<String, Fault>
-    ensures text { IfOk result (λ t. string_bytes t ≡ text.now) }
-    ensures fault { IfErr result (λ e. e ≡ Fault.Memory) }
-{
-    match String::from_str(alloc, text) {
-        Ok(text) => Ok(text),
-        Err(_) => Err(Fault::Memory),
+        Err(_) => Fault::Memory,
     }
 }

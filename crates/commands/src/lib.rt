@@ -1,19 +1,16 @@
 //! The commands of the program, from the words of a command line to a status, over any two writers.
 #![tactic(auto)]
 
+// How a command goes. Its words are read as a request, or it is told what is wrong with them. The
+// request is answered: by a command on a program or a manifest, by a server at its operator's port,
+// or, for `serve`, by a server that is ready. The answer's lines are printed, and a ready server
+// then serves until it is stopped. The status says whether all this was done.
+
 mod answer;
+mod answering;
 mod ask;
-mod asm;
-mod check;
-mod compile;
 mod fault;
-mod files;
-mod list;
-mod playing;
-mod program;
-mod run;
 mod serve;
 mod status;
-mod verify;
 
 pub use status::{command, unreadable_words, usage};

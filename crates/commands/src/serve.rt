@@ -2,7 +2,7 @@
 
 ghost use Rattle.std.specs.Prelude.{◌≡◌, ◌*◌, [], Ok, IfOk, IfErr};
 ghost use Rattle.std.specs.Duration.{as_nanos};
-ghost use Rattle.commands.specs.Manifests.{IsServeRefusal};
+ghost use Rattle.commands.specs.Ready.{IsServeRefusal};
 ghost use Rattle.serving.specs.Manifests.{LoadsSome};
 
 use crate::fault::Fault;
@@ -24,7 +24,7 @@ where
 {
     match prepare(rt, manifest, plan.port, plan.operator) {
         Ok(server) => Ok(server),
-        Err(PrepareFault::Manifest(fault)) => Err(Fault::Manifest(fault)),
+        Err(PrepareFault::Manifest(fault)) => Err(Fault::Load(fault)),
         Err(PrepareFault::Port(_)) => Err(Fault::Bind),
     }
 }

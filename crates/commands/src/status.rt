@@ -7,10 +7,12 @@ ghost use Rattle.command_line.specs.Requests.{AskForHelp, IsWordsFault};
 ghost use Rattle.commands.specs.Commands.{AreWrong, IsAnswered, IsDone, PrintsRefusal};
 ghost use Rattle.commands.specs.Texts.{serving_line};
 
-use crate::answer::answer;
-use crate::fault::{Answer, Fault};
+use crate::answer::Answer;
+use crate::answering::answer;
+use crate::fault::Fault;
 use crate::serve::serve_until_stopped;
 use command_line::{Plan, Request, WordsFault, read_words};
+use manifest_tools::ManifestToolFault;
 use serving::Server;
 use std::convert::AsStr;
 use std::io::{self, ErrorKind, Write};
@@ -136,7 +138,7 @@ pub fn usage<O: Write, E: Write>(fault: &WordsFault, out: &mut O, err: &mut E) -
 fn refused_for<O: Write, E: Write>(out: &mut O, err: &mut E, fault: &Fault) -> u8
     ensures { result ≡ 1 }
 {
-    if let Fault::Diagnosed(diagnosis) = fault {
+    if let Fault::Manifest(ManifestToolFault::Diagnosed(diagnosis)) = fault {
         let _said = print_reason(out, diagnosis.reason.as_str());
     }
     refused(err, fault)

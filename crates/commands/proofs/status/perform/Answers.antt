@@ -1,7 +1,7 @@
 use Rattle.std.proofs.Common.{subst}
 use Rattle.commands.proofs.Written.{of_written}
 use Rattle.commands.specs.Answers.{IsAnswer}
-use Rattle.commands.specs.declared.fault.Answer.TheVariants.{Ready}
+use Rattle.commands.specs.declared.answer.Answer.TheVariants.{Ready}
 use Rattle.commands.proofs.status.perform.Goals as goal
 
 pub returns-in-Ok-clause-done : goal.returns-in-Ok-clause-done

@@ -1,0 +1,8 @@
+-- The texts of what isn't to be had.
+use Rattle.std.specs.Prelude.{ℕ, List, codes}
+use Rattle.bounded_files.specs.declared.fault.ResourceFault.{ResourceFault}
+use Rattle.bounded_files.specs.declared.fault.ResourceFault.TheVariants.{File, Memory}
+
+abbrev pub resource_text : ResourceFault → List ℕ
+resource_text File = codes "B3 File"
+resource_text Memory = codes "B4 Memory"

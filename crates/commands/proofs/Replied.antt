@@ -1,0 +1,28 @@
+-- A reply that doesn't begin as a refusal.
+use Rattle.std.proofs.Common.{◌≡◌, ◌∙◌, sym, ap, subst, ℕ, List, ◌++◌, length, take, drop}
+use Rattle.std.proofs.Common.{Bool, true, false, ◌&&◌, ◌||◌}
+use Rattle.std.proofs.lemmas.List.{take-append-drop}
+use Rattle.std.specs.Prelude.{IsTrue, codes, nat_eq}
+use Rattle.std.specs.List.{starts_with, ends_with}
+use Rattle.std.specs.Str.Pattern.{LacksTextAt}
+use Rattle.std.specs.Cmp.Lexicographic.{same_text}
+use Rattle.operator.specs.Replies.{IsReplyTo, is_answer}
+use Rattle.commands.specs.Asked.{IsDoneAs}
+
+lacks_word : (word bytes : List ℕ) (r : Bool) → r ≡ starts_with nat_eq bytes word
+    → LacksTextAt word bytes 0 → r ≡ false
+lacks_word word bytes false is lacks = refl
+lacks_word word bytes true is lacks =
+    let after = drop (length word) bytes in
+    absurd (lacks after (sym (take-append-drop (length word) bytes)
+    ∙ ap (λ (l : List ℕ). l ++ after) (sym (same_text word (take (length word) bytes) is))))
+
+pub done : (words bytes : List ℕ) → LacksTextAt (codes "refused ") bytes 0
+    → IsReplyTo words bytes → IsDoneAs words bytes
+done words bytes lacks reply = record {
+  request = reply.request;
+  asks = reply.asks;
+  answered = subst (λ (r : Bool). IsTrue ((r && ends_with nat_eq bytes (codes "\n"))
+      || is_answer reply.request bytes))
+      (lacks_word (codes "refused ") bytes _ refl lacks) reply.replied;
+}

@@ -1,0 +1,31 @@
+//! Why a command on a manifest is refused.
+
+ghost use Rattle.manifest_tools.specs.Manifests.{fault_text};
+
+use bounded_files::ResourceFault;
+use diagnosis::Refused;
+use replaying::ReplayFault;
+use std::fmt;
+
+/// What is wrong; it is shown as it is printed, but for the lines of a diagnosis.
+#[derive(Debug, Drop)]
+pub enum ManifestToolFault {
+    /// B3 and B4: a file can't be read, or memory that the command wants is refused.
+    Resource(ResourceFault),
+    /// M1 to M8: a manifest comes to no ruleset, and where and why.
+    Diagnosed(Refused),
+    /// B2 to B4, M1 to M8: a script, or a manifest of it, isn't taken.
+    Replay(ReplayFault),
+}
+
+impl fmt::Display for ManifestToolFault {
+    ghost output = { fault_text };
+
+    fn fmt<W: fmt::Write>(&self, f: &mut fmt::Formatter<W>) -> fmt::Result {
+        match self {
+            ManifestToolFault::Resource(fault) => write!(f, "{fault}"),
+            ManifestToolFault::Diagnosed(refused) => write!(f, "{}", refused.fault),
+            ManifestToolFault::Replay(fault) => write!(f, "{fault}"),
+        }
+    }
+}

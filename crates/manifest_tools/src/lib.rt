@@ -1,0 +1,14 @@
+//! The commands on manifests that need no server: `check` and `replay`.
+#![tactic(auto)]
+
+// How each goes. `check` reads the manifest and loads it over no arrays: what it declares is told
+// by lines, or where and why it is refused. `replay` plays a script on a world whose first ruleset
+// is a manifest's, and tells of each event by a line.
+
+mod check;
+mod fault;
+mod playing;
+
+pub use check::check_file;
+pub use fault::ManifestToolFault;
+pub use playing::replay_script;

@@ -1,0 +1,45 @@
+//! `replay`: the events of a script, and what each came to.
+
+ghost use Rattle.std.specs.Prelude.{◌≡◌, IfOk, IfErr};
+ghost use Rattle.std.specs.List.{flat_map};
+ghost use Rattle.std.specs.String.{string_bytes};
+ghost use Rattle.manifest_tools.specs.Manifests.{HasReplayed, IsReplayRefusal, reply_line};
+
+use crate::fault::ManifestToolFault;
+use bounded_files::ResourceFault;
+use replay::Reply;
+use replaying::{Device, replay_files};
+use std::alloc::{AllocError, Global};
+use std::fmt::Write;
+use std::rt::Files;
+
+/// The lines of a script's events, on a world whose first ruleset is the manifest's.
+pub fn replay_script<R: Files + AllocGlobal>(
+    rt: &R,
+    manifest: &str,
+    script: &str,
+) -> Result<String, ManifestToolFault>
+    ensures text { IfOk result
+        (λ text. HasReplayed manifest.now script.now (string_bytes text)) }
+    ensures fault { IfErr result (IsReplayRefusal manifest.now script.now) }
+{
+    let replies = match replay_files(rt.alloc(), &Device::new(rt), manifest, script) {
+        Ok(replies) => replies,
+        Err(fault) => return Err(ManifestToolFault::Replay(fault)),
+    };
+    match lines_of(rt.alloc(), replies.as_slice()) {
+        Ok(text) => Ok(text),
+        Err(_) => Err(ManifestToolFault::Resource(ResourceFault::Memory)),
+    }
+}
+
+// A line a reply.
+fn lines_of(alloc: Global, replies: &[Reply]) -> Result<String, AllocError>
+    ensures { IfOk result (λ text. string_bytes text ≡ flat_map reply_line replies.now) }
+{
+    let mut text = String::new(alloc);
+    for reply in replies {
+        writeln!(text, "{reply}")?;
+    }
+    Ok(text)
+}

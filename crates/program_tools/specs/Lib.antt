@@ -1,0 +1,4 @@
+pub mod Assembly
+pub mod Programs
+pub mod Rules
+pub mod Texts

@@ -1,0 +1,116 @@
+-- Programs of files, under the shape that the words declare: which are accepted, and what their
+-- runs are.
+use Rattle.std.specs.Prelude.{◌≡◌, ◌⊎◌, ℕ, ◌^◌, List, [], length, Option}
+use Rattle.attrs.specs.Attributes.{plain}
+use Rattle.bounded_files.specs.Files.{OfBytes}
+use Rattle.bounded_files.specs.declared.fault.ResourceFault.TheVariants.{Memory}
+use Rattle.bpf_insn.specs.Program.{Program}
+use Rattle.bpf_rules.specs.declared.refusal.Refusal.{Refusal}
+use Rattle.bpf_semantics.specs.Program.{ShapedProgram}
+use Rattle.bpf_semantics.specs.State.{opening}
+use Rattle.bpf_semantics.specs.Run.{Ends}
+use Rattle.bpf_verify.specs.Accepted.{IsRefusal}
+use Rattle.bpf_verify.specs.Covers.{AreLawful}
+use Rattle.cells.specs.Arrays.{AppShape, AreNumbered}
+use Rattle.cells.specs.Events.{AreZeros, IsEvent}
+use Rattle.cells.specs.Grown.{GrewBy}
+use Rattle.cells.specs.declared.array.ArrayNo.{ArrayNo}
+use Rattle.cells.specs.declared.array.CellArray.{CellArray}
+use Rattle.cells.specs.declared.event.CellEvent.{CellEvent}
+use Rattle.cells.specs.declared.fault.CellsFault.TheVariants as cells
+use Rattle.declarations.specs.Order.{AreDeclared, IsRefusedArray}
+use Rattle.flow_check.specs.Flow.{IsAcceptedAs}
+use Rattle.flow_check.specs.Fault.{IsFlowFault}
+use Rattle.program_tools.specs.declared.fault.ProgramToolFault.{ProgramToolFault}
+use Rattle.program_tools.specs.declared.fault.ProgramToolFault.TheVariants.{Arrays, Flow}
+use Rattle.program_tools.specs.declared.fault.ProgramToolFault.TheVariants.{Resource, Rule}
+use Rattle.command_line.specs.declared.request.DeclaredShape.{DeclaredShape}
+use Rattle.load.specs.Program.{IsProgramOf}
+
+-- a file that can't be read or written, or memory that was refused
+abbrev pub IsFileRefusal : ProgramToolFault → Type 0
+IsFileRefusal (Resource fault) = Unit {0}
+IsFileRefusal fault = ⊥
+
+-- the most bytes of a program
+abbrev pub most_program : ℕ
+most_program = 2 ^ 15
+
+-- ---- shapes
+
+-- the shape has the arrays that the words declare, in a directory that begins with none
+pub record IsShapeFor (asked : DeclaredShape) (shape : AppShape) : Type 0 where
+  pub releases : shape.releases ≡ asked.releases
+  pub numbers : List ArrayNo
+  pub directory : List CellArray
+  pub declared : AreDeclared [] asked.arrays.items numbers directory
+  pub arrays : AreNumbered directory numbers shape.arrays
+
+-- an array is refused; of memory no claim is made
+abbrev pub IsShapeRefusal : DeclaredShape → ProgramToolFault → Type 0
+IsShapeRefusal asked (Arrays cells.Memory) = Unit {0}
+IsShapeRefusal asked (Arrays fault) =
+    (number : ℕ) × (before : List CellArray)
+    × IsRefusedArray [] asked.arrays.items number fault before
+IsShapeRefusal asked fault = ⊥
+
+-- ---- programs
+
+-- the program of some bytes, which is accepted under the declared shape
+pub record IsProgramFor (asked : DeclaredShape) (p : ShapedProgram) : Type 0 where
+  pub shape : IsShapeFor asked p.shape
+  pub program : OfBytes most_program (λ bytes. IsProgramOf bytes p)
+
+-- the verifier refuses the program that the bytes are
+abbrev pub HasRefusal : List ℕ → AppShape → Refusal → Type 0
+HasRefusal bytes shape refusal =
+    (p : Program) × IsAcceptedAs bytes p × IsRefusal p shape refusal
+
+-- the graph's fault, or the verifier's refusal
+abbrev pub IsProgramFault : AppShape → ProgramToolFault → List ℕ → Type 0
+IsProgramFault shape (Flow fault) bytes = IsFlowFault bytes fault
+IsProgramFault shape (Rule refusal) bytes = HasRefusal bytes shape refusal
+IsProgramFault shape fault bytes = ⊥
+
+-- why a file is refused: the shape comes first, then the file, then its bytes, by the faults that
+-- they have under a shape
+pub data IsRefusedUnder (asked : DeclaredShape) (most : ℕ)
+    (faults : AppShape → ProgramToolFault → List ℕ → Type 0)
+    (fault : ProgramToolFault) : Type 0 where
+  of_shape : IsShapeRefusal asked fault → IsRefusedUnder asked most faults fault
+  of_file : {s : AppShape} → IsShapeFor asked s → IsFileRefusal fault
+      → IsRefusedUnder asked most faults fault
+  of_bytes : {s : AppShape} → IsShapeFor asked s → OfBytes most (faults s fault)
+      → IsRefusedUnder asked most faults fault
+
+abbrev pub IsProgramRefusal : DeclaredShape → ProgramToolFault → Type 0
+IsProgramRefusal asked fault = IsRefusedUnder asked most_program IsProgramFault fault
+
+-- an accepted program has so many slots
+abbrev pub HasSlots : DeclaredShape → ℕ → Type 0
+HasSlots shape slots =
+    (p : ShapedProgram) × IsProgramFor shape p × (slots ≡ length p.code)
+
+-- ---- runs
+
+-- the program's run for an app with no appid, and this version and bucket, on cells that open at 0;
+-- each of its events is on a cell of the shape's arrays, and on one of an array with a quota it is
+-- a load or an add of 1
+pub record RunsTo (p : ShapedProgram) (version : Option (List ℕ))
+    (bucket choice count : ℕ) : Type 0 where
+  pub values : List ℕ
+  pub opens : AreZeros 8192 values
+  pub events : List CellEvent
+  pub values_after : List ℕ
+  pub grew : GrewBy IsEvent values events values_after
+  pub ends : Ends p (opening (plain [] version bucket)) events choice count
+  pub lawful : AreLawful p.shape events
+
+-- an accepted program comes to this choice after so many instructions
+abbrev pub HasChosen : DeclaredShape → Option (List ℕ) → (bucket choice count : ℕ) → Type 0
+HasChosen shape version bucket choice count =
+    (p : ShapedProgram) × IsProgramFor shape p × RunsTo p version bucket choice count
+
+-- it isn't accepted, or memory for the run is refused
+abbrev pub IsRunRefusal : DeclaredShape → ProgramToolFault → Type 0
+IsRunRefusal asked fault = (fault ≡ Resource Memory) ⊎ IsProgramRefusal asked fault

@@ -1,0 +1,48 @@
+-- Programs of rules, under the shape that the words declare.
+use Rattle.std.specs.Prelude.{◌≡◌, ◌<◌, ◌≤◌, ℕ, List, length}
+use Rattle.std.specs.Str.{IsUtf8}
+use Rattle.bounded_files.specs.Files.{OfBytes}
+use Rattle.bounded_files.specs.declared.fault.ResourceFault.TheVariants.{File}
+use Rattle.bpf_semantics.specs.Program.{ShapedProgram}
+use Rattle.cells.specs.Arrays.{AppShape}
+use Rattle.flow_check.specs.Flow.{IsFlow}
+use Rattle.rule_lang.specs.declared.rule.Statement.{Statement}
+use Rattle.rule_lang.specs.declared.fault.RuleFault.TheVariants as rule
+use Rattle.rule_lang.specs.Cost.{cost}
+use Rattle.rule_compile.specs.declared.fault.CompileFault.TheVariants as compile
+use Rattle.load.specs.Rule.{IsProgramOfRule, IsRuleTextFault, IsTextOf}
+use Rattle.command_line.specs.declared.request.DeclaredShape.{DeclaredShape}
+use Rattle.program_tools.specs.declared.fault.ProgramToolFault.{ProgramToolFault}
+use Rattle.program_tools.specs.declared.fault.ProgramToolFault.TheVariants.{Resource, RuleText}
+use Rattle.program_tools.specs.declared.fault.ProgramToolFault.TheVariants.{Compile}
+use Rattle.program_tools.specs.Assembly.{most_text}
+use Rattle.program_tools.specs.Programs.{IsShapeFor, IsRefusedUnder}
+
+-- the program is accepted under the shape, and means what the rule does that the bytes spell
+pub record IsRuleProgram (shape : AppShape) (p : ShapedProgram) (bytes : List ℕ) : Type 0 where
+  pub short : length bytes ≤ most_text
+  pub shape_is : p.shape ≡ shape
+  pub flow : IsFlow p.code
+  pub program : IsProgramOfRule bytes p
+
+-- such a program has so many slots
+pub record HasCompiled (asked : DeclaredShape) (slots : ℕ) : Type 0 where
+  pub shape : AppShape
+  pub shape_is : IsShapeFor asked shape
+  pub p : ShapedProgram
+  pub program : OfBytes most_text (IsRuleProgram shape p)
+  pub slots_are : slots ≡ length p.code
+
+-- a rule whose program would be too long has a cost over 4096; of memory no claim is made
+abbrev pub IsCompileFault : AppShape → ProgramToolFault → List ℕ → Type 0
+IsCompileFault shape (RuleText (rule.At line kind)) bytes =
+    (length bytes ≤ most_text) × IsRuleTextFault bytes shape line kind
+IsCompileFault shape (RuleText rule.Memory) bytes = (length bytes ≤ most_text) × IsUtf8 bytes
+IsCompileFault shape (Compile compile.TooLong) bytes =
+    (r : List Statement) × (length bytes ≤ most_text) × IsTextOf bytes shape r × (4096 < cost r)
+IsCompileFault shape (Compile compile.Memory) bytes = Unit {0}
+IsCompileFault shape (Resource File) bytes = most_text < length bytes
+IsCompileFault shape fault bytes = ⊥
+
+abbrev pub IsRuleRefusal : DeclaredShape → ProgramToolFault → Type 0
+IsRuleRefusal asked fault = IsRefusedUnder asked most_text IsCompileFault fault

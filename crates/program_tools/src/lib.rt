@@ -1,0 +1,24 @@
+//! The commands on single programs: `asm`, `list`, `compile`, `verify` and `run`.
+#![tactic(auto)]
+
+// How each goes. The shape is made that the words declare, where the command has one. Then the file
+// is read, and its bytes are taken as a text, as a rule or as a program; a program is verified, and
+// may be run. What is made of it is written last, and only where all of it stands.
+
+mod asm;
+mod compile;
+mod fault;
+mod list;
+mod program;
+mod run;
+mod verify;
+
+pub use asm::assemble_file;
+pub use compile::compile_file;
+pub use fault::ProgramToolFault;
+pub use list::list_file;
+pub use run::run_file;
+pub use verify::verify_file;
+
+/// The most bytes of a text, or to be listed: 16 MiB.
+const MOST_TEXT: u32 = 0x100_0000;

@@ -1,0 +1,66 @@
+//! From a file and a declared shape to an accepted program.
+
+ghost use Rattle.std.specs.Prelude.{◌≡◌, IfOk, IfErr};
+ghost use Rattle.flow_check.specs.Flow.{program_bytes};
+ghost use Rattle.program_tools.specs.Programs.{IsProgramFault, IsProgramFor, IsProgramRefusal};
+ghost use Rattle.program_tools.specs.Programs.{IsShapeFor, IsShapeRefusal};
+
+use crate::fault::ProgramToolFault;
+use bounded_files::read_file;
+use bpf_verify::{Verified, verify};
+use cells::{Directory, Shape};
+use command_line::DeclaredShape;
+use declarations::declare_all;
+use flow_check::Flow;
+use std::alloc::Global;
+use std::rt::Files;
+
+/// The most bytes that a program can have.
+const MOST_PROGRAM: u32 = 32768;
+
+/// The program of a file, once it is accepted under the shape that the words declare. Refused is
+/// the shape before the file is read.
+pub fn program_of_file<R: Files + AllocGlobal>(
+    rt: &R,
+    path: &str,
+    shape: &DeclaredShape,
+) -> Result<Verified, ProgramToolFault>
+    ensures program { IfOk result (IsProgramFor shape.now) }
+    ensures fault { IfErr result (IsProgramRefusal shape.now) }
+{
+    let shape = declared_shape(rt.alloc(), shape)?;
+    let bytes = match read_file(rt, path, MOST_PROGRAM) {
+        Ok(bytes) => bytes,
+        Err(fault) => return Err(ProgramToolFault::Resource(fault)),
+    };
+    match verified(rt.alloc(), bytes.as_slice(), &shape) {
+        Ok(program) => {
+            program.keeps();
+            Ok(program)
+        }
+        Err(fault) => Err(fault),
+    }
+}
+
+/// The shape that the words declare, with arrays of a directory of its own.
+pub fn declared_shape(alloc: Global, shape: &DeclaredShape) -> Result<Shape, ProgramToolFault>
+    ensures shape { IfOk result (IsShapeFor shape.now) }
+    ensures fault { IfErr result (IsShapeRefusal shape.now) }
+{
+    let mut directory = Directory::new(alloc);
+    let numbers = match declare_all(alloc, &mut directory, &shape.arrays) {
+        Ok(numbers) => numbers,
+        Err(refused) => return Err(ProgramToolFault::Arrays(refused.fault)),
+    };
+    Shape::of(alloc, shape.releases, &directory, &numbers).map_err(ProgramToolFault::Arrays)
+}
+
+// The program that the bytes are, once it is accepted under the shape.
+fn verified(alloc: Global, bytes: &[u8], shape: &Shape) -> Result<Verified, ProgramToolFault>
+    ensures bytes { IfOk result (λ v. program_bytes v.code ≡ bytes.now) }
+    ensures shape { IfOk result (λ v. v.shape ≡ shape.now) }
+    ensures fault { IfErr result (λ e. IsProgramFault shape.now e bytes.now) }
+{
+    let flow = Flow::check(alloc, bytes).map_err(ProgramToolFault::Flow)?;
+    verify(alloc, flow, shape).map_err(ProgramToolFault::Rule)
+}

@@ -1,0 +1,71 @@
+//! `run`: the run of a file's program for one app.
+
+ghost use Rattle.std.specs.Prelude.{◌≡◌, ◌≤◌, length, IfOk, IfErr, option_copied};
+ghost use Rattle.program_tools.specs.Programs.{HasChosen, IsRunRefusal, RunsTo};
+
+use crate::fault::ProgramToolFault;
+use crate::program::program_of_file;
+use attrs::{Attrs, Bucket};
+use bounded_files::ResourceFault;
+use bpf_machine::Run;
+use bpf_verify::Verified;
+use cells::{PlainCells, events_fit};
+use command_line::DeclaredShape;
+use std::alloc::{AllocError, Global};
+use std::rt::Files;
+use std::sync::Arc;
+
+/// The choice of a file's program, once it is accepted, and the number of its instructions.
+pub fn run_file<R: Files + AllocGlobal>(
+    rt: &R,
+    path: &str,
+    shape: &DeclaredShape,
+    version: Option<&str>,
+    bucket: Bucket,
+) -> Result<(u8, u32), ProgramToolFault>
+    ensures run { IfOk result (λ c.
+        HasChosen shape.now (option_copied version.entry) bucket c.0 c.1) }
+    ensures fault { IfErr result (IsRunRefusal shape.now) }
+{
+    let program = match program_of_file(rt, path, shape) {
+        Ok(program) => program,
+        Err(fault) => return Err(fault),
+    };
+    match choose(rt.alloc(), program, version, bucket) {
+        Ok(run) => Ok(run),
+        Err(_) => Err(ProgramToolFault::Resource(ResourceFault::Memory)),
+    }
+}
+
+// The program's run for an app with no appid, and this version and bucket, on cells of its own
+// that open at 0: its choice and the number of its instructions.
+fn choose(
+    alloc: Global,
+    program: Verified,
+    version: Option<&str>,
+    bucket: Bucket,
+) -> Result<(u8, u32), AllocError>
+    ensures run { IfOk result (λ c.
+        RunsTo program (option_copied version.entry) bucket c.0 c.1) }
+    ensures release { IfOk result (λ c. c.0 ≤ program.shape.releases) }
+    ensures ends { IfOk result (λ c. c.1 ≤ length program.code) }
+{
+    let Ok(attrs) = Attrs::plain(alloc, "", version, bucket.number()) else {
+        return Err(AllocError);
+    };
+    let Ok(attrs) = Arc::new(alloc, attrs) else {
+        return Err(AllocError);
+    };
+    let Ok((cells, mut pass)) = PlainCells::new(alloc) else {
+        return Err(AllocError);
+    };
+    let facts: &Attrs = &attrs;
+    facts.keeps();
+    program.keeps();
+    pass.keeps();
+    events_fit();
+    let Ok(program) = Arc::new(alloc, program) else {
+        return Err(AllocError);
+    };
+    Ok(Run::start(program, attrs).run(&cells, &mut pass))
+}
