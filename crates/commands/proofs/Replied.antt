@@ -1,5 +1,5 @@
 -- A reply that doesn't begin as a refusal.
-use Rattle.std.proofs.Common.{◌≡◌, ◌∙◌, sym, ap, subst, ℕ, List, ◌++◌, length, take, drop}
+use Rattle.std.proofs.Common.{◌≡◌, ◌∙◌, refl, sym, ap, subst, ℕ, List, ◌++◌, length, take, drop}
 use Rattle.std.proofs.Common.{Bool, true, false, ◌&&◌, ◌||◌}
 use Rattle.std.proofs.lemmas.List.{take-append-drop}
 use Rattle.std.specs.Prelude.{IsTrue, codes, nat_eq}
@@ -24,5 +24,6 @@ done words bytes lacks reply = record {
   asks = reply.asks;
   answered = subst (λ (r : Bool). IsTrue ((r && ends_with nat_eq bytes (codes "\n"))
       || is_answer reply.request bytes))
-      (lacks_word (codes "refused ") bytes _ refl lacks) reply.replied;
+      (lacks_word (codes "refused ") bytes (starts_with nat_eq bytes (codes "refused "))
+      refl lacks) reply.replied;
 }
