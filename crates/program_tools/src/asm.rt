@@ -5,8 +5,8 @@ ghost use Rattle.bounded_files.specs.Files.{OfBytes};
 ghost use Rattle.program_tools.specs.Assembly.{IsAssembled, IsAssemblyRefusal, most_text};
 ghost use Rattle.program_tools.specs.Programs.{IsFileRefusal};
 
-use crate::fault::ProgramToolFault;
 use crate::MOST_TEXT;
+use crate::fault::ProgramToolFault;
 use bounded_files::{ResourceFault, read_file, write_file};
 use bpf_text::{AsmFault, AsmFaultKind, assemble};
 use std::alloc::Global;

@@ -4,8 +4,8 @@ ghost use Rattle.std.specs.Prelude.{IfOk, IfErr};
 ghost use Rattle.program_tools.specs.Rules.{HasCompiled, IsCompileFault, IsRuleProgram};
 ghost use Rattle.program_tools.specs.Rules.{IsRuleRefusal};
 
-use crate::fault::ProgramToolFault;
 use crate::MOST_TEXT;
+use crate::fault::ProgramToolFault;
 use crate::program::declared_shape;
 use bounded_files::{ResourceFault, read_file, write_file};
 use bpf_verify::Verified;

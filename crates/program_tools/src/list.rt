@@ -6,8 +6,8 @@ ghost use Rattle.bounded_files.specs.Files.{OfBytes};
 ghost use Rattle.program_tools.specs.Assembly.{IsListed, IsListingRefusal, most_text};
 ghost use Rattle.program_tools.specs.Programs.{IsFileRefusal};
 
-use crate::fault::ProgramToolFault;
 use crate::MOST_TEXT;
+use crate::fault::ProgramToolFault;
 use bounded_files::{ResourceFault, read_file};
 use bpf_text::{ListFault, listing};
 use std::alloc::Global;
