@@ -1,10 +1,9 @@
 //! Lengths and depths that a text may have, on both sides of their bounds: a literal of 64 bytes, a
 //! name of 32, and 32 openers, of which `not` and parentheses count together.
 
-use crate::given::{chain, chain_of, shape};
-use crate::told::told_as_read;
-use std::alloc::Global;
-use std::process::Abort;
+use crate::given::{chain_of, halves, repeated};
+use crate::told::must_tell;
+use std::alloc::{AllocError, Global};
 use std::test::Fail;
 
 /// What is told, how often the link stands in the text, and its front, its link and its back.
@@ -17,17 +16,16 @@ L2 Shape at line 1 | 33 | count |a|[0];otherwise none;
 L4 Range at line 1 | 21 | when bucket(|9|) < 1 offer 1;otherwise none;
 "#;
 
-fn told_of(alloc: Global, row: &str) -> Result<String, Fail> {
-    let text = chain_of(alloc, row)?;
-    told_as_read(alloc, text.as_str(), &shape(alloc, 1)?)
+fn is_told(alloc: Global, row: &str) -> Result<(), Fail> {
+    let (want, rest) = halves(row, " | ")?;
+    let text = chain_of(alloc, rest)?;
+    must_tell(alloc, text.as_str(), 1, want)
 }
 
 #[test]
 fn lengths(rt: HostRuntime) -> Result<(), Fail> {
     for row in LENGTHS.lines().skip(1) {
-        let (want, rest) = row.split_once(" | ").ok_or("a row of another form")?;
-        let found = told_of(rt.alloc(), rest)?;
-        assert!(rt; found.as_str() == want, "{row}: {found}");
+        is_told(rt.alloc(), row)?;
     }
     Ok(())
 }
@@ -35,65 +33,59 @@ fn lengths(rt: HostRuntime) -> Result<(), Fail> {
 // What opens, what closes it, how many openers one is, and how many of it are lawful.
 const OPENERS: [(&str, &str, usize); 3] = [("not ", "", 32), ("(", ")", 32), ("not (", ")", 16)];
 
+// What stands behind the openers, and what is told.
+const LAST: [(&str, &str); 3] = [
+    ("flag ping ", "1"),
+    ("\nnot flag ping ", "L4 Range at line 2"),
+    ("\n(flag ping) ", "L4 Range at line 2"),
+];
+
+const END: &str = "and (not flag event) offer 1;otherwise none;";
+
+/// Openers, each so often, what stands behind them, closers, and the end.
 fn nested(
     alloc: Global,
-    opens: &str,
-    closes: &str,
-    times: usize,
+    openers: (&str, usize),
     last: &str,
-) -> Result<String, Fail> {
-    let inner = chain(alloc, "when ", opens, times, last)?;
-    chain(
-        alloc,
-        inner.as_str(),
-        closes,
-        times,
-        "and (not flag event) offer 1;otherwise none;",
-    )
-}
-
-fn is_told(rt: &impl Abort, alloc: Global, text: &str, want: &str) -> Result<(), Fail> {
-    let shape = shape(alloc, 1)?;
-    let got = told_as_read(alloc, text, &shape)?;
-    assert_eq!(rt; got.as_str(), want, "of {text}");
-    Ok(())
+    closers: (&str, usize),
+    end: &str,
+) -> Result<String, AllocError> {
+    let opens = repeated(alloc, openers.1, openers.0)?;
+    let closes = repeated(alloc, closers.1, closers.0)?;
+    format!(in alloc; "when {opens}{last}{closes}{end}")
 }
 
 #[test]
 fn depths(rt: HostRuntime) -> Result<(), Fail> {
     for (opens, closes, most) in OPENERS {
-        let text = nested(rt.alloc(), opens, closes, most, "flag ping ")?;
-        is_told(&rt, rt.alloc(), text.as_str(), "1")?;
-        for deeper in ["\nnot flag ping ", "\n(flag ping) "] {
-            let text = nested(rt.alloc(), opens, closes, most, deeper)?;
-            is_told(&rt, rt.alloc(), text.as_str(), "L4 Range at line 2")?;
+        for (last, want) in LAST {
+            let text = nested(rt.alloc(), (opens, most), last, (closes, most), END)?;
+            must_tell(rt.alloc(), text.as_str(), 1, want)?;
         }
     }
     Ok(())
 }
 
-// An L2 comes before the 33rd opener, wherever it stands.
+/// An L2 comes before the 33rd opener, wherever it stands: how many of 33 are closed, the end, and
+/// what is told.
+const MISPLACED: [(usize, &str, &str); 3] = [
+    (0, "", "L2 Shape at line 2"),
+    (33, " offer 1;otherwise none;", "L4 Range at line 1"),
+    (33, " offer 1;otherwise none;\n;", "L2 Shape at line 3"),
+];
+
 #[test]
 fn deep_and_misplaced(rt: HostRuntime) -> Result<(), Fail> {
-    let open = chain(rt.alloc(), "when ", "(", 33, "\nflag ping")?;
-    is_told(&rt, rt.alloc(), open.as_str(), "L2 Shape at line 2")?;
-    let whole = chain(
-        rt.alloc(),
-        open.as_str(),
-        ")",
-        33,
-        " offer 1;otherwise none;",
-    )?;
-    is_told(&rt, rt.alloc(), whole.as_str(), "L4 Range at line 1")?;
-    let more = chain(rt.alloc(), whole.as_str(), "\n;", 1, "")?;
-    is_told(&rt, rt.alloc(), more.as_str(), "L2 Shape at line 3")
+    for (closed, end, want) in MISPLACED {
+        let text = nested(rt.alloc(), ("(", 33), "\nflag ping", (")", closed), end)?;
+        must_tell(rt.alloc(), text.as_str(), 1, want)?;
+    }
+    Ok(())
 }
 
 #[test]
 fn releases(rt: HostRuntime) -> Result<(), Fail> {
-    let two = shape(rt.alloc(), 2)?;
     let text = "when flag ping offer 2; otherwise none;";
-    let got = told_as_read(rt.alloc(), text, &two)?;
-    assert_eq!(rt; got.as_str(), "1");
-    is_told(&rt, rt.alloc(), text, "L4 Range at line 1")
+    must_tell(rt.alloc(), text, 2, "1")?;
+    must_tell(rt.alloc(), text, 1, "L4 Range at line 1")
 }

@@ -1,7 +1,7 @@
 //! Rules on both sides of 4096 slots and of a cost of 4096, and the longest chains that a text has
 //! room for.
 
-use crate::given::{chain, chain_of, shape};
+use crate::given::{chain_of, halves, must};
 use crate::told::told;
 use std::alloc::Global;
 use std::test::Fail;
@@ -27,45 +27,42 @@ C1 TooLong | 5956 | |count c[0];|otherwise none;
 C1 TooLong | 3276 | |when today<1offer 1;|otherwise none;
 "#;
 
-/// The longest of the tests.
+/// 85 tests and one statement cost 4096; one statement more, or one test more, costs more and is
+/// still compiled, since its code is short. The test, for which `@` stands, is the longest.
+const COSTS: &str = r#"
+1876 slots | 84 | when @|and @|offer 1;otherwise none;
+1880 slots | 84 | when @|and @|offer 1;count c[0];otherwise none;
+1898 slots | 85 | when @|and @|offer 1;otherwise none;
+"#;
+
 const TEST: &str =
     r#"attr ap is "aaaaaaaaaaaaaaaaaaaaaaaaaaaaaaaaaaaaaaaaaaaaaaaaaaaaaaaaaaaaaaaa" "#;
 
-fn told_of(alloc: Global, row: &str) -> Result<String, Fail> {
-    let text = chain_of(alloc, row)?;
-    told(alloc, text.as_str(), &shape(alloc, 1)?)
+/// The text of a row's end.
+fn text_of(alloc: Global, row: &str) -> Result<String, Fail> {
+    let row = row.replace(alloc, "@", TEST)?;
+    chain_of(alloc, row.as_str())
+}
+
+fn is_told(alloc: Global, row: &str) -> Result<(), Fail> {
+    let (want, rest) = halves(row, " | ")?;
+    let text = text_of(alloc, rest)?;
+    let found = told(alloc, text.as_str())?;
+    must(row, found.as_str(), found.as_str() == want)
 }
 
 #[test]
 fn chains(rt: HostRuntime) -> Result<(), Fail> {
     for row in ROWS.lines().skip(1) {
-        let (want, rest) = row.split_once(" | ").ok_or("a row of another form")?;
-        let found = told_of(rt.alloc(), rest)?;
-        assert!(rt; found.as_str() == want, "{row}: {found}");
+        is_told(rt.alloc(), row)?;
     }
     Ok(())
 }
 
-/// The rule that asks the longest test so often, and then counts or doesn't.
-fn told_of_tests(alloc: Global, times: usize, counts: &str) -> Result<String, Fail> {
-    let front = format!(in alloc; "when {TEST}")?;
-    let link = format!(in alloc; "and {TEST}")?;
-    let back = format!(in alloc; "offer 1;{counts}otherwise none;")?;
-    let text = chain(alloc, front.as_str(), link.as_str(), times, back.as_str())?;
-    told(alloc, text.as_str(), &shape(alloc, 1)?)
-}
-
-/// 85 tests and one statement cost 4096; one statement more, or one test more, costs more and is
-/// still compiled, since its code is short.
 #[test]
 fn costs(rt: HostRuntime) -> Result<(), Fail> {
-    for (times, counts, want) in [
-        (84, "", "1876 slots"),
-        (84, "count c[0];", "1880 slots"),
-        (85, "", "1898 slots"),
-    ] {
-        let found = told_of_tests(rt.alloc(), times, counts)?;
-        assert!(rt; found.as_str() == want, "{times}, {counts}: {found}");
+    for row in COSTS.lines().skip(1) {
+        is_told(rt.alloc(), row)?;
     }
     Ok(())
 }

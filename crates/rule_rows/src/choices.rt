@@ -1,10 +1,10 @@
 //! Each test of the language at its boundaries, for one app and for one of which nothing is known:
 //! a rule that asks the test, and one that asks its opposite.
 
-use crate::given::{app, bare_app, shape};
+use crate::given::{app, bare_app, halves, must};
 use crate::told::chosen;
-use attrs::Attrs;
-use std::alloc::Global;
+use attrs::{AttrFault, Attrs};
+use std::alloc::{AllocError, Global};
 use std::test::Fail;
 
 /// Whether the condition holds of the app of version 1.2.3.4, and the condition.
@@ -122,48 +122,57 @@ const BARE_APP: &str = r#"
 0 | attr brand is "a"
 "#;
 
-fn chosen_of(alloc: Global, text: &str, attrs: Attrs) -> Result<u8, Fail> {
-    chosen(alloc, text, &shape(alloc, 1)?, attrs)
+/// The rule that asks a condition, or its opposite.
+fn rule_of(alloc: Global, condition: &str, is_opposite: bool) -> Result<String, AllocError> {
+    if is_opposite {
+        format!(in alloc; "when not ({condition}) offer 1; otherwise none;")
+    } else {
+        format!(in alloc; "when {condition} offer 1; otherwise none;")
+    }
 }
 
-/// The choice of the rule that asks the condition, and of that which asks its opposite.
-fn both_senses(
+fn attrs_of(alloc: Global, is_bare: bool) -> Result<Attrs, AttrFault> {
+    if is_bare {
+        bare_app(alloc, 0)
+    } else {
+        app(alloc)
+    }
+}
+
+/// Whether the rule chooses the release.
+fn is_chosen(
     alloc: Global,
     condition: &str,
-    attrs: Attrs,
-    again: Attrs,
-) -> Result<(u8, u8), Fail> {
-    let met = format!(in alloc; "when {condition} offer 1; otherwise none;")?;
-    let unmet = format!(in alloc; "when not ({condition}) offer 1; otherwise none;")?;
-    Ok((
-        chosen_of(alloc, met.as_str(), attrs)?,
-        chosen_of(alloc, unmet.as_str(), again)?,
-    ))
+    is_opposite: bool,
+    is_bare: bool,
+) -> Result<bool, Fail> {
+    let text = rule_of(alloc, condition, is_opposite)?;
+    Ok(chosen(alloc, text.as_str(), attrs_of(alloc, is_bare)?)? == 1)
 }
 
-fn choices_of(row: &str) -> Result<((u8, u8), &str), Fail> {
-    let (want, condition) = row.split_once(" | ").ok_or("a row of another form")?;
-    Ok((if want == "1" { (1, 0) } else { (0, 1) }, condition))
+fn is_told(alloc: Global, row: &str, is_bare: bool) -> Result<(), Fail> {
+    let (want, condition) = halves(row, " | ")?;
+    let is_met = is_chosen(alloc, condition, false, is_bare)?;
+    let is_unmet = is_chosen(alloc, condition, true, is_bare)?;
+    must(
+        row,
+        "another choice",
+        is_met != is_unmet && is_met == (want == "1"),
+    )
 }
 
 #[test]
 fn of_an_app(rt: HostRuntime) -> Result<(), Fail> {
-    let alloc = rt.alloc();
     for row in APP.lines().skip(1) {
-        let (want, condition) = choices_of(row)?;
-        let found = both_senses(alloc, condition, app(alloc)?, app(alloc)?)?;
-        assert!(rt; found == want, "{row}");
+        is_told(rt.alloc(), row, false)?;
     }
     Ok(())
 }
 
 #[test]
 fn of_a_bare_app(rt: HostRuntime) -> Result<(), Fail> {
-    let alloc = rt.alloc();
     for row in BARE_APP.lines().skip(1) {
-        let (want, condition) = choices_of(row)?;
-        let found = both_senses(alloc, condition, bare_app(alloc, 0)?, bare_app(alloc, 0)?)?;
-        assert!(rt; found == want, "{row}");
+        is_told(rt.alloc(), row, true)?;
     }
     Ok(())
 }

@@ -1,80 +1,67 @@
 //! The longest texts of each kind of chain: they are read and let go by loops.
 
-use crate::given::shape;
-use crate::told::told_as_read;
-use std::alloc::Global;
+use crate::given::{chain, halves, must};
+use crate::told::must_tell;
+use std::alloc::{AllocError, Global};
 use std::test::Fail;
 
 const MOST_BYTES: usize = 65536;
 
-fn has_room(text: &str, link: &str, back: &str) -> bool {
-    text.len()
-        .saturating_add(link.len())
-        .saturating_add(back.len())
-        <= MOST_BYTES
+fn fill(text: &mut String) -> Result<(), AllocError> {
+    for _ in text.len()..MOST_BYTES {
+        text.push(' ')?;
+    }
+    Ok(())
 }
 
-// As many links between the two ends as a text has room for, and then blanks up to its full length.
-fn filled(alloc: Global, front: &str, link: &str, back: &str) -> Result<String, Fail> {
-    let mut text = String::from_str(alloc, front)?;
-    for _ in 0..MOST_BYTES {
-        if has_room(text.as_str(), link, back) {
-            text.push_str(link)?;
-        }
-    }
-    text.push_str(back)?;
-    for _ in text.len()..MOST_BYTES {
-        text.push_str(" ")?;
-    }
+/// As many links between the two ends as a text has room for, and then blanks up to its full
+/// length.
+fn filled(alloc: Global, front: &str, link: &str, back: &str) -> Result<String, AllocError> {
+    let room = MOST_BYTES
+        .saturating_sub(front.len())
+        .saturating_sub(back.len());
+    let times = room.checked_div(link.len()).unwrap_or(0);
+    let mut text = chain(alloc, front, link, times, back)?;
+    fill(&mut text)?;
     Ok(text)
 }
 
-// The ends and the link, and what is told.
-const CHAINS: [(&str, &str, &str, &str); 7] = [
-    (
-        "when today<1",
-        "and today<1",
-        " offer 1;otherwise none;",
-        "1",
-    ),
-    (
-        "when today<1",
-        "or today<1",
-        " offer 1;otherwise none;",
-        "1",
-    ),
-    (
-        "when today<1",
-        "and today<1or not(today<1)",
-        " offer 1;otherwise none;",
-        "1",
-    ),
-    ("", "count c[0];", "otherwise none;", "5956"),
-    ("", "when today<1offer 1;", "otherwise none;", "3276"),
-    ("when ", "(", "", "L2 Shape at line 1"),
-    ("when ", "not ", "", "L2 Shape at line 1"),
-];
+/// The ends with the link between them, and what is told.
+const CHAINS: &str = r#"
+when today<1|and today<1| offer 1;otherwise none; => 1
+when today<1|or today<1| offer 1;otherwise none; => 1
+when today<1|and today<1or not(today<1)| offer 1;otherwise none; => 1
+|count c[0];|otherwise none; => 5956
+|when today<1offer 1;|otherwise none; => 3276
+when |(| => L2 Shape at line 1
+when |not | => L2 Shape at line 1
+"#;
 
-/// What is told of the longest text, and of it with one byte more.
-fn both_told(alloc: Global, front: &str, link: &str, back: &str) -> Result<String, Fail> {
+fn links_of(row: &str) -> Option<(&str, &str, &str)> {
+    let (front, rest) = row.split_once('|')?;
+    let (link, back) = rest.split_once('|')?;
+    Some((front, link, back))
+}
+
+/// What is told of the longest text, and that it is too long with one byte more.
+fn must_tell_both(alloc: Global, text: &mut String, want: &str) -> Result<(), Fail> {
+    must(want, "another length", text.len() == MOST_BYTES)?;
+    must_tell(alloc, text.as_str(), 1, want)?;
+    text.push('@')?;
+    must_tell(alloc, text.as_str(), 1, "L4 Range at line 1")
+}
+
+fn is_told(alloc: Global, row: &str) -> Result<(), Fail> {
+    let (links, want) = halves(row, " => ")?;
+    let (front, link, back) = links_of(links).ok_or("a row of another form")?;
     let mut text = filled(alloc, front, link, back)?;
-    if text.len() != MOST_BYTES {
-        return Err(Fail::from("another length"));
-    }
-    let shape = shape(alloc, 1)?;
-    let mut told = told_as_read(alloc, text.as_str(), &shape)?;
-    text.push_str("@")?;
-    told.push_str("; ")?;
-    told.push_str(told_as_read(alloc, text.as_str(), &shape)?.as_str())?;
-    Ok(told)
+    must_tell_both(alloc, &mut text, want)
 }
 
 #[test]
 fn longest(rt: HostRuntime) -> Result<(), Fail> {
-    for (front, link, back, want) in CHAINS {
-        let found = both_told(rt.alloc(), front, link, back)?;
-        let found = found.as_str().strip_suffix("; L4 Range at line 1");
-        assert!(rt; found == Some(want), "of {link}");
+    for row in CHAINS.lines().skip(1) {
+        is_told(rt.alloc(), row)?;
     }
     Ok(())
 }

@@ -1,6 +1,6 @@
 //! How many slots the code of each test takes in each sense, and that no jump leads to a jump.
 
-use crate::given::shape;
+use crate::given::{halves, must};
 use crate::told::program;
 use bpf_insn::Insn;
 use bpf_verify::Verified;
@@ -32,46 +32,59 @@ const ROWS: &str = r#"
 19 19 | version < 2 and (flag ping or not flag event) and bucket >= 7 or today < 1
 "#;
 
-fn is_jump(insn: Insn) -> bool {
-    matches!(insn, Insn::Jump { .. } | Insn::JumpIf { .. })
+fn is_jump(insn: Option<Insn>) -> bool {
+    matches!(insn, Some(Insn::Jump { .. } | Insn::JumpIf { .. }))
 }
 
 /// Whether the jump at a slot, if one is there, leads to a jump.
 fn leads_to_jump(program: &Verified, slot: usize) -> bool {
     match program.at(slot) {
         Some(insn) if slot < 4096 => match jump_target(slot, insn) {
-            Some(target) => program.at(target).is_some_and(|insn| is_jump(insn)),
+            Some(target) => is_jump(program.at(target)),
             None => false,
         },
         _ => false,
     }
 }
 
+/// How many slots a program has; 0 where a jump leads to a jump.
+fn length_of(program: &Verified) -> usize {
+    for slot in 0..program.len() {
+        if leads_to_jump(program, slot) {
+            return 0;
+        }
+    }
+    program.len()
+}
+
+fn length_of_text(alloc: Global, text: &str) -> Result<usize, Fail> {
+    let program = program(alloc, text)?;
+    Ok(length_of(&program))
+}
+
 /// The slots of the condition alone.
 fn slots_of(alloc: Global, condition: &str) -> Result<usize, Fail> {
     let text = format!(in alloc; "when {condition} offer 1; otherwise none;")?;
-    let program = program(alloc, text.as_str(), &shape(alloc, 1)?)?;
-    for slot in 0..program.len() {
-        if leads_to_jump(&program, slot) {
-            return Err(Fail::from("a jump to a jump"));
-        }
-    }
-    Ok(program.len().saturating_sub(6))
+    Ok(length_of_text(alloc, text.as_str())?.saturating_sub(6))
 }
 
-fn sizes(alloc: Global, condition: &str) -> Result<String, Fail> {
+fn slots_of_opposite(alloc: Global, condition: &str) -> Result<usize, Fail> {
     let opposite = format!(in alloc; "not ({condition})")?;
+    slots_of(alloc, opposite.as_str())
+}
+
+fn is_told(alloc: Global, row: &str) -> Result<(), Fail> {
+    let (want, condition) = halves(row, " | ")?;
     let met = slots_of(alloc, condition)?;
-    let unmet = slots_of(alloc, opposite.as_str())?;
-    Ok(format!(in alloc; "{met} {unmet}")?)
+    let unmet = slots_of_opposite(alloc, condition)?;
+    let found = format!(in alloc; "{met} {unmet}")?;
+    must(row, found.as_str(), found.as_str() == want)
 }
 
 #[test]
 fn slots(rt: HostRuntime) -> Result<(), Fail> {
     for row in ROWS.lines().skip(1) {
-        let (want, condition) = row.split_once(" | ").ok_or("a row of another form")?;
-        let found = sizes(rt.alloc(), condition)?;
-        assert!(rt; found.as_str() == want, "{row}: {found}");
+        is_told(rt.alloc(), row)?;
     }
     Ok(())
 }

@@ -1,13 +1,14 @@
 //! What is told of a rule's text: once it is read, once it is compiled, and once its program is
 //! run. The calls have no clauses here, so that no proof reads the bytes of a test.
 
+use crate::given::{must, shape};
 use attrs::Attrs;
 use bpf_machine::Run;
 use bpf_verify::Verified;
 use cells::{PlainCells, PlainPass, Shape};
 use rule_compile::{CompileFault, compile};
 use rule_lang::{Rule, RuleFault, parse};
-use std::alloc::Global;
+use std::alloc::{AllocError, Global};
 use std::sync::Arc;
 use std::test::Fail;
 
@@ -15,17 +16,37 @@ fn read(alloc: Global, text: &str, shape: &Shape) -> Result<Rule, RuleFault> {
     parse(alloc, text, shape)
 }
 
-fn fits(rule: &Rule, shape: &Shape) -> bool {
-    rule.fits(shape)
+/// The number of a rule's statements; none where the rule doesn't fit its shape.
+fn statements_of(alloc: Global, text: &str, shape: &Shape) -> Result<Option<usize>, RuleFault> {
+    let rule = read(alloc, text, shape)?;
+    Ok(if rule.fits(shape) {
+        Some(rule.statements().len())
+    } else {
+        None
+    })
 }
 
-/// What is told of a text that is read: the number of its rule's statements, or the fault.
-pub(crate) fn told_as_read(alloc: Global, text: &str, shape: &Shape) -> Result<String, Fail> {
-    Ok(match read(alloc, text, shape) {
-        Ok(rule) if !fits(&rule, shape) => format!(in alloc; "a rule that does not fit")?,
-        Ok(rule) => format!(in alloc; "{}", rule.statements().len())?,
-        Err(fault) => format!(in alloc; "{fault}")?,
-    })
+fn told_over(alloc: Global, text: &str, shape: &Shape) -> Result<String, AllocError> {
+    match statements_of(alloc, text, shape) {
+        Ok(Some(count)) => format!(in alloc; "{count}"),
+        Ok(None) => format!(in alloc; "a rule that does not fit"),
+        Err(fault) => format!(in alloc; "{fault}"),
+    }
+}
+
+/// What is told of a text that is read for an app of so many releases: the number of its rule's
+/// statements, or the fault.
+fn told_as_read(alloc: Global, text: &str, releases: u8) -> Result<String, AllocError> {
+    match shape(alloc, releases) {
+        Ok(shape) => told_over(alloc, text, &shape),
+        Err(_) => Err(AllocError),
+    }
+}
+
+/// Fails unless that is told of a text that is read.
+pub(crate) fn must_tell(alloc: Global, text: &str, releases: u8, want: &str) -> Result<(), Fail> {
+    let found = told_as_read(alloc, text, releases)?;
+    must(text, found.as_str(), found.as_str() == want)
 }
 
 fn compiled(alloc: Global, rule: &Rule, shape: &Shape) -> Result<Verified, CompileFault> {
@@ -36,45 +57,63 @@ fn compiled(alloc: Global, rule: &Rule, shape: &Shape) -> Result<Verified, Compi
     }
 }
 
-/// The program of a text.
-pub(crate) fn program(alloc: Global, text: &str, shape: &Shape) -> Result<Verified, Fail> {
+fn program_over(alloc: Global, text: &str, shape: &Shape) -> Result<Verified, Fail> {
     let rule = read(alloc, text, shape)?;
     Ok(compiled(alloc, &rule, shape)?)
 }
 
+/// The program of a text, for an app of one release.
+pub(crate) fn program(alloc: Global, text: &str) -> Result<Verified, Fail> {
+    let shape = shape(alloc, 1)?;
+    program_over(alloc, text, &shape)
+}
+
+fn told_of_rule(alloc: Global, rule: &Rule, shape: &Shape) -> Result<String, AllocError> {
+    match compiled(alloc, rule, shape) {
+        Ok(program) => format!(in alloc; "{} slots", program.len()),
+        Err(fault) => format!(in alloc; "{fault}"),
+    }
+}
+
+fn told_of_text(alloc: Global, text: &str, shape: &Shape) -> Result<String, AllocError> {
+    match read(alloc, text, shape) {
+        Ok(rule) => told_of_rule(alloc, &rule, shape),
+        Err(fault) => format!(in alloc; "{fault}"),
+    }
+}
+
 /// What is told of a text that is compiled: the slots of its program, or the fault.
-pub(crate) fn told(alloc: Global, text: &str, shape: &Shape) -> Result<String, Fail> {
-    let rule = match read(alloc, text, shape) {
-        Ok(rule) => rule,
-        Err(fault) => return Ok(format!(in alloc; "{fault}")?),
-    };
-    Ok(match compiled(alloc, &rule, shape) {
-        Ok(program) => format!(in alloc; "{} slots", program.len())?,
-        Err(fault) => format!(in alloc; "{fault}")?,
-    })
+pub(crate) fn told(alloc: Global, text: &str) -> Result<String, AllocError> {
+    match shape(alloc, 1) {
+        Ok(shape) => told_of_text(alloc, text, &shape),
+        Err(_) => Err(AllocError),
+    }
+}
+
+fn choice_of(
+    program: Arc<Verified>,
+    attrs: Arc<Attrs>,
+    cells: &PlainCells,
+    pass: &mut PlainPass,
+) -> u8 {
+    let (choice, _count) = Run::start(program, attrs).run(cells, pass);
+    choice
 }
 
 /// The choice of one run.
 pub(crate) fn choice(
     alloc: Global,
-    program: Verified,
+    text: &str,
     attrs: Attrs,
     cells: &PlainCells,
     pass: &mut PlainPass,
 ) -> Result<u8, Fail> {
-    let run = Run::start(Arc::new(alloc, program)?, Arc::new(alloc, attrs)?);
-    let (choice, _count) = run.run(cells, pass);
-    Ok(choice)
+    let program = Arc::new(alloc, program(alloc, text)?)?;
+    Ok(choice_of(program, Arc::new(alloc, attrs)?, cells, pass))
 }
 
 /// The choice of a text for an app, over cells of its own.
-pub(crate) fn chosen(alloc: Global, text: &str, shape: &Shape, attrs: Attrs) -> Result<u8, Fail> {
+pub(crate) fn chosen(alloc: Global, text: &str, attrs: Attrs) -> Result<u8, Fail> {
     let (cells, mut pass) = PlainCells::new(alloc)?;
-    choice(
-        alloc,
-        program(alloc, text, shape)?,
-        attrs,
-        &cells,
-        &mut pass,
-    )
+    choice(alloc, text, attrs, &cells, &mut pass)
 }

@@ -1,10 +1,9 @@
 //! Texts that are read, each with the number of its statements or with its fault. A row is a text,
 //! in which `/` stands for LF, `~` for CR and `|` for a tab, and what is told of it.
 
-use crate::given::shape;
-use crate::told::told_as_read;
-use std::alloc::Global;
-use std::process::Abort;
+use crate::given::halves;
+use crate::told::must_tell;
+use std::alloc::{AllocError, Global};
 use std::test::Fail;
 
 const RULES: &str = r#"
@@ -102,7 +101,7 @@ when bucket(18446744073709551616) < 1 offer 1; otherwise none; => L4 Range at li
 when today < 4294967296/or flag colour offer 1; otherwise none; => L4 Range at line 1
 "#;
 
-fn text_of(alloc: Global, row: &str) -> Result<String, Fail> {
+fn text_of(alloc: Global, row: &str) -> Result<String, AllocError> {
     let mut text = String::new(alloc);
     for character in row.chars() {
         text.push(match character {
@@ -115,26 +114,23 @@ fn text_of(alloc: Global, row: &str) -> Result<String, Fail> {
     Ok(text)
 }
 
-fn each_is_told(rt: &impl Abort, alloc: Global, rows: &str) -> Result<(), Fail> {
-    let shape = shape(alloc, 1)?;
+fn is_told(alloc: Global, row: &str) -> Result<(), Fail> {
+    let (text, want) = halves(row, " => ")?;
+    let text = text_of(alloc, text)?;
+    must_tell(alloc, text.as_str(), 1, want)
+}
+
+fn each_is_told(alloc: Global, rows: &str) -> Result<(), Fail> {
     for row in rows.lines().skip(1) {
-        let (text, want) = row.split_once(" => ").ok_or("a row of another form")?;
-        let text = text_of(alloc, text)?;
-        let got = told_as_read(alloc, text.as_str(), &shape)?;
-        assert_eq!(rt; got.as_str(), want, "of {row}");
+        is_told(alloc, row)?;
     }
     Ok(())
 }
 
 #[test]
-fn rules(rt: HostRuntime) -> Result<(), Fail> {
-    each_is_told(&rt, rt.alloc(), RULES)
-}
-
-#[test]
-fn faults(rt: HostRuntime) -> Result<(), Fail> {
-    for rows in [TOKENS, SHAPES, NAMES, RANGES] {
-        each_is_told(&rt, rt.alloc(), rows)?;
+fn texts(rt: HostRuntime) -> Result<(), Fail> {
+    for rows in [RULES, TOKENS, SHAPES, NAMES, RANGES] {
+        each_is_told(rt.alloc(), rows)?;
     }
     Ok(())
 }
