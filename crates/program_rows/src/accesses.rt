@@ -172,7 +172,7 @@ fn accesses(rt: HostRuntime) -> Result<(), Fail> {
         (Arrays::Wide, NO_ADDRESSES),
         (Arrays::Nothing, ATOMICS_ON_THE_STACK),
     ] {
-        have_their_verdicts(&rt, rt.alloc(), arrays, rows)?;
+        have_their_verdicts(rt.alloc(), arrays, rows)?;
     }
     Ok(())
 }

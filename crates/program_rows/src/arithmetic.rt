@@ -156,7 +156,7 @@ fn sums(rt: HostRuntime) -> Result<(), Fail> {
         (Arrays::Nothing, ANY_NUMBER),
         (Arrays::Nothing, SINGLE_NUMBERS),
     ] {
-        have_their_verdicts(&rt, rt.alloc(), arrays, rows)?;
+        have_their_verdicts(rt.alloc(), arrays, rows)?;
     }
     Ok(())
 }

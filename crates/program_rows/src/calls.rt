@@ -115,7 +115,7 @@ fn helpers(rt: HostRuntime) -> Result<(), Fail> {
         (Arrays::All, ARRAYS),
         (Arrays::Nothing, NO_ARRAYS),
     ] {
-        have_their_verdicts(&rt, rt.alloc(), arrays, rows)?;
+        have_their_verdicts(rt.alloc(), arrays, rows)?;
     }
     Ok(())
 }

@@ -1,8 +1,8 @@
 //! How many entries are kept at once: the one at hand, and one for each target ahead to which an
 //! edge leads that isn't dropped.
 
-use crate::row::{Arrays, Case, case_of, judged, lines};
-use std::alloc::Global;
+use crate::row::{Arrays, Case, case_of, judged, lines, must};
+use std::alloc::{AllocError, Global};
 use std::test::Fail;
 
 /// A row has the greatest number of entries that are kept at once behind its verdict.
@@ -34,26 +34,38 @@ fn told(alloc: Global, case: &Case) -> Result<String, Fail> {
     Ok(format!(in alloc; "{verdict} | {count}")?)
 }
 
+fn is_told(alloc: Global, row: &str) -> Result<(), Fail> {
+    let case = case_of(row).ok_or("a row of another form")?;
+    let found = told(alloc, &case)?;
+    must(row, found.as_str(), found.as_str() == case.verdict)
+}
+
 #[test]
 fn counts(rt: HostRuntime) -> Result<(), Fail> {
     for row in COUNTS.split("\n- ").skip(1) {
-        let case = case_of(row).ok_or("a row of another form")?;
-        let found = told(rt.alloc(), &case)?;
-        assert!(rt; found.as_str() == case.verdict, "{row}: {found}");
+        is_told(rt.alloc(), row)?;
     }
     Ok(())
+}
+
+fn straight(alloc: Global, length: usize) -> Result<String, AllocError> {
+    let moves = "mov r0, 0\n".repeat(alloc, length)?;
+    format!(in alloc; "{moves}exit\n")
+}
+
+fn is_counted_once(alloc: Global, length: usize) -> Result<(), Fail> {
+    let text = straight(alloc, length)?;
+    let (verdict, count) = judged(alloc, Arrays::Nothing, 0, text.as_str())?;
+    must(
+        "straight code",
+        verdict.as_str(),
+        verdict.as_str() == "ok" && count == 1,
+    )
 }
 
 /// Straight code, of the most slots that a program has.
 #[test]
 fn straight_code(rt: HostRuntime) -> Result<(), Fail> {
-    let alloc = rt.alloc();
-    for length in [1, 4095] {
-        let mut text = "mov r0, 0\n".repeat(alloc, length)?;
-        text.push_str("exit\n")?;
-        let (verdict, count) = judged(alloc, Arrays::Nothing, 0, text.as_str())?;
-        assert_eq!(rt; verdict.as_str(), "ok");
-        assert_eq!(rt; count, 1, "after {length} slots");
-    }
-    Ok(())
+    is_counted_once(rt.alloc(), 1)?;
+    is_counted_once(rt.alloc(), 4095)
 }

@@ -127,7 +127,7 @@ fn jumps(rt: HostRuntime) -> Result<(), Fail> {
         (Arrays::Nothing, DROPPED),
         (Arrays::Nothing, JOINED),
     ] {
-        have_their_verdicts(&rt, rt.alloc(), arrays, rows)?;
+        have_their_verdicts(rt.alloc(), arrays, rows)?;
     }
     Ok(())
 }

@@ -66,7 +66,7 @@ fn lookups(rt: HostRuntime) -> Result<(), Fail> {
         (Arrays::Wide, JOINED),
         (Arrays::Wide, FIXED),
     ] {
-        have_their_verdicts(&rt, rt.alloc(), arrays, rows)?;
+        have_their_verdicts(rt.alloc(), arrays, rows)?;
     }
     Ok(())
 }

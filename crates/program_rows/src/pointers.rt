@@ -149,7 +149,7 @@ fn pointers(rt: HostRuntime) -> Result<(), Fail> {
         (Arrays::Nothing, MOVES_IN_THE_STACK),
         (Arrays::Wide, COMPARISONS),
     ] {
-        have_their_verdicts(&rt, rt.alloc(), arrays, rows)?;
+        have_their_verdicts(rt.alloc(), arrays, rows)?;
     }
     Ok(())
 }

@@ -64,7 +64,7 @@ fn quotas(rt: HostRuntime) -> Result<(), Fail> {
         (Arrays::Quota, OF_A_LOOKUP),
         (Arrays::All, BESIDE_OTHER_ARRAYS),
     ] {
-        have_their_verdicts(&rt, rt.alloc(), arrays, rows)?;
+        have_their_verdicts(rt.alloc(), arrays, rows)?;
     }
     Ok(())
 }

@@ -82,7 +82,7 @@ const KEPT_VALUES: &str = r#"
 #[test]
 fn stack(rt: HostRuntime) -> Result<(), Fail> {
     for (arrays, rows) in [(Arrays::Nothing, SET_BYTES), (Arrays::Nothing, KEPT_VALUES)] {
-        have_their_verdicts(&rt, rt.alloc(), arrays, rows)?;
+        have_their_verdicts(rt.alloc(), arrays, rows)?;
     }
     Ok(())
 }

@@ -1,5 +1,6 @@
 //! Texts, their listings and their bytes, and every fault with its line.
 
+use crate::row::must;
 use bpf_insn::InsnFault;
 use bpf_text::{AsmFault, ListFault, assemble, listing};
 use std::alloc::{AllocError, Global};
@@ -87,18 +88,27 @@ mov r3, -2147483648
 b7 03 00 00 00 00 00 80
 "#;
 
+fn must_spell(alloc: Global, text: &str, want: &str) -> Result<(), Fail> {
+    let found = spelled(alloc, text)?;
+    must(text, found.as_str(), found.as_str() == want)
+}
+
+fn is_spelled(alloc: Global, row: &str) -> Result<(), Fail> {
+    let (text, want) = row.split_once('\n').ok_or("a row of two parts")?;
+    let text = unescaped(alloc, text)?;
+    must_spell(
+        alloc,
+        text.as_str(),
+        want.strip_suffix('\n').unwrap_or(want),
+    )
+}
+
 #[test]
 fn texts_and_bytes(rt: HostRuntime) -> Result<(), Fail> {
     for row in TEXTS.split("\n- ").skip(1) {
-        let (text, want) = row.split_once('\n').ok_or("a row of two parts")?;
-        let text = unescaped(rt.alloc(), text)?;
-        let found = spelled(rt.alloc(), text.as_str())?;
-        let want = want.strip_suffix('\n').unwrap_or(want);
-        assert!(rt; found.as_str() == want, "{row}: {found}");
+        is_spelled(rt.alloc(), row)?;
     }
-    let empty = spelled(rt.alloc(), "")?;
-    assert_eq!(rt; empty.as_str(), "");
-    Ok(())
+    must_spell(rt.alloc(), "", "")
 }
 
 /// A text, and its fault.
@@ -139,31 +149,41 @@ call 99999999999999999999999999999999999999 => A5 Range at line 1
 "#;
 
 /// The printed fault of a text, or how many bytes it has.
-fn told(alloc: Global, text: &str) -> Result<String, Fail> {
-    let told = match assemble(alloc, text) {
-        Ok(bytes) => format!(in alloc; "{} bytes", bytes.len())?,
-        Err(fault) => format!(in alloc; "{fault}")?,
-    };
-    Ok(told)
+fn told(alloc: Global, text: &str) -> Result<String, AllocError> {
+    match assemble(alloc, text) {
+        Ok(bytes) => format!(in alloc; "{} bytes", bytes.len()),
+        Err(fault) => format!(in alloc; "{fault}"),
+    }
+}
+
+fn must_tell(alloc: Global, row: &str, text: &str, want: &str) -> Result<(), Fail> {
+    let found = told(alloc, text)?;
+    must(row, found.as_str(), found.as_str() == want)
+}
+
+fn is_refused(alloc: Global, row: &str) -> Result<(), Fail> {
+    let (text, want) = row.split_once(" => ").ok_or("a row of two parts")?;
+    let text = unescaped(alloc, text)?;
+    must_tell(alloc, row, text.as_str(), want)
 }
 
 #[test]
 fn refused_texts(rt: HostRuntime) -> Result<(), Fail> {
     for row in REFUSED.lines().skip(1) {
-        let (text, want) = row.split_once(" => ").ok_or("a row of two parts")?;
-        let text = unescaped(rt.alloc(), text)?;
-        let found = told(rt.alloc(), text.as_str())?;
-        assert!(rt; found.as_str() == want, "{row}: {found}");
+        is_refused(rt.alloc(), row)?;
     }
     Ok(())
+}
+
+fn exits(alloc: Global, count: usize) -> Result<String, AllocError> {
+    "exit\n".repeat(alloc, count)
 }
 
 #[test]
 fn too_many_slots(rt: HostRuntime) -> Result<(), Fail> {
     for (count, want) in [(4096, "32768 bytes"), (4097, "A6 TooLong at line 4097")] {
-        let text = "exit\n".repeat(rt.alloc(), count)?;
-        let found = told(rt.alloc(), text.as_str())?;
-        assert!(rt; found.as_str() == want, "{found}");
+        let text = exits(rt.alloc(), count)?;
+        must_tell(rt.alloc(), want, text.as_str(), want)?;
     }
     Ok(())
 }
@@ -180,19 +200,22 @@ const UNLISTED: [(&[u8], &str); 2] = [
 ];
 
 /// The listing of bytes, or its printed fault.
-fn listed(alloc: Global, bytes: &[u8]) -> Result<String, Fail> {
-    let told = match listing(alloc, bytes) {
-        Ok(lines) => lines,
-        Err(fault) => format!(in alloc; "{fault}")?,
-    };
-    Ok(told)
+fn listed(alloc: Global, bytes: &[u8]) -> Result<String, AllocError> {
+    match listing(alloc, bytes) {
+        Ok(lines) => Ok(lines),
+        Err(fault) => format!(in alloc; "{fault}"),
+    }
+}
+
+fn is_listed(alloc: Global, bytes: &[u8], want: &str) -> Result<(), Fail> {
+    let found = listed(alloc, bytes)?;
+    must(want, found.as_str(), found.as_str() == want)
 }
 
 #[test]
 fn bytes_without_listing(rt: HostRuntime) -> Result<(), Fail> {
     for (bytes, want) in UNLISTED {
-        let found = listed(rt.alloc(), bytes)?;
-        assert!(rt; found.as_str() == want, "{want}: {found}");
+        is_listed(rt.alloc(), bytes, want)?;
     }
     Ok(())
 }

@@ -108,7 +108,7 @@ fn unusable(rt: HostRuntime) -> Result<(), Fail> {
         (Arrays::Wide, ATOMICS),
         (Arrays::Wide, ARGUMENTS),
     ] {
-        have_their_verdicts(&rt, rt.alloc(), arrays, rows)?;
+        have_their_verdicts(rt.alloc(), arrays, rows)?;
     }
     Ok(())
 }

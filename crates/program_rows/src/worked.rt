@@ -110,7 +110,7 @@ fn worked(rt: HostRuntime) -> Result<(), Fail> {
         (Arrays::Narrow, WITH_A_NARROW_CELL),
         (Arrays::Quota, WITH_A_QUOTA),
     ] {
-        have_their_verdicts(&rt, rt.alloc(), arrays, rows)?;
+        have_their_verdicts(rt.alloc(), arrays, rows)?;
     }
     Ok(())
 }
