@@ -1,7 +1,7 @@
 //! A worked list of events with its answers, and that the calls succeed where there is memory.
 
 use crate::apps::{BELOW_100, rules, world_over};
-use crate::table::{is_applied, is_played};
+use crate::table::{must, must_apply, must_play};
 use std::alloc::Global;
 use std::test::Fail;
 use world::{World, WorldFault};
@@ -36,13 +36,13 @@ start 1 y 1 = E4 NoApp
 #[test]
 fn worked_events_are_applied(rt: HostRuntime) -> Result<(), Fail> {
     let mut world = workers(rt.alloc(), 2)?;
-    is_applied(&rt, rt.alloc(), &mut world, WORKED)
+    must_apply(rt.alloc(), &mut world, WORKED)
 }
 
 #[test]
 fn worked_events_are_played(rt: HostRuntime) -> Result<(), Fail> {
     let mut world = workers(rt.alloc(), 2)?;
-    is_played(&rt, rt.alloc(), &mut world, WORKED)
+    must_play(rt.alloc(), &mut world, WORKED)
 }
 
 const OF_64_WORKERS: &str = "start 64 x 0 = E1 NoWorker
@@ -52,21 +52,27 @@ start 63 x 0 = started
 #[test]
 fn workers_are_numbered_from_0_to_63(rt: HostRuntime) -> Result<(), Fail> {
     let mut world = workers(rt.alloc(), 64)?;
-    is_applied(&rt, rt.alloc(), &mut world, OF_64_WORKERS)
+    must_apply(rt.alloc(), &mut world, OF_64_WORKERS)
+}
+
+const FAULTS: [(WorldFault, &str); 6] = [
+    (WorldFault::NoWorker, "E1 NoWorker"),
+    (WorldFault::Busy, "E2 Busy"),
+    (WorldFault::Idle, "E3 Idle"),
+    (WorldFault::NoApp, "E4 NoApp"),
+    (WorldFault::NotDone, "E5 NotDone"),
+    (WorldFault::Memory, "E6 Memory"),
+];
+
+fn is_printed(alloc: Global, fault: WorldFault, want: &str) -> Result<(), Fail> {
+    let found = format!(in alloc; "{fault}")?;
+    must(found.as_str(), found.as_str() == want)
 }
 
 #[test]
 fn faults_are_printed(rt: HostRuntime) -> Result<(), Fail> {
-    let rows = [
-        (WorldFault::NoWorker, "E1 NoWorker"),
-        (WorldFault::Busy, "E2 Busy"),
-        (WorldFault::Idle, "E3 Idle"),
-        (WorldFault::NoApp, "E4 NoApp"),
-        (WorldFault::NotDone, "E5 NotDone"),
-        (WorldFault::Memory, "E6 Memory"),
-    ];
-    for (fault, text) in rows {
-        assert_eq!(rt; format!(in rt.alloc(); "{fault}")?.as_str(), text);
+    for (fault, want) in FAULTS {
+        is_printed(rt.alloc(), fault, want)?;
     }
     Ok(())
 }

@@ -98,16 +98,19 @@ fn is_below_100(alloc: Global, text: &str) -> Result<bool, AsmFault> {
     Ok(assemble(alloc, text)?.as_slice() == BELOW_100)
 }
 
+fn is_below_100_again(alloc: Global, text: &str) -> Result<bool, AsmFault> {
+    again!(AsmFault::Memory, is_below_100(alloc, text))
+}
+
 #[test]
 fn texts(rt: HostRuntime) {
-    let answer = again!(AsmFault::Memory, is_below_100(rt.alloc(), LABELS));
-    assert!(rt; answer == Ok(true));
+    assert!(rt; is_below_100_again(rt.alloc(), LABELS) == Ok(true));
     for (text, line, kind) in [
         ("exit\nja nowhere", 2, AsmFaultKind::Label),
         ("a: exit\nmov r0, @", 2, AsmFaultKind::Token),
         ("mov r0, 0\nadd r1, 4294967296", 2, AsmFaultKind::Range),
     ] {
-        let answer = again!(AsmFault::Memory, is_below_100(rt.alloc(), text));
+        let answer = is_below_100_again(rt.alloc(), text);
         assert!(rt; answer == Err(AsmFault::At { line, kind }));
     }
 }

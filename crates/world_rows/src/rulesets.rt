@@ -1,18 +1,31 @@
 //! That a ruleset is made where there is memory, and which fault is printed.
 
 use crate::apps::{NONE, app_over};
+use crate::table::must;
 use cells::Shape;
 use ruleset::{App, Ruleset, RulesetFault};
 use std::alloc::Global;
 use std::test::Fail;
 
-/// The app of a program that chooses none, with so many releases.
-fn app(alloc: Global, appid: &str, releases: u8) -> Result<App, Fail> {
-    app_over(alloc, appid, NONE, &Shape::plain(alloc, releases.min(64)))
+/// Adds apps of a program that chooses none, each with so many releases.
+fn push_apps(alloc: Global, apps: &mut Vec<App>, given: &[(&str, u8)]) -> Result<(), Fail> {
+    for (appid, releases) in given {
+        let shape = Shape::plain(alloc, (*releases).min(64));
+        apps.push(app_over(alloc, appid, NONE, &shape)?)?;
+    }
+    Ok(())
 }
 
-fn server(alloc: Global) -> Result<String, Fail> {
-    Ok(String::from_str(alloc, "prod")?)
+/// The ruleset of the server `prod` and these apps, or its fault.
+fn rules_of(alloc: Global, given: &[(&str, u8)]) -> Result<Result<Ruleset, RulesetFault>, Fail> {
+    let mut apps = Vec::new(alloc);
+    push_apps(alloc, &mut apps, given)?;
+    let server = String::from_str(alloc, "prod")?;
+    Ok(Ruleset::new(server, apps))
+}
+
+fn fault_of(alloc: Global, given: &[(&str, u8)]) -> Result<Option<RulesetFault>, Fail> {
+    Ok(rules_of(alloc, given)?.err())
 }
 
 /// How many releases the app has, if one is found.
@@ -23,41 +36,30 @@ fn releases_of(rules: &Ruleset, appid: &str) -> Option<usize> {
     }
 }
 
-fn count_of(rules: &Ruleset) -> usize {
-    rules.apps().len()
+fn are_both(rules: &Ruleset) -> bool {
+    rules.apps().len() == 2
+        && rules.server() == "prod"
+        && releases_of(rules, "x") == Some(3)
+        && releases_of(rules, "y") == Some(64)
+        && releases_of(rules, "z").is_none()
 }
 
 #[test]
 fn apps_are_found(rt: HostRuntime) -> Result<(), Fail> {
-    let apps = vec![in rt.alloc(); app(rt.alloc(), "x", 3)?, app(rt.alloc(), "y", 64)?]?;
-    let rules = Ruleset::new(server(rt.alloc())?, apps)?;
-    assert_eq!(rt; count_of(&rules), 2);
-    assert_eq!(rt; rules.server(), "prod");
-    for (appid, releases) in [("x", Some(3)), ("y", Some(64)), ("z", None)] {
-        assert_eq!(rt; releases_of(&rules, appid), releases);
-    }
+    let rules = rules_of(rt.alloc(), &[("x", 3), ("y", 64)])??;
+    assert!(rt; are_both(&rules));
     Ok(())
 }
 
 #[test]
 fn appids_stand_once(rt: HostRuntime) -> Result<(), Fail> {
-    let apps = vec![in rt.alloc();
-        app(rt.alloc(), "x", 1)?,
-        app(rt.alloc(), "y", 1)?,
-        app(rt.alloc(), "x", 2)?,
-    ]?;
-    assert_eq!(rt;
-        Ruleset::new(server(rt.alloc())?, apps).err(),
-        Some(RulesetFault::Duplicate)
-    );
+    let fault = fault_of(rt.alloc(), &[("x", 1), ("y", 1), ("x", 2)])?;
+    assert!(rt; fault == Some(RulesetFault::Duplicate));
     Ok(())
 }
 
 #[test]
 fn fault_is_printed(rt: HostRuntime) -> Result<(), Fail> {
-    assert_eq!(rt;
-        format!(in rt.alloc(); "{}", RulesetFault::Duplicate)?.as_str(),
-        "M3 Duplicate"
-    );
-    Ok(())
+    let printed = format!(in rt.alloc(); "{}", RulesetFault::Duplicate)?;
+    must(printed.as_str(), printed.as_str() == "M3 Duplicate")
 }

@@ -2,7 +2,7 @@
 //! under the newest.
 
 use crate::apps::{rules, world_over};
-use crate::table::is_played;
+use crate::table::must_play;
 use std::alloc::Global;
 use std::test::Fail;
 use world::World;
@@ -49,11 +49,11 @@ finish 0 = E5 NotDone
 #[test]
 fn a_run_goes_on_under_its_ruleset(rt: HostRuntime) -> Result<(), Fail> {
     let mut world = world_of(rt.alloc())?;
-    is_played(&rt, rt.alloc(), &mut world, WITHIN_A_RUN)
+    must_play(rt.alloc(), &mut world, WITHIN_A_RUN)
 }
 
 #[test]
 fn a_start_is_under_the_newest(rt: HostRuntime) -> Result<(), Fail> {
     let mut world = world_of(rt.alloc())?;
-    is_played(&rt, rt.alloc(), &mut world, TO_ANOTHER_APP)
+    must_play(rt.alloc(), &mut world, TO_ANOTHER_APP)
 }

@@ -2,7 +2,7 @@
 //! have, workers take of one quota, and a list of events may be played in parts.
 
 use crate::apps::{BELOW_100, rules, rules_over, world_over};
-use crate::table::is_played;
+use crate::table::must_play;
 use cells::{ArrayNo, CellNo, CellWidth, Directory, Shape};
 use std::alloc::Global;
 use std::test::Fail;
@@ -39,7 +39,7 @@ fn are_ends(world: &World, ends: [u64; 4]) -> bool {
 fn counters_open_at_0_and_stay_where_no_program_asks(rt: HostRuntime) -> Result<(), Fail> {
     let mut world = world_of(rt.alloc())?;
     assert!(rt; are_ends(&world, [0, 0, 0, 0]));
-    is_played(&rt, rt.alloc(), &mut world, FIRST)?;
+    must_play(rt.alloc(), &mut world, FIRST)?;
     assert!(rt; are_ends(&world, [0, 0, 0, 0]));
     Ok(())
 }
@@ -47,8 +47,8 @@ fn counters_open_at_0_and_stay_where_no_program_asks(rt: HostRuntime) -> Result<
 #[test]
 fn a_second_batch_goes_on_with_the_world(rt: HostRuntime) -> Result<(), Fail> {
     let mut world = world_of(rt.alloc())?;
-    is_played(&rt, rt.alloc(), &mut world, FIRST)?;
-    is_played(&rt, rt.alloc(), &mut world, SECOND)
+    must_play(rt.alloc(), &mut world, FIRST)?;
+    must_play(rt.alloc(), &mut world, SECOND)
 }
 
 /// Takes one of the quota q[0], which is 2, and offers the release where one was left.
@@ -96,7 +96,7 @@ finish 2 = finished 0 after 6 under 1
 fn a_quota_of_two_is_offered_twice(rt: HostRuntime) -> Result<(), Fail> {
     let rules = rules_over(rt.alloc(), "x", TAKE, &quota_of_two(rt.alloc())?)?;
     let mut world = world_over(rt.alloc(), 3, rules)?;
-    is_played(&rt, rt.alloc(), &mut world, THREE_TAKE)?;
+    must_play(rt.alloc(), &mut world, THREE_TAKE)?;
     assert!(rt; are_ends(&world, [3, 0, 0, 0]));
     Ok(())
 }
