@@ -1,6 +1,6 @@
 //! The server over loopback, with both ends in one process: workers in their threads, and clients.
 
-use crate::clients::{halt, held, refused, silent, slow, two, waiting};
+use crate::clients::{ended, halt, held, refused, silent, slow, two, waiting};
 use crate::meeting::{Meeting, gate_that};
 use crate::shelf::rules;
 use hot_swap::{Publisher, Watcher};
@@ -16,7 +16,7 @@ use std::{io, thread};
 use workers::{Service, serve};
 
 /// So many workers of a server that offers nothing.
-fn workers_of(alloc: Global, count: usize) -> Result<Vec<(LockedPass, Watcher)>, Fail> {
+pub(crate) fn workers_of(alloc: Global, count: usize) -> Result<Vec<(LockedPass, Watcher)>, Fail> {
     let mut publisher = Publisher::new(alloc, rules(alloc, "nothing")?, count.clamp(1, 65))?;
     let mut workers = Vec::new(alloc);
     for _ in 0..count {
@@ -56,6 +56,7 @@ enum Clients {
     Slow,
     Waiting,
     Refused,
+    Ended,
 }
 
 /// Whether the clients heard what they should, after which the server is told to stop.
@@ -76,6 +77,7 @@ where
         Clients::Slow => slow(rt, place),
         Clients::Waiting => waiting(rt, place, gate, stop),
         Clients::Refused => refused(rt, place),
+        Clients::Ended => ended(rt, place),
     };
     halt(rt, place, stop);
     heard
@@ -138,6 +140,10 @@ fn clients_are_served(rt: HostRuntime) -> Result<(), Fail> {
     assert!(rt;
         is_served(&rt, Clients::Refused, false, 1, 30)?,
         "a refusal is heard"
+    );
+    assert!(rt;
+        is_served(&rt, Clients::Ended, false, 1, 30)?,
+        "a reply is heard whole"
     );
     Ok(())
 }

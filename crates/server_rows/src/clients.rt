@@ -103,6 +103,20 @@ where
     Ok(came && is_replied(rt, &first)? && is_replied(rt, &second)? && is_replied(rt, &third)?)
 }
 
+/// A client that ends its body with a line's end that it doesn't count, and hears the whole reply.
+/// The body is longer than what is read with a head, so that the line's end isn't read with it.
+pub(crate) fn ended<H>(rt: &H, place: SocketAddr) -> io::Result<bool>
+where
+    H: Net<Stream = TcpStream> + AllocGlobal,
+{
+    let blanks = " ".repeat(rt.alloc(), 20_000)?;
+    let body = format!(in rt.alloc(); "{TWO_APPS}{blanks}")?;
+    let mut bytes = post(rt.alloc(), body.as_str())?;
+    bytes.extend_from_slice(b"\r\n")?;
+    let stream = sent(rt, place, &bytes)?;
+    is_replied(rt, &stream)
+}
+
 /// A client that sends more than is read of it, and hears the whole refusal.
 pub(crate) fn refused<H>(rt: &H, place: SocketAddr) -> io::Result<bool>
 where

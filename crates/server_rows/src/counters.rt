@@ -1,7 +1,7 @@
 //! A program with a counter behind a quota: which apps of a request get the release, and that no
 //! refused request takes of it.
 
-use crate::exchange::{Server, WHOLE, exchange, post, server_of, times};
+use crate::exchange::{Answering, WHOLE, exchange, post, server_of, times};
 use crate::refusals::head_of;
 use cells::CellNo;
 use std::alloc::Global;
@@ -34,7 +34,7 @@ const NONE: &str = "\"noupdate\"";
 fn taken<H: Wait>(
     rt: &H,
     alloc: Global,
-    server: &mut Server,
+    server: &mut Answering,
     input: &[u8],
 ) -> Result<String, Fail> {
     let heard = exchange(rt, alloc, server, input, WHOLE, WHOLE);
@@ -50,7 +50,7 @@ fn taken<H: Wait>(
 fn is_taken<H: Wait>(
     rt: &H,
     alloc: Global,
-    server: &mut Server,
+    server: &mut Answering,
     apps: &str,
     want: &str,
 ) -> Result<bool, Fail> {

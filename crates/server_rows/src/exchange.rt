@@ -7,14 +7,14 @@ use http_front::{Counted, FailAt};
 use std::alloc::{AllocError, Global};
 use std::fmt::Display;
 use std::sync::Wait;
-use workers::{AnswerFault, answer};
+use workers::{AnswerFault, Sent, answer};
 
 /// 2026-03-02 01:00:00 UTC, which is day 7000 and second 3600 of Omaha's count.
-const MOMENT: i64 = 1772413200;
+pub(crate) const MOMENT: i64 = 1772413200;
 
 /// A server with one worker.
 #[derive(Drop)]
-pub(crate) struct Server {
+pub(crate) struct Answering {
     pub(crate) publisher: Publisher,
     pub(crate) watcher: Watcher,
     pub(crate) cells: PlainCells,
@@ -22,7 +22,7 @@ pub(crate) struct Server {
 }
 
 /// The server of a manifest of the shelf.
-pub(crate) fn server_of(alloc: Global, path: &str) -> Result<Server, &'static str> {
+pub(crate) fn server_of(alloc: Global, path: &str) -> Result<Answering, &'static str> {
     let Ok(mut publisher) = Publisher::new(alloc, rules(alloc, path)?, 1) else {
         return Err("memory");
     };
@@ -32,7 +32,7 @@ pub(crate) fn server_of(alloc: Global, path: &str) -> Result<Server, &'static st
     let Ok((cells, pass)) = PlainCells::new(alloc) else {
         return Err("memory");
     };
-    Ok(Server {
+    Ok(Answering {
         publisher,
         watcher,
         cells,
@@ -53,10 +53,11 @@ pub(crate) const WHOLE: Device = Device {
     fails: 0,
 };
 
-/// What came of a request, and what was written.
+/// What came of a request, what the log tells of it, and what was written.
 #[derive(Drop)]
 pub(crate) struct Heard {
     pub(crate) outcome: Result<u16, AnswerFault>,
+    pub(crate) told: Option<Sent>,
     pub(crate) written: Vec<u8>,
 }
 
@@ -84,11 +85,13 @@ pub(crate) fn exchange_over<H: Wait, C: CellSteps>(
         watcher,
         MOMENT,
     );
+    let (outcome, told) = match outcome {
+        Ok(sent) => (Ok(sent.status), Some(sent)),
+        Err(fault) => (Err(fault), None),
+    };
     Heard {
-        outcome: match outcome {
-            Ok(sent) => Ok(sent.status),
-            Err(fault) => Err(fault),
-        },
+        outcome,
+        told,
         written: writer.into_inner().into_inner(),
     }
 }
@@ -97,7 +100,7 @@ pub(crate) fn exchange_over<H: Wait, C: CellSteps>(
 pub(crate) fn exchange<H: Wait>(
     rt: &H,
     alloc: Global,
-    server: &mut Server,
+    server: &mut Answering,
     input: &[u8],
     reads: Device,
     writes: Device,

@@ -10,11 +10,15 @@ mod clients;
 #[cfg(test)]
 mod counters;
 #[cfg(test)]
+mod ends;
+#[cfg(test)]
 mod exchange;
 #[cfg(test)]
 mod folder;
 #[cfg(test)]
 mod lines;
+#[cfg(test)]
+mod logged;
 #[cfg(test)]
 mod loopback;
 #[cfg(test)]

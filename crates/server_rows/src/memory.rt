@@ -2,7 +2,7 @@
 //! as ever. So this passes with ample memory, and wherever one growth of it is refused, which
 //! `rt try --test --fail-alloc N -- memory` does for each N (docs/PROVING.md).
 
-use crate::exchange::{Heard, Server, WHOLE, exchange, post, server_of, success};
+use crate::exchange::{Answering, Heard, WHOLE, exchange, post, server_of, success};
 use crate::refusals::refusal;
 use crate::replies::{NO_UPDATE, TWO_APPS};
 use std::alloc::{AllocError, Global};
@@ -47,7 +47,11 @@ fn is_line(alloc: Global, written: &[u8], name: &str) -> Result<bool, AllocError
 }
 
 /// Asks once.
-fn asked<H: Wait>(rt: &H, alloc: Global, server: &mut Server) -> Result<Option<u16>, AllocError> {
+fn asked<H: Wait>(
+    rt: &H,
+    alloc: Global,
+    server: &mut Answering,
+) -> Result<Option<u16>, AllocError> {
     let input = again!(post(alloc, TWO_APPS))?;
     let heard = exchange(rt, alloc, server, &input, WHOLE, WHOLE);
     again!(status_of(alloc, &heard))

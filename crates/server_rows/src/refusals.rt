@@ -1,6 +1,6 @@
 //! Every refusal, by each way to get it, with its status and its line. None makes a run.
 
-use crate::exchange::{WHOLE, answered, post};
+use crate::exchange::{Heard, WHOLE, answered, is_printed, post};
 use std::alloc::{AllocError, Global};
 use std::sync::Wait;
 use std::test::Fail;
@@ -19,6 +19,16 @@ pub(crate) fn refusal(alloc: Global, status: &str, line: &str) -> Result<String,
     )
 }
 
+/// Whether the log tells of a refusal by its status's number and its line.
+fn is_told(alloc: Global, heard: &Heard, status: &str, line: &str) -> Result<bool, AllocError> {
+    let (code, _name) = status.split_once(' ').unwrap_or((status, ""));
+    let wanted = format!(in alloc; "{code} {line}")?;
+    match &heard.told {
+        Some(sent) => is_printed(alloc, sent, wanted.as_str()),
+        None => Ok(false),
+    }
+}
+
 /// Whether these bytes are refused with this status and this line.
 fn is_refused<H: Wait>(
     rt: &H,
@@ -29,8 +39,7 @@ fn is_refused<H: Wait>(
 ) -> Result<bool, Fail> {
     let heard = answered(rt, alloc, "nothing", input, WHOLE, WHOLE)?;
     let wanted = refusal(alloc, status, line)?;
-    let code = format!(in alloc; "{}", heard.outcome.unwrap_or(0))?;
-    Ok(status.starts_with(code.as_str()) && heard.written.as_slice() == wanted.as_bytes())
+    Ok(is_told(alloc, &heard, status, line)? && heard.written.as_slice() == wanted.as_bytes())
 }
 
 /// The status, the line, a name, and the head that a client sends, without its last two ends of a

@@ -202,7 +202,7 @@ fn sessions(rt: HostRuntime) -> Result<(), Fail> {
 }
 
 /// Whether the operator's side tells this of a line.
-fn is_asked<H>(rt: &H, port: u16, line: &str, want: &str) -> io::Result<bool>
+pub(crate) fn is_asked<H>(rt: &H, port: u16, line: &str, want: &str) -> io::Result<bool>
 where
     H: Net<Stream = TcpStream> + AllocGlobal,
 {

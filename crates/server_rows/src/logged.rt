@@ -1,0 +1,185 @@
+//! The log of a server over loopback, by a runtime whose clock stands still and which keeps what is
+//! written on standard error.
+
+use crate::both_ends::workers_of;
+use crate::clients::halt;
+use crate::exchange::MOMENT;
+use crate::loopback::{reply, sent};
+use hot_swap::Watcher;
+use locked_cells::{LockedCells, LockedPass};
+use std::alloc::{AllocError, Global};
+use std::fmt::Display;
+use std::net::{Net, Shutdown, SocketAddr, TcpListener, TcpStream};
+use std::sync::atomic::AtomicBool;
+use std::sync::{Mutex, Wait};
+use std::test::Fail;
+use std::thread::Threads;
+use std::time::{Clock, Duration};
+use std::{io, thread};
+use workers::{Open, Service, serve};
+
+/// A runtime at one moment, whose standard error is a text.
+#[derive(Drop)]
+struct Still<'a, R> {
+    rt: &'a R,
+    errors: Mutex<String>,
+}
+
+impl<R: Threads> Threads for Still<'_, R> {}
+
+impl<R: Wait> Wait for Still<'_, R> {}
+
+impl<R: AllocGlobal> Alloc for Still<'_, R> {
+    type A = Global;
+
+    fn alloc(&self) -> Global {
+        self.rt.alloc()
+    }
+}
+
+impl<R: Clock> Clock for Still<'_, R> {
+    fn monotonic(&self) -> io::Result<Duration> {
+        Ok(Duration::from_secs(1))
+    }
+
+    fn since_1970(&self) -> io::Result<Duration> {
+        Ok(Duration::from_secs(MOMENT.unsigned_abs()))
+    }
+
+    fn sleep(&self, duration: Duration) {
+        self.rt.sleep(duration)
+    }
+}
+
+impl<R: Wait> Eprint for Still<'_, R> {
+    fn eprint<D: Display + Drop>(&self, value: D) -> io::Result<()> {
+        let mut errors = self.errors.lock(self.rt);
+        Ok(errors.write(value)?)
+    }
+
+    fn eprintln<D: Display + Drop>(&self, value: D) -> io::Result<()> {
+        let mut errors = self.errors.lock(self.rt);
+        errors.write(value)?;
+        Ok(errors.push('\n')?)
+    }
+}
+
+/// What a client sends behind the first line of its head, in which `;` stands for the end of a
+/// line, and what the log tells of it.
+const ROWS: &str = r#"
+Content-Length: 69;;{"request":{"protocol":"3.1","app":[{"appid":"x","updatecheck":{}}]}} => 200
+Content-Length: 2;;[] => 400 O2 Shape
+Host: h;; => 411 P4 Length
+Content-Length: 2;;{ => P7 Ended
+"#;
+
+/// What the log tells of a connection that couldn't be accepted, as of none that waits at a port
+/// that doesn't wait.
+const UNACCEPTED: &str =
+    "1772413200 - accept failed: Resource temporarily unavailable (os error 11)\n";
+
+/// A connection that has sent what is asked, and ended.
+fn asked<H>(rt: &H, place: SocketAddr, more: &str) -> Result<TcpStream, Fail>
+where
+    H: Net<Stream = TcpStream> + AllocGlobal,
+{
+    let more = more.replace(rt.alloc(), ";", "\r\n")?;
+    let bytes = format!(in rt.alloc(); "POST /service/update2/json HTTP/1.1\r\n{more}")?;
+    let stream = sent(rt, place, bytes.as_bytes())?;
+    stream.shutdown(Shutdown::Write)?;
+    Ok(stream)
+}
+
+/// Puts the line that the log should have of a connection behind the others.
+fn want_line(alloc: Global, stream: &TcpStream, told: &str, log: &mut String) -> io::Result<()> {
+    let size = reply(alloc, stream)?.len();
+    let client = stream.local_addr()?;
+    Ok(writeln!(log, "{MOMENT} {client} {told} {size} 0")?)
+}
+
+/// Asks all that the rows say before the first reply is read, and puts the lines that the log
+/// should have of it behind the others.
+fn ask_rows<H>(rt: &H, place: SocketAddr, log: &mut String) -> Result<(), Fail>
+where
+    H: Net<Stream = TcpStream> + AllocGlobal,
+{
+    let mut streams = Vec::new(rt.alloc());
+    for row in ROWS.lines().skip(1) {
+        let (more, told) = row.split_once(" => ").ok_or("a row of two parts")?;
+        streams.push((asked(rt, place, more)?, told))?;
+    }
+    for (stream, told) in streams.iter() {
+        want_line(rt.alloc(), stream, *told, log)?;
+    }
+    Ok(())
+}
+
+/// Asks what the rows say, stops the server, and gives the log that it should have.
+fn wanted<H>(rt: &H, place: SocketAddr, stop: &AtomicBool) -> Result<String, Fail>
+where
+    H: Net<Stream = TcpStream> + AllocGlobal,
+{
+    let mut log = String::new(rt.alloc());
+    let asked = ask_rows(rt, place, &mut log);
+    halt(rt, place, stop);
+    asked?;
+    Ok(log)
+}
+
+/// Serves with these workers and a log, until it is told to stop, and says whether it could.
+fn serves<H>(
+    rt: &H,
+    listener: TcpListener,
+    workers: Vec<(LockedPass, Watcher)>,
+    stop: &AtomicBool,
+) -> bool
+where
+    H: Threads + Wait + AllocGlobal + Clock + Eprint + Sync,
+{
+    let Ok(cells) = LockedCells::new(rt.alloc(), rt) else {
+        return false;
+    };
+    let service = Service {
+        timeout: Duration::from_secs(30),
+        log: true,
+    };
+    serve(rt, &Open, listener, &cells, workers, stop, service).is_ok()
+}
+
+/// Whether these lines are those that were wanted, and some of connections that couldn't be
+/// accepted.
+fn is_log(alloc: Global, kept: &str, wanted: &str) -> Result<bool, AllocError> {
+    let others = kept.replace(alloc, UNACCEPTED, "")?;
+    Ok(others.as_str() == wanted && kept.contains(UNACCEPTED))
+}
+
+/// Whether the log of a server with one worker is as it should be, once the server has ended.
+fn is_logged<H>(rt: &H) -> Result<bool, Fail>
+where
+    H: Threads + Wait + AllocGlobal + Clock + Sync,
+    H: Net<Listener = TcpListener, Stream = TcpStream>,
+{
+    let listener = TcpListener::bind(rt, "127.0.0.1:0")?;
+    listener.set_nonblocking(true)?;
+    let place = listener.local_addr()?;
+    let workers = workers_of(rt.alloc(), 1)?;
+    let stop = AtomicBool::new(false);
+    let still = Still {
+        rt,
+        errors: Mutex::new(String::new(rt.alloc())),
+    };
+    let (ended, wanted) = thread::join(
+        rt,
+        || serves(&still, listener, workers, &stop),
+        || wanted(rt, place, &stop),
+    );
+    let wanted = wanted?;
+    let kept = still.errors.lock(rt);
+    Ok(ended && is_log(rt.alloc(), kept.as_str(), wanted.as_str())?)
+}
+
+#[test]
+fn log_has_a_line_a_connection(rt: HostRuntime) -> Result<(), Fail> {
+    assert!(rt; is_logged(&rt)?);
+    Ok(())
+}
