@@ -1,6 +1,6 @@
 -- What each request is answered, and why it is refused. Which bytes a file gave no contract can
 -- say, nor what a server replies; of memory that was refused no claim is made.
-use Rattle.std.specs.Prelude.{◌≡◌, ◌⊎◌, [], Ok}
+use Rattle.std.specs.Prelude.{◌≡◌, ◌⊎◌, [], None}
 use Rattle.std.specs.Option.{option_copied}
 use Rattle.std.specs.String.{string_bytes}
 use Rattle.bounded_files.specs.Files.{OfBytes}
@@ -15,6 +15,7 @@ use Rattle.commands.specs.declared.answer.Answer.TheVariants.{Listed, Accepted, 
 use Rattle.commands.specs.declared.answer.Answer.TheVariants.{Replayed, Ready}
 use Rattle.commands.specs.declared.fault.Fault.{Fault}
 use Rattle.commands.specs.declared.fault.Fault.TheVariants.{Manifest, Program}
+use Rattle.load.specs.Loaded.{IsLoadedFrom}
 use Rattle.manifest_tools.specs.Manifests.{HasReplayed, IsChecked, IsCheckRefusal}
 use Rattle.manifest_tools.specs.Manifests.{IsReplayRefusal, most_manifest}
 use Rattle.program_tools.specs.Assembly.{most_text, IsAssembled, IsAssemblyRefusal}
@@ -22,7 +23,6 @@ use Rattle.program_tools.specs.Assembly.{IsListed, IsListingRefusal}
 use Rattle.program_tools.specs.Programs.{HasChosen, HasSlots, IsFileRefusal}
 use Rattle.program_tools.specs.Programs.{IsProgramRefusal, IsRunRefusal}
 use Rattle.program_tools.specs.Rules.{HasCompiled, IsRuleRefusal}
-use Rattle.serving.specs.Manifests.{LoadsSome}
 
 abbrev pub IsAnswer : Request → Answer → Type 0
 IsAnswer (request.Assemble text out) (Assembled program) =
@@ -38,7 +38,7 @@ IsAnswer (request.Replay manifest script) (Replayed text) =
     HasReplayed manifest.now script.now (string_bytes text)
 IsAnswer (request.Ask line port) (Told text) = IsDoneAs (line_words line) (string_bytes text)
 IsAnswer (request.Serve manifest plan) (Ready server kept) =
-    LoadsSome [] (Ok server.rules) server.directory × (kept ≡ plan)
+    IsLoadedFrom None manifest.now [] server.rules server.directory × (kept ≡ plan)
 IsAnswer asked answer = ⊥
 
 abbrev pub IsRefused : Request → Fault → Type 0
@@ -53,5 +53,5 @@ IsRefused (request.Run path shape version bucket) (Program fault) = IsRunRefusal
 IsRefused (request.Replay manifest script) (Manifest fault) =
     IsReplayRefusal manifest.now script.now fault
 IsRefused (request.Ask line port) fault = IsAskRefusal line fault
-IsRefused (request.Serve manifest plan) fault = IsServeRefusal fault
+IsRefused (request.Serve manifest plan) fault = IsServeRefusal manifest.now fault
 IsRefused asked fault = ⊥

@@ -2,9 +2,9 @@
 
 ghost use Rattle.commands.specs.Texts.{fault_text};
 
+use load::PathFault;
 use manifest_tools::ManifestToolFault;
 use program_tools::ProgramToolFault;
-use serving::LoaderFault;
 use std::fmt;
 
 /// What is wrong; it is shown as it is printed, behind `refused `.
@@ -17,7 +17,7 @@ pub enum Fault {
     /// `check` or `replay` is refused.
     Manifest(ManifestToolFault),
     /// B3, B4, M1 to M8: the manifest of a server comes to no ruleset.
-    Load(LoaderFault),
+    Load(PathFault),
     /// B1: no line says what the operator asks.
     Word,
     /// B5: nobody answers at the operator's port.

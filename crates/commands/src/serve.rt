@@ -1,12 +1,13 @@
 //! `serve`: a server, from its manifest to its operator's stop.
 
-ghost use Rattle.std.specs.Prelude.{◌≡◌, ◌*◌, [], Ok, IfOk, IfErr};
+ghost use Rattle.std.specs.Prelude.{◌≡◌, ◌*◌, [], None, IfOk, IfErr};
 ghost use Rattle.std.specs.Duration.{as_nanos};
 ghost use Rattle.commands.specs.Ready.{IsServeRefusal};
-ghost use Rattle.serving.specs.Manifests.{LoadsSome};
+ghost use Rattle.load.specs.Loaded.{IsLoadedFrom};
 
 use crate::fault::Fault;
 use command_line::Plan;
+use load::Device;
 use serving::{PrepareFault, Server, prepare};
 use std::net::{Net, TcpListener, TcpStream};
 use std::rt::Files;
@@ -19,10 +20,11 @@ use workers::Service;
 pub fn prepare_server<R>(rt: &R, manifest: &str, plan: &Plan) -> Result<Server, Fault>
 where
     R: Files + AllocGlobal + Net<Listener = TcpListener, Stream = TcpStream>,
-    ensures server { IfOk result (λ s. LoadsSome [] (Ok s.rules) s.directory) }
-    ensures fault { IfErr result IsServeRefusal }
+    ensures server { IfOk result
+        (λ s. IsLoadedFrom None manifest.now [] s.rules s.directory) }
+    ensures fault { IfErr result (IsServeRefusal manifest.now) }
 {
-    match prepare(rt, manifest, plan.port, plan.operator) {
+    match prepare(rt, &Device::new(rt), manifest, plan.port, plan.operator) {
         Ok(server) => Ok(server),
         Err(PrepareFault::Manifest(fault)) => Err(Fault::Load(fault)),
         Err(PrepareFault::Port(_)) => Err(Fault::Bind),

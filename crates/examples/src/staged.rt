@@ -7,8 +7,8 @@ ghost use Rattle.std.specs.Prelude.{None};
 use anyhow::{Context, Result, ensure};
 use bpf_text::assemble;
 use diagnosis::check;
-use load::{FileFault, FolderFiles};
-use replaying::{Device, Disk, replay_files};
+use load::{Device, Disk, FileFault, FolderFiles};
+use replaying::replay_files;
 use std::rt::Files;
 use std::{fs, str};
 
@@ -32,7 +32,8 @@ impl<'a, R: Files + AllocGlobal> Disk for Examples<'a, R> {
 /// What a manifest declares.
 fn tell<R: Files + AllocGlobal + Print>(rt: &R, manifest: &str) -> Result<()> {
     let bytes = fs::read(rt, manifest)?;
-    let mut files = FolderFiles::beside(rt, manifest);
+    let device = Device::new(rt);
+    let mut files = FolderFiles::beside(rt.alloc(), &device, manifest);
     let text = check(rt.alloc(), &bytes, &mut files)
         .ok()
         .context("a ruleset")?;

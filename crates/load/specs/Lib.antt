@@ -1,4 +1,5 @@
 pub mod Files
+pub mod Disk
 pub mod Folder
 pub mod Program
 pub mod Rule
@@ -6,3 +7,4 @@ pub mod Source
 pub mod App
 pub mod Apps
 pub mod Load
+pub mod Loaded

@@ -37,6 +37,20 @@ pub enum LoadFault {
     Memory,
 }
 
+/// Why the manifest at a path comes to no ruleset.
+#[derive(Debug, Drop, Error)]
+pub enum PathFault {
+    /// It can't be read.
+    #[error("B3 File")]
+    File,
+    /// Memory for its bytes was refused.
+    #[error("B4 Memory")]
+    Memory,
+    /// M1 to M8: it and its files come to no ruleset.
+    #[error("{0}")]
+    Load(LoadFault),
+}
+
 /// Why bytes are no program of a shape.
 #[derive(Clone, Copy, Debug, Drop, PartialEq, Eq, Error)]
 pub enum ProgramFault {

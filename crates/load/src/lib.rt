@@ -7,17 +7,24 @@
 // or taken as the text of a rule and compiled. The first fault ends the load. Only when all apps
 // have their programs is the directory exchanged for the copy, so a load that is refused declares
 // nothing.
+//
+// Files are read through a trait, so that files in memory can stand in for those of a device; of
+// these the contracts say which file of which folder was taken.
 
 mod app;
 mod apps;
+mod disk;
 mod fault;
 mod files;
 mod folder;
 mod loading;
+mod path;
 mod program;
 mod rule;
 
-pub use fault::{LoadFault, ProgramFault, RuleTextFault};
+pub use disk::{Device, Disk, read_within};
+pub use fault::{LoadFault, PathFault, ProgramFault, RuleTextFault};
 pub use files::{FileFault, Files};
 pub use folder::FolderFiles;
 pub use loading::load_ruleset;
+pub use path::load_path;

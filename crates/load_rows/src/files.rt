@@ -3,8 +3,7 @@
 ghost use Rattle.std.specs.Prelude.{◌≡◌, option_copied};
 ghost use Rattle.load_rows.specs.Files as specs;
 
-use load::{FileFault, Files};
-use replaying::Disk;
+use load::{Disk, FileFault, Files};
 use std::alloc::{AllocError, Global};
 use std::marker::Model;
 

@@ -9,7 +9,7 @@ ghost use Rattle.manifest_tools.specs.Manifests.{IsChecked};
 use crate::fault::ManifestToolFault;
 use bounded_files::read_file;
 use diagnosis::{Refused, check};
-use load::FolderFiles;
+use load::{Device, FolderFiles};
 use std::rt::Files;
 
 /// The most bytes of a manifest: 1 MiB.
@@ -36,6 +36,7 @@ fn checked<R: Files + AllocGlobal>(rt: &R, path: &str, bytes: &[u8]) -> Result<S
     ensures text { IfOk result (λ text. IsChecked (string_bytes text) bytes.now) }
     ensures refused { IfErr result (λ refused. IsDiagnosis refused bytes.now) }
 {
-    let mut files = FolderFiles::beside(rt, path);
+    let device = Device::new(rt);
+    let mut files = FolderFiles::beside(rt.alloc(), &device, path);
     check(rt.alloc(), bytes, &mut files)
 }

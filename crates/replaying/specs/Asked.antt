@@ -4,13 +4,14 @@ use Rattle.std.specs.Prelude.{◌≡◌, List, [], ◌∷◌, Some}
 use Rattle.std.specs.Arc.{arc_value}
 use Rattle.cells.specs.declared.array.CellArray.{CellArray}
 use Rattle.load.specs.Files.{KnownFiles}
+use Rattle.load.specs.Loaded.{IsLoadedFrom}
 use Rattle.replay.specs.Acts.{IsAskedBy}
 use Rattle.replay.specs.declared.act.Act.{Act}
 use Rattle.replay.specs.declared.act.Act.TheVariants.{Once}
 use Rattle.script.specs.declared.line.EventLine.{EventLine}
 use Rattle.script.specs.declared.line.EventLine.TheVariants as line
 use Rattle.world.specs.declared.event.Event.TheVariants as event
-use Rattle.replaying.specs.Loaded.{IsLoadedFrom, RefusesPath}
+use Rattle.replaying.specs.Loaded.{RefusesManifest}
 use Rattle.replaying.specs.declared.fault.ReplayFault.{ReplayFault}
 use Rattle.replaying.specs.declared.fault.ReplayFault.TheVariants.{Memory}
 
@@ -30,7 +31,7 @@ module _ (known : KnownFiles) where
 
   -- why a line asks nothing: its manifest is refused
   abbrev pub RefusesLine : EventLine → List CellArray → ReplayFault → Type 0
-  RefusesLine (line.Swap manifest) old fault = RefusesPath known manifest old fault
+  RefusesLine (line.Swap manifest) old fault = RefusesManifest known manifest old fault
   RefusesLine asked old Memory = Unit {0}
   RefusesLine asked old fault = ⊥
 

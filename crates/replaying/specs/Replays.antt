@@ -1,7 +1,9 @@
 -- What a manifest and a script, by their paths, come to.
 use Rattle.std.specs.Prelude.{ℕ, List, [], Some, None}
 use Rattle.cells.specs.declared.array.CellArray.{CellArray}
+use Rattle.load.specs.Disk.{within_limit}
 use Rattle.load.specs.Files.{KnownFiles, Gives}
+use Rattle.load.specs.Loaded.{IsLoadedFrom}
 use Rattle.replay.specs.declared.act.Act.{Act}
 use Rattle.replay.specs.declared.reply.Reply.{Reply}
 use Rattle.ruleset.specs.Rules.{Rules}
@@ -10,7 +12,7 @@ use Rattle.script.specs.declared.fault.ScriptFault.TheVariants.{Malformed}
 use Rattle.script.specs.declared.line.EventLine.{EventLine}
 use Rattle.world.specs.World.{opening_world}
 use Rattle.replaying.specs.Asked.{AreActsOf, RefusesLines}
-use Rattle.replaying.specs.Loaded.{IsLoadedFrom, RefusesPath, within_limit}
+use Rattle.replaying.specs.Loaded.{RefusesManifest}
 use Rattle.replaying.specs.Replayed.{AreRepliesTo}
 use Rattle.replaying.specs.declared.fault.ReplayFault.{ReplayFault}
 use Rattle.replaying.specs.declared.fault.ReplayFault.TheVariants.{File, Memory, Script}
@@ -49,7 +51,7 @@ module _ (known : KnownFiles) (manifest script : List ℕ) where
     of_memory : IsReplayFault Memory
     of_script : {fault : ReplayFault} → RefusesScript known script fault → IsReplayFault fault
     of_manifest : {fault : ReplayFault} (lines : List EventLine) → AreLinesOf known script lines
-        → RefusesPath known manifest [] fault → IsReplayFault fault
+        → RefusesManifest known manifest [] fault → IsReplayFault fault
     of_swap : {fault : ReplayFault} (lines : List EventLine) (first : Rules)
         (between : List CellArray) → AreLinesOf known script lines
         → IsLoadedFrom known manifest [] first between → RefusesLines known lines between fault

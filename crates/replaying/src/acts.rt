@@ -3,10 +3,10 @@
 ghost use Rattle.std.specs.Prelude.{IfOk, IfErr};
 ghost use Rattle.replaying.specs.Asked.{IsActOf, AreActsOf, RefusesLine, RefusesLines};
 
-use crate::disk::Disk;
 use crate::fault::ReplayFault;
-use crate::loaded::load_path;
+use crate::loaded::load_rules;
 use cells::Directory;
+use load::Disk;
 use replay::Act;
 use script::EventLine;
 use std::alloc::Global;
@@ -44,7 +44,7 @@ fn act_of<D: Disk>(
     ensures fault { IfErr result (RefusesLine (D.known disk.now) line.now directory.old) }
 {
     if let EventLine::Swap { manifest } = line {
-        let rules = load_path(alloc, disk, manifest.as_str(), directory)?;
+        let rules = load_rules(alloc, disk, manifest.as_str(), directory)?;
         return Ok(Act::Once {
             event: Event::Swap { rules },
         });

@@ -11,12 +11,10 @@
 // these the contract says which replies or which refusal they come to.
 
 mod acts;
-mod beside;
-mod disk;
 mod fault;
 mod loaded;
 mod played;
 
-pub use disk::{Device, Disk};
 pub use fault::ReplayFault;
+pub use load::{Device, Disk};
 pub use played::replay_files;

@@ -7,11 +7,10 @@ ghost use Rattle.replaying.specs.Replays.{AreLinesOf, RefusesScript, IsReplay, I
 ghost use Rattle.world.specs.World.{opening_world};
 
 use crate::acts::acts_of;
-use crate::disk::{Disk, read_within};
 use crate::fault::ReplayFault;
-use crate::loaded::load_path;
+use crate::loaded::load_rules;
 use cells::Directory;
-use load::FileFault;
+use load::{Disk, FileFault, read_within};
 use replay::{Act, Reply, replay};
 use ruleset::Ruleset;
 use script::{EventLine, ScriptFault, read_script};
@@ -40,7 +39,7 @@ pub fn replay_files<D: Disk>(
 {
     let lines = read_lines(alloc, disk, script)?;
     let mut directory = Directory::new(alloc);
-    let first = load_path(alloc, disk, manifest, &mut directory)?;
+    let first = load_rules(alloc, disk, manifest, &mut directory)?;
     let acts = acts_of(alloc, disk, &lines, &mut directory)?;
     match play_acts(alloc, first, &acts) {
         Ok(replies) => Ok(replies),

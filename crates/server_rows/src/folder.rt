@@ -2,6 +2,7 @@
 
 use crate::exchange::is_printed;
 use crate::session::{first_wrong, service};
+use load::Device;
 use serving::{PrepareFault, Server, prepare};
 use std::alloc::{AllocError, Global};
 use std::fs::{self, File, OpenFile};
@@ -65,7 +66,7 @@ fn prepared<H>(rt: &H, path: &str, port: u16) -> Result<Server, PrepareFault>
 where
     H: Files + AllocGlobal + Net<Listener = TcpListener, Stream = TcpStream>,
 {
-    prepare(rt, path, port, 0)
+    prepare(rt, &Device::new(rt), path, port, 0)
 }
 
 /// Whether no server is ready, and this is printed of it.

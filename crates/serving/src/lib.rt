@@ -13,7 +13,7 @@ mod server;
 mod worker_list;
 
 pub use fault::ServingFault;
-pub use manifests::{LoaderFault, Manifests};
+pub use manifests::Manifests;
 pub use ports::{Ports, bind};
 pub use running::run;
 pub use server::{PrepareFault, Server, prepare};

@@ -2,14 +2,15 @@
 //! said to serve, but for want of memory and threads.
 
 ghost use Rattle.std.specs.Prelude.{◌≡◌, ◌≤◌, [], IfOk, IfErr};
-ghost use Rattle.serving.specs.Manifests.{LoadsSome, RefusesToServe};
+ghost use Rattle.load.specs.Loaded.{IsLoadedFrom};
+ghost use Rattle.serving.specs.Manifests.{RefusesToServe};
 
 use crate::fault::ServingFault;
-use crate::manifests::{LoaderFault, Manifests};
+use crate::manifests::Manifests;
 use crate::ports::{Ports, bind};
 use crate::running::run;
 use cells::Directory;
-use operator::Loader;
+use load::{Device, Disk, PathFault, load_path};
 use ruleset::Ruleset;
 use std::net::{Net, TcpListener, TcpStream};
 use std::rt::Files;
@@ -24,7 +25,7 @@ use workers::Service;
 pub enum PrepareFault {
     /// Its manifest comes to no ruleset.
     #[error("{0}")]
-    Manifest(LoaderFault),
+    Manifest(PathFault),
     /// A port can't be bound.
     #[error("{0}")]
     Port(ServingFault),
@@ -38,15 +39,23 @@ pub struct Server {
     directory: Directory,
 }
 
-/// Loads a manifest of the device, and binds both ports of loopback.
-pub fn prepare<H>(rt: &H, path: &str, service: u16, operator: u16) -> Result<Server, PrepareFault>
+/// Loads the manifest at a path, and binds both ports of loopback.
+pub fn prepare<H, D>(
+    rt: &H,
+    disk: &D,
+    path: &str,
+    service: u16,
+    operator: u16,
+) -> Result<Server, PrepareFault>
 where
-    H: Files + AllocGlobal + Net<Listener = TcpListener, Stream = TcpStream>,
-    ensures loaded { IfOk result (λ r. LoadsSome [] (Ok r.rules) r.directory) }
-    ensures refused { IfErr result RefusesToServe }
+    H: AllocGlobal + Net<Listener = TcpListener, Stream = TcpStream>,
+    D: Disk,
+    ensures loaded { IfOk result
+        (λ s. IsLoadedFrom (D.known disk.now) path.now [] s.rules s.directory) }
+    ensures refused { IfErr result (RefusesToServe (D.known disk.now) path.now) }
 {
     let mut directory = Directory::new(rt.alloc());
-    let rules = match Manifests::of(rt).load(rt.alloc(), path, &mut directory) {
+    let rules = match load_path(rt.alloc(), disk, path, &mut directory) {
         Ok(rules) => rules,
         Err(fault) => return Err(PrepareFault::Manifest(fault)),
     };
@@ -85,10 +94,11 @@ impl Server {
             rules,
             directory,
         } = self;
+        let device = Device::new(rt);
         run(
             rt,
             ports,
-            &Manifests::of(rt),
+            &Manifests::of(&device),
             rules,
             directory,
             workers,

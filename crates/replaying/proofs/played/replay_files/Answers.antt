@@ -21,7 +21,7 @@ returns-in_err-acts-clause-fault g c =
     let answered : c.from_residual-in_err-acts.result ≡ Err c.in_err-acts.field-0.0
     = search rules in
     rw answered
-    (of_swap c.in_ok-lines.lines.items (arc_value c.in_ok-first.first) c.load_path.new.directory
+    (of_swap c.in_ok-lines.lines.items (arc_value c.in_ok-first.first) c.load_rules.new.directory
     c.in_ok-lines.ensures.lines (rw c.new-directory.ensures at c.in_ok-first.ensures.rules)
     (rw c.deref.ensures.value at c.in_err-acts.ensures.fault))
 

@@ -1,14 +1,14 @@
-//! Files by their paths.
+//! Files by their paths, and how much is taken of one.
 
 ghost use Rattle.std.specs.Prelude.{List, ℕ, Option};
+ghost use Rattle.load.specs.Disk.{within_limit};
 ghost use Rattle.load.specs.Files.{ReadsFile};
-ghost use Rattle.replaying.specs.Loaded.{within_limit};
 
-use load::FileFault;
+use crate::files::FileFault;
 use std::io::{self, ErrorKind, Read};
 use std::{fs, rt};
 
-/// The most bytes of a script, and of a file that a manifest names: 16 MiB.
+/// The most bytes of a file that a manifest names, and of a script: 16 MiB.
 const FILE_LIMIT: usize = 0x100_0000;
 
 /// Files by their paths.
@@ -23,7 +23,7 @@ pub trait Disk {
 }
 
 /// The bytes of a file of at most 16 MiB. A longer one counts as one that can't be read.
-pub(crate) fn read_within<D: Disk>(disk: &D, path: &str) -> Result<Vec<u8>, FileFault>
+pub fn read_within<D: Disk>(disk: &D, path: &str) -> Result<Vec<u8>, FileFault>
     ensures { ReadsFile (within_limit (D.known disk.now)) path.now result }
 {
     let bytes = disk.read(path)?;
