@@ -1,0 +1,11 @@
+mod Accounts
+mod Counting
+mod Cutting
+mod Gaining
+mod Gathered
+mod Histories
+mod Loads
+mod Places
+mod Shuffles
+mod Steps
+mod Words

@@ -1,0 +1,6 @@
+pub mod History
+pub mod Loads
+pub mod Passes
+pub mod Quotas
+pub mod Rule
+pub mod Words

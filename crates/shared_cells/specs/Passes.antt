@@ -1,0 +1,51 @@
+-- What contracts see of the cells and of a pass, and what is known once the cells are closed.
+use Rattle.std.specs.Prelude.{◌≡◌, ℕ, List, [], ◌∷◌, ◌++◌, map, flat_map, get_or}
+use Rattle.atomic_table.specs.Seated.{TableId}
+use Rattle.cells.specs.declared.event.CellEvent.{CellEvent}
+use Rattle.cells.specs.Grown.{GrewBy}
+use Rattle.shared_cells.specs.History.{Entry, all_events, events_by, IsLegal}
+
+-- the cells: the table of their words, and how many passes were made to them
+pub record CellsView : Type 0 where
+  pub table : TableId
+  pub passes : ℕ
+
+-- a pass: the table of the cells that it is to, and the events that it made, oldest first
+pub record PassView : Type 0 where
+  pub table : TableId
+  pub events : List CellEvent
+
+-- the pass is to these cells
+abbrev pub IsPassOf : CellsView → PassView → Type 0
+IsPassOf cells pass = pass.table ≡ cells.table
+
+-- the pass is to the cells of this table, and has made no event
+pub record IsNewPass (table : TableId) (pass : PassView) : Type 0 where
+  pub of : pass.table ≡ table
+  pub none : pass.events ≡ []
+
+-- the pass gained this event, at the end
+abbrev pub Gained : PassView → CellEvent → PassView → Type 0
+Gained old e new = new ≡ record { table = old.table; events = old.events ++ e ∷ [] }
+
+-- so a pass that gained one event after the other has them behind those that it had
+abbrev pub PassesGainLists : Type 0
+PassesGainLists = (old : PassView) (made : List CellEvent) (new : PassView)
+    → GrewBy Gained old made new
+    → new ≡ record { table = old.table; events = old.events ++ made }
+
+-- what each pass did
+abbrev pub lists_of : List PassView → List (List CellEvent)
+lists_of = map (λ pass. pass.events)
+
+-- all that the passes did, one list behind the other
+abbrev pub events_made : List PassView → List CellEvent
+events_made = flat_map (λ pass. pass.events)
+
+-- The values are those after one legal history, in which the events of a pass are those that the
+-- pass made, each once and in their order, and no others are. Passes have the numbers of their
+-- places in the list here.
+pub record AreLeftBy (passes : List PassView) (values : List ℕ) : Type 0 where
+  pub history : List Entry
+  pub legal : IsLegal (all_events history) values
+  pub own : (p : ℕ) → events_by p history ≡ get_or (lists_of passes) p []

@@ -1,0 +1,80 @@
+//! What the table of words keeps, and how what its seats know is told, cut and joined. No value of
+//! these types is made; they are names for definitions.
+
+use atomic_table::{Join, Play, Split, TableRule};
+use cells::{CellEvent, CellOp};
+use std::collections::LinkedList;
+use std::marker::{Brand, PhantomData};
+
+/// The number of a pass, and the events that it made.
+pub struct Account {
+    pub number: u64,
+    pub events: LinkedList<CellEvent>,
+}
+
+/// What a seat knows: the accounts of passes.
+pub type View = LinkedList<Account>;
+
+/// The rule of the table, which is told how many passes there are.
+pub struct OneHistory;
+
+impl TableRule<(), View, usize> for OneHistory {
+    ghost use Rattle.shared_cells.specs.Rule.{HasHistory, new_accounts};
+
+    ghost holds = { HasHistory };
+
+    ghost first = { new_accounts 0 };
+}
+
+/// The cell and the operation that a step was asked, which its call names.
+pub trait Asked {
+    ghost use Rattle.std.specs.Prelude.{ℕ};
+    ghost use Rattle.cells.specs.declared.event.CellOp.{CellOp};
+
+    ghost cell: { ℕ };
+
+    ghost op: { CellOp };
+}
+
+// What a call names by itself. `act` names its own cell and operation in its proof, so these two
+// stand for nothing.
+impl Asked for Brand {
+    ghost use Rattle.cells.specs.declared.event.CellOp.TheVariants.{Load};
+
+    ghost cell = { 0 };
+
+    ghost op = { Load };
+}
+
+/// A step by which a pass gains the event that was asked.
+pub struct OneEvent<J: Asked> {
+    asked: PhantomData<J>,
+}
+
+impl<J: Asked> Play<(), View> for OneEvent<J> {
+    ghost use Rattle.shared_cells.specs.Rule.{Gains};
+
+    ghost then = { λ s old found new. Gains J.cell J.op old found new };
+}
+
+/// The first account goes to a seat of its own.
+pub struct CutFirst;
+
+impl Split<View> for CutFirst {
+    ghost use Rattle.shared_cells.specs.Rule.{all_but_first, first_only};
+
+    ghost left = { all_but_first };
+
+    ghost right = { first_only };
+}
+
+/// One seat takes in the accounts of another, before its own.
+pub struct TakeIn;
+
+impl Join<View> for TakeIn {
+    ghost use Rattle.std.specs.Prelude.{[], ◌++◌};
+
+    ghost both = { λ own other. other ++ own };
+
+    ghost spent = { [] };
+}

@@ -1,0 +1,27 @@
+//! The word of a cell: its value, or, of a 32-bit cell, its value in the upper half over zeros.
+
+ghost use Rattle.std.specs.Prelude.{◌≡◌, ◌%◌, ◌<◌};
+ghost use Rattle.cells.specs.Events.{limit};
+ghost use Rattle.shared_cells.specs.Words.{stored_word, stored_value};
+
+/// The first cell that is 32 bits wide.
+const NARROW: usize = 4096;
+
+// The word of a number, of which a cell takes the bits that it has room for.
+pub(crate) fn to_word(cell: usize, number: u64) -> u64
+    ensures { result ≡ stored_word cell (number % limit cell) }
+{
+    if cell < NARROW {
+        number
+    } else {
+        (number % (1 << 32)) << 32
+    }
+}
+
+// The value that a cell's word stands for.
+pub(crate) fn to_value(cell: usize, word: u64) -> u64
+    ensures value { result ≡ stored_value cell word }
+    ensures fits { result < limit cell }
+{
+    if cell < NARROW { word } else { word >> 32 }
+}
