@@ -12,8 +12,8 @@ use std::net::{Ipv4Addr, Net, TcpStream};
 use std::time::Duration;
 use thiserror::Error;
 
-/// The most bytes of a reply: 8192 counters have lines of at most 60 bytes, and the apps of a
-/// ruleset are told in fewer bytes than its manifest has, which are at most as many as these.
+/// The most bytes of a reply: 8192 counters have lines of at most 60 bytes, and 256 apps such of at
+/// most 1052.
 const REPLY_LIMIT: usize = 0x10_0000;
 
 /// How long a server may send nothing: it may be at another connection, or at a load.
@@ -36,8 +36,8 @@ pub enum AskFault {
 
 /// Asks the server whose operator's port this is, on this machine, and gives the lines of its
 /// reply, of at most 1 MiB: those of a refusal begin with `refused `. What another port sends is no
-/// reply. It waits ten minutes for each piece of the reply, which outlasts a load; after B5 a load
-/// or a stop may still have been done.
+/// reply. It waits ten minutes for each piece of the reply; after B5 a load or a stop may still have
+/// been done.
 pub fn ask<H>(rt: &H, port: u16, line: &str) -> Result<Vec<u8>, AskFault>
 where
     H: Net<Stream = TcpStream> + AllocGlobal,

@@ -7,9 +7,13 @@ use std::fmt::{self, Display, Write};
 use std::io;
 use std::net::SocketAddr;
 
-/// How many bytes of lines are enough to be written. With one line more, which has at most 150,
-/// they still go out in one piece, since up to 1024 bytes are printed by one write.
+/// How many bytes of lines are enough to be written. With one line more they still go out in one
+/// piece, since up to 1024 bytes are printed by one write.
 const ENOUGH: usize = 800;
+
+/// The most bytes of a line: two numbers of 20 digits, one of 19 with its sign, an address of at
+/// most 58 bytes, a status with the name of a refusal, and blanks.
+const LONGEST: usize = 200;
 
 /// The line of a connection, as it is printed: the moment, the client's address, the reply or the
 /// fault, how many bytes were written, and how many microseconds it took.
@@ -56,7 +60,10 @@ impl Log {
 
     /// Puts a line behind the others. It is lost where memory is refused.
     pub fn note<H: Eprint>(&mut self, rt: &H, line: &LogLine<'_>) {
-        let _noted = write!(self.lines, "{line}");
+        // Where there is room for all of it none is kept by halves.
+        if self.lines.reserve(LONGEST).is_ok() {
+            let _noted = write!(self.lines, "{line}");
+        }
         self.moment = line.moment;
         if self.lines.len() >= ENOUGH {
             self.write_out(rt);

@@ -195,9 +195,9 @@ where
     requires { C.belongs cells.now pass.old }
     ensures { C.belongs cells.now pass.new }
 {
-    let limits = begin(rt, service.timeout);
     let moment = unix_second(rt);
     log.write_earlier(rt, moment);
+    let limits = begin(rt, service.timeout);
     let (outcome, bytes) = match limits {
         Some((_, until)) => answer_until(rt, &call.stream, cells, pass, watcher, moment, until),
         None => (Err(AnswerFault::Reading), 0),
