@@ -115,19 +115,11 @@ where
             ensures { IfErr result (λ e. e ≡ ServingFault.Memory) }
         {
             let flag = &stop;
+            let timeout = service.timeout;
             let job = move ||
                 requires { C.belongs cells.now pass }
             {
-                operate(
-                    rt,
-                    &operator,
-                    loader,
-                    control,
-                    cells,
-                    pass,
-                    flag,
-                    service.timeout,
-                );
+                operate(rt, &operator, loader, control, cells, pass, flag, timeout);
                 flag.store(true, Ordering::SeqCst);
                 wake(rt, service_address);
             };
