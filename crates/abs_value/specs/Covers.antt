@@ -3,8 +3,8 @@
 use Rattle.std.specs.Prelude.{◌≡◌, ◌≢◌, ℕ, ◌+◌, ◌*◌, ◌/◌, ◌%◌, ◌^◌, ◌<◌, ◌≤◌, ◌⊎◌, ◌==◌}
 use Rattle.std.specs.Prelude.{List, Option, Some, None, IsSome, slice_get, if◌then◌else◌}
 use Rattle.std.specs.Int.{bit_at}
-use Rattle.cells.specs.declared.array.CellArray.{CellArray}
-use Rattle.cells.specs.Arrays.{AppShape, HasCell}
+use Rattle.bpf_semantics.specs.cells.declared.array.CellArray.{CellArray}
+use Rattle.bpf_semantics.specs.cells.Arrays.{AppShape, HasCell}
 use Rattle.bpf_semantics.specs.Memory.{context_start, stack_start, cell_address, map_start}
 use Rattle.bpf_semantics.specs.State.{State}
 use Rattle.abs_value.specs.declared.number.Number.{Number}

@@ -88,3 +88,6 @@ pub use worked::{bit_operations, differences, shifts, sizes, sums};
 pub use worked_edges::{decisions, equalities, orders, sides};
 pub use worked_lookups::{call_results, null_checks, other_checks};
 pub use worked_values::{joins, pointer_moves, stack_bytes};
+
+// The words of the contracts here come with them.
+pub use bpf_semantics;

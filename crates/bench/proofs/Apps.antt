@@ -6,7 +6,7 @@ use Rattle.std.proofs.Math.Seq.{get_or-append_seam}
 use Rattle.std.proofs.lemmas.Bool.{cases_lt}
 use Rattle.std.proofs.lemmas.Option.{slice_get_within, slice_get-get_or, slice_get-map, get_or_from_slice_get}
 use Rattle.attrs.specs.Attributes.{Attributes}
-use Rattle.bpf_semantics.specs.Program.{ShapedProgram}
+use Rattle.bpf_machine.specs.bpf_semantics.Program.{ShapedProgram}
 use Rattle.bench.specs.declared.runs.Tally.{Tally}
 use Rattle.bench.specs.Runs.{IsApp, Runs, RunsOnce, with_run}
 use Rattle.bench.specs.Runs as runs

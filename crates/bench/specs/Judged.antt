@@ -1,11 +1,11 @@
 -- What the benchmark's verifications promise of a program's bytes.
 use Rattle.std.specs.Prelude.{◌≡◌, ℕ, List, []}
 use Rattle.bpf_insn.specs.Program.{Program}
-use Rattle.flow_check.specs.Flow.{IsFlow, program_bytes}
-use Rattle.flow_check.specs.Fault.{IsFlowFault}
+use Rattle.bpf_machine.specs.flow_check.Flow.{IsFlow, program_bytes}
+use Rattle.bpf_machine.specs.flow_check.Fault.{IsFlowFault}
 use Rattle.cells.specs.Arrays.{AppShape}
-use Rattle.bpf_rules.specs.declared.refusal.Refusal.{Refusal}
-use Rattle.bpf_verify.specs.Accepted.{IsAccepted, IsRefusal}
+use Rattle.bpf_machine.specs.bpf_rules.declared.refusal.Refusal.{Refusal}
+use Rattle.bpf_machine.specs.bpf_verify.Accepted.{IsAccepted, IsRefusal}
 use Rattle.bench.specs.declared.fault.Fault.{Fault}
 use Rattle.bench.specs.declared.fault.Fault.TheVariants.{Memory, Output, Flow, Rule}
 

@@ -1,7 +1,7 @@
 //! Why the benchmark stops.
 
-use bpf_verify::Refusal;
-use flow_check::FlowFault;
+use bpf_machine::bpf_verify::Refusal;
+use bpf_machine::flow_check::FlowFault;
 use std::alloc::AllocError;
 use std::{fmt, io};
 

@@ -1,13 +1,13 @@
 //! Verifying a program over and over: the flow check of its bytes, and the verifier.
 
 ghost use Rattle.std.specs.Prelude.{◌≡◌, ◌<◌, IfOk, IfErr, OnOk};
-ghost use Rattle.flow_check.specs.Flow.{program_bytes};
+ghost use Rattle.bpf_machine.specs.flow_check.Flow.{program_bytes};
 ghost use Rattle.bench.specs.Judged.{AreAccepted, IsProgramFault, bench_shape};
 
 use crate::fault::Fault;
-use bpf_verify::{Verified, verify};
+use bpf_machine::bpf_verify::{Verified, verify};
+use bpf_machine::flow_check::Flow;
 use cells::Shape;
-use flow_check::Flow;
 use std::alloc::Global;
 
 // The shape of an app of 64 releases and no array.

@@ -5,11 +5,11 @@ ghost use Rattle.std.specs.Prelude.{◌≡◌, ◌≤◌, IfOk, length};
 use anyhow::Result;
 use attrs::Text;
 use bpf_text::assemble;
-use bpf_verify::{Verified, verify};
 use cells::Shape;
-use flow_check::Flow;
+use hot_swap::bpf_verify::{Verified, verify};
+use hot_swap::flow_check::Flow;
+use hot_swap::ruleset::{App, Ruleset};
 use releases::{Package, Release};
-use ruleset::{App, Ruleset};
 use std::alloc::{AllocError, Global};
 use std::sync::Arc;
 

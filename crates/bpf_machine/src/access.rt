@@ -4,8 +4,8 @@
 ghost use Rattle.std.specs.Prelude.{◌≡◌, IsSome, Some};
 ghost use Rattle.attrs.specs.Attributes.{Attributes};
 ghost use Rattle.cells.specs.Arrays.{AppShape};
-ghost use Rattle.bpf_semantics.specs.Calls.{wide_value};
-ghost use Rattle.bpf_semantics.specs.Reads.{byte_count};
+ghost use Rattle.bpf_verify.specs.bpf_semantics.Calls.{wide_value};
+ghost use Rattle.bpf_verify.specs.bpf_semantics.Reads.{byte_count};
 ghost use Rattle.bpf_machine.specs.Next.{CanAct, LeadsTo, IsStorable, stored};
 
 use crate::counters::{cell_number, low_number};

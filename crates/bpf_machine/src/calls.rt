@@ -3,9 +3,9 @@
 ghost use Rattle.std.specs.Prelude.{◌≡◌, ◌≤◌, ◌<◌, ◌-◌, IsSome, IsTrue};
 ghost use Rattle.std.specs.Prelude.{Some, slice_index, take, drop};
 ghost use Rattle.attrs.specs.Helpers.{attr_is};
-ghost use Rattle.bpf_semantics.specs.Calls.{array_of};
-ghost use Rattle.bpf_semantics.specs.Calls as calls;
-ghost use Rattle.bpf_semantics.specs.Memory.{is_in_stack, stack_start};
+ghost use Rattle.bpf_verify.specs.bpf_semantics.Calls.{array_of};
+ghost use Rattle.bpf_verify.specs.bpf_semantics.Calls as calls;
+ghost use Rattle.bpf_verify.specs.bpf_semantics.Memory.{is_in_stack, stack_start};
 ghost use Rattle.bpf_machine.specs.Next.{IsReady, LeadsTo};
 
 use crate::memory::{CELL_START, MAP_START, stack_bytes};

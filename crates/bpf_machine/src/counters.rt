@@ -3,11 +3,11 @@
 ghost use Rattle.std.specs.Prelude.{◌≡◌, ◌<◌, IsTrue};
 ghost use Rattle.attrs.specs.Attributes.{Attributes};
 ghost use Rattle.cells.specs.Arrays.{AppShape};
-ghost use Rattle.bpf_semantics.specs.Memory as memory;
-ghost use Rattle.bpf_semantics.specs.Memory.{is_cell_address};
-ghost use Rattle.bpf_semantics.specs.Counters as counters;
-ghost use Rattle.bpf_semantics.specs.Counters.{cut, atomic_count, fetched};
-ghost use Rattle.bpf_semantics.specs.Reads.{byte_count};
+ghost use Rattle.bpf_verify.specs.bpf_semantics.Memory as memory;
+ghost use Rattle.bpf_verify.specs.bpf_semantics.Memory.{is_cell_address};
+ghost use Rattle.bpf_verify.specs.bpf_semantics.Counters as counters;
+ghost use Rattle.bpf_verify.specs.bpf_semantics.Counters.{cut, atomic_count, fetched};
+ghost use Rattle.bpf_verify.specs.bpf_semantics.Reads.{byte_count};
 ghost use Rattle.bpf_machine.specs.Next.{CanAct, LeadsTo};
 
 use crate::memory::{CELL_START, add_offset};

@@ -4,8 +4,9 @@
 ghost use Rattle.std.specs.Prelude.{◌≡◌, ◌+◌, ◌≤◌, ◌<◌, ◌-◌, length, take, drop, IsTrue};
 ghost use Rattle.std.specs.List.{splice};
 ghost use Rattle.bpf_insn.specs.Words.{low_bytes};
-ghost use Rattle.bpf_semantics.specs.Memory.{context_start, stack_start, address_of, is_in_stack};
-ghost use Rattle.bpf_semantics.specs.Reads.{byte_count, load_count, filled};
+ghost use Rattle.bpf_verify.specs.bpf_semantics.Memory.{context_start, stack_start};
+ghost use Rattle.bpf_verify.specs.bpf_semantics.Memory.{address_of, is_in_stack};
+ghost use Rattle.bpf_verify.specs.bpf_semantics.Reads.{byte_count, load_count, filled};
 ghost use Rattle.bpf_machine.specs.Words.{number_in, number_at, IsReadable};
 
 use crate::words::Words;

@@ -1,8 +1,8 @@
 //! The memory that an instruction accesses: what it does there, and from which address on.
 
 ghost use Rattle.std.specs.Prelude.{◌≡◌, ◌≤◌};
-ghost use Rattle.bpf_semantics.specs.Counters.{atomic_count};
-ghost use Rattle.bpf_semantics.specs.Reads as counts;
+ghost use Rattle.abs_value.specs.bpf_semantics.Counters.{atomic_count};
+ghost use Rattle.abs_value.specs.bpf_semantics.Reads as counts;
 ghost use Rattle.bpf_rules.specs.Reads as reads;
 
 use abs_value::byte_count;

@@ -4,7 +4,7 @@
 ghost use Rattle.std.specs.Prelude.{◌≡◌, ◌&&◌, ◌||◌, ◌∷◌, ℤ};
 ghost use Rattle.std.specs.List.{list_any};
 ghost use Rattle.bpf_insn.specs.declared.reg.Reg.TheVariants.{R0};
-ghost use Rattle.bpf_semantics.specs.Counters as counters;
+ghost use Rattle.abs_value.specs.bpf_semantics.Counters as counters;
 ghost use Rattle.abs_value.specs.States.{value_of};
 ghost use Rattle.abs_value.specs.Values.{is_unusable, is_pointer};
 ghost use Rattle.bpf_rules.specs.Reads as reads;

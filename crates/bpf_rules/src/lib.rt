@@ -46,3 +46,8 @@ pub use laws::{edges_have_numbers, states_are_stood_for, steps_are_safe};
 pub use refusal::{Refusal, Rule};
 pub use rules::first_rule;
 pub use transfer::{go_on_in, jump_in, step_in};
+
+// The words of the contracts here come with them.
+pub use abs_value;
+pub use abs_value::bpf_semantics;
+pub use flow_check;

@@ -3,7 +3,7 @@
 
 ghost use Rattle.std.specs.Prelude.{◌≡◌};
 ghost use Rattle.cells.specs.Arrays.{AppShape};
-ghost use Rattle.bpf_semantics.specs.Reads as counts;
+ghost use Rattle.abs_value.specs.bpf_semantics.Reads as counts;
 ghost use Rattle.bpf_rules.specs.Memory as memory;
 ghost use Rattle.bpf_rules.specs.Rules as rules;
 ghost use Rattle.bpf_rules.specs.Transfer.{loaded_at};

@@ -2,7 +2,7 @@
 
 ghost use Rattle.std.specs.Prelude.{◌≡◌, ◌≤◌, ◌+◌};
 ghost use Rattle.std.specs.Prelude.{IfSome};
-ghost use Rattle.bpf_semantics.specs.Memory.{stack_size};
+ghost use Rattle.abs_value.specs.bpf_semantics.Memory.{stack_size};
 ghost use Rattle.bpf_rules.specs.Memory as memory;
 
 use crate::access::{Access, Use};

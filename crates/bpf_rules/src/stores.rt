@@ -2,7 +2,7 @@
 //! leave.
 
 ghost use Rattle.std.specs.Prelude.{◌≡◌, ℤ};
-ghost use Rattle.bpf_semantics.specs.Reads as counts;
+ghost use Rattle.abs_value.specs.bpf_semantics.Reads as counts;
 ghost use Rattle.bpf_rules.specs.Memory as memory;
 ghost use Rattle.bpf_rules.specs.Rules as rules;
 ghost use Rattle.bpf_rules.specs.Transfer.{stored_at};

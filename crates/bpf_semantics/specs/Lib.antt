@@ -14,3 +14,5 @@ pub mod WorkedContext
 pub mod WorkedCells
 pub mod Trapping
 pub mod TrappingCells
+pub use Rattle.attrs.specs as attrs
+pub use Rattle.cells.specs as cells

@@ -4,20 +4,20 @@ use Rattle.std.specs.Prelude.{◌==◌, if◌then◌else◌, map, min, max}
 use Rattle.std.specs.List.{range_with_len}
 use Rattle.std.proofs.lemmas.Bool.{cases_Bool}
 use Rattle.std.proofs.lemmas.Nat.{and_comm}
-use Rattle.abs_value.specs.declared.number.Number.{Number}
-use Rattle.abs_value.specs.declared.places.Places.{Places}
-use Rattle.abs_value.specs.declared.origin.Lookup.{Lookup}
-use Rattle.abs_value.specs.declared.origin.Origin.{Origin}
-use Rattle.abs_value.specs.declared.origin.Origin.TheVariants.{Found, Fixed}
-use Rattle.abs_value.specs.declared.value.Abs.{Abs}
-use Rattle.abs_value.specs.declared.value.Abs.TheVariants.{Unusable, Num, Ctx, Stk, Map, MayCell, Cell}
-use Rattle.abs_value.specs.declared.slot.AbsSlot.{AbsSlot}
-use Rattle.abs_value.specs.declared.slot.AbsSlot.TheVariants.{Kept, Bytes}
-use Rattle.abs_value.specs.declared.state.AbsState.{AbsState}
-use Rattle.abs_value.specs.Numbers.{hull}
-use Rattle.abs_value.specs.Values.{place_hull, same_lookup, same_origin, join_values}
-use Rattle.abs_value.specs.Stack.{mask_of, slot_at, kept_slot, join_slots, join_stacks}
-use Rattle.abs_value.specs.States.{register_at, join_registers, join_states}
+use Rattle.bpf_rules.specs.abs_value.declared.number.Number.{Number}
+use Rattle.bpf_rules.specs.abs_value.declared.places.Places.{Places}
+use Rattle.bpf_rules.specs.abs_value.declared.origin.Lookup.{Lookup}
+use Rattle.bpf_rules.specs.abs_value.declared.origin.Origin.{Origin}
+use Rattle.bpf_rules.specs.abs_value.declared.origin.Origin.TheVariants.{Found, Fixed}
+use Rattle.bpf_rules.specs.abs_value.declared.value.Abs.{Abs}
+use Rattle.bpf_rules.specs.abs_value.declared.value.Abs.TheVariants.{Unusable, Num, Ctx, Stk, Map, MayCell, Cell}
+use Rattle.bpf_rules.specs.abs_value.declared.slot.AbsSlot.{AbsSlot}
+use Rattle.bpf_rules.specs.abs_value.declared.slot.AbsSlot.TheVariants.{Kept, Bytes}
+use Rattle.bpf_rules.specs.abs_value.declared.state.AbsState.{AbsState}
+use Rattle.bpf_rules.specs.abs_value.Numbers.{hull}
+use Rattle.bpf_rules.specs.abs_value.Values.{place_hull, same_lookup, same_origin, join_values}
+use Rattle.bpf_rules.specs.abs_value.Stack.{mask_of, slot_at, kept_slot, join_slots, join_stacks}
+use Rattle.bpf_rules.specs.abs_value.States.{register_at, join_registers, join_states}
 
 -- ---- values
 

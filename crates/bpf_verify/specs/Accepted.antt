@@ -3,11 +3,11 @@ use Rattle.std.specs.Prelude.{◌≡◌, ℕ, zero, suc, ◌<◌, List, [], ◌�
 use Rattle.std.specs.Prelude.{◌==◌, if◌then◌else◌}
 use Rattle.bpf_insn.specs.declared.insn.Insn.{Insn}
 use Rattle.bpf_insn.specs.Program.{Program, at}
-use Rattle.bpf_semantics.specs.Program.{ShapedProgram, shaped}
+use Rattle.bpf_rules.specs.bpf_semantics.Program.{ShapedProgram, shaped}
 use Rattle.cells.specs.Arrays.{AppShape}
-use Rattle.abs_value.specs.declared.state.AbsState.{AbsState}
-use Rattle.abs_value.specs.States.{join_states, opening_state}
-use Rattle.abs_value.specs.Inhabited.{IsInhabitedState}
+use Rattle.bpf_rules.specs.abs_value.declared.state.AbsState.{AbsState}
+use Rattle.bpf_rules.specs.abs_value.States.{join_states, opening_state}
+use Rattle.bpf_rules.specs.abs_value.Inhabited.{IsInhabitedState}
 use Rattle.bpf_rules.specs.declared.refusal.Rule.{Rule}
 use Rattle.bpf_rules.specs.declared.refusal.Refusal.{Refusal}
 use Rattle.bpf_rules.specs.declared.refusal.Refusal.TheVariants as refusal

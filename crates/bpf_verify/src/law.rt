@@ -2,11 +2,11 @@
 //! a slot of the stack, is empty.
 
 ghost use Rattle.bpf_insn.specs.Program.{Program};
-ghost use Rattle.bpf_semantics.specs.Program.{ShapedProgram};
+ghost use Rattle.bpf_rules.specs.bpf_semantics.Program.{ShapedProgram};
 ghost use Rattle.cells.specs.Arrays.{AppShape};
 ghost use Rattle.bpf_verify.specs.Accepted.{HasOneVerdict, HasNoEmptyRange};
 
-use abs_value::states_have_numbers;
+use bpf_rules::abs_value::states_have_numbers;
 use bpf_rules::edges_have_numbers;
 
 /// A law: a program under a shape is accepted, or refused at one place by one rule.

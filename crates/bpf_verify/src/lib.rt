@@ -35,3 +35,6 @@ pub use cells::Shape;
 pub use law::{no_range_is_empty, one_verdict};
 pub use table::table_is_enough;
 pub use verified::{Verified, verify, verify_counted};
+
+// The words of the contracts here come with them.
+pub use bpf_rules::{bpf_semantics, flow_check};

@@ -4,17 +4,17 @@
 
 ghost use Rattle.std.specs.Prelude.{◌≡◌, ◌<◌, ◌≤◌, ◌+◌, length, OnOk, IfErr, OnErr, Some};
 ghost use Rattle.bpf_insn.specs.Program.{at};
-ghost use Rattle.flow_check.specs.Edges.{next_of};
-ghost use Rattle.bpf_semantics.specs.Program.{shaped};
+ghost use Rattle.bpf_rules.specs.flow_check.Edges.{next_of};
+ghost use Rattle.bpf_rules.specs.bpf_semantics.Program.{shaped};
 ghost use Rattle.bpf_verify.specs.Accepted.{IsRefusal, IsAccepted};
 ghost use Rattle.bpf_verify.specs.Entries.{AreSwept};
 ghost use Rattle.bpf_verify.specs.Kept.{KeptAtMost, refused_at, judged, greatest_ahead};
 
 use crate::entries::Entries;
 use bpf_insn::Insn;
+use bpf_rules::flow_check::Flow;
 use bpf_rules::{Refusal, first_rule};
 use cells::Shape;
-use flow_check::Flow;
 
 /// Judges the instruction at the slot.
 fn visit(

@@ -15,7 +15,7 @@ use Rattle.commands.specs.declared.answer.Answer.TheVariants.{Listed, Accepted, 
 use Rattle.commands.specs.declared.answer.Answer.TheVariants.{Replayed, Ready}
 use Rattle.commands.specs.declared.fault.Fault.{Fault}
 use Rattle.commands.specs.declared.fault.Fault.TheVariants.{Manifest, Program}
-use Rattle.load.specs.Loaded.{IsLoadedFrom}
+use Rattle.program_tools.specs.load.Loaded.{IsLoadedFrom}
 use Rattle.manifest_tools.specs.Manifests.{HasReplayed, IsChecked, IsCheckRefusal}
 use Rattle.manifest_tools.specs.Manifests.{IsReplayRefusal, most_manifest}
 use Rattle.program_tools.specs.Assembly.{most_text, IsAssembled, IsAssemblyRefusal}

@@ -4,9 +4,9 @@ use Rattle.command_line.specs.declared.request.Line.{Line}
 use Rattle.commands.specs.Texts.{line_words}
 use Rattle.commands.specs.declared.fault.Fault.{Fault}
 use Rattle.commands.specs.declared.fault.Fault.TheVariants.{Connect, Memory, Told, Word}
-use Rattle.operator.specs.Replies.{is_answer}
-use Rattle.operator.specs.Request.{Asks, AsksNothing}
-use Rattle.operator.specs.declared.request.Request.{Request}
+use Rattle.serving.specs.operator.Replies.{is_answer}
+use Rattle.serving.specs.operator.Request.{Asks, AsksNothing}
+use Rattle.serving.specs.operator.declared.request.Request.{Request}
 
 -- the bytes say that what the line asks was done: they are a reply to it, and no refusal
 pub record IsDoneAs (text bytes : List ℕ) : Type 0 where

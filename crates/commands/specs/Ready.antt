@@ -2,7 +2,7 @@
 use Rattle.std.specs.Prelude.{ℕ, List, [], None}
 use Rattle.commands.specs.declared.fault.Fault.{Fault}
 use Rattle.commands.specs.declared.fault.Fault.TheVariants.{Bind, Load}
-use Rattle.load.specs.Loaded.{RefusesPath}
+use Rattle.program_tools.specs.load.Loaded.{RefusesPath}
 
 abbrev pub IsServeRefusal : List ℕ → Fault → Type 0
 IsServeRefusal manifest (Load refused) = RefusesPath None manifest [] refused

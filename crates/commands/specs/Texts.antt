@@ -15,7 +15,7 @@ use Rattle.commands.specs.declared.fault.Fault.TheVariants.{Word, Connect, Bind}
 use Rattle.commands.specs.declared.fault.Fault.TheVariants as fault
 use Rattle.manifest_tools.specs.Manifests as manifest
 use Rattle.program_tools.specs.Texts as program
-use Rattle.ruleset.specs.Texts.{line}
+use Rattle.program_tools.specs.rulesets.Texts.{line}
 
 abbrev pub serving_line : List ℕ
 serving_line = line (codes "serving generation 1")

@@ -5,11 +5,11 @@ ghost use Rattle.std.specs.String.{string_bytes};
 ghost use Rattle.command_line.specs.declared.request.Line as asked;
 ghost use Rattle.commands.specs.Asked.{IsAskRefusal, IsDoneAs};
 ghost use Rattle.commands.specs.Texts.{line_words};
-ghost use Rattle.operator.specs.Replies.{IsReplyTo};
+ghost use Rattle.serving.specs.operator.Replies.{IsReplyTo};
 
 use crate::fault::Fault;
 use command_line::Line;
-use operator::{AskFault, ask};
+use serving::operator::{AskFault, ask};
 use std::alloc::{AllocError, Global};
 use std::net::{Net, TcpStream};
 use std::str;

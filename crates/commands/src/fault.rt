@@ -2,9 +2,9 @@
 
 ghost use Rattle.commands.specs.Texts.{fault_text};
 
-use load::PathFault;
 use manifest_tools::ManifestToolFault;
 use program_tools::ProgramToolFault;
+use program_tools::load::PathFault;
 use std::fmt;
 
 /// What is wrong; it is shown as it is printed, behind `refused `.

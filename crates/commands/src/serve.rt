@@ -3,18 +3,18 @@
 ghost use Rattle.std.specs.Prelude.{◌≡◌, ◌*◌, [], None, IfOk, IfErr};
 ghost use Rattle.std.specs.Duration.{as_nanos};
 ghost use Rattle.commands.specs.Ready.{IsServeRefusal};
-ghost use Rattle.load.specs.Loaded.{IsLoadedFrom};
+ghost use Rattle.program_tools.specs.load.Loaded.{IsLoadedFrom};
 
 use crate::fault::Fault;
 use command_line::Plan;
-use load::Device;
+use program_tools::load::Device;
+use serving::workers::Service;
 use serving::{PrepareFault, Server, prepare};
 use std::net::{Net, TcpListener, TcpStream};
 use std::rt::Files;
 use std::sync::Wait;
 use std::thread::Threads;
 use std::time::{Clock, Duration};
-use workers::Service;
 
 /// The server of a manifest, whose ports listen.
 pub fn prepare_server<R>(rt: &R, manifest: &str, plan: &Plan) -> Result<Server, Fault>

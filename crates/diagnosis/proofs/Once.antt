@@ -9,12 +9,12 @@ use Rattle.cells.specs.declared.array.ArrayNo.{ArrayNo}
 use Rattle.cells.specs.declared.array.CellArray.{CellArray}
 use Rattle.declarations.specs.Order.{AreDeclared}
 use Rattle.declarations.specs.Order.AreDeclared.{none, next}
-use Rattle.ruleset.specs.Texts.{app_line}
+use Rattle.load.specs.rulesets.Texts.{app_line}
 use Rattle.diagnosis.specs.Texts.{as_declared, array_line, declared_line}
 use Rattle.diagnosis.specs.Texts.{accepted_text, loaded_text}
 use Rattle.manifest.specs.Manifest.{Manifest, none_of, once}
 use Rattle.manifest.specs.Twice.{repeated}
-use Rattle.ruleset.specs.Rules.{AppRule}
+use Rattle.load.specs.rulesets.Rules.{AppRule}
 
 abbrev pub names : List Declaration → List (List ℕ)
 names ds = map (λ (d : Declaration). d.name) ds

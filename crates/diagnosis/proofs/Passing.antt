@@ -9,7 +9,7 @@ use Rattle.diagnosis.specs.declared.shown.Place.{Place}
 use Rattle.diagnosis.proofs.Once.{told_as_declared}
 use Rattle.load.specs.Files.{KnownFiles, Gives}
 use Rattle.load.specs.Load.{IsRulesetOf}
-use Rattle.ruleset.specs.Rules.{AppRule, Rules}
+use Rattle.load.specs.rulesets.Rules.{AppRule, Rules}
 
 pub passes : (known : KnownFiles) (old : List CellArray) (bytes text : List ℕ) (rules : Rules)
     (arrays lent : List CellArray) (apps : List AppRule) → old ≡ []

@@ -6,7 +6,7 @@ use Rattle.diagnosis.specs.Texts.{accepted_text}
 use Rattle.load.specs.Files.{KnownFiles}
 use Rattle.load.specs.Load.{IsRulesetOf, IsLoadFault}
 use Rattle.load.specs.declared.fault.LoadFault.{LoadFault}
-use Rattle.ruleset.specs.Rules.{Rules}
+use Rattle.load.specs.rulesets.Rules.{Rules}
 
 module _ (known : KnownFiles) (bytes : List ℕ) where
   -- it comes to a ruleset, and this is told of its arrays and its apps

@@ -2,3 +2,4 @@ pub mod Texts
 pub mod Shown
 pub mod Reason
 pub mod Check
+pub use Rattle.load.specs.rulesets

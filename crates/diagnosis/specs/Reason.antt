@@ -5,7 +5,7 @@ use Rattle.diagnosis.specs.declared.shown.Place.{Place}
 use Rattle.diagnosis.specs.declared.shown.Place.TheVariants.{Whole, Slot, Line}
 use Rattle.diagnosis.specs.Shown.{ShowsPlace}
 use Rattle.diagnosis.specs.Texts.{file_line, cells_line}
-use Rattle.ruleset.specs.Texts.{line}
+use Rattle.load.specs.rulesets.Texts.{line}
 use Rattle.load.specs.Files.{KnownFiles}
 use Rattle.load.specs.Source.{file_of}
 use Rattle.load.specs.declared.fault.LoadFault.{LoadFault}

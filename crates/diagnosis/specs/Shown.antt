@@ -7,7 +7,7 @@ use Rattle.bpf_insn.specs.declared.insn.Insn.{Insn}
 use Rattle.bpf_text.specs.Listing.{line_of}
 use Rattle.diagnosis.specs.declared.shown.Place.{Place}
 use Rattle.diagnosis.specs.declared.shown.Place.TheVariants.{Whole, Slot, Line}
-use Rattle.ruleset.specs.Texts.{line}
+use Rattle.load.specs.rulesets.Texts.{line}
 use Rattle.load.specs.Files.{KnownFiles, Gives}
 
 -- the text of this line, counted from 1; it is empty behind the last

@@ -6,8 +6,8 @@ use Rattle.declarations.specs.Texts.{declaration_text}
 use Rattle.load.specs.Source.{file_of}
 use Rattle.manifest.specs.declared.app.Source.{Source}
 use Rattle.manifest.specs.declared.app.Source.TheVariants.{Program, Rule}
-use Rattle.ruleset.specs.Rules.{AppRule}
-use Rattle.ruleset.specs.Texts.{line, app_line}
+use Rattle.load.specs.rulesets.Rules.{AppRule}
+use Rattle.load.specs.rulesets.Texts.{line, app_line}
 
 -- ---- of a manifest that is accepted
 

@@ -5,7 +5,7 @@ ghost use Rattle.declarations.specs.Texts as declarations;
 ghost use Rattle.diagnosis.specs.Texts.{declared_line, loaded_text};
 
 use cells::{CellArray, CellWidth};
-use ruleset::{App, tell_apps};
+use load::ruleset::{App, tell_apps};
 use std::alloc::{AllocError, Global};
 use std::fmt::Write;
 

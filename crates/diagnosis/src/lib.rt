@@ -16,3 +16,6 @@ mod reason;
 mod shown;
 
 pub use checking::{Refused, check};
+
+// The words of the contracts here come with them.
+pub use load;

@@ -4,11 +4,11 @@
 use anyhow::{Context, Result};
 use attrs::{AppFacts, Attrs, RequestFacts, Text};
 use bpf_machine::Run;
-use bpf_verify::Verified;
+use bpf_machine::bpf_verify::Verified;
 use cells::{Directory, PlainCells, PlainPass, Shape};
 use declarations::{declare_all, read_spec};
-use rule_compile::compile;
-use rule_lang::parse;
+use load::rule_compile::compile;
+use load::rule_lang::parse;
 use std::alloc::Global;
 use std::rt::Files;
 use std::sync::Arc;

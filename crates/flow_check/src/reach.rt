@@ -5,7 +5,8 @@ ghost use Rattle.std.specs.Prelude.{◌≡◌, true, false, ℕ, ◌<◌, ◌≤
 ghost use Rattle.std.specs.Prelude.{All, Contains, length, replicate, slice_set};
 ghost use Rattle.flow_check.specs.Edges.{successors};
 ghost use Rattle.flow_check.specs.Flow.{LeadsAhead};
-ghost use Rattle.flow_check.specs.Sweep.{IsMarked, IsMarkedTo, IsLowestUnreached, MarksOnly, marked};
+ghost use Rattle.flow_check.specs.Sweep.{IsMarked, IsMarkedTo};
+ghost use Rattle.flow_check.specs.Sweep.{IsLowestUnreached, MarksOnly, marked};
 
 use crate::edges::{jump_target, next_place};
 use bpf_insn::Insn;

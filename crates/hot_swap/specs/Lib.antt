@@ -1,1 +1,2 @@
 pub mod Latest
+pub use Rattle.ruleset.specs as rulesets

@@ -15,3 +15,7 @@ pub use fault::SwapFault;
 pub use published::Generation;
 pub use publisher::Publisher;
 pub use watcher::Watcher;
+
+// The words of the contracts here come with them.
+pub use ruleset;
+pub use ruleset::{bpf_verify, flow_check};

@@ -8,3 +8,6 @@ pub mod App
 pub mod Apps
 pub mod Load
 pub mod Loaded
+pub use Rattle.rule_compile.specs as rule_compile
+pub use Rattle.rule_compile.specs.rule_lang
+pub use Rattle.ruleset.specs as rulesets

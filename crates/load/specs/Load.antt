@@ -6,7 +6,7 @@ use Rattle.cells.specs.Directory.{Declaration}
 use Rattle.cells.specs.declared.array.ArrayNo.{ArrayNo}
 use Rattle.cells.specs.declared.array.CellArray.{CellArray}
 use Rattle.cells.specs.declared.fault.CellsFault.TheVariants as cells
-use Rattle.declarations.specs.Order.{AreDeclared, IsRefusedArray}
+use Rattle.manifest.specs.declarations.Order.{AreDeclared, IsRefusedArray}
 use Rattle.manifest.specs.Manifest.{Manifest, ReadsManifest}
 use Rattle.manifest.specs.declared.fault.ManifestFault.TheVariants as manifest
 use Rattle.ruleset.specs.Rules.{Rules}

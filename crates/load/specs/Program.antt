@@ -1,12 +1,12 @@
 -- The program that the bytes of a file are.
 use Rattle.std.specs.Prelude.{ℕ, List}
-use Rattle.bpf_insn.specs.Program.{Program}
-use Rattle.bpf_semantics.specs.Program.{ShapedProgram, shaped}
-use Rattle.bpf_verify.specs.Accepted.{IsAccepted, IsRefusedAt}
+use Rattle.rule_compile.specs.bpf_insn.Program.{Program}
+use Rattle.rule_compile.specs.bpf_semantics.Program.{ShapedProgram, shaped}
+use Rattle.rule_compile.specs.bpf_verify.Accepted.{IsAccepted, IsRefusedAt}
 use Rattle.cells.specs.Arrays.{AppShape}
-use Rattle.flow_check.specs.Fault.{IsFlowFault}
-use Rattle.flow_check.specs.Flow.{IsAcceptedAs}
-use Rattle.flow_check.specs.declared.fault.FlowFault.TheVariants as flow
+use Rattle.rule_compile.specs.flow_check.Fault.{IsFlowFault}
+use Rattle.rule_compile.specs.flow_check.Flow.{IsAcceptedAs}
+use Rattle.rule_compile.specs.flow_check.declared.fault.FlowFault.TheVariants as flow
 use Rattle.load.specs.declared.fault.AppFault.{AppFault}
 use Rattle.load.specs.declared.fault.AppFault.TheVariants as app
 use Rattle.load.specs.declared.fault.ProgramFault.TheVariants.{Flow, Verify}

@@ -1,16 +1,16 @@
 -- The program of the rule that the bytes of a file spell.
 use Rattle.std.specs.Prelude.{◌<◌, ℕ, List, Ok, Err, IsUtf8}
-use Rattle.attrs.specs.Attributes.{Attributes}
-use Rattle.bpf_semantics.specs.Program.{ShapedProgram}
-use Rattle.bpf_verify.specs.Accepted.{IsAccepted}
+use Rattle.manifest.specs.attrs.Attributes.{Attributes}
+use Rattle.rule_compile.specs.bpf_semantics.Program.{ShapedProgram}
+use Rattle.rule_compile.specs.bpf_verify.Accepted.{IsAccepted}
 use Rattle.cells.specs.Arrays.{AppShape}
 use Rattle.rule_compile.specs.Means.{Means}
-use Rattle.rule_lang.specs.declared.fault.RuleFault.TheVariants.{At}
-use Rattle.rule_lang.specs.declared.fault.RuleFaultKind.{RuleFaultKind}
-use Rattle.rule_lang.specs.declared.fault.RuleFaultKind.TheVariants.{Token}
-use Rattle.rule_lang.specs.declared.rule.Statement.{Statement}
-use Rattle.rule_lang.specs.Cost.{cost}
-use Rattle.rule_lang.specs.Verdicts.{IsVerdict}
+use Rattle.rule_compile.specs.rule_lang.declared.fault.RuleFault.TheVariants.{At}
+use Rattle.rule_compile.specs.rule_lang.declared.fault.RuleFaultKind.{RuleFaultKind}
+use Rattle.rule_compile.specs.rule_lang.declared.fault.RuleFaultKind.TheVariants.{Token}
+use Rattle.rule_compile.specs.rule_lang.declared.rule.Statement.{Statement}
+use Rattle.rule_compile.specs.rule_lang.Cost.{cost}
+use Rattle.rule_compile.specs.rule_lang.Verdicts.{IsVerdict}
 use Rattle.load.specs.declared.fault.AppFault.{AppFault}
 use Rattle.load.specs.declared.fault.AppFault.TheVariants as app
 use Rattle.load.specs.declared.fault.RuleTextFault.TheVariants.{Text, TooLong}

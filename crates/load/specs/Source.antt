@@ -1,6 +1,6 @@
 -- The program that an app's file gives, as a program's bytes or as the text of a rule.
 use Rattle.std.specs.Prelude.{ℕ, List, Some, None}
-use Rattle.bpf_semantics.specs.Program.{ShapedProgram}
+use Rattle.rule_compile.specs.bpf_semantics.Program.{ShapedProgram}
 use Rattle.cells.specs.Arrays.{AppShape}
 use Rattle.manifest.specs.declared.app.Source.{Source}
 use Rattle.manifest.specs.declared.app.Source.TheVariants as source

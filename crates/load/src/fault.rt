@@ -1,10 +1,10 @@
 //! Why a manifest and its files make no ruleset.
 
-use bpf_verify::Rule;
 use cells::CellsFault;
-use flow_check::FlowRule;
 use manifest::{Misfit, TomlFault, Twice};
-use rule_lang::RuleFaultKind;
+use rule_compile::bpf_verify::Rule;
+use rule_compile::flow_check::FlowRule;
+use rule_compile::rule_lang::RuleFaultKind;
 use thiserror::Error;
 
 /// What is wrong, with the numbers M1 to M8 that are printed. Arrays and apps are numbered from 1

@@ -28,3 +28,8 @@ pub use files::{FileFault, Files};
 pub use folder::FolderFiles;
 pub use loading::load_ruleset;
 pub use path::load_path;
+
+// The words of the contracts here come with them.
+pub use rule_compile;
+pub use rule_compile::rule_lang;
+pub use ruleset;

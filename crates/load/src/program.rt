@@ -4,9 +4,9 @@ ghost use Rattle.std.specs.Prelude.{◌≡◌, IfOk, IfErr};
 ghost use Rattle.load.specs.Program.{IsProgramOf, RefusesProgram};
 
 use crate::fault::{AppFault, ProgramFault};
-use bpf_verify::{Refusal, Verified, verify};
 use cells::Shape;
-use flow_check::{Flow, FlowFault};
+use rule_compile::bpf_verify::{Refusal, Verified, verify};
+use rule_compile::flow_check::{Flow, FlowFault};
 use std::alloc::Global;
 
 /// The program that bytes are, accepted under a shape, or the first fault: F1 to F8 of its graph,

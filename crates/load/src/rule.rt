@@ -4,10 +4,10 @@ ghost use Rattle.std.specs.Prelude.{◌≡◌, IfOk, IfErr};
 ghost use Rattle.load.specs.Rule.{IsProgramOfRule, RefusesRule};
 
 use crate::fault::{AppFault, RuleTextFault};
-use bpf_verify::Verified;
 use cells::Shape;
+use rule_compile::bpf_verify::Verified;
+use rule_compile::rule_lang::{RuleFault, RuleFaultKind, parse};
 use rule_compile::{CompileFault, compile};
-use rule_lang::{RuleFault, RuleFaultKind, parse};
 use std::alloc::Global;
 
 /// The program of the rule that a file's text spells, or the first fault: L1 to L4 of the text, or

@@ -4,11 +4,11 @@
 use crate::given::{attributes, code_of};
 use crate::row::row_of;
 use bpf_insn::Insn;
+use bpf_machine::bpf_verify::{Verified, verify};
+use bpf_machine::flow_check::Flow;
 use bpf_machine::{Progress, Run};
 use bpf_text::assemble;
-use bpf_verify::{Verified, verify};
 use cells::{PlainCells, PlainPass, Shape};
-use flow_check::Flow;
 use reference::{Interpreter, Observed};
 use std::alloc::Global;
 use std::sync::Arc;

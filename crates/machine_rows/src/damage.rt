@@ -5,10 +5,10 @@
 use crate::given::{attributes, shape_over};
 use crate::runs::runs_alike;
 use attrs::Attrs;
+use bpf_machine::bpf_verify::verify;
+use bpf_machine::flow_check::Flow;
 use bpf_text::assemble;
-use bpf_verify::verify;
 use cells::Shape;
-use flow_check::Flow;
 use std::alloc::Global;
 use std::sync::Arc;
 use std::test::Fail;

@@ -9,3 +9,5 @@ pub mod App
 pub mod Twice
 pub mod Manifest
 pub mod Texts
+pub use Rattle.attrs.specs as attrs
+pub use Rattle.declarations.specs as declarations

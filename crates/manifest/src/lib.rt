@@ -51,3 +51,6 @@ pub use manifest::{Manifest, ManifestParts};
 pub use misfit::{AppMisfit, ArrayMisfit, InList, Misfit, PackageMisfit, ReleaseMisfit};
 pub use quote::Quote;
 pub use read::read_manifest;
+
+// The words of the contracts here come with them.
+pub use declarations;

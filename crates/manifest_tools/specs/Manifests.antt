@@ -10,10 +10,10 @@ use Rattle.diagnosis.specs.Check.{Passes, Fails}
 use Rattle.diagnosis.specs.declared.checking.Refused.{Refused}
 use Rattle.manifest_tools.specs.declared.fault.ManifestToolFault.{ManifestToolFault}
 use Rattle.manifest_tools.specs.declared.fault.ManifestToolFault.TheVariants as fault
-use Rattle.replay.specs.Replies.{reply_text}
-use Rattle.replay.specs.declared.reply.Reply.{Reply}
+use Rattle.replaying.specs.replay.Replies.{reply_text}
+use Rattle.replaying.specs.replay.declared.reply.Reply.{Reply}
 use Rattle.replaying.specs.Replays.{IsReplay, IsReplayFault}
-use Rattle.ruleset.specs.Texts.{line}
+use Rattle.diagnosis.specs.rulesets.Texts.{line}
 
 -- ---- check
 

@@ -8,8 +8,8 @@ ghost use Rattle.manifest_tools.specs.Manifests.{IsChecked};
 
 use crate::fault::ManifestToolFault;
 use bounded_files::read_file;
+use diagnosis::load::{Device, FolderFiles};
 use diagnosis::{Refused, check};
-use load::{Device, FolderFiles};
 use std::rt::Files;
 
 /// The most bytes of a manifest: 1 MiB.

@@ -4,11 +4,11 @@ ghost use Rattle.std.specs.Prelude.{◌≡◌, ◌≤◌, IfOk, length};
 
 use attrs::{Moment, Text};
 use bpf_text::assemble;
-use bpf_verify::{Verified, verify};
 use cells::Shape;
-use flow_check::Flow;
 use omaha_json::{OmahaFault, Request, read_request, reply_text};
 use releases::{Package, Release};
+use ruleset::bpf_verify::{Verified, verify};
+use ruleset::flow_check::Flow;
 use ruleset::{App, Ruleset};
 use std::alloc::{AllocError, Global};
 use std::sync::Arc;

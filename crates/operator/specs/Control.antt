@@ -6,7 +6,7 @@ use Rattle.hot_swap.specs.declared.fault.SwapFault.{SwapFault}
 use Rattle.hot_swap.specs.declared.fault.SwapFault.TheVariants as swap
 use Rattle.operator.specs.declared.reply.Refusal.{Refusal}
 use Rattle.operator.specs.declared.reply.Refusal.TheVariants as refusal
-use Rattle.ruleset.specs.Rules.{Rules}
+use Rattle.hot_swap.specs.rulesets.Rules.{Rules}
 
 pub record Controlled : Type 0 where
   pub publishing : Publishing

@@ -8,7 +8,7 @@ use Rattle.cells.specs.Names.{is_name_byte}
 use Rattle.operator.specs.Request.{Asks}
 use Rattle.operator.specs.declared.request.Request.{Request}
 use Rattle.operator.specs.declared.request.Request.TheVariants.{Load, Show, Cells, Stop}
-use Rattle.ruleset.specs.Texts.{line}
+use Rattle.hot_swap.specs.rulesets.Texts.{line}
 
 -- lines, of which the first begins with this word
 abbrev pub begins_lines : List ℕ → List ℕ → Bool

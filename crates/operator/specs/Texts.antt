@@ -12,7 +12,7 @@ use Rattle.operator.specs.declared.reply.Refusal.{Refusal}
 use Rattle.operator.specs.declared.reply.Refusal.TheVariants as refusal
 use Rattle.operator.specs.declared.reply.Reply.{Reply}
 use Rattle.operator.specs.declared.reply.Reply.TheVariants as reply
-use Rattle.ruleset.specs.Texts.{line, app_line}
+use Rattle.hot_swap.specs.rulesets.Texts.{line, app_line}
 
 -- ---- what is told of a ruleset and of the counters
 

@@ -27,3 +27,6 @@ pub use loader::Loader;
 pub use operating::operate;
 pub use reply::{Refusal, Reply};
 pub use request::Request;
+
+// The words of the contracts here come with them.
+pub use hot_swap;

@@ -6,7 +6,7 @@ use Rattle.cells.specs.declared.event.CellEvent.{CellEvent}
 use Rattle.cells.specs.Events.{AreCells, IsEvent}
 use Rattle.cells.specs.Grown.{GrewBy}
 use Rattle.cells.specs.Widths.{EventsFit}
-use Rattle.bpf_verify.specs.Covers.{Fits}
+use Rattle.bpf_machine.specs.bpf_verify.Covers.{Fits}
 
 pub all_fit : EventsFit → (old : List ℕ) (events : List CellEvent) (new : List ℕ) → AreCells old
     → GrewBy IsEvent old events new → All Fits events

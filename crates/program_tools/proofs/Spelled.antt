@@ -1,9 +1,9 @@
 -- The fault of a rule's text.
 use Rattle.std.proofs.Common.{◌≤◌, inl, inr, ℕ, List, length, IsUtf8}
 use Rattle.cells.specs.Arrays.{AppShape}
-use Rattle.rule_lang.specs.declared.fault.RuleFault.{RuleFault}
-use Rattle.rule_lang.specs.declared.fault.RuleFault.TheVariants as rule
-use Rattle.rule_lang.specs.Verdicts.{IsRuleFault}
+use Rattle.load.specs.rule_lang.declared.fault.RuleFault.{RuleFault}
+use Rattle.load.specs.rule_lang.declared.fault.RuleFault.TheVariants as rule
+use Rattle.load.specs.rule_lang.Verdicts.{IsRuleFault}
 use Rattle.load.specs.Rule.{no_rule}
 use Rattle.program_tools.specs.declared.fault.ProgramToolFault.TheVariants.{RuleText}
 use Rattle.program_tools.specs.Assembly.{most_text}

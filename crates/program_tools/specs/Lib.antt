@@ -2,3 +2,5 @@ pub mod Assembly
 pub mod Programs
 pub mod Rules
 pub mod Texts
+pub use Rattle.load.specs as load
+pub use Rattle.load.specs.rulesets

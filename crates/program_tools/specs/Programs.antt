@@ -5,12 +5,12 @@ use Rattle.attrs.specs.Attributes.{plain}
 use Rattle.bounded_files.specs.Files.{OfBytes}
 use Rattle.bounded_files.specs.declared.fault.ResourceFault.TheVariants.{Memory}
 use Rattle.bpf_insn.specs.Program.{Program}
-use Rattle.bpf_rules.specs.declared.refusal.Refusal.{Refusal}
-use Rattle.bpf_semantics.specs.Program.{ShapedProgram}
-use Rattle.bpf_semantics.specs.State.{opening}
-use Rattle.bpf_semantics.specs.Run.{Ends}
-use Rattle.bpf_verify.specs.Accepted.{IsRefusal}
-use Rattle.bpf_verify.specs.Covers.{AreLawful}
+use Rattle.bpf_machine.specs.bpf_rules.declared.refusal.Refusal.{Refusal}
+use Rattle.bpf_machine.specs.bpf_semantics.Program.{ShapedProgram}
+use Rattle.bpf_machine.specs.bpf_semantics.State.{opening}
+use Rattle.bpf_machine.specs.bpf_semantics.Run.{Ends}
+use Rattle.bpf_machine.specs.bpf_verify.Accepted.{IsRefusal}
+use Rattle.bpf_machine.specs.bpf_verify.Covers.{AreLawful}
 use Rattle.cells.specs.Arrays.{AppShape, AreNumbered}
 use Rattle.cells.specs.Events.{AreZeros, IsEvent}
 use Rattle.cells.specs.Grown.{GrewBy}
@@ -19,8 +19,8 @@ use Rattle.cells.specs.declared.array.CellArray.{CellArray}
 use Rattle.cells.specs.declared.event.CellEvent.{CellEvent}
 use Rattle.cells.specs.declared.fault.CellsFault.TheVariants as cells
 use Rattle.declarations.specs.Order.{AreDeclared, IsRefusedArray}
-use Rattle.flow_check.specs.Flow.{IsAcceptedAs}
-use Rattle.flow_check.specs.Fault.{IsFlowFault}
+use Rattle.bpf_machine.specs.flow_check.Flow.{IsAcceptedAs}
+use Rattle.bpf_machine.specs.flow_check.Fault.{IsFlowFault}
 use Rattle.program_tools.specs.declared.fault.ProgramToolFault.{ProgramToolFault}
 use Rattle.program_tools.specs.declared.fault.ProgramToolFault.TheVariants.{Arrays, Flow}
 use Rattle.program_tools.specs.declared.fault.ProgramToolFault.TheVariants.{Resource, Rule}

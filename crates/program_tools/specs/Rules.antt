@@ -3,13 +3,13 @@ use Rattle.std.specs.Prelude.{◌≡◌, ◌<◌, ◌≤◌, ℕ, List, length}
 use Rattle.std.specs.Str.{IsUtf8}
 use Rattle.bounded_files.specs.Files.{OfBytes}
 use Rattle.bounded_files.specs.declared.fault.ResourceFault.TheVariants.{File}
-use Rattle.bpf_semantics.specs.Program.{ShapedProgram}
+use Rattle.bpf_machine.specs.bpf_semantics.Program.{ShapedProgram}
 use Rattle.cells.specs.Arrays.{AppShape}
-use Rattle.flow_check.specs.Flow.{IsFlow}
-use Rattle.rule_lang.specs.declared.rule.Statement.{Statement}
-use Rattle.rule_lang.specs.declared.fault.RuleFault.TheVariants as rule
-use Rattle.rule_lang.specs.Cost.{cost}
-use Rattle.rule_compile.specs.declared.fault.CompileFault.TheVariants as compile
+use Rattle.bpf_machine.specs.flow_check.Flow.{IsFlow}
+use Rattle.load.specs.rule_lang.declared.rule.Statement.{Statement}
+use Rattle.load.specs.rule_lang.declared.fault.RuleFault.TheVariants as rule
+use Rattle.load.specs.rule_lang.Cost.{cost}
+use Rattle.load.specs.rule_compile.declared.fault.CompileFault.TheVariants as compile
 use Rattle.load.specs.Rule.{IsProgramOfRule, IsRuleTextFault, IsTextOf}
 use Rattle.command_line.specs.declared.request.DeclaredShape.{DeclaredShape}
 use Rattle.program_tools.specs.declared.fault.ProgramToolFault.{ProgramToolFault}

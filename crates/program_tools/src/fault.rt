@@ -3,12 +3,12 @@
 ghost use Rattle.program_tools.specs.Texts.{fault_text};
 
 use bounded_files::ResourceFault;
+use bpf_machine::bpf_verify::Refusal;
+use bpf_machine::flow_check::FlowFault;
 use bpf_text::{AsmFault, ListFault};
-use bpf_verify::Refusal;
 use cells::CellsFault;
-use flow_check::FlowFault;
-use rule_compile::CompileFault;
-use rule_lang::RuleFault;
+use load::rule_compile::CompileFault;
+use load::rule_lang::RuleFault;
 use std::fmt;
 
 /// What is wrong; it is shown as it is printed.

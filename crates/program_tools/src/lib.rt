@@ -22,3 +22,6 @@ pub use verify::verify_file;
 
 /// The most bytes of a text, or to be listed: 16 MiB.
 const MOST_TEXT: u32 = 0x100_0000;
+
+// The words of the contracts here come with them.
+pub use load;

@@ -1,17 +1,17 @@
 //! From a file and a declared shape to an accepted program.
 
 ghost use Rattle.std.specs.Prelude.{◌≡◌, IfOk, IfErr};
-ghost use Rattle.flow_check.specs.Flow.{program_bytes};
+ghost use Rattle.bpf_machine.specs.flow_check.Flow.{program_bytes};
 ghost use Rattle.program_tools.specs.Programs.{IsProgramFault, IsProgramFor, IsProgramRefusal};
 ghost use Rattle.program_tools.specs.Programs.{IsShapeFor, IsShapeRefusal};
 
 use crate::fault::ProgramToolFault;
 use bounded_files::read_file;
-use bpf_verify::{Verified, verify};
+use bpf_machine::bpf_verify::{Verified, verify};
+use bpf_machine::flow_check::Flow;
 use cells::{Directory, Shape};
 use command_line::DeclaredShape;
 use declarations::declare_all;
-use flow_check::Flow;
 use std::alloc::Global;
 use std::rt::Files;
 

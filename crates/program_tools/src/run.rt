@@ -8,7 +8,7 @@ use crate::program::program_of_file;
 use attrs::{Attrs, Bucket};
 use bounded_files::ResourceFault;
 use bpf_machine::Run;
-use bpf_verify::Verified;
+use bpf_machine::bpf_verify::Verified;
 use cells::{PlainCells, events_fit};
 use command_line::DeclaredShape;
 use std::alloc::{AllocError, Global};

@@ -1,1 +1,2 @@
 pub mod Release
+pub use Rattle.attrs.specs as attrs

@@ -10,7 +10,7 @@ use Rattle.replay.specs.declared.act.Act.{Act}
 use Rattle.replay.specs.declared.act.Act.TheVariants.{Once}
 use Rattle.script.specs.declared.line.EventLine.{EventLine}
 use Rattle.script.specs.declared.line.EventLine.TheVariants as line
-use Rattle.world.specs.declared.event.Event.TheVariants as event
+use Rattle.replay.specs.world.declared.event.Event.TheVariants as event
 use Rattle.replaying.specs.Loaded.{RefusesManifest}
 use Rattle.replaying.specs.declared.fault.ReplayFault.{ReplayFault}
 use Rattle.replaying.specs.declared.fault.ReplayFault.TheVariants.{Memory}

@@ -6,11 +6,11 @@ use Rattle.load.specs.Files.{KnownFiles, Gives}
 use Rattle.load.specs.Loaded.{IsLoadedFrom}
 use Rattle.replay.specs.declared.act.Act.{Act}
 use Rattle.replay.specs.declared.reply.Reply.{Reply}
-use Rattle.ruleset.specs.Rules.{Rules}
+use Rattle.load.specs.rulesets.Rules.{Rules}
 use Rattle.script.specs.Script.{IsScript, IsScriptFault}
 use Rattle.script.specs.declared.fault.ScriptFault.TheVariants.{Malformed}
 use Rattle.script.specs.declared.line.EventLine.{EventLine}
-use Rattle.world.specs.World.{opening_world}
+use Rattle.replay.specs.world.World.{opening_world}
 use Rattle.replaying.specs.Asked.{AreActsOf, RefusesLines}
 use Rattle.replaying.specs.Loaded.{RefusesManifest}
 use Rattle.replaying.specs.Replayed.{AreRepliesTo}

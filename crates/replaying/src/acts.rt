@@ -8,9 +8,9 @@ use crate::loaded::load_rules;
 use cells::Directory;
 use load::Disk;
 use replay::Act;
+use replay::world::Event;
 use script::EventLine;
 use std::alloc::Global;
-use world::Event;
 
 /// The acts of all lines, in their order.
 pub(crate) fn acts_of<D: Disk>(

@@ -7,8 +7,8 @@ ghost use Rattle.replaying.specs.Loaded.{RefusesManifest};
 
 use crate::fault::ReplayFault;
 use cells::Directory;
+use load::ruleset::Ruleset;
 use load::{Disk, load_path};
-use ruleset::Ruleset;
 use std::alloc::Global;
 use std::sync::Arc;
 

@@ -14,10 +14,10 @@ use Rattle.bpf_insn.specs.declared.operand.LoadKind.TheVariants.{Byte}
 use Rattle.bpf_insn.specs.Conditions.{compares}
 use Rattle.bpf_insn.specs.Program.{Program, ◌>>=◌}
 use Rattle.attrs.specs.Helpers.{bucket_of}
-use Rattle.bpf_semantics.specs.Program.{ShapedProgram}
-use Rattle.bpf_semantics.specs.State.{with_register, with_result}
-use Rattle.bpf_semantics.specs.Outcome.{write, answer}
-use Rattle.bpf_semantics.specs.Reads.{only}
+use Rattle.bpf_verify.specs.bpf_semantics.Program.{ShapedProgram}
+use Rattle.bpf_verify.specs.bpf_semantics.State.{with_register, with_result}
+use Rattle.bpf_verify.specs.bpf_semantics.Outcome.{write, answer}
+use Rattle.bpf_verify.specs.bpf_semantics.Reads.{only}
 use Rattle.rule_lang.specs.Meaning.{Behaviour}
 use Rattle.rule_compile.specs.Instructions.{opposite, turned}
 use Rattle.rule_compile.specs.Instructions as insn

@@ -3,12 +3,12 @@ use Rattle.std.proofs.Common.{◌≡◌, ℕ, ◌≤◌, List, length, true, sym
 use Rattle.std.specs.List.{AllByRecursion}
 use Rattle.attrs.specs.Attributes.{Attributes}
 use Rattle.bpf_insn.specs.Program.{Program}
-use Rattle.bpf_semantics.specs.Program.{ShapedProgram}
+use Rattle.bpf_verify.specs.bpf_semantics.Program.{ShapedProgram}
 use Rattle.cells.specs.Arrays.{AppShape, IsShape}
-use Rattle.flow_check.specs.Flow.{IsFlow}
-use Rattle.bpf_rules.specs.declared.refusal.Rule.{Rule}
-use Rattle.bpf_rules.specs.declared.refusal.Refusal.{Refusal}
-use Rattle.bpf_rules.specs.declared.refusal.Refusal.TheVariants as refusal
+use Rattle.bpf_verify.specs.flow_check.Flow.{IsFlow}
+use Rattle.bpf_verify.specs.bpf_rules.declared.refusal.Rule.{Rule}
+use Rattle.bpf_verify.specs.bpf_rules.declared.refusal.Refusal.{Refusal}
+use Rattle.bpf_verify.specs.bpf_rules.declared.refusal.Refusal.TheVariants as refusal
 use Rattle.bpf_verify.specs.Accepted.{IsAccepted, IsRefusal, HasOneVerdict}
 use Rattle.bpf_verify.specs.Table.{Known, IsTable}
 use Rattle.rule_lang.specs.declared.rule.Statement.{Statement}

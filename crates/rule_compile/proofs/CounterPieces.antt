@@ -9,11 +9,11 @@ use Rattle.bpf_insn.specs.declared.operand.Bits.TheVariants.{Bits64}
 use Rattle.bpf_insn.specs.declared.reg.Reg.TheVariants.{R2}
 use Rattle.bpf_insn.specs.Conditions.{holds}
 use Rattle.bpf_insn.specs.Program.{Program}
-use Rattle.bpf_semantics.specs.Program.{ShapedProgram}
-use Rattle.bpf_semantics.specs.State.{State, with_register}
-use Rattle.bpf_semantics.specs.Outcome.{branch}
-use Rattle.bpf_semantics.specs.Reads.{both}
-use Rattle.bpf_semantics.specs.Step.{act}
+use Rattle.bpf_verify.specs.bpf_semantics.Program.{ShapedProgram}
+use Rattle.bpf_verify.specs.bpf_semantics.State.{State, with_register}
+use Rattle.bpf_verify.specs.bpf_semantics.Outcome.{branch}
+use Rattle.bpf_verify.specs.bpf_semantics.Reads.{both}
+use Rattle.bpf_verify.specs.bpf_semantics.Step.{act}
 use Rattle.rule_lang.specs.Meaning.{Behaviour, Asks}
 use Rattle.rule_compile.specs.Instructions as insn
 use Rattle.rule_compile.specs.Blocks as code

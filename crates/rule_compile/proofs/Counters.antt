@@ -11,13 +11,13 @@ use Rattle.bpf_insn.specs.declared.operand.Bits.TheVariants.{Bits64}
 use Rattle.bpf_insn.specs.declared.reg.Reg.TheVariants.{R2, R3}
 use Rattle.bpf_insn.specs.Conditions.{holds}
 use Rattle.bpf_insn.specs.Program.{Program, ◌>>=◌}
-use Rattle.bpf_semantics.specs.Memory.{address_of, cell_address, cell_number, is_cell_address, cell_at}
-use Rattle.bpf_semantics.specs.Program.{ShapedProgram}
-use Rattle.bpf_semantics.specs.State.{State, with_register}
-use Rattle.bpf_semantics.specs.Outcome.{write}
-use Rattle.bpf_semantics.specs.Outcome as outcome
-use Rattle.bpf_semantics.specs.Counters.{atomic_count}
-use Rattle.bpf_semantics.specs.Step.{act}
+use Rattle.bpf_verify.specs.bpf_semantics.Memory.{address_of, cell_address, cell_number, is_cell_address, cell_at}
+use Rattle.bpf_verify.specs.bpf_semantics.Program.{ShapedProgram}
+use Rattle.bpf_verify.specs.bpf_semantics.State.{State, with_register}
+use Rattle.bpf_verify.specs.bpf_semantics.Outcome.{write}
+use Rattle.bpf_verify.specs.bpf_semantics.Outcome as outcome
+use Rattle.bpf_verify.specs.bpf_semantics.Counters.{atomic_count}
+use Rattle.bpf_verify.specs.bpf_semantics.Step.{act}
 use Rattle.rule_lang.specs.Meaning.{Behaviour, Asks}
 use Rattle.rule_compile.specs.Instructions as insn
 use Rattle.rule_compile.proofs.Labels.{next_here, next_wide}

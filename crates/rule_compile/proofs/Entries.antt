@@ -9,13 +9,13 @@ use Rattle.bpf_insn.specs.declared.operand.Bits.TheVariants.{Bits64}
 use Rattle.bpf_insn.specs.Table.{number_of}
 use Rattle.bpf_insn.specs.Program.{Program, at}
 use Rattle.cells.specs.Arrays.{AppShape}
-use Rattle.abs_value.specs.declared.number.Number.{Number}
-use Rattle.abs_value.specs.declared.value.Abs.{Abs}
-use Rattle.abs_value.specs.declared.value.Abs.TheVariants.{Unusable, Num, Ctx, Stk}
-use Rattle.abs_value.specs.declared.state.AbsState.{AbsState}
-use Rattle.abs_value.specs.Numbers.{up_to, full}
-use Rattle.abs_value.specs.Values.{places}
-use Rattle.abs_value.specs.States.{register_at, value_at, with_value}
+use Rattle.bpf_verify.specs.abs_value.declared.number.Number.{Number}
+use Rattle.bpf_verify.specs.abs_value.declared.value.Abs.{Abs}
+use Rattle.bpf_verify.specs.abs_value.declared.value.Abs.TheVariants.{Unusable, Num, Ctx, Stk}
+use Rattle.bpf_verify.specs.abs_value.declared.state.AbsState.{AbsState}
+use Rattle.bpf_verify.specs.abs_value.Numbers.{up_to, full}
+use Rattle.bpf_verify.specs.abs_value.Values.{places}
+use Rattle.bpf_verify.specs.abs_value.States.{register_at, value_at, with_value}
 use Rattle.bpf_verify.specs.Table.{Known, IsWider, Knows}
 use Rattle.rule_compile.proofs.Typed.{entry_at}
 

@@ -8,20 +8,20 @@ use Rattle.bpf_insn.specs.declared.operand.LoadKind.{LoadKind}
 use Rattle.bpf_insn.specs.declared.operand.LoadKind.TheVariants as load
 use Rattle.bpf_insn.specs.declared.reg.Reg.TheVariants.{R2}
 use Rattle.bpf_insn.specs.Program.{Program}
-use Rattle.bpf_semantics.specs.Reads.{load_count}
+use Rattle.bpf_verify.specs.bpf_semantics.Reads.{load_count}
 use Rattle.cells.specs.Arrays.{AppShape}
-use Rattle.abs_value.specs.declared.number.Number.{Number}
-use Rattle.abs_value.specs.declared.places.Places.{Places}
-use Rattle.abs_value.specs.declared.value.Abs.TheVariants.{Num, Ctx}
-use Rattle.abs_value.specs.declared.state.AbsState.{AbsState}
-use Rattle.abs_value.specs.Bounds.{are_single, alu_number}
-use Rattle.abs_value.specs.Numbers.{single}
-use Rattle.abs_value.specs.Values.{places, loaded_value}
-use Rattle.abs_value.specs.States.{register_at, value_at, with_value}
-use Rattle.bpf_rules.specs.Memory.{changes, lies_in, stack_place}
-use Rattle.bpf_rules.specs.Reads.{load_use}
-use Rattle.bpf_rules.specs.Rules.{first_rule}
-use Rattle.bpf_rules.specs.Transfer.{after, loaded_at}
+use Rattle.bpf_verify.specs.abs_value.declared.number.Number.{Number}
+use Rattle.bpf_verify.specs.abs_value.declared.places.Places.{Places}
+use Rattle.bpf_verify.specs.abs_value.declared.value.Abs.TheVariants.{Num, Ctx}
+use Rattle.bpf_verify.specs.abs_value.declared.state.AbsState.{AbsState}
+use Rattle.bpf_verify.specs.abs_value.Bounds.{are_single, alu_number}
+use Rattle.bpf_verify.specs.abs_value.Numbers.{single}
+use Rattle.bpf_verify.specs.abs_value.Values.{places, loaded_value}
+use Rattle.bpf_verify.specs.abs_value.States.{register_at, value_at, with_value}
+use Rattle.bpf_verify.specs.bpf_rules.Memory.{changes, lies_in, stack_place}
+use Rattle.bpf_verify.specs.bpf_rules.Reads.{load_use}
+use Rattle.bpf_verify.specs.bpf_rules.Rules.{first_rule}
+use Rattle.bpf_verify.specs.bpf_rules.Transfer.{after, loaded_at}
 use Rattle.bpf_verify.specs.Table.{Known, LiesIn, IsWider, Knows}
 use Rattle.rule_compile.specs.Instructions as insn
 use Rattle.rule_compile.proofs.Typed.{IsStep}

@@ -11,9 +11,9 @@ use Rattle.bpf_insn.specs.declared.insn.Width.TheVariants.{One, Two}
 use Rattle.bpf_insn.specs.declared.operand.Distance.{Distance}
 use Rattle.bpf_insn.specs.Spelling.{width_of}
 use Rattle.bpf_insn.specs.Program.{Program, ◌>>=◌, at, landing, slots_moved}
-use Rattle.flow_check.specs.Edges.{Reached, start, along, jump_of, target_of, goes_on, next_of, successors, KeepsEdges}
-use Rattle.flow_check.specs.declared.fault.FlowRule.TheVariants.{BackJump, Outside, InsideWide, FallsOff}
-use Rattle.flow_check.specs.Flow.{IsFlow}
+use Rattle.bpf_verify.specs.flow_check.Edges.{Reached, start, along, jump_of, target_of, goes_on, next_of, successors, KeepsEdges}
+use Rattle.bpf_verify.specs.flow_check.declared.fault.FlowRule.TheVariants.{BackJump, Outside, InsideWide, FallsOff}
+use Rattle.bpf_verify.specs.flow_check.Flow.{IsFlow}
 use Rattle.cells.specs.Arrays.{AppShape}
 use Rattle.bpf_verify.specs.Table.{Known}
 use Rattle.rule_compile.specs.Writing.{CanEncode}

@@ -10,8 +10,8 @@ use Rattle.bpf_insn.specs.declared.insn.Width.{Width}
 use Rattle.bpf_insn.specs.declared.insn.Width.TheVariants.{One, Two}
 use Rattle.bpf_insn.specs.Spelling.{width_of, IsEncodable}
 use Rattle.bpf_insn.specs.Program.{Program, at, layout, slots}
-use Rattle.flow_check.specs.Edges.{goes_on}
-use Rattle.flow_check.specs.Flow.{IsLayout}
+use Rattle.bpf_verify.specs.flow_check.Edges.{goes_on}
+use Rattle.bpf_verify.specs.flow_check.Flow.{IsLayout}
 use Rattle.cells.specs.Arrays.{AppShape}
 use Rattle.bpf_verify.specs.Table.{Known}
 use Rattle.rule_compile.specs.Writing.{CanEncode}

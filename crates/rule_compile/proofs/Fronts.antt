@@ -8,10 +8,10 @@ use Rattle.bpf_insn.specs.declared.operand.LoadKind.{LoadKind}
 use Rattle.bpf_insn.specs.declared.operand.LoadKind.TheVariants as load
 use Rattle.bpf_insn.specs.declared.reg.Reg.TheVariants.{R0, R1, R2}
 use Rattle.bpf_insn.specs.Program.{Program}
-use Rattle.bpf_semantics.specs.Reads.{load_count}
+use Rattle.bpf_verify.specs.bpf_semantics.Reads.{load_count}
 use Rattle.cells.specs.Arrays.{AppShape}
-use Rattle.abs_value.specs.declared.value.Abs.{Abs}
-use Rattle.abs_value.specs.declared.value.Abs.TheVariants.{Unusable, Num}
+use Rattle.bpf_verify.specs.abs_value.declared.value.Abs.{Abs}
+use Rattle.bpf_verify.specs.abs_value.declared.value.Abs.TheVariants.{Unusable, Num}
 use Rattle.bpf_verify.specs.Table.{Known}
 use Rattle.rule_compile.specs.Instructions as insn
 use Rattle.rule_compile.specs.Blocks as code

@@ -11,16 +11,16 @@ use Rattle.bpf_insn.specs.Program.{Program}
 use Rattle.bpf_insn.specs.Table.{number_of}
 use Rattle.bpf_insn.specs.Words.{immediate}
 use Rattle.cells.specs.Arrays.{AppShape}
-use Rattle.abs_value.specs.declared.number.Number.{Number}
-use Rattle.abs_value.specs.declared.value.Abs.{Abs}
-use Rattle.abs_value.specs.declared.value.Abs.TheVariants.{Num}
-use Rattle.abs_value.specs.declared.state.AbsState.{AbsState}
-use Rattle.abs_value.specs.Numbers.{single}
-use Rattle.abs_value.specs.Narrowing.{Pair, narrowed}
-use Rattle.abs_value.specs.Values.{numbers}
-use Rattle.abs_value.specs.Lookups.{compares_with_zero, with_both, refined_state}
-use Rattle.abs_value.specs.States.{register_at, value_at, value_of, with_value}
-use Rattle.bpf_rules.specs.Rules.{first_rule}
+use Rattle.bpf_verify.specs.abs_value.declared.number.Number.{Number}
+use Rattle.bpf_verify.specs.abs_value.declared.value.Abs.{Abs}
+use Rattle.bpf_verify.specs.abs_value.declared.value.Abs.TheVariants.{Num}
+use Rattle.bpf_verify.specs.abs_value.declared.state.AbsState.{AbsState}
+use Rattle.bpf_verify.specs.abs_value.Numbers.{single}
+use Rattle.bpf_verify.specs.abs_value.Narrowing.{Pair, narrowed}
+use Rattle.bpf_verify.specs.abs_value.Values.{numbers}
+use Rattle.bpf_verify.specs.abs_value.Lookups.{compares_with_zero, with_both, refined_state}
+use Rattle.bpf_verify.specs.abs_value.States.{register_at, value_at, value_of, with_value}
+use Rattle.bpf_verify.specs.bpf_rules.Rules.{first_rule}
 use Rattle.bpf_verify.specs.Table.{Known, IsWider, Knows}
 use Rattle.rule_compile.specs.Instructions as insn
 use Rattle.rule_compile.proofs.Typed.{IsStep}

@@ -6,17 +6,17 @@ use Rattle.std.proofs.lemmas.Bool.{cases_Bool}
 use Rattle.bpf_insn.specs.declared.operand.Bits.{Bits}
 use Rattle.bpf_insn.specs.declared.operand.Condition.{Condition}
 use Rattle.bpf_insn.specs.Conditions.{holds}
-use Rattle.abs_value.specs.declared.number.Number.{Number}
-use Rattle.abs_value.specs.declared.places.Places.{Places}
-use Rattle.abs_value.specs.declared.relation.Relation.{Relation}
-use Rattle.abs_value.specs.declared.relation.Relation.TheVariants.{Equal, Unequal, Less, AtMost, More, AtLeast, Unknown}
-use Rattle.abs_value.specs.declared.value.Abs.{Abs}
-use Rattle.abs_value.specs.declared.value.Abs.TheVariants.{Num, Ctx}
-use Rattle.abs_value.specs.declared.state.AbsState.{AbsState}
-use Rattle.abs_value.specs.Numbers.{is_single}
-use Rattle.abs_value.specs.Bounds.{are_single}
-use Rattle.abs_value.specs.Narrowing.{Pair, learnt, below, without, apart_from, swapped, left_by, is_comparable, is_taken, narrowed}
-use Rattle.abs_value.specs.States.{register_at, value_at}
+use Rattle.bpf_verify.specs.abs_value.declared.number.Number.{Number}
+use Rattle.bpf_verify.specs.abs_value.declared.places.Places.{Places}
+use Rattle.bpf_verify.specs.abs_value.declared.relation.Relation.{Relation}
+use Rattle.bpf_verify.specs.abs_value.declared.relation.Relation.TheVariants.{Equal, Unequal, Less, AtMost, More, AtLeast, Unknown}
+use Rattle.bpf_verify.specs.abs_value.declared.value.Abs.{Abs}
+use Rattle.bpf_verify.specs.abs_value.declared.value.Abs.TheVariants.{Num, Ctx}
+use Rattle.bpf_verify.specs.abs_value.declared.state.AbsState.{AbsState}
+use Rattle.bpf_verify.specs.abs_value.Numbers.{is_single}
+use Rattle.bpf_verify.specs.abs_value.Bounds.{are_single}
+use Rattle.bpf_verify.specs.abs_value.Narrowing.{Pair, learnt, below, without, apart_from, swapped, left_by, is_comparable, is_taken, narrowed}
+use Rattle.bpf_verify.specs.abs_value.States.{register_at, value_at}
 use Rattle.bpf_verify.specs.Table.{Known, LiesIn, IsWider, Knows}
 use Rattle.rule_compile.proofs.Arrays.{lt_of}
 

@@ -18,13 +18,13 @@ use Rattle.bpf_insn.specs.declared.operand.LoadKind.{LoadKind}
 use Rattle.bpf_insn.specs.Table.{number_of}
 use Rattle.bpf_insn.specs.Conditions.{compares, holds}
 use Rattle.bpf_insn.specs.Program.{Program, ◌>>=◌}
-use Rattle.bpf_semantics.specs.Memory.{context_start, stack_top}
-use Rattle.bpf_semantics.specs.Program.{ShapedProgram}
-use Rattle.bpf_semantics.specs.State.{State, with_register}
-use Rattle.bpf_semantics.specs.Reads.{both}
-use Rattle.bpf_semantics.specs.Outcome.{Going, Asks, write, branch, finish}
-use Rattle.bpf_semantics.specs.Step.{step, act, act_at, load}
-use Rattle.bpf_semantics.specs.Run.{Ends, last, more, asked}
+use Rattle.bpf_verify.specs.bpf_semantics.Memory.{context_start, stack_top}
+use Rattle.bpf_verify.specs.bpf_semantics.Program.{ShapedProgram}
+use Rattle.bpf_verify.specs.bpf_semantics.State.{State, with_register}
+use Rattle.bpf_verify.specs.bpf_semantics.Reads.{both}
+use Rattle.bpf_verify.specs.bpf_semantics.Outcome.{Going, Asks, write, branch, finish}
+use Rattle.bpf_verify.specs.bpf_semantics.Step.{step, act, act_at, load}
+use Rattle.bpf_verify.specs.bpf_semantics.Run.{Ends, last, more, asked}
 use Rattle.rule_lang.specs.Meaning.{Behaviour, Chooses, Follows}
 use Rattle.rule_lang.specs.Meaning as does
 use Rattle.rule_compile.specs.Instructions as insn

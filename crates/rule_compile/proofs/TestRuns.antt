@@ -11,7 +11,7 @@ use Rattle.bpf_insn.specs.declared.operand.LoadKind.{LoadKind}
 use Rattle.bpf_insn.specs.declared.operand.LoadKind.TheVariants.{Half, Word}
 use Rattle.bpf_insn.specs.Conditions.{compares}
 use Rattle.bpf_insn.specs.Program.{Program}
-use Rattle.bpf_semantics.specs.Program.{ShapedProgram}
+use Rattle.bpf_verify.specs.bpf_semantics.Program.{ShapedProgram}
 use Rattle.cells.specs.Arrays.{IsShape}
 use Rattle.rule_lang.specs.declared.test.Flag as the_flag
 use Rattle.rule_lang.specs.declared.test.Flag.TheVariants.{VersionKnown, Updatecheck, Ping, Event, CohortKnown, InstalldateKnown}

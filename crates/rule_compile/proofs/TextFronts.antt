@@ -9,11 +9,11 @@ use Rattle.bpf_insn.specs.Program.{Program}
 use Rattle.bpf_insn.specs.Words.{little_endian}
 use Rattle.cells.specs.declared.array.CellArray.{CellArray}
 use Rattle.cells.specs.Arrays.{AppShape}
-use Rattle.abs_value.specs.declared.origin.Origin.TheVariants.{Fixed}
-use Rattle.abs_value.specs.declared.value.Abs.{Abs}
-use Rattle.abs_value.specs.declared.value.Abs.TheVariants.{Unusable, Num, Stk, Cell}
-use Rattle.abs_value.specs.Numbers.{single}
-use Rattle.bpf_rules.specs.Arrays.{has_quota}
+use Rattle.bpf_verify.specs.abs_value.declared.origin.Origin.TheVariants.{Fixed}
+use Rattle.bpf_verify.specs.abs_value.declared.value.Abs.{Abs}
+use Rattle.bpf_verify.specs.abs_value.declared.value.Abs.TheVariants.{Unusable, Num, Stk, Cell}
+use Rattle.bpf_verify.specs.abs_value.Numbers.{single}
+use Rattle.bpf_verify.specs.bpf_rules.Arrays.{has_quota}
 use Rattle.bpf_verify.specs.Table.{Known}
 use Rattle.rule_compile.specs.Instructions as insn
 use Rattle.rule_compile.specs.Blocks as code

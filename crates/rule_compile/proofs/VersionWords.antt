@@ -9,7 +9,7 @@ use Rattle.bpf_insn.specs.declared.operand.Condition.TheVariants.{Eq, Ne}
 use Rattle.bpf_insn.specs.declared.operand.LoadKind.TheVariants.{Word}
 use Rattle.bpf_insn.specs.Conditions.{compares}
 use Rattle.bpf_insn.specs.Program.{Program}
-use Rattle.bpf_semantics.specs.Program.{ShapedProgram}
+use Rattle.bpf_verify.specs.bpf_semantics.Program.{ShapedProgram}
 use Rattle.rule_lang.specs.Meaning.{Behaviour}
 use Rattle.rule_compile.specs.Instructions as insn
 use Rattle.rule_compile.specs.Blocks as code

@@ -3,7 +3,7 @@
 ghost use Rattle.std.specs.Prelude.{◌≡◌, IfOk, OnOk};
 ghost use Rattle.std.specs.List.{AllByRecursion};
 ghost use Rattle.rule_compile.specs.Writing.{CanEncode};
-ghost use Rattle.flow_check.specs.Flow as flow;
+ghost use Rattle.bpf_verify.specs.flow_check.Flow as flow;
 
 use bpf_insn::{Insn, encode};
 use std::alloc::{AllocError, Global};

@@ -3,7 +3,7 @@
 ghost use Rattle.std.specs.Prelude.{◌≡◌, ◌<◌, ◌≤◌, length, IfOk, OnOk, IfErr, true};
 ghost use Rattle.std.specs.List.{AllByRecursion};
 ghost use Rattle.attrs.specs.Attributes.{Attributes};
-ghost use Rattle.flow_check.specs.Flow.{IsFlow};
+ghost use Rattle.bpf_verify.specs.flow_check.Flow.{IsFlow};
 ghost use Rattle.rule_lang.specs.Fits.{fits};
 ghost use Rattle.rule_lang.specs.Cost.{cost};
 ghost use Rattle.rule_compile.specs.Code as code;
@@ -14,9 +14,9 @@ use crate::bytes::program_bytes;
 use crate::fault::CompileFault;
 use crate::statements::emit;
 use bpf_insn::Insn;
+use bpf_verify::flow_check::{Flow, FlowFault};
 use bpf_verify::{Refusal, Verified, one_verdict, table_is_enough, verify};
 use cells::Shape;
-use flow_check::{Flow, FlowFault};
 use rule_lang::Rule;
 use std::alloc::Global;
 

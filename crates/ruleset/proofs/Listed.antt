@@ -5,7 +5,7 @@ use Rattle.std.proofs.Common.{inl, inr, refl, sym, ap, subst, ◌∙◌, IfSome,
 use Rattle.std.proofs.lemmas.List.{get_or-map, get_or_default, length-map}
 use Rattle.std.proofs.lemmas.List.Elements.{All-contains}
 use Rattle.std.proofs.lemmas.Bool.{cases_order}
-use Rattle.bpf_semantics.specs.Program.{ShapedProgram}
+use Rattle.bpf_verify.specs.bpf_semantics.Program.{ShapedProgram}
 use Rattle.ruleset.specs.Rules.{Rules, AppRule, Offers, OffersSafely, HasTwice, AlwaysEndsWell, appids_of}
 
 pub offers_found : (rules : Rules) (appid : List ℕ) (o : Option (Bor AppRule))

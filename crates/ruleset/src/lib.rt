@@ -9,3 +9,7 @@ mod twice;
 pub use app::App;
 pub use ruleset::{Ruleset, RulesetFault};
 pub use telling::tell_apps;
+
+// The words of the contracts here come with them.
+pub use bpf_verify;
+pub use bpf_verify::flow_check;

@@ -4,13 +4,13 @@ ghost use Rattle.std.specs.Prelude.{◌≡◌};
 
 use attrs::Text;
 use bpf_text::assemble;
-use bpf_verify::{Verified, verify};
 use cells::{Directory, Shape};
 use declarations::{declare_all, read_spec};
-use flow_check::Flow;
+use hot_swap::bpf_verify::{Verified, verify};
+use hot_swap::flow_check::Flow;
+use hot_swap::ruleset::{App, Ruleset};
 use operator::Loader;
 use releases::{Package, Release};
-use ruleset::{App, Ruleset};
 use std::alloc::{AllocError, Global};
 use std::sync::Arc;
 

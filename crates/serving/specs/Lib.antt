@@ -1,1 +1,2 @@
 pub mod Manifests
+pub use Rattle.operator.specs as operator

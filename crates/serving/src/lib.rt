@@ -17,3 +17,7 @@ pub use manifests::Manifests;
 pub use ports::{Ports, bind};
 pub use running::run;
 pub use server::{PrepareFault, Server, prepare};
+
+// The words of the contracts here come with them.
+pub use operator;
+pub use workers;

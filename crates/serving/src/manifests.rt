@@ -3,9 +3,9 @@
 ghost use Rattle.std.specs.Prelude.{◌≡◌};
 
 use cells::Directory;
+use load::ruleset::Ruleset;
 use load::{Disk, PathFault, load_path};
 use operator::Loader;
-use ruleset::Ruleset;
 use std::alloc::Global;
 
 /// Loads manifests by their paths. The files that a manifest names lie in its folder.

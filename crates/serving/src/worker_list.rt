@@ -3,8 +3,8 @@
 ghost use Rattle.std.specs.Prelude.{◌≡◌, IfErr, IfOk, length};
 
 use crate::fault::ServingFault;
-use hot_swap::{Publisher, Watcher};
 use locked_cells::{LockedCells, LockedPass};
+use operator::hot_swap::{Publisher, Watcher};
 use std::alloc::Global;
 use std::sync::Wait;
 

@@ -6,12 +6,12 @@ use Rattle.attrs.specs.Facts.{attributes_of}
 use Rattle.attrs.specs.declared.facts.AppFacts.{AppFacts}
 use Rattle.attrs.specs.declared.facts.RequestFacts.{RequestFacts}
 use Rattle.bpf_machine.specs.StandsFor.{Held, RunStandsFor, Runs}
-use Rattle.bpf_semantics.specs.Program.{ShapedProgram}
-use Rattle.bpf_semantics.specs.Run.{Ends}
-use Rattle.bpf_semantics.specs.State.{opening}
+use Rattle.bpf_machine.specs.bpf_semantics.Program.{ShapedProgram}
+use Rattle.bpf_machine.specs.bpf_semantics.Run.{Ends}
+use Rattle.bpf_machine.specs.bpf_semantics.State.{opening}
 use Rattle.cells.specs.Grown.{Grows, GrowsByAppend}
 use Rattle.cells.specs.declared.event.CellEvent.{CellEvent}
-use Rattle.ruleset.specs.Rules.{AppRule, Rules, app_of}
+use Rattle.hot_swap.specs.rulesets.Rules.{AppRule, Rules, app_of}
 use Rattle.workers.specs.Apps.{RunsApp, RunsApps, RunsFew, ran, none, then}
 
 pub not_true : (b : Bool) → not b ≡ true → b ≡ false

@@ -10,7 +10,7 @@ use Rattle.omaha_json.specs.Request.{Request, request_in}
 use Rattle.omaha_json.specs.Reply.{reply_text}
 use Rattle.omaha_json.specs.declared.fault.OmahaFault.{OmahaFault}
 use Rattle.omaha_json.specs.declared.fault.OmahaFault.TheVariants.{Json, Shape, Protocol, TooManyApps, Memory}
-use Rattle.ruleset.specs.Rules.{Rules}
+use Rattle.hot_swap.specs.rulesets.Rules.{Rules}
 use Rattle.workers.specs.Apps.{RunsApps, RunsFew}
 use Rattle.workers.specs.Answer.{RepliesToRequest, RepliesToBody, RepliesTo, IsReplyTo}
 use Rattle.workers.specs.Answer.{replied, unowned, broken_off, asked, refused, unread, taken, rejected}

@@ -12,7 +12,7 @@ use Rattle.omaha_json.specs.Request.{Request, request_in}
 use Rattle.omaha_json.specs.Reply.{reply_text}
 use Rattle.omaha_json.specs.declared.fault.OmahaFault.{OmahaFault}
 use Rattle.omaha_json.specs.declared.fault.OmahaFault.TheVariants as omaha
-use Rattle.ruleset.specs.Rules.{Rules}
+use Rattle.hot_swap.specs.rulesets.Rules.{Rules}
 use Rattle.cells.specs.Grown.{Grows}
 use Rattle.workers.specs.Apps.{RunsApps, RunsFew}
 use Rattle.workers.specs.Reply.{Reply, success, rejection, post_name}

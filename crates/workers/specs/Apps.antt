@@ -4,10 +4,10 @@ use Rattle.std.specs.Prelude.{◌≡◌, ℕ, ℤ, false, true, List, [], ◌∷
 use Rattle.attrs.specs.Facts.{attributes_of}
 use Rattle.attrs.specs.declared.facts.AppFacts.{AppFacts}
 use Rattle.attrs.specs.declared.facts.RequestFacts.{RequestFacts}
-use Rattle.bpf_semantics.specs.Run.{Ends}
-use Rattle.bpf_semantics.specs.State.{opening}
+use Rattle.bpf_machine.specs.bpf_semantics.Run.{Ends}
+use Rattle.bpf_machine.specs.bpf_semantics.State.{opening}
 use Rattle.cells.specs.declared.event.CellEvent.{CellEvent}
-use Rattle.ruleset.specs.Rules.{AppRule, Rules, app_of}
+use Rattle.hot_swap.specs.rulesets.Rules.{AppRule, Rules, app_of}
 
 module _ (rules : Rules) (facts : RequestFacts) (moment : ℤ) where
   -- one app, with the choice of its run, if it has one, and the events that the run made

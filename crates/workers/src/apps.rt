@@ -3,17 +3,17 @@
 ghost use Rattle.std.specs.Prelude.{◌≡◌, false, IfOk, MatchResult};
 ghost use Rattle.std.specs.Arc.{arc_value};
 ghost use Rattle.attrs.specs.Facts.{attributes_of};
-ghost use Rattle.bpf_semantics.specs.State.{opening};
+ghost use Rattle.bpf_machine.specs.bpf_semantics.State.{opening};
 ghost use Rattle.bpf_machine.specs.StandsFor.{RunStandsFor};
 ghost use Rattle.cells.specs.Grown.{Grows};
 ghost use Rattle.workers.specs.Apps.{RunsApp, RunsApps, RunsFew};
 
 use attrs::{AppFacts, Attrs, Moment, RequestFacts};
+use bpf_machine::bpf_verify::Verified;
 use bpf_machine::{Choice, Run};
-use bpf_verify::Verified;
 use cells::{CellSteps, growth};
+use hot_swap::ruleset::Ruleset;
 use omaha_json::Request;
-use ruleset::Ruleset;
 use std::alloc::{AllocError, Global};
 use std::sync::Arc;
 

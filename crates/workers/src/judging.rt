@@ -11,8 +11,8 @@ use crate::rejection::Rejection;
 use attrs::Moment;
 use cells::CellSteps;
 use hot_swap::Watcher;
+use hot_swap::ruleset::Ruleset;
 use omaha_json::{OmahaFault, Request, read_request, reply_text};
-use ruleset::Ruleset;
 use std::alloc::Global;
 use std::sync::Wait;
 

@@ -7,7 +7,7 @@ use Rattle.std.specs.Arc.{arc_value}
 use Rattle.std.specs.declared.sync.Arc.{Arc}
 use Rattle.std.proofs.lemmas.List.{get_or-map, length-map, length-replicate}
 use Rattle.std.proofs.lemmas.Option.{slice_get_read}
-use Rattle.bpf_semantics.specs.Program.{ShapedProgram}
+use Rattle.bpf_machine.specs.bpf_semantics.Program.{ShapedProgram}
 use Rattle.cells.specs.Events.{AreZeros}
 use Rattle.ruleset.specs.Rules.{Rules, Offers, OffersOne, OffersSafely}
 use Rattle.world.specs.World.{Idle, ruleset_at, newest, zeros}

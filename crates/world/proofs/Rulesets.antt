@@ -2,7 +2,7 @@
 use Rattle.std.proofs.Common.{◌≡◌, ℕ, zero, suc, ◌<◌, List, [], ◌∷◌, ◌++◌, length, Option, Some}
 use Rattle.std.proofs.Common.{◌⊎◌, inl, inr, lit<, sym, subst, ◌∙◌, arith}
 use Rattle.std.specs.Prelude.{slice_get}
-use Rattle.bpf_semantics.specs.Program.{ShapedProgram}
+use Rattle.bpf_machine.specs.bpf_semantics.Program.{ShapedProgram}
 use Rattle.ruleset.specs.Rules.{Rules, Offers, OffersOne, OffersSafely, AlwaysEndsWell}
 use Rattle.world.specs.World.{ruleset_at, HasProgram, HasOneProgram}
 

@@ -3,7 +3,7 @@ use Rattle.std.specs.Prelude.{◌≡◌, ℕ, ◌<◌, List, length, map, slice_
 use Rattle.std.specs.Arc.{arc_value}
 use Rattle.std.specs.declared.alloc.Global.{Global}
 use Rattle.std.specs.declared.sync.Arc.{Arc}
-use Rattle.bpf_semantics.specs.Program.{ShapedProgram}
+use Rattle.bpf_machine.specs.bpf_semantics.Program.{ShapedProgram}
 use Rattle.ruleset.specs.Rules.{Rules, AlwaysEndsWell}
 use Rattle.world.specs.World.{WorldState, Idle, opening_world, HasProgram, HasOneProgram}
 use Rattle.world.specs.Seats.{SeatStandsFor, SeatKeeps, SeatIsOffered}

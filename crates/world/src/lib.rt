@@ -40,3 +40,7 @@ pub use laws::{
 };
 pub use run::play;
 pub use world::World;
+
+// The words of the contracts here come with them.
+pub use bpf_machine::{bpf_verify, flow_check};
+pub use ruleset;

@@ -5,14 +5,14 @@ ghost use Rattle.std.specs.Prelude.{◌≡◌, ◌≤◌, IfOk, length};
 
 use attrs::{Attrs, Text};
 use bpf_text::assemble;
-use bpf_verify::{Verified, verify};
 use cells::Shape;
-use flow_check::Flow;
 use releases::{Package, Release};
-use ruleset::{App, Ruleset};
 use std::alloc::{AllocError, Global};
 use std::sync::Arc;
 use std::test::Fail;
+use world::bpf_verify::{Verified, verify};
+use world::flow_check::Flow;
+use world::ruleset::{App, Ruleset};
 use world::{Effect, Event, World, WorldFault, play};
 
 /// Chooses the first release for buckets below 100.

@@ -8,13 +8,13 @@ use crate::apps::{app_of, applied, played};
 use attrs::{AttrFault, Attrs};
 use bpf_insn::InsnFault;
 use bpf_text::{AsmFault, AsmFaultKind, ListFault, assemble, listing};
-use bpf_verify::{Refusal, Rule, Verified, verify};
 use cells::Shape;
-use flow_check::{Flow, FlowFault, FlowRule};
-use ruleset::Ruleset;
 use std::alloc::{AllocError, Global};
 use std::sync::Arc;
 use std::test::Fail;
+use world::bpf_verify::{Refusal, Rule, Verified, verify};
+use world::flow_check::{Flow, FlowFault, FlowRule};
+use world::ruleset::Ruleset;
 use world::{Effect, Event, World, WorldFault};
 
 /// The answer of a call, or of a second one where the first is this refusal of memory.

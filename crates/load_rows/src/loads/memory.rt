@@ -6,7 +6,7 @@ use super::{SAMPLE, ruleset_from};
 use crate::files::MemFiles;
 use cells::Directory;
 use load::LoadFault;
-use ruleset::Ruleset;
+use load::ruleset::Ruleset;
 use std::alloc::{AllocError, Global};
 use std::test::Fail;
 

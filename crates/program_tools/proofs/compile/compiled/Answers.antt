@@ -1,5 +1,5 @@
 use Rattle.std.proofs.Common.{subst, List, ℕ, arith}
-use Rattle.rule_lang.specs.Verdicts.{IsRuleFault}
+use Rattle.load.specs.rule_lang.Verdicts.{IsRuleFault}
 use Rattle.load.specs.Rule.{no_text}
 use Rattle.program_tools.proofs.Spelled.{text_fault}
 use Rattle.program_tools.proofs.compile.compiled.Goals as goal

@@ -1,5 +1,5 @@
 use Rattle.std.proofs.Common.{◌≡◌, ◌∙◌, ℕ, List, true, false, ap, sym, rules}
-use Rattle.ruleset.specs.Rules.{app_of}
+use Rattle.hot_swap.specs.rulesets.Rules.{app_of}
 use Rattle.workers.specs.Apps.{unasked, unknown}
 use Rattle.workers.proofs.Grown.{grows_none, grows_ran, not_true, not_false}
 use Rattle.workers.proofs.apps.run_app.Goals as goal
