@@ -1,6 +1,10 @@
 -- From clap's clauses to the words of `specs/Words`: what a getter reads of an argument, and a
--- command with one more subcommand.
+-- command with subcommands in turn.
 use Rattle.std.proofs.Common.{◌≡◌, ◌∙◌, sym, subst, ap, refl, ℕ, ◌<◌, ◌^◌, Option, Some, None}
+use Rattle.std.proofs.Common.{List, [], ◌∷◌, ◌++◌, ◌+◌, map, take, get_or, length, ap₂}
+use Rattle.std.proofs.lemmas.List.{map-append, map_more}
+use Rattle.std.specs.List.{AllByRecursion}
+use Rattle.clap.specs.Built.{AddsInTurn}
 use Rattle.std.proofs.Common.{true, false}
 use Rattle.std.specs.Prelude.{Result, Ok, option_map}
 use Rattle.std.specs.Borrow.{Bor}
@@ -81,9 +85,34 @@ pub required_top : (old mid new : Command) (name : Text) (about : Option (Bor Te
 required_top old mid new name about is_old is_mid is_new =
     ap app_of_fields is_new ∙ ap (λ (x : App). with_required x) (ap app_of_fields is_mid ∙ is_old)
 
-pub with_one_more : (old sub new : Command) (a : App) (s : Shape) → app_of old ≡ a
-    → shape_of sub ≡ s → (out-Command sub).has_globals ≡ false → AddsSubcommand old sub new
-    → app_of new ≡ with_subcommand a s
-with_one_more old sub new a s is_a is_s local adds =
-    adds.shape local ∙ ap (λ (x : App). with_subcommand x (shape_of sub)) is_a
-    ∙ ap (with_subcommand a) is_s
+abbrev pub with_subcommands : App → List Shape → App
+with_subcommands a [] = a
+with_subcommands a (s ∷ rest) = with_subcommands (with_subcommand a s) rest
+
+-- subcommands in turn, of which no argument is for all
+pub with_more : (subs : List Command) (old new : Command) (a : App) → app_of old ≡ a
+    → AllByRecursion (λ c. (out-Command c).has_globals ≡ false) subs
+    → AddsInTurn AddsSubcommand old subs new
+    → app_of new ≡ with_subcommands a (map shape_of subs)
+with_more [] old new a is local same = ap app_of (sym same) ∙ is
+with_more (s ∷ rest) old new a is local (m, adds, more) =
+    with_more rest m new (with_subcommand a (shape_of s))
+    (adds.shape local.0 ∙ ap (λ (x : App). with_subcommand x (shape_of s)) is) local.1 more
+
+longer : {X : Type 0} (P : X → Type 0) (xs : List X) (x : X)
+    → AllByRecursion P xs → P x → AllByRecursion P (xs ++ x ∷ [])
+longer P [] x _ holds = (holds, tt)
+longer P (y ∷ rest) x all holds = (all.0, longer P rest x all.1 holds)
+
+-- two lists that go on alike
+pub one_more_alike : {X Y S : Type 0} (f : X → S) (g : Y → S) (xs new : List X) (x : X)
+    (ys : List Y) (i : ℕ) (d : Y) → i < length ys → map f xs ≡ map g (take i ys)
+    → f x ≡ g (get_or ys i d) → new ≡ xs ++ x ∷ [] → map f new ≡ map g (take (i + 1) ys)
+one_more_alike f g xs new x ys i d within alike is more =
+    ap (map f) more ∙ map-append f xs (x ∷ [])
+    ∙ ap₂ (λ l e. l ++ e ∷ []) alike is ∙ sym (map_more g ys i d within)
+
+-- and one more of which it holds
+pub one_more_holds : {X : Type 0} (P : X → Type 0) (xs new : List X) (x : X)
+    → AllByRecursion P xs → P x → new ≡ xs ++ x ∷ [] → AllByRecursion P new
+one_more_holds P xs new x all holds more = subst (AllByRecursion P) (sym more) (longer P xs x all holds)

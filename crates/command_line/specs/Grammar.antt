@@ -1,9 +1,13 @@
 -- The commands of the command line, with their arguments.
-use Rattle.std.specs.Prelude.{ℕ, pos, List, [], ◌∷◌, Some, true, false, codes}
+use Rattle.std.specs.Prelude.{ℕ, pos, List, [], ◌∷◌, map, Some, true, false, codes}
 use Rattle.clap.specs.declared.builder.action.ArgAction.TheVariants.{Set, SetTrue}
 use Rattle.clap.specs.declared.builder.value_parser.ValueParser.TheVariants.{Signed}
 use Rattle.clap.specs.Simple.{Shape, new_shape}
 use Rattle.clap.specs.Words.{App, Rule, Text, new_rule}
+use Rattle.command_line.specs.declared.verb.Verb.{Verb}
+use Rattle.command_line.specs.declared.verb.Verb.TheVariants as verb
+use Rattle.command_line.specs.declared.verb.Verb.TheVariants.{Assemble, Check, Compile, Verify, Run}
+use Rattle.command_line.specs.declared.verb.Verb.TheVariants.{Replay, Serve, Load, Show, Cells, Stop}
 
 -- a word by its place, which has to be there
 abbrev pub file : Text → Rule
@@ -101,10 +105,24 @@ load_command = command (codes "load") (file (codes "PATH") ∷ operator ∷ [])
 abbrev pub operator_command : Text → Shape
 operator_command name = command name (operator ∷ [])
 
+abbrev pub verb_command : Verb → Shape
+verb_command Assemble = assemble_command
+verb_command Cells = operator_command (codes "cells")
+verb_command Check = check_command
+verb_command Compile = compile_command
+verb_command verb.List = list_command
+verb_command Load = load_command
+verb_command Replay = replay_command
+verb_command Run = run_command
+verb_command Serve = serve_command
+verb_command Show = operator_command (codes "show")
+verb_command Stop = operator_command (codes "stop")
+verb_command Verify = verify_command
+
+-- all of them, in the order of their names
 abbrev pub commands : App
 commands = record {
   top = record (new_shape (codes "rollout")) { is_leaf = false; subcommand_required = true };
-  subs = assemble_command ∷ operator_command (codes "cells") ∷ check_command ∷ compile_command
-      ∷ list_command ∷ load_command ∷ replay_command ∷ run_command ∷ serve_command
-      ∷ operator_command (codes "show") ∷ operator_command (codes "stop") ∷ verify_command ∷ [];
+  subs = map verb_command (Assemble ∷ Cells ∷ Check ∷ Compile ∷ verb.List ∷ Load ∷ Replay ∷ Run
+      ∷ Serve ∷ Show ∷ Stop ∷ Verify ∷ []);
 }

@@ -10,6 +10,7 @@ use crate::arguments::{
     arrays_option, bucket_option, file_argument, log_option, operator_option, port_option,
     program_argument, releases_option, timeout_option, version_option, workers_option,
 };
+use crate::verb::{VERBS, Verb};
 use clap::{Arg, Command};
 use std::alloc::{AllocError, Global};
 
@@ -203,6 +204,41 @@ fn stop_command<'a>(alloc: Global) -> Result<Command<'a>, AllocError>
     operator_command(alloc, "stop", "End a server; prints `stopping`")
 }
 
+// The command of a verb.
+fn verb_command<'a>(alloc: Global, verb: Verb) -> Result<Command<'a>, AllocError>
+    ensures shape { IfOk result (λ c. shape_of c ≡ grammar.verb_command verb) }
+    ensures local { IfOk result (λ c. (fields_of c).has_globals ≡ false) }
+{
+    match verb {
+        Verb::Assemble => assemble_command(alloc),
+        Verb::Cells => cells_command(alloc),
+        Verb::Check => check_command(alloc),
+        Verb::Compile => compile_command(alloc),
+        Verb::List => list_command(alloc),
+        Verb::Load => load_command(alloc),
+        Verb::Replay => replay_command(alloc),
+        Verb::Run => run_command(alloc),
+        Verb::Serve => serve_command(alloc),
+        Verb::Show => show_command(alloc),
+        Verb::Stop => stop_command(alloc),
+        Verb::Verify => verify_command(alloc),
+    }
+}
+
+// The commands of these verbs, in their order.
+fn commands<'a>(alloc: Global, verbs: &[Verb]) -> Result<Vec<Command<'a>>, AllocError>
+    ensures shapes { IfOk result (λ cs.
+        map shape_of cs.items ≡ map grammar.verb_command verbs.now) }
+    ensures local { IfOk result (λ cs.
+        AllByRecursion (λ c. (fields_of c).has_globals ≡ false) cs.items) }
+{
+    let mut commands = Vec::new(alloc);
+    for verb in verbs {
+        commands.push(verb_command(alloc, *verb)?)?;
+    }
+    Ok(commands)
+}
+
 /// The grammar of the command line.
 pub fn grammar<'a>(alloc: Global) -> Result<Command<'a>, AllocError>
     ensures { IfOk result (λ c. app_of c ≡ grammar.commands) }
@@ -210,16 +246,5 @@ pub fn grammar<'a>(alloc: Global) -> Result<Command<'a>, AllocError>
     Command::new(alloc, "rollout")
         .about("Decide by verified BPF programs which release an app is offered")
         .subcommand_required(true)
-        .subcommand(assemble_command(alloc)?)?
-        .subcommand(cells_command(alloc)?)?
-        .subcommand(check_command(alloc)?)?
-        .subcommand(compile_command(alloc)?)?
-        .subcommand(list_command(alloc)?)?
-        .subcommand(load_command(alloc)?)?
-        .subcommand(replay_command(alloc)?)?
-        .subcommand(run_command(alloc)?)?
-        .subcommand(serve_command(alloc)?)?
-        .subcommand(show_command(alloc)?)?
-        .subcommand(stop_command(alloc)?)?
-        .subcommand(verify_command(alloc)?)
+        .subcommands(commands(alloc, &VERBS)?)
 }

@@ -20,6 +20,22 @@ pub enum Verb {
     Stop,
 }
 
+/// All commands, by their names' order.
+pub const VERBS: [Verb; 12] = [
+    Verb::Assemble,
+    Verb::Cells,
+    Verb::Check,
+    Verb::Compile,
+    Verb::List,
+    Verb::Load,
+    Verb::Replay,
+    Verb::Run,
+    Verb::Serve,
+    Verb::Show,
+    Verb::Stop,
+    Verb::Verify,
+];
+
 /// The command of a name.
 pub fn verb_named(name: &str) -> Option<Verb>
     ensures { result ≡ verb_named name.now }

@@ -1,0 +1,12 @@
+use Rattle.std.proofs.Common.{◌≡◌, false, map, take}
+use Rattle.std.specs.List.{AllByRecursion}
+use Rattle.clap.specs.Words.{shape_of}
+use Rattle.clap.specs.declared.builder.command.Command.TheViews.{out-Command as fields_of}
+use Rattle.command_line.specs.Grammar as grammar
+use Rattle.command_line.proofs.grammar.commands.Given as goal
+
+abbrev pub invariant-loop-verb : goal.invariant-loop-verb
+invariant-loop-verb l = record {
+  shapes : map shape_of l.commands.items ≡ map grammar.verb_command (take l.verb-index l.verbs);
+  local : AllByRecursion (λ c. (fields_of c).has_globals ≡ false) l.commands.items;
+}
