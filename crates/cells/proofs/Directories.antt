@@ -14,7 +14,7 @@ use Rattle.cells.specs.declared.array.CellArray.{CellArray}
 use Rattle.cells.specs.Arrays.{HasRanges}
 use Rattle.cells.specs.Directory.{same_width, cells_of, taken, IsDirectory, IsKept, Declaration}
 use Rattle.cells.specs.Directory.{IsDeclaration, IsNew, IsNamed, HasValues, IsAsDeclared}
-use Rattle.cells.specs.Directory.{next_array, next_cell, Declares}
+use Rattle.cells.specs.Directory.{next_array, next_cell, Declares, HasDistinctNames}
 use Rattle.cells.specs.Directory.Declares.{again, anew}
 
 -- a place of a list with one element more
@@ -65,7 +65,7 @@ place_after d old known i a e = elim (pushed_place old (next_array d old) i a e)
       subst P h.1 (ap (λ (l : List CellArray). next_cell d.width l) (sym before))
 ]
 
-name_after : (d : Declaration) (old : List CellArray) → IsDirectory old → IsNew d old
+pub name_after : (d : Declaration) (old : List CellArray) → HasDistinctNames old → IsNew d old
     → (i j : ℕ) (a b : CellArray) → slice_get (old ++ next_array d old ∷ []) i ≡ Some a
     → slice_get (old ++ next_array d old ∷ []) j ≡ Some b → a.name ≡ b.name → i ≡ j
 name_after d old known new i j a b at_i at_j same =
@@ -73,7 +73,7 @@ name_after d old known new i j a b at_i at_j same =
     let name : (x : CellArray) → List ℕ = λ x. x.name in
     elim (pushed_place old (next_array d old) i a at_i) [
       | inl h ↦ elim (pushed_place old (next_array d old) j b at_j) [
-        | inl k ↦ known.names i j a b h k same
+        | inl k ↦ known i j a b h k same
         | inr k ↦ absurd (all_at P old i a new h (same ∙ sym (ap name k.1)))
       ]
       | inr h ↦ elim (pushed_place old (next_array d old) j b at_j) [
@@ -85,7 +85,7 @@ name_after d old known new i j a b at_i at_j same =
 pub added : (d : Declaration) (old : List CellArray) → IsDeclaration d → IsDirectory old
     → IsNew d old → taken d.width old + d.length ≤ 4096 → IsDirectory (old ++ next_array d old ∷ [])
 added d old lawful known new room = record {
-  names = name_after d old known new;
+  names = name_after d old known.names new;
   places = place_after d old known;
   room = λ w. subst (λ (n : ℕ). n ≤ 4096) (sym (taken_after w d old))
       (fits w d.width (λ v. taken v old) d.length (known.room w) room);

@@ -2,4 +2,5 @@ pub mod Directories
 pub mod Growing
 pub mod Shapes
 pub mod Values
+pub mod OneWay
 mod Fitting

@@ -26,10 +26,13 @@ taken w arrays = sum_by (cells_of w) arrays
 abbrev pub next_cell : CellWidth → List CellArray → ℕ
 next_cell w arrays = first_cell w + taken w arrays
 
+abbrev pub HasDistinctNames : List CellArray → Type 0
+HasDistinctNames arrays = (i j : ℕ) (a b : CellArray)
+    → slice_get arrays i ≡ Some a → slice_get arrays j ≡ Some b → a.name ≡ b.name → i ≡ j
+
 -- arrays with distinct names, each after the earlier ones of its width, without gaps
 pub record IsDirectory (arrays : List CellArray) : Type 0 where
-  pub names : (i j : ℕ) (a b : CellArray)
-      → slice_get arrays i ≡ Some a → slice_get arrays j ≡ Some b → a.name ≡ b.name → i ≡ j
+  pub names : HasDistinctNames arrays
   pub places : (i : ℕ) (a : CellArray)
       → slice_get arrays i ≡ Some a → a.base ≡ next_cell a.width (take i arrays)
   pub room : (w : CellWidth) → taken w arrays ≤ 4096

@@ -3,4 +3,5 @@ pub mod Grown
 pub mod Names
 pub mod Arrays
 pub mod Directory
+pub mod OneWay
 pub mod Widths
