@@ -1,0 +1,84 @@
+"""Copies the built program, with its pages and examples, to a folder from which it runs alone.
+
+All is written beside the places that it goes to, under names that begin with a dot, before anything
+is set in its place. Where a step fails those before it are undone.
+"""
+import contextlib
+import os
+import shutil
+import sys
+
+from building.crates import OUT, PROGRAM, ROOT, say
+
+SHARE = "share/rollout"
+# The program comes last: it is replaced in one step, with nothing behind it that could fail. A
+# server that runs goes on with the file that it has.
+PLACES = {
+    f"{SHARE}/README.md": ROOT / "README.md",
+    f"{SHARE}/docs": ROOT / "docs",
+    f"{SHARE}/examples": ROOT / "examples",
+    "bin/rollout": OUT / PROGRAM,
+}
+
+
+def beside(place, ending):
+    return place.with_name(f".{place.name}.{ending}")
+
+
+def remove(path):
+    if path.is_dir() and not path.is_symlink():
+        shutil.rmtree(path)
+    else:
+        path.unlink(missing_ok=True)
+
+
+def make_folder(folder, undo):
+    if not folder.exists():
+        make_folder(folder.parent, undo)
+        folder.mkdir()
+        undo.callback(folder.rmdir)
+
+
+def write_beside(source, place, undo):
+    make_folder(place.parent, undo)
+    new = beside(place, "new")
+    remove(new)
+    undo.callback(remove, new)
+    if source.is_dir():
+        shutil.copytree(source, new)
+    else:
+        shutil.copy(source, new)
+
+
+def set_in_place(place, undo):
+    """What stood there stays beside it, for the time that a later step may fail."""
+    new, old = beside(place, "new"), beside(place, "old")
+    remove(old)
+    if os.path.lexists(place):
+        place.rename(old)
+        undo.callback(old.rename, place)
+    new.rename(place)
+    undo.callback(place.rename, new)
+
+
+def cause(error):
+    """Of the faults of a folder's copy the first."""
+    return error.args[0][0][2] if isinstance(error.args[0], list) else error
+
+
+def install(folder):
+    """Installs all or nothing, over what an earlier call installed there."""
+    *shared, program = [folder / it for it in PLACES]
+    try:
+        with contextlib.ExitStack() as undo:
+            for place, source in PLACES.items():
+                write_beside(source, folder / place, undo)
+            for place in shared:
+                set_in_place(place, undo)
+            beside(program, "new").replace(program)
+            undo.pop_all()
+    except OSError as error:
+        sys.exit(f"rollout: nothing is installed: {cause(error)}")
+    for place in shared:
+        remove(beside(place, "old"))
+    say(f"installed {program}; its pages and examples lie in {folder / SHARE}")
