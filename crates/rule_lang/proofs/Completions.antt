@@ -2,15 +2,13 @@
 use Rattle.std.proofs.Common.{◌≡◌, ℕ, zero, suc, List, [], ◌∷◌, ◌++◌, Option, Some, Ok, Err}
 use Rattle.std.proofs.Common.{Bool, true, if◌then◌else◌, refl, sym, ap, ◌∙◌, subst}
 use Rattle.rule_lang.specs.declared.keyword.Keyword.TheVariants as keyword
-use Rattle.rule_lang.specs.declared.phrase.TheConstants.{OFFER, OTHERWISE, BUCKET}
-use Rattle.rule_lang.specs.declared.phrase.TheConstants.{FLAG}
 use Rattle.rule_lang.specs.declared.phrase.Want.{Want}
 use Rattle.rule_lang.specs.declared.phrase.Want.TheVariants as want
 use Rattle.rule_lang.specs.declared.test.Relation.TheVariants as relation
 use Rattle.rule_lang.specs.declared.token.Token.TheVariants as token
 use Rattle.rule_lang.specs.Grammar as g
 use Rattle.rule_lang.specs.Lexed.{Placed, on}
-use Rattle.rule_lang.specs.Phrases.{takes, behind, misplaced}
+use Rattle.rule_lang.specs.Phrases.{takes, behind, misplaced, offer_phrase, otherwise_phrase, bucket_phrase, flag_phrase}
 use Rattle.rule_lang.specs.Tokens.{Token}
 use Rattle.rule_lang.proofs.Machine.{Place, AtStatement, AtFact, InBucket, AtOperator, AtEnd}
 use Rattle.rule_lang.proofs.Machine.{State}
@@ -57,14 +55,15 @@ pub record Some_of (P : List Placed → Type 0) : Type 0 where
   pub fits : P tokens
 
 a_rule : Some_of (λ ts. g.IsRule ts)
-a_rule = record { tokens = fill OTHERWISE []; fits = g.otherwise (filled OTHERWISE []) }
+a_rule =
+    record { tokens = fill otherwise_phrase []; fits = g.otherwise (filled otherwise_phrase []) }
 
 closing : (n : ℕ) → Some_of (λ ts. Follows n ts)
 closing zero = record {
-  tokens = fill OFFER a_rule.tokens;
-  fits = whole IsOffered (fill OFFER a_rule.tokens) (record {
+  tokens = fill offer_phrase a_rule.tokens;
+  fits = whole IsOffered (fill offer_phrase a_rule.tokens) (record {
     rest = a_rule.tokens;
-    offer = filled OFFER a_rule.tokens;
+    offer = filled offer_phrase a_rule.tokens;
     rule = a_rule.fits;
   });
 }
@@ -81,22 +80,23 @@ from_place AtStatement = a_rule
 from_place (AtFact n) =
     let rest = closing n in
     record {
-      tokens = fill FLAG rest.tokens;
+      tokens = fill flag_phrase rest.tokens;
       fits = record {
         rest = rest.tokens;
-        fact = g.asked (g.of_flag (filled FLAG rest.tokens));
+        fact = g.asked (g.of_flag (filled flag_phrase rest.tokens));
         more = rest.fits;
       };
     }
 from_place (InBucket n) =
     let rest = closing n in
-    let ts = fill (tail BUCKET) rest.tokens in
+    let ws = tail bucket_phrase in
+    let ts = fill ws rest.tokens in
     record {
       tokens = ts;
       fits = record {
         rest = rest.tokens;
-        test = λ p is. g.of_bucket (worded keyword.Bucket (tail BUCKET) p ts rest.tokens is (filled
-            (tail BUCKET) rest.tokens));
+        test = λ p is.
+            g.of_bucket (worded keyword.Bucket ws p ts rest.tokens is (filled ws rest.tokens));
         more = rest.fits;
       };
     }

@@ -8,7 +8,6 @@ use Rattle.rule_lang.specs.declared.draft.Mode.{Mode}
 use Rattle.rule_lang.specs.declared.draft.Mode.TheVariants as mode
 use Rattle.rule_lang.specs.declared.fault.RuleFault.{RuleFault}
 use Rattle.rule_lang.specs.declared.keyword.Keyword.TheVariants as keyword
-use Rattle.rule_lang.specs.declared.phrase.TheConstants.{COUNT, OTHERWISE}
 use Rattle.rule_lang.specs.declared.phrase.Want.{Want}
 use Rattle.rule_lang.specs.declared.rule.Statement.{Statement}
 use Rattle.rule_lang.specs.declared.test.Test.{Test}
@@ -16,7 +15,7 @@ use Rattle.rule_lang.specs.declared.token.Token.TheVariants as token
 use Rattle.rule_lang.specs.Reader.Drafts.{Pending, first_frame, begin, denied, opened}
 use Rattle.rule_lang.specs.Lexed.{Placed}
 use Rattle.rule_lang.specs.Parts.{OrFault, ◌>>?◌, part, out_of_range}
-use Rattle.rule_lang.specs.Phrases.{behind, misplaced, test_phrase, takes}
+use Rattle.rule_lang.specs.Phrases.{behind, misplaced, test_phrase, takes, count_phrase, otherwise_phrase}
 use Rattle.rule_lang.specs.Reader.Reading.{Draft, Next, first_of, with_fault_if, in_mode}
 use Rattle.rule_lang.specs.Reader.Reading.{with_condition, counted, statement_next, too_deep}
 use Rattle.rule_lang.specs.Reader.Reading.{with_test, test_next, fact_next, next}
@@ -124,8 +123,8 @@ pub statement_keeps : (s : AppShape) (d : Draft) (t : Token) (line : ℕ)
     Draft × List Placed) → d.mode ≡ mode.Statement → IsRest after ts
     → statement_next s d t line ts after ≡ Ok q → Keeps ts q
 statement_keeps s d (token.Keyword keyword.Count) line ts after q m r h =
-    phrase_keeps COUNT ts (counted (count_of s ts) d) q (in_statement (counted (count_of s ts) d)
-    (mode_counted (count_of s ts) d ∙ m)) h
+    let e = counted (count_of s ts) d in
+    phrase_keeps count_phrase ts e q (in_statement e (mode_counted (count_of s ts) d ∙ m)) h
 statement_keeps s d (token.Keyword keyword.When) line ts after q m r h =
     kept ts (in_mode mode.Fact (with_condition begin d), after) q h (record {
       sound = λ clean.
@@ -133,7 +132,7 @@ statement_keeps s d (token.Keyword keyword.When) line ts after q m r h =
       rest = r;
     })
 statement_keeps s d (token.Keyword keyword.Otherwise) line ts after q m r h =
-    phrase_keeps OTHERWISE ts (in_mode mode.Done d) q (λ clean. tt) h
+    phrase_keeps otherwise_phrase ts (in_mode mode.Done d) q (λ clean. tt) h
 statement_keeps s d t line ts after q m r h = absurd (no_ok (misplaced line) q h)
 
 -- ---- facts

@@ -206,12 +206,37 @@ led_to : (x : State) (l : Place) (ts : List Placed) (e : Draft) (o : OrFault (Li
 led_to x l ts e (Ok rest) is h = subst (λ (y : State). IsLed x ts y rest) (sym is) h
 led_to x l ts e (Err f) is h = h
 
+-- what a phrase leads to, once the rule so far is this
+abbrev pub phrase_next : List Want → List Placed → Draft → Next
+phrase_next ws ts e = behind ws ts >>? λ rest. Ok (e, rest)
+
 -- the rest of a phrase
 pub rest_led : (ws : List Want) (l : Place) (ts : List Placed) (e : Draft)
     → ends_well (is_end l) ws ≡ true → state_of e ≡ state [] l → HasEnd ts
-    → Led (state ws l) ts (behind ws ts >>? λ rest. Ok (e, rest))
+    → Led (state ws l) ts (phrase_next ws ts e)
 rest_led ws l ts e well is h =
     led_to (state ws l) l ts e (behind ws ts) is (behind_led ws l ts well (before_of ws l ts h))
+
+-- whether a phrase's first token is taken or not
+abbrev next_if : Bool → List Want → Placed → List Placed → Draft → Next
+next_if b ws p ts e =
+    (if b then behind ws ts else Err (misplaced p.line)) >>? λ rest. Ok (e, rest)
+
+-- a phrase whose first token is taken
+pub first_led : (x y : State) (w : Want) (ws : List Want) (p : Placed) (after : List Placed)
+    (e : Draft) → takes w p.token ≡ true → step x p.token ≡ Some y
+    → Led y after (phrase_next ws after e)
+    → Led x (p ∷ after) (phrase_next (w ∷ ws) (p ∷ after) e)
+first_led x y w ws p after e fits is h =
+    let led = then_led x y p after (phrase_next ws after e) is h in
+    subst (λ (b : Bool). Led x (p ∷ after) (next_if b ws p after e)) (sym fits) led
+
+-- one whose first token isn't
+pub no_first_led : (x : State) (w : Want) (ws : List Want) (p : Placed) (after : List Placed)
+    (e : Draft) → takes w p.token ≡ false → IsStuck x (p ∷ after) (misplaced p.line)
+    → Led x (p ∷ after) (phrase_next (w ∷ ws) (p ∷ after) e)
+no_first_led x w ws p after e misfits h =
+    subst (λ (b : Bool). Led x (p ∷ after) (next_if b ws p after e)) (sym misfits) h
 
 abbrev pub is_end_token : Token → Bool
 is_end_token token.End = true
@@ -227,17 +252,12 @@ past t p ts is no_end (inr later) = later
 pub phrase_led : (k : Keyword) (ws : List Want) (l m : Place) (p : Placed) (after : List Placed)
     (e : Draft) → p.token ≡ token.Keyword k → place_step l (token.Keyword k) ≡ Some (state ws m)
     → state_of e ≡ state [] m → ends_well (is_end m) ws ≡ true → HasEnd (p ∷ after)
-    → Led (state [] l) (p ∷ after) (behind (want.Keyword k ∷ ws) (p ∷ after) >>? λ rest. Ok (
-      e,
-      rest,
-    ))
+    → Led (state [] l) (p ∷ after) (phrase_next (want.Keyword k ∷ ws) (p ∷ after) e)
 phrase_led k ws l m p after e is goes there well h =
-    let word : takes (want.Keyword k) p.token ≡ true = ap (takes (want.Keyword k)) is ∙ same_word k
-    in
-    subst (λ (b : Bool). Led (state [] l) (p ∷ after) ((if b then behind ws after else Err
-    (misplaced p.line)) >>? λ rest. Ok (e, rest))) (sym word) (then_led (state [] l) (state ws m) p
-    after (behind ws after >>? λ rest. Ok (e, rest)) (ap (place_step l) is ∙ goes) (rest_led ws m
-    after e well there (past (token.Keyword k) p after is refl h)))
+    let word = ap (takes (want.Keyword k)) is ∙ same_word k in
+    let rest = rest_led ws m after e well there (past (token.Keyword k) p after is refl h) in
+    first_led (state [] l) (state ws m) (want.Keyword k) ws p after e word
+    (ap (place_step l) is ∙ goes) rest
 
 -- one token
 pub token_led : (t : Token) (l m : Place) (p : Placed) (after : List Placed) (e : Draft)

@@ -1,3 +1,4 @@
+pub mod Exact
 pub mod Runs
 pub mod Lexing
 pub mod Digits

@@ -4,13 +4,11 @@ use Rattle.std.proofs.Common.{◌≡◌, ℕ, zero, suc, List, [], ◌∷◌, �
 use Rattle.std.proofs.Common.{if◌then◌else◌, refl}
 use Rattle.std.specs.Option.{option_and_then}
 use Rattle.rule_lang.specs.declared.keyword.Keyword.TheVariants as keyword
-use Rattle.rule_lang.specs.declared.phrase.TheConstants.{COUNT, OFFER, OTHERWISE, VERSION, BUCKET}
-use Rattle.rule_lang.specs.declared.phrase.TheConstants.{SALTED, TODAY, INSTALLED, FLAG, ATTR, TAKE}
 use Rattle.rule_lang.specs.declared.phrase.Want.{Want}
 use Rattle.rule_lang.specs.declared.token.Token.TheVariants as token
 use Rattle.rule_lang.specs.Grammar as g
 use Rattle.rule_lang.specs.Lexed.{Placed}
-use Rattle.rule_lang.specs.Phrases.{takes, behind}
+use Rattle.rule_lang.specs.Phrases.{takes, behind, count_phrase, offer_phrase, otherwise_phrase, version_phrase, bucket_phrase, salted_phrase, today_phrase, installed_phrase, flag_phrase, attr_phrase, take_phrase}
 use Rattle.rule_lang.specs.Tokens.{Token}
 
 -- ---- the machine
@@ -42,24 +40,24 @@ abbrev pub phrase : List Want → Place → Option State
 phrase ws l = Some (state (tail ws) l)
 
 abbrev pub place_step : Place → Token → Option State
-place_step AtStatement (token.Keyword keyword.Count) = phrase COUNT AtStatement
+place_step AtStatement (token.Keyword keyword.Count) = phrase count_phrase AtStatement
 place_step AtStatement (token.Keyword keyword.When) = at (AtFact 0)
-place_step AtStatement (token.Keyword keyword.Otherwise) = phrase OTHERWISE AtEnd
+place_step AtStatement (token.Keyword keyword.Otherwise) = phrase otherwise_phrase AtEnd
 place_step (AtFact n) (token.Keyword keyword.Not) = at (AtFact n)
 place_step (AtFact n) token.Open = at (AtFact (suc n))
-place_step (AtFact n) (token.Keyword keyword.Version) = phrase VERSION (AtOperator n)
+place_step (AtFact n) (token.Keyword keyword.Version) = phrase version_phrase (AtOperator n)
 place_step (AtFact n) (token.Keyword keyword.Bucket) = at (InBucket n)
-place_step (AtFact n) (token.Keyword keyword.Today) = phrase TODAY (AtOperator n)
-place_step (AtFact n) (token.Keyword keyword.Installed) = phrase INSTALLED (AtOperator n)
-place_step (AtFact n) (token.Keyword keyword.Flag) = phrase FLAG (AtOperator n)
-place_step (AtFact n) (token.Keyword keyword.Attr) = phrase ATTR (AtOperator n)
-place_step (AtFact n) (token.Keyword keyword.Take) = phrase TAKE (AtOperator n)
-place_step (InBucket n) token.Open = Some (state (tail (tail SALTED)) (AtOperator n))
-place_step (InBucket n) (token.Relation r) = Some (state (tail (tail BUCKET)) (AtOperator n))
+place_step (AtFact n) (token.Keyword keyword.Today) = phrase today_phrase (AtOperator n)
+place_step (AtFact n) (token.Keyword keyword.Installed) = phrase installed_phrase (AtOperator n)
+place_step (AtFact n) (token.Keyword keyword.Flag) = phrase flag_phrase (AtOperator n)
+place_step (AtFact n) (token.Keyword keyword.Attr) = phrase attr_phrase (AtOperator n)
+place_step (AtFact n) (token.Keyword keyword.Take) = phrase take_phrase (AtOperator n)
+place_step (InBucket n) token.Open = Some (state (tail (tail salted_phrase)) (AtOperator n))
+place_step (InBucket n) (token.Relation r) = Some (state (tail (tail bucket_phrase)) (AtOperator n))
 place_step (AtOperator n) (token.Keyword keyword.And) = at (AtFact n)
 place_step (AtOperator n) (token.Keyword keyword.Or) = at (AtFact n)
 place_step (AtOperator (suc n)) token.Close = at (AtOperator n)
-place_step (AtOperator zero) (token.Keyword keyword.Offer) = phrase OFFER AtStatement
+place_step (AtOperator zero) (token.Keyword keyword.Offer) = phrase offer_phrase AtStatement
 place_step AtEnd t = at AtEnd
 place_step l t = None
 
@@ -107,7 +105,7 @@ pub record IsRestOfCond (Then : List Placed → Type 0) (ts : List Placed) : Typ
 
 pub record IsOffered (ts : List Placed) : Type 0 where
   pub rest : List Placed
-  pub offer : g.IsPhrase OFFER ts rest
+  pub offer : g.IsPhrase offer_phrase ts rest
   pub rule : g.IsRule rest
 
 pub data IsClosed (Then : List Placed → Type 0) : List Placed → Type 0 where

@@ -1,7 +1,7 @@
 -- Each phrase in each mode of the reader is a way of the machine, or stops it.
 use Rattle.std.proofs.Common.{◌≡◌, ℕ, zero, suc, ◌-◌, List, [], ◌∷◌, ◌++◌, length}
-use Rattle.std.proofs.Common.{Some, None, Ok, Err, Bool, true, false, if◌then◌else◌}
-use Rattle.std.proofs.Common.{refl, sym, ap, ◌∙◌, subst}
+use Rattle.std.proofs.Common.{Some, None, Ok, Err, Bool, true, false}
+use Rattle.std.proofs.Common.{refl, ap, ◌∙◌}
 use Rattle.cells.specs.Arrays.{AppShape}
 use Rattle.rule_lang.specs.declared.draft.Mode.{Mode}
 use Rattle.rule_lang.specs.declared.draft.Mode.TheVariants as mode
@@ -9,8 +9,6 @@ use Rattle.rule_lang.specs.declared.fault.RuleFault.{RuleFault}
 use Rattle.rule_lang.specs.declared.frame.Frame.{Frame}
 use Rattle.rule_lang.specs.declared.keyword.Keyword.{Keyword}
 use Rattle.rule_lang.specs.declared.keyword.Keyword.TheVariants as keyword
-use Rattle.rule_lang.specs.declared.phrase.TheConstants.{COUNT, OFFER, OTHERWISE, VERSION, BUCKET}
-use Rattle.rule_lang.specs.declared.phrase.TheConstants.{SALTED, TODAY, INSTALLED, FLAG, ATTR, TAKE}
 use Rattle.rule_lang.specs.declared.phrase.Want.{Want}
 use Rattle.rule_lang.specs.declared.phrase.Want.TheVariants as want
 use Rattle.rule_lang.specs.declared.test.Test.{Test}
@@ -18,8 +16,8 @@ use Rattle.rule_lang.specs.declared.token.Token.TheVariants as token
 use Rattle.rule_lang.specs.Reader.Drafts.{Pending, begin, denied, opened, joined, parted, closed_to}
 use Rattle.rule_lang.specs.Reader.Drafts.{fact_done, term_done, is_empty, or_step}
 use Rattle.rule_lang.specs.Lexed.{Placed}
-use Rattle.rule_lang.specs.Parts.{OrFault, ◌>>?◌, part, out_of_range, release}
-use Rattle.rule_lang.specs.Phrases.{behind, misplaced, takes, test_phrase}
+use Rattle.rule_lang.specs.Parts.{OrFault, part, out_of_range, release}
+use Rattle.rule_lang.specs.Phrases.{takes, test_phrase, count_phrase, offer_phrase, otherwise_phrase, version_phrase, bucket_phrase, salted_phrase, today_phrase, installed_phrase, flag_phrase, attr_phrase, take_phrase}
 use Rattle.rule_lang.specs.Reader.Reading.{Draft, with_fault_if, in_mode, with_condition}
 use Rattle.rule_lang.specs.Reader.Reading.{counted}
 use Rattle.rule_lang.specs.Reader.Reading.{statement_next, too_deep, with_test, test_next}
@@ -33,8 +31,8 @@ use Rattle.rule_lang.specs.Tokens.{Token}
 use Rattle.rule_lang.proofs.Keeping.{mode_counted, mode_noted}
 use Rattle.rule_lang.proofs.Machine.{AtStatement, AtFact, InBucket, AtOperator, AtEnd}
 use Rattle.rule_lang.proofs.Machine.{state, tail, place_step}
-use Rattle.rule_lang.proofs.Led.{place_of, state_of, HasEnd, Led, then_led, ends_well, rest_led}
-use Rattle.rule_lang.proofs.Led.{is_end_token, past, phrase_led, token_led, stopped_at}
+use Rattle.rule_lang.proofs.Led.{place_of, state_of, HasEnd, Led, ends_well, rest_led}
+use Rattle.rule_lang.proofs.Led.{is_end_token, past, first_led, no_first_led, phrase_led, token_led, stopped_at}
 
 -- ---- the modes
 
@@ -49,14 +47,17 @@ statement_led : (s : AppShape) (d : Draft) (t : Token) (p : Placed) (after : Lis
     → Led (state [] AtStatement) (p ∷ after) (statement_next s d t p.line (p ∷ after) after)
 statement_led s d (token.Keyword keyword.Count) p after is m h =
     let e = counted (count_of s (p ∷ after)) d in
-    phrase_led keyword.Count (tail COUNT) AtStatement AtStatement p after e is refl (state_is e
-    mode.Statement e.condition.below (mode_counted (count_of s (p ∷ after)) d ∙ m) refl) refl h
+    let stays = mode_counted (count_of s (p ∷ after)) d ∙ m in
+    let there = state_is e mode.Statement e.condition.below stays refl in
+    phrase_led keyword.Count (tail count_phrase) AtStatement AtStatement p after e is refl there
+    refl h
 statement_led s d (token.Keyword keyword.When) p after is m h =
     token_led (token.Keyword keyword.When) AtStatement (AtFact 0) p after (in_mode mode.Fact
     (with_condition begin d)) is refl refl refl h
 statement_led s d (token.Keyword keyword.Otherwise) p after is m h =
-    phrase_led keyword.Otherwise (tail OTHERWISE) AtStatement AtEnd p after (in_mode mode.Done d) is
-    refl refl refl h
+    let e = in_mode mode.Done d in
+    phrase_led keyword.Otherwise (tail otherwise_phrase) AtStatement AtEnd p after e is refl refl
+    refl h
 statement_led s d t p after is m h = stopped_at t AtStatement p after is refl
 
 below_tested : (line : ℕ) (o : OrFault Test) (d : Draft)
@@ -98,50 +99,42 @@ second_led s d w ws t p q after is also fits goes well no_end h =
     let n = length d.condition.below in
     let ts = p ∷ (q ∷ after) in
     let e = in_mode mode.Operator (with_test p.line (test_of s ts) d) in
-    let word : takes (want.Keyword keyword.Bucket) p.token ≡ true = ap (takes (want.Keyword
-    keyword.Bucket)) is in
-    let second : takes w q.token ≡ true = ap (takes w) also ∙ fits in
-    let tail_led = then_led (state [] (InBucket n)) (state ws (AtOperator n)) q after (behind ws
-    after >>? λ rest. Ok (e, rest)) (ap (place_step (InBucket n)) also ∙ goes) (rest_led ws
-    (AtOperator n) after e well (test_state s d p.line ts) (past t q after also no_end h)) in
-    let from_second = subst (λ (b : Bool). Led (state [] (InBucket n)) (q ∷ after) ((if b then
-    behind ws after else Err (misplaced q.line)) >>? λ rest. Ok (e, rest))) (sym second) tail_led in
-    subst (λ (b : Bool). Led (state [] (AtFact n)) ts ((if b then behind (w ∷ ws) (q ∷ after) else
-    Err (misplaced p.line)) >>? λ rest. Ok (e, rest))) (sym word) (then_led (state [] (AtFact n))
-    (state [] (InBucket n)) p (q ∷ after) (behind (w ∷ ws) (q ∷ after) >>? λ rest. Ok (e, rest)) (ap
-    (place_step (AtFact n)) is) from_second)
+    let word = ap (takes (want.Keyword keyword.Bucket)) is in
+    let taken = ap (takes w) also ∙ fits in
+    let left = past t q after also no_end h in
+    let rest = rest_led ws (AtOperator n) after e well (test_state s d p.line ts) left in
+    let second = first_led (state [] (InBucket n)) (state ws (AtOperator n)) w ws q after e taken
+    (ap (place_step (InBucket n)) also ∙ goes) rest in
+    first_led (state [] (AtFact n)) (state [] (InBucket n)) (want.Keyword keyword.Bucket) (w ∷ ws) p
+    (q ∷ after) e word (ap (place_step (AtFact n)) is) second
 
 no_second : (s : AppShape) (d : Draft) (t : Token) (p q : Placed) (after : List Placed)
     → p.token ≡ token.Keyword keyword.Bucket → q.token ≡ t → takes want.Relation t ≡ false
     → place_step (InBucket (length d.condition.below)) t ≡ None
     → Led (state [] (AtFact (length d.condition.below))) (p ∷ (q ∷ after)) (test_next s d p.line
-    (Some BUCKET) (p ∷ (q ∷ after)))
+    (Some bucket_phrase) (p ∷ (q ∷ after)))
 no_second s d t p q after is also misfits stop =
     let n = length d.condition.below in
     let ts = p ∷ (q ∷ after) in
     let e = in_mode mode.Operator (with_test p.line (test_of s ts) d) in
-    let word : takes (want.Keyword keyword.Bucket) p.token ≡ true = ap (takes (want.Keyword
-    keyword.Bucket)) is in
-    let second : takes want.Relation q.token ≡ false = ap (takes want.Relation) also ∙ misfits in
-    let from_second = subst (λ (b : Bool). Led (state [] (InBucket n)) (q ∷ after) ((if b then
-    behind (tail (tail BUCKET)) after else Err (misplaced q.line)) >>? λ rest. Ok (e, rest))) (sym
-    second) (stopped_at t (InBucket n) q after also stop) in
-    subst (λ (b : Bool). Led (state [] (AtFact n)) ts ((if b then behind (tail BUCKET) (q ∷ after)
-    else Err (misplaced p.line)) >>? λ rest. Ok (e, rest))) (sym word) (then_led (state [] (AtFact
-    n)) (state [] (InBucket n)) p (q ∷ after) (behind (tail BUCKET) (q ∷ after) >>? λ rest. Ok (
-      e,
-      rest,
-    )) (ap (place_step (AtFact n)) is) from_second)
+    let ws = tail bucket_phrase in
+    let word = ap (takes (want.Keyword keyword.Bucket)) is in
+    let left = ap (takes want.Relation) also ∙ misfits in
+    let second = no_first_led (state [] (InBucket n)) want.Relation (tail ws) q after e left
+    (stopped_at t (InBucket n) q after also stop) in
+    first_led (state [] (AtFact n)) (state [] (InBucket n)) (want.Keyword keyword.Bucket) ws p
+    (q ∷ after) e word (ap (place_step (AtFact n)) is) second
 
 bucket_led : (s : AppShape) (d : Draft) (t : Token) (p q : Placed) (after : List Placed)
     → p.token ≡ token.Keyword keyword.Bucket → q.token ≡ t → HasEnd (q ∷ after)
     → Led (state [] (AtFact (length d.condition.below))) (p ∷ (q ∷ after)) (test_next s d p.line
     (test_phrase (token.Keyword keyword.Bucket) t) (p ∷ (q ∷ after)))
 bucket_led s d token.Open p q after is also h =
-    second_led s d want.Open (tail (tail SALTED)) token.Open p q after is also refl refl refl refl h
-bucket_led s d (token.Relation r) p q after is also h =
-    second_led s d want.Relation (tail (tail BUCKET)) (token.Relation r) p q after is also refl refl
+    second_led s d want.Open (tail (tail salted_phrase)) token.Open p q after is also refl refl
     refl refl h
+bucket_led s d (token.Relation r) p q after is also h =
+    let ws = tail (tail bucket_phrase) in
+    second_led s d want.Relation ws (token.Relation r) p q after is also refl refl refl refl h
 bucket_led s d t p q after is also h = no_second s d t p q after is also refl refl
 
 bucket_next_led : (s : AppShape) (d : Draft) (p : Placed) (after : List Placed)
@@ -173,18 +166,18 @@ fact_led s d token.Open p after is m h =
     (ap (λ (c : Pending). c.top ∷ c.below) (condition_noted (too_deep d) (out_of_range p) d))) refl
     h
 fact_led s d (token.Keyword keyword.Version) p after is m h =
-    test_led s d keyword.Version (tail VERSION) p after is refl refl h
+    test_led s d keyword.Version (tail version_phrase) p after is refl refl h
 fact_led s d (token.Keyword keyword.Bucket) p after is m h = bucket_next_led s d p after is h
 fact_led s d (token.Keyword keyword.Today) p after is m h =
-    test_led s d keyword.Today (tail TODAY) p after is refl refl h
+    test_led s d keyword.Today (tail today_phrase) p after is refl refl h
 fact_led s d (token.Keyword keyword.Installed) p after is m h =
-    test_led s d keyword.Installed (tail INSTALLED) p after is refl refl h
+    test_led s d keyword.Installed (tail installed_phrase) p after is refl refl h
 fact_led s d (token.Keyword keyword.Flag) p after is m h =
-    test_led s d keyword.Flag (tail FLAG) p after is refl refl h
+    test_led s d keyword.Flag (tail flag_phrase) p after is refl refl h
 fact_led s d (token.Keyword keyword.Attr) p after is m h =
-    test_led s d keyword.Attr (tail ATTR) p after is refl refl h
+    test_led s d keyword.Attr (tail attr_phrase) p after is refl refl h
 fact_led s d (token.Keyword keyword.Take) p after is m h =
-    test_led s d keyword.Take (tail TAKE) p after is refl refl h
+    test_led s d keyword.Take (tail take_phrase) p after is refl refl h
 fact_led s d t p after is m h =
     stopped_at t (AtFact (length d.condition.below)) p after is refl
 
@@ -208,9 +201,10 @@ offer_led : (s : AppShape) (d : Draft) (fs : List Frame) (p : Placed) (after : L
     → Led (state [] (AtOperator (length fs))) (p ∷ after) (offer_next s d (is_empty fs) p.line (p ∷
     after))
 offer_led s d [] p after is h =
-    phrase_led keyword.Offer (tail OFFER) (AtOperator 0) AtStatement p after (in_mode mode.Statement
-    (offered (release s (part (p ∷ after) 1)) (with_condition (term_done d.condition) d))) is refl
-    refl refl h
+    let ended = with_condition (term_done d.condition) d in
+    let e = in_mode mode.Statement (offered (release s (part (p ∷ after) 1)) ended) in
+    phrase_led keyword.Offer (tail offer_phrase) (AtOperator 0) AtStatement p after e is refl refl
+    refl h
 offer_led s d (f ∷ fs) p after is h =
     stopped_at (token.Keyword keyword.Offer) (AtOperator (suc (length fs))) p after is refl
 

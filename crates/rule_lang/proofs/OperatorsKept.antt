@@ -6,15 +6,14 @@ use Rattle.rule_lang.specs.declared.draft.Mode.{Mode}
 use Rattle.rule_lang.specs.declared.draft.Mode.TheVariants as mode
 use Rattle.rule_lang.specs.declared.frame.Frame.{Frame}
 use Rattle.rule_lang.specs.declared.keyword.Keyword.TheVariants as keyword
-use Rattle.rule_lang.specs.declared.phrase.TheConstants.{OFFER}
 use Rattle.rule_lang.specs.declared.token.Token.TheVariants as token
 use Rattle.rule_lang.specs.Reader.Drafts.{Pending, joined, parted, closed_to, fact_done, term_done}
 use Rattle.rule_lang.specs.Reader.Drafts.{is_empty, or_step}
 use Rattle.rule_lang.specs.Lexed.{Placed}
 use Rattle.rule_lang.specs.Parts.{part, release}
-use Rattle.rule_lang.specs.Phrases.{misplaced}
+use Rattle.rule_lang.specs.Phrases.{misplaced, offer_phrase}
 use Rattle.rule_lang.specs.Reader.Reading.{Draft, in_mode, with_condition, closed_next, offered}
-use Rattle.rule_lang.specs.Reader.Reading.{offer_next, operator_next, next}
+use Rattle.rule_lang.specs.Reader.Reading.{offer_next, operator_next}
 use Rattle.rule_lang.specs.Reader.Sound.{HasTrees, one_if, all_waiting, IsSoundAfter, IsSoundIn}
 use Rattle.rule_lang.specs.Reader.Sound.{IsSound}
 use Rattle.rule_lang.specs.Tokens.{Token}
@@ -81,8 +80,9 @@ offer_keeps : (s : AppShape) (d : Draft) (b : Bool) (line : ℕ) (ts : List Plac
     List Placed) → offer_next s d b line ts ≡ Ok q → Keeps ts q
 offer_keeps s d false line ts q h = absurd (no_ok (misplaced line) q h)
 offer_keeps s d true line ts q h =
-    phrase_keeps OFFER ts (in_mode mode.Statement (offered (release s (part ts 1))
-    (with_condition (term_done d.condition) d))) q (λ clean. tt) h
+    let ended = with_condition (term_done d.condition) d in
+    let e = in_mode mode.Statement (offered (release s (part ts 1)) ended) in
+    phrase_keeps offer_phrase ts e q (λ clean. tt) h
 
 pub operator_keeps : (s : AppShape) (d : Draft) (t : Token) (line : ℕ) (ts after : List Placed) (q :
     Draft × List Placed) → d.mode ≡ mode.Operator → IsSound d → IsRest after ts

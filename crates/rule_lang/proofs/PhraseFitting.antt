@@ -8,7 +8,6 @@ use Rattle.rule_lang.specs.declared.draft.Mode.TheVariants as mode
 use Rattle.rule_lang.specs.declared.fault.RuleFault.{RuleFault}
 use Rattle.rule_lang.specs.declared.frame.Frame.{Frame}
 use Rattle.rule_lang.specs.declared.keyword.Keyword.TheVariants as keyword
-use Rattle.rule_lang.specs.declared.phrase.TheConstants.{COUNT, OFFER, OTHERWISE}
 use Rattle.rule_lang.specs.declared.phrase.Want.{Want}
 use Rattle.rule_lang.specs.declared.rule.Statement.{Statement}
 use Rattle.rule_lang.specs.declared.token.Token.TheVariants as token
@@ -17,7 +16,7 @@ use Rattle.rule_lang.specs.Reader.Drafts.{term_done, or_step, closed_to, is_empt
 use Rattle.rule_lang.specs.Fits.{step_fits, statement_fits, fits}
 use Rattle.rule_lang.specs.Lexed.{Placed}
 use Rattle.rule_lang.specs.Parts.{OrFault, ◌>>?◌, part, release, out_of_range}
-use Rattle.rule_lang.specs.Phrases.{behind, misplaced, test_phrase}
+use Rattle.rule_lang.specs.Phrases.{behind, misplaced, test_phrase, count_phrase, offer_phrase, otherwise_phrase}
 use Rattle.rule_lang.specs.Reader.Reading.{Draft, Next, with_fault_if, in_mode, with_condition}
 use Rattle.rule_lang.specs.Reader.Reading.{counted, statement_next, too_deep, with_test, test_next}
 use Rattle.rule_lang.specs.Reader.Reading.{fact_next, closed_next, offered, offer_next}
@@ -61,14 +60,14 @@ anew s d e same_statements steps h = record {
 statement_kept : (s : AppShape) (d : Draft) (t : Token) (line : ℕ) (ts after : List Placed) (q :
     Draft × List Placed) → Fitting s d → statement_next s d t line ts after ≡ Ok q → Fitting s q.0
 statement_kept s d (token.Keyword keyword.Count) line ts after q f h =
-    phrase_kept s COUNT ts (counted (count_of s ts) d) q h (counted_fits s (count_of s ts) d
-    (count_fits s ts) f)
+    let fit = counted_fits s (count_of s ts) d (count_fits s ts) f in
+    phrase_kept s count_phrase ts (counted (count_of s ts) d) q h fit
 statement_kept s d (token.Keyword keyword.When) line ts after q f h =
     let e = in_mode mode.Fact (with_condition begin d) in
     kept s (e, after) q h (anew s d e refl refl f)
 statement_kept s d (token.Keyword keyword.Otherwise) line ts after q f h =
     let e = in_mode mode.Done d in
-    phrase_kept s OTHERWISE ts e q h (again s d e refl refl f)
+    phrase_kept s otherwise_phrase ts e q h (again s d e refl refl f)
 statement_kept s d t line ts after q f h = absurd (no_ok (misplaced line) q h)
 
 test_kept : (s : AppShape) (d : Draft) (line : ℕ) (o : Option (List Want)) (ts : List Placed) (q
@@ -117,8 +116,8 @@ offer_kept s d true line ts q f h =
     let given = offered (release s (part ts 1)) ended in
     let fit = offered_fits s (release s (part ts 1)) ended (release_fits s (part ts 1)) (anew s d
     ended refl (term_fits s d.condition f.steps) f) in
-    phrase_kept s OFFER ts (in_mode mode.Statement given) q h (again s given (in_mode mode.Statement
-    given) refl refl fit)
+    let e = in_mode mode.Statement given in
+    phrase_kept s offer_phrase ts e q h (again s given e refl refl fit)
 
 operator_kept : (s : AppShape) (d : Draft) (t : Token) (line : ℕ) (ts after : List Placed) (q :
     Draft × List Placed) → Fitting s d → operator_next s d t line ts after ≡ Ok q → Fitting s q.0

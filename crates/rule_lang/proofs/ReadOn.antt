@@ -16,7 +16,7 @@ use Rattle.rule_lang.specs.Phrases.{misplaced}
 use Rattle.rule_lang.specs.Reader.Reading.{Draft, next_in, next, is_done, verdict, Reads, ended}
 use Rattle.rule_lang.specs.Reader.Reading.{refused}
 use Rattle.rule_lang.specs.Reader.Sound.{IsSound}
-use Rattle.rule_lang.proofs.Keeping.{IsRest, all, later, Keeps, fact_keeps, kept, no_ok}
+use Rattle.rule_lang.proofs.Keeping.{IsRest, all, later, Keeps, fact_keeps, no_ok}
 use Rattle.rule_lang.proofs.OperatorsKept.{operator_keeps}
 use Rattle.rule_lang.proofs.Keeping.{rest_is, statement_keeps}
 

@@ -7,7 +7,6 @@ use Rattle.rule_lang.specs.declared.draft.Mode.TheVariants as mode
 use Rattle.rule_lang.specs.declared.fault.RuleFault.{RuleFault}
 use Rattle.rule_lang.specs.declared.frame.Frame.{Frame}
 use Rattle.rule_lang.specs.declared.keyword.Keyword.TheVariants as keyword
-use Rattle.rule_lang.specs.declared.phrase.TheConstants.{COUNT, OFFER, OTHERWISE}
 use Rattle.rule_lang.specs.declared.phrase.Want.TheVariants as want
 use Rattle.rule_lang.specs.declared.rule.Statement.{Statement}
 use Rattle.rule_lang.specs.declared.rule.Statement.TheVariants.{When}
@@ -15,7 +14,7 @@ use Rattle.rule_lang.specs.Reader.Drafts.{Pending, begin, term_done, is_empty, o
 use Rattle.rule_lang.specs.Grammar as g
 use Rattle.rule_lang.specs.Lexed.{Placed}
 use Rattle.rule_lang.specs.Parts.{OrFault, ◌>>?◌, part, release}
-use Rattle.rule_lang.specs.Phrases.{behind, misplaced}
+use Rattle.rule_lang.specs.Phrases.{behind, misplaced, count_phrase, offer_phrase, otherwise_phrase}
 use Rattle.rule_lang.specs.Reader.Reading.{Draft, first_of, in_mode, with_condition}
 use Rattle.rule_lang.specs.Reader.Reading.{counted, unless_noted, offered, statement_next}
 use Rattle.rule_lang.specs.Reader.Reading.{operator_next}
@@ -56,12 +55,12 @@ counted_stated d (Err e) (Some x) is = ap (λ (o : Option RuleFault). first_of o
 counted_stated d (Err e) None is = ap (λ (o : Option RuleFault). first_of o e) is
 
 count_back : (s : AppShape) (d : Draft) (ts rest : List Placed) → d.mode ≡ mode.Statement
-    → behind COUNT ts ≡ Ok rest → (w : OrFault (List Statement))
+    → behind count_phrase ts ≡ Ok rest → (w : OrFault (List Statement))
     → Reads s (counted (count_of s ts) d) rest w → Reads s d ts w
 count_back s d [] rest m h w k = absurd (no_ok (misplaced 0) rest h)
 count_back s d (p ∷ ts) rest m h w k =
-    let is = token_is keyword.Count p.token (first_taken (want.Keyword keyword.Count) (tail COUNT) p
-    ts rest h) in
+    let taken = first_taken (want.Keyword keyword.Count) (tail count_phrase) p ts rest h in
+    let is = token_is keyword.Count p.token taken in
     let e = counted (count_of s (p ∷ ts)) d in
     going_on s d mode.Statement p ts (e, rest) w m refl (ap (λ (t : Token). statement_next s d t
     p.line (p ∷ ts) ts) is ∙ ap (λ (x : OrFault (List Placed)). x >>? λ us. Ok (e, us)) h) k
@@ -71,12 +70,12 @@ behind_offer s e ts = in_mode mode.Statement (offered (release s (part ts 1)) (w
     (term_done e.condition) e))
 
 offer_back : (s : AppShape) (d : Draft) (ts rest : List Placed) → d.mode ≡ mode.Operator
-    → d.condition.below ≡ [] → behind OFFER ts ≡ Ok rest → (w : OrFault (List Statement))
+    → d.condition.below ≡ [] → behind offer_phrase ts ≡ Ok rest → (w : OrFault (List Statement))
     → Reads s (behind_offer s d ts) rest w → Reads s d ts w
 offer_back s d [] rest m below h w k = absurd (no_ok (misplaced 0) rest h)
 offer_back s d (p ∷ ts) rest m below h w k =
-    let is = token_is keyword.Offer p.token (first_taken (want.Keyword keyword.Offer) (tail OFFER) p
-    ts rest h) in
+    let taken = first_taken (want.Keyword keyword.Offer) (tail offer_phrase) p ts rest h in
+    let is = token_is keyword.Offer p.token taken in
     let e = behind_offer s d (p ∷ ts) in
     going_on s d mode.Operator p ts (e, rest) w m refl (ap (λ (t : Token). operator_next s d t
     p.line (p ∷ ts) ts) is ∙ ap (λ (fs : List Frame). offer_next s d (is_empty fs) p.line (p ∷ ts))
@@ -145,12 +144,13 @@ statement_reads s d (g.when {p = p} {ts = ts} {mid = mid} {rest = rest} is c h) 
 -- ---- rules
 
 otherwise_back : (s : AppShape) (d : Draft) (ts rest : List Placed) → d.mode ≡ mode.Statement
-    → behind OTHERWISE ts ≡ Ok rest → (w : OrFault (List Statement))
+    → behind otherwise_phrase ts ≡ Ok rest → (w : OrFault (List Statement))
     → Reads s (in_mode mode.Done d) rest w → Reads s d ts w
 otherwise_back s d [] rest m h w k = absurd (no_ok (misplaced 0) rest h)
 otherwise_back s d (p ∷ ts) rest m h w k =
-    let is = token_is keyword.Otherwise p.token (first_taken (want.Keyword keyword.Otherwise) (tail
-    OTHERWISE) p ts rest h) in
+    let word = want.Keyword keyword.Otherwise in
+    let taken = first_taken word (tail otherwise_phrase) p ts rest h in
+    let is = token_is keyword.Otherwise p.token taken in
     let e = in_mode mode.Done d in
     going_on s d mode.Statement p ts (e, rest) w m refl (ap (λ (t : Token). statement_next s d t
     p.line (p ∷ ts) ts) is ∙ ap (λ (x : OrFault (List Placed)). x >>? λ us. Ok (e, us)) h) k

@@ -6,14 +6,12 @@ use Rattle.std.specs.Option.{option_and_then}
 use Rattle.std.proofs.lemmas.Bool.Decides.{Decides-eqb}
 use Rattle.rule_lang.specs.declared.keyword.Keyword.{Keyword}
 use Rattle.rule_lang.specs.declared.keyword.Keyword.TheVariants as keyword
-use Rattle.rule_lang.specs.declared.phrase.TheConstants.{COUNT, OFFER, OTHERWISE, VERSION, BUCKET}
-use Rattle.rule_lang.specs.declared.phrase.TheConstants.{SALTED, TODAY, INSTALLED, FLAG, ATTR, TAKE}
 use Rattle.rule_lang.specs.declared.phrase.Want.{Want}
 use Rattle.rule_lang.specs.declared.phrase.Want.TheVariants as want
 use Rattle.rule_lang.specs.declared.token.Token.TheVariants as token
 use Rattle.rule_lang.specs.Grammar as g
 use Rattle.rule_lang.specs.Lexed.{Placed}
-use Rattle.rule_lang.specs.Phrases.{takes, behind, misplaced}
+use Rattle.rule_lang.specs.Phrases.{takes, behind, misplaced, count_phrase, offer_phrase, otherwise_phrase, version_phrase, bucket_phrase, salted_phrase, today_phrase, installed_phrase, flag_phrase, attr_phrase, take_phrase}
 use Rattle.rule_lang.specs.Tokens.{Token}
 use Rattle.rule_lang.specs.Words.{keyword_number, same_keyword}
 use Rattle.rule_lang.proofs.Keeping.{same_ok}
@@ -154,30 +152,32 @@ in_bucket : (n : ℕ) (p : Placed) (ts : List Placed) → p.token ≡ token.Keyw
 in_bucket n p ts is b = record { rest = b.rest; fact = g.asked (b.test p is); more = b.more }
 
 salted : (n : ℕ) (p : Placed) (ts : List Placed) → p.token ≡ token.Open
-    → Completes (state (tail (tail SALTED)) (AtOperator n)) ts → IsBucketAhead n (p ∷ ts)
+    → Completes (state (tail (tail salted_phrase)) (AtOperator n)) ts → IsBucketAhead n (p ∷ ts)
 salted n p ts is h = record {
   rest = h.rest;
-  test = λ q word. g.of_salted_bucket (worded keyword.Bucket (tail SALTED) q (p ∷ ts) h.rest word
-      (taken want.Open (tail (tail SALTED)) p ts h.rest (ap (takes want.Open) is) h.phrase));
+  test = λ q word.
+      g.of_salted_bucket (worded keyword.Bucket (tail salted_phrase) q (p ∷ ts) h.rest word
+      (taken want.Open (tail (tail salted_phrase)) p ts h.rest (ap (takes want.Open) is) h.phrase));
   more = h.more;
 }
 
 plain : (n : ℕ) (p : Placed) (ts : List Placed) → takes want.Relation p.token ≡ true
-    → Completes (state (tail (tail BUCKET)) (AtOperator n)) ts → IsBucketAhead n (p ∷ ts)
+    → Completes (state (tail (tail bucket_phrase)) (AtOperator n)) ts → IsBucketAhead n (p ∷ ts)
 plain n p ts is h = record {
   rest = h.rest;
-  test = λ q word. g.of_bucket (worded keyword.Bucket (tail BUCKET) q (p ∷ ts) h.rest word (taken
-      want.Relation (tail (tail BUCKET)) p ts h.rest is h.phrase));
+  test = λ q word.
+      g.of_bucket (worded keyword.Bucket (tail bucket_phrase) q (p ∷ ts) h.rest word (taken
+      want.Relation (tail (tail bucket_phrase)) p ts h.rest is h.phrase));
   more = h.more;
 }
 
 statement_back : (t : Token) (p : Placed) (ts : List Placed) → p.token ≡ t
     → CompletesIf (place_step AtStatement t) ts → g.IsRule (p ∷ ts)
 statement_back (token.Keyword keyword.Count) p ts is h =
-    g.stmt (g.count (worded keyword.Count (tail COUNT) p ts h.rest is h.phrase)) h.more
+    g.stmt (g.count (worded keyword.Count (tail count_phrase) p ts h.rest is h.phrase)) h.more
 statement_back (token.Keyword keyword.When) p ts is h = offered p ts is (here (AtFact 0) ts h)
 statement_back (token.Keyword keyword.Otherwise) p ts is h =
-    g.otherwise (worded keyword.Otherwise (tail OTHERWISE) p ts h.rest is h.phrase)
+    g.otherwise (worded keyword.Otherwise (tail otherwise_phrase) p ts h.rest is h.phrase)
 statement_back t p ts is h = absurd h
 
 fact_back : (n : ℕ) (t : Token) (p : Placed) (ts : List Placed) → p.token ≡ t
@@ -185,18 +185,18 @@ fact_back : (n : ℕ) (t : Token) (p : Placed) (ts : List Placed) → p.token �
 fact_back n (token.Keyword keyword.Not) p ts is h = denied n p ts is (here (AtFact n) ts h)
 fact_back n token.Open p ts is h = in_parentheses n p ts is (here (AtFact (suc n)) ts h)
 fact_back n (token.Keyword keyword.Version) p ts is h =
-    tested n keyword.Version (tail VERSION) p ts is (λ rest x. g.of_version x) h
+    tested n keyword.Version (tail version_phrase) p ts is (λ rest x. g.of_version x) h
 fact_back n (token.Keyword keyword.Bucket) p ts is h = in_bucket n p ts is (here (InBucket n) ts h)
 fact_back n (token.Keyword keyword.Today) p ts is h =
-    tested n keyword.Today (tail TODAY) p ts is (λ rest x. g.of_today x) h
+    tested n keyword.Today (tail today_phrase) p ts is (λ rest x. g.of_today x) h
 fact_back n (token.Keyword keyword.Installed) p ts is h =
-    tested n keyword.Installed (tail INSTALLED) p ts is (λ rest x. g.of_installed x) h
+    tested n keyword.Installed (tail installed_phrase) p ts is (λ rest x. g.of_installed x) h
 fact_back n (token.Keyword keyword.Flag) p ts is h =
-    tested n keyword.Flag (tail FLAG) p ts is (λ rest x. g.of_flag x) h
+    tested n keyword.Flag (tail flag_phrase) p ts is (λ rest x. g.of_flag x) h
 fact_back n (token.Keyword keyword.Attr) p ts is h =
-    tested n keyword.Attr (tail ATTR) p ts is (λ rest x. g.of_attr x) h
+    tested n keyword.Attr (tail attr_phrase) p ts is (λ rest x. g.of_attr x) h
 fact_back n (token.Keyword keyword.Take) p ts is h =
-    tested n keyword.Take (tail TAKE) p ts is (λ rest x. g.of_take x) h
+    tested n keyword.Take (tail take_phrase) p ts is (λ rest x. g.of_take x) h
 fact_back n t p ts is h = absurd h
 
 bucket_back : (n : ℕ) (t : Token) (p : Placed) (ts : List Placed) → p.token ≡ t
@@ -213,7 +213,7 @@ operator_back (suc n) token.Close p ts is h =
     whole (λ us. IsClosed (λ vs. Follows n vs) us) (p ∷ ts) (closed is (here (AtOperator n) ts h))
 operator_back zero (token.Keyword keyword.Offer) p ts is h = whole IsOffered (p ∷ ts) (record {
   rest = h.rest;
-  offer = worded keyword.Offer (tail OFFER) p ts h.rest is h.phrase;
+  offer = worded keyword.Offer (tail offer_phrase) p ts h.rest is h.phrase;
   rule = h.more;
 })
 operator_back n t p ts is h = absurd h

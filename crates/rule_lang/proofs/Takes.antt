@@ -4,14 +4,12 @@ use Rattle.std.proofs.Common.{Bool, true, false, if◌then◌else◌, refl, sym,
 use Rattle.std.specs.Option.{option_and_then}
 use Rattle.rule_lang.specs.declared.keyword.Keyword.{Keyword}
 use Rattle.rule_lang.specs.declared.keyword.Keyword.TheVariants as keyword
-use Rattle.rule_lang.specs.declared.phrase.TheConstants.{COUNT, OFFER, OTHERWISE, VERSION, BUCKET}
-use Rattle.rule_lang.specs.declared.phrase.TheConstants.{SALTED, TODAY, INSTALLED, FLAG, ATTR, TAKE}
 use Rattle.rule_lang.specs.declared.phrase.Want.{Want}
 use Rattle.rule_lang.specs.declared.phrase.Want.TheVariants as want
 use Rattle.rule_lang.specs.declared.token.Token.TheVariants as token
 use Rattle.rule_lang.specs.Grammar as g
 use Rattle.rule_lang.specs.Lexed.{Placed}
-use Rattle.rule_lang.specs.Phrases.{takes, behind, misplaced}
+use Rattle.rule_lang.specs.Phrases.{takes, behind, misplaced, count_phrase, offer_phrase, otherwise_phrase, version_phrase, bucket_phrase, salted_phrase, today_phrase, installed_phrase, flag_phrase, attr_phrase, take_phrase}
 use Rattle.rule_lang.specs.Tokens.{Token}
 use Rattle.rule_lang.proofs.Keeping.{same_ok, no_ok}
 use Rattle.rule_lang.proofs.Machine.{Place, AtStatement, AtFact, InBucket, AtOperator, AtEnd}
@@ -83,12 +81,12 @@ word_runs k ws l m ts rest is h =
     (λ after more. phrase_runs ws m after rest more)
 
 open_is : (n : ℕ) (t : Token) → takes want.Open t ≡ true
-    → place_step (InBucket n) t ≡ Some (state (tail (tail SALTED)) (AtOperator n))
+    → place_step (InBucket n) t ≡ Some (state (tail (tail salted_phrase)) (AtOperator n))
 open_is n token.Open h = refl
 open_is n t h = absurd cc
 
 relation_is : (n : ℕ) (t : Token) → takes want.Relation t ≡ true
-    → place_step (InBucket n) t ≡ Some (state (tail (tail BUCKET)) (AtOperator n))
+    → place_step (InBucket n) t ≡ Some (state (tail (tail bucket_phrase)) (AtOperator n))
 relation_is n (token.Relation r) h = refl
 relation_is n t h = absurd cc
 
@@ -108,21 +106,21 @@ bucket_runs n w ws ts rest fits h =
 test_runs : (n : ℕ) {ts rest : List Placed} → g.IsTest ts rest
     → runs (state [] (AtFact n)) ts ≡ runs (state [] (AtOperator n)) rest
 test_runs n (g.of_version {ts = ts} {rest = rest} h) =
-    word_runs keyword.Version (tail VERSION) (AtFact n) (AtOperator n) ts rest refl h
+    word_runs keyword.Version (tail version_phrase) (AtFact n) (AtOperator n) ts rest refl h
 test_runs n (g.of_bucket {ts = ts} {rest = rest} h) =
-    bucket_runs n want.Relation (tail (tail BUCKET)) ts rest (relation_is n) h
+    bucket_runs n want.Relation (tail (tail bucket_phrase)) ts rest (relation_is n) h
 test_runs n (g.of_salted_bucket {ts = ts} {rest = rest} h) =
-    bucket_runs n want.Open (tail (tail SALTED)) ts rest (open_is n) h
+    bucket_runs n want.Open (tail (tail salted_phrase)) ts rest (open_is n) h
 test_runs n (g.of_today {ts = ts} {rest = rest} h) =
-    word_runs keyword.Today (tail TODAY) (AtFact n) (AtOperator n) ts rest refl h
+    word_runs keyword.Today (tail today_phrase) (AtFact n) (AtOperator n) ts rest refl h
 test_runs n (g.of_installed {ts = ts} {rest = rest} h) =
-    word_runs keyword.Installed (tail INSTALLED) (AtFact n) (AtOperator n) ts rest refl h
+    word_runs keyword.Installed (tail installed_phrase) (AtFact n) (AtOperator n) ts rest refl h
 test_runs n (g.of_flag {ts = ts} {rest = rest} h) =
-    word_runs keyword.Flag (tail FLAG) (AtFact n) (AtOperator n) ts rest refl h
+    word_runs keyword.Flag (tail flag_phrase) (AtFact n) (AtOperator n) ts rest refl h
 test_runs n (g.of_attr {ts = ts} {rest = rest} h) =
-    word_runs keyword.Attr (tail ATTR) (AtFact n) (AtOperator n) ts rest refl h
+    word_runs keyword.Attr (tail attr_phrase) (AtFact n) (AtOperator n) ts rest refl h
 test_runs n (g.of_take {ts = ts} {rest = rest} h) =
-    word_runs keyword.Take (tail TAKE) (AtFact n) (AtOperator n) ts rest refl h
+    word_runs keyword.Take (tail take_phrase) (AtFact n) (AtOperator n) ts rest refl h
 
 mutual
   fact_runs : (n : ℕ) {ts rest : List Placed} → g.IsFact ts rest
@@ -155,11 +153,11 @@ mutual
 
 statement_runs : {ts rest : List Placed} → g.IsStatement ts rest → runs start ts ≡ runs start rest
 statement_runs (g.count {ts = ts} {rest = rest} h) =
-    word_runs keyword.Count (tail COUNT) AtStatement AtStatement ts rest refl h
+    word_runs keyword.Count (tail count_phrase) AtStatement AtStatement ts rest refl h
 statement_runs (g.when {p = p} {ts = ts} {mid = mid} {rest = rest} is c h) =
     one_runs AtStatement (state [] (AtFact 0)) p ts (ap (place_step AtStatement) is)
     ∙ cond_runs 0 c
-    ∙ word_runs keyword.Offer (tail OFFER) (AtOperator 0) AtStatement mid rest refl h
+    ∙ word_runs keyword.Offer (tail offer_phrase) (AtOperator 0) AtStatement mid rest refl h
 
 end_runs : (ts : List Placed) → runs (state [] AtEnd) ts ≡ Some (state [] AtEnd)
 end_runs [] = refl
@@ -167,7 +165,7 @@ end_runs (p ∷ ts) = end_runs ts
 
 rule_runs : {ts : List Placed} → g.IsRule ts → runs start ts ≡ Some (state [] AtEnd)
 rule_runs (g.otherwise {ts = ts} {rest = rest} h) =
-    word_runs keyword.Otherwise (tail OTHERWISE) AtStatement AtEnd ts rest refl h
+    word_runs keyword.Otherwise (tail otherwise_phrase) AtStatement AtEnd ts rest refl h
     ∙ end_runs rest
 rule_runs (g.stmt x r) = statement_runs x ∙ rule_runs r
 

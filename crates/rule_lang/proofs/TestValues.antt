@@ -8,8 +8,6 @@ use Rattle.rule_lang.specs.declared.draft.Mode.TheVariants as mode
 use Rattle.rule_lang.specs.declared.fault.RuleFault.{RuleFault}
 use Rattle.rule_lang.specs.declared.keyword.Keyword.{Keyword}
 use Rattle.rule_lang.specs.declared.keyword.Keyword.TheVariants as keyword
-use Rattle.rule_lang.specs.declared.phrase.TheConstants.{VERSION, BUCKET, SALTED, TODAY, INSTALLED}
-use Rattle.rule_lang.specs.declared.phrase.TheConstants.{FLAG, ATTR, TAKE}
 use Rattle.rule_lang.specs.declared.phrase.Want.{Want}
 use Rattle.rule_lang.specs.declared.phrase.Want.TheVariants as want
 use Rattle.rule_lang.specs.declared.rule.Statement.{Statement}
@@ -18,7 +16,7 @@ use Rattle.rule_lang.specs.declared.token.Token.TheVariants as token
 use Rattle.rule_lang.specs.Grammar as g
 use Rattle.rule_lang.specs.Lexed.{Placed}
 use Rattle.rule_lang.specs.Parts.{OrFault, ◌>>?◌, part}
-use Rattle.rule_lang.specs.Phrases.{behind, misplaced, takes, test_phrase}
+use Rattle.rule_lang.specs.Phrases.{behind, misplaced, takes, test_phrase, version_phrase, bucket_phrase, salted_phrase, today_phrase, installed_phrase, flag_phrase, attr_phrase, take_phrase}
 use Rattle.rule_lang.specs.Reader.Reading.{Draft, first_of, with_fault_if, in_mode}
 use Rattle.rule_lang.specs.Reader.Reading.{with_test, test_next, fact_next}
 use Rattle.rule_lang.specs.Reader.Reading.{next_in, next, is_done, Reads, goes_on}
@@ -75,17 +73,17 @@ after_test d line o = in_mode mode.Operator (with_test line o d)
 -- a test by its first word
 word_next : (s : AppShape) (d : Draft) (k : Keyword) (ws : List Want) (p : Placed)
     (ts rest : List Placed) (o : Option (List Want)) (v : OrFault Test)
-    → ((t : Token) → t ≡ token.Keyword k
-    → fact_next s d t p (p ∷ ts) ts ≡ test_next s d p.line o (p
-    ∷ ts)) → o ≡ Some (want.Keyword k ∷ ws)
-    → test_by s (p ∷ ts) (token.Keyword k) (part (p ∷ ts)
-    1).token ≡ v → behind (want.Keyword k ∷ ws) (p ∷ ts) ≡ Ok rest
+    → fact_next s d (token.Keyword k) p (p ∷ ts) ts ≡ test_next s d p.line o (p ∷ ts)
+    → o ≡ Some (want.Keyword k ∷ ws)
+    → test_by s (p ∷ ts) (token.Keyword k) (part (p ∷ ts) 1).token ≡ v
+    → behind (want.Keyword k ∷ ws) (p ∷ ts) ≡ Ok rest
     → fact_next s d p.token p (p ∷ ts) ts ≡ Ok (after_test d p.line v, rest)
 word_next s d k ws p ts rest o v goes wants says h =
     let is = token_is k p.token (first_taken (want.Keyword k) ws p ts rest h) in
-    let said : test_of s (p ∷ ts) ≡ v = ap (λ (t : Token). test_by s (p ∷ ts) t (part (p ∷ ts)
-    1).token) is ∙ says in
-    goes p.token is
+    let second = (part (p ∷ ts) 1).token in
+    let said : test_of s (p ∷ ts) ≡ v = ap (λ (t : Token). test_by s (p ∷ ts) t second) is ∙ says in
+    ap (λ (t : Token). fact_next s d t p (p ∷ ts) ts) is
+    ∙ goes
     ∙ ap (λ (x : Option (List Want)). test_next s d p.line x (p ∷ ts)) wants
     ∙ ap (λ (x : OrFault (List Placed)). x >>? λ rest. Ok (
       after_test d p.line (test_of s (p ∷ ts)),
@@ -93,13 +91,8 @@ word_next s d k ws p ts rest o v goes wants says h =
     )) h
     ∙ ap (λ (x : OrFault Test). Ok (after_test d p.line x, rest)) said
 
-abbrev by_word : (s : AppShape) (d : Draft) (k : Keyword) (p : Placed) (ts : List Placed)
-    (t : Token) → t ≡ token.Keyword k → fact_next s d t p (p ∷ ts) ts
-    ≡ fact_next s d (token.Keyword k) p (p ∷ ts) ts
-by_word s d k p ts t is = ap (λ (u : Token). fact_next s d u p (p ∷ ts) ts) is
-
 relation_phrase : (t : Token) → takes want.Relation t ≡ true
-    → test_phrase (token.Keyword keyword.Bucket) t ≡ Some BUCKET
+    → test_phrase (token.Keyword keyword.Bucket) t ≡ Some bucket_phrase
 relation_phrase (token.Relation r) h = refl
 relation_phrase t h = absurd cc
 
@@ -109,7 +102,7 @@ relation_says s ts (token.Relation r) h = refl
 relation_says s ts t h = absurd cc
 
 open_phrase : (t : Token) → takes want.Open t ≡ true
-    → test_phrase (token.Keyword keyword.Bucket) t ≡ Some SALTED
+    → test_phrase (token.Keyword keyword.Bucket) t ≡ Some salted_phrase
 open_phrase token.Open h = refl
 open_phrase t h = absurd cc
 
@@ -136,37 +129,37 @@ pub test_read : (s : AppShape) (d : Draft) (p : Placed) (ts rest : List Placed)
     → (t : g.IsTest (p ∷ ts) rest)
     → fact_next s d p.token p (p ∷ ts) ts ≡ Ok (after_test d p.line (says.test_says s t), rest)
 test_read s d p ts rest (g.of_version h) =
-    word_next s d keyword.Version _ p ts rest (Some VERSION) (tests.version_test (p ∷ ts)) (λ t is.
-    by_word s d keyword.Version p ts t is) refl refl h
+    let said = tests.version_test (p ∷ ts) in
+    word_next s d keyword.Version _ p ts rest (Some version_phrase) said refl refl refl h
 test_read s d p ts rest (g.of_bucket h) =
-    let second = second_taken (want.Keyword keyword.Bucket) want.Relation (tail (tail BUCKET)) p ts
-    rest h in
+    let word = want.Keyword keyword.Bucket in
+    let second = second_taken word want.Relation (tail (tail bucket_phrase)) p ts rest h in
     let t = (part (p ∷ ts) 1).token in
-    word_next s d keyword.Bucket _ p ts rest (test_phrase (token.Keyword keyword.Bucket) t)
-    (tests.bucket_test (p ∷ ts)) (λ u is. by_word s d keyword.Bucket p ts u is) (relation_phrase t
-    second) (relation_says s (p ∷ ts) t second) h
+    let said = tests.bucket_test (p ∷ ts) in
+    word_next s d keyword.Bucket _ p ts rest (test_phrase (token.Keyword keyword.Bucket) t) said
+    refl (relation_phrase t second) (relation_says s (p ∷ ts) t second) h
 test_read s d p ts rest (g.of_salted_bucket h) =
-    let second = second_taken (want.Keyword keyword.Bucket) want.Open (tail (tail SALTED)) p ts rest
-    h in
+    let word = want.Keyword keyword.Bucket in
+    let second = second_taken word want.Open (tail (tail salted_phrase)) p ts rest h in
     let t = (part (p ∷ ts) 1).token in
-    word_next s d keyword.Bucket _ p ts rest (test_phrase (token.Keyword keyword.Bucket) t)
-    (tests.salted_test (p ∷ ts)) (λ u is. by_word s d keyword.Bucket p ts u is) (open_phrase t
-    second) (open_says s (p ∷ ts) t second) h
+    let said = tests.salted_test (p ∷ ts) in
+    word_next s d keyword.Bucket _ p ts rest (test_phrase (token.Keyword keyword.Bucket) t) said
+    refl (open_phrase t second) (open_says s (p ∷ ts) t second) h
 test_read s d p ts rest (g.of_today h) =
-    word_next s d keyword.Today _ p ts rest (Some TODAY) (tests.today_test (p ∷ ts)) (λ t is.
-    by_word s d keyword.Today p ts t is) refl refl h
+    let said = tests.today_test (p ∷ ts) in
+    word_next s d keyword.Today _ p ts rest (Some today_phrase) said refl refl refl h
 test_read s d p ts rest (g.of_installed h) =
-    word_next s d keyword.Installed _ p ts rest (Some INSTALLED) (tests.installed_test (p ∷ ts)) (λ
-    t is. by_word s d keyword.Installed p ts t is) refl refl h
+    let said = tests.installed_test (p ∷ ts) in
+    word_next s d keyword.Installed _ p ts rest (Some installed_phrase) said refl refl refl h
 test_read s d p ts rest (g.of_flag h) =
-    word_next s d keyword.Flag _ p ts rest (Some FLAG) (tests.flag_test (p ∷ ts)) (λ t is. by_word s
-    d keyword.Flag p ts t is) refl refl h
+    let said = tests.flag_test (p ∷ ts) in
+    word_next s d keyword.Flag _ p ts rest (Some flag_phrase) said refl refl refl h
 test_read s d p ts rest (g.of_attr h) =
-    word_next s d keyword.Attr _ p ts rest (Some ATTR) (tests.attr_test (p ∷ ts)) (λ t is. by_word s
-    d keyword.Attr p ts t is) refl refl h
+    let said = tests.attr_test (p ∷ ts) in
+    word_next s d keyword.Attr _ p ts rest (Some attr_phrase) said refl refl refl h
 test_read s d p ts rest (g.of_take h) =
-    word_next s d keyword.Take _ p ts rest (Some TAKE) (tests.take_test s (p ∷ ts)) (λ t is. by_word
-    s d keyword.Take p ts t is) refl refl h
+    let said = tests.take_test s (p ∷ ts) in
+    word_next s d keyword.Take _ p ts rest (Some take_phrase) said refl refl refl h
 
 pub asked_noted : (d : Draft) (line : ℕ) (v : OrFault Test) (o : Option RuleFault) → d.noted ≡ o
     → Noted o (v >>? λ x. Ok (Asked line x)) (AddsFact d.condition) (after_test d line v)

@@ -11,26 +11,26 @@
 --        | "take" "(" name "," num ")"
 use Rattle.std.specs.Prelude.{◌≡◌, List, ◌∷◌, ◌++◌, Ok}
 use Rattle.rule_lang.specs.declared.keyword.Keyword.TheVariants as keyword
-use Rattle.rule_lang.specs.declared.phrase.TheConstants.{COUNT, OFFER, OTHERWISE, VERSION, BUCKET}
-use Rattle.rule_lang.specs.declared.phrase.TheConstants.{SALTED, TODAY, INSTALLED, FLAG, ATTR, TAKE}
 use Rattle.rule_lang.specs.declared.phrase.Want.{Want}
 use Rattle.rule_lang.specs.declared.token.Token.TheVariants as token
 use Rattle.rule_lang.specs.Lexed.{Placed}
-use Rattle.rule_lang.specs.Phrases.{behind}
+use Rattle.rule_lang.specs.Phrases.{behind, count_phrase, offer_phrase, otherwise_phrase}
+use Rattle.rule_lang.specs.Phrases.{version_phrase, bucket_phrase, salted_phrase, today_phrase}
+use Rattle.rule_lang.specs.Phrases.{installed_phrase, flag_phrase, attr_phrase, take_phrase}
 
 -- a phrase: one token for each of these places, in their order
 abbrev pub IsPhrase : List Want → List Placed → List Placed → Type 0
 IsPhrase ws ts rest = behind ws ts ≡ Ok rest
 
 pub data IsTest : List Placed → List Placed → Type 0 where
-  of_version : {ts rest : List Placed} → IsPhrase VERSION ts rest → IsTest ts rest
-  of_bucket : {ts rest : List Placed} → IsPhrase BUCKET ts rest → IsTest ts rest
-  of_salted_bucket : {ts rest : List Placed} → IsPhrase SALTED ts rest → IsTest ts rest
-  of_today : {ts rest : List Placed} → IsPhrase TODAY ts rest → IsTest ts rest
-  of_installed : {ts rest : List Placed} → IsPhrase INSTALLED ts rest → IsTest ts rest
-  of_flag : {ts rest : List Placed} → IsPhrase FLAG ts rest → IsTest ts rest
-  of_attr : {ts rest : List Placed} → IsPhrase ATTR ts rest → IsTest ts rest
-  of_take : {ts rest : List Placed} → IsPhrase TAKE ts rest → IsTest ts rest
+  of_version : {ts rest : List Placed} → IsPhrase version_phrase ts rest → IsTest ts rest
+  of_bucket : {ts rest : List Placed} → IsPhrase bucket_phrase ts rest → IsTest ts rest
+  of_salted_bucket : {ts rest : List Placed} → IsPhrase salted_phrase ts rest → IsTest ts rest
+  of_today : {ts rest : List Placed} → IsPhrase today_phrase ts rest → IsTest ts rest
+  of_installed : {ts rest : List Placed} → IsPhrase installed_phrase ts rest → IsTest ts rest
+  of_flag : {ts rest : List Placed} → IsPhrase flag_phrase ts rest → IsTest ts rest
+  of_attr : {ts rest : List Placed} → IsPhrase attr_phrase ts rest → IsTest ts rest
+  of_take : {ts rest : List Placed} → IsPhrase take_phrase ts rest → IsTest ts rest
 
 mutual
   pub data IsFact : List Placed → List Placed → Type 0 where
@@ -51,13 +51,13 @@ mutual
         → p.token ≡ token.Keyword keyword.Or → IsTerm mid rest → IsCond ts rest
 
 pub data IsStatement : List Placed → List Placed → Type 0 where
-  count : {ts rest : List Placed} → IsPhrase COUNT ts rest → IsStatement ts rest
+  count : {ts rest : List Placed} → IsPhrase count_phrase ts rest → IsStatement ts rest
   when : {p : Placed} {ts mid rest : List Placed} → p.token ≡ token.Keyword keyword.When
-      → IsCond ts mid → IsPhrase OFFER mid rest → IsStatement (p ∷ ts) rest
+      → IsCond ts mid → IsPhrase offer_phrase mid rest → IsStatement (p ∷ ts) rest
 
 -- the last phrase takes the text's end, too, behind which nothing stands
 pub data IsRule : List Placed → Type 0 where
-  otherwise : {ts rest : List Placed} → IsPhrase OTHERWISE ts rest → IsRule ts
+  otherwise : {ts rest : List Placed} → IsPhrase otherwise_phrase ts rest → IsRule ts
   stmt : {ts rest : List Placed} → IsStatement ts rest → IsRule rest → IsRule ts
 
 -- with more tokens behind them these are a rule

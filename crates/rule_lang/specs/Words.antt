@@ -1,14 +1,15 @@
 -- The words of the grammar, which are no names, and the names of flags and attributes.
-use Rattle.std.specs.Prelude.{ℕ, List, codes, Option, Bool, ◌==◌}
+use Rattle.std.specs.Prelude.{◌≡◌, ◌↔◌, ℕ, List, [], ◌∷◌, codes, Option, Some, Bool, ◌==◌}
 use Rattle.std.specs.Str.{bytes_eq}
 use Rattle.std.specs.List.{find}
 use Rattle.rule_lang.specs.declared.keyword.Keyword.{Keyword}
 use Rattle.rule_lang.specs.declared.keyword.Keyword.TheVariants as keyword
-use Rattle.rule_lang.specs.declared.keyword.TheConstants.{KEYWORDS, FLAGS, ATTRIBUTES}
 use Rattle.rule_lang.specs.declared.test.Attribute.{Attribute}
 use Rattle.rule_lang.specs.declared.test.Attribute.TheVariants as attribute
 use Rattle.rule_lang.specs.declared.test.Flag.{Flag}
 use Rattle.rule_lang.specs.declared.test.Flag.TheVariants as flag
+
+-- ---- texts
 
 abbrev pub keyword_text : Keyword → List ℕ
 keyword_text keyword.Otherwise = codes "otherwise"
@@ -45,14 +46,43 @@ attribute_text attribute.Lang = codes "lang"
 attribute_text attribute.Cohort = codes "cohort"
 attribute_text attribute.Platform = codes "platform"
 
+-- ---- each once
+
+abbrev pub all_keywords : List Keyword
+all_keywords =
+    keyword.Otherwise ∷ keyword.None ∷ keyword.Count ∷ keyword.When ∷ keyword.Offer ∷ keyword.Or
+    ∷ keyword.And ∷ keyword.Not ∷ keyword.Version ∷ keyword.Bucket ∷ keyword.Today
+    ∷ keyword.Installed ∷ keyword.Flag ∷ keyword.Attr ∷ keyword.Is ∷ keyword.Take ∷ []
+
+abbrev pub all_flags : List Flag
+all_flags =
+    flag.VersionKnown ∷ flag.Updatecheck ∷ flag.Ping ∷ flag.Event ∷ flag.CohortKnown
+    ∷ flag.InstalldateKnown ∷ []
+
+abbrev pub all_attributes : List Attribute
+all_attributes =
+    attribute.Appid ∷ attribute.Version ∷ attribute.Brand ∷ attribute.Ap ∷ attribute.Lang
+    ∷ attribute.Cohort ∷ attribute.Platform ∷ []
+
+-- ---- what a text is: the one that has this text, if any has
+
 unfoldable pub keyword_named : List ℕ → Option Keyword
-keyword_named w = find (λ k. bytes_eq w (keyword_text k)) KEYWORDS
+keyword_named w = find (λ k. bytes_eq w (keyword_text k)) all_keywords
 
 unfoldable pub flag_named : List ℕ → Option Flag
-flag_named w = find (λ f. bytes_eq w (flag_text f)) FLAGS
+flag_named w = find (λ f. bytes_eq w (flag_text f)) all_flags
 
 unfoldable pub attribute_named : List ℕ → Option Attribute
-attribute_named w = find (λ a. bytes_eq w (attribute_text a)) ATTRIBUTES
+attribute_named w = find (λ a. bytes_eq w (attribute_text a)) all_attributes
+
+-- a law: each is found by its own text, and by no other
+pub record AreExact : Type 0 where
+  pub keywords : (w : List ℕ) (k : Keyword) → (keyword_named w ≡ Some k) ↔ (w ≡ keyword_text k)
+  pub flags : (w : List ℕ) (f : Flag) → (flag_named w ≡ Some f) ↔ (w ≡ flag_text f)
+  pub attributes :
+      (w : List ℕ) (a : Attribute) → (attribute_named w ≡ Some a) ↔ (w ≡ attribute_text a)
+
+-- ---- whether two words are one
 
 -- two words are one where they have one number
 abbrev pub keyword_number : Keyword → ℕ

@@ -23,7 +23,7 @@ mod token;
 
 pub use condition::{Condition, Step};
 pub use fault::{RuleFault, RuleFaultKind};
-pub use law::one_verdict;
+pub use law::{one_verdict, words_are_exact};
 pub use literal::Literal;
 pub use parser::parse;
 pub use rule::{Rule, Statement};

@@ -8,7 +8,6 @@ use Rattle.rule_lang.specs.declared.draft.Mode.{Mode}
 use Rattle.rule_lang.specs.declared.draft.Mode.TheVariants as mode
 use Rattle.rule_lang.specs.declared.fault.RuleFault.{RuleFault}
 use Rattle.rule_lang.specs.declared.keyword.Keyword.TheVariants as keyword
-use Rattle.rule_lang.specs.declared.phrase.TheConstants.{COUNT, OFFER, OTHERWISE}
 use Rattle.rule_lang.specs.declared.phrase.Want.{Want}
 use Rattle.rule_lang.specs.declared.rule.Statement.{Statement}
 use Rattle.rule_lang.specs.declared.rule.Statement.TheVariants.{When}
@@ -18,7 +17,8 @@ use Rattle.rule_lang.specs.Reader.Drafts.{Pending, begin, denied, opened, tested
 use Rattle.rule_lang.specs.Reader.Drafts.{closed, term_done, is_empty}
 use Rattle.rule_lang.specs.Lexed.{Placed}
 use Rattle.rule_lang.specs.Parts.{OrFault, ◌>>?◌, part, release, out_of_range}
-use Rattle.rule_lang.specs.Phrases.{behind, misplaced, test_phrase}
+use Rattle.rule_lang.specs.Phrases.{behind, misplaced, test_phrase, count_phrase, offer_phrase}
+use Rattle.rule_lang.specs.Phrases.{otherwise_phrase}
 use Rattle.rule_lang.specs.Says.{count_of}
 use Rattle.rule_lang.specs.Tests.{test_of}
 use Rattle.rule_lang.specs.Tokens.{Token}
@@ -99,11 +99,11 @@ counted (Err e) d = with_fault e d
 abbrev pub statement_next : AppShape → Draft → Token → (line : ℕ) → (ts after : List Placed)
     → Next
 statement_next s d (token.Keyword keyword.Count) line ts after =
-    behind COUNT ts >>? λ rest. Ok (counted (count_of s ts) d, rest)
+    behind count_phrase ts >>? λ rest. Ok (counted (count_of s ts) d, rest)
 statement_next s d (token.Keyword keyword.When) line ts after =
     Ok (in_mode mode.Fact (with_condition begin d), after)
 statement_next s d (token.Keyword keyword.Otherwise) line ts after =
-    behind OTHERWISE ts >>? λ rest. Ok (in_mode mode.Done d, rest)
+    behind otherwise_phrase ts >>? λ rest. Ok (in_mode mode.Done d, rest)
 statement_next s d t line ts after = Err (misplaced line)
 
 -- ---- conditions
@@ -141,7 +141,7 @@ offered (Err e) d = with_fault e d
 abbrev pub offer_next : AppShape → Draft → Bool → (line : ℕ) → List Placed → Next
 offer_next s d false line ts = Err (misplaced line)
 offer_next s d true line ts =
-    behind OFFER ts >>? λ rest.
+    behind offer_phrase ts >>? λ rest.
     Ok (
       in_mode mode.Statement (offered (release s (part ts 1)) (with_condition (term_done
           d.condition) d)),
