@@ -15,7 +15,7 @@ use std::alloc::{AllocError, Global};
 use std::mem;
 
 /// What may stand at the next token.
-#[derive(Clone, Copy, Debug, PartialEq, Eq)]
+#[derive(Clone, Copy)]
 pub enum Mode {
     Statement,
     /// Of a condition: a test, `not` or `(`.
@@ -68,13 +68,6 @@ pub fn note_if(draft: &mut Draft, holds: bool, fault: RuleFault)
     if holds {
         note(draft, fault);
     }
-}
-
-/// What may stand next.
-pub fn expect(draft: &mut Draft, mode: Mode)
-    ensures { draft_seen draft.new ≡ reading.in_mode mode (draft_seen draft.old) }
-{
-    draft.mode = mode;
 }
 
 /// One statement more.

@@ -8,7 +8,7 @@ use std::marker::Model;
 
 /// Of a condition, up to the place that is read: how many `not`s stand before the next fact, and
 /// whether it is the right side of an `and`, and its term that of an `or`.
-#[derive(Clone, Copy, Debug)]
+#[derive(Clone, Copy)]
 pub struct Frame {
     pub nots: u8,
     pub and: bool,
@@ -16,7 +16,7 @@ pub struct Frame {
 }
 
 /// The conditions round the one that is read, the innermost first.
-#[derive(Debug, Drop)]
+#[derive(Drop)]
 pub struct Frames {
     frames: Vec<Frame>,
 }

@@ -8,7 +8,7 @@ ghost use Rattle.rule_lang.specs.Words as words;
 use crate::test::{Attribute, Flag};
 
 /// A word of the grammar.
-#[derive(Clone, Copy, Debug, PartialEq, Eq)]
+#[derive(Clone, Copy, PartialEq, Eq)]
 pub enum Keyword {
     Otherwise,
     None,

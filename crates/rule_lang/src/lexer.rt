@@ -17,7 +17,8 @@ pub struct Placed<N> {
 
 // What stands behind a piece of so many bytes, of which the first is passed already.
 fn behind(s: &[u8], bytes: usize) -> &[u8]
-    ensures { result.now ≡ drop (bytes - 1) s.now }
+    ensures is { result.now ≡ drop (bytes - 1) s.now }
+    ensures within { length result.now ≤ length s.now }
 {
     let more = bytes.saturating_sub(1);
     if more < s.len() { &s[more..] } else { &[] }

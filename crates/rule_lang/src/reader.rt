@@ -13,7 +13,7 @@ ghost use Rattle.rule_lang.specs.Reader.Sound.{IsSound, IsSoundAfter};
 ghost use Rattle.rule_lang.specs.Trees.{IsCondition};
 
 use crate::condition::Step;
-use crate::draft::{Draft, Mode, add_when, expect, first_draft, note, note_if};
+use crate::draft::{Draft, Mode, add_when, first_draft, note, note_if};
 use crate::fault::{RuleFault, RuleFaultKind};
 use crate::keyword::Keyword;
 use crate::lexer::Placed;
@@ -92,7 +92,7 @@ fn read_fact<'t, 'a>(
             };
             let rest = behind(wants, tokens)?;
             read_test(alloc, shape, draft, first.line, tokens)?;
-            expect(draft, Mode::Operator);
+            draft.mode = Mode::Operator;
             Ok(rest)
         }
     }
@@ -137,12 +137,12 @@ fn read_operator<'t, 'a>(
     match first.token {
         Token::Keyword(Keyword::And) => {
             pending::join(&mut draft.condition);
-            expect(draft, Mode::Fact);
+            draft.mode = Mode::Fact;
             Ok(after)
         }
         Token::Keyword(Keyword::Or) => {
             pending::part(&mut draft.condition)?;
-            expect(draft, Mode::Fact);
+            draft.mode = Mode::Fact;
             Ok(after)
         }
         Token::Close => {
@@ -158,7 +158,7 @@ fn read_operator<'t, 'a>(
             }
             let rest = behind(&OFFER, tokens)?;
             read_offer(alloc, shape, draft, tokens)?;
-            expect(draft, Mode::Statement);
+            draft.mode = Mode::Statement;
             Ok(rest)
         }
         _ => Err(misplaced(first)),

@@ -6,7 +6,7 @@ ghost use Rattle.rule_lang.specs.Reader.Reading as reading;
 ghost use Rattle.rule_lang.specs.Says as says;
 ghost use Rattle.rule_lang.specs.Reader.Results.{IsFaultOf, ReadsTo, Makes};
 
-use crate::draft::{Draft, Mode, add, expect, note};
+use crate::draft::{Draft, Mode, add, note};
 use crate::fault::RuleFault;
 use crate::frame::Frames;
 use crate::keyword::Keyword;
@@ -77,12 +77,12 @@ pub fn read_statement<'t, 'a>(
         }
         Token::Keyword(Keyword::When) => {
             pending::begin(&mut draft.condition, Frames::new(alloc));
-            expect(draft, Mode::Fact);
+            draft.mode = Mode::Fact;
             Ok(after)
         }
         Token::Keyword(Keyword::Otherwise) => {
             let rest = behind(&OTHERWISE, tokens)?;
-            expect(draft, Mode::Done);
+            draft.mode = Mode::Done;
             Ok(rest)
         }
         _ => Err(misplaced(first)),

@@ -34,7 +34,7 @@ pub enum Token<N> {
 }
 
 /// What stands at a place of the text, with its number of bytes.
-#[derive(Clone, Copy)]
+#[derive(Drop)]
 pub enum Piece<N> {
     Blank(usize),
     LineEnd(usize),

@@ -14,11 +14,11 @@ loop-first-preserved-in-Some-Blank c =
     let is : ◌≡◌ {A = Option tokens.Piece} (Some (Blank c.in-Some-Blank.bytes)) (tokens.piece_of
     all c.in-Some.first.now rest) = search rules in
     let less = fewer all rest back c.in-Some.first.now c.in-Some-Blank.bytes c.loop-first.line _
-    c.loop-first.invariant.lines whole c.behind-rest.ensures in
+    c.loop-first.invariant.lines whole c.behind-rest.ensures.is in
     record {
       so_far = blank_step c.args.text.now all rest back (placed_all c.loop-first.tokens.items)
           c.in-Some.first.now c.in-Some-Blank.bytes c.loop-first.line
-          c.loop-first.invariant.so_far whole is c.behind-rest.ensures;
+          c.loop-first.invariant.so_far whole is c.behind-rest.ensures.is;
       lines = omega (arith, less);
     }
 
@@ -33,9 +33,9 @@ loop-first-preserved-in-Some-LineEnd c =
     record {
       so_far = line_step c.args.text.now all rest back (placed_all c.loop-first.tokens.items)
           c.in-Some.first.now c.in-Some-LineEnd.bytes c.loop-first.line
-          c.loop-first.invariant.so_far whole is c.behind-rest-in-Some-LineEnd.ensures;
+          c.loop-first.invariant.so_far whole is c.behind-rest-in-Some-LineEnd.ensures.is;
       lines = fewer all rest back c.in-Some.first.now c.in-Some-LineEnd.bytes c.loop-first.line _
-          c.loop-first.invariant.lines whole c.behind-rest-in-Some-LineEnd.ensures;
+          c.loop-first.invariant.lines whole c.behind-rest-in-Some-LineEnd.ensures.is;
     }
 
 pub loop-first-preserved : goal.loop-first-preserved
@@ -47,12 +47,12 @@ loop-first-preserved c =
     let is : ◌≡◌ {A = Option tokens.Piece} (Some (Token (token_named c.in-Some-Token.token)
     c.in-Some-Token.bytes)) (tokens.piece_of all c.in-Some.first.now rest) = search rules in
     let less = fewer all rest back c.in-Some.first.now c.in-Some-Token.bytes c.loop-first.line _
-    c.loop-first.invariant.lines whole c.behind-rest-in-Some-Token.ensures in
+    c.loop-first.invariant.lines whole c.behind-rest-in-Some-Token.ensures.is in
     record {
       so_far = token_step c.args.text.now all rest back (placed_all c.loop-first.tokens.items)
           (placed_all c.add.new.tokens.items) (token_named c.in-Some-Token.token)
           c.in-Some.first.now c.in-Some-Token.bytes c.loop-first.line
-          c.loop-first.invariant.so_far whole is c.behind-rest-in-Some-Token.ensures (search
+          c.loop-first.invariant.so_far whole is c.behind-rest-in-Some-Token.ensures.is (search
           rules);
       lines = omega (arith, less);
     }
