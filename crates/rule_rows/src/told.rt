@@ -12,6 +12,8 @@ use std::alloc::{AllocError, Global};
 use std::sync::Arc;
 use std::test::Fail;
 
+const UNFIT: &str = "a rule that does not fit";
+
 fn read(alloc: Global, text: &str, shape: &Shape) -> Result<Rule, RuleFault> {
     parse(alloc, text, shape)
 }
@@ -29,14 +31,14 @@ fn statements_of(alloc: Global, text: &str, shape: &Shape) -> Result<Option<usiz
 fn told_over(alloc: Global, text: &str, shape: &Shape) -> Result<String, AllocError> {
     match statements_of(alloc, text, shape) {
         Ok(Some(count)) => format!(in alloc; "{count}"),
-        Ok(None) => format!(in alloc; "a rule that does not fit"),
+        Ok(None) => String::from_str(alloc, UNFIT),
         Err(fault) => format!(in alloc; "{fault}"),
     }
 }
 
 /// What is told of a text that is read for an app of so many releases: the number of its rule's
 /// statements, or the fault.
-fn told_as_read(alloc: Global, text: &str, releases: u8) -> Result<String, AllocError> {
+pub(crate) fn told_as_read(alloc: Global, text: &str, releases: u8) -> Result<String, AllocError> {
     match shape(alloc, releases) {
         Ok(shape) => told_over(alloc, text, &shape),
         Err(_) => Err(AllocError),
@@ -49,17 +51,18 @@ pub(crate) fn must_tell(alloc: Global, text: &str, releases: u8, want: &str) -> 
     must(text, found.as_str(), found.as_str() == want)
 }
 
-fn compiled(alloc: Global, rule: &Rule, shape: &Shape) -> Result<Verified, CompileFault> {
-    if rule.fits(shape) {
-        compile(alloc, rule, shape)
+/// The program of a rule; none where the rule doesn't fit its shape.
+fn compiled(alloc: Global, rule: &Rule, shape: &Shape) -> Result<Option<Verified>, CompileFault> {
+    Ok(if rule.fits(shape) {
+        Some(compile(alloc, rule, shape)?)
     } else {
-        Err(CompileFault::Memory)
-    }
+        None
+    })
 }
 
 fn program_over(alloc: Global, text: &str, shape: &Shape) -> Result<Verified, Fail> {
     let rule = read(alloc, text, shape)?;
-    Ok(compiled(alloc, &rule, shape)?)
+    Ok(compiled(alloc, &rule, shape)?.ok_or(UNFIT)?)
 }
 
 /// The program of a text, for an app of one release.
@@ -70,7 +73,8 @@ pub(crate) fn program(alloc: Global, text: &str) -> Result<Verified, Fail> {
 
 fn told_of_rule(alloc: Global, rule: &Rule, shape: &Shape) -> Result<String, AllocError> {
     match compiled(alloc, rule, shape) {
-        Ok(program) => format!(in alloc; "{} slots", program.len()),
+        Ok(Some(program)) => format!(in alloc; "{} slots", program.len()),
+        Ok(None) => String::from_str(alloc, UNFIT),
         Err(fault) => format!(in alloc; "{fault}"),
     }
 }

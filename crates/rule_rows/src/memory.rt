@@ -1,0 +1,73 @@
+//! Memory that is refused once, to `parse` or to `compile`. What is told of a text is asked for
+//! again where memory was refused, and the second answer is the untroubled one. So these tests
+//! pass with ample memory, and wherever one growth of theirs is refused (docs/PROVING.md).
+
+use crate::given::{halves, must};
+use crate::told::{told, told_as_read};
+use std::alloc::{AllocError, Global};
+use std::test::Fail;
+
+/// The number of a text's statements, or its fault.
+const READ: &str = r#"
+count c[0]; when attr ap is "abc" and (not flag ping or take(q, 0)) offer 1; otherwise none; => 2
+when flag ping or flag colour offer 1; otherwise none; => L3 Name at line 1
+when (flag ping offer 1; otherwise none; => L2 Shape at line 1
+"#;
+
+/// The slots of a text's program: those of its conditions, and 6 more.
+const COMPILED: &str = r#"
+when attr ap is "abc" and not take(q, 0) offer 1; otherwise none; => 20 slots
+"#;
+
+fn is_refused(told: &Result<String, AllocError>) -> bool {
+    match told {
+        Ok(told) => told.as_str() == "L5 Memory" || told.as_str() == "C2 Memory",
+        Err(AllocError) => true,
+    }
+}
+
+fn read_again(alloc: Global, text: &str) -> Result<String, AllocError> {
+    let answer = told_as_read(alloc, text, 1);
+    if is_refused(&answer) {
+        told_as_read(alloc, text, 1)
+    } else {
+        answer
+    }
+}
+
+fn compiled_again(alloc: Global, text: &str) -> Result<String, AllocError> {
+    let answer = told(alloc, text);
+    if is_refused(&answer) {
+        told(alloc, text)
+    } else {
+        answer
+    }
+}
+
+fn is_read(alloc: Global, row: &str) -> Result<(), Fail> {
+    let (text, want) = halves(row, " => ")?;
+    let found = read_again(alloc, text)?;
+    must(row, found.as_str(), found.as_str() == want)
+}
+
+fn is_compiled(alloc: Global, row: &str) -> Result<(), Fail> {
+    let (text, want) = halves(row, " => ")?;
+    let found = compiled_again(alloc, text)?;
+    must(row, found.as_str(), found.as_str() == want)
+}
+
+#[test]
+fn memory_to_read(rt: HostRuntime) -> Result<(), Fail> {
+    for row in READ.lines().skip(1) {
+        is_read(rt.alloc(), row)?;
+    }
+    Ok(())
+}
+
+#[test]
+fn memory_to_compile(rt: HostRuntime) -> Result<(), Fail> {
+    for row in COMPILED.lines().skip(1) {
+        is_compiled(rt.alloc(), row)?;
+    }
+    Ok(())
+}
