@@ -8,6 +8,5 @@ pub mod Lookups
 pub mod Covers
 pub mod Laws
 pub mod Inhabited
-pub mod Worked
 pub use Rattle.bpf_semantics.specs as bpf_semantics
 pub use Rattle.bpf_semantics.specs.attrs

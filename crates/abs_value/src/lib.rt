@@ -66,10 +66,6 @@ mod slot;
 mod stack;
 mod state;
 mod value;
-mod worked;
-mod worked_edges;
-mod worked_lookups;
-mod worked_values;
 
 pub use laws::{
     answers_are_kept, bytes_are_there, calls_cover, edges_are_kept, joins_cover, loads_cover,
@@ -84,10 +80,6 @@ pub use slot::AbsSlot;
 pub use stack::byte_count;
 pub use state::AbsState;
 pub use value::Abs;
-pub use worked::{bit_operations, differences, shifts, sizes, sums};
-pub use worked_edges::{decisions, equalities, orders, sides};
-pub use worked_lookups::{call_results, null_checks, other_checks};
-pub use worked_values::{joins, pointer_moves, stack_bytes};
 
 // The words of the contracts here come with them.
 pub use bpf_semantics;

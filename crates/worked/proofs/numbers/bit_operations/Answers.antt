@@ -1,6 +1,6 @@
 use Rattle.std.proofs.Common.{refl}
 use lib.Count.{count_leading_zeros}
-use Rattle.abs_value.proofs.worked.bit_operations.Goals as goal
+use Rattle.worked.proofs.numbers.bit_operations.Goals as goal
 
 pub returns-clause-or_7 : goal.returns-clause-or_7
 unfolding count_leading_zeros

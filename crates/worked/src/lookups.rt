@@ -13,7 +13,7 @@ ghost use Rattle.abs_value.specs.declared.value.Abs.TheVariants.{Map, MayCell, C
 ghost use Rattle.abs_value.specs.Numbers.{number, single, up_to};
 ghost use Rattle.abs_value.specs.Lookups.{call_value, called};
 ghost use Rattle.abs_value.specs.States.{value_at};
-ghost use Rattle.abs_value.specs.Worked.{first, second, elsewhere, holding, three, compared};
+ghost use Rattle.worked.specs.Examples.{first, second, elsewhere, holding, three, compared};
 
 /// On the equal edge each copy of the answer is 0, on the other the address of a cell.
 pub fn null_checks()

@@ -12,8 +12,8 @@ ghost use Rattle.abs_value.specs.declared.slot.AbsSlot.TheVariants.{Kept, Bytes}
 ghost use Rattle.abs_value.specs.Numbers.{number, single, up_to};
 ghost use Rattle.abs_value.specs.Values.{places, alu_value, copied_value, join_values};
 ghost use Rattle.abs_value.specs.Stack.{stored, slot_at, loaded_from, has_unset, join_slots};
-ghost use Rattle.abs_value.specs.Worked as found;
-ghost use Rattle.abs_value.specs.Worked.{no_bytes, kept_at_end, two_halves};
+ghost use Rattle.worked.specs.Examples as found;
+ghost use Rattle.worked.specs.Examples.{no_bytes, kept_at_end, two_halves};
 
 /// A pointer moves within its region: a single number by its signed view, a range only up.
 pub fn pointer_moves()
