@@ -19,6 +19,8 @@ PLACES = {
     f"{SHARE}/examples": ROOT / "examples",
     "bin/rollout": OUT / PROGRAM,
 }
+# What checks the pages stays with the sources.
+LEFT_OUT = shutil.ignore_patterns("*.py", "__pycache__")
 
 
 def beside(place, ending):
@@ -45,7 +47,7 @@ def write_beside(source, place, undo):
     remove(new)
     undo.callback(remove, new)
     if source.is_dir():
-        shutil.copytree(source, new)
+        shutil.copytree(source, new, ignore=LEFT_OUT)
     else:
         shutil.copy(source, new)
 
