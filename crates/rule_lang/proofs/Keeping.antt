@@ -60,7 +60,7 @@ pub data IsRest : List Placed → List Placed → Type 0 where
   all : {ts : List Placed} → IsRest ts ts
   later : {t : Placed} {ts rest : List Placed} → IsRest rest ts → IsRest rest (t ∷ ts)
 
-fewer : (rest ts : List Placed) → IsRest rest ts → length rest ≤ length ts
+pub fewer : (rest ts : List Placed) → IsRest rest ts → length rest ≤ length ts
 fewer rest ts all = omega arith
 fewer rest (t ∷ ts) (later r) = let h = fewer rest ts r in omega (arith, h)
 
@@ -81,7 +81,7 @@ behind_by : (w : Want) (ws : List Want) (t : Placed) (ts rest : List Placed) (b 
 behind_by w ws t ts rest true h next = later (next h)
 behind_by w ws t ts rest false h next = absurd (no_ok (misplaced t.line) rest h)
 
-behind_rest : (ws : List Want) (ts rest : List Placed) → behind ws ts ≡ Ok rest → IsRest rest ts
+pub behind_rest : (ws : List Want) (ts rest : List Placed) → behind ws ts ≡ Ok rest → IsRest rest ts
 behind_rest [] ts rest h = subst (λ (us : List Placed). IsRest us ts) (same_ok ts rest h) all
 behind_rest (w ∷ ws) [] rest h = absurd (no_ok (misplaced 0) rest h)
 behind_rest (w ∷ ws) (t ∷ ts) rest h = behind_by w ws t ts rest (takes w t.token) h (behind_rest

@@ -24,3 +24,4 @@ pub mod TestValues
 pub mod Values
 pub mod ConditionValues
 pub mod RuleValues
+pub mod Ending

@@ -89,7 +89,7 @@ sound_next s d e ts rest sound h = (next_keeps s d ts (e, rest) sound h).sound
 
 -- ---- how reading ends
 
-done_is : (m : Mode) → is_done m ≡ true → m ≡ mode.Done
+pub done_is : (m : Mode) → is_done m ≡ true → m ≡ mode.Done
 done_is mode.Done h = refl
 done_is mode.Statement h = cc
 done_is mode.Fact h = cc

@@ -19,14 +19,14 @@ use Rattle.rule_lang.proofs.StepsBack.{one_word}
 
 -- ---- rules are taken
 
-record IsTaken (w : Want) (ws : List Want) (ts rest : List Placed) : Type 0 where
-  first : Placed
-  after : List Placed
-  is : ts ≡ first ∷ after
-  fits : takes w first.token ≡ true
-  more : behind ws after ≡ Ok rest
+pub record IsTaken (w : Want) (ws : List Want) (ts rest : List Placed) : Type 0 where
+  pub first : Placed
+  pub after : List Placed
+  pub is : ts ≡ first ∷ after
+  pub fits : takes w first.token ≡ true
+  pub more : behind ws after ≡ Ok rest
 
-one_taken : (w : Want) (ws : List Want) (ts rest : List Placed) → behind (w ∷ ws) ts ≡ Ok rest
+pub one_taken : (w : Want) (ws : List Want) (ts rest : List Placed) → behind (w ∷ ws) ts ≡ Ok rest
     → IsTaken w ws ts rest
 one_taken w ws [] rest h = absurd (no_ok (misplaced 0) rest h)
 one_taken w ws (p ∷ ts) rest h = by_test (takes w p.token) refl

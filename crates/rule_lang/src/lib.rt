@@ -20,8 +20,8 @@
 // That the machine reads the grammar is proved of the definitions (`proofs/Laws.antt`), by way of a
 // still smaller machine, which takes tokens one by one and knows only which may stand next
 // (`proofs/Machine.antt`): where it goes on, some tokens complete a rule, and where it stops, none
-// do. So the first token that the reader refuses is the one that the grammar calls misplaced. A
-// law, `one_verdict`, says that the grammar leaves no text two verdicts.
+// do. So the first token that the reader refuses is the one that the grammar calls misplaced. Two
+// laws say that each text has a verdict (`some_verdict`), and no other (`one_verdict`).
 //
 // The words and the phrases are written out in `specs/Words.antt` and `specs/Phrases.antt`, and the
 // tables of the code are proved to be the same. A law, `words_are_exact`, says that each word is
@@ -60,7 +60,7 @@ mod token;
 
 pub use condition::{Condition, Step};
 pub use fault::{RuleFault, RuleFaultKind};
-pub use law::{one_verdict, words_are_exact};
+pub use law::{one_verdict, some_verdict, words_are_exact};
 pub use literal::Literal;
 pub use parser::parse;
 pub use rule::{Rule, Statement};
