@@ -25,7 +25,8 @@
 //
 // The words and the phrases are written out in `specs/Words.antt` and `specs/Phrases.antt`, and the
 // tables of the code are proved to be the same. A law, `words_are_exact`, says that each word is
-// found by its own text and by no other. A new phrase is a row in each.
+// found by its own text and by no other. A new word is a row in the definition and a row in the
+// code; a new test is besides a production, and what it says.
 //
 // A fault's place is the line of its token; the text's end stands in the last line. All tokens are
 // made before a phrase is read, so a place where none begins (L1) counts first. An unknown name
