@@ -1,5 +1,6 @@
 -- The context of an app: its fields, and the 64 bytes in which a program reads them.
-use Rattle.std.specs.Prelude.{ℕ, ◌<◌, ◌^◌, All, List, [], ◌∷◌, ◌++◌, slice_index, replicate}
+use Rattle.std.specs.Prelude.{◌≡◌, ℕ, ◌<◌, ◌^◌, All, List, [], ◌∷◌, ◌++◌, length, take, drop}
+use Rattle.std.specs.Prelude.{slice_index, replicate}
 use Rattle.std.specs.Int.{w8, w16, w32, to_le_bytes}
 
 pub record Context : Type 0 where
@@ -33,6 +34,26 @@ context_bytes c =
     ++ to_le_bytes w32 c.today
     ++ to_le_bytes w32 c.seconds
     ++ replicate 32 0
+
+-- where the fields behind the version begin
+abbrev pub bucket_offset : ℕ
+bucket_offset = 16
+
+abbrev pub flags_offset : ℕ
+flags_offset = 18
+
+abbrev pub install_day_offset : ℕ
+install_day_offset = 20
+
+abbrev pub today_offset : ℕ
+today_offset = 24
+
+abbrev pub seconds_offset : ℕ
+seconds_offset = 28
+
+-- from the offset on, the context has a field's bytes
+abbrev pub StandsAt : Context → ℕ → List ℕ → Type 0
+StandsAt c offset field = take (length field) (drop offset (context_bytes c)) ≡ field
 
 -- what the flags are a sum of
 abbrev pub version_known : ℕ

@@ -53,6 +53,10 @@ impl Context {
     ghost use Rattle.attrs.specs.Context.{context_bytes, HasContextRanges};
     ghost use Rattle.attrs.specs.Context.{version_known, updatecheck, ping, event};
     ghost use Rattle.attrs.specs.Context.{cohort_known, installdate_known, unknown_day};
+    ghost use Rattle.attrs.specs.Context.{bucket_offset, flags_offset, install_day_offset};
+    ghost use Rattle.attrs.specs.Context.{today_offset, seconds_offset, StandsAt};
+    ghost use Rattle.attrs.specs.Context as specs;
+    ghost use Rattle.std.specs.Int.{w8, w16, w32, to_le_bytes};
 
     /// The app sent a version, and it is one.
     pub const VERSION_KNOWN: u8 = 1;
@@ -67,6 +71,17 @@ impl Context {
     /// The app sent its install day.
     pub const INSTALLDATE_KNOWN: u8 = 32;
 
+    /// Where the bucket begins in the bytes, two of them.
+    pub const BUCKET_OFFSET: u8 = 16;
+    /// Where the flags stand, one byte.
+    pub const FLAGS_OFFSET: u8 = 18;
+    /// Where the install day begins, four bytes.
+    pub const INSTALL_DAY_OFFSET: u8 = 20;
+    /// Where the day of the moment begins, four bytes.
+    pub const TODAY_OFFSET: u8 = 24;
+    /// Where the seconds of that day begin, four bytes.
+    pub const SECONDS_OFFSET: u8 = 28;
+
     /// The install day of an app that sent none.
     pub const UNKNOWN_DAY: u32 = u32::MAX;
 
@@ -79,6 +94,27 @@ impl Context {
         ensures cohort { Self.COHORT_KNOWN ≡ cohort_known }
         ensures installdate { Self.INSTALLDATE_KNOWN ≡ installdate_known }
         ensures day { Self.UNKNOWN_DAY ≡ unknown_day }
+    {}
+
+    /// Each offset has the number that the layout gives it.
+    pub fn offset_numbers()
+        ensures bucket { Self.BUCKET_OFFSET ≡ bucket_offset }
+        ensures flags { Self.FLAGS_OFFSET ≡ flags_offset }
+        ensures install_day { Self.INSTALL_DAY_OFFSET ≡ install_day_offset }
+        ensures today { Self.TODAY_OFFSET ≡ today_offset }
+        ensures seconds { Self.SECONDS_OFFSET ≡ seconds_offset }
+    {}
+
+    /// At its offset each field stands in the bytes, little-endian.
+    #[tactic(auto, unfolding(crate::specs::Context::context_bytes))]
+    pub fn fields_stand()
+        ensures bucket { (c : specs.Context) → StandsAt c bucket_offset (to_le_bytes w16 c.bucket) }
+        ensures flags { (c : specs.Context) → StandsAt c flags_offset (to_le_bytes w8 c.flags) }
+        ensures install_day { (c : specs.Context)
+            → StandsAt c install_day_offset (to_le_bytes w32 c.install_day) }
+        ensures today { (c : specs.Context) → StandsAt c today_offset (to_le_bytes w32 c.today) }
+        ensures seconds { (c : specs.Context)
+            → StandsAt c seconds_offset (to_le_bytes w32 c.seconds) }
     {}
 
     /// What the type keeps: each number lies in its range.
@@ -102,19 +138,32 @@ impl Context {
         put(&mut bytes, 4, &self.version[1].to_le_bytes());
         put(&mut bytes, 8, &self.version[2].to_le_bytes());
         put(&mut bytes, 12, &self.version[3].to_le_bytes());
-        put(&mut bytes, 16, &self.bucket.to_le_bytes());
-        put(&mut bytes, 18, &self.flags.to_le_bytes());
-        put(&mut bytes, 20, &self.install_day.to_le_bytes());
-        put(&mut bytes, 24, &self.today.to_le_bytes());
-        put(&mut bytes, 28, &self.seconds.to_le_bytes());
+        put(
+            &mut bytes,
+            Context::BUCKET_OFFSET,
+            &self.bucket.to_le_bytes(),
+        );
+        put(&mut bytes, Context::FLAGS_OFFSET, &self.flags.to_le_bytes());
+        put(
+            &mut bytes,
+            Context::INSTALL_DAY_OFFSET,
+            &self.install_day.to_le_bytes(),
+        );
+        put(&mut bytes, Context::TODAY_OFFSET, &self.today.to_le_bytes());
+        put(
+            &mut bytes,
+            Context::SECONDS_OFFSET,
+            &self.seconds.to_le_bytes(),
+        );
         bytes
     }
 }
 
 // Writes the bytes of a field at its offset.
-fn put(bytes: &mut [u8], offset: usize, field: &[u8])
+fn put(bytes: &mut [u8], offset: u8, field: &[u8])
     requires { offset + length field.now ≤ length bytes.old }
     ensures { bytes.new ≡ splice bytes.old offset (offset + length field.now) field.now }
 {
-    bytes[offset..offset + field.len()].copy_from_slice(field);
+    let start = offset as usize;
+    bytes[start..start + field.len()].copy_from_slice(field);
 }
