@@ -1,4 +1,3 @@
-pub mod ContextReads
 pub mod OneEnd
 pub mod Next
 pub mod WordResults

@@ -4,15 +4,10 @@ pub mod State
 pub mod Outcome
 pub mod Reads
 pub mod Counters
+pub mod Helpers
 pub mod Calls
 pub mod Step
 pub mod Run
 pub mod Laws
-pub mod Worked
-pub mod WorkedMemory
-pub mod WorkedContext
-pub mod WorkedCells
-pub mod Trapping
-pub mod TrappingCells
 pub use Rattle.attrs.specs as attrs
 pub use Rattle.cells.specs as cells

@@ -1,1 +1,7 @@
 pub mod Examples
+pub mod Programs
+pub mod MemoryPrograms
+pub mod ContextPrograms
+pub mod CounterPrograms
+pub mod TrappingPrograms
+pub mod TrappingCounters

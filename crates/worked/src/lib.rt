@@ -3,12 +3,18 @@
 //! A definition that said something else would make one of them false.
 #![tactic(auto)]
 
-mod edges;
-mod lookups;
-mod numbers;
-mod values;
+// The machine (`bpf_semantics`): formulas, whole programs, and programs that trap.
+pub mod arithmetic;
+pub mod conditions;
+pub mod context;
+pub mod counter_traps;
+pub mod counters;
+pub mod memory;
+pub mod programs;
+pub mod traps;
 
-pub use edges::{decisions, equalities, orders, sides};
-pub use lookups::{call_results, null_checks, other_checks};
-pub use numbers::{bit_operations, differences, shifts, sizes, sums};
-pub use values::{joins, pointer_moves, stack_bytes};
+// What the verifier knows of values (`abs_value`).
+pub mod edges;
+pub mod lookups;
+pub mod numbers;
+pub mod values;
