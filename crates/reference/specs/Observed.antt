@@ -1,7 +1,5 @@
 -- What is seen of a step, in the semantics' words.
 use Rattle.std.specs.Prelude.{◌≡◌, ℕ}
-use Rattle.bpf_insn.specs.Program.{Program}
-use Rattle.cells.specs.Arrays.{AppShape}
 use Rattle.cells.specs.Events.{CanReply}
 use Rattle.cells.specs.declared.event.CellEvent.{CellEvent}
 use Rattle.bpf_semantics.specs.Program.{ShapedProgram}

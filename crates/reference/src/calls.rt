@@ -2,24 +2,14 @@
 
 ghost use Rattle.std.specs.Prelude.{◌≡◌};
 ghost use Rattle.bpf_semantics.specs.Calls as calls;
-ghost use Rattle.bpf_semantics.specs.Memory.{address_of};
 ghost use Rattle.reference.specs.Marks.{state_of};
 
 use crate::state::Interpreter;
 use attrs::{helper_attr_len, helper_bucket};
 use bpf_insn::{Reg, WideValue};
+use bpf_semantics::helpers::{ATTR_IS, ATTR_LEN, BUCKET, LOOKUP};
+use bpf_semantics::{MAP_START, add_long_offset, cell_address};
 use cells::Shape;
-
-const CELL_START: u64 = 0x3000_0000;
-
-const MAP_START: u64 = 0x4000_0000;
-
-/// A base and an offset, modulo 2^64.
-fn add_offset(base: u64, offset: i32) -> u64
-    ensures { result ≡ address_of base offset }
-{
-    base.wrapping_add((offset as i64).cast_unsigned())
-}
 
 /// A number, map i, or the address of the first counter of array i plus an offset.
 pub fn wide_value(shape: &Shape, value: WideValue) -> Option<u64>
@@ -34,19 +24,19 @@ pub fn wide_value(shape: &Shape, value: WideValue) -> Option<u64>
         }
         WideValue::Cell { array, offset } => {
             let array = shape.arrays().get(usize::try_from(array).ok()?)?;
-            Some(add_offset(CELL_START + 8 * array.base as u64, offset))
+            Some(add_long_offset(cell_address(array.base as u64), offset))
         }
     }
 }
 
-/// Helper 1: the address of the counter of map i at a key, or 0 past its array.
+/// `lookup`: the address of the counter of map i at a key, or 0 past its array.
 fn lookup(shape: &Shape, map: u64, key: u64) -> Option<u64>
     ensures { result ≡ calls.lookup shape.now map key }
 {
     let map = map.checked_sub(MAP_START)?;
     let array = shape.arrays().get(map as usize)?;
     if key < array.length as u64 {
-        Some(CELL_START + 8 * (array.base as u64 + key))
+        Some(cell_address(array.base as u64 + key))
     } else {
         Some(0)
     }
@@ -58,14 +48,14 @@ impl Interpreter {
         ensures { result ≡ calls.helper_result shape.now (state_of self.now) helper }
     {
         match helper {
-            1 => lookup(shape, self.register(Reg::R1)?, self.register(Reg::R2)?),
-            2 => {
+            LOOKUP => lookup(shape, self.register(Reg::R1)?, self.register(Reg::R2)?),
+            ATTR_IS => {
                 let number = self.register(Reg::R1)?;
                 let address = self.register(Reg::R2)?;
                 self.compared(number, address, self.register(Reg::R3)?)
             }
-            3 => Some(helper_attr_len(self.attrs(), self.register(Reg::R1)?)),
-            4 => Some(helper_bucket(self.attrs(), self.register(Reg::R1)?)),
+            ATTR_LEN => Some(helper_attr_len(self.attrs(), self.register(Reg::R1)?)),
+            BUCKET => Some(helper_bucket(self.attrs(), self.register(Reg::R1)?)),
             _ => None,
         }
     }

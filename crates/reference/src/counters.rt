@@ -11,14 +11,15 @@ ghost use Rattle.reference.specs.Attempts.{HasRoom, Comes, ComesIf, cell_number_
 ghost use Rattle.reference.specs.Marks.{state_of};
 
 use crate::attempt::{Attempt, ask};
-use crate::memory::{STACK_START, add_offset, byte_count, in_stack};
+use crate::memory::in_stack;
 use crate::state::Interpreter;
 use bpf_insn::{AtomicOp, AtomicSize, LoadKind, Reg, Size};
+use bpf_semantics::{
+    CELL_COUNT, CELL_START, STACK_START, add_offset, atomic_count, byte_count, cell_address,
+    cell_op, fetched,
+};
 use cells::{CellNo, CellOp};
 
-const CELL_START: u64 = 0x3000_0000;
-
-const CELLS: u64 = 8192;
 /// The first counter that is 32 bits wide.
 const NARROW: u64 = 4096;
 
@@ -34,7 +35,7 @@ fn cell_at(address: u64, count: u64) -> Option<CellNo>
     ensures { cell_number_in result ≡ memory.cell_at address count }
 {
     let number = address.saturating_sub(CELL_START) / 8;
-    if number < CELLS && CELL_START + 8 * number == address && count == width(number) {
+    if number < CELL_COUNT as u64 && cell_address(number) == address && count == width(number) {
         Some(CellNo::new(number as u16))
     } else {
         None
@@ -56,7 +57,7 @@ fn load_cell(kind: LoadKind, base: Option<u64>, offset: i16) -> Option<CellNo>
 fn store_cell(size: Size, base: Option<u64>, offset: i16) -> Option<CellNo>
     ensures { cell_number_in result ≡ counters.store_cell size base offset }
 {
-    cell_at(add_offset(base?, offset), byte_count(size))
+    cell_at(add_offset(base?, offset), byte_count(size) as u64)
 }
 
 /// The low bytes of a number, 1 to 8.
@@ -68,41 +69,6 @@ fn cut(count: u64, number: u64) -> u64
         number
     } else {
         number % (1 << (8 * count))
-    }
-}
-
-fn atomic_count(size: AtomicSize) -> u64
-    ensures value { result ≡ counters.atomic_count size }
-    ensures in_range { result ≤ 8 }
-{
-    match size {
-        AtomicSize::Word => 4,
-        AtomicSize::Double => 8,
-    }
-}
-
-/// The operation on a counter; compare-and-exchange compares with R0.
-fn cell_op(op: AtomicOp, r0: u64, value: u64) -> CellOp
-    ensures { result ≡ counters.cell_op op r0 value }
-{
-    match op {
-        AtomicOp::Add | AtomicOp::FetchAdd => CellOp::Add(value),
-        AtomicOp::Or | AtomicOp::FetchOr => CellOp::Or(value),
-        AtomicOp::And | AtomicOp::FetchAnd => CellOp::And(value),
-        AtomicOp::Xor | AtomicOp::FetchXor => CellOp::Xor(value),
-        AtomicOp::Exchange => CellOp::Swap(value),
-        AtomicOp::CompareExchange => CellOp::CompareExchange(r0, value),
-    }
-}
-
-/// The register that takes the old value: src of fetch and exchange, R0 of compare-and-exchange.
-fn fetched(op: AtomicOp, src: Reg) -> Option<Reg>
-    ensures { result ≡ counters.fetched op src }
-{
-    match op {
-        AtomicOp::Add | AtomicOp::Or | AtomicOp::And | AtomicOp::Xor => None,
-        AtomicOp::CompareExchange => Some(Reg::R0),
-        _ => Some(src),
     }
 }
 
@@ -143,7 +109,7 @@ impl Interpreter {
         let (Some(base), Some(value)) = (base, value) else {
             return Attempt::Trap;
         };
-        let count = byte_count(size);
+        let count = byte_count(size) as u64;
         match store_cell(size, Some(base), offset) {
             Some(cell) => ask(cell, CellOp::Store(cut(count, value)), None),
             None => self.store_bytes(add_offset(base, offset), count, value),
@@ -188,7 +154,7 @@ impl Interpreter {
         ensures { let s = state_of self.now in
             ComesIf (counters.atomic_asks s op size dst src offset) s result }
     {
-        let count = atomic_count(size);
+        let count = atomic_count(size) as u64;
         let cell = cell_at(add_offset(self.register(dst)?, offset), count)?;
         let r0 = self.expected(op)?;
         let value = self.register(src)?;

@@ -3,32 +3,22 @@
 ghost use Rattle.std.specs.Prelude.{◌≡◌, ◌*◌, ◌+◌, ◌-◌, ◌<◌, ◌≤◌, ◌^◌, length};
 ghost use Rattle.bpf_insn.specs.Words as words;
 ghost use Rattle.bpf_semantics.specs.Calls as calls;
-ghost use Rattle.bpf_semantics.specs.Memory.{address_of, is_in_context, is_in_stack};
+ghost use Rattle.bpf_semantics.specs.Memory.{is_in_context, is_in_stack};
 ghost use Rattle.bpf_semantics.specs.Reads as reads;
 ghost use Rattle.bpf_semantics.specs.State.{read_at};
 ghost use Rattle.reference.specs.Marks.{state_of};
 
-use crate::state::{CONTEXT_START, Interpreter, STACK_TOP};
+use crate::state::Interpreter;
 use attrs::helper_attr_is;
-use bpf_insn::{Extension, LoadKind, Size};
-
-const CONTEXT_SIZE: u64 = 64;
-/// The address of the first byte of the stack.
-pub const STACK_START: u64 = 0x1FFF_FE00;
-
-/// A base and an offset, modulo 2^64.
-pub fn add_offset(base: u64, offset: i16) -> u64
-    ensures { result ≡ address_of base offset }
-{
-    base.wrapping_add((offset as i64).cast_unsigned())
-}
+use bpf_insn::{Extension, LoadKind};
+use bpf_semantics::{CONTEXT_SIZE, CONTEXT_START, STACK_START, STACK_TOP, add_offset, load_count};
 
 /// Whether so many bytes from an address on lie in the context.
 fn in_context(address: u64, count: u64) -> bool
     requires { count ≤ 64 }
     ensures { result ≡ is_in_context address count }
 {
-    CONTEXT_START <= address && address <= CONTEXT_START + CONTEXT_SIZE - count
+    CONTEXT_START <= address && address <= CONTEXT_START + CONTEXT_SIZE as u64 - count
 }
 
 /// Whether so many bytes from an address on lie in the stack.
@@ -37,32 +27,6 @@ pub fn in_stack(address: u64, count: u64) -> bool
     ensures { result ≡ is_in_stack address count }
 {
     STACK_START <= address && address <= STACK_TOP - count
-}
-
-/// How many bytes a load reads.
-fn load_count(kind: LoadKind) -> u64
-    ensures value { result ≡ reads.load_count kind }
-    ensures in_range { result ≤ 8 }
-{
-    match kind {
-        LoadKind::Byte | LoadKind::SignedByte => 1,
-        LoadKind::Half | LoadKind::SignedHalf => 2,
-        LoadKind::Word | LoadKind::SignedWord => 4,
-        LoadKind::Double => 8,
-    }
-}
-
-/// How many bytes a store writes.
-pub fn byte_count(size: Size) -> u64
-    ensures value { result ≡ reads.byte_count size }
-    ensures in_range { result ≤ 8 }
-{
-    match size {
-        Size::Byte => 1,
-        Size::Half => 2,
-        Size::Word => 4,
-        Size::Double => 8,
-    }
 }
 
 /// A number as a load fills a register with it: by zeroes, or by its sign.
@@ -118,11 +82,11 @@ impl Interpreter {
         ensures { result ≡ reads.loaded (state_of self.now) kind base offset }
     {
         let address = add_offset(base?, offset);
-        let number = self.number_at(address, load_count(kind))?;
+        let number = self.number_at(address, load_count(kind) as u64)?;
         Some(fill(kind, number))
     }
 
-    /// Helper 2: whether an attribute's bytes are those at an address of the stack, at most 64. Of
+    /// `attr_is`: whether an attribute's bytes are those at an address of the stack, at most 64. Of
     /// no bytes nothing is asked.
     pub(crate) fn compared(&self, number: u64, address: u64, count: u64) -> Option<u64>
         ensures { result ≡ calls.compared (state_of self.now) number address count }

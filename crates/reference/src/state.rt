@@ -13,21 +13,15 @@ ghost use Rattle.reference.specs.Marks.{mark_at, state_of, with_stack};
 
 use attrs::Attrs;
 use bpf_insn::Reg;
+use bpf_semantics::{CONTEXT_START, STACK_SIZE, STACK_TOP};
 use std::sync::Arc;
-
-/// The address of the context.
-pub const CONTEXT_START: u64 = 0x1000_0000;
-/// The address after the last byte of the stack.
-pub const STACK_TOP: u64 = 0x2000_0000;
-
-pub const STACK_SIZE: usize = 512;
 
 /// A run of any program, with the attributes of the app that it is for.
 #[derive(Drop)]
 pub struct Interpreter {
     slot: usize,
     registers: [Option<u64>; 11],
-    stack: [Option<u8>; STACK_SIZE],
+    stack: [Option<u8>; STACK_SIZE as usize],
     attrs: Arc<Attrs>,
     count: u64,
 }
@@ -132,10 +126,10 @@ fn opening_marks() -> [Option<u64>; 11]
 }
 
 // A stack of which no byte is set.
-fn unset_marks() -> [Option<u8>; STACK_SIZE]
+fn unset_marks() -> [Option<u8>; STACK_SIZE as usize]
     ensures { (k : ℕ) → mark_at result k ≡ None }
 {
-    [None; STACK_SIZE]
+    [None; STACK_SIZE as usize]
 }
 
 // Sets marks to the low bytes of a number.
