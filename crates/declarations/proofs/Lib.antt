@@ -1,3 +1,4 @@
 mod Cuts
 mod Numbers
+mod Outcomes
 mod Orders

@@ -1,3 +1,4 @@
+pub mod OneWay
 pub mod Order
 pub mod Spec
 pub mod Texts
