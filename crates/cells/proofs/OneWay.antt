@@ -55,7 +55,8 @@ not_both : (d : Declaration) {old : List CellArray} {n : ℕ} {new : List CellAr
     (e : CellsFault) → HasDistinctNames old → Declares d old n new → IsRefusedDeclaration d old e
     → e ≡ Memory
 not_both d Memory apart declares h = refl
-not_both d {old} CellsFull apart (again {n = i} {a = a} at is) h = absurd (not_new d old i a at is.name h.0)
+not_both d {old} CellsFull apart (again {n = i} {a = a} at is) h =
+    absurd (not_new d old i a at is.name h.0)
 not_both d CellsFull apart (anew fresh room) h = absurd (omega (arith, room, h.1))
 not_both d {old} Redefined apart (again {n = i} {a = a} at is) h =
     let there = place_of old h.0 h.1 in

@@ -8,4 +8,5 @@ pub returns-clause-names : goal.returns-clause-names
 returns-clause-names c = λ d old n new apart declares. names_kept d apart declares
 
 pub returns-clause-directory : goal.returns-clause-directory
-returns-clause-directory c = λ d old n new lawful known declares. directory_kept d lawful known declares
+returns-clause-directory c = λ d old n new lawful known declares.
+    directory_kept d lawful known declares
