@@ -9,10 +9,11 @@ ghost use Rattle.bpf_verify.specs.bpf_semantics.Reads.{byte_count};
 ghost use Rattle.bpf_machine.specs.Next.{CanAct, LeadsTo, IsStorable, stored};
 
 use crate::counters::{cell_number, low_number};
-use crate::memory::{CELL_START, MAP_START, add_long_offset, add_offset, load, stack_place};
+use crate::memory::{load, stack_place};
 use crate::next::{Change, Next};
 use crate::words::Words;
 use bpf_insn::{Bits, Insn, LoadKind, Reg, Size, WideValue};
+use bpf_verify::bpf_semantics::{CELL_START, MAP_START, add_long_offset, add_offset, cell_address};
 use cells::{CellOp, Shape};
 
 #[inline]
@@ -88,7 +89,7 @@ pub fn wide_number(shape: &Shape, value: WideValue) -> u64
         WideValue::Map(map) => MAP_START + map as u64,
         WideValue::Cell { array, offset } => {
             let array = &shape.arrays()[array as usize];
-            add_long_offset(CELL_START + 8 * array.base as u64, offset)
+            add_long_offset(cell_address(array.base as u64), offset)
         }
     }
 }

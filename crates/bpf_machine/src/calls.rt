@@ -8,20 +8,16 @@ ghost use Rattle.bpf_verify.specs.bpf_semantics.Calls as calls;
 ghost use Rattle.bpf_verify.specs.bpf_semantics.Memory.{is_in_stack, stack_start};
 ghost use Rattle.bpf_machine.specs.Next.{IsReady, LeadsTo};
 
-use crate::memory::{CELL_START, MAP_START, stack_bytes};
+use crate::memory::stack_bytes;
 use crate::next::{Change, Next};
 use crate::words::Words;
 use attrs::{Attrs, helper_attr_is, helper_attr_len, helper_bucket};
 use bpf_insn::Insn;
+use bpf_verify::bpf_semantics::helpers::{ATTR_IS, ATTR_LEN, LOOKUP};
+use bpf_verify::bpf_semantics::{MAP_START, cell_address};
 use cells::Shape;
 
-const LOOKUP: i32 = 1;
-
-const ATTR_IS: i32 = 2;
-
-const ATTR_LEN: i32 = 3;
-
-/// CALL 1: the address of the array's counter at a key, or 0 where the array has no such key.
+/// `lookup`: the address of the array's counter at a key, or 0 where the array has no such key.
 #[inline]
 fn lookup(shape: &Shape, map: u64, key: u64) -> u64
     requires { IsSome (array_of shape.now map) }
@@ -29,7 +25,7 @@ fn lookup(shape: &Shape, map: u64, key: u64) -> u64
 {
     let array = &shape.arrays()[(map - MAP_START) as usize];
     if key < array.length as u64 {
-        CELL_START + 8 * (array.base as u64 + key)
+        cell_address(array.base as u64 + key)
     } else {
         0
     }

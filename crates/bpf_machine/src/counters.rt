@@ -5,16 +5,14 @@ ghost use Rattle.attrs.specs.Attributes.{Attributes};
 ghost use Rattle.cells.specs.Arrays.{AppShape};
 ghost use Rattle.bpf_verify.specs.bpf_semantics.Memory as memory;
 ghost use Rattle.bpf_verify.specs.bpf_semantics.Memory.{is_cell_address};
-ghost use Rattle.bpf_verify.specs.bpf_semantics.Counters as counters;
-ghost use Rattle.bpf_verify.specs.bpf_semantics.Counters.{cut, atomic_count, fetched};
+ghost use Rattle.bpf_verify.specs.bpf_semantics.Counters.{cut, atomic_count};
 ghost use Rattle.bpf_verify.specs.bpf_semantics.Reads.{byte_count};
 ghost use Rattle.bpf_machine.specs.Next.{CanAct, LeadsTo};
 
-use crate::memory::{CELL_START, add_offset};
 use crate::next::Next;
 use crate::words::Words;
 use bpf_insn::{AtomicOp, AtomicSize, Insn, Reg, Size, low_byte, low_half, low_word};
-use cells::CellOp;
+use bpf_verify::bpf_semantics::{CELL_START, add_offset, cell_op, fetched};
 
 /// The counter at an address.
 #[inline]
@@ -50,37 +48,6 @@ fn narrow(size: AtomicSize, value: u64) -> u64
     }
 }
 
-/// The operation on a counter; compare-and-exchange compares with R0.
-#[inline]
-fn cell_op(op: AtomicOp, expected: u64, value: u64) -> CellOp
-    ensures { result ≡ counters.cell_op op expected value }
-{
-    match op {
-        AtomicOp::Add | AtomicOp::FetchAdd => CellOp::Add(value),
-        AtomicOp::Or | AtomicOp::FetchOr => CellOp::Or(value),
-        AtomicOp::And | AtomicOp::FetchAnd => CellOp::And(value),
-        AtomicOp::Xor | AtomicOp::FetchXor => CellOp::Xor(value),
-        AtomicOp::Exchange => CellOp::Swap(value),
-        AtomicOp::CompareExchange => CellOp::CompareExchange(expected, value),
-    }
-}
-
-/// The register that takes the old value, if one does.
-#[inline]
-fn reply_register(op: AtomicOp, src: Reg) -> Option<Reg>
-    ensures { result ≡ fetched op src }
-{
-    match op {
-        AtomicOp::Add | AtomicOp::Or | AtomicOp::And | AtomicOp::Xor => None,
-        AtomicOp::CompareExchange => Some(Reg::R0),
-        AtomicOp::FetchAdd
-        | AtomicOp::FetchOr
-        | AtomicOp::FetchAnd
-        | AtomicOp::FetchXor
-        | AtomicOp::Exchange => Some(src),
-    }
-}
-
 #[inline]
 pub fn ask_counter(
     words: &Words,
@@ -100,6 +67,6 @@ pub fn ask_counter(
     Next::Ask {
         cell: cell_number(address),
         op: cell_op(op, expected, value),
-        dst: reply_register(op, src),
+        dst: fetched(op, src),
     }
 }

@@ -4,41 +4,13 @@
 ghost use Rattle.std.specs.Prelude.{◌≡◌, ◌+◌, ◌≤◌, ◌<◌, ◌-◌, length, take, drop, IsTrue};
 ghost use Rattle.std.specs.List.{splice};
 ghost use Rattle.bpf_insn.specs.Words.{low_bytes};
-ghost use Rattle.bpf_verify.specs.bpf_semantics.Memory.{context_start, stack_start};
-ghost use Rattle.bpf_verify.specs.bpf_semantics.Memory.{address_of, is_in_stack};
+ghost use Rattle.bpf_verify.specs.bpf_semantics.Memory.{stack_start, is_in_stack};
 ghost use Rattle.bpf_verify.specs.bpf_semantics.Reads.{byte_count, load_count, filled};
 ghost use Rattle.bpf_machine.specs.Words.{number_in, number_at, IsReadable};
 
 use crate::words::Words;
 use bpf_insn::{Extension, LoadKind, Size, low_byte, low_half, low_word};
-
-/// The address of the first byte of the context.
-pub const CONTEXT_START: u64 = 0x1000_0000;
-/// The address of the first byte of the stack.
-pub const STACK_START: u64 = 0x1FFF_FE00;
-/// The address after the last byte of the stack.
-pub const STACK_TOP: u64 = 0x2000_0000;
-
-/// The address of counter 0.
-pub const CELL_START: u64 = 0x3000_0000;
-/// The number of map 0.
-pub const MAP_START: u64 = 0x4000_0000;
-
-/// A base and an offset, modulo 2^64.
-#[inline]
-pub fn add_offset(base: u64, offset: i16) -> u64
-    ensures { result ≡ address_of base offset }
-{
-    base.wrapping_add((offset as i64).cast_unsigned())
-}
-
-/// The same, of a wide load's offset.
-#[inline]
-pub fn add_long_offset(base: u64, offset: i32) -> u64
-    ensures { result ≡ address_of base offset }
-{
-    base.wrapping_add((offset as i64).cast_unsigned())
-}
+use bpf_verify::bpf_semantics::{CONTEXT_START, STACK_START};
 
 #[inline]
 fn read_half(bytes: &[u8], place: usize) -> u16

@@ -21,7 +21,7 @@ cell_number-requires c =
 pub returns : goal.returns
 returns c =
     let at = address_is (goal.at.returns c).After-add_offset-address in
-    rw (c.cell_op.ensures, c.reply_register.ensures)
+    rw (c.cell_op.ensures, c.fetched.ensures)
     (atomic_agrees c.args.words.now c.args.op c.args.size c.args.dst c.args.src c.args.offset
     c.cell_number.result c.narrow-expected.result c.narrow-value.result
     (rw at at c.cell_number.ensures.number) c.cell_number.ensures.in_range c.narrow-expected.ensures
