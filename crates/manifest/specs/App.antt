@@ -1,7 +1,8 @@
 -- The table of an app.
-use Rattle.std.specs.Prelude.{ℕ, List, length, codes, Bool, ◌&&◌, nat_le}
+use Rattle.std.specs.Prelude.{◌≤◌, ℕ, List, length, codes, IsTrue}
 use Rattle.std.specs.Prelude.{Option, Some, None, option_map, Result, Ok}
 use Rattle.toml.specs.Data.{Data, Members, get_member, as_str}
+use Rattle.releases.specs.Appid.{is_appid}
 use Rattle.releases.specs.Release.{Release}
 use Rattle.manifest.specs.declared.app.Source.{Source}
 use Rattle.manifest.specs.declared.app.Source.TheVariants.{Program, Rule}
@@ -21,9 +22,10 @@ pub record AppEntry : Type 0 where
   pub source : Source
   pub releases : List Release
 
--- 1 to 1024 bytes
-abbrev pub is_appid : List ℕ → Bool
-is_appid text = nat_le 1 (length text) && nat_le (length text) 1024
+-- what an app keeps: its appid is one, and it has at most 64 releases
+pub record IsAppEntry (appid : List ℕ) (releases : List Release) : Type 0 where
+  pub named : IsTrue (is_appid appid)
+  pub few : length releases ≤ 64
 
 -- the file is that of a program or that of a rule, and there is just one
 abbrev pub source_of : Option Data → Option Data → Option Source

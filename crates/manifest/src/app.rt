@@ -1,10 +1,12 @@
 //! The table of an app.
 
-ghost use Rattle.std.specs.Prelude.{◌≡◌, ◌≤◌, length, codes, option_copied, IfOk};
+ghost use Rattle.std.specs.Prelude.{◌≡◌, ◌≤◌, length, codes, option_copied};
+ghost use Rattle.std.specs.Prelude.{IfOk, IfSome, IsTrue};
 ghost use Rattle.toml.specs.Data.{get_member};
 ghost use Rattle.toml.specs.View.{view, table_view};
 ghost use Rattle.manifest.specs.Member.{required, text_that};
 ghost use Rattle.manifest.specs.Unread.{ReadsAs, ReadsListAs};
+ghost use Rattle.releases.specs.Appid.{is_appid};
 ghost use Rattle.manifest.specs.App as specs;
 
 use crate::kind::{Kind, unknown_member};
@@ -18,9 +20,6 @@ use std::alloc::Global;
 use std::marker::Model;
 use toml::Table;
 
-/// The most bytes of an appid.
-const MAX_APPID: usize = 1024;
-
 /// The most releases of an app.
 const MAX_RELEASES: usize = 64;
 
@@ -33,7 +32,7 @@ pub enum Source {
     Rule(Text),
 }
 
-/// An app as a manifest tells of it, with at most 64 releases.
+/// An app as a manifest tells of it, with an appid of 1 to 1024 bytes and at most 64 releases.
 #[derive(Drop)]
 pub struct AppEntry {
     appid: Text,
@@ -42,7 +41,6 @@ pub struct AppEntry {
 }
 
 impl Model for AppEntry {
-    ghost use Rattle.std.specs.Prelude.{◌≤◌, length};
     ghost use Rattle.manifest.specs.App as specs;
 
     ghost Value = { specs.AppEntry };
@@ -53,13 +51,14 @@ impl Model for AppEntry {
       releases = a.releases.items;
     } };
 
-    ghost invariant = { λ a. length a.releases.items ≤ 64 };
+    ghost invariant = { λ a. specs.IsAppEntry a.appid a.releases.items };
 }
 
 impl AppEntry {
     /// The text by which a client names the app.
     pub fn appid(&self) -> &str
-        ensures { result.now ≡ self.now.appid }
+        ensures appid { result.now ≡ self.now.appid }
+        ensures named { IsTrue (is_appid result.now) }
     {
         self.appid.as_str()
     }
@@ -92,6 +91,7 @@ impl AppEntry {
     /// Its parts; it takes no memory.
     pub fn into_parts(self) -> AppParts
         ensures appid { result.appid ≡ self.appid }
+        ensures named { IsTrue (is_appid result.appid) }
         ensures source { result.source ≡ self.source }
         ensures releases { result.releases.items ≡ self.releases }
         ensures count { length result.releases.items ≤ 64 }
@@ -137,11 +137,12 @@ fn read_app(alloc: Global, table: &Table) -> Result<AppEntry, Unread<AppMisfit>>
 }
 
 fn appid(table: &Table) -> Option<&str>
-    ensures { option_copied result
-        ≡ required (text_that specs.is_appid) (codes "appid") (table_view table.now) }
+    ensures appid { option_copied result
+        ≡ required (text_that is_appid) (codes "appid") (table_view table.now) }
+    ensures named { IfSome result (λ text. IsTrue (is_appid text.now)) }
 {
     match text(table, "appid") {
-        Some(text) if 1 <= text.len() && text.len() <= MAX_APPID => Some(text),
+        Some(text) if releases::is_appid(text) => Some(text),
         _ => None,
     }
 }

@@ -1,2 +1,3 @@
+pub mod Appid
 pub mod Release
 pub use Rattle.attrs.specs as attrs
