@@ -2,14 +2,14 @@
 
 ghost use Rattle.std.specs.Prelude.{◌≡◌, ◌≤◌, IfOk, length};
 
-use anyhow::Result;
+use anyhow::{Result, ensure};
 use attrs::Text;
 use bpf_text::assemble;
 use cells::Shape;
 use hot_swap::bpf_verify::{Verified, verify};
 use hot_swap::flow_check::Flow;
 use hot_swap::ruleset::{App, Ruleset};
-use releases::{Package, Release};
+use releases::{Package, Release, is_appid};
 use std::alloc::{AllocError, Global};
 use std::sync::Arc;
 
@@ -55,10 +55,11 @@ fn program(alloc: Global, text: &str, releases: u8) -> Result<Arc<Verified>>
 }
 
 /// An app with as many releases as its program has, each of so many packages.
-fn app(alloc: Global, appid: &str, program: &Arc<Verified>, packages: u8) -> Result<App, AllocError>
+fn app(alloc: Global, appid: &str, program: &Arc<Verified>, packages: u8) -> Result<App>
     requires some { 1 ≤ packages }
     requires few { packages ≤ 16 }
 {
+    ensure!(is_appid(appid), "{appid} is no appid");
     let accepted: &Verified = program;
     let releases = releases(alloc, accepted.shape().releases(), packages)?;
     let program = Arc::try_clone(program).ok().ok_or(AllocError)?;

@@ -1,28 +1,15 @@
--- Apps in a list: what was found is offered, an appid has one program, and a list of appids at a
--- place.
+-- Apps in a list: what was found is known, an appid has one app, and a list of appids at a place.
 use Rattle.std.proofs.Common.{◌≡◌, ◌<◌, ℕ, List, [], length, map, get_or, Option, Some, None, Bor}
-use Rattle.std.proofs.Common.{inl, inr, refl, sym, ap, subst, ◌∙◌, IfSome, All, Contains, arith}
+use Rattle.std.proofs.Common.{inl, inr, sym, ap, ◌∙◌, IfSome, Contains, arith}
 use Rattle.std.proofs.lemmas.List.{get_or-map, get_or_default, length-map}
-use Rattle.std.proofs.lemmas.List.Elements.{All-contains}
 use Rattle.std.proofs.lemmas.Bool.{cases_order}
-use Rattle.bpf_verify.specs.bpf_semantics.Program.{ShapedProgram}
-use Rattle.ruleset.specs.Rules.{Rules, AppRule, Offers, OffersSafely, HasTwice, AlwaysEndsWell, appids_of}
+use Rattle.ruleset.specs.Rules.{Rules, AppRule, Knows, KnowsOne, HasTwice, appids_of}
 
-pub offers_found : (rules : Rules) (appid : List ℕ) (o : Option (Bor AppRule))
+pub known_found : (rules : Rules) (appid : List ℕ) (o : Option (Bor AppRule))
     → IfSome o (λ a. Contains rules.apps a.now) → IfSome o (λ a. a.now.appid ≡ appid)
-    → IfSome o (λ a. Offers rules appid a.now.program)
-offers_found rules appid None listed is = tt
-offers_found rules appid (Some a) listed is = record {
-  app = a.now;
-  listed = listed;
-  appid_is = is;
-  program_is = refl;
-}
-
-pub offers_safely : (rules : Rules) → All (λ app. AlwaysEndsWell app.program) rules.apps
-    → OffersSafely rules
-offers_safely rules ends appid program offers = subst AlwaysEndsWell offers.program_is
-    (All-contains (λ app. AlwaysEndsWell app.program) rules.apps offers.app ends offers.listed)
+    → IfSome o (λ a. Knows rules appid a.now)
+known_found rules appid None listed is = tt
+known_found rules appid (Some a) listed is = record { listed = listed; appid_is = is }
 
 pub map_at : {X Y : Type 0} (f : X → Y) (xs : List X) (k : ℕ) (x : X) (d : Y) → k < length xs
     → x ≡ get_or xs k x → get_or (map f xs) k d ≡ f x
@@ -57,10 +44,6 @@ one_app apps once a b same left right = elim (cases_order left.0 right.0) [
   ]
 ]
 
-pub one_program : (rules : Rules) → ¬ HasTwice (appids_of rules.apps)
-    → (appid : List ℕ) (p q : ShapedProgram)
-    → Offers rules appid p → Offers rules appid q → p ≡ q
-one_program rules once appid p q left right =
-    let same : left.app ≡ right.app = one_app rules.apps once left.app right.app
-    (left.appid_is ∙ sym right.appid_is) left.listed right.listed in
-    sym left.program_is ∙ ap (λ (a : AppRule). a.program) same ∙ right.program_is
+pub one_known : (rules : Rules) → ¬ HasTwice (appids_of rules.apps) → KnowsOne rules
+one_known rules once appid a b left right = one_app rules.apps once a b
+    (left.appid_is ∙ sym right.appid_is) left.listed right.listed

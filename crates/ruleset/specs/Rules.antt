@@ -1,12 +1,13 @@
 -- A ruleset: the apps that a server knows, in order, each with its program and its releases.
 use Rattle.std.specs.Prelude.{◌≡◌, ℕ, ◌<◌, List, [], length, map, slice_index_or, All, Contains}
-use Rattle.std.specs.Prelude.{Option}
+use Rattle.std.specs.Prelude.{Option, IsTrue}
 use Rattle.std.specs.List.{find}
 use Rattle.std.specs.Str.{bytes_eq}
 use Rattle.releases.specs.attrs.Attributes.{Attributes, AreShort}
 use Rattle.bpf_verify.specs.bpf_semantics.State.{opening}
 use Rattle.bpf_verify.specs.bpf_semantics.Program.{ShapedProgram}
 use Rattle.bpf_verify.specs.Covers.{EndsWell}
+use Rattle.releases.specs.Appid.{is_appid}
 use Rattle.releases.specs.Release.{Release}
 
 pub record AppRule : Type 0 where
@@ -18,21 +19,29 @@ pub record Rules : Type 0 where
   pub server : List ℕ
   pub apps : List AppRule
 
--- the ruleset lists the appid with this program
-pub record Offers (rules : Rules) (appid : List ℕ) (program : ShapedProgram) : Type 0 where
-  pub app : AppRule
+-- the ruleset has the app of this appid
+pub record Knows (rules : Rules) (appid : List ℕ) (app : AppRule) : Type 0 where
   pub listed : Contains rules.apps app
   pub appid_is : app.appid ≡ appid
+
+-- it has this program for the appid: that of its app
+pub record Offers (rules : Rules) (appid : List ℕ) (program : ShapedProgram) : Type 0 where
+  pub app : AppRule
+  pub known : Knows rules appid app
   pub program_is : app.program ≡ program
 
 -- it has no program for the appid
 abbrev pub OffersNone : Rules → List ℕ → Type 0
 OffersNone rules appid = (program : ShapedProgram) → ¬ Offers rules appid program
 
--- of an appid it has one program
-abbrev pub OffersOne : Rules → Type 0
-OffersOne rules = (appid : List ℕ) (p q : ShapedProgram)
-    → Offers rules appid p → Offers rules appid q → p ≡ q
+-- of an appid it has one app
+abbrev pub KnowsOne : Rules → Type 0
+KnowsOne rules = (appid : List ℕ) (a b : AppRule)
+    → Knows rules appid a → Knows rules appid b → a ≡ b
+
+-- the appid of the app for which attributes are: the text of number 0
+abbrev pub appid_of : Attributes → List ℕ
+appid_of a = slice_index_or a.texts 0 []
 
 -- the app of an appid
 abbrev pub app_in : List AppRule → List ℕ → Option AppRule
@@ -63,21 +72,22 @@ pub record StandsBefore (appids : List (List ℕ)) (place : ℕ) : Type 0 where
 unfoldable pub AlwaysEndsWell : ShapedProgram → Type 0
 AlwaysEndsWell program = (a : Attributes) → AreShort a.texts → EndsWell program (opening a)
 
--- every program that it offers ends well
-abbrev pub OffersSafely : Rules → Type 0
-OffersSafely rules = (appid : List ℕ) (program : ShapedProgram)
-    → Offers rules appid program → AlwaysEndsWell program
-
 -- a program's choices are the releases of its app
 abbrev pub ChoosesAmong : ShapedProgram → List Release → Type 0
 ChoosesAmong program releases = length releases ≡ program.shape.releases
 
 -- what an app keeps
-pub record IsApp (program : ShapedProgram) (releases : List Release) : Type 0 where
-  pub ends : AlwaysEndsWell program
-  pub all : ChoosesAmong program releases
+pub record IsApp (app : AppRule) : Type 0 where
+  pub named : IsTrue (is_appid app.appid)
+  pub ends : AlwaysEndsWell app.program
+  pub all : ChoosesAmong app.program app.releases
 
 -- what the apps of a ruleset keep
 pub record AppsAreKept (apps : List AppRule) : Type 0 where
   pub once : ¬ HasTwice (appids_of apps)
-  pub ends : All (λ app. AlwaysEndsWell app.program) apps
+  pub each : All IsApp apps
+
+-- what a ruleset keeps for its runs: it has one app of an appid, and each is what an app is
+pub record IsRuleset (rules : Rules) : Type 0 where
+  pub one : KnowsOne rules
+  pub each : All IsApp rules.apps

@@ -1,7 +1,8 @@
 //! One app of a ruleset.
 
-ghost use Rattle.std.specs.Prelude.{◌≡◌};
+ghost use Rattle.std.specs.Prelude.{◌≡◌, IsTrue};
 ghost use Rattle.std.specs.Arc.{arc_value};
+ghost use Rattle.releases.specs.Appid.{is_appid};
 
 use bpf_verify::Verified;
 use releases::Release;
@@ -9,7 +10,7 @@ use std::marker::Model;
 use std::sync::Arc;
 
 /// An app, its releases, and the program that decides which of them is offered. The program's
-/// choices are their numbers, from 1 on.
+/// choices are their numbers, from 1 on. Its appid has 1 to 1024 bytes.
 #[derive(Drop)]
 pub struct App {
     appid: String,
@@ -30,17 +31,22 @@ impl Model for App {
       releases = a.releases.items;
     } };
 
-    ghost invariant = { λ a. IsApp (arc_value a.program) a.releases.items };
+    ghost invariant = { λ a. IsApp (record {
+      appid = string_bytes a.appid;
+      program = arc_value a.program;
+      releases = a.releases.items;
+    }) };
 }
 
 impl App {
     ghost use Rattle.std.specs.Prelude.{string_bytes};
-    ghost use Rattle.ruleset.specs.Rules.{AlwaysEndsWell, ChoosesAmong};
+    ghost use Rattle.ruleset.specs.Rules.{IsApp, ChoosesAmong};
 
     /// The app of this appid, which runs this program to choose among these releases; it takes no
     /// memory. The program's shape has as many releases.
     pub fn new(appid: String, program: Arc<Verified>, releases: Vec<Release>) -> App
-        requires { ChoosesAmong (arc_value program) releases.items }
+        requires named { IsTrue (is_appid (string_bytes appid)) }
+        requires all { ChoosesAmong (arc_value program) releases.items }
         ensures appid { result.appid ≡ string_bytes appid }
         ensures program { result.program ≡ arc_value program }
         ensures releases { result.releases ≡ releases.items }
@@ -56,9 +62,8 @@ impl App {
 
     /// What the type keeps. It does nothing: a proof calls it for its clauses.
     pub fn keeps(&self)
-        // Every run of its program ends, with 0 or one of its releases.
-        ensures ends { AlwaysEndsWell self.now.program }
-        ensures all { ChoosesAmong self.now.program self.now.releases }
+        // The appid is one, every run of its program ends, and chooses 0 or one of its releases.
+        ensures { IsApp self.now }
     {
         let _releases = &self.releases;
     }

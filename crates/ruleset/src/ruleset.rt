@@ -2,7 +2,7 @@
 
 ghost use Rattle.std.specs.Prelude.{◌≡◌, ◌≢◌, ◌↔◌, IfOk, IfErr, IfSome, IfNone, All, Contains};
 ghost use Rattle.std.specs.Prelude.{option_copied};
-ghost use Rattle.ruleset.specs.Rules.{AlwaysEndsWell, app_in};
+ghost use Rattle.ruleset.specs.Rules.{IsApp, app_in};
 
 use crate::app::App;
 use crate::twice::has_twice;
@@ -38,7 +38,7 @@ impl Model for Ruleset {
 
 impl Ruleset {
     ghost use Rattle.std.specs.Prelude.{string_bytes};
-    ghost use Rattle.ruleset.specs.Rules.{HasTwice, Offers, OffersNone, OffersOne, OffersSafely};
+    ghost use Rattle.ruleset.specs.Rules.{HasTwice, IsRuleset, Knows, OffersNone};
     ghost use Rattle.ruleset.specs.Rules.{app_of, appids_of};
 
     /// The ruleset of these apps, for a server of this name; it takes no memory. M3 exactly where
@@ -52,17 +52,15 @@ impl Ruleset {
         if has_twice(apps.as_slice()) {
             return Err(RulesetFault::Duplicate);
         }
-        all_end(apps.as_slice());
+        are_apps(apps.as_slice());
         Ok(Ruleset { server, apps })
     }
 
     /// What the type keeps. It does nothing: a proof calls it for its clauses.
     pub fn keeps(&self)
         ensures once { ¬ HasTwice (appids_of self.now.apps) }
-        // So an appid has one program.
-        ensures one { OffersOne self.now }
-        // A run of any of its programs ends, with 0 or a release of the app.
-        ensures ends { OffersSafely self.now }
+        // So an appid has one app. A run of its program ends, with 0 or a release of the app.
+        ensures sound { IsRuleset self.now }
     {
         let _apps = &self.apps;
     }
@@ -84,8 +82,7 @@ impl Ruleset {
     /// The app of an appid.
     pub fn find(&self, appid: &str) -> Option<&App>
         ensures found { option_copied result ≡ app_of self.now appid.now }
-        ensures appid { IfSome result (λ a. a.now.appid ≡ appid.now) }
-        ensures offers { IfSome result (λ a. Offers self.now appid.now a.now.program) }
+        ensures known { IfSome result (λ a. Knows self.now appid.now a.now) }
         ensures none { IfNone result (OffersNone self.now appid.now) }
     {
         find_app(self.apps(), appid)
@@ -107,9 +104,9 @@ fn find_app<'a>(apps: &'a [App], appid: &str) -> Option<&'a App>
     None
 }
 
-// What each app keeps: the runs of its program end.
-fn all_end(apps: &[App])
-    ensures { All (λ app. AlwaysEndsWell app.program) apps.now }
+// What each app keeps.
+fn are_apps(apps: &[App])
+    ensures { All IsApp apps.now }
 {
     for app in apps {
         app.keeps();

@@ -81,8 +81,7 @@ pub kept_with : (parts : Parts) (cells : List ℕ) (k : ℕ) (seat : Seat) → k
     → AreKept (with_seat parts cells k seat)
 kept_with parts cells k seat within kept keeps offered = record {
   ruled = kept.ruled;
-  once = kept.once;
-  programs = kept.programs;
+  sound = kept.sound;
   kept =
       each_with (λ s t. SeatKeeps s) parts.seats parts.seats k seat Empty seat Empty refl within
       keeps

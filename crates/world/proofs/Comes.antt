@@ -6,8 +6,9 @@ use Rattle.std.specs.declared.sync.Arc.{Arc}
 use Rattle.attrs.specs.Attributes.{Attributes, AreShort}
 use Rattle.bpf_machine.specs.bpf_semantics.Program.{ShapedProgram}
 use Rattle.bpf_machine.specs.bpf_semantics.State.{opening}
+use Rattle.ruleset.specs.Rules.{appid_of}
 use Rattle.world.specs.World.{WorldState, Worker, Idle, Running, Ended, IsWorker, HasProgram}
-use Rattle.world.specs.World.{newest, appid_of}
+use Rattle.world.specs.World.{newest}
 use Rattle.world.specs.Happens.{Answer, StartsRun, StepsRun, EndsRun, Happens}
 use Rattle.world.specs.History.{made_at, EndsDuring}
 use Rattle.world.specs.OwnRun.{ComesTo}

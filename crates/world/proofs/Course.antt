@@ -6,14 +6,16 @@ use Rattle.bpf_machine.specs.bpf_semantics.Program.{ShapedProgram}
 use Rattle.bpf_machine.specs.bpf_semantics.State.{opening}
 use Rattle.bpf_machine.specs.bpf_semantics.Outcome.{Outcome}
 use Rattle.bpf_machine.specs.bpf_semantics.Step.{step}
+use Rattle.ruleset.specs.Rules.{appid_of}
 use Rattle.world.specs.World.{WorldState, Running, with_worker}
-use Rattle.world.specs.World.{newest, appid_of}
+use Rattle.world.specs.World.{newest}
 use Rattle.world.specs.Counters.{answered}
 use Rattle.world.specs.Happens.{Answer, StartsRun, StepsRun, EndsRun, Happens, Plays, with_step}
 use Rattle.world.specs.Course.{HasOneCourse}
 use Rattle.world.specs.declared.event.Event.{Event}
 use Rattle.world.specs.declared.event.Event.TheVariants.{Start, Step, Finish, Swap}
 use Rattle.world.specs.declared.event.Effect.TheVariants as effect
+use Rattle.world.proofs.Rulesets.{one_program}
 use Rattle.world.proofs.Runs.{Laws, same_state}
 use Rattle.world.proofs.Safe.{AllSafe, all_safe, happens_safe}
 use Rattle.world.proofs.Workers.{same_worker}
@@ -22,7 +24,8 @@ use Rattle.world.proofs.Workers.{same_worker}
 one_start : (w u v : WorldState) (k : ℕ) (a : Attributes) → AllSafe w → StartsRun w k a u
     → StartsRun w k a v → u ≡ v
 one_start w u v k a safe g h =
-    let same = safe.once (newest w.rulesets) (appid_of a) g.program h.program g.offered h.offered in
+    let same = one_program w.rulesets (newest w.rulesets) (appid_of a) g.program h.program
+    safe.rulesets g.offered h.offered in
     let begun = λ (p : ShapedProgram). with_worker w k (Running (newest w.rulesets) p (opening a))
     in
     g.after ∙ ap begun same ∙ sym h.after

@@ -1,14 +1,13 @@
 -- The worlds that a server's world stands for are safe, and there is one.
 use Rattle.std.proofs.Common.{◌≡◌, ℕ, zero, suc, ◌+◌, ◌≤◌, List, [], ◌∷◌, length, take, get_or}
-use Rattle.std.proofs.Common.{Some, None, refl, sym, ap, subst}
+use Rattle.std.proofs.Common.{Some, None, All, refl, sym, ap, subst}
 use Rattle.std.proofs.lemmas.Option.{get_or_from_slice_get}
 use Rattle.attrs.specs.Attributes.{Attributes}
 use Rattle.bpf_machine.specs.bpf_semantics.Program.{ShapedProgram}
 use Rattle.bpf_machine.specs.bpf_verify.Covers.{EndsWell}
 use Rattle.cells.specs.Events.{AreCells}
-use Rattle.ruleset.specs.Rules.{Rules, AlwaysEndsWell}
-use Rattle.world.specs.World.{WorldState, Worker, Idle, Running, Ended, HasProgram, HasOneProgram}
-use Rattle.world.specs.World.{appid_of}
+use Rattle.ruleset.specs.Rules.{Rules, IsRuleset, appid_of}
+use Rattle.world.specs.World.{WorldState, Worker, Idle, Running, Ended, HasProgram}
 use Rattle.world.specs.Safe.{IsSafeWorld}
 use Rattle.bpf_machine.specs.StandsFor.{Held}
 use Rattle.world.specs.Seats.{SeatStandsFor, SeatKeeps, SeatIsOffered, GoesAs, EndedAs}
@@ -53,9 +52,7 @@ pub stands_safe : (parts : Parts) (w : WorldState) → AreCells parts.cells → 
     → WorldStandsFor parts w → AllSafe w
 stands_safe parts w fit kept stands = record {
   cells = subst AreCells stands.cells fit;
-  once = subst HasOneProgram stands.rulesets kept.once;
-  programs = subst (λ (rs : List Rules). (number : ℕ) (appid : List ℕ) (program : ShapedProgram)
-      → HasProgram rs number appid program → AlwaysEndsWell program) stands.rulesets kept.programs;
+  rulesets = subst (λ (rs : List Rules). All IsRuleset rs) stands.rulesets kept.sound;
   workers = λ k x is.
       let found = subst (SeatStandsFor (seat_at parts k))
       (get_or_from_slice_get w.workers k x Idle is) (stands.each k) in

@@ -1,19 +1,18 @@
 -- The newest ruleset, and the world in which a server begins.
 use Rattle.std.proofs.Common.{◌≡◌, Global, ℕ, zero, suc, ◌+◌, ◌-◌, ◌<◌, List, [], ◌∷◌, length}
-use Rattle.std.proofs.Common.{get_or, map, replicate, lit<, add-one, Some, refl, sym, ap, subst}
+use Rattle.std.proofs.Common.{get_or, map, replicate, lit<, add-one, Some, refl, sym, ap}
 use Rattle.std.proofs.Common.{◌∙◌, arith}
 use Rattle.std.specs.Prelude.{slice_get, slice_index}
 use Rattle.std.specs.Arc.{arc_value}
 use Rattle.std.specs.declared.sync.Arc.{Arc}
 use Rattle.std.proofs.lemmas.List.{get_or-map, length-map, length-replicate}
 use Rattle.std.proofs.lemmas.Option.{slice_get_read}
-use Rattle.bpf_machine.specs.bpf_semantics.Program.{ShapedProgram}
 use Rattle.cells.specs.Events.{AreZeros}
-use Rattle.ruleset.specs.Rules.{Rules, Offers, OffersOne, OffersSafely}
+use Rattle.ruleset.specs.Rules.{Rules, IsRuleset}
 use Rattle.world.specs.World.{Idle, ruleset_at, newest, zeros}
 use Rattle.world.specs.StandsFor.{AreKept, IsOpening, parts_of, Parts}
 use Rattle.world.specs.declared.world.World.TheInside.{Inside}
-use Rattle.world.proofs.Rulesets.{some_rules}
+use Rattle.world.proofs.Rulesets.{sound_alone}
 use Rattle.world.specs.declared.seat.Seat.{Seat}
 use Rattle.world.specs.declared.seat.Seat.TheVariants.{Empty}
 
@@ -42,15 +41,6 @@ newest_found rulesets n found long ruled is =
 
 -- ---- where a server begins
 
-some_rules_of : (rules : Rules) (appid : List ℕ) (program : ShapedProgram) (number : ℕ)
-    (found : Rules)
-    → ruleset_at (rules ∷ []) number ≡ Some found → Offers found appid program
-    → Offers rules appid program
-some_rules_of rules appid program zero found is offers = absurd cc
-some_rules_of rules appid program (suc zero) found is offers =
-    subst (λ (r : Rules). Offers r appid program) (sym (some_rules rules found is)) offers
-some_rules_of rules appid program (suc (suc k)) found is offers = absurd cc
-
 empty_at : (n k : ℕ) → get_or (replicate n Empty) k Empty ≡ Empty
 empty_at zero k = refl
 empty_at (suc n) zero = refl
@@ -63,15 +53,10 @@ idle_at (suc n) (suc k) = idle_at n k
 
 pub opening_kept : (first : Arc Rules Global) (rulesets : List (Arc Rules Global)) (cells : List ℕ)
     (seats : List Seat) (n : ℕ) → rulesets ≡ first ∷ [] → seats ≡ replicate n Empty
-    → OffersOne (arc_value first) → OffersSafely (arc_value first)
-    → AreKept (parts_of rulesets cells seats)
-opening_kept first rulesets cells seats n one empty once ends = rw (one, empty) (record {
+    → IsRuleset (arc_value first) → AreKept (parts_of rulesets cells seats)
+opening_kept first rulesets cells seats n one empty sound = rw (one, empty) (record {
   ruled = lit< tt;
-  once = λ number appid p q left right. once appid p q
-      (some_rules_of (arc_value first) appid p number left.rules left.ruleset_is left.offers)
-      (some_rules_of (arc_value first) appid q number right.rules right.ruleset_is right.offers);
-  programs = λ number appid program has. ends appid program
-      (some_rules_of (arc_value first) appid program number has.rules has.ruleset_is has.offers);
+  sound = sound_alone (arc_value first) sound;
   kept = λ k. rw (empty_at n k) tt;
   offered = λ k. rw (empty_at n k) tt;
 })

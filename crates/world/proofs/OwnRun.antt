@@ -1,6 +1,6 @@
 -- A Finish answers its own run: backwards from the Finish to the Start of its run.
-use Rattle.std.proofs.Common.{◌≡◌, ◌≢◌, Global, ℕ, zero, suc, ◌<◌, List, [], ◌∷◌, take, Some, Ok}
-use Rattle.std.proofs.Common.{◌⊎◌, inl, inr, refl, sym, ap, subst, arith}
+use Rattle.std.proofs.Common.{◌≡◌, ◌≢◌, Global, ℕ, zero, suc, ◌<◌, ◌≤◌, List, [], ◌∷◌, take, Some}
+use Rattle.std.proofs.Common.{Ok, ◌⊎◌, inl, inr, refl, sym, ap, subst, arith}
 use Rattle.std.specs.Prelude.{slice_get}
 use Rattle.std.specs.Arc.{arc_value}
 use Rattle.std.specs.declared.sync.Arc.{Arc}
@@ -8,9 +8,8 @@ use Rattle.attrs.specs.Attributes.{Attributes, AreShort}
 use Rattle.bpf_machine.specs.bpf_semantics.Program.{ShapedProgram}
 use Rattle.bpf_machine.specs.bpf_semantics.State.{opening}
 use Rattle.bpf_machine.specs.bpf_verify.Covers.{EndsWell}
-use Rattle.ruleset.specs.Rules.{AlwaysEndsWell}
+use Rattle.ruleset.specs.Rules.{AlwaysEndsWell, appid_of}
 use Rattle.world.specs.World.{WorldState, Worker, Idle, Ended, IsWorker, HasProgram}
-use Rattle.world.specs.World.{appid_of}
 use Rattle.world.specs.Happens.{Answer, Happens, Plays}
 use Rattle.world.specs.History.{made_at, made_by}
 use Rattle.world.specs.OwnRun.{HasNoStart, IsLatestStart, IsOwnRun, since}
@@ -18,6 +17,7 @@ use Rattle.world.specs.OwnRun.{FinishesItsRun, FinishesStartedRun, ChoosesItsRel
 use Rattle.world.specs.declared.event.Event.{Event}
 use Rattle.world.specs.declared.event.Event.TheVariants.{Start, Finish}
 use Rattle.world.specs.declared.event.Effect.TheVariants as effect
+use Rattle.world.proofs.Rulesets.{ends_of, as_many_releases}
 use Rattle.world.proofs.Runs.{Laws, ends_well}
 use Rattle.world.proofs.Safe.{all_safe, plays_safe}
 use Rattle.world.proofs.Workers.{same_worker, worker_before}
@@ -227,12 +227,18 @@ own_release law w k place number choice instructions es rs safe run =
     let a = arc_value run.attrs in
     let there = plays_safe law w run.world (take run.start es) (take run.start rs)
     (all_safe w safe) run.plays in
-    let always = there.programs number (appid_of a) run.program run.offered in
+    let always = ends_of run.world.rulesets number (appid_of a) run.program there.rulesets
+    run.offered in
     let well = opens_well run.program a run.texts_are_short always in
     let events = since run.start place es in
     let answers = since run.start place rs in
-    ends_well run.program (opening a)
+    let end = ends_well run.program (opening a)
     (made_by k run.world run.ends.world events answers run.ends.plays)
     choice instructions
     (made_fit law k run.world run.ends.world events answers run.ends.plays there) well
-    run.ends.ends
+    run.ends.ends in (
+      subst (λ (n : ℕ). choice ≤ n)
+          (sym (as_many_releases run.world.rulesets number (appid_of a) run.program there.rulesets
+          run.offered)) end.0,
+      end.1,
+    )

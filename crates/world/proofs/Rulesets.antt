@@ -1,10 +1,12 @@
 -- One ruleset more: each number names what it named, and the newest number the new one.
 use Rattle.std.proofs.Common.{◌≡◌, ℕ, zero, suc, ◌<◌, List, [], ◌∷◌, ◌++◌, length, Option, Some}
-use Rattle.std.proofs.Common.{◌⊎◌, inl, inr, lit<, sym, subst, ◌∙◌, arith}
+use Rattle.std.proofs.Common.{lit<, All, sym, ap, subst, ◌∙◌, arith}
+use Rattle.std.proofs.lemmas.List.Elements.{All-append, All-cons, All-contains, All-nil}
+use Rattle.std.proofs.lemmas.Option.{get_or_from_slice_get, slice_get_within}
 use Rattle.std.specs.Prelude.{slice_get}
 use Rattle.bpf_machine.specs.bpf_semantics.Program.{ShapedProgram}
-use Rattle.ruleset.specs.Rules.{Rules, Offers, OffersOne, OffersSafely, AlwaysEndsWell}
-use Rattle.world.specs.World.{ruleset_at, HasProgram, HasOneProgram}
+use Rattle.ruleset.specs.Rules.{Rules, AppRule, Knows, Offers, IsApp, IsRuleset, AlwaysEndsWell}
+use Rattle.world.specs.World.{ruleset_at, HasApp, HasProgram}
 
 pub some_rules : (a b : Rules) → ◌≡◌ {A = Option Rules} (Some a) (Some b) → a ≡ b
 some_rules a b e = cc
@@ -15,62 +17,83 @@ still_there [] r found k is = absurd cc
 still_there (a ∷ rs) r found zero is = is
 still_there (a ∷ rs) r found (suc k) is = still_there rs r found k is
 
-old_or_new : (rs : List Rules) (r found : Rules) (k : ℕ) → slice_get (rs ++ r ∷ []) k ≡ Some found
-    → (slice_get rs k ≡ Some found) ⊎ (r ≡ found)
-old_or_new [] r found zero is = inr (some_rules r found is)
-old_or_new [] r found (suc k) is = absurd cc
-old_or_new (a ∷ rs) r found zero is = inl is
-old_or_new (a ∷ rs) r found (suc k) is = old_or_new rs r found k is
-
 pub still_at : (rs : List Rules) (r found : Rules) (number : ℕ) → ruleset_at rs number ≡ Some found
     → ruleset_at (rs ++ r ∷ []) number ≡ Some found
 still_at rs r found zero is = absurd cc
 still_at rs r found (suc k) is = still_there rs r found k is
 
-old_or_new_at : (rs : List Rules) (r found : Rules) (number : ℕ)
-    → ruleset_at (rs ++ r ∷ []) number ≡ Some found
-    → (ruleset_at rs number ≡ Some found) ⊎ (r ≡ found)
-old_or_new_at rs r found zero is = absurd cc
-old_or_new_at rs r found (suc k) is = old_or_new rs r found k is
-
 pub some_ruleset : (rs : List Rules) (r : Rules) → 0 < length (rs ++ r ∷ [])
 some_ruleset [] r = lit< tt
 some_ruleset (a ∷ rs) r = omega arith
 
--- ---- programs
+-- ---- apps and their programs
 
 pub still_offered : (rs : List Rules) (r : Rules) (number : ℕ) (appid : List ℕ)
     (program : ShapedProgram) → HasProgram rs number appid program
     → HasProgram (rs ++ r ∷ []) number appid program
-still_offered rs r number appid program has = record {
-  rules = has.rules;
-  ruleset_is = still_at rs r has.rules number has.ruleset_is;
-  offers = has.offers;
+still_offered rs r number appid program offered = record {
+  app = offered.app;
+  has = record {
+    rules = offered.has.rules;
+    ruleset_is = still_at rs r offered.has.rules number offered.has.ruleset_is;
+    known = offered.has.known;
+  };
+  program_is = offered.program_is;
 }
 
-pub one_still : (rs : List Rules) (r : Rules) → HasOneProgram rs → OffersOne r
-    → HasOneProgram (rs ++ r ∷ [])
-one_still rs r once one number appid p q left right =
-    let same = some_rules right.rules left.rules (sym right.ruleset_is ∙ left.ruleset_is) in
-    let other = subst (λ (x : Rules). Offers x appid q) same right.offers in
-    elim (old_or_new_at rs r left.rules number left.ruleset_is) [
-      | inl old ↦ once number appid p q
-          (record { rules = left.rules; ruleset_is = old; offers = left.offers })
-          (record { rules = left.rules; ruleset_is = old; offers = other })
-      | inr new ↦ one appid p q (subst (λ (x : Rules). Offers x appid p) (sym new) left.offers)
-          (subst (λ (x : Rules). Offers x appid q) (sym new) other)
-    ]
+-- what a ruleset offers, by its number
+pub offered_at : (rs : List Rules) (number : ℕ) (rules : Rules) (appid : List ℕ)
+    (program : ShapedProgram) → ruleset_at rs number ≡ Some rules → Offers rules appid program
+    → HasProgram rs number appid program
+offered_at rs number rules appid program is offers = record {
+  app = offers.app;
+  has = record { rules = rules; ruleset_is = is; known = offers.known };
+  program_is = offers.program_is;
+}
 
-abbrev pub AllEndWell : List Rules → Type 0
-AllEndWell rs = (number : ℕ) (appid : List ℕ) (program : ShapedProgram)
-    → HasProgram rs number appid program → AlwaysEndsWell program
+pub sound_alone : (r : Rules) → IsRuleset r → All IsRuleset (r ∷ [])
+sound_alone r sound = All-cons IsRuleset r [] sound (All-nil IsRuleset)
 
-pub all_end_still : (rs : List Rules) (r : Rules) → AllEndWell rs → OffersSafely r
-    → AllEndWell (rs ++ r ∷ [])
-all_end_still rs r all ends number appid program has =
-    elim (old_or_new_at rs r has.rules number has.ruleset_is) [
-      | inl old ↦ all number appid program
-          (record { rules = has.rules; ruleset_is = old; offers = has.offers })
-      | inr new ↦
-          ends appid program (subst (λ (x : Rules). Offers x appid program) (sym new) has.offers)
-    ]
+pub still_sound : (rs : List Rules) (r : Rules) → All IsRuleset rs → IsRuleset r
+    → All IsRuleset (rs ++ r ∷ [])
+still_sound rs r all sound = All-append IsRuleset rs (r ∷ []) all (sound_alone r sound)
+
+-- each ruleset that has a number
+sound_at : (rs : List Rules) (number : ℕ) (found : Rules) → All IsRuleset rs
+    → ruleset_at rs number ≡ Some found → IsRuleset found
+sound_at rs zero found all is = absurd cc
+sound_at rs (suc k) found all is =
+    subst IsRuleset (get_or_from_slice_get rs k found found is)
+    (all k found (slice_get_within rs k found is))
+
+-- each app that its ruleset has
+app_at : (rs : List Rules) (number : ℕ) (appid : List ℕ) (app : AppRule) → All IsRuleset rs
+    → HasApp rs number appid app → IsApp app
+app_at rs number appid app all has =
+    All-contains IsApp has.rules.apps app (sound_at rs number has.rules all has.ruleset_is).each
+    has.known.listed
+
+pub ends_of : (rs : List Rules) (number : ℕ) (appid : List ℕ) (program : ShapedProgram)
+    → All IsRuleset rs → HasProgram rs number appid program → AlwaysEndsWell program
+ends_of rs number appid program all offered =
+    subst AlwaysEndsWell offered.program_is
+    (app_at rs number appid offered.app all offered.has).ends
+
+-- a program's choices are the releases of its app
+pub as_many_releases : (rs : List Rules) (number : ℕ) (appid : List ℕ) (program : ShapedProgram)
+    → All IsRuleset rs → (offered : HasProgram rs number appid program)
+    → length offered.app.releases ≡ program.shape.releases
+as_many_releases rs number appid program all offered =
+    (app_at rs number appid offered.app all offered.has).all
+    ∙ ap (λ (p : ShapedProgram). p.shape.releases) offered.program_is
+
+-- an appid has one app, and so one program
+pub one_program : (rs : List Rules) (number : ℕ) (appid : List ℕ) (p q : ShapedProgram)
+    → All IsRuleset rs → HasProgram rs number appid p → HasProgram rs number appid q → p ≡ q
+one_program rs number appid p q all left right =
+    let same = some_rules right.has.rules left.has.rules
+    (sym right.has.ruleset_is ∙ left.has.ruleset_is) in
+    let sound = sound_at rs number left.has.rules all left.has.ruleset_is in
+    let app_is : left.app ≡ right.app = sound.one appid left.app right.app left.has.known
+    (subst (λ (r : Rules). Knows r appid right.app) same right.has.known) in
+    sym left.program_is ∙ ap (λ (a : AppRule). a.program) app_is ∙ right.program_is

@@ -1,6 +1,6 @@
 -- Safety of a world is kept by each event.
 use Rattle.std.proofs.Common.{◌≡◌, ℕ, zero, suc, ◌≤◌, List, [], ◌∷◌, ◌++◌, length, Option, Some, Ok}
-use Rattle.std.proofs.Common.{Err, ◌⊎◌, inl, inr, sym, subst}
+use Rattle.std.proofs.Common.{Err, ◌⊎◌, inl, inr, All, sym, subst}
 use Rattle.std.specs.Prelude.{slice_get, slice_set}
 use Rattle.std.specs.Arc.{arc_value}
 use Rattle.attrs.specs.Attributes.{Attributes, AreShort}
@@ -9,16 +9,16 @@ use Rattle.bpf_machine.specs.bpf_semantics.State.{opening}
 use Rattle.bpf_machine.specs.bpf_semantics.Step.{step}
 use Rattle.bpf_machine.specs.bpf_verify.Covers.{EndsWell}
 use Rattle.cells.specs.Events.{AreCells}
-use Rattle.ruleset.specs.Rules.{Rules, AlwaysEndsWell}
+use Rattle.ruleset.specs.Rules.{Rules, IsRuleset, AlwaysEndsWell, appid_of}
 use Rattle.world.specs.World.{WorldState, Worker, Idle, Running, Ended, IsWorker, HasProgram}
-use Rattle.world.specs.World.{HasOneProgram, with_worker, newest, appid_of}
+use Rattle.world.specs.World.{with_worker, newest}
 use Rattle.world.specs.Counters.{cells_after}
 use Rattle.world.specs.Happens.{Answer, StepsRun, SwapsRules, Happens, Plays}
 use Rattle.world.specs.Safe.{IsSafeWorld}
 use Rattle.world.specs.declared.event.Event.{Event}
 use Rattle.world.specs.declared.event.Event.TheVariants.{Start, Step, Finish, Swap}
 use Rattle.world.specs.declared.event.Effect.TheVariants as effect
-use Rattle.world.proofs.Rulesets.{still_offered, one_still, all_end_still}
+use Rattle.world.proofs.Rulesets.{still_offered, still_sound, as_many_releases, ends_of}
 use Rattle.world.proofs.Runs.{Laws, no_trap, is_short, goes_well, ends_here, follows, cells_kept}
 
 -- ---- a world, worker by worker
@@ -33,16 +33,13 @@ SafeWorker rulesets (Ended number program a choice instructions) =
 
 pub record AllSafe (w : WorldState) : Type 0 where
   pub cells : AreCells w.cells
-  pub once : HasOneProgram w.rulesets
-  pub programs : (number : ℕ) (appid : List ℕ) (program : ShapedProgram)
-      → HasProgram w.rulesets number appid program → AlwaysEndsWell program
+  pub rulesets : All IsRuleset w.rulesets
   pub workers : (k : ℕ) (x : Worker) → IsWorker w k x → SafeWorker w.rulesets x
 
 pub is_safe : Laws → (w : WorldState) → AllSafe w → IsSafeWorld w
 is_safe law w safe = record {
   cells = safe.cells;
-  once = safe.once;
-  programs = safe.programs;
+  rulesets = safe.rulesets;
   running = λ k number program s is.
       let worker = safe.workers k (Running number program s) is in
       record {
@@ -53,20 +50,32 @@ is_safe law w safe = record {
       };
   ended = λ k number program a choice instructions is.
       let worker = safe.workers k (Ended number program a choice instructions) is in
-      record { offered = worker.0; release = worker.1; short = worker.2 };
+      record {
+        offered = worker.0;
+        release =
+            subst (λ (n : ℕ). choice ≤ n)
+            (sym (as_many_releases w.rulesets number (appid_of a) program safe.rulesets worker.0))
+            worker.1;
+        short = worker.2;
+      };
 }
 
 pub all_safe : (w : WorldState) → IsSafeWorld w → AllSafe w
 all_safe w safe =
-    record { cells = safe.cells; once = safe.once; programs = safe.programs; workers = by_worker }
+    record { cells = safe.cells; rulesets = safe.rulesets; workers = by_worker }
   where
     by_worker : (k : ℕ) (x : Worker) → IsWorker w k x → SafeWorker w.rulesets x
     by_worker k Idle is = tt
     by_worker k (Running number program s) is =
         let run = safe.running k number program s is in (run.offered, run.ends)
     by_worker k (Ended number program a choice instructions) is =
-        let run = safe.ended k number program a choice instructions is in
-        (run.offered, run.release, run.short)
+        let run = safe.ended k number program a choice instructions is in (
+          run.offered,
+          subst (λ (n : ℕ). choice ≤ n)
+              (as_many_releases w.rulesets number (appid_of a) program safe.rulesets run.offered)
+              run.release,
+          run.short,
+        )
 
 some_worker : (x y : Worker) → ◌≡◌ {A = Option Worker} (Some x) (Some y) → x ≡ y
 some_worker x y e = cc
@@ -85,8 +94,7 @@ safe_with : (w : WorldState) (k : ℕ) (y : Worker) (cells : List ℕ) → AllSa
     → SafeWorker w.rulesets y → AllSafe (record (with_worker w k y) { cells = cells })
 safe_with w k y cells safe fit here = record {
   cells = fit;
-  once = safe.once;
-  programs = safe.programs;
+  rulesets = safe.rulesets;
   workers = λ j x is. elim (one_changed w.workers k j x y is) [
     | inl same ↦ subst (SafeWorker w.rulesets) same here
     | inr there ↦ safe.workers j x there
@@ -126,18 +134,17 @@ swaps_safe : (w v : WorldState) (rules : Rules) (number : ℕ) → AllSafe w
     → SwapsRules w rules number v → AllSafe v
 swaps_safe w v rules number safe h = rw h.after (record {
   cells = safe.cells;
-  once = one_still w.rulesets rules safe.once h.one;
-  programs = all_end_still w.rulesets rules safe.programs h.ends;
+  rulesets = still_sound w.rulesets rules safe.rulesets h.sound;
   workers = λ k x is. still_safe w.rulesets rules x (safe.workers k x is);
 })
 
 pub happens_safe : Laws → (w v : WorldState) (e : Event) (r : Answer) → AllSafe w
     → Happens w e r v → AllSafe v
 happens_safe law w v (Start k attrs) (Ok effect.Started) safe h =
-    let program = safe.programs (newest w.rulesets) (appid_of (arc_value attrs)) h.program h.offered
-    in
+    let always = ends_of w.rulesets (newest w.rulesets) (appid_of (arc_value attrs)) h.program
+    safe.rulesets h.offered in
     rw h.after (safe_with w k _ w.cells safe safe.cells
-    (h.offered, opens h.program (arc_value attrs) h.texts_are_short program))
+    (h.offered, opens h.program (arc_value attrs) h.texts_are_short always))
 happens_safe law w v (Step k) (Ok effect.Stepped) safe h = steps_safe law w v k safe h
 happens_safe law w v (Step k) (Ok (effect.Ended choice)) safe h =
     let worker = safe.workers k _ h.running in

@@ -4,7 +4,7 @@ use Rattle.std.proofs.Common.{sym, ap, map, ◌∙◌}
 use Rattle.std.proofs.lemmas.List.{length-map, map_push}
 use Rattle.std.specs.Arc.{arc_value}
 use Rattle.std.specs.declared.sync.Arc.{Arc}
-use Rattle.ruleset.specs.Rules.{Rules, OffersOne, OffersSafely}
+use Rattle.ruleset.specs.Rules.{Rules, IsRuleset}
 use Rattle.world.specs.World.{WorldState, ruleset_at, with_ruleset}
 use Rattle.world.specs.Happens.{Answer, Happens}
 use Rattle.world.specs.Headline.{IsApplied}
@@ -16,7 +16,7 @@ use Rattle.world.specs.declared.seat.Seat.TheVariants.{Empty, Taken}
 use Rattle.world.specs.declared.event.Event.{Event}
 use Rattle.world.specs.declared.event.Event.TheVariants.{Start, Step, Finish, Swap}
 use Rattle.world.specs.declared.event.Effect.TheVariants as effect
-use Rattle.world.proofs.Rulesets.{still_at, some_ruleset, still_offered, one_still, all_end_still}
+use Rattle.world.proofs.Rulesets.{still_at, some_ruleset, still_offered, still_sound}
 
 abbrev pub with_rules : Parts → Rules → Parts
 with_rules parts rules = record parts { rulesets = parts.rulesets ++ rules ∷ [] }
@@ -39,13 +39,13 @@ as_many old new pushed sent n grown same number =
     let many = number ∙ sym (length-map new (λ (r : Arc Rules Global). arc_value r)) in
     many ∙ ap (λ (p : Parts). length p.rulesets) (held_with old new pushed sent [] [] grown same)
 
-pub swapped : (parts : Parts) (rules : Arc Rules Global) (n : ℕ) → OffersOne (arc_value rules)
-    → OffersSafely (arc_value rules) → n ≡ length (parts.rulesets ++ arc_value rules ∷ [])
+pub swapped : (parts : Parts) (rules : Arc Rules Global) (n : ℕ) → IsRuleset (arc_value rules)
+    → n ≡ length (parts.rulesets ++ arc_value rules ∷ [])
     → IsApplied parts (Swap rules) (Ok (effect.Swapped n)) (with_rules parts (arc_value rules))
-swapped parts rules n one ends number w stands =
+swapped parts rules n sound number w stands =
     let longer = ap (λ (rs : List Rules). rs ++ arc_value rules ∷ []) stands.rulesets in (
       with_ruleset w (arc_value rules),
-      record { one = one; ends = ends; after = refl; number_is = number ∙ ap length longer },
+      record { sound = sound; after = refl; number_is = number ∙ ap length longer },
       record {
         rulesets = longer;
         cells = stands.cells;
@@ -60,12 +60,11 @@ seat_offered rulesets rules Empty offered = tt
 seat_offered rulesets rules (Taken run number choice) offered =
     still_offered rulesets rules number _ run.program offered
 
-pub kept_with_rules : (parts : Parts) (rules : Rules) → OffersOne rules → OffersSafely rules
-    → AreKept parts → AreKept (with_rules parts rules)
-kept_with_rules parts rules one ends kept = record {
+pub kept_with_rules : (parts : Parts) (rules : Rules) → IsRuleset rules → AreKept parts
+    → AreKept (with_rules parts rules)
+kept_with_rules parts rules sound kept = record {
   ruled = some_ruleset parts.rulesets rules;
-  once = one_still parts.rulesets rules kept.once one;
-  programs = all_end_still parts.rulesets rules kept.programs ends;
+  sound = still_sound parts.rulesets rules kept.sound sound;
   kept = kept.kept;
   offered = λ k. seat_offered parts.rulesets rules (seat_at parts k) (kept.offered k);
 }

@@ -7,10 +7,10 @@ use Rattle.attrs.specs.Attributes.{Attributes}
 use Rattle.bpf_machine.specs.bpf_semantics.Program.{ShapedProgram}
 use Rattle.bpf_machine.specs.bpf_semantics.State.{opening}
 use Rattle.bpf_machine.specs.StandsFor.{Held}
-use Rattle.ruleset.specs.Rules.{Rules, Offers}
+use Rattle.ruleset.specs.Rules.{Rules, Offers, appid_of}
 use Rattle.world.specs.World.{WorldState, Worker, Idle, Running, Ended, IsWorker, IsIdle}
 use Rattle.world.specs.World.{HasProgram, with_worker}
-use Rattle.world.specs.World.{ruleset_at, newest, appid_of}
+use Rattle.world.specs.World.{ruleset_at, newest}
 use Rattle.world.specs.Happens.{Answer, Happens}
 use Rattle.world.specs.Headline.{IsApplied}
 use Rattle.world.specs.Seats.{SeatStandsFor, WorkerSteps, WorkerFinishes, SeatSteps, SeatFinishes}
@@ -23,7 +23,7 @@ use Rattle.world.specs.declared.event.Effect.TheVariants as effect
 use Rattle.world.specs.declared.event.WorldFault.{WorldFault}
 use Rattle.world.specs.declared.event.WorldFault.TheVariants as fault
 use Rattle.world.proofs.Changes.{with_seat, with_cells, worker_at, is_worker, seat_found}
-use Rattle.world.proofs.Rulesets.{some_rules}
+use Rattle.world.proofs.Rulesets.{some_rules, offered_at}
 use Rattle.world.proofs.Changes.{found_stands, stands_with, kept_with, same_world}
 
 -- ---- Step
@@ -135,7 +135,7 @@ has_program : (parts : Parts) (w : WorldState) (rules : Rules) (appid : List ℕ
     → HasProgram w.rulesets (newest w.rulesets) appid program
 has_program parts w rules appid program stands is offers =
     subst (λ (rs : List Rules). HasProgram rs (newest rs) appid program) stands.rulesets
-    (record { rules = rules; ruleset_is = is; offers = offers })
+    (offered_at parts.rulesets (newest parts.rulesets) rules appid program is offers)
 
 offers_of : (parts : Parts) (w : WorldState) (rules : Rules) (appid : List ℕ)
     (program : ShapedProgram)
@@ -145,7 +145,8 @@ offers_of parts w rules appid program stands is has =
     let there = subst (λ (rs : List Rules). HasProgram rs (newest rs) appid program)
     (sym stands.rulesets) has in
     subst (λ (r : Rules). Offers r appid program)
-    (some_rules there.rules rules (sym there.ruleset_is ∙ is)) there.offers
+    (some_rules there.has.rules rules (sym there.has.ruleset_is ∙ is))
+    (record { app = there.app; known = there.has.known; program_is = there.program_is })
 
 pub unopened : (parts : Parts) (k : ℕ) (attrs : Arc Attributes Global) (rules : Rules) (seat : Seat)
     (e : WorldFault) → k < length parts.seats → seat ≡ get_or parts.seats k seat → seat ≡ Empty
@@ -210,9 +211,8 @@ pub opened_kept : (parts : Parts) (k n : ℕ) (a : Attributes) (rules : Rules) (
     → ruleset_at parts.rulesets (newest parts.rulesets) ≡ Some rules → n ≡ length parts.rulesets
     → Opens rules a (Ok run) → AreKept (with_seat parts parts.cells k (Taken run n None))
 opened_kept parts k n a rules run within kept newest_is number opens =
-    kept_with parts parts.cells k (Taken run n None) within kept opens.goes (record {
-      rules = rules;
-      ruleset_is = ap (ruleset_at parts.rulesets) number ∙ newest_is;
-      offers = subst (λ (b : Attributes). Offers rules (appid_of b) run.program)
-          (sym opens.attributes_are) opens.offered;
-    })
+    kept_with parts parts.cells k (Taken run n None) within kept opens.goes
+    (offered_at parts.rulesets n rules (appid_of run.attributes) run.program
+    (ap (ruleset_at parts.rulesets) number ∙ newest_is)
+    (subst (λ (b : Attributes). Offers rules (appid_of b) run.program)
+    (sym opens.attributes_are) opens.offered))

@@ -6,9 +6,9 @@ use Rattle.bpf_machine.specs.bpf_semantics.State.{State, opening}
 use Rattle.bpf_machine.specs.bpf_semantics.Step.{step}
 use Rattle.bpf_machine.specs.bpf_semantics.Outcome.{Outcome, Going, Done}
 use Rattle.bpf_machine.specs.bpf_semantics.Program.{ShapedProgram}
-use Rattle.ruleset.specs.Rules.{Rules, OffersOne, OffersSafely}
+use Rattle.ruleset.specs.Rules.{Rules, IsRuleset, appid_of}
 use Rattle.world.specs.World.{WorldState, Worker, Idle, Running, Ended, IsWorker, IsIdle, IsRunning}
-use Rattle.world.specs.World.{with_worker, with_ruleset, HasProgram, newest, appid_of}
+use Rattle.world.specs.World.{with_worker, with_ruleset, HasProgram, newest}
 use Rattle.world.specs.Counters.{answered, cells_after}
 use Rattle.world.specs.declared.event.Event.{Event}
 use Rattle.world.specs.declared.event.Event.TheVariants.{Start, Step, Finish, Swap}
@@ -28,7 +28,8 @@ abbrev pub with_step : WorldState → ℕ → Outcome → Worker → WorldState
 with_step w k outcome worker =
     record (with_worker w k worker) { cells = cells_after w.cells outcome }
 
--- a Start: the newest ruleset's program for the app, from its opening state
+-- a Start: the newest ruleset's program for the app, from its opening state. That the texts are
+-- short is no condition of a Start: it is what the type `Attrs` keeps of the attributes
 pub record StartsRun (w : WorldState) (k : ℕ) (a : Attributes) (v : WorldState) : Type 0 where
   pub program : ShapedProgram
   pub texts_are_short : AreShort a.texts
@@ -64,11 +65,10 @@ pub record FinishesRun (w : WorldState) (k choice instructions number : ℕ)
   pub ended : IsWorker w k (Ended number program attributes choice instructions)
   pub after : v ≡ with_worker w k Idle
 
--- a Swap: one ruleset more, which has one program for an app, and each that it has ends well. No
--- worker and no counter is changed
+-- a Swap: one ruleset more. No worker and no counter is changed. That the ruleset is sound is no
+-- condition of a Swap: it is what the type `Ruleset` keeps of it
 pub record SwapsRules (w : WorldState) (rules : Rules) (number : ℕ) (v : WorldState) : Type 0 where
-  pub one : OffersOne rules
-  pub ends : OffersSafely rules
+  pub sound : IsRuleset rules
   pub after : v ≡ with_ruleset w rules
   pub number_is : number ≡ newest v.rulesets
 

@@ -26,12 +26,12 @@ pub record IsOnTheWay (parts : Parts) (events : List Event) (u : WorldState) : T
   pub plays : Plays opening (take count events) answers u
 
 -- in no world on the way does a run trap, take more instructions than its program has slots, or
--- choose what isn't a release of its own ruleset
+-- choose what isn't a release of its app in its own ruleset
 abbrev pub AllWorldsAreSafe : Parts → List Event → Type 0
 AllWorldsAreSafe parts events = (u : WorldState) → IsOnTheWay parts events u → IsSafeWorld u
 
--- what a Finish answers on the way is of its worker's own run: none or a release of its app, in the
--- ruleset of the number that it answers
+-- what a Finish answers on the way is of its worker's own run: 0, or a number up to the releases of
+-- the app, in the ruleset of the number that it answers, that has the run's appid
 abbrev pub EachFinishIsOfItsRun : Parts → List Event → Type 0
 EachFinishIsOfItsRun parts events = (u v : WorldState) (event : Event) (answer : Answer)
     → IsOnTheWay parts events u → Happens u event answer v → IsOfItsRun u event answer

@@ -7,8 +7,9 @@ use Rattle.std.specs.declared.sync.Arc.{Arc}
 use Rattle.attrs.specs.Attributes.{Attributes, AreShort}
 use Rattle.bpf_machine.specs.bpf_semantics.State.{opening}
 use Rattle.bpf_machine.specs.bpf_semantics.Program.{ShapedProgram}
+use Rattle.ruleset.specs.Rules.{appid_of}
 use Rattle.world.specs.World.{WorldState, Worker, Idle, Running, Ended, IsWorker, HasProgram}
-use Rattle.world.specs.World.{newest, appid_of}
+use Rattle.world.specs.World.{newest}
 use Rattle.world.specs.Happens.{Answer, Plays}
 use Rattle.world.specs.History.{EndsDuring}
 use Rattle.world.specs.Safe.{IsSafeWorld}
@@ -93,9 +94,9 @@ FinishesStartedRun = (w v : WorldState) (k place number choice instructions : �
     → IsFinished k events answers place number choice instructions
     → IsOwnRun w k events answers place number choice instructions
 
--- and it chose none or a release of its app, in time
+-- and it chose 0, or a number up to the releases of the app that its ruleset has, in time
 abbrev pub ChoosesItsRelease : Type 0
 ChoosesItsRelease = (w : WorldState) (k place number choice instructions : ℕ)
     (events : List Event) (answers : List Answer)
     → IsSafeWorld w → (run : IsOwnRun w k events answers place number choice instructions)
-    → (choice ≤ run.program.shape.releases) × (instructions ≤ length run.program.code)
+    → (choice ≤ length run.offered.app.releases) × (instructions ≤ length run.program.code)

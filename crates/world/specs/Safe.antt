@@ -1,6 +1,6 @@
 -- Safety of a world: no run traps, each ends in time, and each chooses a release of its own
 -- ruleset.
-use Rattle.std.specs.Prelude.{◌≢◌, ℕ, ◌<◌, ◌≤◌, List, length, Ok}
+use Rattle.std.specs.Prelude.{◌≢◌, ℕ, ◌<◌, ◌≤◌, All, length, Ok}
 use Rattle.attrs.specs.Attributes.{Attributes}
 use Rattle.bpf_machine.specs.bpf_semantics.State.{State}
 use Rattle.bpf_machine.specs.bpf_semantics.Step.{step}
@@ -8,9 +8,8 @@ use Rattle.bpf_machine.specs.bpf_semantics.Outcome.{Trap}
 use Rattle.bpf_machine.specs.bpf_semantics.Program.{ShapedProgram}
 use Rattle.bpf_machine.specs.bpf_verify.Covers.{EndsWell}
 use Rattle.cells.specs.Events.{AreCells}
-use Rattle.ruleset.specs.Rules.{AlwaysEndsWell}
-use Rattle.world.specs.World.{WorldState, Running, Ended, IsWorker, HasProgram, HasOneProgram}
-use Rattle.world.specs.World.{appid_of}
+use Rattle.ruleset.specs.Rules.{IsRuleset, appid_of}
+use Rattle.world.specs.World.{WorldState, Running, Ended, IsWorker, HasProgram}
 use Rattle.world.specs.Happens.{Answer}
 use Rattle.world.specs.declared.event.Event.{Event}
 use Rattle.world.specs.declared.event.Event.TheVariants.{Finish}
@@ -25,21 +24,19 @@ pub record IsSafeRun (w : WorldState) (number : ℕ) (program : ShapedProgram)
   pub short : s.count < length program.code
   pub ends : EndsWell program s
 
--- so was one that has ended: its choice is none or a release of the app, after at most as many
--- instructions as the program has slots
+-- so was one that has ended: its choice is 0, or a number up to the releases of the app that its
+-- ruleset has, after at most as many instructions as the program has slots
 pub record IsSafeEnd (w : WorldState) (number : ℕ) (program : ShapedProgram) (a : Attributes)
     (choice instructions : ℕ) : Type 0 where
   pub offered : HasProgram w.rulesets number (appid_of a) program
-  pub release : choice ≤ program.shape.releases
+  pub release : choice ≤ length offered.app.releases
   pub short : instructions ≤ length program.code
 
--- every run that is there or may be started is so, for an app a ruleset has one program, and each
--- counter's value is within its width
+-- every run that is there is so, each ruleset is what a ruleset is, so that a run that is started
+-- will be so, and each counter's value is within its width
 pub record IsSafeWorld (w : WorldState) : Type 0 where
   pub cells : AreCells w.cells
-  pub once : HasOneProgram w.rulesets
-  pub programs : (number : ℕ) (appid : List ℕ) (program : ShapedProgram)
-      → HasProgram w.rulesets number appid program → AlwaysEndsWell program
+  pub rulesets : All IsRuleset w.rulesets
   pub running : (k number : ℕ) (program : ShapedProgram) (s : State)
       → IsWorker w k (Running number program s) → IsSafeRun w number program s
   pub ended : (k number : ℕ) (program : ShapedProgram) (a : Attributes) (choice instructions : ℕ)

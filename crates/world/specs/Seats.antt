@@ -8,8 +8,8 @@ use Rattle.bpf_machine.specs.bpf_semantics.Program.{ShapedProgram}
 use Rattle.bpf_machine.specs.bpf_verify.Covers.{EndsWell}
 use Rattle.bpf_machine.specs.StandsFor.{Held}
 use Rattle.bpf_machine.specs.StandsFor as machine
-use Rattle.ruleset.specs.Rules.{Rules, Offers, OffersNone}
-use Rattle.world.specs.World.{Worker, Idle, Running, Ended, IsRunning, IsIdle, HasProgram, appid_of}
+use Rattle.ruleset.specs.Rules.{Rules, Offers, OffersNone, appid_of}
+use Rattle.world.specs.World.{Worker, Idle, Running, Ended, IsRunning, IsIdle, HasProgram}
 use Rattle.world.specs.Happens.{Answer}
 use Rattle.world.specs.Counters.{answered, cells_after}
 use Rattle.world.specs.declared.seat.Seat.{Seat}

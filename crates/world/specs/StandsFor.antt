@@ -1,11 +1,10 @@
 -- What a server's world is held as, which worlds that stands for, and what the type keeps of it.
-use Rattle.std.specs.Prelude.{◌≡◌, ℕ, ◌<◌, List, length, map, slice_index_or}
+use Rattle.std.specs.Prelude.{◌≡◌, ℕ, ◌<◌, All, List, length, map, slice_index_or}
 use Rattle.std.specs.Arc.{arc_value}
 use Rattle.std.specs.declared.alloc.Global.{Global}
 use Rattle.std.specs.declared.sync.Arc.{Arc}
-use Rattle.bpf_machine.specs.bpf_semantics.Program.{ShapedProgram}
-use Rattle.ruleset.specs.Rules.{Rules, AlwaysEndsWell}
-use Rattle.world.specs.World.{WorldState, Idle, opening_world, HasProgram, HasOneProgram}
+use Rattle.ruleset.specs.Rules.{Rules, IsRuleset}
+use Rattle.world.specs.World.{WorldState, Idle, opening_world}
 use Rattle.world.specs.Seats.{SeatStandsFor, SeatKeeps, SeatIsOffered}
 use Rattle.world.specs.declared.seat.Seat.{Seat}
 use Rattle.world.specs.declared.seat.Seat.TheVariants.{Empty}
@@ -40,8 +39,6 @@ IsOpening parts rules workers = WorldStandsFor parts (opening_world rules worker
 -- what the parts of a world keep
 pub record AreKept (parts : Parts) : Type 0 where
   pub ruled : 0 < length parts.rulesets
-  pub once : HasOneProgram parts.rulesets
-  pub programs : (number : ℕ) (appid : List ℕ) (program : ShapedProgram)
-      → HasProgram parts.rulesets number appid program → AlwaysEndsWell program
+  pub sound : All IsRuleset parts.rulesets
   pub kept : (k : ℕ) → SeatKeeps (seat_at parts k)
   pub offered : (k : ℕ) → SeatIsOffered parts.rulesets (seat_at parts k)

@@ -1,12 +1,12 @@
 -- The world of a server: its rulesets, numbered from 1, the counters that its runs share, and its
 -- workers, each idle or with a run.
 use Rattle.std.specs.Prelude.{◌≡◌, ℕ, zero, suc, List, [], ◌∷◌, ◌++◌, length, replicate, Option}
-use Rattle.std.specs.Prelude.{Some, None, slice_get, slice_set, slice_index_or}
+use Rattle.std.specs.Prelude.{Some, None, slice_get, slice_set}
 use Rattle.attrs.specs.Attributes.{Attributes}
 use Rattle.bpf_machine.specs.bpf_semantics.Memory.{cell_count}
 use Rattle.bpf_machine.specs.bpf_semantics.State.{State}
 use Rattle.bpf_machine.specs.bpf_semantics.Program.{ShapedProgram}
-use Rattle.ruleset.specs.Rules.{Rules, Offers}
+use Rattle.ruleset.specs.Rules.{Rules, AppRule, Knows}
 
 -- a run stands under the ruleset that was the newest when it started, and has come to a state; one
 -- that ended has its choice and the number of its instructions
@@ -47,21 +47,19 @@ newest rulesets = length rulesets
 abbrev pub with_ruleset : WorldState → Rules → WorldState
 with_ruleset w rules = record w { rulesets = w.rulesets ++ rules ∷ [] }
 
--- the text of number 0
-abbrev pub appid_of : Attributes → List ℕ
-appid_of a = slice_index_or a.texts 0 []
-
--- the program that the ruleset of a number has for an app
-pub record HasProgram (rulesets : List Rules) (number : ℕ) (appid : List ℕ)
-    (program : ShapedProgram) : Type 0 where
+-- the app that the ruleset of a number has of an appid
+pub record HasApp (rulesets : List Rules) (number : ℕ) (appid : List ℕ)
+    (app : AppRule) : Type 0 where
   pub rules : Rules
   pub ruleset_is : ruleset_at rulesets number ≡ Some rules
-  pub offers : Offers rules appid program
+  pub known : Knows rules appid app
 
--- for an app a ruleset has one program, so that a Start has nothing to choose
-abbrev pub HasOneProgram : List Rules → Type 0
-HasOneProgram rulesets = (number : ℕ) (appid : List ℕ) (p q : ShapedProgram)
-    → HasProgram rulesets number appid p → HasProgram rulesets number appid q → p ≡ q
+-- the program that it has for the appid: that of its app
+pub record HasProgram (rulesets : List Rules) (number : ℕ) (appid : List ℕ)
+    (program : ShapedProgram) : Type 0 where
+  pub app : AppRule
+  pub has : HasApp rulesets number appid app
+  pub program_is : app.program ≡ program
 
 -- ---- workers, numbered from 0
 

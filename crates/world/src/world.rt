@@ -2,7 +2,8 @@
 //! world of the definitions that this one stands for; the type keeps that it stands for at least
 //! one, and that each of its runs is of the program that the ruleset of its number has for its app.
 
-ghost use Rattle.std.specs.Prelude.{◌≡◌, ◌<◌, ◌≤◌, length, slice_index, List, IfOk, IfErr, Some};
+ghost use Rattle.std.specs.Prelude.{◌≡◌, ◌<◌, ◌≤◌, length, slice_index};
+ghost use Rattle.std.specs.Prelude.{List, All, IfOk, IfErr, Some};
 ghost use Rattle.std.specs.Arc.{arc_value};
 ghost use Rattle.cells.specs.Events.{limit};
 ghost use Rattle.world.specs.Seats.{Opens};
@@ -38,7 +39,8 @@ impl Model for World {
 }
 
 impl World {
-    ghost use Rattle.world.specs.World.{WorldState, HasOneProgram, ruleset_at, newest};
+    ghost use Rattle.ruleset.specs.Rules.{IsRuleset};
+    ghost use Rattle.world.specs.World.{WorldState, ruleset_at, newest};
     ghost use Rattle.world.specs.StandsFor.{WorldStandsFor, IsOpening};
     ghost use Rattle.world.specs.Headline.{IsApplied, AllWorldsAreSafe, EachFinishIsOfItsRun};
     ghost use Rattle.world.specs.declared.event.Event.{Event};
@@ -72,8 +74,8 @@ impl World {
     pub fn keeps(&self)
         // It stands for at least one world.
         ensures stands { (w : WorldState) × WorldStandsFor self.now w }
-        // In each of its rulesets an app has one program.
-        ensures once { HasOneProgram self.now.rulesets }
+        // In each of its rulesets an appid has one app, whose runs end with 0 or a release of it.
+        ensures sound { All IsRuleset self.now.rulesets }
         // Whatever is played, each world on the way is safe,
         ensures safe { (events : List Event) → AllWorldsAreSafe self.now events }
         // and what a Finish answers is of its worker's run.

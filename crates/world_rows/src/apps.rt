@@ -6,7 +6,7 @@ ghost use Rattle.std.specs.Prelude.{◌≡◌, ◌≤◌, IfOk, length};
 use attrs::{Attrs, Text};
 use bpf_text::assemble;
 use cells::Shape;
-use releases::{Package, Release};
+use releases::{Package, Release, is_appid};
 use std::alloc::{AllocError, Global};
 use std::sync::Arc;
 use std::test::Fail;
@@ -24,7 +24,8 @@ pub(crate) const NONE: &str = "mov r0, 0\nexit\n";
 
 const HASH: &str = "ba7816bf8f01cfea414140de5dae2223b00361a396177a9cb410ff61f20015ad";
 
-/// The app that runs this program, with as many releases as its shape says.
+/// The app that runs this program, with as many releases as its shape says: that of `x` where the
+/// text is no appid.
 pub(crate) fn app_of(
     alloc: Global,
     appid: &str,
@@ -32,6 +33,7 @@ pub(crate) fn app_of(
 ) -> Result<App, AllocError> {
     let accepted: &Verified = &program;
     let releases = releases(alloc, accepted.shape().releases())?;
+    let appid = if is_appid(appid) { appid } else { "x" };
     Ok(App::new(String::from_str(alloc, appid)?, program, releases))
 }
 

@@ -1,8 +1,9 @@
-//! That a ruleset is made where there is memory, and which fault is printed.
+//! That a ruleset is made where there is memory, which fault is printed, and how long an appid is.
 
 use crate::apps::{NONE, app_over};
 use crate::table::must;
 use cells::Shape;
+use releases::is_appid;
 use std::alloc::Global;
 use std::test::Fail;
 use world::ruleset::{App, Ruleset, RulesetFault};
@@ -62,4 +63,22 @@ fn appids_stand_once(rt: HostRuntime) -> Result<(), Fail> {
 fn fault_is_printed(rt: HostRuntime) -> Result<(), Fail> {
     let printed = format!(in rt.alloc(); "{}", RulesetFault::Duplicate)?;
     must(printed.as_str(), printed.as_str() == "M3 Duplicate")
+}
+
+/// A length in bytes, and whether a text of it is an appid.
+const LENGTHS: &[(usize, bool)] = &[
+    (0, false),
+    (1, true),
+    (1024, true),
+    (1025, false),
+    (2000, false),
+];
+
+#[test]
+fn appids_have_a_length(rt: HostRuntime) -> Result<(), Fail> {
+    for (length, expected) in LENGTHS {
+        let text = "x".repeat(rt.alloc(), *length)?;
+        assert!(rt; is_appid(text.as_str()) == *expected);
+    }
+    Ok(())
 }

@@ -1,6 +1,6 @@
-use Rattle.std.proofs.Common.{ap, ◌∙◌}
+use Rattle.std.proofs.Common.{refl, ap, ◌∙◌}
 use Rattle.attrs.specs.Attributes.{Attributes}
-use Rattle.world.specs.World.{appid_of}
+use Rattle.ruleset.specs.Rules.{appid_of}
 use Rattle.world.proofs.world.open_run.Goals as goal
 
 pub returns-in_default : goal.returns-in_default
@@ -11,15 +11,21 @@ returns-in_default c =
 pub returns-in_default-try_clone : goal.returns-in_default-try_clone
 returns-in_default-try_clone c = (
   c.in-Some.app.now.program,
-  rw
-      (c.text.ensures ∙ ap (λ (a : Attributes). appid_of a) c.deref.ensures) at
-      c.in-Some.ensures.offers,
+  record {
+    app = c.in-Some.app.now;
+    known = rw (c.text.ensures ∙ ap (λ (a : Attributes). appid_of a) c.deref.ensures) at
+        c.in-Some.ensures.known;
+    program_is = refl;
+  },
 )
 
 pub returns-in_default-try_clone-2 : goal.returns-in_default-try_clone-2
 returns-in_default-try_clone-2 c = (
   c.in-Some.app.now.program,
-  rw
-      (c.text.ensures ∙ ap (λ (a : Attributes). appid_of a) c.deref.ensures) at
-      c.in-Some.ensures.offers,
+  record {
+    app = c.in-Some.app.now;
+    known = rw (c.text.ensures ∙ ap (λ (a : Attributes). appid_of a) c.deref.ensures) at
+        c.in-Some.ensures.known;
+    program_is = refl;
+  },
 )

@@ -6,7 +6,8 @@ use Rattle.ruleset.proofs.app.App.new.Goals as goal
 pub invariant_of-result : goal.invariant_of-result
 unfolding AlwaysEndsWell
 invariant_of-result c = record {
+  named = c.requires.named;
   ends = rw (← c.deref-accepted.ensures)
       (λ a short. c.keeps.ensures.ends (opening a) (c.keeps.ensures.opens a short) (omega arith));
-  all = c.requires;
+  all = c.requires.all;
 }

@@ -8,8 +8,8 @@ pub returns-clause-stands : goal.returns-clause-stands
 returns-clause-stands c =
     rw (← c.self.view_is) (some_world (inside_of c.self.inside) c.self.invariant)
 
-pub returns-clause-once : goal.returns-clause-once
-returns-clause-once c = rw (← c.self.view_is) c.self.invariant.once
+pub returns-clause-sound : goal.returns-clause-sound
+returns-clause-sound c = rw (← c.self.view_is) c.self.invariant.sound
 
 pub returns-clause-safe : goal.returns-clause-safe
 returns-clause-safe c =

@@ -7,8 +7,8 @@ pub invariant_of-self-2 : goal.invariant_of-self-2
 invariant_of-self-2 c =
     rw (held_with c.self.inside.rulesets.items c.push.new.self.items c.in-Ok.rules c.args.rules.now
     c.self.inside.pass c.self.inside.seats.items c.in-Ok-push.ensures.items c.in-Ok.ensures)
-    (kept_with_rules (inside_of c.self.inside) _ (rw c.deref-sent.ensures at c.keeps.ensures.one)
-    (rw c.deref-sent.ensures at c.keeps.ensures.ends) c.self.invariant)
+    (kept_with_rules (inside_of c.self.inside) _ (rw c.deref-sent.ensures at c.keeps.ensures.sound)
+    c.self.invariant)
 
 pub returns-clause-happens : goal.returns-clause-happens
 returns-clause-happens c =
@@ -20,7 +20,6 @@ returns-clause-happens c =
           c.in-Ok-push.ensures.items c.in-Ok.ensures,
     )
     (swapped (inside_of c.self.inside) c.args.rules.now c.len.result
-    (rw c.deref-sent.ensures at c.keeps.ensures.one)
-    (rw c.deref-sent.ensures at c.keeps.ensures.ends)
+    (rw c.deref-sent.ensures at c.keeps.ensures.sound)
     (as_many c.self.inside.rulesets.items c.push.new.self.items c.in-Ok.rules c.args.rules.now
     c.len.result c.in-Ok-push.ensures.items c.in-Ok.ensures number))
