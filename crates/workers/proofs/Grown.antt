@@ -2,6 +2,7 @@
 use Rattle.std.proofs.Common.{Bool, true, false, not, ◌≡◌, ℕ, ◌+◌, ◌<◌, get_or, List, [], ◌∷◌, ◌++◌, length, take, length-append, Option, Some, refl, ap, sym, subst, ◌∙◌, arith}
 use Rattle.std.proofs.lemmas.List.{take_all, take_more}
 use Rattle.std.specs.Prelude.{ℤ}
+use Rattle.attrs.specs.Attributes.{kept_text}
 use Rattle.attrs.specs.Facts.{attributes_of}
 use Rattle.attrs.specs.declared.facts.AppFacts.{AppFacts}
 use Rattle.attrs.specs.declared.facts.RequestFacts.{RequestFacts}
@@ -11,7 +12,7 @@ use Rattle.bpf_machine.specs.bpf_semantics.Run.{Ends}
 use Rattle.bpf_machine.specs.bpf_semantics.State.{opening}
 use Rattle.cells.specs.Grown.{Grows, GrowsByAppend}
 use Rattle.cells.specs.declared.event.CellEvent.{CellEvent}
-use Rattle.hot_swap.specs.rulesets.Rules.{AppRule, Rules, app_of}
+use Rattle.hot_swap.specs.rulesets.Rules.{AppRule, Rules, IsApp, Knows, app_of, appid_of}
 use Rattle.workers.specs.Apps.{RunsApp, RunsApps, RunsFew, ran, none, then}
 
 pub not_true : (b : Bool) → not b ≡ true → b ≡ false
@@ -21,6 +22,19 @@ not_true false h = refl
 pub not_false : (b : Bool) → not b ≡ false → b ≡ true
 not_false true h = refl
 not_false false h = sym h
+
+-- the appid of an app is kept as it is
+kept_appid : (app : AppRule) → IsApp app → app.appid ≡ kept_text (Some app.appid)
+kept_appid app kept = let named = kept.named in grind (arith, named)
+
+-- so attribute 0 is the appid, where the ruleset has the app
+known_by : (rules : Rules) (app : AppFacts) (facts : RequestFacts) (moment : ℤ) (known : AppRule)
+    → IsApp known → Knows rules app.appid known
+    → Knows rules (appid_of (attributes_of app facts moment)) known
+known_by rules app facts moment known kept is =
+    subst (λ (appid : List ℕ). Knows rules appid known)
+    (sym is.appid_is ∙ kept_appid known kept
+    ∙ ap (λ (text : List ℕ). kept_text (Some text)) is.appid_is) is
 
 module _ (rules : Rules) (facts : RequestFacts) (moment : ℤ) where
   -- one choice an app
@@ -39,17 +53,20 @@ module _ {P : Type 0} (grew : P → CellEvent → P → Type 0) where
     -- a run of an app's program, from its opening on
     pub grows_ran : (p q : P) (app : AppFacts) (known : AppRule) (run : Held) (choice count : ℕ)
         → app.updatecheck ≡ true → app_of rules app.appid ≡ Some known
+        → IsApp known → Knows rules app.appid known
         → run.program ≡ known.program
         → RunStandsFor run (opening (attributes_of app facts moment))
         → Runs grew run p q choice count
         → Grows grew p q (RunsApp rules facts moment app (Some choice))
-    grows_ran p q app known run choice count asks found same stands runs =
+    grows_ran p q app known run choice count asks found kept is same stands runs =
         let start = opening (attributes_of app facts moment) in
         let E : ShapedProgram → Type 0 = λ z. Ends z start runs.events choice count in
         record {
           events = runs.events;
           grown = runs.grown;
-          of = ran known count asks found (subst E same (runs.ends start stands));
+          of =
+              ran known count asks found (known_by rules app facts moment known kept is)
+              (subst E same (runs.ends start stands));
         }
 
     pub grows_then : (p m q : P) (apps : List AppFacts) (choices : List (Option ℕ)) (app : AppFacts)

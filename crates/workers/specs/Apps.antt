@@ -7,7 +7,7 @@ use Rattle.attrs.specs.declared.facts.RequestFacts.{RequestFacts}
 use Rattle.bpf_machine.specs.bpf_semantics.Run.{Ends}
 use Rattle.bpf_machine.specs.bpf_semantics.State.{opening}
 use Rattle.cells.specs.declared.event.CellEvent.{CellEvent}
-use Rattle.hot_swap.specs.rulesets.Rules.{AppRule, Rules, app_of}
+use Rattle.hot_swap.specs.rulesets.Rules.{AppRule, Rules, Knows, app_of, appid_of}
 
 module _ (rules : Rules) (facts : RequestFacts) (moment : ℤ) where
   -- one app, with the choice of its run, if it has one, and the events that the run made
@@ -16,9 +16,11 @@ module _ (rules : Rules) (facts : RequestFacts) (moment : ℤ) where
     unasked : app.updatecheck ≡ false → RunsApp app None []
     -- nor where the ruleset doesn't know it
     unknown : app_of rules app.appid ≡ None → RunsApp app None []
-    -- else one run of its program, on its attributes at the moment, to its end
+    -- else one run on its attributes at the moment, to its end, of the program that the ruleset has
+    -- for attribute 0, which is its appid
     ran : {choice : ℕ} {events : List CellEvent} (known : AppRule) (count : ℕ)
         → app.updatecheck ≡ true → app_of rules app.appid ≡ Some known
+        → Knows rules (appid_of (attributes_of app facts moment)) known
         → Ends known.program (opening (attributes_of app facts moment)) events choice count
         → RunsApp app (Some choice) events
 

@@ -65,6 +65,7 @@ fn run_app<C: CellSteps>(
     let Some(known) = rules.find(app.appid.as_str()) else {
         return Ok(None);
     };
+    known.keeps();
     let Ok(run) = start(alloc, known.program(), app, facts, moment) else {
         return Err(AllocError);
     };

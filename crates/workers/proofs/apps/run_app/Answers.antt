@@ -21,5 +21,7 @@ returns-clause-runs g c =
     first_of (search rules, search (rules, not_false)) in
     let same = ap (λ (z : List ℕ). app_of c.args.rules.now z) c.as_str.ensures in
     grows_ran (g.C.CellSteps.grew) _ _ _ _ _ _ c.in-Some.known.now c.in-Ok.run' _ _ asks
-    (sym same ∙ sym c.in-Some.ensures.found) (c.in-Ok.ensures.program ∙ c.program.ensures)
+    (sym same ∙ sym c.in-Some.ensures.found) c.keeps.ensures
+    (rw c.as_str.ensures at c.in-Some.ensures.known)
+    (c.in-Ok.ensures.program ∙ c.program.ensures)
     c.in-Ok.ensures.stands c.run-choice.ensures.runs
