@@ -34,7 +34,7 @@ pub record Offers (rules : Rules) (appid : List ℕ) (program : ShapedProgram) :
 abbrev pub OffersNone : Rules → List ℕ → Type 0
 OffersNone rules appid = (program : ShapedProgram) → ¬ Offers rules appid program
 
--- of an appid it has one app
+-- of an appid it has at most one app
 abbrev pub KnowsOne : Rules → Type 0
 KnowsOne rules = (appid : List ℕ) (a b : AppRule)
     → Knows rules appid a → Knows rules appid b → a ≡ b
@@ -87,7 +87,8 @@ pub record AppsAreKept (apps : List AppRule) : Type 0 where
   pub once : ¬ HasTwice (appids_of apps)
   pub each : All IsApp apps
 
--- what a ruleset keeps for its runs: it has one app of an appid, and each is what an app is
+-- what a ruleset keeps for its runs: it is sound, with at most one app of an appid, each of which
+-- keeps what an app keeps
 pub record IsRuleset (rules : Rules) : Type 0 where
   pub one : KnowsOne rules
   pub each : All IsApp rules.apps

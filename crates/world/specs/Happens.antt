@@ -28,8 +28,8 @@ abbrev pub with_step : WorldState → ℕ → Outcome → Worker → WorldState
 with_step w k outcome worker =
     record (with_worker w k worker) { cells = cells_after w.cells outcome }
 
--- a Start: the newest ruleset's program for the app, from its opening state. That the texts are
--- short is no condition of a Start: it is what the type `Attrs` keeps of the attributes
+-- a Start: the newest ruleset's program for the app, from its opening state. A Start can't fail for
+-- its texts: each `Attrs` keeps that they are short
 pub record StartsRun (w : WorldState) (k : ℕ) (a : Attributes) (v : WorldState) : Type 0 where
   pub program : ShapedProgram
   pub texts_are_short : AreShort a.texts
@@ -65,8 +65,8 @@ pub record FinishesRun (w : WorldState) (k choice instructions number : ℕ)
   pub ended : IsWorker w k (Ended number program attributes choice instructions)
   pub after : v ≡ with_worker w k Idle
 
--- a Swap: one ruleset more. No worker and no counter is changed. That the ruleset is sound is no
--- condition of a Swap: it is what the type `Ruleset` keeps of it
+-- a Swap: one ruleset more. No worker and no counter is changed. A Swap can't fail for its ruleset:
+-- each `Ruleset` keeps that it is sound
 pub record SwapsRules (w : WorldState) (rules : Rules) (number : ℕ) (v : WorldState) : Type 0 where
   pub sound : IsRuleset rules
   pub after : v ≡ with_ruleset w rules
