@@ -24,16 +24,18 @@ pub(crate) const NONE: &str = "mov r0, 0\nexit\n";
 
 const HASH: &str = "ba7816bf8f01cfea414140de5dae2223b00361a396177a9cb410ff61f20015ad";
 
-/// The app that runs this program, with as many releases as its shape says: that of `x` where the
-/// text is no appid.
+/// The app that runs this program, with as many releases as its shape says. A text that is no appid
+/// fails the test, as want of memory does.
 pub(crate) fn app_of(
     alloc: Global,
     appid: &str,
     program: Arc<Verified>,
 ) -> Result<App, AllocError> {
+    if !is_appid(appid) {
+        return Err(AllocError);
+    }
     let accepted: &Verified = &program;
     let releases = releases(alloc, accepted.shape().releases())?;
-    let appid = if is_appid(appid) { appid } else { "x" };
     Ok(App::new(String::from_str(alloc, appid)?, program, releases))
 }
 
