@@ -24,13 +24,16 @@ struct Case {
     askers: &'static str,
 }
 
-const CASES: [Case; 5] = [
+const CASES: [Case; 6] = [
     Case {
         file: "rules/staged.rule",
-        askers: "1.0 b:0378 - -
-1.0 b:9410 - -
-1.0 b:8883 - -
-1.0 b:8822 - -",
+        askers: "- b:1603 - -
+2.0.3 b:1603 - -
+2.0.4 b:1603 - -
+2.0.4.1 b:1603 - -
+1.0 b:5911 - -
+1.0 b:8993 - -
+1.0 b:8941 - -",
     },
     Case {
         file: "rules/versions.rule",
@@ -41,22 +44,34 @@ const CASES: [Case; 5] = [
 2.0 b:0000 - -
 2.10 b:0000 - -
 2.4294967295.4294967295.4294967295 b:0000 - -
-3 b:0000 - -",
+3.0.0 b:0000 - -",
     },
     Case {
         file: "rules/quota.rule",
-        askers: "1.0 b:1999 - -
-1.0 b:2000 - -
-1.0 b:0000 - -
-1.0 b:0000 - -
-1.0 b:9999 - -",
+        askers: "2.0.4 b:9209 - -
+1.0 b:9209 - -
+1.0 b:1396 - -
+1.0 b:2326 - -
+1.0 b:2326 - -
+1.0 b:2536 - -",
     },
     Case {
         file: "rules/canary.rule",
         askers: "1.0 b:0000 canary 7000
 1.0 b:0000 canary -
 1.0 b:0000 canaries 7000
-1.0 b:0000 - 7000",
+1.0 b:0000 - 7000
+2.0.4 b:0000 canary 7000
+2.0.4 b:0000 - 7000
+3.0.0 b:0000 canary 7000",
+    },
+    Case {
+        file: "rules/rollback.rule",
+        askers: "1.0 b:0000 - -
+2.0.4 b:0000 - -
+2.1 b:0000 - -
+3.0 b:0000 - -
+3.0.1 b:0000 - -",
     },
     Case {
         file: "rules/pause.rule",
