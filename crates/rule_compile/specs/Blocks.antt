@@ -3,6 +3,7 @@
 -- from the end, so it is known before the jump is written, and code in front moves no label.
 use Rattle.std.specs.Prelude.{ℕ, suc, ◌-◌, ◌*◌, List, [], ◌∷◌, length, Some, None}
 use Rattle.std.specs.Prelude.{Bool, true, false, if◌then◌else◌}
+use Rattle.attrs.specs.Context.{flags_offset}
 use Rattle.bpf_insn.specs.declared.reg.Reg.TheVariants.{R0, R1, R2, R3}
 use Rattle.bpf_insn.specs.declared.operand.AtomicSize.{AtomicSize}
 use Rattle.bpf_insn.specs.declared.operand.Condition.{Condition}
@@ -12,6 +13,7 @@ use Rattle.bpf_insn.specs.declared.operand.LoadKind.TheVariants.{Byte, Word}
 use Rattle.bpf_insn.specs.declared.insn.Insn.{Insn}
 use Rattle.bpf_insn.specs.Program.{Program}
 use Rattle.bpf_insn.specs.Words.{little_endian}
+use Rattle.bpf_verify.specs.bpf_semantics.Helpers.{attr_is_number, bucket_number}
 use Rattle.rule_compile.specs.Instructions as insn
 
 -- how many slots a jump in front of this passes over, to come to the label
@@ -32,9 +34,9 @@ field_code kind offset condition n label rest =
 
 abbrev pub flag_code : ℕ → Bool → ℕ → Program → Program
 flag_code mask true label rest =
-    Some (insn.load_field Byte 18) ∷ jump_to (insn.jump_if Set R2 mask) label rest
+    Some (insn.load_field Byte flags_offset) ∷ jump_to (insn.jump_if Set R2 mask) label rest
 flag_code mask false label rest =
-    Some (insn.load_field Byte 18) ∷ Some (insn.mask_field mask)
+    Some (insn.load_field Byte flags_offset) ∷ Some (insn.mask_field mask)
     ∷ jump_to (insn.jump_if Eq R2 0) label rest
 
 -- ---- versions: word by word, the first word that differs decides
@@ -64,7 +66,7 @@ order_code strict last k (n ∷ m ∷ ns) sense label rest =
 
 abbrev pub salted_code : ℕ → Condition → ℕ → ℕ → Program → Program
 salted_code salt condition n label rest =
-    Some (insn.load_salt salt) ∷ None ∷ Some (insn.call 4)
+    Some (insn.load_salt salt) ∷ None ∷ Some (insn.call bucket_number)
     ∷ jump_to (insn.jump_if condition R0 n) label rest
 
 -- ---- a text: its words are stored, and the helper compares
@@ -82,11 +84,11 @@ stores_code left (a ∷ b ∷ c ∷ d ∷ bytes) rest =
     Some (insn.store_word left (little_endian (a ∷ b ∷ c ∷ d ∷ [])))
     ∷ stores_code (left - 4) bytes rest
 
--- helper 2 of the attribute and of the bytes that are stored
+-- `attr_is` of the attribute and of the bytes that are stored
 abbrev pub compare_code : ℕ → ℕ → Program → Program
 compare_code attribute size rest =
     Some (insn.set_argument R1 attribute) ∷ Some insn.copy_top ∷ Some insn.point_at_text
-    ∷ Some (insn.set_argument R3 size) ∷ Some (insn.call 2) ∷ rest
+    ∷ Some (insn.set_argument R3 size) ∷ Some (insn.call attr_is_number) ∷ rest
 
 abbrev pub attribute_code : ℕ → List ℕ → Bool → ℕ → Program → Program
 attribute_code attribute text sense label rest =

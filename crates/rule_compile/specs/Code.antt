@@ -2,6 +2,7 @@
 use Rattle.std.specs.Prelude.{ℕ, suc, List, [], ◌∷◌, length, Option, Some, None, slice_index}
 use Rattle.std.specs.Prelude.{Bool, true, false, not, if◌then◌else◌}
 use Rattle.std.specs.Str.{bytes_eq}
+use Rattle.attrs.specs.Context.{bucket_offset, install_day_offset, today_offset}
 use Rattle.bpf_insn.specs.declared.operand.AtomicSize.{AtomicSize}
 use Rattle.bpf_insn.specs.declared.operand.AtomicSize.TheVariants.{Word, Double}
 use Rattle.bpf_insn.specs.declared.operand.Condition.{Condition}
@@ -64,13 +65,13 @@ take_named s name index sense label rest =
 abbrev pub test_code : AppShape → the_test.Test → Bool → ℕ → Program → Program
 test_code s (test.Version r w) sense label rest = version_code r (four_of w) sense label rest
 test_code s (test.Bucket r n) sense label rest =
-    code.field_code load.Half 16 (turned sense (condition_of r)) n label rest
+    code.field_code load.Half bucket_offset (turned sense (condition_of r)) n label rest
 test_code s (test.SaltedBucket salt r n) sense label rest =
     code.salted_code salt (turned sense (condition_of r)) n label rest
 test_code s (test.Today r n) sense label rest =
-    code.field_code load.Word 24 (turned sense (condition_of r)) n label rest
+    code.field_code load.Word today_offset (turned sense (condition_of r)) n label rest
 test_code s (test.Installed r n) sense label rest =
-    code.field_code load.Word 20 (turned sense (condition_of r)) n label rest
+    code.field_code load.Word install_day_offset (turned sense (condition_of r)) n label rest
 test_code s (test.Flag f) sense label rest = code.flag_code (flag_bit f) sense label rest
 test_code s (test.Attr n text) sense label rest =
     code.attribute_code (attribute_number n) text sense label rest

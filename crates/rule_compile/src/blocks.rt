@@ -8,16 +8,9 @@ ghost use Rattle.rule_compile.specs.Instructions as instructions;
 use crate::code::Code;
 use crate::fault::CompileFault;
 use crate::instructions as insn;
+use attrs::Context;
 use bpf_insn::{AtomicSize, Condition, LoadKind, Reg};
-
-/// Where the bucket, the flags and the days stand in the context.
-pub const BUCKET: u8 = 16;
-
-pub const FLAGS: u8 = 18;
-
-pub const INSTALL_DAY: u8 = 20;
-
-pub const TODAY: u8 = 24;
+use bpf_verify::bpf_semantics::helpers::BUCKET;
 
 /// One of two labels.
 pub fn label_if(sense: bool, there: usize, here: usize) -> usize
@@ -72,7 +65,7 @@ pub fn put_flag(rest: &mut Code, mask: u8, sense: bool, label: usize) -> Result<
         return put_field(
             rest,
             LoadKind::Byte,
-            FLAGS,
+            Context::FLAGS_OFFSET,
             Condition::Set,
             mask as u32,
             label,
@@ -80,7 +73,7 @@ pub fn put_flag(rest: &mut Code, mask: u8, sense: bool, label: usize) -> Result<
     }
     put_jump(rest, Condition::Eq, Reg::R2, 0, label)?;
     rest.put(insn::mask_field(mask))?;
-    rest.put(insn::load_field(LoadKind::Byte, FLAGS))
+    rest.put(insn::load_field(LoadKind::Byte, Context::FLAGS_OFFSET))
 }
 
 /// The bucket of a salt's own against a number.
@@ -97,7 +90,7 @@ pub fn put_salted(
     ensures long { result ≡ Err CompileFault.TooLong → 4096 < length rest.old + 4 }
 {
     put_jump(rest, condition, Reg::R0, number, label)?;
-    rest.put(insn::call(4))?;
+    rest.put(insn::call(BUCKET as u8))?;
     rest.put_wide(insn::load_salt(salt))
 }
 

@@ -7,16 +7,24 @@ ghost use Rattle.rule_compile.specs.Ranges.{IsInRange};
 ghost use Rattle.rule_lang.specs.Meaning as meaning;
 ghost use Rattle.rule_lang.specs.Shapes as shapes;
 
-use crate::blocks::{BUCKET, INSTALL_DAY, TODAY, put_field, put_flag, put_salted, put_take};
+use crate::blocks::{put_field, put_flag, put_salted, put_take};
 use crate::code::Code;
 use crate::fault::CompileFault;
 use crate::goals::Goal;
 use crate::instructions::turned;
 use crate::texts::put_attribute;
 use crate::versions::{put_equal, put_order};
+use attrs::Context;
 use bpf_insn::{Condition, LoadKind};
 use cells::{CellArray, Shape};
 use rule_lang::{Attribute, Flag, Relation, Test};
+
+/// Where the bucket and the days begin in the context.
+const BUCKET: u8 = Context::BUCKET_OFFSET;
+
+const TODAY: u8 = Context::TODAY_OFFSET;
+
+const INSTALL_DAY: u8 = Context::INSTALL_DAY_OFFSET;
 
 /// The condition of a jump.
 fn condition_of(relation: Relation) -> Condition
@@ -37,12 +45,12 @@ fn flag_bit(flag: Flag) -> u8
     ensures { result ≡ meaning.flag_bit flag }
 {
     match flag {
-        Flag::VersionKnown => 1,
-        Flag::Updatecheck => 2,
-        Flag::Ping => 4,
-        Flag::Event => 8,
-        Flag::CohortKnown => 16,
-        Flag::InstalldateKnown => 32,
+        Flag::VersionKnown => Context::VERSION_KNOWN,
+        Flag::Updatecheck => Context::UPDATECHECK,
+        Flag::Ping => Context::PING,
+        Flag::Event => Context::EVENT,
+        Flag::CohortKnown => Context::COHORT_KNOWN,
+        Flag::InstalldateKnown => Context::INSTALLDATE_KNOWN,
     }
 }
 

@@ -10,6 +10,7 @@ use crate::code::Code;
 use crate::fault::CompileFault;
 use crate::instructions as insn;
 use bpf_insn::{Condition, Reg};
+use bpf_verify::bpf_semantics::helpers::ATTR_IS;
 
 /// The last byte of the first word, below the top of the stack: this many bytes are above it.
 const FIRST: u8 = 63;
@@ -52,7 +53,7 @@ fn put_comparison(rest: &mut Code, attribute: u8, size: u8) -> Result<(), Compil
     ensures code { OnOk result (rest.new ≡ code.compare_code attribute size rest.old) }
     ensures long { result ≡ Err CompileFault.TooLong → 4096 < length rest.old + 5 }
 {
-    rest.put(insn::call(2))?;
+    rest.put(insn::call(ATTR_IS as u8))?;
     rest.put(insn::set_argument(Reg::R3, size))?;
     rest.put(insn::point_at_text())?;
     rest.put(insn::copy_top())?;
