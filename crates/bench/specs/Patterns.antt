@@ -2,6 +2,7 @@
 -- close it.
 use Rattle.std.specs.Prelude.{ℕ, zero, suc, ◌+◌, ◌-◌, ◌*◌, ◌%◌, ℤ, pos, ◌-ℤ◌, List, [], ◌∷◌, ◌++◌}
 use Rattle.std.specs.Prelude.{nat_lt, if◌then◌else◌}
+use Rattle.attrs.specs.Context.{bucket_offset}
 use Rattle.bpf_insn.specs.declared.reg.Reg.{Reg}
 use Rattle.bpf_insn.specs.declared.reg.Reg.TheVariants.{R0, R1, R2, R3, R4, R5, R10}
 use Rattle.bpf_insn.specs.declared.operand.Bits.{Bits}
@@ -56,7 +57,7 @@ skip = Jump (Short (pos 1))
 
 -- R2 is the bucket, and R0 is 0
 abbrev pub opening : List Insn
-opening = load Half R2 16 ∷ mov R0 0 ∷ []
+opening = load Half R2 bucket_offset ∷ mov R0 0 ∷ []
 
 -- the choice is the low six bits of R0
 abbrev pub closing : List Insn

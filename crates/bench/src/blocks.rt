@@ -5,10 +5,8 @@ ghost use Rattle.std.specs.Prelude.{◌≡◌, ◌<◌, ◌≤◌, ◌^◌};
 ghost use Rattle.bench.specs.Patterns as patterns;
 
 use crate::pattern::Pattern;
+use attrs::Context;
 use bpf_insn::{AluOp, Bits, Condition, Distance, Insn, LoadKind, Operand, Reg, Size};
-
-/// Where the bucket stands in the context.
-const BUCKET: u16 = 16;
 
 /// `mov dst, imm`.
 fn mov(dst: Reg, imm: u16) -> Insn
@@ -119,7 +117,10 @@ fn skip() -> Insn
 pub fn opening() -> [Insn; 2]
     ensures { result ≡ patterns.opening }
 {
-    [load(LoadKind::Half, Reg::R2, BUCKET), mov(Reg::R0, 0)]
+    [
+        load(LoadKind::Half, Reg::R2, Context::BUCKET_OFFSET as u16),
+        mov(Reg::R0, 0),
+    ]
 }
 
 /// The last two: the choice is the low six bits of R0.
