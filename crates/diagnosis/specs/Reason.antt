@@ -36,7 +36,7 @@ IsAppAt bytes number app = (manifest : Manifest) × ReadsManifest bytes (Ok mani
 -- of what the reader of TOML says nothing is promised
 abbrev pub IsTomlReason : TomlFault → List ℕ → Type 0
 IsTomlReason toml.TooLong text = text ≡ line (codes "more than 1048576 bytes")
-IsTomlReason (toml.Text error) text = Unit {0}
+IsTomlReason toml.Text text = Unit {0}
 
 abbrev pub IsCellsReason : List ℕ → ℕ → List ℕ → Type 0
 IsCellsReason bytes number text =

@@ -12,6 +12,7 @@ use load::{Files, LoadFault, ProgramFault, RuleTextFault};
 use manifest::{TomlFault, read_manifest};
 use std::alloc::{AllocError, Global};
 use std::fmt::Write;
+use toml::table_from_slice;
 
 /// The lines beside the refusal of a manifest; none where memory for them is refused.
 pub(crate) fn reason_of<F: Files>(
@@ -43,7 +44,7 @@ fn tell_reason<F: Files>(
         IsReason (F.known files.old) manifest.now fault.now (string_bytes text)) }
 {
     match fault {
-        LoadFault::Toml(fault) => tell_toml(alloc, fault),
+        LoadFault::Toml(fault) => tell_toml(alloc, manifest, *fault),
         LoadFault::Field(misfit) => format!(in alloc; "{misfit}\n").ok(),
         LoadFault::Duplicate(twice) => format!(in alloc; "{twice} stands twice\n").ok(),
         LoadFault::File { app } => tell_file(alloc, manifest, files, *app, Place::Whole),
@@ -56,13 +57,17 @@ fn tell_reason<F: Files>(
     }
 }
 
-// What the reader of TOML says ends its own lines.
-fn tell_toml(alloc: Global, fault: &TomlFault) -> Option<String>
-    ensures { IfSome result (λ text. IsTomlReason fault.now (string_bytes text)) }
+// That the bytes are too many, or what the reader of TOML says of them, which it is asked once more
+// and which ends its own lines.
+fn tell_toml(alloc: Global, manifest: &[u8], fault: TomlFault) -> Option<String>
+    ensures { IfSome result (λ text. IsTomlReason fault (string_bytes text)) }
 {
     match fault {
-        TomlFault::TooLong => format!(in alloc; "{fault}\n").ok(),
-        TomlFault::Text(error) => format!(in alloc; "{error}").ok(),
+        TomlFault::TooLong => format!(in alloc; "more than 1048576 bytes\n").ok(),
+        TomlFault::Text => match table_from_slice(alloc, manifest) {
+            Err(error) if !error.is_memory() => format!(in alloc; "{error}").ok(),
+            _ => None,
+        },
     }
 }
 

@@ -1,2 +1,3 @@
 pub mod Prefix
 pub mod Items
+mod Readings

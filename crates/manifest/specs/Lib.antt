@@ -8,6 +8,7 @@ pub mod Array
 pub mod App
 pub mod Twice
 pub mod Manifest
+pub mod OneReading
 pub mod Texts
 pub use Rattle.attrs.specs as attrs
 pub use Rattle.declarations.specs as declarations

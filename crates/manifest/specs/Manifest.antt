@@ -67,7 +67,7 @@ pub record IsTree (bytes : List ℕ) (tree : Members) : Type 0 where
 -- why the bytes have no tree
 abbrev pub HasNoTree : List ℕ → TomlFault → Type 0
 HasNoTree bytes TooLong = 1048576 < length bytes
-HasNoTree bytes (Text e) =
+HasNoTree bytes Text =
     (length bytes ≤ 1048576) × (IsUtf8 bytes → parse_document bytes ≡ None)
 
 -- the tables of the bytes' tree are read so

@@ -1,8 +1,6 @@
 -- The texts of what doesn't fit: the path of the member, and what is wanted there. Tables of a list
 -- are numbered from 1.
-use Rattle.std.specs.Prelude.{ℕ, List, ◌++◌, codes, decimal, Option, Some, None}
-use Rattle.manifest.specs.declared.fault.TomlFault.{TomlFault}
-use Rattle.manifest.specs.declared.fault.TomlFault.TheVariants.{TooLong, Text}
+use Rattle.std.specs.Prelude.{ℕ, List, ◌++◌, codes, decimal}
 use Rattle.manifest.specs.declared.fault.Twice.{Twice}
 use Rattle.manifest.specs.declared.fault.Twice.TheVariants as twice
 use Rattle.manifest.specs.declared.misfit.InList.{InList}
@@ -64,13 +62,8 @@ misfit_text (misfit.Arrays list) =
     list_text array_text (codes "array") (codes "at most 64 tables") list
 misfit_text (misfit.Apps list) = list_text app_text (codes "app") (codes "1 to 256 tables") list
 
--- ---- what stands twice, and what is no document
+-- ---- what stands twice
 
 abbrev pub twice_text : Twice → List ℕ
 twice_text (twice.Array name) = codes "array " ++ name
 twice_text (twice.App appid) = codes "app " ++ appid
-
--- what the reader of TOML says of a text isn't known
-abbrev pub toml_text : TomlFault → Option (List ℕ)
-toml_text TooLong = Some (codes "more than 1048576 bytes")
-toml_text (Text error) = None

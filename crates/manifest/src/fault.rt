@@ -1,7 +1,7 @@
 //! Why a manifest is refused.
 
 ghost use Rattle.std.specs.Prelude.{Some};
-ghost use Rattle.manifest.specs.Texts.{toml_text, twice_text};
+ghost use Rattle.manifest.specs.Texts.{twice_text};
 
 use crate::misfit::Misfit;
 use crate::quote::Quote;
@@ -33,18 +33,7 @@ pub enum TomlFault {
     /// They are more than 1048576.
     TooLong,
     /// They are no UTF-8, or no TOML.
-    Text(toml::de::Error),
-}
-
-impl Display for TomlFault {
-    ghost output = { toml_text };
-
-    fn fmt<W: Write>(&self, f: &mut Formatter<W>) -> fmt::Result {
-        match self {
-            TomlFault::TooLong => f.write_str("more than 1048576 bytes"),
-            TomlFault::Text(error) => write!(f, "{error}"),
-        }
-    }
+    Text,
 }
 
 /// What stands twice.

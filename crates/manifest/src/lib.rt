@@ -34,6 +34,7 @@ mod app;
 mod array;
 mod fault;
 mod kind;
+mod law;
 mod manifest;
 mod member;
 mod misfit;
@@ -47,6 +48,7 @@ mod unread;
 
 pub use app::{AppEntry, AppParts, Source};
 pub use fault::{ManifestFault, TomlFault, Twice};
+pub use law::one_reading;
 pub use manifest::{Manifest, ManifestParts};
 pub use misfit::{AppMisfit, ArrayMisfit, InList, Misfit, PackageMisfit, ReleaseMisfit};
 pub use quote::Quote;

@@ -43,6 +43,6 @@ fn read_tree(alloc: Global, bytes: &[u8]) -> Result<Table, ManifestFault>
     match table_from_slice(alloc, bytes) {
         Ok(table) => Ok(table),
         Err(error) if error.is_memory() => Err(ManifestFault::Memory),
-        Err(error) => Err(ManifestFault::Toml(TomlFault::Text(error))),
+        Err(_) => Err(ManifestFault::Toml(TomlFault::Text)),
     }
 }

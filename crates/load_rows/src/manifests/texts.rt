@@ -3,7 +3,7 @@
 use super::{SAMPLE, must_tell, read};
 use cells::CellWidth;
 use declarations::ArrayDeclaration;
-use manifest::{AppEntry, ManifestFault, Source, TomlFault};
+use manifest::{AppEntry, Source};
 use releases::{Package, Release};
 use std::alloc::{AllocError, Global};
 use std::test::Fail;
@@ -38,28 +38,6 @@ fn documents(rt: HostRuntime) -> Result<(), Fail> {
             want,
         )?;
     }
-    Ok(())
-}
-
-fn reason(alloc: Global, fault: &ManifestFault) -> Result<String, AllocError> {
-    match fault {
-        ManifestFault::Toml(TomlFault::Text(error)) => format!(in alloc; "{error}"),
-        _ => format!(in alloc; "nothing"),
-    }
-}
-
-/// What the reader of TOML says of a text.
-fn said(alloc: Global, bytes: &[u8]) -> Result<String, AllocError> {
-    match read(alloc, bytes) {
-        Ok(_) => format!(in alloc; "it is read"),
-        Err(fault) => reason(alloc, &fault),
-    }
-}
-
-#[test]
-fn what_toml_says(rt: HostRuntime) -> Result<(), Fail> {
-    let said = said(rt.alloc(), b"server = \"\"\nx = 1 2")?;
-    assert!(rt; said.as_str().starts_with("TOML parse error at line 2"));
     Ok(())
 }
 

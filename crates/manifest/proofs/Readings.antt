@@ -1,0 +1,66 @@
+-- Bytes have one reading: their tree is one, and what is read of a tree is a function of it.
+use Rattle.std.proofs.Common.{◌≡◌, ◌≢◌, ℕ, List, Result, Ok, Err}
+use Rattle.std.proofs.Common.{refl, sym, ◌∙◌, ap, arith}
+use Rattle.std.proofs.lemmas.Option.{same_Some, none-some}
+use Rattle.toml.specs.Data.{Members}
+use Rattle.manifest.specs.declared.fault.ManifestFault.{ManifestFault}
+use Rattle.manifest.specs.declared.fault.ManifestFault.TheVariants.{Toml, Field, Duplicate, Memory}
+use Rattle.manifest.specs.declared.fault.TomlFault.{TomlFault}
+use Rattle.manifest.specs.declared.fault.TomlFault.TheVariants.{TooLong, Text}
+use Rattle.manifest.specs.declared.fault.Twice.{Twice}
+use Rattle.manifest.specs.declared.misfit.Misfit.{Misfit}
+use Rattle.manifest.specs.Manifest.{Manifest, IsTree, HasNoTree, ReadsManifest}
+use Rattle.manifest.specs.Manifest.{tables_of, once}
+use Rattle.manifest.specs.OneReading.{HasOneReading}
+
+-- what comes of the tables of a tree
+abbrev of_names : Result Manifest Twice → Result Manifest ManifestFault
+of_names (Ok manifest) = Ok manifest
+of_names (Err twice) = Err (Duplicate twice)
+
+abbrev of_tables : Result Manifest Misfit → Result Manifest ManifestFault
+of_tables (Ok manifest) = of_names (once manifest)
+of_tables (Err misfit) = Err (Field misfit)
+
+-- a reading by what it is found by
+data Found (bytes : List ℕ) : Result Manifest ManifestFault → Type 0 where
+  no_tree : (fault : TomlFault) → HasNoTree bytes fault → Found bytes (Err (Toml fault))
+  tree : (r : Result Manifest ManifestFault) (tree : Members) → IsTree bytes tree
+      → r ≡ of_tables (tables_of tree) → Found bytes r
+
+found : (bytes : List ℕ) (r : Result Manifest ManifestFault) → ReadsManifest bytes r
+    → r ≢ Err Memory → Found bytes r
+found bytes (Ok manifest) h given =
+    tree (Ok manifest) h.0.tree h.0.spelled
+    (sym (ap of_tables h.0.tables_are ∙ ap of_names h.1))
+found bytes (Err (Toml fault)) h given = no_tree fault h
+found bytes (Err (Field misfit)) h given =
+    tree (Err (Field misfit)) h.tree h.spelled (sym (ap of_tables h.tables_are))
+found bytes (Err (Duplicate twice)) h given =
+    tree (Err (Duplicate twice)) h.1.tree h.1.spelled
+    (sym (ap of_tables h.1.tables_are ∙ ap of_names h.2))
+found bytes (Err Memory) h given = absurd (given refl)
+
+no_tree_of : (bytes : List ℕ) (fault : TomlFault) (t : Members) → HasNoTree bytes fault
+    → IsTree bytes t → ⊥
+no_tree_of bytes TooLong t long is = omega (arith, long, is.short)
+no_tree_of bytes Text t none is = none-some t (sym (none.1 is.utf8) ∙ is.document)
+
+one_tree_fault : (bytes : List ℕ) (e f : TomlFault) → HasNoTree bytes e → HasNoTree bytes f → e ≡ f
+one_tree_fault bytes TooLong TooLong h k = refl
+one_tree_fault bytes Text Text h k = refl
+one_tree_fault bytes TooLong Text h k = absurd (omega (arith, h, k.0))
+one_tree_fault bytes Text TooLong h k = absurd (omega (arith, h.0, k))
+
+same : (bytes : List ℕ) {r s : Result Manifest ManifestFault} → Found bytes r → Found bytes s
+    → r ≡ s
+same bytes (no_tree e h) (no_tree f k) = ap (λ x. Err (Toml x)) (one_tree_fault bytes e f h k)
+same bytes (no_tree e h) (tree s t is read) = absurd (no_tree_of bytes e t h is)
+same bytes (tree r t is read) (no_tree f k) = absurd (no_tree_of bytes f t k is)
+same bytes (tree r t is read) (tree s u are others) =
+    let one : t ≡ u = same_Some t u (sym is.document ∙ are.document) in
+    read ∙ ap (λ x. of_tables (tables_of x)) one ∙ sym others
+
+pub one_reading : (bytes : List ℕ) → HasOneReading bytes
+one_reading bytes r s h k given other =
+    same bytes (found bytes r h given) (found bytes s k other)
