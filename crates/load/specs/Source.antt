@@ -7,7 +7,7 @@ use Rattle.manifest.specs.declared.app.Source.TheVariants as source
 use Rattle.load.specs.declared.fault.AppFault.{AppFault}
 use Rattle.load.specs.declared.fault.AppFault.TheVariants as app
 use Rattle.load.specs.Files.{KnownFiles, Gives}
-use Rattle.load.specs.Program.{IsProgramOf, RefusesProgram}
+use Rattle.load.specs.Program.{IsProgramOf, HaveNoOther, RefusesProgram}
 use Rattle.load.specs.Rule.{IsProgramOfRule, RefusesRule}
 
 abbrev pub file_of : Source → List ℕ
@@ -16,7 +16,8 @@ file_of (source.Rule file) = file
 
 -- the program that the bytes of the file give
 abbrev pub IsProgramFrom : Source → List ℕ → ShapedProgram → Type 0
-IsProgramFrom (source.Program file) bytes program = IsProgramOf bytes program
+IsProgramFrom (source.Program file) bytes program =
+    IsProgramOf bytes program × HaveNoOther bytes program.code
 IsProgramFrom (source.Rule file) bytes program = IsProgramOfRule bytes program
 
 -- why the bytes of the file give none

@@ -17,6 +17,7 @@ mod disk;
 mod fault;
 mod files;
 mod folder;
+mod law;
 mod loading;
 mod path;
 mod program;
@@ -26,6 +27,7 @@ pub use disk::{Device, Disk, read_within};
 pub use fault::{LoadFault, PathFault, ProgramFault, RuleTextFault};
 pub use files::{FileFault, Files};
 pub use folder::FolderFiles;
+pub use law::one_load;
 pub use loading::load_ruleset;
 pub use path::load_path;
 

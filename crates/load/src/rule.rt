@@ -31,7 +31,10 @@ pub(crate) fn rule_program(alloc: Global, text: &[u8], shape: &Shape) -> Result<
         Err(RuleFault::Memory) => return Err(AppFault::Memory),
     };
     match compile(alloc, &rule, shape) {
-        Ok(program) => Ok(program),
+        Ok(program) => {
+            program.keeps();
+            Ok(program)
+        }
         Err(CompileFault::TooLong) => Err(AppFault::Rule(RuleTextFault::TooLong)),
         Err(CompileFault::Memory) => Err(AppFault::Memory),
     }

@@ -5,12 +5,9 @@ use Rattle.bounded_files.specs.Files.{OfBytes}
 use Rattle.bounded_files.specs.declared.fault.ResourceFault.TheVariants.{File}
 use Rattle.bpf_machine.specs.bpf_semantics.Program.{ShapedProgram}
 use Rattle.cells.specs.Arrays.{AppShape}
-use Rattle.bpf_machine.specs.flow_check.Flow.{IsFlow}
-use Rattle.load.specs.rule_lang.declared.rule.Statement.{Statement}
 use Rattle.load.specs.rule_lang.declared.fault.RuleFault.TheVariants as rule
-use Rattle.load.specs.rule_lang.Cost.{cost}
 use Rattle.load.specs.rule_compile.declared.fault.CompileFault.TheVariants as compile
-use Rattle.load.specs.Rule.{IsProgramOfRule, IsRuleTextFault, IsTextOf}
+use Rattle.load.specs.Rule.{IsProgramOfRule, IsRuleTextFault, IsTooLong}
 use Rattle.command_line.specs.declared.request.DeclaredShape.{DeclaredShape}
 use Rattle.program_tools.specs.declared.fault.ProgramToolFault.{ProgramToolFault}
 use Rattle.program_tools.specs.declared.fault.ProgramToolFault.TheVariants.{Resource, RuleText}
@@ -22,7 +19,6 @@ use Rattle.program_tools.specs.Programs.{IsShapeFor, IsRefusedUnder}
 pub record IsRuleProgram (shape : AppShape) (p : ShapedProgram) (bytes : List ℕ) : Type 0 where
   pub short : length bytes ≤ most_text
   pub shape_is : p.shape ≡ shape
-  pub flow : IsFlow p.code
   pub program : IsProgramOfRule bytes p
 
 -- such a program has so many slots
@@ -33,13 +29,13 @@ pub record HasCompiled (asked : DeclaredShape) (slots : ℕ) : Type 0 where
   pub program : OfBytes most_text (IsRuleProgram shape p)
   pub slots_are : slots ≡ length p.code
 
--- a rule whose program would be too long has a cost over 4096; of memory no claim is made
+-- why the bytes give no program; of memory no claim is made
 abbrev pub IsCompileFault : AppShape → ProgramToolFault → List ℕ → Type 0
 IsCompileFault shape (RuleText (rule.At line kind)) bytes =
     (length bytes ≤ most_text) × IsRuleTextFault bytes shape line kind
 IsCompileFault shape (RuleText rule.Memory) bytes = (length bytes ≤ most_text) × IsUtf8 bytes
 IsCompileFault shape (Compile compile.TooLong) bytes =
-    (r : List Statement) × (length bytes ≤ most_text) × IsTextOf bytes shape r × (4096 < cost r)
+    (length bytes ≤ most_text) × IsTooLong bytes shape
 IsCompileFault shape (Compile compile.Memory) bytes = Unit {0}
 IsCompileFault shape (Resource File) bytes = most_text < length bytes
 IsCompileFault shape fault bytes = ⊥

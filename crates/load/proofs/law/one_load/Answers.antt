@@ -1,0 +1,12 @@
+use Rattle.load.proofs.OneOutcome.{same_load}
+use Rattle.load.proofs.OnePath.{same_path}
+use Rattle.load.proofs.law.one_load.Goals as goal
+
+pub returns-clause-load : goal.returns-clause-load
+returns-clause-load c = λ files old bytes r s new last known.
+    same_load files old bytes c.one_reading.ensures c.lists_declare_one_way.ensures
+    c.one_verdict.ensures c.one_verdict-2.ensures known r s new last
+
+pub returns-clause-path : goal.returns-clause-path
+returns-clause-path c = λ files place old r s new last known.
+    same_path (returns-clause-load c) files place old r s new last known

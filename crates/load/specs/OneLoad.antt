@@ -1,0 +1,31 @@
+-- A manifest has one load.
+use Rattle.std.specs.Prelude.{◌≡◌, ◌≢◌, ℕ, List, Option, Some, Result, Err}
+use Rattle.cells.specs.Directory.{IsDirectory}
+use Rattle.cells.specs.declared.array.CellArray.{CellArray}
+use Rattle.ruleset.specs.Rules.{Rules}
+use Rattle.load.specs.declared.fault.LoadFault.{LoadFault}
+use Rattle.load.specs.declared.fault.LoadFault.TheVariants.{Memory}
+use Rattle.load.specs.declared.fault.PathFault.{PathFault}
+use Rattle.load.specs.declared.fault.PathFault.TheVariants as path
+use Rattle.load.specs.Load.{Loads}
+use Rattle.load.specs.Loaded.{LoadsFrom}
+
+-- of files that tell their bytes, one directory and one manifest have one load, want of memory
+-- aside: one ruleset, or one fault, and one directory after it
+abbrev pub HasOneLoad : Type 0
+HasOneLoad = (files : List ℕ → Option (List ℕ)) (old : List CellArray) (bytes : List ℕ)
+    (r s : Result Rules LoadFault) (new last : List CellArray) → IsDirectory old
+    → Loads (Some files) old bytes r new → Loads (Some files) old bytes s last
+    → r ≢ Err Memory → s ≢ Err Memory → (r ≡ s) × (new ≡ last)
+
+-- no growth was refused for it
+abbrev pub IsUntroubled : Result Rules PathFault → Type 0
+IsUntroubled r = (r ≢ Err path.Memory) × (r ≢ Err (path.Load Memory))
+
+-- and so has the manifest at a path, with the files of its folder
+abbrev pub HasOneLoadFrom : Type 0
+HasOneLoadFrom = (files : List ℕ → Option (List ℕ)) (place : List ℕ) (old : List CellArray)
+    (r s : Result Rules PathFault) (new last : List CellArray) → IsDirectory old
+    → LoadsFrom (Some files) place old r new
+    → LoadsFrom (Some files) place old s last → IsUntroubled r → IsUntroubled s
+    → (r ≡ s) × (new ≡ last)
