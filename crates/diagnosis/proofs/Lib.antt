@@ -2,3 +2,4 @@ mod Listed
 mod Nth
 mod Once
 mod Passing
+mod Checks

@@ -2,4 +2,5 @@ pub mod Texts
 pub mod Shown
 pub mod Reason
 pub mod Check
+pub mod OneCheck
 pub use Rattle.load.specs.rulesets

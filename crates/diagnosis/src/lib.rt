@@ -3,19 +3,21 @@
 #![tactic(auto)]
 
 // How a manifest is checked. It is loaded over no arrays, as a server's first manifest is, and the
-// fault is the load's own. A fault of the manifest's bytes holds its reason already: what the
-// reader of TOML says, the member that doesn't fit, or the name that stands twice. All others have
-// a number, of an array or an app. So the manifest is read once more to find the entry of that
-// number, and where the fault lies in an app's file, that file is read once more to show the line
-// of the rule, or the instruction of the program, at which it lies.
+// fault is the load's own. Of bytes that are no document the reader of TOML is asked once more,
+// for what it says. A member that doesn't fit and a name that stands twice are told by the fault
+// itself. All others have a number, of an array or an app. So the manifest is read once more to
+// find the entry of that number, and where the fault lies in an app's file, that file is read once
+// more to show the line of the rule, or the instruction of the program, at which it lies.
 
 mod accepted;
 mod checking;
 mod file;
+mod law;
 mod reason;
 mod shown;
 
 pub use checking::{Refused, check};
+pub use law::one_check;
 
 // The words of the contracts here come with them.
 pub use load;

@@ -1,0 +1,77 @@
+-- A manifest has one check, since it has one load over no arrays.
+use Rattle.std.proofs.Common.{◌≡◌, ◌≢◌, ℕ, List, [], Option, Some, Result, Ok, Err}
+use Rattle.std.proofs.Common.{refl, sym, ◌∙◌, ap, arith}
+use Rattle.std.proofs.lemmas.List.Elements.{All-nil}
+use Rattle.std.proofs.lemmas.Option.{none-some}
+use Rattle.cells.specs.Directory.{IsDirectory}
+use Rattle.manifest.specs.Manifest.{Manifest}
+use Rattle.manifest.specs.OneReading.{HasOneReading}
+use Rattle.manifest.specs.declared.fault.ManifestFault.{ManifestFault}
+use Rattle.load.specs.declared.fault.LoadFault.{LoadFault}
+use Rattle.load.specs.declared.fault.LoadFault.TheVariants.{Memory}
+use Rattle.load.specs.OneLoad.{HasOneLoad}
+use Rattle.load.specs.rulesets.Rules.{Rules}
+use Rattle.diagnosis.specs.Check.{Fails, Passes}
+use Rattle.diagnosis.specs.OneCheck.{HasOneCheck}
+use Rattle.diagnosis.specs.Texts.{accepted_text}
+
+empty : IsDirectory []
+empty = record {
+  names = λ i j a b at there same. absurd (none-some a at);
+  places = λ i a at. absurd (none-some a at);
+  room = λ w. omega arith;
+  ranges = All-nil _;
+}
+
+abbrev manifest_in : Result Manifest ManifestFault → Manifest → Manifest
+manifest_in (Ok m) other = m
+manifest_in (Err e) other = other
+
+abbrev rules_in : Result Rules LoadFault → Rules → Rules
+rules_in (Ok rules) other = rules
+rules_in (Err e) other = other
+
+abbrev fault_in : Result Rules LoadFault → LoadFault
+fault_in (Ok rules) = Memory
+fault_in (Err e) = e
+
+is_memory : (e : LoadFault) → (e ≢ Memory → ⊥) → e ≡ Memory
+is_memory Memory h = refl
+is_memory e h = absurd (h (λ x. absurd cc))
+
+module _ (load : HasOneLoad) (reading : (bytes : List ℕ) → HasOneReading bytes)
+    (files : List ℕ → Option (List ℕ)) (bytes : List ℕ) where
+  same_text : (text other : List ℕ) → Passes (Some files) bytes text
+      → Passes (Some files) bytes other → text ≡ other
+  same_text text other p q =
+      let loads = load files [] bytes (Ok p.rules) (Ok q.rules) p.arrays q.arrays empty p.loaded
+      q.loaded (λ x. absurd cc) (λ x. absurd cc) in
+      let same : p.rules ≡ q.rules =
+      ap (λ (r : Result Rules LoadFault). rules_in r q.rules) loads.0 in
+      let read : p.loaded.manifest ≡ q.loaded.manifest =
+      ap (λ (r : Result Manifest ManifestFault). manifest_in r q.loaded.manifest)
+      (reading bytes (Ok p.loaded.manifest) (Ok q.loaded.manifest) p.loaded.read q.loaded.read
+      (λ x. absurd cc) (λ x. absurd cc)) in
+      p.text_is ∙ ap (λ (m : Manifest). accepted_text m.arrays p.rules.apps) read
+      ∙ ap (λ (r : Rules). accepted_text q.loaded.manifest.arrays r.apps) same ∙ sym q.text_is
+
+  same_fault : (e f : LoadFault) (reason other : List ℕ) → Fails (Some files) bytes e reason
+      → Fails (Some files) bytes f other → e ≢ Memory → f ≢ Memory → e ≡ f
+  same_fault e f reason other h k known also =
+      let loads = load files [] bytes (Err e) (Err f) [] [] empty (h.refused, refl)
+      (k.refused, refl) (λ x. known (ap fault_in x)) (λ x. also (ap fault_in x)) in
+      ap fault_in loads.0
+
+  not_both : (text : List ℕ) (e : LoadFault) (reason : List ℕ) → Passes (Some files) bytes text
+      → Fails (Some files) bytes e reason → e ≢ Memory → ⊥
+  not_both text e reason p h known =
+      let loads = load files [] bytes (Ok p.rules) (Err e) p.arrays [] empty p.loaded
+      (h.refused, refl) (λ x. absurd cc) (λ x. known (ap fault_in x)) in
+      let same = loads.0 in absurd cc
+
+  pub one_check : HasOneCheck files bytes
+  one_check = record {
+    text = same_text;
+    fault = same_fault;
+    either = λ text e reason p h. is_memory e (not_both text e reason p h);
+  }

@@ -1,0 +1,15 @@
+//! A law of the definitions: a manifest has one check.
+
+ghost use Rattle.diagnosis.specs.OneCheck.{ChecksOneWay};
+
+use load::one_load;
+use manifest::one_reading;
+
+/// A law: of files that tell their bytes, a manifest passes with one text, or has one fault, want
+/// of memory aside. It is called by nothing that runs.
+pub fn one_check()
+    ensures { ChecksOneWay }
+{
+    one_load();
+    one_reading();
+}
