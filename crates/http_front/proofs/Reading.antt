@@ -21,6 +21,7 @@ use Rattle.http_front.specs.declared.head.Found.{Found}
 use Rattle.http_front.specs.Device.{GainsBytes}
 use Rattle.http_front.specs.Post.{Posts, whole, cut_short, refused, malformed, long, many, ended}
 use Rattle.http_front.specs.Post.{HasHead, IsBegun, IsHeadFault, IsPostAnswer, AnswersPost}
+use Rattle.http_front.specs.Post.{IsFrugal, TakesAtMost}
 use Rattle.http_front.specs.Post.{head_limit, line_limit}
 use Rattle.http_front.specs.Head.{asked, asked_by}
 use Rattle.http_front.specs.Reading.{IsFilled, IsFound, IsBody, IsBodyBehind, asked_at}
@@ -218,3 +219,41 @@ ended_at {a = a} {b = b} {buf = buf} {filled = filled} f c more n short none g e
     let all = nothing_more a b c seen g.0 (g.2 ∙ none) f.bytes g.1 in
     let size : length seen < head_limit = omega (arith, seen_size a b buf filled f) in
     head_ended a c seen all size end h
+
+-- ---- no more was taken than a head may have
+
+frugal : {a b : Option (List ℕ)} → TakesAtMost head_limit a b → (e : PostFault) → IsFrugal a b e
+frugal t fault.Ended = tt
+frugal t fault.Device = tt
+frugal t fault.Memory = tt
+frugal t e = t
+
+-- a fault of what stands in a buffer as large as a head may be
+pub frugal_at : {a b : Option (List ℕ)} {buf : List ℕ} {filled : ℕ}
+    → IsFilled a b buf filled → length buf ≡ head_limit → (e : PostFault) → IsFrugal a b e
+frugal_at {a = a} {b = b} {buf = buf} {filled = filled} f room e =
+    let size = seen_size a b buf filled f in
+    let fits = f.fits in
+    frugal (record {
+      taken = take filled buf;
+      consumed = f.bytes;
+      short = omega (arith, size, fits);
+    }) e
+
+-- no fault of a body is one of a head
+frugal_body : (a b c : Option (List ℕ)) (seen first : List ℕ) (n : ℕ) (e : PostFault)
+    → Consumes a b seen → IsBodyBehind first b n (Err e) → IsFrugal a c e
+frugal_body None b c seen first n e f h =
+    frugal (record { taken = []; consumed = tt; short = omega arith }) e
+frugal_body (Some xs) None c seen first n e f h = absurd f
+frugal_body (Some xs) (Some ys) c seen first n fault.Ended f h = tt
+frugal_body (Some xs) (Some ys) c seen first n fault.Device f h = tt
+frugal_body (Some xs) (Some ys) c seen first n fault.Memory f h = tt
+frugal_body (Some xs) (Some ys) c seen first n e f h = absurd h
+
+pub frugal_behind : {a b : Option (List ℕ)} {seen : List ℕ} {headers : List HeaderSpan}
+    {r : RequestSpans}
+    → Stands a b seen headers r → (c : Option (List ℕ)) (first : List ℕ) (n : ℕ) (e : PostFault)
+    → IsBodyBehind first b n (Err e) → IsFrugal a c e
+frugal_behind {a = a} {b = b} {seen = seen} s c first n e h =
+    frugal_body a b c seen first n e s.bytes h

@@ -6,6 +6,7 @@
 -- cut short.
 use Rattle.std.specs.Prelude.{◌≡◌, ℕ, ◌+◌, ◌<◌, ◌≤◌, List, length, take}
 use Rattle.std.specs.Prelude.{Option, Some, None, Result, Ok, Err}
+use Rattle.std.specs.Io.KnownBytes.{Consumes}
 use Rattle.httparse.specs.Grammar.{RequestHead, ReadsRequest, print_request}
 use Rattle.httparse.specs.Grammar.{HasNoRequest, NeverHasRequest, MayBecomeRequest}
 use Rattle.httparse.specs.Spans.{RequestExceeds}
@@ -60,6 +61,20 @@ IsPostAnswer xs answer = Posts xs answer
 abbrev pub AnswersPost : Option (List ℕ) → Result (List ℕ) PostFault → Type 0
 AnswersPost None answer = Unit {0}
 AnswersPost (Some xs) answer = IsPostAnswer xs answer
+
+-- no more than so many bytes were taken of a reader; of one that doesn't tell its bytes nothing is
+-- said
+pub record TakesAtMost (limit : ℕ) (old new : Option (List ℕ)) : Type 0 where
+  pub taken : List ℕ
+  pub consumed : Consumes old new taken
+  pub short : length taken ≤ limit
+
+-- what a head refuses is refused without reading on: no more was taken than a head may have
+abbrev pub IsFrugal : Option (List ℕ) → Option (List ℕ) → PostFault → Type 0
+IsFrugal old new fault.Ended = Unit {0}
+IsFrugal old new fault.Device = Unit {0}
+IsFrugal old new fault.Memory = Unit {0}
+IsFrugal old new e = TakesAtMost head_limit old new
 
 -- a failure is counted where it is the answer, and nowhere else
 abbrev pub CountsDevice : {A : Type 0} → ℕ → ℕ → Result A PostFault → Type 0

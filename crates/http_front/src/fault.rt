@@ -1,6 +1,6 @@
 //! Why a connection has no request to read.
 
-ghost use Rattle.std.specs.Prelude.{◌≡◌};
+ghost use Rattle.std.specs.Prelude.{◌≡◌, ◌≢◌, IfSome};
 ghost use Rattle.http_front.specs.Faults.{status_of};
 
 use crate::status::Status;
@@ -43,7 +43,8 @@ pub enum PostFault {
 impl PostFault {
     /// The status of the reply. P7 and P8 get none: nobody waits for a reply.
     pub fn status(self) -> Option<Status>
-        ensures { result ≡ status_of self }
+        ensures status { result ≡ status_of self }
+        ensures refusal { IfSome result (λ status. status ≢ Status.Success) }
     {
         match self {
             PostFault::Head => Some(Status::BadRequest),

@@ -5,7 +5,7 @@ ghost use Rattle.std.specs.Prelude.{Err, IfOk, IfErr, MatchOption};
 ghost use Rattle.std.specs.Io.KnownBytes.{IsAtEnd};
 ghost use Rattle.httparse.specs.Spans.{IsRequestOf, IsRequestWithin};
 ghost use Rattle.http_front.specs.Device.{CountsFailure, GainsBytes};
-ghost use Rattle.http_front.specs.Post.{IsBegun, IsHeadFault, AnswersPost, CountsDevice};
+ghost use Rattle.http_front.specs.Post.{IsBegun, IsFrugal, IsHeadFault, AnswersPost, CountsDevice};
 ghost use Rattle.http_front.specs.Reading.{IsFound};
 
 use crate::counted::{Counted, Failed};
@@ -69,6 +69,8 @@ pub fn read_head<R: Read>(
     ensures found { IfOk result (IsFound
         (R.remaining reader.old.inner) (R.remaining reader.new.inner) buf.new headers.new) }
     ensures refused { IfErr result (λ e. AnswersPost (R.remaining reader.old.inner) (Err e)) }
+    ensures frugal { IfErr result
+        (IsFrugal (R.remaining reader.old.inner) (R.remaining reader.new.inner)) }
     ensures count { CountsDevice reader.old.failures reader.new.failures result }
 {
     let mut filled = 0;

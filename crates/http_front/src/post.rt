@@ -1,7 +1,7 @@
 //! A request is read: its head, and then its body.
 
 ghost use Rattle.std.specs.Prelude.{◌≡◌, ◌-◌, ◌^◌, ◌<◌, length, Ok, Err, IfOk, IfErr};
-ghost use Rattle.http_front.specs.Post.{AnswersPost, CountsDevice};
+ghost use Rattle.http_front.specs.Post.{AnswersPost, CountsDevice, IsFrugal};
 
 use crate::asked::asked;
 use crate::body::{read_body, room_for};
@@ -30,6 +30,8 @@ fn read_by<R: Read>(
     requires lines { length headers.old ≡ 64 }
     ensures body { IfOk result (λ v. AnswersPost (R.remaining reader.old.inner) (Ok v.items)) }
     ensures refused { IfErr result (λ e. AnswersPost (R.remaining reader.old.inner) (Err e)) }
+    ensures frugal { IfErr result
+        (IsFrugal (R.remaining reader.old.inner) (R.remaining reader.new.inner)) }
     ensures count { CountsDevice reader.old.failures reader.new.failures result }
 {
     let found = match read_head(reader, buf, headers) {
@@ -54,6 +56,8 @@ pub fn read_post<R: Read>(alloc: Global, reader: &mut Counted<R>) -> Result<Vec<
     requires { reader.old.failures < 2 ^ 64 - 1 }
     ensures body { IfOk result (λ v. AnswersPost (R.remaining reader.old.inner) (Ok v.items)) }
     ensures refused { IfErr result (λ e. AnswersPost (R.remaining reader.old.inner) (Err e)) }
+    ensures frugal { IfErr result
+        (IsFrugal (R.remaining reader.old.inner) (R.remaining reader.new.inner)) }
     ensures count { CountsDevice reader.old.failures reader.new.failures result }
 {
     let Ok(mut room) = room_for(alloc, HEAD_LIMIT) else {
