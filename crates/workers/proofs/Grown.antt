@@ -7,6 +7,7 @@ use Rattle.attrs.specs.Facts.{attributes_of}
 use Rattle.attrs.specs.declared.facts.AppFacts.{AppFacts}
 use Rattle.attrs.specs.declared.facts.RequestFacts.{RequestFacts}
 use Rattle.bpf_machine.specs.StandsFor.{Held, RunStandsFor, Runs}
+use Rattle.bpf_machine.specs.bpf_verify.Covers.{AreLawful}
 use Rattle.bpf_machine.specs.bpf_semantics.Program.{ShapedProgram}
 use Rattle.bpf_machine.specs.bpf_semantics.Run.{Ends}
 use Rattle.bpf_machine.specs.bpf_semantics.State.{opening}
@@ -61,12 +62,14 @@ module _ {P : Type 0} (grew : P → CellEvent → P → Type 0) where
     grows_ran p q app known run choice count asks found kept is same stands runs =
         let start = opening (attributes_of app facts moment) in
         let E : ShapedProgram → Type 0 = λ z. Ends z start runs.events choice count in
+        let L : ShapedProgram → Type 0 = λ z. AreLawful z.shape runs.events in
+        let end = subst E same (runs.ends start stands) in
         record {
           events = runs.events;
           grown = runs.grown;
           of =
-              ran known count asks found (known_by rules app facts moment known kept is)
-              (subst E same (runs.ends start stands));
+              ran known count asks found (known_by rules app facts moment known kept is) end
+              runs.fits (subst L same runs.lawful);
         }
 
     pub grows_then : (p m q : P) (apps : List AppFacts) (choices : List (Option ℕ)) (app : AppFacts)

@@ -1,9 +1,11 @@
 -- The runs of a request: which of its apps have one, what it gives, and all of them one after the
 -- other.
-use Rattle.std.specs.Prelude.{◌≡◌, ℕ, ℤ, false, true, List, [], ◌∷◌, ◌++◌, take, Option, Some, None}
+use Rattle.std.specs.Prelude.{◌≡◌, ℕ, ℤ, false, true, List, [], ◌∷◌, ◌++◌, take, All}
+use Rattle.std.specs.Prelude.{Option, Some, None}
 use Rattle.attrs.specs.Facts.{attributes_of}
 use Rattle.attrs.specs.declared.facts.AppFacts.{AppFacts}
 use Rattle.attrs.specs.declared.facts.RequestFacts.{RequestFacts}
+use Rattle.bpf_machine.specs.bpf_verify.Covers.{AreLawful, Fits}
 use Rattle.bpf_machine.specs.bpf_semantics.Run.{Ends}
 use Rattle.bpf_machine.specs.bpf_semantics.State.{opening}
 use Rattle.cells.specs.declared.event.CellEvent.{CellEvent}
@@ -17,11 +19,13 @@ module _ (rules : Rules) (facts : RequestFacts) (moment : ℤ) where
     -- nor where the ruleset doesn't know it
     unknown : app_of rules app.appid ≡ None → RunsApp app None []
     -- else one run on its attributes at the moment, to its end, of the program that the ruleset has
-    -- for attribute 0, which is its appid
+    -- for attribute 0, which is its appid; each reply fits its counter, and each event is one that
+    -- the app's arrays allow
     ran : {choice : ℕ} {events : List CellEvent} (known : AppRule) (count : ℕ)
         → app.updatecheck ≡ true → app_of rules app.appid ≡ Some known
         → Knows rules (appid_of (attributes_of app facts moment)) known
         → Ends known.program (opening (attributes_of app facts moment)) events choice count
+        → All Fits events → AreLawful known.program.shape events
         → RunsApp app (Some choice) events
 
   -- app after app, with their choices, and their events one after the other

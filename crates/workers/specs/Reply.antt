@@ -1,5 +1,5 @@
 -- What is sent: a status and a text, which is Omaha's reply or the line of a refusal.
-use Rattle.std.specs.Prelude.{◌≡◌, ◌⊎◌, ℕ, List, [], ◌∷◌, ◌++◌, codes, Result, Ok, Err, Vec}
+use Rattle.std.specs.Prelude.{◌≡◌, ◌≢◌, ℕ, List, [], ◌∷◌, ◌++◌, codes, Result, Ok, Err, Vec}
 use Rattle.http_front.specs.Reply.{reply_bytes}
 use Rattle.http_front.specs.declared.fault.PostFault.{PostFault}
 use Rattle.http_front.specs.declared.fault.PostFault.TheVariants as post
@@ -50,9 +50,17 @@ omaha_rejection omaha.Memory = rejection status.InternalServerError (codes "O5 M
 abbrev pub no_place : Reply
 no_place = rejection status.InternalServerError (codes "H2 NoPlace")
 
--- the line that is told of a refusal is all of its text, and none is told of Omaha's reply
-abbrev pub IsLineOf : Reply → List ℕ → Type 0
-IsLineOf reply told = (told ≡ reply.text) ⊎ ((reply.status ≡ status.Success) × (told ≡ []))
+-- any status but that of Omaha's reply
+abbrev pub IsRefusal : Status → Type 0
+IsRefusal s = s ≢ status.Success
+
+-- the line that is told of a reply by its status: all of a refusal's text, and none of Omaha's
+abbrev pub line_by : Status → List ℕ → List ℕ
+line_by status.Success text = []
+line_by s text = text
+
+abbrev pub line_of : Reply → List ℕ
+line_of reply = line_by reply.status reply.text
 
 -- what the code hands on, as a reply
 abbrev pub reply_of : {A : Type 0} → Result (Vec ℕ A) Reply → Reply

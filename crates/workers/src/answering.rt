@@ -9,7 +9,7 @@ ghost use Rattle.http_front.specs.Post.{AnswersPost};
 ghost use Rattle.http_front.specs.Reply.{code_of};
 ghost use Rattle.http_front.specs.declared.fault.PostFault.TheVariants as fault;
 ghost use Rattle.workers.specs.Answer.{IsReplyTo, IsReadingFault, Settles};
-ghost use Rattle.workers.specs.Reply.{IsLineOf, Reply, bytes_of, reply_of};
+ghost use Rattle.workers.specs.Reply.{Reply, bytes_of, line_of, reply_of};
 
 use crate::judging::judge;
 use crate::rejection::Rejection;
@@ -56,7 +56,7 @@ pub fn answer<H: Wait, R: Read, W: Write, C: CellSteps>(
 
     // What was written is the reply to what was read, under the ruleset that the watcher gave.
     ensures replied { IfOk result (λ sent. (reply : Reply)
-        × (code_of reply.status ≡ sent.status) × IsLineOf reply sent.line.now
+        × (code_of reply.status ≡ sent.status) × (sent.line.now ≡ line_of reply)
         × IsReplyTo C.grew (R.remaining reader.old.inner) watcher.new moment pass.old pass.new reply
         × Appends (W.contents writer.old.inner) (W.contents writer.new.inner) (bytes_of reply)) }
     // A request that isn't one makes no run.
@@ -131,7 +131,7 @@ fn send<W: Write>(
 ) -> Result<Sent, WriteFault>
     requires { writer.old.failures < 2 ^ 64 - 1 }
     ensures status { IfOk result (λ sent. code_of (reply_of outcome.now).status ≡ sent.status) }
-    ensures line { IfOk result (λ sent. IsLineOf (reply_of outcome.now) sent.line.now) }
+    ensures line { IfOk result (λ sent. sent.line.now ≡ line_of (reply_of outcome.now)) }
     ensures bytes { WritesBeginning (W.contents writer.old.inner) (W.contents writer.new.inner)
         (bytes_of (reply_of outcome.now)) result }
     ensures count { CountsFailure writer.old.failures writer.new.failures result }

@@ -8,7 +8,7 @@ use http_front::{PostFault, Status};
 use omaha_json::OmahaFault;
 use std::marker::Model;
 
-/// A refusal of a request, as it is sent.
+/// A refusal of a request, as it is sent. Its status isn't 200.
 #[derive(Drop)]
 pub struct Rejection {
     status: Status,
@@ -21,6 +21,8 @@ impl Model for Rejection {
     ghost Value = { specs.Reply };
 
     ghost view = { λ r. record { status = r.status; text = r.line.now } };
+
+    ghost invariant = { λ r. specs.IsRefusal r.status };
 }
 
 impl Rejection {
@@ -50,6 +52,7 @@ impl Rejection {
 
     /// What a head, or a body that could not be read, is refused with by this status.
     pub fn of_post(fault: PostFault, status: Status) -> Rejection
+        requires { specs.IsRefusal status }
         ensures { result ≡ specs.rejection status (specs.post_name fault) }
     {
         Rejection {
@@ -60,7 +63,8 @@ impl Rejection {
 
     /// The status.
     pub fn status(&self) -> Status
-        ensures { result ≡ self.now.status }
+        ensures status { result ≡ self.now.status }
+        ensures refusal { specs.IsRefusal self.now.status }
     {
         self.status
     }

@@ -11,6 +11,6 @@ returns-in-Ok-clause-settles g c =
 
 pub returns-in-Some-clause-settles : goal.returns-in-Some-clause-settles
 returns-in-Some-clause-settles g c =
-    let status = sym c.in-Some.ensures in
+    let status = sym c.in-Some.ensures.status in
     let is = rejected c.in-Err.fault c.in-Some.status c.in-Err.ensures.refused status in
     grows_none (g.C.CellSteps.grew) _ _ (rw c.of_post.ensures is)
