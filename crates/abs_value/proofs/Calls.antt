@@ -1,5 +1,5 @@
 -- What a call leaves covers the state after it.
-use Rattle.std.proofs.Common.{◌≡◌, ℕ, zero, suc, ◌+◌, ◌-◌, ◌≤◌, ℤ, pos, negsuc, List, [], ◌∷◌, drop, length, All, Option, Some, None, Bool, true, false, refl, subst, arith, inl, inr}
+use Rattle.std.proofs.Common.{◌≡◌, ℕ, zero, suc, ◌+◌, ◌-◌, ◌^◌, ◌<◌, ◌≤◌, ℤ, pos, negsuc, List, [], ◌∷◌, drop, length, All, Option, Some, None, Bool, true, false, refl, subst, arith, inl, inr}
 use Rattle.std.specs.Prelude.{IfSome, slice_get, bytes_eq, nat_le, nat_lt, ◌==◌, if◌then◌else◌}
 use Rattle.std.proofs.lemmas.Bool.{cases_Bool}
 use Rattle.std.proofs.lemmas.List.{get_or-drop}
@@ -20,6 +20,7 @@ use Rattle.abs_value.specs.Numbers.{up_to}
 use Rattle.abs_value.specs.States.{register_at, value_at}
 use Rattle.abs_value.specs.Lookups.{lookup, lookup_value, call_value, called_registers, called}
 use Rattle.abs_value.specs.Covers.{Answers, Answered, AreBefore, answering, Holds, Includes, CoversValue, CoversRegisters, Covers}
+use Rattle.abs_value.proofs.Results.{up_to_holds}
 use Rattle.abs_value.proofs.Computes.{covers_some}
 use Rattle.abs_value.proofs.Known.{covers_later, is_more}
 
@@ -89,12 +90,12 @@ looked_up g slot (Cell a) o key h = any (o >>= λ map. key >>= λ k. calls.looku
 -- ---- texts
 
 is_short : (bytes : List ℕ) (o : Option (List ℕ)) → Holds (up_to 1) (is_text bytes o)
-is_short bytes None = (omega arith, omega arith)
+is_short bytes None = up_to_holds 1 0 (omega arith) (omega arith)
 is_short bytes (Some text) = answer (bytes_eq text bytes)
   where
     answer : (b : Bool) → Holds (up_to 1) (if b then 1 else 0)
-    answer true = (omega arith, omega arith)
-    answer false = (omega arith, omega arith)
+    answer true = up_to_holds 1 1 (omega arith) (omega arith)
+    answer false = up_to_holds 1 0 (omega arith) (omega arith)
 
 compared_within : (s : State) (number address n : ℕ)
     → IfSome (compared s number address n) (λ x. Holds (up_to 1) x)
@@ -116,6 +117,9 @@ length_within : (o : Option (List ℕ)) → IfSome o (λ text. length text ≤ 1
     → text_length o ≤ 1024
 length_within None h = omega arith
 length_within (Some text) h = h
+
+small_holds : (hi x : ℕ) → hi < 2 ^ 64 → x ≤ hi → Holds (up_to hi) x
+small_holds hi x lt le = up_to_holds hi x (omega (arith, lt, le)) le
 
 -- ---- R0
 
@@ -143,15 +147,14 @@ call_includes g s v (pos n) w h =
     (either (n == 3) (only (attr_len s.attributes) (s.registers 1)) _ (Num (up_to 1024)) _
     (IsResult g s.slot)
     (after (s.registers 1) (λ number. Some (attr_len s.attributes number))
-    (λ x. Holds (up_to 1024) x) (λ number. (
-      omega arith,
-      length_within (attribute s.attributes number)
-          (all_at (λ text. length text ≤ 1024) s.attributes.texts number w.texts),
-    )))
+    (λ x. Holds (up_to 1024) x) (λ number.
+    small_holds 1024 (attr_len s.attributes number) (omega arith)
+    (length_within (attribute s.attributes number)
+    (all_at (λ text. length text ≤ 1024) s.attributes.texts number w.texts))))
     (either (n == 4) (only (bucket_of s.attributes) (s.registers 1)) None
     (Num (up_to 9999)) Unusable (IsResult g s.slot)
     (after (s.registers 1) (λ salt. Some (bucket_of s.attributes salt)) (λ x. Holds (up_to 9999) x)
-    (λ salt. (omega arith, omega arith))) tt)))
+    (λ salt. small_holds 9999 (bucket_of s.attributes salt) (omega arith) (omega arith))) tt)))
 
 -- ---- all registers
 

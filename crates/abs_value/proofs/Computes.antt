@@ -27,13 +27,13 @@ use Rattle.abs_value.specs.declared.origin.Origin.{Origin}
 use Rattle.abs_value.specs.declared.origin.Origin.TheVariants.{Found, Fixed}
 use Rattle.abs_value.specs.declared.value.Abs.{Abs}
 use Rattle.abs_value.specs.declared.value.Abs.TheVariants.{Unusable, Num, Ctx, Stk, Map, MayCell, Cell}
-use Rattle.abs_value.specs.Numbers.{single, is_single, greatest, full, up_to}
-use Rattle.abs_value.specs.Narrowing.{Pair, is_taken, narrowed}
+use Rattle.abs_value.specs.Intervals.{greatest}
+use Rattle.abs_value.specs.Numbers.{single, is_single, full, up_to}
+use Rattle.abs_value.specs.Narrowing.{NumberPair, is_taken, narrowed}
 use Rattle.abs_value.specs.Values.{moved_in_context, moved_in_stack, or_unusable, alu_value, copied_value, negated_value, extended_value, reordered_value, numbers, refined, same_lookup, is_found_by, same_origin, join_values}
 use Rattle.abs_value.specs.Laws.{IsLeft}
 use Rattle.abs_value.specs.Covers.{Answers, Answered, IsCell, Holds, Includes, CoversValue, IsWord}
-use Rattle.abs_value.proofs.Cuts.{cut_holds, full_holds}
-use Rattle.abs_value.proofs.Results.{alu_number_holds}
+use Rattle.abs_value.proofs.Results.{single_holds, up_to_holds, full_number_holds, cut_number_holds, alu_number_holds}
 use Rattle.abs_value.proofs.Moves.{context_moves, stack_moves}
 use Rattle.abs_value.proofs.Edges.{Keeps, narrowed_keeps}
 
@@ -54,7 +54,7 @@ stack_includes g op place by x y (Some n) e hx wy hy = stack_moves op place n by
 
 pub alu_includes : (g : Answers) (w : Bits) (op : AluOp) (a b : Abs) (x y : ℕ) → IsWord x → IsWord y
     → Includes g a x → Includes g b y → Includes g (alu_value w op a b) (alu_result w op x y)
-alu_includes g w op (Num a) (Num b) x y wx wy hx hy = alu_number_holds w op a b x y wx wy hx hy
+alu_includes g w op (Num a) (Num b) x y wx wy hx hy = alu_number_holds w op a b x y hx hy
 alu_includes g Bits64 op (Ctx from) (Num by) x y wx wy hx hy =
     context_includes g op from by x y (moved_in_context op from by) refl hx wy hy
 alu_includes g Bits64 op (Stk place) (Num by) x y wx wy hx hy =
@@ -66,14 +66,15 @@ alu_includes g Bits32 op a b x y wx wy hx hy = tt
 
 pub copied_includes : (g : Answers) (w : Bits) (a : Abs) (x : ℕ) → Includes g a x
     → Includes g (copied_value w a) (word w x)
-copied_includes g w (Num a) x h = cut_holds w a x h
+copied_includes g w (Num a) x h = cut_number_holds w a x h
 copied_includes g Bits64 a x h = h
 copied_includes g Bits32 a x h = tt
 
 pub negated_includes : (g : Answers) (w : Bits) (a : Abs) (x : ℕ) → IsWord x → Includes g a x
     → Includes g (negated_value w a) (negated w x)
 negated_includes g w a x wx h =
-    alu_includes g w alu.Sub (Num (single 0)) a 0 x (omega arith) wx (omega arith, omega arith) h
+    alu_includes g w alu.Sub (Num (single 0)) a 0 x (omega arith) wx
+    (single_holds 0 (omega arith)) h
 
 extended_is_of : (e : Extension) (x : ℕ) → extended e x ≤ greatest (extension_class e)
 extended_is_of extend.Byte64 x = grind (arith, ints)
@@ -83,16 +84,18 @@ extended_is_of extend.Byte32 x = grind (arith, ints)
 extended_is_of extend.Half32 x = grind (arith, ints)
 
 by_single : (a : Number) (x : ℕ) (f : ℕ → ℕ) (other : Number) → Holds a x → Holds other (f x)
-    → Holds (if is_single a then single (f a.lo) else other) (f x)
+    → Holds (if is_single a then single (f a.range.lo) else other) (f x)
 by_single a x f other h rest = elim (cases_Bool (is_single a)) [
-  | inl is ↦ let e : a.lo ≡ x = grind (arith, h, is) in rw (is, e) (omega arith, omega arith)
+  | inl is ↦
+      let e : a.range.lo ≡ x = grind (arith, h.between, is) in
+      rw (is, e) (single_holds (f x) rest.word)
   | inr is ↦ rw is rest
 ]
 
 pub extended_includes : (g : Answers) (e : Extension) (a : Abs) (x : ℕ) → Includes g a x
     → Includes g (extended_value e a) (extended e x)
 extended_includes g e (Num a) x h = by_single a x (extended e) (full (extension_class e)) h
-    (full_holds (extension_class e) (extended e x) (extended_is_of e x))
+    (full_number_holds (extension_class e) (extended e x) (extended_is_of e x))
 extended_includes g e a x h = tt
 
 swapped_below : (size : EndSize) (x : ℕ)
@@ -109,10 +112,17 @@ reordered_below order.Little end.Double x = omega arith
 reordered_below order.Big size x = swapped_below size (x % 2 ^ bits (end_width size))
 reordered_below order.Swap size x = swapped_below size (x % 2 ^ bits (end_width size))
 
+end_below : (size : EndSize) (n : ℕ) → n ≤ 2 ^ bits (end_width size) - 1 → IsWord n
+end_below end.Half n h = omega (arith, h)
+end_below end.Word n h = omega (arith, h)
+end_below end.Double n h = omega (arith, h)
+
 pub reordered_includes : (g : Answers) (o : ByteOrder) (size : EndSize) (a : Abs) (x : ℕ)
     → Includes g a x → Includes g (reordered_value o size a) (reordered o size x)
 reordered_includes g o size (Num a) x h = by_single a x (reordered o size)
-    (up_to (2 ^ bits (end_width size) - 1)) h (omega arith, reordered_below o size x)
+    (up_to (2 ^ bits (end_width size) - 1)) h (up_to_holds (2 ^ bits (end_width size) - 1)
+    (reordered o size x) (end_below size (reordered o size x) (reordered_below o size x))
+    (reordered_below o size x))
 reordered_includes g o size a x h = tt
 
 -- ---- joins
@@ -148,7 +158,10 @@ same_cell g (Fixed n) (Found a) x t h = absurd cc
 
 pub included_left : (g : Answers) (a b : Abs) (x : ℕ) → Includes g a x
     → Includes g (join_values a b) x
-included_left g (Num a) (Num b) x h = (omega (arith, h), omega (arith, h))
+included_left g (Num a) (Num b) x h = record {
+  between = (omega (arith, h.between), omega (arith, h.between));
+  word = h.word;
+}
 included_left g (Ctx a) (Ctx b) x h = (omega (arith, h), omega (arith, h))
 included_left g (Stk a) (Stk b) x h = kept_if g (a == b) (Stk a) x (λ t. h)
 included_left g (Map a) (Map b) x h = kept_if g (a == b) (Map a) x (λ t. h)
@@ -161,7 +174,10 @@ included_left g a b x h = tt
 
 pub included_right : (g : Answers) (a b : Abs) (x : ℕ) → Includes g b x
     → Includes g (join_values a b) x
-included_right g (Num a) (Num b) x h = (omega (arith, h), omega (arith, h))
+included_right g (Num a) (Num b) x h = record {
+  between = (omega (arith, h.between), omega (arith, h.between));
+  word = h.word;
+}
 included_right g (Ctx a) (Ctx b) x h = (omega (arith, h), omega (arith, h))
 included_right g (Stk a) (Stk b) x h = kept_if g (a == b) (Stk a) x (λ t. grind (arith, t, h))
 included_right g (Map a) (Map b) x h = kept_if g (a == b) (Map a) x (λ t. grind (arith, t, h))
@@ -234,7 +250,7 @@ join_right g a (Cell b) (Some x) h =
 
 -- ---- edges
 
-left_includes : (g : Answers) (o : Option Pair) (x y : ℕ) → Keeps o x y
+left_includes : (g : Answers) (o : Option NumberPair) (x y : ℕ) → Keeps o x y
     → IsLeft g (option_map numbers o) x y
 left_includes g o x y k = record {
   pair = (Num k.pair.0, Num k.pair.1);

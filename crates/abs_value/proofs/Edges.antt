@@ -1,7 +1,7 @@
 -- An edge that a run takes isn't dropped, and the ranges that are left on it hold the numbers that
 -- were compared.
 use Rattle.std.proofs.Common.{◌≡◌, ◌≢◌, ℕ, ◌+◌, ◌-◌, ◌<◌, ◌≤◌, min, max, Option, Some, Bool, true, false, refl, sym, ◌∙◌, arith, inl, inr}
-use Rattle.std.specs.Prelude.{◌⊎◌, nat_lt, nat_le, int_lt, int_le, option_map}
+use Rattle.std.specs.Prelude.{◌⊎◌, nat_lt, nat_le, int_lt, int_le, option_map, bit_and}
 use Rattle.std.specs.Int.{w32, w64, cast_signed}
 use Rattle.std.proofs.lemmas.Bool.{cases_Bool, ltb-true, leb-true, ltb-false, leb-false, not-true}
 use Rattle.std.proofs.lemmas.Int.{to_z_pos}
@@ -11,21 +11,23 @@ use Rattle.bpf_insn.specs.declared.operand.Condition.{Condition}
 use Rattle.bpf_insn.specs.declared.operand.Condition.TheVariants as jump
 use Rattle.bpf_insn.specs.Words.{word_width, word}
 use Rattle.bpf_insn.specs.Conditions.{compares, holds}
+use Rattle.abs_value.specs.declared.interval.Interval.{Interval}
 use Rattle.abs_value.specs.declared.number.Number.{Number}
 use Rattle.abs_value.specs.declared.relation.Relation.{Relation}
-use Rattle.abs_value.specs.declared.relation.Relation.TheVariants.{Equal, Unequal, Less, AtMost, More, AtLeast, Unknown}
-use Rattle.abs_value.specs.Numbers.{number, is_single, greatest}
-use Rattle.abs_value.specs.Bounds.{are_single, sign_bit}
-use Rattle.abs_value.specs.Narrowing.{Pair, relation, opposite, learnt, below, at_most, equal, without, apart_from, swapped, left_by, is_signed, is_comparable, is_taken, narrowed}
-use Rattle.abs_value.specs.Covers.{Holds}
+use Rattle.abs_value.specs.declared.relation.Relation.TheVariants.{Equal, Unequal, Less, AtMost, More, AtLeast, Meets, Misses}
+use Rattle.abs_value.specs.Intervals.{interval, is_just, greatest}
+use Rattle.abs_value.specs.Numbers.{are_single}
+use Rattle.abs_value.specs.Bounds.{sign_bit}
+use Rattle.abs_value.specs.Narrowing.{IntervalPair, NumberPair, pair, relation, opposite, learnt, below, at_most, equal, without, apart_from, swapped, left_by, is_signed, is_comparable, is_taken, narrowed}
+use Rattle.abs_value.specs.Covers.{IsBetween, Holds}
 
 -- ---- what a relation leaves
 
-pub record Keeps (o : Option Pair) (x y : ℕ) : Type 0 where
-  pub pair : Pair
+pub record Leaves (o : Option IntervalPair) (x y : ℕ) : Type 0 where
+  pub pair : IntervalPair
   pub is : o ≡ Some pair
-  pub first : Holds pair.0 x
-  pub second : Holds pair.1 y
+  pub first : IsBetween pair.0 x
+  pub second : IsBetween pair.1 y
 
 abbrev pub IsRelated : Relation → ℕ → ℕ → Type 0
 IsRelated Equal x y = x ≡ y
@@ -34,53 +36,54 @@ IsRelated Less x y = x < y
 IsRelated AtMost x y = x ≤ y
 IsRelated More x y = y < x
 IsRelated AtLeast x y = y ≤ x
-IsRelated Unknown x y = Unit {0}
+IsRelated Meets x y = bit_and x y ≢ 0
+IsRelated Misses x y = bit_and x y ≡ 0
 
-at_most_keeps : (a b : Number) (x y : ℕ) → Holds a x → Holds b y → x ≤ y → Keeps (at_most a b) x y
+at_most_keeps : (a b : Interval) (x y : ℕ) → IsBetween a x → IsBetween b y → x ≤ y → Leaves (at_most a b) x y
 at_most_keeps a b x y h k le =
     let test : nat_le a.lo b.hi ≡ true = grind arith in
     record {
-      pair = (number a.lo (min a.hi b.hi), number (max a.lo b.lo) b.hi);
+      pair = (interval a.lo (min a.hi b.hi), interval (max a.lo b.lo) b.hi);
       is = rw test refl;
       first = (omega arith, omega arith);
       second = (omega arith, omega arith);
     }
 
-below_keeps : (a b : Number) (x y : ℕ) → Holds a x → Holds b y → x < y → Keeps (below a b) x y
+below_keeps : (a b : Interval) (x y : ℕ) → IsBetween a x → IsBetween b y → x < y → Leaves (below a b) x y
 below_keeps a b x y h k lt =
     let test : nat_lt a.lo b.hi ≡ true = grind arith in
     record {
-      pair = (number a.lo (min a.hi (b.hi - 1)), number (max (a.lo + 1) b.lo) b.hi);
+      pair = (interval a.lo (min a.hi (b.hi - 1)), interval (max (a.lo + 1) b.lo) b.hi);
       is = rw test refl;
       first = (omega arith, omega arith);
       second = (omega arith, omega arith);
     }
 
-equal_keeps : (a b : Number) (x y : ℕ) → Holds a x → Holds b y → x ≡ y → Keeps (equal a b) x y
+equal_keeps : (a b : Interval) (x y : ℕ) → IsBetween a x → IsBetween b y → x ≡ y → Leaves (equal a b) x y
 equal_keeps a b x y h k same =
     let test : nat_le (max a.lo b.lo) (min a.hi b.hi) ≡ true = grind arith in
     record {
-      pair = (number (max a.lo b.lo) (min a.hi b.hi), number (max a.lo b.lo) (min a.hi b.hi));
+      pair = (interval (max a.lo b.lo) (min a.hi b.hi), interval (max a.lo b.lo) (min a.hi b.hi));
       is = rw test refl;
       first = (omega arith, omega arith);
       second = (omega arith, omega arith);
     }
 
-without_holds : (n : ℕ) (a : Number) (x : ℕ) → Holds a x → x ≢ n → Holds (without n a) x
+without_holds : (n : ℕ) (a : Interval) (x : ℕ) → IsBetween a x → x ≢ n → IsBetween (without n a) x
 without_holds n a x h apart = grind arith
 
-apart_holds : (b a : Number) (y x : ℕ) → Holds b y → Holds a x → x ≢ y → Holds (apart_from b a) x
-apart_holds b a y x k h apart = elim (cases_Bool (is_single b)) [
+apart_holds : (b a : Interval) (y x : ℕ) → IsBetween b y → IsBetween a x → x ≢ y → IsBetween (apart_from b a) x
+apart_holds b a y x k h apart = elim (cases_Bool (is_just b)) [
   | inl is ↦ let e : b.lo ≡ y = grind (arith, k, is) in rw (is, e) (without_holds y a x h apart)
   | inr is ↦ rw is h
 ]
 
-swapped_keeps : (o : Option Pair) (x y : ℕ) → Keeps o y x → Keeps (option_map swapped o) x y
+swapped_keeps : (o : Option IntervalPair) (x y : ℕ) → Leaves o y x → Leaves (option_map swapped o) x y
 swapped_keeps o x y k =
     record { pair = (k.pair.1, k.pair.0); is = rw k.is refl; first = k.second; second = k.first }
 
-left_by_keeps : (r : Relation) (a b : Number) (x y : ℕ) → Holds a x → Holds b y → IsRelated r x y
-    → Keeps (left_by r a b) x y
+left_by_keeps : (r : Relation) (a b : Interval) (x y : ℕ) → IsBetween a x → IsBetween b y → IsRelated r x y
+    → Leaves (left_by r a b) x y
 left_by_keeps Equal a b x y h k is = equal_keeps a b x y h k is
 left_by_keeps Unequal a b x y h k is = record {
   pair = (apart_from b a, apart_from a b);
@@ -93,7 +96,8 @@ left_by_keeps AtMost a b x y h k is = at_most_keeps a b x y h k is
 left_by_keeps More a b x y h k is = swapped_keeps (below b a) x y (below_keeps b a y x k h is)
 left_by_keeps AtLeast a b x y h k is =
     swapped_keeps (at_most b a) x y (at_most_keeps b a y x k h is)
-left_by_keeps Unknown a b x y h k is = record { pair = (a, b); is = refl; first = h; second = k }
+left_by_keeps Meets a b x y h k is = record { pair = (a, b); is = refl; first = h; second = k }
+left_by_keeps Misses a b x y h k is = record { pair = (a, b); is = refl; first = h; second = k }
 
 -- ---- what an edge tells
 
@@ -135,7 +139,7 @@ true_related w jump.Slt x y s t = ltb-true x y (sym (signed_lt w x y (s refl)) �
 true_related w jump.Sle x y s t = leb-true x y (sym (signed_le w x y (s refl)) ∙ t)
 true_related w jump.Sgt x y s t = ltb-true y x (sym (signed_lt w y x (turned w x y (s refl))) ∙ t)
 true_related w jump.Sge x y s t = leb-true y x (sym (signed_le w y x (turned w x y (s refl))) ∙ t)
-true_related w jump.Set x y s t = tt
+true_related w jump.Set x y s t = λ e. grind (arith, e, t)
 
 false_related : (w : Bits) (c : Condition) (x y : ℕ) → IsSided w c x y
     → compares (word_width w) c x y ≡ false → IsRelated (opposite (relation c)) x y
@@ -149,7 +153,7 @@ false_related w jump.Slt x y s t = ltb-false x y (sym (signed_lt w x y (s refl))
 false_related w jump.Sle x y s t = leb-false x y (sym (signed_le w x y (s refl)) ∙ t)
 false_related w jump.Sgt x y s t = ltb-false y x (sym (signed_lt w y x (turned w x y (s refl))) ∙ t)
 false_related w jump.Sge x y s t = leb-false y x (sym (signed_le w y x (turned w x y (s refl))) ∙ t)
-false_related w jump.Set x y s t = tt
+false_related w jump.Set x y s t = grind (arith, t)
 
 taken_related : (w : Bits) (c : Condition) (jumps : Bool) (x y : ℕ) → IsSided w c x y
     → is_taken jumps (compares (word_width w) c x y) ≡ true → IsRelated (learnt c jumps) x y
@@ -159,17 +163,17 @@ taken_related w c false x y s t =
 
 -- ---- where the ranges are comparable
 
-sided : (w : Bits) (c : Condition) (a b : Number) (x y : ℕ)
-    → Holds a x → Holds b y → is_comparable w c a b ≡ true → IsSided w c x y
+sided : (w : Bits) (c : Condition) (a b : Interval) (x y : ℕ)
+    → IsBetween a x → IsBetween b y → is_comparable w c a b ≡ true → IsSided w c x y
 sided w c a b x y h k t s = grind arith
 
 same_word : (w : Bits) (x : ℕ) → x ≤ greatest w → word w x ≡ x
 same_word Bits64 x h = refl
 same_word Bits32 x h = omega arith
 
-comparable_keeps : (w : Bits) (c : Condition) (jumps : Bool) (a b : Number) (x y : ℕ)
-    → Holds a x → Holds b y → is_comparable w c a b ≡ true → is_taken jumps (holds w c x y) ≡ true
-    → Keeps (left_by (learnt c jumps) a b) x y
+comparable_keeps : (w : Bits) (c : Condition) (jumps : Bool) (a b : Interval) (x y : ℕ)
+    → IsBetween a x → IsBetween b y → is_comparable w c a b ≡ true → is_taken jumps (holds w c x y) ≡ true
+    → Leaves (left_by (learnt c jumps) a b) x y
 comparable_keeps w c jumps a b x y h k t taken =
     let first : x ≤ greatest w = grind arith in
     let second : y ≤ greatest w = grind arith in
@@ -179,15 +183,30 @@ comparable_keeps w c jumps a b x y h k t taken =
     left_by_keeps (learnt c jumps) a b x y h k
     (taken_related w c jumps x y (sided w c a b x y h k t) there)
 
+-- the edge isn't dropped, and what is left of the two numbers on it holds them
+pub record Keeps (o : Option NumberPair) (x y : ℕ) : Type 0 where
+  pub pair : NumberPair
+  pub is : o ≡ Some pair
+  pub first : Holds pair.0 x
+  pub second : Holds pair.1 y
+
 pub narrowed_keeps : (w : Bits) (c : Condition) (jumps : Bool) (a b : Number) (x y : ℕ) → Holds a x
     → Holds b y → is_taken jumps (holds w c x y) ≡ true → Keeps (narrowed w c jumps a b) x y
 narrowed_keeps w c jumps a b x y h k taken = elim (cases_Bool (are_single a b)) [
   | inl is ↦
-      let first : a.lo ≡ x = grind (arith, h, is) in
-      let second : b.lo ≡ y = grind (arith, k, is) in
+      let first : a.range.lo ≡ x = grind (arith, h.between, is) in
+      let second : b.range.lo ≡ y = grind (arith, k.between, is) in
       record { pair = (a, b); is = rw (is, first, second, taken) refl; first = h; second = k }
-  | inr is ↦ elim (cases_Bool (is_comparable w c a b)) [
-    | inl fits ↦ rw (is, fits) (comparable_keeps w c jumps a b x y h k fits taken)
+  | inr is ↦ elim (cases_Bool (is_comparable w c a.range b.range)) [
+    | inl fits ↦
+        let left =
+        comparable_keeps w c jumps a.range b.range x y h.between k.between fits taken in
+        record {
+          pair = pair left.pair;
+          is = rw (is, fits, left.is) refl;
+          first = record { between = left.first; word = h.word };
+          second = record { between = left.second; word = k.word };
+        }
     | inr fits ↦ record { pair = (a, b); is = rw (is, fits) refl; first = h; second = k }
   ]
 ]

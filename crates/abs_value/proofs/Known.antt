@@ -16,6 +16,7 @@ use Rattle.abs_value.specs.States.{register_at}
 use Rattle.abs_value.specs.Lookups.{answer_of, with_answer, slot_with_answer, state_with_answer}
 use Rattle.abs_value.specs.Covers.{Answers, Answered, AreBefore, answering, Includes, CoversValue, CoversSlot, Covers, bytes_of}
 use Rattle.abs_value.specs.Laws.{IsMore}
+use Rattle.abs_value.proofs.Results.{single_holds}
 use Rattle.abs_value.proofs.Computes.{covers_some}
 
 -- ---- values
@@ -102,7 +103,8 @@ is_more g slot x before = record { shape = refl; answers = keeps }
 known : (g : Answers) (lookup : Lookup) (x : ℕ) → Answered g lookup x
     → Includes g (answer_of lookup (not (x == 0))) x
 known g lookup x h = elim (cases_Bool (x == 0)) [
-  | inl none ↦ rw none (omega arith, grind (arith, none))
+  | inl none ↦
+      let is : x ≡ 0 = grind (arith, none) in rw (none, is) (single_holds 0 (omega arith))
   | inr some ↦ rw some (h, grind (arith, some))
 ]
 

@@ -2,6 +2,7 @@
 use Rattle.std.proofs.Common.{◌≡◌, ◌≢◌, ℕ, zero, suc, pos, Option, Some, Bool, true, false, refl, subst, arith, inl, inr}
 use Rattle.std.specs.Prelude.{not, ◌==◌, ◌&&◌, option_map}
 use Rattle.std.proofs.lemmas.Bool.{cases_Bool}
+use Rattle.std.proofs.lemmas.Option.{same_Some}
 use Rattle.bpf_insn.specs.declared.reg.Reg.{Reg}
 use Rattle.bpf_insn.specs.declared.operand.Bits.{Bits}
 use Rattle.bpf_insn.specs.declared.operand.Bits.TheVariants.{Bits64}
@@ -23,10 +24,12 @@ use Rattle.abs_value.specs.Narrowing.{is_taken}
 use Rattle.abs_value.specs.Values.{is_pointer, refined}
 use Rattle.abs_value.specs.States.{value_of, operand_value}
 use Rattle.abs_value.specs.Lookups.{compares_with_zero, is_found, after_null_check, with_both, is_register, refined_state}
-use Rattle.abs_value.specs.Covers.{Answers, IsCell, Includes, CoversValue, Covers}
+use Rattle.abs_value.specs.Covers.{Answers, IsCell, FitsImm, Holds, Includes, CoversValue, Covers}
 use Rattle.abs_value.specs.Laws.{IsLeft, CoversOn}
 use Rattle.abs_value.proofs.Computes.{refined_includes}
-use Rattle.abs_value.proofs.Writes.{covers_learnt}
+use Rattle.abs_value.specs.Numbers.{single}
+use Rattle.abs_value.proofs.Results.{single_holds}
+use Rattle.abs_value.proofs.Writes.{covers_learnt, imm_word}
 use Rattle.abs_value.proofs.Known.{covers_answered, included}
 
 -- ---- edges
@@ -77,9 +80,12 @@ comparison_covers g e s bits left right o x y h lx ry kept =
     rw kept.is (covers_learnt g _ s bits right kept.pair.1 y first ry kept.second)
 
 operand_included : (g : Answers) (e : AbsState) (s : State) (bits : Bits) (right : Operand) (y : ℕ)
-    → Covers g e s → operand s bits right ≡ Some y → Includes g (operand_value e bits right) y
-operand_included g e s bits (Imm k) y h is = grind (arith, is)
-operand_included g e s bits (Register r) y h is = included g (value_of e r) y
+    → FitsImm right → Covers g e s → operand s bits right ≡ Some y
+    → Includes g (operand_value e bits right) y
+operand_included g e s bits (Imm k) y f h is =
+    subst (Holds (single (immediate bits k))) (same_Some (immediate bits k) y is)
+    (single_holds (immediate bits k) (imm_word bits k f))
+operand_included g e s bits (Register r) y f h is = included g (value_of e r) y
     (subst (CoversValue g (value_of e r)) is (h.registers (number_of r)))
 
 both_first : (a b : Bool) → a && b ≡ true → a ≡ true
@@ -88,12 +94,12 @@ both_first false b h = h
 
 pub covers_edge : (g : Answers) (e : AbsState) (s : State) (bits : Bits) (condition : Condition)
     (left : Reg) (right : Operand) (jumps : Bool) (x y : ℕ)
-    → Covers g e s → register s left ≡ Some x → operand s bits right ≡ Some y
+    → FitsImm right → Covers g e s → register s left ≡ Some x → operand s bits right ≡ Some y
     → is_taken jumps (holds bits condition x y) ≡ true
     → CoversOn g (refined_state e bits condition left right jumps) s
-covers_edge g e s bits condition left right jumps x y h lx ry taken =
-    let first = operand_included g e s bits (Register left) x h lx in
-    let second = operand_included g e s bits right y h ry in
+covers_edge g e s bits condition left right jumps x y f h lx ry taken =
+    let first = operand_included g e s bits (Register left) x tt h lx in
+    let second = operand_included g e s bits right y f h ry in
     elim (cases_Bool (is_register right left)) [
       | inl same ↦ rw same h
       | inr apart ↦ elim (cases_Bool

@@ -7,10 +7,11 @@ mod Lists
 mod Computes
 mod Slots
 mod Writes
+mod Joins
 mod Known
 mod KnownEdges
 mod Calls
 mod Stores
 mod Loads
-mod Inhabited
-mod InhabitedStates
+mod Order
+mod StatesInOrder

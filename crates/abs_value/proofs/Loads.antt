@@ -18,7 +18,7 @@ use Rattle.abs_value.specs.declared.slot.AbsSlot.TheVariants.{Kept, Bytes}
 use Rattle.abs_value.specs.declared.state.AbsState.{AbsState}
 use Rattle.abs_value.specs.Values.{loaded_value}
 use Rattle.abs_value.specs.Stack.{mask_of, slot_at, is_unset, has_unset, kept_or, loaded_from}
-use Rattle.abs_value.specs.Covers.{Answers, Includes, KeepsNumber, CoversSlot, CoversStack, Covers, bytes_of}
+use Rattle.abs_value.specs.Covers.{Answers, IsWord, Includes, KeepsNumber, CoversSlot, CoversStack, Covers, bytes_of}
 use Rattle.abs_value.specs.Laws.{Finds}
 use Rattle.abs_value.proofs.Slots.{mask_set}
 
@@ -148,13 +148,16 @@ kept_reads stack place (suc n) x h =
 
 pub loaded_includes : (g : Answers) (kind : LoadKind) (n : ℕ) → n < 256 ^ load_count kind
     → Includes g (loaded_value kind) (filled kind n)
-loaded_includes g load.Byte n h = (omega arith, omega arith)
-loaded_includes g load.Half n h = (omega arith, omega arith)
-loaded_includes g load.Word n h = (omega arith, omega arith)
-loaded_includes g load.Double n h = (omega arith, omega arith)
-loaded_includes g load.SignedByte n h = (omega arith, grind (arith, ints))
-loaded_includes g load.SignedHalf n h = (omega arith, grind (arith, ints))
-loaded_includes g load.SignedWord n h = (omega arith, grind (arith, ints))
+loaded_includes g load.Byte n h = record { between = (omega arith, omega arith); word = omega arith }
+loaded_includes g load.Half n h = record { between = (omega arith, omega arith); word = omega arith }
+loaded_includes g load.Word n h = record { between = (omega arith, omega arith); word = omega arith }
+loaded_includes g load.Double n h = record { between = (omega arith, omega arith); word = omega arith }
+loaded_includes g load.SignedByte n h = let word : IsWord (filled load.SignedByte n) = grind (arith, ints) in
+    record { between = (omega arith, omega (arith, word)); word = word }
+loaded_includes g load.SignedHalf n h = let word : IsWord (filled load.SignedHalf n) = grind (arith, ints) in
+    record { between = (omega arith, omega (arith, word)); word = word }
+loaded_includes g load.SignedWord n h = let word : IsWord (filled load.SignedWord n) = grind (arith, ints) in
+    record { between = (omega arith, omega (arith, word)); word = word }
 
 read_from : (s : State) (place n : ℕ) (bytes : List ℕ)
     → place + n ≤ stack_size → set_bytes s.stack place n ≡ Some bytes

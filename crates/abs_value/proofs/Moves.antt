@@ -88,7 +88,7 @@ pub stack_moves : (op : AluOp) (place n : ℕ) (by : Number) (x y : ℕ)
     → IsInStack n (alu_result Bits64 op x y)
 stack_moves op place n by x y h hx wy hy = elim (cases_Bool (is_single by)) [
   | inl one ↦
-      let y_is : by.lo ≡ y = grind (arith, hy, one) in
+      let y_is : by.range.lo ≡ y = grind (arith, hy.between, one) in
       let there : moved stack_size place (distance op y) ≡ Some n = rw (one, y_is) at h in
       let within = moved_within stack_size place (distance op y) n there in
       let is = single_moves op stack_size x y place n wy (omega arith) (omega arith) there in
@@ -128,16 +128,16 @@ context_single op from r x y e f hx wy =
     (omega (arith, hx, is), omega (arith, hx, is))
 
 context_range : (op : AluOp) (from r : Places) (by : Number) (x y : ℕ)
-    → moved context_size from.lo (distance_of_end op by.lo) ≡ Some r.lo
-    → moved context_size from.hi (distance_of_end op by.hi) ≡ Some r.hi
+    → moved context_size from.lo (distance_of_end op by.range.lo) ≡ Some r.lo
+    → moved context_size from.hi (distance_of_end op by.range.hi) ≡ Some r.hi
     → IsInContext from x → Holds by y → IsInContext r (alu_result Bits64 op x y)
 context_range alu.Add from r by x y e f hx hy =
-    let low = place_is context_size (pos from.lo +ℤ pos by.lo) r.lo e in
-    let high = place_is context_size (pos from.hi +ℤ pos by.hi) r.hi f in
-    let first : from.lo + by.lo ≡ r.lo = omega (arith, ints, low.is) in
-    let last : from.hi + by.hi ≡ r.hi = omega (arith, ints, high.is) in
+    let low = place_is context_size (pos from.lo +ℤ pos by.range.lo) r.lo e in
+    let high = place_is context_size (pos from.hi +ℤ pos by.range.hi) r.hi f in
+    let first : from.lo + by.range.lo ≡ r.lo = omega (arith, ints, low.is) in
+    let last : from.hi + by.range.hi ≡ r.hi = omega (arith, ints, high.is) in
     let within = high.within in
-    (omega (arith, hx, hy), omega (arith, hx, hy))
+    (omega (arith, hx, hy.between), omega (arith, hx, hy.between))
 context_range op from r by x y e f hx hy = absurd cc
 
 pub context_moves : (op : AluOp) (from r : Places) (by : Number) (x y : ℕ)
@@ -148,8 +148,8 @@ context_moves op from r by x y h hx wy hy =
     (moved context_size from.hi (greatest_distance op by)) r h in
     elim (cases_Bool (is_single by)) [
       | inl one ↦
-          let y_is : by.lo ≡ y = grind (arith, hy, one) in
-          let y_too : by.hi ≡ y = grind (arith, hy, one) in
+          let y_is : by.range.lo ≡ y = grind (arith, hy.between, one) in
+          let y_too : by.range.hi ≡ y = grind (arith, hy.between, one) in
           context_single op from r x y (rw (one, y_is) at ends.0) (rw (one, y_too) at ends.1) hx wy
       | inr more ↦ context_range op from r by x y (rw more at ends.0) (rw more at ends.1) hx hy
     ]
@@ -157,24 +157,24 @@ context_moves op from r by x y h hx wy hy =
 -- ---- the ends stay in order
 
 end_in_order : (op : AluOp) (from r : Places) (by : Number)
-    → moved context_size from.lo (distance_of_end op by.lo) ≡ Some r.lo
-    → moved context_size from.hi (distance_of_end op by.hi) ≡ Some r.hi
-    → from.lo ≤ from.hi → by.lo ≤ by.hi → r.lo ≤ r.hi
+    → moved context_size from.lo (distance_of_end op by.range.lo) ≡ Some r.lo
+    → moved context_size from.hi (distance_of_end op by.range.hi) ≡ Some r.hi
+    → from.lo ≤ from.hi → by.range.lo ≤ by.range.hi → r.lo ≤ r.hi
 end_in_order alu.Add from r by e f h k =
-    let low = place_is context_size (pos from.lo +ℤ pos by.lo) r.lo e in
-    let high = place_is context_size (pos from.hi +ℤ pos by.hi) r.hi f in
+    let low = place_is context_size (pos from.lo +ℤ pos by.range.lo) r.lo e in
+    let high = place_is context_size (pos from.hi +ℤ pos by.range.hi) r.hi f in
     omega (arith, ints, low.is, high.is, h, k)
 end_in_order op from r by e f h k = absurd cc
 
 pub context_in_order : (op : AluOp) (from r : Places) (by : Number)
-    → moved_in_context op from by ≡ Some r → from.lo ≤ from.hi → by.lo ≤ by.hi → r.lo ≤ r.hi
+    → moved_in_context op from by ≡ Some r → from.lo ≤ from.hi → by.range.lo ≤ by.range.hi → r.lo ≤ r.hi
 context_in_order op from r by e h k =
     let ends = both_some (moved context_size from.lo (least_distance op by))
     (moved context_size from.hi (greatest_distance op by)) r e in
     elim (cases_Bool (is_single by)) [
       | inl one ↦
-          let same : by.hi ≡ by.lo = grind (arith, one) in
-          let wide = spread context_size from.lo from.hi r.lo r.hi (distance op by.lo)
+          let same : by.range.hi ≡ by.range.lo = grind (arith, one) in
+          let wide = spread context_size from.lo from.hi r.lo r.hi (distance op by.range.lo)
           (rw one at ends.0) (rw (one, same) at ends.1) in
           omega (arith, wide, h)
       | inr more ↦ end_in_order op from r by (rw more at ends.0) (rw more at ends.1) h k

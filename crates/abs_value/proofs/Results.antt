@@ -1,5 +1,5 @@
 -- What the machine computes of the numbers of two ranges lies in the range that is computed.
-use Rattle.std.proofs.Common.{◌≡◌, ℕ, ◌+◌, ◌*◌, ◌%◌, ◌^◌, subst, arith, inl, inr}
+use Rattle.std.proofs.Common.{◌≡◌, ℕ, ◌+◌, ◌*◌, ◌%◌, ◌^◌, ◌≤◌, subst, arith, inl, inr}
 use Rattle.std.specs.Prelude.{if◌then◌else◌}
 use mir.Val.{bits}
 use Rattle.std.proofs.lemmas.Bool.{cases_Bool}
@@ -10,15 +10,17 @@ use Rattle.bpf_insn.specs.declared.operand.Bits.{Bits}
 use Rattle.bpf_insn.specs.declared.operand.Bits.TheVariants.{Bits64, Bits32}
 use Rattle.bpf_insn.specs.Words.{word_width, word}
 use Rattle.bpf_insn.specs.Arithmetic.{arithmetic, alu_result}
+use Rattle.abs_value.specs.declared.interval.Interval.{Interval}
 use Rattle.abs_value.specs.declared.number.Number.{Number}
-use Rattle.abs_value.specs.Numbers.{is_single, full, cut}
-use Rattle.abs_value.specs.Bounds.{difference, shifted_left, shifted_right, shifted_signed, bounds, are_single, alu_number}
-use Rattle.abs_value.specs.Covers.{Holds, IsWord}
-use Rattle.abs_value.proofs.Cuts.{IsOf, word_is_of, cut_holds, full_holds, mod_is_of}
+use Rattle.abs_value.specs.Intervals.{is_just, all_of}
+use Rattle.abs_value.specs.Numbers.{single, are_single, up_to, full, cut}
+use Rattle.abs_value.specs.Bounds.{difference, shifted_left, shifted_right, shifted_signed, bounds, alu_number}
+use Rattle.abs_value.specs.Covers.{Holds, IsBetween, IsWord}
+use Rattle.abs_value.proofs.Cuts.{IsOf, word_is_of, cut_interval_holds, all_of_holds, mod_is_of}
 use Rattle.abs_value.proofs.ShiftedRanges.{fitting_holds, shifted_left_holds, shifted_right_holds, shifted_signed_holds, arsh_is_of, disjunction_holds}
 
-difference_holds : (w : Bits) (a b : Number) (x y : ℕ) → Holds a x → Holds b y → IsOf w x → IsOf w y
-    → Holds (difference w a b) (arithmetic (word_width w) Sub x y)
+difference_holds : (w : Bits) (a b : Interval) (x y : ℕ) → IsBetween a x → IsBetween b y → IsOf w x → IsOf w y
+    → IsBetween (difference w a b) (arithmetic (word_width w) Sub x y)
 difference_holds Bits64 a b x y h k fits fits2 = grind arith
 difference_holds Bits32 a b x y h k fits fits2 = grind arith
 
@@ -27,15 +29,15 @@ word_of Bits64 x h = omega arith
 word_of Bits32 x h = omega arith
 
 -- by a single count, or by any
-by_count : (b : Number) (y z : ℕ) (one other : Number) → Holds b y → (b.lo ≡ y → Holds one z)
-    → Holds other z → Holds (if is_single b then one else other) z
-by_count b y z one other h first second = elim (cases_Bool (is_single b)) [
+by_count : (b : Interval) (y z : ℕ) (one other : Interval) → IsBetween b y → (b.lo ≡ y → IsBetween one z)
+    → IsBetween other z → IsBetween (if is_just b then one else other) z
+by_count b y z one other h first second = elim (cases_Bool (is_just b)) [
   | inl is ↦ let e : b.lo ≡ y = grind (arith, h, is) in rw is (first e)
   | inr is ↦ rw is second
 ]
 
-bounds_hold : (w : Bits) (op : AluOp) (a b : Number) (x y : ℕ) → Holds a x → Holds b y → IsOf w x
-    → IsOf w y → Holds (bounds w op a b) (arithmetic (word_width w) op x y)
+bounds_hold : (w : Bits) (op : AluOp) (a b : Interval) (x y : ℕ) → IsBetween a x → IsBetween b y → IsOf w x
+    → IsOf w y → IsBetween (bounds w op a b) (arithmetic (word_width w) op x y)
 bounds_hold w Add a b x y h k fx fy = fitting_holds w (a.lo + b.lo) (a.hi + b.hi) (x + y)
     (omega (arith, h.0, k.0)) (omega (arith, h.1, k.1))
 bounds_hold w Sub a b x y h k fx fy = difference_holds w a b x y h k fx fy
@@ -44,38 +46,87 @@ bounds_hold w Or a b x y h k fx fy = disjunction_holds a b x y (arithmetic (word
 bounds_hold w And a b x y h k fx fy = grind (arith, and_le_l, and_le_r)
 bounds_hold w Lsh a b x y h k fx fy =
     by_count b y ((x * 2 ^ (y % bits (word_width w))) % 2 ^ bits (word_width w))
-    (shifted_left w a (b.lo % bits (word_width w))) (full w) k
-    (λ e. subst (λ (n : ℕ). Holds (shifted_left w a (b.lo % bits (word_width w)))
+    (shifted_left w a (b.lo % bits (word_width w))) (all_of w) k
+    (λ e. subst (λ (n : ℕ). IsBetween (shifted_left w a (b.lo % bits (word_width w)))
     ((x * 2 ^ (n % bits (word_width w))) % 2 ^ bits (word_width w))) e
     (shifted_left_holds w a (b.lo % bits (word_width w)) x h))
-    (full_holds w ((x * 2 ^ (y % bits (word_width w))) % 2 ^ bits (word_width w))
+    (all_of_holds w ((x * 2 ^ (y % bits (word_width w))) % 2 ^ bits (word_width w))
     (mod_is_of w (x * 2 ^ (y % bits (word_width w)))))
 bounds_hold w Rsh a b x y h k fx fy =
     by_count b y (arithmetic (word_width w) Rsh x y)
-    (shifted_right a (b.lo % bits (word_width w))) (full w) k
+    (shifted_right a (b.lo % bits (word_width w))) (all_of w) k
     (λ e. subst (λ (n : ℕ).
-    Holds (shifted_right a (b.lo % bits (word_width w))) (arithmetic (word_width w) Rsh x n)) e
+    IsBetween (shifted_right a (b.lo % bits (word_width w))) (arithmetic (word_width w) Rsh x n)) e
     (shifted_right_holds a (b.lo % bits (word_width w)) x h))
     (let part = shr_le x (y % bits (word_width w)) in
-    full_holds w (arithmetic (word_width w) Rsh x y) (omega (arith, part, fx)))
+    all_of_holds w (arithmetic (word_width w) Rsh x y) (omega (arith, part, fx)))
 bounds_hold w Xor a b x y h k fx fy = disjunction_holds a b x y (arithmetic (word_width w) Xor x y)
     h k (word_of w x fx) (word_of w y fy) (λ n p q. xor_lt n x y p q)
 bounds_hold w Arsh a b x y h k fx fy =
     by_count b y (arithmetic (word_width w) Arsh x y)
-    (shifted_signed w a (b.lo % bits (word_width w))) (full w) k
+    (shifted_signed w a (b.lo % bits (word_width w))) (all_of w) k
     (λ e. subst (λ (n : ℕ).
-    Holds (shifted_signed w a (b.lo % bits (word_width w))) (arithmetic (word_width w) Arsh x n)) e
+    IsBetween (shifted_signed w a (b.lo % bits (word_width w))) (arithmetic (word_width w) Arsh x n)) e
     (shifted_signed_holds w a (b.lo % bits (word_width w)) x h fx))
-    (full_holds w (arithmetic (word_width w) Arsh x y)
+    (all_of_holds w (arithmetic (word_width w) Arsh x y)
     (arsh_is_of w x (y % bits (word_width w)) fx))
 
-pub alu_number_holds : (w : Bits) (op : AluOp) (a b : Number) (x y : ℕ) → IsWord x → IsWord y
+-- ---- numbers
+
+difference_is_of : (w : Bits) (x y : ℕ) → IsOf w (arithmetic (word_width w) Sub x y)
+difference_is_of Bits64 x y = grind arith
+difference_is_of Bits32 x y = grind arith
+
+-- a result is a number of the class
+result_is_of : (w : Bits) (op : AluOp) (x y : ℕ) → IsOf w x → IsOf w y
+    → IsOf w (arithmetic (word_width w) op x y)
+result_is_of w Add x y fx fy = mod_is_of w (x + y)
+result_is_of w Sub x y fx fy = difference_is_of w x y
+result_is_of Bits64 Or x y fx fy =
+    let lt = or_lt 64 x y (omega (arith, fx)) (omega (arith, fy)) in omega (arith, lt)
+result_is_of Bits32 Or x y fx fy =
+    let lt = or_lt 32 x y (omega (arith, fx)) (omega (arith, fy)) in omega (arith, lt)
+result_is_of w And x y fx fy = let le = and_le_l x y in omega (arith, le, fx)
+result_is_of w Lsh x y fx fy = mod_is_of w (x * 2 ^ (y % bits (word_width w)))
+result_is_of w Rsh x y fx fy =
+    let part = shr_le x (y % bits (word_width w)) in omega (arith, part, fx)
+result_is_of Bits64 Xor x y fx fy =
+    let lt = xor_lt 64 x y (omega (arith, fx)) (omega (arith, fy)) in omega (arith, lt)
+result_is_of Bits32 Xor x y fx fy =
+    let lt = xor_lt 32 x y (omega (arith, fx)) (omega (arith, fy)) in omega (arith, lt)
+result_is_of w Arsh x y fx fy = arsh_is_of w x (y % bits (word_width w)) fx
+
+result_word : (w : Bits) (op : AluOp) (x y : ℕ) → IsWord x → IsWord y → IsWord (alu_result w op x y)
+result_word w op x y wx wy = word_of w (alu_result w op x y)
+    (result_is_of w op (word w x) (word w y) (word_is_of w x wx) (word_is_of w y wy))
+
+pub single_holds : (n : ℕ) → IsWord n → Holds (single n) n
+single_holds n h = record { between = (omega arith, omega arith); word = h }
+
+pub up_to_holds : (hi x : ℕ) → IsWord x → x ≤ hi → Holds (up_to hi) x
+up_to_holds hi x h le = record { between = (omega arith, le); word = h }
+
+pub full_number_holds : (w : Bits) (x : ℕ) → IsOf w x → Holds (full w) x
+full_number_holds w x h = record { between = all_of_holds w x h; word = word_of w x h }
+
+pub cut_number_holds : (w : Bits) (a : Number) (x : ℕ) → Holds a x → Holds (cut w a) (word w x)
+cut_number_holds w a x h = record {
+  between = cut_interval_holds w a.range x h.between;
+  word = word_of w (word w x) (word_is_of w x h.word);
+}
+
+pub alu_number_holds : (w : Bits) (op : AluOp) (a b : Number) (x y : ℕ)
     → Holds a x → Holds b y → Holds (alu_number w op a b) (alu_result w op x y)
-alu_number_holds w op a b x y wx wy h k = elim (cases_Bool (are_single a b)) [
+alu_number_holds w op a b x y h k = elim (cases_Bool (are_single a b)) [
   | inl is ↦
-      let first : a.lo ≡ x = grind (arith, h, is) in
-      let second : b.lo ≡ y = grind (arith, k, is) in
-      rw (is, first, second) (omega arith, omega arith)
-  | inr is ↦ rw is (bounds_hold w op (cut w a) (cut w b) (word w x) (word w y) (cut_holds w a x h)
-      (cut_holds w b y k) (word_is_of w x wx) (word_is_of w y wy))
+      let first : a.range.lo ≡ x = grind (arith, h.between, is) in
+      let second : b.range.lo ≡ y = grind (arith, k.between, is) in
+      rw (is, first, second)
+      (single_holds (alu_result w op x y) (result_word w op x y h.word k.word))
+  | inr is ↦ rw is (record {
+    between = bounds_hold w op (cut w a).range (cut w b).range (word w x) (word w y)
+        (cut_interval_holds w a.range x h.between) (cut_interval_holds w b.range y k.between)
+        (word_is_of w x h.word) (word_is_of w y k.word);
+    word = result_word w op x y h.word k.word;
+  })
 ]

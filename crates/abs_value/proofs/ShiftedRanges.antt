@@ -12,20 +12,20 @@ use Rattle.std.proofs.lemmas.Nat.{pow_pos, shr_le, le-div, leading_length}
 use Rattle.bpf_insn.specs.declared.operand.Bits.{Bits}
 use Rattle.bpf_insn.specs.declared.operand.Bits.TheVariants.{Bits64, Bits32}
 use Rattle.bpf_insn.specs.Words.{word_width}
-use Rattle.abs_value.specs.declared.number.Number.{Number}
+use Rattle.abs_value.specs.declared.interval.Interval.{Interval}
 use Rattle.abs_value.specs.Bounds.{fitting, power_above, disjunction, shifted_left, shifted_right, shifted_signed, sign_bit}
-use Rattle.abs_value.specs.Covers.{Holds}
-use Rattle.abs_value.proofs.Cuts.{IsOf, full_holds}
+use Rattle.abs_value.specs.Covers.{IsBetween}
+use Rattle.abs_value.proofs.Cuts.{IsOf, all_of_holds}
 
 -- ---- the range where it fits, else all numbers
 
 pub fitting_holds : (w : Bits) (lo hi x : ℕ) → lo ≤ x → x ≤ hi
-    → Holds (fitting w lo hi) (x % 2 ^ bits (word_width w))
+    → IsBetween (fitting w lo hi) (x % 2 ^ bits (word_width w))
 fitting_holds Bits64 lo hi x from to = grind arith
 fitting_holds Bits32 lo hi x from to = grind arith
 
-pub shifted_left_holds : (w : Bits) (a : Number) (count x : ℕ) → Holds a x
-    → Holds (shifted_left w a count) ((x * 2 ^ count) % 2 ^ bits (word_width w))
+pub shifted_left_holds : (w : Bits) (a : Interval) (count x : ℕ) → IsBetween a x
+    → IsBetween (shifted_left w a count) ((x * 2 ^ count) % 2 ^ bits (word_width w))
 shifted_left_holds w a count x h = fitting_holds w (a.lo * 2 ^ count) (a.hi * 2 ^ count)
     (x * 2 ^ count) (mul-le-mul_right (2 ^ count) h.0) (mul-le-mul_right (2 ^ count) h.1)
 
@@ -33,8 +33,8 @@ div-le-div : (x y k : ℕ) → 0 < k → x ≤ y → x / k ≤ y / k
 div-le-div x y k some le =
     let part = div-mul-le_self x k in le-div (x / k) y k some (omega (arith, part, le))
 
-pub shifted_right_holds : (a : Number) (count x : ℕ) → Holds a x
-    → Holds (shifted_right a count) (x / 2 ^ count)
+pub shifted_right_holds : (a : Interval) (count x : ℕ) → IsBetween a x
+    → IsBetween (shifted_right a count) (x / 2 ^ count)
 shifted_right_holds a count x h = (
   div-le-div a.lo x (2 ^ count) (pow_pos count) h.0,
   div-le-div x a.hi (2 ^ count) (pow_pos count) h.1,
@@ -58,8 +58,8 @@ below_power n x le fits = elim (cases_lt n (2 ^ 64)) [
   | inr long ↦ let e : leading_zeros w64 n ≡ 0 = wide 64 n long in rw e (omega arith)
 ]
 
-pub disjunction_holds : (a b : Number) (x y z : ℕ) → Holds a x → Holds b y → x < 2 ^ 64 → y < 2 ^ 64
-    → ((k : ℕ) → x < 2 ^ k → y < 2 ^ k → z < 2 ^ k) → Holds (disjunction a b) z
+pub disjunction_holds : (a b : Interval) (x y z : ℕ) → IsBetween a x → IsBetween b y → x < 2 ^ 64 → y < 2 ^ 64
+    → ((k : ℕ) → x < 2 ^ k → y < 2 ^ k → z < 2 ^ k) → IsBetween (disjunction a b) z
 disjunction_holds a b x y z h k short fits both =
     let first : x < power_above (max a.hi b.hi) =
     below_power (max a.hi b.hi) x (omega (arith, h.1)) short in
@@ -90,13 +90,13 @@ arsh_is_of w x count fits = elim (cases_lt x (sign_bit w)) [
   | inr high ↦ arsh_high w x count high
 ]
 
-pub shifted_signed_holds : (w : Bits) (a : Number) (count x : ℕ) → Holds a x → IsOf w x
-    → Holds (shifted_signed w a count)
+pub shifted_signed_holds : (w : Bits) (a : Interval) (count x : ℕ) → IsBetween a x → IsOf w x
+    → IsBetween (shifted_signed w a count)
     (cast_unsigned (word_width w) (int_shr (cast_signed (word_width w) x) count))
 shifted_signed_holds w a count x h fits = elim (cases_Bool (nat_lt a.hi (sign_bit w))) [
   | inl low ↦ let below : a.hi < sign_bit w = ltb-true a.hi (sign_bit w) low in
       rw (low, arsh_low w x count (omega (arith, below, h.1))) (shifted_right_holds a count x h)
   | inr high ↦ rw high
-      (full_holds w (cast_unsigned (word_width w) (int_shr (cast_signed (word_width w) x) count))
+      (all_of_holds w (cast_unsigned (word_width w) (int_shr (cast_signed (word_width w) x) count))
       (arsh_is_of w x count fits))
 ]

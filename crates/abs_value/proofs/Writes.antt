@@ -1,13 +1,16 @@
 -- What a state of the verifier stands for is kept where a register is written, and where two are
 -- joined.
-use Rattle.std.proofs.Common.{◌≡◌, ℕ, ◌<◌, ◌≤◌, List, Option, Some, None, false, zero, suc, refl, arith, inl, inr, map, replicate, true}
+use Rattle.std.proofs.Common.{◌≡◌, ℕ, ◌<◌, ◌≤◌, List, Option, Some, None, false, zero, suc, refl, arith, inl, inr, map, replicate, true, ℤ, pos, negsuc, FitsSigned}
 use Rattle.std.specs.Prelude.{slice_set, ◌==◌}
+use Rattle.std.specs.Int.{w32}
 use Rattle.std.specs.List.{range_with_len}
+use Rattle.std.proofs.lemmas.Int.{ints}
 use Rattle.std.proofs.lemmas.Bool.{cases_lt}
 use Rattle.std.proofs.lemmas.List.{get_or_past}
 use Rattle.std.proofs.lemmas.List.FromFn.{get_or-map-range_with_len, length-map-range_with_len}
 use Rattle.bpf_insn.specs.declared.reg.Reg.{Reg}
 use Rattle.bpf_insn.specs.declared.operand.Bits.{Bits}
+use Rattle.bpf_insn.specs.declared.operand.Bits.TheVariants.{Bits64, Bits32}
 use Rattle.bpf_insn.specs.declared.operand.Operand.{Operand}
 use Rattle.bpf_insn.specs.declared.operand.Operand.TheVariants.{Imm, Register}
 use Rattle.bpf_insn.specs.Table.{number_of}
@@ -25,8 +28,9 @@ use Rattle.abs_value.specs.declared.slot.AbsSlot.{AbsSlot}
 use Rattle.abs_value.specs.declared.slot.AbsSlot.TheVariants.{Bytes}
 use Rattle.abs_value.specs.Stack.{slot_at}
 use Rattle.abs_value.proofs.Slots.{none_set, stack_left, stack_right}
-use Rattle.abs_value.specs.Covers.{Answers, bytes_of, Includes, CoversValue, CoversRegisters, Covers}
+use Rattle.abs_value.specs.Covers.{Answers, IsWord, FitsImm, bytes_of, Includes, CoversValue, CoversRegisters, Covers}
 use Rattle.abs_value.specs.Laws.{IsThere}
+use Rattle.abs_value.proofs.Results.{single_holds}
 use Rattle.abs_value.proofs.Computes.{covers_some, join_left, join_right}
 use Rattle.abs_value.proofs.Lists.{here, past, other, set_at}
 
@@ -52,12 +56,21 @@ pub register_is_there : (g : Answers) (e : AbsState) (s : State) (r : ℕ)
     → Covers g e s → is_unusable (value_at e r) ≡ false → IsThere g (value_at e r) (s.registers r)
 register_is_there g e s r h u = value_is_there g (value_at e r) (s.registers r) (h.registers r) u
 
+pub imm_word : (bits : Bits) (k : ℤ) → FitsSigned w32 k → IsWord (immediate bits k)
+imm_word Bits64 (pos n) f = grind (arith, ints)
+imm_word Bits64 (negsuc n) f = grind (arith, ints)
+imm_word Bits32 (pos n) f = grind (arith, ints)
+imm_word Bits32 (negsuc n) f = grind (arith, ints)
+
 pub operand_is_there : (g : Answers) (e : AbsState) (s : State) (bits : Bits) (src : Operand)
-    → Covers g e s → is_unusable (operand_value e bits src) ≡ false
+    → FitsImm src → Covers g e s → is_unusable (operand_value e bits src) ≡ false
     → IsThere g (operand_value e bits src) (operand s bits src)
-operand_is_there g e s bits (Imm k) h u =
-    record { number = immediate bits k; is = refl; included = (omega arith, omega arith) }
-operand_is_there g e s bits (Register r) h u =
+operand_is_there g e s bits (Imm k) f h u = record {
+  number = immediate bits k;
+  is = refl;
+  included = single_holds (immediate bits k) (imm_word bits k f);
+}
+operand_is_there g e s bits (Register r) f h u =
     value_is_there g (value_of e r) (s.registers (number_of r)) (h.registers (number_of r)) u
 
 -- ---- writing

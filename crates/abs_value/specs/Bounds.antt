@@ -1,7 +1,7 @@
 -- Arithmetic with ranges of numbers (RFC 9669, "Arithmetic Instructions" and "Byte Swap
 -- Instructions"). On single numbers it is the machine's own result. On ranges there is one formula
 -- an operation, over the numbers of a class.
-use Rattle.std.specs.Prelude.{ℕ, ◌+◌, ◌-◌, ◌*◌, ◌/◌, ◌%◌, ◌^◌, min, max, Bool, ◌&&◌, nat_lt, nat_le}
+use Rattle.std.specs.Prelude.{ℕ, ◌+◌, ◌-◌, ◌*◌, ◌/◌, ◌%◌, ◌^◌, min, max, ◌&&◌, nat_lt, nat_le}
 use Rattle.std.specs.Prelude.{if◌then◌else◌}
 use Rattle.std.specs.Int.{w64, leading_zeros}
 use mir.Val.{bits}
@@ -15,79 +15,81 @@ use Rattle.bpf_insn.specs.declared.operand.Extension.{Extension}
 use Rattle.bpf_insn.specs.Table.{extension_class}
 use Rattle.bpf_insn.specs.Words.{word_width}
 use Rattle.bpf_insn.specs.Arithmetic.{alu_result, extended, end_width, reordered}
+use Rattle.abs_value.specs.declared.interval.Interval.{Interval}
 use Rattle.abs_value.specs.declared.number.Number.{Number}
-use Rattle.abs_value.specs.Numbers.{number, single, is_single, greatest, up_to, full, cut}
+use Rattle.abs_value.specs.Intervals.{interval, is_just, greatest, from_zero, all_of}
+use Rattle.abs_value.specs.Numbers.{number, single, is_single, are_single, least, up_to, full, cut}
 
 -- ---- one formula an operation, on numbers of the class
 
 -- from lo to hi, where these are numbers of the class; else the results may wrap, and may be any
 -- number
-abbrev pub fitting : Bits → ℕ → ℕ → Number
-fitting w lo hi = if nat_le lo (greatest w) && nat_le hi (greatest w) then number lo hi else full w
+abbrev pub fitting : Bits → ℕ → ℕ → Interval
+fitting w lo hi =
+    if nat_le lo (greatest w) && nat_le hi (greatest w) then interval lo hi else all_of w
 
-abbrev pub sum : Bits → Number → Number → Number
+abbrev pub sum : Bits → Interval → Interval → Interval
 sum w a b = fitting w (a.lo + b.lo) (a.hi + b.hi)
 
 -- where no number of the first is below one of the second
-abbrev pub difference : Bits → Number → Number → Number
-difference w a b = if nat_le b.hi a.lo then number (a.lo - b.hi) (a.hi - b.lo) else full w
+abbrev pub difference : Bits → Interval → Interval → Interval
+difference w a b = if nat_le b.hi a.lo then interval (a.lo - b.hi) (a.hi - b.lo) else all_of w
 
 -- a common bit is a bit of each
-abbrev pub conjunction : Number → Number → Number
-conjunction a b = up_to (min a.hi b.hi)
+abbrev pub conjunction : Interval → Interval → Interval
+conjunction a b = from_zero (min a.hi b.hi)
 
 -- the least power of two above a number of 64 bits
 abbrev pub power_above : ℕ → ℕ
 power_above n = 2 ^ (64 - leading_zeros w64 n)
 
 -- OR and XOR have no bit above those of both
-abbrev pub disjunction : Number → Number → Number
-disjunction a b = up_to (power_above (max a.hi b.hi) - 1)
+abbrev pub disjunction : Interval → Interval → Interval
+disjunction a b = from_zero (power_above (max a.hi b.hi) - 1)
 
-abbrev pub shifted_left : Bits → Number → ℕ → Number
+abbrev pub shifted_left : Bits → Interval → ℕ → Interval
 shifted_left w a count = fitting w (a.lo * 2 ^ count) (a.hi * 2 ^ count)
 
-abbrev pub shifted_right : Number → ℕ → Number
-shifted_right a count = number (a.lo / 2 ^ count) (a.hi / 2 ^ count)
+abbrev pub shifted_right : Interval → ℕ → Interval
+shifted_right a count = interval (a.lo / 2 ^ count) (a.hi / 2 ^ count)
 
 -- the numbers from here on are negative
 abbrev pub sign_bit : Bits → ℕ
 sign_bit w = 2 ^ (bits (word_width w) - 1)
 
 -- a number below the sign bit is shifted as RSH does
-abbrev pub shifted_signed : Bits → Number → ℕ → Number
-shifted_signed w a count = if nat_lt a.hi (sign_bit w) then shifted_right a count else full w
+abbrev pub shifted_signed : Bits → Interval → ℕ → Interval
+shifted_signed w a count = if nat_lt a.hi (sign_bit w) then shifted_right a count else all_of w
 
 -- a count is masked by the width
-abbrev pub count_of : Bits → Number → ℕ
+abbrev pub count_of : Bits → Interval → ℕ
 count_of w b = b.lo % bits (word_width w)
 
-abbrev pub bounds : Bits → AluOp → Number → Number → Number
+abbrev pub bounds : Bits → AluOp → Interval → Interval → Interval
 bounds w Add a b = sum w a b
 bounds w Sub a b = difference w a b
 bounds w Or a b = disjunction a b
 bounds w And a b = conjunction a b
-bounds w Lsh a b = if is_single b then shifted_left w a (count_of w b) else full w
-bounds w Rsh a b = if is_single b then shifted_right a (count_of w b) else full w
+bounds w Lsh a b = if is_just b then shifted_left w a (count_of w b) else all_of w
+bounds w Rsh a b = if is_just b then shifted_right a (count_of w b) else all_of w
 bounds w Xor a b = disjunction a b
-bounds w Arsh a b = if is_single b then shifted_signed w a (count_of w b) else full w
+bounds w Arsh a b = if is_just b then shifted_signed w a (count_of w b) else all_of w
 
 -- ---- the results
-
-abbrev pub are_single : Number → Number → Bool
-are_single a b = is_single a && is_single b
 
 -- of two single numbers what the machine computes, else the formula on what the class takes of them
 abbrev pub alu_number : Bits → AluOp → Number → Number → Number
 alu_number w op a b =
-    if are_single a b then single (alu_result w op a.lo b.lo) else bounds w op (cut w a) (cut w b)
+    if are_single a b then single (alu_result w op (least a) (least b))
+    else number (bounds w op (cut w a).range (cut w b).range)
 
 -- MOVSX
 abbrev pub extended_number : Extension → Number → Number
-extended_number e a = if is_single a then single (extended e a.lo) else full (extension_class e)
+extended_number e a =
+    if is_single a then single (extended e (least a)) else full (extension_class e)
 
 -- END: any number of its size
 abbrev pub reordered_number : ByteOrder → EndSize → Number → Number
 reordered_number order size a =
-    if is_single a then single (reordered order size a.lo)
+    if is_single a then single (reordered order size (least a))
     else up_to (2 ^ bits (end_width size) - 1)

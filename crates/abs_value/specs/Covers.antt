@@ -1,12 +1,16 @@
 -- What is stood for: of a value the numbers and addresses, of a state of the verifier the states
 -- of a run.
 use Rattle.std.specs.Prelude.{◌≡◌, ◌≢◌, ℕ, ◌+◌, ◌*◌, ◌/◌, ◌%◌, ◌^◌, ◌<◌, ◌≤◌, ◌⊎◌, ◌==◌}
-use Rattle.std.specs.Prelude.{List, Option, Some, None, IsSome, slice_get, if◌then◌else◌}
-use Rattle.std.specs.Int.{bit_at}
+use Rattle.std.specs.Prelude.{List, Option, Some, None, IsSome, slice_get, FitsSigned}
+use Rattle.std.specs.Prelude.{if◌then◌else◌}
+use Rattle.std.specs.Int.{w32, bit_at}
+use Rattle.bpf_insn.specs.declared.operand.Operand.{Operand}
+use Rattle.bpf_insn.specs.declared.operand.Operand.TheVariants.{Imm, Register}
 use Rattle.bpf_semantics.specs.cells.declared.array.CellArray.{CellArray}
 use Rattle.bpf_semantics.specs.cells.Arrays.{AppShape, HasCell}
 use Rattle.bpf_semantics.specs.Memory.{context_start, stack_start, cell_address, map_start}
 use Rattle.bpf_semantics.specs.State.{State}
+use Rattle.abs_value.specs.declared.interval.Interval.{Interval}
 use Rattle.abs_value.specs.declared.number.Number.{Number}
 use Rattle.abs_value.specs.declared.places.Places.{Places}
 use Rattle.abs_value.specs.declared.value.Abs.{Abs}
@@ -51,9 +55,22 @@ answering g slot x = record g { by = λ call. if call == slot then Some x else g
 
 -- ---- values
 
--- the range holds the number
-abbrev pub Holds : Number → ℕ → Type 0
-Holds a x = (a.lo ≤ x) × (x ≤ a.hi)
+-- a number of 64 bits
+abbrev pub IsWord : ℕ → Type 0
+IsWord x = x < 2 ^ 64
+
+-- the number of an imm fits its field
+abbrev pub FitsImm : Operand → Type 0
+FitsImm (Imm k) = FitsSigned w32 k
+FitsImm (Register r) = Unit {0}
+
+abbrev pub IsBetween : Interval → ℕ → Type 0
+IsBetween a x = (a.lo ≤ x) × (x ≤ a.hi)
+
+-- a number of 64 bits, from the least to the most that it may be
+pub record Holds (a : Number) (x : ℕ) : Type 0 where
+  pub between : IsBetween a.range x
+  pub word : IsWord x
 
 -- the address of one of these places
 abbrev pub IsInContext : Places → ℕ → Type 0
@@ -84,10 +101,6 @@ CoversValue g a None = ⊥
 CoversValue g a (Some x) = Includes g a x
 
 -- ---- the stack
-
--- a number of 64 bits
-abbrev pub IsWord : ℕ → Type 0
-IsWord x = x < 2 ^ 64
 
 -- the eight bytes are those of a word that the value includes, the least first
 pub record KeepsNumber (g : Answers) (v : Abs) (bytes : ℕ → Option ℕ) : Type 0 where

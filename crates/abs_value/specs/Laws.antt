@@ -30,7 +30,7 @@ use Rattle.abs_value.specs.Stack.{has_unset, loaded_from}
 use Rattle.abs_value.specs.States.{opening_state, value_at, join_states, operand_value, with_value}
 use Rattle.abs_value.specs.States.{with_operand, with_stored}
 use Rattle.abs_value.specs.Lookups.{state_with_answer, refined_state, called}
-use Rattle.abs_value.specs.Covers.{Answers, AreBefore, answering, Includes, IsWord, Covers}
+use Rattle.abs_value.specs.Covers.{Answers, AreBefore, answering, IsWord, FitsImm, Includes, Covers}
 
 -- ---- values
 
@@ -98,7 +98,7 @@ RegistersAreThere =
 abbrev pub OperandsAreThere : Type 0
 OperandsAreThere =
     (g : Answers) (e : AbsState) (s : State) (bits : Bits) (src : Operand)
-    → Covers g e s → is_unusable (operand_value e bits src) ≡ false
+    → FitsImm src → Covers g e s → is_unusable (operand_value e bits src) ≡ false
     → IsThere g (operand_value e bits src) (operand s bits src)
 
 -- the register that is written gets a value
@@ -152,7 +152,7 @@ abbrev pub CoversEdges : Type 0
 CoversEdges =
     (g : Answers) (e : AbsState) (s : State)
     (bits : Bits) (condition : Condition) (left : Reg) (right : Operand) (jumps : Bool) (x y : ℕ)
-    → Covers g e s → register s left ≡ Some x → operand s bits right ≡ Some y
+    → FitsImm right → Covers g e s → register s left ≡ Some x → operand s bits right ≡ Some y
     → is_taken jumps (holds bits condition x y) ≡ true
     → CoversOn g (refined_state e bits condition left right jumps) s
 
@@ -174,6 +174,10 @@ abbrev pub CoversSecond : Type 0
 CoversSecond =
     (g : Answers) (e f : AbsState) (s : State)
     → Covers g f s → Covers g (join_states e f) s
+
+-- in whichever order two are joined
+abbrev pub JoinsCommute : Type 0
+JoinsCommute = (e f : AbsState) → join_states e f ≡ join_states f e
 
 abbrev pub CoversOpening : Type 0
 CoversOpening = (g : Answers) (a : Attributes) → Covers g opening_state (opening a)

@@ -1,3 +1,4 @@
+pub mod Intervals
 pub mod Numbers
 pub mod Bounds
 pub mod Narrowing
@@ -7,6 +8,6 @@ pub mod States
 pub mod Lookups
 pub mod Covers
 pub mod Laws
-pub mod Inhabited
+pub mod Order
 pub use Rattle.bpf_semantics.specs as bpf_semantics
 pub use Rattle.bpf_semantics.specs.attrs

@@ -1,43 +1,50 @@
--- What is known of a number: the least and the greatest that it may be.
-use Rattle.std.specs.Prelude.{ℕ, ◌-◌, ◌%◌, ◌^◌, ◌≤◌, min, max, Bool, nat_le, ◌==◌, if◌then◌else◌}
+-- What is known of a number: the interval in which it lies.
+use Rattle.std.specs.Prelude.{ℕ, Bool, ◌&&◌, ◌==◌, nat_le}
 use Rattle.bpf_insn.specs.declared.operand.Bits.{Bits}
-use Rattle.bpf_insn.specs.declared.operand.Bits.TheVariants.{Bits64, Bits32}
+use Rattle.abs_value.specs.declared.interval.Interval.{Interval}
 use Rattle.abs_value.specs.declared.number.Number.{Number}
+use Rattle.abs_value.specs.Intervals.{just, is_just, from_zero, all_of, cut_interval, hull}
 
-abbrev pub number : ℕ → ℕ → Number
-number lo hi = record { lo = lo; hi = hi }
+abbrev pub number : Interval → Number
+number range = record { range = range }
 
 abbrev pub single : ℕ → Number
-single n = number n n
-
-abbrev pub is_single : Number → Bool
-is_single a = a.lo == a.hi
-
--- the greatest number of a class
-abbrev pub greatest : Bits → ℕ
-greatest Bits64 = 2 ^ 64 - 1
-greatest Bits32 = 2 ^ 32 - 1
+single n = number (just n)
 
 abbrev pub up_to : ℕ → Number
-up_to hi = number 0 hi
+up_to hi = number (from_zero hi)
 
 -- any number of the class
 abbrev pub full : Bits → Number
-full bits = up_to (greatest bits)
+full w = number (all_of w)
 
--- what a class takes of a number: of a single one its low half, of a range that goes past 32 bits
--- any number of 32 bits
+-- what a class takes of a number
 abbrev pub cut : Bits → Number → Number
-cut Bits64 a = a
-cut Bits32 a =
-    if is_single a then single (a.lo % 2 ^ 32)
-    else if nat_le a.hi (greatest Bits32) then a
-    else full Bits32
+cut w a = number (cut_interval w a.range)
 
--- the least range that holds both
-abbrev pub hull : Number → Number → Number
-hull a b = number (min a.lo b.lo) (max a.hi b.hi)
+-- what is known on both sides
+abbrev pub join_numbers : Number → Number → Number
+join_numbers a b = number (hull a.range b.range)
 
--- some number lies between the ends
-abbrev pub IsRange : Number → Type 0
-IsRange a = a.lo ≤ a.hi
+-- ---- questions
+
+-- no number is below the least, or above the most
+abbrev pub least : Number → ℕ
+least a = a.range.lo
+
+abbrev pub most : Number → ℕ
+most a = a.range.hi
+
+-- one number alone
+abbrev pub is_single : Number → Bool
+is_single a = is_just a.range
+
+abbrev pub are_single : Number → Number → Bool
+are_single a b = is_single a && is_single b
+
+-- this number alone
+abbrev pub is_only : Number → ℕ → Bool
+is_only a n = (least a == n) && (most a == n)
+
+abbrev pub is_at_most : Number → ℕ → Bool
+is_at_most a n = nat_le (most a) n

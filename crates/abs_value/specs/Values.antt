@@ -25,7 +25,7 @@ use Rattle.abs_value.specs.declared.origin.Origin.{Origin}
 use Rattle.abs_value.specs.declared.origin.Origin.TheVariants.{Found, Fixed}
 use Rattle.abs_value.specs.declared.value.Abs.TheVariants.{Unusable, Num, Ctx, Stk}
 use Rattle.abs_value.specs.declared.value.Abs.TheVariants.{Map, MayCell, Cell}
-use Rattle.abs_value.specs.Numbers.{single, is_single, up_to, full, cut, hull}
+use Rattle.abs_value.specs.Numbers.{single, is_single, least, most, up_to, full, cut, join_numbers}
 use Rattle.abs_value.specs.Bounds.{alu_number, extended_number, reordered_number}
 use Rattle.abs_value.specs.Narrowing.{narrowed}
 
@@ -69,10 +69,12 @@ distance_of_end Add n = Some (pos n)
 distance_of_end op n = None
 
 abbrev pub least_distance : AluOp → Number → Option ℤ
-least_distance op by = if is_single by then distance op by.lo else distance_of_end op by.lo
+least_distance op by =
+    if is_single by then distance op (least by) else distance_of_end op (least by)
 
 abbrev pub greatest_distance : AluOp → Number → Option ℤ
-greatest_distance op by = if is_single by then distance op by.hi else distance_of_end op by.hi
+greatest_distance op by =
+    if is_single by then distance op (most by) else distance_of_end op (most by)
 
 -- none where the place may leave the region
 abbrev pub moved : ℕ → ℕ → Option ℤ → Option ℕ
@@ -88,7 +90,7 @@ moved_in_context op from by =
 -- only a single number moves a place in the stack
 abbrev pub moved_in_stack : AluOp → ℕ → Number → Option ℕ
 moved_in_stack op place by =
-    if is_single by then moved stack_size place (distance op by.lo) else None
+    if is_single by then moved stack_size place (distance op (least by)) else None
 
 -- 64-bit arithmetic of a pointer and a number; none where no pointer comes of it
 abbrev pub pointer_result : Bits → AluOp → Abs → Abs → Option Abs
@@ -161,7 +163,7 @@ same_origin a b = false
 -- ---- what stands for both
 
 abbrev pub join_values : Abs → Abs → Abs
-join_values (Num a) (Num b) = Num (hull a b)
+join_values (Num a) (Num b) = Num (join_numbers a b)
 join_values (Ctx a) (Ctx b) = Ctx (place_hull a b)
 join_values (Stk a) (Stk b) = if a == b then Stk a else Unusable
 join_values (Map a) (Map b) = if a == b then Map a else Unusable

@@ -1,28 +1,29 @@
-//! Arithmetic with ranges: one formula an operation, over the numbers of a class. On two single
+//! Arithmetic with intervals: one formula an operation, over the numbers of a class. On two single
 //! numbers it is what the machine computes.
 
 ghost use Rattle.std.specs.Prelude.{◌≡◌, ◌<◌, ◌-◌};
 ghost use Rattle.abs_value.specs.Bounds as bounds;
 
-use crate::number::{Number, greatest};
+use crate::interval::{Interval, greatest};
+use crate::number::Number;
 use bpf_insn::{AluOp, Bits, ByteOrder, EndSize, Extension};
 
 /// From `lo` to `hi`, where these are numbers of the class; else any.
-fn fitting(bits: Bits, lo: u128, hi: u128) -> Number
+fn fitting(bits: Bits, lo: u128, hi: u128) -> Interval
     ensures { result ≡ bounds.fitting bits lo hi }
 {
     let greatest = greatest(bits) as u128;
     if lo <= greatest && hi <= greatest {
-        Number {
+        Interval {
             lo: lo as u64,
             hi: hi as u64,
         }
     } else {
-        Number::full(bits)
+        Interval::all_of(bits)
     }
 }
 
-fn sum(bits: Bits, a: Number, b: Number) -> Number
+fn sum(bits: Bits, a: Interval, b: Interval) -> Interval
     ensures { result ≡ bounds.sum bits a b }
 {
     fitting(
@@ -32,23 +33,23 @@ fn sum(bits: Bits, a: Number, b: Number) -> Number
     )
 }
 
-fn difference(bits: Bits, a: Number, b: Number) -> Number
+fn difference(bits: Bits, a: Interval, b: Interval) -> Interval
     ensures { result ≡ bounds.difference bits a b }
 {
     if b.hi <= a.lo {
-        Number {
+        Interval {
             lo: a.lo - b.hi,
             hi: a.hi.saturating_sub(b.lo),
         }
     } else {
-        Number::full(bits)
+        Interval::all_of(bits)
     }
 }
 
-fn conjunction(a: Number, b: Number) -> Number
+fn conjunction(a: Interval, b: Interval) -> Interval
     ensures { result ≡ bounds.conjunction a b }
 {
-    Number::up_to(a.hi.min(b.hi))
+    Interval::from_zero(a.hi.min(b.hi))
 }
 
 /// All ones up to the highest bit that is set.
@@ -59,24 +60,24 @@ fn ones_of(n: u64) -> u64
     if zeros < 64 { u64::MAX >> zeros } else { 0 }
 }
 
-fn disjunction(a: Number, b: Number) -> Number
+fn disjunction(a: Interval, b: Interval) -> Interval
     ensures { result ≡ bounds.disjunction a b }
 {
-    Number::up_to(ones_of(a.hi.max(b.hi)))
+    Interval::from_zero(ones_of(a.hi.max(b.hi)))
 }
 
-fn shifted_left(bits: Bits, a: Number, count: u32) -> Number
+fn shifted_left(bits: Bits, a: Interval, count: u32) -> Interval
     requires { count < 64 }
     ensures { result ≡ bounds.shifted_left bits a count }
 {
     fitting(bits, (a.lo as u128) << count, (a.hi as u128) << count)
 }
 
-fn shifted_right(a: Number, count: u32) -> Number
+fn shifted_right(a: Interval, count: u32) -> Interval
     requires { count < 64 }
     ensures { result ≡ bounds.shifted_right a count }
 {
-    Number {
+    Interval {
         lo: a.lo >> count,
         hi: a.hi >> count,
     }
@@ -92,19 +93,19 @@ pub fn sign_bit(bits: Bits) -> u64
     }
 }
 
-fn shifted_signed(bits: Bits, a: Number, count: u32) -> Number
+fn shifted_signed(bits: Bits, a: Interval, count: u32) -> Interval
     requires { count < 64 }
     ensures { result ≡ bounds.shifted_signed bits a count }
 {
     if a.hi < sign_bit(bits) {
         shifted_right(a, count)
     } else {
-        Number::full(bits)
+        Interval::all_of(bits)
     }
 }
 
 /// By how much a single number shifts.
-fn count_of(bits: Bits, b: Number) -> u32
+fn count_of(bits: Bits, b: Interval) -> u32
     ensures count { result ≡ bounds.count_of bits b }
     ensures masked { result < 64 }
 {
@@ -115,7 +116,7 @@ fn count_of(bits: Bits, b: Number) -> u32
 }
 
 /// The formula of an operation, on numbers of the class.
-fn bounds_of(bits: Bits, op: AluOp, a: Number, b: Number) -> Number
+fn bounds_of(bits: Bits, op: AluOp, a: Interval, b: Interval) -> Interval
     ensures { result ≡ bounds.bounds bits op a b }
 {
     match op {
@@ -123,10 +124,10 @@ fn bounds_of(bits: Bits, op: AluOp, a: Number, b: Number) -> Number
         AluOp::Sub => difference(bits, a, b),
         AluOp::And => conjunction(a, b),
         AluOp::Or | AluOp::Xor => disjunction(a, b),
-        AluOp::Lsh if b.is_single() => shifted_left(bits, a, count_of(bits, b)),
-        AluOp::Rsh if b.is_single() => shifted_right(a, count_of(bits, b)),
-        AluOp::Arsh if b.is_single() => shifted_signed(bits, a, count_of(bits, b)),
-        AluOp::Lsh | AluOp::Rsh | AluOp::Arsh => Number::full(bits),
+        AluOp::Lsh if b.is_just() => shifted_left(bits, a, count_of(bits, b)),
+        AluOp::Rsh if b.is_just() => shifted_right(a, count_of(bits, b)),
+        AluOp::Arsh if b.is_just() => shifted_signed(bits, a, count_of(bits, b)),
+        AluOp::Lsh | AluOp::Rsh | AluOp::Arsh => Interval::all_of(bits),
     }
 }
 
@@ -136,9 +137,11 @@ impl Number {
         ensures { result ≡ bounds.alu_number bits op self other }
     {
         if self.is_single() && other.is_single() {
-            Number::single(op.apply(bits, self.lo, other.lo))
+            Number::single(op.apply(bits, self.range.lo, other.range.lo))
         } else {
-            bounds_of(bits, op, self.cut(bits), other.cut(bits))
+            Number {
+                range: bounds_of(bits, op, self.cut(bits).range, other.cut(bits).range),
+            }
         }
     }
 
@@ -147,7 +150,7 @@ impl Number {
         ensures { result ≡ bounds.extended_number extension self }
     {
         if self.is_single() {
-            return Number::single(extension.extend(self.lo));
+            return Number::single(extension.extend(self.range.lo));
         }
         match extension {
             Extension::Byte64 | Extension::Half64 | Extension::Word64 => Number::full(Bits::Bits64),
@@ -160,7 +163,7 @@ impl Number {
         ensures { result ≡ bounds.reordered_number order size self }
     {
         if self.is_single() {
-            return Number::single(order.reorder(size, self.lo));
+            return Number::single(order.reorder(size, self.range.lo));
         }
         match size {
             EndSize::Half => Number::up_to(u16::MAX as u64),

@@ -1,8 +1,8 @@
 //! What the definitions promise to the crates above: what is computed here stands for what the
-//! machine does, and no range is empty. The functions have no work to do; a proof calls them for
+//! machine does, and ends stay in order. The functions have no work to do; a proof calls them for
 //! their clauses.
 
-ghost use Rattle.abs_value.specs.Inhabited as ranges;
+ghost use Rattle.abs_value.specs.Order as ranges;
 ghost use Rattle.abs_value.specs.Laws as laws;
 
 /// Of numbers that two values include, each operation gives a number that its result includes:
@@ -58,6 +58,11 @@ pub fn joins_cover()
     ensures second { laws.CoversSecond }
 {}
 
+/// A join is the same in either order.
+pub fn joins_commute()
+    ensures { laws.JoinsCommute }
+{}
+
 /// A store within the stack is possible, and what is known afterwards covers the state it leaves.
 pub fn stores_cover()
     ensures { laws.CoversStores }
@@ -73,29 +78,28 @@ pub fn bytes_are_there()
     ensures { laws.BytesAreThere }
 {}
 
-/// From ranges with numbers in them no operation on values computes an empty range.
-pub fn ranges_have_numbers()
-    ensures alu { ranges.InhabitsResults }
-    ensures copied { ranges.InhabitsCopies }
-    ensures negated { ranges.InhabitsNegations }
-    ensures extended { ranges.InhabitsExtensions }
-    ensures reordered { ranges.InhabitsReorderings }
-    ensures loaded { ranges.InhabitsLoaded }
-    ensures refined { ranges.InhabitsEdges }
-    ensures joined { ranges.InhabitsJoins }
-    ensures answered { ranges.InhabitsAnswers }
-    ensures called { ranges.InhabitsCalls }
+/// Of values whose ends are in order each operation gives one whose ends are in order.
+pub fn values_stay_in_order()
+    ensures alu { ranges.ResultsInOrder }
+    ensures copied { ranges.CopiesInOrder }
+    ensures negated { ranges.NegationsInOrder }
+    ensures extended { ranges.ExtensionsInOrder }
+    ensures reordered { ranges.ReorderingsInOrder }
+    ensures loaded { ranges.LoadedInOrder }
+    ensures refined { ranges.EdgesInOrder }
+    ensures joined { ranges.JoinsInOrder }
+    ensures answered { ranges.AnswersInOrder }
+    ensures called { ranges.CallsInOrder }
 {}
 
-/// From states whose ranges all have numbers in them no operation on states makes one with an empty
-/// range.
-pub fn states_have_numbers()
-    ensures opening { ranges.InhabitsOpening }
-    ensures operands { ranges.InhabitsOperands }
-    ensures writes { ranges.InhabitsWrites }
-    ensures stores { ranges.InhabitsStores }
-    ensures loads { ranges.InhabitsLoads }
-    ensures joins { ranges.InhabitsMeetings }
-    ensures edges { ranges.InhabitsRefined }
-    ensures calls { ranges.InhabitsCalled }
+/// Of states in which all ends are in order each operation makes one in which they are.
+pub fn states_stay_in_order()
+    ensures opening { ranges.OpeningInOrder }
+    ensures operands { ranges.OperandsInOrder }
+    ensures writes { ranges.WritesInOrder }
+    ensures stores { ranges.StoresInOrder }
+    ensures loads { ranges.LoadsInOrder }
+    ensures joins { ranges.StateJoinsInOrder }
+    ensures edges { ranges.RefinedInOrder }
+    ensures calls { ranges.CalledInOrder }
 {}

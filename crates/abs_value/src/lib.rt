@@ -6,7 +6,9 @@
 // each thing that is known stands for a set of runs. Of a register (`Abs`) it is one of these:
 //
 // - nothing at all; the register may be unset (`Unusable`);
-// - a number between two ends (`Num`). It is unsigned, of 64 bits, and single where the ends meet;
+// - a number of an interval between two ends (`Num`). It is unsigned, of 64 bits, and single where
+//   the ends meet. `Interval` has the formulas; a `Number` is what is known of one number, of which
+//   the interval is all so far;
 // - the address of one of some places in the context (`Ctx`);
 // - the address of one place in the stack (`Stk`). Places are counted from the start of a region,
 //   and its end is one of them, so a pointer may stand behind the last byte but not access it;
@@ -55,6 +57,7 @@
 // run takes is never dropped.
 
 mod bounds;
+mod interval;
 mod laws;
 mod lookups;
 mod narrow;
@@ -67,11 +70,13 @@ mod stack;
 mod state;
 mod value;
 
+pub use interval::Interval;
 pub use laws::{
-    answers_are_kept, bytes_are_there, calls_cover, edges_are_kept, joins_cover, loads_cover,
-    lookups_cover, ranges_have_numbers, registers_cover, results_are_included, states_have_numbers,
+    answers_are_kept, bytes_are_there, calls_cover, edges_are_kept, joins_commute, joins_cover, loads_cover,
+    lookups_cover, values_stay_in_order, registers_cover, results_are_included, states_stay_in_order,
     stores_cover,
 };
+pub use lookups::compares_with_zero;
 pub use number::Number;
 pub use origin::{Lookup, Origin};
 pub use places::{CONTEXT_SIZE, Places, STACK_SIZE};

@@ -12,7 +12,7 @@ use crate::value::Abs;
 use bpf_insn::{Bits, Condition, Operand, Reg};
 
 /// Whether all 64 bits are compared with 0, to be equal or not.
-fn compares_with_zero(bits: Bits, condition: Condition, right: Operand) -> bool
+pub fn compares_with_zero(bits: Bits, condition: Condition, right: Operand) -> bool
     ensures { result ≡ lookups.compares_with_zero bits condition right }
 {
     match (bits, condition, right) {

@@ -37,11 +37,11 @@ impl Places {
         ensures { result ≡ values.moved_in_context op self by }
     {
         let (lo, hi) = if by.is_single() {
-            let lo = moved_by_single(CONTEXT_SIZE, op, self.lo, by.lo)?;
-            (lo, moved_by_single(CONTEXT_SIZE, op, self.hi, by.hi)?)
+            let lo = moved_by_single(CONTEXT_SIZE, op, self.lo, by.range.lo)?;
+            (lo, moved_by_single(CONTEXT_SIZE, op, self.hi, by.range.hi)?)
         } else {
-            let lo = moved_by_end(CONTEXT_SIZE, op, self.lo, by.lo)?;
-            (lo, moved_by_end(CONTEXT_SIZE, op, self.hi, by.hi)?)
+            let lo = moved_by_end(CONTEXT_SIZE, op, self.lo, by.range.lo)?;
+            (lo, moved_by_end(CONTEXT_SIZE, op, self.hi, by.range.hi)?)
         };
         Some(Places { lo, hi })
     }
@@ -52,7 +52,7 @@ pub fn moved_in_stack(op: AluOp, place: u16, by: Number) -> Option<u16>
     ensures { result ≡ values.moved_in_stack op place by }
 {
     if by.is_single() {
-        moved_by_single(STACK_SIZE, op, place, by.lo)
+        moved_by_single(STACK_SIZE, op, place, by.range.lo)
     } else {
         None
     }

@@ -14,7 +14,10 @@ pub enum Relation {
     AtMost,
     More,
     AtLeast,
-    Unknown,
+    /// They have a bit in common.
+    Meets,
+    /// They have no bit in common.
+    Misses,
 }
 
 impl Relation {
@@ -29,7 +32,7 @@ impl Relation {
             Condition::Le | Condition::Sle => Relation::AtMost,
             Condition::Gt | Condition::Sgt => Relation::More,
             Condition::Ge | Condition::Sge => Relation::AtLeast,
-            Condition::Set => Relation::Unknown,
+            Condition::Set => Relation::Meets,
         }
     }
 
@@ -43,7 +46,8 @@ impl Relation {
             Relation::AtMost => Relation::More,
             Relation::More => Relation::AtMost,
             Relation::AtLeast => Relation::Less,
-            Relation::Unknown => Relation::Unknown,
+            Relation::Meets => Relation::Misses,
+            Relation::Misses => Relation::Meets,
         }
     }
 

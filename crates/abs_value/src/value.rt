@@ -180,7 +180,7 @@ impl Abs {
         ensures { result ≡ values.join_values self other }
     {
         match (self, other) {
-            (Abs::Num(a), Abs::Num(b)) => Abs::Num(a.hull(b)),
+            (Abs::Num(a), Abs::Num(b)) => Abs::Num(a.join(b)),
             (Abs::Ctx(a), Abs::Ctx(b)) => Abs::Ctx(a.hull(b)),
             (Abs::Stk { place }, Abs::Stk { place: other }) if place == other => Abs::Stk { place },
             (Abs::Map { index }, Abs::Map { index: other }) if index == other => Abs::Map { index },

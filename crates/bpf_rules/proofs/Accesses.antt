@@ -124,7 +124,8 @@ store_imm_safe given shape e s size dst offset imm fits f g h ok =
     (store_by given shape e s size dst offset (value_of e dst) (Num (single (immediate Bits64 imm)))
     a.number (immediate Bits64 imm) h fits f u ok.inside ok.context ok.address
     (and_true (reaches_quota shape (store_access size dst offset) (value_of e dst)) ok.quota)
-    a.included (imm_word Bits64 imm g) (omega arith, omega arith))
+    a.included (imm_word Bits64 imm g)
+    (record { between = (omega arith, omega arith); word = imm_word Bits64 imm g }))
 
 pub store_safe : (given : Given) (shape : AppShape) (e : AbsState) (s : State) (size : Size)
     (dst src : Reg) (offset : ℤ) → IsShape shape → FitsSigned w16 offset → HasWords s

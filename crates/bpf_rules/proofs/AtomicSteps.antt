@@ -79,8 +79,10 @@ fetched_included g size c reply wide fits =
   where
     by_size : (size : AtomicSize) → reply < 2 ^ (8 * atomic_count size)
         → Includes g (fetched_value size) reply
-    by_size Word fits = (omega arith, omega (arith, fits))
-    by_size Double fits = (omega arith, omega (arith, fits))
+    by_size Word fits =
+        record { between = (omega arith, omega (arith, fits)); word = omega (arith, fits) }
+    by_size Double fits =
+        record { between = (omega arith, omega (arith, fits)); word = omega (arith, fits) }
 
 -- ---- operands
 
@@ -127,7 +129,7 @@ base_usable e op dst src u = first (is_unusable (value_of e dst)) _ u
 
 -- a fetch-add of a single 1 adds 1
 one_is : (g : Answers) (v : Abs) (x : ℕ) → is_one v ≡ true → Includes g v x → x ≡ 1
-one_is g (Num n) x one h = grind (arith, one, h)
+one_is g (Num n) x one h = grind (arith, one, h.between)
 one_is g Unusable x one h = absurd cc
 one_is g (Ctx from) x one h = absurd cc
 one_is g (Stk place) x one h = absurd cc

@@ -18,7 +18,7 @@ use Rattle.abs_value.specs.bpf_semantics.Step.{act}
 use Rattle.abs_value.specs.declared.value.Abs.{Abs}
 use Rattle.abs_value.specs.declared.value.Abs.TheVariants.{Unusable, Num, Ctx, Stk, Map, MayCell, Cell}
 use Rattle.abs_value.specs.declared.state.AbsState.{AbsState}
-use Rattle.abs_value.specs.Numbers.{is_single}
+use Rattle.abs_value.specs.Numbers.{is_single, least}
 use Rattle.abs_value.specs.Values.{is_unusable, is_number}
 use Rattle.abs_value.specs.Stack.{has_unset}
 use Rattle.abs_value.specs.States.{value_of}
@@ -106,18 +106,19 @@ text_there : (given : Given) (shape : AppShape) (e : AbsState) (s : State) (v w 
     → text_unset e v w ≡ false → Includes (answers h) v address → Includes (answers h) w n
     → IsSome (compared s number address n)
 text_there given shape e s (Stk place) (Num m) number address n h words is set at length =
-    let parts = true_and (is_single m && nat_le m.lo 64) (nat_le (place + m.lo) stack_size) is in
-    let more = true_and (is_single m) (nat_le m.lo 64) parts.0 in
-    let one : n ≡ m.lo = grind (arith, more.0, length) in
+    let parts = true_and (is_single m && nat_le (least m) 64)
+    (nat_le (place + least m) stack_size) is in
+    let more = true_and (is_single m) (nat_le (least m) 64) parts.0 in
+    let one : n ≡ m.range.lo = grind (arith, more.0, length.between) in
     let short : n ≤ 64 = grind (arith, more.1, one) in
-    let up : place + m.lo ≤ stack_size = leb-true (place + m.lo) stack_size parts.1 in
+    let up : place + m.range.lo ≤ stack_size = leb-true (place + m.range.lo) stack_size parts.1 in
     let within : place + n ≤ stack_size = omega (arith, up, one) in
-    let unset : has_unset e.stack (pos place +ℤ pos 0) (min m.lo stack_size) ≡ false =
+    let unset : has_unset e.stack (pos place +ℤ pos 0) (min m.range.lo stack_size) ≡ false =
     rw more.0 at set in
     let none : place + 0 ≡ place = omega arith in
     let start : pos place +ℤ pos 0 ≡ pos place = ap pos none in
-    let least : min m.lo stack_size ≡ n = omega (arith, one, short) in
-    rw at (text_at given shape e s place n number h words short within (rw (start, least) at unset))
+    let read : min m.range.lo stack_size ≡ n = omega (arith, one, short) in
+    rw at (text_at given shape e s place n number h words short within (rw (start, read) at unset))
 text_there given shape e s v w number address n h words is set at length = absurd cc
 
 -- ---- each helper

@@ -114,10 +114,14 @@ reply_included g kind c reply sign wide fits =
   where
     by_kind : (kind : LoadKind) → extends_sign (load_use kind) ≡ false
         → reply < 2 ^ (8 * load_count kind) → Includes g (loaded_value kind) reply
-    by_kind kinds.Byte sign fits = (omega arith, omega (arith, fits))
-    by_kind kinds.Half sign fits = (omega arith, omega (arith, fits))
-    by_kind kinds.Word sign fits = (omega arith, omega (arith, fits))
-    by_kind kinds.Double sign fits = (omega arith, omega (arith, fits))
+    by_kind kinds.Byte sign fits =
+        record { between = (omega arith, omega (arith, fits)); word = omega (arith, fits) }
+    by_kind kinds.Half sign fits =
+        record { between = (omega arith, omega (arith, fits)); word = omega (arith, fits) }
+    by_kind kinds.Word sign fits =
+        record { between = (omega arith, omega (arith, fits)); word = omega (arith, fits) }
+    by_kind kinds.Double sign fits =
+        record { between = (omega arith, omega (arith, fits)); word = omega (arith, fits) }
     by_kind kind sign fits = absurd cc
 
 pub cell_load_safe : (given : Given) (shape : AppShape) (e : AbsState) (s : State) (kind : LoadKind)

@@ -25,7 +25,7 @@ use Rattle.abs_value.specs.bpf_semantics.Step.{act}
 use Rattle.abs_value.specs.declared.state.AbsState.{AbsState}
 use Rattle.abs_value.specs.Values.{is_unusable, alu_value, copied_value, negated_value, extended_value, reordered_value}
 use Rattle.abs_value.specs.States.{value_of, operand_value}
-use Rattle.abs_value.specs.Covers.{IsWord, IsStoodFor}
+use Rattle.abs_value.specs.Covers.{IsWord, FitsImm, IsStoodFor}
 use Rattle.abs_value.specs.Laws.{IsThere}
 use Rattle.bpf_rules.specs.Reads.{operand_register}
 use Rattle.bpf_rules.specs.Transfer.{edges}
@@ -55,11 +55,6 @@ imm_word Bits64 (negsuc n) f = grind (arith, ints)
 imm_word Bits32 (pos n) f = grind (arith, ints)
 imm_word Bits32 (negsuc n) f = grind (arith, ints)
 
--- the number of an imm fits its field
-abbrev pub FitsImm : Operand → Type 0
-FitsImm (Imm k) = FitsSigned w32 k
-FitsImm (Register r) = Unit {0}
-
 pub operand_word : (s : State) (bits : Bits) (src : Operand) (x : ℕ)
     → FitsImm src → HasWords s → operand s bits src ≡ Some x → IsWord x
 operand_word s bits (Imm k) x f w is =
@@ -78,7 +73,7 @@ alu_safe given shape e s bits op dst src f w h ok =
     (list_any (λ r. is_unusable (value_of e r)) (operand_register src))
     (false_or _ false ok.usable).0 in
     let a = given.registers (answers h) e s (number_of dst) h.covers u.0 in
-    let b = given.operands (answers h) e s bits src h.covers (operand_usable e bits src u.1) in
+    let b = given.operands (answers h) e s bits src f h.covers (operand_usable e bits src u.1) in
     write_safe given shape e s 1 dst (alu_value bits op (value_of e dst) (operand_value e bits src))
     _ (alu_result bits op a.number b.number) h ok.frame
     (both_there (alu_result bits op) (register s dst)
@@ -88,11 +83,12 @@ alu_safe given shape e s bits op dst src f w h ok =
     (operand_word s bits src b.number f w b.is) a.included b.included)
 
 pub mov_safe : (given : Given) (shape : AppShape) (e : AbsState) (s : State) (bits : Bits)
-    (dst : Reg) (src : Operand) → IsStoodFor shape e s → Passes shape e (Mov bits dst src)
+    (dst : Reg) (src : Operand) → FitsImm src → IsStoodFor shape e s
+    → Passes shape e (Mov bits dst src)
     → IsSafe shape (edges shape s.slot e (Mov bits dst src)) (act shape s (Mov bits dst src))
 unfolding edges
-mov_safe given shape e s bits dst src h ok =
-    let b = given.operands (answers h) e s bits src h.covers
+mov_safe given shape e s bits dst src f h ok =
+    let b = given.operands (answers h) e s bits src f h.covers
     (operand_usable e bits src (false_or _ false ok.usable).0) in
     write_safe given shape e s 1 dst (copied_value bits (operand_value e bits src)) _
     (word bits b.number) h ok.frame

@@ -24,7 +24,7 @@ use Rattle.abs_value.specs.declared.state.AbsState.{AbsState}
 use Rattle.abs_value.specs.Values.{is_unusable}
 use Rattle.abs_value.specs.States.{value_of}
 use Rattle.abs_value.specs.Lookups.{refined_state}
-use Rattle.abs_value.specs.Covers.{Answers, Includes, Covers, IsStoodFor}
+use Rattle.abs_value.specs.Covers.{Answers, FitsImm, Includes, Covers, IsStoodFor}
 use Rattle.abs_value.specs.Laws.{CoversOn}
 use Rattle.bpf_rules.specs.Reads.{operand_register}
 use Rattle.bpf_rules.specs.Rules.{is_choice}
@@ -91,31 +91,31 @@ not_taken false h = refl
 
 pub jump_if_safe : (given : Given) (shape : AppShape) (e : AbsState) (s : State) (bits : Bits)
     (condition : Condition) (left : Reg) (right : Operand) (offset : ℤ) → pos 0 ≤ℤ offset
-    → IsStoodFor shape e s → Passes shape e (JumpIf bits condition left right offset)
+    → FitsImm right → IsStoodFor shape e s → Passes shape e (JumpIf bits condition left right offset)
     → IsSafe shape (edges shape s.slot e (JumpIf bits condition left right offset))
     (act shape s (JumpIf bits condition left right offset))
 unfolding edges
-jump_if_safe given shape e s bits condition left right offset forward h ok =
+jump_if_safe given shape e s bits condition left right offset forward f h ok =
     let u = false_or (is_unusable (value_of e left))
     (list_any (λ r. is_unusable (value_of e r)) (operand_register right))
     (false_or _ false ok.usable).0 in
     let a = given.registers (answers h) e s (number_of left) h.covers u.0 in
-    let b = given.operands (answers h) e s bits right h.covers (operand_usable e bits right u.1) in
+    let b = given.operands (answers h) e s bits right f h.covers (operand_usable e bits right u.1) in
     branch_safe given shape e s offset (refined_state e bits condition left right true)
     (refined_state e bits condition left right false) _
     (holds bits condition a.number b.number) h forward
     (both_there (holds bits condition) (register s left)
     (operand s bits right) a.number b.number a.is b.is)
-    (λ t. given.edges (answers h) e s bits condition left right true a.number b.number h.covers
+    (λ t. given.edges (answers h) e s bits condition left right true a.number b.number f h.covers
     a.is b.is t)
-    (λ t. given.edges (answers h) e s bits condition left right false a.number b.number h.covers
+    (λ t. given.edges (answers h) e s bits condition left right false a.number b.number f h.covers
     a.is b.is (not_taken (holds bits condition a.number b.number) t))
 
 -- ---- the end
 
 choice_is : (g : Answers) (shape : AppShape) (a : Abs) (x : ℕ)
     → Includes g a x → is_choice shape a ≡ true → x ≤ shape.releases
-choice_is g shape (Num r) x h c = grind (arith, h)
+choice_is g shape (Num r) x h c = grind (arith, h.between, c)
 choice_is g shape a x h c = absurd cc
 
 finish_safe : (shape : AppShape) (w : Option ℕ) (x : ℕ) → w ≡ Some x → x ≤ shape.releases

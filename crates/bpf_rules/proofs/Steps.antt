@@ -18,7 +18,8 @@ use Rattle.bpf_rules.specs.Sound.{IsSafe, EveryStepIsSafe, FirstStands, SecondSt
 use Rattle.bpf_rules.proofs.Given.{Given}
 use Rattle.bpf_rules.proofs.Passes.{Passes, passes}
 use Rattle.bpf_rules.proofs.Outcomes.{answers}
-use Rattle.bpf_rules.proofs.Computing.{FitsImm, alu_safe, mov_safe, movsx_safe, neg_safe, end_safe}
+use Rattle.abs_value.specs.Covers.{FitsImm}
+use Rattle.bpf_rules.proofs.Computing.{alu_safe, mov_safe, movsx_safe, neg_safe, end_safe}
 use Rattle.bpf_rules.proofs.Jumping.{jump_safe, jump_if_safe, exit_safe}
 use Rattle.bpf_rules.proofs.AtomicSteps.{atomic_safe}
 use Rattle.bpf_rules.proofs.WideSteps.{wide_safe}
@@ -35,7 +36,7 @@ step_safe : (given : Given) (shape : AppShape) (e : AbsState) (s : State) (i : I
 step_safe given shape e s (Alu bits op dst src) fits f forward w h ok =
     alu_safe given shape e s bits op dst src (fits_imm src f.first.imm) w h ok
 step_safe given shape e s (Mov bits dst src) fits f forward w h ok =
-    mov_safe given shape e s bits dst src h ok
+    mov_safe given shape e s bits dst src (fits_imm src f.first.imm) h ok
 step_safe given shape e s (MovSx extension dst src) fits f forward w h ok =
     movsx_safe given shape e s extension dst src h ok
 step_safe given shape e s (Neg bits dst) fits f forward w h ok =
@@ -45,7 +46,8 @@ step_safe given shape e s (End order size dst) fits f forward w h ok =
 step_safe given shape e s (Jump distance) fits f forward w h ok =
     jump_safe given shape e s distance forward h
 step_safe given shape e s (JumpIf bits condition left right offset) fits f forward w h ok =
-    jump_if_safe given shape e s bits condition left right offset forward h ok
+    jump_if_safe given shape e s bits condition left right offset forward
+    (fits_imm right f.first.imm) h ok
 step_safe given shape e s (Call helper) fits f forward w h ok =
     call_safe given shape e s helper h w ok
 step_safe given shape e s Exit fits f forward w h ok = exit_safe given shape e s h ok
@@ -58,7 +60,7 @@ step_safe given shape e s (Store size dst src offset) fits f forward w h ok =
 step_safe given shape e s (Atomic op size dst src offset) fits f forward w h ok =
     atomic_safe given shape e s op size dst src offset h fits ok
 step_safe given shape e s (Wide dst value) fits f forward w h ok =
-    wide_safe given shape e s dst value h fits ok
+    wide_safe given shape e s dst value f.number h fits ok
 
 pub steps_safe : Given → EveryStepIsSafe
 steps_safe given shape e s i fits f forward w h ok =

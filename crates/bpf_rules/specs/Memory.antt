@@ -8,7 +8,7 @@ use Rattle.abs_value.specs.declared.origin.Origin.{Origin}
 use Rattle.abs_value.specs.declared.value.Abs.{Abs}
 use Rattle.abs_value.specs.declared.value.Abs.TheVariants.{Num, Ctx, Stk, Map, MayCell, Cell}
 use Rattle.abs_value.specs.declared.state.AbsState.{AbsState}
-use Rattle.abs_value.specs.Numbers.{is_single}
+use Rattle.abs_value.specs.Numbers.{is_single, least}
 use Rattle.abs_value.specs.Stack.{has_unset, is_whole_slot}
 use Rattle.abs_value.specs.States.{value_of}
 use Rattle.bpf_rules.specs.declared.access.Use.{Use}
@@ -104,5 +104,5 @@ meets_unset e v offset n = false
 -- the bytes of a text: as many as a single length says, and at most as the stack has
 abbrev pub text_unset : AbsState → Abs → Abs → Bool
 text_unset e address (Num n) =
-    if is_single n then meets_unset e address (pos 0) (min n.lo stack_size) else false
+    if is_single n then meets_unset e address (pos 0) (min (least n) stack_size) else false
 text_unset e address v = false

@@ -21,7 +21,7 @@ use Rattle.cells.specs.Arrays.{AppShape}
 use Rattle.abs_value.specs.declared.value.Abs.{Abs}
 use Rattle.abs_value.specs.declared.value.Abs.TheVariants.{Num, Ctx, Stk, Map, MayCell, Cell}
 use Rattle.abs_value.specs.declared.state.AbsState.{AbsState}
-use Rattle.abs_value.specs.Numbers.{is_single}
+use Rattle.abs_value.specs.Numbers.{is_single, least, is_only, is_at_most}
 use Rattle.abs_value.specs.Values.{is_unusable, is_pointer, is_number, pointer_result}
 use Rattle.abs_value.specs.States.{value_of, operand_value}
 use Rattle.abs_value.specs.Lookups.{compares_with_zero}
@@ -164,7 +164,7 @@ is_map v = false
 -- a text in the stack: its address, and a single length of at most 64
 abbrev pub is_stack_text : Abs → Abs → Bool
 is_stack_text (Stk place) (Num n) =
-    is_single n && nat_le n.lo 64 && nat_le (place + n.lo) stack_size
+    is_single n && nat_le (least n) 64 && nat_le (place + least n) stack_size
 is_stack_text address length = false
 
 abbrev pub takes : AbsState → Option Helper → Bool
@@ -187,7 +187,7 @@ names_no_array shape i = false
 -- ---- V13: the run may end with a number above the releases, or with no number
 
 abbrev pub is_choice : AppShape → Abs → Bool
-is_choice shape (Num n) = nat_le n.hi shape.releases
+is_choice shape (Num n) = is_at_most n shape.releases
 is_choice shape v = false
 
 abbrev pub wrong_result : AppShape → AbsState → Insn → Bool
@@ -197,7 +197,7 @@ wrong_result shape e i = false
 -- ---- V14: a cell with a quota is touched by anything but a load or a fetch-add of 1
 
 abbrev pub is_one : Abs → Bool
-is_one (Num n) = (n.lo == 1) && (n.hi == 1)
+is_one (Num n) = is_only n 1
 is_one v = false
 
 abbrev pub leaves_quota : AbsState → Insn → Bool

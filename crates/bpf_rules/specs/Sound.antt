@@ -16,7 +16,7 @@ use Rattle.flow_check.specs.Edges.{JumpsForward}
 use Rattle.abs_value.specs.declared.state.AbsState.{AbsState}
 use Rattle.abs_value.specs.States.{opening_state, join_states}
 use Rattle.abs_value.specs.Covers.{IsStoodFor}
-use Rattle.abs_value.specs.Inhabited.{IsInhabitedState}
+use Rattle.abs_value.specs.Order.{IsStateInOrder}
 use Rattle.bpf_rules.specs.Rules.{first_rule}
 use Rattle.bpf_rules.specs.Transfer.{Edge, edge_to, edges, jumping, going_on}
 
@@ -76,12 +76,12 @@ SecondStands =
 abbrev pub OpeningStands : Type 0
 OpeningStands = (shape : AppShape) (a : Attributes) → IsStoodFor shape opening_state (opening a)
 
--- ranges that have numbers in them leave no empty range
-abbrev pub InhabitsJumping : Type 0
-InhabitsJumping =
-    (e : AbsState) (i : Insn) → IsInhabitedState e → IfSome (jumping e i) IsInhabitedState
+-- ends that are in order stay so
+abbrev pub JumpingInOrder : Type 0
+JumpingInOrder =
+    (e : AbsState) (i : Insn) → IsStateInOrder e → IfSome (jumping e i) IsStateInOrder
 
-abbrev pub InhabitsGoingOn : Type 0
-InhabitsGoingOn =
+abbrev pub GoingOnInOrder : Type 0
+GoingOnInOrder =
     (shape : AppShape) (slot : ℕ) (e : AbsState) (i : Insn)
-    → IsInhabitedState e → IfSome (going_on shape slot e i) IsInhabitedState
+    → IsStateInOrder e → IfSome (going_on shape slot e i) IsStateInOrder

@@ -50,7 +50,7 @@ fn is_one(value: Abs) -> bool
     ensures { result ≡ rules.is_one value }
 {
     match value {
-        Abs::Num(n) => n.lo == 1 && n.hi == 1,
+        Abs::Num(n) => n.is_only(1),
         _ => false,
     }
 }

@@ -50,7 +50,8 @@ fn is_stack_text(address: Abs, length: Abs) -> bool
 {
     match (address, length) {
         (Abs::Stk { place }, Abs::Num(n)) => {
-            n.is_single() && n.lo <= MAX_TEXT && place as u64 + n.lo <= STACK_SIZE as u64
+            let bytes = n.least();
+            n.is_single() && bytes <= MAX_TEXT && place as u64 + bytes <= STACK_SIZE as u64
         }
         _ => false,
     }
@@ -95,7 +96,7 @@ fn is_choice(shape: &Shape, value: Abs) -> bool
     ensures { result ≡ rules.is_choice shape.now value }
 {
     match value {
-        Abs::Num(n) => n.hi <= shape.releases() as u64,
+        Abs::Num(n) => n.is_at_most(shape.releases() as u64),
         _ => false,
     }
 }

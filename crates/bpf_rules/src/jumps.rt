@@ -2,11 +2,10 @@
 
 ghost use Rattle.std.specs.Prelude.{◌≡◌, ℤ};
 ghost use Rattle.cells.specs.Arrays.{AppShape};
-ghost use Rattle.abs_value.specs.Lookups.{compares_with_zero};
 ghost use Rattle.bpf_rules.specs.Rules as rules;
 
 use crate::refusal::Rule;
-use abs_value::{Abs, AbsState};
+use abs_value::{Abs, AbsState, compares_with_zero};
 use bpf_insn::{Bits, Condition, Insn, Operand, Reg};
 
 /// Whether it is what a lookup gave, or the address of a cell.
@@ -14,16 +13,6 @@ fn may_be_null(value: Abs) -> bool
     ensures { result ≡ rules.may_be_null value }
 {
     matches!(value, Abs::MayCell(_) | Abs::Cell(_))
-}
-
-/// Whether all 64 bits are compared with 0, to be equal or not.
-pub fn compares_with_zero(bits: Bits, condition: Condition, right: Operand) -> bool
-    ensures { result ≡ compares_with_zero bits condition right }
-{
-    match (bits, condition, right) {
-        (Bits::Bits64, Condition::Eq | Condition::Ne, Operand::Imm(imm)) => imm == 0,
-        _ => false,
-    }
 }
 
 /// The first rule that a conditional jump breaks.

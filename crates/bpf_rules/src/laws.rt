@@ -6,7 +6,7 @@ ghost use Rattle.bpf_rules.specs.Sound as sound;
 
 use abs_value::{
     answers_are_kept, bytes_are_there, calls_cover, joins_cover, loads_cover, lookups_cover,
-    ranges_have_numbers, registers_cover, results_are_included, states_have_numbers, stores_cover,
+    values_stay_in_order, registers_cover, results_are_included, states_stay_in_order, stores_cover,
 };
 
 /// A step from a state that is stood for, at an instruction that breaks no rule: it is no trap, an
@@ -36,11 +36,11 @@ pub fn states_are_stood_for()
     registers_cover();
 }
 
-/// From ranges with numbers in them no edge has an empty range.
-pub fn edges_have_numbers()
-    ensures jumping { sound.InhabitsJumping }
-    ensures going_on { sound.InhabitsGoingOn }
+/// From a state in which all ends are in order each edge leads to one.
+pub fn edges_stay_in_order()
+    ensures jumping { sound.JumpingInOrder }
+    ensures going_on { sound.GoingOnInOrder }
 {
-    ranges_have_numbers();
-    states_have_numbers();
+    values_stay_in_order();
+    states_stay_in_order();
 }

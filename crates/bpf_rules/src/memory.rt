@@ -128,7 +128,7 @@ pub fn text_unset(e: &AbsState, address: Abs, length: Abs) -> bool
 {
     match length {
         Abs::Num(n) if n.is_single() => {
-            meets_unset(e, address, 0, n.lo.min(STACK_SIZE as u64) as u16)
+            meets_unset(e, address, 0, n.least().min(STACK_SIZE as u64) as u16)
         }
         _ => false,
     }

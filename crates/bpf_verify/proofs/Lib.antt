@@ -2,7 +2,6 @@ pub mod Counts
 pub mod Lists
 pub mod Pools
 pub mod WaitingThen
-pub mod Joins
 pub mod Places
 pub mod Joining
 pub mod Swept
@@ -11,5 +10,5 @@ pub mod Laws
 pub mod Incoming
 pub mod Sound
 pub mod Whole
-pub mod Inhabited
+pub mod Order
 pub mod Tables

@@ -7,7 +7,7 @@ use Rattle.bpf_rules.specs.bpf_semantics.Program.{ShapedProgram, shaped}
 use Rattle.cells.specs.Arrays.{AppShape}
 use Rattle.bpf_rules.specs.abs_value.declared.state.AbsState.{AbsState}
 use Rattle.bpf_rules.specs.abs_value.States.{join_states, opening_state}
-use Rattle.bpf_rules.specs.abs_value.Inhabited.{IsInhabitedState}
+use Rattle.bpf_rules.specs.abs_value.Order.{IsStateInOrder}
 use Rattle.bpf_rules.specs.declared.refusal.Rule.{Rule}
 use Rattle.bpf_rules.specs.declared.refusal.Refusal.{Refusal}
 use Rattle.bpf_rules.specs.declared.refusal.Refusal.TheVariants as refusal
@@ -81,8 +81,8 @@ pub record HasOneVerdict (code : Program) (shape : AppShape) : Type 0 where
   pub refusal : (s t : ℕ) (rule other : Rule) → IsRefusedAt (shaped code shape) s rule
       → IsRefusedAt (shaped code shape) t other → (s ≡ t) × (rule ≡ other)
 
--- ---- no range is empty
+-- ---- ends are in order
 
--- each range that is known where an instruction begins has a number in it
-abbrev pub HasNoEmptyRange : ShapedProgram → Type 0
-HasNoEmptyRange p = (s : ℕ) (e : AbsState) → entry_of p s ≡ Some e → IsInhabitedState e
+-- of all that is known where an instruction begins the ends are in order
+abbrev pub HasEndsInOrder : ShapedProgram → Type 0
+HasEndsInOrder p = (s : ℕ) (e : AbsState) → entry_of p s ≡ Some e → IsStateInOrder e

@@ -9,6 +9,7 @@ use Rattle.cells.specs.Arrays.{AppShape}
 use Rattle.bpf_rules.specs.abs_value.declared.value.Abs.{Abs}
 use Rattle.bpf_rules.specs.abs_value.declared.value.Abs.TheVariants.{Unusable, Num, Ctx}
 use Rattle.bpf_rules.specs.abs_value.declared.state.AbsState.{AbsState}
+use Rattle.bpf_rules.specs.abs_value.Numbers.{least, most}
 use Rattle.bpf_rules.specs.abs_value.Stack.{is_set}
 use Rattle.bpf_rules.specs.abs_value.States.{register_at, value_at, opening_state}
 use Rattle.bpf_rules.specs.Rules.{first_rule}
@@ -19,14 +20,14 @@ pub record Known : Type 0 where
   pub registers : List Abs
   pub set : ℕ → Bool
 
--- the second range lies in the first, and has a number in it
+-- the second range lies in the first, and its ends are in order
 abbrev pub LiesIn : ℕ → ℕ → ℕ → ℕ → Type 0
 LiesIn from to lo hi = (from ≤ lo) × (lo ≤ hi) × (hi ≤ to)
 
 -- the first value stands for all that the second stands for
 abbrev pub IsWider : Abs → Abs → Type 0
 IsWider Unusable a = Unit {0}
-IsWider (Num c) (Num a) = LiesIn c.lo c.hi a.lo a.hi
+IsWider (Num c) (Num a) = LiesIn (least c) (most c) (least a) (most a)
 IsWider (Ctx c) (Ctx a) = LiesIn c.lo c.hi a.lo a.hi
 IsWider c a = c ≡ a
 

@@ -13,7 +13,7 @@ ghost use Rattle.bpf_verify.specs.Entries.{at_hand, arriving};
 
 use crate::pool::Pool;
 use bpf_insn::Insn;
-use bpf_rules::abs_value::AbsState;
+use bpf_rules::abs_value::{AbsState, joins_commute};
 use bpf_rules::flow_check::{jump_target, next_place};
 use bpf_rules::{Compared, go_on_in, is_lookup_check, jump_in};
 use cells::Shape;
@@ -59,6 +59,7 @@ impl Entries {
             return;
         };
         if self.is_live {
+            joins_commute();
             self.here.join_in(found);
         } else {
             self.here = *found;

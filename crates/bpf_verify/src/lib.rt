@@ -32,7 +32,7 @@ mod verified;
 
 pub use bpf_rules::{Refusal, Rule};
 pub use cells::Shape;
-pub use law::{no_range_is_empty, one_verdict};
+pub use law::{ends_are_in_order, one_verdict};
 pub use table::table_is_enough;
 pub use verified::{Verified, verify, verify_counted};
 

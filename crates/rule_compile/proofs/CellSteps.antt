@@ -16,7 +16,7 @@ use Rattle.bpf_verify.specs.abs_value.declared.number.Number.{Number}
 use Rattle.bpf_verify.specs.abs_value.declared.origin.Origin.TheVariants.{Fixed}
 use Rattle.bpf_verify.specs.abs_value.declared.value.Abs.TheVariants.{Num, Cell}
 use Rattle.bpf_verify.specs.abs_value.declared.state.AbsState.{AbsState}
-use Rattle.bpf_verify.specs.abs_value.Numbers.{single}
+use Rattle.bpf_verify.specs.abs_value.Numbers.{single, least, most}
 use Rattle.bpf_verify.specs.abs_value.States.{register_at, value_at, with_value}
 use Rattle.bpf_verify.specs.bpf_rules.Arrays.{wide_abs, has_quota_cell, has_quota}
 use Rattle.bpf_verify.specs.bpf_rules.Rules.{first_rule}
@@ -143,7 +143,7 @@ module _ (shape : AppShape) where
   }
 
   take_passes : (c : ℕ) (e : AbsState) (n : Number) → value_at e 3 ≡ Cell (Fixed c)
-      → value_at e 2 ≡ Num n → (64 == width c) ≡ true → n.lo ≡ 1 → n.hi ≡ 1
+      → value_at e 2 ≡ Num n → (64 == width c) ≡ true → least n ≡ 1 → most n ≡ 1
       → first_rule shape e insn.take_from_cell ≡ None
   unfolding first_rule
   take_passes c e n three two whole lo hi = elim (cases_Bool (has_quota shape (Fixed c))) [

@@ -14,8 +14,8 @@ use Rattle.bpf_verify.specs.abs_value.declared.number.Number.{Number}
 use Rattle.bpf_verify.specs.abs_value.declared.places.Places.{Places}
 use Rattle.bpf_verify.specs.abs_value.declared.value.Abs.TheVariants.{Num, Ctx}
 use Rattle.bpf_verify.specs.abs_value.declared.state.AbsState.{AbsState}
-use Rattle.bpf_verify.specs.abs_value.Bounds.{are_single, alu_number}
-use Rattle.bpf_verify.specs.abs_value.Numbers.{single}
+use Rattle.bpf_verify.specs.abs_value.Bounds.{alu_number}
+use Rattle.bpf_verify.specs.abs_value.Numbers.{single, least, most, are_single}
 use Rattle.bpf_verify.specs.abs_value.Values.{places, loaded_value}
 use Rattle.bpf_verify.specs.abs_value.States.{register_at, value_at, with_value}
 use Rattle.bpf_verify.specs.bpf_rules.Memory.{changes, lies_in, stack_place}
@@ -96,16 +96,16 @@ module _ (shape : AppShape) where
   unfolding first_rule
   mask_passes mask e a is = rw is refl
 
-  masked : (a : Number) (mask : ℕ) → LiesIn any.lo any.hi a.lo a.hi
+  masked : (a : Number) (mask : ℕ) → LiesIn (least any) (most any) (least a) (most a)
       → IsWider (Num any) (Num (alu_number Bits64 And a (single mask)))
   masked a mask h = elim (cases_Bool (are_single a (single mask))) [
-    | inl one ↦ let le = and_le_l a.lo mask in
+    | inl one ↦ let le = and_le_l (least a) mask in
         rw one (omega arith, omega arith, omega (arith, le, h.1, h.2))
     | inr more ↦ rw more (omega arith, omega arith, omega (arith, h.2))
   ]
 
   mask_gives : (mask : ℕ) (d : Known) (e : AbsState) (a : Number) → value_at e 2 ≡ Num a
-      → LiesIn any.lo any.hi a.lo a.hi → Knows d e
+      → LiesIn (least any) (most any) (least a) (most a) → Knows d e
       → Knows (writes d R2 (Num any)) (after shape 0 e (insn.mask_field mask))
   mask_gives mask d e a is range h =
       rw is (knows_write d e R2 (Num any) (Num (alu_number Bits64 And a (single mask))) h

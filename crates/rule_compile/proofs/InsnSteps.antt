@@ -15,7 +15,7 @@ use Rattle.bpf_verify.specs.abs_value.declared.number.Number.{Number}
 use Rattle.bpf_verify.specs.abs_value.declared.value.Abs.{Abs}
 use Rattle.bpf_verify.specs.abs_value.declared.value.Abs.TheVariants.{Unusable, Num, Ctx, Stk, Map, MayCell, Cell}
 use Rattle.bpf_verify.specs.abs_value.declared.state.AbsState.{AbsState}
-use Rattle.bpf_verify.specs.abs_value.Numbers.{single, up_to}
+use Rattle.bpf_verify.specs.abs_value.Numbers.{single, up_to, most}
 use Rattle.bpf_verify.specs.abs_value.Values.{is_unusable, copied_value}
 use Rattle.bpf_verify.specs.abs_value.Lookups.{called_registers, called}
 use Rattle.bpf_verify.specs.abs_value.States.{register_at, value_at, value_of, with_value}
@@ -134,10 +134,10 @@ module _ (shape : AppShape) where
 
   -- ---- the end
 
-  exit_passes : (e : AbsState) (a : Number) → value_at e 0 ≡ Num a → a.hi ≤ shape.releases
+  exit_passes : (e : AbsState) (a : Number) → value_at e 0 ≡ Num a → most a ≤ shape.releases
       → first_rule shape e Exit ≡ None
   unfolding first_rule
-  exit_passes e a is hi = rw (is, le-leb a.hi shape.releases hi) refl
+  exit_passes e a is hi = rw (is, le-leb (most a) shape.releases hi) refl
 
   pub exit_step : (d : Known) (ds : List Known)
       → register_at d.registers 0 ≡ Num (up_to shape.releases) → IsStep shape d Exit [] ds

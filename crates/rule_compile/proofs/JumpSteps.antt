@@ -15,8 +15,8 @@ use Rattle.bpf_verify.specs.abs_value.declared.number.Number.{Number}
 use Rattle.bpf_verify.specs.abs_value.declared.value.Abs.{Abs}
 use Rattle.bpf_verify.specs.abs_value.declared.value.Abs.TheVariants.{Num}
 use Rattle.bpf_verify.specs.abs_value.declared.state.AbsState.{AbsState}
-use Rattle.bpf_verify.specs.abs_value.Numbers.{single}
-use Rattle.bpf_verify.specs.abs_value.Narrowing.{Pair, narrowed}
+use Rattle.bpf_verify.specs.abs_value.Numbers.{single, most}
+use Rattle.bpf_verify.specs.abs_value.Narrowing.{NumberPair, narrowed}
 use Rattle.bpf_verify.specs.abs_value.Values.{numbers}
 use Rattle.bpf_verify.specs.abs_value.Lookups.{compares_with_zero, with_both, refined_state}
 use Rattle.bpf_verify.specs.abs_value.States.{register_at, value_at, value_of, with_value}
@@ -37,9 +37,9 @@ module _ (shape : AppShape) where
   jump_passes condition left k n e a is = rw is refl
 
   after_narrowing : (d : Known) (e f : AbsState) (left : Reg) (k : ℤ) (a b : Number)
-      (o : Option Pair) → Knows d e → register_at d.registers (number_of left) ≡ Num any
-      → a.hi ≤ any.hi
-      → ((p : Pair) → o ≡ Some p → IsNarrower a b p)
+      (o : Option NumberPair) → Knows d e → register_at d.registers (number_of left) ≡ Num any
+      → most a ≤ most any
+      → ((p : NumberPair) → o ≡ Some p → IsNarrower a b p)
       → option_map (with_both e left (Imm k)) (option_map numbers o) ≡ Some f → Knows d f
   after_narrowing d e f left k a b None h is hi narrow makes = absurd cc
   after_narrowing d e f left k a b (Some p) h is hi narrow makes =
@@ -90,10 +90,10 @@ module _ (shape : AppShape) where
   unfolding first_rule
   both_pass condition n e a b is is_too = rw (is, is_too) refl
 
-  both_narrowed : (d : Known) (e f : AbsState) (a b : Number) (o : Option Pair) → Knows d e
-      → register_at d.registers 2 ≡ Num any → register_at d.registers 4 ≡ Num any → a.hi ≤ any.hi
-      → b.hi ≤ any.hi
-      → ((p : Pair) → o ≡ Some p → IsNarrower a b p)
+  both_narrowed : (d : Known) (e f : AbsState) (a b : Number) (o : Option NumberPair) → Knows d e
+      → register_at d.registers 2 ≡ Num any → register_at d.registers 4 ≡ Num any → most a ≤ most any
+      → most b ≤ most any
+      → ((p : NumberPair) → o ≡ Some p → IsNarrower a b p)
       → option_map (with_both e R2 (Register R4)) (option_map numbers o) ≡ Some f → Knows d f
   both_narrowed d e f a b None h two four hi hi_too narrow makes = absurd cc
   both_narrowed d e f a b (Some p) h two four hi hi_too narrow makes =

@@ -11,7 +11,7 @@ use Rattle.bpf_verify.specs.abs_value.declared.number.Number.{Number}
 use Rattle.bpf_verify.specs.abs_value.declared.slot.AbsSlot.{AbsSlot}
 use Rattle.bpf_verify.specs.abs_value.declared.value.Abs.TheVariants.{Num, Stk}
 use Rattle.bpf_verify.specs.abs_value.declared.state.AbsState.{AbsState}
-use Rattle.bpf_verify.specs.abs_value.Numbers.{single, up_to}
+use Rattle.bpf_verify.specs.abs_value.Numbers.{single, up_to, least, most}
 use Rattle.bpf_verify.specs.abs_value.Stack.{is_set, is_unset, has_unset}
 use Rattle.bpf_verify.specs.abs_value.Lookups.{called}
 use Rattle.bpf_verify.specs.abs_value.States.{register_at, value_at}
@@ -114,7 +114,7 @@ module _ (shape : AppShape) where
   ) refl
 
   compare_passes : (n : ℕ) (e : AbsState) (a b : Number) → n ≤ 64 → value_at e 1 ≡ Num a
-      → value_at e 2 ≡ Stk 448 → value_at e 3 ≡ Num b → b.lo ≡ n → b.hi ≡ n
+      → value_at e 2 ≡ Stk 448 → value_at e 3 ≡ Num b → least b ≡ n → most b ≡ n
       → has_unset e.stack (pos 448) n ≡ false
       → first_rule shape e (insn.call 2) ≡ None
   unfolding first_rule

@@ -1,5 +1,5 @@
 -- Stacks, lookups and states of the worked examples.
-use Rattle.std.specs.Prelude.{List, replicate, Option, option_map, Bool}
+use Rattle.std.specs.Prelude.{ℕ, List, replicate, Option, option_map, Bool}
 use Rattle.bpf_insn.specs.declared.reg.Reg.TheVariants.{R0, R6}
 use Rattle.bpf_insn.specs.declared.operand.Bits.{Bits}
 use Rattle.bpf_insn.specs.declared.operand.Condition.{Condition}
@@ -10,10 +10,16 @@ use Rattle.abs_value.specs.declared.slot.AbsSlot.TheVariants.{Bytes}
 use Rattle.abs_value.specs.declared.state.AbsState.{AbsState}
 use Rattle.abs_value.specs.declared.value.Abs.{Abs}
 use Rattle.abs_value.specs.declared.value.Abs.TheVariants.{Num}
-use Rattle.abs_value.specs.Numbers.{single}
+use Rattle.abs_value.specs.declared.number.Number.{Number}
+use Rattle.abs_value.specs.Intervals.{interval}
+use Rattle.abs_value.specs.Numbers.{number, single}
 use Rattle.abs_value.specs.Stack.{stored, slot_at}
 use Rattle.abs_value.specs.States.{value_at, with_value, with_stored, opening_state}
 use Rattle.abs_value.specs.Lookups.{refined_state}
+
+-- a number from the first to the second
+abbrev pub span : ℕ → ℕ → Number
+span lo hi = number (interval lo hi)
 
 -- lookups in one array by two calls, and in another by the first of them
 abbrev pub first : Lookup

@@ -4,43 +4,44 @@
 ghost use Rattle.std.specs.Prelude.{◌≡◌, Some, None, true, false};
 ghost use Rattle.bpf_insn.specs.declared.operand.Bits.TheVariants.{Bits64, Bits32};
 ghost use Rattle.bpf_insn.specs.declared.operand.Condition.TheVariants as jump;
-ghost use Rattle.abs_value.specs.Numbers.{number, single, up_to};
+ghost use Rattle.worked.specs.Examples.{span};
+ghost use Rattle.abs_value.specs.Numbers.{single, up_to};
 ghost use Rattle.abs_value.specs.Narrowing.{narrowed};
 
 /// Below, at most, and their opposites.
 pub fn orders()
-    ensures below { narrowed Bits64 jump.Lt true (number 3 9) (number 3 4)
+    ensures below { narrowed Bits64 jump.Lt true (span 3 9) (span 3 4)
         ≡ Some (single 3, single 4) }
-    ensures nowhere_below { narrowed Bits64 jump.Lt true (number 3 9) (number 1 3) ≡ None }
-    ensures not_below { narrowed Bits64 jump.Lt false (number 0 10) (number 5 7)
-        ≡ Some (number 5 10, number 5 7) }
-    ensures at_most { narrowed Bits64 jump.Le true (number 3 9) (number 1 3)
+    ensures nowhere_below { narrowed Bits64 jump.Lt true (span 3 9) (span 1 3) ≡ None }
+    ensures not_below { narrowed Bits64 jump.Lt false (span 0 10) (span 5 7)
+        ≡ Some (span 5 10, span 5 7) }
+    ensures at_most { narrowed Bits64 jump.Le true (span 3 9) (span 1 3)
         ≡ Some (single 3, single 3) }
-    ensures nowhere_at_most { narrowed Bits64 jump.Le true (number 3 9) (number 1 2) ≡ None }
-    ensures above { narrowed Bits64 jump.Gt true (number 3 9) (single 8)
+    ensures nowhere_at_most { narrowed Bits64 jump.Le true (span 3 9) (span 1 2) ≡ None }
+    ensures above { narrowed Bits64 jump.Gt true (span 3 9) (single 8)
         ≡ Some (single 9, single 8) }
-    ensures not_above { narrowed Bits64 jump.Gt false (number 3 9) (single 8)
-        ≡ Some (number 3 8, single 8) }
-    ensures at_least { narrowed Bits64 jump.Ge true (number 3 9) (single 9)
+    ensures not_above { narrowed Bits64 jump.Gt false (span 3 9) (single 8)
+        ≡ Some (span 3 8, single 8) }
+    ensures at_least { narrowed Bits64 jump.Ge true (span 3 9) (single 9)
         ≡ Some (single 9, single 9) }
-    ensures nowhere_at_least { narrowed Bits64 jump.Ge true (number 3 9) (single 10) ≡ None }
+    ensures nowhere_at_least { narrowed Bits64 jump.Ge true (span 3 9) (single 10) ≡ None }
 {}
 
 /// Equal and unequal: the common part, and an end that moves in by one.
 pub fn equalities()
-    ensures common { narrowed Bits64 jump.Eq true (number 0 10) (number 5 20)
-        ≡ Some (number 5 10, number 5 10) }
-    ensures one_common { narrowed Bits64 jump.Eq true (number 0 5) (number 5 20)
+    ensures common { narrowed Bits64 jump.Eq true (span 0 10) (span 5 20)
+        ≡ Some (span 5 10, span 5 10) }
+    ensures one_common { narrowed Bits64 jump.Eq true (span 0 5) (span 5 20)
         ≡ Some (single 5, single 5) }
-    ensures apart { narrowed Bits64 jump.Eq true (number 0 4) (number 5 9) ≡ None }
-    ensures least { narrowed Bits64 jump.Ne true (number 0 10) (single 0)
-        ≡ Some (number 1 10, single 0) }
-    ensures greatest { narrowed Bits64 jump.Eq false (single 10) (number 0 10)
-        ≡ Some (single 10, number 0 9) }
-    ensures within { narrowed Bits64 jump.Ne true (number 0 10) (single 5)
-        ≡ Some (number 0 10, single 5) }
-    ensures ranges { narrowed Bits64 jump.Ne true (number 0 5) (number 0 5)
-        ≡ Some (number 0 5, number 0 5) }
+    ensures apart { narrowed Bits64 jump.Eq true (span 0 4) (span 5 9) ≡ None }
+    ensures least { narrowed Bits64 jump.Ne true (span 0 10) (single 0)
+        ≡ Some (span 1 10, single 0) }
+    ensures greatest { narrowed Bits64 jump.Eq false (single 10) (span 0 10)
+        ≡ Some (single 10, span 0 9) }
+    ensures within { narrowed Bits64 jump.Ne true (span 0 10) (single 5)
+        ≡ Some (span 0 10, single 5) }
+    ensures ranges { narrowed Bits64 jump.Ne true (span 0 5) (span 0 5)
+        ≡ Some (span 0 5, span 0 5) }
 {}
 
 /// Two single numbers decide the condition, whatever it is.
@@ -62,8 +63,8 @@ pub fn sides()
     ensures crossing { narrowed Bits64 jump.Slt true (up_to 0x8000000000000000) (single 5)
         ≡ Some (up_to 0x8000000000000000, single 5) }
     ensures negative { narrowed Bits64 jump.Sge false
-        (number 0x8000000000000000 0xFFFFFFFFFFFFFFFF) (single 0xFFFFFFFFFFFFFFFF)
-        ≡ Some (number 0x8000000000000000 0xFFFFFFFFFFFFFFFE, single 0xFFFFFFFFFFFFFFFF) }
+        (span 0x8000000000000000 0xFFFFFFFFFFFFFFFF) (single 0xFFFFFFFFFFFFFFFF)
+        ≡ Some (span 0x8000000000000000 0xFFFFFFFFFFFFFFFE, single 0xFFFFFFFFFFFFFFFF) }
     ensures short { narrowed Bits32 jump.Lt true (up_to 0xFFFFFFFF) (single 5)
         ≡ Some (up_to 4, single 5) }
     ensures long { narrowed Bits32 jump.Lt true (up_to 0x100000000) (single 5)

@@ -10,7 +10,8 @@ ghost use Rattle.abs_value.specs.declared.origin.Origin.TheVariants.{Found, Fixe
 ghost use Rattle.abs_value.specs.declared.slot.AbsSlot.TheVariants.{Kept};
 ghost use Rattle.abs_value.specs.declared.value.Abs.TheVariants.{Unusable, Num, Stk};
 ghost use Rattle.abs_value.specs.declared.value.Abs.TheVariants.{Map, MayCell, Cell};
-ghost use Rattle.abs_value.specs.Numbers.{number, single, up_to};
+ghost use Rattle.worked.specs.Examples.{span};
+ghost use Rattle.abs_value.specs.Numbers.{single, up_to};
 ghost use Rattle.abs_value.specs.Lookups.{call_value, called};
 ghost use Rattle.abs_value.specs.States.{value_at};
 ghost use Rattle.worked.specs.Examples.{first, second, elsewhere, holding, three, compared};
@@ -48,12 +49,12 @@ pub fn other_checks()
         ≡ Some (MayCell first, MayCell first, Kept (MayCell first)) }
     ensures above { compared (MayCell first) (MayCell first) Bits64 Gt (Imm (pos 0)) true
         ≡ Some (MayCell first, MayCell first, Kept (MayCell first)) }
-    ensures with_itself { compared (Num (number 0 9)) (Stk 0) Bits64 Ne (Register reg.R0) true
-        ≡ Some (Num (number 0 9), Stk 0, Kept (Stk 0)) }
-    ensures narrowed { compared (Num (number 0 9)) (Num (single 4)) Bits64 Gt (Register reg.R6) true
-        ≡ Some (Num (number 5 9), Num (single 4), Kept (Num (single 4))) }
-    ensures zero { compared (Num (number 0 9)) (Stk 0) Bits64 Ne (Imm (pos 0)) true
-        ≡ Some (Num (number 1 9), Stk 0, Kept (Stk 0)) }
+    ensures with_itself { compared (Num (span 0 9)) (Stk 0) Bits64 Ne (Register reg.R0) true
+        ≡ Some (Num (span 0 9), Stk 0, Kept (Stk 0)) }
+    ensures narrowed { compared (Num (span 0 9)) (Num (single 4)) Bits64 Gt (Register reg.R6) true
+        ≡ Some (Num (span 5 9), Num (single 4), Kept (Num (single 4))) }
+    ensures zero { compared (Num (span 0 9)) (Stk 0) Bits64 Ne (Imm (pos 0)) true
+        ≡ Some (Num (span 1 9), Stk 0, Kept (Stk 0)) }
 {}
 
 /// R0 is the helper's result and R1 to R5 are unset; R6 to R10 and the stack stay.

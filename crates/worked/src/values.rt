@@ -9,7 +9,8 @@ ghost use Rattle.abs_value.specs.declared.value.Abs.TheVariants.{Unusable, Num, 
 ghost use Rattle.abs_value.specs.declared.value.Abs.TheVariants.{Map, MayCell, Cell};
 ghost use Rattle.abs_value.specs.declared.origin.Origin.TheVariants.{Found, Fixed};
 ghost use Rattle.abs_value.specs.declared.slot.AbsSlot.TheVariants.{Kept, Bytes};
-ghost use Rattle.abs_value.specs.Numbers.{number, single, up_to};
+ghost use Rattle.worked.specs.Examples.{span};
+ghost use Rattle.abs_value.specs.Numbers.{single, up_to};
 ghost use Rattle.abs_value.specs.Values.{places, alu_value, copied_value, join_values};
 ghost use Rattle.abs_value.specs.Stack.{stored, slot_at, loaded_from, has_unset, join_slots};
 ghost use Rattle.worked.specs.Examples as found;
@@ -24,16 +25,16 @@ pub fn pointer_moves()
         ≡ Ctx (places 0 4) }
     ensures below { alu_value Bits64 Add (Ctx (places 4 8)) (Num (single 0xFFFFFFFFFFFFFFFB))
         ≡ Unusable }
-    ensures range { alu_value Bits64 Add (Ctx (places 4 8)) (Num (number 0 56))
+    ensures range { alu_value Bits64 Add (Ctx (places 4 8)) (Num (span 0 56))
         ≡ Ctx (places 4 64) }
-    ensures range_past { alu_value Bits64 Add (Ctx (places 4 8)) (Num (number 0 57)) ≡ Unusable }
+    ensures range_past { alu_value Bits64 Add (Ctx (places 4 8)) (Num (span 0 57)) ≡ Unusable }
     ensures taken { alu_value Bits64 Sub (Ctx (places 4 8)) (Num (single 4)) ≡ Ctx (places 0 4) }
-    ensures range_taken { alu_value Bits64 Sub (Ctx (places 4 8)) (Num (number 0 1)) ≡ Unusable }
+    ensures range_taken { alu_value Bits64 Sub (Ctx (places 4 8)) (Num (span 0 1)) ≡ Unusable }
     ensures frame_down { alu_value Bits64 Add (Stk 512) (Num (single 0xFFFFFFFFFFFFFE00)) ≡ Stk 0 }
     ensures frame_taken { alu_value Bits64 Sub (Stk 512) (Num (single 512)) ≡ Stk 0 }
     ensures frame_below { alu_value Bits64 Sub (Stk 512) (Num (single 513)) ≡ Unusable }
     ensures frame_above { alu_value Bits64 Add (Stk 512) (Num (single 1)) ≡ Unusable }
-    ensures frame_range { alu_value Bits64 Add (Stk 0) (Num (number 0 1)) ≡ Unusable }
+    ensures frame_range { alu_value Bits64 Add (Stk 0) (Num (span 0 1)) ≡ Unusable }
     ensures half { alu_value Bits32 Add (Stk 512) (Num (single 0)) ≡ Unusable }
     ensures number_first { alu_value Bits64 Add (Num (single 8)) (Ctx (places 0 0)) ≡ Unusable }
     ensures copied { copied_value Bits64 (Stk 512) ≡ Stk 512 }
@@ -42,7 +43,7 @@ pub fn pointer_moves()
 
 /// A join keeps what both sides know.
 pub fn joins()
-    ensures numbers { join_values (Num (number 3 5)) (Num (number 1 4)) ≡ Num (number 1 5) }
+    ensures numbers { join_values (Num (span 3 5)) (Num (span 1 4)) ≡ Num (span 1 5) }
     ensures context { join_values (Ctx (places 8 8)) (Ctx (places 0 4)) ≡ Ctx (places 0 8) }
     ensures frame { join_values (Stk 504) (Stk 504) ≡ Stk 504 }
     ensures frames { join_values (Stk 504) (Stk 496) ≡ Unusable }
@@ -61,7 +62,7 @@ pub fn joins()
     ensures fixed_or_found { join_values (Cell (Fixed 3)) (Cell (Found found.first)) ≡ Unusable }
     ensures unusable { join_values Unusable (Num (single 0)) ≡ Unusable }
     ensures kept { join_slots (Kept (Num (single 1))) (Kept (Num (single 2)))
-        ≡ Kept (Num (number 1 2)) }
+        ≡ Kept (Num (span 1 2)) }
     ensures kept_apart { join_slots (Kept (Stk 0)) (Kept (Num (single 2))) ≡ Bytes 255 }
     ensures kept_and_set { join_slots (Kept (Num (single 1))) (Bytes 240) ≡ Bytes 240 }
     ensures set { join_slots (Bytes 60) (Bytes 240) ≡ Bytes 48 }

@@ -1,4 +1,4 @@
--- No range that is known where an instruction begins is empty: so each entry is made.
+-- Of all that is known where an instruction begins the ends are in order: so each entry is made.
 use Rattle.std.proofs.Common.{◌≡◌, ℕ, zero, suc, List, [], ◌∷◌, ◌++◌, Option, Some, None, IfSome, Bool, true, false, subst}
 use Rattle.std.specs.Prelude.{if◌then◌else◌, ◌==◌}
 use Rattle.std.proofs.lemmas.Option.{same_Some, none-some}
@@ -9,18 +9,18 @@ use Rattle.cells.specs.Arrays.{AppShape}
 use Rattle.bpf_rules.specs.flow_check.Edges.{target_of}
 use Rattle.bpf_rules.specs.abs_value.declared.state.AbsState.{AbsState}
 use Rattle.bpf_rules.specs.abs_value.States.{join_states, opening_state}
-use Rattle.bpf_rules.specs.abs_value.Inhabited.{IsInhabitedState, InhabitsOpening, InhabitsMeetings}
+use Rattle.bpf_rules.specs.abs_value.Order.{IsStateInOrder, OpeningInOrder, StateJoinsInOrder}
 use Rattle.bpf_rules.specs.Transfer.{Edge, edge, edges, jumping, going_on, next_target}
-use Rattle.bpf_rules.specs.Sound.{InhabitsJumping, InhabitsGoingOn}
-use Rattle.bpf_verify.specs.Accepted.{to_place, joined, join_all, edges_of, incoming, entry_of, HasNoEmptyRange}
+use Rattle.bpf_rules.specs.Sound.{JumpingInOrder, GoingOnInOrder}
+use Rattle.bpf_verify.specs.Accepted.{to_place, joined, join_all, edges_of, incoming, entry_of, HasEndsInOrder}
 
 AllHave : List AbsState → Type 0
 AllHave [] = Unit {0}
-AllHave (e ∷ es) = IsInhabitedState e × AllHave es
+AllHave (e ∷ es) = IsStateInOrder e × AllHave es
 
 EdgesHave : List Edge → Type 0
 EdgesHave [] = Unit {0}
-EdgesHave (d ∷ ds) = IsInhabitedState d.entry × EdgesHave ds
+EdgesHave (d ∷ ds) = IsStateInOrder d.entry × EdgesHave ds
 
 all_append : (es fs : List AbsState) → AllHave es → AllHave fs → AllHave (es ++ fs)
 unfolding AllHave
@@ -32,13 +32,13 @@ unfolding EdgesHave
 edges_append [] fs h k = k
 edges_append (d ∷ ds) fs h k = (h.0, edges_append ds fs h.1 k)
 
-edge_has : (t : Option ℕ) (o : Option AbsState) → IfSome o IsInhabitedState → EdgesHave (edge t o)
+edge_has : (t : Option ℕ) (o : Option AbsState) → IfSome o IsStateInOrder → EdgesHave (edge t o)
 unfolding EdgesHave
 edge_has (Some t) (Some e) h = (h, tt)
 edge_has (Some t) None h = tt
 edge_has None o h = tt
 
-if_has : (b : Bool) (e : AbsState) (es : List AbsState) → IsInhabitedState e → AllHave es
+if_has : (b : Bool) (e : AbsState) (es : List AbsState) → IsStateInOrder e → AllHave es
     → AllHave (if b then e ∷ es else es)
 unfolding AllHave
 if_has true e es h k = (h, k)
@@ -50,25 +50,25 @@ to_place_has m [] h = tt
 to_place_has m (d ∷ ds) h =
     if_has (d.target == m) d.entry (to_place m ds) h.0 (to_place_has m ds h.1)
 
-some_has : (o : Option AbsState) (e : AbsState) → IfSome o IsInhabitedState → o ≡ Some e
-    → IsInhabitedState e
+some_has : (o : Option AbsState) (e : AbsState) → IfSome o IsStateInOrder → o ≡ Some e
+    → IsStateInOrder e
 some_has None e h is = absurd (none-some e is)
-some_has (Some f) e h is = subst IsInhabitedState (same_Some _ _ is) h
+some_has (Some f) e h is = subst IsStateInOrder (same_Some _ _ is) h
 
-module _ (opening : InhabitsOpening) (meetings : InhabitsMeetings) (jumps : InhabitsJumping)
-    (goes : InhabitsGoingOn) where
-  joined_has : (e : AbsState) (es : List AbsState) → IsInhabitedState e → AllHave es
-      → IsInhabitedState (joined e es)
+module _ (opening : OpeningInOrder) (meetings : StateJoinsInOrder) (jumps : JumpingInOrder)
+    (goes : GoingOnInOrder) where
+  joined_has : (e : AbsState) (es : List AbsState) → IsStateInOrder e → AllHave es
+      → IsStateInOrder (joined e es)
   unfolding AllHave
   joined_has e [] h k = h
   joined_has e (f ∷ fs) h k = joined_has (join_states e f) fs (meetings e f h k.0) k.1
 
-  join_all_has : (es : List AbsState) → AllHave es → IfSome (join_all es) IsInhabitedState
+  join_all_has : (es : List AbsState) → AllHave es → IfSome (join_all es) IsStateInOrder
   unfolding AllHave
   join_all_has [] h = tt
   join_all_has (e ∷ es) h = joined_has e es h.0 h.1
 
-  edges_have : (shape : AppShape) (s : ℕ) (e : AbsState) (i : Insn) → IsInhabitedState e
+  edges_have : (shape : AppShape) (s : ℕ) (e : AbsState) (i : Insn) → IsStateInOrder e
       → EdgesHave (edges shape s e i)
   unfolding edges
   edges_have shape s e i h = edges_append (edge (target_of s i) (jumping e i))
@@ -77,7 +77,7 @@ module _ (opening : InhabitsOpening) (meetings : InhabitsMeetings) (jumps : Inha
       (edge_has (next_target s i) (going_on shape s e i) (goes shape s e i h))
 
   edges_of_have : (shape : AppShape) (s : ℕ) (o : Option AbsState) (w : Option Insn)
-      → IfSome o IsInhabitedState → EdgesHave (edges_of shape s o w)
+      → IfSome o IsStateInOrder → EdgesHave (edges_of shape s o w)
   unfolding EdgesHave
   edges_of_have shape s (Some e) (Some i) h = edges_have shape s e i h
   edges_of_have shape s (Some e) None h = tt
@@ -94,6 +94,6 @@ module _ (opening : InhabitsOpening) (meetings : InhabitsMeetings) (jumps : Inha
       (edges_of_have p.shape k (join_all (incoming p k k)) (at p.code k)
       (join_all_has (incoming p k k) (incoming_have p k k))))
 
-  pub no_empty_range : (p : ShapedProgram) → HasNoEmptyRange p
-  no_empty_range p s e is =
+  pub ends_in_order : (p : ShapedProgram) → HasEndsInOrder p
+  ends_in_order p s e is =
       some_has (entry_of p s) e (join_all_has (incoming p s s) (incoming_have p s s)) is

@@ -1,23 +1,25 @@
--- The join of two entries is the same in either order.
+-- The join of two states is the same in either order.
 use Rattle.std.proofs.Common.{◌≡◌, ℕ, List, [], ◌∷◌, true, false, refl, ap, ◌∙◌, arith, inl, inr}
 use Rattle.std.specs.Prelude.{◌==◌, if◌then◌else◌, map, min, max}
 use Rattle.std.specs.List.{range_with_len}
 use Rattle.std.proofs.lemmas.Bool.{cases_Bool}
 use Rattle.std.proofs.lemmas.Nat.{and_comm}
-use Rattle.bpf_rules.specs.abs_value.declared.number.Number.{Number}
-use Rattle.bpf_rules.specs.abs_value.declared.places.Places.{Places}
-use Rattle.bpf_rules.specs.abs_value.declared.origin.Lookup.{Lookup}
-use Rattle.bpf_rules.specs.abs_value.declared.origin.Origin.{Origin}
-use Rattle.bpf_rules.specs.abs_value.declared.origin.Origin.TheVariants.{Found, Fixed}
-use Rattle.bpf_rules.specs.abs_value.declared.value.Abs.{Abs}
-use Rattle.bpf_rules.specs.abs_value.declared.value.Abs.TheVariants.{Unusable, Num, Ctx, Stk, Map, MayCell, Cell}
-use Rattle.bpf_rules.specs.abs_value.declared.slot.AbsSlot.{AbsSlot}
-use Rattle.bpf_rules.specs.abs_value.declared.slot.AbsSlot.TheVariants.{Kept, Bytes}
-use Rattle.bpf_rules.specs.abs_value.declared.state.AbsState.{AbsState}
-use Rattle.bpf_rules.specs.abs_value.Numbers.{hull}
-use Rattle.bpf_rules.specs.abs_value.Values.{place_hull, same_lookup, same_origin, join_values}
-use Rattle.bpf_rules.specs.abs_value.Stack.{mask_of, slot_at, kept_slot, join_slots, join_stacks}
-use Rattle.bpf_rules.specs.abs_value.States.{register_at, join_registers, join_states}
+use Rattle.abs_value.specs.declared.interval.Interval.{Interval}
+use Rattle.abs_value.specs.declared.number.Number.{Number}
+use Rattle.abs_value.specs.declared.places.Places.{Places}
+use Rattle.abs_value.specs.declared.origin.Lookup.{Lookup}
+use Rattle.abs_value.specs.declared.origin.Origin.{Origin}
+use Rattle.abs_value.specs.declared.origin.Origin.TheVariants.{Found, Fixed}
+use Rattle.abs_value.specs.declared.value.Abs.{Abs}
+use Rattle.abs_value.specs.declared.value.Abs.TheVariants.{Unusable, Num, Ctx, Stk, Map, MayCell, Cell}
+use Rattle.abs_value.specs.declared.slot.AbsSlot.{AbsSlot}
+use Rattle.abs_value.specs.declared.slot.AbsSlot.TheVariants.{Kept, Bytes}
+use Rattle.abs_value.specs.declared.state.AbsState.{AbsState}
+use Rattle.abs_value.specs.Intervals.{hull}
+use Rattle.abs_value.specs.Numbers.{number, join_numbers}
+use Rattle.abs_value.specs.Values.{place_hull, same_lookup, same_origin, join_values}
+use Rattle.abs_value.specs.Stack.{mask_of, slot_at, kept_slot, join_slots, join_stacks}
+use Rattle.abs_value.specs.States.{register_at, join_registers, join_states}
 
 -- ---- values
 
@@ -27,8 +29,11 @@ min-comm a b = grind arith
 max-comm : (a b : ℕ) → max a b ≡ max b a
 max-comm a b = grind arith
 
-hull-comm : (a b : Number) → hull a b ≡ hull b a
+hull-comm : (a b : Interval) → hull a b ≡ hull b a
 hull-comm a b = let lo = min-comm a.lo b.lo in let hi = max-comm a.hi b.hi in rw (lo, hi) refl
+
+numbers-comm : (a b : Number) → join_numbers a b ≡ join_numbers b a
+numbers-comm a b = ap number (hull-comm a.range b.range)
 
 place_hull-comm : (a b : Places) → place_hull a b ≡ place_hull b a
 place_hull-comm a b = let lo = min-comm a.lo b.lo in let hi = max-comm a.hi b.hi in rw (lo, hi) refl
@@ -82,7 +87,7 @@ cell-comm a b = elim (cases_Bool (same_origin a b)) [
 ]
 
 pub values-comm : (a b : Abs) → join_values a b ≡ join_values b a
-values-comm (Num a) (Num b) = ap Num (hull-comm a b)
+values-comm (Num a) (Num b) = ap Num (numbers-comm a b)
 values-comm (Ctx a) (Ctx b) = ap Ctx (place_hull-comm a b)
 values-comm (Stk a) (Stk b) = either Stk a b
 values-comm (Map a) (Map b) = either Map a b

@@ -1,0 +1,255 @@
+-- What is computed of values whose ends are in order has its ends in order.
+use Rattle.std.proofs.Common.{◌≡◌, ℕ, ℤ, pos, negsuc, ◌+◌, ◌-◌, ◌*◌, ◌%◌, ◌^◌, ◌≤◌, min, max, Option, Some, None, Bool, true, false, refl, arith, inl, inr}
+use Rattle.std.specs.Prelude.{option_map, nat_le, nat_lt, ◌==◌, if◌then◌else◌}
+use mir.Val.{bits}
+use Rattle.std.proofs.Math.Nat.{mul-le-mul_right}
+use Rattle.std.proofs.lemmas.Bool.{cases_Bool}
+use Rattle.bpf_insn.specs.declared.operand.AluOp.{AluOp}
+use Rattle.bpf_insn.specs.declared.operand.AluOp.TheVariants.{Add, Sub, Or, And, Lsh, Rsh, Xor, Arsh}
+use Rattle.bpf_insn.specs.declared.operand.Bits.{Bits}
+use Rattle.bpf_insn.specs.declared.operand.Bits.TheVariants.{Bits64, Bits32}
+use Rattle.bpf_insn.specs.declared.operand.Condition.{Condition}
+use Rattle.bpf_insn.specs.declared.operand.ByteOrder.{ByteOrder}
+use Rattle.bpf_insn.specs.declared.operand.EndSize.{EndSize}
+use Rattle.bpf_insn.specs.declared.operand.Extension.{Extension}
+use Rattle.bpf_insn.specs.declared.operand.LoadKind.{LoadKind}
+use Rattle.bpf_insn.specs.declared.operand.LoadKind.TheVariants as load
+use Rattle.bpf_insn.specs.Table.{extension_class}
+use Rattle.bpf_insn.specs.Words.{word_width}
+use Rattle.bpf_insn.specs.Arithmetic.{extended, end_width, reordered}
+use Rattle.bpf_insn.specs.Conditions.{holds}
+use Rattle.abs_value.specs.declared.interval.Interval.{Interval}
+use Rattle.abs_value.specs.declared.number.Number.{Number}
+use Rattle.abs_value.specs.declared.origin.Lookup.{Lookup}
+use Rattle.abs_value.specs.declared.origin.Origin.TheVariants.{Found}
+use Rattle.abs_value.specs.declared.places.Places.{Places}
+use Rattle.abs_value.specs.declared.relation.Relation.{Relation}
+use Rattle.abs_value.specs.declared.relation.Relation.TheVariants.{Equal, Unequal, Less, AtMost, More, AtLeast, Meets, Misses}
+use Rattle.abs_value.specs.declared.value.Abs.{Abs}
+use Rattle.abs_value.specs.declared.value.Abs.TheVariants.{Unusable, Num, Ctx, Stk, Map, MayCell, Cell}
+use Rattle.abs_value.specs.Intervals.{IsRange, is_just, all_of, cut_interval}
+use Rattle.abs_value.specs.Numbers.{single, is_single, are_single, full, up_to, cut}
+use Rattle.abs_value.specs.Bounds.{fitting, shifted_left, shifted_right, shifted_signed, sign_bit, bounds, alu_number}
+use Rattle.abs_value.specs.Narrowing.{IntervalPair, NumberPair, pair, below, at_most, equal, apart_from, swapped, left_by, learnt, is_taken, is_comparable, narrowed}
+use Rattle.abs_value.specs.Values.{moved_in_context, moved_in_stack, or_unusable, alu_value, copied_value, extended_value, reordered_value, loaded_value, join_values, refined, numbers}
+use Rattle.abs_value.specs.Lookups.{answer_of, with_answer, lookup_value, call_value}
+use Rattle.abs_value.specs.Order.{IsInOrder, AreInOrder}
+use Rattle.abs_value.proofs.ShiftedRanges.{shifted_right_holds}
+use Rattle.abs_value.proofs.Moves.{context_in_order}
+
+-- ---- arithmetic
+
+-- one of two ranges
+chosen : (b : Bool) (one other : Interval) → IsRange one → IsRange other
+    → IsRange (if b then one else other)
+chosen true one other h k = h
+chosen false one other h k = k
+
+full_range : (w : Bits) → IsRange (all_of w)
+full_range w = omega arith
+
+fitting_range : (w : Bits) (lo hi : ℕ) → lo ≤ hi → IsRange (fitting w lo hi)
+fitting_range w lo hi h = grind arith
+
+cut_range : (w : Bits) (a : Interval) → IsRange a → IsRange (cut_interval w a)
+cut_range Bits64 a h = h
+cut_range Bits32 a h = grind arith
+
+right_range : (a : Interval) (count : ℕ) → IsRange a → IsRange (shifted_right a count)
+right_range a count h = (shifted_right_holds a count a.hi (h, omega arith)).0
+
+bounds_range : (w : Bits) (op : AluOp) (a b : Interval) → IsRange a → IsRange b
+    → IsRange (bounds w op a b)
+bounds_range w Add a b h k = fitting_range w (a.lo + b.lo) (a.hi + b.hi) (omega (arith, h, k))
+bounds_range w Sub a b h k = grind arith
+bounds_range w Or a b h k = omega arith
+bounds_range w And a b h k = omega arith
+bounds_range w Lsh a b h k =
+    chosen (is_just b) (shifted_left w a (b.lo % bits (word_width w))) (all_of w) (fitting_range w
+    (a.lo * 2 ^ (b.lo % bits (word_width w))) (a.hi * 2 ^ (b.lo % bits (word_width w)))
+    (mul-le-mul_right (2 ^ (b.lo % bits (word_width w))) h)) (full_range w)
+bounds_range w Rsh a b h k = chosen (is_just b) (shifted_right a (b.lo % bits (word_width w)))
+    (all_of w) (right_range a (b.lo % bits (word_width w)) h) (full_range w)
+bounds_range w Xor a b h k = omega arith
+bounds_range w Arsh a b h k = chosen (is_just b) (shifted_signed w a (b.lo % bits (word_width w)))
+    (all_of w) (chosen (nat_lt a.hi (sign_bit w)) (shifted_right a (b.lo % bits (word_width w)))
+    (all_of w) (right_range a (b.lo % bits (word_width w)) h) (full_range w)) (full_range w)
+
+chosen_number : (b : Bool) (one other : Number) → IsRange one.range → IsRange other.range
+    → IsRange (if b then one else other).range
+chosen_number true one other h k = h
+chosen_number false one other h k = k
+
+pub alu_range : (w : Bits) (op : AluOp) (a b : Number) → IsRange a.range → IsRange b.range
+    → IsRange (alu_number w op a b).range
+alu_range w op a b h k = elim (cases_Bool (are_single a b)) [
+  | inl is ↦ rw is (omega arith)
+  | inr is ↦ rw is (bounds_range w op (cut w a).range (cut w b).range (cut_range w a.range h)
+      (cut_range w b.range k))
+]
+
+pointer_in_order : (op : AluOp) (from : Places) (by : Number) (o : Option Places)
+    → moved_in_context op from by ≡ o → from.lo ≤ from.hi → IsRange by.range
+    → IsInOrder (or_unusable (option_map Ctx o))
+pointer_in_order op from by None e h k = tt
+pointer_in_order op from by (Some r) e h k = context_in_order op from r by e h k
+
+stack_in_order : (o : Option ℕ) → IsInOrder (or_unusable (option_map Stk o))
+stack_in_order None = tt
+stack_in_order (Some n) = tt
+
+pub alu_in_order : (w : Bits) (op : AluOp) (a b : Abs) → IsInOrder a → IsInOrder b
+    → IsInOrder (alu_value w op a b)
+alu_in_order w op (Num a) (Num b) h k = alu_range w op a b h k
+alu_in_order Bits64 op (Ctx from) (Num by) h k =
+    pointer_in_order op from by (moved_in_context op from by) refl h k
+alu_in_order Bits64 op (Stk place) (Num by) h k = stack_in_order (moved_in_stack op place by)
+alu_in_order Bits64 op a b h k = tt
+alu_in_order Bits32 op a b h k = tt
+
+pub copied_in_order : (w : Bits) (a : Abs) → IsInOrder a → IsInOrder (copied_value w a)
+copied_in_order w (Num a) h = cut_range w a.range h
+copied_in_order Bits64 a h = h
+copied_in_order Bits32 a h = tt
+
+pub extended_in_order : (e : Extension) (a : Abs) → IsInOrder (extended_value e a)
+extended_in_order e (Num a) = chosen_number (is_single a) (single (extended e a.range.lo))
+    (full (extension_class e)) (omega arith) (full_range (extension_class e))
+extended_in_order e a = tt
+
+pub reordered_in_order : (o : ByteOrder) (size : EndSize) (a : Abs)
+    → IsInOrder (reordered_value o size a)
+reordered_in_order o size (Num a) = chosen_number (is_single a)
+    (single (reordered o size a.range.lo))
+    (up_to (2 ^ bits (end_width size) - 1)) (omega arith) (omega arith)
+reordered_in_order o size a = tt
+
+pub loaded_in_order : (kind : LoadKind) → IsInOrder (loaded_value kind)
+loaded_in_order load.Byte = omega arith
+loaded_in_order load.Half = omega arith
+loaded_in_order load.Word = omega arith
+loaded_in_order load.Double = omega arith
+loaded_in_order load.SignedByte = omega arith
+loaded_in_order load.SignedHalf = omega arith
+loaded_in_order load.SignedWord = omega arith
+
+pub join_in_order : (a b : Abs) → IsInOrder a → IsInOrder b → IsInOrder (join_values a b)
+join_in_order (Num a) (Num b) h k = omega (arith, h, k)
+join_in_order (Ctx a) (Ctx b) h k = omega (arith, h, k)
+join_in_order a b h k = grind arith
+
+-- ---- lookups and calls
+
+answer_in_order : (lookup : Lookup) (found : Bool) → IsInOrder (answer_of lookup found)
+answer_in_order lookup true = tt
+answer_in_order lookup false = omega arith
+
+chosen_in_order : (b : Bool) (v w : Abs) → IsInOrder v → IsInOrder w
+    → IsInOrder (if b then v else w)
+chosen_in_order true v w h k = h
+chosen_in_order false v w h k = k
+
+pub with_answer_in_order : (call : ℕ) (found : Bool) (v : Abs) → IsInOrder v
+    → IsInOrder (with_answer call found v)
+with_answer_in_order call found (MayCell lookup) h = chosen_in_order (lookup.slot == call)
+    (answer_of lookup found) (MayCell lookup) (answer_in_order lookup found) h
+with_answer_in_order call found (Cell (Found lookup)) h = chosen_in_order (lookup.slot == call)
+    (answer_of lookup found) (Cell (Found lookup)) (answer_in_order lookup found) h
+with_answer_in_order call found v h = h
+
+lookup_in_order : (slot : ℕ) (v : Abs) → IsInOrder (lookup_value slot v)
+lookup_in_order slot (Map index) = tt
+lookup_in_order slot v = tt
+
+pub call_in_order : (helper : ℤ) (slot : ℕ) (v : Abs) → IsInOrder (call_value helper slot v)
+call_in_order (negsuc n) slot v = tt
+call_in_order (pos n) slot v =
+    chosen_in_order (n == 1) (lookup_value slot v) _ (lookup_in_order slot v)
+    (chosen_in_order (n == 2) (Num (up_to 1)) _ (omega arith)
+    (chosen_in_order (n == 3) (Num (up_to 1024)) _ (omega arith)
+    (chosen_in_order (n == 4) (Num (up_to 9999)) Unusable (omega arith) tt)))
+
+-- ---- narrowing
+
+AreRanges : Option IntervalPair → Type 0
+AreRanges None = Unit {0}
+AreRanges (Some p) = IsRange p.0 × IsRange p.1
+
+below_ranges : (a b : Interval) → IsRange a → IsRange b → AreRanges (below a b)
+unfolding AreRanges
+below_ranges a b h k = elim (cases_Bool (nat_lt a.lo b.hi)) [
+  | inl is ↦ rw is (grind (arith, is), grind (arith, is))
+  | inr is ↦ rw is tt
+]
+
+at_most_ranges : (a b : Interval) → IsRange a → IsRange b → AreRanges (at_most a b)
+unfolding AreRanges
+at_most_ranges a b h k = elim (cases_Bool (nat_le a.lo b.hi)) [
+  | inl is ↦ rw is (grind (arith, is), grind (arith, is))
+  | inr is ↦ rw is tt
+]
+
+equal_ranges : (a b : Interval) → AreRanges (equal a b)
+unfolding AreRanges
+equal_ranges a b = elim (cases_Bool (nat_le (max a.lo b.lo) (min a.hi b.hi))) [
+  | inl is ↦ rw is (grind (arith, is), grind (arith, is))
+  | inr is ↦ rw is tt
+]
+
+apart_range : (b a : Interval) → IsRange a → IsRange (apart_from b a)
+apart_range b a h = grind arith
+
+swapped_ranges : (o : Option IntervalPair) → AreRanges o → AreRanges (option_map swapped o)
+unfolding AreRanges
+swapped_ranges None h = tt
+swapped_ranges (Some p) h = (h.1, h.0)
+
+left_by_ranges : (r : Relation) (a b : Interval) → IsRange a → IsRange b → AreRanges (left_by r a b)
+unfolding AreRanges
+left_by_ranges Equal a b h k = equal_ranges a b
+left_by_ranges Unequal a b h k = (apart_range b a h, apart_range a b k)
+left_by_ranges Less a b h k = below_ranges a b h k
+left_by_ranges AtMost a b h k = at_most_ranges a b h k
+left_by_ranges More a b h k = swapped_ranges (below b a) (below_ranges b a k h)
+left_by_ranges AtLeast a b h k = swapped_ranges (at_most b a) (at_most_ranges b a k h)
+left_by_ranges Meets a b h k = (h, k)
+left_by_ranges Misses a b h k = (h, k)
+
+-- the numbers that are left have their ends in order
+AreNumbers : Option NumberPair → Type 0
+AreNumbers None = Unit {0}
+AreNumbers (Some p) = IsRange p.0.range × IsRange p.1.range
+
+paired : (o : Option IntervalPair) → AreRanges o → AreNumbers (option_map pair o)
+unfolding AreRanges AreNumbers
+paired None h = tt
+paired (Some p) h = h
+
+chosen_pair : (b : Bool) (one other : Option NumberPair) → AreNumbers one → AreNumbers other
+    → AreNumbers (if b then one else other)
+chosen_pair true one other h k = h
+chosen_pair false one other h k = k
+
+narrowed_ranges : (w : Bits) (c : Condition) (jumps : Bool) (a b : Number)
+    → IsRange a.range → IsRange b.range → AreNumbers (narrowed w c jumps a b)
+unfolding AreNumbers
+narrowed_ranges w c jumps a b h k =
+    let left = left_by (learnt c jumps) a.range b.range in
+    let comparable = option_map pair left in
+    chosen_pair (are_single a b)
+    (if is_taken jumps (holds w c a.range.lo b.range.lo) then Some (a, b) else None)
+    (if is_comparable w c a.range b.range then comparable else Some (a, b))
+    (chosen_pair (is_taken jumps (holds w c a.range.lo b.range.lo)) (Some (a, b)) None (h, k) tt)
+    (chosen_pair (is_comparable w c a.range b.range) comparable (Some (a, b))
+    (paired left (left_by_ranges (learnt c jumps) a.range b.range h k)) (h, k))
+
+numbers_in_order : (o : Option NumberPair) → AreNumbers o → AreInOrder (option_map numbers o)
+unfolding AreNumbers
+numbers_in_order None h = tt
+numbers_in_order (Some p) h = h
+
+pub refined_in_order : (w : Bits) (c : Condition) (jumps : Bool) (a b : Abs)
+    → IsInOrder a → IsInOrder b → AreInOrder (refined w c jumps a b)
+refined_in_order w c jumps (Num a) (Num b) h k =
+    numbers_in_order (narrowed w c jumps a b) (narrowed_ranges w c jumps a b h k)
+refined_in_order w c jumps a b h k = (h, k)
