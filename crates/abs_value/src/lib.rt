@@ -72,9 +72,9 @@ mod value;
 
 pub use interval::Interval;
 pub use laws::{
-    answers_are_kept, bytes_are_there, calls_cover, edges_are_kept, joins_commute, joins_cover, loads_cover,
-    lookups_cover, values_stay_in_order, registers_cover, results_are_included, states_stay_in_order,
-    stores_cover,
+    answers_are_kept, bytes_are_there, calls_cover, edges_are_kept, joins_commute, joins_cover,
+    loads_cover, lookups_cover, registers_cover, results_are_included, states_stay_in_order,
+    stores_cover, values_stay_in_order,
 };
 pub use lookups::compares_with_zero;
 pub use number::Number;

@@ -148,11 +148,7 @@ impl Number {
                 None
             }
         } else if is_comparable(bits, condition, self.range, other.range) {
-            paired(left_by(
-                Relation::learnt(condition, jumps),
-                self.range,
-                other.range,
-            ))
+            paired(left_by(Relation::learnt(condition, jumps), self.range, other.range))
         } else {
             Some((self, other))
         }

@@ -6,7 +6,8 @@ ghost use Rattle.bpf_rules.specs.Sound as sound;
 
 use abs_value::{
     answers_are_kept, bytes_are_there, calls_cover, joins_cover, loads_cover, lookups_cover,
-    values_stay_in_order, registers_cover, results_are_included, states_stay_in_order, stores_cover,
+    registers_cover, results_are_included, states_stay_in_order, stores_cover,
+    values_stay_in_order,
 };
 
 /// A step from a state that is stood for, at an instruction that breaks no rule: it is no trap, an

@@ -45,7 +45,7 @@ module _ (shape : AppShape) where
   after_narrowing d e f left k a b (Some p) h is hi narrow makes =
       let same : with_value e left (Num p.0) ≡ f = cc in
       let n = narrow p refl in
-      let range : IsWider (Num any) (Num p.0) = (omega arith, n.some, omega (arith, n.most, hi)) in
+      let range : IsWider (Num any) (Num p.0) = (omega arith, n.ordered, omega (arith, n.within, hi)) in
       subst (Knows d) same (knows_over d e left (Num p.0) h
       (subst (λ (v : Abs). IsWider v (Num p.0)) (sym is) range))
 
@@ -99,9 +99,9 @@ module _ (shape : AppShape) where
   both_narrowed d e f a b (Some p) h two four hi hi_too narrow makes =
       let same : with_value (with_value e R2 (Num p.0)) R4 (Num p.1) ≡ f = cc in
       let n = narrow p refl in
-      let first : IsWider (Num any) (Num p.0) = (omega arith, n.some, omega (arith, n.most, hi)) in
+      let first : IsWider (Num any) (Num p.0) = (omega arith, n.ordered, omega (arith, n.within, hi)) in
       let second : IsWider (Num any) (Num p.1) =
-      (omega arith, n.some_too, omega (arith, n.most_too, hi_too)) in
+      (omega arith, n.ordered_too, omega (arith, n.within_too, hi_too)) in
       let once = knows_over d e R2 (Num p.0) h
       (subst (λ (v : Abs). IsWider v (Num p.0)) (sym two) first) in
       subst (Knows d) same (knows_over d (with_value e R2 (Num p.0)) R4 (Num p.1) once

@@ -153,17 +153,17 @@ left_narrow Misses a b p h g is = narrow_some a b (a, b) p (narrow_itself a b h 
 -- ---- and of two numbers
 
 pub record IsNarrower (a b : Number) (p : NumberPair) : Type 0 where
-  pub some : least p.0 ≤ most p.0
-  pub most : most p.0 ≤ most a
-  pub some_too : least p.1 ≤ most p.1
-  pub most_too : most p.1 ≤ most b
+  pub ordered : least p.0 ≤ most p.0
+  pub within : most p.0 ≤ most a
+  pub ordered_too : least p.1 ≤ most p.1
+  pub within_too : most p.1 ≤ most b
 
 same_numbers : (a b : Number) (p : NumberPair) → least a ≤ most a → least b ≤ most b
     → Some (a, b) ≡ Some p → IsNarrower a b p
 same_numbers a b p h g is =
     let same : (a, b) ≡ p = cc in
     subst (IsNarrower a b) same
-    (record { some = h; most = omega arith; some_too = g; most_too = omega arith })
+    (record { ordered = h; within = omega arith; ordered_too = g; within_too = omega arith })
 
 paired_narrow : (a b : Number) (o : Option IntervalPair) (p : NumberPair)
     → ((q : IntervalPair) → o ≡ Some q → AreNarrower a.range b.range q) → option_map pair o ≡ Some p
@@ -173,7 +173,12 @@ paired_narrow a b (Some q) p h is =
     let same : pair q ≡ p = cc in
     let n = h q refl in
     subst (IsNarrower a b) same
-    (record { some = n.some; most = n.most; some_too = n.some_too; most_too = n.most_too })
+    (record {
+      ordered = n.some;
+      within = n.most;
+      ordered_too = n.some_too;
+      within_too = n.most_too;
+    })
 
 pub narrowed_narrow : (w : Bits) (condition : Condition) (jumps : Bool) (a b : Number) (p : NumberPair)
     → least a ≤ most a → least b ≤ most b → narrowed w condition jumps a b ≡ Some p
@@ -183,6 +188,7 @@ narrowed_narrow w condition jumps a b p h g is = by_single (are_single a b) is
     by_taken : (t : Bool) → (if t then Some (a, b) else None) ≡ Some p → IsNarrower a b p
     by_taken true is = same_numbers a b p h g is
     by_taken false is = absurd cc
+
     by_order : (t : Bool) → (if t
         then option_map pair (left_by (learnt condition jumps) a.range b.range)
         else Some (a, b)) ≡ Some p
@@ -190,6 +196,7 @@ narrowed_narrow w condition jumps a b p h g is = by_single (are_single a b) is
     by_order true is = paired_narrow a b (left_by (learnt condition jumps) a.range b.range) p
         (λ q. left_narrow (learnt condition jumps) a.range b.range q h g) is
     by_order false is = same_numbers a b p h g is
+
     by_single : (t : Bool) → (if t then
         (if is_taken jumps (holds w condition (least a) (least b)) then Some (a, b) else None)
         else if is_comparable w condition a.range b.range
