@@ -1,6 +1,6 @@
 -- One sweep over the places computes their entries.
 use Rattle.std.proofs.Common.{◌≡◌, ◌≢◌, ℕ, zero, suc, ◌+◌, ◌-◌, ◌<◌, ◌≤◌, List, ◌++◌, length, Option, Some, None, Bool, true, false, refl, sym, ap, subst, ◌∙◌, arith, inl, inr}
-use Rattle.std.specs.Prelude.{◌⊎◌, IsSome, is_some, ◌==◌, ◌&&◌, nat_lt, if◌then◌else◌}
+use Rattle.std.specs.Prelude.{◌⊎◌, IsSome, is_some, ◌==◌, ◌&&◌, nat_lt, max, if◌then◌else◌}
 use Rattle.std.proofs.lemmas.Bool.{cases_Bool, cases_lt}
 use Rattle.std.proofs.lemmas.Option.{none-some}
 use Rattle.bpf_insn.specs.declared.insn.Insn.{Insn}
@@ -13,7 +13,7 @@ use Rattle.bpf_rules.specs.Transfer.{Edge, edge}
 use Rattle.bpf_verify.specs.Count.{count}
 use Rattle.bpf_verify.specs.Pool.{Waiting, waits_at, held, IsChanged}
 use Rattle.bpf_verify.specs.Accepted.{join_all, edges_of, incoming, entry_of, IsFine}
-use Rattle.bpf_verify.specs.Kept.{jumps_to, ahead, most_ahead, jump_edges, awaited, kept}
+use Rattle.bpf_verify.specs.Kept.{jumps_to, ahead, most_ahead, jump_edges, awaited, kept, greatest_kept}
 use Rattle.bpf_verify.specs.Sweep.{arrived, IsAdded, IsAwaited, IsSwept}
 use Rattle.bpf_verify.proofs.Counts.{count_same, count_within}
 use Rattle.bpf_verify.proofs.Places.{next_at, between, after}
@@ -48,6 +48,41 @@ most_after p k n le =
 ahead_most : (p : Program) (k n : ℕ) → k < n → ahead p k ≤ most_ahead p n
 unfolding most_ahead
 ahead_most p k n lt = let l = most_after p (suc k) n lt in omega (arith, l)
+
+-- ---- the most that are kept
+
+taken : (a b : Bool) (n m : ℕ) → a ≡ true → b ≡ true → (if a && b then n else m) ≡ n
+taken a b n m is is_too = rw (is, is_too) refl
+
+left_out : (a b : Bool) (n m : ℕ) → a ≡ false → (if a && b then n else m) ≡ m
+left_out a b n m isnt = rw isnt refl
+
+passed : (a b : Bool) (n m : ℕ) → b ≡ false → (if a && b then n else m) ≡ m
+passed true b n m isnt = rw isnt refl
+passed false b n m isnt = refl
+
+kept_here : (p : ShapedProgram) (k : ℕ) → is_some (entry_of p k) ≡ true
+    → is_some (at p.code k) ≡ true → greatest_kept p (suc k) ≡ max (greatest_kept p k) (kept p k)
+unfolding greatest_kept
+kept_here p k some there = taken (is_some (entry_of p k)) (is_some (at p.code k)) _ _ some there
+
+none_here : (p : ShapedProgram) (k : ℕ) → is_some (entry_of p k) ≡ false
+    → greatest_kept p (suc k) ≡ greatest_kept p k
+unfolding greatest_kept
+none_here p k none = left_out (is_some (entry_of p k)) (is_some (at p.code k)) _ _ none
+
+-- over second halves
+kept_over : (p : ShapedProgram) (k d : ℕ)
+    → ((m : ℕ) → k < m → m < d + suc k → is_some (at p.code m) ≡ false)
+    → greatest_kept p (d + suc k) ≡ greatest_kept p (suc k)
+unfolding greatest_kept
+kept_over p k zero none = let e : 0 + suc k ≡ suc k = omega arith in rw e refl
+kept_over p k (suc d) none =
+    let e : suc d + suc k ≡ suc (d + suc k) = omega arith in
+    let here = none (d + suc k) (omega arith) (omega arith) in
+    let before = kept_over p k d (λ m lt below. none m lt (omega (arith, below))) in
+    rw e (passed (is_some (entry_of p (d + suc k))) (is_some (at p.code (d + suc k))) _ _ here
+    ∙ before)
 
 -- ---- one place
 
@@ -86,6 +121,7 @@ module _ (p : ShapedProgram) (k : ℕ) (i : Insn) (layout : IsLayout p.code)
         → with_edges m rest x ≡ (if next_of k i == m then arrived x here else x)
     pub target_is : (u : ℕ) → target ≡ Some u → IsAwaited p.code (suc k) u
     pub fine : IsFine p k
+    pub none_most : is_some (entry_of p k) ≡ false → w2.most ≡ w1.most
     pub jump_is : IsSome (entry_of p k)
         → jump_edges k (entry_of p k) (at p.code k) ≡ edge target jump
 
@@ -197,7 +233,7 @@ module _ (p : ShapedProgram) (k : ℕ) (i : Insn) (layout : IsLayout p.code)
             target = jumps_after p.code (suc k) (next_of k i) m (after k i) a.target;
           };
       fine = λ s lt. fine_at s (past_k s true lt);
-      least = λ s lt some there. least_at s (past_k s true lt) some there;
+      exact = exact_then (cases_Bool (is_some (entry_of p k)));
       most =
           let m = most_is in
           let a = ahead_most p.code k (next_of k i) (after k i) in
@@ -210,16 +246,25 @@ module _ (p : ShapedProgram) (k : ℕ) (i : Insn) (layout : IsLayout p.code)
         fine_at s (inr (inl same)) = subst (IsFine p) (sym same) l.fine
         fine_at s (inr (inr none)) = λ e j entry there. absurd (none-some j (sym none ∙ there))
 
-        least_at : (s : ℕ) → (s < k) ⊎ ((s ≡ k) ⊎ (at p.code s ≡ None)) → IsSome (entry_of p s)
-            → IsSome (at p.code s) → kept p s ≤ w2.most + 1
-        least_at s (inl below) some there =
+        kept_next : greatest_kept p (next_of k i) ≡ greatest_kept p (suc k)
+        kept_next =
+            let lt = after k i in
+            let e : next_of k i - suc k + suc k ≡ next_of k i = omega (arith, lt) in
+            subst (λ n. greatest_kept p n ≡ greatest_kept p (suc k)) e
+            (kept_over p k (next_of k i - suc k)
+            (λ m later below. ap is_some (between p.code layout k i m is later
+            (omega (arith, below, e)))))
+
+        exact_then : (is_some (entry_of p k) ≡ true) ⊎ (is_some (entry_of p k) ≡ false)
+            → w2.most + 1 ≡ greatest_kept p (next_of k i)
+        exact_then (inl some) =
             let m = most_is in
-            let le = h.least s below some there in omega (arith, le, m.grows, l.same_most)
-        least_at s (inr (inl same)) some there =
-            let m = most_is in
-            let e = held_is (subst (λ n. IsSome (entry_of p n)) same some) in
-            let at : kept p s ≡ kept p k = ap (kept p) same in
-            omega (arith, e, at, m.within)
-        least_at s (inr (inr none)) some there =
-            let no : is_some (at p.code s) ≡ false = ap is_some none in
-            absurd (grind (arith, no, there))
+            let held = held_is some in
+            let here = kept_here p k some (ap is_some is) in
+            let next = kept_next in
+            omega (arith, h.exact, held, here, next, m.grows, m.within, m.least, l.same_most)
+        exact_then (inr none) =
+            let same = l.none_most none in
+            let here = none_here p k none in
+            let next = kept_next in
+            omega (arith, h.exact, same, here, next, l.same_most)

@@ -16,7 +16,7 @@ use Rattle.bpf_rules.specs.Rules.{first_rule}
 use Rattle.bpf_rules.specs.Transfer.{edges, next_edge, jumping, going_on}
 use Rattle.bpf_verify.specs.Pool.{Waiting, waits_at, held, IsChanged}
 use Rattle.bpf_verify.specs.Accepted.{join_all, incoming, entry_of, IsFine, IsRefusedAt}
-use Rattle.bpf_verify.specs.Kept.{jumps_to, most_ahead, greatest_ahead}
+use Rattle.bpf_verify.specs.Kept.{jumps_to, most_ahead, greatest_ahead, greatest_kept}
 use Rattle.bpf_verify.specs.Sweep.{arrived, falling, IsAdded, IsSwept}
 use Rattle.bpf_verify.proofs.Places.{at_within, start_at}
 use Rattle.bpf_verify.proofs.Joining.{falls, arrived_none}
@@ -80,6 +80,7 @@ module _ (p : ShapedProgram) (k : ℕ) (i : Insn) (layout : IsLayout p.code) (fl
         rest_is = λ m x. stays (next_of k i == m) x;
         target_is = λ u e. absurd (none-some u e);
         fine = λ e j entry there. absurd (none-some e (sym no ∙ entry));
+        none_most = λ none. refl;
         jump_is = λ some. rw no refl;
       }))
     where
@@ -117,6 +118,9 @@ module _ (p : ShapedProgram) (k : ℕ) (i : Insn) (layout : IsLayout p.code) (fl
           fine = λ f j entry_f there.
               ap (λ x. first_rule p.shape x j) (same_Some f e (sym entry_f ∙ entry))
               ∙ ap (λ x. first_rule p.shape e x) (same_Some j i (sym there ∙ is)) ∙ passes;
+          none_most = λ none.
+              let there : is_some (entry_of p k) ≡ true = ap is_some entry in
+              absurd (grind (arith, there, none));
           jump_is = λ there. rw (entry, is) refl;
         }))
 
@@ -125,7 +129,7 @@ module _ (p : ShapedProgram) (k : ℕ) (i : Insn) (layout : IsLayout p.code) (fl
 pub swept_start : (p : ShapedProgram) (here : Option AbsState) (w : Waiting) → IsLayout p.code
     → here ≡ Some opening_state → w.entries ≡ replicate (length p.code) None → w.most ≡ 0
     → IsSwept p 0 here w
-unfolding incoming most_ahead
+unfolding incoming most_ahead greatest_kept
 swept_start p here w layout opens none most = record {
   place = start_at p.code layout;
   len = ap length none ∙ length-replicate {A = Option AbsState} (length p.code) None;
@@ -135,7 +139,7 @@ swept_start p here w layout opens none most = record {
       let no : is_some (waits_at w m) ≡ false = ap is_some (nones m) in
       absurd (grind (arith, no, some));
   fine = λ s lt. absurd (omega (arith, lt));
-  least = λ s lt. absurd (omega (arith, lt));
+  exact = omega (arith, most);
   most = omega (arith, most);
 }
   where

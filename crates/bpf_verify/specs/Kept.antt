@@ -1,6 +1,6 @@
 -- How many entries are kept at once, and how many targets lie ahead.
-use Rattle.std.specs.Prelude.{ℕ, zero, suc, ◌+◌, ◌<◌, ◌≤◌, max, length, nat_lt, ◌==◌}
-use Rattle.std.specs.Prelude.{List, [], ◌++◌, Option, Some, None, IsSome, is_some}
+use Rattle.std.specs.Prelude.{◌≡◌, ℕ, zero, suc, ◌+◌, max, length, nat_lt, ◌==◌, if◌then◌else◌}
+use Rattle.std.specs.Prelude.{List, [], ◌++◌, Option, Some, None, is_some}
 use Rattle.std.specs.Prelude.{Bool, false, ◌&&◌, ◌||◌, Result, Ok, Err}
 use Rattle.bpf_insn.specs.declared.insn.Insn.{Insn}
 use Rattle.bpf_insn.specs.Program.{Program, at, ◌>>=◌}
@@ -51,16 +51,19 @@ awaited p s m =
 abbrev pub kept : ShapedProgram → ℕ → ℕ
 kept p s = 1 + count (λ m. nat_lt s m && is_some (awaited p s m)) (length p.code)
 
--- how many slots were judged without a fault; of want of memory nothing is said
-abbrev pub refused_at : Refusal → ℕ
-refused_at (refusal.Rule s rule) = s
-refused_at refusal.Memory = 0
+-- the most that were kept at once while the places before k were judged, of those that have an
+-- entry; one is at hand from the start
+unfoldable pub greatest_kept : ShapedProgram → ℕ → ℕ
+greatest_kept p zero = 1
+greatest_kept p (suc k) =
+    if is_some (entry_of p k) && is_some (at p.code k) then max (greatest_kept p k) (kept p k)
+    else greatest_kept p k
 
-abbrev pub judged : {A : Type 0} → Program → Result A Refusal → ℕ
-judged p (Ok v) = length p
-judged p (Err r) = refused_at r
+-- of the places that were judged without a fault; of want of memory nothing is said
+abbrev pub IsPeakBefore : ShapedProgram → Refusal → ℕ → Type 0
+IsPeakBefore p (refusal.Rule s rule) n = n ≡ greatest_kept p s
+IsPeakBefore p refusal.Memory n = Unit {0}
 
--- no place before k kept more entries at once, of those that have one
-abbrev pub KeptAtMost : ShapedProgram → ℕ → ℕ → Type 0
-KeptAtMost p k n =
-    (s : ℕ) → s < k → IsSome (entry_of p s) → IsSome (at p.code s) → kept p s ≤ n
+abbrev pub IsPeak : {A : Type 0} → ShapedProgram → Result A Refusal → ℕ → Type 0
+IsPeak p (Ok v) n = n ≡ greatest_kept p (length p.code)
+IsPeak p (Err r) n = IsPeakBefore p r n

@@ -11,7 +11,7 @@ use Rattle.bpf_rules.specs.abs_value.States.{join_states}
 use Rattle.bpf_rules.specs.Transfer.{going_on}
 use Rattle.bpf_verify.specs.Pool.{Waiting, waits_at, held, joined_with, IsChanged}
 use Rattle.bpf_verify.specs.Accepted.{join_all, incoming, IsFine}
-use Rattle.bpf_verify.specs.Kept.{jumps_to, most_ahead, KeptAtMost}
+use Rattle.bpf_verify.specs.Kept.{jumps_to, most_ahead, greatest_kept}
 
 -- what is at hand where a place is reached: what waited, and then what falls through
 abbrev pub arrived : Option AbsState → Option AbsState → Option AbsState
@@ -33,7 +33,7 @@ pub record IsSwept (p : ShapedProgram) (k : ℕ) (here : Option AbsState) (w : W
   pub later : (m : ℕ) → k < m → m < length p.code → waits_at w m ≡ join_all (incoming p k m)
   pub waits : (m : ℕ) → IsSome (waits_at w m) → IsAwaited p.code k m
   pub fine : (s : ℕ) → s < k → IsFine p s
-  pub least : KeptAtMost p k (w.most + 1)
+  pub exact : w.most + 1 ≡ greatest_kept p k
   pub most : w.most ≤ most_ahead p.code k
 
 -- an edge to a target is added to what waits; none where it is dropped, or where there is no jump

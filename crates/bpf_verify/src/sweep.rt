@@ -8,7 +8,7 @@ ghost use Rattle.bpf_rules.specs.flow_check.Edges.{next_of};
 ghost use Rattle.bpf_rules.specs.bpf_semantics.Program.{shaped};
 ghost use Rattle.bpf_verify.specs.Accepted.{IsRefusal, IsAccepted};
 ghost use Rattle.bpf_verify.specs.Entries.{AreSwept};
-ghost use Rattle.bpf_verify.specs.Kept.{KeptAtMost, refused_at, judged, greatest_ahead};
+ghost use Rattle.bpf_verify.specs.Kept.{IsPeak, IsPeakBefore, greatest_ahead};
 
 use crate::entries::Entries;
 use bpf_insn::Insn;
@@ -29,7 +29,7 @@ fn visit(
     ensures swept { OnOk result
         (AreSwept flow.now shape.now (next_of slot insn.now) entries.new) }
     ensures refused { IfErr result (λ r. IsRefusal flow.now shape.now r) }
-    ensures least { IfErr result (λ r. KeptAtMost (shaped flow.now shape.now) (refused_at r)
+    ensures exact { IfErr result (λ r. IsPeakBefore (shaped flow.now shape.now) r
         (entries.new.waiting.most + 1)) }
     ensures most { OnErr result (entries.new.waiting.most ≡ entries.old.waiting.most) }
 {
@@ -51,8 +51,7 @@ pub fn sweep(entries: &mut Entries, flow: &Flow, shape: &Shape) -> Result<(), Re
     requires { AreSwept flow.now shape.now 0 entries.old }
     ensures accepted { OnOk result (IsAccepted flow.now shape.now) }
     ensures refused { IfErr result (λ r. IsRefusal flow.now shape.now r) }
-    ensures least { KeptAtMost (shaped flow.now shape.now) (judged flow.now result)
-        (entries.new.waiting.most + 1) }
+    ensures exact { IsPeak (shaped flow.now shape.now) result (entries.new.waiting.most + 1) }
     ensures most { entries.new.waiting.most ≤ greatest_ahead flow.now }
 {
     flow.keeps();

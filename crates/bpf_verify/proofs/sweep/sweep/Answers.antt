@@ -1,6 +1,7 @@
-use Rattle.std.proofs.Common.{arith}
+use Rattle.std.proofs.Common.{◌∙◌, ap, arith}
 use Rattle.bpf_rules.specs.bpf_semantics.Program.{shaped}
 use Rattle.bpf_verify.specs.Entries.{at_hand}
+use Rattle.bpf_verify.specs.Kept.{greatest_kept}
 use Rattle.bpf_verify.proofs.Visits.{swept_most, at_end, fine_all}
 use Rattle.bpf_verify.proofs.sweep.sweep.Goals as goal
 
@@ -18,6 +19,14 @@ returns-clause-accepted c =
     (omega (arith, c.loop-slot-test.false, c.len.ensures)) c.loop-slot.invariant in
     fine_all (shaped c.args.flow.now c.args.shape.now)
     (λ s lt. c.loop-slot.invariant.fine s (omega (arith, lt, end)))
+
+pub returns-clause-exact : goal.returns-clause-exact
+returns-clause-exact c =
+    let end = at_end (shaped c.args.flow.now c.args.shape.now) c.loop-slot.slot
+    (at_hand c.loop-slot.entries) c.loop-slot.entries.waiting
+    (omega (arith, c.loop-slot-test.false, c.len.ensures)) c.loop-slot.invariant in
+    c.loop-slot.invariant.exact
+    ∙ ap (greatest_kept (shaped c.args.flow.now c.args.shape.now)) end
 
 pub returns-clause-most : goal.returns-clause-most
 returns-clause-most c = swept_most (shaped c.args.flow.now c.args.shape.now) c.loop-slot.slot
