@@ -46,6 +46,8 @@ def strangers(text):
     for names, files in rows(text):
         words = set()
         for file in files:
+            if not (CRATES / file).exists():
+                continue  # a dead link
             words |= set(re.findall(r"[\w◌>?]+", (CRATES / file).read_text()))
         for name in names:
             if files and name not in words:
