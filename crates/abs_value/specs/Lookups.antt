@@ -11,6 +11,8 @@ use Rattle.bpf_insn.specs.declared.operand.Condition.TheVariants.{Eq, Ne}
 use Rattle.bpf_insn.specs.declared.operand.Operand.{Operand}
 use Rattle.bpf_insn.specs.declared.operand.Operand.TheVariants.{Imm, Register}
 use Rattle.bpf_insn.specs.Table.{number_of}
+use Rattle.bpf_semantics.specs.Helpers.{lookup_number, attr_is_number, attr_len_number}
+use Rattle.bpf_semantics.specs.Helpers.{bucket_number}
 use Rattle.abs_value.specs.declared.origin.Lookup.{Lookup}
 use Rattle.abs_value.specs.declared.origin.Origin.TheVariants.{Found}
 use Rattle.abs_value.specs.declared.value.Abs.{Abs}
@@ -111,10 +113,10 @@ lookup_value slot v = Unusable
 abbrev pub call_value : ℤ → ℕ → Abs → Abs
 call_value (negsuc n) slot v = Unusable
 call_value (pos n) slot v =
-    if n == 1 then lookup_value slot v
-    else if n == 2 then Num (up_to 1)
-    else if n == 3 then Num (up_to 1024)
-    else if n == 4 then Num (up_to 9999)
+    if n == lookup_number then lookup_value slot v
+    else if n == attr_is_number then Num (up_to 1)
+    else if n == attr_len_number then Num (up_to 1024)
+    else if n == bucket_number then Num (up_to 9999)
     else Unusable
 
 -- R1 to R5 are unset, and all else stays

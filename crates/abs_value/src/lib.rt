@@ -79,10 +79,9 @@ pub use laws::{
 pub use lookups::compares_with_zero;
 pub use number::Number;
 pub use origin::{Lookup, Origin};
-pub use places::{CONTEXT_SIZE, Places, STACK_SIZE};
+pub use places::Places;
 pub use relation::Relation;
 pub use slot::AbsSlot;
-pub use stack::byte_count;
 pub use state::AbsState;
 pub use value::Abs;
 

@@ -7,12 +7,7 @@ ghost use Rattle.abs_value.specs.Values as values;
 
 use crate::number::Number;
 use bpf_insn::AluOp;
-
-/// How many bytes the context has.
-pub const CONTEXT_SIZE: u16 = 64;
-
-/// How many bytes the stack has.
-pub const STACK_SIZE: u16 = 512;
+use bpf_semantics::{CONTEXT_SIZE, STACK_SIZE};
 
 /// The places from `lo` to `hi`, both included.
 #[derive(Clone, Copy, Debug, PartialEq, Eq)]

@@ -7,10 +7,10 @@ ghost use Rattle.bpf_semantics.specs.Memory.{stack_size};
 ghost use Rattle.bpf_semantics.specs.Reads as counts;
 ghost use Rattle.abs_value.specs.Stack as slots;
 
-use crate::places::STACK_SIZE;
 use crate::slot::AbsSlot;
 use crate::value::Abs;
 use bpf_insn::{LoadKind, Size};
+use bpf_semantics::{STACK_SIZE, byte_count};
 
 /// Whether the byte is set.
 pub fn is_set(stack: &[AbsSlot; 64], place: u16) -> bool
@@ -51,20 +51,6 @@ pub fn load(stack: &[AbsSlot; 64], place: u16, kind: LoadKind) -> Abs
         stack[(place / 8) as usize].kept_or(unknown)
     } else {
         unknown
-    }
-}
-
-/// How many bytes a store writes.
-pub fn byte_count(size: Size) -> u16
-    ensures count { result ≡ counts.byte_count size }
-    ensures least { 1 ≤ result }
-    ensures most { result ≤ 8 }
-{
-    match size {
-        Size::Byte => 1,
-        Size::Half => 2,
-        Size::Word => 4,
-        Size::Double => 8,
     }
 }
 

@@ -10,11 +10,12 @@ ghost use Rattle.abs_value.specs.Stack.{has_unset, loaded_from};
 ghost use Rattle.abs_value.specs.States as states;
 
 use crate::number::Number;
-use crate::places::{Places, STACK_SIZE};
+use crate::places::Places;
 use crate::slot::AbsSlot;
 use crate::stack;
 use crate::value::Abs;
 use bpf_insn::{Bits, LoadKind, Operand, Reg, Size};
+use bpf_semantics::STACK_SIZE;
 
 /// A value for each register, by its number, and the 64 slots of the stack, from its start up.
 #[derive(Clone, Copy, Debug)]

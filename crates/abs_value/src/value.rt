@@ -9,6 +9,7 @@ use crate::number::Number;
 use crate::origin::{Lookup, Origin};
 use crate::places::{Places, moved_in_stack};
 use bpf_insn::{AluOp, Bits, ByteOrder, Condition, EndSize, Extension, LoadKind};
+use bpf_semantics::helpers::{ATTR_IS, ATTR_LEN, BUCKET, LOOKUP};
 
 /// What is known of a register, or of a slot of the stack that keeps a value.
 #[derive(Clone, Copy, Debug, PartialEq, Eq)]
@@ -167,10 +168,10 @@ impl Abs {
         ensures { result ≡ lookups.call_value helper slot self }
     {
         match (helper, self) {
-            (1, Abs::Map { index }) => Abs::MayCell(Lookup { array: index, slot }),
-            (2, _) => Abs::Num(Number::up_to(1)),
-            (3, _) => Abs::Num(Number::up_to(1024)),
-            (4, _) => Abs::Num(Number::up_to(9999)),
+            (LOOKUP, Abs::Map { index }) => Abs::MayCell(Lookup { array: index, slot }),
+            (ATTR_IS, _) => Abs::Num(Number::up_to(1)),
+            (ATTR_LEN, _) => Abs::Num(Number::up_to(1024)),
+            (BUCKET, _) => Abs::Num(Number::up_to(9999)),
             _ => Abs::Unusable,
         }
     }

@@ -16,6 +16,8 @@ use Rattle.bpf_insn.specs.declared.insn.Insn.{Insn}
 use Rattle.bpf_insn.specs.declared.insn.Insn.TheVariants.{Alu, Mov, MovSx, Neg, End, Jump, JumpIf}
 use Rattle.bpf_insn.specs.declared.insn.Insn.TheVariants.{Call, Exit, Load, StoreImm, Store}
 use Rattle.bpf_insn.specs.declared.insn.Insn.TheVariants.{Atomic, Wide}
+use Rattle.abs_value.specs.bpf_semantics.Helpers.{lookup_number, attr_is_number, attr_len_number}
+use Rattle.abs_value.specs.bpf_semantics.Helpers.{bucket_number}
 use Rattle.abs_value.specs.bpf_semantics.Reads.{byte_count, load_count}
 use Rattle.abs_value.specs.bpf_semantics.Counters.{atomic_count, fetched}
 use Rattle.bpf_rules.specs.declared.access.Use.{Use}
@@ -30,10 +32,10 @@ use Rattle.bpf_rules.specs.declared.helper.Helper.TheVariants.{Lookup, AttrIs, A
 abbrev pub helper_of : ℤ → Option Helper
 helper_of (negsuc n) = None
 helper_of (pos n) =
-    if n == 1 then Some Lookup
-    else if n == 2 then Some AttrIs
-    else if n == 3 then Some AttrLen
-    else if n == 4 then Some Bucket
+    if n == lookup_number then Some Lookup
+    else if n == attr_is_number then Some AttrIs
+    else if n == attr_len_number then Some AttrLen
+    else if n == bucket_number then Some Bucket
     else None
 
 abbrev pub arguments : Option Helper → List Reg

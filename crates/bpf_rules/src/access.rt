@@ -1,11 +1,9 @@
 //! The memory that an instruction accesses: what it does there, and from which address on.
 
 ghost use Rattle.std.specs.Prelude.{◌≡◌, ◌≤◌};
-ghost use Rattle.abs_value.specs.bpf_semantics.Counters.{atomic_count};
-ghost use Rattle.abs_value.specs.bpf_semantics.Reads as counts;
 ghost use Rattle.bpf_rules.specs.Reads as reads;
 
-use abs_value::byte_count;
+use abs_value::bpf_semantics::{atomic_count, byte_count, load_count};
 use bpf_insn::{AtomicSize, LoadKind, Reg, Size};
 
 /// What is done to memory.
@@ -28,19 +26,6 @@ pub struct Access {
     pub base: Reg,
     pub offset: i16,
     pub count: u16,
-}
-
-/// How many bytes a load reads.
-pub fn load_count(kind: LoadKind) -> u16
-    ensures count { result ≡ counts.load_count kind }
-    ensures most { result ≤ 8 }
-{
-    match kind {
-        LoadKind::Byte | LoadKind::SignedByte => 1,
-        LoadKind::Half | LoadKind::SignedHalf => 2,
-        LoadKind::Word | LoadKind::SignedWord => 4,
-        LoadKind::Double => 8,
-    }
 }
 
 fn load_use(kind: LoadKind) -> Use
@@ -81,15 +66,11 @@ impl Access {
         ensures access { result ≡ reads.atomic_access size dst offset }
         ensures most { result.count ≤ 8 }
     {
-        let count = match size {
-            AtomicSize::Word => 4,
-            AtomicSize::Double => 8,
-        };
         Access {
             how: Use::Exchanges,
             base: dst,
             offset,
-            count,
+            count: atomic_count(size),
         }
     }
 }

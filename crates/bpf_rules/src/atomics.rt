@@ -14,20 +14,10 @@ ghost use Rattle.bpf_rules.specs.Transfer as transfer;
 use crate::access::Access;
 use crate::memory::{changes_context, exchanges_stack, is_no_address, is_outside, reaches_quota};
 use crate::refusal::Rule;
+use abs_value::bpf_semantics::fetched;
 use abs_value::{Abs, AbsState, Number};
 use bpf_insn::{AtomicOp, AtomicSize, Insn, Reg};
 use cells::Shape;
-
-/// The register that takes the old value, if any does.
-fn fetched(op: AtomicOp, src: Reg) -> Option<Reg>
-    ensures { result ≡ counters.fetched op src }
-{
-    match op {
-        AtomicOp::Add | AtomicOp::Or | AtomicOp::And | AtomicOp::Xor => None,
-        AtomicOp::CompareExchange => Some(Reg::R0),
-        _ => Some(src),
-    }
-}
 
 /// Whether R10 would take the old value.
 fn fetches_frame(op: AtomicOp, src: Reg) -> bool

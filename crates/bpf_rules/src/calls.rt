@@ -11,7 +11,8 @@ ghost use Rattle.bpf_rules.specs.Rules as rules;
 use crate::helper::Helper;
 use crate::memory::text_unset;
 use crate::refusal::Rule;
-use abs_value::{Abs, AbsState, STACK_SIZE};
+use abs_value::bpf_semantics::STACK_SIZE;
+use abs_value::{Abs, AbsState};
 use bpf_insn::{Insn, Reg};
 use cells::Shape;
 

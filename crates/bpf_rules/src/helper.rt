@@ -3,16 +3,18 @@
 ghost use Rattle.std.specs.Prelude.{◌≡◌};
 ghost use Rattle.bpf_rules.specs.Reads as reads;
 
+use abs_value::bpf_semantics::helpers::{ATTR_IS, ATTR_LEN, BUCKET, LOOKUP};
+
 /// A helper: a function that a program calls.
 #[derive(Clone, Copy, Debug, PartialEq, Eq)]
 pub enum Helper {
-    /// CALL 1: the address of an array's cell at a key, or 0.
+    /// The address of an array's cell at a key, or 0.
     Lookup,
-    /// CALL 2: whether an attribute is a text in the stack.
+    /// Whether an attribute is a text in the stack.
     AttrIs,
-    /// CALL 3: the length of an attribute.
+    /// The length of an attribute.
     AttrLen,
-    /// CALL 4: the bucket of a salt.
+    /// The bucket of a salt.
     Bucket,
 }
 
@@ -21,13 +23,13 @@ impl Helper {
     pub fn of(number: i32) -> Option<Helper>
         ensures { result ≡ reads.helper_of number }
     {
-        if number == 1 {
+        if number == LOOKUP {
             Some(Helper::Lookup)
-        } else if number == 2 {
+        } else if number == ATTR_IS {
             Some(Helper::AttrIs)
-        } else if number == 3 {
+        } else if number == ATTR_LEN {
             Some(Helper::AttrLen)
-        } else if number == 4 {
+        } else if number == BUCKET {
             Some(Helper::Bucket)
         } else {
             None

@@ -8,10 +8,11 @@ ghost use Rattle.bpf_rules.specs.Memory as memory;
 ghost use Rattle.bpf_rules.specs.Rules as rules;
 ghost use Rattle.bpf_rules.specs.Transfer.{loaded_at};
 
-use crate::access::{Access, load_count};
+use crate::access::Access;
 use crate::arrays::wide;
 use crate::memory::{is_no_address, is_outside, meets_unset, stack_place};
 use crate::refusal::Rule;
+use abs_value::bpf_semantics::load_count;
 use abs_value::{Abs, AbsState};
 use bpf_insn::{Insn, LoadKind, Reg, WideValue};
 use cells::Shape;

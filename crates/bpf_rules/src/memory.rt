@@ -7,7 +7,8 @@ ghost use Rattle.bpf_rules.specs.Memory as memory;
 
 use crate::access::{Access, Use};
 use crate::arrays::{has_quota, origin_bits};
-use abs_value::{Abs, AbsState, CONTEXT_SIZE, Origin, Places, STACK_SIZE};
+use abs_value::bpf_semantics::{CONTEXT_SIZE, STACK_SIZE};
+use abs_value::{Abs, AbsState, Origin, Places};
 use cells::Shape;
 
 /// Whether so many bytes from each of the places on, moved by the offset, lie in a region.

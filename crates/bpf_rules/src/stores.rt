@@ -12,7 +12,8 @@ use crate::memory::{
     changes_context, is_no_address, is_outside, is_slot, reaches_quota, stack_place,
 };
 use crate::refusal::Rule;
-use abs_value::{Abs, AbsState, byte_count};
+use abs_value::bpf_semantics::byte_count;
+use abs_value::{Abs, AbsState};
 use bpf_insn::{Insn, Reg, Size};
 use cells::Shape;
 

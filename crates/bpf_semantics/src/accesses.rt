@@ -12,6 +12,7 @@ use cells::CellOp;
 #[inline]
 pub fn load_count(kind: LoadKind) -> u16
     ensures count { result ≡ reads.load_count kind }
+    ensures least { 1 ≤ result }
     ensures most { result ≤ 8 }
 {
     match kind {
@@ -26,6 +27,7 @@ pub fn load_count(kind: LoadKind) -> u16
 #[inline]
 pub fn byte_count(size: Size) -> u16
     ensures count { result ≡ reads.byte_count size }
+    ensures least { 1 ≤ result }
     ensures most { result ≤ 8 }
 {
     match size {
@@ -40,6 +42,7 @@ pub fn byte_count(size: Size) -> u16
 #[inline]
 pub fn atomic_count(size: AtomicSize) -> u16
     ensures count { result ≡ counters.atomic_count size }
+    ensures least { 1 ≤ result }
     ensures most { result ≤ 8 }
 {
     match size {
