@@ -85,12 +85,12 @@ pub fn unset_arguments()
 {}
 
 /// A helper reads each of its arguments, and a call leaves R1 to R5 unset: R1 of lookup in
-/// `call 3 / mov r2, 0 / call 1` and R2 in `ldmap r1, 0 / call 1`; R1 of attr_is in
+/// `ldmap r1, 0 / call 3 / mov r2, 0 / call 1` and R2 in `ldmap r1, 0 / call 1`; R1 of attr_is in
 /// `call 3 / mov r2, r10 / mov r3, 0 / call 2`, R2 in `mov r3, 0 / call 2` and R3 in
 /// `mov r2, r10 / call 2`; R1 of a second `call 3` or `call 4`.
 pub fn unset_helper_arguments()
-    ensures map { AlwaysTraps
-        (traps.behind_call (Mov Bits64 R2 (Imm (pos 0)) ∷ Call (pos 1) ∷ [])) 2 }
+    ensures map { TrapsOver one_wide (layout (Wide R1 (Map (pos 0)) ∷ Call (pos 3)
+        ∷ Mov Bits64 R2 (Imm (pos 0)) ∷ Call (pos 1) ∷ [])) 3 }
     ensures key { TrapsOver one_wide traps.no_key_program 1 }
     ensures number { AlwaysTraps (traps.behind_call
         (Mov Bits64 R2 (Register R10) ∷ Mov Bits64 R3 (Imm (pos 0)) ∷ Call (pos 2) ∷ [])) 3 }

@@ -4,7 +4,7 @@ use Rattle.worked.proofs.counter_traps.unset_helper_arguments.Goals as goal
 
 pub returns : goal.returns
 returns c = record {
-  map = λ a shape. later refl (later refl (now refl refl));
+  map = λ b. later refl (later refl (later refl (now refl refl)));
   key = λ b. later refl (now refl refl);
   number = λ a shape. later refl (later refl (later refl (now refl refl)));
   address = λ a shape. later refl (now refl refl);
