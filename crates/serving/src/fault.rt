@@ -8,6 +8,12 @@ pub enum ServingFault {
     /// Memory, or a thread, was refused.
     #[error("B4 Memory")]
     Memory,
+    /// The publisher of the rulesets, or a watcher of it, was refused memory.
+    #[error("H1 Memory")]
+    Publisher,
+    /// The counters were refused memory.
+    #[error("N3 Memory")]
+    Cells,
     /// A port can't be bound.
     #[error("B6 Bind")]
     Bind,

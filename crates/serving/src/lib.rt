@@ -10,13 +10,14 @@ mod manifests;
 mod ports;
 mod running;
 mod server;
+mod staffed;
 mod worker_list;
 
 pub use fault::ServingFault;
 pub use manifests::Manifests;
 pub use ports::{Ports, bind};
-pub use running::run;
 pub use server::{PrepareFault, Server, prepare};
+pub use staffed::{StaffedServer, staff};
 
 // The words of the contracts here come with them.
 pub use operator;

@@ -1,20 +1,17 @@
 //! The server's run: its workers in their threads, and the operator's port beside them. Whichever
 //! side ends first sets a flag and wakes the other by a connection, so that both end.
 
-ghost use Rattle.std.specs.Prelude.{◌≡◌, ◌≤◌, All, IfErr};
+ghost use Rattle.std.specs.Prelude.{◌≡◌, ◌≤◌, All, IfErr, length};
 
 use crate::fault::ServingFault;
 use crate::ports::Ports;
-use crate::worker_list::worker_list;
-use cells::{CellSteps, Directory};
-use load::ruleset::Ruleset;
-use locked_cells::LockedCells;
-use operator::hot_swap::{Publisher, Watcher};
+use cells::CellSteps;
+use operator::hot_swap::Watcher;
 use operator::{Control, Loader, operate};
 use std::io::ErrorKind;
 use std::net::{Net, SocketAddr, TcpListener, TcpStream};
+use std::sync::Wait;
 use std::sync::atomic::{AtomicBool, Ordering};
-use std::sync::{Arc, Wait};
 use std::thread;
 use std::thread::Threads;
 use std::time::{Clock, Duration};
@@ -23,57 +20,9 @@ use workers::{Open, Service, serve};
 /// How long it is until a port that couldn't be woken is tried again.
 const PAUSE_MILLIS: u64 = 10;
 
-/// Serves this ruleset, whose arrays are those of the directory, as generation 1, with so many
-/// workers, until the operator stops it. Later rulesets come from the loader. B4 where memory or a
+/// Runs the workers, and the operator's port beside them, over any cells. B4 where memory or a
 /// thread was refused.
-pub fn run<H, L>(
-    rt: &H,
-    ports: Ports,
-    loader: &L,
-    rules: Ruleset,
-    directory: Directory,
-    workers: usize,
-    service: Service,
-) -> Result<(), ServingFault>
-where
-    H: Threads
-        + Wait
-        + AllocGlobal
-        + Clock
-        + Eprint
-        + Sync
-        + Net<Listener = TcpListener, Stream = TcpStream>,
-    L: Loader + Sync,
-    L::Fault: Send,
-    requires some { 1 ≤ workers }
-    requires few { workers ≤ 64 }
-    ensures { IfErr result (λ e. e ≡ ServingFault.Memory) }
-{
-    let Ok(rules) = Arc::new(rt.alloc(), rules) else {
-        return Err(ServingFault::Memory);
-    };
-    let Ok(mut publisher) = Publisher::new(rt.alloc(), rules, workers) else {
-        return Err(ServingFault::Memory);
-    };
-    let Ok(cells) = LockedCells::new(rt.alloc(), rt) else {
-        return Err(ServingFault::Memory);
-    };
-    let workers = worker_list(rt.alloc(), &cells, &mut publisher, workers)?;
-    let control = Control::new(publisher, directory);
-    run_both(
-        rt,
-        ports,
-        loader,
-        control,
-        &cells,
-        cells.pass(),
-        workers,
-        service,
-    )
-}
-
-// Runs the workers, and the operator's port beside them, over any cells.
-fn run_both<H, L, C>(
+pub(crate) fn run_both<H, L, C>(
     rt: &H,
     ports: Ports,
     loader: &L,
@@ -97,6 +46,8 @@ where
     C::Pass: Send + Drop,
     requires pass { C.belongs cells.now pass }
     requires workers { All (λ worker. C.belongs cells.now worker.0) workers.items }
+    requires some { 1 ≤ length workers.items }
+    requires few { length workers.items ≤ 64 }
     ensures { IfErr result (λ e. e ≡ ServingFault.Memory) }
 {
     let stop = AtomicBool::new(false);
@@ -112,6 +63,8 @@ where
         |scope|
             requires pass { C.belongs cells.now pass }
             requires workers { All (λ worker. C.belongs cells.now worker.0) workers.items }
+            requires some { 1 ≤ length workers.items }
+            requires few { length workers.items ≤ 64 }
             ensures { IfErr result (λ e. e ≡ ServingFault.Memory) }
         {
             let flag = &stop;

@@ -1,14 +1,14 @@
-//! From a manifest's path to the end of the server: what can be wrong is found before the server is
-//! said to serve, but for want of memory and threads.
+//! From a manifest's path to a server that has all to serve: what can be wrong is found before the
+//! server is said to serve, but for threads.
 
-ghost use Rattle.std.specs.Prelude.{◌≡◌, ◌≤◌, [], IfOk, IfErr};
+ghost use Rattle.std.specs.Prelude.{◌≡◌, ◌≢◌, ◌≤◌, [], IfOk, IfErr, length};
 ghost use Rattle.load.specs.Loaded.{IsLoadedFrom};
 ghost use Rattle.serving.specs.Manifests.{RefusesToServe};
 
 use crate::fault::ServingFault;
 use crate::manifests::Manifests;
 use crate::ports::{Ports, bind};
-use crate::running::run;
+use crate::staffed::{StaffedServer, staff};
 use cells::Directory;
 use load::ruleset::Ruleset;
 use load::{Device, Disk, PathFault, load_path};
@@ -31,7 +31,7 @@ pub enum PrepareFault {
     Port(ServingFault),
 }
 
-/// A server that is ready to serve: its ruleset is loaded, and both ports listen.
+/// A server whose ruleset is loaded, and both of whose ports listen.
 #[derive(Drop)]
 pub struct Server {
     ports: Ports,
@@ -77,8 +77,35 @@ impl Server {
         &self.ports
     }
 
-    /// Serves with so many workers until the operator stops the server. B4 where memory or a thread
-    /// was refused.
+    /// The server with so many workers, to serve the ruleset as generation 1. N3 where the counters
+    /// are refused memory, H1 where the publisher or one of its watchers is, and B4 where the
+    /// program itself is.
+    pub fn staffed<'a, H>(
+        self,
+        rt: &'a H,
+        workers: usize,
+    ) -> Result<StaffedServer<'a, H>, ServingFault>
+    where
+        H: Wait + AllocGlobal,
+        requires some { 1 ≤ workers }
+        requires few { workers ≤ 64 }
+        ensures ports { IfOk result (λ s. s.ports ≡ self.ports) }
+        ensures first { IfOk result (λ s. s.control.publishing.latest.generation ≡ 1) }
+        ensures rules { IfOk result (λ s. s.control.publishing.latest.rules ≡ self.rules) }
+        ensures arrays { IfOk result (λ s. s.control.arrays ≡ self.directory) }
+        ensures workers { IfOk result (λ s. length s.workers.items ≡ workers) }
+        ensures fault { IfErr result (λ e. e ≢ ServingFault.Bind) }
+    {
+        let Server {
+            ports,
+            rules,
+            directory,
+        } = self;
+        staff(rt, ports, rules, directory, workers)
+    }
+
+    /// Serves with so many workers until the operator stops the server. N3, H1 or B4 where memory
+    /// was refused, and B4 where a thread was.
     pub fn serve<H>(self, rt: &H, workers: usize, service: Service) -> Result<(), ServingFault>
     where
         H: Files + Threads + Wait + AllocGlobal + Clock + Eprint + Sync,
@@ -87,22 +114,12 @@ impl Server {
         H::Dir: Send,
         requires some { 1 ≤ workers }
         requires few { workers ≤ 64 }
-        ensures { IfErr result (λ e. e ≡ ServingFault.Memory) }
+        ensures { IfErr result (λ e. e ≢ ServingFault.Bind) }
     {
-        let Server {
-            ports,
-            rules,
-            directory,
-        } = self;
         let device = Device::new(rt);
-        run(
-            rt,
-            ports,
-            &Manifests::of(&device),
-            rules,
-            directory,
-            workers,
-            service,
-        )
+        match self.staffed(rt, workers) {
+            Ok(server) => server.serve(rt, &Manifests::of(&device), service),
+            Err(fault) => Err(fault),
+        }
     }
 }

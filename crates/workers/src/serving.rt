@@ -1,7 +1,7 @@
 //! One thread accepts connections, and the workers answer them. The connections go through a
 //! channel with 64 places; who gets which is nobody's promise.
 
-ghost use Rattle.std.specs.Prelude.{All};
+ghost use Rattle.std.specs.Prelude.{◌≤◌, All, length};
 
 use crate::answering::{AnswerFault, answer};
 use crate::gate::Gate;
@@ -55,7 +55,7 @@ pub struct Service {
 
 /// Answers each connection within the limit of time, until `stop` is set and one more connection
 /// comes, which isn't answered; those that were accepted before are, while the port is closed. Each
-/// pair of a pass and a watcher is a worker of its own.
+/// pair of a pass and a watcher is a worker of its own, and there are 1 to 64.
 pub fn serve<H, G, C>(
     rt: &H,
     gate: &G,
@@ -70,7 +70,9 @@ where
     G: Gate + Sync,
     C: CellSteps + Sync,
     C::Pass: Send + Drop,
-    requires { All (λ worker. C.belongs cells.now worker.0) workers.items }
+    requires belongs { All (λ worker. C.belongs cells.now worker.0) workers.items }
+    requires some { 1 ≤ length workers.items }
+    requires few { length workers.items ≤ 64 }
 {
     let Ok((to, from)) = crossbeam_channel::bounded::<Call, _>(rt.alloc(), WAITING) else {
         return Err(ServeFault::Memory);
