@@ -25,7 +25,8 @@ pub(crate) fn workers_of(alloc: Global, count: usize) -> Result<Vec<(LockedPass,
     Ok(workers)
 }
 
-/// Serves with these workers, each connection for so many seconds, and says whether it could.
+/// Serves with these 1 to 64 workers, each connection for so many seconds, and says whether it
+/// could.
 fn serves<H>(
     rt: &H,
     gate: &Meeting,
@@ -37,6 +38,9 @@ fn serves<H>(
 where
     H: Threads + Wait + AllocGlobal + Clock + Eprint + Sync,
 {
+    if workers.is_empty() || 64 < workers.len() {
+        return false;
+    }
     let Ok(cells) = LockedCells::new(rt.alloc(), rt) else {
         return false;
     };

@@ -55,6 +55,18 @@ where
     Ok(came && answered && later && is_replied(rt, &first)?)
 }
 
+/// A client that sends nothing until a second one was answered, and is answered then.
+pub(crate) fn at_once<H>(rt: &H, place: SocketAddr) -> io::Result<bool>
+where
+    H: Net<Stream = TcpStream> + AllocGlobal,
+{
+    let first = sent(rt, place, b"")?;
+    let second = asked(rt, place)?;
+    let heard = is_replied(rt, &second)?;
+    send(&first, &post(rt.alloc(), TWO_APPS)?)?;
+    Ok(heard && is_replied(rt, &first)?)
+}
+
 /// A client that sends nothing, and a second one that asks the one worker.
 pub(crate) fn silent<H>(rt: &H, place: SocketAddr) -> io::Result<bool>
 where

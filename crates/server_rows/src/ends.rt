@@ -9,13 +9,66 @@ use locked_cells::LockedCells;
 use operator::{Control, operate};
 use std::alloc::Global;
 use std::io::{self, Write};
-use std::net::{Net, TcpListener, TcpStream};
+use std::net::{Net, SocketAddr, TcpListener, TcpStream};
 use std::sync::Wait;
 use std::sync::atomic::AtomicBool;
 use std::test::Fail;
 use std::thread;
 use std::thread::Threads;
 use std::time::{Clock, Duration};
+
+/// Serves an operator's port of a server that offers nothing, of which a connection may last so
+/// many seconds. Says whether it could.
+fn operates<H>(rt: &H, listener: &TcpListener, stop: &AtomicBool, seconds: u64) -> bool
+where
+    H: Wait + AllocGlobal + Clock,
+{
+    let alloc = rt.alloc();
+    let Ok(rules) = rules(alloc, "nothing") else {
+        return false;
+    };
+    let Ok(publisher) = Publisher::new(alloc, rules, 1) else {
+        return false;
+    };
+    let Ok(cells) = LockedCells::new(alloc, rt) else {
+        return false;
+    };
+    let control = Control::new(publisher, Directory::new(alloc));
+    let (pass, timeout) = (cells.pass(), Duration::from_secs(seconds));
+    operate(rt, listener, &Shelf, control, &cells, pass, stop, timeout);
+    true
+}
+
+/// What the server tells of what it serves.
+const SHOWN: &str = "generation 1\napp x releases 1 slots 2\n";
+
+/// Whether the next connection is answered while one that sends nothing is open; then the port is
+/// told to stop.
+fn is_shown<H>(rt: &H, place: SocketAddr) -> io::Result<bool>
+where
+    H: Net<Stream = TcpStream> + AllocGlobal,
+{
+    let _silent = sent(rt, place, b"")?;
+    let shown = is_asked(rt, place.port(), "show", SHOWN)?;
+    Ok(shown && is_asked(rt, place.port(), "stop", "stopping\n")?)
+}
+
+/// Whether a connection that sends nothing is given up at its limit of time.
+fn is_given_up<H>(rt: &H) -> Result<bool, Fail>
+where
+    H: Threads + Wait + AllocGlobal + Clock + Sync,
+    H: Net<Listener = TcpListener, Stream = TcpStream>,
+{
+    let listener = TcpListener::bind(rt, "127.0.0.1:0")?;
+    let place = listener.local_addr()?;
+    let stop = AtomicBool::new(false);
+    let (operated, shown) = thread::join(
+        rt,
+        || operates(rt, &listener, &stop, 1),
+        || is_shown(rt, place),
+    );
+    Ok(operated && shown?)
+}
 
 /// Whether a port that is told to stop ends at the next connection, which isn't answered.
 fn is_stopped<H>(rt: &H) -> Result<bool, Fail>
@@ -25,16 +78,10 @@ where
     let alloc = rt.alloc();
     let listener = TcpListener::bind(rt, "127.0.0.1:0")?;
     let stream = sent(rt, listener.local_addr()?, b"stop\n")?;
-    let publisher = Publisher::new(alloc, rules(alloc, "nothing")?, 1)?;
-    let control = Control::new(publisher, Directory::new(alloc));
-    let Ok(cells) = LockedCells::new(alloc, rt) else {
-        return Err(Fail::from("memory"));
-    };
-    let (pass, stop) = (cells.pass(), AtomicBool::new(true));
-    let timeout = Duration::from_secs(30);
-    operate(rt, &listener, &Shelf, control, &cells, pass, &stop, timeout);
+    let operated = operates(rt, &listener, &AtomicBool::new(true), 30);
     drop(listener);
-    Ok(reply(alloc, &stream).unwrap_or(Vec::new(alloc)).is_empty())
+    let heard = reply(alloc, &stream).unwrap_or(Vec::new(alloc));
+    Ok(operated && heard.is_empty())
 }
 
 /// Sends seven million bytes of counters to who connects, or as many as are taken.
@@ -66,6 +113,7 @@ where
 
 #[test]
 fn ports_end(rt: HostRuntime) -> Result<(), Fail> {
+    assert!(rt; is_given_up(&rt)?);
     assert!(rt; is_stopped(&rt)?);
     assert!(rt; is_flood_refused(&rt)?);
     Ok(())

@@ -38,6 +38,8 @@ mod shelf;
 #[cfg(test)]
 mod short;
 #[cfg(test)]
+mod staffed;
+#[cfg(test)]
 mod swaps;
 #[cfg(test)]
 mod swaps_under_load;

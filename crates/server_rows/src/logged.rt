@@ -3,7 +3,7 @@
 
 use crate::both_ends::workers_of;
 use crate::clients::halt;
-use crate::exchange::MOMENT;
+use crate::exchange::{MOMENT, times};
 use crate::loopback::{reply, sent};
 use hot_swap::Watcher;
 use locked_cells::{LockedCells, LockedPass};
@@ -78,6 +78,9 @@ Content-Length: 2;;{ => P7 Ended
 const UNACCEPTED: &str =
     "1772413200 - accept failed: Resource temporarily unavailable (os error 11)\n";
 
+/// The clock's moment, as Omaha's reply tells it.
+const DAYSTART: &str = "\"daystart\":{\"elapsed_days\":7000,\"elapsed_seconds\":3600}";
+
 /// A connection that has sent what is asked, and ended.
 fn asked<H>(rt: &H, place: SocketAddr, more: &str) -> Result<TcpStream, Fail>
 where
@@ -90,10 +93,14 @@ where
     Ok(stream)
 }
 
-/// Puts the line that the log should have of a connection behind the others.
-fn want_line(alloc: Global, stream: &TcpStream, told: &str, log: &mut String) -> io::Result<()> {
-    let size = reply(alloc, stream)?.len();
-    let client = stream.local_addr()?;
+/// Puts the line that the log should have of a connection behind the others. Omaha's reply tells
+/// the moment of the clock.
+fn want_line(alloc: Global, stream: &TcpStream, told: &str, log: &mut String) -> Result<(), Fail> {
+    let reply = reply(alloc, stream)?;
+    if told == "200" && times(&reply, DAYSTART) != 1 {
+        return Err(Fail::from("a reply at another moment"));
+    }
+    let (size, client) = (reply.len(), stream.local_addr()?);
     Ok(writeln!(log, "{MOMENT} {client} {told} {size} 0")?)
 }
 
@@ -126,7 +133,8 @@ where
     Ok(log)
 }
 
-/// Serves with these workers and a log, until it is told to stop, and says whether it could.
+/// Serves with these 1 to 64 workers and a log, until it is told to stop, and says whether it
+/// could.
 fn serves<H>(
     rt: &H,
     listener: TcpListener,
@@ -136,6 +144,9 @@ fn serves<H>(
 where
     H: Threads + Wait + AllocGlobal + Clock + Eprint + Sync,
 {
+    if workers.is_empty() || 64 < workers.len() {
+        return false;
+    }
     let Ok(cells) = LockedCells::new(rt.alloc(), rt) else {
         return false;
     };

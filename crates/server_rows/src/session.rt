@@ -1,11 +1,13 @@
 //! A server over loopback, and its operator: both ends in one process.
 
+ghost use Rattle.std.specs.Prelude.{◌≤◌};
+
 use crate::exchange::{post, times};
 use crate::loopback::told;
 use crate::shelf::{Shelf, ruleset};
 use cells::Directory;
 use operator::ask;
-use serving::{Ports, ServingFault, bind, run};
+use serving::{Ports, ServingFault, bind, staff};
 use std::net::{Net, SocketAddr, TcpListener, TcpStream};
 use std::sync::Wait;
 use std::test::Fail;
@@ -28,11 +30,31 @@ where
     H: Threads + Wait + AllocGlobal + Clock + Eprint + Sync,
     H: Net<Listener = TcpListener, Stream = TcpStream>,
 {
+    served_by(rt, ports, path, 4, service())
+}
+
+/// Serves a manifest of the shelf with so many workers, until it is stopped.
+pub(crate) fn served_by<H>(
+    rt: &H,
+    ports: Ports,
+    path: &str,
+    workers: usize,
+    service: Service,
+) -> Result<(), ServingFault>
+where
+    H: Threads + Wait + AllocGlobal + Clock + Eprint + Sync,
+    H: Net<Listener = TcpListener, Stream = TcpStream>,
+    requires some { 1 ≤ workers }
+    requires few { workers ≤ 64 }
+{
     let mut directory = Directory::new(rt.alloc());
     let Ok(rules) = ruleset(rt.alloc(), path, &mut directory) else {
         return Err(ServingFault::Memory);
     };
-    run(rt, ports, &Shelf, rules, directory, 4, service())
+    match staff(rt, ports, rules, directory, workers) {
+        Ok(server) => server.serve(rt, &Shelf, service),
+        Err(fault) => Err(fault),
+    }
 }
 
 /// Two free ports.
@@ -209,10 +231,13 @@ where
     Ok(asked(rt, port, line)?.as_slice() == want.as_bytes())
 }
 
-/// A port that is taken can't be bound, and where nobody listens nobody answers.
+/// Both ports are on loopback. A port that is taken can't be bound, and where nobody listens nobody
+/// answers.
 #[test]
 fn ports(rt: HostRuntime) -> Result<(), Fail> {
     let ports = ports_of(&rt, 0, 0)?;
+    assert!(rt; ports.service().ip().is_loopback());
+    assert!(rt; ports.operator().ip().is_loopback());
     let taken = ports.operator().port();
     assert!(rt; ports_of(&rt, 0, taken).err() == Some(ServingFault::Bind));
     assert!(rt; ports_of(&rt, taken, 0).err() == Some(ServingFault::Bind));
