@@ -7,7 +7,8 @@ use Rattle.clap.specs.Words.{App, Rule, Text, new_rule}
 use Rattle.command_line.specs.declared.verb.Verb.{Verb}
 use Rattle.command_line.specs.declared.verb.Verb.TheVariants as verb
 use Rattle.command_line.specs.declared.verb.Verb.TheVariants.{Assemble, Check, Compile, Verify, Run}
-use Rattle.command_line.specs.declared.verb.Verb.TheVariants.{Replay, Serve, Load, Show, Cells, Stop}
+use Rattle.command_line.specs.declared.verb.Verb.TheVariants.{Replay, Serve, Load}
+use Rattle.command_line.specs.declared.verb.Verb.TheVariants.{Show, Cells, Stop}
 
 -- a word by its place, which has to be there
 abbrev pub file : Text → Rule

@@ -36,8 +36,8 @@ pub enum AskFault {
 
 /// Asks the server whose operator's port this is, on this machine, and gives the lines of its
 /// reply, of at most 1 MiB: those of a refusal begin with `refused `. What another port sends is no
-/// reply. It waits ten minutes for each piece of the reply; after B5 a load or a stop may still have
-/// been done.
+/// reply. It waits ten minutes for each piece of the reply; after B5 a load or a stop may still
+/// have been done.
 pub fn ask<H>(rt: &H, port: u16, line: &str) -> Result<Vec<u8>, AskFault>
 where
     H: Net<Stream = TcpStream> + AllocGlobal,

@@ -32,8 +32,8 @@ pub record IsSafeEnd (w : WorldState) (number : ℕ) (program : ShapedProgram) (
   pub release : choice ≤ length offered.app.releases
   pub short : instructions ≤ length program.code
 
--- each run that is there is so; each ruleset is sound, so that a run that is started will be so; and
--- each counter's value is within its width
+-- each run that is there is so; each ruleset is sound, so that a run that is started will be so;
+-- and each counter's value is within its width
 pub record IsSafeWorld (w : WorldState) : Type 0 where
   pub cells : AreCells w.cells
   pub rulesets : All IsRuleset w.rulesets
