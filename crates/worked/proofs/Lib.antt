@@ -1,1 +1,6 @@
 pub mod ContextReads
+mod SetBytes
+mod ValuesBack
+mod StatesBack
+mod EntriesBack
+mod AnswersBack

@@ -5,3 +5,5 @@ pub mod ContextPrograms
 pub mod CounterPrograms
 pub mod TrappingPrograms
 pub mod TrappingCounters
+pub mod StoredBytes
+pub mod LooksBack

@@ -1,6 +1,7 @@
-//! Laws without a body: each compares a definition with results that were worked out by hand, on
-//! both sides of each of its bounds. The functions have nothing to do and no program calls them.
-//! A definition that said something else would make one of them false.
+//! Laws without a body, of definitions that the code equals. Most compare one with results that
+//! were worked out by hand, on both sides of each of its bounds; the last two are of all cases. The
+//! functions have nothing to do and no program calls them. A definition that said something else
+//! would make one of them false.
 #![tactic(auto)]
 
 // The machine (`bpf_semantics`): formulas, whole programs, and programs that trap.
@@ -18,3 +19,7 @@ pub mod edges;
 pub mod lookups;
 pub mod numbers;
 pub mod values;
+
+// Of all cases: which bytes a store sets, and that what a verifier's entry names lies behind it.
+pub mod looking_back;
+pub mod stores;
