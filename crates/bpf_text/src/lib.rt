@@ -7,6 +7,7 @@
 mod argument;
 mod assembler;
 mod fault;
+mod insn_line;
 mod item;
 mod label;
 mod law;
@@ -24,5 +25,6 @@ mod vocabulary;
 
 pub use assembler::assemble;
 pub use fault::{AsmFault, AsmFaultKind, ListFault};
+pub use insn_line::line_of;
 pub use law::{kinds_agree, one_assembly, one_listing, reads_as_stated};
 pub use lister::listing;

@@ -117,7 +117,8 @@ fn push_arguments(out: &mut String, arguments: UpToThree<Argument>) -> Result<()
     out.push_str("\n")
 }
 
-fn push_line(out: &mut String, insn: Insn) -> Result<(), AllocError>
+/// Writes the line of an instruction.
+pub fn push_line(out: &mut String, insn: Insn) -> Result<(), AllocError>
     ensures { OnOk result (Appends out.old out.new (line_of insn)) }
 {
     push_word(out, mnemonic_of(insn))?;

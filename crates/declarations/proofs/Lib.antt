@@ -1,4 +1,3 @@
 mod Cuts
-mod Numbers
 mod Outcomes
 mod Orders

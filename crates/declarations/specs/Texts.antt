@@ -9,12 +9,12 @@ abbrev pub width_text : CellWidth → List ℕ
 width_text Bits32 = codes "32"
 width_text Bits64 = codes "64"
 
-abbrev pub limit_text : Option ℕ → List ℕ
-limit_text None = []
-limit_text (Some quota) = codes ":" ++ decimal quota
+abbrev pub quota_text : Option ℕ → List ℕ
+quota_text None = []
+quota_text (Some quota) = codes ":" ++ decimal quota
 
--- `name:width:length`, or `name:64:length:limit`
+-- `name:width:length`, or `name:64:length:quota`
 abbrev pub declaration_text : Declaration → List ℕ
 declaration_text d =
     d.name ++ codes ":" ++ width_text d.width ++ codes ":" ++ decimal d.length
-    ++ limit_text d.quota
+    ++ quota_text d.quota

@@ -1,5 +1,5 @@
 //! The text of a list of declarations, as a command line has it: `name:width:length`, or
-//! `name:64:length:limit`, joined by commas.
+//! `name:64:length:quota`, joined by commas.
 
 ghost use Rattle.std.specs.Prelude.{◌≡◌, Err, IfOk, Some, None, map, option_copied};
 ghost use Rattle.declarations.specs.Spec as specs;
@@ -7,6 +7,7 @@ ghost use Rattle.declarations.specs.Spec as specs;
 use crate::declaration::ArrayDeclaration;
 use crate::parts::parts_of;
 use cells::{ArrayName, CellWidth};
+use lexing::decimal_within;
 use std::alloc::Global;
 
 /// The most cells of an array.
@@ -71,12 +72,12 @@ fn read_fields(alloc: Global, fields: &[&str]) -> Result<ArrayDeclaration, SpecF
     ensures malformed { result ≡ Err SpecFault.Malformed
         → specs.of_fields (map (λ field. field.now) fields.now) ≡ None }
 {
-    let limit = match fields.len() {
+    let quota = match fields.len() {
         3 => None,
         4 => Some(fields[3]),
         _ => return Err(SpecFault::Malformed),
     };
-    read_values(alloc, fields[0], fields[1], fields[2], limit)
+    read_values(alloc, fields[0], fields[1], fields[2], quota)
 }
 
 fn read_values(
@@ -84,12 +85,12 @@ fn read_values(
     name: &str,
     width: &str,
     length: &str,
-    limit: Option<&str>,
+    quota: Option<&str>,
 ) -> Result<ArrayDeclaration, SpecFault>
     ensures read { IfOk result (λ d.
-        specs.declaration_of name.now width.now length.now (option_copied limit.entry) ≡ Some d) }
+        specs.declaration_of name.now width.now length.now (option_copied quota.entry) ≡ Some d) }
     ensures malformed { result ≡ Err SpecFault.Malformed
-        → specs.declaration_of name.now width.now length.now (option_copied limit.entry) ≡ None }
+        → specs.declaration_of name.now width.now length.now (option_copied quota.entry) ≡ None }
 {
     if !ArrayName::is_name(name) {
         return Err(SpecFault::Malformed);
@@ -97,10 +98,10 @@ fn read_values(
     let Some(width) = width_of(width) else {
         return Err(SpecFault::Malformed);
     };
-    let Some(length) = number_within(length, 1, MAX_LENGTH) else {
+    let Some(length) = decimal_within(length, 1, MAX_LENGTH) else {
         return Err(SpecFault::Malformed);
     };
-    let Some(quota) = quota_of(width, limit) else {
+    let Some(quota) = quota_of(width, quota) else {
         return Err(SpecFault::Malformed);
     };
     match ArrayName::of(alloc, name) {
@@ -120,36 +121,14 @@ fn width_of(text: &str) -> Option<CellWidth>
 }
 
 // A quota stands over 64-bit cells alone.
-fn quota_of(width: CellWidth, limit: Option<&str>) -> Option<Option<u64>>
-    ensures { result ≡ specs.quota_of width (option_copied limit.entry) }
+fn quota_of(width: CellWidth, text: Option<&str>) -> Option<Option<u64>>
+    ensures { result ≡ specs.quota_of width (option_copied text.entry) }
 {
-    let Some(limit) = limit else {
+    let Some(text) = text else {
         return Some(None);
     };
     match width {
-        CellWidth::Bits64 => Some(Some(number_within(limit, 1, MAX_QUOTA)?)),
+        CellWidth::Bits64 => Some(Some(decimal_within(text, 1, MAX_QUOTA)?)),
         CellWidth::Bits32 => None,
     }
-}
-
-// A number from the one to the other.
-fn number_within(text: &str, from: u64, to: u64) -> Option<u64>
-    ensures { result ≡ specs.number_within from to text.now }
-{
-    let number = long_number(text)?;
-    if from <= number && number <= to {
-        Some(number)
-    } else {
-        None
-    }
-}
-
-// A number of 64 bits. `parse` alone would allow a plus in front.
-fn long_number(text: &str) -> Option<u64>
-    ensures { result ≡ specs.long_number text.now }
-{
-    if text.starts_with('+') {
-        return None;
-    }
-    text.parse().ok()
 }

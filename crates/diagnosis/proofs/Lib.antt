@@ -1,4 +1,3 @@
-mod Listed
 mod Nth
 mod Once
 mod Passing

@@ -11,10 +11,13 @@ use Rattle.load.specs.Source.{file_of}
 use Rattle.load.specs.declared.fault.LoadFault.{LoadFault}
 use Rattle.load.specs.declared.fault.LoadFault.TheVariants.{Toml, Field, Duplicate, Cells, File}
 use Rattle.load.specs.declared.fault.LoadFault.TheVariants.{Program, Rule, Memory}
-use Rattle.load.specs.declared.fault.ProgramFault.{ProgramFault}
-use Rattle.load.specs.declared.fault.ProgramFault.TheVariants.{Flow, Verify}
-use Rattle.load.specs.declared.fault.RuleTextFault.{RuleTextFault}
-use Rattle.load.specs.declared.fault.RuleTextFault.TheVariants as rule
+use Rattle.load.specs.acceptance.bpf_verify.bpf_rules.declared.refusal.Refusal.TheVariants as refusal
+use Rattle.load.specs.acceptance.declared.fault.ProgramFault.{ProgramFault}
+use Rattle.load.specs.acceptance.declared.fault.ProgramFault.TheVariants.{Flow, Verify}
+use Rattle.load.specs.acceptance.declared.fault.RuleTextFault.{RuleTextFault}
+use Rattle.load.specs.acceptance.declared.fault.RuleTextFault.TheVariants.{Text}
+use Rattle.load.specs.acceptance.flow_check.declared.fault.FlowFault.TheVariants as flow
+use Rattle.load.specs.acceptance.rule_lang.declared.fault.RuleFault.TheVariants as rule
 use Rattle.manifest.specs.App.{AppEntry}
 use Rattle.manifest.specs.Manifest.{Manifest, ReadsManifest}
 use Rattle.manifest.specs.Texts.{misfit_text, twice_text}
@@ -44,14 +47,16 @@ IsCellsReason bytes number text =
 
 -- ---- faults of files
 
--- where the fault of a program lies in its file, and that of a rule
+-- where the fault of a program lies in its file, and that of a rule; the length of a rule's code
+-- has no place
 abbrev pub slot_of : ProgramFault → Place
-slot_of (Flow slot fault) = Slot slot
-slot_of (Verify slot fault) = Slot slot
+slot_of (Flow (flow.Rule slot rule)) = Slot slot
+slot_of (Verify (refusal.Rule slot rule)) = Slot slot
+slot_of fault = Whole
 
 abbrev pub line_of : RuleTextFault → Place
-line_of (rule.Text number kind) = Line number
-line_of rule.TooLong = Whole
+line_of (Text (rule.At number kind)) = Line number
+line_of fault = Whole
 
 -- the name of the file, and what is shown of it
 pub record IsTold (known : KnownFiles) (number : ℕ) (place : Place) (app : AppEntry) (text : List ℕ)

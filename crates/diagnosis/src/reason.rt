@@ -8,7 +8,12 @@ ghost use Rattle.diagnosis.specs.Texts as texts;
 
 use crate::file::tell_file;
 use crate::shown::Place;
-use load::{Files, LoadFault, ProgramFault, RuleTextFault};
+use load::acceptance::bpf_verify::Refusal;
+use load::acceptance::flow_check::FlowFault;
+use load::acceptance::rule_compile::CompileFault;
+use load::acceptance::rule_lang::RuleFault;
+use load::acceptance::{ProgramFault, RuleTextFault};
+use load::{Files, LoadFault};
 use manifest::{TomlFault, read_manifest};
 use std::alloc::{AllocError, Global};
 use std::fmt::Write;
@@ -49,9 +54,9 @@ fn tell_reason<F: Files>(
         LoadFault::Duplicate(twice) => format!(in alloc; "{twice} stands twice\n").ok(),
         LoadFault::File { app } => tell_file(alloc, manifest, files, *app, Place::Whole),
         LoadFault::Program { app, fault } => {
-            tell_file(alloc, manifest, files, *app, slot_of(*fault))
+            tell_file(alloc, manifest, files, *app, slot_of(fault))
         }
-        LoadFault::Rule { app, fault } => tell_file(alloc, manifest, files, *app, line_of(*fault)),
+        LoadFault::Rule { app, fault } => tell_file(alloc, manifest, files, *app, line_of(fault)),
         LoadFault::Cells { array, .. } => tell_array(alloc, manifest, *array),
         LoadFault::Memory => None,
     }
@@ -71,21 +76,25 @@ fn tell_toml(alloc: Global, manifest: &[u8], fault: TomlFault) -> Option<String>
     }
 }
 
-fn slot_of(fault: ProgramFault) -> Place
-    ensures { result ≡ specs.slot_of fault }
+fn slot_of(fault: &ProgramFault) -> Place
+    ensures { result ≡ specs.slot_of fault.now }
 {
     match fault {
-        ProgramFault::Flow { slot, .. } => Place::Slot(slot),
-        ProgramFault::Verify { slot, .. } => Place::Slot(slot),
+        ProgramFault::Flow(FlowFault::Rule { slot, .. }) => Place::Slot(*slot),
+        ProgramFault::Verify(Refusal::Rule { slot, .. }) => Place::Slot(*slot),
+        ProgramFault::Flow(FlowFault::Memory) => Place::Whole,
+        ProgramFault::Verify(Refusal::Memory) => Place::Whole,
     }
 }
 
-fn line_of(fault: RuleTextFault) -> Place
-    ensures { result ≡ specs.line_of fault }
+fn line_of(fault: &RuleTextFault) -> Place
+    ensures { result ≡ specs.line_of fault.now }
 {
     match fault {
-        RuleTextFault::Text { line, .. } => Place::Line(line),
-        RuleTextFault::TooLong => Place::Whole,
+        RuleTextFault::Text(RuleFault::At { line, .. }) => Place::Line(*line),
+        RuleTextFault::Text(RuleFault::Memory) => Place::Whole,
+        RuleTextFault::Compile(CompileFault::TooLong) => Place::Whole,
+        RuleTextFault::Compile(CompileFault::Memory) => Place::Whole,
     }
 }
 

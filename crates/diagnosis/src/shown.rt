@@ -1,12 +1,11 @@
 //! What is shown of an app's file: the place at which its fault lies.
 
-ghost use Rattle.std.specs.Prelude.{◌≡◌, IfOk, IfSome, string_bytes};
-ghost use Rattle.bpf_text.specs.Listing.{line_of};
+ghost use Rattle.std.specs.Prelude.{◌≡◌, IfSome, string_bytes};
 ghost use Rattle.diagnosis.specs.Shown.{IsShown};
 ghost use Rattle.diagnosis.specs.Shown as specs;
 
-use bpf_insn::{Insn, decode_at, encode};
-use bpf_text::{ListFault, listing, one_listing};
+use bpf_insn::decode_at;
+use bpf_text::line_of;
 use std::alloc::Global;
 use std::str;
 
@@ -38,23 +37,13 @@ fn show_insn(alloc: Global, slot: usize, bytes: &[u8]) -> Option<String>
     let Ok((insn, _)) = decode_at(bytes, slot) else {
         return None;
     };
-    let Ok(line) = list_insn(alloc, &insn) else {
+    let Ok(line) = line_of(alloc, insn) else {
         return None;
     };
     match format!(in alloc; "slot {slot}: {line}") {
         Ok(text) => Some(text),
         Err(_) => None,
     }
-}
-
-// The listing of one instruction.
-fn list_insn(alloc: Global, insn: &Insn) -> Result<String, ListFault>
-    ensures { IfOk result (λ text. string_bytes text ≡ line_of insn.now) }
-{
-    let (bytes, length) = encode(insn);
-    let bytes = &bytes[..length];
-    one_listing(bytes);
-    listing(alloc, bytes)
 }
 
 fn show_line(alloc: Global, number: usize, bytes: &[u8]) -> Option<String>

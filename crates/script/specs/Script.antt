@@ -6,12 +6,12 @@
 --   swap MANIFEST
 -- The fields are divided by one blank, and none is empty.
 use Rattle.std.specs.Prelude.{◌≡◌, ◌⊎◌, ℕ, List, [], ◌∷◌, codes, Option, Some, None, is_none, Bool}
-use Rattle.std.specs.Prelude.{true, false, not, ◌&&◌, nat_le, ◌==◌, option_and_then, option_map}
-use Rattle.std.specs.Prelude.{if◌then◌else◌}
+use Rattle.std.specs.Prelude.{true, false, not, ◌&&◌, ◌==◌, option_and_then, option_map}
+use Rattle.std.specs.Prelude.{◌-◌, ◌^◌, if◌then◌else◌}
 use Rattle.std.specs.List.{slice_split, before_first, after_first, filter_map, position_from}
 use Rattle.std.specs.Str.{IsUtf8, byte, bytes_eq}
 use Rattle.std.specs.Str.Lines.{lines}
-use Rattle.attrs.specs.Version.{decimal_number}
+use Rattle.lexing.specs.Decimal.{decimal_within}
 use Rattle.script.specs.declared.fault.ScriptFault.{ScriptFault}
 use Rattle.script.specs.declared.fault.ScriptFault.TheVariants.{Malformed, Memory}
 use Rattle.script.specs.declared.line.EventLine.{EventLine}
@@ -22,11 +22,14 @@ use Rattle.script.specs.declared.line.EventLine.TheVariants.{Start, Step, Steps,
 abbrev pub is_blank : ℕ → Bool
 is_blank b = b == byte " "
 
--- a number from the one to the other, written in one decimal digit or more
-abbrev pub decimal_within : ℕ → ℕ → List ℕ → Option ℕ
-decimal_within from to field =
-    option_and_then (λ n. if nat_le from n && nat_le n to then Some n else None)
-    (decimal_number field)
+abbrev pub worker_number : List ℕ → Option ℕ
+worker_number field = decimal_within 0 (2 ^ 32 - 1) field
+
+abbrev pub step_count : List ℕ → Option ℕ
+step_count field = decimal_within 1 4097 field
+
+abbrev pub bucket_number : List ℕ → Option ℕ
+bucket_number field = decimal_within 0 9999 field
 
 abbrev pub text : List ℕ → Option (List ℕ)
 text [] = None
@@ -43,19 +46,19 @@ abbrev pub start : (worker appid bucket version : List ℕ) → Option EventLine
 start worker appid bucket version =
     option_and_then (λ w. option_and_then (λ b. option_and_then (λ a.
     option_map (λ v. Start w a b v) (version_text version)) (text appid))
-    (decimal_within 0 9999 bucket)) (decimal_number worker)
+    (bucket_number bucket)) (worker_number worker)
 
 abbrev pub with_worker : (word worker : List ℕ) → Option EventLine
 with_worker word worker =
-    if bytes_eq word (codes "step") then option_map (λ w. Step w) (decimal_number worker)
-    else if bytes_eq word (codes "finish") then option_map (λ w. Finish w) (decimal_number worker)
+    if bytes_eq word (codes "step") then option_map (λ w. Step w) (worker_number worker)
+    else if bytes_eq word (codes "finish") then option_map (λ w. Finish w) (worker_number worker)
     else None
 
 abbrev pub steps : (word worker count : List ℕ) → Option EventLine
 steps word worker count =
     if bytes_eq word (codes "step")
-    then option_and_then (λ w. option_map (λ n. Steps w n) (decimal_within 1 4097 count))
-    (decimal_number worker)
+    then option_and_then (λ w. option_map (λ n. Steps w n) (step_count count))
+    (worker_number worker)
     else None
 
 abbrev pub of_fields : List (List ℕ) → Option EventLine

@@ -4,7 +4,7 @@ ghost use Rattle.std.specs.Prelude.{◌≡◌, ◌==◌, Err, IfOk, Some, None, 
 ghost use Rattle.std.specs.List.{slice_split, before_first, after_first};
 ghost use Rattle.script.specs.Script as specs;
 
-use crate::number::{decimal, number_within};
+use crate::number::{bucket_number, step_count, worker_number};
 use attrs::{Bucket, Text};
 use std::alloc::{AllocError, Global};
 
@@ -93,7 +93,7 @@ fn with_worker(word: &str, worker: &str) -> Result<EventLine, LineFault>
     ensures malformed { result ≡ Err LineFault.Malformed
         → specs.with_worker word.now worker.now ≡ None }
 {
-    let Some(worker) = decimal(worker) else {
+    let Some(worker) = worker_number(worker) else {
         return Err(LineFault::Malformed);
     };
     match word {
@@ -111,7 +111,7 @@ fn steps(word: &str, worker: &str, count: &str) -> Result<EventLine, LineFault>
     if word != "step" {
         return Err(LineFault::Malformed);
     }
-    match (decimal(worker), number_within(count, 1, 4097)) {
+    match (worker_number(worker), step_count(count)) {
         (Some(worker), Some(count)) => Ok(EventLine::Steps { worker, count }),
         _ => Err(LineFault::Malformed),
     }
@@ -129,7 +129,7 @@ fn start(
     ensures malformed { result ≡ Err LineFault.Malformed
         → specs.start worker.now appid.now bucket.now version.now ≡ None }
 {
-    let (Some(worker), Some(bucket)) = (decimal(worker), number_within(bucket, 0, 9999)) else {
+    let (Some(worker), Some(bucket)) = (worker_number(worker), bucket_number(bucket)) else {
         return Err(LineFault::Malformed);
     };
     let appid = text(alloc, appid)?;
@@ -137,7 +137,7 @@ fn start(
     Ok(EventLine::Start {
         worker,
         appid,
-        bucket: Bucket::new(bucket as u16),
+        bucket,
         version,
     })
 }

@@ -1,27 +1,29 @@
-//! A number of a script: one decimal digit or more, with no sign.
+//! The numbers of a script.
 
 ghost use Rattle.std.specs.Prelude.{◌≡◌};
-ghost use Rattle.attrs.specs.Version.{decimal_number};
-ghost use Rattle.script.specs.Script.{decimal_within};
+ghost use Rattle.script.specs.Script as specs;
 
-/// A number of 32 bits. `parse` alone would allow a plus in front.
-pub fn decimal(text: &str) -> Option<u32>
-    ensures { result ≡ decimal_number text.now }
+use attrs::Bucket;
+use lexing::decimal_within;
+
+/// A worker's, of 32 bits.
+pub fn worker_number(text: &str) -> Option<u32>
+    ensures { result ≡ specs.worker_number text.now }
 {
-    if text.starts_with('+') {
-        return None;
-    }
-    text.parse().ok()
+    Some(decimal_within(text, 0, 4294967295)? as u32)
 }
 
-/// A number from the one to the other.
-pub fn number_within(text: &str, from: u32, to: u32) -> Option<u32>
-    ensures { result ≡ decimal_within from to text.now }
+/// How many Steps, 1 to 4097.
+pub fn step_count(text: &str) -> Option<u32>
+    ensures { result ≡ specs.step_count text.now }
 {
-    let number = decimal(text)?;
-    if from <= number && number <= to {
-        Some(number)
-    } else {
-        None
-    }
+    Some(decimal_within(text, 1, 4097)? as u32)
+}
+
+/// A bucket's, at most 9999.
+pub fn bucket_number(text: &str) -> Option<Bucket>
+    ensures { result ≡ specs.bucket_number text.now }
+{
+    let number = decimal_within(text, 0, 9999)?;
+    Some(Bucket::new(number as u16))
 }

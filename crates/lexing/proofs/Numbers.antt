@@ -6,18 +6,18 @@ use Rattle.std.specs.Str.Parse.{ParsesUnsigned, digits_value}
 use Rattle.std.proofs.lemmas.Str.Parse.{IsNumeralModel, parse_plain}
 use Rattle.std.proofs.lemmas.Str.Parse.{numerals_by_value, tells_all_ascii_digits}
 use Rattle.std.proofs.lemmas.Grind.{common_steps}
-use Rattle.attrs.specs.Version.{decimal_number}
+use Rattle.lexing.specs.Decimal.{long_number}
 
 digits_are : IsNumeralModel (λ ds. all_ascii_digits ds ≡ true) (digits_value 10)
 digits_are = numerals_by_value _ tells_all_ascii_digits
 
 -- with no plus in front, `parse` reads what is a number, and nothing else
-pub decimal-parse : {E : Type 0} (field : List ℕ) (r : Result ℕ E)
-    → (get_or field 0 0 == 43) ≡ false → ParsesUnsigned 32 10 field r
-    → result_ok r ≡ decimal_number field
-decimal-parse {E} field (Ok n) plain h =
-    let k = parse_plain digits_are {E = E} 32 field (Ok n) h (grind (arith, common_steps)) in
+pub long_number-parse : {E : Type 0} (part : List ℕ) (r : Result ℕ E)
+    → (get_or part 0 0 == 43) ≡ false → ParsesUnsigned 64 10 part r
+    → result_ok r ≡ long_number part
+long_number-parse {E} part (Ok n) plain h =
+    let k = parse_plain digits_are {E = E} 64 part (Ok n) h (grind (arith, common_steps)) in
     grind (arith, common_steps)
-decimal-parse {E} field (Err e) plain h =
-    let k = parse_plain digits_are {E = E} 32 field (Err e) h (grind (arith, common_steps)) in
+long_number-parse {E} part (Err e) plain h =
+    let k = parse_plain digits_are {E = E} 64 part (Err e) h (grind (arith, common_steps)) in
     grind (arith, common_steps)
