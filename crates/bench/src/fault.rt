@@ -1,7 +1,6 @@
 //! Why the benchmark stops.
 
-use bpf_machine::bpf_verify::Refusal;
-use bpf_machine::flow_check::FlowFault;
+use acceptance::ProgramFault;
 use std::alloc::AllocError;
 use std::{fmt, io};
 
@@ -12,10 +11,8 @@ pub enum Fault {
     Memory,
     /// A line can't be written.
     Output,
-    /// The program's graph is refused.
-    Flow(FlowFault),
-    /// The verifier refuses the program.
-    Rule(Refusal),
+    /// The program is refused.
+    Program(ProgramFault),
 }
 
 impl From<AllocError> for Fault {
@@ -35,8 +32,7 @@ impl fmt::Display for Fault {
         match self {
             Fault::Memory => f.write_str("out of memory"),
             Fault::Output => f.write_str("can't write"),
-            Fault::Flow(fault) => write!(f, "{fault}"),
-            Fault::Rule(refusal) => write!(f, "{refusal}"),
+            Fault::Program(fault) => write!(f, "{fault}"),
         }
     }
 }

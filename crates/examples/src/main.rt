@@ -11,10 +11,10 @@ ghost use Rattle.std.specs.Prelude.{◌<◌};
 use anyhow::Result;
 use attrs::Attrs;
 use bpf_machine::Run;
-use bpf_machine::bpf_verify::{Verified, verify};
-use bpf_machine::flow_check::Flow;
+use bpf_machine::bpf_verify::Verified;
 use bpf_text::assemble;
 use cells::{PlainCells, Shape};
+use load::acceptance::accept;
 use std::rt::Files;
 use std::sync::Arc;
 use std::{fs, str};
@@ -48,8 +48,7 @@ fn assembled<R: Files + AllocGlobal>(rt: &R, file: &str) -> Result<Arc<Verified>
 
 /// The program of these bytes, for an app with one release.
 fn verified<R: AllocGlobal>(rt: &R, bytes: &[u8]) -> Result<Arc<Verified>> {
-    let flow = Flow::check(rt.alloc(), bytes)?;
-    let program = verify(rt.alloc(), flow, &Shape::plain(rt.alloc(), 1))?;
+    let program = accept(rt.alloc(), bytes, &Shape::plain(rt.alloc(), 1))?;
     Ok(Arc::new(rt.alloc(), program)?)
 }
 

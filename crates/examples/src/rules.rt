@@ -7,12 +7,11 @@ use bpf_machine::Run;
 use bpf_machine::bpf_verify::Verified;
 use cells::{Directory, PlainCells, PlainPass, Shape};
 use declarations::{declare_all, read_spec};
-use load::rule_compile::compile;
-use load::rule_lang::parse;
+use load::acceptance::rule_program;
 use std::alloc::Global;
+use std::fs;
 use std::rt::Files;
 use std::sync::Arc;
-use std::{fs, str};
 
 /// The arrays that the rules name.
 const ARRAYS: &str = "asked:64:1,first:64:1:2";
@@ -123,9 +122,8 @@ fn shape(alloc: Global) -> Result<Shape> {
 
 /// The program of a rule.
 fn compiled(alloc: Global, text: &[u8]) -> Result<Arc<Verified>> {
-    let shape = shape(alloc)?;
-    let rule = parse(alloc, str::from_utf8(text)?, &shape)?;
-    Ok(Arc::new(alloc, compile(alloc, &rule, &shape)?)?)
+    let program = rule_program(alloc, text, &shape(alloc)?)?;
+    Ok(Arc::new(alloc, program)?)
 }
 
 /// What an app is offered.

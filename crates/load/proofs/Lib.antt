@@ -1,6 +1,5 @@
 mod Walk
 mod Names
-mod Texts
 mod OneProgram
 mod OneApp
 mod OneOutcome

@@ -3,10 +3,10 @@
 use Rattle.std.proofs.Common.{◌≡◌, ◌≢◌, ℕ, suc, List, [], ◌∷◌, ◌++◌, length, map}
 use Rattle.std.proofs.Common.{Option, Some, None, Result, Ok, Err, refl, sym, ◌∙◌, ap, subst}
 use Rattle.std.proofs.lemmas.Option.{same_Some, none-some}
-use Rattle.rule_compile.specs.bpf_insn.Program.{Program}
-use Rattle.rule_compile.specs.bpf_semantics.Program.{shaped}
-use Rattle.rule_compile.specs.bpf_verify.Accepted as verify
-use Rattle.rule_compile.specs.rule_lang.Verdicts as rules
+use Rattle.acceptance.specs.bpf_insn.Program.{Program}
+use Rattle.acceptance.specs.bpf_semantics.Program.{shaped}
+use Rattle.acceptance.specs.bpf_verify.Accepted as verify
+use Rattle.acceptance.specs.rule_lang.Verdicts as rules
 use Rattle.cells.specs.Arrays.{AppShape}
 use Rattle.cells.specs.declared.array.ArrayNo.{ArrayNo}
 use Rattle.cells.specs.declared.array.CellArray.{CellArray}

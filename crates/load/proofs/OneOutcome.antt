@@ -1,9 +1,9 @@
 -- A manifest has one load: its bytes, its arrays and its apps have one outcome each.
 use Rattle.std.proofs.Common.{◌≡◌, ◌≢◌, ℕ, ◌+◌, List, length, Option, Some, Result, Ok, Err}
 use Rattle.std.proofs.Common.{refl, sym, ap, subst}
-use Rattle.rule_compile.specs.bpf_insn.Program.{Program}
-use Rattle.rule_compile.specs.bpf_verify.Accepted as verify
-use Rattle.rule_compile.specs.rule_lang.Verdicts as rules
+use Rattle.acceptance.specs.bpf_insn.Program.{Program}
+use Rattle.acceptance.specs.bpf_verify.Accepted as verify
+use Rattle.acceptance.specs.rule_lang.Verdicts as rules
 use Rattle.cells.specs.Arrays.{AppShape}
 use Rattle.cells.specs.Directory.{IsDirectory}
 use Rattle.cells.specs.declared.array.ArrayNo.{ArrayNo}

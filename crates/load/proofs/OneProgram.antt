@@ -1,32 +1,33 @@
 -- The bytes of an app's file come to one program under a shape, or have one fault.
 use Rattle.std.proofs.Common.{◌≡◌, ◌≢◌, ℕ, ◌≤◌, List, length, Result, Ok, Err}
 use Rattle.std.proofs.Common.{refl, sym, ◌∙◌, ap, subst, arith}
-use Rattle.rule_compile.specs.bpf_insn.Program.{Program}
-use Rattle.rule_compile.specs.bpf_semantics.Program.{shaped}
-use Rattle.rule_compile.specs.bpf_verify.Accepted as verify
-use Rattle.rule_compile.specs.bpf_verify.Accepted.{IsRefusedAt}
-use Rattle.rule_compile.specs.bpf_verify.bpf_rules.declared.refusal.Rule.{Rule}
+use Rattle.acceptance.specs.Program.{IsProgramOf, IsRefusedProgram}
+use Rattle.acceptance.specs.Rule.{IsTextOf, IsRuleTextFault, IsTooLong, no_text, no_rule}
+use Rattle.acceptance.specs.bpf_insn.Program.{Program}
+use Rattle.acceptance.specs.bpf_semantics.Program.{shaped}
+use Rattle.acceptance.specs.bpf_verify.Accepted as verify
+use Rattle.acceptance.specs.bpf_verify.Accepted.{IsRefusedAt}
+use Rattle.acceptance.specs.bpf_verify.bpf_rules.declared.refusal.Refusal.TheVariants as refusal
+use Rattle.acceptance.specs.bpf_verify.bpf_rules.declared.refusal.Rule.{Rule}
+use Rattle.acceptance.specs.declared.fault.ProgramFault.TheVariants.{Flow, Verify}
+use Rattle.acceptance.specs.declared.fault.RuleTextFault.TheVariants.{Text, Compile}
 use Rattle.cells.specs.Arrays.{AppShape}
-use Rattle.rule_compile.specs.flow_check.Fault.{HasOneVerdict, IsFlowFault}
-use Rattle.rule_compile.specs.flow_check.Flow.{IsAcceptedAs}
-use Rattle.rule_compile.specs.flow_check.declared.fault.FlowFault.TheVariants as flow
-use Rattle.rule_compile.specs.flow_check.declared.fault.FlowRule.{FlowRule}
-use Rattle.rule_compile.specs.Code.{rule_code}
-use Rattle.rule_compile.specs.rule_lang.Parts.{OrFault}
-use Rattle.rule_compile.specs.rule_lang.Verdicts as rules
-use Rattle.rule_compile.specs.rule_lang.declared.fault.RuleFault.TheVariants.{At}
-use Rattle.rule_compile.specs.rule_lang.declared.fault.RuleFaultKind.{RuleFaultKind}
-use Rattle.rule_compile.specs.rule_lang.declared.fault.RuleFaultKind.TheVariants.{Token}
-use Rattle.rule_compile.specs.rule_lang.declared.rule.Statement.{Statement}
+use Rattle.acceptance.specs.flow_check.Fault.{HasOneVerdict, IsFlowFault}
+use Rattle.acceptance.specs.flow_check.declared.fault.FlowFault.TheVariants as flow
+use Rattle.acceptance.specs.flow_check.declared.fault.FlowRule.{FlowRule}
+use Rattle.acceptance.specs.rule_compile.Code.{rule_code}
+use Rattle.acceptance.specs.rule_compile.declared.fault.CompileFault.TheVariants as compile
+use Rattle.acceptance.specs.rule_lang.Parts.{OrFault}
+use Rattle.acceptance.specs.rule_lang.Verdicts as rules
+use Rattle.acceptance.specs.rule_lang.declared.fault.RuleFault.TheVariants as rule
+use Rattle.acceptance.specs.rule_lang.declared.fault.RuleFault.TheVariants.{At}
+use Rattle.acceptance.specs.rule_lang.declared.fault.RuleFaultKind.{RuleFaultKind}
+use Rattle.acceptance.specs.rule_lang.declared.fault.RuleFaultKind.TheVariants.{Token}
+use Rattle.acceptance.specs.rule_lang.declared.rule.Statement.{Statement}
 use Rattle.manifest.specs.declared.app.Source.{Source}
 use Rattle.manifest.specs.declared.app.Source.TheVariants as source
 use Rattle.load.specs.declared.fault.AppFault.{AppFault}
 use Rattle.load.specs.declared.fault.AppFault.TheVariants as app
-use Rattle.load.specs.declared.fault.ProgramFault.TheVariants.{Flow, Verify}
-use Rattle.load.specs.declared.fault.RuleTextFault.TheVariants.{Text, TooLong}
-use Rattle.load.specs.Program.{IsProgramOf, HaveNoOther, IsUnaccepted}
-use Rattle.load.specs.Rule.{IsTextOf, IsRuleTextFault, no_text, no_rule}
-use Rattle.load.specs.Rule.{IsTooLong}
 use Rattle.load.specs.Source.{IsProgramFrom, RefusesFile}
 
 -- what the bytes of a file come to under a shape
@@ -37,52 +38,56 @@ ComesTo from bytes shape (Err fault) = RefusesFile from bytes shape fault
 -- ---- bytes of a program
 
 data Read (bytes : List ℕ) (shape : AppShape) : Result Program AppFault → Type 0 where
-  accepted : (code : Program) → IsProgramOf bytes (shaped code shape) → HaveNoOther bytes code
-      → Read bytes shape (Ok code)
+  accepted : (code : Program) → IsProgramOf bytes (shaped code shape) → Read bytes shape (Ok code)
   no_flow : (slot : ℕ) (rule : FlowRule) → IsFlowFault bytes (flow.Rule slot rule)
-      → HasOneVerdict bytes → Read bytes shape (Err (app.Program (Flow slot rule)))
-  refused : (slot : ℕ) (rule : Rule) → IsUnaccepted bytes shape slot rule
-      → Read bytes shape (Err (app.Program (Verify slot rule)))
+      → HasOneVerdict bytes → Read bytes shape (Err (app.Program (Flow (flow.Rule slot rule))))
+  refused : (slot : ℕ) (rule : Rule) → IsRefusedProgram bytes shape (refusal.Rule slot rule)
+      → Read bytes shape (Err (app.Program (Verify (refusal.Rule slot rule))))
 
 read : (bytes : List ℕ) (shape : AppShape) (file : List ℕ) (r : Result Program AppFault)
     → ComesTo (source.Program file) bytes shape r → r ≢ Err app.Memory → Read bytes shape r
-read bytes shape file (Ok code) h known = accepted code h.0 h.1
-read bytes shape file (Err (app.Program (Flow slot rule))) h known = no_flow slot rule h.0 h.1
-read bytes shape file (Err (app.Program (Verify slot rule))) h known = refused slot rule h
+read bytes shape file (Ok code) h known = accepted code h
+read bytes shape file (Err (app.Program (Flow (flow.Rule slot rule)))) h known =
+    no_flow slot rule h.0.0 h.0.1
+read bytes shape file (Err (app.Program (Flow flow.Memory))) h known = absurd cc
+read bytes shape file (Err (app.Program (Verify (refusal.Rule slot rule)))) h known =
+    refused slot rule h.0
+read bytes shape file (Err (app.Program (Verify refusal.Memory))) h known = absurd cc
 read bytes shape file (Err app.Memory) h known = absurd (known refl)
 read bytes shape file (Err app.File) h known = absurd h
 read bytes shape file (Err (app.Rule fault)) h known = absurd h
 
 module _ (judged : (p : Program) (shape : AppShape) → verify.HasOneVerdict p shape) where
   not_refused : (bytes : List ℕ) (shape : AppShape) (p : Program) (slot : ℕ) (rule : Rule)
-      → IsProgramOf bytes (shaped p shape) → IsUnaccepted bytes shape slot rule → ⊥
+      → IsProgramOf bytes (shaped p shape)
+      → IsRefusedProgram bytes shape (refusal.Rule slot rule) → ⊥
   not_refused bytes shape p slot rule h k =
       (judged k.code shape).either slot rule
-      (subst (λ (x : Program). verify.IsAccepted x shape) (k.only p h.bytes_are) h.accepted)
-      k.refused
+      (subst (λ (x : Program). verify.IsAccepted x shape) (k.are.only p h.are.bytes_are)
+      h.accepted) k.refused
 
   same_read : (bytes : List ℕ) (shape : AppShape) {r s : Result Program AppFault}
       → Read bytes shape r → Read bytes shape s → r ≡ s
-  same_read bytes shape (accepted p h only) (accepted q k other) =
-      ap (λ x. Ok x) (sym (only q k.bytes_are))
-  same_read bytes shape (accepted p h only) (no_flow t rule k one) =
-      absurd (one.either p t rule h.bytes_are k)
-  same_read bytes shape (accepted p h only) (refused t rule k) =
+  same_read bytes shape (accepted p h) (accepted q k) =
+      ap (λ x. Ok x) (sym (h.are.only q k.are.bytes_are))
+  same_read bytes shape (accepted p h) (no_flow t rule k one) =
+      absurd (one.either p t rule h.are.bytes_are k)
+  same_read bytes shape (accepted p h) (refused t rule k) =
       absurd (not_refused bytes shape p t rule h k)
-  same_read bytes shape (no_flow s rule h one) (accepted q k only) =
-      absurd (one.either q s rule k.bytes_are h)
+  same_read bytes shape (no_flow s rule h one) (accepted q k) =
+      absurd (one.either q s rule k.are.bytes_are h)
   same_read bytes shape (no_flow s rule h one) (no_flow t other k also) =
       let same = one.fault s t rule other h k in cc
   same_read bytes shape (no_flow s rule h one) (refused t other k) =
-      absurd (one.either k.code s rule k.bytes_are h)
-  same_read bytes shape (refused s rule h) (accepted q k only) =
+      absurd (one.either k.code s rule k.are.bytes_are h)
+  same_read bytes shape (refused s rule h) (accepted q k) =
       absurd (not_refused bytes shape q s rule k h)
   same_read bytes shape (refused s rule h) (no_flow t other k one) =
-      absurd (one.either h.code t other h.bytes_are k)
+      absurd (one.either h.code t other h.are.bytes_are k)
   same_read bytes shape (refused s rule h) (refused t other k) =
       let same = (judged k.code shape).refusal s t rule other
-      (subst (λ (x : Program). IsRefusedAt (shaped x shape) s rule) (k.only h.code h.bytes_are)
-      h.refused) k.refused in cc
+      (subst (λ (x : Program). IsRefusedAt (shaped x shape) s rule)
+      (k.are.only h.code h.are.bytes_are) h.refused) k.refused in cc
 
 -- ---- text of a rule
 
@@ -90,14 +95,17 @@ data Spelled (bytes : List ℕ) (shape : AppShape) : Result Program AppFault →
   compiled : (code : Program) (rule : List Statement) → IsTextOf bytes shape rule
       → code ≡ rule_code shape rule → length code ≤ 4096 → Spelled bytes shape (Ok code)
   no_rules : (line : ℕ) (kind : RuleFaultKind) → IsRuleTextFault bytes shape line kind
-      → Spelled bytes shape (Err (app.Rule (Text line kind)))
-  too_long : IsTooLong bytes shape → Spelled bytes shape (Err (app.Rule TooLong))
+      → Spelled bytes shape (Err (app.Rule (Text (At line kind))))
+  too_long : IsTooLong bytes shape
+      → Spelled bytes shape (Err (app.Rule (Compile compile.TooLong)))
 
 spelled : (bytes : List ℕ) (shape : AppShape) (file : List ℕ) (r : Result Program AppFault)
     → ComesTo (source.Rule file) bytes shape r → r ≢ Err app.Memory → Spelled bytes shape r
 spelled bytes shape file (Ok code) h known = compiled code h.rule h.text h.code h.flow.short
-spelled bytes shape file (Err (app.Rule (Text line kind))) h known = no_rules line kind h
-spelled bytes shape file (Err (app.Rule TooLong)) h known = too_long h
+spelled bytes shape file (Err (app.Rule (Text (At line kind)))) h known = no_rules line kind h.0
+spelled bytes shape file (Err (app.Rule (Text rule.Memory))) h known = absurd cc
+spelled bytes shape file (Err (app.Rule (Compile compile.TooLong))) h known = too_long h.0
+spelled bytes shape file (Err (app.Rule (Compile compile.Memory))) h known = absurd cc
 spelled bytes shape file (Err app.Memory) h known = absurd (known refl)
 spelled bytes shape file (Err app.File) h known = absurd h
 spelled bytes shape file (Err (app.Program fault)) h known = absurd h

@@ -1,14 +1,16 @@
 -- The program that an app's file gives, as a program's bytes or as the text of a rule.
-use Rattle.std.specs.Prelude.{ℕ, List, Some, None}
-use Rattle.rule_compile.specs.bpf_semantics.Program.{ShapedProgram}
+use Rattle.std.specs.Prelude.{◌≡◌, ℕ, List, Some, None, false}
+use Rattle.acceptance.specs.Program as program
+use Rattle.acceptance.specs.Program.{IsProgramOf, RefusesProgram}
+use Rattle.acceptance.specs.Rule as rule
+use Rattle.acceptance.specs.Rule.{IsProgramOfRule, RefusesRule}
+use Rattle.acceptance.specs.bpf_semantics.Program.{ShapedProgram}
 use Rattle.cells.specs.Arrays.{AppShape}
 use Rattle.manifest.specs.declared.app.Source.{Source}
 use Rattle.manifest.specs.declared.app.Source.TheVariants as source
 use Rattle.load.specs.declared.fault.AppFault.{AppFault}
 use Rattle.load.specs.declared.fault.AppFault.TheVariants as app
 use Rattle.load.specs.Files.{KnownFiles, Gives}
-use Rattle.load.specs.Program.{IsProgramOf, HaveNoOther, RefusesProgram}
-use Rattle.load.specs.Rule.{IsProgramOfRule, RefusesRule}
 
 abbrev pub file_of : Source → List ℕ
 file_of (source.Program file) = file
@@ -16,18 +18,30 @@ file_of (source.Rule file) = file
 
 -- the program that the bytes of the file give
 abbrev pub IsProgramFrom : Source → List ℕ → ShapedProgram → Type 0
-IsProgramFrom (source.Program file) bytes program =
-    IsProgramOf bytes program × HaveNoOther bytes program.code
-IsProgramFrom (source.Rule file) bytes program = IsProgramOfRule bytes program
+IsProgramFrom (source.Program file) bytes p = IsProgramOf bytes p
+IsProgramFrom (source.Rule file) bytes p = IsProgramOfRule bytes p
+
+-- why bytes are no program, and why they spell no rule; of want of memory nothing is said
+abbrev pub RefusesBytes : List ℕ → AppShape → AppFault → Type 0
+RefusesBytes bytes shape (app.Program fault) =
+    RefusesProgram bytes shape fault × (program.is_memory fault ≡ false)
+RefusesBytes bytes shape app.Memory = Unit {0}
+RefusesBytes bytes shape fault = ⊥
+
+abbrev pub RefusesText : List ℕ → AppShape → AppFault → Type 0
+RefusesText bytes shape (app.Rule fault) =
+    RefusesRule bytes shape fault × (rule.is_memory fault ≡ false)
+RefusesText bytes shape app.Memory = Unit {0}
+RefusesText bytes shape fault = ⊥
 
 -- why the bytes of the file give none
 abbrev pub RefusesFile : Source → List ℕ → AppShape → AppFault → Type 0
-RefusesFile (source.Program file) bytes shape fault = RefusesProgram bytes shape fault
-RefusesFile (source.Rule file) bytes shape fault = RefusesRule bytes shape fault
+RefusesFile (source.Program file) bytes shape fault = RefusesBytes bytes shape fault
+RefusesFile (source.Rule file) bytes shape fault = RefusesText bytes shape fault
 
 abbrev pub IsProgramIn : KnownFiles → Source → ShapedProgram → Type 0
-IsProgramIn known from program =
-    (bytes : List ℕ) × Gives known (file_of from) (Some bytes) × IsProgramFrom from bytes program
+IsProgramIn known from p =
+    (bytes : List ℕ) × Gives known (file_of from) (Some bytes) × IsProgramFrom from bytes p
 
 -- why there is none: no file, or what its bytes are
 abbrev pub RefusesSource : KnownFiles → Source → AppShape → AppFault → Type 0

@@ -1,17 +1,18 @@
 //! One app of a manifest, with its program.
 
 ghost use Rattle.std.specs.Prelude.{◌≡◌, ◌^◌, ◌-◌, ◌<◌, length, All, IfOk, IfErr};
-ghost use Rattle.load.specs.Source.{IsProgramIn, RefusesSource};
+ghost use Rattle.acceptance.specs.Program.{IsProgramOf};
+ghost use Rattle.acceptance.specs.Rule.{IsProgramOfRule};
+ghost use Rattle.load.specs.Source.{IsProgramIn, RefusesBytes, RefusesSource, RefusesText};
 ghost use Rattle.load.specs.Source as specs;
 ghost use Rattle.load.specs.App.{IsAppOf, RefusesApp, CountsApp};
 
 use crate::fault::AppFault;
 use crate::files::{FileFault, Files};
-use crate::program::program_of;
-use crate::rule::rule_program;
+use acceptance::bpf_verify::Verified;
+use acceptance::{accept, rule_program};
 use cells::{ArrayNo, Directory, Shape};
 use manifest::{AppEntry, AppParts, Source};
-use rule_compile::bpf_verify::Verified;
 use ruleset::App;
 use std::alloc::Global;
 use std::sync::Arc;
@@ -67,7 +68,31 @@ fn load_program<F: Files>(
     };
     match source {
         Source::Program(_) => program_of(alloc, bytes.as_slice(), shape),
-        Source::Rule(_) => rule_program(alloc, bytes.as_slice(), shape),
+        Source::Rule(_) => program_of_rule(alloc, bytes.as_slice(), shape),
+    }
+}
+
+fn program_of(alloc: Global, bytes: &[u8], shape: &Shape) -> Result<Verified, AppFault>
+    ensures shape { IfOk result (λ program. program.shape ≡ shape.now) }
+    ensures program { IfOk result (IsProgramOf bytes.now) }
+    ensures fault { IfErr result (RefusesBytes bytes.now shape.now) }
+{
+    match accept(alloc, bytes, shape) {
+        Ok(program) => Ok(program),
+        Err(fault) if fault.is_memory() => Err(AppFault::Memory),
+        Err(fault) => Err(AppFault::Program(fault)),
+    }
+}
+
+fn program_of_rule(alloc: Global, text: &[u8], shape: &Shape) -> Result<Verified, AppFault>
+    ensures shape { IfOk result (λ program. program.shape ≡ shape.now) }
+    ensures program { IfOk result (IsProgramOfRule text.now) }
+    ensures fault { IfErr result (RefusesText text.now shape.now) }
+{
+    match rule_program(alloc, text, shape) {
+        Ok(program) => Ok(program),
+        Err(fault) if fault.is_memory() => Err(AppFault::Memory),
+        Err(fault) => Err(AppFault::Rule(fault)),
     }
 }
 

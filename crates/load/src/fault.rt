@@ -1,10 +1,8 @@
 //! Why a manifest and its files make no ruleset.
 
+use acceptance::{ProgramFault, RuleTextFault};
 use cells::CellsFault;
 use manifest::{Misfit, TomlFault, Twice};
-use rule_compile::bpf_verify::Rule;
-use rule_compile::flow_check::FlowRule;
-use rule_compile::rule_lang::RuleFaultKind;
 use thiserror::Error;
 
 /// What is wrong, with the numbers M1 to M8 that are printed. Arrays and apps are numbered from 1
@@ -51,30 +49,8 @@ pub enum PathFault {
     Load(LoadFault),
 }
 
-/// Why bytes are no program of a shape.
-#[derive(Clone, Copy, Debug, Drop, PartialEq, Eq, Error)]
-pub enum ProgramFault {
-    /// F1 to F8: they are no program whose edges lead forward.
-    #[error("{rule} at slot {slot}")]
-    Flow { slot: usize, rule: FlowRule },
-    /// V1 to V14: the program isn't accepted.
-    #[error("{rule} at slot {slot}")]
-    Verify { slot: usize, rule: Rule },
-}
-
-/// Why a text is no rule of a shape.
-#[derive(Clone, Copy, Debug, Drop, PartialEq, Eq, Error)]
-pub enum RuleTextFault {
-    /// L1 to L4, with the line from 1.
-    #[error("{kind} at line {line}")]
-    Text { line: usize, kind: RuleFaultKind },
-    /// Its code would pass 4096 slots.
-    #[error("C1 TooLong")]
-    TooLong,
-}
-
 /// Why an app has no program.
-#[derive(Clone, Copy, Debug, Drop, PartialEq, Eq)]
+#[derive(Debug, Drop)]
 pub(crate) enum AppFault {
     File,
     Program(ProgramFault),

@@ -2,9 +2,9 @@
 
 ghost use Rattle.load.specs.OneLoad.{HasOneLoad, HasOneLoadFrom};
 
+use acceptance::{bpf_verify, rule_lang};
 use manifest::declarations::lists_declare_one_way;
 use manifest::one_reading;
-use rule_compile::{bpf_verify, rule_lang};
 
 /// A law: of files that tell their bytes, one directory and one manifest have one load, want of
 /// memory aside. So a load that is asked for again, where memory was refused, gives what one that

@@ -20,11 +20,9 @@ mod folder;
 mod law;
 mod loading;
 mod path;
-mod program;
-mod rule;
 
 pub use disk::{Device, Disk, read_within};
-pub use fault::{LoadFault, PathFault, ProgramFault, RuleTextFault};
+pub use fault::{LoadFault, PathFault};
 pub use files::{FileFault, Files};
 pub use folder::FolderFiles;
 pub use law::one_load;
@@ -32,6 +30,5 @@ pub use loading::load_ruleset;
 pub use path::load_path;
 
 // The words of the contracts here come with them.
-pub use rule_compile;
-pub use rule_compile::rule_lang;
+pub use acceptance;
 pub use ruleset;

@@ -12,7 +12,7 @@
 //!
 //! [[app]]                    # 1 to 256, by the appid of each just once
 //! appid = "x"
-//! program = "x.bpf"          # or rule = "x.rule"
+//! program = "x.bin"          # or rule = "x.rule"
 //!
 //! [[app.release]]            # at most 64
 //! version = "2.0.0.0"

@@ -4,12 +4,9 @@ use Rattle.std.specs.Prelude.{◌≡◌, ◌⊎◌, ℕ, ◌^◌, List, [], leng
 use Rattle.attrs.specs.Attributes.{plain}
 use Rattle.bounded_files.specs.Files.{OfBytes}
 use Rattle.bounded_files.specs.declared.fault.ResourceFault.TheVariants.{Memory}
-use Rattle.bpf_insn.specs.Program.{Program}
-use Rattle.bpf_machine.specs.bpf_rules.declared.refusal.Refusal.{Refusal}
 use Rattle.bpf_machine.specs.bpf_semantics.Program.{ShapedProgram}
 use Rattle.bpf_machine.specs.bpf_semantics.State.{opening}
 use Rattle.bpf_machine.specs.bpf_semantics.Run.{Ends}
-use Rattle.bpf_machine.specs.bpf_verify.Accepted.{IsRefusal}
 use Rattle.bpf_machine.specs.bpf_verify.Covers.{AreLawful}
 use Rattle.cells.specs.Arrays.{AppShape, AreNumbered}
 use Rattle.cells.specs.Events.{AreZeros, IsEvent}
@@ -19,13 +16,11 @@ use Rattle.cells.specs.declared.array.CellArray.{CellArray}
 use Rattle.cells.specs.declared.event.CellEvent.{CellEvent}
 use Rattle.cells.specs.declared.fault.CellsFault.TheVariants as cells
 use Rattle.declarations.specs.Order.{AreDeclared, IsRefusedArray}
-use Rattle.bpf_machine.specs.flow_check.Flow.{IsAcceptedAs}
-use Rattle.bpf_machine.specs.flow_check.Fault.{IsFlowFault}
 use Rattle.program_tools.specs.declared.fault.ProgramToolFault.{ProgramToolFault}
-use Rattle.program_tools.specs.declared.fault.ProgramToolFault.TheVariants.{Arrays, Flow}
-use Rattle.program_tools.specs.declared.fault.ProgramToolFault.TheVariants.{Resource, Rule}
+use Rattle.program_tools.specs.declared.fault.ProgramToolFault.TheVariants.{Arrays, Program}
+use Rattle.program_tools.specs.declared.fault.ProgramToolFault.TheVariants.{Resource}
 use Rattle.command_line.specs.declared.request.DeclaredShape.{DeclaredShape}
-use Rattle.load.specs.Program.{IsProgramOf}
+use Rattle.load.specs.acceptance.Program.{IsProgramOf, RefusesProgram}
 
 -- a file that can't be read or written, or memory that was refused
 abbrev pub IsFileRefusal : ProgramToolFault → Type 0
@@ -61,15 +56,9 @@ pub record IsProgramFor (asked : DeclaredShape) (p : ShapedProgram) : Type 0 whe
   pub shape : IsShapeFor asked p.shape
   pub program : OfBytes most_program (λ bytes. IsProgramOf bytes p)
 
--- the verifier refuses the program that the bytes are
-abbrev pub HasRefusal : List ℕ → AppShape → Refusal → Type 0
-HasRefusal bytes shape refusal =
-    (p : Program) × IsAcceptedAs bytes p × IsRefusal p shape refusal
-
--- the graph's fault, or the verifier's refusal
+-- why the bytes are none
 abbrev pub IsProgramFault : AppShape → ProgramToolFault → List ℕ → Type 0
-IsProgramFault shape (Flow fault) bytes = IsFlowFault bytes fault
-IsProgramFault shape (Rule refusal) bytes = HasRefusal bytes shape refusal
+IsProgramFault shape (Program fault) bytes = RefusesProgram bytes shape fault
 IsProgramFault shape fault bytes = ⊥
 
 -- why a file is refused: the shape comes first, then the file, then its bytes, by the faults that

@@ -1,17 +1,13 @@
 -- Programs of rules, under the shape that the words declare.
 use Rattle.std.specs.Prelude.{◌≡◌, ◌<◌, ◌≤◌, ℕ, List, length}
-use Rattle.std.specs.Str.{IsUtf8}
 use Rattle.bounded_files.specs.Files.{OfBytes}
 use Rattle.bounded_files.specs.declared.fault.ResourceFault.TheVariants.{File}
 use Rattle.bpf_machine.specs.bpf_semantics.Program.{ShapedProgram}
 use Rattle.cells.specs.Arrays.{AppShape}
-use Rattle.load.specs.rule_lang.declared.fault.RuleFault.TheVariants as rule
-use Rattle.load.specs.rule_compile.declared.fault.CompileFault.TheVariants as compile
-use Rattle.load.specs.Rule.{IsProgramOfRule, IsRuleTextFault, IsTooLong}
+use Rattle.load.specs.acceptance.Rule.{IsProgramOfRule, RefusesRule}
 use Rattle.command_line.specs.declared.request.DeclaredShape.{DeclaredShape}
 use Rattle.program_tools.specs.declared.fault.ProgramToolFault.{ProgramToolFault}
-use Rattle.program_tools.specs.declared.fault.ProgramToolFault.TheVariants.{Resource, RuleText}
-use Rattle.program_tools.specs.declared.fault.ProgramToolFault.TheVariants.{Compile}
+use Rattle.program_tools.specs.declared.fault.ProgramToolFault.TheVariants.{Resource, Rule}
 use Rattle.program_tools.specs.Assembly.{most_text}
 use Rattle.program_tools.specs.Programs.{IsShapeFor, IsRefusedUnder}
 
@@ -29,14 +25,10 @@ pub record HasCompiled (asked : DeclaredShape) (slots : ℕ) : Type 0 where
   pub program : OfBytes most_text (IsRuleProgram shape p)
   pub slots_are : slots ≡ length p.code
 
--- why the bytes give no program; of memory no claim is made
+-- why the bytes give no program
 abbrev pub IsCompileFault : AppShape → ProgramToolFault → List ℕ → Type 0
-IsCompileFault shape (RuleText (rule.At line kind)) bytes =
-    (length bytes ≤ most_text) × IsRuleTextFault bytes shape line kind
-IsCompileFault shape (RuleText rule.Memory) bytes = (length bytes ≤ most_text) × IsUtf8 bytes
-IsCompileFault shape (Compile compile.TooLong) bytes =
-    (length bytes ≤ most_text) × IsTooLong bytes shape
-IsCompileFault shape (Compile compile.Memory) bytes = Unit {0}
+IsCompileFault shape (Rule fault) bytes =
+    (length bytes ≤ most_text) × RefusesRule bytes shape fault
 IsCompileFault shape (Resource File) bytes = most_text < length bytes
 IsCompileFault shape fault bytes = ⊥
 

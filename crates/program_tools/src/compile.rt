@@ -11,11 +11,9 @@ use bounded_files::{ResourceFault, read_file, write_file};
 use bpf_machine::bpf_verify::Verified;
 use cells::Shape;
 use command_line::DeclaredShape;
-use load::rule_compile::compile;
-use load::rule_lang::{RuleFault, RuleFaultKind, parse};
+use load::acceptance::rule_program;
 use std::alloc::Global;
 use std::rt::Files;
-use std::str;
 
 /// The slots of the program of a file's rule. It is written only where the whole rule has one.
 pub fn compile_file<R: Files + AllocGlobal>(
@@ -50,21 +48,8 @@ fn compiled(alloc: Global, shape: &Shape, bytes: &[u8]) -> Result<Verified, Prog
     if bytes.len() > MOST_TEXT as usize {
         return Err(ProgramToolFault::Resource(ResourceFault::File));
     }
-    let Ok(text) = str::from_utf8(bytes) else {
-        return Err(ProgramToolFault::RuleText(RuleFault::At {
-            line: 1,
-            kind: RuleFaultKind::Token,
-        }));
-    };
-    let rule = match parse(alloc, text, shape) {
-        Ok(rule) => rule,
-        Err(fault) => return Err(ProgramToolFault::RuleText(fault)),
-    };
-    match compile(alloc, &rule, shape) {
-        Ok(program) => {
-            program.keeps();
-            Ok(program)
-        }
-        Err(fault) => Err(ProgramToolFault::Compile(fault)),
+    match rule_program(alloc, bytes, shape) {
+        Ok(program) => Ok(program),
+        Err(fault) => Err(ProgramToolFault::Rule(fault)),
     }
 }

@@ -3,12 +3,9 @@
 ghost use Rattle.program_tools.specs.Texts.{fault_text};
 
 use bounded_files::ResourceFault;
-use bpf_machine::bpf_verify::Refusal;
-use bpf_machine::flow_check::FlowFault;
 use bpf_text::{AsmFault, ListFault};
 use cells::CellsFault;
-use load::rule_compile::CompileFault;
-use load::rule_lang::RuleFault;
+use load::acceptance::{ProgramFault, RuleTextFault};
 use std::fmt;
 
 /// What is wrong; it is shown as it is printed.
@@ -20,16 +17,12 @@ pub enum ProgramToolFault {
     Arrays(CellsFault),
     /// A1 to A7: the text stands for no bytes.
     Text(AsmFault),
-    /// L1 to L5: the text spells no rule.
-    RuleText(RuleFault),
-    /// C1 and C2: the rule has no program.
-    Compile(CompileFault),
+    /// L1 to L5, C1 and C2: the text spells no rule, or one that has no program.
+    Rule(RuleTextFault),
     /// I1 to I7: the bytes spell no instructions.
     Bytes(ListFault),
-    /// F1 to F9: the bytes are no program, or its graph isn't one that ends.
-    Flow(FlowFault),
-    /// V1 to V15: the verifier doesn't accept the program.
-    Rule(Refusal),
+    /// F1 to F9, V1 to V15: the bytes are no program, or one that isn't accepted.
+    Program(ProgramFault),
 }
 
 impl fmt::Display for ProgramToolFault {
@@ -40,11 +33,9 @@ impl fmt::Display for ProgramToolFault {
             ProgramToolFault::Resource(fault) => write!(f, "{fault}"),
             ProgramToolFault::Arrays(fault) => write!(f, "{fault}"),
             ProgramToolFault::Text(fault) => write!(f, "{fault}"),
-            ProgramToolFault::RuleText(fault) => write!(f, "{fault}"),
-            ProgramToolFault::Compile(fault) => write!(f, "{fault}"),
+            ProgramToolFault::Rule(fault) => write!(f, "{fault}"),
             ProgramToolFault::Bytes(fault) => write!(f, "{fault}"),
-            ProgramToolFault::Flow(fault) => write!(f, "{fault}"),
-            ProgramToolFault::Rule(refusal) => write!(f, "{refusal}"),
+            ProgramToolFault::Program(fault) => write!(f, "{fault}"),
         }
     }
 }

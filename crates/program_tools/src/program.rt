@@ -1,17 +1,16 @@
 //! From a file and a declared shape to an accepted program.
 
-ghost use Rattle.std.specs.Prelude.{◌≡◌, IfOk, IfErr};
-ghost use Rattle.bpf_machine.specs.flow_check.Flow.{program_bytes};
-ghost use Rattle.program_tools.specs.Programs.{IsProgramFault, IsProgramFor, IsProgramRefusal};
+ghost use Rattle.std.specs.Prelude.{IfOk, IfErr};
+ghost use Rattle.program_tools.specs.Programs.{IsProgramFor, IsProgramRefusal};
 ghost use Rattle.program_tools.specs.Programs.{IsShapeFor, IsShapeRefusal};
 
 use crate::fault::ProgramToolFault;
 use bounded_files::read_file;
-use bpf_machine::bpf_verify::{Verified, verify};
-use bpf_machine::flow_check::Flow;
+use bpf_machine::bpf_verify::Verified;
 use cells::{Directory, Shape};
 use command_line::DeclaredShape;
 use declarations::declare_all;
+use load::acceptance::accept;
 use std::alloc::Global;
 use std::rt::Files;
 
@@ -33,12 +32,9 @@ pub fn program_of_file<R: Files + AllocGlobal>(
         Ok(bytes) => bytes,
         Err(fault) => return Err(ProgramToolFault::Resource(fault)),
     };
-    match verified(rt.alloc(), bytes.as_slice(), &shape) {
-        Ok(program) => {
-            program.keeps();
-            Ok(program)
-        }
-        Err(fault) => Err(fault),
+    match accept(rt.alloc(), bytes.as_slice(), &shape) {
+        Ok(program) => Ok(program),
+        Err(fault) => Err(ProgramToolFault::Program(fault)),
     }
 }
 
@@ -53,14 +49,4 @@ pub fn declared_shape(alloc: Global, shape: &DeclaredShape) -> Result<Shape, Pro
         Err(refused) => return Err(ProgramToolFault::Arrays(refused.fault)),
     };
     Shape::of(alloc, shape.releases, &directory, &numbers).map_err(ProgramToolFault::Arrays)
-}
-
-// The program that the bytes are, once it is accepted under the shape.
-fn verified(alloc: Global, bytes: &[u8], shape: &Shape) -> Result<Verified, ProgramToolFault>
-    ensures bytes { IfOk result (λ v. program_bytes v.code ≡ bytes.now) }
-    ensures shape { IfOk result (λ v. v.shape ≡ shape.now) }
-    ensures fault { IfErr result (λ e. IsProgramFault shape.now e bytes.now) }
-{
-    let flow = Flow::check(alloc, bytes).map_err(ProgramToolFault::Flow)?;
-    verify(alloc, flow, shape).map_err(ProgramToolFault::Rule)
 }

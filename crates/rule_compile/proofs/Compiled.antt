@@ -6,10 +6,7 @@ use Rattle.bpf_insn.specs.Program.{Program}
 use Rattle.bpf_verify.specs.bpf_semantics.Program.{ShapedProgram}
 use Rattle.cells.specs.Arrays.{AppShape, IsShape}
 use Rattle.bpf_verify.specs.flow_check.Flow.{IsFlow}
-use Rattle.bpf_verify.specs.bpf_rules.declared.refusal.Rule.{Rule}
-use Rattle.bpf_verify.specs.bpf_rules.declared.refusal.Refusal.{Refusal}
-use Rattle.bpf_verify.specs.bpf_rules.declared.refusal.Refusal.TheVariants as refusal
-use Rattle.bpf_verify.specs.Accepted.{IsAccepted, IsRefusal, HasOneVerdict}
+use Rattle.bpf_verify.specs.Accepted.{IsAccepted}
 use Rattle.bpf_verify.specs.Table.{Known, IsTable}
 use Rattle.rule_lang.specs.declared.rule.Statement.{Statement}
 use Rattle.rule_lang.specs.Fits.{fits}
@@ -19,11 +16,6 @@ use Rattle.rule_compile.specs.Ranges.{IsRuleInRange, AreMade}
 use Rattle.rule_compile.specs.Writing.{CanEncode}
 use Rattle.rule_compile.proofs.RuleRuns.{rule_means}
 use Rattle.rule_compile.proofs.StatementFronts.{rule_flow, rule_table}
-
-pub refuted : (p : Program) (s : AppShape) (r : Refusal) (slot : ℕ) (rule : Rule)
-    → HasOneVerdict p s → IsAccepted p s → r ≡ refusal.Rule slot rule → IsRefusal p s r → ⊥
-refuted p s r slot rule one accepted is h =
-    one.either slot rule accepted (subst (IsRefusal p s) is h)
 
 module _ (s : AppShape) (xs ys : List Statement) (code : Program) (same : ys ≡ xs)
     (shape : IsShape s) (fit : fits s xs ≡ true)

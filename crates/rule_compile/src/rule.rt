@@ -1,6 +1,6 @@
 //! The program of a whole rule: its code is written, and is accepted.
 
-ghost use Rattle.std.specs.Prelude.{◌≡◌, ◌<◌, ◌≤◌, length, IfOk, OnOk, IfErr, true};
+ghost use Rattle.std.specs.Prelude.{◌≡◌, ◌<◌, length, IfOk, true};
 ghost use Rattle.std.specs.List.{AllByRecursion};
 ghost use Rattle.attrs.specs.Attributes.{Attributes};
 ghost use Rattle.bpf_verify.specs.flow_check.Flow.{IsFlow};
@@ -14,24 +14,19 @@ use crate::bytes::program_bytes;
 use crate::fault::CompileFault;
 use crate::statements::emit;
 use bpf_insn::Insn;
-use bpf_verify::flow_check::{Flow, FlowFault};
-use bpf_verify::{Refusal, Verified, one_verdict, table_is_enough, verify};
+use bpf_verify::flow_check::Flow;
+use bpf_verify::{Verified, table_is_enough};
 use cells::Shape;
 use rule_lang::Rule;
-use std::alloc::Global;
+use std::alloc::{AllocError, Global};
 
-/// Slots that are in order, checked: their bytes are read as them.
-fn check(alloc: Global, slots: &[Option<Insn>]) -> Result<Flow, CompileFault>
-    requires { AllByRecursion CanEncode slots.now → IsFlow slots.now }
-    ensures program { IfOk result (λ flow. flow ≡ slots.now) }
-    ensures memory { IfErr result (λ e. e ≡ CompileFault.Memory) }
+/// The program of slots that are in order, with its bytes.
+fn flow_of(alloc: Global, slots: Vec<Option<Insn>>) -> Result<Flow, AllocError>
+    requires { AllByRecursion CanEncode slots.items → IsFlow slots.items }
+    ensures { IfOk result (λ flow. flow ≡ slots.items) }
 {
-    let bytes = program_bytes(alloc, slots)?;
-    match Flow::check(alloc, &bytes) {
-        Ok(flow) => Ok(flow),
-        Err(FlowFault::Memory) => Err(CompileFault::Memory),
-        Err(FlowFault::Rule { .. }) => unreachable!(),
-    }
+    let bytes = program_bytes(alloc, &slots)?;
+    Ok(Flow::known(bytes, slots))
 }
 
 /// The program of a rule that fits the shape, accepted under it. Its run makes the additions to
@@ -52,13 +47,7 @@ pub fn compile(alloc: Global, rule: &Rule, shape: &Shape) -> Result<Verified, Co
     shape.keeps();
     let code = emit(alloc, shape, rule.statements())?;
     code.keeps();
-    let slots = code.into_slots();
-    let flow = check(alloc, &slots)?;
+    let flow = flow_of(alloc, code.into_slots())?;
     table_is_enough();
-    one_verdict();
-    match verify(alloc, flow, shape) {
-        Ok(program) => Ok(program),
-        Err(Refusal::Memory) => Err(CompileFault::Memory),
-        Err(Refusal::Rule { .. }) => unreachable!(),
-    }
+    Ok(Verified::known(alloc, flow, shape)?)
 }

@@ -8,5 +8,5 @@ pub returns-clause-fault : goal.returns-clause-fault
 returns-clause-fault g c = of_bytes c.in_ok-shape.ensures.shape (record {
   bytes = c.in-Ok.bytes.items;
   within = c.in-Ok.ensures;
-  holds = rw c.as_slice.ensures.value at c.in-Err-verified.ensures.fault;
+  holds = rw c.as_slice.ensures.value at c.in-Err-accept.ensures.fault;
 })

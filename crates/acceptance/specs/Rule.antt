@@ -1,21 +1,21 @@
--- The program of the rule that the bytes of a file spell.
-use Rattle.std.specs.Prelude.{◌≡◌, ◌<◌, ℕ, List, length, Ok, Err, IsUtf8}
-use Rattle.manifest.specs.attrs.Attributes.{Attributes}
+-- The program of the rule that bytes spell, and why they give none.
+use Rattle.std.specs.Prelude.{◌≡◌, ◌<◌, ℕ, List, length, Ok, Err, IsUtf8, Bool, true, false}
+use Rattle.rule_compile.specs.bpf_verify.bpf_rules.attrs.Attributes.{Attributes}
 use Rattle.rule_compile.specs.bpf_semantics.Program.{ShapedProgram}
 use Rattle.rule_compile.specs.bpf_verify.Accepted.{IsAccepted}
 use Rattle.cells.specs.Arrays.{AppShape}
 use Rattle.rule_compile.specs.flow_check.Flow.{IsFlow}
 use Rattle.rule_compile.specs.Code.{rule_code}
 use Rattle.rule_compile.specs.Means.{Means}
-use Rattle.rule_compile.specs.rule_lang.declared.fault.RuleFault.TheVariants.{At}
+use Rattle.rule_compile.specs.declared.fault.CompileFault.TheVariants as compile
+use Rattle.rule_compile.specs.rule_lang.declared.fault.RuleFault.TheVariants as rule
 use Rattle.rule_compile.specs.rule_lang.declared.fault.RuleFaultKind.{RuleFaultKind}
 use Rattle.rule_compile.specs.rule_lang.declared.fault.RuleFaultKind.TheVariants.{Token}
 use Rattle.rule_compile.specs.rule_lang.declared.rule.Statement.{Statement}
 use Rattle.rule_compile.specs.rule_lang.Cost.{cost}
 use Rattle.rule_compile.specs.rule_lang.Verdicts.{IsVerdict}
-use Rattle.load.specs.declared.fault.AppFault.{AppFault}
-use Rattle.load.specs.declared.fault.AppFault.TheVariants as app
-use Rattle.load.specs.declared.fault.RuleTextFault.TheVariants.{Text, TooLong}
+use Rattle.acceptance.specs.declared.fault.RuleTextFault.{RuleTextFault}
+use Rattle.acceptance.specs.declared.fault.RuleTextFault.TheVariants.{Text, Compile}
 
 -- the bytes spell the rule, which fits the shape
 pub record IsTextOf (bytes : List ℕ) (shape : AppShape) (rule : List Statement) : Type 0 where
@@ -43,11 +43,17 @@ pub record IsTooLong (bytes : List ℕ) (shape : AppShape) : Type 0 where
 pub data IsRuleTextFault (bytes : List ℕ) (shape : AppShape) : ℕ → RuleFaultKind → Type 0 where
   no_text : ¬ IsUtf8 bytes → IsRuleTextFault bytes shape 1 Token
   no_rule : {line : ℕ} {kind : RuleFaultKind} → IsUtf8 bytes
-      → IsVerdict shape bytes (Err (At line kind)) → IsRuleTextFault bytes shape line kind
+      → IsVerdict shape bytes (Err (rule.At line kind)) → IsRuleTextFault bytes shape line kind
 
--- why they spell no rule of the shape, or one that has no program
-abbrev pub RefusesRule : List ℕ → AppShape → AppFault → Type 0
-RefusesRule bytes shape (app.Rule (Text line kind)) = IsRuleTextFault bytes shape line kind
-RefusesRule bytes shape (app.Rule TooLong) = IsTooLong bytes shape
-RefusesRule bytes shape app.Memory = Unit {0}
-RefusesRule bytes shape fault = ⊥
+-- why they spell no rule of the shape, or one that has no program; memory is refused to the reader
+-- of a text alone, and of want of memory nothing more is said
+abbrev pub RefusesRule : List ℕ → AppShape → RuleTextFault → Type 0
+RefusesRule bytes shape (Text (rule.At line kind)) = IsRuleTextFault bytes shape line kind
+RefusesRule bytes shape (Text rule.Memory) = IsUtf8 bytes
+RefusesRule bytes shape (Compile compile.TooLong) = IsTooLong bytes shape
+RefusesRule bytes shape (Compile compile.Memory) = Unit {0}
+
+abbrev pub is_memory : RuleTextFault → Bool
+is_memory (Text rule.Memory) = true
+is_memory (Compile compile.Memory) = true
+is_memory fault = false

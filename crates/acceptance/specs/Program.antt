@@ -1,0 +1,40 @@
+-- The program that bytes are, once it is accepted, and why they are none.
+use Rattle.std.specs.Prelude.{◌≡◌, ℕ, List, Bool, true, false}
+use Rattle.rule_compile.specs.bpf_insn.Program.{Program}
+use Rattle.rule_compile.specs.bpf_semantics.Program.{ShapedProgram}
+use Rattle.rule_compile.specs.bpf_verify.Accepted.{IsAccepted, IsRefusal}
+use Rattle.rule_compile.specs.bpf_verify.bpf_rules.declared.refusal.Refusal.{Refusal}
+use Rattle.rule_compile.specs.bpf_verify.bpf_rules.declared.refusal.Refusal.TheVariants as refusal
+use Rattle.cells.specs.Arrays.{AppShape}
+use Rattle.rule_compile.specs.flow_check.Fault.{HasOneVerdict, IsFlowFault}
+use Rattle.rule_compile.specs.flow_check.Flow.{IsAcceptedAs}
+use Rattle.rule_compile.specs.flow_check.declared.fault.FlowFault.TheVariants as flow
+use Rattle.acceptance.specs.declared.fault.ProgramFault.{ProgramFault}
+use Rattle.acceptance.specs.declared.fault.ProgramFault.TheVariants.{Flow, Verify}
+
+-- the bytes pass the flow check as this program, and as no other
+pub record AreOnly (bytes : List ℕ) (code : Program) : Type 0 where
+  pub bytes_are : IsAcceptedAs bytes code
+  pub only : (other : Program) → IsAcceptedAs bytes other → other ≡ code
+
+-- the bytes are this program, which the verifier accepts under its shape
+pub record IsProgramOf (bytes : List ℕ) (program : ShapedProgram) : Type 0 where
+  pub are : AreOnly bytes program.code
+  pub accepted : IsAccepted program.code program.shape
+
+-- the bytes are a program that the verifier refuses under the shape
+pub record IsRefusedProgram (bytes : List ℕ) (shape : AppShape) (refusal : Refusal) : Type 0 where
+  pub code : Program
+  pub are : AreOnly bytes code
+  pub refused : IsRefusal code shape refusal
+
+-- why they are no program of the shape; a fault of the flow check is the only one that they have,
+-- and of want of memory nothing more is said
+abbrev pub RefusesProgram : List ℕ → AppShape → ProgramFault → Type 0
+RefusesProgram bytes shape (Flow fault) = IsFlowFault bytes fault × HasOneVerdict bytes
+RefusesProgram bytes shape (Verify refused) = IsRefusedProgram bytes shape refused
+
+abbrev pub is_memory : ProgramFault → Bool
+is_memory (Flow flow.Memory) = true
+is_memory (Verify refusal.Memory) = true
+is_memory fault = false

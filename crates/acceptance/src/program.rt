@@ -1,0 +1,32 @@
+//! From the bytes of a program to a program that is accepted.
+
+ghost use Rattle.std.specs.Prelude.{◌≡◌, IfOk, IfErr};
+ghost use Rattle.acceptance.specs.Program.{IsProgramOf, RefusesProgram};
+
+use crate::fault::ProgramFault;
+use cells::Shape;
+use rule_compile::bpf_verify::{Verified, verify};
+use rule_compile::flow_check::{Flow, one_verdict};
+use std::alloc::Global;
+
+/// The program that bytes are, accepted under a shape, or the fault that counts: F1 to F9 of
+/// `Flow::check`, and then V1 to V15 of `verify`. Bytes with a fault of the first kind are read
+/// once more, which tells that they have no other.
+pub fn accept(alloc: Global, bytes: &[u8], shape: &Shape) -> Result<Verified, ProgramFault>
+    ensures shape { IfOk result (λ program. program.shape ≡ shape.now) }
+    ensures program { IfOk result (IsProgramOf bytes.now) }
+    ensures fault { IfErr result (RefusesProgram bytes.now shape.now) }
+{
+    let flow = match Flow::check(alloc, bytes) {
+        Ok(flow) => flow,
+        Err(fault) => {
+            one_verdict(bytes);
+            return Err(ProgramFault::Flow(fault));
+        }
+    };
+    flow.keeps();
+    match verify(alloc, flow, shape) {
+        Ok(program) => Ok(program),
+        Err(refusal) => Err(ProgramFault::Verify(refusal)),
+    }
+}
