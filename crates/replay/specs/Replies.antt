@@ -1,35 +1,48 @@
 -- What the answers to an act's events come to, and how that is printed.
-use Rattle.std.specs.Prelude.{ℕ, ◌+◌, List, [], ◌∷◌, ◌++◌, codes, Ok, Err}
+use Rattle.std.specs.Prelude.{ℕ, ◌+◌, List, [], ◌++◌, codes, Ok, Err, Bool, if◌then◌else◌, is_some}
+use Rattle.std.specs.List.{fold}
 use Rattle.std.specs.Fmt.{decimal}
+use Rattle.replay.specs.declared.act.Act.{Act}
 use Rattle.replay.specs.declared.reply.Reply.{Reply}
-use Rattle.replay.specs.declared.reply.Reply.TheVariants.{Started, Stepped, Finished, Swapped}
-use Rattle.replay.specs.declared.reply.Reply.TheVariants.{Refused, Stopped}
 use Rattle.world.specs.Happens.{Answer}
 use Rattle.world.specs.Texts.{fault_text}
+use Rattle.world.specs.declared.event.Effect.{Effect}
 use Rattle.world.specs.declared.event.Effect.TheVariants as effect
 
-abbrev pub reply_to : Answer → Reply
-reply_to (Ok effect.Started) = Started
-reply_to (Ok effect.Stepped) = Stepped 1
-reply_to (Ok (effect.Ended choice)) = Stepped 1
-reply_to (Ok (effect.Finished choice instructions number)) =
-    Finished choice instructions number
-reply_to (Ok (effect.Swapped number)) = Swapped number
-reply_to (Err fault) = Refused fault
+-- ---- the reply
 
--- of Steps, so many of which are done: up to the first that is refused
-abbrev pub reply_to_steps : ℕ → List Answer → Reply
-reply_to_steps done [] = Stepped done
-reply_to_steps done (Ok e ∷ answers) = reply_to_steps (done + 1) answers
-reply_to_steps done (Err fault ∷ answers) = Stopped fault done
+-- nothing is done
+abbrev pub opening_reply : Bool → Reply
+opening_reply counted = record { answer = Ok effect.Stepped; done = 0; counted = counted }
 
-abbrev pub reply_text : Reply → List ℕ
-reply_text Started = codes "started"
-reply_text (Stepped count) = codes "stepped " ++ decimal count
-reply_text (Finished choice instructions number) =
+abbrev pub joined_answer : Reply → (before answer : Answer) → Reply
+joined_answer reply (Err fault) answer = reply
+joined_answer reply (Ok e) (Ok f) = record reply { answer = Ok f; done = reply.done + 1 }
+joined_answer reply (Ok e) (Err fault) = record reply { answer = Err fault }
+
+-- one answer more; what follows a refusal doesn't count
+abbrev pub with_answer : Reply → Answer → Reply
+with_answer reply answer = joined_answer reply reply.answer answer
+
+abbrev pub reply_to : Act → List Answer → Reply
+reply_to act answers = fold with_answer (opening_reply (is_some act.times)) answers
+
+-- ---- its text
+
+abbrev pub effect_text : ℕ → Effect → List ℕ
+effect_text done effect.Started = codes "started"
+effect_text done effect.Stepped = codes "stepped " ++ decimal done
+effect_text done (effect.Ended choice) = codes "stepped " ++ decimal done
+effect_text done (effect.Finished choice instructions number) =
     codes "finished " ++ decimal choice ++ codes " after " ++ decimal instructions
     ++ codes " under " ++ decimal number
-reply_text (Swapped number) = codes "swapped " ++ decimal number
-reply_text (Refused fault) = codes "refused " ++ fault_text fault
-reply_text (Stopped fault after) =
-    codes "refused " ++ fault_text fault ++ codes " after " ++ decimal after
+effect_text done (effect.Swapped number) = codes "swapped " ++ decimal number
+
+abbrev pub answer_text : ℕ → Bool → Answer → List ℕ
+answer_text done counted (Ok e) = effect_text done e
+answer_text done counted (Err fault) =
+    codes "refused " ++ fault_text fault
+    ++ (if counted then codes " after " ++ decimal done else [])
+
+abbrev pub reply_text : Reply → List ℕ
+reply_text reply = answer_text reply.done reply.counted reply.answer

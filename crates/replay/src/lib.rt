@@ -1,10 +1,10 @@
-//! Scripts, played on a world: what each line asks of it, and what it came to.
+//! The acts of a script, played on a world, and what each came to.
 #![tactic(auto)]
 
-// How a script is replayed. A line asks for one event, or for so many Steps of a worker. One event
-// is applied; Steps are a list of events, which `world::play` plays. After a refused Step the
-// others of its list are refused too and change nothing, so the reply looks no further than the
-// first that is refused. Each line goes on in the world that the one before it left.
+// How a script is replayed. A line of it is an act: an event, once or so many times. The event is
+// applied as often, one after the other. After a refused Step the others are refused too and change
+// nothing, so the reply looks no further than the first that is refused. Each act goes on in the
+// world that the one before it left.
 
 mod act;
 mod played;

@@ -1,26 +1,38 @@
 -- What the lines of a script ask, one after another: a swap line asks for the ruleset of its
 -- manifest, whose arrays are declared in the directory that the lines before it left.
-use Rattle.std.specs.Prelude.{◌≡◌, List, [], ◌∷◌, Some}
+use Rattle.std.specs.Prelude.{◌≡◌, ℕ, List, [], ◌∷◌, Option, Some, None}
 use Rattle.std.specs.Arc.{arc_value}
+use Rattle.attrs.specs.Attributes as attrs
 use Rattle.cells.specs.declared.array.CellArray.{CellArray}
 use Rattle.load.specs.Files.{KnownFiles}
 use Rattle.load.specs.Loaded.{IsLoadedFrom}
-use Rattle.replay.specs.Acts.{IsAskedBy}
 use Rattle.replay.specs.declared.act.Act.{Act}
-use Rattle.replay.specs.declared.act.Act.TheVariants.{Once}
 use Rattle.script.specs.declared.line.EventLine.{EventLine}
 use Rattle.script.specs.declared.line.EventLine.TheVariants as line
+use Rattle.replay.specs.world.declared.event.Event.{Event}
 use Rattle.replay.specs.world.declared.event.Event.TheVariants as event
 use Rattle.replaying.specs.Loaded.{RefusesManifest}
 use Rattle.replaying.specs.declared.fault.ReplayFault.{ReplayFault}
 use Rattle.replaying.specs.declared.fault.ReplayFault.TheVariants.{Memory}
 
+-- one that is asked for with a count
+abbrev pub times_of : EventLine → Option ℕ
+times_of (line.Steps worker count) = Some count
+times_of asked = None
+
 module _ (known : KnownFiles) where
-  abbrev pub IsActOf : EventLine → List CellArray → Act → List CellArray → Type 0
-  IsActOf (line.Swap manifest) old (Once (event.Swap rules)) new =
+  abbrev pub IsEventOf : EventLine → List CellArray → Event → List CellArray → Type 0
+  IsEventOf (line.Start worker appid bucket version) old (event.Start k sent) new =
+      (k ≡ worker) × (arc_value sent ≡ attrs.plain appid version bucket) × (new ≡ old)
+  IsEventOf (line.Step worker) old e new = (e ≡ event.Step worker) × (new ≡ old)
+  IsEventOf (line.Steps worker count) old e new = (e ≡ event.Step worker) × (new ≡ old)
+  IsEventOf (line.Finish worker) old e new = (e ≡ event.Finish worker) × (new ≡ old)
+  IsEventOf (line.Swap manifest) old (event.Swap rules) new =
       IsLoadedFrom known manifest old (arc_value rules) new
-  IsActOf (line.Swap manifest) old act new = ⊥
-  IsActOf asked old act new = IsAskedBy asked (Some act) × (new ≡ old)
+  IsEventOf asked old e new = ⊥
+
+  abbrev pub IsActOf : EventLine → List CellArray → Act → List CellArray → Type 0
+  IsActOf asked old act new = IsEventOf asked old act.event new × (act.times ≡ times_of asked)
 
   abbrev pub AreActsOf : List EventLine → List CellArray → List Act → List CellArray → Type 0
   AreActsOf [] old [] new = new ≡ old

@@ -2,7 +2,7 @@
 use Rattle.std.specs.Prelude.{◌≡◌, List, [], ◌∷◌, length}
 use Rattle.std.specs.List.{flat_map}
 use Rattle.replay.specs.Acts.{events_of}
-use Rattle.replay.specs.Replayed.{IsReplyOf}
+use Rattle.replay.specs.Replies.{reply_to}
 use Rattle.replay.specs.declared.act.Act.{Act}
 use Rattle.replay.specs.declared.reply.Reply.{Reply}
 use Rattle.replay.specs.world.Happens.{Answer, Plays}
@@ -12,7 +12,8 @@ use Rattle.replay.specs.world.World.{WorldState}
 abbrev pub AreTold : List Act → List (List Answer) → List Reply → Type 0
 AreTold [] [] [] = Unit {0}
 AreTold (act ∷ acts) (own ∷ answers) (reply ∷ replies) =
-    (length own ≡ length (events_of act)) × IsReplyOf act own reply × AreTold acts answers replies
+    (length own ≡ length (events_of act)) × (reply ≡ reply_to act own)
+    × AreTold acts answers replies
 AreTold acts answers replies = ⊥
 
 -- the events of all acts, in their order, are a run of the world

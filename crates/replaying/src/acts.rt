@@ -1,14 +1,13 @@
-//! What the lines of a script ask, with the rulesets that their manifests give.
+//! What the lines of a script ask, one after another.
 
-ghost use Rattle.std.specs.Prelude.{IfOk, IfErr};
-ghost use Rattle.replaying.specs.Asked.{IsActOf, AreActsOf, RefusesLine, RefusesLines};
+ghost use Rattle.std.specs.Prelude.{◌≡◌, IfOk, IfErr};
+ghost use Rattle.replaying.specs.Asked.{IsActOf, AreActsOf, RefusesLine, RefusesLines, times_of};
 
+use crate::event::event_of;
 use crate::fault::ReplayFault;
-use crate::loaded::load_rules;
 use cells::Directory;
 use load::Disk;
 use replay::Act;
-use replay::world::Event;
 use script::EventLine;
 use std::alloc::Global;
 
@@ -43,15 +42,18 @@ fn act_of<D: Disk>(
         IsActOf (D.known disk.now) line.now directory.old act directory.new) }
     ensures fault { IfErr result (RefusesLine (D.known disk.now) line.now directory.old) }
 {
-    if let EventLine::Swap { manifest } = line {
-        let rules = load_rules(alloc, disk, manifest.as_str(), directory)?;
-        return Ok(Act::Once {
-            event: Event::Swap { rules },
-        });
-    }
-    match Act::of(alloc, line) {
-        Ok(Some(act)) => Ok(act),
-        Ok(None) => unreachable!(),
-        Err(_) => Err(ReplayFault::Memory),
+    let event = event_of(alloc, disk, line, directory)?;
+    Ok(Act {
+        event,
+        times: times_of(line),
+    })
+}
+
+fn times_of(line: &EventLine) -> Option<u32>
+    ensures { result ≡ times_of line.now }
+{
+    match line {
+        EventLine::Steps { count, .. } => Some(*count),
+        _ => None,
     }
 }

@@ -11,6 +11,7 @@
 // these the contract says which replies or which refusal they come to.
 
 mod acts;
+mod event;
 mod fault;
 mod loaded;
 mod played;

@@ -1,8 +1,9 @@
-use Rattle.replay.proofs.Longer.{once_replayed}
+use Rattle.replay.proofs.Longer.{goes_on}
 use Rattle.replay.proofs.played.replay_act.Goals as goal
 
-pub returns-in-Once : goal.returns-in-Once
-returns-in-Once c =
-    rw c.in-Once.is
-    (once_replayed c.args.world.now c.apply.new.self c.in-Once.event c.apply.result c.to.result
-    c.apply.ensures.happens c.to.ensures)
+pub loop-preserved : goal.loop-preserved
+loop-preserved c =
+    rw c.with-reply.ensures
+    (goes_on c.batches_compose.ensures.join c.args.world.now c.loop.world c.apply.new.self
+    c.args.act.now c.loop.counter c.loop.reply c.apply.result c.loop.invariant
+    c.apply.ensures.happens)
