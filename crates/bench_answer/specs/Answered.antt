@@ -4,8 +4,8 @@ use Rattle.attrs.specs.Hash.{fnv1a}
 use Rattle.cells.specs.Events.{AreZeros, IsEvent}
 use Rattle.hot_swap.specs.Latest.{Latest}
 use Rattle.http_front.specs.Reply.{code_of}
-use Rattle.workers.specs.Answer.{IsReplyTo}
-use Rattle.workers.specs.Reply.{Reply, bytes_of}
+use Rattle.answering.specs.Answer.{RepliesByRuns}
+use Rattle.answering.specs.Reply.{Reply, message_bytes}
 use Rattle.bench_answer.specs.declared.answers.Tally.{Tally}
 
 -- 2026-03-02 01:00:00 UTC, the moment of each answer
@@ -14,12 +14,12 @@ moment = pos 1772413200
 
 -- these bytes are a reply of status 200 to the request, on cells that had some values before it and
 -- others after it
-pub record IsAnswered (request : List ℕ) (watcher : Latest) (before after written : List ℕ)
+pub record IsReplied (request : List ℕ) (watcher : Latest) (before after written : List ℕ)
     : Type 0 where
   pub reply : Reply
   pub success : code_of reply.status ≡ 200
-  pub is_reply : IsReplyTo IsEvent (Some request) watcher moment before after reply
-  pub bytes : written ≡ bytes_of reply
+  pub is_reply : RepliesByRuns IsEvent (Some request) watcher moment before after reply
+  pub bytes : written ≡ message_bytes reply
 
 -- so many answers, one after the other: the cells after them, the bytes of all replies, and the
 -- last reply
@@ -27,7 +27,7 @@ pub data AreAnswers (request opened : List ℕ) : ℕ → List ℕ → ℕ → L
   none : AreAnswers request opened 0 opened 0 []
   more : {n bytes : ℕ} {before after last written : List ℕ} {watcher : Latest}
       → AreAnswers request opened n before bytes last
-      → IsAnswered request watcher before after written
+      → IsReplied request watcher before after written
       → AreAnswers request opened (n + 1) after (bytes + length written) written
 
 -- the tally of so many answers, on cells that open at 0

@@ -1,8 +1,9 @@
 //! Answering one request over and over, by one worker whose reader and writer are memory.
 
 ghost use Rattle.std.specs.Prelude.{◌≡◌, ◌+◌, IfOk};
-ghost use Rattle.bench_answer.specs.Answered.{IsAnswered, IsTally};
+ghost use Rattle.bench_answer.specs.Answered.{IsReplied, IsTally};
 
+use answering::answer;
 use anyhow::{Context, Error, Result};
 use attrs::fnv1a;
 use cells::{PlainCells, PlainPass};
@@ -11,7 +12,6 @@ use hot_swap::{Publisher, Watcher};
 use http_front::Counted;
 use std::alloc::Global;
 use std::sync::{Arc, Wait};
-use workers::answer;
 
 /// 2026-03-02 01:00:00 UTC, which is day 7000 and second 3600 of Omaha's count.
 const MOMENT: i64 = 1772413200;
@@ -33,7 +33,7 @@ fn answer_once<H: Wait>(
     watcher: &mut Watcher,
 ) -> Result<Vec<u8>>
     ensures { IfOk result (λ reply.
-        IsAnswered input.now watcher.new pass.old pass.new reply.items) }
+        IsReplied input.now watcher.new pass.old pass.new reply.items) }
 {
     room.clear();
     let mut reader = Counted::new(input);

@@ -14,16 +14,16 @@ use Rattle.httparse.specs.declared.spans.RequestSpans.{RequestSpans}
 use Rattle.httparse.specs.Grammar.{NeverHasRequest, RequestHead, print_request}
 use Rattle.httparse.specs.Spans.{RequestExceeds, IsRequestAt, IsRequestOf, IsRequestWithin}
 use Rattle.httparse.specs.Spans.{span_bytes, header_bytes, name_and_value}
-use Rattle.http_front.specs.declared.counted.Failed.{Failed}
+use Rattle.devices.specs.declared.counted.Failed.{Failed}
 use Rattle.http_front.specs.declared.fault.PostFault.{PostFault}
 use Rattle.http_front.specs.declared.fault.PostFault.TheVariants as fault
 use Rattle.http_front.specs.declared.head.Found.{Found}
-use Rattle.http_front.specs.Device.{GainsBytes}
+use Rattle.http_front.specs.Reading.{GainsBytes}
 use Rattle.http_front.specs.Post.{Posts, whole, cut_short, refused, malformed, long, many, ended}
 use Rattle.http_front.specs.Post.{HasHead, IsBegun, IsHeadFault, IsPostAnswer, AnswersPost}
 use Rattle.http_front.specs.Post.{IsFrugal, TakesAtMost}
-use Rattle.http_front.specs.Post.{head_limit, line_limit}
-use Rattle.http_front.specs.Head.{asked, asked_by}
+use Rattle.http_front.specs.Post.{head_limit, field_limit}
+use Rattle.http_front.specs.Head.{asked_length, asked_length_by}
 use Rattle.http_front.specs.Reading.{IsFilled, IsFound, IsBody, IsBodyBehind, asked_at}
 
 -- no head was found, so the bytes have none yet
@@ -57,7 +57,7 @@ head_fault (Some xs) (Some ys) seen fault.Head f short h =
     let P : List ℕ → Type 0 = λ z. NeverHasRequest z in
     malformed (length seen) short (subst P (sym (front xs ys seen f)) h)
 head_fault (Some xs) (Some ys) seen fault.HeadTooLarge f short h =
-    let P : List ℕ → Type 0 = λ z. RequestExceeds line_limit z in
+    let P : List ℕ → Type 0 = λ z. RequestExceeds field_limit z in
     many (length seen) short (subst P (sym (front xs ys seen f)) h)
 head_fault (Some xs) (Some ys) seen e f short h = absurd h
 
@@ -88,7 +88,7 @@ head_ended (Some xs) (Some ys) seen f short end h =
 
 -- the head stands at the front of all bytes, and is within its limits
 has_head : (xs ys seen : List ℕ) (headers : List HeaderSpan) (r : RequestSpans) (h : RequestHead)
-    → xs ≡ seen ++ ys → length seen ≤ head_limit → length headers ≡ line_limit
+    → xs ≡ seen ++ ys → length seen ≤ head_limit → length headers ≡ field_limit
     → IsRequestWithin seen headers r → IsRequestAt seen headers r h
     → HasHead xs h (drop r.len seen ++ ys)
 has_head xs ys seen headers r h e short lines w a =
@@ -105,15 +105,15 @@ has_head xs ys seen headers r h e short lines w a =
     }
 
 asked_same : (seen : List ℕ) (headers : List HeaderSpan) (r : RequestSpans) (h : RequestHead)
-    → IsRequestAt seen headers r h → asked_at seen headers r ≡ asked_by h
+    → IsRequestAt seen headers r h → asked_at seen headers r ≡ asked_length_by h
 asked_same seen headers r h a =
     let lines = map (header_bytes seen) (take r.headers headers) in
-    ap (λ (z : List ℕ). asked z (span_bytes seen r.method) lines) a.path
-    ∙ ap (λ (z : List ℕ). asked h.target z lines) a.method
-    ∙ ap (asked h.target h.method) a.fields
+    ap (λ (z : List ℕ). asked_length z (span_bytes seen r.method) lines) a.path
+    ∙ ap (λ (z : List ℕ). asked_length h.target z lines) a.method
+    ∙ ap (asked_length h.target h.method) a.fields
 
 body_answer : (xs rest : List ℕ) (h : RequestHead) (n : ℕ) (r : Result (List ℕ) PostFault)
-    → HasHead xs h rest → asked_by h ≡ Ok n → IsBody rest n r → IsPostAnswer xs r
+    → HasHead xs h rest → asked_length_by h ≡ Ok n → IsBody rest n r → IsPostAnswer xs r
 body_answer xs rest h n (Ok body) head e b =
     let P : List ℕ → Type 0 = λ z. Posts xs (Ok z) in
     subst P (sym b.1) (whole head e b.0)
@@ -128,12 +128,12 @@ pub record Stands
     : Type 0 where
   pub bytes : Consumes a b seen
   pub short : length seen ≤ head_limit
-  pub lines : length headers ≡ line_limit
+  pub lines : length headers ≡ field_limit
   pub head : IsRequestOf seen headers r
   pub within : IsRequestWithin seen headers r
 
 pub stands : {a b : Option (List ℕ)} {buf : List ℕ} {headers : List HeaderSpan} {f : Found}
-    → IsFound a b buf headers f → length buf ≡ head_limit → length headers ≡ line_limit
+    → IsFound a b buf headers f → length buf ≡ head_limit → length headers ≡ field_limit
     → Stands a b (take f.filled buf) headers f.head
 stands {a = a} {b = b} {buf = buf} {f = f} found room lines =
     let size = seen_size a b buf f.filled found.filled in
@@ -152,7 +152,7 @@ known_head {xs = xs} {ys = ys} {seen = seen} {headers = headers} {r = r} s =
     has_head xs ys seen headers r s.head.0 s.bytes s.short s.lines s.within s.head.1
 
 told : {a b : Option (List ℕ)} {seen : List ℕ} {headers : List HeaderSpan} {r : RequestSpans}
-    → (s : Stands a b seen headers r) → asked_by s.head.0 ≡ asked_at seen headers r
+    → (s : Stands a b seen headers r) → asked_length_by s.head.0 ≡ asked_at seen headers r
 told {seen = seen} {headers = headers} {r = r} s =
     sym (asked_same seen headers r s.head.0 s.head.1)
 

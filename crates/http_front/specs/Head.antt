@@ -31,20 +31,20 @@ abbrev pub is_served : List ℕ → Bool
 is_served target = bytes_eq target service || starts_with nat_eq target (service ++ codes "?")
 
 -- the length of the body, or the first rule that the head breaks; a body in chunks tells no length
-abbrev pub asked : List ℕ → List ℕ → List HeaderLine → Result ℕ PostFault
-asked target method lines =
+abbrev pub asked_length : List ℕ → List ℕ → List HeaderLine → Result ℕ PostFault
+asked_length target method lines =
     if not (is_served target) then Err fault.Path
     else if not (bytes_eq method (codes "POST")) then Err fault.Method
     else if has_line (codes "transfer-encoding") lines then Err fault.Length
     else told_length (values_of (codes "content-length") lines)
 
-abbrev pub asked_by : RequestHead → Result ℕ PostFault
-asked_by h = asked h.target h.method (map name_and_value h.fields)
+abbrev pub asked_length_by : RequestHead → Result ℕ PostFault
+asked_length_by h = asked_length h.target h.method (map name_and_value h.fields)
 
 -- the faults that a whole head may have
-abbrev pub IsRule : PostFault → Type 0
-IsRule fault.HeadTooLarge = ⊥
-IsRule fault.Ended = ⊥
-IsRule fault.Device = ⊥
-IsRule fault.Memory = ⊥
-IsRule e = Unit {0}
+abbrev pub IsAskedFault : PostFault → Type 0
+IsAskedFault fault.HeadTooLarge = ⊥
+IsAskedFault fault.Ended = ⊥
+IsAskedFault fault.Device = ⊥
+IsAskedFault fault.Memory = ⊥
+IsAskedFault e = Unit {0}

@@ -1,7 +1,7 @@
-pub mod Device
 pub mod Reply
 pub mod Length
 pub mod Head
 pub mod Faults
 pub mod Post
 pub mod Reading
+pub use Rattle.devices.specs as devices

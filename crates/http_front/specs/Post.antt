@@ -12,19 +12,19 @@ use Rattle.httparse.specs.Grammar.{HasNoRequest, NeverHasRequest, MayBecomeReque
 use Rattle.httparse.specs.Spans.{RequestExceeds}
 use Rattle.http_front.specs.declared.fault.PostFault.{PostFault}
 use Rattle.http_front.specs.declared.fault.PostFault.TheVariants as fault
-use Rattle.http_front.specs.Head.{asked_by}
+use Rattle.http_front.specs.Head.{asked_length_by}
 
 abbrev pub head_limit : ℕ
 head_limit = 16384
 
-abbrev pub line_limit : ℕ
-line_limit = 64
+abbrev pub field_limit : ℕ
+field_limit = 64
 
 -- a whole head within its limits stands at the front of the bytes, and the rest behind it
 pub record HasHead (xs : List ℕ) (h : RequestHead) (rest : List ℕ) : Type 0 where
   pub reads : ReadsRequest xs h rest
   pub short : length (print_request h) ≤ head_limit
-  pub few : length h.fields ≤ line_limit
+  pub few : length h.fields ≤ field_limit
 
 -- the bytes have no head yet, and more of them may make one
 pub record IsBegun (xs : List ℕ) : Type 0 where
@@ -34,19 +34,21 @@ pub record IsBegun (xs : List ℕ) : Type 0 where
 pub data Posts (xs : List ℕ) : Result (List ℕ) PostFault → Type 0 where
   -- the body, as long as the head tells; bytes behind it are ignored
   whole : {h : RequestHead} {rest : List ℕ} {n : ℕ}
-      → HasHead xs h rest → asked_by h ≡ Ok n → n ≤ length rest → Posts xs (Ok (take n rest))
+      → HasHead xs h rest → asked_length_by h ≡ Ok n → n ≤ length rest
+      → Posts xs (Ok (take n rest))
   -- the input ends before the body does
   cut_short : {h : RequestHead} {rest : List ℕ} {n : ℕ}
-      → HasHead xs h rest → asked_by h ≡ Ok n → length rest < n → Posts xs (Err fault.Ended)
+      → HasHead xs h rest → asked_length_by h ≡ Ok n → length rest < n
+      → Posts xs (Err fault.Ended)
   -- a rule that a whole head breaks
   refused : {h : RequestHead} {rest : List ℕ} {e : PostFault}
-      → HasHead xs h rest → asked_by h ≡ Err e → Posts xs (Err e)
+      → HasHead xs h rest → asked_length_by h ≡ Err e → Posts xs (Err e)
   -- whatever bytes follow, there is no head
   malformed : (k : ℕ) → k ≤ head_limit → NeverHasRequest (take k xs) → Posts xs (Err fault.Head)
   -- 16,384 bytes, and still no head
   long : head_limit ≤ length xs → IsBegun (take head_limit xs) → Posts xs (Err fault.HeadTooLarge)
   -- the 65th header line
-  many : (k : ℕ) → k ≤ head_limit → RequestExceeds line_limit (take k xs)
+  many : (k : ℕ) → k ≤ head_limit → RequestExceeds field_limit (take k xs)
       → Posts xs (Err fault.HeadTooLarge)
   -- the input ends before the head does
   ended : length xs < head_limit → IsBegun xs → Posts xs (Err fault.Ended)
@@ -84,5 +86,5 @@ CountsDevice old new answer = new ≡ old
 -- what is wrong with the bytes of a head that came
 abbrev pub IsHeadFault : List ℕ → PostFault → Type 0
 IsHeadFault buf fault.Head = NeverHasRequest buf
-IsHeadFault buf fault.HeadTooLarge = RequestExceeds line_limit buf
+IsHeadFault buf fault.HeadTooLarge = RequestExceeds field_limit buf
 IsHeadFault buf e = ⊥

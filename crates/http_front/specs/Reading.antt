@@ -1,14 +1,23 @@
 -- What stands in a buffer while a request is read, and what a whole head in it asks for.
-use Rattle.std.specs.Prelude.{◌≡◌, ℕ, ◌<◌, ◌≤◌, List, length, map, take}
+use Rattle.std.specs.Prelude.{◌≡◌, ℕ, ◌+◌, ◌<◌, ◌≤◌, List, ◌++◌, length, map, take}
 use Rattle.std.specs.Prelude.{Option, Some, None, Result, Ok, Err}
-use Rattle.std.specs.Io.KnownBytes.{Consumes, prepend_known}
+use Rattle.std.specs.Io.KnownBytes.{Consumes, Keeps, prepend_known}
 use Rattle.httparse.specs.declared.spans.HeaderSpan.{HeaderSpan}
 use Rattle.httparse.specs.declared.spans.RequestSpans.{RequestSpans}
 use Rattle.httparse.specs.Spans.{span_bytes, header_bytes, IsRequestOf, IsRequestWithin}
 use Rattle.http_front.specs.declared.fault.PostFault.{PostFault}
 use Rattle.http_front.specs.declared.fault.PostFault.TheVariants as fault
 use Rattle.http_front.specs.declared.head.Found.{Found}
-use Rattle.http_front.specs.Head.{asked, values_of}
+use Rattle.http_front.specs.Head.{asked_length, values_of}
+
+-- some bytes came behind the first ones of a buffer
+abbrev pub GainsBytes :
+    {E : Type 0} → Option (List ℕ) → Option (List ℕ) → List ℕ → List ℕ → ℕ
+    → Result ℕ E → Type 0
+GainsBytes old new first buf filled (Ok n) =
+    (gained : List ℕ) × Consumes old new gained × (length gained ≡ n)
+    × (take (filled + n) buf ≡ first ++ gained)
+GainsBytes old new first buf filled (Err e) = Keeps old new
 
 -- the bytes that a reader gave are the first ones of the buffer
 pub record IsFilled (old new : Option (List ℕ)) (buf : List ℕ) (filled : ℕ) : Type 0 where
@@ -30,7 +39,7 @@ values_at buf headers name = values_of name (map (header_bytes buf) headers)
 -- what the head whose parts the spans cover asks for
 abbrev pub asked_at : List ℕ → List HeaderSpan → RequestSpans → Result ℕ PostFault
 asked_at buf headers r =
-    asked (span_bytes buf r.path) (span_bytes buf r.method)
+    asked_length (span_bytes buf r.path) (span_bytes buf r.method)
     (map (header_bytes buf) (take r.headers headers))
 
 -- the first n of these bytes, or they end before

@@ -2,7 +2,7 @@
 
 ghost use Rattle.std.specs.Prelude.{◌≡◌, length, IfErr};
 ghost use Rattle.httparse.specs.Spans.{IsRequestWithin};
-ghost use Rattle.http_front.specs.Head.{is_served, IsRule};
+ghost use Rattle.http_front.specs.Head.{is_served, IsAskedFault};
 ghost use Rattle.http_front.specs.Reading.{asked_at};
 
 use crate::fault::PostFault;
@@ -20,7 +20,7 @@ fn is_served(target: &[u8]) -> bool
 pub fn asked(buf: &[u8], headers: &[HeaderSpan], head: RequestSpans) -> Result<usize, PostFault>
     requires { IsRequestWithin buf.now headers.now head }
     ensures length { result ≡ asked_at buf.now headers.now head }
-    ensures rule { IfErr result IsRule }
+    ensures rule { IfErr result IsAskedFault }
 {
     if !is_served(head.path.of(buf)) {
         return Err(PostFault::Path);

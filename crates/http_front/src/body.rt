@@ -5,9 +5,9 @@ ghost use Rattle.std.specs.Prelude.{Ok, Err, OnOk, IfOk, IfErr};
 ghost use Rattle.http_front.specs.Post.{CountsDevice};
 ghost use Rattle.http_front.specs.Reading.{IsBodyBehind, FillsBody};
 
-use crate::counted::Counted;
 use crate::fault::PostFault;
 use crate::head::read_more;
+use devices::Counted;
 use std::alloc::{AllocError, Global};
 use std::io::Read;
 

@@ -4,12 +4,12 @@ ghost use Rattle.std.specs.Prelude.{◌≡◌, ◌+◌, ◌-◌, ◌^◌, ◌<�
 ghost use Rattle.std.specs.Prelude.{Err, IfOk, IfErr, MatchOption};
 ghost use Rattle.std.specs.Io.KnownBytes.{IsAtEnd};
 ghost use Rattle.httparse.specs.Spans.{IsRequestOf, IsRequestWithin};
-ghost use Rattle.http_front.specs.Device.{CountsFailure, GainsBytes};
+ghost use Rattle.devices.specs.Device.{CountsFailure};
 ghost use Rattle.http_front.specs.Post.{IsBegun, IsFrugal, IsHeadFault, AnswersPost, CountsDevice};
-ghost use Rattle.http_front.specs.Reading.{IsFound};
+ghost use Rattle.http_front.specs.Reading.{GainsBytes, IsFound};
 
-use crate::counted::{Counted, Failed};
 use crate::fault::PostFault;
+use devices::{Counted, Failed};
 use httparse::spans::{HeaderSpan, RequestSpans, parse_request};
 use httparse::{Error, Status};
 use std::io::Read;

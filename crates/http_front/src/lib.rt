@@ -9,8 +9,6 @@
 
 mod asked;
 mod body;
-mod counted;
-mod fail_at;
 mod fault;
 mod head;
 mod length;
@@ -19,12 +17,14 @@ mod post;
 mod reply;
 mod status;
 
-pub use counted::{Counted, Failed, WriteFault};
-pub use fail_at::FailAt;
 pub use fault::PostFault;
 pub use post::read_post;
 pub use reply::write_reply;
 pub use status::Status;
+
+// The words of the contracts here come with them.
+pub use devices;
+pub use devices::{Counted, FailAt, Failed, WriteFault};
 
 #[cfg(test)]
 mod tests;

@@ -4,7 +4,7 @@ ghost use Rattle.std.specs.Prelude.{◌≡◌, ℕ, ◌≤◌, List, length, map
 ghost use Rattle.std.specs.List.{list_all};
 ghost use Rattle.httparse.specs.Spans.{header_bytes, IsHeaderWithin};
 ghost use Rattle.http_front.specs.Length.{writes, first_of, told_length};
-ghost use Rattle.http_front.specs.Head.{is_named, has_line, IsRule};
+ghost use Rattle.http_front.specs.Head.{is_named, has_line, IsAskedFault};
 ghost use Rattle.http_front.specs.Reading.{values_at};
 
 use crate::fault::PostFault;
@@ -65,7 +65,7 @@ fn all_write(buf: &[u8], mut lines: &[HeaderSpan], name: &[u8], digits: &[u8]) -
 pub fn told_length(buf: &[u8], lines: &[HeaderSpan], name: &[u8]) -> Result<usize, PostFault>
     requires { All (IsHeaderWithin (length buf.now)) lines.now }
     ensures length { result ≡ told_length (values_at buf.now lines.now name.now) }
-    ensures rule { IfErr result IsRule }
+    ensures rule { IfErr result IsAskedFault }
 {
     let Some(value) = first_value(buf, lines, name) else {
         return Err(PostFault::Length);

@@ -5,9 +5,9 @@ ghost use Rattle.http_front.specs.Post.{AnswersPost, CountsDevice, IsFrugal};
 
 use crate::asked::asked;
 use crate::body::{read_body, room_for};
-use crate::counted::Counted;
 use crate::fault::PostFault;
 use crate::head::read_head;
+use devices::Counted;
 use httparse::spans::{EMPTY_HEADER_SPAN, HeaderSpan};
 use std::alloc::Global;
 use std::io::Read;
@@ -16,7 +16,7 @@ use std::io::Read;
 const HEAD_LIMIT: usize = 16_384;
 
 /// The most header lines that a head may have.
-const LINE_LIMIT: usize = 64;
+const FIELD_LIMIT: usize = 64;
 
 // Reads a request by a buffer for its head.
 fn read_by<R: Read>(
@@ -63,7 +63,7 @@ pub fn read_post<R: Read>(alloc: Global, reader: &mut Counted<R>) -> Result<Vec<
     let Ok(mut room) = room_for(alloc, HEAD_LIMIT) else {
         return Err(PostFault::Memory);
     };
-    let mut headers = [EMPTY_HEADER_SPAN; LINE_LIMIT];
+    let mut headers = [EMPTY_HEADER_SPAN; FIELD_LIMIT];
     match read_by(alloc, reader, room.as_mut_slice(), &mut headers) {
         Ok(body) => Ok(body),
         Err(fault) => Err(fault),

@@ -3,12 +3,12 @@
 
 ghost use Rattle.std.specs.Prelude.{◌≡◌, ◌+◌, ◌-◌, ◌^◌, ◌<◌, ◌≤◌, ◌++◌, length};
 ghost use Rattle.arrayvec.specs.ArrayVec.{array_vec_len};
-ghost use Rattle.http_front.specs.Device.{CountsFailure, WritesBeginning};
+ghost use Rattle.devices.specs.Device.{CountsFailure, WritesBeginning};
 ghost use Rattle.http_front.specs.Reply.{crlf, reply_head, reply_bytes};
 
-use crate::counted::{Counted, WriteFault};
 use crate::status::Status;
 use arrayvec::ArrayVec;
+use devices::{Counted, WriteFault};
 use std::io::Write;
 
 /// More bytes than the head of any reply has.

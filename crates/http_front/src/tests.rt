@@ -1,6 +1,6 @@
 //! Requests and replies, byte for byte.
 
-mod devices;
+mod failures;
 mod heads;
 mod lengths;
 mod limits;

@@ -1,3 +1,4 @@
+pub mod Found
 pub mod Reply
 pub mod Request
 pub mod Tokens

@@ -5,11 +5,11 @@ use Rattle.serde_json.specs.Data.{Data, number, string, array, object, unsigned}
 use Rattle.serde_json.specs.Data.{Items, no_items, item, Members, no_members, member}
 use Rattle.serde_json.specs.Written.{compact_text}
 use Rattle.attrs.specs.declared.facts.AppFacts.{AppFacts}
-use Rattle.attrs.specs.declared.facts.RequestFacts.{RequestFacts}
-use Rattle.attrs.specs.Bucket.{app_bucket, told_cohort}
+use Rattle.attrs.specs.Bucket.{told_cohort}
 use Rattle.attrs.specs.Moment.{elapsed_days, elapsed_seconds}
 use Rattle.releases.specs.Release.{Release}
-use Rattle.ruleset.specs.Rules.{Rules, AppRule, app_of}
+use Rattle.ruleset.specs.Rules.{Rules}
+use Rattle.omaha_json.specs.Found.{FoundApp, found_apps}
 use Rattle.omaha_json.specs.Request.{Request}
 use Rattle.omaha_json.specs.Update.{only, told_status, update_value, release_at}
 
@@ -27,11 +27,11 @@ pinged true rest = member (codes "ping") (told_status (codes "ok")) rest
 pinged false rest = rest
 
 -- an app that the ruleset knows
-abbrev pub known_value : AppFacts → ℕ → List Release → Option ℕ → Data
-known_value app bucket releases choice = object (
+abbrev pub known_value : AppFacts → FoundApp → Data
+known_value app found = object (
     member (codes "appid") (string app.appid) (
-    member (codes "cohort") (string (told_cohort bucket)) (
-    pinged app.ping (answered releases choice))))
+    member (codes "cohort") (string (told_cohort found.bucket)) (
+    pinged app.ping (answered found.releases found.choice))))
 
 -- one that it doesn't know
 abbrev pub unknown_value : List ℕ → Data
@@ -40,20 +40,15 @@ unknown_value appid = object (
     member (codes "status") (string (codes "error-unknownApplication"))
     no_members))
 
-abbrev pub found_value : AppFacts → ℕ → Option ℕ → Option AppRule → Data
-found_value app bucket choice (Some known) = known_value app bucket known.releases choice
-found_value app bucket choice None = unknown_value app.appid
+abbrev pub app_value : AppFacts → Option FoundApp → Data
+app_value app (Some found) = known_value app found
+app_value app None = unknown_value app.appid
 
-abbrev pub app_value : Rules → RequestFacts → AppFacts → Option ℕ → Data
-app_value rules facts app choice =
-    found_value app (app_bucket app facts) choice (app_of rules app.appid)
-
--- the apps, each with the choice of its run
-abbrev pub app_values : Rules → RequestFacts → List AppFacts → List (Option ℕ) → Items
-app_values rules facts (app ∷ apps) (choice ∷ choices) =
-    item (app_value rules facts app choice) (app_values rules facts apps choices)
-app_values rules facts (app ∷ apps) [] = no_items
-app_values rules facts [] choices = no_items
+-- the apps, each with what the ruleset has for it
+abbrev pub app_values : List AppFacts → List (Option FoundApp) → Items
+app_values (app ∷ apps) (found ∷ others) = item (app_value app found) (app_values apps others)
+app_values (app ∷ apps) [] = no_items
+app_values [] found = no_items
 
 -- ---- the whole
 
@@ -63,23 +58,29 @@ daystart_value moment = object (
     member (codes "elapsed_seconds") (number (unsigned (elapsed_seconds moment)))
     no_members))
 
-abbrev pub response_value : Request → Rules → List (Option ℕ) → ℤ → Data
-response_value request rules choices moment = object (
-    member (codes "app") (array (app_values rules request.facts request.apps choices)) (
+abbrev pub response_value : List ℕ → List AppFacts → List (Option FoundApp) → ℤ → Data
+response_value server apps found moment = object (
+    member (codes "app") (array (app_values apps found)) (
     member (codes "daystart") (daystart_value moment) (
     member (codes "protocol") (string (codes "3.1")) (
-    member (codes "server") (string rules.server)
+    member (codes "server") (string server)
     no_members))))
 
--- Each app's choice is that of its run, where one was made.
-abbrev pub reply_value : Request → Rules → List (Option ℕ) → ℤ → Data
-reply_value request rules choices moment =
-    only (codes "response") (response_value request rules choices moment)
+abbrev pub reply_value : List ℕ → List AppFacts → List (Option FoundApp) → ℤ → Data
+reply_value server apps found moment =
+    only (codes "response") (response_value server apps found moment)
 
 -- what stands before the value, so that no script can read it as one of its own
 abbrev pub guard : List ℕ
 guard = codes ")]}'" ++ 10 ∷ []
 
-unfoldable pub reply_text : Request → Rules → List (Option ℕ) → ℤ → List ℕ
+-- by what was found of each app
+unfoldable pub found_text : List ℕ → List AppFacts → List (Option FoundApp) → ℤ → List ℕ
+found_text server apps found moment =
+    guard ++ compact_text (reply_value server apps found moment)
+
+-- under a ruleset. Each app's choice is that of its run, where one was made.
+abbrev pub reply_text : Request → Rules → List (Option ℕ) → ℤ → List ℕ
 reply_text request rules choices moment =
-    guard ++ compact_text (reply_value request rules choices moment)
+    found_text rules.server request.apps
+    (found_apps rules request.facts request.apps choices) moment

@@ -7,6 +7,7 @@ mod app;
 mod cohort;
 mod facts;
 mod fault;
+mod found;
 mod reading;
 mod reply;
 mod request;
@@ -14,6 +15,7 @@ mod tokens;
 mod update;
 
 pub use fault::OmahaFault;
+pub use found::FoundApp;
 pub use reading::read_request;
-pub use reply::reply_text;
+pub use reply::{found_text, reply_text};
 pub use request::Request;

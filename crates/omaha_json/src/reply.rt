@@ -8,9 +8,10 @@ ghost use Rattle.omaha_json.specs.Reply as specs;
 
 use crate::app::write_apps;
 use crate::fault::OmahaFault;
+use crate::found::{FoundApp, find_apps};
 use crate::request::Request;
 use crate::tokens::{write_number, write_tokens};
-use attrs::{Elapsed, Moment};
+use attrs::{AppFacts, Elapsed, Moment};
 use json::{Token, Writer};
 use ruleset::Ruleset;
 use std::alloc::{AllocError, Global};
@@ -35,7 +36,27 @@ pub fn reply_text(
         text.items ≡ specs.reply_text request.now rules.now choices.now moment) }
     ensures memory { IfErr result (λ e. e ≡ OmahaFault.Memory) }
 {
-    match write_text(alloc, request, rules, choices, &moment) {
+    match find_apps(alloc, request, rules, choices) {
+        Ok(found) => found_text(alloc, request, rules.server(), found.as_slice(), moment),
+        Err(_) => Err(OmahaFault::Memory),
+    }
+}
+
+/// The same, by what was found of each app: `None` where the ruleset doesn't know it. The name is
+/// the server's.
+pub fn found_text(
+    alloc: Global,
+    request: &Request,
+    server: &str,
+    found: &[Option<FoundApp<'_>>],
+    moment: Moment,
+) -> Result<Vec<u8>, OmahaFault>
+    requires { length found.now ≡ length request.now.apps }
+    ensures text { IfOk result (λ text.
+        text.items ≡ specs.found_text server.now request.now.apps found.now moment) }
+    ensures memory { IfErr result (λ e. e ≡ OmahaFault.Memory) }
+{
+    match write_text(alloc, server, request.apps(), found, &moment) {
         Ok(text) => Ok(text),
         Err(_) => Err(OmahaFault::Memory),
     }
@@ -43,56 +64,56 @@ pub fn reply_text(
 
 fn write_text(
     alloc: Global,
-    request: &Request,
-    rules: &Ruleset,
-    choices: &[Option<u8>],
+    server: &str,
+    apps: &[AppFacts],
+    found: &[Option<FoundApp<'_>>],
     moment: &Moment,
 ) -> Result<Vec<u8>, AllocError>
-    requires { length choices.now ≡ length request.now.apps }
+    requires { length found.now ≡ length apps.now }
     ensures { IfOk result (λ text.
-        text.items ≡ specs.reply_text request.now rules.now choices.now moment.now) }
+        text.items ≡ specs.found_text server.now apps.now found.now moment.now) }
 {
     let mut text = Vec::with_capacity(alloc, USUAL_LENGTH)?;
     text.extend_from_slice(GUARD)?;
     let mut writer = Writer::new(text);
-    write_reply(&mut writer, request, rules, choices, moment)?;
+    write_reply(&mut writer, server, apps, found, moment)?;
     Ok(writer.into_inner())
 }
 
 // The whole value.
 fn write_reply(
     writer: &mut Writer,
-    request: &Request,
-    rules: &Ruleset,
-    choices: &[Option<u8>],
+    server: &str,
+    apps: &[AppFacts],
+    found: &[Option<FoundApp<'_>>],
     moment: &Moment,
 ) -> Result<(), AllocError>
-    requires { length choices.now ≡ length request.now.apps }
+    requires { length found.now ≡ length apps.now }
     ensures { OnOk result (Adds writer.old writer.new
-        (tokens_of (specs.reply_value request.now rules.now choices.now moment.now))) }
+        (tokens_of (specs.reply_value server.now apps.now found.now moment.now))) }
 {
     write_tokens(writer, &[Token::BeginObject, Token::Key("response")])?;
-    write_response(writer, request, rules, choices, moment)?;
+    write_response(writer, server, apps, found, moment)?;
     write_tokens(writer, &[Token::EndObject])?;
     Ok(())
 }
 
 fn write_response(
     writer: &mut Writer,
-    request: &Request,
-    rules: &Ruleset,
-    choices: &[Option<u8>],
+    server: &str,
+    apps: &[AppFacts],
+    found: &[Option<FoundApp<'_>>],
     moment: &Moment,
 ) -> Result<(), AllocError>
-    requires { length choices.now ≡ length request.now.apps }
+    requires { length found.now ≡ length apps.now }
     ensures { OnOk result (Adds writer.old writer.new
-        (tokens_of (specs.response_value request.now rules.now choices.now moment.now))) }
+        (tokens_of (specs.response_value server.now apps.now found.now moment.now))) }
 {
     write_tokens(
         writer,
         &[Token::BeginObject, Token::Key("app"), Token::BeginArray],
     )?;
-    write_apps(writer, request, rules, choices)?;
+    write_apps(writer, apps, found)?;
     write_tokens(writer, &[Token::Key("daystart")])?;
     write_daystart(writer, moment)?;
     write_tokens(
@@ -101,7 +122,7 @@ fn write_response(
             Token::Key("protocol"),
             Token::String("3.1"),
             Token::Key("server"),
-            Token::String(rules.server()),
+            Token::String(server),
             Token::EndObject,
         ],
     )?;

@@ -13,7 +13,7 @@ use Rattle.std.specs.Prelude.{IfSome, IfNone, cond, not, nat_lt}
 use Rattle.std.specs.List.{position, position_or_len, prefix_len}
 use Rattle.std.specs.Io.KnownBytes.{Consumes}
 use borrow.Rule.Slice.PartMut.{put_mid, post_of}
-use Rattle.operator.specs.Line.{GoesOn, IsPiece, IsWhole}
+use Rattle.operator.specs.Line.{LineGoesOn, IsPiece, IsWhole}
 use Rattle.operator.specs.Request.{is_line_feed, line_of, line_limit, Asks, AsksNothing, IsAsked}
 use Rattle.operator.specs.declared.line.Piece.TheVariants.{Last, Further}
 use Rattle.operator.specs.declared.request.Request.{Request}
@@ -84,7 +84,7 @@ further_piece a b room n some fits bytes e = (some, fits, within a b bytes)
         nowhere (position_or_len is_line_feed piece) (length piece)
         (prefix_len-le-length (λ c. not (is_line_feed c)) piece) e
 
-    within : (a b : Option (List ℕ)) → Consumes a b piece → GoesOn a b piece
+    within : (a b : Option (List ℕ)) → Consumes a b piece → LineGoesOn a b piece
     within None b c = tt
     within (Some xs) None c = absurd c
     within (Some xs) (Some ys) c = ap line_of c ∙ further piece ys all
@@ -92,7 +92,7 @@ further_piece a b room n some fits bytes e = (some, fits, within a b bytes)
 -- ---- one piece behind the other
 
 goes_further : (a b c : Option (List ℕ)) (seen piece : List ℕ)
-    → GoesOn a b seen → GoesOn b c piece → GoesOn a c (seen ++ piece)
+    → LineGoesOn a b seen → LineGoesOn b c piece → LineGoesOn a c (seen ++ piece)
 goes_further None b c seen piece h k = tt
 goes_further (Some xs) None c seen piece h k = absurd h
 goes_further (Some xs) (Some ys) None seen piece h k = absurd k
@@ -101,7 +101,7 @@ goes_further (Some xs) (Some ys) (Some zs) seen piece h k =
 
 -- a piece was read to the room behind the first bytes
 module _ (a b c : Option (List ℕ)) (room part : List ℕ) (size n : ℕ) (fits : size ≤ length room)
-    (same : length part ≡ length room - size) (seen : GoesOn a b (take size room)) where
+    (same : length part ≡ length room - size) (seen : LineGoesOn a b (take size room)) where
   abbrev pub Grown : List ℕ
   Grown = put_mid size (length room - size) room part
 
@@ -128,9 +128,9 @@ module _ (a b c : Option (List ℕ)) (room part : List ℕ) (size n : ℕ) (fits
         length-drop {A = ℕ} size room,
       )
 
-  pub goes_on : IsPiece b c part (Further n) → GoesOn a c (take (size + n) Grown)
+  pub goes_on : IsPiece b c part (Further n) → LineGoesOn a c (take (size + n) Grown)
   goes_on piece =
-      let Of : List ℕ → Type 0 = λ l. GoesOn a c l in
+      let Of : List ℕ → Type 0 = λ l. LineGoesOn a c l in
       subst Of (sym (grown piece.1))
       (goes_further a b c (take size room) (take n part) seen piece.2)
 

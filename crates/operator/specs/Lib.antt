@@ -5,3 +5,4 @@ pub mod Replies
 pub mod Control
 pub mod Counters
 pub mod Perform
+pub use Rattle.hot_swap.specs as hot_swap

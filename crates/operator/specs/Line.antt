@@ -10,13 +10,13 @@ abbrev pub IsWhole : Option (List ℕ) → List ℕ → Type 0
 IsWhole old bytes = IfSome old (λ sent. line_of sent ≡ bytes)
 
 -- it is these bytes, and then the line of what the reader has left
-abbrev pub GoesOn : Option (List ℕ) → Option (List ℕ) → List ℕ → Type 0
-GoesOn None new bytes = Unit {0}
-GoesOn (Some sent) None bytes = ⊥
-GoesOn (Some sent) (Some rest) bytes = line_of sent ≡ bytes ++ line_of rest
+abbrev pub LineGoesOn : Option (List ℕ) → Option (List ℕ) → List ℕ → Type 0
+LineGoesOn None new bytes = Unit {0}
+LineGoesOn (Some sent) None bytes = ⊥
+LineGoesOn (Some sent) (Some rest) bytes = line_of sent ≡ bytes ++ line_of rest
 
 -- a piece of the line stands at the front of the room
 abbrev pub IsPiece : Option (List ℕ) → Option (List ℕ) → List ℕ → Piece → Type 0
 IsPiece old new room (Last n) = (n ≤ length room) × IsWhole old (take n room)
 IsPiece old new room (Further n) =
-    (0 < n) × (n ≤ length room) × GoesOn old new (take n room)
+    (0 < n) × (n ≤ length room) × LineGoesOn old new (take n room)

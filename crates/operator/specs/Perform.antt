@@ -44,7 +44,7 @@ module _ {F : Type 0} (loads : Loading F) where
         → Performs (Some request.Cells) old events (reply.Refused refusal.Memory) old
 
   -- what a connection is answered, which sends these bytes, if they are told
-  pub record Answers (told : Option (List ℕ)) (old : Controlled)
+  pub record AnswersLine (told : Option (List ℕ)) (old : Controlled)
       (events : List CellEvent) (replied : Reply F) (new : Controlled) : Type 0 where
     pub asked : Option Request
     pub is_asked : IsAsked told asked

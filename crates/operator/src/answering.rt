@@ -3,7 +3,7 @@
 
 ghost use Rattle.std.specs.Prelude.{◌≡◌, ◌+◌, ◌-◌, ◌^◌, ◌<◌, IfSome, IfNone, OnOk, OnSome};
 ghost use Rattle.std.specs.Io.KnownBytes.{Appends};
-ghost use Rattle.operator.specs.Perform.{Answers};
+ghost use Rattle.operator.specs.Perform.{AnswersLine};
 ghost use Rattle.operator.specs.Texts.{reply_text};
 ghost use Rattle.cells.specs.Grown.{Grows};
 
@@ -14,7 +14,7 @@ use crate::performing::perform;
 use crate::reply::Reply;
 use crate::request::{LINE_LIMIT, Request};
 use cells::CellSteps;
-use http_front::Counted;
+use devices::Counted;
 use std::alloc::Global;
 use std::fmt::Display;
 use std::io::{self, Read, Write};
@@ -40,7 +40,7 @@ pub fn answer<H: Wait, R: Read, L: Loader, C: CellSteps>(
 
     // A line that came is heard.
     ensures answers { IfSome result (λ reply. Grows C.grew pass.old pass.new
-        (λ events. Answers (L.loads loader.now) (R.remaining reader.old.inner)
+        (λ events. AnswersLine (L.loads loader.now) (R.remaining reader.old.inner)
         control.old events reply control.new)) }
     ensures heard { OnSome result (reader.new.failures ≡ reader.old.failures) }
 

@@ -1,9 +1,9 @@
 //! The port of a server's operator.
 //!
 //! A connection brings one line: `load PATH`, `show`, `cells` or `stop`. What it asks is done by
-//! one thread, which alone owns the publisher of rulesets and the directory of arrays, and the
-//! lines of the reply are written. A load that is refused changes nothing: the manifest is loaded
-//! over a copy of the directory, and the copy takes its place only once the ruleset is installed.
+//! the one owner of the publisher of rulesets and of the directory of arrays, and the lines of the
+//! reply are written. A load that is refused changes nothing: the manifest is loaded over a copy of
+//! the directory, and the copy takes its place only once the ruleset is installed.
 //!
 //! The contract of `perform` is one relation, with a constructor for each outcome of a request: the
 //! reply, what became of ruleset and arrays, and the events by which the cells were read.
@@ -14,7 +14,6 @@ mod asking;
 mod control;
 mod line;
 mod loader;
-mod operating;
 mod performing;
 mod reply;
 mod request;
@@ -24,9 +23,9 @@ pub use answering::{answer, write_reply};
 pub use asking::{AskFault, ask};
 pub use control::Control;
 pub use loader::Loader;
-pub use operating::operate;
 pub use reply::{Refusal, Reply};
 pub use request::Request;
 
 // The words of the contracts here come with them.
+pub use devices;
 pub use hot_swap;

@@ -3,11 +3,11 @@
 
 ghost use Rattle.std.specs.Prelude.{◌≡◌, ◌-◌, ◌^◌, ◌<◌, ◌≤◌, length, take, IfOk, IfSome};
 ghost use Rattle.std.specs.List.{position};
-ghost use Rattle.http_front.specs.Device.{CountsFailure};
+ghost use Rattle.devices.specs.Device.{CountsFailure};
 ghost use Rattle.operator.specs.Request.{is_line_feed, line_of};
 ghost use Rattle.operator.specs.Line.{IsPiece};
 
-use http_front::{Counted, Failed};
+use devices::{Counted, Failed};
 use std::io::Read;
 
 /// A piece of a line: so many bytes of it.

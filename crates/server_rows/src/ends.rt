@@ -6,7 +6,7 @@ use crate::shelf::{Shelf, rules};
 use cells::Directory;
 use hot_swap::Publisher;
 use locked_cells::LockedCells;
-use operator::{Control, operate};
+use operator::Control;
 use std::alloc::Global;
 use std::io::{self, Write};
 use std::net::{Net, SocketAddr, TcpListener, TcpStream};
@@ -16,12 +16,13 @@ use std::test::Fail;
 use std::thread;
 use std::thread::Threads;
 use std::time::{Clock, Duration};
+use workers::{OperatorSeat, operate};
 
 /// Serves an operator's port of a server that offers nothing, of which a connection may last so
 /// many seconds. Says whether it could.
 fn operates<H>(rt: &H, listener: &TcpListener, stop: &AtomicBool, seconds: u64) -> bool
 where
-    H: Wait + AllocGlobal + Clock,
+    H: Wait + AllocGlobal + Clock + Eprint,
 {
     let alloc = rt.alloc();
     let Ok(rules) = rules(alloc, "nothing") else {
@@ -33,9 +34,13 @@ where
     let Ok(cells) = LockedCells::new(alloc, rt) else {
         return false;
     };
-    let control = Control::new(publisher, Directory::new(alloc));
-    let (pass, timeout) = (cells.pass(), Duration::from_secs(seconds));
-    operate(rt, listener, &Shelf, control, &cells, pass, stop, timeout);
+    let seat = OperatorSeat {
+        loader: &Shelf,
+        control: Control::new(publisher, Directory::new(alloc)),
+        cells: &cells,
+        pass: cells.pass(),
+    };
+    operate(rt, listener, seat, stop, Duration::from_secs(seconds));
     true
 }
 
@@ -56,7 +61,7 @@ where
 /// Whether a connection that sends nothing is given up at its limit of time.
 fn is_given_up<H>(rt: &H) -> Result<bool, Fail>
 where
-    H: Threads + Wait + AllocGlobal + Clock + Sync,
+    H: Threads + Wait + AllocGlobal + Clock + Eprint + Sync,
     H: Net<Listener = TcpListener, Stream = TcpStream>,
 {
     let listener = TcpListener::bind(rt, "127.0.0.1:0")?;
@@ -73,7 +78,8 @@ where
 /// Whether a port that is told to stop ends at the next connection, which isn't answered.
 fn is_stopped<H>(rt: &H) -> Result<bool, Fail>
 where
-    H: Wait + AllocGlobal + Clock + Net<Listener = TcpListener, Stream = TcpStream>,
+    H: Wait + AllocGlobal + Clock + Eprint,
+    H: Net<Listener = TcpListener, Stream = TcpStream>,
 {
     let alloc = rt.alloc();
     let listener = TcpListener::bind(rt, "127.0.0.1:0")?;

@@ -3,7 +3,7 @@
 use crate::exchange::is_printed;
 use crate::session::{first_wrong, service};
 use load::Device;
-use serving::{PrepareFault, Server, prepare};
+use serving::{Manifests, Server, ServingFault, prepare};
 use std::alloc::{AllocError, Global};
 use std::fs::{self, File, OpenFile};
 use std::net::{Net, TcpListener, TcpStream};
@@ -62,7 +62,7 @@ post|4
 stop;|stopping;";
 
 /// A server of the manifest at a path, whose clients ask at this port.
-fn prepared<H>(rt: &H, path: &str, port: u16) -> Result<Server, PrepareFault>
+fn prepared<H>(rt: &H, path: &str, port: u16) -> Result<Server, ServingFault>
 where
     H: Files + AllocGlobal + Net<Listener = TcpListener, Stream = TcpStream>,
 {
@@ -90,6 +90,21 @@ where
     Ok(is_refused(rt, "staged/yes.toml", port, "B6 Bind")?)
 }
 
+/// Serves with two workers, until the server is stopped.
+fn serves<H>(rt: &H, server: Server) -> Result<(), ServingFault>
+where
+    H: Files + Threads + Wait + AllocGlobal + Clock + Eprint + Sync,
+    H: Net<Listener = TcpListener, Stream = TcpStream>,
+    H::File: Send,
+    H::Dir: Send,
+{
+    let device = Device::new(rt);
+    let server = server.staffed(rt, 2)?;
+    server
+        .serve(rt, &Manifests::of(&device), service())
+        .map_err(ServingFault::Serve)
+}
+
 /// The first row of the session whose reply is another one.
 fn served_wrong<H>(rt: &H) -> Result<Option<&'static str>, Fail>
 where
@@ -102,7 +117,7 @@ where
     let (clients, operator) = (server.ports().service(), server.ports().operator());
     let (ended, wrong) = thread::join(
         rt,
-        || server.serve(rt, 2, service()),
+        || serves(rt, server),
         || first_wrong(rt, SESSION, clients, operator),
     );
     ended?;

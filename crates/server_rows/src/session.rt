@@ -7,14 +7,14 @@ use crate::loopback::told;
 use crate::shelf::{Shelf, ruleset};
 use cells::Directory;
 use operator::ask;
-use serving::{Ports, ServingFault, bind, staff};
+use serving::{ServingFault, staff};
 use std::net::{Net, SocketAddr, TcpListener, TcpStream};
 use std::sync::Wait;
 use std::test::Fail;
 use std::thread::Threads;
 use std::time::{Clock, Duration};
 use std::{io, thread};
-use workers::Service;
+use workers::{Ports, ServeFault, Service, bind};
 
 /// Each connection may last ten seconds.
 pub(crate) fn service() -> Service {
@@ -49,16 +49,16 @@ where
 {
     let mut directory = Directory::new(rt.alloc());
     let Ok(rules) = ruleset(rt.alloc(), path, &mut directory) else {
-        return Err(ServingFault::Memory);
+        return Err(ServingFault::Serve(ServeFault::Memory));
     };
-    match staff(rt, ports, rules, directory, workers) {
-        Ok(server) => server.serve(rt, &Shelf, service),
-        Err(fault) => Err(fault),
-    }
+    let server = staff(rt, ports, rules, directory, workers)?;
+    server
+        .serve(rt, &Shelf, service)
+        .map_err(ServingFault::Serve)
 }
 
 /// Two free ports.
-pub(crate) fn ports_of<H>(rt: &H, service: u16, operator: u16) -> Result<Ports, ServingFault>
+pub(crate) fn ports_of<H>(rt: &H, service: u16, operator: u16) -> io::Result<Ports>
 where
     H: Net<Listener = TcpListener, Stream = TcpStream>,
 {
@@ -239,8 +239,8 @@ fn ports(rt: HostRuntime) -> Result<(), Fail> {
     assert!(rt; ports.service().ip().is_loopback());
     assert!(rt; ports.operator().ip().is_loopback());
     let taken = ports.operator().port();
-    assert!(rt; ports_of(&rt, 0, taken).err() == Some(ServingFault::Bind));
-    assert!(rt; ports_of(&rt, taken, 0).err() == Some(ServingFault::Bind));
+    assert!(rt; ports_of(&rt, 0, taken).is_err());
+    assert!(rt; ports_of(&rt, taken, 0).is_err());
     drop(ports);
     assert!(rt; is_asked(&rt, taken, "show", "B5 Connect")?);
     assert!(rt; is_asked(&rt, taken, "frob", "B1 Word")?);

@@ -2,14 +2,14 @@
 
 use crate::clients::{at_once, silent};
 use crate::session::{is_asked, ports_of, served_by};
-use serving::{Ports, ServingFault};
+use serving::ServingFault;
 use std::net::{Net, SocketAddr, TcpListener, TcpStream};
 use std::sync::Wait;
 use std::test::Fail;
 use std::thread::Threads;
 use std::time::{Clock, Duration, Instant};
 use std::{io, thread};
-use workers::Service;
+use workers::{Ports, Service};
 
 /// How long a connection may last: a second, or longer than the test has.
 const SHORT: u64 = 1;

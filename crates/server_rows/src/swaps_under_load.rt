@@ -72,7 +72,7 @@ fn swaps_under_load(rt: HostRuntime) -> Result<(), Fail> {
         done
     };
     let (ended, (loads, (first, second))) = thread::join(&rt, || served(&rt, ports, "yes"), work);
-    assert_eq!(rt; ended, Ok(()));
+    ended?;
     assert!(rt; loads == LOADS, "{loads} loads");
     assert!(rt;
         first == REQUESTS && second == REQUESTS,

@@ -1,2 +1,3 @@
 pub mod Manifests
-pub use Rattle.operator.specs as operator
+pub mod Staffed
+pub use Rattle.workers.specs.operator

@@ -1,12 +1,11 @@
 -- Why a server isn't ready.
-use Rattle.std.specs.Prelude.{◌≡◌, ℕ, List, []}
+use Rattle.std.specs.Prelude.{ℕ, List, []}
 use Rattle.cells.specs.declared.array.CellArray.{CellArray}
 use Rattle.load.specs.Files.{KnownFiles}
 use Rattle.load.specs.Loaded.{IsLoadedFrom, RefusesPath}
 use Rattle.load.specs.rulesets.Rules.{Rules}
-use Rattle.serving.specs.declared.fault.ServingFault.TheVariants.{Bind}
-use Rattle.serving.specs.declared.server.PrepareFault.{PrepareFault}
-use Rattle.serving.specs.declared.server.PrepareFault.TheVariants as prepare
+use Rattle.serving.specs.declared.fault.ServingFault.{ServingFault}
+use Rattle.serving.specs.declared.fault.ServingFault.TheVariants as serving
 
 -- the manifest comes to a ruleset
 pub record HasRuleset (known : KnownFiles) (manifest : List ℕ) : Type 0 where
@@ -15,6 +14,7 @@ pub record HasRuleset (known : KnownFiles) (manifest : List ℕ) : Type 0 where
   pub loaded : IsLoadedFrom known manifest [] rules arrays
 
 -- the manifest comes to no ruleset; or it does, and one of the ports can't be bound
-abbrev pub RefusesToServe : KnownFiles → List ℕ → PrepareFault → Type 0
-RefusesToServe known manifest (prepare.Manifest fault) = RefusesPath known manifest [] fault
-RefusesToServe known manifest (prepare.Port fault) = HasRuleset known manifest × (fault ≡ Bind)
+abbrev pub RefusesToServe : KnownFiles → List ℕ → ServingFault → Type 0
+RefusesToServe known manifest (serving.Manifest fault) = RefusesPath known manifest [] fault
+RefusesToServe known manifest serving.Bind = HasRuleset known manifest
+RefusesToServe known manifest fault = ⊥

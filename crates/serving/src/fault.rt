@@ -1,20 +1,27 @@
-//! Why a server doesn't serve: what can be wrong with it once its ruleset is loaded.
+//! Why there is no server, or none that serves.
 
+use cells::CellsFault;
+use load::PathFault;
 use thiserror::Error;
+use workers::ServeFault;
+use workers::operator::hot_swap::SwapFault;
 
-/// What is wrong, with the numbers that are printed.
-#[derive(Clone, Copy, Debug, Drop, Error, PartialEq, Eq)]
+/// What is wrong, as it is printed.
+#[derive(Debug, Drop, Error)]
 pub enum ServingFault {
-    /// Memory, or a thread, was refused.
-    #[error("B4 Memory")]
-    Memory,
-    /// The publisher of the rulesets, or a watcher of it, was refused memory.
-    #[error("H1 Memory")]
-    Publisher,
-    /// The counters were refused memory.
-    #[error("N3 Memory")]
-    Cells,
+    /// B3, B4, M1 to M8: the manifest comes to no ruleset.
+    #[error("{0}")]
+    Manifest(PathFault),
     /// A port can't be bound.
     #[error("B6 Bind")]
     Bind,
+    /// The counters are refused.
+    #[error("{0}")]
+    Cells(CellsFault),
+    /// The publisher of the rulesets, or a watcher of it, is refused.
+    #[error("{0}")]
+    Publisher(SwapFault),
+    /// B4: memory that the server itself wants, or a thread, is refused.
+    #[error("{0}")]
+    Serve(ServeFault),
 }

@@ -5,8 +5,8 @@ ghost use Rattle.std.specs.Prelude.{◌≡◌};
 use cells::Directory;
 use load::ruleset::Ruleset;
 use load::{Disk, PathFault, load_path};
-use operator::Loader;
 use std::alloc::Global;
+use workers::operator::Loader;
 
 /// Loads manifests by their paths. The files that a manifest names lie in its folder.
 #[derive(Drop)]

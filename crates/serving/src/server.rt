@@ -1,35 +1,19 @@
 //! From a manifest's path to a server that has all to serve: what can be wrong is found before the
 //! server is said to serve, but for threads.
 
-ghost use Rattle.std.specs.Prelude.{◌≡◌, ◌≢◌, ◌≤◌, [], IfOk, IfErr, length};
+ghost use Rattle.std.specs.Prelude.{◌≡◌, ◌≤◌, [], IfOk, IfErr, length};
 ghost use Rattle.load.specs.Loaded.{IsLoadedFrom};
 ghost use Rattle.serving.specs.Manifests.{RefusesToServe};
+ghost use Rattle.serving.specs.Staffed.{IsStaffFault};
 
 use crate::fault::ServingFault;
-use crate::manifests::Manifests;
-use crate::ports::{Ports, bind};
 use crate::staffed::{StaffedServer, staff};
 use cells::Directory;
 use load::ruleset::Ruleset;
-use load::{Device, Disk, PathFault, load_path};
+use load::{Disk, load_path};
 use std::net::{Net, TcpListener, TcpStream};
-use std::rt::Files;
 use std::sync::Wait;
-use std::thread::Threads;
-use std::time::Clock;
-use thiserror::Error;
-use workers::Service;
-
-/// Why a server isn't ready.
-#[derive(Debug, Drop, Error)]
-pub enum PrepareFault {
-    /// Its manifest comes to no ruleset.
-    #[error("{0}")]
-    Manifest(PathFault),
-    /// A port can't be bound.
-    #[error("{0}")]
-    Port(ServingFault),
-}
+use workers::{Ports, bind};
 
 /// A server whose ruleset is loaded, and both of whose ports listen.
 #[derive(Drop)]
@@ -39,14 +23,15 @@ pub struct Server {
     directory: Directory,
 }
 
-/// Loads the manifest at a path, and binds both ports of loopback.
+/// Loads the manifest at a path, and binds both ports of loopback, of which 0 is any that is free.
+/// The fault of the manifest, and else B6 where a port can't be bound.
 pub fn prepare<H, D>(
     rt: &H,
     disk: &D,
     path: &str,
     service: u16,
     operator: u16,
-) -> Result<Server, PrepareFault>
+) -> Result<Server, ServingFault>
 where
     H: AllocGlobal + Net<Listener = TcpListener, Stream = TcpStream>,
     D: Disk,
@@ -57,7 +42,7 @@ where
     let mut directory = Directory::new(rt.alloc());
     let rules = match load_path(rt.alloc(), disk, path, &mut directory) {
         Ok(rules) => rules,
-        Err(fault) => return Err(PrepareFault::Manifest(fault)),
+        Err(fault) => return Err(ServingFault::Manifest(fault)),
     };
     match bind(rt, service, operator) {
         Ok(ports) => Ok(Server {
@@ -65,7 +50,7 @@ where
             rules,
             directory,
         }),
-        Err(fault) => Err(PrepareFault::Port(fault)),
+        Err(_) => Err(ServingFault::Bind),
     }
 }
 
@@ -94,7 +79,7 @@ impl Server {
         ensures rules { IfOk result (λ s. s.control.publishing.latest.rules ≡ self.rules) }
         ensures arrays { IfOk result (λ s. s.control.arrays ≡ self.directory) }
         ensures workers { IfOk result (λ s. length s.workers.items ≡ workers) }
-        ensures fault { IfErr result (λ e. e ≢ ServingFault.Bind) }
+        ensures fault { IfErr result IsStaffFault }
     {
         let Server {
             ports,
@@ -102,24 +87,5 @@ impl Server {
             directory,
         } = self;
         staff(rt, ports, rules, directory, workers)
-    }
-
-    /// Serves with so many workers until the operator stops the server. N3, H1 or B4 where memory
-    /// was refused, and B4 where a thread was.
-    pub fn serve<H>(self, rt: &H, workers: usize, service: Service) -> Result<(), ServingFault>
-    where
-        H: Files + Threads + Wait + AllocGlobal + Clock + Eprint + Sync,
-        H: Net<Listener = TcpListener, Stream = TcpStream>,
-        H::File: Send,
-        H::Dir: Send,
-        requires some { 1 ≤ workers }
-        requires few { workers ≤ 64 }
-        ensures { IfErr result (λ e. e ≢ ServingFault.Bind) }
-    {
-        let device = Device::new(rt);
-        match self.staffed(rt, workers) {
-            Ok(server) => server.serve(rt, &Manifests::of(&device), service),
-            Err(fault) => Err(fault),
-        }
     }
 }

@@ -1,22 +1,21 @@
 //! A server with all that it serves by, which is made before anything is served: its counters, the
 //! publisher of its rulesets with the directory of its arrays, and its workers.
 
-ghost use Rattle.std.specs.Prelude.{◌≡◌, ◌≢◌, ◌≤◌, IfOk, IfErr, length};
+ghost use Rattle.std.specs.Prelude.{◌≡◌, ◌≤◌, IfOk, IfErr, length};
+ghost use Rattle.serving.specs.Staffed.{IsStaffFault};
 
 use crate::fault::ServingFault;
-use crate::ports::Ports;
-use crate::running::run_both;
 use crate::worker_list::worker_list;
 use cells::Directory;
 use load::ruleset::Ruleset;
 use locked_cells::{LockedCells, LockedPass};
-use operator::hot_swap::{Publisher, Watcher};
-use operator::{Control, Loader};
 use std::net::{Net, TcpListener, TcpStream};
 use std::sync::{Arc, Wait};
 use std::thread::Threads;
 use std::time::Clock;
-use workers::Service;
+use workers::operator::hot_swap::{Publisher, Watcher};
+use workers::operator::{Control, Loader};
+use workers::{OperatorSeat, Ports, ServeFault, Service, run};
 
 /// A server that has its counters, its publisher and its workers. It is ended by `serve` or by
 /// `close`, and isn't let go otherwise.
@@ -46,17 +45,19 @@ where
     ensures rules { IfOk result (λ s. s.control.publishing.latest.rules ≡ rules) }
     ensures arrays { IfOk result (λ s. s.control.arrays ≡ directory) }
     ensures workers { IfOk result (λ s. length s.workers.items ≡ workers) }
-    ensures fault { IfErr result (λ e. e ≢ ServingFault.Bind) }
+    ensures fault { IfErr result IsStaffFault }
 {
     let alloc = rt.alloc();
     let Ok(rules) = Arc::new(alloc, rules) else {
-        return Err(ServingFault::Memory);
+        return Err(ServingFault::Serve(ServeFault::Memory));
     };
-    let Ok(cells) = LockedCells::new(alloc, rt) else {
-        return Err(ServingFault::Cells);
+    let cells = match LockedCells::new(alloc, rt) {
+        Ok(cells) => cells,
+        Err(fault) => return Err(ServingFault::Cells(fault)),
     };
-    let Ok(mut publisher) = Publisher::new(alloc, rules, workers) else {
-        return Err(ServingFault::Publisher);
+    let mut publisher = match Publisher::new(alloc, rules, workers) {
+        Ok(publisher) => publisher,
+        Err(fault) => return Err(ServingFault::Publisher(fault)),
     };
     match worker_list(alloc, &cells, &mut publisher, workers) {
         Ok(workers) => Ok(StaffedServer {
@@ -82,7 +83,7 @@ impl<H: Wait> StaffedServer<'_, H> {
 
     /// Serves until the operator stops the server. Later rulesets come from the loader. B4 where
     /// memory or a thread was refused.
-    pub fn serve<L>(self, rt: &H, loader: &L, service: Service) -> Result<(), ServingFault>
+    pub fn serve<L>(self, rt: &H, loader: &L, service: Service) -> Result<(), ServeFault>
     where
         H: Threads + AllocGlobal + Clock + Eprint + Sync,
         H: Net<Listener = TcpListener, Stream = TcpStream>,
@@ -90,7 +91,6 @@ impl<H: Wait> StaffedServer<'_, H> {
         L::Fault: Send,
         requires some { 1 ≤ length self.workers.items }
         requires few { length self.workers.items ≤ 64 }
-        ensures { IfErr result (λ e. e ≡ ServingFault.Memory) }
     {
         let StaffedServer {
             ports,
@@ -98,8 +98,13 @@ impl<H: Wait> StaffedServer<'_, H> {
             control,
             workers,
         } = self;
-        let pass = cells.pass();
-        run_both(rt, ports, loader, control, &cells, pass, workers, service)
+        let seat = OperatorSeat {
+            loader,
+            control,
+            cells: &cells,
+            pass: cells.pass(),
+        };
+        run(rt, ports, seat, workers, service)
     }
 
     /// Ends a server that doesn't serve.

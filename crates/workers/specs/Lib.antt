@@ -1,3 +1,2 @@
-pub mod Apps
-pub mod Reply
-pub mod Answer
+pub use Rattle.answering.specs as answering
+pub use Rattle.operator.specs as operator

@@ -1,26 +1,34 @@
-//! One request of an update server, from its bytes to the bytes of its reply.
+//! The threads of a server: those of its workers, and its operator's.
 //!
-//! A request is read, and its body is judged: it is found which apps it asks of, the newest ruleset
-//! is asked for once, and for each app that asks for an update and that the ruleset knows the app's
-//! program is run, one app after the other, to its end. Then the reply is written. What cannot be
-//! replied to is refused by a line of text. A run acts on the server's counters, and what it did
-//! there stays, also where memory is refused before the reply is made.
+//! One thread accepts the clients' connections and puts them into a queue, from which the workers
+//! take them, each in a thread of its own. Another serves the operator's port, whose connections
+//! come one after another. The operator's `stop` ends both: the clients' port is told by a flag and
+//! woken by one more connection.
 //!
-//! The contract of `answer` is one relation, with a constructor for each outcome: it says which
-//! reply the bytes of the reader have under the ruleset that the watcher gave, and which events the
-//! runs made. The pass grew by these, and what was written is that reply, or its beginning.
+//! What a connection is answered is proved of `answer` here and of `answer` in `operator`. Of
+//! threads, sockets and clocks nothing is proved but that each pass goes on belonging to its cells,
+//! and that a server that gives up does so for want of memory or of a thread.
 #![tactic(auto)]
 
-mod answering;
-mod apps;
+mod accept;
+mod clock;
+mod fault;
 mod gate;
-mod judging;
 mod log;
-mod rejection;
-mod sent;
-mod serving;
+mod operating;
+mod ports;
+mod queue;
+mod running;
+mod worker;
 
-pub use answering::{AnswerFault, answer};
+pub use fault::ServeFault;
 pub use gate::{Gate, Open};
-pub use sent::Sent;
-pub use serving::{ServeFault, Service, serve};
+pub use operating::{OperatorSeat, operate};
+pub use ports::{Ports, bind};
+pub use running::{run, serve};
+pub use worker::Service;
+
+// The words of the contracts here come with them.
+pub use answering;
+pub use answering::{AnswerFault, Sent, answer};
+pub use operator;

@@ -1,7 +1,6 @@
 //! The log, on standard error: one line a connection, and one for each that couldn't be accepted.
 
-use crate::answering::AnswerFault;
-use crate::sent::Sent;
+use answering::{AnswerFault, Sent};
 use std::alloc::Global;
 use std::fmt::{self, Display, Write};
 use std::io;
@@ -18,7 +17,7 @@ const LONGEST: usize = 200;
 /// The line of a connection, as it is printed: the moment, the client's address, the reply or the
 /// fault, how many bytes were written, and how many microseconds it took.
 #[derive(Clone, Copy)]
-pub struct LogLine<'a> {
+pub(crate) struct LogLine<'a> {
     /// When the connection's turn came, in seconds since 1970.
     pub moment: i64,
     pub peer: SocketAddr,
@@ -43,7 +42,7 @@ impl Display for LogLine<'_> {
 /// them, and before it attends to a connection of a later second. So a line is late by a second,
 /// and by the time of the next connection, at most.
 #[derive(Drop)]
-pub struct Log {
+pub(crate) struct Log {
     lines: String,
     /// The moment of these lines.
     moment: i64,

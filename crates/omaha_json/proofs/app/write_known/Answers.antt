@@ -3,5 +3,12 @@ use Rattle.omaha_json.proofs.app.write_known.Goals as goal
 
 pub returns : goal.returns
 returns c =
-    rw (← c.as_str.ensures, ← c.told_cohort-cohort.ensures.value, ← c.as_text.ensures)
+    rw (
+      ← c.bucket.ensures,
+      ← c.as_str.ensures,
+      ← c.told_cohort-cohort.ensures.value,
+      ← c.as_text.ensures,
+      ← c.releases.ensures,
+      ← c.choice.ensures,
+    )
     (then_adds c.in_ok-write_tokens.ensures c.in_ok-write_pinged.ensures)

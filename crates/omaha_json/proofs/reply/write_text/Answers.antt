@@ -1,13 +1,13 @@
 use Rattle.std.proofs.Common.{◌≡◌, ◌++◌, ap, ◌∙◌}
-use Rattle.omaha_json.specs.Reply.{guard, reply_value, reply_text}
+use Rattle.omaha_json.specs.Reply.{guard, reply_value, found_text}
 use Rattle.omaha_json.proofs.Texts.{text_is}
 use Rattle.omaha_json.proofs.reply.write_text.Goals as goal
 
 pub returns : goal.returns
-unfolding reply_text
+unfolding found_text
 returns c =
-    let request = c.args.request.now in
-    let value = reply_value request c.args.rules.now c.args.choices.now c.args.moment.now in
+    let value =
+    reply_value c.args.server.now c.args.apps.now c.args.found.now c.args.moment.now in
     let before : c.new-writer.result.before ≡ guard =
     c.new-writer.ensures.before ∙ c.in_ok-extend_from_slice.ensures.items
     ∙ ap (λ xs. xs ++ guard) c.in_ok-text.ensures.items in

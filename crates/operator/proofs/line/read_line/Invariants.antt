@@ -1,11 +1,11 @@
 use Rattle.std.proofs.Common.{◌≡◌, ◌≤◌, ◌-◌, length, take}
-use Rattle.operator.specs.Line.{GoesOn}
+use Rattle.operator.specs.Line.{LineGoesOn}
 use Rattle.operator.proofs.line.read_line.Given as goal
 
 -- what stands in the room is the line, as far as it was read
 abbrev pub invariant-loop-size : goal.invariant-loop-size
 invariant-loop-size g l =
-    GoesOn (g.R.Read.remaining l.initial.reader.inner) (g.R.Read.remaining l.reader.inner)
+    LineGoesOn (g.R.Read.remaining l.initial.reader.inner) (g.R.Read.remaining l.reader.inner)
     (take l.size l.room)
     × (l.size ≤ length l.room)
     × (l.reader.failures ≡ l.initial.reader.failures)

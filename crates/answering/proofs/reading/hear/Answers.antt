@@ -1,0 +1,15 @@
+use Rattle.std.proofs.Common.{sym}
+use Rattle.answering.specs.Answer.{rejected}
+use Rattle.answering.proofs.Replies.{is_heard}
+use Rattle.answering.proofs.reading.hear.Goals as goal
+
+pub returns-in-Ok-clause-heard : goal.returns-in-Ok-clause-heard
+returns-in-Ok-clause-heard g c =
+    is_heard _ c.in-Ok.body.items c.as_slice.result.now c.in-Ok.ensures.body
+    c.as_slice.ensures.value c.request_of.result c.request_of.ensures
+
+pub returns-in-Some-clause-heard : goal.returns-in-Some-clause-heard
+returns-in-Some-clause-heard g c =
+    let status = sym c.in-Some.ensures.status in
+    rw c.of_post.ensures
+    (λ watcher moment. rejected c.in-Err.fault c.in-Some.status c.in-Err.ensures.refused status)

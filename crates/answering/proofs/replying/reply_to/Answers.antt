@@ -1,0 +1,52 @@
+use Rattle.std.proofs.Common.{◌≡◌, ◌∙◌, length, ap, rules}
+use Rattle.std.proofs.lemmas.Int.{to_z-of_z}
+use mir.Val.{SFits}
+use mir.Syntax.{w64}
+use Rattle.std.specs.Arc.{arc_value}
+use Rattle.hot_swap.specs.Latest.{IsLatest}
+use Rattle.answering.specs.Answer.{unowned}
+use Rattle.answering.proofs.Grown.{grows_none, grows_all, finds_length}
+use Rattle.answering.proofs.Replies.{is_broken_off, is_replied}
+use Rattle.answering.proofs.replying.reply_to.Goals as goal
+
+pub returns-in_default-clause-replies : goal.returns-in_default-clause-replies
+returns-in_default-clause-replies g c =
+    grows_none (g.C.CellSteps.grew) _ _ (rw c.no_place.ensures unowned)
+
+pub returns-in_default-run_apps-clause-replies : goal.returns-in_default-run_apps-clause-replies
+returns-in_default-run_apps-clause-replies g c =
+    let rules' = c.deref-rules.result.now in
+    let same : rules' ≡ arc_value c.in-Ok.current.1 = cc in
+    let newest : IsLatest c.current.new.self c.in-Ok.current.0 rules' =
+    rw same c.in-Ok.ensures.newest in
+    rw c.of_omaha.ensures
+    (is_broken_off (g.C.CellSteps.grew) c.args.request.now _ _ _ _ c.in-Ok.current.0 rules' newest
+    c.in_default-run_apps.ensures.finds)
+
+pub found_text-requires : goal.found_text-requires
+found_text-requires g c =
+    ap length c.as_slice.ensures.value
+    ∙ finds_length _ _ _ c.in-Ok-run_apps.ensures.finds.of
+
+pub returns-in-Ok-found_text-clause-replies : goal.returns-in-Ok-found_text-clause-replies
+returns-in-Ok-found_text-clause-replies g c =
+    let rules' = c.deref-rules.result.now in
+    let same : rules' ≡ arc_value c.in-Ok.current.1 = cc in
+    let newest : IsLatest c.current.new.self c.in-Ok.current.0 rules' =
+    rw same c.in-Ok.ensures.newest in
+    let fits : SFits w64 c.args.turn.now.moment.now = search rules in
+    let text = simp to_z-of_z at c.in-Ok-found_text.ensures.text in
+    is_replied (g.C.CellSteps.grew) c.args.request.now _ c.args.turn.now.moment.now _ _
+    c.in-Ok.current.0 rules' c.in-Ok-run_apps.found.items c.as_slice.result.now
+    c.server.result.now _ newest c.server.ensures c.as_slice.ensures.value text
+    c.in-Ok-run_apps.ensures.finds
+
+pub returns-clause-replies : goal.returns-clause-replies
+returns-clause-replies g c =
+    let rules' = c.deref-rules.result.now in
+    let same : rules' ≡ arc_value c.in-Ok.current.1 = cc in
+    let newest : IsLatest c.current.new.self c.in-Ok.current.0 rules' =
+    rw same c.in-Ok.ensures.newest in
+    rw c.of_omaha-in-Err.ensures
+    (is_broken_off (g.C.CellSteps.grew) c.args.request.now _ _ _ _ c.in-Ok.current.0 rules' newest
+    (grows_all (g.C.CellSteps.grew) _ _ _ _ _ _ _ c.in-Ok-run_apps.ensures.finds))

@@ -1,0 +1,93 @@
+-- Which reply a request has, and which events on counters its runs make: a constructor an outcome.
+-- Those for want of memory are open, since nobody knows when memory is refused; every other refusal
+-- is the one that the bytes have.
+use Rattle.std.specs.Prelude.{◌≡◌, ℕ, ℤ, List, [], Option, Some, Result, Ok, Err, Vec}
+use Rattle.cells.specs.declared.event.CellEvent.{CellEvent}
+use Rattle.hot_swap.specs.Latest.{Latest, IsLatest}
+use Rattle.http_front.specs.Faults.{status_of}
+use Rattle.http_front.specs.Post.{AnswersPost}
+use Rattle.http_front.specs.declared.fault.PostFault.{PostFault}
+use Rattle.http_front.specs.declared.status.Status.{Status}
+use Rattle.omaha_json.specs.Request.{Request, request_in}
+use Rattle.omaha_json.specs.Reply.{reply_text}
+use Rattle.omaha_json.specs.declared.fault.OmahaFault.{OmahaFault}
+use Rattle.omaha_json.specs.declared.fault.OmahaFault.TheVariants as omaha
+use Rattle.hot_swap.specs.rulesets.Rules.{Rules}
+use Rattle.cells.specs.Grown.{Grows}
+use Rattle.answering.specs.Apps.{RunsApps, RunsFew}
+use Rattle.answering.specs.Reply.{Reply, success, rejection, post_name}
+use Rattle.answering.specs.Reply.{omaha_rejection, no_place, settled_reply}
+use Rattle.answering.specs.declared.answering.AnswerFault.{AnswerFault}
+use Rattle.answering.specs.declared.answering.AnswerFault.TheVariants as answer
+
+-- of a request, under the ruleset that the watcher saw last
+pub data RepliesToRequest (request : Request) (watcher : Latest) (moment : ℤ)
+    : List CellEvent → Reply → Type 0 where
+  -- Omaha's reply: all apps are answered under one ruleset, each by the choice of its run
+  replied : {generation : ℕ} {rules : Rules} {choices : List (Option ℕ)} {events : List CellEvent}
+      → IsLatest watcher generation rules
+      → RunsApps rules request.facts moment request.apps choices events
+      → RepliesToRequest request watcher moment events
+      (success (reply_text request rules choices moment))
+  -- the ruleset has no room for one more owner
+  unowned : RepliesToRequest request watcher moment [] no_place
+  -- memory is refused after the runs of the first few apps, each of which was made to its end
+  broken_off : {generation : ℕ} {rules : Rules} {events : List CellEvent}
+      → IsLatest watcher generation rules
+      → RunsFew rules request.facts moment request.apps events
+      → RepliesToRequest request watcher moment events (omaha_rejection omaha.Memory)
+
+-- of a body
+pub data RepliesToBody (body : List ℕ) (watcher : Latest) (moment : ℤ)
+    : List CellEvent → Reply → Type 0 where
+  asked : {request : Request} {events : List CellEvent} {reply : Reply}
+      → request_in body ≡ Ok request → RepliesToRequest request watcher moment events reply
+      → RepliesToBody body watcher moment events reply
+  -- it is no request
+  refused : (fault : OmahaFault) → request_in body ≡ Err fault
+      → RepliesToBody body watcher moment [] (omaha_rejection fault)
+  -- memory is refused as it is read
+  unread : RepliesToBody body watcher moment [] (omaha_rejection omaha.Memory)
+
+-- of the bytes of a reader, where it tells them
+pub data RepliesTo (told : Option (List ℕ)) (watcher : Latest) (moment : ℤ)
+    : List CellEvent → Reply → Type 0 where
+  taken : {events : List CellEvent} {reply : Reply} (body : List ℕ) → AnswersPost told (Ok body)
+      → RepliesToBody body watcher moment events reply
+      → RepliesTo told watcher moment events reply
+  -- there is no body to read, and the client is told why
+  rejected : (fault : PostFault) (status : Status) → AnswersPost told (Err fault)
+      → status_of fault ≡ Some status
+      → RepliesTo told watcher moment [] (rejection status (post_name fault))
+
+-- what a body is: a request, or it is refused, whatever ruleset and moment there are
+abbrev pub IsRead : List ℕ → Result Request Reply → Type 0
+IsRead body (Ok request) = request_in body ≡ Ok request
+IsRead body (Err reply) =
+    (watcher : Latest) (moment : ℤ) → RepliesToBody body watcher moment [] reply
+
+-- and what the bytes of a reader are
+abbrev pub IsHeard : Option (List ℕ) → Result Request Reply → Type 0
+IsHeard told (Ok request) =
+    (body : List ℕ) × AnswersPost told (Ok body) × (request_in body ≡ Ok request)
+IsHeard told (Err reply) =
+    (watcher : Latest) (moment : ℤ) → RepliesTo told watcher moment [] reply
+
+-- the faults after which nothing is written
+abbrev pub WritesNothing : AnswerFault → Type 0
+WritesNothing answer.Ended = Unit {0}
+WritesNothing answer.Reading = Unit {0}
+WritesNothing (answer.Writing written) = ⊥
+
+-- the reply is that to the bytes of the reader, and the pass grew by the events of its runs
+module _ {P : Type 0} (grew : P → CellEvent → P → Type 0) where
+  abbrev pub RepliesByRuns : Option (List ℕ) → Latest → ℤ → P → P → Reply → Type 0
+  RepliesByRuns told watcher moment before after reply =
+      Grows grew before after (λ events. RepliesTo told watcher moment events reply)
+
+  -- what was found before anything is written: the reply, or that there is none
+  abbrev pub Settles : {A : Type 0} → Option (List ℕ) → Latest → ℤ → P → P
+      → Result (Result (Vec ℕ A) Reply) AnswerFault → Type 0
+  Settles told watcher moment before after (Ok outcome) =
+      RepliesByRuns told watcher moment before after (settled_reply outcome)
+  Settles told watcher moment before after (Err e) = WritesNothing e × (after ≡ before)

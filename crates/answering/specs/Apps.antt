@@ -1,0 +1,58 @@
+-- The runs of a request: which of its apps have one, what it gives, and all of them one after the
+-- other.
+use Rattle.std.specs.Prelude.{◌≡◌, ℕ, ℤ, false, true, List, [], ◌∷◌, ◌++◌, take, All}
+use Rattle.std.specs.Prelude.{Option, Some, None}
+use Rattle.attrs.specs.Facts.{attributes_of}
+use Rattle.attrs.specs.declared.facts.AppFacts.{AppFacts}
+use Rattle.attrs.specs.declared.facts.RequestFacts.{RequestFacts}
+use Rattle.bpf_machine.specs.bpf_verify.Covers.{AreLawful, Fits}
+use Rattle.bpf_machine.specs.bpf_semantics.Run.{Ends}
+use Rattle.bpf_machine.specs.bpf_semantics.State.{opening}
+use Rattle.cells.specs.declared.event.CellEvent.{CellEvent}
+use Rattle.hot_swap.specs.rulesets.Rules.{AppRule, Rules, Knows, app_of, appid_of}
+use Rattle.omaha_json.specs.Found.{FoundApp, found_app, found_apps}
+
+module _ (rules : Rules) (facts : RequestFacts) (moment : ℤ) where
+  -- one app, with the choice of its run, if it has one, and the events that the run made
+  pub data RunsApp (app : AppFacts) : Option ℕ → List CellEvent → Type 0 where
+    -- no run where it asks for no update
+    unasked : app.updatecheck ≡ false → RunsApp app None []
+    -- nor where the ruleset doesn't know it
+    unknown : app_of rules app.appid ≡ None → RunsApp app None []
+    -- else one run on its attributes at the moment, to its end, of the program that the ruleset has
+    -- for attribute 0, which is its appid; each reply fits its counter, and each event is one that
+    -- the app's arrays allow
+    ran : {choice : ℕ} {events : List CellEvent} (known : AppRule) (count : ℕ)
+        → app.updatecheck ≡ true → app_of rules app.appid ≡ Some known
+        → Knows rules (appid_of (attributes_of app facts moment)) known
+        → Ends known.program (opening (attributes_of app facts moment)) events choice count
+        → All Fits events → AreLawful known.program.shape events
+        → RunsApp app (Some choice) events
+
+  -- app after app, with their choices, and their events one after the other
+  pub data RunsApps : List AppFacts → List (Option ℕ) → List CellEvent → Type 0 where
+    none : RunsApps [] [] []
+    then : {apps : List AppFacts} {choices : List (Option ℕ)} {before : List CellEvent}
+        {app : AppFacts} {choice : Option ℕ} {events : List CellEvent}
+        → RunsApps apps choices before → RunsApp app choice events
+        → RunsApps (apps ++ app ∷ []) (choices ++ choice ∷ []) (before ++ events)
+
+  -- the first few of these apps
+  abbrev pub RunsFew : List AppFacts → List CellEvent → Type 0
+  RunsFew apps events =
+      (few : ℕ) × (choices : List (Option ℕ)) × RunsApps (take few apps) choices events
+
+  -- what the ruleset has for an app, with the choice of its run, and the run's events
+  pub record FindsApp (app : AppFacts) (found : Option FoundApp) (events : List CellEvent)
+      : Type 0 where
+    pub choice : Option ℕ
+    pub runs : RunsApp app choice events
+    pub found_is : found ≡ found_app rules facts app choice
+
+  -- and for each app
+  pub record FindsApps
+      (apps : List AppFacts) (found : List (Option FoundApp)) (events : List CellEvent)
+      : Type 0 where
+    pub choices : List (Option ℕ)
+    pub runs : RunsApps apps choices events
+    pub found_are : found ≡ found_apps rules facts apps choices

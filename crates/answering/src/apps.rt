@@ -1,0 +1,110 @@
+//! The apps of a request: each is looked up, and run if it asks for an update, app after app.
+
+ghost use Rattle.std.specs.Prelude.{◌≡◌, false, IfOk, MatchResult};
+ghost use Rattle.std.specs.Arc.{arc_value};
+ghost use Rattle.attrs.specs.Bucket.{app_bucket};
+ghost use Rattle.attrs.specs.Facts.{attributes_of};
+ghost use Rattle.bpf_machine.specs.bpf_semantics.State.{opening};
+ghost use Rattle.bpf_machine.specs.StandsFor.{RunStandsFor};
+ghost use Rattle.cells.specs.Grown.{Grows};
+ghost use Rattle.answering.specs.Apps.{FindsApp, FindsApps, RunsFew};
+
+use crate::turn::Turn;
+use attrs::{AppFacts, Attrs, Moment, RequestFacts, app_bucket};
+use bpf_machine::Run;
+use bpf_machine::bpf_verify::Verified;
+use cells::{CellSteps, growth};
+use hot_swap::ruleset::Ruleset;
+use omaha_json::{FoundApp, Request};
+use std::alloc::{AllocError, Global};
+use std::sync::Arc;
+
+// The run of a program on the attributes of an app, and the bucket that they have.
+fn start(
+    alloc: Global,
+    program: &Arc<Verified>,
+    app: &AppFacts,
+    facts: &RequestFacts,
+    moment: &Moment,
+) -> Result<(Run, u16), AllocError>
+    ensures program { IfOk result (λ r. r.0.program ≡ arc_value program.now) }
+    ensures stands { IfOk result (λ r. RunStandsFor r.0
+        (opening (attributes_of app.now facts.now moment.now))) }
+    ensures going { IfOk result (λ r. r.0.is_done ≡ false) }
+    ensures bucket { IfOk result (λ r. r.1 ≡ app_bucket app.now facts.now) }
+{
+    let Ok(attrs) = Attrs::of(alloc, app, facts, *moment) else {
+        return Err(AllocError);
+    };
+    let bucket = attrs.context().bucket;
+    let Ok(attrs) = Arc::new(alloc, attrs) else {
+        return Err(AllocError);
+    };
+    match Arc::try_clone(program) {
+        Ok(program) => Ok((Run::start(program, attrs), bucket)),
+        Err(_) => Err(AllocError),
+    }
+}
+
+// What the ruleset has for an app, with the choice of its run to its end, if it has one. Where
+// memory is refused no run is made.
+fn run_app<'r, H, C: CellSteps>(
+    turn: &Turn<'_, H, C>,
+    app: &AppFacts,
+    facts: &RequestFacts,
+    rules: &'r Ruleset,
+    pass: &mut C::Pass,
+) -> Result<Option<FoundApp<'r>>, AllocError>
+    requires { C.belongs turn.now.cells.now pass.old }
+    ensures belongs { C.belongs turn.now.cells.now pass.new }
+    ensures finds { MatchResult result
+        (λ found. Grows C.grew pass.old pass.new
+        (FindsApp rules.now facts.now turn.now.moment.now app.now found))
+        (λ _. pass.new ≡ pass.old) }
+{
+    let Some(known) = rules.find(app.appid.as_str()) else {
+        return Ok(None);
+    };
+    if !app.updatecheck {
+        return Ok(Some(FoundApp::new(known, app_bucket(app, facts), None)));
+    }
+    known.keeps();
+    let Ok((run, bucket)) = start(turn.alloc, known.program(), app, facts, turn.moment) else {
+        return Err(AllocError);
+    };
+    let (choice, _) = run.run(turn.cells, pass);
+    Ok(Some(FoundApp::new(known, bucket, Some(choice))))
+}
+
+/// What the ruleset has for all apps of a request, with the choice of each run that was made. Where
+/// memory is refused, the runs of the first few apps were made.
+pub fn run_apps<'r, H, C: CellSteps>(
+    turn: &Turn<'_, H, C>,
+    request: &Request,
+    rules: &'r Ruleset,
+    pass: &mut C::Pass,
+) -> Result<Vec<Option<FoundApp<'r>>>, AllocError>
+    requires { C.belongs turn.now.cells.now pass.old }
+    ensures belongs { C.belongs turn.now.cells.now pass.new }
+    ensures finds { MatchResult result
+        (λ found. Grows C.grew pass.old pass.new (FindsApps
+        rules.now request.now.facts turn.now.moment.now request.now.apps found.items))
+        (λ _. Grows C.grew pass.old pass.new
+        (RunsFew rules.now request.now.facts turn.now.moment.now request.now.apps)) }
+{
+    growth::<C>();
+    let facts = request.facts();
+    let apps = request.apps();
+    let Ok(mut found) = Vec::with_capacity(turn.alloc, apps.len()) else {
+        return Err(AllocError);
+    };
+    for app in apps {
+        let Ok(one) = run_app(turn, app, facts, rules, pass) else {
+            return Err(AllocError);
+        };
+        let Ok(()) = found.push(one) else {
+            return Err(AllocError);
+        };
+    }
+    Ok(found)
+}

@@ -1,0 +1,27 @@
+//! One request of an update server, from its bytes to the bytes of its reply.
+//!
+//! A request is read, and its body is judged: it is found which apps it asks of, the newest ruleset
+//! is asked for once, and for each app that asks for an update and that the ruleset knows the app's
+//! program is run, one app after the other, to its end. Then the reply is written. What cannot be
+//! replied to is refused by a line of text. A run acts on the server's counters, and what it did
+//! there stays, also where memory is refused before the reply is made.
+//!
+//! The contract of `answer` is one relation, with a constructor for each outcome: it says which
+//! reply the bytes of the reader have under the ruleset that the watcher gave, and which events the
+//! runs made. The pass grew by these, and what was written is that reply, or its beginning.
+#![tactic(auto)]
+
+mod answering;
+mod apps;
+mod reading;
+mod rejection;
+mod replying;
+mod sent;
+mod turn;
+
+pub use answering::{AnswerFault, answer};
+pub use sent::Sent;
+
+// The words of the contracts here come with them.
+pub use hot_swap;
+pub use http_front;

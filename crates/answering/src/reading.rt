@@ -1,0 +1,49 @@
+//! What the bytes of a reader ask: a request, or nothing that can be replied to.
+
+ghost use Rattle.std.specs.Prelude.{◌≡◌, ◌+◌, ◌-◌, ◌^◌, ◌<◌, Err, IfOk, IfErr};
+ghost use Rattle.http_front.specs.Post.{AnswersPost};
+ghost use Rattle.http_front.specs.declared.fault.PostFault.TheVariants as fault;
+ghost use Rattle.answering.specs.Answer.{IsHeard, IsRead, WritesNothing};
+
+use crate::answering::AnswerFault;
+use crate::rejection::Rejection;
+use http_front::{Counted, PostFault, read_post};
+use omaha_json::{Request, read_request};
+use std::alloc::Global;
+use std::io::Read;
+
+/// Reads a request, or finds what the client is told in its place.
+pub fn hear<R: Read>(
+    alloc: Global,
+    reader: &mut Counted<R>,
+) -> Result<Result<Request, Rejection>, AnswerFault>
+    requires { reader.old.failures < 2 ^ 64 - 1 }
+    ensures heard { IfOk result (IsHeard (R.remaining reader.old.inner)) }
+    ensures silent { IfErr result WritesNothing }
+    ensures ended { result ≡ Err AnswerFault.Ended
+        → AnswersPost (R.remaining reader.old.inner) (Err fault.Ended) }
+    ensures unreadable { result ≡ Err AnswerFault.Reading
+        → reader.new.failures ≡ reader.old.failures + 1 }
+{
+    let fault = match read_post(alloc, reader) {
+        Ok(body) => return Ok(request_of(alloc, body.as_slice())),
+        Err(fault) => fault,
+    };
+    match fault.status() {
+        Some(status) => Ok(Err(Rejection::of_post(fault, status))),
+        None => Err(match fault {
+            PostFault::Ended => AnswerFault::Ended,
+            _ => AnswerFault::Reading,
+        }),
+    }
+}
+
+// The request that a body is, or what its client is told in its place.
+fn request_of(alloc: Global, body: &[u8]) -> Result<Request, Rejection>
+    ensures { IsRead body.now result }
+{
+    match read_request(alloc, body) {
+        Ok(request) => Ok(request),
+        Err(fault) => Err(Rejection::of_omaha(fault)),
+    }
+}

@@ -1,0 +1,48 @@
+//! What a request is answered with: each of its apps is looked up and run, under one ruleset.
+
+ghost use Rattle.cells.specs.Grown.{Grows};
+ghost use Rattle.hot_swap.specs.Latest.{GoesOnwards};
+ghost use Rattle.answering.specs.Answer.{RepliesToRequest};
+ghost use Rattle.answering.specs.Reply.{settled_reply};
+
+use crate::apps::run_apps;
+use crate::rejection::Rejection;
+use crate::turn::Turn;
+use cells::CellSteps;
+use hot_swap::Watcher;
+use hot_swap::ruleset::Ruleset;
+use omaha_json::{OmahaFault, Request, found_text};
+use std::sync::Wait;
+
+/// The text of the reply to a request, or why there is none. The ruleset is asked for once.
+pub fn reply_to<H: Wait, C: CellSteps>(
+    turn: &Turn<'_, H, C>,
+    request: &Request,
+    pass: &mut C::Pass,
+    watcher: &mut Watcher,
+) -> Result<Vec<u8>, Rejection>
+    requires { C.belongs turn.now.cells.now pass.old }
+    ensures belongs { C.belongs turn.now.cells.now pass.new }
+    ensures watched { GoesOnwards watcher.old watcher.new }
+    ensures replies { Grows C.grew pass.old pass.new
+        (λ events. RepliesToRequest request.now watcher.new turn.now.moment.now events
+        (settled_reply result)) }
+{
+    let Ok(current) = watcher.current(turn.rt) else {
+        return Err(Rejection::no_place());
+    };
+    let rules: &Ruleset = &current.1;
+    let Ok(found) = run_apps(turn, request, rules, pass) else {
+        return Err(Rejection::of_omaha(OmahaFault::Memory));
+    };
+    match found_text(
+        turn.alloc,
+        request,
+        rules.server(),
+        found.as_slice(),
+        *turn.moment,
+    ) {
+        Ok(text) => Ok(text),
+        Err(_) => Err(Rejection::of_omaha(OmahaFault::Memory)),
+    }
+}

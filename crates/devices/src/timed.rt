@@ -1,0 +1,129 @@
+//! One direction of a connection, with its limit of time, and what is read at a connection's end. A
+//! call that a signal interrupts is made again, within the same time.
+//!
+//! At its end what a client sent beyond its request is read and let go, since a socket that is
+//! closed with bytes unread is reset, and the reply may be lost with it (RFC 9112, section 9.6).
+
+ghost use Rattle.std.specs.Prelude.{◌≡◌};
+
+use std::io::{self, ErrorKind, Read, Write};
+use std::net::{Shutdown, TcpStream};
+use std::time::{Clock, Duration, Instant};
+
+/// How long a client may go on sending after a refusal.
+const DRAIN_SECONDS: u64 = 1;
+
+/// Room for what a client sends behind its request.
+const REST_ROOM: usize = 512;
+
+/// One direction of a connection.
+#[derive(Drop)]
+pub struct Timed<'a, R: Clock> {
+    stream: &'a TcpStream,
+    clock: &'a R,
+    until: Instant,
+    bytes: u64,
+}
+
+impl<'a, R: Clock> Timed<'a, R> {
+    /// A direction that ends at that time.
+    pub fn new(stream: &'a TcpStream, clock: &'a R, until: Instant) -> Timed<'a, R>
+        ensures until { result.until ≡ until }
+        ensures bytes { result.bytes ≡ 0 }
+    {
+        Timed {
+            stream,
+            clock,
+            until,
+            bytes: 0,
+        }
+    }
+
+    /// How many bytes went this way.
+    pub fn bytes(&self) -> u64
+        ensures { result ≡ self.now.bytes }
+    {
+        self.bytes
+    }
+
+    // How long it is until the end.
+    fn left(&self) -> io::Result<Duration> {
+        let now = Instant::now(self.clock)?;
+        match self.until.checked_duration_since(now) {
+            Some(left) => Ok(left),
+            None => Err(io::Error::from(ErrorKind::TimedOut)),
+        }
+    }
+
+    // Counts the bytes of a call.
+    fn count(&mut self, n: usize) {
+        self.bytes = self.bytes.saturating_add(n as u64);
+    }
+}
+
+impl<R: Clock> Read for Timed<'_, R> {
+    fn read(&mut self, buf: &mut [u8]) -> io::Result<usize> {
+        for _ in 0..u64::MAX {
+            let left = self.left()?;
+            self.stream.set_read_timeout(Some(left))?;
+            match self.stream.read(buf) {
+                Err(error) if error.kind() == ErrorKind::Interrupted => {}
+                Err(error) => return Err(error),
+                Ok(n) => {
+                    self.count(n);
+                    return Ok(n);
+                }
+            }
+        }
+        Err(io::Error::from(ErrorKind::TimedOut))
+    }
+}
+
+impl<R: Clock> Write for Timed<'_, R> {
+    fn write(&mut self, buf: &[u8]) -> io::Result<usize> {
+        for _ in 0..u64::MAX {
+            let left = self.left()?;
+            self.stream.set_write_timeout(Some(left))?;
+            match self.stream.write(buf) {
+                Err(error) if error.kind() == ErrorKind::Interrupted => {}
+                Err(error) => return Err(error),
+                Ok(n) => {
+                    self.count(n);
+                    return Ok(n);
+                }
+            }
+        }
+        Err(io::Error::from(ErrorKind::TimedOut))
+    }
+
+    fn flush(&mut self) -> io::Result<()> {
+        Ok(())
+    }
+}
+
+/// Reads what a client goes on to send after its reply, for at most a second.
+pub fn drain<R: Clock>(stream: &TcpStream, clock: &R) -> io::Result<()> {
+    stream.shutdown(Shutdown::Write)?;
+    let now = Instant::now(clock)?;
+    let Some(until) = now.checked_add(Duration::from_secs(DRAIN_SECONDS)) else {
+        return Ok(());
+    };
+    let mut rest = Timed::new(stream, clock, until);
+    let mut buf = [0; 4096];
+    for _ in 0..u64::MAX {
+        if rest.read(&mut buf)? == 0 {
+            break;
+        }
+    }
+    Ok(())
+}
+
+/// Takes what has come behind the request, up to 512 bytes, and doesn't wait for more: clients are
+/// known that end a body with a line's end that they don't count (RFC 9112, section 2.2). Where
+/// nothing has come it fails with `WouldBlock`. The stream doesn't wait from then on.
+pub fn take_rest(stream: &TcpStream) -> io::Result<()> {
+    stream.set_nonblocking(true)?;
+    let mut rest = stream;
+    let _taken = rest.read(&mut [0; REST_ROOM])?;
+    Ok(())
+}

@@ -1,0 +1,10 @@
+use Rattle.std.proofs.Common.{◌≡◌, ◌++◌, drop, length}
+use Rattle.omaha_json.specs.Found.{found_apps}
+use Rattle.omaha_json.proofs.found.find_each.Given as goal
+
+-- what was found so far, and what the apps that are left come to
+abbrev pub invariant-loop-i : goal.invariant-loop-i
+invariant-loop-i l =
+    (length l.found.items ≡ l.i)
+    × (l.found.items ++ found_apps l.rules l.facts (drop l.i l.apps) (drop l.i l.choices)
+    ≡ found_apps l.rules l.facts l.apps l.choices)

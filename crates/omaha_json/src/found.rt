@@ -1,0 +1,124 @@
+//! What a ruleset has for the apps of a request, so that each is looked up once an answer.
+
+ghost use Rattle.std.specs.Prelude.{◌≡◌, ◌<◌, length, slice_index_or, IfOk};
+ghost use Rattle.omaha_json.specs.Found as specs;
+
+use crate::request::Request;
+use attrs::{AppFacts, RequestFacts, app_bucket};
+use releases::Release;
+use ruleset::{App, Ruleset};
+use std::alloc::{AllocError, Global};
+use std::marker::Model;
+
+/// What a reply tells of an app that the ruleset knows: the release that was chosen, and the
+/// bucket.
+#[derive(Drop)]
+pub struct FoundApp<'a> {
+    releases: &'a [Release],
+    bucket: u16,
+    choice: Option<u8>,
+}
+
+impl<'a> Model for FoundApp<'a> {
+    ghost use Rattle.omaha_json.specs.Found as specs;
+
+    ghost Value = { specs.FoundApp };
+
+    ghost view = { λ f. record {
+      releases = f.releases.now;
+      bucket = f.bucket;
+      choice = f.choice;
+    } };
+}
+
+impl<'a> FoundApp<'a> {
+    /// The app that a ruleset has for an appid, the bucket of the request's app, and the choice of
+    /// its run: `None` where none was made, since it asked for none.
+    pub fn new(known: &'a App, bucket: u16, choice: Option<u8>) -> FoundApp<'a>
+        ensures { result ≡ specs.found_with known.now choice bucket }
+    {
+        FoundApp {
+            releases: known.releases(),
+            bucket,
+            choice,
+        }
+    }
+
+    // The app's releases.
+    pub(crate) fn releases(&self) -> &'a [Release]
+        ensures { result.now ≡ self.now.releases }
+    {
+        self.releases
+    }
+
+    // Its bucket.
+    pub(crate) fn bucket(&self) -> u16
+        ensures { result ≡ self.now.bucket }
+    {
+        self.bucket
+    }
+
+    // The choice of its run.
+    pub(crate) fn choice(&self) -> Option<u8>
+        ensures { result ≡ self.now.choice }
+    {
+        self.choice
+    }
+}
+
+/// What a ruleset has for each app of a request, with the choice of its run.
+pub(crate) fn find_apps<'a>(
+    alloc: Global,
+    request: &Request,
+    rules: &'a Ruleset,
+    choices: &[Option<u8>],
+) -> Result<Vec<Option<FoundApp<'a>>>, AllocError>
+    requires { length choices.now ≡ length request.now.apps }
+    ensures found { IfOk result (λ found. found.items
+        ≡ specs.found_apps rules.now request.now.facts request.now.apps choices.now) }
+    ensures each { IfOk result (λ found. length found.items ≡ length request.now.apps) }
+{
+    find_each(alloc, request.facts(), request.apps(), rules, choices)
+}
+
+fn find_each<'a>(
+    alloc: Global,
+    facts: &RequestFacts,
+    apps: &[AppFacts],
+    rules: &'a Ruleset,
+    choices: &[Option<u8>],
+) -> Result<Vec<Option<FoundApp<'a>>>, AllocError>
+    requires { length choices.now ≡ length apps.now }
+    ensures found { IfOk result (λ found. found.items
+        ≡ specs.found_apps rules.now facts.now apps.now choices.now) }
+    ensures each { IfOk result (λ found. length found.items ≡ length apps.now) }
+{
+    let mut found = Vec::with_capacity(alloc, apps.len())?;
+    for i in 0..apps.len() {
+        found.push(find_app(facts, &apps[i], rules, choice_at(choices, i)))?;
+    }
+    Ok(found)
+}
+
+// The choice of an app's run.
+fn choice_at(choices: &[Option<u8>], place: usize) -> Option<u8>
+    requires { place < length choices.now }
+    ensures { result ≡ slice_index_or choices.now place result }
+{
+    choices[place]
+}
+
+// What a ruleset has for an app.
+fn find_app<'a>(
+    facts: &RequestFacts,
+    app: &AppFacts,
+    rules: &'a Ruleset,
+    choice: Option<u8>,
+) -> Option<FoundApp<'a>>
+    ensures { result ≡ specs.found_app rules.now facts.now app.now choice }
+{
+    match rules.find(app.appid.as_str()) {
+        Some(known) => Some(FoundApp::new(known, app_bucket(app, facts), choice)),
+        None => None,
+    }
+}

@@ -1,0 +1,105 @@
+//! The operator's port: one connection after another, each with a limit of time. It ends with the
+//! connection that asks to stop, or once it is told to.
+
+use crate::accept::Port;
+use crate::clock::Limits;
+use cells::CellSteps;
+use devices::{Counted, Timed, drain};
+use operator::{Control, Loader, Reply, answer, write_reply};
+use std::fmt::Display;
+use std::io;
+use std::net::{TcpListener, TcpStream};
+use std::sync::Wait;
+use std::sync::atomic::AtomicBool;
+use std::time::{Clock, Duration};
+
+/// The operator's seat: where rulesets come from, what a load changes, and the cells with the
+/// operator's own pass to them.
+#[derive(Drop)]
+pub struct OperatorSeat<'a, L, C: CellSteps>
+where
+    C::Pass: Drop,
+{
+    pub loader: &'a L,
+    pub control: Control,
+    pub cells: &'a C,
+    pub pass: C::Pass,
+}
+
+/// Answers connections until one has asked to stop, or until `stop` is set and one more comes,
+/// which isn't answered; that the server ends is for the caller to see to. The line of a connection
+/// has to come within the limit of time, and its reply to be taken within the same again, since a
+/// load may last. A connection that fails is passed over, and so is one that can't be accepted.
+pub fn operate<H, L, C>(
+    rt: &H,
+    listener: &TcpListener,
+    mut seat: OperatorSeat<'_, L, C>,
+    stop: &AtomicBool,
+    timeout: Duration,
+)
+where
+    H: Wait + AllocGlobal + Clock + Eprint,
+    L: Loader,
+    C: CellSteps,
+    C::Pass: Drop,
+    requires { C.belongs seat.cells.now seat.pass }
+{
+    let mut port = Port::new(listener, stop, false);
+    for _ in rt.forever() {
+        let Some(call) = port.accept(rt) else {
+            break;
+        };
+        if attend(rt, &call.stream, &mut seat, timeout) {
+            break;
+        }
+    }
+}
+
+// Answers one connection, and says whether it has asked to stop.
+fn attend<H, L, C>(
+    rt: &H,
+    stream: &TcpStream,
+    seat: &mut OperatorSeat<'_, L, C>,
+    timeout: Duration,
+) -> bool
+where
+    H: Wait + AllocGlobal + Clock,
+    L: Loader,
+    C: CellSteps,
+    C::Pass: Drop,
+    requires { C.belongs seat.old.cells.now seat.old.pass }
+    ensures { C.belongs seat.new.cells.now seat.new.pass }
+{
+    let Some(limits) = Limits::begin(rt, timeout) else {
+        return false;
+    };
+    let mut reader = Counted::new(Timed::new(stream, rt, limits.until()));
+    let Some(reply) = answer(
+        rt,
+        rt.alloc(),
+        &mut reader,
+        seat.loader,
+        &mut seat.control,
+        seat.cells,
+        &mut seat.pass,
+    ) else {
+        return false;
+    };
+    let _sent = send(rt, stream, &reply, timeout);
+    matches!(reply, Reply::Stopping)
+}
+
+// Sends a reply, and reads what the client goes on to send.
+fn send<H: Clock, F: Display>(
+    rt: &H,
+    stream: &TcpStream,
+    reply: &Reply<F>,
+    timeout: Duration,
+) -> io::Result<()> {
+    let Some(limits) = Limits::begin(rt, timeout) else {
+        return Ok(());
+    };
+    let mut writer = Timed::new(stream, rt, limits.until());
+    write_reply(&mut writer, reply)?;
+    drain(stream, rt)
+}

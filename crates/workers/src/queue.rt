@@ -1,0 +1,48 @@
+//! The queue between the thread that accepts connections and the workers that answer them. It has
+//! 64 places; who gets which connection is nobody's promise.
+
+use crate::accept::{Call, Port};
+use crate::log::Log;
+use crossbeam_channel::{Receiver, Sender};
+use std::net::TcpListener;
+use std::sync::Wait;
+use std::sync::atomic::AtomicBool;
+use std::time::Clock;
+
+/// How many accepted connections may wait for a worker.
+pub(crate) const WAITING: usize = 64;
+
+/// Puts each connection of a port into the queue, and closes the port at the end.
+pub(crate) fn fill<H>(
+    rt: &H,
+    listener: TcpListener,
+    queue: &Sender<Call>,
+    stop: &AtomicBool,
+    log: bool,
+)
+where
+    H: Wait + AllocGlobal + Clock + Eprint,
+{
+    let mut port = Port::new(&listener, stop, log);
+    for _ in rt.forever() {
+        let Some(call) = port.accept(rt) else {
+            break;
+        };
+        if queue.send(rt, call).is_err() {
+            break;
+        }
+    }
+}
+
+/// The next connection, or none where the queue is closed. Before the worker waits for one it
+/// writes its log out, so that no line is left at the end.
+pub(crate) fn next<H>(rt: &H, queue: &Receiver<Call>, log: &mut Log) -> Option<Call>
+where
+    H: Wait + Eprint,
+{
+    if let Ok(call) = queue.try_recv(rt) {
+        return Some(call);
+    }
+    log.write_out(rt);
+    queue.recv(rt).ok()
+}
