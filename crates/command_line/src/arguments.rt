@@ -55,7 +55,7 @@ pub fn arrays_option<'a>(alloc: Global) -> Arg<'a>
         .action(ArgAction::Set)
         .help(
             "Arrays that the program may use, numbered from 0 and joined by commas: \
-             name:width:length, or name:64:length:limit with a quota; none by default",
+             name:width:length, or name:64:length:quota; none by default",
         )
 }
 

@@ -13,7 +13,7 @@ pub enum WordsFault {
     #[error("{0}")]
     Usage(ClapError),
     /// The grammar takes them, and they ask for nothing: their arrays aren't well written.
-    #[error("error: '--arrays' wants name:width:length, or name:64:length:limit, \
+    #[error("error: '--arrays' wants name:width:length, or name:64:length:quota, \
         joined by commas\n")]
     Nothing,
     /// B4: memory was refused.

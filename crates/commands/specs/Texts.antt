@@ -11,7 +11,7 @@ use Rattle.commands.specs.declared.answer.Answer.TheVariants.{Ready}
 use Rattle.commands.specs.declared.answer.Answer.TheVariants as answer
 use Rattle.commands.specs.declared.fault.Fault.{Fault}
 use Rattle.commands.specs.declared.fault.Fault.TheVariants.{Memory, Program, Manifest}
-use Rattle.commands.specs.declared.fault.Fault.TheVariants.{Word, Connect, Bind}
+use Rattle.commands.specs.declared.fault.Fault.TheVariants.{Word, Connect, Bind, Publisher, Cells}
 use Rattle.commands.specs.declared.fault.Fault.TheVariants as fault
 use Rattle.manifest_tools.specs.Manifests as manifest
 use Rattle.program_tools.specs.Texts as program
@@ -48,6 +48,8 @@ fault_text (Manifest fault) = manifest.fault_text fault
 fault_text Word = Some (codes "B1 Word")
 fault_text Connect = Some (codes "B5 Connect")
 fault_text Bind = Some (codes "B6 Bind")
+fault_text Publisher = Some (codes "H1 Memory")
+fault_text Cells = Some (codes "N3 Memory")
 fault_text (fault.Told text) = Some (string_bytes text)
 fault_text refused = None
 

@@ -24,6 +24,10 @@ pub enum Fault {
     Connect,
     /// B6: a port can't be bound.
     Bind,
+    /// H1: the publisher of a server is refused memory.
+    Publisher,
+    /// N3: the counters of a server are refused memory.
+    Cells,
     /// The server refuses, in these words.
     Told(String),
 }
@@ -40,6 +44,8 @@ impl fmt::Display for Fault {
             Fault::Word => f.write_str("B1 Word"),
             Fault::Connect => f.write_str("B5 Connect"),
             Fault::Bind => f.write_str("B6 Bind"),
+            Fault::Publisher => f.write_str("H1 Memory"),
+            Fault::Cells => f.write_str("N3 Memory"),
             Fault::Told(text) => f.write_str(text),
         }
     }

@@ -10,7 +10,7 @@ ghost use Rattle.commands.specs.Texts.{serving_line};
 use crate::answer::Answer;
 use crate::answering::answer;
 use crate::fault::Fault;
-use crate::serve::serve_until_stopped;
+use crate::serve::{serve_until_stopped, staff_server};
 use command_line::{Plan, Request, WordsFault, read_words};
 use manifest_tools::ManifestToolFault;
 use serving::Server;
@@ -75,7 +75,7 @@ where
     }
 }
 
-// Says that a server is ready, and serves until its operator stops it.
+// Makes all that a server serves by, says that it is ready, and serves until its operator stops it.
 fn serve<R, O, E>(rt: &R, server: Server, plan: &Plan, out: &mut O, err: &mut E) -> u8
 where
     R: Files + Threads + Wait + AllocGlobal + Clock + Eprint + Sync,
@@ -88,7 +88,12 @@ where
     ensures done { result ≡ 0 → Appends (O.contents out.old) (O.contents out.new) serving_line }
     ensures silent { result ≡ 0 → err.new ≡ err.old }
 {
+    let server = match staff_server(rt, server, plan) {
+        Ok(server) => server,
+        Err(fault) => return refused(err, &fault),
+    };
     if say_ready(out).is_err() {
+        server.close();
         return REFUSED;
     }
     match serve_until_stopped(rt, server, plan) {
