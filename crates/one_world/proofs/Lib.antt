@@ -1,0 +1,13 @@
+pub mod Lists
+pub mod Works
+pub mod Steps
+pub mod Playing
+pub mod Opening
+pub mod Law
+pub mod Made
+pub mod Safely
+pub mod Looking
+pub mod Taking
+pub mod Cutting
+pub mod InTurn
+pub mod Threads

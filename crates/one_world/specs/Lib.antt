@@ -1,0 +1,7 @@
+pub mod Runs
+pub mod Entries
+pub mod OneWorld
+pub mod InTurn
+pub mod Passes
+pub use Rattle.shared_cells.specs as shared_cells
+pub use Rattle.world.specs as world

@@ -1,0 +1,66 @@
+-- Runs of the machine, done or not, each of a program that a ruleset of a published list has.
+use Rattle.std.specs.Prelude.{◌≡◌, ℕ, List, [], ◌∷◌, map}
+use Rattle.attrs.specs.Attributes.{Attributes, AreShort}
+use Rattle.bpf_machine.specs.bpf_semantics.Outcome.{Going, Asks}
+use Rattle.bpf_machine.specs.bpf_semantics.Program.{ShapedProgram}
+use Rattle.bpf_machine.specs.bpf_semantics.Run.{Ends}
+use Rattle.bpf_machine.specs.bpf_semantics.State.{State, opening}
+use Rattle.bpf_machine.specs.bpf_semantics.Step.{step}
+use Rattle.cells.specs.declared.event.CellEvent.{CellEvent}
+use Rattle.ruleset.specs.Rules.{Rules, appid_of}
+use Rattle.world.specs.World.{Worker, Running, Ended, HasProgram}
+
+-- from one state the run comes to another, and makes the events on the way. A step that asks goes
+-- on with the reply of its event, whatever it is
+pub data Reaches (p : ShapedProgram) : State → List CellEvent → State → Type 0 where
+  stays : {s : State} → Reaches p s [] s
+  goes : {s t u : State} {es : List CellEvent} → step p s ≡ Going t → Reaches p t es u
+      → Reaches p s es u
+  asks : {s u : State} {next : ℕ → State} {e : CellEvent} {es : List CellEvent}
+      → step p s ≡ Asks e.cell e.op next → Reaches p (next e.reply) es u → Reaches p s (e ∷ es) u
+
+-- how far a run has come: to a state, from which it goes on, or to its end
+pub data Stage : Type 0 where
+  UnderWay : State → Stage
+  AtEnd : (choice instructions : ℕ) → Stage
+
+-- from this state the run comes so far, and makes the events on the way
+abbrev pub ComesAsFar : ShapedProgram → State → List CellEvent → Stage → Type 0
+ComesAsFar p s events (UnderWay t) = Reaches p s events t
+ComesAsFar p s events (AtEnd choice instructions) = Ends p s events choice instructions
+
+-- a run for one app: the number of its ruleset, from 1, its program, the app's attributes, its
+-- events on counters so far, and how far it has come
+pub record AppRun : Type 0 where
+  pub number : ℕ
+  pub program : ShapedProgram
+  pub attributes : Attributes
+  pub events : List CellEvent
+  pub stage : Stage
+
+-- it is of the program that the ruleset of its number has for the appid, which is attribute 0, and
+-- comes so far from the opening state on its attributes. Texts of attributes are short, as each
+-- `Attrs` keeps; a Start of the world asks it
+pub record IsRunUnder (published : List Rules) (run : AppRun) : Type 0 where
+  pub offered : HasProgram published run.number (appid_of run.attributes) run.program
+  pub texts_are_short : AreShort run.attributes.texts
+  pub comes : ComesAsFar run.program (opening run.attributes) run.events run.stage
+
+abbrev pub lists_of_runs : List AppRun → List (List CellEvent)
+lists_of_runs = map (λ run. run.events)
+
+-- ---- workers of the world
+
+-- the worker that has started the run, and has done no step of it
+abbrev pub at_start : AppRun → Worker
+at_start run = Running run.number run.program (opening run.attributes)
+
+-- the worker that has brought the run to a stage
+abbrev pub at_stage : AppRun → Stage → Worker
+at_stage run (UnderWay s) = Running run.number run.program s
+at_stage run (AtEnd choice instructions) =
+    Ended run.number run.program run.attributes choice instructions
+
+-- the worker that has brought it as far as it came
+abbrev pub as_far : AppRun → Worker
+as_far run = at_stage run run.stage
