@@ -1,25 +1,31 @@
 #!/usr/bin/env python3
-"""Checks that the pages speak of what is there: each link leads to a file, each definition that a row
-of DEFINITIONS names stands in the file of its link, each clause that is cited behind a call stands in
-that call's contract, and the index at the end of DEFINITIONS has every public definition.
+"""Checks that the pages speak of what is there: each link leads to a file, each definition that a
+row of DEFINITIONS names stands in the file of its link, each clause that is cited behind a call
+stands in that call's contract, the index at the end of DEFINITIONS has every public definition, and
+README's picture and table of the crates have those of crates.txt.
 
-usage: docs/check.py [--write]     --write writes that index anew
+usage: docs/check.py [--write]     --write writes that index and that picture anew
 """
 import re
 import sys
+import textwrap
 from pathlib import Path
 
 ROOT = Path(__file__).resolve().parent.parent
 CRATES = ROOT / "crates"
+README = ROOT / "README.md"
 DEFINITIONS = ROOT / "docs" / "DEFINITIONS.md"
-PAGES = [ROOT / "README.md", *sorted((ROOT / "docs").glob("*.md")), ROOT / "bench" / "README.md"]
+PAGES = [README, *sorted((ROOT / "docs").glob("*.md")), ROOT / "bench" / "README.md"]
 # The pages that say what is so today. PROVING also tells of wrong bodies by names of their own.
-CITING = [ROOT / "README.md", DEFINITIONS, ROOT / "docs" / "CONTRACTS.md"]
+CITING = [README, DEFINITIONS, ROOT / "docs" / "CONTRACTS.md"]
 INDEX = "## All other definitions\n"
-HEAD = "By crate and file under `crates/CRATE/specs/`. What each says stands above it in its file.\n"
+HEAD = """By crate and file under `crates/CRATE/specs/`. What each says stands above it in its file.
+"""
 DEFINES = re.compile(r"^(?:abbrev pub|unfoldable pub|pub record|pub data|pub) ([^\s:({]+)", re.M)
 LINK = re.compile(r"\]\(([^)#]+)(?:#[^)]*)?\)")
 SPEC = re.compile(r"\(\.\./crates/([^)]+\.antt)\)")
+STOREY = re.compile(r"^# (\w+): (.+)\n((?:\w.*\n)+)", re.M)
+PICTURE = re.compile(r"(?<=\n## The crates\n\n```\n).*?(?=```\n)", re.S)
 FUNCTION = re.compile(r"\bfn (\w+)\b(.*?)(?:\n\s*\{\}?|;)\s*\n", re.S)
 
 
@@ -91,26 +97,57 @@ def index(text):
             left = [it for it in defined if it not in {"mod", "use", *named.get(path, [])}]
             if left:
                 title = str(file.relative_to(specs))[: -len(".antt")]
-                lines.append(f"- [{title}](../crates/{path}): " + ", ".join(f"`{it}`" for it in left))
+                words = ", ".join(f"`{it}`" for it in left)
+                lines.append(f"- [{title}](../crates/{path}): {words}")
         if lines:
             parts.append(f"**`{crate}`**\n\n" + "\n".join(lines) + "\n")
     return f"{INDEX}\n{HEAD}\n" + "\n".join(parts)
 
 
+def indexed(text):
+    above = text[: text.index(INDEX)]
+    return above + index(above)
+
+
+def picture():
+    """The storeys of crates.txt with their crates, the highest first."""
+    lines = []
+    for name, what, block in reversed(STOREY.findall((ROOT / "crates.txt").read_text())):
+        names = [re.split("[ :]", it)[0] for it in block.splitlines()]
+        lines.append(f"{name:10}{what}")
+        lines.append(textwrap.indent(textwrap.fill("  ".join(reversed(names)), 86), " " * 10))
+    return "\n".join(lines) + "\n"
+
+
+def other_crates(text):
+    """Crates that README's table lacks, or has beside those of crates.txt."""
+    named = {name for names, _ in rows(text) for name in names}
+    yield from (f"no row of the crate {it}" for it in crates() if it not in named)
+    yield from (f"a row of {it}, which is no crate" for it in sorted(named - {*crates()}))
+
+
+def drawn(text):
+    return PICTURE.sub(lambda _: picture(), text)
+
+
+WRITTEN = {README: drawn, DEFINITIONS: indexed}
+
+
 def main():
     if sys.argv[1:] not in ([], ["--write"]):
         sys.exit(__doc__)
-    text = DEFINITIONS.read_text()
-    above = text[: text.index(INDEX)]
     if sys.argv[1:]:
-        DEFINITIONS.write_text(above + index(above))
-        text = DEFINITIONS.read_text()
+        for page, written in WRITTEN.items():
+            page.write_text(written(page.read_text()))
     faults = [f"{page.name}: {it}" for page in PAGES for it in dead_links(page)]
-    faults += [f"{DEFINITIONS.name}: {it}" for it in strangers(above)]
+    text = DEFINITIONS.read_text()
+    faults += [f"{DEFINITIONS.name}: {it}" for it in strangers(text[: text.index(INDEX)])]
+    faults += [f"{README.name}: {it}" for it in other_crates(README.read_text())]
     clauses = contracts()
     faults += [f"{page.name}: {it}" for page in CITING for it in false_clauses(page, clauses)]
-    if text != above + index(above):
-        faults.append(f"{DEFINITIONS.name}: the index isn't that of the files (docs/check.py --write)")
+    for page, written in WRITTEN.items():
+        if page.read_text() != written(page.read_text()):
+            faults.append(f"{page.name}: not as the files have it (docs/check.py --write)")
     print("\n".join(faults) or "pages: all links, names and clauses are there")
     sys.exit(bool(faults))
 
