@@ -7,9 +7,9 @@
 // then serves until it is stopped. The status says whether all this was done.
 
 mod answer;
-mod answering;
 mod ask;
 mod fault;
+mod requests;
 mod serve;
 mod status;
 

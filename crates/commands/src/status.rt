@@ -8,8 +8,8 @@ ghost use Rattle.commands.specs.Commands.{AreWrong, IsAnswered, IsDone, PrintsRe
 ghost use Rattle.commands.specs.Texts.{serving_line};
 
 use crate::answer::Answer;
-use crate::answering::answer;
 use crate::fault::Fault;
+use crate::requests::answer;
 use crate::serve::{serve_until_stopped, staff_server};
 use command_line::{Plan, Request, WordsFault, read_words};
 use manifest_tools::ManifestToolFault;
