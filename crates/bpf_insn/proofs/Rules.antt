@@ -1,5 +1,7 @@
 -- The halves of an instruction keep every rule.
-use Rattle.std.proofs.Common.{◌≡◌, ◌≤◌, inl, inr, refl, arith}
+use Rattle.std.proofs.Common.{◌≡◌, ◌≤◌, pos, false, inl, inr, refl, arith}
+use Rattle.bpf_insn.specs.declared.operand.AluOp.{AluOp}
+use Rattle.bpf_insn.specs.declared.operand.AluOp.TheVariants as alu
 use Rattle.bpf_insn.specs.declared.operand.Distance.TheVariants.{Short, Long}
 use Rattle.bpf_insn.specs.declared.operand.Operand.TheVariants as source
 use Rattle.bpf_insn.specs.declared.operand.WideValue.{WideValue}
@@ -10,8 +12,8 @@ use Rattle.bpf_insn.specs.declared.insn.Insn.{Insn}
 use Rattle.bpf_insn.specs.declared.insn.Insn.TheVariants as insn
 use Rattle.bpf_insn.specs.declared.fields.InsnFault.{InsnFault}
 use Rattle.bpf_insn.specs.declared.fields.InsnFault.TheVariants.{Register, UnusedField, Imm, Offset}
-use Rattle.bpf_insn.specs.Table.{opcode_of, row_of, number_of, source_code}
-use Rattle.bpf_insn.specs.Faults.{Keeps, LeavesUnused, IsSecondHalf}
+use Rattle.bpf_insn.specs.Table.{opcode_of, row_of, number_of, source_code, code_of, offset_of, alu_offset}
+use Rattle.bpf_insn.specs.Faults.{Keeps, LeavesUnused, IsSecondHalf, AllowsOffset, uses_offset}
 use Rattle.bpf_insn.specs.Spelling.{form_of, fields_of, second_half, next_imm, wide_source}
 
 pub opcode-form : (i : Insn) → opcode_of (form_of i) ≡ (fields_of i).opcode
@@ -31,6 +33,19 @@ fits R7 = omega arith
 fits R8 = omega arith
 fits R9 = omega arith
 fits R10 = omega arith
+
+offset_unused : (op : AluOp) → uses_offset (alu_offset (code_of op)) ≡ false
+    → pos (offset_of op) ≡ pos 0
+offset_unused alu.Sdiv e = absurd cc
+offset_unused alu.Smod e = absurd cc
+offset_unused op e = refl
+
+offset_allowed : (op : AluOp) → AllowsOffset (alu_offset (code_of op)) (pos (offset_of op))
+offset_allowed alu.Div = inl refl
+offset_allowed alu.Mod = inl refl
+offset_allowed alu.Sdiv = inr refl
+offset_allowed alu.Smod = inr refl
+offset_allowed op = tt
 
 keeps_registers : (i : Insn) → Keeps (row_of (form_of i)) (fields_of i) Register
 keeps_registers (insn.Alu bits op dst (source.Imm k)) = (fits dst, tt)
@@ -53,8 +68,8 @@ keeps_registers (insn.Atomic op size dst s o) = (fits dst, fits s)
 keeps_registers (insn.Wide dst value) = (fits dst, (wide_source value, refl))
 
 leaves_unused : (i : Insn) → LeavesUnused (row_of (form_of i)) (fields_of i)
-leaves_unused (insn.Alu bits op dst (source.Imm k)) = grind arith
-leaves_unused (insn.Alu bits op dst (source.Register r)) = grind arith
+leaves_unused (insn.Alu bits op dst (source.Imm k)) = grind (arith, offset_unused op)
+leaves_unused (insn.Alu bits op dst (source.Register r)) = grind (arith, offset_unused op)
 leaves_unused (insn.Mov bits dst (source.Imm k)) = grind arith
 leaves_unused (insn.Mov bits dst (source.Register r)) = grind arith
 leaves_unused (insn.Jump (Short k)) = grind arith
@@ -77,6 +92,7 @@ keeps_imm (insn.JumpIf bits condition left (source.Register r) o) = tt
 keeps_imm i = tt
 
 keeps_offset : (i : Insn) → Keeps (row_of (form_of i)) (fields_of i) Offset
+keeps_offset (insn.Alu bits op dst s) = offset_allowed op
 keeps_offset (insn.Mov bits dst (source.Imm k)) = tt
 keeps_offset (insn.Mov bits dst (source.Register r)) = inl refl
 keeps_offset (insn.MovSx extension dst s) = inr (extension, (refl, refl))

@@ -37,8 +37,10 @@ AllowsImm imm.EndBits z = (size : EndSize) × (pos (end_bits size) ≡ z)
 AllowsImm imm.AtomicCode z = (op : AtomicOp) × (pos (atomic_code op) ≡ z)
 AllowsImm i z = Unit {0}
 
--- 0 of MOV, or the bits that a MOVSX of the class extends
+-- 0 of DIV and MOD, 1 of the signed operations; 0 of MOV, or the bits that a MOVSX of the class
+-- extends
 abbrev pub AllowsOffset : OffsetField → ℤ → Type 0
+AllowsOffset offset.Sign z = (z ≡ pos 0) ⊎ (z ≡ pos 1)
 AllowsOffset (offset.Extension bits) z =
     (z ≡ pos 0) ⊎ ((e : Extension) × IsExtension bits z e)
 AllowsOffset o z = Unit {0}

@@ -4,7 +4,12 @@
 ghost use Rattle.std.specs.Prelude.{◌≡◌};
 ghost use Rattle.std.specs.Int.{w32, w64};
 ghost use Rattle.bpf_insn.specs.Arithmetic as formula;
+ghost use Rattle.bpf_insn.specs.Arithmetic.{FitsWidth};
 
+use crate::division::{
+    quotient, quotient32, remainder, remainder32, signed_quotient, signed_quotient32,
+    signed_remainder, signed_remainder32,
+};
 use crate::operand::{AluOp, Bits, ByteOrder, EndSize, Extension};
 use crate::words::{extend_byte, extend_half, extend_word, low_byte, low_half, low_word};
 
@@ -16,10 +21,15 @@ impl AluOp {
         match self {
             AluOp::Add => x.wrapping_add(y),
             AluOp::Sub => x.wrapping_sub(y),
+            AluOp::Mul => x.wrapping_mul(y),
+            AluOp::Div => quotient(x, y),
+            AluOp::Sdiv => signed_quotient(x, y),
             AluOp::Or => x | y,
             AluOp::And => x & y,
             AluOp::Lsh => x.wrapping_shl((y % 64) as u32),
             AluOp::Rsh => x.wrapping_shr((y % 64) as u32),
+            AluOp::Mod => remainder(x, y),
+            AluOp::Smod => signed_remainder(x, y),
             AluOp::Xor => x ^ y,
             AluOp::Arsh => x
                 .cast_signed()
@@ -35,10 +45,15 @@ impl AluOp {
         match self {
             AluOp::Add => a.wrapping_add(b),
             AluOp::Sub => a.wrapping_sub(b),
+            AluOp::Mul => a.wrapping_mul(b),
+            AluOp::Div => quotient32(a, b),
+            AluOp::Sdiv => signed_quotient32(a, b),
             AluOp::Or => a | b,
             AluOp::And => a & b,
             AluOp::Lsh => a.wrapping_shl(b),
             AluOp::Rsh => a.wrapping_shr(b),
+            AluOp::Mod => remainder32(a, b),
+            AluOp::Smod => signed_remainder32(a, b),
             AluOp::Xor => a ^ b,
             AluOp::Arsh => a.cast_signed().wrapping_shr(b).cast_unsigned(),
         }
@@ -119,3 +134,8 @@ impl EndSize {
         }
     }
 }
+
+/// What an operation gives of two numbers of a width is a number of that width.
+pub fn results_fit()
+    ensures { FitsWidth }
+{}

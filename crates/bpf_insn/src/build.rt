@@ -23,7 +23,7 @@ fn parts_in(form: Form, fields: Fields) -> Result<Insn, InsnFault>
     ensures fault { IfErr result (λ e. IsRowFault form fields e) }
 {
     match form {
-        Form::Alu(bits, op, source) => Ok(arithmetic::alu_in(bits, op, source, fields)),
+        Form::Alu(bits, code, source) => arithmetic::alu_in(bits, code, source, fields),
         Form::Mov(bits, source) => arithmetic::mov_in(bits, source, fields),
         Form::Neg(bits) => Ok(arithmetic::neg_in(bits, fields)),
         Form::End(order) => arithmetic::end_in(order, fields),

@@ -28,7 +28,7 @@ pub enum InsnFault {
     UnusedField,
     /// I5: an imm that END or the atomic operations don't have.
     Imm,
-    /// I6: an offset that MOV and MOVSX don't have.
+    /// I6: an offset that MOV and MOVSX don't have, or DIV and MOD.
     Offset,
     /// I7: the second half's first four bytes aren't 0, or its imm isn't where a map is loaded.
     SecondHalf,

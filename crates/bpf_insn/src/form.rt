@@ -1,7 +1,7 @@
 //! The table of opcodes. Each row has one opcode, and says of each field of the instruction whether
 //! the row uses it and what it may hold; the decoder and the encoder both read it.
 
-use crate::operand::{AluOp, AtomicSize, Bits, ByteOrder, Condition, LoadKind, Size};
+use crate::operand::{AtomicSize, Bits, ByteOrder, Condition, LoadKind, Size};
 
 // The eight bytes of an instruction (RFC 9669, "Basic Instruction Encoding"), least byte first:
 //
@@ -25,11 +25,28 @@ pub enum Source {
     X,
 }
 
+/// The code of an arithmetic row, the high half of its opcode. SDIV has the code of DIV, and SMOD
+/// that of MOD, told apart by the offset.
+#[derive(Clone, Copy, Debug, PartialEq, Eq)]
+pub enum AluCode {
+    Add,
+    Sub,
+    Mul,
+    Div,
+    Or,
+    And,
+    Lsh,
+    Rsh,
+    Mod,
+    Xor,
+    Arsh,
+}
+
 /// A row of the table of opcodes. `Mov` with X has the opcode of MOVSX too, told apart by the
 /// offset.
 #[derive(Clone, Copy, Debug, PartialEq, Eq)]
 pub enum Form {
-    Alu(Bits, AluOp, Source),
+    Alu(Bits, AluCode, Source),
     Mov(Bits, Source),
     Neg(Bits),
     End(ByteOrder),
@@ -73,6 +90,8 @@ pub enum OffsetField {
     Unused,
     /// Any number.
     Any,
+    /// 0 of DIV and MOD, 1 of SDIV and SMOD.
+    Sign,
     /// 0 of MOV, or the bits that MOVSX extends: 8 or 16, in 64 bits also 32.
     Extension(Bits),
 }

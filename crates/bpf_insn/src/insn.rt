@@ -6,7 +6,8 @@ use crate::operand::{
 };
 use crate::reg::Reg;
 
-/// One instruction of the conformance groups base32, base64, atomic32 and atomic64.
+/// One instruction of the conformance groups base32, base64, divmul32, divmul64, atomic32 and
+/// atomic64.
 #[derive(Clone, Copy, Debug, PartialEq, Eq)]
 pub enum Insn {
     /// `dst = dst op src`.

@@ -1,11 +1,13 @@
-//! BPF instructions and their encoding (RFC 9669): the conformance groups base32, base64, atomic32
-//! and atomic64. `decode_at` reads the instruction that bytes spell, and `encode` writes it.
+//! BPF instructions and their encoding (RFC 9669): the conformance groups base32, base64, divmul32,
+//! divmul64, atomic32 and atomic64. `decode_at` reads the instruction that bytes spell, and
+//! `encode` writes it.
 #![tactic(auto)]
 
 mod arithmetic;
 mod build;
 mod conditions;
 mod decoder;
+mod division;
 mod encoder;
 mod fault;
 mod fields;
@@ -22,6 +24,7 @@ mod row;
 mod slots;
 mod words;
 
+pub use arithmetic::results_fit;
 pub use decoder::decode_at;
 pub use encoder::encode;
 pub use fields::InsnFault;

@@ -2,15 +2,39 @@
 //! and no part has another.
 
 ghost use Rattle.std.specs.Prelude.{◌≡◌, pos, IfSome, Some};
+ghost use Rattle.bpf_insn.specs.declared.operand.AluOp.{AluOp};
 ghost use Rattle.bpf_insn.specs.declared.operand.EndSize.{EndSize};
 ghost use Rattle.bpf_insn.specs.declared.operand.AtomicOp.{AtomicOp};
 ghost use Rattle.bpf_insn.specs.declared.operand.Extension.{Extension};
 ghost use Rattle.bpf_insn.specs.declared.form.WideSource.{WideSource};
-ghost use Rattle.bpf_insn.specs.Table.{end_bits, atomic_code, source_code, IsExtension};
+ghost use Rattle.bpf_insn.specs.Table.{end_bits, atomic_code, source_code, IsAluOp, IsExtension};
 
 use crate::fields::Fields;
-use crate::form::WideSource;
-use crate::operand::{AtomicOp, Bits, EndSize, Extension};
+use crate::form::{AluCode, WideSource};
+use crate::operand::{AluOp, AtomicOp, Bits, EndSize, Extension};
+
+/// The operation of a code: of DIV and MOD by the offset.
+pub fn alu_op_in(code: AluCode, fields: Fields) -> Option<AluOp>
+    ensures some { IfSome result (λ op. IsAluOp code fields.offset op) }
+    ensures only { (op : AluOp) → IsAluOp code fields.offset op → result ≡ Some op }
+{
+    match (code, fields.offset) {
+        (AluCode::Add, 0) => Some(AluOp::Add),
+        (AluCode::Sub, 0) => Some(AluOp::Sub),
+        (AluCode::Mul, 0) => Some(AluOp::Mul),
+        (AluCode::Div, 0) => Some(AluOp::Div),
+        (AluCode::Div, 1) => Some(AluOp::Sdiv),
+        (AluCode::Or, 0) => Some(AluOp::Or),
+        (AluCode::And, 0) => Some(AluOp::And),
+        (AluCode::Lsh, 0) => Some(AluOp::Lsh),
+        (AluCode::Rsh, 0) => Some(AluOp::Rsh),
+        (AluCode::Mod, 0) => Some(AluOp::Mod),
+        (AluCode::Mod, 1) => Some(AluOp::Smod),
+        (AluCode::Xor, 0) => Some(AluOp::Xor),
+        (AluCode::Arsh, 0) => Some(AluOp::Arsh),
+        _ => None,
+    }
+}
 
 /// How many low bits END keeps: imm.
 pub fn end_size_in(fields: Fields) -> Option<EndSize>

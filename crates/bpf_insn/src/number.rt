@@ -1,14 +1,14 @@
 //! The numbers that stand for the parts of an instruction in its fields.
 
 ghost use Rattle.std.specs.Prelude.{◌≡◌, ◌≤◌, ◌<◌, pos};
-ghost use Rattle.bpf_insn.specs.Table.{number_of};
+ghost use Rattle.bpf_insn.specs.Table.{number_of, code_of, offset_of};
 ghost use Rattle.bpf_insn.specs.Table.{end_bits, atomic_code, source_code};
 ghost use Rattle.bpf_insn.specs.Table.{extension_class, extension_bits};
 ghost use Rattle.bpf_insn.specs.Spelling.{source_of, src_field, imm_field};
 ghost use Rattle.bpf_insn.specs.Spelling.{wide_source, wide_imm, next_imm};
 
-use crate::form::Source;
-use crate::operand::{AtomicOp, Bits, EndSize, Extension, Operand, WideValue};
+use crate::form::{AluCode, Source};
+use crate::operand::{AluOp, AtomicOp, Bits, EndSize, Extension, Operand, WideValue};
 use crate::reg::Reg;
 
 impl Reg {
@@ -50,6 +50,37 @@ impl Operand {
         match self {
             Operand::Imm(imm) => imm,
             Operand::Register(_) => 0,
+        }
+    }
+}
+
+impl AluOp {
+    /// Its code; a signed operation has that of the unsigned one.
+    pub(crate) fn code(self) -> AluCode
+        ensures { result ≡ code_of self }
+    {
+        match self {
+            AluOp::Add => AluCode::Add,
+            AluOp::Sub => AluCode::Sub,
+            AluOp::Mul => AluCode::Mul,
+            AluOp::Div | AluOp::Sdiv => AluCode::Div,
+            AluOp::Or => AluCode::Or,
+            AluOp::And => AluCode::And,
+            AluOp::Lsh => AluCode::Lsh,
+            AluOp::Rsh => AluCode::Rsh,
+            AluOp::Mod | AluOp::Smod => AluCode::Mod,
+            AluOp::Xor => AluCode::Xor,
+            AluOp::Arsh => AluCode::Arsh,
+        }
+    }
+
+    /// What stands in offset: 1 of a signed operation.
+    pub(crate) fn offset(self) -> i16
+        ensures { result ≡ pos (offset_of self) }
+    {
+        match self {
+            AluOp::Sdiv | AluOp::Smod => 1,
+            _ => 0,
         }
     }
 }

@@ -2,31 +2,34 @@
 //! each part is looked up by itself (RFC 9669, "Instruction Encoding").
 
 ghost use Rattle.std.specs.Prelude.{◌≡◌, ◌≢◌, ◌⊎◌, ◌/◌, ◌%◌, IfSome};
-ghost use Rattle.bpf_insn.specs.declared.operand.AluOp.{AluOp};
 ghost use Rattle.bpf_insn.specs.declared.operand.Condition.{Condition};
 ghost use Rattle.bpf_insn.specs.declared.operand.Size.{Size};
 ghost use Rattle.bpf_insn.specs.declared.operand.LoadKind.{LoadKind};
+ghost use Rattle.bpf_insn.specs.declared.form.AluCode.{AluCode};
 ghost use Rattle.bpf_insn.specs.declared.form.Form.{Form};
-ghost use Rattle.bpf_insn.specs.Table.{opcode_of, alu_code, condition_code, size_code};
+ghost use Rattle.bpf_insn.specs.Table.{opcode_of, code_number, condition_code, size_code};
 ghost use Rattle.bpf_insn.specs.Table.{load_code, source_bit, alu_class, jump_class};
 
-use crate::form::{Form, Source};
-use crate::operand::{AluOp, AtomicSize, Bits, ByteOrder, Condition, LoadKind, Size};
+use crate::form::{AluCode, Form, Source};
+use crate::operand::{AtomicSize, Bits, ByteOrder, Condition, LoadKind, Size};
 
-/// The operation of two operands that has this code.
-fn alu_op_at(code: u8) -> Option<AluOp>
-    ensures some { IfSome result (λ op. alu_code op ≡ code) }
-    ensures only { (op : AluOp) → alu_code op ≡ code → result ≡ Some op }
+/// The code of two operands that has this number.
+fn alu_code_at(number: u8) -> Option<AluCode>
+    ensures some { IfSome result (λ code. code_number code ≡ number) }
+    ensures only { (c : AluCode) → code_number c ≡ number → result ≡ Some c }
 {
-    match code {
-        0x0 => Some(AluOp::Add),
-        0x1 => Some(AluOp::Sub),
-        0x4 => Some(AluOp::Or),
-        0x5 => Some(AluOp::And),
-        0x6 => Some(AluOp::Lsh),
-        0x7 => Some(AluOp::Rsh),
-        0xa => Some(AluOp::Xor),
-        0xc => Some(AluOp::Arsh),
+    match number {
+        0x0 => Some(AluCode::Add),
+        0x1 => Some(AluCode::Sub),
+        0x2 => Some(AluCode::Mul),
+        0x3 => Some(AluCode::Div),
+        0x4 => Some(AluCode::Or),
+        0x5 => Some(AluCode::And),
+        0x6 => Some(AluCode::Lsh),
+        0x7 => Some(AluCode::Rsh),
+        0x9 => Some(AluCode::Mod),
+        0xa => Some(AluCode::Xor),
+        0xc => Some(AluCode::Arsh),
         _ => None,
     }
 }
@@ -101,8 +104,8 @@ fn arithmetic_at(opcode: u8, bits: Bits, source: Source) -> Option<Form>
     ensures some { IfSome result (λ form. opcode_of form ≡ opcode) }
     ensures only { (form : Form) → opcode_of form ≡ opcode → result ≡ Some form }
 {
-    match alu_op_at(opcode / 16) {
-        Some(op) => Some(Form::Alu(bits, op, source)),
+    match alu_code_at(opcode / 16) {
+        Some(code) => Some(Form::Alu(bits, code, source)),
         None if opcode / 16 == 0xb => Some(Form::Mov(bits, source)),
         None => unary_at(opcode),
     }
@@ -110,7 +113,7 @@ fn arithmetic_at(opcode: u8, bits: Bits, source: Source) -> Option<Form>
 
 /// The rows of those classes that have one operand.
 fn unary_at(opcode: u8) -> Option<Form>
-    requires op { (op : AluOp) → alu_code op ≢ opcode / 16 }
+    requires code { (c : AluCode) → code_number c ≢ opcode / 16 }
     requires mov { opcode / 16 ≢ 0xb }
     requires class { (opcode % 8 ≡ 7) ⊎ (opcode % 8 ≡ 4) }
     ensures some { IfSome result (λ form. opcode_of form ≡ opcode) }

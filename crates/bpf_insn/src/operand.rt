@@ -10,15 +10,21 @@ pub enum Bits {
     Bits32,
 }
 
-/// An arithmetic operation of two operands (RFC 9669, "Arithmetic Instructions").
+/// An arithmetic operation of two operands (RFC 9669, "Arithmetic Instructions"): `Sdiv` and `Smod`
+/// divide signed numbers.
 #[derive(Clone, Copy, Debug, PartialEq, Eq)]
 pub enum AluOp {
     Add,
     Sub,
+    Mul,
+    Div,
+    Sdiv,
     Or,
     And,
     Lsh,
     Rsh,
+    Mod,
+    Smod,
     Xor,
     Arsh,
 }

@@ -14,7 +14,7 @@ impl Insn {
         ensures { result ≡ form_of self }
     {
         match self {
-            Insn::Alu { bits, op, src, .. } => Form::Alu(bits, op, src.source()),
+            Insn::Alu { bits, op, src, .. } => Form::Alu(bits, op.code(), src.source()),
             Insn::Mov { bits, src, .. } => Form::Mov(bits, src.source()),
             Insn::MovSx { extension, .. } => Form::Mov(extension.class(), Source::X),
             Insn::Neg { bits, .. } => Form::Neg(bits),
@@ -77,6 +77,7 @@ impl Insn {
         ensures { result ≡ (fields_of self).offset }
     {
         match self {
+            Insn::Alu { op, .. } => op.offset(),
             Insn::MovSx { extension, .. } => extension.bits(),
             Insn::Jump {
                 distance: Distance::Short(offset),

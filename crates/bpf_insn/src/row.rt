@@ -2,27 +2,42 @@
 //! finds the faults of bytes by them, and the encoder writes their opcodes.
 
 ghost use Rattle.std.specs.Prelude.{◌≡◌};
-ghost use Rattle.bpf_insn.specs.Table.{alu_code, condition_code, size_code, load_code};
+ghost use Rattle.bpf_insn.specs.Table.{code_number, condition_code, size_code, load_code};
 ghost use Rattle.bpf_insn.specs.Table.{atomic_size_code, end_opcode, source_bit};
-ghost use Rattle.bpf_insn.specs.Table.{alu_class, jump_class, src_use, imm_use, move_offset};
-ghost use Rattle.bpf_insn.specs.Table.{opcode_of, row_of};
+ghost use Rattle.bpf_insn.specs.Table.{alu_class, jump_class, src_use, imm_use};
+ghost use Rattle.bpf_insn.specs.Table.{alu_offset, move_offset, opcode_of, row_of};
 
-use crate::form::{Form, ImmField as Imm, OffsetField as Offset, Row, Source, SrcField as Src};
-use crate::operand::{AluOp, AtomicSize, Bits, ByteOrder, Condition, LoadKind, Size};
+use crate::form::{
+    AluCode, Form, ImmField as Imm, OffsetField as Offset, Row, Source, SrcField as Src,
+};
+use crate::operand::{AtomicSize, Bits, ByteOrder, Condition, LoadKind, Size};
 
-impl AluOp {
-    fn code(self) -> u8
-        ensures { result ≡ alu_code self }
+impl AluCode {
+    fn number(self) -> u8
+        ensures { result ≡ code_number self }
     {
         match self {
-            AluOp::Add => 0x0,
-            AluOp::Sub => 0x1,
-            AluOp::Or => 0x4,
-            AluOp::And => 0x5,
-            AluOp::Lsh => 0x6,
-            AluOp::Rsh => 0x7,
-            AluOp::Xor => 0xa,
-            AluOp::Arsh => 0xc,
+            AluCode::Add => 0x0,
+            AluCode::Sub => 0x1,
+            AluCode::Mul => 0x2,
+            AluCode::Div => 0x3,
+            AluCode::Or => 0x4,
+            AluCode::And => 0x5,
+            AluCode::Lsh => 0x6,
+            AluCode::Rsh => 0x7,
+            AluCode::Mod => 0x9,
+            AluCode::Xor => 0xa,
+            AluCode::Arsh => 0xc,
+        }
+    }
+
+    /// Of DIV and MOD the offset tells the signed operation.
+    fn offset(self) -> Offset
+        ensures { result ≡ alu_offset self }
+    {
+        match self {
+            AluCode::Div | AluCode::Mod => Offset::Sign,
+            _ => Offset::Unused,
         }
     }
 }
@@ -165,7 +180,9 @@ impl Form {
         ensures { result ≡ opcode_of self }
     {
         match self {
-            Form::Alu(bits, op, source) => op.code() * 16 + source.bit() * 8 + bits.alu_class(),
+            Form::Alu(bits, code, source) => {
+                code.number() * 16 + source.bit() * 8 + bits.alu_class()
+            }
             Form::Mov(bits, source) => 0xb0 + source.bit() * 8 + bits.alu_class(),
             Form::Neg(bits) => 0x80 + bits.alu_class(),
             Form::End(order) => order.opcode(),
@@ -184,14 +201,12 @@ impl Form {
         }
     }
 
-    /// Its row of the table: whether it uses dst, and what it allows in src, offset and imm. DIV
-    /// and MOD, whose offset tells the signed from the unsigned, would have an `OffsetField` of
-    /// theirs.
+    /// Its row of the table: whether it uses dst, and what it allows in src, offset and imm.
     pub fn row(self) -> Row
         ensures { result ≡ row_of self }
     {
         let (uses_dst, src, offset, imm) = match self {
-            Form::Alu(_, _, s) => (true, s.src_use(), Offset::Unused, s.imm_use()),
+            Form::Alu(_, code, s) => (true, s.src_use(), code.offset(), s.imm_use()),
             Form::Mov(bits, s) => (true, s.src_use(), s.move_offset(bits), s.imm_use()),
             Form::Neg(_) => (true, Src::Unused, Offset::Unused, Imm::Unused),
             Form::End(_) => (true, Src::Unused, Offset::Unused, Imm::EndBits),

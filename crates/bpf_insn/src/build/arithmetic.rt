@@ -8,10 +8,10 @@ ghost use Rattle.bpf_insn.specs.Halves.{IsOperand, IsInOrder, IsRowFault, IsTheI
 ghost use Rattle.bpf_insn.specs.Table.{src_use, imm_use};
 
 use crate::fields::{Fields, InsnFault};
-use crate::form::Source;
+use crate::form::{AluCode, Source};
 use crate::insn::Insn;
-use crate::lookup::{end_size_in, extension_in};
-use crate::operand::{AluOp, Bits, ByteOrder, Operand};
+use crate::lookup::{alu_op_in, end_size_in, extension_in};
+use crate::operand::{Bits, ByteOrder, Operand};
 use crate::reg::Reg;
 
 /// The second operand, from imm or src.
@@ -28,13 +28,19 @@ pub fn operand_in(source: Source, fields: Fields) -> Operand
     }
 }
 
-pub fn alu_in(bits: Bits, op: AluOp, source: Source, fields: Fields) -> Insn
-    requires { IsInOrder (Form.Alu bits op source) fields }
-    ensures { IsTheInsn (Form.Alu bits op source) fields None result }
+pub fn alu_in(bits: Bits, code: AluCode, source: Source, fields: Fields) -> Result<Insn, InsnFault>
+    requires { IsInOrder (Form.Alu bits code source) fields }
+    ensures insn { IfOk result (λ i. IsTheInsn (Form.Alu bits code source) fields None i) }
+    ensures fault { IfErr result (λ e. IsRowFault (Form.Alu bits code source) fields e) }
 {
-    let dst = Reg::at(fields.dst);
-    let src = operand_in(source, fields);
-    Insn::Alu { bits, op, dst, src }
+    match alu_op_in(code, fields) {
+        Some(op) => {
+            let dst = Reg::at(fields.dst);
+            let src = operand_in(source, fields);
+            Ok(Insn::Alu { bits, op, dst, src })
+        }
+        None => Err(InsnFault::Offset),
+    }
 }
 
 pub fn neg_in(bits: Bits, fields: Fields) -> Insn
