@@ -1,11 +1,10 @@
 -- What is computed of words is a word.
-use Rattle.std.proofs.Common.{ℕ, ◌+◌, ◌-◌, ◌*◌, ◌%◌, ◌^◌, ◌<◌, ℤ, pos, negsuc, FitsSigned, arith, sym, subst}
-use Rattle.std.specs.Int.{Width, w32, cast_signed, cast_unsigned, int_shr, swap_bytes}
+use Rattle.std.proofs.Common.{ℕ, ◌%◌, ◌^◌, ◌<◌, ℤ, pos, negsuc, FitsSigned, arith}
+use Rattle.std.specs.Int.{w32, swap_bytes}
 use mir.Val.{bits}
-use Rattle.std.proofs.lemmas.Nat.{or_lt, xor_lt, and_le_l, shr_le, mod_below, pow_pos}
-use Rattle.std.proofs.lemmas.Int.{ints, of_z-to_z}
+use Rattle.std.proofs.lemmas.Int.{ints}
 use Rattle.bpf_insn.specs.declared.operand.AluOp.{AluOp}
-use Rattle.bpf_insn.specs.declared.operand.AluOp.TheVariants.{Add, Sub, Or, And, Lsh, Rsh, Xor, Arsh}
+use Rattle.bpf_insn.specs.declared.operand.AluOp.TheVariants.{Sub}
 use Rattle.bpf_insn.specs.declared.operand.Bits.{Bits}
 use Rattle.bpf_insn.specs.declared.operand.Bits.TheVariants.{Bits64, Bits32}
 use Rattle.bpf_insn.specs.declared.operand.ByteOrder.{ByteOrder}
@@ -17,31 +16,13 @@ use Rattle.bpf_insn.specs.declared.operand.Extension.TheVariants as extend
 use Rattle.bpf_insn.specs.declared.operand.LoadKind.{LoadKind}
 use Rattle.bpf_insn.specs.declared.operand.LoadKind.TheVariants as load
 use Rattle.bpf_insn.specs.Words.{word_width, word, immediate}
-use Rattle.bpf_insn.specs.Arithmetic.{arithmetic, alu_result, negated, extended, end_width, reordered}
+use Rattle.bpf_insn.specs.Arithmetic.{FitsWidth, alu_result, negated, extended, end_width, reordered}
 use Rattle.bpf_semantics.specs.Reads.{load_count, filled}
 
 abbrev pub IsWord : ℕ → Type 0
 IsWord n = n < 2 ^ 64
 
--- ---- arithmetic, at any width
-
--- a shift that copies the sign keeps to the width
-shifted_lt : (w : Width) (z : ℤ) (k : ℕ) → cast_unsigned w z < 2 ^ bits w
-    → cast_unsigned w (int_shr z k) < 2 ^ bits w
-shifted_lt w (pos n) k h = let part = shr_le n k in omega (arith, part, h)
-shifted_lt w (negsuc n) k h = let some = pow_pos (bits w) in omega (arith, some)
-
-arithmetic_lt : (w : Width) (op : AluOp) (a b : ℕ) → a < 2 ^ bits w → b < 2 ^ bits w
-    → arithmetic w op a b < 2 ^ bits w
-arithmetic_lt w Add a b p q = mod_below (a + b) (2 ^ bits w) (pow_pos (bits w))
-arithmetic_lt w Sub a b p q = mod_below (a + (2 ^ bits w - b)) (2 ^ bits w) (pow_pos (bits w))
-arithmetic_lt w Or a b p q = or_lt (bits w) a b p q
-arithmetic_lt w And a b p q = let part = and_le_l a b in omega (arith, part, p)
-arithmetic_lt w Lsh a b p q = mod_below (a * 2 ^ (b % bits w)) (2 ^ bits w) (pow_pos (bits w))
-arithmetic_lt w Rsh a b p q = let part = shr_le a (b % bits w) in omega (arith, part, p)
-arithmetic_lt w Xor a b p q = xor_lt (bits w) a b p q
-arithmetic_lt w Arsh a b p q = shifted_lt w (cast_signed w a) (b % bits w)
-    (subst (λ (n : ℕ). n < 2 ^ bits w) (sym (of_z-to_z w a p)) p)
+-- ---- arithmetic
 
 -- a number of a class is a word
 of_class : (w : Bits) (n : ℕ) → n < 2 ^ bits (word_width w) → IsWord n
@@ -55,13 +36,13 @@ word_lt Bits32 x h = omega arith
 pub is_word : (w : Bits) (x : ℕ) → IsWord x → IsWord (word w x)
 is_word w x h = of_class w (word w x) (word_lt w x h)
 
-pub alu_word : (w : Bits) (op : AluOp) (x y : ℕ) → IsWord x → IsWord y
+pub alu_word : FitsWidth → (w : Bits) (op : AluOp) (x y : ℕ) → IsWord x → IsWord y
     → IsWord (alu_result w op x y)
-alu_word w op x y p q = of_class w (alu_result w op x y)
-    (arithmetic_lt (word_width w) op (word w x) (word w y) (word_lt w x p) (word_lt w y q))
+alu_word fit w op x y p q = of_class w (alu_result w op x y)
+    (fit (word_width w) op (word w x) (word w y) (word_lt w x p) (word_lt w y q))
 
-pub negated_word : (w : Bits) (x : ℕ) → IsWord x → IsWord (negated w x)
-negated_word w x h = alu_word w Sub 0 x (omega arith) h
+pub negated_word : FitsWidth → (w : Bits) (x : ℕ) → IsWord x → IsWord (negated w x)
+negated_word fit w x h = alu_word fit w Sub 0 x (omega arith) h
 
 -- ---- signs and bytes
 

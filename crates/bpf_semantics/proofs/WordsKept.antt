@@ -20,7 +20,7 @@ use Rattle.bpf_insn.specs.declared.insn.Insn.{Insn}
 use Rattle.bpf_insn.specs.declared.insn.Insn.TheVariants.{Alu, Mov, MovSx, Neg, End, Jump, JumpIf, Call, Exit, Load, StoreImm, Store, Atomic, Wide}
 use Rattle.bpf_insn.specs.Table.{number_of}
 use Rattle.bpf_insn.specs.Words.{word, immediate}
-use Rattle.bpf_insn.specs.Arithmetic.{alu_result, negated, extended, reordered}
+use Rattle.bpf_insn.specs.Arithmetic.{FitsWidth, alu_result, negated, extended, reordered}
 use Rattle.bpf_insn.specs.Conditions.{holds}
 use Rattle.bpf_insn.specs.Program.{◌>>=◌, at, landing, slots_moved}
 use Rattle.bpf_insn.specs.Spelling.{IsEncodable, imm_field}
@@ -209,52 +209,53 @@ operand_word : (s : State) (bits : Bits) (o : Operand) → FitsSigned w32 (imm_f
 operand_word s bits (Imm k) fits h = immediate_word bits k fits
 operand_word s bits (Register r) fits h = register_word s r h
 
-act_words : (shape : AppShape) (s : State) (i : Insn) → IsShape shape → IsEncodable i → HasWords s
-    → GivesWords (act shape s i)
-act_words shape s (Alu bits op dst src) shaped e h =
+act_words : FitsWidth → (shape : AppShape) (s : State) (i : Insn) → IsShape shape → IsEncodable i
+    → HasWords s → GivesWords (act shape s i)
+act_words fit shape s (Alu bits op dst src) shaped e h =
     write_words s 1 dst (both (alu_result bits op) (register s dst) (operand s bits src)) h
     (both_word (alu_result bits op) (register s dst) (operand s bits src) (register_word s dst h)
-    (operand_word s bits src e.first.imm h) (alu_word bits op))
-act_words shape s (Mov bits dst src) shaped e h =
+    (operand_word s bits src e.first.imm h) (alu_word fit bits op))
+act_words fit shape s (Mov bits dst src) shaped e h =
     write_words s 1 dst (only (word bits) (operand s bits src)) h (only_word (word bits)
     (operand s bits src) (operand_word s bits src e.first.imm h) (is_word bits))
-act_words shape s (MovSx extension dst src) shaped e h =
+act_words fit shape s (MovSx extension dst src) shaped e h =
     write_words s 1 dst (only (extended extension) (register s src)) h
     (only_word (extended extension) (register s src) (register_word s src h)
     (λ x small. extended_word extension x))
-act_words shape s (Neg bits dst) shaped e h =
+act_words fit shape s (Neg bits dst) shaped e h =
     write_words s 1 dst (only (negated bits) (register s dst)) h
-    (only_word (negated bits) (register s dst) (register_word s dst h) (negated_word bits))
-act_words shape s (End order size dst) shaped e h =
+    (only_word (negated bits) (register s dst) (register_word s dst h) (negated_word fit bits))
+act_words fit shape s (End order size dst) shaped e h =
     write_words s 1 dst (only (reordered order size) (register s dst)) h
     (only_word (reordered order size) (register s dst) (register_word s dst h)
     (λ x small. reordered_word order size x))
-act_words shape s (Jump distance) shaped e h =
+act_words fit shape s (Jump distance) shaped e h =
     jump_words s (landing s.slot (slots_moved distance)) h
-act_words shape s (JumpIf bits condition left right offset) shaped e h =
+act_words fit shape s (JumpIf bits condition left right offset) shaped e h =
     branch_words s offset (both (holds bits condition) (register s left) (operand s bits right)) h
-act_words shape s (Call helper) shaped e h =
+act_words fit shape s (Call helper) shaped e h =
     answer_words s (helper_result shape s helper) h (helper_word shape s helper shaped h)
-act_words shape s Exit shaped e h =
+act_words fit shape s Exit shaped e h =
     finish_words (s.registers 0) (set_word (s.registers 0) (h.registers 0))
-act_words shape s (Load kind dst src offset) shaped e h =
+act_words fit shape s (Load kind dst src offset) shaped e h =
     reach_words (load_cell kind (register s src) offset) (λ c. ask s c cell.Load (Some dst))
     (write s 1 dst (loaded s kind (register s src) offset))
     (λ c. ask_words s c cell.Load (Some dst) h) (write_words s 1 dst
     (loaded s kind (register s src) offset) h (loaded_words s kind (register s src) offset h))
-act_words shape s (StoreImm size dst offset imm) shaped e h =
+act_words fit shape s (StoreImm size dst offset imm) shaped e h =
     store_words s size (register s dst) offset (Some (immediate Bits64 imm)) h
-act_words shape s (Store size dst src offset) shaped e h =
+act_words fit shape s (Store size dst src offset) shaped e h =
     store_words s size (register s dst) offset (register s src) h
-act_words shape s (Atomic op size dst src offset) shaped e h =
+act_words fit shape s (Atomic op size dst src offset) shaped e h =
     atomic_words s op size dst src offset h
-act_words shape s (Wide dst value) shaped e h =
+act_words fit shape s (Wide dst value) shaped e h =
     write_words s 2 dst (wide_value shape value) h (wide_word shape value e.first.imm e.number)
 
-at_words : (shape : AppShape) (s : State) (o : Option Insn) → IsShape shape
+at_words : FitsWidth → (shape : AppShape) (s : State) (o : Option Insn) → IsShape shape
     → ((i : Insn) → o ≡ Some i → IsEncodable i) → HasWords s → GivesWords (act_at shape s o)
-at_words shape s None shaped code h = tt
-at_words shape s (Some i) shaped code h = act_words shape s i shaped (code i refl) h
+at_words fit shape s None shaped code h = tt
+at_words fit shape s (Some i) shaped code h = act_words fit shape s i shaped (code i refl) h
 
-pub keeps_words : (p : ShapedProgram) (s : State) → KeepsWords p s
-keeps_words p s shaped code h = at_words p.shape s (at p.code s.slot) shaped (code s.slot) h
+pub keeps_words : FitsWidth → (p : ShapedProgram) (s : State) → KeepsWords p s
+keeps_words fit p s shaped code h =
+    at_words fit p.shape s (at p.code s.slot) shaped (code s.slot) h
