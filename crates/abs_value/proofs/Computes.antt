@@ -18,7 +18,7 @@ use Rattle.bpf_insn.specs.declared.operand.Extension.{Extension}
 use Rattle.bpf_insn.specs.declared.operand.Extension.TheVariants as extend
 use Rattle.bpf_insn.specs.Table.{extension_class}
 use Rattle.bpf_insn.specs.Words.{word}
-use Rattle.bpf_insn.specs.Arithmetic.{alu_result, negated, extended, end_width, reordered}
+use Rattle.bpf_insn.specs.Arithmetic.{FitsWidth, alu_result, negated, extended, end_width, reordered}
 use Rattle.bpf_insn.specs.Conditions.{holds}
 use Rattle.abs_value.specs.declared.number.Number.{Number}
 use Rattle.abs_value.specs.declared.places.Places.{Places}
@@ -52,15 +52,16 @@ stack_includes : (g : Answers) (op : AluOp) (place : ℕ) (by : Number) (x y : �
 stack_includes g op place by x y None e hx wy hy = tt
 stack_includes g op place by x y (Some n) e hx wy hy = stack_moves op place n by x y e hx wy hy
 
-pub alu_includes : (g : Answers) (w : Bits) (op : AluOp) (a b : Abs) (x y : ℕ) → IsWord x → IsWord y
-    → Includes g a x → Includes g b y → Includes g (alu_value w op a b) (alu_result w op x y)
-alu_includes g w op (Num a) (Num b) x y wx wy hx hy = alu_number_holds w op a b x y hx hy
-alu_includes g Bits64 op (Ctx from) (Num by) x y wx wy hx hy =
+pub alu_includes : FitsWidth → (g : Answers) (w : Bits) (op : AluOp) (a b : Abs) (x y : ℕ)
+    → IsWord x → IsWord y → Includes g a x → Includes g b y
+    → Includes g (alu_value w op a b) (alu_result w op x y)
+alu_includes fit g w op (Num a) (Num b) x y wx wy hx hy = alu_number_holds fit w op a b x y hx hy
+alu_includes fit g Bits64 op (Ctx from) (Num by) x y wx wy hx hy =
     context_includes g op from by x y (moved_in_context op from by) refl hx wy hy
-alu_includes g Bits64 op (Stk place) (Num by) x y wx wy hx hy =
+alu_includes fit g Bits64 op (Stk place) (Num by) x y wx wy hx hy =
     stack_includes g op place by x y (moved_in_stack op place by) refl hx wy hy
-alu_includes g Bits64 op a b x y wx wy hx hy = tt
-alu_includes g Bits32 op a b x y wx wy hx hy = tt
+alu_includes fit g Bits64 op a b x y wx wy hx hy = tt
+alu_includes fit g Bits32 op a b x y wx wy hx hy = tt
 
 -- ---- operations of one value
 
@@ -70,10 +71,11 @@ copied_includes g w (Num a) x h = cut_number_holds w a x h
 copied_includes g Bits64 a x h = h
 copied_includes g Bits32 a x h = tt
 
-pub negated_includes : (g : Answers) (w : Bits) (a : Abs) (x : ℕ) → IsWord x → Includes g a x
+pub negated_includes : FitsWidth → (g : Answers) (w : Bits) (a : Abs) (x : ℕ) → IsWord x
+    → Includes g a x
     → Includes g (negated_value w a) (negated w x)
-negated_includes g w a x wx h =
-    alu_includes g w alu.Sub (Num (single 0)) a 0 x (omega arith) wx
+negated_includes fit g w a x wx h =
+    alu_includes fit g w alu.Sub (Num (single 0)) a 0 x (omega arith) wx
     (single_holds 0 (omega arith)) h
 
 extended_is_of : (e : Extension) (x : ℕ) → extended e x ≤ greatest (extension_class e)

@@ -1,9 +1,8 @@
 -- What a class takes of a number is a number of the class, and the cut interval holds it.
-use Rattle.std.proofs.Common.{ℕ, ◌%◌, ◌^◌, ◌≤◌, arith}
-use mir.Val.{bits}
+use Rattle.std.proofs.Common.{ℕ, ◌≤◌, arith}
 use Rattle.bpf_insn.specs.declared.operand.Bits.{Bits}
 use Rattle.bpf_insn.specs.declared.operand.Bits.TheVariants.{Bits64, Bits32}
-use Rattle.bpf_insn.specs.Words.{word_width, word}
+use Rattle.bpf_insn.specs.Words.{word}
 use Rattle.abs_value.specs.declared.interval.Interval.{Interval}
 use Rattle.abs_value.specs.Intervals.{greatest, all_of, cut_interval}
 use Rattle.abs_value.specs.Covers.{IsBetween, IsWord}
@@ -23,7 +22,3 @@ cut_interval_holds Bits32 a x h = grind arith
 -- any number of the class
 pub all_of_holds : (w : Bits) (x : ℕ) → IsOf w x → IsBetween (all_of w) x
 all_of_holds w x h = (omega arith, h)
-
-pub mod_is_of : (w : Bits) (x : ℕ) → IsOf w (x % 2 ^ bits (word_width w))
-mod_is_of Bits64 x = omega arith
-mod_is_of Bits32 x = omega arith

@@ -1,5 +1,6 @@
 mod Cuts
 mod ShiftedRanges
+mod Products
 mod Results
 mod Edges
 mod Moves

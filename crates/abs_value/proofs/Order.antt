@@ -1,11 +1,12 @@
 -- What is computed of values whose ends are in order has its ends in order.
-use Rattle.std.proofs.Common.{◌≡◌, ℕ, ℤ, pos, negsuc, ◌+◌, ◌-◌, ◌*◌, ◌%◌, ◌^◌, ◌≤◌, min, max, Option, Some, None, Bool, true, false, refl, arith, inl, inr}
+use Rattle.std.proofs.Common.{◌≡◌, ℕ, ℤ, pos, negsuc, ◌+◌, ◌-◌, ◌*◌, ◌/◌, ◌%◌, ◌^◌, ◌≤◌, min, max, Option, Some, None, Bool, true, false, refl, arith, inl, inr}
 use Rattle.std.specs.Prelude.{option_map, nat_le, nat_lt, ◌==◌, if◌then◌else◌}
 use mir.Val.{bits}
 use Rattle.std.proofs.Math.Nat.{mul-le-mul_right}
 use Rattle.std.proofs.lemmas.Bool.{cases_Bool}
+use Rattle.std.proofs.lemmas.Nat.{mul-le}
 use Rattle.bpf_insn.specs.declared.operand.AluOp.{AluOp}
-use Rattle.bpf_insn.specs.declared.operand.AluOp.TheVariants.{Add, Sub, Or, And, Lsh, Rsh, Xor, Arsh}
+use Rattle.bpf_insn.specs.declared.operand.AluOp.TheVariants.{Add, Sub, Mul, Div, Sdiv, Or, And, Lsh, Rsh, Mod, Smod, Xor, Arsh}
 use Rattle.bpf_insn.specs.declared.operand.Bits.{Bits}
 use Rattle.bpf_insn.specs.declared.operand.Bits.TheVariants.{Bits64, Bits32}
 use Rattle.bpf_insn.specs.declared.operand.Condition.{Condition}
@@ -29,12 +30,14 @@ use Rattle.abs_value.specs.declared.value.Abs.{Abs}
 use Rattle.abs_value.specs.declared.value.Abs.TheVariants.{Unusable, Num, Ctx, Stk, Map, MayCell, Cell}
 use Rattle.abs_value.specs.Intervals.{IsRange, is_just, all_of, cut_interval}
 use Rattle.abs_value.specs.Numbers.{single, is_single, are_single, full, up_to, cut}
-use Rattle.abs_value.specs.Bounds.{fitting, shifted_left, shifted_right, shifted_signed, sign_bit, bounds, alu_number}
+use Rattle.abs_value.specs.Bounds.{fitting, quotient, shifted_left, shifted_right, shifted_signed, sign_bit, bounds, alu_number}
 use Rattle.abs_value.specs.Narrowing.{IntervalPair, NumberPair, pair, below, at_most, equal, apart_from, swapped, left_by, learnt, is_taken, is_comparable, narrowed}
 use Rattle.abs_value.specs.Values.{moved_in_context, moved_in_stack, or_unusable, alu_value, copied_value, extended_value, reordered_value, loaded_value, join_values, refined, numbers}
 use Rattle.abs_value.specs.Lookups.{answer_of, with_answer, lookup_value, call_value}
 use Rattle.abs_value.specs.Order.{IsInOrder, AreInOrder}
+use Rattle.abs_value.specs.Covers.{IsBetween}
 use Rattle.abs_value.proofs.ShiftedRanges.{shifted_right_holds}
+use Rattle.abs_value.proofs.Products.{quotient_holds}
 use Rattle.abs_value.proofs.Moves.{context_in_order}
 
 -- ---- arithmetic
@@ -58,10 +61,19 @@ cut_range Bits32 a h = grind arith
 right_range : (a : Interval) (count : ℕ) → IsRange a → IsRange (shifted_right a count)
 right_range a count h = (shifted_right_holds a count a.hi (h, omega arith)).0
 
+-- a range that a number lies in
+range_round : (a : Interval) (x : ℕ) → IsBetween a x → IsRange a
+range_round a x h = omega (arith, h.0, h.1)
+
 bounds_range : (w : Bits) (op : AluOp) (a b : Interval) → IsRange a → IsRange b
     → IsRange (bounds w op a b)
 bounds_range w Add a b h k = fitting_range w (a.lo + b.lo) (a.hi + b.hi) (omega (arith, h, k))
 bounds_range w Sub a b h k = grind arith
+bounds_range w Mul a b h k =
+    fitting_range w (a.lo * b.lo) (a.hi * b.hi) (mul-le a.lo b.lo a.hi b.hi h k)
+bounds_range w Div a b h k = range_round (quotient a b) (if b.lo == 0 then 0 else a.lo / b.lo)
+    (quotient_holds a b a.lo b.lo (omega arith, h) (omega arith, k))
+bounds_range w Sdiv a b h k = full_range w
 bounds_range w Or a b h k = omega arith
 bounds_range w And a b h k = omega arith
 bounds_range w Lsh a b h k =
@@ -70,6 +82,8 @@ bounds_range w Lsh a b h k =
     (mul-le-mul_right (2 ^ (b.lo % bits (word_width w))) h)) (full_range w)
 bounds_range w Rsh a b h k = chosen (is_just b) (shifted_right a (b.lo % bits (word_width w)))
     (all_of w) (right_range a (b.lo % bits (word_width w)) h) (full_range w)
+bounds_range w Mod a b h k = omega arith
+bounds_range w Smod a b h k = full_range w
 bounds_range w Xor a b h k = omega arith
 bounds_range w Arsh a b h k = chosen (is_just b) (shifted_signed w a (b.lo % bits (word_width w)))
     (all_of w) (chosen (nat_lt a.hi (sign_bit w)) (shifted_right a (b.lo % bits (word_width w)))

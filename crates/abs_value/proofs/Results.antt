@@ -1,23 +1,24 @@
 -- What the machine computes of the numbers of two ranges lies in the range that is computed.
-use Rattle.std.proofs.Common.{◌≡◌, ℕ, ◌+◌, ◌*◌, ◌%◌, ◌^◌, ◌≤◌, subst, arith, inl, inr}
+use Rattle.std.proofs.Common.{◌≡◌, ℕ, ◌+◌, ◌%◌, ◌^◌, ◌<◌, ◌≤◌, subst, arith, inl, inr}
 use Rattle.std.specs.Prelude.{if◌then◌else◌}
 use mir.Val.{bits}
 use Rattle.std.proofs.lemmas.Bool.{cases_Bool}
-use Rattle.std.proofs.lemmas.Nat.{and_le_l, and_le_r, or_lt, xor_lt, shr_le}
+use Rattle.std.proofs.lemmas.Nat.{and_le_l, and_le_r, or_lt, xor_lt}
 use Rattle.bpf_insn.specs.declared.operand.AluOp.{AluOp}
-use Rattle.bpf_insn.specs.declared.operand.AluOp.TheVariants.{Add, Sub, Or, And, Lsh, Rsh, Xor, Arsh}
+use Rattle.bpf_insn.specs.declared.operand.AluOp.TheVariants.{Add, Sub, Mul, Div, Sdiv, Or, And, Lsh, Rsh, Mod, Smod, Xor, Arsh}
 use Rattle.bpf_insn.specs.declared.operand.Bits.{Bits}
 use Rattle.bpf_insn.specs.declared.operand.Bits.TheVariants.{Bits64, Bits32}
 use Rattle.bpf_insn.specs.Words.{word_width, word}
-use Rattle.bpf_insn.specs.Arithmetic.{arithmetic, alu_result}
+use Rattle.bpf_insn.specs.Arithmetic.{arithmetic, alu_result, FitsWidth}
 use Rattle.abs_value.specs.declared.interval.Interval.{Interval}
 use Rattle.abs_value.specs.declared.number.Number.{Number}
 use Rattle.abs_value.specs.Intervals.{is_just, all_of}
 use Rattle.abs_value.specs.Numbers.{single, are_single, up_to, full, cut}
 use Rattle.abs_value.specs.Bounds.{difference, shifted_left, shifted_right, shifted_signed, bounds, alu_number}
 use Rattle.abs_value.specs.Covers.{Holds, IsBetween, IsWord}
-use Rattle.abs_value.proofs.Cuts.{IsOf, word_is_of, cut_interval_holds, all_of_holds, mod_is_of}
-use Rattle.abs_value.proofs.ShiftedRanges.{fitting_holds, shifted_left_holds, shifted_right_holds, shifted_signed_holds, arsh_is_of, disjunction_holds}
+use Rattle.abs_value.proofs.Cuts.{IsOf, word_is_of, cut_interval_holds, all_of_holds}
+use Rattle.abs_value.proofs.ShiftedRanges.{fitting_holds, shifted_left_holds, shifted_right_holds, shifted_signed_holds, disjunction_holds}
+use Rattle.abs_value.proofs.Products.{product_holds, quotient_holds, remainder_holds}
 
 difference_holds : (w : Bits) (a b : Interval) (x y : ℕ) → IsBetween a x → IsBetween b y → IsOf w x → IsOf w y
     → IsBetween (difference w a b) (arithmetic (word_width w) Sub x y)
@@ -28,6 +29,20 @@ word_of : (w : Bits) (x : ℕ) → IsOf w x → IsWord x
 word_of Bits64 x h = omega arith
 word_of Bits32 x h = omega arith
 
+-- a result is a number of the class
+below : (w : Bits) (x : ℕ) → IsOf w x → x < 2 ^ bits (word_width w)
+below Bits64 x h = omega (arith, h)
+below Bits32 x h = omega (arith, h)
+
+is_of : (w : Bits) (x : ℕ) → x < 2 ^ bits (word_width w) → IsOf w x
+is_of Bits64 x h = omega (arith, h)
+is_of Bits32 x h = omega (arith, h)
+
+result_is_of : FitsWidth → (w : Bits) (op : AluOp) (x y : ℕ) → IsOf w x → IsOf w y
+    → IsOf w (arithmetic (word_width w) op x y)
+result_is_of fit w op x y fx fy = is_of w (arithmetic (word_width w) op x y)
+    (fit (word_width w) op x y (below w x fx) (below w y fy))
+
 -- by a single count, or by any
 by_count : (b : Interval) (y z : ℕ) (one other : Interval) → IsBetween b y → (b.lo ≡ y → IsBetween one z)
     → IsBetween other z → IsBetween (if is_just b then one else other) z
@@ -36,69 +51,55 @@ by_count b y z one other h first second = elim (cases_Bool (is_just b)) [
   | inr is ↦ rw is second
 ]
 
-bounds_hold : (w : Bits) (op : AluOp) (a b : Interval) (x y : ℕ) → IsBetween a x → IsBetween b y → IsOf w x
-    → IsOf w y → IsBetween (bounds w op a b) (arithmetic (word_width w) op x y)
-bounds_hold w Add a b x y h k fx fy = fitting_holds w (a.lo + b.lo) (a.hi + b.hi) (x + y)
+bounds_hold : FitsWidth → (w : Bits) (op : AluOp) (a b : Interval) (x y : ℕ)
+    → IsBetween a x → IsBetween b y → IsOf w x → IsOf w y
+    → IsBetween (bounds w op a b) (arithmetic (word_width w) op x y)
+bounds_hold fit w Add a b x y h k fx fy = fitting_holds w (a.lo + b.lo) (a.hi + b.hi) (x + y)
     (omega (arith, h.0, k.0)) (omega (arith, h.1, k.1))
-bounds_hold w Sub a b x y h k fx fy = difference_holds w a b x y h k fx fy
-bounds_hold w Or a b x y h k fx fy = disjunction_holds a b x y (arithmetic (word_width w) Or x y) h
-    k (word_of w x fx) (word_of w y fy) (λ n p q. or_lt n x y p q)
-bounds_hold w And a b x y h k fx fy = grind (arith, and_le_l, and_le_r)
-bounds_hold w Lsh a b x y h k fx fy =
-    by_count b y ((x * 2 ^ (y % bits (word_width w))) % 2 ^ bits (word_width w))
+bounds_hold fit w Sub a b x y h k fx fy = difference_holds w a b x y h k fx fy
+bounds_hold fit w Mul a b x y h k fx fy = product_holds w a b x y h k
+bounds_hold fit w Div a b x y h k fx fy = quotient_holds a b x y h k
+bounds_hold fit w Sdiv a b x y h k fx fy =
+    all_of_holds w (arithmetic (word_width w) Sdiv x y) (result_is_of fit w Sdiv x y fx fy)
+bounds_hold fit w Or a b x y h k fx fy =
+    disjunction_holds a b x y (arithmetic (word_width w) Or x y) h k (word_of w x fx)
+    (word_of w y fy) (λ n p q. or_lt n x y p q)
+bounds_hold fit w And a b x y h k fx fy = grind (arith, and_le_l, and_le_r)
+bounds_hold fit w Lsh a b x y h k fx fy =
+    by_count b y (arithmetic (word_width w) Lsh x y)
     (shifted_left w a (b.lo % bits (word_width w))) (all_of w) k
     (λ e. subst (λ (n : ℕ). IsBetween (shifted_left w a (b.lo % bits (word_width w)))
-    ((x * 2 ^ (n % bits (word_width w))) % 2 ^ bits (word_width w))) e
+    (arithmetic (word_width w) Lsh x n)) e
     (shifted_left_holds w a (b.lo % bits (word_width w)) x h))
-    (all_of_holds w ((x * 2 ^ (y % bits (word_width w))) % 2 ^ bits (word_width w))
-    (mod_is_of w (x * 2 ^ (y % bits (word_width w)))))
-bounds_hold w Rsh a b x y h k fx fy =
+    (all_of_holds w (arithmetic (word_width w) Lsh x y) (result_is_of fit w Lsh x y fx fy))
+bounds_hold fit w Rsh a b x y h k fx fy =
     by_count b y (arithmetic (word_width w) Rsh x y)
     (shifted_right a (b.lo % bits (word_width w))) (all_of w) k
     (λ e. subst (λ (n : ℕ).
     IsBetween (shifted_right a (b.lo % bits (word_width w))) (arithmetic (word_width w) Rsh x n)) e
     (shifted_right_holds a (b.lo % bits (word_width w)) x h))
-    (let part = shr_le x (y % bits (word_width w)) in
-    all_of_holds w (arithmetic (word_width w) Rsh x y) (omega (arith, part, fx)))
-bounds_hold w Xor a b x y h k fx fy = disjunction_holds a b x y (arithmetic (word_width w) Xor x y)
-    h k (word_of w x fx) (word_of w y fy) (λ n p q. xor_lt n x y p q)
-bounds_hold w Arsh a b x y h k fx fy =
+    (all_of_holds w (arithmetic (word_width w) Rsh x y) (result_is_of fit w Rsh x y fx fy))
+bounds_hold fit w Mod a b x y h k fx fy = remainder_holds a b x y h k
+bounds_hold fit w Smod a b x y h k fx fy =
+    all_of_holds w (arithmetic (word_width w) Smod x y) (result_is_of fit w Smod x y fx fy)
+bounds_hold fit w Xor a b x y h k fx fy =
+    disjunction_holds a b x y (arithmetic (word_width w) Xor x y) h k (word_of w x fx)
+    (word_of w y fy) (λ n p q. xor_lt n x y p q)
+bounds_hold fit w Arsh a b x y h k fx fy =
     by_count b y (arithmetic (word_width w) Arsh x y)
     (shifted_signed w a (b.lo % bits (word_width w))) (all_of w) k
-    (λ e. subst (λ (n : ℕ).
-    IsBetween (shifted_signed w a (b.lo % bits (word_width w))) (arithmetic (word_width w) Arsh x n)) e
-    (shifted_signed_holds w a (b.lo % bits (word_width w)) x h fx))
-    (all_of_holds w (arithmetic (word_width w) Arsh x y)
-    (arsh_is_of w x (y % bits (word_width w)) fx))
+    (λ e. subst (λ (n : ℕ). IsBetween (shifted_signed w a (b.lo % bits (word_width w)))
+    (arithmetic (word_width w) Arsh x n)) e
+    (shifted_signed_holds w a (b.lo % bits (word_width w)) x h
+    (result_is_of fit w Arsh x b.lo fx (omega (arith, k.0, fy)))))
+    (all_of_holds w (arithmetic (word_width w) Arsh x y) (result_is_of fit w Arsh x y fx fy))
 
 -- ---- numbers
 
-difference_is_of : (w : Bits) (x y : ℕ) → IsOf w (arithmetic (word_width w) Sub x y)
-difference_is_of Bits64 x y = grind arith
-difference_is_of Bits32 x y = grind arith
-
--- a result is a number of the class
-result_is_of : (w : Bits) (op : AluOp) (x y : ℕ) → IsOf w x → IsOf w y
-    → IsOf w (arithmetic (word_width w) op x y)
-result_is_of w Add x y fx fy = mod_is_of w (x + y)
-result_is_of w Sub x y fx fy = difference_is_of w x y
-result_is_of Bits64 Or x y fx fy =
-    let lt = or_lt 64 x y (omega (arith, fx)) (omega (arith, fy)) in omega (arith, lt)
-result_is_of Bits32 Or x y fx fy =
-    let lt = or_lt 32 x y (omega (arith, fx)) (omega (arith, fy)) in omega (arith, lt)
-result_is_of w And x y fx fy = let le = and_le_l x y in omega (arith, le, fx)
-result_is_of w Lsh x y fx fy = mod_is_of w (x * 2 ^ (y % bits (word_width w)))
-result_is_of w Rsh x y fx fy =
-    let part = shr_le x (y % bits (word_width w)) in omega (arith, part, fx)
-result_is_of Bits64 Xor x y fx fy =
-    let lt = xor_lt 64 x y (omega (arith, fx)) (omega (arith, fy)) in omega (arith, lt)
-result_is_of Bits32 Xor x y fx fy =
-    let lt = xor_lt 32 x y (omega (arith, fx)) (omega (arith, fy)) in omega (arith, lt)
-result_is_of w Arsh x y fx fy = arsh_is_of w x (y % bits (word_width w)) fx
-
-result_word : (w : Bits) (op : AluOp) (x y : ℕ) → IsWord x → IsWord y → IsWord (alu_result w op x y)
-result_word w op x y wx wy = word_of w (alu_result w op x y)
-    (result_is_of w op (word w x) (word w y) (word_is_of w x wx) (word_is_of w y wy))
+result_word : FitsWidth → (w : Bits) (op : AluOp) (x y : ℕ) → IsWord x → IsWord y
+    → IsWord (alu_result w op x y)
+result_word fit w op x y wx wy = word_of w (alu_result w op x y)
+    (result_is_of fit w op (word w x) (word w y) (word_is_of w x wx) (word_is_of w y wy))
 
 pub single_holds : (n : ℕ) → IsWord n → Holds (single n) n
 single_holds n h = record { between = (omega arith, omega arith); word = h }
@@ -115,18 +116,18 @@ cut_number_holds w a x h = record {
   word = word_of w (word w x) (word_is_of w x h.word);
 }
 
-pub alu_number_holds : (w : Bits) (op : AluOp) (a b : Number) (x y : ℕ)
+pub alu_number_holds : FitsWidth → (w : Bits) (op : AluOp) (a b : Number) (x y : ℕ)
     → Holds a x → Holds b y → Holds (alu_number w op a b) (alu_result w op x y)
-alu_number_holds w op a b x y h k = elim (cases_Bool (are_single a b)) [
+alu_number_holds fit w op a b x y h k = elim (cases_Bool (are_single a b)) [
   | inl is ↦
       let first : a.range.lo ≡ x = grind (arith, h.between, is) in
       let second : b.range.lo ≡ y = grind (arith, k.between, is) in
       rw (is, first, second)
-      (single_holds (alu_result w op x y) (result_word w op x y h.word k.word))
+      (single_holds (alu_result w op x y) (result_word fit w op x y h.word k.word))
   | inr is ↦ rw is (record {
-    between = bounds_hold w op (cut w a).range (cut w b).range (word w x) (word w y)
+    between = bounds_hold fit w op (cut w a).range (cut w b).range (word w x) (word w y)
         (cut_interval_holds w a.range x h.between) (cut_interval_holds w b.range y k.between)
         (word_is_of w x h.word) (word_is_of w y k.word);
-    word = result_word w op x y h.word k.word;
+    word = result_word fit w op x y h.word k.word;
   })
 ]

@@ -1,6 +1,6 @@
 -- Shifts of the numbers of a range lie between the shifts of its ends; OR and XOR stay below a
 -- power of two.
-use Rattle.std.proofs.Common.{◌≡◌, ℕ, false, zero, suc, ◌-◌, ◌*◌, ◌/◌, ◌%◌, ◌^◌, ◌<◌, ◌≤◌, ℤ, max, refl, ap, arith, inl, inr}
+use Rattle.std.proofs.Common.{◌≡◌, ℕ, zero, suc, ◌-◌, ◌*◌, ◌/◌, ◌%◌, ◌^◌, ◌<◌, ◌≤◌, ℤ, max, refl, ap, arith, inl, inr}
 use Rattle.std.specs.Prelude.{nat_lt}
 use Rattle.std.specs.Int.{w32, w64, leading_zeros, cast_signed, cast_unsigned, int_shr}
 use mir.Val.{bits}
@@ -8,7 +8,7 @@ use lib.Count.{count_leading_zeros}
 use Rattle.std.proofs.Math.Nat.{mul-le-mul_right, div-mul-le_self, pow-succ'}
 use Rattle.std.proofs.lemmas.Bool.{cases_lt, cases_Bool, ltb-true}
 use Rattle.std.proofs.lemmas.Int.{to_z_pos}
-use Rattle.std.proofs.lemmas.Nat.{pow_pos, shr_le, le-div, leading_length}
+use Rattle.std.proofs.lemmas.Nat.{pow_pos, le-div, leading_length}
 use Rattle.bpf_insn.specs.declared.operand.Bits.{Bits}
 use Rattle.bpf_insn.specs.declared.operand.Bits.TheVariants.{Bits64, Bits32}
 use Rattle.bpf_insn.specs.Words.{word_width}
@@ -29,7 +29,7 @@ pub shifted_left_holds : (w : Bits) (a : Interval) (count x : ℕ) → IsBetween
 shifted_left_holds w a count x h = fitting_holds w (a.lo * 2 ^ count) (a.hi * 2 ^ count)
     (x * 2 ^ count) (mul-le-mul_right (2 ^ count) h.0) (mul-le-mul_right (2 ^ count) h.1)
 
-div-le-div : (x y k : ℕ) → 0 < k → x ≤ y → x / k ≤ y / k
+pub div-le-div : (x y k : ℕ) → 0 < k → x ≤ y → x / k ≤ y / k
 div-le-div x y k some le =
     let part = div-mul-le_self x k in le-div (x / k) y k some (omega (arith, part, le))
 
@@ -76,21 +76,8 @@ arsh_low : (w : Bits) (x count : ℕ) → x < sign_bit w
 arsh_low Bits64 x count lt = ap (λ (z : ℤ). cast_unsigned w64 (int_shr z count)) (to_z_pos w64 x lt)
 arsh_low Bits32 x count lt = ap (λ (z : ℤ). cast_unsigned w32 (int_shr z count)) (to_z_pos w32 x lt)
 
-arsh_high : (w : Bits) (x count : ℕ) → sign_bit w ≤ x
+pub shifted_signed_holds : (w : Bits) (a : Interval) (count x : ℕ) → IsBetween a x
     → IsOf w (cast_unsigned (word_width w) (int_shr (cast_signed (word_width w) x) count))
-arsh_high Bits64 x count le =
-    let test : nat_lt x (2 ^ 63) ≡ false = grind arith in rw test (omega arith)
-arsh_high Bits32 x count le =
-    let test : nat_lt x (2 ^ 31) ≡ false = grind arith in rw test (omega arith)
-
-pub arsh_is_of : (w : Bits) (x count : ℕ) → IsOf w x
-    → IsOf w (cast_unsigned (word_width w) (int_shr (cast_signed (word_width w) x) count))
-arsh_is_of w x count fits = elim (cases_lt x (sign_bit w)) [
-  | inl low ↦ let part = shr_le x count in rw (arsh_low w x count low) (omega (arith, part, fits))
-  | inr high ↦ arsh_high w x count high
-]
-
-pub shifted_signed_holds : (w : Bits) (a : Interval) (count x : ℕ) → IsBetween a x → IsOf w x
     → IsBetween (shifted_signed w a count)
     (cast_unsigned (word_width w) (int_shr (cast_signed (word_width w) x) count))
 shifted_signed_holds w a count x h fits = elim (cases_Bool (nat_lt a.hi (sign_bit w))) [
@@ -98,5 +85,5 @@ shifted_signed_holds w a count x h fits = elim (cases_Bool (nat_lt a.hi (sign_bi
       rw (low, arsh_low w x count (omega (arith, below, h.1))) (shifted_right_holds a count x h)
   | inr high ↦ rw high
       (all_of_holds w (cast_unsigned (word_width w) (int_shr (cast_signed (word_width w) x) count))
-      (arsh_is_of w x count fits))
+      fits)
 ]

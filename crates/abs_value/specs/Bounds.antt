@@ -2,12 +2,12 @@
 -- Instructions"). On single numbers it is the machine's own result. On ranges there is one formula
 -- an operation, over the numbers of a class.
 use Rattle.std.specs.Prelude.{ℕ, ◌+◌, ◌-◌, ◌*◌, ◌/◌, ◌%◌, ◌^◌, min, max, ◌&&◌, nat_lt, nat_le}
-use Rattle.std.specs.Prelude.{if◌then◌else◌}
+use Rattle.std.specs.Prelude.{Bool, if◌then◌else◌}
 use Rattle.std.specs.Int.{w64, leading_zeros}
 use mir.Val.{bits}
 use Rattle.bpf_insn.specs.declared.operand.AluOp.{AluOp}
 use Rattle.bpf_insn.specs.declared.operand.AluOp.TheVariants.{Add, Sub, Or, And, Lsh, Rsh, Xor}
-use Rattle.bpf_insn.specs.declared.operand.AluOp.TheVariants.{Arsh}
+use Rattle.bpf_insn.specs.declared.operand.AluOp.TheVariants.{Mul, Div, Sdiv, Mod, Smod, Arsh}
 use Rattle.bpf_insn.specs.declared.operand.Bits.{Bits}
 use Rattle.bpf_insn.specs.declared.operand.ByteOrder.{ByteOrder}
 use Rattle.bpf_insn.specs.declared.operand.EndSize.{EndSize}
@@ -34,6 +34,21 @@ sum w a b = fitting w (a.lo + b.lo) (a.hi + b.hi)
 -- where no number of the first is below one of the second
 abbrev pub difference : Bits → Interval → Interval → Interval
 difference w a b = if nat_le b.hi a.lo then interval (a.lo - b.hi) (a.hi - b.lo) else all_of w
+
+abbrev pub product : Bits → Interval → Interval → Interval
+product w a b = fitting w (a.lo * b.lo) (a.hi * b.hi)
+
+-- neither end is 0
+abbrev pub is_above_zero : Interval → Bool
+is_above_zero b = nat_le 1 b.lo && nat_le 1 b.hi
+
+-- a divisor of 0 gives 0
+abbrev pub quotient : Interval → Interval → Interval
+quotient a b = if is_above_zero b then interval (a.lo / b.hi) (a.hi / b.lo) else from_zero a.hi
+
+-- a divisor of 0 leaves the dividend
+abbrev pub remainder : Interval → Interval → Interval
+remainder a b = from_zero (if is_above_zero b then min a.hi (b.hi - 1) else a.hi)
 
 -- a common bit is a bit of each
 abbrev pub conjunction : Interval → Interval → Interval
@@ -68,10 +83,15 @@ count_of w b = b.lo % bits (word_width w)
 abbrev pub bounds : Bits → AluOp → Interval → Interval → Interval
 bounds w Add a b = sum w a b
 bounds w Sub a b = difference w a b
+bounds w Mul a b = product w a b
+bounds w Div a b = quotient a b
+bounds w Sdiv a b = all_of w
 bounds w Or a b = disjunction a b
 bounds w And a b = conjunction a b
 bounds w Lsh a b = if is_just b then shifted_left w a (count_of w b) else all_of w
 bounds w Rsh a b = if is_just b then shifted_right a (count_of w b) else all_of w
+bounds w Mod a b = remainder a b
+bounds w Smod a b = all_of w
 bounds w Xor a b = disjunction a b
 bounds w Arsh a b = if is_just b then shifted_signed w a (count_of w b) else all_of w
 

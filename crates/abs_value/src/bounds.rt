@@ -46,6 +46,46 @@ fn difference(bits: Bits, a: Interval, b: Interval) -> Interval
     }
 }
 
+fn product(bits: Bits, a: Interval, b: Interval) -> Interval
+    ensures { result ≡ bounds.product bits a b }
+{
+    fitting(
+        bits,
+        a.lo as u128 * b.lo as u128,
+        a.hi as u128 * b.hi as u128,
+    )
+}
+
+/// Whether neither end is 0: of ends in order, no number is.
+fn is_above_zero(b: Interval) -> bool
+    ensures { result ≡ bounds.is_above_zero b }
+{
+    b.lo >= 1 && b.hi >= 1
+}
+
+fn quotient(a: Interval, b: Interval) -> Interval
+    ensures { result ≡ bounds.quotient a b }
+{
+    if is_above_zero(b) {
+        Interval {
+            lo: a.lo / b.hi,
+            hi: a.hi / b.lo,
+        }
+    } else {
+        Interval::from_zero(a.hi)
+    }
+}
+
+fn remainder(a: Interval, b: Interval) -> Interval
+    ensures { result ≡ bounds.remainder a b }
+{
+    if is_above_zero(b) {
+        Interval::from_zero(a.hi.min(b.hi - 1))
+    } else {
+        Interval::from_zero(a.hi)
+    }
+}
+
 fn conjunction(a: Interval, b: Interval) -> Interval
     ensures { result ≡ bounds.conjunction a b }
 {
@@ -122,11 +162,15 @@ fn bounds_of(bits: Bits, op: AluOp, a: Interval, b: Interval) -> Interval
     match op {
         AluOp::Add => sum(bits, a, b),
         AluOp::Sub => difference(bits, a, b),
+        AluOp::Mul => product(bits, a, b),
+        AluOp::Div => quotient(a, b),
+        AluOp::Mod => remainder(a, b),
         AluOp::And => conjunction(a, b),
         AluOp::Or | AluOp::Xor => disjunction(a, b),
         AluOp::Lsh if b.is_just() => shifted_left(bits, a, count_of(bits, b)),
         AluOp::Rsh if b.is_just() => shifted_right(a, count_of(bits, b)),
         AluOp::Arsh if b.is_just() => shifted_signed(bits, a, count_of(bits, b)),
+        AluOp::Sdiv | AluOp::Smod => Interval::all_of(bits),
         AluOp::Lsh | AluOp::Rsh | AluOp::Arsh => Interval::all_of(bits),
     }
 }

@@ -5,6 +5,8 @@
 ghost use Rattle.abs_value.specs.Order as ranges;
 ghost use Rattle.abs_value.specs.Laws as laws;
 
+use bpf_insn::results_fit;
+
 /// Of numbers that two values include, each operation gives a number that its result includes:
 /// arithmetic, MOV, NEG, MOVSX, END, and a load of bytes of which nothing is known.
 pub fn results_are_included()
@@ -14,7 +16,9 @@ pub fn results_are_included()
     ensures extended { laws.IncludesExtensions }
     ensures reordered { laws.IncludesReorderings }
     ensures loaded { laws.IncludesLoaded }
-{}
+{
+    results_fit();
+}
 
 /// The edge that a run takes at a jump is not dropped, and what is left of the two values on it
 /// includes the numbers that were compared. So an edge that is dropped is taken by no run.

@@ -4,9 +4,9 @@ use Rattle.abs_value.proofs.laws.results_are_included.Goals as goal
 
 pub returns : goal.returns
 returns c = record {
-  alu = alu_includes;
+  alu = alu_includes c.results_fit.ensures;
   copied = copied_includes;
-  negated = negated_includes;
+  negated = negated_includes c.results_fit.ensures;
   extended = extended_includes;
   reordered = reordered_includes;
   loaded = loaded_includes;
