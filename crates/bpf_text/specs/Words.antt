@@ -29,10 +29,15 @@ use Rattle.bpf_text.specs.declared.mnemonic.Mnemonic.TheVariants.{LoadNumber, Lo
 abbrev pub alu_stem : AluOp → List ℕ
 alu_stem alu.Add = codes "add"
 alu_stem alu.Sub = codes "sub"
+alu_stem alu.Mul = codes "mul"
+alu_stem alu.Div = codes "div"
+alu_stem alu.Sdiv = codes "sdiv"
 alu_stem alu.Or = codes "or"
 alu_stem alu.And = codes "and"
 alu_stem alu.Lsh = codes "lsh"
 alu_stem alu.Rsh = codes "rsh"
+alu_stem alu.Mod = codes "mod"
+alu_stem alu.Smod = codes "smod"
 alu_stem alu.Xor = codes "xor"
 alu_stem alu.Arsh = codes "arsh"
 

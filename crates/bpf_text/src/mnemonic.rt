@@ -50,10 +50,15 @@ fn alu_stem(op: AluOp) -> &'static str
     match op {
         AluOp::Add => "add",
         AluOp::Sub => "sub",
+        AluOp::Mul => "mul",
+        AluOp::Div => "div",
+        AluOp::Sdiv => "sdiv",
         AluOp::Or => "or",
         AluOp::And => "and",
         AluOp::Lsh => "lsh",
         AluOp::Rsh => "rsh",
+        AluOp::Mod => "mod",
+        AluOp::Smod => "smod",
         AluOp::Xor => "xor",
         AluOp::Arsh => "arsh",
     }

@@ -15,21 +15,31 @@ use bpf_insn::{
 };
 
 /// Every mnemonic once.
-pub static MNEMONICS: [Mnemonic; 98] = [
+pub static MNEMONICS: [Mnemonic; 108] = [
     Mnemonic::Alu(Bits::Bits64, AluOp::Add),
     Mnemonic::Alu(Bits::Bits64, AluOp::Sub),
+    Mnemonic::Alu(Bits::Bits64, AluOp::Mul),
+    Mnemonic::Alu(Bits::Bits64, AluOp::Div),
+    Mnemonic::Alu(Bits::Bits64, AluOp::Sdiv),
     Mnemonic::Alu(Bits::Bits64, AluOp::Or),
     Mnemonic::Alu(Bits::Bits64, AluOp::And),
     Mnemonic::Alu(Bits::Bits64, AluOp::Lsh),
     Mnemonic::Alu(Bits::Bits64, AluOp::Rsh),
+    Mnemonic::Alu(Bits::Bits64, AluOp::Mod),
+    Mnemonic::Alu(Bits::Bits64, AluOp::Smod),
     Mnemonic::Alu(Bits::Bits64, AluOp::Xor),
     Mnemonic::Alu(Bits::Bits64, AluOp::Arsh),
     Mnemonic::Alu(Bits::Bits32, AluOp::Add),
     Mnemonic::Alu(Bits::Bits32, AluOp::Sub),
+    Mnemonic::Alu(Bits::Bits32, AluOp::Mul),
+    Mnemonic::Alu(Bits::Bits32, AluOp::Div),
+    Mnemonic::Alu(Bits::Bits32, AluOp::Sdiv),
     Mnemonic::Alu(Bits::Bits32, AluOp::Or),
     Mnemonic::Alu(Bits::Bits32, AluOp::And),
     Mnemonic::Alu(Bits::Bits32, AluOp::Lsh),
     Mnemonic::Alu(Bits::Bits32, AluOp::Rsh),
+    Mnemonic::Alu(Bits::Bits32, AluOp::Mod),
+    Mnemonic::Alu(Bits::Bits32, AluOp::Smod),
     Mnemonic::Alu(Bits::Bits32, AluOp::Xor),
     Mnemonic::Alu(Bits::Bits32, AluOp::Arsh),
     Mnemonic::Mov(Bits::Bits64),
