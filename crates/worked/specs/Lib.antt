@@ -1,3 +1,4 @@
+pub mod Ends
 pub mod Examples
 pub mod Programs
 pub mod MemoryPrograms

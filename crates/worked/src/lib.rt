@@ -11,6 +11,7 @@ pub mod context;
 pub mod counter_traps;
 pub mod counters;
 pub mod memory;
+pub mod products;
 pub mod programs;
 pub mod traps;
 

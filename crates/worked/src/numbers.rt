@@ -3,6 +3,7 @@
 
 ghost use Rattle.std.specs.Prelude.{◌≡◌};
 ghost use Rattle.bpf_insn.specs.declared.operand.AluOp.TheVariants.{Add, Sub, Or, And, Xor};
+ghost use Rattle.bpf_insn.specs.declared.operand.AluOp.TheVariants.{Mul, Div, Sdiv, Mod, Smod};
 ghost use Rattle.bpf_insn.specs.declared.operand.AluOp.TheVariants.{Lsh, Rsh, Arsh};
 ghost use Rattle.bpf_insn.specs.declared.operand.Bits.TheVariants.{Bits64, Bits32};
 ghost use Rattle.bpf_insn.specs.declared.operand.ByteOrder.TheVariants.{Little, Big};
@@ -35,6 +36,56 @@ pub fn differences()
     ensures negated { alu_number Bits64 Sub (single 0) (span 1 2) ≡ up_to 0xFFFFFFFFFFFFFFFF }
     ensures negated32 { alu_number Bits32 Sub (single 0) (span 1 2) ≡ up_to 0xFFFFFFFF }
     ensures negated_one { alu_number Bits64 Sub (single 0) (single 1) ≡ single 0xFFFFFFFFFFFFFFFF }
+{}
+
+/// MUL multiplies the ends, and gives any number of its class where the greatest product doesn't
+/// fit.
+pub fn products()
+    ensures inside { alu_number Bits64 Mul (span 2 5) (span 10 20) ≡ span 20 100 }
+    ensures fits { alu_number Bits64 Mul (span 1 0xFFFFFFFF) (span 2 0x100000001)
+        ≡ span 2 0xFFFFFFFFFFFFFFFF }
+    ensures wraps { alu_number Bits64 Mul (span 1 0x100000000) (span 2 0x100000000)
+        ≡ up_to 0xFFFFFFFFFFFFFFFF }
+    ensures fits32 { alu_number Bits32 Mul (span 1 0xFFFF) (span 2 0x10001) ≡ span 2 0xFFFFFFFF }
+    ensures wraps32 { alu_number Bits32 Mul (span 1 0x10000) (span 2 0x10000)
+        ≡ up_to 0xFFFFFFFF }
+    ensures low_half { alu_number Bits32 Mul (span 3 4) (single 0x100000005) ≡ span 15 20 }
+    ensures single_wraps { alu_number Bits64 Mul (single 0x8000000000000000) (single 2)
+        ≡ single 0 }
+{}
+
+/// DIV divides the ends crosswise where no divisor is 0, and gives at most the dividend elsewhere.
+pub fn quotients()
+    ensures inside { alu_number Bits64 Div (span 10 20) (span 3 5) ≡ span 2 6 }
+    ensures by_single { alu_number Bits64 Div (span 100 9999) (single 100) ≡ span 1 99 }
+    ensures from_zero { alu_number Bits64 Div (span 10 20) (span 0 5) ≡ up_to 20 }
+    ensures by_zero { alu_number Bits64 Div (span 10 20) (single 0) ≡ up_to 20 }
+    ensures single_by_zero { alu_number Bits64 Div (single 7) (single 0) ≡ single 0 }
+    ensures div32 { alu_number Bits32 Div (span 10 20) (single 0x100000002) ≡ span 5 10 }
+    ensures div32_past { alu_number Bits32 Div (span 1 0x100000000) (single 2)
+        ≡ up_to 0x7FFFFFFF }
+    ensures sdiv { alu_number Bits64 Sdiv (span 10 20) (single 2) ≡ up_to 0xFFFFFFFFFFFFFFFF }
+    ensures sdiv32 { alu_number Bits32 Sdiv (span 10 20) (single 2) ≡ up_to 0xFFFFFFFF }
+    ensures single_sdiv { alu_number Bits64 Sdiv (single 0xFFFFFFFFFFFFFFF3) (single 3)
+        ≡ single 0xFFFFFFFFFFFFFFFC }
+{}
+
+/// MOD is below the greatest divisor where none is 0, and nowhere above the dividend.
+pub fn remainders()
+    ensures by_single { alu_number Bits64 Mod (span 10 9999) (single 4) ≡ up_to 3 }
+    ensures by_range { alu_number Bits64 Mod (span 10 9999) (span 1 5) ≡ up_to 4 }
+    ensures of_less { alu_number Bits64 Mod (span 1 2) (single 4) ≡ up_to 2 }
+    ensures from_zero { alu_number Bits64 Mod (span 10 20) (span 0 5) ≡ up_to 20 }
+    ensures by_zero { alu_number Bits64 Mod (span 10 20) (single 0) ≡ up_to 20 }
+    ensures single_by_zero { alu_number Bits64 Mod (single 7) (single 0) ≡ single 7 }
+    ensures mod32 { alu_number Bits32 Mod (span 1 0x100000000) (single 0x10000000A) ≡ up_to 9 }
+    ensures mod32_by_zero { alu_number Bits32 Mod (span 1 0x100000000) (single 0)
+        ≡ up_to 0xFFFFFFFF }
+    ensures single32_by_zero { alu_number Bits32 Mod (single 0x700000005) (single 0) ≡ single 5 }
+    ensures smod { alu_number Bits64 Smod (span 10 20) (single 4) ≡ up_to 0xFFFFFFFFFFFFFFFF }
+    ensures smod32 { alu_number Bits32 Smod (span 10 20) (single 4) ≡ up_to 0xFFFFFFFF }
+    ensures single_smod { alu_number Bits64 Smod (single 0xFFFFFFFFFFFFFFF3) (single 3)
+        ≡ single 0xFFFFFFFFFFFFFFFF }
 {}
 
 /// AND is at most the lesser of the greatest numbers; OR and XOR have the bits of the greater one.
