@@ -13,6 +13,50 @@ const BOUNDS: &str = r#"
   ldxb r0, [r1+18] / and r0, 3 / add r0, 5 / sub r0, 5 / exit
 - a difference that doesn't wrap, and one less | 2 | V13 Result at slot 4
   ldxb r0, [r1+18] / and r0, 3 / add r0, 5 / sub r0, 5 / exit
+- a product of ends | 45 | ok
+  ldxb r0, [r1+18] / and r0, 15 / mul r0, 3 / exit
+- a product of ends, and one less | 44 | V13 Result at slot 3
+  ldxb r0, [r1+18] / and r0, 15 / mul r0, 3 / exit
+- a 32-bit product | 45 | ok
+  ldxb r0, [r1+18] / and r0, 15 / mul32 r0, 3 / exit
+- a 32-bit product, and one less | 44 | V13 Result at slot 3
+  ldxb r0, [r1+18] / and r0, 15 / mul32 r0, 3 / exit
+- a quotient by a single number | 63 | ok
+  ldxb r0, [r1+18] / div r0, 4 / exit
+- a quotient by a single number, and one less | 62 | V13 Result at slot 2
+  ldxb r0, [r1+18] / div r0, 4 / exit
+- a quotient by the least divisor | 51 | ok
+  ldxb r0, [r1+18] / ldxb r2, [r1+19] / or r2, 0 / jlt r2, 5, +2 / div r0, r2 / exit / mov r0, 0 / exit
+- a quotient by the least divisor, and one less | 50 | V13 Result at slot 5
+  ldxb r0, [r1+18] / ldxb r2, [r1+19] / or r2, 0 / jlt r2, 5, +2 / div r0, r2 / exit / mov r0, 0 / exit
+- a quotient by a number that may be 0 is at most the dividend | 15 | ok
+  ldxb r0, [r1+18] / and r0, 15 / ldxb r2, [r1+19] / div r0, r2 / exit
+- a quotient by a number that may be 0 is at most the dividend, and one less | 14 | V13 Result at slot 4
+  ldxb r0, [r1+18] / and r0, 15 / ldxb r2, [r1+19] / div r0, r2 / exit
+- a 32-bit quotient of a wide range | 63 | ok
+  ldxdw r0, [r1+0] / div32 r0, 0x4000000 / exit
+- a 32-bit quotient of a wide range, and one less | 62 | V13 Result at slot 2
+  ldxdw r0, [r1+0] / div32 r0, 0x4000000 / exit
+- a remainder is below the divisor | 9 | ok
+  ldxh r0, [r1+16] / mod r0, 10 / exit
+- a remainder is below the divisor, and one less | 8 | V13 Result at slot 2
+  ldxh r0, [r1+16] / mod r0, 10 / exit
+- a remainder is below the greatest divisor | 7 | ok
+  ldxh r0, [r1+16] / ldxb r2, [r1+18] / jeq r2, 0, +3 / jgt r2, 8, +2 / mod r0, r2 / exit / mov r0, 0 / exit
+- a remainder is below the greatest divisor, and one less | 6 | V13 Result at slot 5
+  ldxh r0, [r1+16] / ldxb r2, [r1+18] / jeq r2, 0, +3 / jgt r2, 8, +2 / mod r0, r2 / exit / mov r0, 0 / exit
+- a remainder is at most the dividend | 3 | ok
+  ldxb r0, [r1+18] / and r0, 3 / mod r0, 10 / exit
+- a remainder is at most the dividend, and one less | 2 | V13 Result at slot 3
+  ldxb r0, [r1+18] / and r0, 3 / mod r0, 10 / exit
+- a remainder by a number that may be 0 is at most the dividend | 15 | ok
+  ldxb r0, [r1+18] / and r0, 15 / ldxb r2, [r1+19] / mod r0, r2 / exit
+- a remainder by a number that may be 0 is at most the dividend, and one less | 14 | V13 Result at slot 4
+  ldxb r0, [r1+18] / and r0, 15 / ldxb r2, [r1+19] / mod r0, r2 / exit
+- a 32-bit remainder of a wide range | 9 | ok
+  ldxdw r0, [r1+0] / mod32 r0, 10 / exit
+- a 32-bit remainder of a wide range, and one less | 8 | V13 Result at slot 2
+  ldxdw r0, [r1+0] / mod32 r0, 10 / exit
 - a common bit is one of each | 5 | ok
   ldxb r0, [r1+18] / and r0, 5 / exit
 - a common bit is one of each, and one less | 4 | V13 Result at slot 2
@@ -88,6 +132,14 @@ const ANY_NUMBER: &str = r#"
   ldxdw r0, [r1+0] / add r0, r0 / exit
 - a difference that may wrap | 64 | V13 Result at slot 3
   ldxb r0, [r1+18] / and r0, 3 / sub r0, 1 / exit
+- a product that may wrap | 64 | V13 Result at slot 2
+  ldxdw r0, [r1+0] / mul r0, 2 / exit
+- a signed quotient of a range | 64 | V13 Result at slot 3
+  ldxb r0, [r1+18] / and r0, 3 / sdiv r0, 2 / exit
+- a signed remainder of a range | 64 | V13 Result at slot 3
+  ldxb r0, [r1+18] / and r0, 3 / smod r0, 2 / exit
+- a signed 32-bit remainder of a range | 64 | V13 Result at slot 3
+  ldxb r0, [r1+18] / and r0, 3 / smod32 r0, 2 / exit
 - a range taken from one | 64 | V13 Result at slot 5
   ldxb r0, [r1+18] / and r0, 3 / mov r2, 1 / sub r2, r0 / mov r0, r2 / exit
 - a negated range | 64 | V13 Result at slot 3
@@ -115,6 +167,28 @@ const SINGLE_NUMBERS: &str = r#"
   mov r0, -1 / add r0, 2 / exit
 - a difference wraps | 1 | ok
   mov r0, 0 / sub r0, -1 / exit
+- a product wraps | 1 | ok
+  mov r0, -1 / mul r0, -1 / exit
+- a quotient of a negative number | 1 | ok
+  mov r0, -1 / div r0, -1 / exit
+- a signed quotient rounds toward 0 | 0 | ok
+  mov r0, -2 / sdiv r0, 3 / exit
+- a divisor of 0 gives 0 | 0 | ok
+  mov r0, 7 / div r0, 0 / exit
+- a signed one too | 0 | ok
+  mov r0, 7 / sdiv r0, 0 / exit
+- a remainder by 0 is the dividend | 7 | ok
+  mov r0, 7 / mod r0, 0 / exit
+- a signed one by 0 too | 7 | ok
+  mov r0, 7 / smod r0, 0 / exit
+- a 32-bit remainder by 0 is the low half | 5 | ok
+  lddw r0, 0x700000005 / mod32 r0, 0 / exit
+- a signed 32-bit one too | 5 | ok
+  lddw r0, 0x700000005 / smod32 r0, 0 / exit
+- the least number by -1 | 0 | ok
+  lddw r0, 0x8000000000000000 / smod r0, -1 / exit
+- a pointer has no remainder | 64 | V3 PointerArithmetic at slot 0
+  mod r1, 4 / mov r0, 0 / exit
 - bits | 1 | ok
   mov r0, 12 / and r0, 10 / or r0, 1 / xor r0, 8 / exit
 - shifts | 1 | ok

@@ -153,7 +153,7 @@ struct Faulty {
     fault: InsnFault,
 }
 
-const FAULTY: [Faulty; 12] = [
+const FAULTY: [Faulty; 15] = [
     Faulty {
         why: "seven bytes",
         bytes: b"\xb7\0\0\0\0\0\0",
@@ -165,8 +165,8 @@ const FAULTY: [Faulty; 12] = [
         fault: InsnFault::Truncated,
     },
     Faulty {
-        why: "DIV",
-        bytes: b"\x37\0\0\0\0\0\0\0",
+        why: "a code of arithmetic that isn't there",
+        bytes: b"\xe7\0\0\0\0\0\0\0",
         fault: InsnFault::Opcode,
     },
     Faulty {
@@ -195,6 +195,11 @@ const FAULTY: [Faulty; 12] = [
         fault: InsnFault::UnusedField,
     },
     Faulty {
+        why: "MUL with an offset",
+        bytes: b"\x27\0\x01\0\0\0\0\0",
+        fault: InsnFault::UnusedField,
+    },
+    Faulty {
         why: "END of 8 bits",
         bytes: b"\xd4\x01\0\0\x08\0\0\0",
         fault: InsnFault::Imm,
@@ -203,6 +208,16 @@ const FAULTY: [Faulty; 12] = [
         why: "MOVSX of 7 bits",
         bytes: b"\xbf\x12\x07\0\0\0\0\0",
         fault: InsnFault::Offset,
+    },
+    Faulty {
+        why: "DIV with offset 2",
+        bytes: b"\x37\0\x02\0\0\0\0\0",
+        fault: InsnFault::Offset,
+    },
+    Faulty {
+        why: "DIV with an imm, a source register and offset 2",
+        bytes: b"\x3f\0\x02\0\x01\0\0\0",
+        fault: InsnFault::UnusedField,
     },
     Faulty {
         why: "an opcode in the second half",

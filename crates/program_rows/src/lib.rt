@@ -21,6 +21,8 @@ mod lookups;
 #[cfg(test)]
 mod mnemonics;
 #[cfg(test)]
+mod offsets;
+#[cfg(test)]
 mod pointers;
 #[cfg(test)]
 mod quotas;

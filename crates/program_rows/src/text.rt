@@ -75,6 +75,9 @@ stb [r10-8], -128
 - movsx16w r1, r2
 movsx16w r1, r2
 bc 21 10 00 00 00 00 00
+- smod r0, 3
+smod r0, 3
+97 00 01 00 03 00 00 00
 - ldmap r2, -1
 ldmap r2, -1
 18 52 00 00 ff ff ff ff 00 00 00 00 00 00 00 00
@@ -189,8 +192,9 @@ fn too_many_slots(rt: HostRuntime) -> Result<(), Fail> {
 }
 
 /// Bytes that have no listing, and why.
-const UNLISTED: [(&[u8], &str); 2] = [
+const UNLISTED: [(&[u8], &str); 3] = [
     (&[0xd4, 1, 0, 0, 8, 0, 0, 0], "I5 Imm at slot 0"),
+    (&[0x97, 0, 2, 0, 3, 0, 0, 0], "I6 Offset at slot 0"),
     (
         &[
             0x95, 0, 0, 0, 0, 0, 0, 0, 0x18, 0, 0, 0, 0, 0, 0, 0, 1, 0, 0, 0, 0, 0, 0, 0,
