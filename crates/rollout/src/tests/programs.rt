@@ -40,6 +40,23 @@ ldxb r0, [r1+0] / and r0, 63 / exit
 rollout run p.bin --releases 63 --version 7.9 -> choice 7 after 3 instructions
 rollout run p.bin --releases 62 --version 7.9 -> refused V13 Result at slot 2
 
+mov r0, -13 / smod r0, 3 / neg r0 / exit
+rollout run p.bin --releases 1 -> choice 1 after 4 instructions
+
+mov r0, 7 / mov r2, 0 / div r0, r2 / exit
+rollout run p.bin --releases 0 -> choice 0 after 4 instructions
+
+mov r0, 7 / mov r2, 0 / mod r0, r2 / exit
+rollout run p.bin --releases 7 -> choice 7 after 4 instructions
+rollout verify p.bin --releases 6 -> refused V13 Result at slot 3
+
+mov32 r0, 1 / lsh32 r0, 31 / sdiv32 r0, -1 / rsh r0, 31 / exit
+rollout run p.bin --releases 1 -> choice 1 after 5 instructions
+
+ldxh r0, [r1+16] / mod r0, 4 / exit
+rollout run p.bin --releases 3 --bucket 4999 -> choice 3 after 3 instructions
+rollout verify p.bin --releases 2 -> refused V13 Result at slot 2
+
 stb [r10-8], 49 ; Whether the version's text is `1`.
 mov r1, 1 / mov r2, r10 / add r2, -8 / mov r3, 1 / call 2 / exit
 rollout run p.bin --releases 1 --version 1 -> choice 1 after 7 instructions

@@ -5,7 +5,7 @@ use std::fs;
 use std::test::Fail;
 
 /// What spells no instruction has bytes alone.
-const ENCODINGS: [(&[u8], &str); 10] = [
+const ENCODINGS: [(&[u8], &str); 12] = [
     (
         b"\xb7\x00\x00\x00\x01\x00\x00",
         "refused F8 Insn I1 Truncated at slot 0",
@@ -15,7 +15,7 @@ const ENCODINGS: [(&[u8], &str); 10] = [
         "refused F8 Insn I1 Truncated at slot 0",
     ),
     (
-        b"\x37\x00\x00\x00\x00\x00\x00\x00",
+        b"\xe7\x00\x00\x00\x00\x00\x00\x00",
         "refused F8 Insn I2 Opcode at slot 0",
     ),
     (
@@ -27,11 +27,19 @@ const ENCODINGS: [(&[u8], &str); 10] = [
         "refused F8 Insn I4 UnusedField at slot 0",
     ),
     (
+        b"\x27\x00\x01\x00\x03\x00\x00\x00",
+        "refused F8 Insn I4 UnusedField at slot 0",
+    ),
+    (
         b"\xd4\x01\x00\x00\x08\x00\x00\x00",
         "refused F8 Insn I5 Imm at slot 0",
     ),
     (
         b"\xbf\x12\x07\x00\x00\x00\x00\x00",
+        "refused F8 Insn I6 Offset at slot 0",
+    ),
+    (
+        b"\x97\x00\x02\x00\x03\x00\x00\x00",
         "refused F8 Insn I6 Offset at slot 0",
     ),
     (
