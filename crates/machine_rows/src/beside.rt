@@ -104,6 +104,18 @@ const ENDS: &str = r#"
   mov r2, 8 / add r1, r2 / mov r2, -8 / add r1, r2 / ldxdw r3, [r1+0] / mov r0, 0 / exit
 - 1 after 3
   mov r0, -1 / mov r2, 2 / add r0, r2 / exit
+- 1 after 3
+  mov r0, -13 / smod r0, 3 / neg r0 / exit
+- 0 after 3
+  mov r0, 7 / mov r2, 0 / div r0, r2 / exit
+- 7 after 3
+  mov r0, 7 / mov r2, 0 / mod r0, r2 / exit
+- 1 after 4
+  mov32 r0, 1 / lsh32 r0, 31 / sdiv32 r0, -1 / rsh r0, 31 / exit
+- 2 after 2
+  ldxh r0, [r1+16] / mod r0, 4 / exit
+- 14 after 4
+  ldxh r0, [r1+16] / mul r0, 3 / div r0, 9 / mod r0, 64 / exit
 - 0 after 3
   ldxb r2, [r1+18] / mov r0, 0 / jset r2, 2, +1 / mov r0, 1 / exit
 "#;

@@ -130,14 +130,14 @@ fn found(alloc: Global, text: &str, array: &str, releases: u8) -> Result<String,
 #[test]
 fn damaged_programs(rt: HostRuntime) -> Result<(), Fail> {
     let rows = [
-        (LOOKUP, "a:64:4", 2, "18432 judged, 1159 accepted, 0 apart"),
+        (LOOKUP, "a:64:4", 2, "18432 judged, 1177 accepted, 0 apart"),
         (
             EXCHANGES,
             "b:32:1",
             1,
-            "22528 judged, 4154 accepted, 0 apart",
+            "22528 judged, 4162 accepted, 0 apart",
         ),
-        (TAKE, "q:64:1:2", 1, "18432 judged, 1130 accepted, 0 apart"),
+        (TAKE, "q:64:1:2", 1, "18432 judged, 1142 accepted, 0 apart"),
     ];
     for (text, array, releases, want) in rows {
         let found = found(rt.alloc(), text, array, releases)?;

@@ -37,6 +37,20 @@ const ENDS: &str = r#"
   mov r0, -1 / add32 r0, 1 / exit
 - 64 | 1.0 | choice 1 after 3 | 0
   mov r0, 1 / lsh r0, 64 / exit
+- 64 | 1.0 | choice 1 after 4 | 0
+  mov r0, -13 / smod r0, 3 / neg r0 / exit
+- 64 | 1.0 | choice 4 after 4 | 0
+  mov r0, -13 / sdiv r0, 3 / neg r0 / exit
+- 64 | 1.0 | choice 0 after 4 | 0
+  mov r0, 7 / mov r2, 0 / div r0, r2 / exit
+- 64 | 1.0 | choice 7 after 4 | 0
+  mov r0, 7 / mov r2, 0 / mod r0, r2 / exit
+- 64 | 1.0 | choice 5 after 3 | 0
+  lddw r0, 0x700000005 / mod32 r0, 0 / exit
+- 64 | 1.0 | choice 1 after 5 | 0
+  mov32 r0, 1 / lsh32 r0, 31 / sdiv32 r0, -1 / rsh r0, 31 / exit
+- 64 | 1.0 | trap after 1 | 0
+  mov r0, 7 / mul r0, r2 / exit
 - 64 | 1.0 | trap after 0 | 0
   mov r10, 0 / exit
 - 64 | 1.0 | choice 0 after 3 | 0
