@@ -26,12 +26,12 @@ const BOUNDS: &str = r#"
 - a quotient by a single number, and one less | 62 | V13 Result at slot 2
   ldxb r0, [r1+18] / div r0, 4 / exit
 - a quotient by the least divisor | 51 | ok
-  ldxb r0, [r1+18] / ldxb r2, [r1+19] / or r2, 0 / jlt r2, 5, +2 / div r0, r2 / exit / mov r0, 0 / exit
-- a quotient by the least divisor, and one less | 50 | V13 Result at slot 5
-  ldxb r0, [r1+18] / ldxb r2, [r1+19] / or r2, 0 / jlt r2, 5, +2 / div r0, r2 / exit / mov r0, 0 / exit
-- a quotient by a number that may be 0 is at most the dividend | 15 | ok
+  ldxb r0, [r1+18] / ldxb r2, [r1+19] / jlt r2, 5, +2 / div r0, r2 / exit / mov r0, 0 / exit
+- a quotient by the least divisor, and one less | 50 | V13 Result at slot 4
+  ldxb r0, [r1+18] / ldxb r2, [r1+19] / jlt r2, 5, +2 / div r0, r2 / exit / mov r0, 0 / exit
+- a quotient by what may be 0 | 15 | ok
   ldxb r0, [r1+18] / and r0, 15 / ldxb r2, [r1+19] / div r0, r2 / exit
-- a quotient by a number that may be 0 is at most the dividend, and one less | 14 | V13 Result at slot 4
+- a quotient by what may be 0, and one less | 14 | V13 Result at slot 4
   ldxb r0, [r1+18] / and r0, 15 / ldxb r2, [r1+19] / div r0, r2 / exit
 - a 32-bit quotient of a wide range | 63 | ok
   ldxdw r0, [r1+0] / div32 r0, 0x4000000 / exit
@@ -42,16 +42,18 @@ const BOUNDS: &str = r#"
 - a remainder is below the divisor, and one less | 8 | V13 Result at slot 2
   ldxh r0, [r1+16] / mod r0, 10 / exit
 - a remainder is below the greatest divisor | 7 | ok
-  ldxh r0, [r1+16] / ldxb r2, [r1+18] / jeq r2, 0, +3 / jgt r2, 8, +2 / mod r0, r2 / exit / mov r0, 0 / exit
+  ldxh r0, [r1+16] / ldxb r2, [r1+18] / jeq r2, 0, +3 / jgt r2, 8, +2 / mod r0, r2 / exit
+  mov r0, 0 / exit
 - a remainder is below the greatest divisor, and one less | 6 | V13 Result at slot 5
-  ldxh r0, [r1+16] / ldxb r2, [r1+18] / jeq r2, 0, +3 / jgt r2, 8, +2 / mod r0, r2 / exit / mov r0, 0 / exit
+  ldxh r0, [r1+16] / ldxb r2, [r1+18] / jeq r2, 0, +3 / jgt r2, 8, +2 / mod r0, r2 / exit
+  mov r0, 0 / exit
 - a remainder is at most the dividend | 3 | ok
   ldxb r0, [r1+18] / and r0, 3 / mod r0, 10 / exit
 - a remainder is at most the dividend, and one less | 2 | V13 Result at slot 3
   ldxb r0, [r1+18] / and r0, 3 / mod r0, 10 / exit
-- a remainder by a number that may be 0 is at most the dividend | 15 | ok
+- a remainder by what may be 0 | 15 | ok
   ldxb r0, [r1+18] / and r0, 15 / ldxb r2, [r1+19] / mod r0, r2 / exit
-- a remainder by a number that may be 0 is at most the dividend, and one less | 14 | V13 Result at slot 4
+- a remainder by what may be 0, and one less | 14 | V13 Result at slot 4
   ldxb r0, [r1+18] / and r0, 15 / ldxb r2, [r1+19] / mod r0, r2 / exit
 - a 32-bit remainder of a wide range | 9 | ok
   ldxdw r0, [r1+0] / mod32 r0, 10 / exit
