@@ -1,21 +1,23 @@
 -- From each place of the machine some tokens complete a rule.
 use Rattle.std.proofs.Common.{◌≡◌, ℕ, zero, suc, List, [], ◌∷◌, ◌++◌, Option, Some, Ok, Err}
 use Rattle.std.proofs.Common.{Bool, true, if◌then◌else◌, refl, sym, ap, ◌∙◌, subst}
-use Rattle.rule_lang.specs.declared.keyword.Keyword.TheVariants as keyword
 use Rattle.rule_lang.specs.declared.phrase.Want.{Want}
 use Rattle.rule_lang.specs.declared.phrase.Want.TheVariants as want
 use Rattle.rule_lang.specs.declared.test.Relation.TheVariants as relation
 use Rattle.rule_lang.specs.declared.token.Token.TheVariants as token
 use Rattle.rule_lang.specs.Grammar as g
 use Rattle.rule_lang.specs.Lexed.{Placed, on}
-use Rattle.rule_lang.specs.Phrases.{takes, behind, misplaced, offer_phrase, otherwise_phrase, bucket_phrase, flag_phrase}
+use Rattle.rule_lang.specs.Phrases.{Phrase, Ends, Needs, Maybe, takes, behind, misplaced, offer_phrase, otherwise_phrase}
+use Rattle.rule_lang.specs.declared.test_table.TestKind.TheVariants as the_kind
+use Rattle.rule_lang.specs.Tests.{test_phrase}
 use Rattle.rule_lang.specs.Tokens.{Token}
-use Rattle.rule_lang.proofs.Machine.{Place, AtStatement, AtFact, InBucket, AtOperator, AtEnd}
+use Rattle.rule_lang.specs.Words.{modulus_word}
+use Rattle.rule_lang.proofs.Machine.{Place, AtStatement, AtFact, AtOperator, AtEnd}
 use Rattle.rule_lang.proofs.Machine.{State}
-use Rattle.rule_lang.proofs.Machine.{tail, runs, start}
+use Rattle.rule_lang.proofs.Machine.{runs, start}
 use Rattle.rule_lang.proofs.Machine.{Completes, CompletesIf, Follows, GoesOn, IsClosed, closed}
 use Rattle.rule_lang.proofs.Machine.{IsOffered}
-use Rattle.rule_lang.proofs.StepsBack.{same_word, worded, whole, here, runs_back}
+use Rattle.rule_lang.proofs.StepsBack.{same_word, given_or, whole, here, runs_back}
 
 -- ---- completions
 
@@ -27,6 +29,8 @@ filler want.Number = token.Number []
 filler want.Version = token.Number []
 filler want.Text = token.Text []
 filler want.Relation = token.Relation relation.Lt
+filler want.Salt = token.Open
+filler want.Modulus = token.Name modulus_word
 filler want.Semicolon = token.Semicolon
 filler want.Comma = token.Comma
 filler want.OpenBracket = token.OpenBracket
@@ -40,15 +44,20 @@ unfolding filler
 taken_filler (want.Keyword k) = same_word k
 taken_filler w = refl
 
-abbrev fill : List Want → List Placed → List Placed
-fill [] ts = ts
-fill (w ∷ ws) ts = on 0 (filler w) ∷ fill ws ts
+-- with each part that may be left out
+abbrev fill : Phrase → List Placed → List Placed
+fill Ends ts = ts
+fill (Needs w ws) ts = on 0 (filler w) ∷ fill ws ts
+fill (Maybe w given without) ts = on 0 (filler w) ∷ fill given ts
 
-filled : (ws : List Want) (ts : List Placed) → behind ws (fill ws ts) ≡ Ok ts
-filled [] ts = refl
-filled (w ∷ ws) ts =
+filled : (ws : Phrase) (ts : List Placed) → behind ws (fill ws ts) ≡ Ok ts
+filled Ends ts = refl
+filled (Needs w ws) ts =
     ap (λ (b : Bool). if b then behind ws (fill ws ts) else Err (misplaced 0)) (taken_filler w)
     ∙ filled ws ts
+filled (Maybe w given without) ts =
+    ap (λ (b : Bool). given_or b given without (on 0 (filler w)) (fill given ts)) (taken_filler w)
+    ∙ filled given ts
 
 pub record Some_of (P : List Placed → Type 0) : Type 0 where
   pub tokens : List Placed
@@ -80,23 +89,10 @@ from_place AtStatement = a_rule
 from_place (AtFact n) =
     let rest = closing n in
     record {
-      tokens = fill flag_phrase rest.tokens;
+      tokens = fill (test_phrase the_kind.Flag) rest.tokens;
       fits = record {
         rest = rest.tokens;
-        fact = g.asked (g.of_flag (filled flag_phrase rest.tokens));
-        more = rest.fits;
-      };
-    }
-from_place (InBucket n) =
-    let rest = closing n in
-    let ws = tail bucket_phrase in
-    let ts = fill ws rest.tokens in
-    record {
-      tokens = ts;
-      fits = record {
-        rest = rest.tokens;
-        test = λ p is.
-            g.of_bucket (worded keyword.Bucket ws p ts rest.tokens is (filled ws rest.tokens));
+        fact = g.asked (g.of the_kind.Flag (filled (test_phrase the_kind.Flag) rest.tokens));
         more = rest.fits;
       };
     }

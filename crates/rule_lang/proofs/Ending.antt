@@ -10,15 +10,16 @@ use Rattle.rule_lang.specs.declared.fault.RuleFaultKind.TheVariants.{Range}
 use Rattle.rule_lang.specs.declared.keyword.Keyword.TheVariants as keyword
 use Rattle.rule_lang.specs.declared.phrase.Want.{Want}
 use Rattle.rule_lang.specs.declared.phrase.Want.TheVariants as want
+use Rattle.rule_lang.specs.declared.test_table.TestKind.{TestKind}
 use Rattle.rule_lang.specs.declared.rule.Statement.{Statement}
 use Rattle.rule_lang.specs.declared.token.Token.TheVariants as token
 use Rattle.rule_lang.specs.Lexed.{Placed, Lexed, tokens_in}
 use Rattle.rule_lang.specs.Parts.{OrFault, ◌>>?◌, part, out_of_range, release}
-use Rattle.rule_lang.specs.Phrases.{behind, misplaced, test_phrase, count_phrase, offer_phrase, otherwise_phrase}
+use Rattle.rule_lang.specs.Phrases.{Phrase, Needs, behind, misplaced, count_phrase, offer_phrase, otherwise_phrase}
 use Rattle.rule_lang.specs.Reader.Drafts.{Pending, begin, denied, opened, joined, parted, closed, term_done, is_empty}
 use Rattle.rule_lang.specs.Reader.Reading.{Draft, Next, first_draft, with_fault_if, in_mode, with_condition, counted, statement_next, too_deep, with_test, test_next, fact_next, closed_next, offered, offer_next, operator_next, next_in, next, is_done, verdict, Reads, ended, refused, goes_on}
 use Rattle.rule_lang.specs.Says.{count_of}
-use Rattle.rule_lang.specs.Tests.{test_of}
+use Rattle.rule_lang.specs.Tests.{row, rest_phrase, kind_of}
 use Rattle.rule_lang.specs.Tokens.{Text, Token}
 use Rattle.rule_lang.specs.Verdicts.{HasVerdict, too_long, no_token}
 use Rattle.rule_lang.proofs.Keeping.{same_ok, no_ok, bound, fewer, behind_rest}
@@ -36,10 +37,11 @@ fewer_left : (ts : List Placed) (p q : Draft × List Placed) → ◌≡◌ {A = 
     → Fewer ts p → Fewer ts q
 fewer_left ts p q h k = subst (λ (r : Draft × List Placed). Fewer ts r) (same_ok p q h) k
 
-phrase_fewer : (w : Want) (ws : List Want) (ts : List Placed) (d : Draft)
-    (q : Draft × List Placed) → (behind (w ∷ ws) ts >>? λ rest. Ok (d, rest)) ≡ Ok q → Fewer ts q
+phrase_fewer : (w : Want) (ws : Phrase) (ts : List Placed) (d : Draft)
+    (q : Draft × List Placed) → (behind (Needs w ws) ts >>? λ rest. Ok (d, rest)) ≡ Ok q
+    → Fewer ts q
 phrase_fewer w ws ts d q h =
-    let b = bound (behind (w ∷ ws) ts) (λ rest. Ok (d, rest)) q h in
+    let b = bound (behind (Needs w ws) ts) (λ rest. Ok (d, rest)) q h in
     let t = one_taken w ws ts b.value b.first in
     let left = fewer b.value t.after (behind_rest ws t.after b.value t.more) in
     let whole : length ts ≡ length (t.first ∷ t.after) =
@@ -59,24 +61,12 @@ statement_fewer s d (token.Keyword keyword.Otherwise) line ts after q less h =
     phrase_fewer (want.Keyword keyword.Otherwise) (tail otherwise_phrase) ts e q h
 statement_fewer s d t line ts after q less h = absurd (no_ok (misplaced line) q h)
 
--- a phrase has a place
-abbrev HasPlace : Option (List Want) → Type 0
-HasPlace None = Unit {0}
-HasPlace (Some []) = ⊥
-HasPlace (Some (w ∷ ws)) = Unit {0}
-
-has_place : (t u : Token) → HasPlace (test_phrase t u)
-has_place (token.Keyword keyword.Bucket) token.Open = tt
-has_place (token.Keyword keyword.Bucket) u = tt
-has_place (token.Keyword k) u = tt
-has_place t u = tt
-
-test_fewer : (s : AppShape) (d : Draft) (line : ℕ) (o : Option (List Want)) (ts : List Placed)
-    (q : Draft × List Placed) → HasPlace o → test_next s d line o ts ≡ Ok q → Fewer ts q
-test_fewer s d line None ts q has h = absurd (no_ok (misplaced line) q h)
-test_fewer s d line (Some []) ts q has h = absurd has
-test_fewer s d line (Some (w ∷ ws)) ts q has h =
-    phrase_fewer w ws ts (in_mode mode.Operator (with_test line (test_of s ts) d)) q h
+test_fewer : (s : AppShape) (d : Draft) (line : ℕ) (o : Option TestKind) (ts : List Placed)
+    (q : Draft × List Placed) → test_next s d line o ts ≡ Ok q → Fewer ts q
+test_fewer s d line None ts q h = absurd (no_ok (misplaced line) q h)
+test_fewer s d line (Some k) ts q h =
+    phrase_fewer (want.Keyword (row k).word) (rest_phrase k) ts (in_mode mode.Operator (with_test
+    line ((row k).says s ts) d)) q h
 
 fact_fewer : (s : AppShape) (d : Draft) (t : Token) (p : Placed) (ts after : List Placed)
     (q : Draft × List Placed) → length after < length ts
@@ -88,8 +78,7 @@ fact_fewer s d token.Open p ts after q less h =
     let noted = with_fault_if (too_deep d) (out_of_range p) d in
     fewer_left ts (with_condition (opened noted.condition) noted, after) q h less
 fact_fewer s d t p ts after q less h =
-    let second = (part ts 1).token in
-    test_fewer s d p.line (test_phrase t second) ts q (has_place t second) h
+    test_fewer s d p.line (kind_of t) ts q h
 
 closed_fewer : (o : Option Pending) (d : Draft) (line : ℕ) (ts after : List Placed)
     (q : Draft × List Placed) → length after < length ts → closed_next o d line after ≡ Ok q

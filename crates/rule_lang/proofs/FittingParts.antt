@@ -1,5 +1,5 @@
 -- What is read of tests and statements fits the shape: arrays, indexes and releases were asked for.
-use Rattle.std.proofs.Common.{◌≡◌, ℕ, List, [], ◌∷◌}
+use Rattle.std.proofs.Common.{◌≡◌, ℕ, ◌+◌, List, [], ◌∷◌}
 use Rattle.std.proofs.Common.{Option, Some, None}
 use Rattle.std.proofs.Common.{Ok, Err, Bool, true, false, if◌then◌else◌, refl, sym, ap, ◌∙◌, subst}
 use Rattle.std.specs.Prelude.{not, is_some, nat_lt}
@@ -8,22 +8,23 @@ use Rattle.std.specs.Str.{bytes_eq}
 use Rattle.std.proofs.lemmas.Slice.Eq.{bytes_eq-Decides}
 use Rattle.cells.specs.Arrays.{AppShape}
 use Rattle.cells.specs.declared.array.CellArray.{CellArray}
-use Rattle.rule_lang.specs.declared.keyword.Keyword.TheVariants as keyword
 use Rattle.rule_lang.specs.declared.rule.Statement.TheVariants.{Count}
 use Rattle.rule_lang.specs.declared.test.Test.{Test}
+use Rattle.rule_lang.specs.declared.phrase.Want.TheVariants as want
 use Rattle.rule_lang.specs.declared.test.Test.TheVariants as test
-use Rattle.rule_lang.specs.declared.token.Token.TheVariants as token
+use Rattle.rule_lang.specs.declared.test_table.TestKind.{TestKind}
+use Rattle.rule_lang.specs.declared.test_table.TestKind.TheVariants as the_kind
 use Rattle.rule_lang.specs.Fits.{can_take, can_count, is_release, test_fits}
 use Rattle.rule_lang.specs.Fits.{statement_fits}
 use Rattle.rule_lang.specs.Lexed.{Placed}
-use Rattle.rule_lang.specs.Parts.{OrFault, ◌>>?◌, part, number, salt, version, flag, attribute}
+use Rattle.rule_lang.specs.Parts.{OrFault, ◌>>?◌, part, number, salt, modulus, version, flag}
+use Rattle.rule_lang.specs.Parts.{attribute}
 use Rattle.rule_lang.specs.Parts.{array, array_if, index, release, within, unknown, same}
 use Rattle.rule_lang.specs.Parts.{out_of_range, relation}
 use Rattle.rule_lang.specs.Says.{count_of}
 use Rattle.rule_lang.specs.Shapes.{array_named}
-use Rattle.rule_lang.specs.Tests.{test_by, take_test, salted_test}
-use Rattle.rule_lang.specs.Tests.{attr_test, literal}
-use Rattle.rule_lang.specs.Tokens.{Token}
+use Rattle.rule_lang.specs.Tests.{row, take_test, begins, optional, past, bucket_test, attr_test}
+use Rattle.rule_lang.specs.Tests.{literal}
 use Rattle.rule_lang.proofs.Keeping.{same_ok, no_ok, bound}
 
 -- ---- arrays by their names
@@ -144,28 +145,37 @@ free : {A : Type 0} (s : AppShape) (o : OrFault A) (f : A → Test) → ((x : A)
 free s (Ok x) f h = h x
 free s (Err e) f h = tt
 
-salted_fits : (s : AppShape) (ts : List Placed) → IfRead (test_fits s) (salted_test ts)
-salted_fits s ts = each (test_fits s) (salt (part ts 2)) (λ n. number (part ts 5) >>? λ m. Ok
-    (test.SaltedBucket n (relation (part ts 4)) m)) (λ n h. free s (number (part ts 5)) (λ m.
-    test.SaltedBucket n (relation (part ts 4)) m) (λ m. refl))
+-- one number of three
+free_third : {A B C : Type 0} (s : AppShape) (o : OrFault A) (p : OrFault B) (q : OrFault C)
+    (f : A → B → C → Test) → ((x : A) (y : B) (z : C) → test_fits s (f x y z) ≡ true)
+    → IfRead (test_fits s) (o >>? λ x. p >>? λ y. q >>? λ z. Ok (f x y z))
+free_third s (Ok x) (Ok y) q f h = free s q (f x y) (h x y)
+free_third s (Ok x) (Err e) q f h = tt
+free_third s (Err e) p q f h = tt
+
+bucket_fits : (s : AppShape) (ts : List Placed) → IfRead (test_fits s) (bucket_test ts)
+bucket_fits s ts =
+    let salted = begins want.Salt ts 1 in
+    let j = past salted 3 1 in
+    let divided = begins want.Modulus ts j in
+    let k = past divided 2 j in
+    free_third s (optional salted (salt (part ts 2))) (optional divided (modulus (part ts (j + 1))))
+    (number (part ts (k + 1))) (λ n m l. test.Bucket n m (relation (part ts k)) l) (λ n m l. refl)
 
 attr_fits : (s : AppShape) (ts : List Placed) → IfRead (test_fits s) (attr_test ts)
 attr_fits s ts = each (test_fits s) (attribute (part ts 1)) (λ a. literal (part ts 3) >>? λ text.
     Ok (test.Attr a text)) (λ a h. free s (literal (part ts 3)) (λ text. test.Attr a text) (λ text.
     refl))
 
-pub by_words : (s : AppShape) (ts : List Placed) (first second : Token)
-    → IfRead (test_fits s) (test_by s ts first second)
-by_words s ts (token.Keyword keyword.Version) t =
+pub by_kind : (s : AppShape) (ts : List Placed) (k : TestKind)
+    → IfRead (test_fits s) ((row k).says s ts)
+by_kind s ts the_kind.Version =
     free s (version (part ts 2)) (λ v. test.Version (relation (part ts 1)) v) (λ v. refl)
-by_words s ts (token.Keyword keyword.Bucket) token.Open = salted_fits s ts
-by_words s ts (token.Keyword keyword.Bucket) t =
-    free s (number (part ts 2)) (λ n. test.Bucket (relation (part ts 1)) n) (λ n. refl)
-by_words s ts (token.Keyword keyword.Today) t =
+by_kind s ts the_kind.Bucket = bucket_fits s ts
+by_kind s ts the_kind.Today =
     free s (number (part ts 2)) (λ n. test.Today (relation (part ts 1)) n) (λ n. refl)
-by_words s ts (token.Keyword keyword.Installed) t =
+by_kind s ts the_kind.Installed =
     free s (number (part ts 2)) (λ n. test.Installed (relation (part ts 1)) n) (λ n. refl)
-by_words s ts (token.Keyword keyword.Flag) t = free s (flag (part ts 1)) (λ f. test.Flag f) (λ f.
-    refl)
-by_words s ts (token.Keyword keyword.Attr) t = attr_fits s ts
-by_words s ts t u = take_fits s ts
+by_kind s ts the_kind.Flag = free s (flag (part ts 1)) (λ f. test.Flag f) (λ f. refl)
+by_kind s ts the_kind.Attr = attr_fits s ts
+by_kind s ts the_kind.Take = take_fits s ts

@@ -9,19 +9,20 @@ use Rattle.rule_lang.specs.declared.draft.Mode.TheVariants as mode
 use Rattle.rule_lang.specs.declared.fault.RuleFault.{RuleFault}
 use Rattle.rule_lang.specs.declared.keyword.Keyword.TheVariants as keyword
 use Rattle.rule_lang.specs.declared.phrase.Want.{Want}
+use Rattle.rule_lang.specs.declared.test_table.TestKind.{TestKind}
 use Rattle.rule_lang.specs.declared.rule.Statement.{Statement}
 use Rattle.rule_lang.specs.declared.test.Test.{Test}
 use Rattle.rule_lang.specs.declared.token.Token.TheVariants as token
 use Rattle.rule_lang.specs.Reader.Drafts.{Pending, first_frame, begin, denied, opened}
 use Rattle.rule_lang.specs.Lexed.{Placed}
-use Rattle.rule_lang.specs.Parts.{OrFault, ◌>>?◌, part, out_of_range}
-use Rattle.rule_lang.specs.Phrases.{behind, misplaced, test_phrase, takes, count_phrase, otherwise_phrase}
+use Rattle.rule_lang.specs.Parts.{OrFault, ◌>>?◌, out_of_range}
+use Rattle.rule_lang.specs.Phrases.{Phrase, Ends, Needs, Maybe, behind, misplaced, takes, count_phrase, otherwise_phrase}
 use Rattle.rule_lang.specs.Reader.Reading.{Draft, Next, first_of, with_fault_if, in_mode}
 use Rattle.rule_lang.specs.Reader.Reading.{with_condition, counted, statement_next, too_deep}
 use Rattle.rule_lang.specs.Reader.Reading.{with_test, test_next, fact_next, next}
 use Rattle.rule_lang.specs.Says.{count_of}
 use Rattle.rule_lang.specs.Reader.Sound.{HasTrees, all_waiting, IsSoundAfter, IsSoundIn, IsSound}
-use Rattle.rule_lang.specs.Tests.{test_of}
+use Rattle.rule_lang.specs.Tests.{row, test_phrase, kind_of}
 use Rattle.rule_lang.specs.Tokens.{Token}
 use Rattle.rule_lang.proofs.Sounds.{recount, test_added, fact_sound}
 
@@ -75,17 +76,28 @@ pub rest_is : (rest ts : List Placed) → IsRest rest ts → drop (length ts - l
 rest_is rest ts r = let l = fewer rest ts r in dropped rest ts (length ts - length rest) r (omega
     (arith, l))
 
-behind_by : (w : Want) (ws : List Want) (t : Placed) (ts rest : List Placed) (b : Bool)
+behind_by : (w : Want) (ws : Phrase) (t : Placed) (ts rest : List Placed) (b : Bool)
     → (if b then behind ws ts else Err (misplaced t.line)) ≡ Ok rest → (behind ws ts ≡ Ok rest
     → IsRest rest ts) → IsRest rest (t ∷ ts)
 behind_by w ws t ts rest true h next = later (next h)
 behind_by w ws t ts rest false h next = absurd (no_ok (misplaced t.line) rest h)
 
-pub behind_rest : (ws : List Want) (ts rest : List Placed) → behind ws ts ≡ Ok rest → IsRest rest ts
-behind_rest [] ts rest h = subst (λ (us : List Placed). IsRest us ts) (same_ok ts rest h) all
-behind_rest (w ∷ ws) [] rest h = absurd (no_ok (misplaced 0) rest h)
-behind_rest (w ∷ ws) (t ∷ ts) rest h = behind_by w ws t ts rest (takes w t.token) h (behind_rest
-    ws ts rest)
+maybe_by : (given without : Phrase) (t : Placed) (ts rest : List Placed) (b : Bool)
+    → (if b then behind given ts else behind without (t ∷ ts)) ≡ Ok rest
+    → (behind given ts ≡ Ok rest → IsRest rest ts)
+    → (behind without (t ∷ ts) ≡ Ok rest → IsRest rest (t ∷ ts)) → IsRest rest (t ∷ ts)
+maybe_by given without t ts rest true h there left = later (there h)
+maybe_by given without t ts rest false h there left = left h
+
+pub behind_rest : (ws : Phrase) (ts rest : List Placed) → behind ws ts ≡ Ok rest → IsRest rest ts
+behind_rest Ends ts rest h = subst (λ (us : List Placed). IsRest us ts) (same_ok ts rest h) all
+behind_rest (Needs w ws) [] rest h = absurd (no_ok (misplaced 0) rest h)
+behind_rest (Needs w ws) (t ∷ ts) rest h =
+    behind_by w ws t ts rest (takes w t.token) h (behind_rest ws ts rest)
+behind_rest (Maybe w given without) [] rest h = absurd (no_ok (misplaced 0) rest h)
+behind_rest (Maybe w given without) (t ∷ ts) rest h =
+    maybe_by given without t ts rest (takes w t.token) h (behind_rest given ts rest)
+    (behind_rest without (t ∷ ts) rest)
 
 -- ---- what each phrase keeps
 
@@ -105,7 +117,7 @@ pub mode_counted : (o : OrFault Statement) (d : Draft) → (counted o d).mode �
 mode_counted (Ok statement) d = refl
 mode_counted (Err e) d = refl
 
-pub phrase_keeps : (ws : List Want) (ts : List Placed) (d : Draft) (q : Draft × List Placed)
+pub phrase_keeps : (ws : Phrase) (ts : List Placed) (d : Draft) (q : Draft × List Placed)
     → IsSound d → (behind ws ts >>? λ rest. Ok (d, rest)) ≡ Ok q → Keeps ts q
 phrase_keeps ws ts d q sound h =
     let b = bound (behind ws ts) (λ rest. Ok (d, rest)) q h in
@@ -169,12 +181,13 @@ test_sound d line (Ok t) h = λ clean.
     clean))
 test_sound d line (Err e) h = λ clean. absurd (no_fault d.noted e clean)
 
-test_keeps : (s : AppShape) (d : Draft) (line : ℕ) (o : Option (List Want)) (ts : List Placed) (q
-    : Draft × List Placed) → FactSound d → test_next s d line o ts ≡ Ok q → Keeps ts q
+test_keeps : (s : AppShape) (d : Draft) (line : ℕ) (o : Option TestKind) (ts : List Placed)
+    (q : Draft × List Placed) → FactSound d → test_next s d line o ts ≡ Ok q → Keeps ts q
 test_keeps s d line None ts q sound h = absurd (no_ok (misplaced line) q h)
-test_keeps s d line (Some ws) ts q sound h =
-    phrase_keeps ws ts (in_mode mode.Operator (with_test line (test_of s ts) d)) q (test_sound d
-    line (test_of s ts) sound) h
+test_keeps s d line (Some k) ts q sound h =
+    let said = (row k).says s ts in
+    phrase_keeps (test_phrase k) ts (in_mode mode.Operator (with_test line said d)) q
+    (test_sound d line said sound) h
 
 in_fact : (d : Draft) → d.mode ≡ mode.Fact → IsSound d → FactSound d
 in_fact d e h = λ clean. subst (λ (m : Mode). IsSoundIn m d.condition) e (h clean)
@@ -207,7 +220,7 @@ fact_keeps s d token.Open p ts after q m sound r h =
       rest = r;
     })
 fact_keeps s d t p ts after q m sound r h =
-    test_keeps s d p.line (test_phrase t (part ts 1).token) ts q (in_fact d m sound) h
+    test_keeps s d p.line (kind_of t) ts q (in_fact d m sound) h
 
 -- ---- operators
 

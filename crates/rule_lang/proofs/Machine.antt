@@ -4,11 +4,12 @@ use Rattle.std.proofs.Common.{◌≡◌, ℕ, zero, suc, List, [], ◌∷◌, �
 use Rattle.std.proofs.Common.{if◌then◌else◌, refl}
 use Rattle.std.specs.Option.{option_and_then}
 use Rattle.rule_lang.specs.declared.keyword.Keyword.TheVariants as keyword
-use Rattle.rule_lang.specs.declared.phrase.Want.{Want}
+use Rattle.rule_lang.specs.declared.test_table.TestKind.{TestKind}
 use Rattle.rule_lang.specs.declared.token.Token.TheVariants as token
 use Rattle.rule_lang.specs.Grammar as g
 use Rattle.rule_lang.specs.Lexed.{Placed}
-use Rattle.rule_lang.specs.Phrases.{takes, behind, count_phrase, offer_phrase, otherwise_phrase, version_phrase, bucket_phrase, salted_phrase, today_phrase, installed_phrase, flag_phrase, attr_phrase, take_phrase}
+use Rattle.rule_lang.specs.Phrases.{Phrase, Ends, Needs, Maybe, takes, behind, count_phrase, offer_phrase, otherwise_phrase}
+use Rattle.rule_lang.specs.Tests.{rest_phrase, kind_of}
 use Rattle.rule_lang.specs.Tokens.{Token}
 
 -- ---- the machine
@@ -17,27 +18,31 @@ use Rattle.rule_lang.specs.Tokens.{Token}
 pub data Place : Type 0 where
   AtStatement : Place
   AtFact : (parentheses : ℕ) → Place
-  InBucket : (parentheses : ℕ) → Place
   AtOperator : (parentheses : ℕ) → Place
   AtEnd : Place
 
 -- behind a part of a phrase: what is still wanted of it, and the place behind it
 pub record State : Type 0 where
-  pub wants : List Want
+  pub wants : Phrase
   pub place : Place
 
-abbrev pub state : List Want → Place → State
+abbrev pub state : Phrase → Place → State
 state ws l = record { wants = ws; place = l }
 
 abbrev pub at : Place → Option State
-at l = Some (state [] l)
+at l = Some (state Ends l)
 
-abbrev pub tail : List Want → List Want
-tail [] = []
-tail (w ∷ ws) = ws
+abbrev pub tail : Phrase → Phrase
+tail (Needs w ws) = ws
+tail ws = ws
 
-abbrev pub phrase : List Want → Place → Option State
+abbrev pub phrase : Phrase → Place → Option State
 phrase ws l = Some (state (tail ws) l)
+
+-- behind the first word of a test
+abbrev pub test_step : (parentheses : ℕ) → Option TestKind → Option State
+test_step n None = None
+test_step n (Some k) = Some (state (rest_phrase k) (AtOperator n))
 
 abbrev pub place_step : Place → Token → Option State
 place_step AtStatement (token.Keyword keyword.Count) = phrase count_phrase AtStatement
@@ -45,15 +50,7 @@ place_step AtStatement (token.Keyword keyword.When) = at (AtFact 0)
 place_step AtStatement (token.Keyword keyword.Otherwise) = phrase otherwise_phrase AtEnd
 place_step (AtFact n) (token.Keyword keyword.Not) = at (AtFact n)
 place_step (AtFact n) token.Open = at (AtFact (suc n))
-place_step (AtFact n) (token.Keyword keyword.Version) = phrase version_phrase (AtOperator n)
-place_step (AtFact n) (token.Keyword keyword.Bucket) = at (InBucket n)
-place_step (AtFact n) (token.Keyword keyword.Today) = phrase today_phrase (AtOperator n)
-place_step (AtFact n) (token.Keyword keyword.Installed) = phrase installed_phrase (AtOperator n)
-place_step (AtFact n) (token.Keyword keyword.Flag) = phrase flag_phrase (AtOperator n)
-place_step (AtFact n) (token.Keyword keyword.Attr) = phrase attr_phrase (AtOperator n)
-place_step (AtFact n) (token.Keyword keyword.Take) = phrase take_phrase (AtOperator n)
-place_step (InBucket n) token.Open = Some (state (tail (tail salted_phrase)) (AtOperator n))
-place_step (InBucket n) (token.Relation r) = Some (state (tail (tail bucket_phrase)) (AtOperator n))
+place_step (AtFact n) t = test_step n (kind_of t)
 place_step (AtOperator n) (token.Keyword keyword.And) = at (AtFact n)
 place_step (AtOperator n) (token.Keyword keyword.Or) = at (AtFact n)
 place_step (AtOperator (suc n)) token.Close = at (AtOperator n)
@@ -61,9 +58,11 @@ place_step (AtOperator zero) (token.Keyword keyword.Offer) = phrase offer_phrase
 place_step AtEnd t = at AtEnd
 place_step l t = None
 
-abbrev pub wants_step : List Want → Place → Token → Option State
-wants_step [] l t = place_step l t
-wants_step (w ∷ ws) l t = if takes w t then Some (state ws l) else None
+abbrev pub wants_step : Phrase → Place → Token → Option State
+wants_step Ends l t = place_step l t
+wants_step (Needs w ws) l t = if takes w t then Some (state ws l) else None
+wants_step (Maybe w given without) l t =
+    if takes w t then Some (state given l) else wants_step without l t
 
 abbrev pub step : State → Token → Option State
 step x t = wants_step x.wants x.place t
@@ -73,7 +72,7 @@ runs x [] = Some x
 runs x (p ∷ ts) = option_and_then (λ y. runs y ts) (step x p.token)
 
 abbrev pub start : State
-start = state [] AtStatement
+start = state Ends AtStatement
 
 runs_by : (o : Option State) (xs ys : List Placed) → ((y : State) → runs y (xs ++ ys)
     ≡ option_and_then (λ z. runs z ys) (runs y xs)) → option_and_then (λ y. runs y (xs ++ ys)) o
@@ -122,15 +121,9 @@ pub record IsFactAhead (n : ℕ) (ts : List Placed) : Type 0 where
   pub fact : g.IsFact ts rest
   pub more : Follows n rest
 
-pub record IsBucketAhead (n : ℕ) (ts : List Placed) : Type 0 where
-  pub rest : List Placed
-  pub test : (p : Placed) → p.token ≡ token.Keyword keyword.Bucket → g.IsTest (p ∷ ts) rest
-  pub more : Follows n rest
-
 abbrev pub GoesOn : Place → List Placed → Type 0
 GoesOn AtStatement ts = g.IsRule ts
 GoesOn (AtFact n) ts = IsFactAhead n ts
-GoesOn (InBucket n) ts = IsBucketAhead n ts
 GoesOn (AtOperator n) ts = Follows n ts
 GoesOn AtEnd ts = Unit {0}
 

@@ -14,7 +14,7 @@ use Rattle.rule_lang.specs.declared.token.Token.TheVariants as token
 use Rattle.rule_lang.specs.Grammar as g
 use Rattle.rule_lang.specs.Lexed.{Placed, Lexed, on, ahead, after_piece, lexed}
 use Rattle.rule_lang.specs.Parts.{OrFault}
-use Rattle.rule_lang.specs.Phrases.{misplaced}
+use Rattle.rule_lang.specs.Phrases.{Ends, misplaced}
 use Rattle.rule_lang.specs.Reader.Reading.{Draft, Next, next, is_done, Reads, ended, refused}
 use Rattle.rule_lang.specs.Reader.Reading.{goes_on}
 use Rattle.rule_lang.specs.Tokens as tokens
@@ -78,13 +78,13 @@ end_ahead d ts going (inl e) =
     absurd cc
 end_ahead d ts going (inr h) = h
 
-at_end : (d : Draft) → d.mode ≡ mode.Done → state_of d ≡ state [] AtEnd
-at_end d is = ap (λ (m : Mode). state [] (place_of m (length d.condition.below))) is
+at_end : (d : Draft) → d.mode ≡ mode.Done → state_of d ≡ state Ends AtEnd
+at_end d is = ap (λ (m : Mode). state Ends (place_of m (length d.condition.below))) is
 
-completed : (before ts : List Placed) → runs start before ≡ Some (state [] AtEnd)
+completed : (before ts : List Placed) → runs start before ≡ Some (state Ends AtEnd)
     → g.IsRule (before ++ ts)
 completed before ts is =
-    let last : Completes (state [] AtEnd) ts = record { rest = ts; phrase = refl; more = tt } in
+    let last : Completes (state Ends AtEnd) ts = record { rest = ts; phrase = refl; more = tt } in
     let completes : CompletesIf (runs start before) ts = subst (λ (o : Option State).
     CompletesIf o ts) (sym is) last in
     here AtStatement (before ++ ts) (runs_back start before ts completes)

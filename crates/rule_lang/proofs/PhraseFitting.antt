@@ -8,7 +8,7 @@ use Rattle.rule_lang.specs.declared.draft.Mode.TheVariants as mode
 use Rattle.rule_lang.specs.declared.fault.RuleFault.{RuleFault}
 use Rattle.rule_lang.specs.declared.frame.Frame.{Frame}
 use Rattle.rule_lang.specs.declared.keyword.Keyword.TheVariants as keyword
-use Rattle.rule_lang.specs.declared.phrase.Want.{Want}
+use Rattle.rule_lang.specs.declared.test_table.TestKind.{TestKind}
 use Rattle.rule_lang.specs.declared.rule.Statement.{Statement}
 use Rattle.rule_lang.specs.declared.token.Token.TheVariants as token
 use Rattle.rule_lang.specs.Reader.Drafts.{Pending, begin, denied, opened, joined, parted, fact_done}
@@ -16,17 +16,17 @@ use Rattle.rule_lang.specs.Reader.Drafts.{term_done, or_step, closed_to, is_empt
 use Rattle.rule_lang.specs.Fits.{step_fits, statement_fits, fits}
 use Rattle.rule_lang.specs.Lexed.{Placed}
 use Rattle.rule_lang.specs.Parts.{OrFault, ◌>>?◌, part, release, out_of_range}
-use Rattle.rule_lang.specs.Phrases.{behind, misplaced, test_phrase, count_phrase, offer_phrase, otherwise_phrase}
+use Rattle.rule_lang.specs.Phrases.{Phrase, behind, misplaced, count_phrase, offer_phrase, otherwise_phrase}
 use Rattle.rule_lang.specs.Reader.Reading.{Draft, Next, with_fault_if, in_mode, with_condition}
 use Rattle.rule_lang.specs.Reader.Reading.{counted, statement_next, too_deep, with_test, test_next}
 use Rattle.rule_lang.specs.Reader.Reading.{fact_next, closed_next, offered, offer_next}
 use Rattle.rule_lang.specs.Reader.Reading.{operator_next, next_in, next, first_draft, verdict}
 use Rattle.rule_lang.specs.Reader.Reading.{Reads, ended, refused, goes_on}
 use Rattle.rule_lang.specs.Says.{count_of}
-use Rattle.rule_lang.specs.Tests.{test_of}
+use Rattle.rule_lang.specs.Tests.{row, test_phrase, kind_of}
 use Rattle.rule_lang.specs.Tokens.{Token}
 use Rattle.rule_lang.proofs.Keeping.{same_ok, no_ok, bound}
-use Rattle.rule_lang.proofs.FittingParts.{IfRead, count_fits, by_words}
+use Rattle.rule_lang.proofs.FittingParts.{IfRead, count_fits, by_kind}
 use Rattle.rule_lang.proofs.Fitting.{Fitting, StepsFit, counted_fits, fact_fits, fault_fits}
 use Rattle.rule_lang.proofs.Fitting.{offered_fits, release_fits, term_fits, tested_fits}
 
@@ -36,7 +36,7 @@ kept : (s : AppShape) (p q : Draft × List Placed) → ◌≡◌ {A = Next} (Ok 
     → Fitting s q.0
 kept s p q h k = subst (λ (r : Draft × List Placed). Fitting s r.0) (same_ok p q h) k
 
-phrase_kept : (s : AppShape) (ws : List Want) (ts : List Placed) (d : Draft) (q : Draft × List
+phrase_kept : (s : AppShape) (ws : Phrase) (ts : List Placed) (d : Draft) (q : Draft × List
     Placed) → (behind ws ts >>? λ rest. Ok (d, rest)) ≡ Ok q → Fitting s d → Fitting s q.0
 phrase_kept s ws ts d q h k =
     let b = bound (behind ws ts) (λ rest. Ok (d, rest)) q h in
@@ -70,15 +70,15 @@ statement_kept s d (token.Keyword keyword.Otherwise) line ts after q f h =
     phrase_kept s otherwise_phrase ts e q h (again s d e refl refl f)
 statement_kept s d t line ts after q f h = absurd (no_ok (misplaced line) q h)
 
-test_kept : (s : AppShape) (d : Draft) (line : ℕ) (o : Option (List Want)) (ts : List Placed) (q
-    : Draft × List Placed) → Fitting s d → test_next s d line o ts ≡ Ok q → Fitting s q.0
+test_kept : (s : AppShape) (d : Draft) (line : ℕ) (o : Option TestKind) (ts : List Placed)
+    (q : Draft × List Placed) → Fitting s d → test_next s d line o ts ≡ Ok q → Fitting s q.0
 test_kept s d line None ts q f h = absurd (no_ok (misplaced line) q h)
-test_kept s d line (Some ws) ts q f h =
-    let e = with_test line (test_of s ts) d in
-    let fit = tested_fits s line (test_of s ts) d (by_words s ts (part ts 0).token (part ts
-    1).token) f in
-    phrase_kept s ws ts (in_mode mode.Operator e) q h (again s e (in_mode mode.Operator e) refl refl
-    fit)
+test_kept s d line (Some k) ts q f h =
+    let said = (row k).says s ts in
+    let e = with_test line said d in
+    let fit = tested_fits s line said d (by_kind s ts k) f in
+    phrase_kept s (test_phrase k) ts (in_mode mode.Operator e) q h (again s e (in_mode
+    mode.Operator e) refl refl fit)
 
 fact_kept : (s : AppShape) (d : Draft) (t : Token) (p : Placed) (ts after : List Placed) (q :
     Draft × List Placed) → Fitting s d → fact_next s d t p ts after ≡ Ok q → Fitting s q.0
@@ -92,7 +92,7 @@ fact_kept s d token.Open p ts after q f h =
     let e = with_condition (opened noted.condition) noted in
     kept s (e, after) q h (again s noted e refl refl (fault_fits s (too_deep d) (out_of_range p) d
     f))
-fact_kept s d t p ts after q f h = test_kept s d p.line (test_phrase t (part ts 1).token) ts q f h
+fact_kept s d t p ts after q f h = test_kept s d p.line (kind_of t) ts q f h
 
 closed_kept : (s : AppShape) (d : Draft) (fs : List Frame) (line : ℕ) (ts after : List Placed) (q
     : Draft × List Placed) → Fitting s d

@@ -11,14 +11,18 @@ use Rattle.rule_lang.specs.declared.phrase.Want.TheVariants as want
 use Rattle.rule_lang.specs.declared.token.Token.TheVariants as token
 use Rattle.rule_lang.specs.Grammar as g
 use Rattle.rule_lang.specs.Lexed.{Placed}
-use Rattle.rule_lang.specs.Phrases.{takes, behind, misplaced, count_phrase, offer_phrase, otherwise_phrase, version_phrase, bucket_phrase, salted_phrase, today_phrase, installed_phrase, flag_phrase, attr_phrase, take_phrase}
+use Rattle.rule_lang.specs.Parts.{OrFault}
+use Rattle.rule_lang.specs.declared.test_table.TestKind.{TestKind}
+use Rattle.rule_lang.specs.declared.test_table.TestKind.TheVariants as the_kind
+use Rattle.rule_lang.specs.Phrases.{Phrase, Ends, Needs, Maybe, takes, behind, misplaced, count_phrase, offer_phrase, otherwise_phrase}
+use Rattle.rule_lang.specs.Tests.{row, rest_phrase, kind_of}
 use Rattle.rule_lang.specs.Tokens.{Token}
 use Rattle.rule_lang.specs.Words.{keyword_number, same_keyword}
 use Rattle.rule_lang.proofs.Keeping.{same_ok}
-use Rattle.rule_lang.proofs.Machine.{Place, AtStatement, AtFact, InBucket, AtOperator, AtEnd}
-use Rattle.rule_lang.proofs.Machine.{State, state, tail, place_step, wants_step, step}
+use Rattle.rule_lang.proofs.Machine.{Place, AtStatement, AtFact, AtOperator, AtEnd}
+use Rattle.rule_lang.proofs.Machine.{State, state, tail, test_step, place_step, wants_step, step}
 use Rattle.rule_lang.proofs.Machine.{runs, IsRestOfCond, IsOffered, IsClosed, closed, Follows}
-use Rattle.rule_lang.proofs.Machine.{IsFactAhead, IsBucketAhead, GoesOn, Completes, CompletesIf}
+use Rattle.rule_lang.proofs.Machine.{IsFactAhead, GoesOn, Completes, CompletesIf}
 
 -- ---- words
 
@@ -45,21 +49,48 @@ pub one_word : (k l : Keyword) → same_keyword k l ≡ true → k ≡ l
 one_word k l h = sym (numbered k) ∙ ap keyword_at ((Decides-eqb (keyword_number k) (keyword_number
     l)).0 h) ∙ numbered l
 
+-- ---- kinds of tests
+
+abbrev word_if : Option TestKind → Keyword
+word_if None = keyword.Not
+word_if (Some k) = (row k).word
+
+abbrev pub word_token : Option TestKind → Token
+word_token o = token.Keyword (word_if o)
+
+-- a token with which a test begins is the first word of its kind
+pub kind_word : (t : Token) (k : TestKind) → kind_of t ≡ Some k → t ≡ token.Keyword (row k).word
+kind_word (token.Keyword keyword.Version) k h = ap word_token h
+kind_word (token.Keyword keyword.Bucket) k h = ap word_token h
+kind_word (token.Keyword keyword.Today) k h = ap word_token h
+kind_word (token.Keyword keyword.Installed) k h = ap word_token h
+kind_word (token.Keyword keyword.Flag) k h = ap word_token h
+kind_word (token.Keyword keyword.Attr) k h = ap word_token h
+kind_word (token.Keyword keyword.Take) k h = ap word_token h
+kind_word t k h = absurd cc
+
+-- and the machine goes on behind it
+pub word_step : (n : ℕ) (k : TestKind)
+    → place_step (AtFact n) (token.Keyword (row k).word)
+    ≡ Some (state (rest_phrase k) (AtOperator n))
+word_step n the_kind.Version = refl
+word_step n k = refl
+
 -- ---- a step back
 
-taken : (w : Want) (ws : List Want) (p : Placed) (ts rest : List Placed) → takes w p.token ≡ true
-    → behind ws ts ≡ Ok rest → behind (w ∷ ws) (p ∷ ts) ≡ Ok rest
+taken : (w : Want) (ws : Phrase) (p : Placed) (ts rest : List Placed) → takes w p.token ≡ true
+    → behind ws ts ≡ Ok rest → behind (Needs w ws) (p ∷ ts) ≡ Ok rest
 taken w ws p ts rest is h =
     ap (λ (b : Bool). if b then behind ws ts else Err (misplaced p.line)) is ∙ h
 
 -- a word, which is a phrase's first token
-pub worded : (k : Keyword) (ws : List Want) (p : Placed) (ts rest : List Placed)
+pub worded : (k : Keyword) (ws : Phrase) (p : Placed) (ts rest : List Placed)
     → p.token ≡ token.Keyword k → behind ws ts ≡ Ok rest
-    → behind (want.Keyword k ∷ ws) (p ∷ ts) ≡ Ok rest
+    → behind (Needs (want.Keyword k) ws) (p ∷ ts) ≡ Ok rest
 worded k ws p ts rest is h =
     taken (want.Keyword k) ws p ts rest (ap (takes (want.Keyword k)) is ∙ same_word k) h
 
-pub here : (l : Place) (ts : List Placed) → Completes (state [] l) ts → GoesOn l ts
+pub here : (l : Place) (ts : List Placed) → Completes (state Ends l) ts → GoesOn l ts
 here l ts h = subst (λ (us : List Placed). GoesOn l us) (sym (same_ok ts h.rest h.phrase)) h.more
 
 joined : (Then : List Placed → Type 0) (p : Placed) (ts rest : List Placed)
@@ -125,16 +156,19 @@ offered p ts is f =
     g.stmt (g.when is (cond_of IsOffered ts f.rest f.fact c) c.more.offer) c.more.rule
 
 -- a test by its first word
-tested : (n : ℕ) (k : Keyword) (ws : List Want) (p : Placed) (ts : List Placed)
-    → p.token ≡ token.Keyword k
-    → ((rest : List Placed) → g.IsPhrase (want.Keyword k ∷ ws) (p ∷ ts)
-    rest → g.IsTest (p ∷ ts) rest) → Completes (state ws (AtOperator n)) ts
+tested : (n : ℕ) (k : TestKind) (p : Placed) (ts : List Placed)
+    → p.token ≡ token.Keyword (row k).word → Completes (state (rest_phrase k) (AtOperator n)) ts
     → IsFactAhead n (p ∷ ts)
-tested n k ws p ts is made h = record {
+tested n k p ts is h = record {
   rest = h.rest;
-  fact = g.asked (made h.rest (worded k ws p ts h.rest is h.phrase));
+  fact = g.asked (g.of k (worded (row k).word (rest_phrase k) p ts h.rest is h.phrase));
   more = h.more;
 }
+
+kind_back : (n : ℕ) (t : Token) (o : Option TestKind) (p : Placed) (ts : List Placed)
+    → kind_of t ≡ o → p.token ≡ t → CompletesIf (test_step n o) ts → IsFactAhead n (p ∷ ts)
+kind_back n t None p ts kind is h = absurd h
+kind_back n t (Some k) p ts kind is h = tested n k p ts (is ∙ kind_word t k kind) h
 
 denied : (n : ℕ) (p : Placed) (ts : List Placed) → p.token ≡ token.Keyword keyword.Not
     → IsFactAhead n ts → IsFactAhead n (p ∷ ts)
@@ -146,30 +180,6 @@ in_parentheses n p ts is f =
     let Then = λ (us : List Placed). IsClosed (λ (vs : List Placed). Follows n vs) us in
     let c : IsRestOfCond Then f.rest = f.more in
     enclose n p ts c.end is (cond_of Then ts f.rest f.fact c) c.more
-
-in_bucket : (n : ℕ) (p : Placed) (ts : List Placed) → p.token ≡ token.Keyword keyword.Bucket
-    → IsBucketAhead n ts → IsFactAhead n (p ∷ ts)
-in_bucket n p ts is b = record { rest = b.rest; fact = g.asked (b.test p is); more = b.more }
-
-salted : (n : ℕ) (p : Placed) (ts : List Placed) → p.token ≡ token.Open
-    → Completes (state (tail (tail salted_phrase)) (AtOperator n)) ts → IsBucketAhead n (p ∷ ts)
-salted n p ts is h = record {
-  rest = h.rest;
-  test = λ q word.
-      g.of_salted_bucket (worded keyword.Bucket (tail salted_phrase) q (p ∷ ts) h.rest word
-      (taken want.Open (tail (tail salted_phrase)) p ts h.rest (ap (takes want.Open) is) h.phrase));
-  more = h.more;
-}
-
-plain : (n : ℕ) (p : Placed) (ts : List Placed) → takes want.Relation p.token ≡ true
-    → Completes (state (tail (tail bucket_phrase)) (AtOperator n)) ts → IsBucketAhead n (p ∷ ts)
-plain n p ts is h = record {
-  rest = h.rest;
-  test = λ q word.
-      g.of_bucket (worded keyword.Bucket (tail bucket_phrase) q (p ∷ ts) h.rest word (taken
-      want.Relation (tail (tail bucket_phrase)) p ts h.rest is h.phrase));
-  more = h.more;
-}
 
 statement_back : (t : Token) (p : Placed) (ts : List Placed) → p.token ≡ t
     → CompletesIf (place_step AtStatement t) ts → g.IsRule (p ∷ ts)
@@ -184,26 +194,7 @@ fact_back : (n : ℕ) (t : Token) (p : Placed) (ts : List Placed) → p.token �
     → CompletesIf (place_step (AtFact n) t) ts → IsFactAhead n (p ∷ ts)
 fact_back n (token.Keyword keyword.Not) p ts is h = denied n p ts is (here (AtFact n) ts h)
 fact_back n token.Open p ts is h = in_parentheses n p ts is (here (AtFact (suc n)) ts h)
-fact_back n (token.Keyword keyword.Version) p ts is h =
-    tested n keyword.Version (tail version_phrase) p ts is (λ rest x. g.of_version x) h
-fact_back n (token.Keyword keyword.Bucket) p ts is h = in_bucket n p ts is (here (InBucket n) ts h)
-fact_back n (token.Keyword keyword.Today) p ts is h =
-    tested n keyword.Today (tail today_phrase) p ts is (λ rest x. g.of_today x) h
-fact_back n (token.Keyword keyword.Installed) p ts is h =
-    tested n keyword.Installed (tail installed_phrase) p ts is (λ rest x. g.of_installed x) h
-fact_back n (token.Keyword keyword.Flag) p ts is h =
-    tested n keyword.Flag (tail flag_phrase) p ts is (λ rest x. g.of_flag x) h
-fact_back n (token.Keyword keyword.Attr) p ts is h =
-    tested n keyword.Attr (tail attr_phrase) p ts is (λ rest x. g.of_attr x) h
-fact_back n (token.Keyword keyword.Take) p ts is h =
-    tested n keyword.Take (tail take_phrase) p ts is (λ rest x. g.of_take x) h
-fact_back n t p ts is h = absurd h
-
-bucket_back : (n : ℕ) (t : Token) (p : Placed) (ts : List Placed) → p.token ≡ t
-    → CompletesIf (place_step (InBucket n) t) ts → IsBucketAhead n (p ∷ ts)
-bucket_back n token.Open p ts is h = salted n p ts is h
-bucket_back n (token.Relation r) p ts is h = plain n p ts (ap (takes want.Relation) is) h
-bucket_back n t p ts is h = absurd h
+fact_back n t p ts is h = kind_back n t (kind_of t) p ts refl is h
 
 operator_back : (n : ℕ) (t : Token) (p : Placed) (ts : List Placed) → p.token ≡ t
     → CompletesIf (place_step (AtOperator n) t) ts → Follows n (p ∷ ts)
@@ -222,24 +213,48 @@ place_back : (l : Place) (p : Placed) (ts : List Placed) → CompletesIf (place_
     → GoesOn l (p ∷ ts)
 place_back AtStatement p ts h = statement_back p.token p ts refl h
 place_back (AtFact n) p ts h = fact_back n p.token p ts refl h
-place_back (InBucket n) p ts h = bucket_back n p.token p ts refl h
 place_back (AtOperator n) p ts h = operator_back n p.token p ts refl h
 place_back AtEnd p ts h = tt
 
-wants_back : (ws : List Want) (l : Place) (p : Placed) (ts : List Placed)
-    → CompletesIf (wants_step ws l p.token) ts → Completes (state ws l) (p ∷ ts)
-wants_back [] l p ts h = record { rest = p ∷ ts; phrase = refl; more = place_back l p ts h }
-wants_back (w ∷ ws) l p ts h = by_test (takes w p.token) refl h
-  where
-    by_test : (b : Bool) → takes w p.token ≡ b
-        → CompletesIf (if b then Some (state ws l) else None) ts
-        → Completes (state (w ∷ ws) l) (p ∷ ts)
-    by_test true e h = record {
-      rest = h.rest;
-      phrase = taken w ws p ts h.rest e h.phrase;
-      more = h.more;
+needs_back : (b : Bool) (w : Want) (ws : Phrase) (l : Place) (p : Placed) (ts : List Placed)
+    → takes w p.token ≡ b → CompletesIf (if b then Some (state ws l) else None) ts
+    → Completes (state (Needs w ws) l) (p ∷ ts)
+needs_back true w ws l p ts e h = record {
+  rest = h.rest;
+  phrase = taken w ws p ts h.rest e h.phrase;
+  more = h.more;
+}
+needs_back false w ws l p ts e h = absurd h
+
+-- what stands behind a part that may be left out
+abbrev pub given_or : Bool → (given without : Phrase) → Placed → List Placed
+    → OrFault (List Placed)
+given_or b given without p ts = if b then behind given ts else behind without (p ∷ ts)
+
+maybe_back : (b : Bool) (w : Want) (given without : Phrase) (l : Place) (p : Placed)
+    (ts : List Placed) → takes w p.token ≡ b
+    → (CompletesIf (wants_step without l p.token) ts → Completes (state without l) (p ∷ ts))
+    → CompletesIf (if b then Some (state given l) else wants_step without l p.token) ts
+    → Completes (state (Maybe w given without) l) (p ∷ ts)
+maybe_back true w given without l p ts e go h = record {
+  rest = h.rest;
+  phrase = ap (λ (b : Bool). given_or b given without p ts) e ∙ h.phrase;
+  more = h.more;
+}
+maybe_back false w given without l p ts e go h =
+    let c = go h in
+    record {
+      rest = c.rest;
+      phrase = ap (λ (b : Bool). given_or b given without p ts) e ∙ c.phrase;
+      more = c.more;
     }
-    by_test false e h = absurd h
+
+wants_back : (ws : Phrase) (l : Place) (p : Placed) (ts : List Placed)
+    → CompletesIf (wants_step ws l p.token) ts → Completes (state ws l) (p ∷ ts)
+wants_back Ends l p ts h = record { rest = p ∷ ts; phrase = refl; more = place_back l p ts h }
+wants_back (Needs w ws) l p ts h = needs_back (takes w p.token) w ws l p ts refl h
+wants_back (Maybe w given without) l p ts h =
+    maybe_back (takes w p.token) w given without l p ts refl (λ k. wants_back without l p ts k) h
 
 back_by : (o : Option State) (q ts : List Placed) → ((y : State) → CompletesIf (runs y q) ts
     → Completes y (q ++ ts)) → CompletesIf (option_and_then (λ y. runs y q) o) ts

@@ -6,31 +6,28 @@
 --   cond = term { "or" term }
 --   term = fact { "and" fact }
 --   fact = "not" fact | "(" cond ")" | test
---   test = "version" rel ver | "bucket" [ "(" num ")" ] rel num | "today" rel num
---        | "installed" rel num | "flag" name | "attr" name "is" text
---        | "take" "(" name "," num ")"
+--   test = "version" rel ver | "bucket" [ "(" num ")" ] [ "mod" num ] rel num
+--        | "today" rel num | "installed" rel num | "flag" name
+--        | "attr" name "is" text | "take" "(" name "," num ")"
+--
+-- The words of the grammar aren't names, but for `version` after `attr`; `mod` is one, wherever a
+-- name may stand.
 use Rattle.std.specs.Prelude.{◌≡◌, List, ◌∷◌, ◌++◌, Ok}
 use Rattle.rule_lang.specs.declared.keyword.Keyword.TheVariants as keyword
-use Rattle.rule_lang.specs.declared.phrase.Want.{Want}
+use Rattle.rule_lang.specs.declared.test_table.TestKind.{TestKind}
 use Rattle.rule_lang.specs.declared.token.Token.TheVariants as token
 use Rattle.rule_lang.specs.Lexed.{Placed}
-use Rattle.rule_lang.specs.Phrases.{behind, count_phrase, offer_phrase, otherwise_phrase}
-use Rattle.rule_lang.specs.Phrases.{version_phrase, bucket_phrase, salted_phrase, today_phrase}
-use Rattle.rule_lang.specs.Phrases.{installed_phrase, flag_phrase, attr_phrase, take_phrase}
+use Rattle.rule_lang.specs.Phrases.{Phrase, behind, count_phrase, offer_phrase, otherwise_phrase}
+use Rattle.rule_lang.specs.Tests.{test_phrase}
 
--- a phrase: one token for each of these places, in their order
-abbrev pub IsPhrase : List Want → List Placed → List Placed → Type 0
-IsPhrase ws ts rest = behind ws ts ≡ Ok rest
+-- a phrase: one token for each of its places, in their order
+abbrev pub IsPhrase : Phrase → List Placed → List Placed → Type 0
+IsPhrase p ts rest = behind p ts ≡ Ok rest
 
+-- a test of some kind, as the table of tests has it
 pub data IsTest : List Placed → List Placed → Type 0 where
-  of_version : {ts rest : List Placed} → IsPhrase version_phrase ts rest → IsTest ts rest
-  of_bucket : {ts rest : List Placed} → IsPhrase bucket_phrase ts rest → IsTest ts rest
-  of_salted_bucket : {ts rest : List Placed} → IsPhrase salted_phrase ts rest → IsTest ts rest
-  of_today : {ts rest : List Placed} → IsPhrase today_phrase ts rest → IsTest ts rest
-  of_installed : {ts rest : List Placed} → IsPhrase installed_phrase ts rest → IsTest ts rest
-  of_flag : {ts rest : List Placed} → IsPhrase flag_phrase ts rest → IsTest ts rest
-  of_attr : {ts rest : List Placed} → IsPhrase attr_phrase ts rest → IsTest ts rest
-  of_take : {ts rest : List Placed} → IsPhrase take_phrase ts rest → IsTest ts rest
+  of : (k : TestKind) → {ts rest : List Placed} → IsPhrase (test_phrase k) ts rest
+      → IsTest ts rest
 
 mutual
   pub data IsFact : List Placed → List Placed → Type 0 where

@@ -1,6 +1,7 @@
 -- What a rule means: a choice, or additions to cells and a choice by their replies. A condition is
 -- asked from left to right, until it is decided; so its meaning is what comes next.
-use Rattle.std.specs.Prelude.{◌≡◌, ℕ, ◌<◌, ◌^◌, List, [], ◌∷◌, Option, Some, slice_index}
+use Rattle.std.specs.Prelude.{◌≡◌, ℕ, ◌<◌, ◌^◌, ◌%◌, List, [], ◌∷◌, Option, Some, None}
+use Rattle.std.specs.Prelude.{slice_index}
 use Rattle.std.specs.Prelude.{Bool, true, false, nat_lt, ◌==◌, bit_and, if◌then◌else◌}
 use Rattle.std.specs.Ordering.{nat_cmp, ordering_then}
 use Rattle.std.specs.declared.cmp.Ordering.{Ordering}
@@ -51,6 +52,16 @@ version_cmp v w =
     ordering_then (place_cmp v w 0)
     (ordering_then (place_cmp v w 1) (ordering_then (place_cmp v w 2) (place_cmp v w 3)))
 
+-- the bucket, or that of a salt's own
+abbrev pub bucket_by : Attributes → (salt : Option ℕ) → ℕ
+bucket_by a None = a.context.bucket
+bucket_by a (Some salt) = bucket_of a salt
+
+-- the whole number, or its remainder by a modulus
+abbrev pub remainder : (modulus : Option ℕ) → ℕ → ℕ
+remainder None n = n
+remainder (Some m) n = n % m
+
 -- the bit of a flag in an app's context
 abbrev pub flag_bit : the_flag.Flag → ℕ
 flag_bit VersionKnown = context.version_known
@@ -96,10 +107,8 @@ take_then cell quota met unmet =
 abbrev pub test_then : Attributes → AppShape → the_test.Test → Behaviour → Behaviour → Behaviour
 test_then a s (test.Version r w) met unmet =
     if relates r (version_cmp a.context.version w) then met else unmet
-test_then a s (test.Bucket r n) met unmet =
-    if relates r (nat_cmp a.context.bucket n) then met else unmet
-test_then a s (test.SaltedBucket salt r n) met unmet =
-    if relates r (nat_cmp (bucket_of a salt) n) then met else unmet
+test_then a s (test.Bucket salt modulus r n) met unmet =
+    if relates r (nat_cmp (remainder modulus (bucket_by a salt)) n) then met else unmet
 test_then a s (test.Today r n) met unmet =
     if relates r (nat_cmp a.context.today n) then met else unmet
 test_then a s (test.Installed r n) met unmet =

@@ -74,6 +74,10 @@ within holds p n = if holds n then Ok n else Err (out_of_range p)
 abbrev pub number : Placed → OrFault ℕ
 number p = salt p >>? λ n. within (λ n. nat_le n 4294967295) p n
 
+-- what a bucket is divided by
+abbrev pub modulus : Placed → OrFault ℕ
+modulus p = number p >>? λ n. within (λ n. nat_le 1 n) p n
+
 abbrev pub version : Placed → OrFault (List ℕ)
 version p = ok_or (version_of (text_of p.token)) (out_of_range p)
 

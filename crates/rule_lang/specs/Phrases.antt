@@ -1,7 +1,8 @@
 -- Phrases: tokens that stand in one order, as the grammar writes them in a row; and what may stand
 -- at each of their places.
-use Rattle.std.specs.Prelude.{ℕ, List, [], ◌∷◌, Option, Some, None, Result, Ok, Err}
+use Rattle.std.specs.Prelude.{ℕ, ◌+◌, List, [], ◌∷◌, Result, Ok, Err}
 use Rattle.std.specs.Prelude.{Bool, true, false, if◌then◌else◌}
+use Rattle.std.specs.Str.{bytes_eq}
 use Rattle.rule_lang.specs.declared.fault.RuleFault.{RuleFault}
 use Rattle.rule_lang.specs.declared.fault.RuleFault.TheVariants as fault
 use Rattle.rule_lang.specs.declared.fault.RuleFaultKind.TheVariants as kind
@@ -11,62 +12,58 @@ use Rattle.rule_lang.specs.declared.phrase.Want.TheVariants as want
 use Rattle.rule_lang.specs.declared.token.Token.TheVariants as token
 use Rattle.rule_lang.specs.Lexed.{Placed}
 use Rattle.rule_lang.specs.Tokens.{Token}
-use Rattle.rule_lang.specs.Words.{same_keyword}
+use Rattle.rule_lang.specs.Words.{same_keyword, modulus_word}
 
--- ---- the phrases of the grammar
+-- ---- phrases
+
+-- what is wanted next: nothing more; a token; or a token that may be left out with all of its part,
+-- and what is wanted behind it and without it
+pub data Phrase : Type 0 where
+  Ends : Phrase
+  Needs : Want → Phrase → Phrase
+  Maybe : Want → (given without : Phrase) → Phrase
+
+-- the places of a phrase, of which `[ "(" num ")" ]` and `[ "mod" num ]` are one each
+abbrev pub phrase_of : List Want → Phrase
+phrase_of [] = Ends
+phrase_of (want.Salt ∷ ws) =
+    Maybe want.Salt (Needs want.Number (Needs want.Close (phrase_of ws))) (phrase_of ws)
+phrase_of (want.Modulus ∷ ws) =
+    Maybe want.Modulus (Needs want.Number (phrase_of ws)) (phrase_of ws)
+phrase_of (w ∷ ws) = Needs w (phrase_of ws)
+
+-- the fewest tokens of a phrase
+abbrev pub fewest_at : Want → ℕ
+fewest_at want.Salt = 0
+fewest_at want.Modulus = 0
+fewest_at w = 1
+
+abbrev pub fewest : List Want → ℕ
+fewest [] = 0
+fewest (w ∷ ws) = fewest_at w + fewest ws
 
 -- "count" name "[" num "]" ";"
-abbrev pub count_phrase : List Want
+abbrev pub count_phrase : Phrase
 count_phrase =
-    want.Keyword keyword.Count ∷ want.Name ∷ want.OpenBracket ∷ want.Number ∷ want.CloseBracket
-    ∷ want.Semicolon ∷ []
+    phrase_of (
+    want.Keyword keyword.Count ∷ want.Name ∷ want.OpenBracket ∷ want.Number
+    ∷ want.CloseBracket ∷ want.Semicolon ∷ []
+    )
 
 -- "offer" num ";"
-abbrev pub offer_phrase : List Want
-offer_phrase = want.Keyword keyword.Offer ∷ want.Number ∷ want.Semicolon ∷ []
+abbrev pub offer_phrase : Phrase
+offer_phrase = phrase_of (want.Keyword keyword.Offer ∷ want.Number ∷ want.Semicolon ∷ [])
 
 -- "otherwise" "none" ";", and the text's end
-abbrev pub otherwise_phrase : List Want
+abbrev pub otherwise_phrase : Phrase
 otherwise_phrase =
+    phrase_of (
     want.Keyword keyword.Otherwise ∷ want.Keyword keyword.None ∷ want.Semicolon ∷ want.End ∷ []
-
--- "version" rel ver
-abbrev pub version_phrase : List Want
-version_phrase = want.Keyword keyword.Version ∷ want.Relation ∷ want.Version ∷ []
-
--- "bucket" rel num
-abbrev pub bucket_phrase : List Want
-bucket_phrase = want.Keyword keyword.Bucket ∷ want.Relation ∷ want.Number ∷ []
-
--- "bucket" "(" num ")" rel num
-abbrev pub salted_phrase : List Want
-salted_phrase =
-    want.Keyword keyword.Bucket ∷ want.Open ∷ want.Number ∷ want.Close ∷ want.Relation ∷ want.Number
-    ∷ []
-
--- "today" rel num
-abbrev pub today_phrase : List Want
-today_phrase = want.Keyword keyword.Today ∷ want.Relation ∷ want.Number ∷ []
-
--- "installed" rel num
-abbrev pub installed_phrase : List Want
-installed_phrase = want.Keyword keyword.Installed ∷ want.Relation ∷ want.Number ∷ []
-
--- "flag" name
-abbrev pub flag_phrase : List Want
-flag_phrase = want.Keyword keyword.Flag ∷ want.Name ∷ []
-
--- "attr" name "is" text, of which the name may be the word `version`
-abbrev pub attr_phrase : List Want
-attr_phrase = want.Keyword keyword.Attr ∷ want.Attribute ∷ want.Keyword keyword.Is ∷ want.Text ∷ []
-
--- "take" "(" name "," num ")"
-abbrev pub take_phrase : List Want
-take_phrase =
-    want.Keyword keyword.Take ∷ want.Open ∷ want.Name ∷ want.Comma ∷ want.Number ∷ want.Close ∷ []
+    )
 
 -- ---- what may stand
 
+-- a token at a place, or at the beginning of a part that may be left out
 abbrev pub takes : Want → Token → Bool
 takes (want.Keyword k) (token.Keyword l) = same_keyword k l
 takes want.Name (token.Name w) = true
@@ -77,6 +74,8 @@ takes want.Version (token.Number w) = true
 takes want.Version (token.Version w) = true
 takes want.Text (token.Text w) = true
 takes want.Relation (token.Relation r) = true
+takes want.Salt token.Open = true
+takes want.Modulus (token.Name w) = bytes_eq w modulus_word
 takes want.Semicolon token.Semicolon = true
 takes want.Comma token.Comma = true
 takes want.OpenBracket token.OpenBracket = true
@@ -90,21 +89,12 @@ takes w t = false
 abbrev pub misplaced : (line : ℕ) → RuleFault
 misplaced line = fault.At line kind.Shape
 
--- the tokens behind a phrase, or its first token that is misplaced; `End` stands behind all tokens,
--- and no phrase goes on behind it
-abbrev pub behind : List Want → List Placed → Result (List Placed) RuleFault
-behind [] ts = Ok ts
-behind (w ∷ ws) [] = Err (misplaced 0)
-behind (w ∷ ws) (t ∷ ts) = if takes w t.token then behind ws ts else Err (misplaced t.line)
-
--- the phrase of a test, by its first two tokens
-abbrev pub test_phrase : Token → Token → Option (List Want)
-test_phrase (token.Keyword keyword.Version) t = Some version_phrase
-test_phrase (token.Keyword keyword.Bucket) token.Open = Some salted_phrase
-test_phrase (token.Keyword keyword.Bucket) t = Some bucket_phrase
-test_phrase (token.Keyword keyword.Today) t = Some today_phrase
-test_phrase (token.Keyword keyword.Installed) t = Some installed_phrase
-test_phrase (token.Keyword keyword.Flag) t = Some flag_phrase
-test_phrase (token.Keyword keyword.Attr) t = Some attr_phrase
-test_phrase (token.Keyword keyword.Take) t = Some take_phrase
-test_phrase first t = None
+-- the tokens behind a phrase, or its first token that is misplaced; a part that may be left out is
+-- there where its first token is. `End` stands behind all tokens, and no phrase goes on behind it.
+abbrev pub behind : Phrase → List Placed → Result (List Placed) RuleFault
+behind Ends ts = Ok ts
+behind (Needs w ws) [] = Err (misplaced 0)
+behind (Needs w ws) (t ∷ ts) = if takes w t.token then behind ws ts else Err (misplaced t.line)
+behind (Maybe w given without) [] = Err (misplaced 0)
+behind (Maybe w given without) (t ∷ ts) =
+    if takes w t.token then behind given ts else behind without (t ∷ ts)

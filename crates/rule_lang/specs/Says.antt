@@ -14,14 +14,7 @@ use Rattle.rule_lang.specs.Tests as tests
 use Rattle.rule_lang.specs.Trees.{Tree, Asked, Negated, Both, Either}
 
 abbrev pub test_says : AppShape → {ts rest : List Placed} → g.IsTest ts rest → OrFault Test
-test_says s (g.of_version {ts = ts} h) = tests.version_test ts
-test_says s (g.of_bucket {ts = ts} h) = tests.bucket_test ts
-test_says s (g.of_salted_bucket {ts = ts} h) = tests.salted_test ts
-test_says s (g.of_today {ts = ts} h) = tests.today_test ts
-test_says s (g.of_installed {ts = ts} h) = tests.installed_test ts
-test_says s (g.of_flag {ts = ts} h) = tests.flag_test ts
-test_says s (g.of_attr {ts = ts} h) = tests.attr_test ts
-test_says s (g.of_take {ts = ts} h) = tests.take_test s ts
+test_says s (g.of k {ts = ts} h) = (tests.row k).says s ts
 
 -- `not` and parentheses are at most 32 deep: an opener, so many being open, and what it opens
 abbrev pub opened : (depth : ℕ) → Placed → OrFault Tree → OrFault Tree

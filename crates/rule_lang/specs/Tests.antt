@@ -1,27 +1,52 @@
--- The test that a phrase says, or the first fault of its parts.
-use Rattle.std.specs.Prelude.{ℕ, List, Ok, Err, true, if◌then◌else◌}
+-- The table of tests: of each kind its first word, what is wanted behind it, and the test that its
+-- tokens say, or the first fault of their parts.
+use Rattle.std.specs.Prelude.{ℕ, ◌+◌, List, [], ◌∷◌, Option, Some, None, Ok, Err}
+use Rattle.std.specs.Prelude.{Bool, true, false, if◌then◌else◌}
 use Rattle.cells.specs.Arrays.{AppShape}
+use Rattle.rule_lang.specs.declared.keyword.Keyword.{Keyword}
 use Rattle.rule_lang.specs.declared.keyword.Keyword.TheVariants as keyword
+use Rattle.rule_lang.specs.declared.phrase.Want.{Want}
+use Rattle.rule_lang.specs.declared.phrase.Want.TheVariants as want
 use Rattle.rule_lang.specs.declared.test.Test.{Test}
 use Rattle.rule_lang.specs.declared.test.Test.TheVariants as test
+use Rattle.rule_lang.specs.declared.test_table.TestKind.{TestKind}
+use Rattle.rule_lang.specs.declared.test_table.TestKind.TheVariants as the_kind
 use Rattle.rule_lang.specs.declared.token.Token.TheVariants as token
 use Rattle.rule_lang.specs.Lexed.{Placed}
 use Rattle.rule_lang.specs.Literals.{is_literal}
-use Rattle.rule_lang.specs.Parts.{OrFault, ◌>>?◌, part, text_of, relation, salt, number, version}
-use Rattle.rule_lang.specs.Parts.{flag, attribute, array, index, out_of_range}
+use Rattle.rule_lang.specs.Parts.{OrFault, ◌>>?◌, part, text_of, relation, salt, modulus, number}
+use Rattle.rule_lang.specs.Parts.{version, flag, attribute, array, index, out_of_range}
+use Rattle.rule_lang.specs.Phrases.{Phrase, phrase_of, takes}
 use Rattle.rule_lang.specs.Tokens.{Token}
+
+-- ---- what the tokens of a test say
 
 abbrev pub version_test : List Placed → OrFault Test
 version_test ts = version (part ts 2) >>? λ v. Ok (test.Version (relation (part ts 1)) v)
 
-abbrev pub bucket_test : List Placed → OrFault Test
-bucket_test ts = number (part ts 2) >>? λ n. Ok (test.Bucket (relation (part ts 1)) n)
+-- whether a part that may be left out begins at a place
+abbrev pub begins : Want → List Placed → ℕ → Bool
+begins w ts k = takes w (part ts k).token
 
-abbrev pub salted_test : List Placed → OrFault Test
-salted_test ts =
-    salt (part ts 2) >>? λ s.
-    number (part ts 5) >>? λ n.
-    Ok (test.SaltedBucket s (relation (part ts 4)) n)
+-- the number of a part that may be left out
+abbrev pub optional : Bool → OrFault ℕ → OrFault (Option ℕ)
+optional true n = n >>? λ k. Ok (Some k)
+optional false n = Ok None
+
+-- the place behind a part of so many tokens, where it is there
+abbrev pub past : Bool → (size place : ℕ) → ℕ
+past there size place = if there then place + size else place
+
+abbrev pub bucket_test : List Placed → OrFault Test
+bucket_test ts =
+    let salted = begins want.Salt ts 1 in
+    let j = past salted 3 1 in
+    let divided = begins want.Modulus ts j in
+    let k = past divided 2 j in
+    optional salted (salt (part ts 2)) >>? λ s.
+    optional divided (modulus (part ts (j + 1))) >>? λ m.
+    number (part ts (k + 1)) >>? λ n.
+    Ok (test.Bucket s m (relation (part ts k)) n)
 
 abbrev pub today_test : List Placed → OrFault Test
 today_test ts = number (part ts 2) >>? λ n. Ok (test.Today (relation (part ts 1)) n)
@@ -49,16 +74,74 @@ take_test s ts =
     index a (part ts 4) >>? λ i.
     Ok (test.Take a.name i)
 
--- by the first two tokens
-abbrev pub test_by : AppShape → List Placed → Token → Token → OrFault Test
-test_by s ts (token.Keyword keyword.Version) second = version_test ts
-test_by s ts (token.Keyword keyword.Bucket) token.Open = salted_test ts
-test_by s ts (token.Keyword keyword.Bucket) second = bucket_test ts
-test_by s ts (token.Keyword keyword.Today) second = today_test ts
-test_by s ts (token.Keyword keyword.Installed) second = installed_test ts
-test_by s ts (token.Keyword keyword.Flag) second = flag_test ts
-test_by s ts (token.Keyword keyword.Attr) second = attr_test ts
-test_by s ts first second = take_test s ts
+-- ---- the table
 
-abbrev pub test_of : AppShape → List Placed → OrFault Test
-test_of s ts = test_by s ts (part ts 0).token (part ts 1).token
+pub record TestRow : Type 0 where
+  pub word : Keyword
+  pub wants : List Want
+  pub says : AppShape → List Placed → OrFault Test
+
+abbrev pub row : TestKind → TestRow
+-- "version" rel ver
+row the_kind.Version = record {
+  word = keyword.Version;
+  wants = want.Relation ∷ want.Version ∷ [];
+  says = λ s ts. version_test ts;
+}
+-- "bucket" [ "(" num ")" ] [ "mod" num ] rel num
+row the_kind.Bucket = record {
+  word = keyword.Bucket;
+  wants = want.Salt ∷ want.Modulus ∷ want.Relation ∷ want.Number ∷ [];
+  says = λ s ts. bucket_test ts;
+}
+-- "today" rel num
+row the_kind.Today = record {
+  word = keyword.Today;
+  wants = want.Relation ∷ want.Number ∷ [];
+  says = λ s ts. today_test ts;
+}
+-- "installed" rel num
+row the_kind.Installed = record {
+  word = keyword.Installed;
+  wants = want.Relation ∷ want.Number ∷ [];
+  says = λ s ts. installed_test ts;
+}
+-- "flag" name
+row the_kind.Flag = record {
+  word = keyword.Flag;
+  wants = want.Name ∷ [];
+  says = λ s ts. flag_test ts;
+}
+-- "attr" name "is" text, of which the name may be the word `version`
+row the_kind.Attr = record {
+  word = keyword.Attr;
+  wants = want.Attribute ∷ want.Keyword keyword.Is ∷ want.Text ∷ [];
+  says = λ s ts. attr_test ts;
+}
+-- "take" "(" name "," num ")"
+row the_kind.Take = record {
+  word = keyword.Take;
+  wants = want.Open ∷ want.Name ∷ want.Comma ∷ want.Number ∷ want.Close ∷ [];
+  says = λ s ts. take_test s ts;
+}
+
+-- all places of a test, and what stands behind its first word
+abbrev pub wants_of : TestKind → List Want
+wants_of k = want.Keyword (row k).word ∷ (row k).wants
+
+abbrev pub rest_phrase : TestKind → Phrase
+rest_phrase k = phrase_of (row k).wants
+
+abbrev pub test_phrase : TestKind → Phrase
+test_phrase k = phrase_of (wants_of k)
+
+-- the kind of a test that begins with a token
+abbrev pub kind_of : Token → Option TestKind
+kind_of (token.Keyword keyword.Version) = Some the_kind.Version
+kind_of (token.Keyword keyword.Bucket) = Some the_kind.Bucket
+kind_of (token.Keyword keyword.Today) = Some the_kind.Today
+kind_of (token.Keyword keyword.Installed) = Some the_kind.Installed
+kind_of (token.Keyword keyword.Flag) = Some the_kind.Flag
+kind_of (token.Keyword keyword.Attr) = Some the_kind.Attr
+kind_of (token.Keyword keyword.Take) = Some the_kind.Take
+kind_of t = None

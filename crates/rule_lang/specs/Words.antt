@@ -46,6 +46,10 @@ attribute_text attribute.Lang = codes "lang"
 attribute_text attribute.Cohort = codes "cohort"
 attribute_text attribute.Platform = codes "platform"
 
+-- the word before a modulus; it isn't kept from names
+abbrev pub modulus_word : List ℕ
+modulus_word = codes "mod"
+
 -- ---- each once
 
 abbrev pub all_keywords : List Keyword

@@ -119,6 +119,13 @@ fn attribute_text(attribute: Attribute) -> &'static str
     }
 }
 
+/// Whether a name is the word before a modulus.
+pub fn is_modulus_word(name: &str) -> bool
+    ensures { result ≡ bytes_eq name.now words.modulus_word }
+{
+    name == "mod"
+}
+
 fn is_keyword(word: &str, keyword: Keyword) -> bool
     ensures { result ≡ bytes_eq word.now (words.keyword_text keyword) }
 {

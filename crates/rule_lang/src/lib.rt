@@ -23,10 +23,14 @@
 // do. So the first token that the reader refuses is the one that the grammar calls misplaced. Two
 // laws say that each text has a verdict (`some_verdict`), and no other (`one_verdict`).
 //
-// The words and the phrases are written out in `specs/Words.antt` and `specs/Phrases.antt`, and the
-// tables of the code are proved to be the same. A law, `words_are_exact`, says that each word is
-// found by its own text and by no other. A new word is a row in the definition and a row in the
-// code; a new test is besides a production, and what it says.
+// The words, the phrases and the table of tests are written out in `specs/Words.antt`,
+// `specs/Phrases.antt` and `specs/Tests.antt`, and the tables of the code are proved to be the
+// same. A law, `words_are_exact`, says that each word is found by its own text and by no other. A
+// new word is a row in the definition and a row in the code. So is a new kind of tests, whose row
+// says what is wanted and what is made of it.
+//
+// `mod` is no word of the grammar, but a name that one place of `bucket` takes for one. So it stays
+// a name wherever one may stand, and a text that has such a name keeps its meaning.
 //
 // A fault's place is the line of its token; the text's end stands in the last line. All tokens are
 // made before a phrase is read, so a place where none begins (L1) counts first. An unknown name
@@ -57,6 +61,7 @@ mod rule;
 mod statements;
 mod test;
 mod test_reader;
+mod test_table;
 mod token;
 
 pub use condition::{Condition, Step};

@@ -116,6 +116,18 @@ pub fn number<'a>(placed: Placed<&'a str>) -> Result<u32, RuleFault>
     }
 }
 
+/// A number from 1 on.
+pub fn modulus<'a>(placed: Placed<&'a str>) -> Result<u32, RuleFault>
+    ensures { result ≡ parts.modulus (placed_named placed.entry) }
+{
+    let number = number(placed)?;
+    if 1 <= number {
+        Ok(number)
+    } else {
+        Err(out_of_range(placed))
+    }
+}
+
 /// The four numbers of a version.
 pub fn version<'a>(placed: Placed<&'a str>) -> Result<[u32; 4], RuleFault>
     ensures { result ≡ parts.version (placed_named placed.entry) }

@@ -1,12 +1,11 @@
 //! Phrases: tokens that stand in one order, as `offer` number `;`.
 
-ghost use Rattle.std.specs.Prelude.{◌≡◌, ◌≤◌, ◌+◌, length, option_copied, IfOk, IfErr, IfSome};
-ghost use Rattle.std.specs.Prelude.{Ok, Err};
+ghost use Rattle.std.specs.Prelude.{◌≡◌, ◌≤◌, ◌+◌, ◌∷◌, length, List, IfOk, IfErr, Ok, Err};
 ghost use Rattle.rule_lang.specs.Named.{token_named, placed_all};
 ghost use Rattle.rule_lang.specs.Phrases as phrases;
 
 use crate::fault::{RuleFault, RuleFaultKind};
-use crate::keyword::Keyword;
+use crate::keyword::{Keyword, is_modulus_word};
 use crate::lexer::Placed;
 use crate::token::Token;
 
@@ -22,6 +21,10 @@ pub enum Want {
     Version,
     Text,
     Relation,
+    /// `(`, a number and `)`, or none of them.
+    Salt,
+    /// The name `mod` and a number, or neither.
+    Modulus,
     Semicolon,
     Comma,
     OpenBracket,
@@ -49,51 +52,8 @@ pub static OTHERWISE: [Want; 4] = [
     Want::End,
 ];
 
-pub static VERSION: [Want; 3] = [
-    Want::Keyword(Keyword::Version),
-    Want::Relation,
-    Want::Version,
-];
-
-pub static BUCKET: [Want; 3] = [Want::Keyword(Keyword::Bucket), Want::Relation, Want::Number];
-
-pub static SALTED: [Want; 6] = [
-    Want::Keyword(Keyword::Bucket),
-    Want::Open,
-    Want::Number,
-    Want::Close,
-    Want::Relation,
-    Want::Number,
-];
-
-pub static TODAY: [Want; 3] = [Want::Keyword(Keyword::Today), Want::Relation, Want::Number];
-
-pub static INSTALLED: [Want; 3] = [
-    Want::Keyword(Keyword::Installed),
-    Want::Relation,
-    Want::Number,
-];
-
-pub static FLAG: [Want; 2] = [Want::Keyword(Keyword::Flag), Want::Name];
-
-pub static ATTR: [Want; 4] = [
-    Want::Keyword(Keyword::Attr),
-    Want::Attribute,
-    Want::Keyword(Keyword::Is),
-    Want::Text,
-];
-
-pub static TAKE: [Want; 6] = [
-    Want::Keyword(Keyword::Take),
-    Want::Open,
-    Want::Name,
-    Want::Comma,
-    Want::Number,
-    Want::Close,
-];
-
-// Whether a token may stand there.
-fn takes<'a>(want: Want, token: Token<&'a str>) -> bool
+/// Whether a token may stand there, or begin what may be left out.
+pub fn takes<'a>(want: Want, token: Token<&'a str>) -> bool
     ensures { result ≡ phrases.takes want (token_named token.entry) }
 {
     match (want, token) {
@@ -105,6 +65,8 @@ fn takes<'a>(want: Want, token: Token<&'a str>) -> bool
         (Want::Version, Token::Number(_) | Token::Version(_)) => true,
         (Want::Text, Token::Text(_)) => true,
         (Want::Relation, Token::Relation(_)) => true,
+        (Want::Salt, Token::Open) => true,
+        (Want::Modulus, Token::Name(name)) => is_modulus_word(name),
         (Want::Semicolon, Token::Semicolon) => true,
         (Want::Comma, Token::Comma) => true,
         (Want::OpenBracket, Token::OpenBracket) => true,
@@ -126,47 +88,125 @@ pub fn misplaced<'a>(placed: Placed<&'a str>) -> RuleFault
     }
 }
 
-/// The tokens behind a phrase, which is short; or L2 at the first that isn't of it.
-pub fn behind<'t, 'a>(
-    wants: &[Want],
+/// The fault where not even `End` is left; no phrase goes on behind it.
+pub fn ended() -> RuleFault
+    ensures { result ≡ phrases.misplaced 0 }
+{
+    RuleFault::At {
+        line: 0,
+        kind: RuleFaultKind::Shape,
+    }
+}
+
+// The tokens behind one that is wanted; or L2 at another.
+fn behind_one<'t, 'a>(
+    want: Want,
     tokens: &'t [Placed<&'a str>],
 ) -> Result<&'t [Placed<&'a str>], RuleFault>
-    ensures rest { IfOk result (λ rest. phrases.behind wants.now (placed_all tokens.now) ≡ Ok
-        (placed_all rest.now)) }
-    ensures shorter { IfOk result (λ rest. length rest.now + length wants.now ≤ length tokens.now) }
-    ensures fault { IfErr result (λ e. phrases.behind wants.now (placed_all tokens.now) ≡ Err e) }
+    ensures rest { IfOk result (λ rest. (p : phrases.Phrase) → phrases.behind (phrases.Needs want p)
+        (placed_all tokens.now) ≡ phrases.behind p (placed_all rest.now)) }
+    ensures shorter { IfOk result (λ rest. length rest.now + 1 ≤ length tokens.now) }
+    ensures fault { IfErr result (λ e. (p : phrases.Phrase) → phrases.behind (phrases.Needs want p)
+        (placed_all tokens.now) ≡ Err e) }
 {
-    let [want, more @ ..] = wants else {
-        return Ok(tokens);
-    };
     let [placed, after @ ..] = tokens else {
-        return Err(RuleFault::At {
-            line: 0,
-            kind: RuleFaultKind::Shape,
-        });
+        return Err(ended());
     };
-    if takes(*want, placed.token) {
-        behind(more, after)
+    if takes(want, placed.token) {
+        Ok(after)
     } else {
         Err(misplaced(*placed))
     }
 }
 
-/// The phrase of a test, by its first two tokens.
-pub fn test_phrase<'a>(first: Token<&'a str>, second: Token<&'a str>) -> Option<&'static [Want]>
-    ensures phrase { option_copied result ≡ phrases.test_phrase (token_named first.entry)
-        (token_named second.entry) }
-    ensures some { IfSome result (λ wants. 1 ≤ length wants.now) }
+// The tokens behind `(`, a number and `)`, or all where the first isn't `(`.
+fn behind_salt<'t, 'a>(tokens: &'t [Placed<&'a str>]) -> Result<&'t [Placed<&'a str>], RuleFault>
+    ensures rest { IfOk result (λ rest. (ws : List Want) → phrases.behind (phrases.phrase_of
+        (Want.Salt ∷ ws)) (placed_all tokens.now) ≡ phrases.behind (phrases.phrase_of ws)
+        (placed_all rest.now)) }
+    ensures shorter { IfOk result (λ rest. length rest.now ≤ length tokens.now) }
+    ensures fault { IfErr result (λ e. (ws : List Want) → phrases.behind (phrases.phrase_of
+        (Want.Salt ∷ ws)) (placed_all tokens.now) ≡ Err e) }
 {
-    match (first, second) {
-        (Token::Keyword(Keyword::Version), _) => Some(&VERSION),
-        (Token::Keyword(Keyword::Bucket), Token::Open) => Some(&SALTED),
-        (Token::Keyword(Keyword::Bucket), _) => Some(&BUCKET),
-        (Token::Keyword(Keyword::Today), _) => Some(&TODAY),
-        (Token::Keyword(Keyword::Installed), _) => Some(&INSTALLED),
-        (Token::Keyword(Keyword::Flag), _) => Some(&FLAG),
-        (Token::Keyword(Keyword::Attr), _) => Some(&ATTR),
-        (Token::Keyword(Keyword::Take), _) => Some(&TAKE),
-        _ => None,
+    let [open, inside @ ..] = tokens else {
+        return Err(ended());
+    };
+    if !takes(Want::Salt, open.token) {
+        return Ok(tokens);
     }
+    let [number, more @ ..] = inside else {
+        return Err(ended());
+    };
+    if !takes(Want::Number, number.token) {
+        return Err(misplaced(*number));
+    }
+    let [close, rest @ ..] = more else {
+        return Err(ended());
+    };
+    if !takes(Want::Close, close.token) {
+        return Err(misplaced(*close));
+    }
+    Ok(rest)
+}
+
+// The tokens behind `mod` and a number, or all where the first isn't `mod`.
+fn behind_modulus<'t, 'a>(tokens: &'t [Placed<&'a str>]) -> Result<&'t [Placed<&'a str>], RuleFault>
+    ensures rest { IfOk result (λ rest. (ws : List Want) → phrases.behind (phrases.phrase_of
+        (Want.Modulus ∷ ws)) (placed_all tokens.now) ≡ phrases.behind (phrases.phrase_of ws)
+        (placed_all rest.now)) }
+    ensures shorter { IfOk result (λ rest. length rest.now ≤ length tokens.now) }
+    ensures fault { IfErr result (λ e. (ws : List Want) → phrases.behind (phrases.phrase_of
+        (Want.Modulus ∷ ws)) (placed_all tokens.now) ≡ Err e) }
+{
+    let [word, more @ ..] = tokens else {
+        return Err(ended());
+    };
+    if !takes(Want::Modulus, word.token) {
+        return Ok(tokens);
+    }
+    let [number, rest @ ..] = more else {
+        return Err(ended());
+    };
+    if !takes(Want::Number, number.token) {
+        return Err(misplaced(*number));
+    }
+    Ok(rest)
+}
+
+// The tokens behind one place of a phrase.
+fn behind_place<'t, 'a>(
+    want: Want,
+    tokens: &'t [Placed<&'a str>],
+) -> Result<&'t [Placed<&'a str>], RuleFault>
+    ensures rest { IfOk result (λ rest. (ws : List Want) → phrases.behind (phrases.phrase_of
+        (want ∷ ws)) (placed_all tokens.now) ≡ phrases.behind (phrases.phrase_of ws)
+        (placed_all rest.now)) }
+    ensures shorter { IfOk result (λ rest. length rest.now + phrases.fewest_at want
+        ≤ length tokens.now) }
+    ensures fault { IfErr result (λ e. (ws : List Want) → phrases.behind (phrases.phrase_of
+        (want ∷ ws)) (placed_all tokens.now) ≡ Err e) }
+{
+    match want {
+        Want::Salt => behind_salt(tokens),
+        Want::Modulus => behind_modulus(tokens),
+        want => behind_one(want, tokens),
+    }
+}
+
+/// The tokens behind a phrase, which is short; or L2 at the first that isn't of it.
+pub fn behind<'t, 'a>(
+    wants: &[Want],
+    tokens: &'t [Placed<&'a str>],
+) -> Result<&'t [Placed<&'a str>], RuleFault>
+    ensures rest { IfOk result (λ rest. phrases.behind (phrases.phrase_of wants.now) (placed_all
+        tokens.now) ≡ Ok (placed_all rest.now)) }
+    ensures shorter { IfOk result (λ rest. length rest.now + phrases.fewest wants.now
+        ≤ length tokens.now) }
+    ensures fault { IfErr result (λ e. phrases.behind (phrases.phrase_of wants.now) (placed_all
+        tokens.now) ≡ Err e) }
+{
+    let [want, more @ ..] = wants else {
+        return Ok(tokens);
+    };
+    behind(more, behind_place(*want, tokens)?)
 }

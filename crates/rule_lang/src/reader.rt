@@ -14,15 +14,16 @@ ghost use Rattle.rule_lang.specs.Trees.{IsCondition};
 
 use crate::condition::Step;
 use crate::draft::{Draft, Mode, add_when, first_draft, note, note_if};
-use crate::fault::{RuleFault, RuleFaultKind};
+use crate::fault::RuleFault;
 use crate::keyword::Keyword;
 use crate::lexer::Placed;
 use crate::part::{out_of_range, part, release};
 use crate::pending::{self, MOST_DEPTH};
-use crate::phrase::{OFFER, behind, misplaced, test_phrase};
+use crate::phrase::{OFFER, behind, ended, misplaced};
 use crate::rule::Rule;
 use crate::statements::read_statement;
 use crate::test_reader::test_of;
+use crate::test_table::{TestKind, kind_of, wants_of};
 use crate::token::Token;
 use cells::Shape;
 use std::alloc::Global;
@@ -41,13 +42,14 @@ fn read_test<'a>(
     alloc: Global,
     shape: &Shape,
     draft: &mut Draft,
+    kind: TestKind,
     line: usize,
     tokens: &[Placed<&'a str>],
 ) -> Result<(), RuleFault>
-    ensures { Makes result (draft_seen draft.new) (reading.with_test line (tests.test_of
+    ensures { Makes result (draft_seen draft.new) (reading.with_test line ((tests.row kind).says
         shape.now (placed_all tokens.now)) (draft_seen draft.old)) }
 {
-    match test_of(alloc, shape, tokens) {
+    match test_of(alloc, shape, kind, tokens) {
         Ok(test) => {
             pending::test(&mut draft.condition, Step::Test { line, test })?;
             Ok(())
@@ -87,11 +89,11 @@ fn read_fact<'t, 'a>(
             Ok(after)
         }
         token => {
-            let Some(wants) = test_phrase(token, part(tokens, 1).token) else {
+            let Some(kind) = kind_of(token) else {
                 return Err(misplaced(first));
             };
-            let rest = behind(wants, tokens)?;
-            read_test(alloc, shape, draft, first.line, tokens)?;
+            let rest = behind(wants_of(kind), tokens)?;
+            read_test(alloc, shape, draft, kind, first.line, tokens)?;
             draft.mode = Mode::Operator;
             Ok(rest)
         }
@@ -179,10 +181,7 @@ fn read_next<'t, 'a>(
     ensures shorter { IfOk result (λ rest. length rest.now < length tokens.now) }
 {
     let [first, after @ ..] = tokens else {
-        return Err(RuleFault::At {
-            line: 0,
-            kind: RuleFaultKind::Shape,
-        });
+        return Err(ended());
     };
     match draft.mode {
         Mode::Statement => read_statement(alloc, shape, draft, *first, tokens, after),

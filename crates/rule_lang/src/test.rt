@@ -45,14 +45,11 @@ pub enum Test {
         relation: Relation,
         version: [u32; 4],
     },
-    /// The app's bucket, 0 to 9999, against a number.
+    /// The app's bucket, 0 to 9999, or that under a salt, against a number; with a modulus, which
+    /// is at least 1 in a text, its remainder.
     Bucket {
-        relation: Relation,
-        number: u32,
-    },
-    /// The app's bucket under a salt, 0 to 9999, against a number.
-    SaltedBucket {
-        salt: u64,
+        salt: Option<u64>,
+        modulus: Option<u32>,
         relation: Relation,
         number: u32,
     },

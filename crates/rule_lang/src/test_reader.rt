@@ -1,20 +1,22 @@
 //! From the phrase of a test to the test.
 
-ghost use Rattle.std.specs.Prelude.{◌≡◌, IfOk, IfErr, Ok};
+ghost use Rattle.std.specs.Prelude.{◌≡◌, ◌≤◌, ◌+◌, IfOk, IfErr, Ok};
 ghost use Rattle.rule_lang.specs.Literals.{IsLiteral};
 ghost use Rattle.rule_lang.specs.Named.{placed_named, placed_all};
+ghost use Rattle.rule_lang.specs.Parts as parts;
 ghost use Rattle.rule_lang.specs.Reader.Results.{IsFaultOf};
 ghost use Rattle.rule_lang.specs.Tests as tests;
 
 use crate::fault::RuleFault;
-use crate::keyword::Keyword;
 use crate::lexer::Placed;
 use crate::literal::Literal;
 use crate::part::{
-    array, attribute, flag, index, number, out_of_range, part, relation, salt, text_of, version,
+    array, attribute, flag, index, modulus, number, out_of_range, part, relation, salt, text_of,
+    version,
 };
+use crate::phrase::{Want, takes};
 use crate::test::Test;
-use crate::token::Token;
+use crate::test_table::TestKind;
 use cells::{ArrayName, Shape};
 use std::alloc::Global;
 
@@ -26,22 +28,55 @@ fn version_test<'a>(tokens: &[Placed<&'a str>]) -> Result<Test, RuleFault>
     Ok(Test::Version { relation, version })
 }
 
+// Whether a part that may be left out begins at a place.
+fn begins<'a>(want: Want, tokens: &[Placed<&'a str>], place: usize) -> bool
+    ensures { result ≡ tests.begins want (placed_all tokens.now) place }
+{
+    takes(want, part(tokens, place).token)
+}
+
+// The place behind a part of so many tokens, where it is there.
+fn past(there: bool, size: usize, place: usize) -> usize
+    requires { place + size ≤ 16 }
+    ensures { result ≡ tests.past there size place }
+{
+    if there { place + size } else { place }
+}
+
+fn optional_salt<'a>(there: bool, placed: Placed<&'a str>) -> Result<Option<u64>, RuleFault>
+    ensures { result ≡ tests.optional there (parts.salt (placed_named placed.entry)) }
+{
+    if there {
+        Ok(Some(salt(placed)?))
+    } else {
+        Ok(None)
+    }
+}
+
+fn optional_modulus<'a>(there: bool, placed: Placed<&'a str>) -> Result<Option<u32>, RuleFault>
+    ensures { result ≡ tests.optional there (parts.modulus (placed_named placed.entry)) }
+{
+    if there {
+        Ok(Some(modulus(placed)?))
+    } else {
+        Ok(None)
+    }
+}
+
 fn bucket_test<'a>(tokens: &[Placed<&'a str>]) -> Result<Test, RuleFault>
     ensures { result ≡ tests.bucket_test (placed_all tokens.now) }
 {
-    let number = number(part(tokens, 2))?;
-    let relation = relation(part(tokens, 1));
-    Ok(Test::Bucket { relation, number })
-}
-
-fn salted_test<'a>(tokens: &[Placed<&'a str>]) -> Result<Test, RuleFault>
-    ensures { result ≡ tests.salted_test (placed_all tokens.now) }
-{
-    let salt = salt(part(tokens, 2))?;
-    let number = number(part(tokens, 5))?;
-    let relation = relation(part(tokens, 4));
-    Ok(Test::SaltedBucket {
+    let salted = begins(Want::Salt, tokens, 1);
+    let behind_salt = past(salted, 3, 1);
+    let divided = begins(Want::Modulus, tokens, behind_salt);
+    let behind_modulus = past(divided, 2, behind_salt);
+    let salt = optional_salt(salted, part(tokens, 2))?;
+    let modulus = optional_modulus(divided, part(tokens, behind_salt + 1))?;
+    let number = number(part(tokens, behind_modulus + 1))?;
+    let relation = relation(part(tokens, behind_modulus));
+    Ok(Test::Bucket {
         salt,
+        modulus,
         relation,
         number,
     })
@@ -104,23 +139,25 @@ fn take_test<'a>(
     Ok(Test::Take { array, index })
 }
 
-/// The test that a phrase says, or the first L3 or L4 of its parts.
+/// The test of a kind that a phrase says, or the first L3 or L4 of its parts.
 pub fn test_of<'a>(
     alloc: Global,
     shape: &Shape,
+    kind: TestKind,
     tokens: &[Placed<&'a str>],
 ) -> Result<Test, RuleFault>
-    ensures test { IfOk result (λ t. tests.test_of shape.now (placed_all tokens.now) ≡ Ok t) }
-    ensures fault { IfErr result (IsFaultOf (tests.test_of shape.now (placed_all tokens.now))) }
+    ensures test { IfOk result (λ t. (tests.row kind).says shape.now (placed_all tokens.now)
+        ≡ Ok t) }
+    ensures fault { IfErr result (IsFaultOf ((tests.row kind).says shape.now (placed_all
+        tokens.now))) }
 {
-    match (part(tokens, 0).token, part(tokens, 1).token) {
-        (Token::Keyword(Keyword::Version), _) => version_test(tokens),
-        (Token::Keyword(Keyword::Bucket), Token::Open) => salted_test(tokens),
-        (Token::Keyword(Keyword::Bucket), _) => bucket_test(tokens),
-        (Token::Keyword(Keyword::Today), _) => today_test(tokens),
-        (Token::Keyword(Keyword::Installed), _) => installed_test(tokens),
-        (Token::Keyword(Keyword::Flag), _) => flag_test(tokens),
-        (Token::Keyword(Keyword::Attr), _) => attr_test(alloc, tokens),
-        _ => take_test(alloc, shape, tokens),
+    match kind {
+        TestKind::Version => version_test(tokens),
+        TestKind::Bucket => bucket_test(tokens),
+        TestKind::Today => today_test(tokens),
+        TestKind::Installed => installed_test(tokens),
+        TestKind::Flag => flag_test(tokens),
+        TestKind::Attr => attr_test(alloc, tokens),
+        TestKind::Take => take_test(alloc, shape, tokens),
     }
 }

@@ -8,19 +8,19 @@ use Rattle.rule_lang.specs.declared.draft.Mode.{Mode}
 use Rattle.rule_lang.specs.declared.draft.Mode.TheVariants as mode
 use Rattle.rule_lang.specs.declared.fault.RuleFault.{RuleFault}
 use Rattle.rule_lang.specs.declared.keyword.Keyword.TheVariants as keyword
-use Rattle.rule_lang.specs.declared.phrase.Want.{Want}
 use Rattle.rule_lang.specs.declared.rule.Statement.{Statement}
 use Rattle.rule_lang.specs.declared.rule.Statement.TheVariants.{When}
 use Rattle.rule_lang.specs.declared.test.Test.{Test}
+use Rattle.rule_lang.specs.declared.test_table.TestKind.{TestKind}
 use Rattle.rule_lang.specs.declared.token.Token.TheVariants as token
 use Rattle.rule_lang.specs.Reader.Drafts.{Pending, begin, denied, opened, tested, joined, parted}
 use Rattle.rule_lang.specs.Reader.Drafts.{closed, term_done, is_empty}
 use Rattle.rule_lang.specs.Lexed.{Placed}
 use Rattle.rule_lang.specs.Parts.{OrFault, ◌>>?◌, part, release, out_of_range}
-use Rattle.rule_lang.specs.Phrases.{behind, misplaced, test_phrase, count_phrase, offer_phrase}
+use Rattle.rule_lang.specs.Phrases.{behind, misplaced, count_phrase, offer_phrase}
 use Rattle.rule_lang.specs.Phrases.{otherwise_phrase}
 use Rattle.rule_lang.specs.Says.{count_of}
-use Rattle.rule_lang.specs.Tests.{test_of}
+use Rattle.rule_lang.specs.Tests.{row, test_phrase, kind_of}
 use Rattle.rule_lang.specs.Tokens.{Token}
 
 -- the rule so far, and the first L3 or L4
@@ -116,10 +116,11 @@ abbrev pub with_test : (line : ℕ) → OrFault Test → Draft → Draft
 with_test line (Ok t) d = with_condition (tested (step.Test line t) d.condition) d
 with_test line (Err e) d = with_fault e d
 
-abbrev pub test_next : AppShape → Draft → (line : ℕ) → Option (List Want) → List Placed → Next
+abbrev pub test_next : AppShape → Draft → (line : ℕ) → Option TestKind → List Placed → Next
 test_next s d line None ts = Err (misplaced line)
-test_next s d line (Some wants) ts =
-    behind wants ts >>? λ rest. Ok (in_mode mode.Operator (with_test line (test_of s ts) d), rest)
+test_next s d line (Some k) ts =
+    behind (test_phrase k) ts >>? λ rest.
+    Ok (in_mode mode.Operator (with_test line ((row k).says s ts) d), rest)
 
 abbrev pub fact_next : AppShape → Draft → Token → Placed → (ts after : List Placed) → Next
 fact_next s d (token.Keyword keyword.Not) p ts after =
@@ -128,7 +129,7 @@ fact_next s d (token.Keyword keyword.Not) p ts after =
 fact_next s d token.Open p ts after =
     let noted = with_fault_if (too_deep d) (out_of_range p) d in
     Ok (with_condition (opened noted.condition) noted, after)
-fact_next s d t p ts after = test_next s d p.line (test_phrase t (part ts 1).token) ts
+fact_next s d t p ts after = test_next s d p.line (kind_of t) ts
 
 abbrev pub closed_next : Option Pending → Draft → (line : ℕ) → List Placed → Next
 closed_next None d line after = Err (misplaced line)
