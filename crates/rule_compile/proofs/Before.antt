@@ -53,6 +53,19 @@ stores_before left (a ∷ b ∷ c ∷ d ∷ text) q =
     before_then _ (code.stores_code (left - 4) text q) q
     (before_one _ (code.stores_code (left - 4) text q)) (stores_before (left - 4) text q)
 
+bucket_before : (salt modulus : Option ℕ) (condition : Condition) (n l : ℕ) (q : Program)
+    → IsBefore (code.bucket_code salt modulus condition n l q) q
+bucket_before None None condition n l q = field_before load.Half 16 condition n l q
+bucket_before None (Some m) condition n l q =
+    before_list (Some (insn.load_field load.Half 16) ∷ Some (insn.take_remainder R2 m) ∷ Some
+    (insn.jump_if condition R2 n (length q - l)) ∷ []) q
+bucket_before (Some salt) None condition n l q =
+    before_list (Some (insn.load_salt salt) ∷ None ∷ Some (insn.call 4) ∷ Some
+    (insn.jump_if condition R0 n (length q - l)) ∷ []) q
+bucket_before (Some salt) (Some m) condition n l q =
+    before_list (Some (insn.load_salt salt) ∷ None ∷ Some (insn.call 4) ∷ Some
+    (insn.take_remainder R0 m) ∷ Some (insn.jump_if condition R0 n (length q - l)) ∷ []) q
+
 attribute_before : (n : ℕ) (text : List ℕ) (sense : Bool) (l : ℕ) (q : Program)
     → IsBefore (code.attribute_code n text sense l q) q
 attribute_before n text sense l q =
@@ -73,11 +86,8 @@ version_before relation.Gt ns sense l q = order_before jump.Gt jump.Gt 0 ns sens
 pub test_before : (s : AppShape) (t : the_test.Test) (sense : Bool) (l : ℕ) (q : Program)
     → IsBefore (test_code s t sense l q) q
 test_before s (test.Version r w) sense l q = version_before r (four_of w) sense l q
-test_before s (test.Bucket r n) sense l q =
-    field_before load.Half 16 (insn.turned sense (condition_of r)) n l q
-test_before s (test.SaltedBucket salt r n) sense l q =
-    before_list (Some (insn.load_salt salt) ∷ None ∷ Some (insn.call 4) ∷ Some
-    (insn.jump_if (insn.turned sense (condition_of r)) R0 n (length q - l)) ∷ []) q
+test_before s (test.Bucket salt modulus r n) sense l q =
+    bucket_before salt modulus (insn.turned sense (condition_of r)) n l q
 test_before s (test.Today r n) sense l q =
     field_before load.Word 24 (insn.turned sense (condition_of r)) n l q
 test_before s (test.Installed r n) sense l q =

@@ -1,30 +1,39 @@
 -- Tests of one number: the code of a comparison comes to one behaviour or the other, as the
 -- comparison says.
-use Rattle.std.proofs.Common.{◌≡◌, ℕ, ◌+◌, ◌-◌, ◌<◌, ◌^◌, ◌∷◌, length, Option, Some, None, Bool, true, false, refl, sym, ap, subst, ◌∙◌, arith, inl, inr}
-use Rattle.std.specs.Prelude.{not, nat_le, nat_lt, ◌==◌, bit_and, if◌then◌else◌}
-use Rattle.std.specs.Int.{w32}
+use Rattle.std.proofs.Common.{◌≡◌, ℕ, ◌+◌, ◌-◌, ◌%◌, ◌<◌, ◌≤◌, ◌^◌, ◌∷◌, length, Option, Some, None, Bool, true, false, refl, sym, ap, subst, ◌∙◌, arith, inl, inr}
+use Rattle.std.specs.Prelude.{not, nat_le, nat_lt, ◌==◌, bit_and, if◌then◌else◌, IfSome}
+use Rattle.std.specs.Int.{w32, cast_unsigned}
+use Rattle.std.proofs.Math.Nat.{mod-zero, mod-le}
+use Rattle.std.proofs.lemmas.Bool.Decides.{Decides-eqb}
+use Rattle.std.proofs.lemmas.Int.{of_z-to_z}
 use Rattle.std.proofs.lemmas.Bool.{cases_lt}
 use Rattle.std.proofs.lemmas.Nat.{and_le_l}
 use Rattle.attrs.specs.Attributes.{Attributes}
+use Rattle.bpf_insn.specs.declared.reg.Reg.{Reg}
 use Rattle.bpf_insn.specs.declared.reg.Reg.TheVariants.{R0, R2}
+use Rattle.bpf_insn.specs.declared.operand.AluOp.TheVariants.{Mod}
+use Rattle.bpf_insn.specs.declared.operand.Bits.TheVariants.{Bits32}
+use Rattle.bpf_insn.specs.Arithmetic.{alu_result}
+use Rattle.bpf_insn.specs.Table.{number_of}
 use Rattle.bpf_insn.specs.declared.operand.Condition.{Condition}
 use Rattle.bpf_insn.specs.declared.operand.Condition.TheVariants.{Eq, Ne, Lt, Le, Gt, Ge, Set}
 use Rattle.bpf_insn.specs.declared.operand.LoadKind.{LoadKind}
-use Rattle.bpf_insn.specs.declared.operand.LoadKind.TheVariants.{Byte}
+use Rattle.bpf_insn.specs.declared.operand.LoadKind.TheVariants.{Byte, Half}
 use Rattle.bpf_insn.specs.Conditions.{compares}
 use Rattle.bpf_insn.specs.Program.{Program, ◌>>=◌}
 use Rattle.attrs.specs.Helpers.{bucket_of}
 use Rattle.bpf_verify.specs.bpf_semantics.Program.{ShapedProgram}
-use Rattle.bpf_verify.specs.bpf_semantics.State.{with_register, with_result}
+use Rattle.bpf_verify.specs.bpf_semantics.State.{State, with_register, with_result}
 use Rattle.bpf_verify.specs.bpf_semantics.Outcome.{write, answer}
-use Rattle.bpf_verify.specs.bpf_semantics.Reads.{only}
-use Rattle.rule_lang.specs.Meaning.{Behaviour}
+use Rattle.bpf_verify.specs.bpf_semantics.Reads.{both, only}
+use Rattle.bpf_verify.specs.bpf_semantics.Step.{act}
+use Rattle.rule_lang.specs.Meaning.{Behaviour, bucket_by, remainder}
 use Rattle.rule_compile.specs.Instructions.{opposite, turned}
 use Rattle.rule_compile.specs.Instructions as insn
 use Rattle.rule_compile.specs.Blocks as code
 use Rattle.rule_compile.proofs.Labels.{from_label, next_here, next_wide}
 use Rattle.rule_compile.proofs.Runs.{Comes, Nothing, Has, knowing, quiet, Reads, load_then, jump_then}
-use Rattle.rule_compile.proofs.Fields.{FitFields, flags_reads}
+use Rattle.rule_compile.proofs.Fields.{FitFields, bucket_reads, flags_reads}
 
 -- ---- conditions and their opposites
 
@@ -77,6 +86,39 @@ by_sense condition true v n x y h = refl
 by_sense condition false v n x y h =
     ap (λ (b : Bool). if b then x else y) (opposite_is condition v n h)
     ∙ turned_if (compares w32 condition v n) x y
+
+-- ---- remainders
+
+-- the registers of tests
+abbrev pub IsTested : Reg → Type 0
+IsTested R0 = Unit {0}
+IsTested R2 = Unit {0}
+IsTested r = ⊥
+
+low_half : (n : ℕ) → n < 2 ^ 32 → n % 2 ^ 32 ≡ n
+low_half n h = omega (arith, h)
+
+-- a divisor of 0 leaves the dividend in both
+whole_or : (v m : ℕ) → (if m == 0 then v else v % m) ≡ v % m
+whole_or v m = by_test (m == 0) refl
+  where
+    by_test : (b : Bool) → (m == 0) ≡ b → (if b then v else v % m) ≡ v % m
+    by_test true e = sym (ap (λ (k : ℕ). v % k) ((Decides-eqb m 0).0 e) ∙ mod-zero v)
+    by_test false e = refl
+
+divided : (v m : ℕ) → v < 2 ^ 32 → m < 2 ^ 32
+    → both (alu_result Bits32 Mod) (Some v) (Some (cast_unsigned w32 (insn.imm_of m)))
+    ≡ Some (v % m)
+divided v m hv hm =
+    rw (of_z-to_z w32 m hm, low_half v hv, low_half m hm)
+    (ap (λ (n : ℕ). Some n) (whole_or v m))
+
+lower : (u v k : ℕ) → u ≤ v → v < k → u < k
+lower u v k h g = omega (arith, h, g)
+
+-- a remainder is no greater
+no_greater : (v m : ℕ) → v < 2 ^ 32 → v % m < 2 ^ 32
+no_greater v m hv = lower (v % m) v (2 ^ 32) (mod-le v m) hv
 
 module _ (p : ShapedProgram) (a : Attributes) where
   -- ---- a field
@@ -169,16 +211,71 @@ module _ (p : ShapedProgram) (a : Attributes) where
         attributes = h.attributes;
       }) refl)
 
-  pub salted_runs : (salt : ℕ) (condition : Condition) (n l : ℕ) (q : Program) (choice : ℕ)
-      (x y : Behaviour) → n < 2 ^ 32
+  -- ---- a remainder, in a register of tests
+
+  writes_remainder : (r : Reg) (m v : ℕ) (s : State) → v < 2 ^ 32 → m < 2 ^ 32
+      → s.registers (number_of r) ≡ Some v
+      → act p.shape s (insn.take_remainder r m) ≡ write s 1 r (Some (v % m))
+  writes_remainder r m v s hv hm known =
+      ap (λ (o : Option ℕ). write s 1 r (both (alu_result Bits32 Mod) o
+      (Some (cast_unsigned w32 (insn.imm_of m))))) known
+      ∙ ap (write s 1 r) (divided v m hv hm)
+
+  remainder_then : (r : Reg) (m v : ℕ) (q : Program) (choice : ℕ) (b : Behaviour) → IsTested r
+      → v < 2 ^ 32 → m < 2 ^ 32 → Comes p a (Has p a (number_of r) (v % m)) q choice b
+      → Comes p a (Has p a (number_of r) v) (Some (insn.take_remainder r m) ∷ q) choice b
+  remainder_then R0 m v q choice b is hv hm rest s h known =
+      quiet p a s (record (with_register s 0 (v % m)) { slot = s.slot + 1; count = s.count + 1 })
+      (insn.take_remainder R0 m) q choice b h (writes_remainder R0 m v s hv hm known)
+      (rest _ (record {
+        place = next_here p.code s.slot (Some (insn.take_remainder R0 m)) q h.place;
+        context = h.context;
+        choice_is = h.choice_is;
+        top = h.top;
+        attributes = h.attributes;
+      }) refl)
+  remainder_then R2 m v q choice b is hv hm rest s h known =
+      quiet p a s (record (with_register s 2 (v % m)) { slot = s.slot + 1; count = s.count + 1 })
+      (insn.take_remainder R2 m) q choice b h (writes_remainder R2 m v s hv hm known)
+      (rest _ (record {
+        place = next_here p.code s.slot (Some (insn.take_remainder R2 m)) q h.place;
+        context = h.context;
+        choice_is = h.choice_is;
+        top = h.top;
+        attributes = h.attributes;
+      }) refl)
+  remainder_then r m v q choice b is hv hm rest s h known = absurd is
+
+  remainder_runs : (modulus : Option ℕ) (r : Reg) (v : ℕ) (condition : Condition) (n l : ℕ)
+      (q : Program) (choice : ℕ) (x y : Behaviour) → IsTested r → v < 2 ^ 32
+      → IfSome modulus (λ m. m < 2 ^ 32) → n < 2 ^ 32
       → Comes p a (Nothing p a) (from_label q l) choice x → Comes p a (Nothing p a) q choice y
-      → Comes p a (Nothing p a) (code.salted_code salt condition n l q) choice
-      (if compares w32 condition (bucket_of a salt) n then x else y)
+      → Comes p a (Has p a (number_of r) v) (code.remainder_code modulus condition r n l q) choice
+      (if compares w32 condition (remainder modulus v) n then x else y)
   unfolding from_label
-  salted_runs salt condition n l q choice x y hn to on =
+  remainder_runs None r v condition n l q choice x y is hv hm hn to on =
+      jump_then p a condition r n (length q - l) v q choice x y hv hn to
+      (knowing p a (Has p a (number_of r) v) q choice y on)
+  remainder_runs (Some m) r v condition n l q choice x y is hv hm hn to on =
+      remainder_then r m v (Some (insn.jump_if condition r n (length q - l)) ∷ q) choice _ is hv hm
+      (jump_then p a condition r n (length q - l) (v % m) q choice x y (no_greater v m hv) hn to
+      (knowing p a (Has p a (number_of r) (v % m)) q choice y on))
+
+  pub bucket_runs : FitFields a → (salt modulus : Option ℕ) (condition : Condition) (n l : ℕ)
+      (q : Program) (choice : ℕ) (x y : Behaviour) → IfSome modulus (λ m. m < 2 ^ 32)
+      → n < 2 ^ 32 → Comes p a (Nothing p a) (from_label q l) choice x
+      → Comes p a (Nothing p a) q choice y
+      → Comes p a (Nothing p a) (code.bucket_code salt modulus condition n l q) choice
+      (if compares w32 condition (remainder modulus (bucket_by a salt)) n then x else y)
+  bucket_runs fit None modulus condition n l q choice x y hm hn to on =
+      let small : a.context.bucket < 2 ^ 32 = omega (arith, fit.bucket) in
+      load_then p a Half 16 a.context.bucket (code.remainder_code modulus condition R2 n l q) choice
+      _ (bucket_reads p a fit)
+      (remainder_runs modulus R2 a.context.bucket condition n l q choice x y tt small hm hn to on)
+  bucket_runs fit (Some salt) modulus condition n l q choice x y hm hn to on =
       let small : bucket_of a salt < 2 ^ 32 = omega arith in
-      salt_then salt (Some (insn.call 4) ∷ Some (insn.jump_if condition R0 n (length q - l)) ∷ q)
-      choice _
-      (bucket_then salt (Some (insn.jump_if condition R0 n (length q - l)) ∷ q) choice _
-      (jump_then p a condition R0 n (length q - l) (bucket_of a salt) q choice x y small hn to
-      (knowing p a (Has p a 0 (bucket_of a salt)) q choice y on)))
+      let last : Program = code.remainder_code modulus condition R0 n l q in
+      salt_then salt (Some (insn.call 4) ∷ last) choice _
+      (bucket_then salt last choice _
+      (remainder_runs modulus R0 (bucket_of a salt) condition n l q choice x y tt small hm hn to
+      on))

@@ -58,8 +58,10 @@ test_length : (s : AppShape) (t : the_test.Test) (sense : Bool) (l : ℕ) (q : P
     → length (test_code s t sense l q) ≤ 22 + length q
 test_length s (test.Version r w) sense l q range = let h = version_length r w sense l q in
     omega (arith, h)
-test_length s (test.Bucket r n) sense l q range = omega arith
-test_length s (test.SaltedBucket salt r n) sense l q range = omega arith
+test_length s (test.Bucket None None r n) sense l q range = omega arith
+test_length s (test.Bucket None (Some m) r n) sense l q range = omega arith
+test_length s (test.Bucket (Some salt) None r n) sense l q range = omega arith
+test_length s (test.Bucket (Some salt) (Some m) r n) sense l q range = omega arith
 test_length s (test.Today r n) sense l q range = omega arith
 test_length s (test.Installed r n) sense l q range = omega arith
 test_length s (test.Flag f) sense l q range = flag_length (flag_bit f) sense l q

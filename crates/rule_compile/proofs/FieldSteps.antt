@@ -1,23 +1,31 @@
 -- A load of a field of the context as a step.
-use Rattle.std.proofs.Common.{◌≡◌, ℕ, ◌+◌, ◌≤◌, pos, List, None, true, false, refl, arith, inl, inr}
+use Rattle.std.proofs.Common.{◌≡◌, ℕ, ◌+◌, ◌-◌, ◌%◌, ◌^◌, ◌≤◌, pos, List, None, Bool, true, false, refl, arith, inl, inr}
+use Rattle.std.specs.Prelude.{min, nat_le, ◌==◌, if◌then◌else◌}
+use Rattle.std.proofs.Math.Nat.{mod-le, min-le_left}
 use Rattle.std.proofs.lemmas.Bool.{cases_Bool, le-leb}
 use Rattle.std.proofs.lemmas.Nat.{and_le_l}
-use Rattle.bpf_insn.specs.declared.operand.AluOp.TheVariants.{And}
-use Rattle.bpf_insn.specs.declared.operand.Bits.TheVariants.{Bits64}
+use Rattle.bpf_insn.specs.declared.operand.AluOp.TheVariants.{And, Mod}
+use Rattle.bpf_insn.specs.declared.operand.Bits.TheVariants.{Bits32, Bits64}
+use Rattle.bpf_insn.specs.Arithmetic.{alu_result}
+use Rattle.bpf_insn.specs.Table.{number_of}
+use Rattle.bpf_insn.specs.Words.{immediate}
 use Rattle.bpf_insn.specs.declared.operand.LoadKind.{LoadKind}
 use Rattle.bpf_insn.specs.declared.operand.LoadKind.TheVariants as load
+use Rattle.bpf_insn.specs.declared.reg.Reg.{Reg}
 use Rattle.bpf_insn.specs.declared.reg.Reg.TheVariants.{R2}
 use Rattle.bpf_insn.specs.Program.{Program}
 use Rattle.bpf_verify.specs.bpf_semantics.Reads.{load_count}
 use Rattle.cells.specs.Arrays.{AppShape}
+use Rattle.bpf_verify.specs.abs_value.declared.interval.Interval.{Interval}
 use Rattle.bpf_verify.specs.abs_value.declared.number.Number.{Number}
 use Rattle.bpf_verify.specs.abs_value.declared.places.Places.{Places}
 use Rattle.bpf_verify.specs.abs_value.declared.value.Abs.TheVariants.{Num, Ctx}
 use Rattle.bpf_verify.specs.abs_value.declared.state.AbsState.{AbsState}
-use Rattle.bpf_verify.specs.abs_value.Bounds.{alu_number}
-use Rattle.bpf_verify.specs.abs_value.Numbers.{single, least, most, are_single}
+use Rattle.bpf_verify.specs.abs_value.Bounds.{alu_number, is_above_zero, remainder}
+use Rattle.bpf_verify.specs.abs_value.Intervals.{just, is_just, greatest, from_zero, all_of, cut_interval}
+use Rattle.bpf_verify.specs.abs_value.Numbers.{number, single, least, most, are_single, cut}
 use Rattle.bpf_verify.specs.abs_value.Values.{places, loaded_value}
-use Rattle.bpf_verify.specs.abs_value.States.{register_at, value_at, with_value}
+use Rattle.bpf_verify.specs.abs_value.States.{register_at, value_at, value_of, with_value}
 use Rattle.bpf_verify.specs.bpf_rules.Memory.{changes, lies_in, stack_place}
 use Rattle.bpf_verify.specs.bpf_rules.Reads.{load_use}
 use Rattle.bpf_verify.specs.bpf_rules.Rules.{first_rule}
@@ -26,8 +34,59 @@ use Rattle.bpf_verify.specs.Table.{Known, LiesIn, IsWider, Knows}
 use Rattle.rule_compile.specs.Instructions as insn
 use Rattle.rule_compile.proofs.Typed.{IsStep}
 use Rattle.rule_compile.proofs.Entries.{any, Takes, writes, knows_write}
-use Rattle.rule_compile.proofs.Narrowings.{wider_at, context_in, number_in}
+use Rattle.rule_compile.proofs.Narrowings.{wider_at, context_in, number_in, le_of}
 use Rattle.rule_compile.proofs.InsnSteps.{onward}
+
+-- ---- a remainder has 32 bits
+
+one_or : (b : Bool) (u v k : ℕ) → u ≤ k → v ≤ k → (if b then u else v) ≤ k
+one_or true u v k h g = h
+one_or false u v k h g = g
+
+below : (u v k : ℕ) → u ≤ v → v ≤ k → u ≤ k
+below u v k h g = omega (arith, h, g)
+
+result_small : (x y : ℕ) → alu_result Bits32 Mod x y ≤ 2 ^ 32 - 1
+result_small x y =
+    let low : x % 2 ^ 32 ≤ 2 ^ 32 - 1 = omega arith in
+    let left : ℕ = x % 2 ^ 32 % (y % 2 ^ 32) in
+    one_or (y % 2 ^ 32 == 0) (x % 2 ^ 32) left (2 ^ 32 - 1) low
+    (below left (x % 2 ^ 32) (2 ^ 32 - 1) (mod-le (x % 2 ^ 32) (y % 2 ^ 32)) low)
+
+cut_small : (a : Interval) → (cut_interval Bits32 a).hi ≤ 2 ^ 32 - 1
+cut_small a = by_one (is_just a)
+  where
+    by_end : (b : Bool) → nat_le a.hi (greatest Bits32) ≡ b
+        → (if b then a else all_of Bits32).hi ≤ 2 ^ 32 - 1
+    by_end true h = le_of a.hi (2 ^ 32 - 1) h
+    by_end false h = omega arith
+
+    by_one : (b : Bool) → (if b then just (a.lo % 2 ^ 32) else if nat_le a.hi (greatest Bits32) then
+        a else all_of Bits32).hi ≤ 2 ^ 32 - 1
+    by_one true = omega arith
+    by_one false = by_end (nat_le a.hi (greatest Bits32)) refl
+
+range_small : (a b : Interval) (k : ℕ) → a.hi ≤ k → (remainder a b).hi ≤ k
+range_small a b k h =
+    let lesser = min a.hi (b.hi - 1) in
+    one_or (is_above_zero b) lesser a.hi k (below lesser a.hi k (min-le_left a.hi (b.hi - 1)) h) h
+
+single_any : (n : ℕ) → n ≤ 2 ^ 32 - 1 → IsWider (Num any) (Num (single n))
+single_any n h = (omega arith, omega arith, omega (arith, h))
+
+from_zero_any : (n : ℕ) → n ≤ 2 ^ 32 - 1 → IsWider (Num any) (Num (number (from_zero n)))
+from_zero_any n h = (omega arith, omega arith, omega (arith, h))
+
+any_remainder : (a b : Number) → IsWider (Num any) (Num (alu_number Bits32 Mod a b))
+any_remainder a b = by_single (are_single a b)
+  where
+    by_single : (t : Bool) → IsWider (Num any) (Num (if t then single (alu_result Bits32 Mod
+        (least a) (least b)) else number (remainder (cut Bits32 a).range (cut Bits32 b).range)))
+    by_single true =
+        single_any (alu_result Bits32 Mod (least a) (least b)) (result_small (least a) (least b))
+    by_single false =
+        from_zero_any (remainder (cut Bits32 a).range (cut Bits32 b).range).hi (range_small (cut
+        Bits32 a).range (cut Bits32 b).range (2 ^ 32 - 1) (cut_small a.range))
 
 module _ (shape : AppShape) where
   -- ---- a field of the context
@@ -86,6 +145,33 @@ module _ (shape : AppShape) where
         (stack_place (value_at e 6) (pos offset) (load_count kind)) kind)) takes
         (λ e h. let c = context_in (places 0 0) (value_at e 6)
         (wider_at d e 6 (Ctx (places 0 0)) h six) in load_gives kind offset d e c.0 c.1 h);
+    jump = tt;
+  }
+
+  -- mod32 r, n
+
+  remainder_passes : (r : Reg) (m : ℕ) (e : AbsState) (a : Number) → value_of e r ≡ Num a
+      → (number_of r == 10) ≡ false → first_rule shape e (insn.take_remainder r m) ≡ None
+  unfolding first_rule
+  remainder_passes r m e a is frame = rw (is, frame) refl
+
+  remainder_gives : (r : Reg) (m : ℕ) (d : Known) (e : AbsState) (a : Number) → value_of e r ≡ Num a
+      → Knows d e → Knows (writes d r (Num any)) (after shape 0 e (insn.take_remainder r m))
+  remainder_gives r m d e a is h =
+      let b : Number = single (immediate Bits32 (insn.imm_of m)) in
+      rw is (knows_write d e r (Num any) (Num (alu_number Bits32 Mod a b)) h (any_remainder a b))
+
+  pub remainder_step : (r : Reg) (m : ℕ) (d : Known) (q : Program) (ds : List Known)
+      → (number_of r == 10) ≡ false → register_at d.registers (number_of r) ≡ Num any
+      → Takes q ds 0 (writes d r (Num any)) → IsStep shape d (insn.take_remainder r m) q ds
+  remainder_step r m d q ds frame is takes = record {
+    half = tt;
+    passes = λ e h. let n = number_in any (value_of e r) (wider_at d e (number_of r) (Num any) h
+        is) in remainder_passes r m e n.0 n.1 frame;
+    next = λ s. onward q ds 0 d (writes d r (Num any))
+        (λ e. after shape 0 e (insn.take_remainder r m)) takes
+        (λ e h. let n = number_in any (value_of e r) (wider_at d e (number_of r) (Num any) h is) in
+        remainder_gives r m d e n.0 n.1 h);
     jump = tt;
   }
 

@@ -1,6 +1,6 @@
 -- Code that stands in front of typed code is typed, and every label stays: by tests first.
 use Rattle.std.proofs.Common.{◌≡◌, ℕ, suc, ◌+◌, ◌-◌, ◌*◌, ◌<◌, ◌≤◌, ◌^◌, List, [], ◌∷◌, length, Option, Some, None, Bool, true, false, refl, subst, arith}
-use Rattle.std.specs.Prelude.{if◌then◌else◌}
+use Rattle.std.specs.Prelude.{if◌then◌else◌, IfSome}
 use Rattle.bpf_insn.specs.declared.insn.Insn.{Insn}
 use Rattle.bpf_insn.specs.declared.operand.Condition.{Condition}
 use Rattle.bpf_insn.specs.declared.operand.Condition.TheVariants as jump
@@ -18,7 +18,7 @@ use Rattle.rule_compile.specs.Blocks as code
 use Rattle.rule_compile.proofs.Typed.{IsStep, IsTyped, nothing}
 use Rattle.rule_compile.proofs.Entries.{any, none_set, frame, choice, chosen, forgets, Takes}
 use Rattle.rule_compile.proofs.InsnSteps.{wide_step, bucket_step}
-use Rattle.rule_compile.proofs.FieldSteps.{load_step, mask_step}
+use Rattle.rule_compile.proofs.FieldSteps.{load_step, mask_step, remainder_step}
 use Rattle.rule_compile.proofs.JumpSteps.{jump_step}
 
 -- what stands first is what its entry says
@@ -244,20 +244,66 @@ module _ (shape : AppShape) where
       (takes_more (Num any) Unusable Unusable Unusable Unusable set q ds
       (length q - l) label.takes))
 
-  pub salted_front : (salt : ℕ) (condition : Condition) (n l : ℕ) (q : Program) (ds : List Known)
-      → salt < 2 ^ 64 → IsRest q ds → IsLabel q ds l
-      → IsFront (code.salted_code salt condition n l q) q ds
-  salted_front salt condition n l q ds small h label =
+  -- ---- a bucket
+
+  -- code in front of code, that begins where this is known
+  record Begins (q' q : Program) (ds : List Known) (d : Known) : Type 0 where
+    tail : IsTail q' q ds
+    first : Takes q' tail.entries 0 d
+
+  field_begins : (modulus : Option ℕ) (condition : Condition) (n l : ℕ) (q : Program)
+      (ds : List Known) → IsRest q ds → IsLabel q ds l
+      → Begins (code.remainder_code modulus condition R2 n l q) q ds tested
+  field_begins None condition n l q ds h label = record {
+    tail = jump_tail condition n l q ds h label;
+    first = takes_here (insn.jump_if condition R2 n (length q - l)) q tested ds;
+  }
+  field_begins (Some m) condition n l q ds h label =
+      let away : Insn = insn.jump_if condition R2 n (length q - l) in
+      let left : Insn = insn.take_remainder R2 m in
+      record {
+        tail = put left tested (Some away ∷ q) q ds (jump_tail condition n l q ds h label)
+            (remainder_step shape R2 m tested (Some away ∷ q) (tested ∷ ds) refl refl
+            (takes_here away q tested ds));
+        first = takes_here left (Some away ∷ q) tested (tested ∷ ds);
+      }
+
+  answer_begins : (modulus : Option ℕ) (condition : Condition) (n l : ℕ) (q : Program)
+      (ds : List Known) → IsRest q ds → IsLabel q ds l
+      → Begins (code.remainder_code modulus condition R0 n l q) q ds (asked none_set)
+  answer_begins None condition n l q ds h label = record {
+    tail = answer_tail condition n l none_set q ds h label;
+    first = takes_here (insn.jump_if condition R0 n (length q - l)) q (asked none_set) ds;
+  }
+  answer_begins (Some m) condition n l q ds h label =
       let away : Insn = insn.jump_if condition R0 n (length q - l) in
-      let last : Program = Some away ∷ q in
+      let left : Insn = insn.take_remainder R0 m in
+      record {
+        tail = put left (asked none_set) (Some away ∷ q) q ds
+            (answer_tail condition n l none_set q ds h label)
+            (remainder_step shape R0 m (asked none_set) (Some away ∷ q) (asked none_set ∷ ds) refl
+            refl (takes_here away q (asked none_set) ds));
+        first = takes_here left (Some away ∷ q) (asked none_set) (asked none_set ∷ ds);
+      }
+
+  pub bucket_front : (salt modulus : Option ℕ) (condition : Condition) (n l : ℕ) (q : Program)
+      (ds : List Known) → IfSome salt (λ s. s < 2 ^ 64) → IsRest q ds → IsLabel q ds l
+      → IsFront (code.bucket_code salt modulus condition n l q) q ds
+  bucket_front None modulus condition n l q ds small h label =
+      let last : Program = code.remainder_code modulus condition R2 n l q in
+      let b = field_begins modulus condition n l q ds h label in
+      put_first (insn.load_field load.Half 16) last q ds b.tail
+      (load_step shape load.Half 16 (chosen shape) last b.tail.entries refl (omega arith) b.first)
+  bucket_front (Some salt) modulus condition n l q ds small h label =
+      let last : Program = code.remainder_code modulus condition R0 n l q in
+      let b = answer_begins modulus condition n l q ds h label in
       let given : Known = frame Unusable (Num any) Unusable Unusable Unusable
       (choice shape) none_set in
       let called : IsTail (Some (insn.call 4) ∷ last) q ds =
-      put (insn.call 4) given last q ds (answer_tail condition n l none_set q ds h label)
-      (bucket_step shape given last (asked none_set ∷ ds) refl
-      (takes_here away q (asked none_set) ds)) in
+      put (insn.call 4) given last q ds b.tail
+      (bucket_step shape given last b.tail.entries refl b.first) in
       put_first (insn.load_salt salt) (None ∷ Some (insn.call 4) ∷ last) q ds
       (put_half (Some (insn.call 4) ∷ last) q ds called)
       (wide_step shape R1 salt (Num any) (chosen shape) (Some (insn.call 4) ∷ last)
       (nothing ∷ called.entries) refl (omega arith, omega arith, omega (arith, small))
-      (takes_behind (insn.call 4) last nothing given (asked none_set ∷ ds)))
+      (takes_behind (insn.call 4) last nothing given b.tail.entries))

@@ -21,7 +21,7 @@ use Rattle.rule_compile.specs.Code.{condition_of, version_code, four_of, place_n
 use Rattle.rule_compile.specs.Ranges.{IsInRange}
 use Rattle.rule_compile.proofs.Arrays.{can_take_is}
 use Rattle.rule_compile.proofs.RuleRuns.{Suits}
-use Rattle.rule_compile.proofs.Fronts.{IsLabel, IsRest, IsFront, first_label, label_if, front_then, field_front, flag_front, equal_front, order_front, salted_front}
+use Rattle.rule_compile.proofs.Fronts.{IsLabel, IsRest, IsFront, first_label, label_if, front_then, field_front, flag_front, equal_front, order_front, bucket_front}
 use Rattle.rule_compile.proofs.TextFronts.{attribute_front, take_front}
 
 few_attributes : (n : Attribute) → attribute_number n < 64
@@ -57,11 +57,8 @@ module _ (shape : AppShape) (is_shape : IsShape shape) where
       → IsFront shape (test_code shape t sense l q) q ds
   test_front (test.Version r w) sense l q ds range fit h label =
       version_front r w sense l q ds h label
-  test_front (test.Bucket r n) sense l q ds range fit h label =
-      field_front shape load.Half 16 (insn.turned sense (condition_of r)) n l q ds
-      (omega arith) h label
-  test_front (test.SaltedBucket salt r n) sense l q ds range fit h label =
-      salted_front shape salt (insn.turned sense (condition_of r)) n l q ds range.0 h label
+  test_front (test.Bucket salt modulus r n) sense l q ds range fit h label =
+      bucket_front shape salt modulus (insn.turned sense (condition_of r)) n l q ds range.0 h label
   test_front (test.Today r n) sense l q ds range fit h label =
       field_front shape load.Word 24 (insn.turned sense (condition_of r)) n l q ds
       (omega arith) h label

@@ -5,10 +5,10 @@ use Rattle.std.specs.Int.{w32}
 use Rattle.std.specs.List.{list_all}
 use Rattle.std.specs.Ordering.{nat_cmp}
 use Rattle.attrs.specs.Attributes.{Attributes}
-use Rattle.attrs.specs.Helpers.{attribute, is_text, bucket_of}
+use Rattle.attrs.specs.Helpers.{attribute, is_text}
 use Rattle.bpf_insn.specs.declared.operand.Condition.TheVariants as jump
 use Rattle.bpf_insn.specs.declared.operand.LoadKind.{LoadKind}
-use Rattle.bpf_insn.specs.declared.operand.LoadKind.TheVariants.{Half, Word}
+use Rattle.bpf_insn.specs.declared.operand.LoadKind.TheVariants.{Word}
 use Rattle.bpf_insn.specs.Conditions.{compares}
 use Rattle.bpf_insn.specs.Program.{Program}
 use Rattle.bpf_verify.specs.bpf_semantics.Program.{ShapedProgram}
@@ -21,7 +21,7 @@ use Rattle.rule_lang.specs.declared.test.Test as the_test
 use Rattle.rule_lang.specs.declared.test.Test.TheVariants as test
 use Rattle.rule_lang.specs.Fits.{test_fits}
 use Rattle.rule_lang.specs.Literals.{IsLiteral, is_literal_byte, is_printable}
-use Rattle.rule_lang.specs.Meaning.{Behaviour, relates, version_cmp, flag_bit, attribute_number, test_then}
+use Rattle.rule_lang.specs.Meaning.{Behaviour, relates, version_cmp, bucket_by, remainder, flag_bit, attribute_number, test_then}
 use Rattle.rule_lang.specs.Shapes.{array_named, cell_of, quota_of}
 use Rattle.rule_compile.specs.Instructions.{turned}
 use Rattle.rule_compile.specs.Blocks as code
@@ -29,8 +29,8 @@ use Rattle.rule_compile.specs.Code.{condition_of, version_code, four_of, place_n
 use Rattle.rule_compile.specs.Ranges.{IsInRange}
 use Rattle.rule_compile.proofs.Labels.{from_label}
 use Rattle.rule_compile.proofs.Runs.{Comes, Nothing, Reads}
-use Rattle.rule_compile.proofs.Fields.{FitFields, bucket_reads, today_reads, installed_reads, first_reads, second_reads, third_reads, fourth_reads}
-use Rattle.rule_compile.proofs.Compares.{IsRelation, by_sense, field_runs, flag_runs, salted_runs}
+use Rattle.rule_compile.proofs.Fields.{FitFields, today_reads, installed_reads, first_reads, second_reads, third_reads, fourth_reads}
+use Rattle.rule_compile.proofs.Compares.{IsRelation, by_sense, field_runs, flag_runs, bucket_runs}
 use Rattle.rule_compile.proofs.VersionWords.{AreRead, equal_runs, order_runs}
 use Rattle.rule_compile.proofs.CounterPieces.{take_runs}
 use Rattle.rule_compile.proofs.StackTexts.{AreBytes}
@@ -191,13 +191,11 @@ module _ (p : ShapedProgram) (a : Attributes) (fit : FitFields a) (shape : IsSha
       (test_then a p.shape t (if sense then x else y) (if sense then y else x))
   test_runs (test.Version r w) sense l q choice x y range fits within to on =
       version_test r w sense l q choice x y range within to on
-  test_runs (test.Bucket r n) sense l q choice x y range fits within to on =
-      field_test Half 16 a.context.bucket r n sense l q choice x y (bucket_reads p a fit)
-      (omega (arith, fit.bucket)) range to on
-  test_runs (test.SaltedBucket salt r n) sense l q choice x y range fits within to on =
-      subst (Goes (code.salted_code salt (turned sense (condition_of r)) n l q) choice)
-      (related r sense (bucket_of a salt) n x y)
-      (salted_runs p a salt (turned sense (condition_of r)) n l q choice x y range.1 to on)
+  test_runs (test.Bucket salt modulus r n) sense l q choice x y range fits within to on =
+      subst (Goes (code.bucket_code salt modulus (turned sense (condition_of r)) n l q) choice)
+      (related r sense (remainder modulus (bucket_by a salt)) n x y)
+      (bucket_runs p a fit salt modulus (turned sense (condition_of r)) n l q choice x y range.1
+      range.2 to on)
   test_runs (test.Today r n) sense l q choice x y range fits within to on =
       field_test Word 24 a.context.today r n sense l q choice x y
       (today_reads p a fit) fit.today range to on

@@ -1,15 +1,16 @@
 -- The code of each test, in front of the rest of the program. It goes to the label where the test
 -- is of the sense, and else falls on to the rest. A label is a place of the rest by its distance
 -- from the end, so it is known before the jump is written, and code in front moves no label.
-use Rattle.std.specs.Prelude.{ℕ, suc, ◌-◌, ◌*◌, List, [], ◌∷◌, length, Some, None}
+use Rattle.std.specs.Prelude.{ℕ, suc, ◌-◌, ◌*◌, List, [], ◌∷◌, length, Option, Some, None}
 use Rattle.std.specs.Prelude.{Bool, true, false, if◌then◌else◌}
-use Rattle.attrs.specs.Context.{flags_offset}
+use Rattle.attrs.specs.Context.{bucket_offset, flags_offset}
+use Rattle.bpf_insn.specs.declared.reg.Reg.{Reg}
 use Rattle.bpf_insn.specs.declared.reg.Reg.TheVariants.{R0, R1, R2, R3}
 use Rattle.bpf_insn.specs.declared.operand.AtomicSize.{AtomicSize}
 use Rattle.bpf_insn.specs.declared.operand.Condition.{Condition}
 use Rattle.bpf_insn.specs.declared.operand.Condition.TheVariants.{Eq, Ne, Set}
 use Rattle.bpf_insn.specs.declared.operand.LoadKind.{LoadKind}
-use Rattle.bpf_insn.specs.declared.operand.LoadKind.TheVariants.{Byte, Word}
+use Rattle.bpf_insn.specs.declared.operand.LoadKind.TheVariants.{Byte, Half, Word}
 use Rattle.bpf_insn.specs.declared.insn.Insn.{Insn}
 use Rattle.bpf_insn.specs.Program.{Program}
 use Rattle.bpf_insn.specs.Words.{little_endian}
@@ -62,12 +63,21 @@ order_code strict last k (n ∷ m ∷ ns) sense label rest =
     (jump_to (insn.jump_if Ne R2 n) (if sense then length rest else label)
     (order_code strict last (suc k) (m ∷ ns) sense label rest))
 
--- ---- a bucket of a salt's own
+-- ---- a bucket
 
-abbrev pub salted_code : ℕ → Condition → ℕ → ℕ → Program → Program
-salted_code salt condition n label rest =
+-- a register, or its remainder by a modulus, against a number
+abbrev pub remainder_code : (modulus : Option ℕ) → Condition → Reg → ℕ → ℕ → Program → Program
+remainder_code None condition r n label rest = jump_to (insn.jump_if condition r n) label rest
+remainder_code (Some m) condition r n label rest =
+    Some (insn.take_remainder r m) ∷ jump_to (insn.jump_if condition r n) label rest
+
+-- the context's bucket, or that of a salt's own
+abbrev pub bucket_code : (salt modulus : Option ℕ) → Condition → ℕ → ℕ → Program → Program
+bucket_code None modulus condition n label rest =
+    Some (insn.load_field Half bucket_offset) ∷ remainder_code modulus condition R2 n label rest
+bucket_code (Some salt) modulus condition n label rest =
     Some (insn.load_salt salt) ∷ None ∷ Some (insn.call bucket_number)
-    ∷ jump_to (insn.jump_if condition R0 n) label rest
+    ∷ remainder_code modulus condition R0 n label rest
 
 -- ---- a text: its words are stored, and the helper compares
 

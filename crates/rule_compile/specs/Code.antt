@@ -2,7 +2,7 @@
 use Rattle.std.specs.Prelude.{ℕ, suc, List, [], ◌∷◌, length, Option, Some, None, slice_index}
 use Rattle.std.specs.Prelude.{Bool, true, false, not, if◌then◌else◌}
 use Rattle.std.specs.Str.{bytes_eq}
-use Rattle.attrs.specs.Context.{bucket_offset, install_day_offset, today_offset}
+use Rattle.attrs.specs.Context.{install_day_offset, today_offset}
 use Rattle.bpf_insn.specs.declared.operand.AtomicSize.{AtomicSize}
 use Rattle.bpf_insn.specs.declared.operand.AtomicSize.TheVariants.{Word, Double}
 use Rattle.bpf_insn.specs.declared.operand.Condition.{Condition}
@@ -64,10 +64,8 @@ take_named s name index sense label rest =
 
 abbrev pub test_code : AppShape → the_test.Test → Bool → ℕ → Program → Program
 test_code s (test.Version r w) sense label rest = version_code r (four_of w) sense label rest
-test_code s (test.Bucket r n) sense label rest =
-    code.field_code load.Half bucket_offset (turned sense (condition_of r)) n label rest
-test_code s (test.SaltedBucket salt r n) sense label rest =
-    code.salted_code salt (turned sense (condition_of r)) n label rest
+test_code s (test.Bucket salt modulus r n) sense label rest =
+    code.bucket_code salt modulus (turned sense (condition_of r)) n label rest
 test_code s (test.Today r n) sense label rest =
     code.field_code load.Word today_offset (turned sense (condition_of r)) n label rest
 test_code s (test.Installed r n) sense label rest =

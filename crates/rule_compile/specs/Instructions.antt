@@ -4,7 +4,7 @@ use Rattle.std.specs.Prelude.{ℕ, ◌*◌, ℤ, pos, negsuc, Bool, true, false}
 use Rattle.std.specs.Int.{w32, cast_signed}
 use Rattle.bpf_insn.specs.declared.reg.Reg.{Reg}
 use Rattle.bpf_insn.specs.declared.reg.Reg.TheVariants.{R0, R1, R2, R3, R4, R6, R7, R10}
-use Rattle.bpf_insn.specs.declared.operand.AluOp.TheVariants.{And, Add}
+use Rattle.bpf_insn.specs.declared.operand.AluOp.TheVariants.{And, Add, Mod}
 use Rattle.bpf_insn.specs.declared.operand.AtomicOp.TheVariants as atomic
 use Rattle.bpf_insn.specs.declared.operand.AtomicSize.{AtomicSize}
 use Rattle.bpf_insn.specs.declared.operand.AtomicSize.TheVariants.{Double}
@@ -50,6 +50,10 @@ jump_if condition left n slots = JumpIf Bits32 condition left (Imm (imm_of n)) (
 -- and r2, mask
 abbrev pub mask_field : ℕ → Insn
 mask_field mask = Alu Bits64 And R2 (Imm (pos mask))
+
+-- mod32 r, n
+abbrev pub take_remainder : Reg → ℕ → Insn
+take_remainder r n = Alu Bits32 Mod r (Imm (imm_of n))
 
 -- ---- calls
 

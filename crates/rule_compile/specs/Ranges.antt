@@ -1,5 +1,5 @@
 -- The numbers of a rule are those that its types hold.
-use Rattle.std.specs.Prelude.{ℕ, ◌^◌, ◌<◌, List, [], ◌∷◌, slice_index}
+use Rattle.std.specs.Prelude.{ℕ, ◌^◌, ◌<◌, List, [], ◌∷◌, Option, slice_index, IfSome}
 use Rattle.rule_lang.specs.Literals.{IsLiteral}
 use Rattle.rule_lang.specs.Trees.{IsCondition}
 use Rattle.rule_lang.specs.declared.condition.Step.{Step}
@@ -9,10 +9,13 @@ use Rattle.rule_lang.specs.declared.rule.Statement.TheVariants.{Count, When}
 use Rattle.rule_lang.specs.declared.test.Test as the_test
 use Rattle.rule_lang.specs.declared.test.Test.TheVariants as test
 
+abbrev pub IsBucketInRange : (salt modulus : Option ℕ) → ℕ → Type 0
+IsBucketInRange salt modulus n =
+    IfSome salt (λ s. s < 2 ^ 64) × IfSome modulus (λ m. m < 2 ^ 32) × (n < 2 ^ 32)
+
 abbrev pub IsInRange : the_test.Test → Type 0
 IsInRange (test.Version r w) = (k : ℕ) → slice_index w k < 2 ^ 32
-IsInRange (test.Bucket r n) = n < 2 ^ 32
-IsInRange (test.SaltedBucket salt r n) = (salt < 2 ^ 64) × (n < 2 ^ 32)
+IsInRange (test.Bucket salt modulus r n) = IsBucketInRange salt modulus n
 IsInRange (test.Today r n) = n < 2 ^ 32
 IsInRange (test.Installed r n) = n < 2 ^ 32
 IsInRange (test.Flag f) = Unit {0}

@@ -2,7 +2,9 @@
 //! sense, and else on to the rest.
 
 ghost use Rattle.std.specs.Prelude.{◌≡◌, ◌<◌, ◌≤◌, ◌+◌, ◌*◌, ◌^◌, length, if◌then◌else◌, not, OnOk};
+ghost use Rattle.std.specs.Prelude.{IfSome};
 ghost use Rattle.rule_compile.specs.Blocks as code;
+ghost use Rattle.rule_compile.specs.Ranges.{IsBucketInRange};
 ghost use Rattle.rule_compile.specs.Instructions as instructions;
 
 use crate::code::Code;
@@ -76,22 +78,60 @@ pub fn put_flag(rest: &mut Code, mask: u8, sense: bool, label: usize) -> Result<
     rest.put(insn::load_field(LoadKind::Byte, Context::FLAGS_OFFSET))
 }
 
-/// The bucket of a salt's own against a number.
-pub fn put_salted(
+// A register, or its remainder by a modulus, against a number.
+fn put_remainder(
     rest: &mut Code,
-    salt: u64,
+    modulus: Option<u32>,
+    condition: Condition,
+    left: Reg,
+    number: u32,
+    label: usize,
+) -> Result<(), CompileFault>
+    requires { label ≤ length rest.old }
+    ensures code { OnOk result
+        (rest.new ≡ code.remainder_code modulus condition left number label rest.old) }
+    ensures long { result ≡ Err CompileFault.TooLong
+        → 4096 < length (code.remainder_code modulus condition left number label rest.old) }
+    ensures range { IfSome modulus (λ m. m < 2 ^ 32) }
+{
+    match modulus {
+        None => put_jump(rest, condition, left, number, label),
+        Some(modulus) => {
+            let remainder = insn::take_remainder(left, modulus);
+            put_jump(rest, condition, left, number, label)?;
+            rest.put(remainder)
+        }
+    }
+}
+
+/// The bucket, or that of a salt's own, against a number; with a modulus its remainder.
+pub fn put_bucket(
+    rest: &mut Code,
+    salt: Option<u64>,
+    modulus: Option<u32>,
     condition: Condition,
     number: u32,
     label: usize,
 ) -> Result<(), CompileFault>
     requires { label ≤ length rest.old }
     ensures code { OnOk result
-        (rest.new ≡ code.salted_code salt condition number label rest.old) }
-    ensures long { result ≡ Err CompileFault.TooLong → 4096 < length rest.old + 4 }
+        (rest.new ≡ code.bucket_code salt modulus condition number label rest.old) }
+    ensures long { result ≡ Err CompileFault.TooLong
+        → 4096 < length (code.bucket_code salt modulus condition number label rest.old) }
+    ensures range { IsBucketInRange salt modulus number }
 {
-    put_jump(rest, condition, Reg::R0, number, label)?;
-    rest.put(insn::call(BUCKET as u8))?;
-    rest.put_wide(insn::load_salt(salt))
+    match salt {
+        None => {
+            put_remainder(rest, modulus, condition, Reg::R2, number, label)?;
+            rest.put(insn::load_field(LoadKind::Half, Context::BUCKET_OFFSET))
+        }
+        Some(salt) => {
+            let load = insn::load_salt(salt);
+            put_remainder(rest, modulus, condition, Reg::R0, number, label)?;
+            rest.put(insn::call(BUCKET as u8))?;
+            rest.put_wide(load)
+        }
+    }
 }
 
 /// One is added to a cell.

@@ -94,9 +94,23 @@ pub fn mask_field(mask: u8) -> Insn
     }
 }
 
+/// `mod32 dst, modulus`.
+pub fn take_remainder(dst: Reg, modulus: u32) -> Insn
+    ensures insn { result ≡ insn.take_remainder dst modulus }
+    ensures range { modulus < 2 ^ 32 }
+{
+    Insn::Alu {
+        bits: Bits::Bits32,
+        op: AluOp::Mod,
+        dst,
+        src: Operand::Imm(modulus.cast_signed()),
+    }
+}
+
 /// `lddw r1, salt`.
 pub fn load_salt(salt: u64) -> Insn
-    ensures { result ≡ insn.load_salt salt }
+    ensures insn { result ≡ insn.load_salt salt }
+    ensures range { salt < 2 ^ 64 }
 {
     Insn::Wide {
         dst: Reg::R1,

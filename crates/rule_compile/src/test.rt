@@ -7,7 +7,7 @@ ghost use Rattle.rule_compile.specs.Ranges.{IsInRange};
 ghost use Rattle.rule_lang.specs.Meaning as meaning;
 ghost use Rattle.rule_lang.specs.Shapes as shapes;
 
-use crate::blocks::{put_field, put_flag, put_salted, put_take};
+use crate::blocks::{put_bucket, put_field, put_flag, put_take};
 use crate::code::Code;
 use crate::fault::CompileFault;
 use crate::goals::Goal;
@@ -19,9 +19,7 @@ use bpf_insn::{Condition, LoadKind};
 use cells::{CellArray, Shape};
 use rule_lang::{Attribute, Flag, Relation, Test};
 
-/// Where the bucket and the days begin in the context.
-const BUCKET: u8 = Context::BUCKET_OFFSET;
-
+/// Where the days begin in the context.
 const TODAY: u8 = Context::TODAY_OFFSET;
 
 const INSTALL_DAY: u8 = Context::INSTALL_DAY_OFFSET;
@@ -173,17 +171,14 @@ pub fn put_test(rest: &mut Code, shape: &Shape, test: &Test, goal: Goal) -> Resu
     let (sense, label) = (goal.sense, goal.label);
     match test {
         Test::Version { relation, version } => put_version(rest, *relation, version, sense, label),
-        Test::Bucket { relation, number } => {
-            let condition = turned(sense, condition_of(*relation));
-            put_field(rest, LoadKind::Half, BUCKET, condition, *number, label)
-        }
-        Test::SaltedBucket {
+        Test::Bucket {
             salt,
+            modulus,
             relation,
             number,
         } => {
             let condition = turned(sense, condition_of(*relation));
-            put_salted(rest, *salt, condition, *number, label)
+            put_bucket(rest, *salt, *modulus, condition, *number, label)
         }
         Test::Today { relation, number } => {
             let condition = turned(sense, condition_of(*relation));
