@@ -65,6 +65,22 @@ const APP: &str = r#"
 1 | bucket(7) <= 5947
 0 | bucket(7) > 5947
 1 | bucket(18446744073709551615) == 5428
+1 | bucket mod 4 == 0
+0 | bucket mod 4 == 3
+1 | bucket mod 7 == 1
+1 | bucket mod 7 < 2
+0 | bucket mod 7 >= 2
+0 | bucket mod 7 != 1
+1 | bucket mod 1 == 0
+1 | bucket mod 1996 == 0
+1 | bucket mod 1997 == 1996
+1 | bucket mod 2147483648 == 1996
+1 | bucket mod 4294967295 == 1996
+0 | bucket mod 4294967295 > 1996
+1 | bucket(7) mod 4 == 3
+0 | bucket(7) mod 4 != 3
+0 | bucket(7) mod 5947 > 0
+1 | bucket(18446744073709551615) mod 100 == 28
 1 | today == 7000
 0 | today < 7000
 1 | today < 7001
@@ -117,6 +133,8 @@ const BARE_APP: &str = r#"
 0 | today < 0
 1 | bucket == 0
 0 | bucket < 0
+1 | bucket mod 4 == 0
+0 | bucket mod 4294967295 > 0
 1 | attr version is ""
 1 | attr brand is ""
 0 | attr brand is "a"

@@ -18,6 +18,7 @@ const ROWS: &str = r#"
 1 2 3 4 | when take(q, 0) offer 1; count c[0]; otherwise none; | 1 1 0 0 | 4096 is 2
 1 2 3 4 | count w[1]; count w[1]; otherwise none; | 0 0 0 0 | 2 is 8
 1 2 3 4 | when bucket >= 3 offer 1; count w[0]; otherwise none; | 0 0 1 1 | 1 is 2
+6 7 8 9999 | when bucket mod 4 == 3 offer 1; otherwise none; | 0 1 0 1 | 0 is 0
 1 2 3 4 | otherwise none; | 0 0 0 0 | 0 is 0
 "#;
 

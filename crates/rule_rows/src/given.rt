@@ -6,8 +6,8 @@ use cells::{ArrayNo, CellWidth, CellsFault, Directory, Shape};
 use std::alloc::{AllocError, Global};
 use std::test::Fail;
 
-/// So many releases, and three arrays: `q` has one cell of 64 bits with a quota of 2, `c` four of
-/// 32 bits, `w` two of 64.
+/// So many releases, and four arrays: `q` has one cell of 64 bits with a quota of 2, `c` four of 32
+/// bits, `w` two of 64, and `mod` one with a quota.
 pub(crate) fn shape(alloc: Global, releases: u8) -> Result<Shape, CellsFault> {
     let mut directory = Directory::new(alloc);
     declare_all(alloc, &mut directory)?;
@@ -18,15 +18,17 @@ fn declare_all(alloc: Global, directory: &mut Directory) -> Result<(), CellsFaul
     let _quota = directory.declare(alloc, "q", CellWidth::Bits64, 1, Some(2))?;
     let _narrow = directory.declare(alloc, "c", CellWidth::Bits32, 4, None)?;
     let _wide = directory.declare(alloc, "w", CellWidth::Bits64, 2, None)?;
+    let _word = directory.declare(alloc, "mod", CellWidth::Bits64, 1, Some(1))?;
     Ok(())
 }
 
-/// The shape over the first three arrays.
+/// The shape over the first four arrays.
 fn shape_over(alloc: Global, releases: u8, directory: &Directory) -> Result<Shape, CellsFault> {
     let numbers = [
         ArrayNo { number: 0 },
         ArrayNo { number: 1 },
         ArrayNo { number: 2 },
+        ArrayNo { number: 3 },
     ];
     if directory.arrays().len() < numbers.len() {
         return Err(CellsFault::Memory);

@@ -14,6 +14,8 @@ const ROWS: &str = r#"
 2 2 | today == 4294967295
 2 2 | installed != 0
 4 4 | bucket(1) >= 5000
+3 3 | bucket mod 4 == 3
+5 5 | bucket(1) mod 4 >= 2
 2 3 | flag ping
 11 11 | version < 1.2.3.4
 11 11 | version <= 1.2.3.4

@@ -18,6 +18,10 @@ count c[0];count c[1];~/# the rest~/otherwise none;~/ => 2
 when bucket<10offer 1;otherwise none; => 1
 when bucket(7)<=10 offer 1; otherwise none; => 1
 when bucket(18446744073709551615) >= 4294967295 offer 1; otherwise none; => 1
+when bucket mod 4 == 3 offer 1; otherwise none; => 1
+when bucket(7)mod 100<5offer 1; otherwise none; => 1
+when bucket(18446744073709551615)/mod 4294967295 >= 0 offer 1; otherwise none; => 1
+when take(mod, 0) and bucket mod 1 == 0 offer 1; otherwise none; => 1
 when today == 7000 offer 1; otherwise none; => 1
 when installed != 4294967295 offer 1; otherwise none; => 1
 when flag cohort_known offer 1; otherwise none; => 1
@@ -66,6 +70,15 @@ when bucket < 1/offer 1.2; otherwise none; => L2 Shape at line 2
 when bucket < 1 offer; otherwise none; => L2 Shape at line 1
 when bucket(1 < 1 offer 1; otherwise none; => L2 Shape at line 1
 when today(1) < 1 offer 1; otherwise none; => L2 Shape at line 1
+when today/mod 7 < 1 offer 1; otherwise none; => L2 Shape at line 2
+when bucket mod/< 1 offer 1; otherwise none; => L2 Shape at line 2
+when bucket mod 4/offer 1; otherwise none; => L2 Shape at line 2
+when bucket mod 4/mod 2 < 1 offer 1; otherwise none; => L2 Shape at line 2
+when bucket mod 4/(7) < 1 offer 1; otherwise none; => L2 Shape at line 2
+when bucket mod/1.2 < 1 offer 1; otherwise none; => L2 Shape at line 2
+when bucket/mods 4 < 1 offer 1; otherwise none; => L2 Shape at line 2
+when bucket(7)/Mod 4 < 1 offer 1; otherwise none; => L2 Shape at line 2
+when bucket < 1/mod 4 offer 1; otherwise none; => L2 Shape at line 2
 when version 1 offer 1; otherwise none; => L2 Shape at line 1
 when attr is "a" offer 1; otherwise none; => L2 Shape at line 1
 when attr ap "a" offer 1; otherwise none; => L2 Shape at line 1
@@ -83,6 +96,9 @@ count z[9];/count => L2 Shape at line 2
 const NAMES: &str = r#"
 count q[0]; otherwise none; => L3 Name at line 1
 when flag colour offer 1; otherwise none; => L3 Name at line 1
+count mod[0]; otherwise none; => L3 Name at line 1
+when flag mod offer 1; otherwise none; => L3 Name at line 1
+when attr mod is "a" offer 1; otherwise none; => L3 Name at line 1
 when attr colour is "a" offer 1; otherwise none; => L3 Name at line 1
 count aaaaaaaaaaaaaaaaaaaaaaaaaaaaaaaa[0]; otherwise none; => L3 Name at line 1
 when take(c, 0) offer 1; otherwise none; => L3 Name at line 1
@@ -99,6 +115,11 @@ when bucket < 4294967296 offer 1; otherwise none; => L4 Range at line 1
 when version < 1.4294967296 offer 1; otherwise none; => L4 Range at line 1
 when bucket(18446744073709551616) < 1 offer 1; otherwise none; => L4 Range at line 1
 when today < 4294967296/or flag colour offer 1; otherwise none; => L4 Range at line 1
+when bucket mod 0 == 0 offer 1; otherwise none; => L4 Range at line 1
+when bucket(7) mod 4294967296 == 0 offer 1; otherwise none; => L4 Range at line 1
+when bucket(18446744073709551616)/mod 0 < 1 offer 1; otherwise none; => L4 Range at line 1
+when bucket mod/0 <//4294967296 offer 1; otherwise none; => L4 Range at line 2
+when bucket mod 4 <//4294967296 offer 1; otherwise none; => L4 Range at line 3
 "#;
 
 fn text_of(alloc: Global, row: &str) -> Result<String, AllocError> {
