@@ -1,5 +1,6 @@
 -- Bytes spell one instruction or have one least fault.
-use Rattle.std.proofs.Common.{◌≡◌, ◌≢◌, ℕ, ◌+◌, ◌*◌, ◌<◌, ◌≤◌, inl, inr, List, length, Some, None, Result, Ok, Err, IfOk, IfErr, refl, sym, ap, subst, ◌∙◌, arith}
+use Rattle.std.proofs.Common.{◌≡◌, ◌≢◌, ℕ, ◌+◌, ◌*◌, ◌<◌, ◌≤◌, inl, inr, List, length, Some, None}
+use Rattle.std.proofs.Common.{Result, Ok, Err, IfOk, IfErr, refl, sym, ap, subst, ◌∙◌, arith}
 use Rattle.bpf_insn.specs.declared.operand.Distance.TheVariants.{Short, Long}
 use Rattle.bpf_insn.specs.declared.insn.Insn.{Insn}
 use Rattle.bpf_insn.specs.declared.insn.Insn.TheVariants as insn
@@ -7,12 +8,17 @@ use Rattle.bpf_insn.specs.declared.form.Form.{Form}
 use Rattle.bpf_insn.specs.declared.form.Form.TheVariants.{Wide}
 use Rattle.bpf_insn.specs.declared.fields.Fields.{Fields}
 use Rattle.bpf_insn.specs.declared.fields.InsnFault.{InsnFault}
-use Rattle.bpf_insn.specs.declared.fields.InsnFault.TheVariants.{Truncated, Opcode, Register, UnusedField, Imm, Offset, SecondHalf}
+use Rattle.bpf_insn.specs.declared.fields.InsnFault.TheVariants.{Truncated, Opcode}
+use Rattle.bpf_insn.specs.declared.fields.InsnFault.TheVariants.{Register, UnusedField}
+use Rattle.bpf_insn.specs.declared.fields.InsnFault.TheVariants.{Imm, Offset, SecondHalf}
 use Rattle.bpf_insn.specs.Table.{opcode_of, row_of}
 use Rattle.bpf_insn.specs.Faults.{Keeps, IsSecondHalf, fault_number}
-use Rattle.bpf_insn.specs.Halves.{IsOfRow, IsInOrder, IsRowFault, IsTheInsn, IsOnlySpelling, SpellsOrHasFault}
-use Rattle.bpf_insn.specs.Spelling.{form_of, fields_of, second_of, second_half, next_imm, HasFields, HasFault, Spells, IsLeastFault}
-use Rattle.bpf_insn.proofs.Halves.{same_half, half_length, first_half, later_half, spelled_one, spelled_two}
+use Rattle.bpf_insn.specs.Halves.{IsOfRow, IsInOrder, IsRowFault, IsTheInsn}
+use Rattle.bpf_insn.specs.Halves.{IsOnlySpelling, SpellsOrHasFault}
+use Rattle.bpf_insn.specs.Spelling.{form_of, fields_of, second_of, second_half}
+use Rattle.bpf_insn.specs.Spelling.{next_imm, HasFields, HasFault, Spells, IsLeastFault}
+use Rattle.bpf_insn.proofs.Halves.{same_half, half_length, first_half}
+use Rattle.bpf_insn.proofs.Halves.{later_half, spelled_one, spelled_two}
 use Rattle.bpf_insn.proofs.Rules.{opcode-form, keeps_rules, is_second_half}
 
 -- ---- the row of an instruction

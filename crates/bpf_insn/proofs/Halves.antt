@@ -1,5 +1,7 @@
 -- The halves of an instruction in the bytes: eight bytes hold one row of fields.
-use Rattle.std.proofs.Common.{◌≡◌, ℕ, ◌+◌, ◌*◌, ◌/◌, ◌%◌, ◌^◌, ◌<◌, ◌≤◌, ℤ, List, ◌++◌, length, get_or, take, drop, Option, Some, None, refl, sym, ap, subst, ◌∙◌, arith, to_z, of_z, FitsSigned, length-drop, length-take}
+use Rattle.std.proofs.Common.{◌≡◌, ℕ, ◌+◌, ◌*◌, ◌/◌, ◌%◌, ◌^◌, ◌<◌, ◌≤◌, ℤ, List, ◌++◌}
+use Rattle.std.proofs.Common.{length, get_or, take, drop, Option, Some, None, refl, sym, ap}
+use Rattle.std.proofs.Common.{subst, ◌∙◌, arith, to_z, of_z, FitsSigned, length-drop, length-take}
 use Rattle.std.specs.Int.{w16, w32, to_le_bytes, from_le_bytes}
 use Rattle.std.proofs.lemmas.Nat.{from_le_bytes-to_le_bytes_2, from_le_bytes-to_le_bytes_4}
 use Rattle.std.proofs.lemmas.Int.{to_z-of_z, ints}
@@ -14,7 +16,9 @@ use Rattle.bpf_insn.specs.declared.insn.Width.TheVariants.{One, Two}
 use Rattle.bpf_insn.specs.declared.form.Form.{Form}
 use Rattle.bpf_insn.specs.declared.fields.Fields.{Fields}
 use Rattle.bpf_insn.specs.Halves.{HasHalves}
-use Rattle.bpf_insn.specs.Spelling.{bytes_of, bytes_if, IsFields, HasFields, fields_of, second_of, second_half, next_imm, width_of, slots_of, encoding, IsEncodable, Spells}
+use Rattle.bpf_insn.specs.Spelling.{bytes_of, bytes_if, IsFields, HasFields}
+use Rattle.bpf_insn.specs.Spelling.{fields_of, second_of, second_half, next_imm}
+use Rattle.bpf_insn.specs.Spelling.{width_of, slots_of, encoding, IsEncodable, Spells}
 
 -- ---- eight bytes read
 

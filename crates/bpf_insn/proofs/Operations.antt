@@ -1,5 +1,6 @@
 -- An opcode of arithmetic has one row, and each offset that a row allows is of an operation.
-use Rattle.std.proofs.Common.{◌≡◌, ◌≢◌, ℕ, ◌+◌, ◌*◌, ◌/◌, ◌%◌, ◌<◌, ℤ, pos, false, inl, inr, Some, refl, sym, ap, ◌∙◌, arith}
+use Rattle.std.proofs.Common.{◌≡◌, ◌≢◌, ℕ, ◌+◌, ◌*◌, ◌/◌, ◌%◌, ◌<◌}
+use Rattle.std.proofs.Common.{ℤ, pos, false, inl, inr, Some, refl, sym, ap, ◌∙◌, arith}
 use Rattle.std.proofs.lemmas.Option.{same_Some}
 use Rattle.bpf_insn.specs.declared.operand.AluOp.{AluOp}
 use Rattle.bpf_insn.specs.declared.operand.AluOp.TheVariants as alu
@@ -15,8 +16,11 @@ use Rattle.bpf_insn.specs.declared.form.Form.{Form}
 use Rattle.bpf_insn.specs.declared.form.Form.TheVariants as row
 use Rattle.bpf_insn.specs.declared.fields.Fields.{Fields}
 use Rattle.bpf_insn.specs.declared.fields.InsnFault.{InsnFault}
-use Rattle.bpf_insn.specs.declared.fields.InsnFault.TheVariants.{Truncated, Opcode, Register, UnusedField, Imm, Offset, SecondHalf}
-use Rattle.bpf_insn.specs.Table.{opcode_of, row_of, code_number, source_bit, alu_class, end_opcode, alu_offset, imm_use, IsAluOp}
+use Rattle.bpf_insn.specs.declared.fields.InsnFault.TheVariants.{Truncated, Opcode}
+use Rattle.bpf_insn.specs.declared.fields.InsnFault.TheVariants.{Register, UnusedField}
+use Rattle.bpf_insn.specs.declared.fields.InsnFault.TheVariants.{Imm, Offset, SecondHalf}
+use Rattle.bpf_insn.specs.Table.{opcode_of, row_of, code_number, source_bit}
+use Rattle.bpf_insn.specs.Table.{alu_class, end_opcode, alu_offset, imm_use, IsAluOp}
 use Rattle.bpf_insn.specs.Faults.{Keeps, AllowsImm, AllowsOffset, fault_number, uses_offset}
 use Rattle.bpf_insn.specs.Halves.{IsInOrder, IsRowFault}
 

@@ -12,7 +12,8 @@ use Rattle.bpf_insn.specs.declared.insn.Insn.{Insn}
 use Rattle.bpf_insn.specs.declared.insn.Insn.TheVariants as insn
 use Rattle.bpf_insn.specs.declared.fields.InsnFault.{InsnFault}
 use Rattle.bpf_insn.specs.declared.fields.InsnFault.TheVariants.{Register, UnusedField, Imm, Offset}
-use Rattle.bpf_insn.specs.Table.{opcode_of, row_of, number_of, source_code, code_of, offset_of, alu_offset}
+use Rattle.bpf_insn.specs.Table.{opcode_of, row_of, number_of, source_code}
+use Rattle.bpf_insn.specs.Table.{code_of, offset_of, alu_offset}
 use Rattle.bpf_insn.specs.Faults.{Keeps, LeavesUnused, IsSecondHalf, AllowsOffset, uses_offset}
 use Rattle.bpf_insn.specs.Spelling.{form_of, fields_of, second_half, next_imm, wide_source}
 

@@ -1,5 +1,7 @@
 -- What an operation gives of two numbers of a width is a number of that width.
-use Rattle.std.proofs.Common.{ℕ, zero, suc, ◌+◌, ◌-◌, ◌*◌, ◌/◌, ◌%◌, ◌^◌, ◌<◌, ℤ, pos, negsuc, neg_ℤ, FitsSigned, Bool, true, false, ◌==◌, unsigned_abs, arith, sym, subst, div-le_self}
+use Rattle.std.proofs.Common.{ℕ, zero, suc, ◌+◌, ◌-◌, ◌*◌, ◌/◌, ◌%◌, ◌^◌, ◌<◌}
+use Rattle.std.proofs.Common.{ℤ, pos, negsuc, neg_ℤ, FitsSigned}
+use Rattle.std.proofs.Common.{Bool, true, false, ◌==◌, unsigned_abs, arith, sym, subst, div-le_self}
 use Rattle.std.specs.Prelude.{if◌then◌else◌, int_div, int_rem}
 use Rattle.std.specs.Int.{Width, w8, w16, w32, w64, w128, cast_signed, cast_unsigned, int_shr}
 use mir.Val.{bits, hbits}
@@ -7,7 +9,8 @@ use Rattle.std.proofs.Math.Nat.{mod-le}
 use Rattle.std.proofs.lemmas.Nat.{or_lt, xor_lt, and_le_l, shr_le, mod_below, pow_pos}
 use Rattle.std.proofs.lemmas.Int.{ints, of_z-to_z}
 use Rattle.bpf_insn.specs.declared.operand.AluOp.{AluOp}
-use Rattle.bpf_insn.specs.declared.operand.AluOp.TheVariants.{Add, Sub, Mul, Div, Sdiv, Or, And, Lsh, Rsh, Mod, Smod, Xor, Arsh}
+use Rattle.bpf_insn.specs.declared.operand.AluOp.TheVariants.{Add, Sub, Mul, Div, Sdiv, Or, And}
+use Rattle.bpf_insn.specs.declared.operand.AluOp.TheVariants.{Lsh, Rsh, Mod, Smod, Xor, Arsh}
 use Rattle.bpf_insn.specs.Arithmetic.{arithmetic, signed_quotient, signed_remainder}
 
 -- ---- signed numbers

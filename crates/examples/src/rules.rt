@@ -13,17 +13,23 @@ use std::fs;
 use std::rt::Files;
 use std::sync::Arc;
 
+/// The first second of 2007 by the Unix clock.
+const FIRST_SECOND: i64 = 1167609600;
+
+const SECONDS_OF_A_DAY: i64 = 86400;
+
 /// The arrays that the rules name.
 const ARRAYS: &str = "asked:64:1,first:64:1:2";
 
-/// A rule, and the apps that ask it, an app a line: its version, its cohort, its `ap` and the day
-/// of its installation, in columns; `-` is none.
+/// A rule, and the apps that ask it, an app a line: its version, its cohort, its `ap`, the day of
+/// its installation, and the day on which it asks, in columns; `-` is none. The last is 0 where it
+/// isn't given.
 struct Case {
     file: &'static str,
     askers: &'static str,
 }
 
-const CASES: [Case; 6] = [
+const CASES: [Case; 7] = [
     Case {
         file: "rules/staged.rule",
         askers: "- b:1603 - -
@@ -33,6 +39,23 @@ const CASES: [Case; 6] = [
 1.0 b:5911 - -
 1.0 b:8993 - -
 1.0 b:8941 - -",
+    },
+    Case {
+        file: "rules/waves.rule",
+        askers: "1.0 b:0000 - - 7272
+1.0 b:0000 - - 7273
+1.0 b:9996 - - 7273
+1.0 b:0001 - - 7273
+1.0 b:0003 - - 7273
+1.0 b:0001 - - 7274
+1.0 b:2500 - - 7274
+1.0 b:2502 - - 7274
+1.0 b:2502 - - 7275
+1.0 b:4999 - - 7275
+1.0 b:4999 - - 7276
+2.0.3 b:9999 - - 7276
+2.0.4 b:9999 - - 7276
+- b:7503 - - 8000",
     },
     Case {
         file: "rules/versions.rule",
@@ -87,7 +110,13 @@ fn column(alloc: Global, text: Option<&str>) -> Result<Option<Text>> {
     }
 }
 
-/// The attributes of an app at the first second of 2007-01-01.
+/// The first second of the day of a column, which is 0 where there is none.
+fn first_second(day: Option<&str>) -> i64 {
+    let days: u32 = day.and_then(|text| text.parse().ok()).unwrap_or(0);
+    FIRST_SECOND + i64::from(days) * SECONDS_OF_A_DAY
+}
+
+/// The attributes of an app at the first second of the day on which it asks.
 fn attributes(alloc: Global, line: &str) -> Result<Arc<Attrs>> {
     let mut columns = line.split(' ');
     let app = AppFacts {
@@ -107,7 +136,8 @@ fn attributes(alloc: Global, line: &str) -> Result<Arc<Attrs>> {
         sessionid: None,
         platform: None,
     };
-    Ok(Arc::new(alloc, Attrs::of(alloc, &app, &request, 0)?)?)
+    let moment = first_second(columns.next());
+    Ok(Arc::new(alloc, Attrs::of(alloc, &app, &request, moment)?)?)
 }
 
 /// Two releases, and the arrays.

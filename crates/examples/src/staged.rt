@@ -7,7 +7,8 @@ ghost use Rattle.std.specs.Prelude.{None};
 use anyhow::{Context, Result, ensure};
 use bpf_text::assemble;
 use diagnosis::check;
-use load::{Device, Disk, FileFault, FolderFiles};
+use load::FolderFiles;
+use load::bounded_files::{Device, Disk, ResourceFault};
 use replaying::replay_files;
 use std::rt::Files;
 use std::{fs, str};
@@ -23,9 +24,9 @@ struct Examples<'a, R> {
 impl<'a, R: Files + AllocGlobal> Disk for Examples<'a, R> {
     ghost known = { λ _. None };
 
-    fn read(&self, path: &str) -> Result<Vec<u8>, FileFault> {
-        self.device
-            .read(path.strip_prefix("examples/").unwrap_or(path))
+    fn read(&self, path: &str, most: u32) -> Result<Option<Vec<u8>>, ResourceFault> {
+        let path = path.strip_prefix("examples/").unwrap_or(path);
+        self.device.read(path, most)
     }
 }
 

@@ -7,7 +7,8 @@ use Rattle.rule_lang.specs.declared.test.Relation.TheVariants as relation
 use Rattle.rule_lang.specs.declared.token.Token.TheVariants as token
 use Rattle.rule_lang.specs.Grammar as g
 use Rattle.rule_lang.specs.Lexed.{Placed, on}
-use Rattle.rule_lang.specs.Phrases.{Phrase, Ends, Needs, Maybe, takes, behind, misplaced, offer_phrase, otherwise_phrase}
+use Rattle.rule_lang.specs.Phrases.{Phrase, Ends, Needs, Maybe, takes, behind}
+use Rattle.rule_lang.specs.Phrases.{misplaced, offer_phrase, otherwise_phrase}
 use Rattle.rule_lang.specs.declared.test_table.TestKind.TheVariants as the_kind
 use Rattle.rule_lang.specs.Tests.{test_phrase}
 use Rattle.rule_lang.specs.Tokens.{Token}

@@ -1,5 +1,6 @@
 -- Each text has a verdict: a phrase that is read leaves fewer tokens, so reading ends.
-use Rattle.std.proofs.Common.{◌≡◌, ◌⊎◌, ◌≤◌, ◌<◌, ℕ, zero, suc, List, [], ◌∷◌, length, Option, Some, None, Ok, Err, Bool, true, false, inl, inr, refl, ap, arith, subst}
+use Rattle.std.proofs.Common.{◌≡◌, ◌⊎◌, ◌≤◌, ◌<◌, ℕ, zero, suc, List, [], ◌∷◌, length, Option, Some}
+use Rattle.std.proofs.Common.{None, Ok, Err, Bool, true, false, inl, inr, refl, ap, arith, subst}
 use Rattle.std.proofs.Math.Dec.{leb}
 use Rattle.std.proofs.lemmas.Bool.Decides.{leb_tells}
 use Rattle.cells.specs.Arrays.{AppShape}
@@ -15,9 +16,15 @@ use Rattle.rule_lang.specs.declared.rule.Statement.{Statement}
 use Rattle.rule_lang.specs.declared.token.Token.TheVariants as token
 use Rattle.rule_lang.specs.Lexed.{Placed, Lexed, tokens_in}
 use Rattle.rule_lang.specs.Parts.{OrFault, ◌>>?◌, part, out_of_range, release}
-use Rattle.rule_lang.specs.Phrases.{Phrase, Needs, behind, misplaced, count_phrase, offer_phrase, otherwise_phrase}
-use Rattle.rule_lang.specs.Reader.Drafts.{Pending, begin, denied, opened, joined, parted, closed, term_done, is_empty}
-use Rattle.rule_lang.specs.Reader.Reading.{Draft, Next, first_draft, with_fault_if, in_mode, with_condition, counted, statement_next, too_deep, with_test, test_next, fact_next, closed_next, offered, offer_next, operator_next, next_in, next, is_done, verdict, Reads, ended, refused, goes_on}
+use Rattle.rule_lang.specs.Phrases.{Phrase, Needs, behind, misplaced}
+use Rattle.rule_lang.specs.Phrases.{count_phrase, offer_phrase, otherwise_phrase}
+use Rattle.rule_lang.specs.Reader.Drafts.{Pending, begin, denied, opened, joined}
+use Rattle.rule_lang.specs.Reader.Drafts.{parted, closed, term_done, is_empty}
+use Rattle.rule_lang.specs.Reader.Reading.{Draft, Next, first_draft, with_fault_if, in_mode}
+use Rattle.rule_lang.specs.Reader.Reading.{with_condition, counted, statement_next, too_deep}
+use Rattle.rule_lang.specs.Reader.Reading.{with_test, test_next, fact_next, closed_next}
+use Rattle.rule_lang.specs.Reader.Reading.{offered, offer_next, operator_next, next_in, next}
+use Rattle.rule_lang.specs.Reader.Reading.{is_done, verdict, Reads, ended, refused, goes_on}
 use Rattle.rule_lang.specs.Says.{count_of}
 use Rattle.rule_lang.specs.Tests.{row, rest_phrase, kind_of}
 use Rattle.rule_lang.specs.Tokens.{Text, Token}

@@ -1,5 +1,6 @@
 -- Words, flags and attributes are found by their own texts, and by no others.
-use Rattle.std.proofs.Common.{◌≡◌, ℕ, List, [], ◌∷◌, Option, Some, IfSome, Bool, true, false, cond, refl, ap, ◌∙◌, subst}
+use Rattle.std.proofs.Common.{◌≡◌, ℕ, List, [], ◌∷◌, Option, Some, IfSome}
+use Rattle.std.proofs.Common.{Bool, true, false, cond, refl, ap, ◌∙◌, subst}
 use Rattle.std.proofs.lemmas.Slice.Eq.{bytes_eq-Decides}
 use Rattle.std.specs.List.{find}
 use Rattle.std.specs.Str.{bytes_eq}
@@ -9,7 +10,9 @@ use Rattle.rule_lang.specs.declared.test.Attribute.{Attribute}
 use Rattle.rule_lang.specs.declared.test.Attribute.TheVariants as attribute
 use Rattle.rule_lang.specs.declared.test.Flag.{Flag}
 use Rattle.rule_lang.specs.declared.test.Flag.TheVariants as flag
-use Rattle.rule_lang.specs.Words.{keyword_text, flag_text, attribute_text, all_keywords, all_flags, all_attributes, keyword_named, flag_named, attribute_named, AreExact}
+use Rattle.rule_lang.specs.Words.{keyword_text, flag_text, attribute_text}
+use Rattle.rule_lang.specs.Words.{all_keywords, all_flags, all_attributes}
+use Rattle.rule_lang.specs.Words.{keyword_named, flag_named, attribute_named, AreExact}
 
 -- ---- what is found has the text
 

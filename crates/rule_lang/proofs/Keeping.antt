@@ -16,7 +16,8 @@ use Rattle.rule_lang.specs.declared.token.Token.TheVariants as token
 use Rattle.rule_lang.specs.Reader.Drafts.{Pending, first_frame, begin, denied, opened}
 use Rattle.rule_lang.specs.Lexed.{Placed}
 use Rattle.rule_lang.specs.Parts.{OrFault, ◌>>?◌, out_of_range}
-use Rattle.rule_lang.specs.Phrases.{Phrase, Ends, Needs, Maybe, behind, misplaced, takes, count_phrase, otherwise_phrase}
+use Rattle.rule_lang.specs.Phrases.{Phrase, Ends, Needs, Maybe, behind, misplaced}
+use Rattle.rule_lang.specs.Phrases.{takes, count_phrase, otherwise_phrase}
 use Rattle.rule_lang.specs.Reader.Reading.{Draft, Next, first_of, with_fault_if, in_mode}
 use Rattle.rule_lang.specs.Reader.Reading.{with_condition, counted, statement_next, too_deep}
 use Rattle.rule_lang.specs.Reader.Reading.{with_test, test_next, fact_next, next}

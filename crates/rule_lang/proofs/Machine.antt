@@ -8,7 +8,8 @@ use Rattle.rule_lang.specs.declared.test_table.TestKind.{TestKind}
 use Rattle.rule_lang.specs.declared.token.Token.TheVariants as token
 use Rattle.rule_lang.specs.Grammar as g
 use Rattle.rule_lang.specs.Lexed.{Placed}
-use Rattle.rule_lang.specs.Phrases.{Phrase, Ends, Needs, Maybe, takes, behind, count_phrase, offer_phrase, otherwise_phrase}
+use Rattle.rule_lang.specs.Phrases.{Phrase, Ends, Needs, Maybe, takes, behind}
+use Rattle.rule_lang.specs.Phrases.{count_phrase, offer_phrase, otherwise_phrase}
 use Rattle.rule_lang.specs.Tests.{rest_phrase, kind_of}
 use Rattle.rule_lang.specs.Tokens.{Token}
 

@@ -16,7 +16,8 @@ use Rattle.rule_lang.specs.Reader.Drafts.{term_done, or_step, closed_to, is_empt
 use Rattle.rule_lang.specs.Fits.{step_fits, statement_fits, fits}
 use Rattle.rule_lang.specs.Lexed.{Placed}
 use Rattle.rule_lang.specs.Parts.{OrFault, ◌>>?◌, part, release, out_of_range}
-use Rattle.rule_lang.specs.Phrases.{Phrase, behind, misplaced, count_phrase, offer_phrase, otherwise_phrase}
+use Rattle.rule_lang.specs.Phrases.{Phrase, behind, misplaced, count_phrase}
+use Rattle.rule_lang.specs.Phrases.{offer_phrase, otherwise_phrase}
 use Rattle.rule_lang.specs.Reader.Reading.{Draft, Next, with_fault_if, in_mode, with_condition}
 use Rattle.rule_lang.specs.Reader.Reading.{counted, statement_next, too_deep, with_test, test_next}
 use Rattle.rule_lang.specs.Reader.Reading.{fact_next, closed_next, offered, offer_next}

@@ -9,7 +9,8 @@ use Rattle.rule_lang.specs.declared.phrase.Want.TheVariants as want
 use Rattle.rule_lang.specs.declared.token.Token.TheVariants as token
 use Rattle.rule_lang.specs.Grammar as g
 use Rattle.rule_lang.specs.Lexed.{Placed}
-use Rattle.rule_lang.specs.Phrases.{Phrase, Ends, Needs, Maybe, takes, behind, misplaced, count_phrase, offer_phrase, otherwise_phrase}
+use Rattle.rule_lang.specs.Phrases.{Phrase, Ends, Needs, Maybe, takes, behind, misplaced}
+use Rattle.rule_lang.specs.Phrases.{count_phrase, offer_phrase, otherwise_phrase}
 use Rattle.rule_lang.specs.Tests.{row, rest_phrase}
 use Rattle.rule_lang.specs.Tokens.{Token}
 use Rattle.rule_lang.proofs.Keeping.{same_ok, no_ok}
