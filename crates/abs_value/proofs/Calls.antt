@@ -1,10 +1,13 @@
 -- What a call leaves covers the state after it.
-use Rattle.std.proofs.Common.{◌≡◌, ℕ, zero, suc, ◌+◌, ◌-◌, ◌^◌, ◌<◌, ◌≤◌, ℤ, pos, negsuc, List, [], ◌∷◌, drop, length, All, Option, Some, None, Bool, true, false, refl, subst, arith, inl, inr}
+use Rattle.std.proofs.Common.{◌≡◌, ℕ, zero, suc, ◌+◌, ◌-◌, ◌^◌, ◌<◌, ◌≤◌, ℤ, pos, negsuc}
+use Rattle.std.proofs.Common.{List, [], ◌∷◌, drop, length, All, Option, Some, None}
+use Rattle.std.proofs.Common.{Bool, true, false, refl, subst, arith, inl, inr}
 use Rattle.std.specs.Prelude.{IfSome, slice_get, bytes_eq, nat_le, nat_lt, ◌==◌, if◌then◌else◌}
 use Rattle.std.proofs.lemmas.Bool.{cases_Bool}
 use Rattle.std.proofs.lemmas.List.{get_or-drop}
 use Rattle.std.proofs.lemmas.List.Elements.{All-head, All-tail}
-use Rattle.bpf_semantics.specs.attrs.Helpers.{attribute, is_text, attr_is, text_length, attr_len, bucket_of}
+use Rattle.bpf_semantics.specs.attrs.Helpers.{attribute, is_text, attr_is}
+use Rattle.bpf_semantics.specs.attrs.Helpers.{text_length, attr_len, bucket_of}
 use Rattle.bpf_semantics.specs.cells.Arrays.{AppShape}
 use Rattle.bpf_semantics.specs.cells.declared.array.CellArray.{CellArray}
 use Rattle.bpf_insn.specs.Program.{◌>>=◌}
@@ -14,13 +17,15 @@ use Rattle.bpf_semantics.specs.Reads.{only}
 use Rattle.bpf_semantics.specs.Calls as calls
 use Rattle.bpf_semantics.specs.Calls.{array_of, compared, helper_result}
 use Rattle.abs_value.specs.declared.value.Abs.{Abs}
-use Rattle.abs_value.specs.declared.value.Abs.TheVariants.{Unusable, Num, Ctx, Stk, Map, MayCell, Cell}
+use Rattle.abs_value.specs.declared.value.Abs.TheVariants.{Unusable, Num, Ctx}
+use Rattle.abs_value.specs.declared.value.Abs.TheVariants.{Stk, Map, MayCell, Cell}
 use Rattle.abs_value.specs.declared.state.AbsState.{AbsState}
 use Rattle.abs_value.specs.Numbers.{up_to}
 use Rattle.abs_value.specs.States.{register_at, value_at}
 use Rattle.abs_value.specs.Lookups.{lookup, lookup_value, call_value, called_registers, called}
-use Rattle.abs_value.specs.Covers.{Answers, Answered, AreBefore, answering, Holds, Includes, CoversValue, CoversRegisters, Covers}
-use Rattle.abs_value.proofs.Results.{up_to_holds}
+use Rattle.abs_value.specs.Covers.{Answers, Answered, AreBefore, answering, Holds}
+use Rattle.abs_value.specs.Covers.{Includes, CoversValue, CoversRegisters, Covers}
+use Rattle.abs_value.proofs.ResultsHold.{up_to_holds}
 use Rattle.abs_value.proofs.Computes.{covers_some}
 use Rattle.abs_value.proofs.Known.{covers_later, is_more}
 

@@ -1,5 +1,6 @@
 -- What is computed with values includes what the machine computes.
-use Rattle.std.proofs.Common.{◌≡◌, ℕ, ◌-◌, ◌%◌, ◌^◌, ◌≤◌, Option, Some, None, Bool, true, refl, arith, inl, inr, false, sym, subst}
+use Rattle.std.proofs.Common.{◌≡◌, ℕ, ◌-◌, ◌%◌, ◌^◌, ◌≤◌, Option, Some, None}
+use Rattle.std.proofs.Common.{Bool, true, refl, arith, inl, inr, false, sym, subst}
 use Rattle.std.specs.Prelude.{option_map, if◌then◌else◌, ◌==◌}
 use Rattle.std.specs.Int.{swap_bytes}
 use mir.Val.{bits}
@@ -18,7 +19,8 @@ use Rattle.bpf_insn.specs.declared.operand.Extension.{Extension}
 use Rattle.bpf_insn.specs.declared.operand.Extension.TheVariants as extend
 use Rattle.bpf_insn.specs.Table.{extension_class}
 use Rattle.bpf_insn.specs.Words.{word}
-use Rattle.bpf_insn.specs.Arithmetic.{FitsWidth, alu_result, negated, extended, end_width, reordered}
+use Rattle.bpf_insn.specs.Arithmetic.{FitsWidth, alu_result, negated}
+use Rattle.bpf_insn.specs.Arithmetic.{extended, end_width, reordered}
 use Rattle.bpf_insn.specs.Conditions.{holds}
 use Rattle.abs_value.specs.declared.number.Number.{Number}
 use Rattle.abs_value.specs.declared.places.Places.{Places}
@@ -26,14 +28,20 @@ use Rattle.abs_value.specs.declared.origin.Lookup.{Lookup}
 use Rattle.abs_value.specs.declared.origin.Origin.{Origin}
 use Rattle.abs_value.specs.declared.origin.Origin.TheVariants.{Found, Fixed}
 use Rattle.abs_value.specs.declared.value.Abs.{Abs}
-use Rattle.abs_value.specs.declared.value.Abs.TheVariants.{Unusable, Num, Ctx, Stk, Map, MayCell, Cell}
+use Rattle.abs_value.specs.declared.value.Abs.TheVariants.{Unusable, Num, Ctx}
+use Rattle.abs_value.specs.declared.value.Abs.TheVariants.{Stk, Map, MayCell, Cell}
 use Rattle.abs_value.specs.Intervals.{greatest}
 use Rattle.abs_value.specs.Numbers.{single, is_single, full, up_to}
 use Rattle.abs_value.specs.Narrowing.{NumberPair, is_taken, narrowed}
-use Rattle.abs_value.specs.Values.{moved_in_context, moved_in_stack, or_unusable, alu_value, copied_value, negated_value, extended_value, reordered_value, numbers, refined, same_lookup, is_found_by, same_origin, join_values}
+use Rattle.abs_value.specs.Values.{moved_in_context, moved_in_stack, or_unusable}
+use Rattle.abs_value.specs.Values.{alu_value, copied_value, negated_value}
+use Rattle.abs_value.specs.Values.{extended_value, reordered_value, numbers, refined}
+use Rattle.abs_value.specs.Values.{same_lookup, is_found_by, same_origin, join_values}
 use Rattle.abs_value.specs.Laws.{IsLeft}
 use Rattle.abs_value.specs.Covers.{Answers, Answered, IsCell, Holds, Includes, CoversValue, IsWord}
-use Rattle.abs_value.proofs.Results.{single_holds, up_to_holds, full_number_holds, cut_number_holds, alu_number_holds}
+use Rattle.abs_value.proofs.ResultsHold.{single_holds, up_to_holds}
+use Rattle.abs_value.proofs.ResultsHold.{full_number_holds, copied_number_holds}
+use Rattle.abs_value.proofs.ResultsHold.{alu_number_holds, join_first, join_second}
 use Rattle.abs_value.proofs.Moves.{context_moves, stack_moves}
 use Rattle.abs_value.proofs.Edges.{Keeps, narrowed_keeps}
 
@@ -67,7 +75,7 @@ alu_includes fit g Bits32 op a b x y wx wy hx hy = tt
 
 pub copied_includes : (g : Answers) (w : Bits) (a : Abs) (x : ℕ) → Includes g a x
     → Includes g (copied_value w a) (word w x)
-copied_includes g w (Num a) x h = cut_number_holds w a x h
+copied_includes g w (Num a) x h = copied_number_holds w a x h
 copied_includes g Bits64 a x h = h
 copied_includes g Bits32 a x h = tt
 
@@ -160,10 +168,7 @@ same_cell g (Fixed n) (Found a) x t h = absurd cc
 
 pub included_left : (g : Answers) (a b : Abs) (x : ℕ) → Includes g a x
     → Includes g (join_values a b) x
-included_left g (Num a) (Num b) x h = record {
-  between = (omega (arith, h.between), omega (arith, h.between));
-  word = h.word;
-}
+included_left g (Num a) (Num b) x h = join_first a b x h
 included_left g (Ctx a) (Ctx b) x h = (omega (arith, h), omega (arith, h))
 included_left g (Stk a) (Stk b) x h = kept_if g (a == b) (Stk a) x (λ t. h)
 included_left g (Map a) (Map b) x h = kept_if g (a == b) (Map a) x (λ t. h)
@@ -176,10 +181,7 @@ included_left g a b x h = tt
 
 pub included_right : (g : Answers) (a b : Abs) (x : ℕ) → Includes g b x
     → Includes g (join_values a b) x
-included_right g (Num a) (Num b) x h = record {
-  between = (omega (arith, h.between), omega (arith, h.between));
-  word = h.word;
-}
+included_right g (Num a) (Num b) x h = join_second a b x h
 included_right g (Ctx a) (Ctx b) x h = (omega (arith, h), omega (arith, h))
 included_right g (Stk a) (Stk b) x h = kept_if g (a == b) (Stk a) x (λ t. grind (arith, t, h))
 included_right g (Map a) (Map b) x h = kept_if g (a == b) (Map a) x (λ t. grind (arith, t, h))

@@ -15,7 +15,8 @@ pub word_is_of : (w : Bits) (x : ℕ) → IsWord x → IsOf w (word w x)
 word_is_of Bits64 x h = omega arith
 word_is_of Bits32 x h = omega arith
 
-pub cut_interval_holds : (w : Bits) (a : Interval) (x : ℕ) → IsBetween a x → IsBetween (cut_interval w a) (word w x)
+pub cut_interval_holds : (w : Bits) (a : Interval) (x : ℕ) → IsBetween a x
+    → IsBetween (cut_interval w a) (word w x)
 cut_interval_holds Bits64 a x h = h
 cut_interval_holds Bits32 a x h = grind arith
 

@@ -3,7 +3,7 @@ use Rattle.std.proofs.Common.{◌≡◌, ℕ, List, [], ◌∷◌, true, false, 
 use Rattle.std.specs.Prelude.{◌==◌, if◌then◌else◌, map, min, max}
 use Rattle.std.specs.List.{range_with_len}
 use Rattle.std.proofs.lemmas.Bool.{cases_Bool}
-use Rattle.std.proofs.lemmas.Nat.{and_comm}
+use Rattle.std.proofs.lemmas.Nat.{and_comm, or_comm}
 use Rattle.abs_value.specs.declared.interval.Interval.{Interval}
 use Rattle.abs_value.specs.declared.number.Number.{Number}
 use Rattle.abs_value.specs.declared.places.Places.{Places}
@@ -11,12 +11,13 @@ use Rattle.abs_value.specs.declared.origin.Lookup.{Lookup}
 use Rattle.abs_value.specs.declared.origin.Origin.{Origin}
 use Rattle.abs_value.specs.declared.origin.Origin.TheVariants.{Found, Fixed}
 use Rattle.abs_value.specs.declared.value.Abs.{Abs}
-use Rattle.abs_value.specs.declared.value.Abs.TheVariants.{Unusable, Num, Ctx, Stk, Map, MayCell, Cell}
+use Rattle.abs_value.specs.declared.value.Abs.TheVariants.{Unusable, Num, Ctx}
+use Rattle.abs_value.specs.declared.value.Abs.TheVariants.{Stk, Map, MayCell, Cell}
 use Rattle.abs_value.specs.declared.slot.AbsSlot.{AbsSlot}
 use Rattle.abs_value.specs.declared.slot.AbsSlot.TheVariants.{Kept, Bytes}
 use Rattle.abs_value.specs.declared.state.AbsState.{AbsState}
 use Rattle.abs_value.specs.Intervals.{hull}
-use Rattle.abs_value.specs.Numbers.{number, join_numbers}
+use Rattle.abs_value.specs.Numbers.{join_numbers}
 use Rattle.abs_value.specs.Values.{place_hull, same_lookup, same_origin, join_values}
 use Rattle.abs_value.specs.Stack.{mask_of, slot_at, kept_slot, join_slots, join_stacks}
 use Rattle.abs_value.specs.States.{register_at, join_registers, join_states}
@@ -33,7 +34,10 @@ hull-comm : (a b : Interval) → hull a b ≡ hull b a
 hull-comm a b = let lo = min-comm a.lo b.lo in let hi = max-comm a.hi b.hi in rw (lo, hi) refl
 
 numbers-comm : (a b : Number) → join_numbers a b ≡ join_numbers b a
-numbers-comm a b = ap number (hull-comm a.range b.range)
+numbers-comm a b =
+    let range = hull-comm a.range b.range in
+    let has = and_comm a.bits.has b.bits.has in
+    let may_have = or_comm a.bits.may_have b.bits.may_have in rw (range, has, may_have) refl
 
 place_hull-comm : (a b : Places) → place_hull a b ≡ place_hull b a
 place_hull-comm a b = let lo = min-comm a.lo b.lo in let hi = max-comm a.hi b.hi in rw (lo, hi) refl

@@ -1,5 +1,6 @@
 -- What is learnt of answers covers the states in which they were given.
-use Rattle.std.proofs.Common.{◌≡◌, ℕ, ◌<◌, ◌≤◌, List, map, Option, Some, None, Bool, true, false, refl, sym, ◌∙◌, subst, arith, inl, inr}
+use Rattle.std.proofs.Common.{◌≡◌, ℕ, ◌<◌, ◌≤◌, List, map, Option, Some, None}
+use Rattle.std.proofs.Common.{Bool, true, false, refl, sym, ◌∙◌, subst, arith, inl, inr}
 use Rattle.std.specs.Prelude.{not, ◌==◌, if◌then◌else◌}
 use Rattle.std.proofs.Math.ListN.{get_or-map}
 use Rattle.std.proofs.lemmas.Bool.{cases_Bool}
@@ -7,16 +8,18 @@ use Rattle.bpf_semantics.specs.State.{State}
 use Rattle.abs_value.specs.declared.origin.Lookup.{Lookup}
 use Rattle.abs_value.specs.declared.origin.Origin.TheVariants.{Found, Fixed}
 use Rattle.abs_value.specs.declared.value.Abs.{Abs}
-use Rattle.abs_value.specs.declared.value.Abs.TheVariants.{Unusable, Num, Ctx, Stk, Map, MayCell, Cell}
+use Rattle.abs_value.specs.declared.value.Abs.TheVariants.{Unusable, Num, Ctx}
+use Rattle.abs_value.specs.declared.value.Abs.TheVariants.{Stk, Map, MayCell, Cell}
 use Rattle.abs_value.specs.declared.slot.AbsSlot.{AbsSlot}
 use Rattle.abs_value.specs.declared.slot.AbsSlot.TheVariants.{Kept, Bytes}
 use Rattle.abs_value.specs.declared.state.AbsState.{AbsState}
 use Rattle.abs_value.specs.Stack.{slot_at}
 use Rattle.abs_value.specs.States.{register_at}
 use Rattle.abs_value.specs.Lookups.{answer_of, with_answer, slot_with_answer, state_with_answer}
-use Rattle.abs_value.specs.Covers.{Answers, Answered, AreBefore, answering, Includes, CoversValue, CoversSlot, Covers, bytes_of}
+use Rattle.abs_value.specs.Covers.{Answers, Answered, AreBefore, answering, Includes}
+use Rattle.abs_value.specs.Covers.{CoversValue, CoversSlot, Covers, bytes_of}
 use Rattle.abs_value.specs.Laws.{IsMore}
-use Rattle.abs_value.proofs.Results.{single_holds}
+use Rattle.abs_value.proofs.ResultsHold.{single_holds}
 use Rattle.abs_value.proofs.Computes.{covers_some}
 
 -- ---- values

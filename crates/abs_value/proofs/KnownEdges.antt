@@ -1,5 +1,6 @@
 -- What is known along an edge of a comparison covers the states that take it.
-use Rattle.std.proofs.Common.{◌≡◌, ◌≢◌, ℕ, zero, suc, pos, Option, Some, Bool, true, false, refl, subst, arith, inl, inr}
+use Rattle.std.proofs.Common.{◌≡◌, ◌≢◌, ℕ, zero, suc, pos, Option, Some}
+use Rattle.std.proofs.Common.{Bool, true, false, refl, subst, arith, inl, inr}
 use Rattle.std.specs.Prelude.{not, ◌==◌, ◌&&◌, option_map}
 use Rattle.std.proofs.lemmas.Bool.{cases_Bool}
 use Rattle.std.proofs.lemmas.Option.{same_Some}
@@ -18,17 +19,19 @@ use Rattle.bpf_semantics.specs.Reads.{register, operand}
 use Rattle.abs_value.specs.declared.origin.Origin.{Origin}
 use Rattle.abs_value.specs.declared.origin.Origin.TheVariants.{Found, Fixed}
 use Rattle.abs_value.specs.declared.value.Abs.{Abs}
-use Rattle.abs_value.specs.declared.value.Abs.TheVariants.{Unusable, Num, Ctx, Stk, Map, MayCell, Cell}
+use Rattle.abs_value.specs.declared.value.Abs.TheVariants.{Unusable, Num, Ctx}
+use Rattle.abs_value.specs.declared.value.Abs.TheVariants.{Stk, Map, MayCell, Cell}
 use Rattle.abs_value.specs.declared.state.AbsState.{AbsState}
 use Rattle.abs_value.specs.Narrowing.{is_taken}
 use Rattle.abs_value.specs.Values.{is_pointer, refined}
 use Rattle.abs_value.specs.States.{value_of, operand_value}
-use Rattle.abs_value.specs.Lookups.{compares_with_zero, is_found, after_null_check, with_both, is_register, refined_state}
+use Rattle.abs_value.specs.Lookups.{compares_with_zero, is_found, after_null_check}
+use Rattle.abs_value.specs.Lookups.{with_both, is_register, refined_state}
 use Rattle.abs_value.specs.Covers.{Answers, IsCell, FitsImm, Holds, Includes, CoversValue, Covers}
 use Rattle.abs_value.specs.Laws.{IsLeft, CoversOn}
 use Rattle.abs_value.proofs.Computes.{refined_includes}
 use Rattle.abs_value.specs.Numbers.{single}
-use Rattle.abs_value.proofs.Results.{single_holds}
+use Rattle.abs_value.proofs.ResultsHold.{single_holds}
 use Rattle.abs_value.proofs.Writes.{covers_learnt, imm_word}
 use Rattle.abs_value.proofs.Known.{covers_answered, included}
 

@@ -1,7 +1,11 @@
 mod Cuts
 mod ShiftedRanges
 mod Products
-mod Results
+mod Within
+mod Tidy
+mod BitsHold
+mod ResultsHold
+mod CommonBits
 mod Edges
 mod Moves
 mod Lists

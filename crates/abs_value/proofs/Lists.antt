@@ -1,7 +1,9 @@
 -- A list after one of its elements was set.
-use Rattle.std.proofs.Common.{◌≡◌, ◌≢◌, ℕ, ◌+◌, ◌<◌, List, ◌++◌, length, map, take, drop, ap, sym, ◌∙◌, arith, inl, inr, get_or, set, get_or-set_other}
+use Rattle.std.proofs.Common.{◌≡◌, ◌≢◌, ℕ, ◌+◌, ◌<◌, List, ◌++◌, length, map, take, drop}
+use Rattle.std.proofs.Common.{ap, sym, ◌∙◌, arith, inl, inr, get_or, set, get_or-set_other}
 use Rattle.std.proofs.lemmas.Bool.{cases_lt, cases_eq}
-use Rattle.std.proofs.lemmas.List.{get_or_past, set_past, get_or_default, length-map, length-append, take-append-drop}
+use Rattle.std.proofs.lemmas.List.{get_or_past, set_past, get_or_default}
+use Rattle.std.proofs.lemmas.List.{length-map, length-append, take-append-drop}
 use Rattle.std.proofs.lemmas.List.Edits.{map_over_more}
 use Rattle.std.proofs.lemmas.Grind.{get_or-set_at}
 

@@ -1,15 +1,19 @@
 -- A load from the stack finds a number that its value includes.
-use Rattle.std.proofs.Common.{◌≡◌, ℕ, zero, suc, ◌+◌, ◌-◌, ◌*◌, ◌/◌, ◌%◌, ◌^◌, ◌<◌, ◌≤◌, pos, List, [], ◌∷◌, Option, Some, None, Bool, true, false, refl, sym, ap, subst, ◌∙◌, arith, inl, inr}
+use Rattle.std.proofs.Common.{◌≡◌, ℕ, zero, suc, ◌+◌, ◌-◌, ◌*◌, ◌/◌, ◌%◌, ◌^◌, ◌<◌, ◌≤◌, pos}
+use Rattle.std.proofs.Common.{List, [], ◌∷◌, Option, Some, None}
+use Rattle.std.proofs.Common.{Bool, true, false, refl, sym, ap, subst, ◌∙◌, arith, inl, inr}
 use Rattle.std.specs.Prelude.{IsSome, ◌==◌, ◌||◌, ◌&&◌, not, nat_lt}
 use Rattle.std.specs.Int.{bit_at}
 use Rattle.std.proofs.Math.Nat.{pow-succ', mul_comm, div-div-eq-div-mul}
 use Rattle.std.proofs.Math.Arith.{mod-mul}
 use Rattle.std.proofs.lemmas.Bool.{cases_lt, cases_eq}
 use Rattle.std.proofs.lemmas.Int.{ints}
+use Rattle.bpf_insn.specs.declared.operand.Bits.TheVariants.{Bits64}
 use Rattle.bpf_insn.specs.declared.operand.LoadKind.{LoadKind}
 use Rattle.bpf_insn.specs.declared.operand.LoadKind.TheVariants as load
 use Rattle.bpf_insn.specs.Words.{little_endian}
-use Rattle.bpf_semantics.specs.Memory.{stack_start, stack_size, is_in_context, is_in_stack, set_bytes}
+use Rattle.bpf_semantics.specs.Memory.{stack_start, stack_size}
+use Rattle.bpf_semantics.specs.Memory.{is_in_context, is_in_stack, set_bytes}
 use Rattle.bpf_semantics.specs.State.{State, HasWords, read_at}
 use Rattle.bpf_semantics.specs.Reads.{load_count, filled}
 use Rattle.abs_value.specs.declared.value.Abs.{Abs}
@@ -18,8 +22,10 @@ use Rattle.abs_value.specs.declared.slot.AbsSlot.TheVariants.{Kept, Bytes}
 use Rattle.abs_value.specs.declared.state.AbsState.{AbsState}
 use Rattle.abs_value.specs.Values.{loaded_value}
 use Rattle.abs_value.specs.Stack.{mask_of, slot_at, is_unset, has_unset, kept_or, loaded_from}
-use Rattle.abs_value.specs.Covers.{Answers, IsWord, Includes, KeepsNumber, CoversSlot, CoversStack, Covers, bytes_of}
+use Rattle.abs_value.specs.Covers.{Answers, Includes, KeepsNumber}
+use Rattle.abs_value.specs.Covers.{CoversSlot, CoversStack, Covers, bytes_of}
 use Rattle.abs_value.specs.Laws.{Finds}
+use Rattle.abs_value.proofs.ResultsHold.{up_to_holds, full_number_holds}
 use Rattle.abs_value.proofs.Slots.{mask_set}
 
 -- ---- set bytes are read
@@ -148,16 +154,16 @@ kept_reads stack place (suc n) x h =
 
 pub loaded_includes : (g : Answers) (kind : LoadKind) (n : ℕ) → n < 256 ^ load_count kind
     → Includes g (loaded_value kind) (filled kind n)
-loaded_includes g load.Byte n h = record { between = (omega arith, omega arith); word = omega arith }
-loaded_includes g load.Half n h = record { between = (omega arith, omega arith); word = omega arith }
-loaded_includes g load.Word n h = record { between = (omega arith, omega arith); word = omega arith }
-loaded_includes g load.Double n h = record { between = (omega arith, omega arith); word = omega arith }
-loaded_includes g load.SignedByte n h = let word : IsWord (filled load.SignedByte n) = grind (arith, ints) in
-    record { between = (omega arith, omega (arith, word)); word = word }
-loaded_includes g load.SignedHalf n h = let word : IsWord (filled load.SignedHalf n) = grind (arith, ints) in
-    record { between = (omega arith, omega (arith, word)); word = word }
-loaded_includes g load.SignedWord n h = let word : IsWord (filled load.SignedWord n) = grind (arith, ints) in
-    record { between = (omega arith, omega (arith, word)); word = word }
+loaded_includes g load.Byte n h = up_to_holds (2 ^ 8 - 1) n (omega arith) (omega arith)
+loaded_includes g load.Half n h = up_to_holds (2 ^ 16 - 1) n (omega arith) (omega arith)
+loaded_includes g load.Word n h = up_to_holds (2 ^ 32 - 1) n (omega arith) (omega arith)
+loaded_includes g load.Double n h = up_to_holds (2 ^ 64 - 1) n (omega arith) (omega arith)
+loaded_includes g load.SignedByte n h =
+    full_number_holds Bits64 (filled load.SignedByte n) (grind (arith, ints))
+loaded_includes g load.SignedHalf n h =
+    full_number_holds Bits64 (filled load.SignedHalf n) (grind (arith, ints))
+loaded_includes g load.SignedWord n h =
+    full_number_holds Bits64 (filled load.SignedWord n) (grind (arith, ints))
 
 read_from : (s : State) (place n : ℕ) (bytes : List ℕ)
     → place + n ≤ stack_size → set_bytes s.stack place n ≡ Some bytes

@@ -1,6 +1,7 @@
 -- Where a pointer is moved within its region, the machine computes an address of the places that
 -- are left.
-use Rattle.std.proofs.Common.{◌≡◌, ℕ, suc, ◌+◌, ◌-◌, ◌%◌, ◌^◌, ◌<◌, ◌≤◌, ℤ, pos, negsuc, ◌+ℤ◌, neg_ℤ, Option, Some, None, false, refl, sym, ap, ◌∙◌, arith, inl, inr}
+use Rattle.std.proofs.Common.{◌≡◌, ℕ, suc, ◌+◌, ◌-◌, ◌%◌, ◌^◌, ◌<◌, ◌≤◌, ℤ, pos, negsuc, ◌+ℤ◌}
+use Rattle.std.proofs.Common.{neg_ℤ, Option, Some, None, false, refl, sym, ap, ◌∙◌, arith, inl, inr}
 use Rattle.std.specs.Prelude.{nat_lt}
 use Rattle.std.specs.Int.{w64, cast_signed}
 use Rattle.std.proofs.lemmas.Bool.{cases_lt, cases_Bool}
@@ -14,7 +15,9 @@ use Rattle.bpf_semantics.specs.Memory.{context_size, stack_size}
 use Rattle.abs_value.specs.declared.number.Number.{Number}
 use Rattle.abs_value.specs.declared.places.Places.{Places}
 use Rattle.abs_value.specs.Numbers.{is_single}
-use Rattle.abs_value.specs.Values.{places, place_in, signed_view, distance, distance_of_end, least_distance, greatest_distance, moved, moved_in_context, moved_in_stack}
+use Rattle.abs_value.specs.Values.{places, place_in, signed_view, distance}
+use Rattle.abs_value.specs.Values.{distance_of_end, least_distance, greatest_distance}
+use Rattle.abs_value.specs.Values.{moved, moved_in_context, moved_in_stack}
 use Rattle.abs_value.specs.Covers.{Holds, IsInContext, IsInStack, IsWord}
 
 -- ---- places
@@ -167,7 +170,8 @@ end_in_order alu.Add from r by e f h k =
 end_in_order op from r by e f h k = absurd cc
 
 pub context_in_order : (op : AluOp) (from r : Places) (by : Number)
-    → moved_in_context op from by ≡ Some r → from.lo ≤ from.hi → by.range.lo ≤ by.range.hi → r.lo ≤ r.hi
+    → moved_in_context op from by ≡ Some r → from.lo ≤ from.hi → by.range.lo ≤ by.range.hi
+    → r.lo ≤ r.hi
 context_in_order op from r by e h k =
     let ends = both_some (moved context_size from.lo (least_distance op by))
     (moved context_size from.hi (greatest_distance op by)) r e in

@@ -1,12 +1,14 @@
 -- What is computed of values whose ends are in order has its ends in order.
-use Rattle.std.proofs.Common.{◌≡◌, ℕ, ℤ, pos, negsuc, ◌+◌, ◌-◌, ◌*◌, ◌/◌, ◌%◌, ◌^◌, ◌≤◌, min, max, Option, Some, None, Bool, true, false, refl, arith, inl, inr}
-use Rattle.std.specs.Prelude.{option_map, nat_le, nat_lt, ◌==◌, if◌then◌else◌}
+use Rattle.std.proofs.Common.{◌≡◌, ℕ, ℤ, pos, negsuc, ◌+◌, ◌-◌, ◌*◌, ◌/◌, ◌%◌, ◌^◌, ◌≤◌}
+use Rattle.std.proofs.Common.{Option, Some, None, Bool, true, false, refl, arith, inl, inr}
+use Rattle.std.specs.Prelude.{option_map, nat_lt, ◌==◌, ◌||◌, if◌then◌else◌, bit_and}
 use mir.Val.{bits}
 use Rattle.std.proofs.Math.Nat.{mul-le-mul_right}
-use Rattle.std.proofs.lemmas.Bool.{cases_Bool}
+use Rattle.std.proofs.lemmas.Bool.{cases_Bool, or_parts}
 use Rattle.std.proofs.lemmas.Nat.{mul-le}
 use Rattle.bpf_insn.specs.declared.operand.AluOp.{AluOp}
-use Rattle.bpf_insn.specs.declared.operand.AluOp.TheVariants.{Add, Sub, Mul, Div, Sdiv, Or, And, Lsh, Rsh, Mod, Smod, Xor, Arsh}
+use Rattle.bpf_insn.specs.declared.operand.AluOp.TheVariants.{Add, Sub, Mul, Div, Sdiv, Or, And}
+use Rattle.bpf_insn.specs.declared.operand.AluOp.TheVariants.{Lsh, Rsh, Mod, Smod, Xor, Arsh}
 use Rattle.bpf_insn.specs.declared.operand.Bits.{Bits}
 use Rattle.bpf_insn.specs.declared.operand.Bits.TheVariants.{Bits64, Bits32}
 use Rattle.bpf_insn.specs.declared.operand.Condition.{Condition}
@@ -20,24 +22,35 @@ use Rattle.bpf_insn.specs.Words.{word_width}
 use Rattle.bpf_insn.specs.Arithmetic.{extended, end_width, reordered}
 use Rattle.bpf_insn.specs.Conditions.{holds}
 use Rattle.abs_value.specs.declared.interval.Interval.{Interval}
+use Rattle.abs_value.specs.declared.known_bits.KnownBits.{KnownBits}
 use Rattle.abs_value.specs.declared.number.Number.{Number}
 use Rattle.abs_value.specs.declared.origin.Lookup.{Lookup}
 use Rattle.abs_value.specs.declared.origin.Origin.TheVariants.{Found}
 use Rattle.abs_value.specs.declared.places.Places.{Places}
 use Rattle.abs_value.specs.declared.relation.Relation.{Relation}
-use Rattle.abs_value.specs.declared.relation.Relation.TheVariants.{Equal, Unequal, Less, AtMost, More, AtLeast, Meets, Misses}
+use Rattle.abs_value.specs.declared.relation.Relation.TheVariants.{Equal, Unequal, Less, AtMost}
+use Rattle.abs_value.specs.declared.relation.Relation.TheVariants.{More, AtLeast, Meets, Misses}
 use Rattle.abs_value.specs.declared.value.Abs.{Abs}
-use Rattle.abs_value.specs.declared.value.Abs.TheVariants.{Unusable, Num, Ctx, Stk, Map, MayCell, Cell}
-use Rattle.abs_value.specs.Intervals.{IsRange, is_just, all_of, cut_interval}
-use Rattle.abs_value.specs.Numbers.{single, is_single, are_single, full, up_to, cut}
-use Rattle.abs_value.specs.Bounds.{fitting, quotient, shifted_left, shifted_right, shifted_signed, sign_bit, bounds, alu_number}
-use Rattle.abs_value.specs.Narrowing.{IntervalPair, NumberPair, pair, below, at_most, equal, apart_from, swapped, left_by, learnt, is_taken, is_comparable, narrowed}
-use Rattle.abs_value.specs.Values.{moved_in_context, moved_in_stack, or_unusable, alu_value, copied_value, extended_value, reordered_value, loaded_value, join_values, refined, numbers}
+use Rattle.abs_value.specs.declared.value.Abs.TheVariants.{Unusable, Num, Ctx}
+use Rattle.abs_value.specs.declared.value.Abs.TheVariants.{Stk, Map, MayCell, Cell}
+use Rattle.abs_value.specs.Intervals.{IsRange, is_just, all_of, cut_interval, hull}
+use Rattle.abs_value.specs.Bounds.{fitting, quotient, shifted_left, shifted_right}
+use Rattle.abs_value.specs.Bounds.{shifted_signed, sign_bit, bounds}
+use Rattle.abs_value.specs.Known.{common, cut_bits}
+use Rattle.abs_value.specs.Numbers.{single, is_single, are_single, full, up_to, cut, tidy, is_empty}
+use Rattle.abs_value.specs.Results.{known_bits, alu_number}
+use Rattle.abs_value.specs.Narrowing.{IntervalPair, NumberPair, below, at_most, apart_from, swapped}
+use Rattle.abs_value.specs.Narrowing.{kept, kept_in, equal, kept_with, with_one_of, without_bits}
+use Rattle.abs_value.specs.Narrowing.{meeting, left_by, learnt, is_taken, is_comparable, narrowed}
+use Rattle.abs_value.specs.Values.{moved_in_context, moved_in_stack, or_unusable}
+use Rattle.abs_value.specs.Values.{alu_value, copied_value, extended_value, reordered_value}
+use Rattle.abs_value.specs.Values.{loaded_value, join_values, refined, numbers}
 use Rattle.abs_value.specs.Lookups.{answer_of, with_answer, lookup_value, call_value}
 use Rattle.abs_value.specs.Order.{IsInOrder, AreInOrder}
 use Rattle.abs_value.specs.Covers.{IsBetween}
 use Rattle.abs_value.proofs.ShiftedRanges.{shifted_right_holds}
 use Rattle.abs_value.proofs.Products.{quotient_holds}
+use Rattle.abs_value.proofs.Tidy.{some_range, tidied_range}
 use Rattle.abs_value.proofs.Moves.{context_in_order}
 
 -- ---- arithmetic
@@ -98,8 +111,9 @@ pub alu_range : (w : Bits) (op : AluOp) (a b : Number) → IsRange a.range → I
     → IsRange (alu_number w op a b).range
 alu_range w op a b h k = elim (cases_Bool (are_single a b)) [
   | inl is ↦ rw is (omega arith)
-  | inr is ↦ rw is (bounds_range w op (cut w a).range (cut w b).range (cut_range w a.range h)
-      (cut_range w b.range k))
+  | inr is ↦ rw is (tidied_range (bounds w op (cut w a).range (cut w b).range)
+      (known_bits w op (cut w a) (cut w b)) (bounds_range w op (cut w a).range (cut w b).range
+      (cut_range w a.range h) (cut_range w b.range k)))
 ]
 
 pointer_in_order : (op : AluOp) (from : Places) (by : Number) (o : Option Places)
@@ -122,7 +136,8 @@ alu_in_order Bits64 op a b h k = tt
 alu_in_order Bits32 op a b h k = tt
 
 pub copied_in_order : (w : Bits) (a : Abs) → IsInOrder a → IsInOrder (copied_value w a)
-copied_in_order w (Num a) h = cut_range w a.range h
+copied_in_order w (Num a) h =
+    tidied_range (cut_interval w a.range) (cut_bits w a.bits) (cut_range w a.range h)
 copied_in_order Bits64 a h = h
 copied_in_order Bits32 a h = tt
 
@@ -148,7 +163,8 @@ loaded_in_order load.SignedHalf = omega arith
 loaded_in_order load.SignedWord = omega arith
 
 pub join_in_order : (a b : Abs) → IsInOrder a → IsInOrder b → IsInOrder (join_values a b)
-join_in_order (Num a) (Num b) h k = omega (arith, h, k)
+join_in_order (Num a) (Num b) h k =
+    tidied_range (hull a.range b.range) (common a.bits b.bits) (omega (arith, h, k))
 join_in_order (Ctx a) (Ctx b) h k = omega (arith, h, k)
 join_in_order a b h k = grind arith
 
@@ -185,77 +201,66 @@ call_in_order (pos n) slot v =
 
 -- ---- narrowing
 
-AreRanges : Option IntervalPair → Type 0
-AreRanges None = Unit {0}
-AreRanges (Some p) = IsRange p.0 × IsRange p.1
-
-below_ranges : (a b : Interval) → IsRange a → IsRange b → AreRanges (below a b)
-unfolding AreRanges
-below_ranges a b h k = elim (cases_Bool (nat_lt a.lo b.hi)) [
-  | inl is ↦ rw is (grind (arith, is), grind (arith, is))
-  | inr is ↦ rw is tt
-]
-
-at_most_ranges : (a b : Interval) → IsRange a → IsRange b → AreRanges (at_most a b)
-unfolding AreRanges
-at_most_ranges a b h k = elim (cases_Bool (nat_le a.lo b.hi)) [
-  | inl is ↦ rw is (grind (arith, is), grind (arith, is))
-  | inr is ↦ rw is tt
-]
-
-equal_ranges : (a b : Interval) → AreRanges (equal a b)
-unfolding AreRanges
-equal_ranges a b = elim (cases_Bool (nat_le (max a.lo b.lo) (min a.hi b.hi))) [
-  | inl is ↦ rw is (grind (arith, is), grind (arith, is))
-  | inr is ↦ rw is tt
-]
-
-apart_range : (b a : Interval) → IsRange a → IsRange (apart_from b a)
-apart_range b a h = grind arith
-
-swapped_ranges : (o : Option IntervalPair) → AreRanges o → AreRanges (option_map swapped o)
-unfolding AreRanges
-swapped_ranges None h = tt
-swapped_ranges (Some p) h = (h.1, h.0)
-
-left_by_ranges : (r : Relation) (a b : Interval) → IsRange a → IsRange b → AreRanges (left_by r a b)
-unfolding AreRanges
-left_by_ranges Equal a b h k = equal_ranges a b
-left_by_ranges Unequal a b h k = (apart_range b a h, apart_range a b k)
-left_by_ranges Less a b h k = below_ranges a b h k
-left_by_ranges AtMost a b h k = at_most_ranges a b h k
-left_by_ranges More a b h k = swapped_ranges (below b a) (below_ranges b a k h)
-left_by_ranges AtLeast a b h k = swapped_ranges (at_most b a) (at_most_ranges b a k h)
-left_by_ranges Meets a b h k = (h, k)
-left_by_ranges Misses a b h k = (h, k)
-
--- the numbers that are left have their ends in order
 AreNumbers : Option NumberPair → Type 0
 AreNumbers None = Unit {0}
 AreNumbers (Some p) = IsRange p.0.range × IsRange p.1.range
-
-paired : (o : Option IntervalPair) → AreRanges o → AreNumbers (option_map pair o)
-unfolding AreRanges AreNumbers
-paired None h = tt
-paired (Some p) h = h
 
 chosen_pair : (b : Bool) (one other : Option NumberPair) → AreNumbers one → AreNumbers other
     → AreNumbers (if b then one else other)
 chosen_pair true one other h k = h
 chosen_pair false one other h k = k
 
+-- what is kept isn't empty
+kept_ranges : (a b : Number) → AreNumbers (kept a b)
+unfolding AreNumbers
+kept_ranges a b = elim (cases_Bool (is_empty a || is_empty b)) [
+  | inl none ↦ rw none tt
+  | inr some ↦
+      let parts = or_parts (is_empty a) (is_empty b) some in
+      rw some (some_range a parts.0, some_range b parts.1)
+]
+
+kept_in_ranges : (a b : Number) (o : Option IntervalPair) → AreNumbers (kept_in a b o)
+unfolding AreNumbers
+kept_in_ranges a b None = tt
+kept_in_ranges a b (Some p) = kept_ranges (tidy p.0 a.bits) (tidy p.1 b.bits)
+
+kept_with_ranges : (p : KnownBits) (a b : Number) → IsRange b.range → AreNumbers (kept_with p a b)
+unfolding AreNumbers
+kept_with_ranges p a b k = elim (cases_Bool (is_empty (tidy a.range p))) [
+  | inl none ↦ rw none tt
+  | inr some ↦ rw some (some_range (tidy a.range p) some, k)
+]
+
+left_by_ranges : (r : Relation) (a b : Number) → IsRange a.range → IsRange b.range
+    → AreNumbers (left_by r a b)
+unfolding AreNumbers
+left_by_ranges Equal a b h k = kept_ranges (equal a b) (equal a b)
+left_by_ranges Unequal a b h k =
+    kept_in_ranges a b (Some (apart_from b.range a.range, apart_from a.range b.range))
+left_by_ranges Less a b h k = kept_in_ranges a b (below a.range b.range)
+left_by_ranges AtMost a b h k = kept_in_ranges a b (at_most a.range b.range)
+left_by_ranges More a b h k = kept_in_ranges a b (option_map swapped (below b.range a.range))
+left_by_ranges AtLeast a b h k = kept_in_ranges a b (option_map swapped (at_most b.range a.range))
+left_by_ranges Meets a b h k = chosen_pair (is_single b) (meeting b.range.lo a b) (Some (a, b))
+    (chosen_pair (bit_and a.bits.may_have b.range.lo == 0) None
+    (kept_with (with_one_of b.range.lo a.bits) a b) tt
+    (kept_with_ranges (with_one_of b.range.lo a.bits) a b k)) (h, k)
+left_by_ranges Misses a b h k = chosen_pair (is_single b)
+    (kept_with (without_bits b.range.lo a.bits) a b) (Some (a, b))
+    (kept_with_ranges (without_bits b.range.lo a.bits) a b k) (h, k)
+
 narrowed_ranges : (w : Bits) (c : Condition) (jumps : Bool) (a b : Number)
     → IsRange a.range → IsRange b.range → AreNumbers (narrowed w c jumps a b)
 unfolding AreNumbers
 narrowed_ranges w c jumps a b h k =
-    let left = left_by (learnt c jumps) a.range b.range in
-    let comparable = option_map pair left in
+    let left = left_by (learnt c jumps) a b in
     chosen_pair (are_single a b)
     (if is_taken jumps (holds w c a.range.lo b.range.lo) then Some (a, b) else None)
-    (if is_comparable w c a.range b.range then comparable else Some (a, b))
+    (if is_comparable w c a.range b.range then left else Some (a, b))
     (chosen_pair (is_taken jumps (holds w c a.range.lo b.range.lo)) (Some (a, b)) None (h, k) tt)
-    (chosen_pair (is_comparable w c a.range b.range) comparable (Some (a, b))
-    (paired left (left_by_ranges (learnt c jumps) a.range b.range h k)) (h, k))
+    (chosen_pair (is_comparable w c a.range b.range) left (Some (a, b))
+    (left_by_ranges (learnt c jumps) a b h k) (h, k))
 
 numbers_in_order : (o : Option NumberPair) → AreNumbers o → AreInOrder (option_map numbers o)
 unfolding AreNumbers

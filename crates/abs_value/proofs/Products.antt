@@ -1,6 +1,7 @@
 -- Products, quotients and remainders of the numbers of two ranges lie between the ends that are
 -- computed.
-use Rattle.std.proofs.Common.{◌≡◌, ℕ, ◌*◌, ◌/◌, ◌%◌, ◌^◌, ◌<◌, ◌≤◌, false, arith, inl, inr, div-le_self, div-mul-le_self}
+use Rattle.std.proofs.Common.{◌≡◌, ℕ, ◌*◌, ◌/◌, ◌%◌, ◌^◌, ◌<◌, ◌≤◌, false}
+use Rattle.std.proofs.Common.{arith, inl, inr, div-le_self, div-mul-le_self}
 use Rattle.std.specs.Prelude.{nat_le, ◌==◌, if◌then◌else◌}
 use mir.Val.{bits}
 use Rattle.std.proofs.Math.Nat.{mod-le}

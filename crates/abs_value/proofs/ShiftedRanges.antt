@@ -1,6 +1,7 @@
 -- Shifts of the numbers of a range lie between the shifts of its ends; OR and XOR stay below a
 -- power of two.
-use Rattle.std.proofs.Common.{◌≡◌, ℕ, zero, suc, ◌-◌, ◌*◌, ◌/◌, ◌%◌, ◌^◌, ◌<◌, ◌≤◌, ℤ, max, refl, ap, arith, inl, inr}
+use Rattle.std.proofs.Common.{◌≡◌, ℕ, zero, suc, ◌-◌, ◌*◌, ◌/◌, ◌%◌, ◌^◌, ◌<◌, ◌≤◌}
+use Rattle.std.proofs.Common.{ℤ, max, refl, ap, arith, inl, inr}
 use Rattle.std.specs.Prelude.{nat_lt}
 use Rattle.std.specs.Int.{w32, w64, leading_zeros, cast_signed, cast_unsigned, int_shr}
 use mir.Val.{bits}
@@ -13,7 +14,8 @@ use Rattle.bpf_insn.specs.declared.operand.Bits.{Bits}
 use Rattle.bpf_insn.specs.declared.operand.Bits.TheVariants.{Bits64, Bits32}
 use Rattle.bpf_insn.specs.Words.{word_width}
 use Rattle.abs_value.specs.declared.interval.Interval.{Interval}
-use Rattle.abs_value.specs.Bounds.{fitting, power_above, disjunction, shifted_left, shifted_right, shifted_signed, sign_bit}
+use Rattle.abs_value.specs.Bounds.{fitting, power_above, disjunction, shifted_left}
+use Rattle.abs_value.specs.Bounds.{shifted_right, shifted_signed, sign_bit}
 use Rattle.abs_value.specs.Covers.{IsBetween}
 use Rattle.abs_value.proofs.Cuts.{IsOf, all_of_holds}
 
@@ -42,7 +44,7 @@ shifted_right_holds a count x h = (
 
 -- ---- OR and XOR
 
-wide : (k n : ℕ) → 2 ^ k ≤ n → count_leading_zeros k n ≡ 0
+pub wide : (k n : ℕ) → 2 ^ k ≤ n → count_leading_zeros k n ≡ 0
 unfolding count_leading_zeros
 wide zero n h = refl
 wide (suc k) zero h = let some = pow_pos (suc k) in absurd (omega arith)
@@ -58,7 +60,8 @@ below_power n x le fits = elim (cases_lt n (2 ^ 64)) [
   | inr long ↦ let e : leading_zeros w64 n ≡ 0 = wide 64 n long in rw e (omega arith)
 ]
 
-pub disjunction_holds : (a b : Interval) (x y z : ℕ) → IsBetween a x → IsBetween b y → x < 2 ^ 64 → y < 2 ^ 64
+pub disjunction_holds : (a b : Interval) (x y z : ℕ) → IsBetween a x → IsBetween b y → x < 2 ^ 64
+    → y < 2 ^ 64
     → ((k : ℕ) → x < 2 ^ k → y < 2 ^ k → z < 2 ^ k) → IsBetween (disjunction a b) z
 disjunction_holds a b x y z h k short fits both =
     let first : x < power_above (max a.hi b.hi) =
@@ -71,7 +74,7 @@ disjunction_holds a b x y z h k short fits both =
 
 -- ---- ARSH
 
-arsh_low : (w : Bits) (x count : ℕ) → x < sign_bit w
+pub arsh_low : (w : Bits) (x count : ℕ) → x < sign_bit w
     → cast_unsigned (word_width w) (int_shr (cast_signed (word_width w) x) count) ≡ x / 2 ^ count
 arsh_low Bits64 x count lt = ap (λ (z : ℤ). cast_unsigned w64 (int_shr z count)) (to_z_pos w64 x lt)
 arsh_low Bits32 x count lt = ap (λ (z : ℤ). cast_unsigned w32 (int_shr z count)) (to_z_pos w32 x lt)

@@ -1,5 +1,6 @@
 -- The set bytes of a slot, and what a join of slots stands for.
-use Rattle.std.proofs.Common.{◌≡◌, ℕ, ◌/◌, ◌%◌, ◌^◌, ◌<◌, ◌≤◌, List, Option, Some, refl, ◌∙◌, arith, inl, inr, map}
+use Rattle.std.proofs.Common.{◌≡◌, ℕ, ◌/◌, ◌%◌, ◌^◌, ◌<◌, ◌≤◌, List}
+use Rattle.std.proofs.Common.{Option, Some, refl, ◌∙◌, arith, inl, inr, map}
 use Rattle.std.specs.Prelude.{IsSome, bit_and}
 use Rattle.std.specs.List.{range_with_len}
 use Rattle.std.proofs.lemmas.Bool.{cases_lt, cases_Bool}
@@ -11,7 +12,8 @@ use Rattle.abs_value.specs.declared.slot.AbsSlot.{AbsSlot}
 use Rattle.abs_value.specs.declared.slot.AbsSlot.TheVariants.{Kept, Bytes}
 use Rattle.abs_value.specs.Values.{is_unusable, join_values}
 use Rattle.abs_value.specs.Stack.{mask_of, slot_at, kept_slot, join_slots, join_stacks}
-use Rattle.abs_value.specs.Covers.{Answers, Includes, KeepsNumber, HasSet, CoversSlot, CoversStack, bytes_of}
+use Rattle.abs_value.specs.Covers.{Answers, Includes, KeepsNumber, HasSet}
+use Rattle.abs_value.specs.Covers.{CoversSlot, CoversStack, bytes_of}
 use Rattle.abs_value.proofs.Computes.{included_left, included_right}
 
 -- all bytes of a kept slot are set

@@ -1,5 +1,6 @@
--- No range in a register or a slot of the stack is empty.
-use Rattle.std.proofs.Common.{ℕ, zero, suc, ◌+◌, ◌/◌, ◌%◌, ℤ, List, Option, Some, None, Bool, true, false, arith, inl, inr}
+-- Of each value in a register or a slot of the stack the ends are in order.
+use Rattle.std.proofs.Common.{ℕ, zero, suc, ◌+◌, ◌/◌, ◌%◌, ℤ, List}
+use Rattle.std.proofs.Common.{Option, Some, None, Bool, true, false, arith, inl, inr}
 use Rattle.std.specs.Prelude.{IfSome, slice_set, option_map, nat_le, ◌==◌, ◌&&◌, if◌then◌else◌}
 use Rattle.std.proofs.lemmas.Bool.{cases_lt}
 use Rattle.std.proofs.lemmas.List.{get_or-drop}
@@ -12,20 +13,29 @@ use Rattle.bpf_insn.specs.declared.operand.Operand.{Operand}
 use Rattle.bpf_insn.specs.declared.operand.Operand.TheVariants.{Imm, Register}
 use Rattle.bpf_insn.specs.Table.{number_of}
 use Rattle.abs_value.specs.declared.value.Abs.{Abs}
-use Rattle.abs_value.specs.declared.value.Abs.TheVariants.{Unusable, Num, Ctx, Stk, Map, MayCell, Cell}
+use Rattle.abs_value.specs.declared.value.Abs.TheVariants.{Unusable, Num, Ctx}
+use Rattle.abs_value.specs.declared.value.Abs.TheVariants.{Stk, Map, MayCell, Cell}
 use Rattle.abs_value.specs.declared.slot.AbsSlot.{AbsSlot}
 use Rattle.abs_value.specs.declared.slot.AbsSlot.TheVariants.{Kept, Bytes}
 use Rattle.abs_value.specs.declared.state.AbsState.{AbsState}
 use Rattle.abs_value.specs.Values.{is_pointer, loaded_value, join_values, refined}
-use Rattle.abs_value.specs.Stack.{slot_at, is_whole_slot, with_set, first_bits, next_bits, with_written, stored, kept_or, loaded_from, kept_slot, join_slots, join_stacks}
-use Rattle.abs_value.specs.States.{register_at, value_at, value_of, operand_value, with_value, with_operand, with_stored, opening_registers, opening_state, join_registers, join_states}
-use Rattle.abs_value.specs.Lookups.{slot_with_answer, state_with_answer, after_null_check, with_both, after_comparison, compares_with_zero, is_found, is_register, refined_state, call_value, called_registers, called}
+use Rattle.abs_value.specs.Stack.{slot_at, is_whole_slot, with_set, first_bits}
+use Rattle.abs_value.specs.Stack.{next_bits, with_written, stored, kept_or}
+use Rattle.abs_value.specs.Stack.{loaded_from, kept_slot, join_slots, join_stacks}
+use Rattle.abs_value.specs.States.{register_at, value_at, value_of, operand_value}
+use Rattle.abs_value.specs.States.{with_value, with_operand, with_stored, opening_registers}
+use Rattle.abs_value.specs.States.{opening_state, join_registers, join_states}
+use Rattle.abs_value.specs.Lookups.{slot_with_answer, state_with_answer}
+use Rattle.abs_value.specs.Lookups.{after_null_check, with_both, after_comparison}
+use Rattle.abs_value.specs.Lookups.{compares_with_zero, is_found, is_register}
+use Rattle.abs_value.specs.Lookups.{refined_state, call_value, called_registers, called}
 use Rattle.abs_value.specs.Order.{IsInOrder, AreInOrder, IsSlotInOrder, IsStateInOrder}
 use Rattle.abs_value.proofs.Lists.{here, past, other, set_at}
 use Rattle.abs_value.proofs.Slots.{slot_at-join, slot_at-join_past}
 use Rattle.abs_value.proofs.Writes.{register_at-join, register_at-join_past, unset}
 use Rattle.abs_value.proofs.Known.{register_at-answer, slot_at-answer}
-use Rattle.abs_value.proofs.Order.{loaded_in_order, join_in_order, refined_in_order, with_answer_in_order, call_in_order}
+use Rattle.abs_value.proofs.Order.{loaded_in_order, join_in_order, refined_in_order}
+use Rattle.abs_value.proofs.Order.{with_answer_in_order, call_in_order}
 
 abbrev AreInRegisters : List Abs → Type 0
 AreInRegisters values = (r : ℕ) → IsInOrder (register_at values r)

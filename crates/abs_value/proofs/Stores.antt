@@ -1,11 +1,14 @@
 -- After a store the slots stand for the stack that it leaves.
-use Rattle.std.proofs.Common.{◌≡◌, ◌≢◌, ℕ, ◌+◌, ◌-◌, ◌*◌, ◌/◌, ◌%◌, ◌^◌, ◌<◌, ◌≤◌, List, Option, Some, true, false, refl, sym, ap, ◌∙◌, arith, inl, inr, get_or-set_other}
+use Rattle.std.proofs.Common.{◌≡◌, ◌≢◌, ℕ, ◌+◌, ◌-◌, ◌*◌, ◌/◌, ◌%◌, ◌^◌, ◌<◌, ◌≤◌}
+use Rattle.std.proofs.Common.{List, Option, Some, true, false, refl, sym}
+use Rattle.std.proofs.Common.{ap, ◌∙◌, arith, inl, inr, get_or-set_other}
 use Rattle.std.specs.Prelude.{◌⊎◌, IsSome, ◌&&◌, nat_le, nat_lt, bit_or, slice_set}
 use Rattle.std.specs.Int.{bit_at}
 use Rattle.std.proofs.Math.Nat.{div-add-mod'}
 use Rattle.std.proofs.lemmas.Bool.{cases_lt, cases_Bool, cases_eq, leb-true}
 use Rattle.std.proofs.lemmas.Nat.{shr-shr, pow_pos}
-use Rattle.std.proofs.lemmas.Nat.Bits.{bit_at_or, bit_at-zero, bit_at-lt, bit_at_cat_low, bit_at_cat_high, bit_at_ones_above}
+use Rattle.std.proofs.lemmas.Nat.Bits.{bit_at_or, bit_at-zero, bit_at-lt, bit_at_cat_low}
+use Rattle.std.proofs.lemmas.Nat.Bits.{bit_at_cat_high, bit_at_ones_above}
 use Rattle.bpf_insn.specs.declared.operand.Size.{Size}
 use Rattle.bpf_insn.specs.declared.operand.Size.TheVariants as size
 use Rattle.bpf_semantics.specs.Memory.{stack_start, stack_size, is_in_stack}
@@ -17,8 +20,10 @@ use Rattle.abs_value.specs.declared.slot.AbsSlot.TheVariants.{Kept, Bytes}
 use Rattle.abs_value.specs.declared.state.AbsState.{AbsState}
 use Rattle.abs_value.specs.States.{with_stored}
 use Rattle.abs_value.specs.Laws.{CoversAfter}
-use Rattle.abs_value.specs.Stack.{mask_of, slot_at, bits_of, first_bits, next_bits, is_whole_slot, with_set, with_written, stored}
-use Rattle.abs_value.specs.Covers.{Answers, Includes, IsWord, HasSet, CoversSlot, CoversStack, Covers, bytes_of}
+use Rattle.abs_value.specs.Stack.{mask_of, slot_at, bits_of, first_bits, next_bits}
+use Rattle.abs_value.specs.Stack.{is_whole_slot, with_set, with_written, stored}
+use Rattle.abs_value.specs.Covers.{Answers, Includes, IsWord, HasSet}
+use Rattle.abs_value.specs.Covers.{CoversSlot, CoversStack, Covers, bytes_of}
 use Rattle.abs_value.proofs.Lists.{here, past, other, set_at}
 use Rattle.abs_value.proofs.Slots.{mask_set, same_bytes, none_set}
 

@@ -1,6 +1,7 @@
 -- What a state of the verifier stands for is kept where a register is written, and where two are
 -- joined.
-use Rattle.std.proofs.Common.{◌≡◌, ℕ, ◌<◌, ◌≤◌, List, Option, Some, None, false, zero, suc, refl, arith, inl, inr, map, replicate, true, ℤ, pos, negsuc, FitsSigned}
+use Rattle.std.proofs.Common.{◌≡◌, ℕ, ◌<◌, ◌≤◌, List, Option, Some, None, false, zero, suc, refl}
+use Rattle.std.proofs.Common.{arith, inl, inr, map, replicate, true, ℤ, pos, negsuc, FitsSigned}
 use Rattle.std.specs.Prelude.{slice_set, ◌==◌}
 use Rattle.std.specs.Int.{w32}
 use Rattle.std.specs.List.{range_with_len}
@@ -20,17 +21,21 @@ use Rattle.bpf_semantics.specs.Reads.{operand}
 use Rattle.bpf_semantics.specs.State as start
 use Rattle.bpf_semantics.specs.attrs.Attributes.{Attributes}
 use Rattle.abs_value.specs.declared.value.Abs.{Abs}
-use Rattle.abs_value.specs.declared.value.Abs.TheVariants.{Unusable, Num, Ctx, Stk, Map, MayCell, Cell}
+use Rattle.abs_value.specs.declared.value.Abs.TheVariants.{Unusable, Num, Ctx}
+use Rattle.abs_value.specs.declared.value.Abs.TheVariants.{Stk, Map, MayCell, Cell}
 use Rattle.abs_value.specs.declared.state.AbsState.{AbsState}
 use Rattle.abs_value.specs.Values.{is_unusable, join_values}
-use Rattle.abs_value.specs.States.{register_at, value_at, value_of, operand_value, with_value, with_operand, join_registers, join_states, opening_registers, opening_state}
+use Rattle.abs_value.specs.States.{register_at, value_at, value_of, operand_value}
+use Rattle.abs_value.specs.States.{with_value, with_operand, join_registers}
+use Rattle.abs_value.specs.States.{join_states, opening_registers, opening_state}
 use Rattle.abs_value.specs.declared.slot.AbsSlot.{AbsSlot}
 use Rattle.abs_value.specs.declared.slot.AbsSlot.TheVariants.{Bytes}
 use Rattle.abs_value.specs.Stack.{slot_at}
 use Rattle.abs_value.proofs.Slots.{none_set, stack_left, stack_right}
-use Rattle.abs_value.specs.Covers.{Answers, IsWord, FitsImm, bytes_of, Includes, CoversValue, CoversRegisters, Covers}
+use Rattle.abs_value.specs.Covers.{Answers, IsWord, FitsImm, bytes_of, Includes}
+use Rattle.abs_value.specs.Covers.{CoversValue, CoversRegisters, Covers}
 use Rattle.abs_value.specs.Laws.{IsThere}
-use Rattle.abs_value.proofs.Results.{single_holds}
+use Rattle.abs_value.proofs.ResultsHold.{single_holds}
 use Rattle.abs_value.proofs.Computes.{covers_some, join_left, join_right}
 use Rattle.abs_value.proofs.Lists.{here, past, other, set_at}
 

@@ -1,6 +1,5 @@
--- Arithmetic with ranges of numbers (RFC 9669, "Arithmetic Instructions" and "Byte Swap
--- Instructions"). On single numbers it is the machine's own result. On ranges there is one formula
--- an operation, over the numbers of a class.
+-- Arithmetic with intervals (RFC 9669, "Arithmetic Instructions"): one formula an operation, over
+-- the numbers of a class.
 use Rattle.std.specs.Prelude.{ℕ, ◌+◌, ◌-◌, ◌*◌, ◌/◌, ◌%◌, ◌^◌, min, max, ◌&&◌, nat_lt, nat_le}
 use Rattle.std.specs.Prelude.{Bool, if◌then◌else◌}
 use Rattle.std.specs.Int.{w64, leading_zeros}
@@ -9,18 +8,9 @@ use Rattle.bpf_insn.specs.declared.operand.AluOp.{AluOp}
 use Rattle.bpf_insn.specs.declared.operand.AluOp.TheVariants.{Add, Sub, Or, And, Lsh, Rsh, Xor}
 use Rattle.bpf_insn.specs.declared.operand.AluOp.TheVariants.{Mul, Div, Sdiv, Mod, Smod, Arsh}
 use Rattle.bpf_insn.specs.declared.operand.Bits.{Bits}
-use Rattle.bpf_insn.specs.declared.operand.ByteOrder.{ByteOrder}
-use Rattle.bpf_insn.specs.declared.operand.EndSize.{EndSize}
-use Rattle.bpf_insn.specs.declared.operand.Extension.{Extension}
-use Rattle.bpf_insn.specs.Table.{extension_class}
 use Rattle.bpf_insn.specs.Words.{word_width}
-use Rattle.bpf_insn.specs.Arithmetic.{alu_result, extended, end_width, reordered}
 use Rattle.abs_value.specs.declared.interval.Interval.{Interval}
-use Rattle.abs_value.specs.declared.number.Number.{Number}
 use Rattle.abs_value.specs.Intervals.{interval, is_just, greatest, from_zero, all_of}
-use Rattle.abs_value.specs.Numbers.{number, single, is_single, are_single, least, up_to, full, cut}
-
--- ---- one formula an operation, on numbers of the class
 
 -- from lo to hi, where these are numbers of the class; else the results may wrap, and may be any
 -- number
@@ -94,22 +84,3 @@ bounds w Mod a b = remainder a b
 bounds w Smod a b = all_of w
 bounds w Xor a b = disjunction a b
 bounds w Arsh a b = if is_just b then shifted_signed w a (count_of w b) else all_of w
-
--- ---- the results
-
--- of two single numbers what the machine computes, else the formula on what the class takes of them
-abbrev pub alu_number : Bits → AluOp → Number → Number → Number
-alu_number w op a b =
-    if are_single a b then single (alu_result w op (least a) (least b))
-    else number (bounds w op (cut w a).range (cut w b).range)
-
--- MOVSX
-abbrev pub extended_number : Extension → Number → Number
-extended_number e a =
-    if is_single a then single (extended e (least a)) else full (extension_class e)
-
--- END: any number of its size
-abbrev pub reordered_number : ByteOrder → EndSize → Number → Number
-reordered_number order size a =
-    if is_single a then single (reordered order size (least a))
-    else up_to (2 ^ bits (end_width size) - 1)

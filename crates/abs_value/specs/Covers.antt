@@ -11,6 +11,7 @@ use Rattle.bpf_semantics.specs.cells.Arrays.{AppShape, HasCell}
 use Rattle.bpf_semantics.specs.Memory.{context_start, stack_start, cell_address, map_start}
 use Rattle.bpf_semantics.specs.State.{State}
 use Rattle.abs_value.specs.declared.interval.Interval.{Interval}
+use Rattle.abs_value.specs.declared.known_bits.KnownBits.{KnownBits}
 use Rattle.abs_value.specs.declared.number.Number.{Number}
 use Rattle.abs_value.specs.declared.places.Places.{Places}
 use Rattle.abs_value.specs.declared.value.Abs.{Abs}
@@ -67,10 +68,20 @@ FitsImm (Register r) = Unit {0}
 abbrev pub IsBetween : Interval → ℕ → Type 0
 IsBetween a x = (a.lo ≤ x) × (x ≤ a.hi)
 
--- a number of 64 bits, from the least to the most that it may be
+-- each bit of the first is one of the second's
+abbrev pub IsWithin : ℕ → ℕ → Type 0
+IsWithin m n = (i : ℕ) → bit_at m i ≤ bit_at n i
+
+-- it has the bits that it has to have, and no others than it may have
+pub record Fits (p : KnownBits) (x : ℕ) : Type 0 where
+  pub has : IsWithin p.has x
+  pub no_others : IsWithin x p.may_have
+
+-- a number of 64 bits, from the least to the most that it may be, with the bits that are known
 pub record Holds (a : Number) (x : ℕ) : Type 0 where
   pub between : IsBetween a.range x
   pub word : IsWord x
+  pub bits : Fits a.bits x
 
 -- the address of one of these places
 abbrev pub IsInContext : Places → ℕ → Type 0

@@ -21,8 +21,12 @@ use Rattle.bpf_semantics.specs.State.{State, HasWords, opening, read_at, written
 use Rattle.bpf_semantics.specs.State.{with_result}
 use Rattle.bpf_semantics.specs.Calls.{helper_result}
 use Rattle.bpf_semantics.specs.Reads.{register, operand, byte_count, load_count, filled}
+use Rattle.abs_value.specs.declared.interval.Interval.{Interval}
+use Rattle.abs_value.specs.declared.known_bits.KnownBits.{KnownBits}
+use Rattle.abs_value.specs.declared.number.Number.{Number}
 use Rattle.abs_value.specs.declared.value.Abs.{Abs}
 use Rattle.abs_value.specs.declared.state.AbsState.{AbsState}
+use Rattle.abs_value.specs.Numbers.{single, up_to, is_empty}
 use Rattle.abs_value.specs.Narrowing.{is_taken}
 use Rattle.abs_value.specs.Values.{is_unusable, alu_value, copied_value, negated_value}
 use Rattle.abs_value.specs.Values.{extended_value, reordered_value, loaded_value, refined}
@@ -30,7 +34,27 @@ use Rattle.abs_value.specs.Stack.{has_unset, loaded_from}
 use Rattle.abs_value.specs.States.{opening_state, value_at, join_states, operand_value, with_value}
 use Rattle.abs_value.specs.States.{with_operand, with_stored}
 use Rattle.abs_value.specs.Lookups.{state_with_answer, refined_state, called}
-use Rattle.abs_value.specs.Covers.{Answers, AreBefore, answering, IsWord, FitsImm, Includes, Covers}
+use Rattle.abs_value.specs.Covers.{Answers, AreBefore, answering, IsWord, FitsImm, IsBetween}
+use Rattle.abs_value.specs.Covers.{Fits, Holds, Includes, Covers}
+
+-- ---- numbers
+
+-- tidy keeps the numbers that an interval and bits stand for, and adds none
+pub record IsTidy (tidy : Interval → KnownBits → Number) : Type 0 where
+  pub keeps : (a : Interval) (p : KnownBits) (x : ℕ) → IsWord x → IsBetween a x → Fits p x
+      → Holds (tidy a p) x
+  pub adds_none : (a : Interval) (p : KnownBits) (x : ℕ) → Holds (tidy a p) x
+      → IsBetween a x × Fits p x
+
+-- what is found empty has no number
+abbrev pub EmptyHasNone : Type 0
+EmptyHasNone = (a : Number) (x : ℕ) → Holds a x → is_empty a ≡ false
+
+abbrev pub IncludesSingle : Type 0
+IncludesSingle = (n : ℕ) → IsWord n → Holds (single n) n
+
+abbrev pub IncludesUpTo : Type 0
+IncludesUpTo = (hi x : ℕ) → IsWord x → x ≤ hi → Holds (up_to hi) x
 
 -- ---- values
 

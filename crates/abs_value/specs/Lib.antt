@@ -1,6 +1,8 @@
 pub mod Intervals
-pub mod Numbers
 pub mod Bounds
+pub mod Known
+pub mod Numbers
+pub mod Results
 pub mod Narrowing
 pub mod Values
 pub mod Stack

@@ -3,18 +3,22 @@
 -- doesn't.
 use Rattle.std.specs.Prelude.{ℕ, ◌+◌, ◌-◌, min, max, Option, Some, None, option_map, Bool, true}
 use Rattle.std.specs.Prelude.{false, ◌&&◌, ◌||◌, not, nat_lt, nat_le, ◌==◌, if◌then◌else◌}
+use Rattle.std.specs.Prelude.{bit_and, bit_or}
+use Rattle.std.specs.Int.{w64, bit_not}
 use Rattle.bpf_insn.specs.declared.operand.Bits.{Bits}
 use Rattle.bpf_insn.specs.declared.operand.Condition.{Condition}
 use Rattle.bpf_insn.specs.declared.operand.Condition.TheVariants as jump
 use Rattle.bpf_insn.specs.Conditions.{holds}
 use Rattle.abs_value.specs.declared.interval.Interval.{Interval}
+use Rattle.abs_value.specs.declared.known_bits.KnownBits.{KnownBits}
 use Rattle.abs_value.specs.declared.number.Number.{Number}
 use Rattle.abs_value.specs.declared.relation.Relation.{Relation}
 use Rattle.abs_value.specs.declared.relation.Relation.TheVariants.{Equal, Unequal, Less, AtMost}
 use Rattle.abs_value.specs.declared.relation.Relation.TheVariants.{More, AtLeast, Meets, Misses}
 use Rattle.abs_value.specs.Intervals.{interval, is_just, greatest}
-use Rattle.abs_value.specs.Numbers.{number, are_single, least}
 use Rattle.abs_value.specs.Bounds.{sign_bit}
+use Rattle.abs_value.specs.Known.{known, combined}
+use Rattle.abs_value.specs.Numbers.{tidy, is_empty, is_single, are_single, least}
 
 -- ---- the relation that an edge tells
 
@@ -65,12 +69,9 @@ at_most a b =
     then Some (interval a.lo (min a.hi b.hi), interval (max a.lo b.lo) b.hi)
     else None
 
--- both become the part that they have in common
-abbrev pub equal : Interval → Interval → Option IntervalPair
-equal a b =
-    if nat_le (max a.lo b.lo) (min a.hi b.hi)
-    then Some (interval (max a.lo b.lo) (min a.hi b.hi), interval (max a.lo b.lo) (min a.hi b.hi))
-    else None
+-- the part that both have in common
+abbrev pub overlap : Interval → Interval → Interval
+overlap a b = interval (max a.lo b.lo) (min a.hi b.hi)
 
 -- an end that is n moves in by one; a single number stays
 abbrev pub without : ℕ → Interval → Interval
@@ -83,22 +84,59 @@ without n a =
 abbrev pub apart_from : Interval → Interval → Interval
 apart_from b a = if is_just b then without b.lo a else a
 
-abbrev pub unequal : Interval → Interval → Option IntervalPair
-unequal a b = Some (apart_from b a, apart_from a b)
-
 abbrev pub swapped : IntervalPair → IntervalPair
 swapped p = (p.1, p.0)
 
-abbrev pub left_by : Relation → Interval → Interval → Option IntervalPair
-left_by Equal a b = equal a b
-left_by Unequal a b = unequal a b
-left_by Less a b = below a b
-left_by AtMost a b = at_most a b
-left_by More a b = option_map swapped (below b a)
-left_by AtLeast a b = option_map swapped (at_most b a)
--- a common bit tells nothing of the ends, nor does its want
-left_by Meets a b = Some (a, b)
-left_by Misses a b = Some (a, b)
+-- ---- what a relation leaves of two numbers; none where one is found empty
+
+abbrev pub NumberPair : Type 0
+NumberPair = Number × Number
+
+abbrev pub kept : Number → Number → Option NumberPair
+kept a b = if is_empty a || is_empty b then None else Some (a, b)
+
+-- with other intervals, and the bits that are known
+abbrev pub kept_in : Number → Number → Option IntervalPair → Option NumberPair
+kept_in a b None = None
+kept_in a b (Some p) = kept (tidy p.0 a.bits) (tidy p.1 b.bits)
+
+-- of equal numbers what either side knows
+abbrev pub equal : Number → Number → Number
+equal a b = tidy (overlap a.range b.range) (combined a.bits b.bits)
+
+-- the first with other bits, beside the second as it is
+abbrev pub kept_with : KnownBits → Number → Number → Option NumberPair
+kept_with p a b = if is_empty (tidy a.range p) then None else Some (tidy a.range p, b)
+
+-- without its lowest bit it is 0
+abbrev pub is_one_bit : ℕ → Bool
+is_one_bit n = bit_and n (n - 1) == 0
+
+-- one of the bits of n is there: where n has one alone, it is that one
+abbrev pub with_one_of : ℕ → KnownBits → KnownBits
+with_one_of n p = if is_one_bit n then known (bit_or p.has n) p.may_have else p
+
+-- the bits of n aren't there
+abbrev pub without_bits : ℕ → KnownBits → KnownBits
+without_bits n p = known p.has (bit_and p.may_have (bit_not w64 n))
+
+-- the first has a bit of n
+abbrev pub meeting : ℕ → Number → Number → Option NumberPair
+meeting n a b =
+    if bit_and a.bits.may_have n == 0 then None else kept_with (with_one_of n a.bits) a b
+
+abbrev pub left_by : Relation → Number → Number → Option NumberPair
+left_by Equal a b = kept (equal a b) (equal a b)
+left_by Unequal a b =
+    kept_in a b (Some (apart_from b.range a.range, apart_from a.range b.range))
+left_by Less a b = kept_in a b (below a.range b.range)
+left_by AtMost a b = kept_in a b (at_most a.range b.range)
+left_by More a b = kept_in a b (option_map swapped (below b.range a.range))
+left_by AtLeast a b = kept_in a b (option_map swapped (at_most b.range a.range))
+-- the bits of a single number tell something of the first
+left_by Meets a b = if is_single b then meeting (least b) a b else Some (a, b)
+left_by Misses a b =
+    if is_single b then kept_with (without_bits (least b) a.bits) a b else Some (a, b)
 
 -- ---- where the order of the intervals is that of the comparison
 
@@ -129,17 +167,11 @@ abbrev pub is_taken : Bool → Bool → Bool
 is_taken true answer = answer
 is_taken false answer = not answer
 
-abbrev pub NumberPair : Type 0
-NumberPair = Number × Number
-
-abbrev pub pair : IntervalPair → NumberPair
-pair p = (number p.0, number p.1)
-
 -- two single numbers decide the condition
 abbrev pub narrowed : Bits → Condition → Bool → Number → Number → Option NumberPair
 narrowed w condition jumps a b =
     if are_single a b
     then (if is_taken jumps (holds w condition (least a) (least b)) then Some (a, b) else None)
     else if is_comparable w condition a.range b.range
-    then option_map pair (left_by (learnt condition jumps) a.range b.range)
+    then left_by (learnt condition jumps) a b
     else Some (a, b)

@@ -1,30 +1,59 @@
--- What is known of a number: the interval in which it lies.
-use Rattle.std.specs.Prelude.{ℕ, Bool, ◌&&◌, ◌==◌, nat_le}
+-- What is known of a number: the interval in which it lies, and some of its bits. Each tells
+-- something of the other.
+use Rattle.std.specs.Prelude.{ℕ, ◌-◌, min, max, Bool, ◌&&◌, ◌||◌, not, ◌==◌, nat_lt, nat_le}
+use Rattle.std.specs.Prelude.{if◌then◌else◌}
 use Rattle.bpf_insn.specs.declared.operand.Bits.{Bits}
 use Rattle.abs_value.specs.declared.interval.Interval.{Interval}
+use Rattle.abs_value.specs.declared.known_bits.KnownBits.{KnownBits}
 use Rattle.abs_value.specs.declared.number.Number.{Number}
-use Rattle.abs_value.specs.Intervals.{just, is_just, from_zero, all_of, cut_interval, hull}
+use Rattle.abs_value.specs.Intervals.{interval, just, is_just, from_zero}
+use Rattle.abs_value.specs.Intervals.{all_of, cut_interval, hull}
+use Rattle.abs_value.specs.Bounds.{power_above}
+use Rattle.abs_value.specs.Known.{exactly, some_of, any_of, is_consistent, combined, common}
+use Rattle.abs_value.specs.Known.{cut_bits, shared}
 
-abbrev pub number : Interval → Number
-number range = record { range = range }
+abbrev pub number : Interval → KnownBits → Number
+number range bits = record { range = range; bits = bits }
 
 abbrev pub single : ℕ → Number
-single n = number (just n)
+single n = number (just n) (exactly n)
 
+-- bits above those of hi aren't there
 abbrev pub up_to : ℕ → Number
-up_to hi = number (from_zero hi)
+up_to hi = number (from_zero hi) (some_of (power_above hi - 1))
 
 -- any number of the class
 abbrev pub full : Bits → Number
-full w = number (all_of w)
+full w = number (all_of w) (any_of w)
 
 -- what a class takes of a number
 abbrev pub cut : Bits → Number → Number
-cut w a = number (cut_interval w a.range)
+cut w a = number (cut_interval w a.range) (cut_bits w a.bits)
+
+-- ---- the interval and the bits tell one another what they know
+
+-- no number below the bits that are there, or above those that may be
+abbrev pub trimmed : Interval → KnownBits → Interval
+trimmed a p = interval (max a.lo p.has) (min a.hi p.may_have)
+
+abbrev pub with_shared : Interval → KnownBits → Number
+with_shared a p = number a (combined p (shared a))
+
+-- once: the ends move in to the bits, and then the bits that the interval shares become known
+unfoldable pub tidy : Interval → KnownBits → Number
+tidy a p = with_shared (trimmed a p) p
+
+-- found empty: an end is past the other, or a bit is known both ways
+abbrev pub is_empty : Number → Bool
+is_empty a = nat_lt a.range.hi a.range.lo || not (is_consistent a.bits)
+
+-- a result: what tidy finds empty stays as it was computed
+unfoldable pub tidied : Interval → KnownBits → Number
+tidied a p = if is_empty (tidy a p) then number a p else tidy a p
 
 -- what is known on both sides
 abbrev pub join_numbers : Number → Number → Number
-join_numbers a b = number (hull a.range b.range)
+join_numbers a b = tidied (hull a.range b.range) (common a.bits b.bits)
 
 -- ---- questions
 

@@ -1,5 +1,5 @@
--- What is known of a value: nothing, the range of a number, or the region that it points into with
--- the places there.
+-- What is known of a value: nothing, the range and the bits of a number, or the region that it
+-- points into with the places there.
 use Rattle.std.specs.Prelude.{ℕ, ◌-◌, ◌*◌, ◌%◌, ◌^◌, min, max, ℤ, pos, neg_ℤ, ◌+ℤ◌, unsigned_abs}
 use Rattle.std.specs.Prelude.{int_le, Option, Some, None, option_map, Bool, true, false, ◌&&◌, ◌==◌}
 use Rattle.std.specs.Prelude.{if◌then◌else◌}
@@ -25,8 +25,8 @@ use Rattle.abs_value.specs.declared.origin.Origin.{Origin}
 use Rattle.abs_value.specs.declared.origin.Origin.TheVariants.{Found, Fixed}
 use Rattle.abs_value.specs.declared.value.Abs.TheVariants.{Unusable, Num, Ctx, Stk}
 use Rattle.abs_value.specs.declared.value.Abs.TheVariants.{Map, MayCell, Cell}
-use Rattle.abs_value.specs.Numbers.{single, is_single, least, most, up_to, full, cut, join_numbers}
-use Rattle.abs_value.specs.Bounds.{alu_number, extended_number, reordered_number}
+use Rattle.abs_value.specs.Numbers.{single, is_single, least, most, up_to, full, join_numbers}
+use Rattle.abs_value.specs.Results.{alu_number, copied_number, extended_number, reordered_number}
 use Rattle.abs_value.specs.Narrowing.{narrowed}
 
 abbrev pub is_unusable : Abs → Bool
@@ -110,7 +110,7 @@ alu_value bits op a b = or_unusable (pointer_result bits op a b)
 
 -- MOV: only 64 bits of a pointer are one
 abbrev pub copied_value : Bits → Abs → Abs
-copied_value bits (Num a) = Num (cut bits a)
+copied_value bits (Num a) = Num (copied_number bits a)
 copied_value Bits64 v = v
 copied_value Bits32 v = Unusable
 

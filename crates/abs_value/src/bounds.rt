@@ -1,12 +1,10 @@
-//! Arithmetic with intervals: one formula an operation, over the numbers of a class. On two single
-//! numbers it is what the machine computes.
+//! Arithmetic with intervals: one formula an operation, over the numbers of a class.
 
 ghost use Rattle.std.specs.Prelude.{◌≡◌, ◌<◌, ◌-◌};
 ghost use Rattle.abs_value.specs.Bounds as bounds;
 
 use crate::interval::{Interval, greatest};
-use crate::number::Number;
-use bpf_insn::{AluOp, Bits, ByteOrder, EndSize, Extension};
+use bpf_insn::{AluOp, Bits};
 
 /// From `lo` to `hi`, where these are numbers of the class; else any.
 fn fitting(bits: Bits, lo: u128, hi: u128) -> Interval
@@ -93,7 +91,7 @@ fn conjunction(a: Interval, b: Interval) -> Interval
 }
 
 /// All ones up to the highest bit that is set.
-fn ones_of(n: u64) -> u64
+pub(crate) fn ones_of(n: u64) -> u64
     ensures { result ≡ bounds.power_above n - 1 }
 {
     let zeros = n.leading_zeros();
@@ -145,7 +143,7 @@ fn shifted_signed(bits: Bits, a: Interval, count: u32) -> Interval
 }
 
 /// By how much a single number shifts.
-fn count_of(bits: Bits, b: Interval) -> u32
+pub(crate) fn count_of(bits: Bits, b: Interval) -> u32
     ensures count { result ≡ bounds.count_of bits b }
     ensures masked { result < 64 }
 {
@@ -156,7 +154,7 @@ fn count_of(bits: Bits, b: Interval) -> u32
 }
 
 /// The formula of an operation, on numbers of the class.
-fn bounds_of(bits: Bits, op: AluOp, a: Interval, b: Interval) -> Interval
+pub(crate) fn bounds_of(bits: Bits, op: AluOp, a: Interval, b: Interval) -> Interval
     ensures { result ≡ bounds.bounds bits op a b }
 {
     match op {
@@ -172,47 +170,5 @@ fn bounds_of(bits: Bits, op: AluOp, a: Interval, b: Interval) -> Interval
         AluOp::Arsh if b.is_just() => shifted_signed(bits, a, count_of(bits, b)),
         AluOp::Sdiv | AluOp::Smod => Interval::all_of(bits),
         AluOp::Lsh | AluOp::Rsh | AluOp::Arsh => Interval::all_of(bits),
-    }
-}
-
-impl Number {
-    /// What an operation gives, in 32 bits of the low halves alone.
-    pub fn alu(self, bits: Bits, op: AluOp, other: Number) -> Number
-        ensures { result ≡ bounds.alu_number bits op self other }
-    {
-        if self.is_single() && other.is_single() {
-            Number::single(op.apply(bits, self.range.lo, other.range.lo))
-        } else {
-            Number {
-                range: bounds_of(bits, op, self.cut(bits).range, other.cut(bits).range),
-            }
-        }
-    }
-
-    /// What MOVSX gives.
-    pub fn extended(self, extension: Extension) -> Number
-        ensures { result ≡ bounds.extended_number extension self }
-    {
-        if self.is_single() {
-            return Number::single(extension.extend(self.range.lo));
-        }
-        match extension {
-            Extension::Byte64 | Extension::Half64 | Extension::Word64 => Number::full(Bits::Bits64),
-            Extension::Byte32 | Extension::Half32 => Number::full(Bits::Bits32),
-        }
-    }
-
-    /// What END gives.
-    pub fn reordered(self, order: ByteOrder, size: EndSize) -> Number
-        ensures { result ≡ bounds.reordered_number order size self }
-    {
-        if self.is_single() {
-            return Number::single(order.reorder(size, self.range.lo));
-        }
-        match size {
-            EndSize::Half => Number::up_to(u16::MAX as u64),
-            EndSize::Word => Number::up_to(u32::MAX as u64),
-            EndSize::Double => Number::up_to(u64::MAX),
-        }
     }
 }

@@ -4,11 +4,21 @@
 
 ghost use Rattle.abs_value.specs.Order as ranges;
 ghost use Rattle.abs_value.specs.Laws as laws;
+ghost use Rattle.abs_value.specs.Numbers as numbers;
 
 use bpf_insn::results_fit;
 
+/// What an interval and known bits tell one another keeps the numbers that they stand for, and adds
+/// none; so does a result. What is found empty has no number.
+pub fn numbers_are_kept()
+    ensures tidy { laws.IsTidy numbers.tidy }
+    ensures tidied { laws.IsTidy numbers.tidied }
+    ensures empty { laws.EmptyHasNone }
+{}
+
 /// Of numbers that two values include, each operation gives a number that its result includes:
-/// arithmetic, MOV, NEG, MOVSX, END, and a load of bytes of which nothing is known.
+/// arithmetic, MOV, NEG, MOVSX, END, and a load of bytes of which nothing is known. So does what is
+/// known of a number alone, and of one up to a most.
 pub fn results_are_included()
     ensures alu { laws.IncludesResults }
     ensures copied { laws.IncludesCopies }
@@ -16,6 +26,8 @@ pub fn results_are_included()
     ensures extended { laws.IncludesExtensions }
     ensures reordered { laws.IncludesReorderings }
     ensures loaded { laws.IncludesLoaded }
+    ensures single { laws.IncludesSingle }
+    ensures up_to { laws.IncludesUpTo }
 {
     results_fit();
 }

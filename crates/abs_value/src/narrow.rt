@@ -1,11 +1,12 @@
 //! What a conditional jump leaves of the two numbers that it compares, on the edge that jumps and
-//! on the edge that goes on. An edge on which an interval would be empty is taken by no run.
+//! on the edge that goes on. An edge on which a number is found empty is taken by no run.
 
 ghost use Rattle.std.specs.Prelude.{◌≡◌, option_map};
 ghost use Rattle.abs_value.specs.Narrowing as narrowing;
 
 use crate::bounds::sign_bit;
 use crate::interval::{Interval, greatest};
+use crate::known_bits::KnownBits;
 use crate::number::Number;
 use crate::relation::Relation;
 use bpf_insn::{Bits, Condition};
@@ -47,17 +48,12 @@ fn at_most(a: Interval, b: Interval) -> Option<(Interval, Interval)>
 }
 
 /// The part that both have in common.
-fn equal(a: Interval, b: Interval) -> Option<(Interval, Interval)>
-    ensures { result ≡ narrowing.equal a b }
+fn overlap(a: Interval, b: Interval) -> Interval
+    ensures { result ≡ narrowing.overlap a b }
 {
-    let common = Interval {
+    Interval {
         lo: a.lo.max(b.lo),
         hi: a.hi.min(b.hi),
-    };
-    if common.lo <= common.hi {
-        Some((common, common))
-    } else {
-        None
     }
 }
 
@@ -86,16 +82,102 @@ fn swapped(pair: Option<(Interval, Interval)>) -> Option<(Interval, Interval)>
     pair.map(|(first, second)| (second, first))
 }
 
-fn left_by(relation: Relation, a: Interval, b: Interval) -> Option<(Interval, Interval)>
+/// Both, where neither is found empty.
+fn kept(a: Number, b: Number) -> Option<(Number, Number)>
+    ensures { result ≡ narrowing.kept a b }
+{
+    if a.is_empty() || b.is_empty() {
+        None
+    } else {
+        Some((a, b))
+    }
+}
+
+/// With intervals that have moved in, and the bits that were known.
+fn kept_in(a: Number, b: Number, moved: Option<(Interval, Interval)>) -> Option<(Number, Number)>
+    ensures { result ≡ narrowing.kept_in a b moved }
+{
+    match moved {
+        Some((first, second)) => kept(Number::tidy(first, a.bits), Number::tidy(second, b.bits)),
+        None => None,
+    }
+}
+
+/// Both are one number: of it is known what either side knows.
+fn equal(a: Number, b: Number) -> Option<(Number, Number)>
+    ensures { result ≡ narrowing.kept (narrowing.equal a b) (narrowing.equal a b) }
+{
+    let both = Number::tidy(overlap(a.range, b.range), a.bits.combined(b.bits));
+    kept(both, both)
+}
+
+/// The first with other bits, beside the second as it is.
+fn kept_with(bits: KnownBits, a: Number, b: Number) -> Option<(Number, Number)>
+    ensures { result ≡ narrowing.kept_with bits a b }
+{
+    let first = Number::tidy(a.range, bits);
+    if first.is_empty() {
+        None
+    } else {
+        Some((first, b))
+    }
+}
+
+/// Whether it has one bit, or none.
+fn is_one_bit(n: u64) -> bool
+    ensures { result ≡ narrowing.is_one_bit n }
+{
+    n & n.saturating_sub(1) == 0
+}
+
+/// One of the bits of `n` is there: where it has one alone, that one.
+fn with_one_of(n: u64, bits: KnownBits) -> KnownBits
+    ensures { result ≡ narrowing.with_one_of n bits }
+{
+    if is_one_bit(n) {
+        KnownBits {
+            has: bits.has | n,
+            may_have: bits.may_have,
+        }
+    } else {
+        bits
+    }
+}
+
+/// The bits of `n` aren't there.
+fn without_bits(n: u64, bits: KnownBits) -> KnownBits
+    ensures { result ≡ narrowing.without_bits n bits }
+{
+    KnownBits {
+        has: bits.has,
+        may_have: bits.may_have & !n,
+    }
+}
+
+/// The first has a bit of `n`.
+fn meeting(n: u64, a: Number, b: Number) -> Option<(Number, Number)>
+    ensures { result ≡ narrowing.meeting n a b }
+{
+    if a.bits.may_have & n == 0 {
+        None
+    } else {
+        kept_with(with_one_of(n, a.bits), a, b)
+    }
+}
+
+fn left_by(relation: Relation, a: Number, b: Number) -> Option<(Number, Number)>
     ensures { result ≡ narrowing.left_by relation a b }
 {
+    let (x, y) = (a.range, b.range);
     match relation {
         Relation::Equal => equal(a, b),
-        Relation::Unequal => Some((apart_from(b, a), apart_from(a, b))),
-        Relation::Less => below(a, b),
-        Relation::AtMost => at_most(a, b),
-        Relation::More => swapped(below(b, a)),
-        Relation::AtLeast => swapped(at_most(b, a)),
+        Relation::Unequal => kept_in(a, b, Some((apart_from(y, x), apart_from(x, y)))),
+        Relation::Less => kept_in(a, b, below(x, y)),
+        Relation::AtMost => kept_in(a, b, at_most(x, y)),
+        Relation::More => kept_in(a, b, swapped(below(y, x))),
+        Relation::AtLeast => kept_in(a, b, swapped(at_most(y, x))),
+        Relation::Meets if b.is_single() => meeting(y.lo, a, b),
+        Relation::Misses if b.is_single() => kept_with(without_bits(y.lo, a.bits), a, b),
         Relation::Meets | Relation::Misses => Some((a, b)),
     }
 }
@@ -123,12 +205,6 @@ fn is_comparable(bits: Bits, condition: Condition, a: Interval, b: Interval) -> 
     a.hi <= greatest && b.hi <= greatest && (!is_signed(condition) || on_one_side(bits, a, b))
 }
 
-fn paired(left: Option<(Interval, Interval)>) -> Option<(Number, Number)>
-    ensures { result ≡ option_map narrowing.pair left }
-{
-    left.map(|(first, second)| (Number { range: first }, Number { range: second }))
-}
-
 impl Number {
     /// What is left of the two on the edge that jumps, or on the one that goes on; none where no
     /// run takes it. Whether both are the same register is for the caller to ask first.
@@ -148,7 +224,7 @@ impl Number {
                 None
             }
         } else if is_comparable(bits, condition, self.range, other.range) {
-            paired(left_by(Relation::learnt(condition, jumps), self.range, other.range))
+            left_by(Relation::learnt(condition, jumps), self, other)
         } else {
             Some((self, other))
         }

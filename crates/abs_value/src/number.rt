@@ -1,16 +1,19 @@
-//! What is known of a number: the interval in which it lies. Known bits may join it later: outside
-//! this crate a number is asked, and not opened.
+//! What is known of a number: the interval in which it lies, and some of its bits. Outside this
+//! crate a number is asked, and not opened.
 
 ghost use Rattle.std.specs.Prelude.{◌≡◌};
 ghost use Rattle.abs_value.specs.Numbers as numbers;
 
+use crate::bounds::ones_of;
 use crate::interval::Interval;
+use crate::known_bits::KnownBits;
 use bpf_insn::Bits;
 
-/// The numbers of an interval.
+/// The numbers of an interval that have these bits.
 #[derive(Clone, Copy, Debug, PartialEq, Eq)]
 pub struct Number {
     pub range: Interval,
+    pub bits: KnownBits,
 }
 
 impl Number {
@@ -19,6 +22,7 @@ impl Number {
     {
         Number {
             range: Interval::just(n),
+            bits: KnownBits::exactly(n),
         }
     }
 
@@ -28,6 +32,7 @@ impl Number {
     {
         Number {
             range: Interval::from_zero(hi),
+            bits: KnownBits::some_of(ones_of(hi)),
         }
     }
 
@@ -37,6 +42,7 @@ impl Number {
     {
         Number {
             range: Interval::all_of(bits),
+            bits: KnownBits::any_of(bits),
         }
     }
 
@@ -78,6 +84,44 @@ impl Number {
     {
         Number {
             range: self.range.cut(bits),
+            bits: self.bits.cut(bits),
+        }
+    }
+
+    /// Lets an interval and bits tell one another what they know, once: the ends move in to the
+    /// bits, and then the bits that all numbers of the interval share become known.
+    #[tactic(auto, unfolding(crate::specs::Numbers::tidy))]
+    pub(crate) fn tidy(range: Interval, bits: KnownBits) -> Number
+        ensures { result ≡ numbers.tidy range bits }
+    {
+        let range = Interval {
+            lo: range.lo.max(bits.has),
+            hi: range.hi.min(bits.may_have),
+        };
+        Number {
+            range,
+            bits: bits.combined(KnownBits::shared(range)),
+        }
+    }
+
+    /// Whether it is found empty: an end is past the other, or a bit is known both ways.
+    pub(crate) fn is_empty(self) -> bool
+        ensures { result ≡ numbers.is_empty self }
+    {
+        self.range.hi < self.range.lo || !self.bits.is_consistent()
+    }
+
+    /// A result, tidy. One that tidy finds empty stays as it was computed: no run comes there, and
+    /// only a jump drops an edge.
+    #[tactic(auto, unfolding(crate::specs::Numbers::tidied))]
+    pub(crate) fn tidied(range: Interval, bits: KnownBits) -> Number
+        ensures { result ≡ numbers.tidied range bits }
+    {
+        let tidy = Number::tidy(range, bits);
+        if tidy.is_empty() {
+            Number { range, bits }
+        } else {
+            tidy
         }
     }
 
@@ -85,8 +129,6 @@ impl Number {
     pub(crate) fn join(self, other: Number) -> Number
         ensures { result ≡ numbers.join_numbers self other }
     {
-        Number {
-            range: self.range.hull(other.range),
-        }
+        Number::tidied(self.range.hull(other.range), self.bits.common(other.bits))
     }
 }

@@ -81,6 +81,7 @@ impl AbsSlot {
         ensures { result ≡ slots.join_slots self other }
     {
         match (self, other) {
+            (AbsSlot::Bytes(a), AbsSlot::Bytes(b)) => AbsSlot::Bytes(a & b),
             (AbsSlot::Kept(a), AbsSlot::Kept(b)) => AbsSlot::of(a.join(b)),
             _ => AbsSlot::Bytes(self.mask() & other.mask()),
         }

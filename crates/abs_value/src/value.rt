@@ -1,5 +1,6 @@
-//! What is known of a value: nothing, the range of a number, or the region that it points into with
-//! the places there. A pointer stays in its region, or nothing is known of it any more.
+//! What is known of a value: nothing, the range and the bits of a number, or the region that it
+//! points into with the places there. A pointer stays in its region, or nothing is known of it any
+//! more.
 
 ghost use Rattle.std.specs.Prelude.{◌≡◌};
 ghost use Rattle.abs_value.specs.Lookups as lookups;
@@ -16,7 +17,7 @@ use bpf_semantics::helpers::{ATTR_IS, ATTR_LEN, BUCKET, LOOKUP};
 pub enum Abs {
     /// Nothing: a register may also be unset.
     Unusable,
-    /// A number of the range.
+    /// A number of the range, with these bits.
     Num(Number),
     /// The address of one of these places in the context.
     Ctx(Places),
@@ -84,7 +85,7 @@ impl Abs {
         ensures { result ≡ values.copied_value bits self }
     {
         match (bits, self) {
-            (_, Abs::Num(a)) => Abs::Num(a.cut(bits)),
+            (_, Abs::Num(a)) => Abs::Num(a.copied(bits)),
             (Bits::Bits64, _) => self,
             (Bits::Bits32, _) => Abs::Unusable,
         }
@@ -121,13 +122,13 @@ impl Abs {
     pub fn loaded(kind: LoadKind) -> Abs
         ensures { result ≡ values.loaded_value kind }
     {
-        let hi = match kind {
-            LoadKind::Byte => u8::MAX as u64,
-            LoadKind::Half => u16::MAX as u64,
-            LoadKind::Word => u32::MAX as u64,
-            _ => u64::MAX,
-        };
-        Abs::Num(Number::up_to(hi))
+        Abs::Num(match kind {
+            LoadKind::Byte => Number::up_to(u8::MAX as u64),
+            LoadKind::Half => Number::up_to(u16::MAX as u64),
+            LoadKind::Word => Number::up_to(u32::MAX as u64),
+            LoadKind::Double => Number::up_to(u64::MAX),
+            _ => Number::full(Bits::Bits64),
+        })
     }
 
     /// What is left of the two values that a jump compares, on the edge that jumps or on the one

@@ -1,5 +1,5 @@
 -- Loads and stores, by what their address is.
-use Rattle.std.proofs.Common.{◌≡◌, ℕ, ◌+◌, ℤ, [], ◌∷◌, Some, Bool, true, false, refl, arith, FitsSigned}
+use Rattle.std.proofs.Common.{◌≡◌, ℕ, ◌+◌, ℤ, [], ◌∷◌, Some, Bool, true, false, refl, FitsSigned}
 use Rattle.std.specs.Prelude.{◌||◌, ◌&&◌, ◌==◌}
 use Rattle.std.specs.Int.{w16, w32}
 use Rattle.bpf_insn.specs.declared.operand.Bits.TheVariants.{Bits64}
@@ -15,14 +15,16 @@ use Rattle.abs_value.specs.bpf_semantics.Reads.{load_count, byte_count}
 use Rattle.abs_value.specs.bpf_semantics.State.{State, HasWords}
 use Rattle.abs_value.specs.bpf_semantics.Step.{load, store, act}
 use Rattle.abs_value.specs.declared.value.Abs.{Abs}
-use Rattle.abs_value.specs.declared.value.Abs.TheVariants.{Unusable, Num, Ctx, Stk, Map, MayCell, Cell}
+use Rattle.abs_value.specs.declared.value.Abs.TheVariants.{Unusable, Num, Ctx}
+use Rattle.abs_value.specs.declared.value.Abs.TheVariants.{Stk, Map, MayCell, Cell}
 use Rattle.abs_value.specs.declared.state.AbsState.{AbsState}
 use Rattle.abs_value.specs.Numbers.{single}
 use Rattle.abs_value.specs.Values.{is_unusable}
 use Rattle.abs_value.specs.States.{value_of, with_value}
 use Rattle.abs_value.specs.Covers.{IsWord, Includes, IsStoodFor}
 use Rattle.bpf_rules.specs.Reads.{load_access, store_access}
-use Rattle.bpf_rules.specs.Memory.{lies_in, is_outside, changes_context, is_no_address, reaches_quota, stack_place, meets_unset}
+use Rattle.bpf_rules.specs.Memory.{lies_in, is_outside, changes_context, is_no_address}
+use Rattle.bpf_rules.specs.Memory.{reaches_quota, stack_place, meets_unset}
 use Rattle.bpf_rules.specs.Transfer.{edge_to, loaded_at, stored_at, edges}
 use Rattle.bpf_rules.specs.Sound.{IsSafe}
 use Rattle.bpf_rules.proofs.Given.{Given}
@@ -125,7 +127,7 @@ store_imm_safe given shape e s size dst offset imm fits f g h ok =
     a.number (immediate Bits64 imm) h fits f u ok.inside ok.context ok.address
     (and_true (reaches_quota shape (store_access size dst offset) (value_of e dst)) ok.quota)
     a.included (imm_word Bits64 imm g)
-    (record { between = (omega arith, omega arith); word = imm_word Bits64 imm g }))
+    (given.single (immediate Bits64 imm) (imm_word Bits64 imm g)))
 
 pub store_safe : (given : Given) (shape : AppShape) (e : AbsState) (s : State) (size : Size)
     (dst src : Reg) (offset : ℤ) → IsShape shape → FitsSigned w16 offset → HasWords s

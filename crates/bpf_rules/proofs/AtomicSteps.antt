@@ -1,5 +1,6 @@
 -- Atomic operations: where no rule fails their address is a cell's.
-use Rattle.std.proofs.Common.{◌≡◌, ℕ, ◌+◌, ◌*◌, ◌^◌, ◌<◌, ℤ, [], ◌∷◌, Option, Some, None, Bool, true, false, refl, sym, subst, arith, inl, inr}
+use Rattle.std.proofs.Common.{◌≡◌, ℕ, ◌+◌, ◌-◌, ◌*◌, ◌^◌, ◌<◌, ℤ, [], ◌∷◌, Option, Some, None}
+use Rattle.std.proofs.Common.{Bool, true, false, refl, sym, subst, arith, inl, inr}
 use Rattle.std.specs.Prelude.{◌&&◌, ◌||◌, not}
 use Rattle.std.specs.List.{list_any}
 use Rattle.std.proofs.lemmas.Bool.{cases_Bool}
@@ -20,13 +21,15 @@ use Rattle.abs_value.specs.bpf_semantics.Counters.{cut, atomic_count, cell_op, e
 use Rattle.abs_value.specs.bpf_semantics.Step.{act}
 use Rattle.abs_value.specs.declared.origin.Origin.{Origin}
 use Rattle.abs_value.specs.declared.value.Abs.{Abs}
-use Rattle.abs_value.specs.declared.value.Abs.TheVariants.{Unusable, Num, Ctx, Stk, Map, MayCell, Cell}
+use Rattle.abs_value.specs.declared.value.Abs.TheVariants.{Unusable, Num, Ctx}
+use Rattle.abs_value.specs.declared.value.Abs.TheVariants.{Stk, Map, MayCell, Cell}
 use Rattle.abs_value.specs.declared.state.AbsState.{AbsState}
 use Rattle.abs_value.specs.Values.{is_unusable}
 use Rattle.abs_value.specs.States.{value_of}
 use Rattle.abs_value.specs.Covers.{Answers, Includes, IsStoodFor}
 use Rattle.bpf_rules.specs.Arrays.{has_quota}
-use Rattle.bpf_rules.specs.Memory.{changes_context, is_no_address, exchanges_stack, reaches_quota, is_outside}
+use Rattle.bpf_rules.specs.Memory.{changes_context, is_no_address}
+use Rattle.bpf_rules.specs.Memory.{exchanges_stack, reaches_quota, is_outside}
 use Rattle.bpf_rules.specs.Reads.{compared_register, atomic_access}
 use Rattle.bpf_rules.specs.Rules.{is_frame, is_one, leaves_quota}
 use Rattle.bpf_rules.specs.Sound.{KeepsQuota, IsLawful, IsSafe}
@@ -72,17 +75,17 @@ replies atomic.FetchXor r0 v c reply fits = fits
 replies atomic.Exchange r0 v c reply fits = fits
 replies atomic.CompareExchange r0 v c reply fits = fits
 
-fetched_included : (g : Answers) (size : AtomicSize) (c reply : ℕ)
+fetched_included : (given : Given) (g : Answers) (size : AtomicSize) (c reply : ℕ)
     → 8 * atomic_count size ≡ width c → reply < 2 ^ width c → Includes g (fetched_value size) reply
-fetched_included g size c reply wide fits =
+fetched_included given g size c reply wide fits =
     by_size size (subst (λ (n : ℕ). reply < 2 ^ n) (sym wide) fits)
   where
     by_size : (size : AtomicSize) → reply < 2 ^ (8 * atomic_count size)
         → Includes g (fetched_value size) reply
     by_size Word fits =
-        record { between = (omega arith, omega (arith, fits)); word = omega (arith, fits) }
+        given.up_to (2 ^ 32 - 1) reply (omega (arith, fits)) (omega (arith, fits))
     by_size Double fits =
-        record { between = (omega arith, omega (arith, fits)); word = omega (arith, fits) }
+        given.up_to (2 ^ 64 - 1) reply (omega (arith, fits)) (omega (arith, fits))
 
 -- ---- operands
 
@@ -203,5 +206,5 @@ atomic_safe given shape e s op size dst src offset h shaped ok =
     v.number whole.place base.is ok.quota v.included in
     rw (address.is, whole.at, v.compared_is, v.is) (into given shape e s whole.place.cell does
     (fetched op src) (fetched_value size) h ok.frame allowed
-    (λ reply fits. fetched_included (answers h) size whole.place.cell reply whole.wide
+    (λ reply fits. fetched_included given (answers h) size whole.place.cell reply whole.wide
     (replies op r0 (cut (atomic_count size) v.number) whole.place.cell reply fits)))

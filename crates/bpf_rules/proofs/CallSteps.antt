@@ -1,5 +1,6 @@
 -- Calls: where no rule fails the helper is there and gives a result, which R0 stands for.
-use Rattle.std.proofs.Common.{◌≡◌, ℕ, ◌+◌, ◌-◌, ◌≤◌, min, ℤ, pos, negsuc, ◌+ℤ◌, List, Option, Some, None, Bool, true, false, refl, ap, arith}
+use Rattle.std.proofs.Common.{◌≡◌, ℕ, ◌+◌, ◌-◌, ◌≤◌, min, ℤ, pos, negsuc, ◌+ℤ◌, List}
+use Rattle.std.proofs.Common.{Option, Some, None, Bool, true, false, refl, ap, arith}
 use Rattle.std.specs.Prelude.{IsSome, slice_get, nat_lt, nat_le, ◌==◌, ◌&&◌, ◌||◌, if◌then◌else◌}
 use Rattle.std.specs.List.{list_any}
 use Rattle.std.proofs.lemmas.Bool.{leb-true}
@@ -9,14 +10,16 @@ use Rattle.bpf_insn.specs.declared.insn.Insn.TheVariants.{Call}
 use Rattle.bpf_insn.specs.Program.{◌>>=◌}
 use Rattle.cells.specs.declared.array.CellArray.{CellArray}
 use Rattle.cells.specs.Arrays.{AppShape}
-use Rattle.abs_value.specs.bpf_semantics.Memory.{cell_address, map_start, stack_size, stack_start, is_in_stack, set_bytes}
+use Rattle.abs_value.specs.bpf_semantics.Memory.{cell_address, map_start, stack_size}
+use Rattle.abs_value.specs.bpf_semantics.Memory.{stack_start, is_in_stack, set_bytes}
 use Rattle.abs_value.specs.bpf_semantics.State.{State, HasWords, with_result}
 use Rattle.abs_value.specs.bpf_semantics.Reads.{only}
 use Rattle.abs_value.specs.bpf_semantics.Calls.{array_of, lookup, compared, helper_result}
 use Rattle.abs_value.specs.bpf_semantics.Outcome.{moved_to}
 use Rattle.abs_value.specs.bpf_semantics.Step.{act}
 use Rattle.abs_value.specs.declared.value.Abs.{Abs}
-use Rattle.abs_value.specs.declared.value.Abs.TheVariants.{Unusable, Num, Ctx, Stk, Map, MayCell, Cell}
+use Rattle.abs_value.specs.declared.value.Abs.TheVariants.{Unusable, Num, Ctx}
+use Rattle.abs_value.specs.declared.value.Abs.TheVariants.{Stk, Map, MayCell, Cell}
 use Rattle.abs_value.specs.declared.state.AbsState.{AbsState}
 use Rattle.abs_value.specs.Numbers.{is_single, least}
 use Rattle.abs_value.specs.Values.{is_unusable, is_number}
@@ -32,7 +35,8 @@ use Rattle.bpf_rules.specs.Rules.{compares_unset, is_map, is_stack_text, takes}
 use Rattle.bpf_rules.specs.Sound.{IsSafe}
 use Rattle.bpf_rules.specs.Transfer.{edges}
 use Rattle.bpf_rules.proofs.Given.{Given}
-use Rattle.bpf_rules.proofs.Passes.{Passes, true_and, not_false, one_usable, two_usable, three_usable}
+use Rattle.bpf_rules.proofs.Passes.{Passes, true_and, not_false}
+use Rattle.bpf_rules.proofs.Passes.{one_usable, two_usable, three_usable}
 use Rattle.bpf_rules.proofs.Outcomes.{answers, leads, moved_covers}
 use Rattle.bpf_rules.proofs.CellSteps.{there}
 

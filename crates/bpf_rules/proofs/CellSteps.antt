@@ -1,5 +1,6 @@
 -- Loads and stores through the address of a cell.
-use Rattle.std.proofs.Common.{◌≡◌, ℕ, ◌+◌, ◌*◌, ◌^◌, ◌<◌, ℤ, [], ◌∷◌, Some, Bool, true, false, refl, sym, subst, arith}
+use Rattle.std.proofs.Common.{◌≡◌, ℕ, ◌+◌, ◌-◌, ◌*◌, ◌^◌, ◌<◌, ℤ, [], ◌∷◌, Some}
+use Rattle.std.proofs.Common.{Bool, true, false, refl, sym, subst, arith}
 use Rattle.std.specs.Prelude.{is_some, ◌==◌, ◌&&◌, not}
 use Rattle.bpf_insn.specs.declared.reg.Reg.{Reg}
 use Rattle.bpf_insn.specs.declared.operand.LoadKind.{LoadKind}
@@ -106,22 +107,22 @@ load_cell_is kinds.Half x offset c sign wide at = absurd (grind (arith, wide))
 load_cell_is kind x offset c sign wide at = absurd cc
 
 -- a reply is one of the numbers of the load's width
-reply_included : (g : Answers) (kind : LoadKind) (c reply : ℕ)
+reply_included : (given : Given) (g : Answers) (kind : LoadKind) (c reply : ℕ)
     → extends_sign (load_use kind) ≡ false → 8 * load_count kind ≡ width c → reply < 2 ^ width c
     → Includes g (loaded_value kind) reply
-reply_included g kind c reply sign wide fits =
+reply_included given g kind c reply sign wide fits =
     by_kind kind sign (subst (λ (n : ℕ). reply < 2 ^ n) (sym wide) fits)
   where
     by_kind : (kind : LoadKind) → extends_sign (load_use kind) ≡ false
         → reply < 2 ^ (8 * load_count kind) → Includes g (loaded_value kind) reply
     by_kind kinds.Byte sign fits =
-        record { between = (omega arith, omega (arith, fits)); word = omega (arith, fits) }
+        given.up_to (2 ^ 8 - 1) reply (omega (arith, fits)) (omega (arith, fits))
     by_kind kinds.Half sign fits =
-        record { between = (omega arith, omega (arith, fits)); word = omega (arith, fits) }
+        given.up_to (2 ^ 16 - 1) reply (omega (arith, fits)) (omega (arith, fits))
     by_kind kinds.Word sign fits =
-        record { between = (omega arith, omega (arith, fits)); word = omega (arith, fits) }
+        given.up_to (2 ^ 32 - 1) reply (omega (arith, fits)) (omega (arith, fits))
     by_kind kinds.Double sign fits =
-        record { between = (omega arith, omega (arith, fits)); word = omega (arith, fits) }
+        given.up_to (2 ^ 64 - 1) reply (omega (arith, fits)) (omega (arith, fits))
     by_kind kind sign fits = absurd cc
 
 pub cell_load_safe : (given : Given) (shape : AppShape) (e : AbsState) (s : State) (kind : LoadKind)
@@ -137,7 +138,7 @@ cell_load_safe given shape e s kind dst base offset origin x h shaped is inside 
     rw reached (fetch_safe given shape e s whole.place.cell cell.Load dst
     (loaded_value kind) h frame (lawful_by shape origin x cell.Load whole.place tt)
     (λ reply fits.
-    reply_included (answers h) kind whole.place.cell reply whole.sign whole.wide fits))
+    reply_included given (answers h) kind whole.place.cell reply whole.sign whole.wide fits))
 
 -- ---- stores
 

@@ -1,5 +1,6 @@
 -- Arithmetic leads to a state that is stood for.
-use Rattle.std.proofs.Common.{◌≡◌, ℕ, ℤ, pos, negsuc, Option, Some, false, refl, subst, arith, FitsSigned}
+use Rattle.std.proofs.Common.{◌≡◌, ℕ, ℤ, pos, negsuc, Option}
+use Rattle.std.proofs.Common.{Some, false, refl, subst, arith, FitsSigned}
 use Rattle.std.specs.Prelude.{◌||◌}
 use Rattle.std.specs.Int.{w32}
 use Rattle.std.specs.List.{list_any}
@@ -23,7 +24,8 @@ use Rattle.abs_value.specs.bpf_semantics.State.{State, HasWords}
 use Rattle.abs_value.specs.bpf_semantics.Reads.{register, operand, both, only}
 use Rattle.abs_value.specs.bpf_semantics.Step.{act}
 use Rattle.abs_value.specs.declared.state.AbsState.{AbsState}
-use Rattle.abs_value.specs.Values.{is_unusable, alu_value, copied_value, negated_value, extended_value, reordered_value}
+use Rattle.abs_value.specs.Values.{is_unusable, alu_value, copied_value}
+use Rattle.abs_value.specs.Values.{negated_value, extended_value, reordered_value}
 use Rattle.abs_value.specs.States.{value_of, operand_value}
 use Rattle.abs_value.specs.Covers.{IsWord, FitsImm, IsStoodFor}
 use Rattle.abs_value.specs.Laws.{IsThere}

@@ -1,5 +1,6 @@
 -- A load within the context reads a number of its width.
-use Rattle.std.proofs.Common.{◌≡◌, ℕ, zero, suc, ◌+◌, ◌-◌, ◌*◌, ◌^◌, ◌<◌, ◌≤◌, List, [], ◌∷◌, ◌++◌, length, take, drop, replicate, Some, true, refl, arith}
+use Rattle.std.proofs.Common.{◌≡◌, ℕ, zero, suc, ◌+◌, ◌-◌, ◌*◌, ◌^◌, ◌<◌, ◌≤◌, List, [], ◌∷◌, ◌++◌}
+use Rattle.std.proofs.Common.{length, take, drop, replicate, Some, true, refl, arith}
 use Rattle.std.specs.Prelude.{slice_index, nat_le}
 use Rattle.std.specs.Int.{w16, w32, to_le_bytes, bytes_low_first, byte_at}
 use Rattle.std.proofs.Math.Nat.{pow-succ'}

@@ -1,5 +1,9 @@
 -- The laws of abs_value that the proofs stand on.
-use Rattle.abs_value.specs.Laws.{IncludesResults, IncludesCopies, IncludesNegations, IncludesExtensions, IncludesReorderings, IncludesLoaded, RegistersAreThere, OperandsAreThere, CoversWrites, CoversEdges, CoversCalls, CoversStores, CoversLoads, StaysBefore, AnswersBefore, BytesAreThere}
+use Rattle.abs_value.specs.Laws.{IncludesResults, IncludesCopies, IncludesNegations}
+use Rattle.abs_value.specs.Laws.{IncludesExtensions, IncludesReorderings, IncludesLoaded}
+use Rattle.abs_value.specs.Laws.{IncludesSingle, IncludesUpTo, RegistersAreThere, OperandsAreThere}
+use Rattle.abs_value.specs.Laws.{CoversWrites, CoversEdges, CoversCalls, CoversStores}
+use Rattle.abs_value.specs.Laws.{CoversLoads, StaysBefore, AnswersBefore, BytesAreThere}
 
 pub record Given : Type 0 where
   pub registers : RegistersAreThere
@@ -15,6 +19,8 @@ pub record Given : Type 0 where
   pub extensions : IncludesExtensions
   pub reorderings : IncludesReorderings
   pub loaded : IncludesLoaded
+  pub single : IncludesSingle
+  pub up_to : IncludesUpTo
   pub edges : CoversEdges
   pub stores : CoversStores
   pub loads : CoversLoads

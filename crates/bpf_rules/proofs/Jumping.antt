@@ -1,5 +1,6 @@
 -- Jumps, and the end of a run: the edge that the run takes isn't dropped, and stands for its state.
-use Rattle.std.proofs.Common.{◌≡◌, ℕ, ◌+◌, ◌≤◌, ℤ, pos, negsuc, ◌≤ℤ◌, List, [], ◌∷◌, ◌++◌, Option, Some, None, Bool, true, false, refl, arith}
+use Rattle.std.proofs.Common.{◌≡◌, ℕ, ◌+◌, ◌≤◌, ℤ, pos, negsuc, ◌≤ℤ◌, List, [], ◌∷◌, ◌++◌}
+use Rattle.std.proofs.Common.{Option, Some, None, Bool, true, false, refl, arith}
 use Rattle.std.specs.Prelude.{not}
 use Rattle.std.specs.List.{list_any}
 use Rattle.std.proofs.lemmas.Int.{ints}
@@ -91,7 +92,8 @@ not_taken false h = refl
 
 pub jump_if_safe : (given : Given) (shape : AppShape) (e : AbsState) (s : State) (bits : Bits)
     (condition : Condition) (left : Reg) (right : Operand) (offset : ℤ) → pos 0 ≤ℤ offset
-    → FitsImm right → IsStoodFor shape e s → Passes shape e (JumpIf bits condition left right offset)
+    → FitsImm right → IsStoodFor shape e s
+    → Passes shape e (JumpIf bits condition left right offset)
     → IsSafe shape (edges shape s.slot e (JumpIf bits condition left right offset))
     (act shape s (JumpIf bits condition left right offset))
 unfolding edges
@@ -100,7 +102,8 @@ jump_if_safe given shape e s bits condition left right offset forward f h ok =
     (list_any (λ r. is_unusable (value_of e r)) (operand_register right))
     (false_or _ false ok.usable).0 in
     let a = given.registers (answers h) e s (number_of left) h.covers u.0 in
-    let b = given.operands (answers h) e s bits right f h.covers (operand_usable e bits right u.1) in
+    let b = given.operands (answers h) e s bits right f h.covers
+    (operand_usable e bits right u.1) in
     branch_safe given shape e s offset (refined_state e bits condition left right true)
     (refined_state e bits condition left right false) _
     (holds bits condition a.number b.number) h forward

@@ -6,7 +6,10 @@ use Rattle.cells.specs.Arrays.{AppShape}
 use Rattle.abs_value.specs.declared.state.AbsState.{AbsState}
 use Rattle.bpf_rules.specs.declared.refusal.Rule.{Rule}
 use Rattle.bpf_rules.specs.declared.refusal.Rule.TheVariants as rule
-use Rattle.bpf_rules.specs.Rules.{reads_unusable, writes_frame, computes_pointer, moves_outside, compares_pointer, accesses_outside, stores_pointer, writes_context, has_no_address, misuses_helper, names_no_array, exchanges_in_stack, wrong_result, breaks_quota, first_rule}
+use Rattle.bpf_rules.specs.Rules.{reads_unusable, writes_frame, computes_pointer, moves_outside}
+use Rattle.bpf_rules.specs.Rules.{compares_pointer, accesses_outside, stores_pointer}
+use Rattle.bpf_rules.specs.Rules.{writes_context, has_no_address, misuses_helper, names_no_array}
+use Rattle.bpf_rules.specs.Rules.{exchanges_in_stack, wrong_result, breaks_quota, first_rule}
 
 pub record Passes (shape : AppShape) (e : AbsState) (i : Insn) : Type 0 where
   pub usable : reads_unusable e i ≡ false

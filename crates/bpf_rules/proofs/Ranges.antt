@@ -6,7 +6,8 @@ use Rattle.bpf_insn.specs.declared.operand.WideValue.{WideValue}
 use Rattle.bpf_insn.specs.declared.operand.WideValue.TheVariants as wide
 use Rattle.bpf_insn.specs.declared.reg.Reg.{Reg}
 use Rattle.bpf_insn.specs.declared.insn.Insn.{Insn}
-use Rattle.bpf_insn.specs.declared.insn.Insn.TheVariants.{Alu, Mov, MovSx, Neg, End, JumpIf, Call, Load, StoreImm, Store, Atomic, Wide}
+use Rattle.bpf_insn.specs.declared.insn.Insn.TheVariants.{Alu, Mov, MovSx, Neg, End, JumpIf, Call}
+use Rattle.bpf_insn.specs.declared.insn.Insn.TheVariants.{Load, StoreImm, Store, Atomic, Wide}
 use Rattle.bpf_insn.specs.declared.operand.Bits.TheVariants.{Bits64}
 use Rattle.bpf_insn.specs.Table.{number_of}
 use Rattle.bpf_insn.specs.Words.{immediate}
@@ -19,12 +20,17 @@ use Rattle.abs_value.specs.declared.value.Abs.{Abs}
 use Rattle.abs_value.specs.declared.value.Abs.TheVariants.{Num, Map}
 use Rattle.abs_value.specs.declared.state.AbsState.{AbsState}
 use Rattle.abs_value.specs.Numbers.{single}
-use Rattle.abs_value.specs.Values.{or_unusable, alu_value, copied_value, negated_value, extended_value, reordered_value}
+use Rattle.abs_value.specs.Values.{or_unusable, alu_value, copied_value}
+use Rattle.abs_value.specs.Values.{negated_value, extended_value, reordered_value}
 use Rattle.abs_value.specs.States.{value_of, operand_value}
-use Rattle.abs_value.specs.Order.{IsInOrder, IsStateInOrder, ResultsInOrder, CopiesInOrder, NegationsInOrder, ExtensionsInOrder, ReorderingsInOrder, LoadedInOrder, OperandsInOrder, WritesInOrder, StoresInOrder, LoadsInOrder, RefinedInOrder, CalledInOrder}
+use Rattle.abs_value.specs.Order.{IsInOrder, IsStateInOrder, ResultsInOrder, CopiesInOrder}
+use Rattle.abs_value.specs.Order.{NegationsInOrder, ExtensionsInOrder, ReorderingsInOrder}
+use Rattle.abs_value.specs.Order.{LoadedInOrder, OperandsInOrder, WritesInOrder}
+use Rattle.abs_value.specs.Order.{StoresInOrder, LoadsInOrder, RefinedInOrder, CalledInOrder}
 use Rattle.bpf_rules.specs.Arrays.{cell_behind, fixed_cell, wide_abs}
 use Rattle.bpf_rules.specs.Memory.{stack_place}
-use Rattle.bpf_rules.specs.Transfer.{loaded_at, stored_at, fetched_value, with_fetched, after, jumping, going_on}
+use Rattle.bpf_rules.specs.Transfer.{loaded_at, stored_at, fetched_value}
+use Rattle.bpf_rules.specs.Transfer.{with_fetched, after, jumping, going_on}
 
 -- the laws of abs_value that this stands on
 pub record Ranges : Type 0 where

@@ -1,5 +1,7 @@
 -- Loads and stores of context and stack lead to a state that is stood for.
-use Rattle.std.proofs.Common.{◌≡◌, ℕ, suc, ◌+◌, ◌-◌, ◌<◌, ◌≤◌, ℤ, pos, negsuc, [], ◌∷◌, Option, Some, None, Bool, true, false, refl, sym, ap, subst, ◌∙◌, arith, FitsSigned}
+use Rattle.std.proofs.Common.{◌≡◌, ℕ, suc, ◌+◌, ◌-◌, ◌<◌, ◌≤◌}
+use Rattle.std.proofs.Common.{ℤ, pos, negsuc, [], ◌∷◌, Option, Some, None}
+use Rattle.std.proofs.Common.{Bool, true, false, refl, sym, ap, subst, ◌∙◌, arith, FitsSigned}
 use Rattle.std.specs.Prelude.{◌+ℤ◌, unsigned_abs, ◌==◌, if◌then◌else◌}
 use Rattle.std.specs.Int.{w16}
 use Rattle.std.proofs.lemmas.Int.{ints}
@@ -10,7 +12,9 @@ use Rattle.bpf_insn.specs.declared.operand.Size.{Size}
 use Rattle.bpf_insn.specs.declared.reg.Reg.{Reg}
 use Rattle.bpf_insn.specs.Table.{number_of}
 use Rattle.cells.specs.Arrays.{AppShape}
-use Rattle.abs_value.specs.bpf_semantics.Memory.{context_start, context_size, stack_start, stack_size, cell_start, cell_number, is_cell_address, cell_at, address_of, is_in_stack}
+use Rattle.abs_value.specs.bpf_semantics.Memory.{context_start, context_size, stack_start}
+use Rattle.abs_value.specs.bpf_semantics.Memory.{stack_size, cell_start, cell_number}
+use Rattle.abs_value.specs.bpf_semantics.Memory.{is_cell_address, cell_at, address_of, is_in_stack}
 use Rattle.abs_value.specs.bpf_semantics.Counters.{load_cell}
 use Rattle.abs_value.specs.bpf_semantics.State.{State, HasWords, read_at, written_at, with_bytes}
 use Rattle.abs_value.specs.bpf_semantics.Outcome.{moved, moved_to}

@@ -1,5 +1,6 @@
 -- The edge of a conditional jump is taken back: what it compares has its values again.
-use Rattle.std.proofs.Common.{◌≡◌, ◌≢◌, ℕ, List, Option, Some, None, Bool, true, false, refl, sym, ap, ◌∙◌, get_or, set, inl, inr}
+use Rattle.std.proofs.Common.{◌≡◌, ◌≢◌, ℕ, List, Option, Some, None}
+use Rattle.std.proofs.Common.{Bool, true, false, refl, sym, ap, ◌∙◌, get_or, set, inl, inr}
 use Rattle.std.specs.Prelude.{option_map, ◌&&◌, if◌then◌else◌}
 use Rattle.std.proofs.lemmas.Bool.{cases_eq}
 use Rattle.std.proofs.lemmas.List.{set-get_or, set-set, set_comm}
@@ -11,11 +12,13 @@ use Rattle.bpf_insn.specs.declared.operand.Operand.{Operand}
 use Rattle.bpf_insn.specs.declared.operand.Operand.TheVariants.{Imm, Register}
 use Rattle.bpf_insn.specs.Table.{number_of}
 use Rattle.abs_value.specs.declared.value.Abs.{Abs}
-use Rattle.abs_value.specs.declared.value.Abs.TheVariants.{Unusable, Num, Ctx, Stk, Map, MayCell, Cell}
+use Rattle.abs_value.specs.declared.value.Abs.TheVariants.{Unusable, Num, Ctx}
+use Rattle.abs_value.specs.declared.value.Abs.TheVariants.{Stk, Map, MayCell, Cell}
 use Rattle.abs_value.specs.declared.state.AbsState.{AbsState}
 use Rattle.abs_value.specs.Values.{is_pointer}
 use Rattle.abs_value.specs.States.{value_of, operand_value}
-use Rattle.abs_value.specs.Lookups.{with_both, refined_state, after_null_check, compares_with_zero, is_found, is_register}
+use Rattle.abs_value.specs.Lookups.{with_both, refined_state, after_null_check}
+use Rattle.abs_value.specs.Lookups.{compares_with_zero, is_found, is_register}
 use Rattle.bpf_rules.specs.Rules.{is_lookup}
 
 -- ---- a list of which two elements were set

@@ -1,5 +1,6 @@
 -- Wide loads: where no rule fails the array and the cell that they name are there.
-use Rattle.std.proofs.Common.{◌≡◌, ℕ, ◌+◌, ◌/◌, ◌%◌, ◌<◌, ◌≤◌, pos, negsuc, Option, Some, None, false, refl, arith, inl, inr}
+use Rattle.std.proofs.Common.{◌≡◌, ℕ, ◌+◌, ◌/◌, ◌%◌, ◌<◌, ◌≤◌, pos, negsuc}
+use Rattle.std.proofs.Common.{Option, Some, None, false, refl, arith, inl, inr}
 use Rattle.std.specs.Prelude.{IsSome, is_none, option_map, slice_get, nat_lt, ◌==◌, ◌&&◌}
 use Rattle.std.proofs.lemmas.Bool.{cases_Bool}
 use Rattle.bpf_insn.specs.declared.reg.Reg.{Reg}
@@ -86,26 +87,28 @@ cell_loads : (g : Answers) (i n : ℕ) (o : Option CellArray)
 cell_loads g i n None shaped e known = absurd cc
 cell_loads g i n (Some a) shaped e known = behind g i n a (array_is g.shape i a shaped e) e known
 
-wide_loads : (g : Answers) (value : WideValue) → IsWideNumber value
+wide_loads : (given : Given) (g : Answers) (value : WideValue) → IsWideNumber value
     → IsShape g.shape → is_none (wide_abs g.shape value) ≡ false
     → Loads g (wide_abs g.shape value) (wide_value g.shape value)
-wide_loads g (wide.Number n) w shaped known = record {
+wide_loads given g (wide.Number n) w shaped known = record {
   number = n;
   is = refl;
-  included = record { between = (omega arith, omega arith); word = w };
+  included = given.single n w;
 }
-wide_loads g (wide.Map (pos i)) w shaped known = map_loads g i (slice_get g.shape.arrays i) refl known
-wide_loads g (wide.Map (negsuc i)) w shaped known = absurd cc
-wide_loads g (wide.Cell (pos i) (pos n)) w shaped known =
+wide_loads given g (wide.Map (pos i)) w shaped known =
+    map_loads g i (slice_get g.shape.arrays i) refl known
+wide_loads given g (wide.Map (negsuc i)) w shaped known = absurd cc
+wide_loads given g (wide.Cell (pos i) (pos n)) w shaped known =
     cell_loads g i n (slice_get g.shape.arrays i) shaped refl known
-wide_loads g (wide.Cell (pos i) (negsuc n)) w shaped known = absurd cc
-wide_loads g (wide.Cell (negsuc i) offset) w shaped known = absurd cc
+wide_loads given g (wide.Cell (pos i) (negsuc n)) w shaped known = absurd cc
+wide_loads given g (wide.Cell (negsuc i) offset) w shaped known = absurd cc
 
 pub wide_safe : (given : Given) (shape : AppShape) (e : AbsState) (s : State) (dst : Reg)
-    (value : WideValue) → IsWideNumber value → IsStoodFor shape e s → IsShape shape → Passes shape e (Wide dst value)
+    (value : WideValue) → IsWideNumber value → IsStoodFor shape e s → IsShape shape
+    → Passes shape e (Wide dst value)
     → IsSafe shape (edges shape s.slot e (Wide dst value)) (act shape s (Wide dst value))
 unfolding edges
 wide_safe given shape e s dst value w h shaped ok =
-    let loads = wide_loads (answers h) value w shaped ok.array in
+    let loads = wide_loads given (answers h) value w shaped ok.array in
     write_safe given shape e s 2 dst (or_unusable (wide_abs shape value))
     (wide_value shape value) loads.number h ok.frame loads.is loads.included

@@ -1,5 +1,6 @@
 -- Of all that is known where an instruction begins the ends are in order: so each entry is made.
-use Rattle.std.proofs.Common.{◌≡◌, ℕ, zero, suc, List, [], ◌∷◌, ◌++◌, Option, Some, None, IfSome, Bool, true, false, subst}
+use Rattle.std.proofs.Common.{◌≡◌, ℕ, zero, suc, List, [], ◌∷◌, ◌++◌}
+use Rattle.std.proofs.Common.{Option, Some, None, IfSome, Bool, true, false, subst}
 use Rattle.std.specs.Prelude.{if◌then◌else◌, ◌==◌}
 use Rattle.std.proofs.lemmas.Option.{same_Some, none-some}
 use Rattle.bpf_insn.specs.declared.insn.Insn.{Insn}
@@ -12,7 +13,8 @@ use Rattle.bpf_rules.specs.abs_value.States.{join_states, opening_state}
 use Rattle.bpf_rules.specs.abs_value.Order.{IsStateInOrder, OpeningInOrder, StateJoinsInOrder}
 use Rattle.bpf_rules.specs.Transfer.{Edge, edge, edges, jumping, going_on, next_target}
 use Rattle.bpf_rules.specs.Sound.{JumpingInOrder, GoingOnInOrder}
-use Rattle.bpf_verify.specs.Accepted.{to_place, joined, join_all, edges_of, incoming, entry_of, HasEndsInOrder}
+use Rattle.bpf_verify.specs.Accepted.{to_place, joined, join_all, edges_of}
+use Rattle.bpf_verify.specs.Accepted.{incoming, entry_of, HasEndsInOrder}
 
 AllHave : List AbsState → Type 0
 AllHave [] = Unit {0}

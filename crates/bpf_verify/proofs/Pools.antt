@@ -1,14 +1,18 @@
 -- A pool stays one where an entry is put into it, or given up.
-use Rattle.std.proofs.Common.{◌≡◌, ◌≢◌, ℕ, zero, suc, ◌+◌, ◌<◌, ◌≤◌, List, [], ◌∷◌, ◌++◌, length, replicate, Option, Some, None, true, false, refl, sym, ap, ◌∙◌, arith, inl, inr}
+use Rattle.std.proofs.Common.{◌≡◌, ◌≢◌, ℕ, zero, suc, ◌+◌, ◌<◌, ◌≤◌}
+use Rattle.std.proofs.Common.{List, [], ◌∷◌, ◌++◌, length, replicate}
+use Rattle.std.proofs.Common.{Option, Some, None, true, false, refl, sym, ap, ◌∙◌, arith, inl, inr}
 use Rattle.std.specs.Prelude.{◌⊎◌, ◌==◌, is_some, slice_get, slice_set}
 use Rattle.std.proofs.Math.ListN.{get_or-map}
 use Rattle.std.proofs.lemmas.Bool.{cases_Bool, cases_lt}
-use Rattle.std.proofs.lemmas.List.{length-map, length-set, get_or-replicate, get_or_past, length-replicate}
+use Rattle.std.proofs.lemmas.List.{length-map, length-set, get_or-replicate}
+use Rattle.std.proofs.lemmas.List.{get_or_past, length-replicate}
 use Rattle.std.proofs.lemmas.Option.{same_Some, none-some}
 use Rattle.bpf_rules.specs.abs_value.declared.state.AbsState.{AbsState}
 use Rattle.bpf_verify.specs.Count.{count}
 use Rattle.bpf_verify.specs.Pool.{waits_at, held, entry_in, waiting, index_at, IsPool}
-use Rattle.bpf_verify.proofs.Lists.{get-end, get-cases, length-append-one, get-within, get-longer, index-set_same, index-set_other, index_within}
+use Rattle.bpf_verify.proofs.Lists.{get-end, get-cases, length-append-one, get-within}
+use Rattle.bpf_verify.proofs.Lists.{get-longer, index-set_same, index-set_other, index_within}
 use Rattle.bpf_verify.proofs.Counts.{count_more, count_same, count_none, count_length}
 
 -- ---- what waits

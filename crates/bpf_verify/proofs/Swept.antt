@@ -1,5 +1,7 @@
 -- One sweep over the places computes their entries.
-use Rattle.std.proofs.Common.{◌≡◌, ◌≢◌, ℕ, zero, suc, ◌+◌, ◌-◌, ◌<◌, ◌≤◌, List, ◌++◌, length, Option, Some, None, Bool, true, false, refl, sym, ap, subst, ◌∙◌, arith, inl, inr}
+use Rattle.std.proofs.Common.{◌≡◌, ◌≢◌, ℕ, zero, suc, ◌+◌, ◌-◌, ◌<◌, ◌≤◌}
+use Rattle.std.proofs.Common.{List, ◌++◌, length, Option, Some, None}
+use Rattle.std.proofs.Common.{Bool, true, false, refl, sym, ap, subst, ◌∙◌, arith, inl, inr}
 use Rattle.std.specs.Prelude.{◌⊎◌, IsSome, is_some, ◌==◌, ◌&&◌, nat_lt, max, if◌then◌else◌}
 use Rattle.std.proofs.lemmas.Bool.{cases_Bool, cases_lt}
 use Rattle.std.proofs.lemmas.Option.{none-some}
@@ -13,11 +15,13 @@ use Rattle.bpf_rules.specs.Transfer.{Edge, edge}
 use Rattle.bpf_verify.specs.Count.{count}
 use Rattle.bpf_verify.specs.Pool.{Waiting, waits_at, held, IsChanged}
 use Rattle.bpf_verify.specs.Accepted.{join_all, edges_of, incoming, entry_of, IsFine}
-use Rattle.bpf_verify.specs.Kept.{jumps_to, ahead, most_ahead, jump_edges, awaited, kept, greatest_kept}
+use Rattle.bpf_verify.specs.Kept.{jumps_to, ahead, most_ahead, jump_edges}
+use Rattle.bpf_verify.specs.Kept.{awaited, kept, greatest_kept}
 use Rattle.bpf_verify.specs.Sweep.{arrived, IsAdded, IsAwaited, IsSwept}
 use Rattle.bpf_verify.proofs.Counts.{count_same, count_within}
 use Rattle.bpf_verify.proofs.Places.{next_at, between, after}
-use Rattle.bpf_verify.proofs.Joining.{with_edges, with_edges-to_place, with_edges-append, past, added_is, waits_cases, IsMost, added_most, added_len}
+use Rattle.bpf_verify.proofs.Joining.{with_edges, with_edges-to_place, with_edges-append, past}
+use Rattle.bpf_verify.proofs.Joining.{added_is, waits_cases, IsMost, added_most, added_len}
 
 -- ---- targets
 

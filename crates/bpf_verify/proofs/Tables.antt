@@ -1,5 +1,7 @@
 -- A program with a table is accepted: what comes to a place knows at least what the table says.
-use Rattle.std.proofs.Common.{◌≡◌, ℕ, zero, suc, ◌/◌, ◌%◌, ◌<◌, List, [], ◌∷◌, ◌++◌, Option, Some, None, Bool, true, false, refl, sym, ap, subst, ◌∙◌, arith, inl, inr, length, map}
+use Rattle.std.proofs.Common.{◌≡◌, ℕ, zero, suc, ◌/◌, ◌%◌, ◌<◌, ◌≤◌, List, [], ◌∷◌, ◌++◌}
+use Rattle.std.proofs.Common.{Option, Some, None, Bool, true, false, refl, sym}
+use Rattle.std.proofs.Common.{ap, subst, ◌∙◌, arith, inl, inr, length, map}
 use Rattle.std.specs.Prelude.{◌==◌, if◌then◌else◌, bit_and}
 use Rattle.std.specs.Int.{bit_at}
 use Rattle.std.specs.List.{AllByRecursion, range_with_len}
@@ -12,20 +14,29 @@ use Rattle.bpf_insn.specs.Program.{Program, at}
 use Rattle.bpf_rules.specs.bpf_semantics.Memory.{stack_size}
 use Rattle.bpf_rules.specs.bpf_semantics.Program.{ShapedProgram, shaped}
 use Rattle.cells.specs.Arrays.{AppShape}
+use Rattle.bpf_rules.specs.abs_value.declared.interval.Interval.{Interval}
+use Rattle.bpf_rules.specs.abs_value.declared.known_bits.KnownBits.{KnownBits}
+use Rattle.bpf_rules.specs.abs_value.declared.number.Number.{Number}
 use Rattle.bpf_rules.specs.abs_value.declared.origin.Lookup.{Lookup}
 use Rattle.bpf_rules.specs.abs_value.declared.origin.Origin.{Origin}
 use Rattle.bpf_rules.specs.abs_value.declared.origin.Origin.TheVariants.{Found, Fixed}
 use Rattle.bpf_rules.specs.abs_value.declared.value.Abs.{Abs}
-use Rattle.bpf_rules.specs.abs_value.declared.value.Abs.TheVariants.{Unusable, Num, Ctx, Stk, Map, MayCell, Cell}
+use Rattle.bpf_rules.specs.abs_value.declared.value.Abs.TheVariants.{Unusable, Num, Ctx}
+use Rattle.bpf_rules.specs.abs_value.declared.value.Abs.TheVariants.{Stk, Map, MayCell, Cell}
 use Rattle.bpf_rules.specs.abs_value.declared.slot.AbsSlot.{AbsSlot}
 use Rattle.bpf_rules.specs.abs_value.declared.slot.AbsSlot.TheVariants.{Kept, Bytes}
 use Rattle.bpf_rules.specs.abs_value.declared.state.AbsState.{AbsState}
+use Rattle.bpf_rules.specs.abs_value.Intervals.{hull}
+use Rattle.bpf_rules.specs.abs_value.Known.{common}
+use Rattle.bpf_rules.specs.abs_value.Numbers.{least, most, tidy, is_empty, tidied}
 use Rattle.bpf_rules.specs.abs_value.Values.{same_lookup, same_origin, is_unusable, join_values}
-use Rattle.bpf_rules.specs.abs_value.Stack.{mask_of, slot_at, is_set, kept_slot, join_slots, join_stacks}
-use Rattle.bpf_rules.specs.abs_value.States.{register_at, value_at, join_registers, join_states, opening_state}
+use Rattle.bpf_rules.specs.abs_value.Stack.{mask_of, slot_at, is_set}
+use Rattle.bpf_rules.specs.abs_value.Stack.{kept_slot, join_slots, join_stacks}
+use Rattle.bpf_rules.specs.abs_value.States.{register_at, value_at, join_registers}
+use Rattle.bpf_rules.specs.abs_value.States.{join_states, opening_state}
 use Rattle.bpf_rules.specs.Transfer.{Edge}
 use Rattle.bpf_verify.specs.Accepted.{to_place, joined, join_all, edges_of, incoming, IsAccepted}
-use Rattle.bpf_verify.specs.Table.{Known, IsWider, Knows, IsTable}
+use Rattle.bpf_verify.specs.Table.{Known, LiesIn, IsWider, Knows, IsTable}
 
 -- ---- values
 
@@ -55,9 +66,30 @@ cell_itself a = rw (origin_itself a) refl
 same_join : (d a b : Abs) → join_values d d ≡ d → d ≡ a → d ≡ b → d ≡ join_values a b
 same_join d a b itself h g = sym itself ∙ ap (λ (v : Abs). join_values v d) h ∙ ap (join_values a) g
 
+some_order : (a : Number) → is_empty a ≡ false → a.range.lo ≤ a.range.hi
+some_order a some = grind (arith, some)
+
+moved_in : (a : Interval) (p : KnownBits)
+    → (a.lo ≤ (tidy a p).range.lo) × ((tidy a p).range.hi ≤ a.hi)
+unfolding tidy
+moved_in a p = (omega arith, omega arith)
+
+-- in a result the ends of an interval stay, or move in
+tidied_lies : (from to : ℕ) (a : Interval) (p : KnownBits) → LiesIn from to a.lo a.hi
+    → LiesIn from to (tidied a p).range.lo (tidied a p).range.hi
+unfolding tidied
+tidied_lies from to a p h = elim (cases_Bool (is_empty (tidy a p))) [
+  | inl none ↦ rw none h
+  | inr some ↦
+      let order = some_order (tidy a p) some in
+      let ends = moved_in a p in
+      rw some (omega (arith, h.0, ends.0), order, omega (arith, h.2, ends.1))
+]
+
 wider_join : (d a b : Abs) → IsWider d a → IsWider d b → IsWider d (join_values a b)
 wider_join Unusable a b h g = tt
 wider_join (Num c) (Num a) (Num b) h g =
+    tidied_lies (least c) (most c) (hull a.range b.range) (common a.bits b.bits)
     (omega (arith, h.0, g.0), omega (arith, h.1, g.1), omega (arith, h.2, g.2))
 wider_join (Ctx c) (Ctx a) (Ctx b) h g =
     (omega (arith, h.0, g.0), omega (arith, h.1, g.1), omega (arith, h.2, g.2))

@@ -1,10 +1,12 @@
 -- What waits at each place after a change of the pool, and the most that waited at once.
-use Rattle.std.proofs.Common.{◌≡◌, ◌≢◌, ℕ, zero, suc, ◌+◌, ◌<◌, ◌≤◌, List, [], ◌∷◌, ◌++◌, length, replicate, Option, Some, None, refl, sym, ap, ◌∙◌, arith}
+use Rattle.std.proofs.Common.{◌≡◌, ◌≢◌, ℕ, zero, suc, ◌+◌, ◌<◌, ◌≤◌, List, [], ◌∷◌, ◌++◌}
+use Rattle.std.proofs.Common.{length, replicate, Option, Some, None, refl, sym, ap, ◌∙◌, arith}
 use Rattle.std.specs.Prelude.{map, max, slice_set}
 use Rattle.std.proofs.lemmas.List.{length-map, length-set}
 use Rattle.bpf_rules.specs.abs_value.declared.state.AbsState.{AbsState}
 use Rattle.bpf_verify.specs.Pool.{held, IsChanged, entry_in, waiting, index_at, IsPool}
-use Rattle.bpf_verify.proofs.Lists.{get-end, get-before, get-set_same, get-set_other, index-set_same, index-set_other}
+use Rattle.bpf_verify.proofs.Lists.{get-end, get-before, get-set_same}
+use Rattle.bpf_verify.proofs.Lists.{get-set_other, index-set_same, index-set_other}
 use Rattle.bpf_verify.proofs.Pools.{below_places, held_within, waits_is}
 
 -- ---- what waits then

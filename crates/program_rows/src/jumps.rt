@@ -52,6 +52,10 @@ const NARROWED: &str = r#"
   ldxb r0, [r1+18] / jsle32 r0, 5, +2 / mov r0, 0 / exit / exit
 - signed low halves, and one less | 4 | V13 Result at slot 4
   ldxb r0, [r1+18] / jsle32 r0, 5, +2 / mov r0, 0 / exit / exit
+- a test of bits | 7 | ok
+  ldxb r0, [r1+18] / jset r0, 248, +1 / exit / mov r0, 0 / exit
+- a test of bits, and one less | 6 | V13 Result at slot 2
+  ldxb r0, [r1+18] / jset r0, 248, +1 / exit / mov r0, 0 / exit
 - the right side is bounded | 5 | ok
   mov r3, 5 / ldxb r0, [r1+18] / jle r0, r3, +2 / mov r0, 0 / exit / exit
 - the right side is bounded, and one less | 4 | V13 Result at slot 5
@@ -69,8 +73,8 @@ const NOT_NARROWED: &str = r#"
   ldxdw r0, [r1+0] / jgt32 r0, 5, +1 / exit / mov r0, 0 / exit
 - signed low halves, over their sign bit | 64 | V13 Result at slot 4
   ldxw r0, [r1+0] / jsle32 r0, 5, +2 / mov r0, 0 / exit / exit
-- a test of bits | 64 | V13 Result at slot 2
-  ldxb r0, [r1+18] / jset r0, 248, +1 / exit / mov r0, 0 / exit
+- a test of low bits of a wide range | 64 | V13 Result at slot 2
+  ldxdw r0, [r1+0] / jset32 r0, 248, +1 / exit / mov r0, 0 / exit
 - low halves of 32 bits | 5 | ok
   ldxw r0, [r1+0] / jgt32 r0, 5, +1 / exit / mov r0, 0 / exit
 "#;

@@ -9,6 +9,8 @@ mod accesses;
 #[cfg(test)]
 mod arithmetic;
 #[cfg(test)]
+mod bits;
+#[cfg(test)]
 mod calls;
 #[cfg(test)]
 mod counts;

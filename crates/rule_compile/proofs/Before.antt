@@ -1,5 +1,6 @@
 -- What each piece of a rule's code stands in front of: its labels stay.
-use Rattle.std.proofs.Common.{◌≡◌, ℕ, suc, ◌-◌, ◌≤◌, List, [], ◌∷◌, ◌++◌, take, drop, length, Option, Some, None, Bool, true, false, sym, ap, arith}
+use Rattle.std.proofs.Common.{◌≡◌, ℕ, suc, ◌-◌, ◌≤◌, List, [], ◌∷◌, ◌++◌, take, drop, length}
+use Rattle.std.proofs.Common.{Option, Some, None, Bool, true, false, sym, ap, arith}
 use Rattle.std.specs.Prelude.{not, slice_index, if◌then◌else◌}
 use Rattle.std.proofs.Math.Seq.{take-length}
 use Rattle.bpf_insn.specs.Words.{little_endian}
@@ -23,8 +24,11 @@ use Rattle.rule_lang.specs.Trees.{Tree, Asked, Negated, Both, Either, trees_from
 use Rattle.rule_compile.specs.declared.goals.Goal.{Goal}
 use Rattle.rule_compile.specs.Instructions as insn
 use Rattle.rule_compile.specs.Blocks as code
-use Rattle.rule_compile.specs.Code.{condition_of, version_code, four_of, place_named, test_code, tree_code, trees_code, made_code, goal, steps_code, array_size, end_code, statement_code, statements_code}
-use Rattle.rule_compile.proofs.Labels.{IsBefore, before_itself, before_one, before_then, before_list}
+use Rattle.rule_compile.specs.Code.{condition_of, version_code, four_of, place_named, test_code}
+use Rattle.rule_compile.specs.Code.{tree_code, trees_code, made_code, goal, steps_code}
+use Rattle.rule_compile.specs.Code.{array_size, end_code, statement_code, statements_code}
+use Rattle.rule_compile.proofs.Labels.{IsBefore, before_itself, before_one}
+use Rattle.rule_compile.proofs.Labels.{before_then, before_list}
 use Rattle.rule_compile.proofs.VersionWords.{equal_before, order_before}
 
 -- ---- tests

@@ -1,6 +1,7 @@
 -- Tests of one number: the code of a comparison comes to one behaviour or the other, as the
 -- comparison says.
-use Rattle.std.proofs.Common.{◌≡◌, ℕ, ◌+◌, ◌-◌, ◌%◌, ◌<◌, ◌≤◌, ◌^◌, ◌∷◌, length, Option, Some, None, Bool, true, false, refl, sym, ap, subst, ◌∙◌, arith, inl, inr}
+use Rattle.std.proofs.Common.{◌≡◌, ℕ, ◌+◌, ◌-◌, ◌%◌, ◌<◌, ◌≤◌, ◌^◌, ◌∷◌, length, Option, Some, None}
+use Rattle.std.proofs.Common.{Bool, true, false, refl, sym, ap, subst, ◌∙◌, arith, inl, inr}
 use Rattle.std.specs.Prelude.{not, nat_le, nat_lt, ◌==◌, bit_and, if◌then◌else◌, IfSome}
 use Rattle.std.specs.Int.{w32, cast_unsigned}
 use Rattle.std.proofs.Math.Nat.{mod-zero, mod-le}
@@ -32,7 +33,8 @@ use Rattle.rule_compile.specs.Instructions.{opposite, turned}
 use Rattle.rule_compile.specs.Instructions as insn
 use Rattle.rule_compile.specs.Blocks as code
 use Rattle.rule_compile.proofs.Labels.{from_label, next_here, next_wide}
-use Rattle.rule_compile.proofs.Runs.{Comes, Nothing, Has, knowing, quiet, Reads, load_then, jump_then}
+use Rattle.rule_compile.proofs.Runs.{Comes, Nothing, Has, knowing}
+use Rattle.rule_compile.proofs.Runs.{quiet, Reads, load_then, jump_then}
 use Rattle.rule_compile.proofs.Fields.{FitFields, bucket_reads, flags_reads}
 
 -- ---- conditions and their opposites

@@ -1,5 +1,6 @@
 -- The code of a rule has no more slots than the rule costs.
-use Rattle.std.proofs.Common.{◌≡◌, ℕ, zero, suc, ◌<◌, ◌+◌, ◌-◌, ◌*◌, ◌≤◌, List, [], ◌∷◌, drop, length, Option, Some, None, Bool, true, false, arith, refl, ap, subst}
+use Rattle.std.proofs.Common.{◌≡◌, ℕ, zero, suc, ◌<◌, ◌+◌, ◌-◌, ◌*◌, ◌≤◌, List, [], ◌∷◌, drop}
+use Rattle.std.proofs.Common.{length, Option, Some, None, Bool, true, false, arith, refl, ap, subst}
 use Rattle.std.specs.Prelude.{not, option_and_then, if◌then◌else◌}
 use Rattle.bpf_insn.specs.declared.operand.Condition.TheVariants as jump
 use Rattle.bpf_insn.specs.Program.{Program}
@@ -19,7 +20,8 @@ use Rattle.rule_compile.specs.declared.goals.Goal.{Goal}
 use Rattle.bpf_insn.specs.declared.reg.Reg.TheVariants.{R0}
 use Rattle.rule_compile.specs.Instructions as insn
 use Rattle.rule_compile.specs.Blocks as code
-use Rattle.rule_compile.specs.Code.{version_code, four_of, test_code, tree_code, made_code, goal, steps_code, step_code, statements_code}
+use Rattle.rule_compile.specs.Code.{version_code, four_of, test_code, tree_code, made_code}
+use Rattle.rule_compile.specs.Code.{goal, steps_code, step_code, statements_code}
 use Rattle.rule_compile.specs.Ranges.{IsInRange, IsStepInRange, AreInRange, IsRuleInRange}
 
 -- ---- a test has at most 22 slots

@@ -1,5 +1,6 @@
 -- A count and a take as pieces of a rule's code.
-use Rattle.std.proofs.Common.{◌≡◌, ℕ, ◌+◌, ◌-◌, ◌<◌, pos, ◌∷◌, drop, length, Option, Some, None, Bool, true, false, refl, ap, subst, ◌∙◌, arith}
+use Rattle.std.proofs.Common.{◌≡◌, ℕ, ◌+◌, ◌-◌, ◌<◌, pos, ◌∷◌, drop, length, Option, Some, None}
+use Rattle.std.proofs.Common.{Bool, true, false, refl, ap, subst, ◌∙◌, arith}
 use Rattle.std.specs.Prelude.{nat_lt, slice_get, if◌then◌else◌}
 use Rattle.attrs.specs.Attributes.{Attributes}
 use Rattle.cells.specs.declared.array.CellArray.{CellArray}
@@ -19,7 +20,8 @@ use Rattle.rule_compile.specs.Instructions as insn
 use Rattle.rule_compile.specs.Blocks as code
 use Rattle.rule_compile.proofs.Labels.{from_label, next_here, later_here, next_wide}
 use Rattle.rule_compile.proofs.Runs.{EndsAs, Comes, Nothing, Has, quiet}
-use Rattle.rule_compile.proofs.Counters.{IsCellOf, add_then, below_all, by_quota, cell_then, one_then, take_then, taken}
+use Rattle.rule_compile.proofs.Counters.{IsCellOf, add_then, below_all, by_quota}
+use Rattle.rule_compile.proofs.Counters.{cell_then, one_then, take_then, taken}
 
 module _ (p : ShapedProgram) (a : Attributes) where
   -- ---- count, as a piece

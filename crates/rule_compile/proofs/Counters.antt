@@ -1,5 +1,6 @@
 -- Counters: one is added to a cell, and the run goes on, by the reply or whatever it is.
-use Rattle.std.proofs.Common.{◌≡◌, ℕ, ◌+◌, ◌*◌, ◌<◌, ◌≤◌, pos, ◌∷◌, Option, Some, None, Bool, true, false, refl, ap, subst, ◌∙◌, arith}
+use Rattle.std.proofs.Common.{◌≡◌, ℕ, ◌+◌, ◌*◌, ◌<◌, ◌≤◌, pos, ◌∷◌, Option, Some, None}
+use Rattle.std.proofs.Common.{Bool, true, false, refl, ap, subst, ◌∙◌, arith}
 use Rattle.std.specs.Prelude.{nat_le, nat_lt, slice_get, if◌then◌else◌}
 use Rattle.std.proofs.lemmas.Bool.{lt-ltb}
 use Rattle.attrs.specs.Attributes.{Attributes}
@@ -11,7 +12,8 @@ use Rattle.bpf_insn.specs.declared.operand.Bits.TheVariants.{Bits64}
 use Rattle.bpf_insn.specs.declared.reg.Reg.TheVariants.{R2, R3}
 use Rattle.bpf_insn.specs.Conditions.{holds}
 use Rattle.bpf_insn.specs.Program.{Program, ◌>>=◌}
-use Rattle.bpf_verify.specs.bpf_semantics.Memory.{address_of, cell_address, cell_number, is_cell_address, cell_at}
+use Rattle.bpf_verify.specs.bpf_semantics.Memory.{address_of, cell_address}
+use Rattle.bpf_verify.specs.bpf_semantics.Memory.{cell_number, is_cell_address, cell_at}
 use Rattle.bpf_verify.specs.bpf_semantics.Program.{ShapedProgram}
 use Rattle.bpf_verify.specs.bpf_semantics.State.{State, with_register}
 use Rattle.bpf_verify.specs.bpf_semantics.Outcome.{write}

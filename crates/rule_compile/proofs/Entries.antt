@@ -1,5 +1,6 @@
 -- What is known between the pieces of a rule's code, and what a write or a comparison leaves of it.
-use Rattle.std.proofs.Common.{ℕ, zero, suc, ◌<◌, ◌≤◌, List, [], ◌∷◌, length, length-set, Bool, false, arith, inl, inr}
+use Rattle.std.proofs.Common.{ℕ, zero, suc, ◌<◌, ◌≤◌, List, [], ◌∷◌, length, length-set}
+use Rattle.std.proofs.Common.{Bool, false, arith, inl, inr}
 use Rattle.std.specs.Prelude.{IsSome, ◌⊎◌, slice_set}
 use Rattle.std.proofs.lemmas.Bool.{cases_lt, cases_eq}
 use Rattle.std.proofs.lemmas.List.{get_or-set_same, get_or-set_other, get_or_past}

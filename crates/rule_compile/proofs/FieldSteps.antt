@@ -1,5 +1,6 @@
 -- A load of a field of the context as a step.
-use Rattle.std.proofs.Common.{◌≡◌, ℕ, ◌+◌, ◌-◌, ◌%◌, ◌^◌, ◌≤◌, pos, List, None, Bool, true, false, refl, arith, inl, inr}
+use Rattle.std.proofs.Common.{◌≡◌, ℕ, ◌+◌, ◌-◌, ◌%◌, ◌^◌, ◌≤◌, pos, List, None}
+use Rattle.std.proofs.Common.{Bool, true, false, refl, arith, inl, inr}
 use Rattle.std.specs.Prelude.{min, nat_le, ◌==◌, if◌then◌else◌}
 use Rattle.std.proofs.Math.Nat.{mod-le, min-le_left}
 use Rattle.std.proofs.lemmas.Bool.{cases_Bool, le-leb}
@@ -17,13 +18,16 @@ use Rattle.bpf_insn.specs.Program.{Program}
 use Rattle.bpf_verify.specs.bpf_semantics.Reads.{load_count}
 use Rattle.cells.specs.Arrays.{AppShape}
 use Rattle.bpf_verify.specs.abs_value.declared.interval.Interval.{Interval}
+use Rattle.bpf_verify.specs.abs_value.declared.known_bits.KnownBits.{KnownBits}
 use Rattle.bpf_verify.specs.abs_value.declared.number.Number.{Number}
 use Rattle.bpf_verify.specs.abs_value.declared.places.Places.{Places}
 use Rattle.bpf_verify.specs.abs_value.declared.value.Abs.TheVariants.{Num, Ctx}
 use Rattle.bpf_verify.specs.abs_value.declared.state.AbsState.{AbsState}
-use Rattle.bpf_verify.specs.abs_value.Bounds.{alu_number, is_above_zero, remainder}
-use Rattle.bpf_verify.specs.abs_value.Intervals.{just, is_just, greatest, from_zero, all_of, cut_interval}
-use Rattle.bpf_verify.specs.abs_value.Numbers.{number, single, least, most, are_single, cut}
+use Rattle.bpf_verify.specs.abs_value.Bounds.{is_above_zero, remainder, conjunction}
+use Rattle.bpf_verify.specs.abs_value.Intervals.{just, is_just, greatest, all_of, cut_interval}
+use Rattle.bpf_verify.specs.abs_value.Known.{exactly, any_of, and_bits}
+use Rattle.bpf_verify.specs.abs_value.Numbers.{single, least, most, are_single, cut, tidied}
+use Rattle.bpf_verify.specs.abs_value.Results.{result, alu_number}
 use Rattle.bpf_verify.specs.abs_value.Values.{places, loaded_value}
 use Rattle.bpf_verify.specs.abs_value.States.{register_at, value_at, value_of, with_value}
 use Rattle.bpf_verify.specs.bpf_rules.Memory.{changes, lies_in, stack_place}
@@ -34,7 +38,7 @@ use Rattle.bpf_verify.specs.Table.{Known, LiesIn, IsWider, Knows}
 use Rattle.rule_compile.specs.Instructions as insn
 use Rattle.rule_compile.proofs.Typed.{IsStep}
 use Rattle.rule_compile.proofs.Entries.{any, Takes, writes, knows_write}
-use Rattle.rule_compile.proofs.Narrowings.{wider_at, context_in, number_in, le_of}
+use Rattle.rule_compile.proofs.Narrowings.{wider_at, context_in, number_in, le_of, tidied_lies}
 use Rattle.rule_compile.proofs.InsnSteps.{onward}
 
 -- ---- a remainder has 32 bits
@@ -74,19 +78,22 @@ range_small a b k h =
 single_any : (n : ℕ) → n ≤ 2 ^ 32 - 1 → IsWider (Num any) (Num (single n))
 single_any n h = (omega arith, omega arith, omega (arith, h))
 
-from_zero_any : (n : ℕ) → n ≤ 2 ^ 32 - 1 → IsWider (Num any) (Num (number (from_zero n)))
-from_zero_any n h = (omega arith, omega arith, omega (arith, h))
+-- any remainder of numbers of 32 bits, tidy
+tidied_any : (a b : Interval) (p : KnownBits) → a.hi ≤ 2 ^ 32 - 1
+    → IsWider (Num any) (Num (tidied (remainder a b) p))
+tidied_any a b p h =
+    let small = range_small a b (2 ^ 32 - 1) h in
+    tidied_lies 0 (2 ^ 64 - 1) (remainder a b) p (omega arith, omega arith, omega (arith, small))
 
 any_remainder : (a b : Number) → IsWider (Num any) (Num (alu_number Bits32 Mod a b))
 any_remainder a b = by_single (are_single a b)
   where
     by_single : (t : Bool) → IsWider (Num any) (Num (if t then single (alu_result Bits32 Mod
-        (least a) (least b)) else number (remainder (cut Bits32 a).range (cut Bits32 b).range)))
+        (least a) (least b)) else result Bits32 Mod (cut Bits32 a) (cut Bits32 b)))
     by_single true =
         single_any (alu_result Bits32 Mod (least a) (least b)) (result_small (least a) (least b))
-    by_single false =
-        from_zero_any (remainder (cut Bits32 a).range (cut Bits32 b).range).hi (range_small (cut
-        Bits32 a).range (cut Bits32 b).range (2 ^ 32 - 1) (cut_small a.range))
+    by_single false = tidied_any (cut Bits32 a).range (cut Bits32 b).range (any_of Bits32)
+        (cut_small a.range)
 
 module _ (shape : AppShape) where
   -- ---- a field of the context
@@ -187,7 +194,8 @@ module _ (shape : AppShape) where
   masked a mask h = elim (cases_Bool (are_single a (single mask))) [
     | inl one ↦ let le = and_le_l (least a) mask in
         rw one (omega arith, omega arith, omega (arith, le, h.1, h.2))
-    | inr more ↦ rw more (omega arith, omega arith, omega (arith, h.2))
+    | inr more ↦ rw more (tidied_lies 0 (2 ^ 64 - 1) (conjunction a.range (just mask))
+        (and_bits a.bits (exactly mask)) (omega arith, omega arith, omega (arith, h.2)))
   ]
 
   mask_gives : (mask : ℕ) (d : Known) (e : AbsState) (a : Number) → value_at e 2 ≡ Num a

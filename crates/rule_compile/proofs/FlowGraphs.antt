@@ -1,6 +1,7 @@
 -- Code whose instructions are typed is the graph of a program: each edge leads forward to an
 -- instruction, and each place is reached.
-use Rattle.std.proofs.Common.{◌≡◌, ℕ, zero, suc, ◌+◌, ◌<◌, ◌≤◌, List, [], ◌∷◌, drop, length, Option, Some, None, Bool, true, false, refl, sym, ap, subst, ◌∙◌, arith, inr}
+use Rattle.std.proofs.Common.{◌≡◌, ℕ, zero, suc, ◌+◌, ◌<◌, ◌≤◌, List, [], ◌∷◌, drop, length, Option}
+use Rattle.std.proofs.Common.{Some, None, Bool, true, false, refl, sym, ap, subst, ◌∙◌, arith, inr}
 use Rattle.std.specs.Prelude.{IsSome, is_some, Contains, option_to_list, slice_get, if◌then◌else◌}
 use Rattle.std.specs.List.{AllByRecursion}
 use Rattle.std.proofs.lemmas.Option.{slice_get_past}
@@ -11,13 +12,16 @@ use Rattle.bpf_insn.specs.declared.insn.Width.TheVariants.{One, Two}
 use Rattle.bpf_insn.specs.declared.operand.Distance.{Distance}
 use Rattle.bpf_insn.specs.Spelling.{width_of}
 use Rattle.bpf_insn.specs.Program.{Program, ◌>>=◌, at, landing, slots_moved}
-use Rattle.bpf_verify.specs.flow_check.Edges.{Reached, start, along, jump_of, target_of, goes_on, next_of, successors, KeepsEdges}
-use Rattle.bpf_verify.specs.flow_check.declared.fault.FlowRule.TheVariants.{BackJump, Outside, InsideWide, FallsOff}
+use Rattle.bpf_verify.specs.flow_check.Edges.{Reached, start, along, jump_of, target_of}
+use Rattle.bpf_verify.specs.flow_check.Edges.{goes_on, next_of, successors, KeepsEdges}
+use Rattle.bpf_verify.specs.flow_check.declared.fault.FlowRule.TheVariants.{BackJump, Outside}
+use Rattle.bpf_verify.specs.flow_check.declared.fault.FlowRule.TheVariants.{InsideWide, FallsOff}
 use Rattle.bpf_verify.specs.flow_check.Flow.{IsFlow}
 use Rattle.cells.specs.Arrays.{AppShape}
 use Rattle.bpf_verify.specs.Table.{Known}
 use Rattle.rule_compile.specs.Writing.{CanEncode}
-use Rattle.rule_compile.proofs.Typed.{GoesOn, JumpsTo, HasHalf, halves, IsTyped, IsStep, entry_at, located, at_drop, next_is}
+use Rattle.rule_compile.proofs.Typed.{GoesOn, JumpsTo, HasHalf, halves, IsTyped}
+use Rattle.rule_compile.proofs.Typed.{IsStep, entry_at, located, at_drop, next_is}
 use Rattle.rule_compile.proofs.Flows.{StartsWell, laid, starts_after, starts_later, starts_none}
 
 -- ---- edges

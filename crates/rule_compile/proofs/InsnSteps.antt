@@ -1,6 +1,7 @@
 -- Each instruction of a rule's code as a step: no rule fails, and it leads to what is known behind
 -- it.
-use Rattle.std.proofs.Common.{◌≡◌, ℕ, zero, suc, ◌+◌, ◌≤◌, ℤ, pos, List, [], ◌∷◌, Some, None, false, refl, sym, ap, subst, arith, length-drop, get_or-drop}
+use Rattle.std.proofs.Common.{◌≡◌, ℕ, zero, suc, ◌+◌, ◌≤◌, ℤ, pos, List, [], ◌∷◌, Some, None}
+use Rattle.std.proofs.Common.{false, refl, sym, ap, subst, arith, length-drop, get_or-drop}
 use Rattle.std.specs.Prelude.{◌==◌}
 use Rattle.std.proofs.lemmas.Bool.{le-leb}
 use Rattle.bpf_insn.specs.declared.insn.Insn.TheVariants.{Mov, Exit, Wide}
@@ -13,9 +14,10 @@ use Rattle.bpf_insn.specs.Table.{number_of}
 use Rattle.cells.specs.Arrays.{AppShape}
 use Rattle.bpf_verify.specs.abs_value.declared.number.Number.{Number}
 use Rattle.bpf_verify.specs.abs_value.declared.value.Abs.{Abs}
-use Rattle.bpf_verify.specs.abs_value.declared.value.Abs.TheVariants.{Unusable, Num, Ctx, Stk, Map, MayCell, Cell}
+use Rattle.bpf_verify.specs.abs_value.declared.value.Abs.TheVariants.{Unusable, Num, Ctx}
+use Rattle.bpf_verify.specs.abs_value.declared.value.Abs.TheVariants.{Stk, Map, MayCell, Cell}
 use Rattle.bpf_verify.specs.abs_value.declared.state.AbsState.{AbsState}
-use Rattle.bpf_verify.specs.abs_value.Numbers.{single, up_to, most}
+use Rattle.bpf_verify.specs.abs_value.Numbers.{single, up_to, least, most}
 use Rattle.bpf_verify.specs.abs_value.Values.{is_unusable, copied_value}
 use Rattle.bpf_verify.specs.abs_value.Lookups.{called_registers, called}
 use Rattle.bpf_verify.specs.abs_value.States.{register_at, value_at, value_of, with_value}
@@ -24,7 +26,7 @@ use Rattle.bpf_verify.specs.Table.{Known, IsWider, Knows}
 use Rattle.rule_compile.specs.Instructions as insn
 use Rattle.rule_compile.proofs.Typed.{IsStep, Leads, entry_at}
 use Rattle.rule_compile.proofs.Entries.{any, Takes, writes, knows_write}
-use Rattle.rule_compile.proofs.Narrowings.{wider_at, number_in}
+use Rattle.rule_compile.proofs.Narrowings.{wider_at, number_in, tidied_lies}
 
 -- what comes of an instruction is what stands behind it takes
 pub onward : (q : Program) (ds : List Known) (k : ℕ) (d next : Known) (make : AbsState → AbsState)
@@ -49,14 +51,17 @@ usable_in (Map c) v some h = ap is_unusable (sym h)
 usable_in (MayCell c) v some h = ap is_unusable (sym h)
 usable_in (Cell c) v some h = ap is_unusable (sym h)
 
-copied_whole : (v : Abs) → copied_value Bits64 v ≡ v
-copied_whole Unusable = refl
-copied_whole (Num a) = refl
-copied_whole (Ctx a) = refl
-copied_whole (Stk a) = refl
-copied_whole (Map a) = refl
-copied_whole (MayCell a) = refl
-copied_whole (Cell a) = refl
+-- a copy of a number is tidy once more
+copied_within : (c v : Abs) → IsWider c v → IsWider c (copied_value Bits64 v)
+copied_within Unusable v h = tt
+copied_within (Num c) (Num a) h = tidied_lies (least c) (most c) a.range a.bits h
+copied_within (Num c) v h = absurd cc
+copied_within (Ctx c) (Ctx a) h = h
+copied_within (Ctx c) v h = absurd cc
+copied_within (Stk c) v h = subst (λ (x : Abs). Stk c ≡ copied_value Bits64 x) h refl
+copied_within (Map c) v h = subst (λ (x : Abs). Map c ≡ copied_value Bits64 x) h refl
+copied_within (MayCell c) v h = subst (λ (x : Abs). MayCell c ≡ copied_value Bits64 x) h refl
+copied_within (Cell c) v h = subst (λ (x : Abs). Cell c ≡ copied_value Bits64 x) h refl
 
 -- ---- calls
 
@@ -110,8 +115,10 @@ module _ (shape : AppShape) where
   set_step r n v d q ds frame wide takes = record {
     half = tt;
     passes = λ e h. move_passes e r (pos n) frame;
-    next = λ s. onward q ds 0 d (writes d r v) (λ e. with_value e r (Num (single n))) takes
-        (λ e h. knows_write d e r v (Num (single n)) h wide);
+    next = λ s. onward q ds 0 d (writes d r v)
+        (λ e. with_value e r (copied_value Bits64 (Num (single n)))) takes
+        (λ e h. knows_write d e r v (copied_value Bits64 (Num (single n))) h
+        (copied_within v (Num (single n)) wide));
     jump = tt;
   }
 
@@ -127,8 +134,7 @@ module _ (shape : AppShape) where
     next = λ s. onward q ds 0 d (writes d dst v)
         (λ e. with_value e dst (copied_value Bits64 (value_of e src))) takes
         (λ e h. knows_write d e dst v (copied_value Bits64 (value_of e src)) h
-        (subst (IsWider v) (sym (copied_whole (value_of e src)))
-        (wider_at d e (number_of src) v h is)));
+        (copied_within v (value_of e src) (wider_at d e (number_of src) v h is)));
     jump = tt;
   }
 

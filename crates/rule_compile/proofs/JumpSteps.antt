@@ -1,5 +1,6 @@
 -- Each jump of a rule's code as a step: both ways lead to what is known there.
-use Rattle.std.proofs.Common.{◌≡◌, ℕ, ◌≤◌, ℤ, pos, List, Option, Some, None, Bool, true, false, refl, sym, subst, arith}
+use Rattle.std.proofs.Common.{◌≡◌, ℕ, ◌≤◌, ℤ, pos, List, Option, Some, None}
+use Rattle.std.proofs.Common.{Bool, true, false, refl, sym, subst, arith}
 use Rattle.std.specs.Prelude.{option_map}
 use Rattle.bpf_insn.specs.declared.insn.Insn.TheVariants.{JumpIf}
 use Rattle.bpf_insn.specs.declared.operand.Bits.TheVariants.{Bits32, Bits64}
@@ -45,7 +46,8 @@ module _ (shape : AppShape) where
   after_narrowing d e f left k a b (Some p) h is hi narrow makes =
       let same : with_value e left (Num p.0) ≡ f = cc in
       let n = narrow p refl in
-      let range : IsWider (Num any) (Num p.0) = (omega arith, n.ordered, omega (arith, n.within, hi)) in
+      let range : IsWider (Num any) (Num p.0) =
+      (omega arith, n.ordered, omega (arith, n.within, hi)) in
       subst (Knows d) same (knows_over d e left (Num p.0) h
       (subst (λ (v : Abs). IsWider v (Num p.0)) (sym is) range))
 
@@ -91,7 +93,8 @@ module _ (shape : AppShape) where
   both_pass condition n e a b is is_too = rw (is, is_too) refl
 
   both_narrowed : (d : Known) (e f : AbsState) (a b : Number) (o : Option NumberPair) → Knows d e
-      → register_at d.registers 2 ≡ Num any → register_at d.registers 4 ≡ Num any → most a ≤ most any
+      → register_at d.registers 2 ≡ Num any → register_at d.registers 4 ≡ Num any
+      → most a ≤ most any
       → most b ≤ most any
       → ((p : NumberPair) → o ≡ Some p → IsNarrower a b p)
       → option_map (with_both e R2 (Register R4)) (option_map numbers o) ≡ Some f → Knows d f
@@ -99,7 +102,8 @@ module _ (shape : AppShape) where
   both_narrowed d e f a b (Some p) h two four hi hi_too narrow makes =
       let same : with_value (with_value e R2 (Num p.0)) R4 (Num p.1) ≡ f = cc in
       let n = narrow p refl in
-      let first : IsWider (Num any) (Num p.0) = (omega arith, n.ordered, omega (arith, n.within, hi)) in
+      let first : IsWider (Num any) (Num p.0) =
+      (omega arith, n.ordered, omega (arith, n.within, hi)) in
       let second : IsWider (Num any) (Num p.1) =
       (omega arith, n.ordered_too, omega (arith, n.within_too, hi_too)) in
       let once = knows_over d e R2 (Num p.0) h

@@ -1,25 +1,32 @@
 -- What is known of a register, and what a comparison leaves of two numbers whose ends are
 -- in order.
-use Rattle.std.proofs.Common.{◌≡◌, ℕ, ◌+◌, ◌-◌, ◌<◌, ◌≤◌, Option, Some, None, Bool, true, false, refl, subst, arith, inl, inr}
-use Rattle.std.specs.Prelude.{◌==◌, nat_le, nat_lt, min, max, option_map, if◌then◌else◌}
-use Rattle.std.proofs.lemmas.Bool.{cases_Bool}
+use Rattle.std.proofs.Common.{◌≡◌, ℕ, ◌≤◌, Option, Some, None}
+use Rattle.std.proofs.Common.{Bool, true, false, refl, subst, arith, inl, inr}
+use Rattle.std.specs.Prelude.{◌==◌, ◌||◌, nat_le, nat_lt, option_map, if◌then◌else◌, bit_and}
+use Rattle.std.proofs.lemmas.Bool.{cases_Bool, or_parts}
 use Rattle.bpf_insn.specs.declared.operand.Bits.{Bits}
 use Rattle.bpf_insn.specs.declared.operand.Condition.{Condition}
 use Rattle.bpf_insn.specs.Conditions.{holds}
 use Rattle.bpf_verify.specs.abs_value.declared.interval.Interval.{Interval}
+use Rattle.bpf_verify.specs.abs_value.declared.known_bits.KnownBits.{KnownBits}
 use Rattle.bpf_verify.specs.abs_value.declared.number.Number.{Number}
 use Rattle.bpf_verify.specs.abs_value.declared.places.Places.{Places}
 use Rattle.bpf_verify.specs.abs_value.declared.relation.Relation.{Relation}
-use Rattle.bpf_verify.specs.abs_value.declared.relation.Relation.TheVariants.{Equal, Unequal, Less, AtMost, More, AtLeast, Meets, Misses}
+use Rattle.bpf_verify.specs.abs_value.declared.relation.Relation.TheVariants.{Equal, Unequal, Less}
+use Rattle.bpf_verify.specs.abs_value.declared.relation.Relation.TheVariants.{AtMost, More, AtLeast}
+use Rattle.bpf_verify.specs.abs_value.declared.relation.Relation.TheVariants.{Meets, Misses}
 use Rattle.bpf_verify.specs.abs_value.declared.value.Abs.{Abs}
 use Rattle.bpf_verify.specs.abs_value.declared.value.Abs.TheVariants.{Num, Ctx}
 use Rattle.bpf_verify.specs.abs_value.declared.state.AbsState.{AbsState}
-use Rattle.bpf_verify.specs.abs_value.Intervals.{is_just}
-use Rattle.bpf_verify.specs.abs_value.Numbers.{least, most, are_single}
-use Rattle.bpf_verify.specs.abs_value.Narrowing.{IntervalPair, NumberPair, pair, learnt, below, without, apart_from, swapped, left_by, is_comparable, is_taken, narrowed}
+use Rattle.bpf_verify.specs.abs_value.Known.{combined}
+use Rattle.bpf_verify.specs.abs_value.Numbers.{least, most, is_single}
+use Rattle.bpf_verify.specs.abs_value.Numbers.{are_single, tidy, is_empty, tidied}
+use Rattle.bpf_verify.specs.abs_value.Narrowing.{IntervalPair, NumberPair, learnt, below, at_most}
+use Rattle.bpf_verify.specs.abs_value.Narrowing.{overlap, apart_from, swapped, kept, kept_in, equal}
+use Rattle.bpf_verify.specs.abs_value.Narrowing.{kept_with, with_one_of, without_bits, meeting}
+use Rattle.bpf_verify.specs.abs_value.Narrowing.{left_by, is_comparable, is_taken, narrowed}
 use Rattle.bpf_verify.specs.abs_value.States.{register_at, value_at}
 use Rattle.bpf_verify.specs.Table.{Known, LiesIn, IsWider, Knows}
-use Rattle.rule_compile.proofs.Arrays.{lt_of}
 
 -- ---- what is known of a register
 
@@ -37,120 +44,30 @@ pub number_in : (c : Number) (v : Abs) → IsWider (Num c) v → (a : Number) ×
 number_in c (Num a) h = (a, refl, h)
 number_in c v h = absurd cc
 
--- ---- what a comparison leaves of two intervals whose ends are in order
-
-record AreNarrower (a b : Interval) (p : IntervalPair) : Type 0 where
-  pub some : p.0.lo ≤ p.0.hi
-  pub most : p.0.hi ≤ a.hi
-  pub some_too : p.1.lo ≤ p.1.hi
-  pub most_too : p.1.hi ≤ b.hi
-
-narrow_itself : (a b : Interval) → a.lo ≤ a.hi → b.lo ≤ b.hi → AreNarrower a b (a, b)
-narrow_itself a b h g = record {
-  some = h;
-  most = omega arith;
-  some_too = g;
-  most_too = omega arith;
-}
-
-narrow_if : (t : Bool) (a b : Interval) (x p : IntervalPair) → (t ≡ true → AreNarrower a b x)
-    → (if t then Some x else None) ≡ Some p → AreNarrower a b p
-narrow_if true a b x p h is = let same : x ≡ p = cc in subst (AreNarrower a b) same (h refl)
-narrow_if false a b x p h is = absurd cc
-
-narrow_some : (a b : Interval) (x p : IntervalPair) → AreNarrower a b x → Some x ≡ Some p → AreNarrower a b p
-narrow_some a b x p h is = let same : x ≡ p = cc in subst (AreNarrower a b) same h
-
 pub le_of : (m n : ℕ) → nat_le m n ≡ true → m ≤ n
 le_of m n h = grind (arith, h)
 
--- an end that is n moves in by one
-without_some : (n : ℕ) (a : Interval) → a.lo ≤ a.hi → ((without n a).lo ≤ (without n a).hi)
-    × ((without n a).hi ≤ a.hi)
-without_some n a h = elim (cases_Bool (nat_lt a.lo a.hi)) [
-  | inr one ↦ rw one (h, omega arith)
-  | inl more ↦ rw more (two_ends n a.lo a.hi (lt_of a.lo a.hi more))
+-- ---- tidy: an end of an interval stays, or moves in
+
+some_order : (a : Number) → is_empty a ≡ false → least a ≤ most a
+some_order a some = grind (arith, some)
+
+moved_in : (a : Interval) (p : KnownBits) → (a.lo ≤ least (tidy a p)) × (most (tidy a p) ≤ a.hi)
+unfolding tidy
+moved_in a p = (omega arith, omega arith)
+
+pub tidied_lies : (from to : ℕ) (a : Interval) (p : KnownBits) → LiesIn from to a.lo a.hi
+    → LiesIn from to (least (tidied a p)) (most (tidied a p))
+unfolding tidied
+tidied_lies from to a p h = elim (cases_Bool (is_empty (tidy a p))) [
+  | inl none ↦ rw none h
+  | inr some ↦
+      let order = some_order (tidy a p) some in
+      let ends = moved_in a p in
+      rw some (omega (arith, h.0, ends.0), order, omega (arith, h.2, ends.1))
 ]
-  where
-    two_ends : (n lo hi : ℕ) → lo < hi
-        → ((if lo == n then lo + 1 else lo) ≤ (if hi == n then hi - 1 else hi))
-        × ((if hi == n then hi - 1 else hi) ≤ hi)
-    two_ends n lo hi lt = grind (arith, lt)
 
-apart_some : (b a : Interval) → a.lo ≤ a.hi → ((apart_from b a).lo ≤ (apart_from b a).hi)
-    × ((apart_from b a).hi ≤ a.hi)
-apart_some b a h = elim (cases_Bool (is_just b)) [
-  | inl one ↦ rw one (without_some b.lo a h)
-  | inr more ↦ rw more (h, omega arith)
-]
-
-below_narrow : (a b : Interval) (p : IntervalPair) → a.lo ≤ a.hi → b.lo ≤ b.hi → below a b ≡ Some p
-    → AreNarrower a b p
-below_narrow a b p h g is =
-    narrow_if (nat_lt a.lo b.hi) a b _ p
-    (λ t. let lt = lt_of a.lo b.hi t in
-    record {
-      some = omega (arith, lt, h);
-      most = omega arith;
-      some_too = omega (arith, lt, g);
-      most_too = omega arith;
-    }) is
-
-at_most_narrow : (a b : Interval) (p : IntervalPair) → a.lo ≤ a.hi → b.lo ≤ b.hi
-    → left_by AtMost a b ≡ Some p
-    → AreNarrower a b p
-at_most_narrow a b p h g is =
-    narrow_if (nat_le a.lo b.hi) a b _ p
-    (λ t. let le = le_of a.lo b.hi t in
-    record {
-      some = omega (arith, le, h);
-      most = omega arith;
-      some_too = omega (arith, le, g);
-      most_too = omega arith;
-    }) is
-
-equal_narrow : (a b : Interval) (p : IntervalPair) → left_by Equal a b ≡ Some p → AreNarrower a b p
-equal_narrow a b p is =
-    narrow_if (nat_le (max a.lo b.lo) (min a.hi b.hi)) a b _ p
-    (λ t. let le = le_of (max a.lo b.lo) (min a.hi b.hi) t in
-    record { some = le; most = omega arith; some_too = le; most_too = omega arith }) is
-
-unequal_narrow : (a b : Interval) → a.lo ≤ a.hi → b.lo ≤ b.hi
-    → AreNarrower a b (apart_from b a, apart_from a b)
-unequal_narrow a b h g =
-    let first = apart_some b a h in
-    let second = apart_some a b g in
-    record { some = first.0; most = first.1; some_too = second.0; most_too = second.1 }
-
-turned_narrow : (a b : Interval) (p : IntervalPair) → AreNarrower b a p → AreNarrower a b (swapped p)
-turned_narrow a b p h = record {
-  some = h.some_too;
-  most = h.most_too;
-  some_too = h.some;
-  most_too = h.most;
-}
-
-swapped_narrow : (a b : Interval) (o : Option IntervalPair) (p : IntervalPair)
-    → ((x : IntervalPair) → o ≡ Some x → AreNarrower b a x) → option_map swapped o ≡ Some p
-    → AreNarrower a b p
-swapped_narrow a b None p h is = absurd cc
-swapped_narrow a b (Some x) p h is =
-    narrow_some a b (swapped x) p (turned_narrow a b x (h x refl)) is
-
-left_narrow : (r : Relation) (a b : Interval) (p : IntervalPair) → a.lo ≤ a.hi → b.lo ≤ b.hi
-    → left_by r a b ≡ Some p → AreNarrower a b p
-left_narrow Equal a b p h g is = equal_narrow a b p is
-left_narrow Unequal a b p h g is = narrow_some a b _ p (unequal_narrow a b h g) is
-left_narrow Less a b p h g is = below_narrow a b p h g is
-left_narrow AtMost a b p h g is = at_most_narrow a b p h g is
-left_narrow More a b p h g is = swapped_narrow a b (below b a) p
-    (λ x e. below_narrow b a x g h e) is
-left_narrow AtLeast a b p h g is =
-    swapped_narrow a b (left_by AtMost b a) p (λ x e. at_most_narrow b a x g h e) is
-left_narrow Meets a b p h g is = narrow_some a b (a, b) p (narrow_itself a b h g) is
-left_narrow Misses a b p h g is = narrow_some a b (a, b) p (narrow_itself a b h g) is
-
--- ---- and of two numbers
+-- ---- what a comparison leaves of two numbers whose ends are in order
 
 pub record IsNarrower (a b : Number) (p : NumberPair) : Type 0 where
   pub ordered : least p.0 ≤ most p.0
@@ -165,43 +82,124 @@ same_numbers a b p h g is =
     subst (IsNarrower a b) same
     (record { ordered = h; within = omega arith; ordered_too = g; within_too = omega arith })
 
-paired_narrow : (a b : Number) (o : Option IntervalPair) (p : NumberPair)
-    → ((q : IntervalPair) → o ≡ Some q → AreNarrower a.range b.range q) → option_map pair o ≡ Some p
-    → IsNarrower a b p
-paired_narrow a b None p h is = absurd cc
-paired_narrow a b (Some q) p h is =
-    let same : pair q ≡ p = cc in
-    let n = h q refl in
-    subst (IsNarrower a b) same
-    (record {
-      ordered = n.some;
-      within = n.most;
-      ordered_too = n.some_too;
-      within_too = n.most_too;
-    })
+narrow_if : (t : Bool) (a b : Number) (x p : NumberPair) → (t ≡ false → IsNarrower a b x)
+    → (if t then None else Some x) ≡ Some p → IsNarrower a b p
+narrow_if true a b x p h is = absurd cc
+narrow_if false a b x p h is = let same : x ≡ p = cc in subst (IsNarrower a b) same (h refl)
 
-pub narrowed_narrow : (w : Bits) (condition : Condition) (jumps : Bool) (a b : Number) (p : NumberPair)
+-- what is kept isn't empty, so its ends are in order
+kept_narrow : (a b x y : Number) (p : NumberPair) → most x ≤ most a → most y ≤ most b
+    → kept x y ≡ Some p → IsNarrower a b p
+kept_narrow a b x y p h g is = narrow_if (is_empty x || is_empty y) a b (x, y) p (λ some.
+    let parts = or_parts (is_empty x) (is_empty y) some in
+    record {
+      ordered = some_order x parts.0;
+      within = h;
+      ordered_too = some_order y parts.1;
+      within_too = g;
+    }) is
+
+-- ends that don't go up
+AreLower : Interval → Interval → Option IntervalPair → Type 0
+AreLower a b None = Unit {0}
+AreLower a b (Some p) = (p.0.hi ≤ a.hi) × (p.1.hi ≤ b.hi)
+
+kept_in_narrow : (a b : Number) (o : Option IntervalPair) (p : NumberPair)
+    → AreLower a.range b.range o → kept_in a b o ≡ Some p → IsNarrower a b p
+unfolding AreLower
+kept_in_narrow a b None p h is = absurd cc
+kept_in_narrow a b (Some q) p h is =
+    let first = moved_in q.0 a.bits in
+    let second = moved_in q.1 b.bits in
+    kept_narrow a b (tidy q.0 a.bits) (tidy q.1 b.bits) p (omega (arith, first.1, h.0))
+    (omega (arith, second.1, h.1)) is
+
+kept_with_narrow : (q : KnownBits) (a b : Number) (p : NumberPair) → least b ≤ most b
+    → kept_with q a b ≡ Some p → IsNarrower a b p
+kept_with_narrow q a b p g is = narrow_if (is_empty (tidy a.range q)) a b (tidy a.range q, b) p
+    (λ some.
+    let ends = moved_in a.range q in
+    record {
+      ordered = some_order (tidy a.range q) some;
+      within = ends.1;
+      ordered_too = g;
+      within_too = omega arith;
+    }) is
+
+apart_lower : (b a : Interval) → (apart_from b a).hi ≤ a.hi
+apart_lower b a = grind arith
+
+below_lower : (a b : Interval) → AreLower a b (below a b)
+unfolding AreLower
+below_lower a b = elim (cases_Bool (nat_lt a.lo b.hi)) [
+  | inl is ↦ rw is (omega arith, omega arith)
+  | inr is ↦ rw is tt
+]
+
+at_most_lower : (a b : Interval) → AreLower a b (at_most a b)
+unfolding AreLower
+at_most_lower a b = elim (cases_Bool (nat_le a.lo b.hi)) [
+  | inl is ↦ rw is (omega arith, omega arith)
+  | inr is ↦ rw is tt
+]
+
+swapped_lower : (a b : Interval) (o : Option IntervalPair) → AreLower b a o
+    → AreLower a b (option_map swapped o)
+unfolding AreLower
+swapped_lower a b None h = tt
+swapped_lower a b (Some q) h = (h.1, h.0)
+
+equal_narrow : (a b : Number) (p : NumberPair) → kept (equal a b) (equal a b) ≡ Some p
+    → IsNarrower a b p
+equal_narrow a b p is =
+    let ends = moved_in (overlap a.range b.range) (combined a.bits b.bits) in
+    kept_narrow a b (equal a b) (equal a b) p (omega (arith, ends.1)) (omega (arith, ends.1)) is
+
+by_test : (t : Bool) (o other : Option NumberPair) (P : NumberPair → Type 0) (p : NumberPair)
+    → (o ≡ Some p → P p) → (other ≡ Some p → P p) → (if t then o else other) ≡ Some p → P p
+by_test true o other P p h g is = h is
+by_test false o other P p h g is = g is
+
+meeting_narrow : (n : ℕ) (a b : Number) (p : NumberPair) → least b ≤ most b
+    → meeting n a b ≡ Some p → IsNarrower a b p
+meeting_narrow n a b p g is = by_test (bit_and a.bits.may_have n == 0) None
+    (kept_with (with_one_of n a.bits) a b) (IsNarrower a b) p (λ e. absurd cc)
+    (kept_with_narrow (with_one_of n a.bits) a b p g) is
+
+left_narrow : (r : Relation) (a b : Number) (p : NumberPair) → least a ≤ most a
+    → least b ≤ most b → left_by r a b ≡ Some p → IsNarrower a b p
+unfolding AreLower
+left_narrow Equal a b p h g is = equal_narrow a b p is
+left_narrow Unequal a b p h g is =
+    kept_in_narrow a b (Some (apart_from b.range a.range, apart_from a.range b.range)) p
+    (apart_lower b.range a.range, apart_lower a.range b.range) is
+left_narrow Less a b p h g is =
+    kept_in_narrow a b (below a.range b.range) p (below_lower a.range b.range) is
+left_narrow AtMost a b p h g is =
+    kept_in_narrow a b (at_most a.range b.range) p (at_most_lower a.range b.range) is
+left_narrow More a b p h g is =
+    kept_in_narrow a b (option_map swapped (below b.range a.range)) p
+    (swapped_lower a.range b.range (below b.range a.range) (below_lower b.range a.range)) is
+left_narrow AtLeast a b p h g is =
+    kept_in_narrow a b (option_map swapped (at_most b.range a.range)) p
+    (swapped_lower a.range b.range (at_most b.range a.range) (at_most_lower b.range a.range)) is
+left_narrow Meets a b p h g is = by_test (is_single b) (meeting (least b) a b) (Some (a, b))
+    (IsNarrower a b) p (meeting_narrow (least b) a b p g) (same_numbers a b p h g) is
+left_narrow Misses a b p h g is =
+    by_test (is_single b) (kept_with (without_bits (least b) a.bits) a b) (Some (a, b))
+    (IsNarrower a b) p (kept_with_narrow (without_bits (least b) a.bits) a b p g)
+    (same_numbers a b p h g) is
+
+pub narrowed_narrow : (w : Bits) (condition : Condition) (jumps : Bool) (a b : Number)
+    (p : NumberPair)
     → least a ≤ most a → least b ≤ most b → narrowed w condition jumps a b ≡ Some p
     → IsNarrower a b p
-narrowed_narrow w condition jumps a b p h g is = by_single (are_single a b) is
-  where
-    by_taken : (t : Bool) → (if t then Some (a, b) else None) ≡ Some p → IsNarrower a b p
-    by_taken true is = same_numbers a b p h g is
-    by_taken false is = absurd cc
-
-    by_order : (t : Bool) → (if t
-        then option_map pair (left_by (learnt condition jumps) a.range b.range)
-        else Some (a, b)) ≡ Some p
-        → IsNarrower a b p
-    by_order true is = paired_narrow a b (left_by (learnt condition jumps) a.range b.range) p
-        (λ q. left_narrow (learnt condition jumps) a.range b.range q h g) is
-    by_order false is = same_numbers a b p h g is
-
-    by_single : (t : Bool) → (if t then
-        (if is_taken jumps (holds w condition (least a) (least b)) then Some (a, b) else None)
-        else if is_comparable w condition a.range b.range
-        then option_map pair (left_by (learnt condition jumps) a.range b.range)
-        else Some (a, b)) ≡ Some p
-        → IsNarrower a b p
-    by_single true is = by_taken (is_taken jumps (holds w condition (least a) (least b))) is
-    by_single false is = by_order (is_comparable w condition a.range b.range) is
+narrowed_narrow w condition jumps a b p h g is =
+    let left = left_by (learnt condition jumps) a b in
+    by_test (are_single a b)
+    (if is_taken jumps (holds w condition (least a) (least b)) then Some (a, b) else None)
+    (if is_comparable w condition a.range b.range then left else Some (a, b)) (IsNarrower a b) p
+    (by_test (is_taken jumps (holds w condition (least a) (least b))) (Some (a, b)) None
+    (IsNarrower a b) p (same_numbers a b p h g) (λ e. absurd cc))
+    (by_test (is_comparable w condition a.range b.range) left (Some (a, b)) (IsNarrower a b) p
+    (left_narrow (learnt condition jumps) a b p h g) (same_numbers a b p h g)) is

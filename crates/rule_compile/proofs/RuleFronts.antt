@@ -17,11 +17,14 @@ use Rattle.rule_lang.specs.Meaning.{flag_bit, attribute_number}
 use Rattle.rule_lang.specs.Shapes.{array_named, cell_of, quota_of}
 use Rattle.rule_lang.specs.Trees.{Tree, Asked, Negated, Both, Either}
 use Rattle.rule_compile.specs.Instructions as insn
-use Rattle.rule_compile.specs.Code.{condition_of, version_code, four_of, place_named, test_code, tree_code}
+use Rattle.rule_compile.specs.Code.{condition_of, version_code, four_of}
+use Rattle.rule_compile.specs.Code.{place_named, test_code, tree_code}
 use Rattle.rule_compile.specs.Ranges.{IsInRange}
 use Rattle.rule_compile.proofs.Arrays.{can_take_is}
 use Rattle.rule_compile.proofs.RuleRuns.{Suits}
-use Rattle.rule_compile.proofs.Fronts.{IsLabel, IsRest, IsFront, first_label, label_if, front_then, field_front, flag_front, equal_front, order_front, bucket_front}
+use Rattle.rule_compile.proofs.Fronts.{IsLabel, IsRest, IsFront, first_label}
+use Rattle.rule_compile.proofs.Fronts.{label_if, front_then, field_front, flag_front}
+use Rattle.rule_compile.proofs.Fronts.{equal_front, order_front, bucket_front}
 use Rattle.rule_compile.proofs.TextFronts.{attribute_front, take_front}
 
 few_attributes : (n : Attribute) → attribute_number n < 64

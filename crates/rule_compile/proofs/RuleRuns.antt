@@ -1,6 +1,7 @@
 -- The code of a rule runs as the rule says: by induction over the condition, and over the
 -- statements.
-use Rattle.std.proofs.Common.{◌≡◌, ℕ, ◌≤◌, List, [], ◌∷◌, drop, length, Option, Some, None, Bool, true, false, refl, sym, ap, subst, arith}
+use Rattle.std.proofs.Common.{◌≡◌, ℕ, ◌≤◌, List, [], ◌∷◌, drop, length, Option, Some, None}
+use Rattle.std.proofs.Common.{Bool, true, false, refl, sym, ap, subst, arith}
 use Rattle.std.specs.Prelude.{option_and_then, if◌then◌else◌}
 use Rattle.std.specs.List.{list_all}
 use Rattle.attrs.specs.Attributes.{Attributes}
@@ -18,10 +19,12 @@ use Rattle.rule_lang.specs.declared.condition.Step.TheVariants as step
 use Rattle.rule_lang.specs.declared.rule.Statement.{Statement}
 use Rattle.rule_lang.specs.declared.rule.Statement.TheVariants.{Count, When}
 use Rattle.rule_lang.specs.Fits.{test_fits, step_fits, statement_fits, is_release, fits}
-use Rattle.rule_lang.specs.Meaning.{Behaviour, Chooses, Follows, decide, decide_one, decide_steps, behaviour}
+use Rattle.rule_lang.specs.Meaning.{Behaviour, Chooses, Follows, decide}
+use Rattle.rule_lang.specs.Meaning.{decide_one, decide_steps, behaviour}
 use Rattle.rule_lang.specs.Shapes.{array_named, cell_of}
 use Rattle.rule_lang.specs.Trees.{Tree, Asked, Negated, Both, Either, with_step, trees_from}
-use Rattle.rule_compile.specs.Code.{tree_code, made_code, goal, steps_code, array_size, place_named, end_code, statements_code, rule_code}
+use Rattle.rule_compile.specs.Code.{tree_code, made_code, goal, steps_code, array_size}
+use Rattle.rule_compile.specs.Code.{place_named, end_code, statements_code, rule_code}
 use Rattle.rule_compile.proofs.Fields.{FitFields, fit_fields}
 use Rattle.rule_compile.specs.Means.{Means}
 use Rattle.rule_compile.specs.Ranges.{IsInRange, IsStepInRange, AreInRange, IsRuleInRange, AreMade}

@@ -1,7 +1,8 @@
 -- What a run comes to from a place: a behaviour, whatever is replied. Each lemma carries it from
 -- the rest to the rest
 -- with one instruction more in front.
-use Rattle.std.proofs.Common.{◌≡◌, ℕ, ◌+◌, ◌%◌, ◌<◌, ◌^◌, pos, List, [], ◌∷◌, drop, Option, Some, Bool, true, false, refl, sym, ap, subst, ◌∙◌, arith}
+use Rattle.std.proofs.Common.{◌≡◌, ℕ, ◌+◌, ◌%◌, ◌<◌, ◌^◌, pos, List, [], ◌∷◌, drop}
+use Rattle.std.proofs.Common.{Option, Some, Bool, true, false, refl, sym, ap, subst, ◌∙◌, arith}
 use Rattle.std.specs.Prelude.{if◌then◌else◌}
 use Rattle.std.specs.Int.{w32, cast_unsigned}
 use Rattle.std.proofs.lemmas.Int.{of_z-to_z}

@@ -1,5 +1,8 @@
 -- Texts: what stores leave on the stack, and what the helper reads there.
-use Rattle.std.proofs.Common.{◌≡◌, ℕ, zero, suc, ◌+◌, ◌-◌, ◌*◌, ◌/◌, ◌%◌, ◌<◌, ◌≤◌, ◌^◌, pos, negsuc, List, [], ◌∷◌, ◌++◌, length, ℤ, Option, Some, None, Bool, true, false, refl, sym, ap, subst, ◌∙◌, arith, append_assoc, append-nil, length-append}
+use Rattle.std.proofs.Common.{◌≡◌, ℕ, zero, suc, ◌+◌, ◌-◌, ◌*◌, ◌/◌, ◌%◌, ◌<◌, ◌≤◌}
+use Rattle.std.proofs.Common.{◌^◌, pos, negsuc, List, [], ◌∷◌, ◌++◌, length, ℤ}
+use Rattle.std.proofs.Common.{Option, Some, None, Bool, true, false, refl, sym, ap}
+use Rattle.std.proofs.Common.{subst, ◌∙◌, arith, append_assoc, append-nil, length-append}
 use Rattle.std.specs.Prelude.{slice_get, nat_le, nat_lt, ◌&&◌, ◌||◌, if◌then◌else◌}
 use Rattle.std.specs.Int.{w32, w64, cast_unsigned, cast_signed}
 use mir.Val.{sel}
@@ -11,7 +14,8 @@ use Rattle.attrs.specs.Attributes.{Attributes}
 use Rattle.bpf_insn.specs.declared.operand.Size.TheVariants as size
 use Rattle.bpf_insn.specs.Words.{little_endian}
 use Rattle.bpf_insn.specs.Program.{Program}
-use Rattle.bpf_verify.specs.bpf_semantics.Memory.{address_of, cell_start, stack_top, stack_start, cell_at, is_in_stack, set_bytes}
+use Rattle.bpf_verify.specs.bpf_semantics.Memory.{address_of, cell_start, stack_top}
+use Rattle.bpf_verify.specs.bpf_semantics.Memory.{stack_start, cell_at, is_in_stack, set_bytes}
 use Rattle.bpf_verify.specs.bpf_semantics.Program.{ShapedProgram}
 use Rattle.bpf_verify.specs.bpf_semantics.State.{State, with_bytes, written_at}
 use Rattle.bpf_verify.specs.bpf_semantics.Step.{store}

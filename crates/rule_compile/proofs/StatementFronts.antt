@@ -1,5 +1,6 @@
 -- The code of a statement, and of a whole rule, is typed in front of what follows it.
-use Rattle.std.proofs.Common.{◌≡◌, ℕ, zero, suc, ◌≤◌, List, [], ◌∷◌, length, Option, Some, true, refl, sym, subst, arith}
+use Rattle.std.proofs.Common.{◌≡◌, ℕ, zero, suc, ◌≤◌, List, [], ◌∷◌, length}
+use Rattle.std.proofs.Common.{Option, Some, true, refl, sym, subst, arith}
 use Rattle.std.specs.Prelude.{nat_le}
 use Rattle.std.specs.List.{list_all, AllByRecursion}
 use Rattle.bpf_insn.specs.declared.insn.Insn.TheVariants.{Exit}
@@ -17,7 +18,8 @@ use Rattle.rule_lang.specs.Fits.{step_fits, statement_fits, is_release, fits}
 use Rattle.rule_lang.specs.Shapes.{array_named, cell_of}
 use Rattle.rule_lang.specs.Trees.{Tree, trees_from}
 use Rattle.rule_compile.specs.Instructions as insn
-use Rattle.rule_compile.specs.Code.{place_named, made_code, goal, steps_code, array_size, end_code, none_code, statements_code, rule_code}
+use Rattle.rule_compile.specs.Code.{place_named, made_code, goal, steps_code, array_size}
+use Rattle.rule_compile.specs.Code.{end_code, none_code, statements_code, rule_code}
 use Rattle.rule_compile.specs.Ranges.{IsRuleInRange, AreMade}
 use Rattle.rule_compile.specs.Writing.{CanEncode}
 use Rattle.rule_compile.proofs.Arrays.{can_count_is, both_true}
@@ -28,7 +30,8 @@ use Rattle.rule_compile.proofs.Entries.{none_set, frame, choice, chosen, Takes}
 use Rattle.rule_compile.proofs.Narrowings.{le_of}
 use Rattle.rule_compile.proofs.InsnSteps.{set_step, copy_step, exit_step}
 use Rattle.rule_compile.proofs.CellSteps.{no_quota, contains_at}
-use Rattle.rule_compile.proofs.Fronts.{IsLabel, IsRest, IsFront, takes_here, takes_more, first_label, tail_itself, put_first}
+use Rattle.rule_compile.proofs.Fronts.{IsLabel, IsRest, IsFront, takes_here}
+use Rattle.rule_compile.proofs.Fronts.{takes_more, first_label, tail_itself, put_first}
 use Rattle.rule_compile.proofs.TextFronts.{count_front}
 use Rattle.rule_compile.proofs.RuleFronts.{tree_front}
 

@@ -1,5 +1,7 @@
 -- The loop over the steps of a condition, from the last to the first.
-use Rattle.std.proofs.Common.{◌≡◌, ℕ, zero, suc, ◌+◌, ◌-◌, ◌*◌, ◌<◌, ◌≤◌, List, [], ◌∷◌, ◌++◌, take, drop, length, get_or, Option, Some, None, Bool, true, false, refl, sym, ap, subst, ◌∙◌, arith, add-one, drop-cons}
+use Rattle.std.proofs.Common.{◌≡◌, ℕ, zero, suc, ◌+◌, ◌-◌, ◌*◌, ◌<◌, ◌≤◌, List, [], ◌∷◌, ◌++◌}
+use Rattle.std.proofs.Common.{take, drop, length, get_or, Option, Some, None, Bool, true}
+use Rattle.std.proofs.Common.{false, refl, sym, ap, subst, ◌∙◌, arith, add-one, drop-cons}
 use Rattle.std.specs.Prelude.{not, option_and_then, if◌then◌else◌}
 use Rattle.std.proofs.lemmas.List.Elements.{All-nil, All-cons, All-head, All-tail}
 use Rattle.bpf_insn.specs.Program.{Program}

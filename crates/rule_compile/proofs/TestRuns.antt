@@ -1,5 +1,6 @@
 -- Each test's code runs as the test says.
-use Rattle.std.proofs.Common.{◌≡◌, ℕ, ◌<◌, ◌≤◌, ◌^◌, List, [], ◌∷◌, length, Option, Some, None, Bool, true, false, refl, sym, ap, subst, ◌∙◌, arith}
+use Rattle.std.proofs.Common.{◌≡◌, ℕ, ◌<◌, ◌≤◌, ◌^◌, List, [], ◌∷◌, length, Option, Some, None}
+use Rattle.std.proofs.Common.{Bool, true, false, refl, sym, ap, subst, ◌∙◌, arith}
 use Rattle.std.specs.Prelude.{nat_le, ◌==◌, bytes_eq, slice_index, if◌then◌else◌}
 use Rattle.std.specs.Int.{w32}
 use Rattle.std.specs.List.{list_all}
@@ -14,14 +15,16 @@ use Rattle.bpf_insn.specs.Program.{Program}
 use Rattle.bpf_verify.specs.bpf_semantics.Program.{ShapedProgram}
 use Rattle.cells.specs.Arrays.{IsShape}
 use Rattle.rule_lang.specs.declared.test.Flag as the_flag
-use Rattle.rule_lang.specs.declared.test.Flag.TheVariants.{VersionKnown, Updatecheck, Ping, Event, CohortKnown, InstalldateKnown}
+use Rattle.rule_lang.specs.declared.test.Flag.TheVariants.{VersionKnown, Updatecheck, Ping}
+use Rattle.rule_lang.specs.declared.test.Flag.TheVariants.{Event, CohortKnown, InstalldateKnown}
 use Rattle.rule_lang.specs.declared.test.Relation.{Relation}
 use Rattle.rule_lang.specs.declared.test.Relation.TheVariants as relation
 use Rattle.rule_lang.specs.declared.test.Test as the_test
 use Rattle.rule_lang.specs.declared.test.Test.TheVariants as test
 use Rattle.rule_lang.specs.Fits.{test_fits}
 use Rattle.rule_lang.specs.Literals.{IsLiteral, is_literal_byte, is_printable}
-use Rattle.rule_lang.specs.Meaning.{Behaviour, relates, version_cmp, bucket_by, remainder, flag_bit, attribute_number, test_then}
+use Rattle.rule_lang.specs.Meaning.{Behaviour, relates, version_cmp, bucket_by}
+use Rattle.rule_lang.specs.Meaning.{remainder, flag_bit, attribute_number, test_then}
 use Rattle.rule_lang.specs.Shapes.{array_named, cell_of, quota_of}
 use Rattle.rule_compile.specs.Instructions.{turned}
 use Rattle.rule_compile.specs.Blocks as code
@@ -29,14 +32,16 @@ use Rattle.rule_compile.specs.Code.{condition_of, version_code, four_of, place_n
 use Rattle.rule_compile.specs.Ranges.{IsInRange}
 use Rattle.rule_compile.proofs.Labels.{from_label}
 use Rattle.rule_compile.proofs.Runs.{Comes, Nothing, Reads}
-use Rattle.rule_compile.proofs.Fields.{FitFields, today_reads, installed_reads, first_reads, second_reads, third_reads, fourth_reads}
+use Rattle.rule_compile.proofs.Fields.{FitFields, today_reads, installed_reads}
+use Rattle.rule_compile.proofs.Fields.{first_reads, second_reads, third_reads, fourth_reads}
 use Rattle.rule_compile.proofs.Compares.{IsRelation, by_sense, field_runs, flag_runs, bucket_runs}
 use Rattle.rule_compile.proofs.VersionWords.{AreRead, equal_runs, order_runs}
 use Rattle.rule_compile.proofs.CounterPieces.{take_runs}
 use Rattle.rule_compile.proofs.StackTexts.{AreBytes}
 use Rattle.rule_compile.proofs.TextComparisons.{attribute_runs}
 use Rattle.rule_compile.proofs.Arrays.{CanTake, can_take_is, both_true}
-use Rattle.rule_compile.proofs.Relations.{relates_is, IsOrder, strict_of, ordered_is, equal_is, unequal_is}
+use Rattle.rule_compile.proofs.Relations.{relates_is, IsOrder, strict_of}
+use Rattle.rule_compile.proofs.Relations.{ordered_is, equal_is, unequal_is}
 
 -- the numbers of a version but the first
 abbrev later_of : List ℕ → List ℕ

@@ -1,5 +1,6 @@
 -- The code of a comparison with a text, and of counters, in front of typed code.
-use Rattle.std.proofs.Common.{◌≡◌, ℕ, ◌+◌, ◌-◌, ◌%◌, ◌<◌, ◌≤◌, ◌^◌, List, [], ◌∷◌, length, Some, None, Bool, false, refl, subst, arith}
+use Rattle.std.proofs.Common.{◌≡◌, ℕ, ◌+◌, ◌-◌, ◌%◌, ◌<◌, ◌≤◌, ◌^◌}
+use Rattle.std.proofs.Common.{List, [], ◌∷◌, length, Some, None, Bool, false, refl, subst, arith}
 use Rattle.std.specs.Prelude.{slice_get}
 use Rattle.bpf_insn.specs.declared.insn.Insn.{Insn}
 use Rattle.bpf_insn.specs.declared.operand.AtomicSize.{AtomicSize}
@@ -25,7 +26,9 @@ use Rattle.rule_compile.proofs.JumpSteps.{quota_jump_step}
 use Rattle.rule_compile.proofs.CellSteps.{cell_step, add_step, take_step}
 use Rattle.rule_compile.proofs.StackSteps.{store_step, point_step, compare_step}
 use Rattle.rule_compile.proofs.StackBytes.{text_set, with_text, text_place}
-use Rattle.rule_compile.proofs.Fronts.{IsLabel, IsRest, IsTail, IsFront, takes_here, takes_behind, takes_more, tail_itself, put, put_half, put_first, front_of, asked, answer_tail}
+use Rattle.rule_compile.proofs.Fronts.{IsLabel, IsRest, IsTail, IsFront, takes_here}
+use Rattle.rule_compile.proofs.Fronts.{takes_behind, takes_more, tail_itself, put}
+use Rattle.rule_compile.proofs.Fronts.{put_half, put_first, front_of, asked, answer_tail}
 
 -- ---- texts
 

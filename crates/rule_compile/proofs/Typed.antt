@@ -1,7 +1,8 @@
 -- A program with an entry a slot, each of whose instructions passes and leads within these entries:
 -- it has a table. All is said of an
 -- instruction and what stands behind it, so code that is put in front keeps it.
-use Rattle.std.proofs.Common.{◌≡◌, ℕ, zero, suc, ◌+◌, pos, List, [], ◌∷◌, ◌++◌, drop, Option, Some, None, Bool, true, false, refl, sym, ap, subst, ◌∙◌, arith, zero-add}
+use Rattle.std.proofs.Common.{◌≡◌, ℕ, zero, suc, ◌+◌, pos, List, [], ◌∷◌, ◌++◌, drop, Option, Some}
+use Rattle.std.proofs.Common.{None, Bool, true, false, refl, sym, ap, subst, ◌∙◌, arith, zero-add}
 use Rattle.std.specs.Prelude.{IsSome, slice_index_or, slice_get, if◌then◌else◌}
 use Rattle.std.specs.List.{AllByRecursion}
 use Rattle.bpf_insn.specs.declared.insn.Insn.{Insn}
@@ -15,7 +16,8 @@ use Rattle.cells.specs.Arrays.{AppShape}
 use Rattle.bpf_verify.specs.abs_value.declared.state.AbsState.{AbsState}
 use Rattle.bpf_verify.specs.abs_value.States.{opening_state}
 use Rattle.bpf_verify.specs.bpf_rules.Rules.{first_rule}
-use Rattle.bpf_verify.specs.bpf_rules.Transfer.{Edge, edge, edges, jumping, going_on, jump_edge, next_edge, next_target}
+use Rattle.bpf_verify.specs.bpf_rules.Transfer.{Edge, edge, edges, jumping, going_on}
+use Rattle.bpf_verify.specs.bpf_rules.Transfer.{jump_edge, next_edge, next_target}
 use Rattle.bpf_verify.specs.Table.{Known, Knows, IsTable}
 
 -- past the list nothing is known

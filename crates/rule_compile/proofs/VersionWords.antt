@@ -1,5 +1,6 @@
 -- Versions, word by word: the first word that differs decides.
-use Rattle.std.proofs.Common.{ℕ, suc, ◌-◌, ◌*◌, ◌<◌, ◌≤◌, ◌^◌, List, [], ◌∷◌, length, Some, Bool, true, false, sym, subst, arith}
+use Rattle.std.proofs.Common.{ℕ, suc, ◌-◌, ◌*◌, ◌<◌, ◌≤◌, ◌^◌, List, [], ◌∷◌, length, Some}
+use Rattle.std.proofs.Common.{Bool, true, false, sym, subst, arith}
 use Rattle.std.specs.Prelude.{if◌then◌else◌}
 use Rattle.std.specs.Int.{w32}
 use Rattle.attrs.specs.Attributes.{Attributes}
@@ -13,7 +14,8 @@ use Rattle.bpf_verify.specs.bpf_semantics.Program.{ShapedProgram}
 use Rattle.rule_lang.specs.Meaning.{Behaviour}
 use Rattle.rule_compile.specs.Instructions as insn
 use Rattle.rule_compile.specs.Blocks as code
-use Rattle.rule_compile.proofs.Labels.{from_label, at_start, IsBefore, before_one, before_then, before_itself}
+use Rattle.rule_compile.proofs.Labels.{from_label, at_start, IsBefore}
+use Rattle.rule_compile.proofs.Labels.{before_one, before_then, before_itself}
 use Rattle.rule_compile.proofs.Runs.{Comes, Nothing, Has, knowing, Reads, load_then, jump_then}
 use Rattle.rule_compile.proofs.Compares.{IsRelation, by_sense, field_runs}
 

@@ -12,7 +12,8 @@ use Rattle.abs_value.specs.declared.value.Abs.{Abs}
 use Rattle.abs_value.specs.declared.value.Abs.TheVariants.{MayCell, Cell}
 use Rattle.abs_value.specs.Stack.{slot_at}
 use Rattle.abs_value.specs.States.{register_at}
-use Rattle.abs_value.specs.Covers.{Answers, Answered, AreBefore, Includes, CoversValue, CoversSlot, Covers, IsStoodFor, bytes_of}
+use Rattle.abs_value.specs.Covers.{Answers, Answered, AreBefore, Includes, CoversValue}
+use Rattle.abs_value.specs.Covers.{CoversSlot, Covers, IsStoodFor, bytes_of}
 use Rattle.bpf_verify.specs.Accepted.{entry_of}
 use Rattle.worked.specs.LooksBack.{LooksBack, SlotLooksBack, StateLooksBack}
 use Rattle.worked.proofs.EntriesBack.{entries_back}

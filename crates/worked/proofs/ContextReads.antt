@@ -1,5 +1,6 @@
 -- What a run reads of the context, whatever the attributes are.
-use Rattle.std.proofs.Common.{◌≡◌, ℕ, ◌+◌, ◌*◌, ◌/◌, ◌%◌, ◌^◌, ◌<◌, Some, refl, ap, arith, slice_index}
+use Rattle.std.proofs.Common.{◌≡◌, ℕ, ◌+◌, ◌*◌, ◌/◌, ◌%◌, ◌^◌, ◌<◌}
+use Rattle.std.proofs.Common.{Some, refl, ap, arith, slice_index}
 use Rattle.attrs.specs.Attributes.{Attributes}
 use Rattle.attrs.specs.Context.{context_bytes}
 use Rattle.bpf_semantics.specs.State.{opening, read_at}

@@ -1,5 +1,6 @@
 -- Each entry looks back: so each edge is made, and so edges are joined.
-use Rattle.std.proofs.Common.{◌≡◌, ℕ, zero, suc, ◌<◌, List, [], ◌∷◌, ◌++◌, Option, Some, None, Bool, true, false, subst, arith}
+use Rattle.std.proofs.Common.{◌≡◌, ℕ, zero, suc, ◌<◌, List, [], ◌∷◌, ◌++◌}
+use Rattle.std.proofs.Common.{Option, Some, None, Bool, true, false, subst, arith}
 use Rattle.std.specs.Prelude.{IfSome, ◌==◌, if◌then◌else◌}
 use Rattle.std.specs.List.{AllByRecursion}
 use Rattle.std.proofs.lemmas.Option.{same_Some, none-some}
@@ -7,7 +8,8 @@ use Rattle.bpf_insn.specs.declared.operand.Bits.TheVariants.{Bits64}
 use Rattle.bpf_insn.specs.declared.operand.LoadKind.{LoadKind}
 use Rattle.bpf_insn.specs.declared.reg.Reg.{Reg}
 use Rattle.bpf_insn.specs.declared.insn.Insn.{Insn}
-use Rattle.bpf_insn.specs.declared.insn.Insn.TheVariants.{Alu, Mov, MovSx, Neg, End, JumpIf, Call, Load, StoreImm, Store, Atomic, Wide}
+use Rattle.bpf_insn.specs.declared.insn.Insn.TheVariants.{Alu, Mov, MovSx, Neg, End, JumpIf, Call}
+use Rattle.bpf_insn.specs.declared.insn.Insn.TheVariants.{Load, StoreImm, Store, Atomic, Wide}
 use Rattle.bpf_insn.specs.Table.{number_of}
 use Rattle.bpf_insn.specs.Words.{immediate}
 use Rattle.bpf_insn.specs.Program.{at}
@@ -22,7 +24,9 @@ use Rattle.abs_value.specs.Numbers.{single}
 use Rattle.abs_value.specs.States.{value_of, operand_value, opening_state, join_states}
 use Rattle.bpf_verify.specs.flow_check.Edges.{target_of}
 use Rattle.bpf_verify.specs.bpf_rules.Memory.{stack_place}
-use Rattle.bpf_verify.specs.bpf_rules.Transfer.{loaded_at, stored_at, fetched_value, with_fetched, after, jumping, going_on, Edge, edge, edges, next_target}
+use Rattle.bpf_verify.specs.bpf_rules.Transfer.{loaded_at, stored_at, fetched_value}
+use Rattle.bpf_verify.specs.bpf_rules.Transfer.{with_fetched, after, jumping, going_on}
+use Rattle.bpf_verify.specs.bpf_rules.Transfer.{Edge, edge, edges, next_target}
 use Rattle.bpf_verify.specs.Accepted.{to_place, joined, join_all, edges_of, incoming, entry_of}
 use Rattle.worked.specs.LooksBack.{LooksBack, StateLooksBack}
 use Rattle.worked.proofs.ValuesBack as value

@@ -1,5 +1,7 @@
 -- A store sets exactly the bytes that it writes, and leaves the other slots as they are.
-use Rattle.std.proofs.Common.{◌≡◌, ◌≢◌, ℕ, ◌+◌, ◌-◌, ◌*◌, ◌/◌, ◌%◌, ◌^◌, ◌<◌, ◌≤◌, List, length, Bool, true, false, refl, sym, ap, ◌∙◌, arith, inl, inr, get_or-set_other}
+use Rattle.std.proofs.Common.{◌≡◌, ◌≢◌, ℕ, ◌+◌, ◌-◌, ◌*◌, ◌/◌, ◌%◌, ◌^◌, ◌<◌, ◌≤◌}
+use Rattle.std.proofs.Common.{List, length, Bool, true, false, refl, sym}
+use Rattle.std.proofs.Common.{ap, ◌∙◌, arith, inl, inr, get_or-set_other}
 use Rattle.std.specs.Prelude.{◌&&◌, ◌||◌, nat_le, nat_lt, ◌==◌, bit_or, slice_set}
 use Rattle.std.specs.Int.{bit_at}
 use Rattle.std.proofs.Math.Nat.{div-add-mod'}
@@ -7,12 +9,14 @@ use Rattle.std.proofs.lemmas.Bool.{cases_lt, cases_eq, cases_Bool, leb-true, leb
 use Rattle.std.proofs.lemmas.Grind.{get_or-set_at}
 use Rattle.std.proofs.lemmas.List.{length-set, set_past}
 use Rattle.std.proofs.lemmas.Nat.{shr-shr, pow_pos}
-use Rattle.std.proofs.lemmas.Nat.Bits.{bit_at_or, bit_at-zero, bit_at-lt, bit_at_ones, bit_at_ones_above, bit_at_cat_low, bit_at_cat_high}
+use Rattle.std.proofs.lemmas.Nat.Bits.{bit_at_or, bit_at-zero, bit_at-lt, bit_at_ones}
+use Rattle.std.proofs.lemmas.Nat.Bits.{bit_at_ones_above, bit_at_cat_low, bit_at_cat_high}
 use Rattle.bpf_semantics.specs.Memory.{stack_size}
 use Rattle.abs_value.specs.declared.slot.AbsSlot.{AbsSlot}
 use Rattle.abs_value.specs.declared.slot.AbsSlot.TheVariants.{Kept, Bytes}
 use Rattle.abs_value.specs.declared.value.Abs.{Abs}
-use Rattle.abs_value.specs.Stack.{mask_of, slot_at, is_set, is_whole_slot, with_set, bits_of, first_bits, next_bits, with_written, stored}
+use Rattle.abs_value.specs.Stack.{mask_of, slot_at, is_set, is_whole_slot, with_set}
+use Rattle.abs_value.specs.Stack.{bits_of, first_bits, next_bits, with_written, stored}
 use Rattle.worked.specs.StoredBytes.{is_written}
 
 abbrev has_bit : ℕ → ℕ → Bool

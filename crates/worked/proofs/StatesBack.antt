@@ -1,5 +1,7 @@
 -- What an operation makes of a state that looks back looks back.
-use Rattle.std.proofs.Common.{◌≡◌, ℕ, zero, suc, ◌+◌, ◌/◌, ◌%◌, ◌<◌, ◌≤◌, ℤ, List, Option, Some, None, Bool, true, false, refl, sym, ap, subst, arith, inl, inr, map, replicate, length, get_or, set, get_or-set_other}
+use Rattle.std.proofs.Common.{◌≡◌, ℕ, zero, suc, ◌+◌, ◌/◌, ◌%◌, ◌<◌, ◌≤◌, ℤ, List, Option}
+use Rattle.std.proofs.Common.{Some, None, Bool, true, false, refl, sym, ap, subst, arith, inl, inr}
+use Rattle.std.proofs.Common.{map, replicate, length, get_or, set, get_or-set_other}
 use Rattle.std.specs.Prelude.{IfSome, option_map, nat_le, ◌==◌, ◌&&◌, if◌then◌else◌}
 use Rattle.std.specs.List.{range_with_len}
 use Rattle.std.proofs.Math.ListN.{get_or-map}
@@ -19,11 +21,19 @@ use Rattle.abs_value.specs.declared.slot.AbsSlot.{AbsSlot}
 use Rattle.abs_value.specs.declared.slot.AbsSlot.TheVariants.{Kept, Bytes}
 use Rattle.abs_value.specs.declared.state.AbsState.{AbsState}
 use Rattle.abs_value.specs.declared.value.Abs.{Abs}
-use Rattle.abs_value.specs.declared.value.Abs.TheVariants.{Unusable, Num, Ctx, Stk, Map, MayCell, Cell}
+use Rattle.abs_value.specs.declared.value.Abs.TheVariants.{Unusable, Num, Ctx}
+use Rattle.abs_value.specs.declared.value.Abs.TheVariants.{Stk, Map, MayCell, Cell}
 use Rattle.abs_value.specs.Values.{is_pointer, loaded_value, join_values, refined}
-use Rattle.abs_value.specs.Stack.{slot_at, is_whole_slot, with_set, first_bits, next_bits, with_written, stored, kept_or, loaded_from, kept_slot, join_slots, join_stacks}
-use Rattle.abs_value.specs.States.{register_at, value_at, value_of, operand_value, with_value, with_operand, with_stored, opening_registers, opening_state, join_registers, join_states}
-use Rattle.abs_value.specs.Lookups.{with_answer, slot_with_answer, state_with_answer, after_null_check, with_both, after_comparison, compares_with_zero, is_found, is_register, refined_state, call_value, called_registers, called}
+use Rattle.abs_value.specs.Stack.{slot_at, is_whole_slot, with_set, first_bits}
+use Rattle.abs_value.specs.Stack.{next_bits, with_written, stored, kept_or}
+use Rattle.abs_value.specs.Stack.{loaded_from, kept_slot, join_slots, join_stacks}
+use Rattle.abs_value.specs.States.{register_at, value_at, value_of, operand_value}
+use Rattle.abs_value.specs.States.{with_value, with_operand, with_stored, opening_registers}
+use Rattle.abs_value.specs.States.{opening_state, join_registers, join_states}
+use Rattle.abs_value.specs.Lookups.{with_answer, slot_with_answer, state_with_answer}
+use Rattle.abs_value.specs.Lookups.{after_null_check, with_both, after_comparison}
+use Rattle.abs_value.specs.Lookups.{compares_with_zero, is_found, is_register}
+use Rattle.abs_value.specs.Lookups.{refined_state, call_value, called_registers, called}
 use Rattle.worked.specs.LooksBack.{LooksBack, SlotLooksBack, StateLooksBack}
 use Rattle.worked.proofs.ValuesBack as value
 use Rattle.worked.proofs.ValuesBack.{BothLookBack}

@@ -1,5 +1,6 @@
 -- What is computed of values that look back looks back.
-use Rattle.std.proofs.Common.{ℕ, ℤ, pos, negsuc, ◌<◌, ◌≤◌, Option, Some, None, Bool, true, false, arith}
+use Rattle.std.proofs.Common.{ℕ, ℤ, pos, negsuc, ◌<◌, ◌≤◌}
+use Rattle.std.proofs.Common.{Option, Some, None, Bool, true, false, arith}
 use Rattle.std.specs.Prelude.{IfSome, option_map, slice_get, ◌==◌, if◌then◌else◌}
 use Rattle.bpf_insn.specs.Program.{◌>>=◌}
 use Rattle.bpf_insn.specs.declared.operand.AluOp.{AluOp}
@@ -16,15 +17,20 @@ use Rattle.bpf_insn.specs.declared.operand.WideValue.{WideValue}
 use Rattle.bpf_insn.specs.declared.operand.WideValue.TheVariants as wide
 use Rattle.cells.specs.Arrays.{AppShape}
 use Rattle.cells.specs.declared.array.CellArray.{CellArray}
-use Rattle.bpf_semantics.specs.Helpers.{lookup_number, attr_is_number, attr_len_number, bucket_number}
+use Rattle.bpf_semantics.specs.Helpers.{lookup_number, attr_is_number}
+use Rattle.bpf_semantics.specs.Helpers.{attr_len_number, bucket_number}
 use Rattle.abs_value.specs.declared.origin.Lookup.{Lookup}
 use Rattle.abs_value.specs.declared.origin.Origin.TheVariants.{Found}
 use Rattle.abs_value.specs.declared.places.Places.{Places}
 use Rattle.abs_value.specs.declared.value.Abs.{Abs}
-use Rattle.abs_value.specs.declared.value.Abs.TheVariants.{Unusable, Num, Ctx, Stk, Map, MayCell, Cell}
+use Rattle.abs_value.specs.declared.value.Abs.TheVariants.{Unusable, Num, Ctx}
+use Rattle.abs_value.specs.declared.value.Abs.TheVariants.{Stk, Map, MayCell, Cell}
 use Rattle.abs_value.specs.Numbers.{single, up_to}
 use Rattle.abs_value.specs.Narrowing.{NumberPair, narrowed}
-use Rattle.abs_value.specs.Values.{moved_in_context, moved_in_stack, or_unusable, alu_value, copied_value, negated_value, extended_value, reordered_value, loaded_value, refined, numbers, same_lookup, is_found_by, same_origin, join_values}
+use Rattle.abs_value.specs.Values.{moved_in_context, moved_in_stack, or_unusable}
+use Rattle.abs_value.specs.Values.{alu_value, copied_value, negated_value, extended_value}
+use Rattle.abs_value.specs.Values.{reordered_value, loaded_value, refined, numbers}
+use Rattle.abs_value.specs.Values.{same_lookup, is_found_by, same_origin, join_values}
 use Rattle.abs_value.specs.Lookups.{answer_of, with_answer, lookup_value, call_value}
 use Rattle.bpf_verify.specs.bpf_rules.Arrays.{cell_behind, fixed_cell, wide_abs}
 use Rattle.worked.specs.LooksBack.{LooksBack, NamesNone}

@@ -2,6 +2,7 @@
 use Rattle.std.specs.Prelude.{ℕ, List, replicate, Option, option_map, Bool}
 use Rattle.bpf_insn.specs.declared.reg.Reg.TheVariants.{R0, R6}
 use Rattle.bpf_insn.specs.declared.operand.Bits.{Bits}
+use Rattle.bpf_insn.specs.declared.operand.Bits.TheVariants.{Bits64}
 use Rattle.bpf_insn.specs.declared.operand.Condition.{Condition}
 use Rattle.bpf_insn.specs.declared.operand.Operand.{Operand}
 use Rattle.abs_value.specs.declared.origin.Lookup.{Lookup}
@@ -12,14 +13,19 @@ use Rattle.abs_value.specs.declared.value.Abs.{Abs}
 use Rattle.abs_value.specs.declared.value.Abs.TheVariants.{Num}
 use Rattle.abs_value.specs.declared.number.Number.{Number}
 use Rattle.abs_value.specs.Intervals.{interval}
-use Rattle.abs_value.specs.Numbers.{number, single}
+use Rattle.abs_value.specs.Known.{known, any_of}
+use Rattle.abs_value.specs.Numbers.{number, single, tidied}
 use Rattle.abs_value.specs.Stack.{stored, slot_at}
 use Rattle.abs_value.specs.States.{value_at, with_value, with_stored, opening_state}
 use Rattle.abs_value.specs.Lookups.{refined_state}
 
--- a number from the first to the second
+-- a number from the first to the second, of which no more is known
 abbrev pub span : ℕ → ℕ → Number
-span lo hi = number (interval lo hi)
+span lo hi = tidied (interval lo hi) (any_of Bits64)
+
+-- a number from lo to hi that has the bits of one, and may have those of the other
+abbrev pub with_bits : ℕ → ℕ → ℕ → ℕ → Number
+with_bits lo hi has may_have = number (interval lo hi) (known has may_have)
 
 -- lookups in one array by two calls, and in another by the first of them
 abbrev pub first : Lookup

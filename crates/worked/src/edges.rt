@@ -55,8 +55,7 @@ pub fn decisions()
     ensures signed32 { narrowed Bits32 jump.Sgt true (single 0x80000000) (single 0) ≡ None }
 {}
 
-/// Signed comparisons narrow on one side of the sign bit, those of 32 bits below 2 to the 32, and
-/// a common bit tells nothing.
+/// Signed comparisons narrow on one side of the sign bit, and those of 32 bits below 2 to the 32.
 pub fn sides()
     ensures positive { narrowed Bits64 jump.Slt true (up_to 0x7FFFFFFFFFFFFFFF) (single 5)
         ≡ Some (up_to 4, single 5) }
@@ -73,6 +72,4 @@ pub fn sides()
         ≡ Some (up_to 5, single 5) }
     ensures crossing32 { narrowed Bits32 jump.Sle true (up_to 0x80000000) (single 5)
         ≡ Some (up_to 0x80000000, single 5) }
-    ensures common_bit { narrowed Bits64 jump.Set true (up_to 9) (single 2)
-        ≡ Some (up_to 9, single 2) }
 {}

@@ -16,6 +16,7 @@ pub mod programs;
 pub mod traps;
 
 // What the verifier knows of values (`abs_value`).
+pub mod bits;
 pub mod edges;
 pub mod lookups;
 pub mod numbers;

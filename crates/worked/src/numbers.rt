@@ -9,9 +9,10 @@ ghost use Rattle.bpf_insn.specs.declared.operand.Bits.TheVariants.{Bits64, Bits3
 ghost use Rattle.bpf_insn.specs.declared.operand.ByteOrder.TheVariants.{Little, Big};
 ghost use Rattle.bpf_insn.specs.declared.operand.EndSize.TheVariants as end;
 ghost use Rattle.bpf_insn.specs.declared.operand.Extension.TheVariants.{Byte64, Half32};
-ghost use Rattle.worked.specs.Examples.{span};
-ghost use Rattle.abs_value.specs.Numbers.{single, up_to, cut};
-ghost use Rattle.abs_value.specs.Bounds.{alu_number, extended_number, reordered_number};
+ghost use Rattle.worked.specs.Examples.{span, with_bits};
+ghost use Rattle.abs_value.specs.Numbers.{single, up_to};
+ghost use Rattle.abs_value.specs.Results.{alu_number, copied_number};
+ghost use Rattle.abs_value.specs.Results.{extended_number, reordered_number};
 
 /// ADD adds the ends, and gives any number of its class where the greatest sum doesn't fit.
 pub fn sums()
@@ -88,7 +89,8 @@ pub fn remainders()
         ≡ single 0xFFFFFFFFFFFFFFFF }
 {}
 
-/// AND is at most the lesser of the greatest numbers; OR and XOR have the bits of the greater one.
+/// AND is at most the lesser of the greatest numbers; OR and XOR have no bit above those of the
+/// greater one, and XOR no bit that is known to be in both.
 pub fn bit_operations()
     ensures and { alu_number Bits64 And (span 5 12) (span 7 200) ≡ up_to 12 }
     ensures and_too { alu_number Bits64 And (span 5 200) (span 7 12) ≡ up_to 12 }
@@ -96,27 +98,30 @@ pub fn bit_operations()
     ensures or_8 { alu_number Bits64 Or (span 1 3) (span 0 8) ≡ up_to 15 }
     ensures or_high { alu_number Bits64 Or (span 0 0x8000000000000000) (span 0 1)
         ≡ up_to 0xFFFFFFFFFFFFFFFF }
-    ensures xor_7 { alu_number Bits64 Xor (span 6 7) (span 6 7) ≡ up_to 7 }
+    ensures xor_7 { alu_number Bits64 Xor (span 6 7) (span 6 7) ≡ up_to 1 }
     ensures xor_8 { alu_number Bits64 Xor (span 0 8) (single 0) ≡ up_to 15 }
     ensures xor32 { alu_number Bits32 Xor (span 0 0x80000000) (span 0 1) ≡ up_to 0xFFFFFFFF }
     ensures single_xor { alu_number Bits64 Xor (single 12) (single 10) ≡ single 6 }
 {}
 
 /// A single count is masked, and shifts both ends: to the left where the greatest fits, and with
-/// the sign where no number has it. By a range of counts anything may come.
+/// the sign where no number has it. The bits that come in are 0. By a range of counts anything may
+/// come.
 pub fn shifts()
     ensures lsh_fits { alu_number Bits64 Lsh (span 1 0xFFFFFFFFFFFFFFF) (single 4)
-        ≡ span 16 0xFFFFFFFFFFFFFFF0 }
+        ≡ with_bits 16 0xFFFFFFFFFFFFFFF0 0 0xFFFFFFFFFFFFFFF0 }
     ensures lsh_wraps { alu_number Bits64 Lsh (span 1 0x1000000000000000) (single 4)
-        ≡ up_to 0xFFFFFFFFFFFFFFFF }
-    ensures lsh_masked { alu_number Bits64 Lsh (span 1 3) (single 66) ≡ span 4 12 }
+        ≡ with_bits 0 0xFFFFFFFFFFFFFFF0 0 0xFFFFFFFFFFFFFFF0 }
+    ensures lsh_masked { alu_number Bits64 Lsh (span 1 3) (single 66)
+        ≡ with_bits 4 12 0 12 }
     ensures lsh_by_range { alu_number Bits64 Lsh (span 1 3) (span 0 1)
         ≡ up_to 0xFFFFFFFFFFFFFFFF }
     ensures lsh32_fits { alu_number Bits32 Lsh (span 1 0xFFFFFFF) (single 4)
-        ≡ span 16 0xFFFFFFF0 }
+        ≡ with_bits 16 0xFFFFFFF0 0 0xFFFFFFF0 }
     ensures lsh32_wraps { alu_number Bits32 Lsh (span 1 0x10000000) (single 4)
-        ≡ up_to 0xFFFFFFFF }
-    ensures lsh32_masked { alu_number Bits32 Lsh (span 1 3) (single 34) ≡ span 4 12 }
+        ≡ with_bits 0 0xFFFFFFF0 0 0xFFFFFFF0 }
+    ensures lsh32_masked { alu_number Bits32 Lsh (span 1 3) (single 34)
+        ≡ with_bits 4 12 0 12 }
     ensures rsh { alu_number Bits64 Rsh (span 7 17) (single 2) ≡ span 1 4 }
     ensures rsh32 { alu_number Bits32 Rsh (span 0 0x10000000000) (single 36) ≡ up_to 0xFFFFFFF }
     ensures rsh_by_range { alu_number Bits64 Rsh (span 1 3) (span 0 1)
@@ -135,9 +140,9 @@ pub fn shifts()
 
 /// MOV of 32 bits, MOVSX and END: single numbers as the machine has them, ranges by their size.
 pub fn sizes()
-    ensures mov32_below { cut Bits32 (span 1 0xFFFFFFFF) ≡ span 1 0xFFFFFFFF }
-    ensures mov32_past { cut Bits32 (span 1 0x100000000) ≡ up_to 0xFFFFFFFF }
-    ensures mov32_single { cut Bits32 (single 0x100000007) ≡ single 7 }
+    ensures mov32_below { copied_number Bits32 (span 1 0xFFFFFFFF) ≡ span 1 0xFFFFFFFF }
+    ensures mov32_past { copied_number Bits32 (span 1 0x100000000) ≡ up_to 0xFFFFFFFF }
+    ensures mov32_single { copied_number Bits32 (single 0x100000007) ≡ single 7 }
     ensures movsx8 { extended_number Byte64 (span 0 1) ≡ up_to 0xFFFFFFFFFFFFFFFF }
     ensures movsx8_single { extended_number Byte64 (single 0x80) ≡ single 0xFFFFFFFFFFFFFF80 }
     ensures movsx16w { extended_number Half32 (span 0 1) ≡ up_to 0xFFFFFFFF }

@@ -1,4 +1,5 @@
-use Rattle.abs_value.proofs.Writes.{register_is_there, operand_is_there, covers_write, covers_learnt, covers_opening}
+use Rattle.abs_value.proofs.Writes.{register_is_there, operand_is_there}
+use Rattle.abs_value.proofs.Writes.{covers_write, covers_learnt, covers_opening}
 use Rattle.abs_value.proofs.laws.registers_cover.Goals as goal
 
 pub returns : goal.returns

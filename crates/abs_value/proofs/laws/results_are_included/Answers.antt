@@ -1,4 +1,6 @@
-use Rattle.abs_value.proofs.Computes.{alu_includes, copied_includes, negated_includes, extended_includes, reordered_includes}
+use Rattle.abs_value.proofs.Computes.{alu_includes, copied_includes, negated_includes}
+use Rattle.abs_value.proofs.Computes.{extended_includes, reordered_includes}
+use Rattle.abs_value.proofs.ResultsHold.{single_holds, up_to_holds}
 use Rattle.abs_value.proofs.Loads.{loaded_includes}
 use Rattle.abs_value.proofs.laws.results_are_included.Goals as goal
 
@@ -10,4 +12,6 @@ returns c = record {
   extended = extended_includes;
   reordered = reordered_includes;
   loaded = loaded_includes;
+  single = single_holds;
+  up_to = up_to_holds;
 }

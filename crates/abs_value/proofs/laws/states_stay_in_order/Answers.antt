@@ -1,4 +1,6 @@
-use Rattle.abs_value.proofs.StatesInOrder.{opening_in_order, operand_in_order, written_in_order, stored_in_order, load_in_order, joined_in_order, edge_in_order, called_in_order}
+use Rattle.abs_value.proofs.StatesInOrder.{opening_in_order, operand_in_order}
+use Rattle.abs_value.proofs.StatesInOrder.{written_in_order, stored_in_order, load_in_order}
+use Rattle.abs_value.proofs.StatesInOrder.{joined_in_order, edge_in_order, called_in_order}
 use Rattle.abs_value.proofs.laws.states_stay_in_order.Goals as goal
 
 pub returns : goal.returns

@@ -2,7 +2,9 @@ use Rattle.std.proofs.Common.{arith}
 use Rattle.bpf_insn.specs.declared.operand.AluOp.TheVariants.{Sub}
 use Rattle.abs_value.specs.declared.value.Abs.TheVariants.{Num}
 use Rattle.abs_value.specs.Numbers.{single}
-use Rattle.abs_value.proofs.Order.{alu_in_order, copied_in_order, extended_in_order, reordered_in_order, loaded_in_order, refined_in_order, join_in_order, with_answer_in_order, call_in_order}
+use Rattle.abs_value.proofs.Order.{alu_in_order, copied_in_order, extended_in_order}
+use Rattle.abs_value.proofs.Order.{reordered_in_order, loaded_in_order, refined_in_order}
+use Rattle.abs_value.proofs.Order.{join_in_order, with_answer_in_order, call_in_order}
 use Rattle.abs_value.proofs.laws.values_stay_in_order.Goals as goal
 
 pub returns : goal.returns

@@ -1,4 +1,5 @@
-use Rattle.std.proofs.Common.{rules, ◌≡◌, ◌≢◌, ℕ, List, ◌<◌, ◌≤◌, ◌+◌, length, arith, below_more, get_or-set_other, get_or-set_same}
+use Rattle.std.proofs.Common.{rules, ◌≡◌, ◌≢◌, ℕ, List, ◌<◌, ◌≤◌, ◌+◌}
+use Rattle.std.proofs.Common.{length, arith, below_more, get_or-set_other, get_or-set_same}
 use Rattle.std.specs.Prelude.{slice_set}
 use Rattle.std.proofs.lemmas.List.FromFn.{fill_by_all}
 use Rattle.abs_value.specs.declared.value.Abs.{Abs}

@@ -1,6 +1,7 @@
 use Rattle.std.proofs.Common.{arith}
 use Rattle.std.proofs.lemmas.Grind.{common_steps}
-use Rattle.rule_compile.proofs.Emitting.{end_stands, statement_written, statement_long, statement_cost}
+use Rattle.rule_compile.proofs.Emitting.{end_stands, statement_written}
+use Rattle.rule_compile.proofs.Emitting.{statement_long, statement_cost}
 use Rattle.rule_compile.proofs.statements.emit.Goals as goal
 
 pub loop-k-preserved : goal.loop-k-preserved

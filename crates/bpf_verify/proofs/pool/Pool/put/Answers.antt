@@ -1,9 +1,11 @@
-use Rattle.std.proofs.Common.{◌≡◌, ◌∙◌, ◌<◌, ◌++◌, ◌∷◌, [], Some, None, length, ap, sym, arith, rules}
+use Rattle.std.proofs.Common.{◌≡◌, ◌∙◌, ◌<◌, ◌++◌, ◌∷◌, [], Some, None}
+use Rattle.std.proofs.Common.{length, ap, sym, arith, rules}
 use Rattle.std.specs.Prelude.{slice_set}
 use Rattle.std.proofs.lemmas.List.{length-set, length-map, append-nil}
 use Rattle.bpf_verify.specs.Pool.{waits_at, index_at, entry_in, IsPool}
 use Rattle.bpf_verify.proofs.Pools.{taken, none_index, grown}
-use Rattle.bpf_verify.proofs.WaitingThen.{changed_in, changed_end, most_kept, most_grown, all_within}
+use Rattle.bpf_verify.proofs.WaitingThen.{changed_in, changed_end}
+use Rattle.bpf_verify.proofs.WaitingThen.{most_kept, most_grown, all_within}
 use Rattle.bpf_verify.proofs.Lists.{get-end, length-append-one}
 use Rattle.bpf_verify.proofs.pool.Pool.put.Goals as goal
 use Rattle.bpf_verify.proofs.pool.Pool.put.Goals.{After-pop, After-len-index, In-Some, In-None}

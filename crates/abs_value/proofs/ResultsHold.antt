@@ -1,26 +1,36 @@
--- What the machine computes of the numbers of two ranges lies in the range that is computed.
-use Rattle.std.proofs.Common.{◌≡◌, ℕ, ◌+◌, ◌%◌, ◌^◌, ◌<◌, ◌≤◌, subst, arith, inl, inr}
-use Rattle.std.specs.Prelude.{if◌then◌else◌}
+-- What the machine computes of two numbers is one of those that what is computed stands for.
+use Rattle.std.proofs.Common.{◌≡◌, ℕ, ◌+◌, ◌-◌, ◌%◌, ◌^◌, ◌<◌, ◌≤◌, subst, arith, inl, inr}
+use Rattle.std.specs.Prelude.{if◌then◌else◌, bit_and, bit_or}
+use Rattle.std.specs.Int.{w64, leading_zeros}
 use mir.Val.{bits}
 use Rattle.std.proofs.lemmas.Bool.{cases_Bool}
 use Rattle.std.proofs.lemmas.Nat.{and_le_l, and_le_r, or_lt, xor_lt}
 use Rattle.bpf_insn.specs.declared.operand.AluOp.{AluOp}
-use Rattle.bpf_insn.specs.declared.operand.AluOp.TheVariants.{Add, Sub, Mul, Div, Sdiv, Or, And, Lsh, Rsh, Mod, Smod, Xor, Arsh}
+use Rattle.bpf_insn.specs.declared.operand.AluOp.TheVariants.{Add, Sub, Mul, Div, Sdiv, Or, And}
+use Rattle.bpf_insn.specs.declared.operand.AluOp.TheVariants.{Lsh, Rsh, Mod, Smod, Xor, Arsh}
 use Rattle.bpf_insn.specs.declared.operand.Bits.{Bits}
 use Rattle.bpf_insn.specs.declared.operand.Bits.TheVariants.{Bits64, Bits32}
 use Rattle.bpf_insn.specs.Words.{word_width, word}
 use Rattle.bpf_insn.specs.Arithmetic.{arithmetic, alu_result, FitsWidth}
 use Rattle.abs_value.specs.declared.interval.Interval.{Interval}
 use Rattle.abs_value.specs.declared.number.Number.{Number}
-use Rattle.abs_value.specs.Intervals.{is_just, all_of}
-use Rattle.abs_value.specs.Numbers.{single, are_single, up_to, full, cut}
-use Rattle.abs_value.specs.Bounds.{difference, shifted_left, shifted_right, shifted_signed, bounds, alu_number}
+use Rattle.abs_value.specs.Intervals.{is_just, all_of, cut_interval, hull}
+use Rattle.abs_value.specs.Bounds.{difference, shifted_left, shifted_right, shifted_signed, bounds}
+use Rattle.abs_value.specs.Known.{common, cut_bits}
+use Rattle.abs_value.specs.Numbers.{single, are_single, up_to, full, cut, join_numbers}
+use Rattle.abs_value.specs.Results.{known_bits, result, alu_number, copied_number}
 use Rattle.abs_value.specs.Covers.{Holds, IsBetween, IsWord}
 use Rattle.abs_value.proofs.Cuts.{IsOf, word_is_of, cut_interval_holds, all_of_holds}
-use Rattle.abs_value.proofs.ShiftedRanges.{fitting_holds, shifted_left_holds, shifted_right_holds, shifted_signed_holds, disjunction_holds}
+use Rattle.abs_value.proofs.ShiftedRanges.{fitting_holds, shifted_left_holds, shifted_right_holds}
+use Rattle.abs_value.proofs.ShiftedRanges.{shifted_signed_holds, below_power, disjunction_holds}
+use Rattle.abs_value.proofs.Within.{within_itself, within_then, and_within}
+use Rattle.abs_value.proofs.Within.{and_within_right, within_or_left, within_or_right}
+use Rattle.abs_value.proofs.Tidy.{tidied_holds}
+use Rattle.abs_value.proofs.BitsHold.{some_of_fits, any_of_fits, cut_fits, bits_fit}
 use Rattle.abs_value.proofs.Products.{product_holds, quotient_holds, remainder_holds}
 
-difference_holds : (w : Bits) (a b : Interval) (x y : ℕ) → IsBetween a x → IsBetween b y → IsOf w x → IsOf w y
+difference_holds : (w : Bits) (a b : Interval) (x y : ℕ) → IsBetween a x → IsBetween b y → IsOf w x
+    → IsOf w y
     → IsBetween (difference w a b) (arithmetic (word_width w) Sub x y)
 difference_holds Bits64 a b x y h k fits fits2 = grind arith
 difference_holds Bits32 a b x y h k fits fits2 = grind arith
@@ -44,7 +54,8 @@ result_is_of fit w op x y fx fy = is_of w (arithmetic (word_width w) op x y)
     (fit (word_width w) op x y (below w x fx) (below w y fy))
 
 -- by a single count, or by any
-by_count : (b : Interval) (y z : ℕ) (one other : Interval) → IsBetween b y → (b.lo ≡ y → IsBetween one z)
+by_count : (b : Interval) (y z : ℕ) (one other : Interval) → IsBetween b y
+    → (b.lo ≡ y → IsBetween one z)
     → IsBetween other z → IsBetween (if is_just b then one else other) z
 by_count b y z one other h first second = elim (cases_Bool (is_just b)) [
   | inl is ↦ let e : b.lo ≡ y = grind (arith, h, is) in rw is (first e)
@@ -102,19 +113,46 @@ result_word fit w op x y wx wy = word_of w (alu_result w op x y)
     (result_is_of fit w op (word w x) (word w y) (word_is_of w x wx) (word_is_of w y wy))
 
 pub single_holds : (n : ℕ) → IsWord n → Holds (single n) n
-single_holds n h = record { between = (omega arith, omega arith); word = h }
+single_holds n h = record {
+  between = (omega arith, omega arith);
+  word = h;
+  bits = record { has = within_itself n; no_others = within_itself n };
+}
 
 pub up_to_holds : (hi x : ℕ) → IsWord x → x ≤ hi → Holds (up_to hi) x
-up_to_holds hi x h le = record { between = (omega arith, le); word = h }
+up_to_holds hi x h le = record {
+  between = (omega arith, le);
+  word = h;
+  bits = some_of_fits (64 - leading_zeros w64 hi) x (below_power hi x le h);
+}
 
 pub full_number_holds : (w : Bits) (x : ℕ) → IsOf w x → Holds (full w) x
-full_number_holds w x h = record { between = all_of_holds w x h; word = word_of w x h }
+full_number_holds w x h =
+    record { between = all_of_holds w x h; word = word_of w x h; bits = any_of_fits w x h }
 
-pub cut_number_holds : (w : Bits) (a : Number) (x : ℕ) → Holds a x → Holds (cut w a) (word w x)
+cut_number_holds : (w : Bits) (a : Number) (x : ℕ) → Holds a x → Holds (cut w a) (word w x)
 cut_number_holds w a x h = record {
   between = cut_interval_holds w a.range x h.between;
   word = word_of w (word w x) (word_is_of w x h.word);
+  bits = cut_fits w a.bits x h.bits;
 }
+
+pub copied_number_holds : (w : Bits) (a : Number) (x : ℕ) → Holds a x
+    → Holds (copied_number w a) (word w x)
+copied_number_holds w a x h =
+    let cut_a = cut_number_holds w a x h in
+    tidied_holds (cut_interval w a.range) (cut_bits w a.bits) (word w x) cut_a.word cut_a.between
+    cut_a.bits
+
+result_holds : FitsWidth → (w : Bits) (op : AluOp) (a b : Number) (x y : ℕ)
+    → Holds a x → Holds b y → IsOf w x → IsOf w y
+    → Holds (result w op a b) (arithmetic (word_width w) op x y)
+result_holds fit w op a b x y h k fx fy =
+    let of = result_is_of fit w op x y fx fy in
+    tidied_holds (bounds w op a.range b.range) (known_bits w op a b)
+    (arithmetic (word_width w) op x y) (word_of w (arithmetic (word_width w) op x y) of)
+    (bounds_hold fit w op a.range b.range x y h.between k.between fx fy)
+    (bits_fit w op a b x y h k of)
 
 pub alu_number_holds : FitsWidth → (w : Bits) (op : AluOp) (a b : Number) (x y : ℕ)
     → Holds a x → Holds b y → Holds (alu_number w op a b) (alu_result w op x y)
@@ -124,10 +162,29 @@ alu_number_holds fit w op a b x y h k = elim (cases_Bool (are_single a b)) [
       let second : b.range.lo ≡ y = grind (arith, k.between, is) in
       rw (is, first, second)
       (single_holds (alu_result w op x y) (result_word fit w op x y h.word k.word))
-  | inr is ↦ rw is (record {
-    between = bounds_hold fit w op (cut w a).range (cut w b).range (word w x) (word w y)
-        (cut_interval_holds w a.range x h.between) (cut_interval_holds w b.range y k.between)
-        (word_is_of w x h.word) (word_is_of w y k.word);
-    word = result_word fit w op x y h.word k.word;
-  })
+  | inr is ↦ rw is
+      (result_holds fit w op (cut w a) (cut w b) (word w x) (word w y) (cut_number_holds w a x h)
+      (cut_number_holds w b y k) (word_is_of w x h.word) (word_is_of w y k.word))
 ]
+
+-- ---- joins
+
+pub join_first : (a b : Number) (x : ℕ) → Holds a x → Holds (join_numbers a b) x
+join_first a b x h =
+    tidied_holds (hull a.range b.range) (common a.bits b.bits) x h.word
+    (omega (arith, h.between.0), omega (arith, h.between.1)) (record {
+      has = within_then (bit_and a.bits.has b.bits.has) a.bits.has x
+          (and_within a.bits.has b.bits.has) h.bits.has;
+      no_others = within_then x a.bits.may_have (bit_or a.bits.may_have b.bits.may_have)
+          h.bits.no_others (within_or_left a.bits.may_have b.bits.may_have);
+    })
+
+pub join_second : (a b : Number) (x : ℕ) → Holds b x → Holds (join_numbers a b) x
+join_second a b x h =
+    tidied_holds (hull a.range b.range) (common a.bits b.bits) x h.word
+    (omega (arith, h.between.0), omega (arith, h.between.1)) (record {
+      has = within_then (bit_and a.bits.has b.bits.has) b.bits.has x
+          (and_within_right a.bits.has b.bits.has) h.bits.has;
+      no_others = within_then x b.bits.may_have (bit_or a.bits.may_have b.bits.may_have)
+          h.bits.no_others (within_or_right a.bits.may_have b.bits.may_have);
+    })
