@@ -4,7 +4,7 @@ use Rattle.std.proofs.Common.{Option, Result, Ok, Err}
 use Rattle.std.specs.Prelude.{ℤ}
 use Rattle.cells.specs.Grown.{GrewBy, Grows}
 use Rattle.cells.specs.declared.event.CellEvent.{CellEvent}
-use Rattle.hot_swap.specs.Latest.{Latest, IsLatest}
+use Rattle.hot_swap.specs.Published.{Beginning, IsLatest}
 use Rattle.http_front.specs.Post.{AnswersPost}
 use Rattle.http_front.specs.Reply.{code_of}
 use Rattle.omaha_json.specs.Request.{Request, request_in}
@@ -16,12 +16,12 @@ use Rattle.omaha_json.specs.declared.fault.OmahaFault.TheVariants.{TooManyApps, 
 use Rattle.hot_swap.specs.rulesets.Rules.{Rules}
 use Rattle.answering.specs.Apps.{FindsApps, RunsFew}
 use Rattle.answering.specs.Answer.{RepliesToRequest, RepliesToBody, RepliesTo, RepliesByRuns}
-use Rattle.answering.specs.Answer.{IsHeard, IsRead}
+use Rattle.answering.specs.Answer.{IsHeard, IsHeardBody}
 use Rattle.answering.specs.Answer.{replied, unowned, broken_off, asked, refused, unread}
 use Rattle.answering.specs.Answer.{taken, rejected}
 use Rattle.answering.specs.Reply.{Reply, success, omaha_rejection}
 
-module _ (body : List ℕ) (watcher : Latest) (moment : ℤ) where
+module _ (body : List ℕ) (watcher : Beginning) (moment : ℤ) where
   -- the body's fault, or memory that was refused
   pub refused_by : (fault : OmahaFault)
       → (let found : Result Request OmahaFault = Err fault in
@@ -34,7 +34,7 @@ module _ (body : List ℕ) (watcher : Latest) (moment : ℤ) where
   refused_by Memory h = unread
 
 module _ {P : Type 0} (grew : P → CellEvent → P → Type 0)
-    (request : Request) (watcher : Latest) (moment : ℤ) where
+    (request : Request) (watcher : Beginning) (moment : ℤ) where
   -- memory was refused after some runs
   pub is_broken_off : (p q : P) (generation : ℕ) (rules : Rules) → IsLatest watcher generation rules
       → Grows grew p q (RunsFew rules request.facts moment request.apps)
@@ -63,7 +63,7 @@ module _ {P : Type 0} (grew : P → CellEvent → P → Type 0)
 
 -- ---- no run was made where the status is neither 200 nor 500
 
-module _ (request : Request) (watcher : Latest) (moment : ℤ) where
+module _ (request : Request) (watcher : Beginning) (moment : ℤ) where
   pub idle_request : {events : List CellEvent} {reply : Reply}
       → RepliesToRequest request watcher moment events reply
       → code_of reply.status ≢ 200 → code_of reply.status ≢ 500 → events ≡ []
@@ -71,7 +71,7 @@ module _ (request : Request) (watcher : Latest) (moment : ℤ) where
   idle_request unowned h k = refl
   idle_request (broken_off l r) h k = absurd (k refl)
 
-module _ (body : List ℕ) (watcher : Latest) (moment : ℤ) where
+module _ (body : List ℕ) (watcher : Beginning) (moment : ℤ) where
   pub idle_body : {events : List CellEvent} {reply : Reply}
       → RepliesToBody body watcher moment events reply
       → code_of reply.status ≢ 200 → code_of reply.status ≢ 500 → events ≡ []
@@ -79,7 +79,7 @@ module _ (body : List ℕ) (watcher : Latest) (moment : ℤ) where
   idle_body (refused fault e) h k = refl
   idle_body unread h k = refl
 
-module _ (told : Option (List ℕ)) (watcher : Latest) (moment : ℤ) where
+module _ (told : Option (List ℕ)) (watcher : Beginning) (moment : ℤ) where
   pub idle_input : {events : List CellEvent} {reply : Reply}
       → RepliesTo told watcher moment events reply
       → code_of reply.status ≢ 200 → code_of reply.status ≢ 500 → events ≡ []
@@ -89,7 +89,7 @@ module _ (told : Option (List ℕ)) (watcher : Latest) (moment : ℤ) where
 module _ (told : Option (List ℕ)) where
   -- what was read of a body is what was heard of a reader
   pub is_heard : (body slice : List ℕ) → AnswersPost told (Ok body) → slice ≡ body
-      → (read : Result Request Reply) → IsRead slice read → IsHeard told read
+      → (read : Result Request Reply) → IsHeardBody slice read → IsHeard told read
   is_heard body slice b e (Ok request) r =
       (body, b, ap request_in (sym e) ∙ r)
   is_heard body slice b e (Err reply) r = λ watcher moment.
@@ -97,7 +97,7 @@ module _ (told : Option (List ℕ)) where
       taken body b (subst J e (r watcher moment))
 
 module _ {P : Type 0} (grew : P → CellEvent → P → Type 0)
-    (told : Option (List ℕ)) (watcher : Latest) (moment : ℤ) where
+    (told : Option (List ℕ)) (watcher : Beginning) (moment : ℤ) where
   -- a request was heard, and replied to
   pub is_answered : (p q : P) (request : Request) (reply : Reply) → IsHeard told (Ok request)
       → Grows grew p q (λ events. RepliesToRequest request watcher moment events reply)

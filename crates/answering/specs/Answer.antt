@@ -3,7 +3,8 @@
 -- is the one that the bytes have.
 use Rattle.std.specs.Prelude.{◌≡◌, ℕ, ℤ, List, [], Option, Some, Result, Ok, Err, Vec}
 use Rattle.cells.specs.declared.event.CellEvent.{CellEvent}
-use Rattle.hot_swap.specs.Latest.{Latest, IsLatest}
+use Rattle.hot_swap.specs.Published.{Beginning, IsLatest}
+use Rattle.http_front.specs.Faults.{post_name}
 use Rattle.http_front.specs.Faults.{status_of}
 use Rattle.http_front.specs.Post.{AnswersPost}
 use Rattle.http_front.specs.declared.fault.PostFault.{PostFault}
@@ -15,13 +16,13 @@ use Rattle.omaha_json.specs.declared.fault.OmahaFault.TheVariants as omaha
 use Rattle.hot_swap.specs.rulesets.Rules.{Rules}
 use Rattle.cells.specs.Grown.{Grows}
 use Rattle.answering.specs.Apps.{RunsApps, RunsFew}
-use Rattle.answering.specs.Reply.{Reply, success, rejection, post_name}
+use Rattle.answering.specs.Reply.{Reply, success, rejection}
 use Rattle.answering.specs.Reply.{omaha_rejection, no_place, settled_reply}
 use Rattle.answering.specs.declared.answering.AnswerFault.{AnswerFault}
 use Rattle.answering.specs.declared.answering.AnswerFault.TheVariants as answer
 
 -- of a request, under the ruleset that the watcher saw last
-pub data RepliesToRequest (request : Request) (watcher : Latest) (moment : ℤ)
+pub data RepliesToRequest (request : Request) (watcher : Beginning) (moment : ℤ)
     : List CellEvent → Reply → Type 0 where
   -- Omaha's reply: all apps are answered under one ruleset, each by the choice of its run
   replied : {generation : ℕ} {rules : Rules} {choices : List (Option ℕ)} {events : List CellEvent}
@@ -29,7 +30,7 @@ pub data RepliesToRequest (request : Request) (watcher : Latest) (moment : ℤ)
       → RunsApps rules request.facts moment request.apps choices events
       → RepliesToRequest request watcher moment events
       (success (reply_text request rules choices moment))
-  -- the ruleset has no room for one more owner
+  -- the ruleset has no room for one more owner, or none is shown any more
   unowned : RepliesToRequest request watcher moment [] no_place
   -- memory is refused after the runs of the first few apps, each of which was made to its end
   broken_off : {generation : ℕ} {rules : Rules} {events : List CellEvent}
@@ -38,7 +39,7 @@ pub data RepliesToRequest (request : Request) (watcher : Latest) (moment : ℤ)
       → RepliesToRequest request watcher moment events (omaha_rejection omaha.Memory)
 
 -- of a body
-pub data RepliesToBody (body : List ℕ) (watcher : Latest) (moment : ℤ)
+pub data RepliesToBody (body : List ℕ) (watcher : Beginning) (moment : ℤ)
     : List CellEvent → Reply → Type 0 where
   asked : {request : Request} {events : List CellEvent} {reply : Reply}
       → request_in body ≡ Ok request → RepliesToRequest request watcher moment events reply
@@ -50,7 +51,7 @@ pub data RepliesToBody (body : List ℕ) (watcher : Latest) (moment : ℤ)
   unread : RepliesToBody body watcher moment [] (omaha_rejection omaha.Memory)
 
 -- of the bytes of a reader, where it tells them
-pub data RepliesTo (told : Option (List ℕ)) (watcher : Latest) (moment : ℤ)
+pub data RepliesTo (told : Option (List ℕ)) (watcher : Beginning) (moment : ℤ)
     : List CellEvent → Reply → Type 0 where
   taken : {events : List CellEvent} {reply : Reply} (body : List ℕ) → AnswersPost told (Ok body)
       → RepliesToBody body watcher moment events reply
@@ -61,17 +62,17 @@ pub data RepliesTo (told : Option (List ℕ)) (watcher : Latest) (moment : ℤ)
       → RepliesTo told watcher moment [] (rejection status (post_name fault))
 
 -- what a body is: a request, or it is refused, whatever ruleset and moment there are
-abbrev pub IsRead : List ℕ → Result Request Reply → Type 0
-IsRead body (Ok request) = request_in body ≡ Ok request
-IsRead body (Err reply) =
-    (watcher : Latest) (moment : ℤ) → RepliesToBody body watcher moment [] reply
+abbrev pub IsHeardBody : List ℕ → Result Request Reply → Type 0
+IsHeardBody body (Ok request) = request_in body ≡ Ok request
+IsHeardBody body (Err reply) =
+    (watcher : Beginning) (moment : ℤ) → RepliesToBody body watcher moment [] reply
 
 -- and what the bytes of a reader are
 abbrev pub IsHeard : Option (List ℕ) → Result Request Reply → Type 0
 IsHeard told (Ok request) =
     (body : List ℕ) × AnswersPost told (Ok body) × (request_in body ≡ Ok request)
 IsHeard told (Err reply) =
-    (watcher : Latest) (moment : ℤ) → RepliesTo told watcher moment [] reply
+    (watcher : Beginning) (moment : ℤ) → RepliesTo told watcher moment [] reply
 
 -- the faults after which nothing is written
 abbrev pub WritesNothing : AnswerFault → Type 0
@@ -81,12 +82,12 @@ WritesNothing (answer.Writing written) = ⊥
 
 -- the reply is that to the bytes of the reader, and the pass grew by the events of its runs
 module _ {P : Type 0} (grew : P → CellEvent → P → Type 0) where
-  abbrev pub RepliesByRuns : Option (List ℕ) → Latest → ℤ → P → P → Reply → Type 0
+  abbrev pub RepliesByRuns : Option (List ℕ) → Beginning → ℤ → P → P → Reply → Type 0
   RepliesByRuns told watcher moment before after reply =
       Grows grew before after (λ events. RepliesTo told watcher moment events reply)
 
   -- what was found before anything is written: the reply, or that there is none
-  abbrev pub Settles : {A : Type 0} → Option (List ℕ) → Latest → ℤ → P → P
+  abbrev pub Settles : {A : Type 0} → Option (List ℕ) → Beginning → ℤ → P → P
       → Result (Result (Vec ℕ A) Reply) AnswerFault → Type 0
   Settles told watcher moment before after (Ok outcome) =
       RepliesByRuns told watcher moment before after (settled_reply outcome)

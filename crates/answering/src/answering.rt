@@ -3,7 +3,7 @@
 ghost use Rattle.std.specs.Prelude.{◌≡◌, ◌≢◌, ◌+◌, ◌-◌, ◌^◌, ◌<◌, ◌≤◌, ℕ};
 ghost use Rattle.std.specs.Prelude.{Ok, Err, length, take, IfOk, IfErr};
 ghost use Rattle.std.specs.Io.KnownBytes.{Appends};
-ghost use Rattle.hot_swap.specs.Latest.{GoesOnwards};
+ghost use Rattle.hot_swap.specs.Published.{GoesOnwards};
 ghost use Rattle.http_front.specs.devices.Device.{CountsFailure, WritesBeginning};
 ghost use Rattle.http_front.specs.Post.{AnswersPost};
 ghost use Rattle.http_front.specs.Reply.{code_of};
@@ -19,29 +19,37 @@ use crate::turn::Turn;
 use attrs::Moment;
 use cells::CellSteps;
 use hot_swap::Watcher;
-use http_front::{Counted, Status, WriteFault, write_reply};
+use http_front::{Counted, PostFault, Status, WriteFault, write_reply};
 use std::alloc::Global;
+use std::error::Error;
+use std::fmt::{self, Display};
 use std::io::{Read, Write};
-use std::sync::Wait;
-use thiserror::Error;
 
 /// Why no whole reply was written.
-#[derive(Clone, Copy, Debug, Drop, Error, PartialEq, Eq)]
+#[derive(Clone, Copy, Debug, Drop, PartialEq, Eq)]
 pub enum AnswerFault {
-    /// The input ended before the request did. Nothing was written.
-    #[error("P7 Ended")]
+    /// P7: the input ended before the request did. Nothing was written.
     Ended,
-    /// The reader failed. Nothing was written.
-    #[error("P8 Device")]
+    /// P8: the reader failed. Nothing was written.
     Reading,
-    /// The writer failed after it took so many bytes, which are a beginning of the reply.
-    #[error("P8 Device")]
+    /// P8: the writer failed after it took so many bytes, which are a beginning of the reply.
     Writing(usize),
 }
 
+impl Display for AnswerFault {
+    fn fmt<W: fmt::Write>(&self, f: &mut fmt::Formatter<W>) -> fmt::Result {
+        let fault = match self {
+            AnswerFault::Ended => PostFault::Ended,
+            AnswerFault::Reading | AnswerFault::Writing(_) => PostFault::Device,
+        };
+        write!(f, "{fault}")
+    }
+}
+
+impl Error for AnswerFault {}
+
 /// Reads a request, answers it, and tells the reply that was sent.
-pub fn answer<H: Wait, R: Read, W: Write, C: CellSteps>(
-    rt: &H,
+pub fn answer<R: Read, W: Write, C: CellSteps>(
     alloc: Global,
     reader: &mut Counted<R>,
     writer: &mut Counted<W>,
@@ -86,7 +94,6 @@ pub fn answer<H: Wait, R: Read, W: Write, C: CellSteps>(
         → reader.new.failures ≡ reader.old.failures + 1 }
 {
     let turn = Turn {
-        rt,
         alloc,
         cells,
         moment: &moment,
@@ -99,8 +106,8 @@ pub fn answer<H: Wait, R: Read, W: Write, C: CellSteps>(
 }
 
 // Reads a request, and finds its reply.
-fn settle<H: Wait, R: Read, C: CellSteps>(
-    turn: &Turn<'_, H, C>,
+fn settle<R: Read, C: CellSteps>(
+    turn: &Turn<'_, C>,
     reader: &mut Counted<R>,
     pass: &mut C::Pass,
     watcher: &mut Watcher,

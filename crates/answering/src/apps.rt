@@ -48,8 +48,8 @@ fn start(
 
 // What the ruleset has for an app, with the choice of its run to its end, if it has one. Where
 // memory is refused no run is made.
-fn run_app<'r, H, C: CellSteps>(
-    turn: &Turn<'_, H, C>,
+fn run_app<'r, C: CellSteps>(
+    turn: &Turn<'_, C>,
     app: &AppFacts,
     facts: &RequestFacts,
     rules: &'r Ruleset,
@@ -78,8 +78,8 @@ fn run_app<'r, H, C: CellSteps>(
 
 /// What the ruleset has for all apps of a request, with the choice of each run that was made. Where
 /// memory is refused, the runs of the first few apps were made.
-pub fn run_apps<'r, H, C: CellSteps>(
-    turn: &Turn<'_, H, C>,
+pub fn run_apps<'r, C: CellSteps>(
+    turn: &Turn<'_, C>,
     request: &Request,
     rules: &'r Ruleset,
     pass: &mut C::Pass,

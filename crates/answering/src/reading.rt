@@ -3,7 +3,7 @@
 ghost use Rattle.std.specs.Prelude.{◌≡◌, ◌+◌, ◌-◌, ◌^◌, ◌<◌, Err, IfOk, IfErr};
 ghost use Rattle.http_front.specs.Post.{AnswersPost};
 ghost use Rattle.http_front.specs.declared.fault.PostFault.TheVariants as fault;
-ghost use Rattle.answering.specs.Answer.{IsHeard, IsRead, WritesNothing};
+ghost use Rattle.answering.specs.Answer.{IsHeard, IsHeardBody, WritesNothing};
 
 use crate::answering::AnswerFault;
 use crate::rejection::Rejection;
@@ -40,7 +40,7 @@ pub fn hear<R: Read>(
 
 // The request that a body is, or what its client is told in its place.
 fn request_of(alloc: Global, body: &[u8]) -> Result<Request, Rejection>
-    ensures { IsRead body.now result }
+    ensures { IsHeardBody body.now result }
 {
     match read_request(alloc, body) {
         Ok(request) => Ok(request),

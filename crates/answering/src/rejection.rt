@@ -2,7 +2,7 @@
 //! wrong. The lines are constants, so that they are there where memory is refused.
 
 ghost use Rattle.std.specs.Prelude.{◌≡◌};
-ghost use Rattle.hot_swap.specs.rulesets.Texts.{line};
+ghost use Rattle.http_front.specs.Faults.{post_name};
 ghost use Rattle.answering.specs.Reply as specs;
 
 use http_front::{PostFault, Status};
@@ -41,24 +41,20 @@ impl Rejection {
     pub fn of_omaha(fault: OmahaFault) -> Rejection
         ensures { result ≡ specs.omaha_rejection fault }
     {
-        let (status, line): (Status, &'static [u8]) = match fault {
-            OmahaFault::Json => (Status::BadRequest, b"O1 Json\n"),
-            OmahaFault::Shape => (Status::BadRequest, b"O2 Shape\n"),
-            OmahaFault::Protocol => (Status::BadRequest, b"O3 Protocol\n"),
-            OmahaFault::TooManyApps => (Status::BadRequest, b"O4 TooManyApps\n"),
-            OmahaFault::Memory => (Status::InternalServerError, b"O5 Memory\n"),
-        };
-        Rejection { status, line }
+        Rejection {
+            status: omaha_status(fault),
+            line: fault.line().as_bytes(),
+        }
     }
 
     /// What a head, or a body that could not be read, is refused with by this status.
     pub fn of_post(fault: PostFault, status: Status) -> Rejection
         requires { specs.IsRefusalStatus status }
-        ensures { result ≡ specs.rejection status (specs.post_name fault) }
+        ensures { result ≡ specs.rejection status (post_name fault) }
     {
         Rejection {
             status,
-            line: post_line(fault),
+            line: fault.line().as_bytes(),
         }
     }
 
@@ -78,19 +74,14 @@ impl Rejection {
     }
 }
 
-// The line of a fault in reading.
-fn post_line(fault: PostFault) -> &'static [u8]
-    ensures { result.now ≡ line (specs.post_name fault) }
+// Want of memory is the server's fault, and any other the client's.
+fn omaha_status(fault: OmahaFault) -> Status
+    ensures status { result ≡ specs.omaha_status fault }
+    ensures refusal { specs.IsRefusalStatus result }
 {
     match fault {
-        PostFault::Head => b"P1 Head\n",
-        PostFault::Path => b"P2 Path\n",
-        PostFault::Method => b"P3 Method\n",
-        PostFault::Length => b"P4 Length\n",
-        PostFault::TooLarge => b"P5 TooLarge\n",
-        PostFault::HeadTooLarge => b"P6 HeadTooLarge\n",
-        PostFault::Ended => b"P7 Ended\n",
-        PostFault::Device => b"P8 Device\n",
-        PostFault::Memory => b"P9 Memory\n",
+        OmahaFault::Json | OmahaFault::Shape | OmahaFault::Protocol | OmahaFault::TooManyApps =>
+            Status::BadRequest,
+        OmahaFault::Memory => Status::InternalServerError,
     }
 }

@@ -1,7 +1,7 @@
 //! What a request is answered with: each of its apps is looked up and run, under one ruleset.
 
 ghost use Rattle.cells.specs.Grown.{Grows};
-ghost use Rattle.hot_swap.specs.Latest.{GoesOnwards};
+ghost use Rattle.hot_swap.specs.Published.{GoesOnwards};
 ghost use Rattle.answering.specs.Answer.{RepliesToRequest};
 ghost use Rattle.answering.specs.Reply.{settled_reply};
 
@@ -12,11 +12,10 @@ use cells::CellSteps;
 use hot_swap::Watcher;
 use hot_swap::ruleset::Ruleset;
 use omaha_json::{OmahaFault, Request, found_text};
-use std::sync::Wait;
 
 /// The text of the reply to a request, or why there is none. The ruleset is asked for once.
-pub fn reply_to<H: Wait, C: CellSteps>(
-    turn: &Turn<'_, H, C>,
+pub fn reply_to<C: CellSteps>(
+    turn: &Turn<'_, C>,
     request: &Request,
     pass: &mut C::Pass,
     watcher: &mut Watcher,
@@ -28,7 +27,7 @@ pub fn reply_to<H: Wait, C: CellSteps>(
         (λ events. RepliesToRequest request.now watcher.new turn.now.moment.now events
         (settled_reply result)) }
 {
-    let Ok(current) = watcher.current(turn.rt) else {
+    let Ok(current) = watcher.current() else {
         return Err(Rejection::no_place());
     };
     let rules: &Ruleset = &current.1;

@@ -5,9 +5,7 @@ use std::alloc::Global;
 
 /// What stays as it is while a request is answered.
 #[derive(Drop)]
-pub struct Turn<'a, H, C> {
-    /// By it the watcher waits while a ruleset is installed.
-    pub rt: &'a H,
+pub struct Turn<'a, C> {
     pub alloc: Global,
     /// The counters on which the runs act.
     pub cells: &'a C,

@@ -2,7 +2,7 @@
 use Rattle.std.specs.Prelude.{◌≡◌, ℕ, ◌+◌, ℤ, pos, List, [], length, Some}
 use Rattle.attrs.specs.Hash.{fnv1a}
 use Rattle.cells.specs.Events.{AreZeros, IsEvent}
-use Rattle.hot_swap.specs.Latest.{Latest}
+use Rattle.hot_swap.specs.Published.{Beginning}
 use Rattle.http_front.specs.Reply.{code_of}
 use Rattle.answering.specs.Answer.{RepliesByRuns}
 use Rattle.answering.specs.Reply.{Reply, message_bytes}
@@ -14,7 +14,7 @@ moment = pos 1772413200
 
 -- these bytes are a reply of status 200 to the request, on cells that had some values before it and
 -- others after it
-pub record IsReplied (request : List ℕ) (watcher : Latest) (before after written : List ℕ)
+pub record IsReplied (request : List ℕ) (watcher : Beginning) (before after written : List ℕ)
     : Type 0 where
   pub reply : Reply
   pub success : code_of reply.status ≡ 200
@@ -25,7 +25,7 @@ pub record IsReplied (request : List ℕ) (watcher : Latest) (before after writt
 -- last reply
 pub data AreAnswers (request opened : List ℕ) : ℕ → List ℕ → ℕ → List ℕ → Type 0 where
   none : AreAnswers request opened 0 opened 0 []
-  more : {n bytes : ℕ} {before after last written : List ℕ} {watcher : Latest}
+  more : {n bytes : ℕ} {before after last written : List ℕ} {watcher : Beginning}
       → AreAnswers request opened n before bytes last
       → IsReplied request watcher before after written
       → AreAnswers request opened (n + 1) after (bytes + length written) written

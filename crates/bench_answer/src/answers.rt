@@ -24,8 +24,7 @@ pub(crate) struct Tally {
 }
 
 /// Answers the request once, into the room of an earlier reply.
-fn answer_once<H: Wait>(
-    rt: &H,
+fn answer_once(
     alloc: Global,
     input: &[u8],
     mut room: Vec<u8>,
@@ -39,7 +38,6 @@ fn answer_once<H: Wait>(
     let mut reader = Counted::new(input);
     let mut writer = Counted::new(room);
     let sent = answer(
-        rt,
         alloc,
         &mut reader,
         &mut writer,
@@ -61,8 +59,25 @@ fn sum(bytes: u64, more: usize) -> Result<u64>
     bytes.checked_add(more as u64).context("too many bytes")
 }
 
+/// Answers the request so often, under the ruleset that the watcher sees.
+fn answer_times(alloc: Global, watcher: &mut Watcher, input: &[u8], times: u32) -> Result<Tally>
+    ensures { IfOk result (IsTally input.now times) }
+{
+    let (_cells, mut pass) = PlainCells::new(alloc)?;
+    let mut reply = Vec::new(alloc);
+    let mut bytes = 0u64;
+    for n in 0..times {
+        reply = answer_once(alloc, input, reply, &mut pass, watcher)?;
+        bytes = sum(bytes, reply.len())?;
+    }
+    Ok(Tally {
+        bytes,
+        reply: fnv1a(&reply),
+    })
+}
+
 /// Answers the request so often, under one ruleset.
-pub(crate) fn answer_times<H: Wait>(
+pub(crate) fn answer_under<H: Wait>(
     rt: &H,
     alloc: Global,
     rules: Arc<Ruleset>,
@@ -71,17 +86,11 @@ pub(crate) fn answer_times<H: Wait>(
 ) -> Result<Tally>
     ensures { IfOk result (IsTally input.now times) }
 {
-    let mut publisher = Publisher::new(alloc, rules, 1)?;
-    let mut watcher = publisher.watcher()?;
-    let (_cells, mut pass) = PlainCells::new(alloc)?;
-    let mut reply = Vec::new(alloc);
-    let mut bytes = 0u64;
-    for n in 0..times {
-        reply = answer_once(rt, alloc, input, reply, &mut pass, &mut watcher)?;
-        bytes = sum(bytes, reply.len())?;
-    }
-    Ok(Tally {
-        bytes,
-        reply: fnv1a(&reply),
-    })
+    let mut publisher = Publisher::new(rt, alloc, rules, 1)?;
+    let tally = match publisher.watcher() {
+        Ok(mut watcher) => answer_times(alloc, &mut watcher, input, times),
+        Err(fault) => Err(Error::from(fault)),
+    };
+    publisher.close(rt);
+    tally
 }

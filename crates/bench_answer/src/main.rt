@@ -6,7 +6,7 @@ mod answers;
 mod requests;
 mod rules;
 
-use crate::answers::{Tally, answer_times};
+use crate::answers::{Tally, answer_under};
 use crate::requests::{WORKED, of_apps, post};
 use anyhow::{Context, Result};
 use std::alloc::Global;
@@ -20,12 +20,12 @@ const MAX_APPS: u16 = 256;
 fn tally_of<H: Wait>(rt: &H, alloc: Global, word: &str, times: u32) -> Result<Tally> {
     if word == "worked" {
         let input = post(alloc, WORKED)?;
-        return answer_times(rt, alloc, rules::worked(alloc)?, &input, times);
+        return answer_under(rt, alloc, rules::worked(alloc)?, &input, times);
     }
     let count: u16 = word.parse().ok().context("worked, or a number of apps")?;
     let body = of_apps(alloc, count.min(MAX_APPS))?;
     let input = post(alloc, body.as_str())?;
-    answer_times(rt, alloc, rules::many(alloc, MAX_APPS)?, &input, times)
+    answer_under(rt, alloc, rules::many(alloc, MAX_APPS)?, &input, times)
 }
 
 fn main(rt: HostRuntime) -> Result<()> {

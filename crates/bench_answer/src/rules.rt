@@ -2,12 +2,12 @@
 
 ghost use Rattle.std.specs.Prelude.{◌≡◌, ◌≤◌, IfOk, length};
 
+use acceptance::accept;
 use anyhow::{Result, ensure};
 use attrs::Text;
 use bpf_text::assemble;
 use cells::Shape;
-use hot_swap::bpf_verify::{Verified, verify};
-use hot_swap::flow_check::Flow;
+use hot_swap::bpf_verify::Verified;
 use hot_swap::ruleset::{App, Ruleset};
 use releases::{Package, Release, is_appid};
 use std::alloc::{AllocError, Global};
@@ -49,8 +49,8 @@ fn ruleset(alloc: Global, apps: Vec<App>) -> Result<Arc<Ruleset>> {
 fn program(alloc: Global, text: &str, releases: u8) -> Result<Arc<Verified>>
     requires { releases ≤ 64 }
 {
-    let flow = Flow::check(alloc, &assemble(alloc, text)?)?;
-    let program = verify(alloc, flow, &Shape::plain(alloc, releases))?;
+    let bytes = assemble(alloc, text)?;
+    let program = accept(alloc, &bytes, &Shape::plain(alloc, releases))?;
     Ok(Arc::new(alloc, program)?)
 }
 

@@ -1,6 +1,10 @@
--- What a publisher and a watcher hold: an installed ruleset with its generation.
-use Rattle.std.specs.Prelude.{◌≡◌, ℕ, ◌+◌, ◌≤◌}
-use Rattle.ruleset.specs.Rules.{Rules}
+-- What a publisher holds: all that it installed, the last of it, and its places.
+use Rattle.std.specs.Prelude.{◌≡◌, ℕ, ◌+◌, [], ◌∷◌, ◌++◌, Option, Some, All}
+use Rattle.logbook.specs.Pages.{Book}
+use Rattle.hot_swap.specs.Book.{id_of}
+use Rattle.hot_swap.specs.Published.{Beginning, HasLast}
+use Rattle.hot_swap.specs.declared.publisher_id.PublisherId.{PublisherId}
+use Rattle.ruleset.specs.Rules.{Rules, IsRuleset}
 
 -- a ruleset and its generation, which one install published together
 pub record Latest : Type 0 where
@@ -10,24 +14,27 @@ pub record Latest : Type 0 where
 abbrev pub latest : ℕ → Rules → Latest
 latest generation rules = record { generation = generation; rules = rules }
 
--- what was installed last, and for how many watchers there is a place yet
+-- all that was installed, what was installed last, and for how many watchers there is a place yet
 pub record Publishing : Type 0 where
+  pub known : Beginning
   pub latest : Latest
   pub places : ℕ
 
--- the watcher saw these last, of all that it saw
-pub record IsLatest (watcher : Latest) (generation : ℕ) (rules : Rules) : Type 0 where
-  pub generation_is : generation ≡ watcher.generation
-  pub rules_are : rules ≡ watcher.rules
-
--- the ruleset is installed as the next generation
+-- the ruleset is installed as the next generation, behind all that was installed
 pub record Installs (old : Publishing) (rules : Rules) (generation : ℕ) (new : Publishing)
     : Type 0 where
   pub next : generation ≡ old.latest.generation + 1
   pub installed : new.latest ≡ latest generation rules
   pub places : new.places ≡ old.places
+  pub publisher : new.known.publisher ≡ old.known.publisher
+  pub listed : new.known.rulesets ≡ old.known.rulesets ++ rules ∷ []
 
--- a generation never goes back, and under one generation there is one ruleset
-pub record GoesOnwards (old new : Latest) : Type 0 where
-  pub onwards : old.generation ≤ new.generation
-  pub one : new.generation ≡ old.generation → new ≡ old
+-- what a publisher keeps: its list is sound and ends with its last ruleset, and its seat, what is
+-- shown and its book are of the list's publisher
+pub record IsPublisher (known : Beginning) (rules : Rules) (seat : Option PublisherId)
+    (shown : PublisherId) (book : Book) : Type 0 where
+  pub last : HasLast known.rulesets rules
+  pub sound : All IsRuleset known.rulesets
+  pub seat_is : seat ≡ Some known.publisher
+  pub shown_is : shown ≡ known.publisher
+  pub book_is : id_of book ≡ known.publisher

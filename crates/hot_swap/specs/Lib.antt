@@ -1,2 +1,6 @@
+pub mod Published
+pub mod Book
+pub mod Seats
 pub mod Latest
+pub mod Texts
 pub use Rattle.ruleset.specs as rulesets

@@ -1,21 +1,41 @@
 //! The ruleset that a server answers by, which is swapped while it serves.
 //!
 //! One publisher installs rulesets, numbered from 1; up to 65 watchers, in threads of their own,
-//! see them. What is shown stands under a lock, as a ruleset with its generation. A watcher
-//! keeps the newest that it saw and takes another only where its generation is higher, so that
-//! generations never go back, and a watcher with nothing new to see copies nothing under the lock.
+//! see them and wait for nobody. Two things are shared. `left_right` shows one ruleset with its
+//! generation, which readers copy out while the publisher prepares the next. A book (`logbook`)
+//! lists all that was installed, in order. It exists in the proofs alone, but for one word, which
+//! is its length. It only grows, and who has seen a list of it knows that every longer one begins
+//! with it.
+//!
+//! A ruleset is entered in the list by the publish that shows it, after the last step that can be
+//! refused and before any reader sees it. So what is shown comes with the list that it ends, and
+//! what a watcher has seen, what a notice tells and what was installed are beginnings of one list.
 #![tactic(auto)]
 
+mod beginning;
+mod book;
 mod fault;
-mod published;
+mod laws;
+mod list_end;
+mod next;
+mod notice;
 mod publisher;
+mod publisher_id;
+mod seats;
+mod showing;
+mod shown;
 mod watcher;
 
+pub use beginning::Generation;
 pub use fault::SwapFault;
-pub use published::Generation;
+pub use laws::generations_go_onwards;
+pub use notice::Notice;
 pub use publisher::Publisher;
 pub use watcher::Watcher;
 
 // The words of the contracts here come with them.
 pub use ruleset;
 pub use ruleset::{bpf_verify, flow_check};
+
+#[cfg(test)]
+mod tests;

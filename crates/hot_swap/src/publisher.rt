@@ -1,76 +1,124 @@
-//! The publisher: it installs rulesets one after another, and makes watchers.
+//! The publisher: it installs rulesets one after another, makes watchers, and tells them.
 
-ghost use Rattle.std.specs.Prelude.{◌≡◌, ◌≢◌, ◌↔◌, ◌+◌, ◌-◌, ◌^◌, ◌<◌, ◌≤◌, Err, IfOk, IfErr};
+ghost use Rattle.std.specs.Prelude.{◌≡◌, ◌≢◌, ◌↔◌, ◌+◌, ◌-◌, ◌^◌, ◌≤◌, [], ◌∷◌};
+ghost use Rattle.std.specs.Prelude.{Err, IfOk, IfErr, All};
+ghost use Rattle.std.specs.Arc.{arc_value};
 
+use crate::beginning::{Beginning, Generation};
 use crate::fault::SwapFault;
-use crate::published::{Generation, Published};
+use crate::list_end::ListEnd;
+use crate::next::Next;
+use crate::notice::Notice;
+use crate::seats::{Shared, Taken};
+use crate::showing::{ShownWriter, nothing_shown, show};
 use crate::watcher::Watcher;
+use core::mem::replace_with;
 use ruleset::Ruleset;
 use std::alloc::Global;
 use std::marker::Model;
-use std::mem;
-use std::sync::{Arc, Mutex, Wait};
+use std::sync::{Arc, Wait};
 
-/// What installs rulesets, and makes watchers of them.
-#[derive(Drop)]
+/// What installs rulesets, and makes watchers of them. It is ended by `close`, and has to live as
+/// long as its watchers are asked.
 pub struct Publisher {
-    shown: Arc<Mutex<Published>>,
-    latest: Published,
+    writer: ShownWriter,
+    end: Arc<ListEnd>,
+    known: Beginning,
+    latest: Arc<Ruleset>,
     places: usize,
 }
 
 impl Model for Publisher {
-    ghost use Rattle.hot_swap.specs.Latest.{Publishing};
+    ghost use Rattle.std.specs.Prelude.{length};
+    ghost use Rattle.std.specs.Arc.{arc_value};
+    ghost use Rattle.left_right.specs.Sides.{view as told};
+    ghost use Rattle.hot_swap.specs.Latest.{IsPublisher, Publishing};
 
     ghost Value = { Publishing };
 
-    ghost view = { λ p. record { latest = p.latest; places = p.places } };
+    ghost view = { λ p. record {
+      known = p.known;
+      latest = record { generation = length p.known.rulesets; rules = arc_value p.latest };
+      places = p.places;
+    } };
+
+    ghost invariant = { λ p. IsPublisher p.known (arc_value p.latest) (told p.writer.desk.place)
+        p.writer.desk.shown.value.known.publisher (arc_value p.end).word.book };
 }
 
 impl Publisher {
-    ghost use Rattle.std.specs.Arc.{arc_value};
+    ghost use Rattle.ruleset.specs.Rules.{IsRuleset};
+    ghost use Rattle.hot_swap.specs.Published.{IsLatest};
     ghost use Rattle.hot_swap.specs.Latest.{Installs, latest};
 
     /// Installs the first ruleset, of generation 1, with places for 1 to 65 watchers. H1 where
-    /// memory is refused.
-    pub fn new(alloc: Global, first: Arc<Ruleset>, watchers: usize) -> Result<Publisher, SwapFault>
+    /// memory is refused. There is nobody yet for whom it could wait.
+    pub fn new<R: Wait>(
+        rt: &R,
+        alloc: Global,
+        first: Arc<Ruleset>,
+        watchers: usize,
+    ) -> Result<Publisher, SwapFault>
         requires some { 1 ≤ watchers }
         requires few { watchers ≤ 65 }
         ensures first { IfOk result (λ p. p.latest ≡ latest 1 (arc_value first)) }
+        ensures listed { IfOk result (λ p. p.known.rulesets ≡ arc_value first ∷ []) }
         ensures places { IfOk result (λ p. p.places ≡ watchers) }
         ensures memory { IfErr result (λ e. e ≡ SwapFault.Memory) }
     {
-        let latest = Published::new(1, first);
-        let Ok(copy) = latest.copy() else {
+        first.keeps();
+        let (known, end) = Beginning::open();
+        let Ok(end) = Arc::new(alloc, end) else {
             return Err(SwapFault::Memory);
         };
-        match Arc::new(alloc, Mutex::new(copy)) {
-            Ok(shown) => Ok(Publisher {
-                shown,
-                latest,
+        let Ok(next) = Next::new(&end, &known, &first) else {
+            return Err(SwapFault::Memory);
+        };
+        let Ok(writer) = nothing_shown(alloc, &first, &known, watchers) else {
+            return Err(SwapFault::Memory);
+        };
+        let (writer, grown) = show(writer, next, rt);
+        match grown {
+            Some(known) => Ok(Publisher {
+                writer,
+                end,
+                known,
+                latest: first,
                 places: watchers,
             }),
-            Err(_) => Err(SwapFault::Memory),
+            None => {
+                writer.take(rt);
+                Err(SwapFault::Memory)
+            }
         }
+    }
+
+    /// What the type keeps. It does nothing: a proof calls it for its clauses.
+    pub fn keeps(&self)
+        ensures last { IsLatest self.now.known self.now.latest.generation self.now.latest.rules }
+        // Each ruleset of the list has one app an appid, and a run of its program ends well.
+        ensures sound { All IsRuleset self.now.known.rulesets }
+    {
+        let _places = self.places;
     }
 
     /// The generation that was installed last.
     pub fn generation(&self) -> Generation
         ensures { result ≡ self.now.latest.generation }
     {
-        self.latest.generation()
+        self.known.generation()
     }
 
     /// The ruleset that was installed last.
     pub fn ruleset(&self) -> &Ruleset
         ensures { result.now ≡ self.now.latest.rules }
     {
-        self.latest.ruleset()
+        &self.latest
     }
 
     /// Installs a ruleset, and gives its generation, which is one above the last. It may wait for
-    /// watchers that look at the one before. H3 after generation 2^64 - 1, and else H1 where memory
-    /// is refused; then the old ruleset stays.
+    /// watchers that still look at the ruleset before the last. H3 after generation 2^64 - 1, and
+    /// else H1 where memory is refused; then the old ruleset stays.
     pub fn install<R: Wait>(&mut self, rt: &R, next: Arc<Ruleset>) -> Result<Generation, SwapFault>
         ensures done { IfOk result (λ n. Installs self.old (arc_value next) n self.new) }
         ensures same { IfErr result (λ _. self.new ≡ self.old) }
@@ -78,22 +126,32 @@ impl Publisher {
             ↔ (self.old.latest.generation ≡ 2 ^ 64 - 1) }
         ensures placed { result ≢ Err SwapFault.NoPlace }
     {
-        let Some(generation) = self.latest.generation().checked_add(1) else {
+        if self.known.generation() == u64::MAX {
             return Err(SwapFault::Exhausted);
-        };
-        let latest = Published::new(generation, next);
-        let Ok(copy) = latest.copy() else {
+        }
+        next.keeps();
+        let Ok(operation) = Next::new(&self.end, &self.known, &next) else {
             return Err(SwapFault::Memory);
         };
-        show(rt, &self.shown, copy);
-        self.latest = latest;
+        let grown = replace_with(
+            &mut self.writer,
+            (operation, rt),
+            |writer, x| show(writer, x.0, x.1),
+        );
+        let Some(known) = grown else {
+            return Err(SwapFault::Memory);
+        };
+        let generation = known.generation();
+        self.known = known;
+        self.latest = next;
         Ok(generation)
     }
 
-    /// A watcher, which has seen the ruleset that was installed last. It takes a place for good. H2
-    /// where none is left, and else H1 where memory is refused.
+    /// A watcher, which has seen all that was installed. It takes a place for good. H2 where none
+    /// is left, and else H1 where memory is refused.
     pub fn watcher(&mut self) -> Result<Watcher, SwapFault>
-        ensures seen { IfOk result (λ w. w ≡ self.old.latest) }
+        ensures seen { IfOk result (λ w. w ≡ self.old.known) }
+        ensures known { self.new.known ≡ self.old.known }
         ensures latest { self.new.latest ≡ self.old.latest }
         ensures places { IfOk result (λ _. self.new.places + 1 ≡ self.old.places) }
         ensures same { IfErr result (λ _. self.new ≡ self.old) }
@@ -103,18 +161,44 @@ impl Publisher {
         if self.places == 0 {
             return Err(SwapFault::NoPlace);
         }
-        let Ok(shown) = Arc::try_clone(&self.shown) else {
+        let Ok(mut reader) = self.writer.factory().reader() else {
             return Err(SwapFault::Memory);
         };
-        let Ok(latest) = self.latest.copy() else {
-            return Err(SwapFault::Memory);
-        };
+        reader.learn::<Taken>(self.writer.tell::<Shared>());
         self.places -= 1;
-        Ok(Watcher::new(shown, latest))
+        Ok(Watcher::new(reader, self.known.again()))
+    }
+
+    /// A notice of all that was installed, for its watchers to learn. It takes no memory.
+    pub fn tell(&self) -> Notice
+        ensures { result ≡ self.now.known }
+    {
+        Notice::new(self.known.again())
+    }
+
+    /// Waits for those that look, and gives up what it holds. Its watchers see nothing more.
+    pub fn close<R: Wait>(self, rt: &R) {
+        let Publisher {
+            writer,
+            end: _,
+            known: _,
+            latest: _,
+            places: _,
+        } = self;
+        writer.take(rt);
     }
 }
 
-// Shows the next ruleset in place of the last one, which is let go after the lock.
-fn show<R: Wait>(rt: &R, shown: &Mutex<Published>, next: Published) {
-    let _last = mem::replace(&mut *shown.lock(rt), next);
+#[cfg(test)]
+impl Publisher {
+    /// Leaves an operation waiting, as a publish does that is refused.
+    pub(crate) fn leave_waiting(&mut self, rules: &Arc<Ruleset>) -> bool {
+        if self.known.generation() == u64::MAX {
+            return false;
+        }
+        let Ok(operation) = Next::new(&self.end, &self.known, rules) else {
+            return false;
+        };
+        self.writer.append(operation).is_ok()
+    }
 }

@@ -1,56 +1,98 @@
-//! A watcher: it gives the newest ruleset, and keeps it.
+//! A watcher, which sees the newest ruleset and waits for nobody.
 
-ghost use Rattle.std.specs.Prelude.{◌≡◌, IfOk, IfErr};
+ghost use Rattle.std.specs.Prelude.{◌≡◌, ◌⊎◌, Some, IfOk, IfErr, IfSome};
+ghost use Rattle.std.specs.Arc.{arc_value};
+ghost use Rattle.left_right.specs.Sides.{view};
+ghost use Rattle.hot_swap.specs.Published.{HasLast, GoesOnwards};
 
+use crate::beginning::{Beginning, Generation};
 use crate::fault::SwapFault;
-use crate::published::{Generation, Published};
+use crate::notice::Notice;
+use crate::publisher_id::PublisherId;
+use crate::seats::{OnePublisher, Telling};
+use crate::shown::Shown;
+use core::mem::replace_with;
+use left_right::reader::Reader;
 use ruleset::Ruleset;
 use std::marker::Model;
-use std::sync::{Arc, Mutex, Wait};
+use std::sync::Arc;
+
+/// A reader of what is shown.
+pub(crate) type ShownReader = Reader<Shown, Option<PublisherId>, OnePublisher>;
 
 /// What sees the rulesets that a publisher installs.
 #[derive(Drop)]
 pub struct Watcher {
-    shown: Arc<Mutex<Published>>,
-    latest: Published,
+    reader: ShownReader,
+    known: Beginning,
 }
 
 impl Model for Watcher {
-    ghost use Rattle.hot_swap.specs.Latest.{Latest};
+    ghost use Rattle.std.specs.Prelude.{◌≡◌, Some};
+    ghost use Rattle.left_right.specs.Sides.{view as told};
+    ghost use Rattle.hot_swap.specs.Published.{Beginning};
 
-    ghost Value = { Latest };
+    ghost Value = { Beginning };
 
-    ghost view = { λ w. w.latest };
+    ghost view = { λ w. w.known };
+
+    ghost invariant = { λ w. told w.reader.place ≡ Some w.known.publisher };
 }
 
 impl Watcher {
-    ghost use Rattle.std.specs.Arc.{arc_value};
-    ghost use Rattle.hot_swap.specs.Latest.{IsLatest, GoesOnwards};
+    ghost use Rattle.hot_swap.specs.Published.{IsLatest};
 
-    /// A watcher of what is shown there, which has seen this.
-    pub(crate) fn new(shown: Arc<Mutex<Published>>, latest: Published) -> Watcher
-        ensures { result ≡ latest }
+    /// A watcher that has seen this.
+    pub(crate) fn new(reader: ShownReader, known: Beginning) -> Watcher
+        requires { view reader.place ≡ Some known.publisher }
+        ensures { result ≡ known }
     {
-        Watcher { shown, latest }
+        Watcher { reader, known }
     }
 
-    /// The newest ruleset with its generation, which never goes back. It may wait while another is
-    /// installed. H2 where the ruleset has no room for one more owner.
-    pub fn current<R: Wait>(&mut self, rt: &R) -> Result<(Generation, Arc<Ruleset>), SwapFault>
+    /// The newest ruleset with its generation, which never goes back. H2 where the ruleset has no
+    /// room for one more owner, after which the watcher may have seen more, or where nothing is
+    /// shown any more.
+    pub fn current(&mut self) -> Result<(Generation, Arc<Ruleset>), SwapFault>
         ensures onwards { GoesOnwards self.old self.new }
         ensures newest { IfOk result (λ r. IsLatest self.new r.0 (arc_value r.1)) }
         ensures place { IfErr result (λ e. e ≡ SwapFault.NoPlace) }
     {
-        let seen = self.latest.generation();
-        let newer = self.shown.lock(rt).newer_than(seen);
-        match newer {
-            Ok(Some(newer)) => self.latest = newer,
-            Ok(None) => {}
-            Err(_) => return Err(SwapFault::NoPlace),
+        let known = self.known.again();
+        let (known, rules) = replace_with(&mut self.reader, known, |reader, known| {
+            look(reader, known)
+        });
+        self.known = known;
+        match rules {
+            Some(rules) => Ok((self.known.generation(), rules)),
+            None => Err(SwapFault::NoPlace),
         }
-        match self.latest.rules() {
-            Ok(rules) => Ok((self.latest.generation(), rules)),
-            Err(_) => Err(SwapFault::NoPlace),
+    }
+
+    /// Learns a notice of its publisher: from then on it sees nothing older.
+    pub fn learn(&mut self, notice: &Notice)
+        requires { notice.now.publisher ≡ self.old.publisher }
+        ensures onwards { GoesOnwards self.old self.new }
+        ensures told { GoesOnwards notice.now self.new }
+        // So it is the longer of the two.
+        ensures one { (self.new ≡ self.old) ⊎ (self.new ≡ notice.now) }
+    {
+        self.known.learn(notice.known());
+    }
+}
+
+// Looks once at what is shown.
+fn look(reader: ShownReader, known: Beginning) -> (ShownReader, (Beginning, Option<Arc<Ruleset>>))
+    requires { view reader.place ≡ Some known.publisher }
+    ensures same { view result.0.place ≡ Some known.publisher }
+    ensures onwards { GoesOnwards known result.1.0 }
+    ensures newest { IfSome result.1.1 (λ rules. HasLast result.1.0.rulesets (arc_value rules)) }
+{
+    match reader.enter_as::<Telling>() {
+        Ok(reading) => {
+            let seen = reading.get().look(known);
+            (reading.leave(), seen)
         }
+        Err(reader) => (reader, (known, None)),
     }
 }

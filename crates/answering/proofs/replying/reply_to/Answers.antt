@@ -3,7 +3,7 @@ use Rattle.std.proofs.lemmas.Int.{to_z-of_z}
 use mir.Val.{SFits}
 use mir.Syntax.{w64}
 use Rattle.std.specs.Arc.{arc_value}
-use Rattle.hot_swap.specs.Latest.{IsLatest}
+use Rattle.hot_swap.specs.Published.{IsLatest}
 use Rattle.answering.specs.Answer.{unowned}
 use Rattle.answering.proofs.Grown.{grows_none, grows_all, finds_length}
 use Rattle.answering.proofs.Replies.{is_broken_off, is_replied}

@@ -1,0 +1,114 @@
+//! A publisher and its watchers at work.
+
+use crate::work::{Kind, Work};
+use anyhow::Result;
+use hot_swap::ruleset::Ruleset;
+use hot_swap::{Publisher, Watcher};
+use std::alloc::{AllocError, Global};
+use std::sync::atomic::{AtomicBool, Ordering};
+use std::sync::{Arc, Wait};
+use std::thread::{Threads, join, map_vec};
+
+/// How often a watcher looks at most beside installs.
+const PATIENCE: u32 = 1_000_000_000;
+
+/// The ruleset of a server `prod` without apps.
+pub(crate) fn empty(alloc: Global) -> Result<Arc<Ruleset>> {
+    let server = String::from_str(alloc, "prod")?;
+    Ok(Arc::new(alloc, Ruleset::new(server, Vec::new(alloc))?)?)
+}
+
+fn sum(counts: &[u64]) -> u64 {
+    let mut sum = 0u64;
+    for count in counts {
+        sum = sum.saturating_add(*count);
+    }
+    sum
+}
+
+// Looks so often, or until it is told to stop, and gives the number of looks that saw a ruleset.
+fn look(watcher: &mut Watcher, times: u32, stop: &AtomicBool) -> u64 {
+    let mut seen = 0u64;
+    for _ in 0..times {
+        if watcher.current().is_ok() {
+            seen = seen.saturating_add(1);
+        }
+        if stop.load(Ordering::Relaxed) {
+            break;
+        }
+    }
+    seen
+}
+
+// The same of all watchers, each in a thread of its own.
+fn look_all<H: Threads + Sync>(
+    rt: &H,
+    watchers: Vec<Watcher>,
+    times: u32,
+    stop: &AtomicBool,
+) -> Result<u64, AllocError> {
+    let seen = map_vec(
+        rt,
+        watchers,
+        &|mut watcher: Watcher| { look(&mut watcher, times, stop) },
+    )?;
+    Ok(sum(&seen))
+}
+
+// Installs a ruleset so often, and tells those that look to stop.
+fn install_all<H: Wait>(
+    rt: &H,
+    publisher: &mut Publisher,
+    rules: &Arc<Ruleset>,
+    times: u32,
+    stop: &AtomicBool,
+) -> Result<()> {
+    let mut done = Ok(());
+    for _ in 0..times {
+        if done.is_ok() {
+            done = install(rt, publisher, rules);
+        }
+    }
+    stop.store(true, Ordering::Relaxed);
+    done
+}
+
+fn install<H: Wait>(rt: &H, publisher: &mut Publisher, rules: &Arc<Ruleset>) -> Result<()> {
+    let next = Arc::try_clone(rules).ok().ok_or(AllocError)?;
+    publisher.install(rt, next)?;
+    Ok(())
+}
+
+// So many watchers.
+fn watchers(alloc: Global, publisher: &mut Publisher, count: usize) -> Result<Vec<Watcher>> {
+    let mut watchers = Vec::new(alloc);
+    for _ in 0..count {
+        watchers.push(publisher.watcher()?)?;
+    }
+    Ok(watchers)
+}
+
+/// Does this work with watchers of the publisher, and gives the number of looks that saw a ruleset.
+pub(crate) fn done<H: Threads + Wait + Sync>(
+    rt: &H,
+    alloc: Global,
+    publisher: &mut Publisher,
+    work: Work,
+) -> Result<u64> {
+    let looking = watchers(alloc, publisher, work.looking)?;
+    let _still = watchers(alloc, publisher, work.still)?;
+    let rules = empty(alloc)?;
+    let stop = AtomicBool::new(false);
+    match work.kind {
+        Kind::Looks => Ok(look_all(rt, looking, work.times, &stop)?),
+        Kind::Installs => {
+            let (seen, installed) = join(
+                rt,
+                || look_all(rt, looking, PATIENCE, &stop),
+                || install_all(rt, publisher, &rules, work.times, &stop),
+            );
+            installed?;
+            Ok(seen?)
+        }
+    }
+}

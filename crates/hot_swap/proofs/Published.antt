@@ -1,0 +1,83 @@
+-- What a publish shows is what its last operation brings.
+use Rattle.std.proofs.Common.{◌≡◌, ◌+◌, ◌++◌, [], ◌∷◌, List}
+use Rattle.std.proofs.Common.{Bool, true, false, length, fold, ap, sym, ◌∙◌}
+use Rattle.std.proofs.Common.{ℕ, length-append, Option, None, Some}
+use Rattle.std.proofs.Common.{Result, Ok, Err, MatchResult, MatchBool, IsTrue}
+use Rattle.std.proofs.lemmas.List.Sums.{fold-append}
+use Rattle.std.specs.Arc.{arc_value}
+use Rattle.hot_swap.proofs.Prefixes.{has_last}
+use Rattle.hot_swap.specs.Published.{Beginning, IsLatest}
+use Rattle.hot_swap.specs.Seats.{TellsPublisher}
+use Rattle.hot_swap.specs.declared.publisher_id.PublisherId.{PublisherId}
+use Rattle.hot_swap.specs.declared.next.Next.{Next}
+use Rattle.hot_swap.specs.declared.next.Stamp.{Stamp}
+use Rattle.hot_swap.specs.declared.shown.Shown.{Shown}
+use Rattle.ruleset.specs.Rules.{Rules}
+
+abbrev pub stamp_of : Shown → Stamp
+stamp_of x = record {
+  generation = x.generation;
+  rules = arc_value x.rules;
+  publisher = x.known.publisher;
+}
+
+abbrev pub brought : Next → Stamp
+brought x = record {
+  generation = x.generation;
+  rules = arc_value x.rules;
+  publisher = x.known.publisher;
+}
+
+abbrev pub replaced : Stamp → Next → Stamp
+replaced s x = brought x
+
+-- the list of what waits ends with this operation
+abbrev pub EndsIn : List Next → List Next → Next → Type 0
+EndsIn all waiting next = all ≡ waiting ++ next ∷ []
+
+-- whatever was waiting, the last operation is what is shown
+pub applied_last : (shown : Shown) (waiting all : List Next) (next : Next) → EndsIn all waiting next
+    → fold replaced (stamp_of shown) all ≡ brought next
+applied_last shown waiting all next e =
+    ap (fold replaced (stamp_of shown)) e
+    ∙ fold-append replaced (stamp_of shown) waiting (next ∷ [])
+
+-- so it is what any value has that a publish may show
+pub brings : (shown new : Shown) (waiting all : List Next) (next : Next) → EndsIn all waiting next
+    → stamp_of new ≡ fold replaced (stamp_of shown) all → stamp_of new ≡ brought next
+brings shown new waiting all next e is = is ∙ applied_last shown waiting all next e
+
+-- the next ruleset is shown, and the seat behind the publish knows its publisher
+abbrev pub IsShown : Option PublisherId → Shown → Next → Type 0
+IsShown after new next = (after ≡ Some next.known.publisher)
+    × (new.generation ≡ next.generation)
+    × (arc_value new.rules ≡ arc_value next.rules)
+    × (new.known.publisher ≡ next.known.publisher)
+
+-- what a publish gives, put together
+pub told : {U E : Type 0} (P Q : Type 0) (r : Result U E) (next : Next) (old new : Shown)
+    (before after : Option PublisherId) (s : Stamp) → s ≡ brought next
+    → MatchResult r (λ _. (stamp_of new ≡ s) × P) (λ _. (new ≡ old) × Q)
+    → MatchResult r (λ _. TellsPublisher before old new after) (λ _. after ≡ before)
+    → MatchResult r (λ _. IsShown after new next) (λ _. (after ≡ before) × (new ≡ old))
+told P Q (Ok u) next old new before after s e v t =
+    let same : stamp_of new ≡ brought next = v.0 ∙ e in
+    let publisher : new.known.publisher ≡ next.known.publisher =
+    ap (λ (k : Stamp). k.publisher) same in (
+      t.0 ∙ ap Some publisher,
+      ap (λ (k : Stamp). k.generation) same,
+      ap (λ (k : Stamp). k.rules) same,
+      publisher,
+    )
+told P Q (Err e) next old new before after s is v t = (t, v.0)
+
+-- what was entered ends the list, as the generation of its length
+pub is_latest : (P : Type 0) (entered : Bool) (old : List Rules) (new : Beginning) (rules : Rules)
+    (generation : ℕ) → generation ≡ length old + 1
+    → MatchBool entered (new.rulesets ≡ old ++ rules ∷ []) P → IsTrue entered
+    → IsLatest new generation rules
+is_latest P true old new rules generation next grown is = record {
+  generation_is = next ∙ (sym (length-append old (rules ∷ [])) ∙ sym (ap length grown));
+  rules_are = rw grown (has_last None old rules);
+}
+is_latest P false old new rules generation next grown is = absurd (cc is)

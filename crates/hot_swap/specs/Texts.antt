@@ -1,0 +1,9 @@
+-- The texts of what a publisher refuses.
+use Rattle.std.specs.Prelude.{ℕ, List, codes}
+use Rattle.hot_swap.specs.declared.fault.SwapFault.{SwapFault}
+use Rattle.hot_swap.specs.declared.fault.SwapFault.TheVariants.{Memory, NoPlace, Exhausted}
+
+abbrev pub swap_text : SwapFault → List ℕ
+swap_text Memory = codes "H1 Memory"
+swap_text NoPlace = codes "H2 NoPlace"
+swap_text Exhausted = codes "H3 Exhausted"

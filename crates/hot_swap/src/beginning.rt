@@ -1,0 +1,114 @@
+//! What is known of a published list: a beginning of it.
+
+ghost use Rattle.std.specs.Prelude.{◌≡◌, ◌+◌, ◌-◌, ◌^◌, ◌<◌, ◌≤◌, [], ◌∷◌, ◌++◌};
+ghost use Rattle.std.specs.Prelude.{◌⊎◌, length, MatchBool};
+ghost use Rattle.std.specs.Arc.{arc_value};
+ghost use mathlib.Core.List.{IsPrefix};
+ghost use Rattle.hot_swap.specs.Book.{id_of};
+
+use crate::book::{CountsRulesets, Enters, Nothing};
+use crate::list_end::ListEnd;
+use logbook::{Offer, Seen, Start, Word};
+use ruleset::Ruleset;
+use std::marker::Model;
+use std::sync::Arc;
+
+/// How many rulesets had been installed with this one: 1 is the first.
+pub type Generation = u64;
+
+/// The list itself exists in the proofs alone; what is kept is its length.
+#[derive(Drop)]
+pub(crate) struct Beginning {
+    generation: Generation,
+    seen: Seen<Ruleset, u64, CountsRulesets>,
+}
+
+impl Model for Beginning {
+    ghost use Rattle.std.specs.Prelude.{◌≡◌, length};
+    ghost use Rattle.hot_swap.specs.Book.{id_of};
+    ghost use Rattle.hot_swap.specs.Published.{Beginning};
+
+    ghost Value = { Beginning };
+
+    ghost view = { λ k. record { publisher = id_of k.seen.book; rulesets = k.seen.log } };
+
+    ghost invariant = { λ k. k.generation ≡ length k.seen.log };
+}
+
+impl Beginning {
+    /// The empty list of a new publisher, and its end.
+    pub(crate) fn open() -> (Beginning, ListEnd)
+        ensures empty { result.0.rulesets ≡ [] }
+        ensures publisher { id_of result.1.word.book ≡ result.0.publisher }
+    {
+        let (seen, mut first, _second) = Seen::open(Start::alone(), 0, 0);
+        let end = ListEnd::new(Word::tracked(0, &mut first));
+        let known = Beginning {
+            generation: 0,
+            seen,
+        };
+        (known, end)
+    }
+
+    /// How many rulesets are known.
+    pub(crate) fn generation(&self) -> Generation
+        ensures { result ≡ length self.now.rulesets }
+    {
+        self.generation
+    }
+
+    /// The same again.
+    pub(crate) fn again(&self) -> Beginning
+        ensures { result ≡ self.now }
+    {
+        Beginning {
+            generation: self.generation,
+            seen: self.seen.again(),
+        }
+    }
+
+    /// The longer of the two is known afterwards.
+    pub(crate) fn learn(&mut self, other: &Beginning)
+        requires { other.now.publisher ≡ self.old.publisher }
+        ensures publisher { self.new.publisher ≡ self.old.publisher }
+        ensures mine { IsPrefix self.old.rulesets self.new.rulesets }
+        ensures its { IsPrefix other.now.rulesets self.new.rulesets }
+        ensures one { (self.new ≡ self.old) ⊎ (self.new ≡ other.now) }
+        ensures newer { length self.old.rulesets ≤ length other.now.rulesets
+            → self.new ≡ other.now }
+    {
+        let mut both = self.seen.again();
+        both.learn(&other.seen);
+        if self.generation <= other.generation {
+            *self = other.again();
+        }
+    }
+
+    /// Enters a ruleset behind all that is known, and says whether it did: it didn't where the list
+    /// is longer.
+    pub(crate) fn enter(&mut self, end: &ListEnd, rules: &Arc<Ruleset>) -> bool
+        requires room { length self.old.rulesets < 2 ^ 64 - 1 }
+        requires publisher { id_of end.now.word.book ≡ self.old.publisher }
+        ensures publisher { self.new.publisher ≡ self.old.publisher }
+        ensures entered { MatchBool result
+            (self.new.rulesets ≡ self.old.rulesets ++ arc_value rules.now ∷ [])
+            (IsPrefix self.old.rulesets self.new.rulesets) }
+    {
+        let mut offer: Offer<Ruleset, u64, CountsRulesets, Nothing> = self
+            .seen
+            .plain::<Nothing, Arc<Ruleset>, Enters>(rules);
+        let mut pen = self.seen.no_pen();
+        let last = self.generation;
+        let found = end
+            .word
+            .compare_exchange::<Enters, Nothing>(
+                last,
+                last + 1,
+                &mut self.seen,
+                &mut offer,
+                &mut pen,
+            );
+        self.generation = if found == last { last + 1 } else { found };
+        found == last
+    }
+}

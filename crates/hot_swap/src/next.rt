@@ -1,0 +1,139 @@
+//! The one operation on what is shown: the next ruleset takes its place.
+
+ghost use Rattle.std.specs.Prelude.{◌≡◌, ◌+◌, ◌-◌, ◌^◌, ◌<◌, length, IsTrue, IfOk};
+ghost use Rattle.std.specs.Arc.{arc_value};
+ghost use Rattle.hot_swap.specs.Book.{id_of};
+ghost use Rattle.hot_swap.specs.Published.{IsLatest};
+
+use crate::beginning::{Beginning, Generation};
+use crate::list_end::ListEnd;
+use crate::publisher_id::PublisherId;
+use crate::shown::Shown;
+use left_right::Absorb;
+use ruleset::Ruleset;
+use std::alloc::AllocError;
+use std::sync::Arc;
+
+/// The install of a ruleset behind all that was known.
+#[derive(Drop)]
+pub struct Next {
+    generation: Generation,
+    install: u64,
+    pub(crate) rules: Arc<Ruleset>,
+    pub(crate) known: Beginning,
+    end: Arc<ListEnd>,
+    ghost next: { generation ≡ length known.rulesets + 1 },
+    ghost room: { length known.rulesets < 2 ^ 64 - 1 },
+    ghost book: { id_of (arc_value end).word.book ≡ known.publisher },
+}
+
+impl Next {
+    /// The install of this ruleset, of which it is one more owner.
+    pub(crate) fn new(
+        end: &Arc<ListEnd>,
+        known: &Beginning,
+        rules: &Arc<Ruleset>,
+    ) -> Result<Next, AllocError>
+        requires room { length known.now.rulesets < 2 ^ 64 - 1 }
+        requires book { id_of (arc_value end.now).word.book ≡ known.now.publisher }
+        ensures { IfOk result
+            (λ n. (n.known ≡ known.now) × (arc_value n.rules ≡ arc_value rules.now)) }
+    {
+        let rules = Arc::try_clone(rules)?;
+        let end = Arc::try_clone(end)?;
+        let install = end.begin_install();
+        Ok(Next {
+            generation: known.generation() + 1,
+            install,
+            rules,
+            known: known.again(),
+            end,
+        })
+    }
+
+    // What is known once the ruleset is entered, and whether it was: an install that a later one
+    // overtook enters nothing.
+    fn entered(&self, rules: &Arc<Ruleset>) -> (Beginning, bool)
+        ensures publisher { result.0.publisher ≡ self.now.known.publisher }
+        ensures listed { IsTrue result.1
+            → IsLatest result.0 self.now.generation (arc_value rules.now) }
+    {
+        let mut known = self.known.again();
+        if !self.end.is_last(self.install) {
+            return (known, false);
+        }
+        let entered = known.enter(&self.end, rules);
+        (known, entered)
+    }
+
+    // What is shown by it first. It copies the Arc, which may be refused, before it enters the
+    // ruleset.
+    fn listed(&self) -> Result<Shown, AllocError>
+        ensures { IfOk result (λ x. (x.generation ≡ self.now.generation)
+            × (arc_value x.rules ≡ arc_value self.now.rules)
+            × (x.known.publisher ≡ self.now.known.publisher)) }
+    {
+        let rules = Arc::try_clone(&self.rules)?;
+        let (known, is_listed) = self.entered(&rules);
+        Ok(Shown {
+            generation: self.generation,
+            rules,
+            is_listed,
+            known,
+        })
+    }
+
+    // What the other copy becomes. The next operation replaces it before it is shown.
+    fn unlisted(self) -> Shown
+        ensures { (result.generation ≡ self.generation)
+            × (arc_value result.rules ≡ arc_value self.rules)
+            × (result.known.publisher ≡ self.known.publisher) }
+    {
+        let Next {
+            generation,
+            install: _,
+            rules,
+            known,
+            end: _,
+        } = self;
+        Shown {
+            generation,
+            rules,
+            is_listed: false,
+            known,
+        }
+    }
+}
+
+/// What the two copies have in common. No value of it is made.
+pub struct Stamp {
+    pub generation: u64,
+    pub rules: Ruleset,
+    pub publisher: PublisherId,
+}
+
+impl Absorb<Next> for Shown {
+    type State = Stamp;
+
+    ghost state = { λ x. record {
+      generation = x.generation;
+      rules = arc_value x.rules;
+      publisher = x.known.publisher;
+    } };
+
+    ghost applied = { λ _ x. record {
+      generation = x.generation;
+      rules = arc_value x.rules;
+      publisher = x.known.publisher;
+    } };
+
+    fn absorb_first(&mut self, operation: &Next, _other: &Shown) -> Result<(), AllocError> {
+        *self = operation.listed()?;
+        Ok(())
+    }
+
+    fn absorb_second(&mut self, operation: Next, _other: &Shown) -> Result<(), Next> {
+        *self = operation.unlisted();
+        Ok(())
+    }
+}

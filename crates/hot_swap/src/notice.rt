@@ -1,0 +1,36 @@
+//! A notice: what a publisher had installed when it was made, for watchers to learn.
+
+ghost use Rattle.std.specs.Prelude.{◌≡◌};
+
+use crate::beginning::Beginning;
+use std::marker::Model;
+
+/// What a publisher had installed. Watchers of any thread may learn it, as often as they like.
+#[derive(Drop)]
+pub struct Notice {
+    known: Beginning,
+}
+
+impl Model for Notice {
+    ghost use Rattle.hot_swap.specs.Published.{Beginning};
+
+    ghost Value = { Beginning };
+
+    ghost view = { λ n. n.known };
+}
+
+impl Notice {
+    /// Tells this.
+    pub(crate) fn new(known: Beginning) -> Notice
+        ensures { result ≡ known }
+    {
+        Notice { known }
+    }
+
+    /// What it tells.
+    pub(crate) fn known(&self) -> &Beginning
+        ensures { result.now ≡ self.now }
+    {
+        &self.known
+    }
+}

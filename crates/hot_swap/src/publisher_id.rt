@@ -1,0 +1,8 @@
+//! Which publisher it is.
+
+/// What tells a publisher from all others in proofs: its book. No value of it is made.
+pub struct PublisherId {
+    pub number: u64,
+    pub log_name: u64,
+    pub cells_name: u64,
+}

@@ -1,0 +1,48 @@
+//! What those who show and look know of one another: which publisher it is. No value of these types
+//! is made; they are names for definitions.
+
+use crate::publisher_id::PublisherId;
+use crate::shown::Shown;
+use atomic_table::{Join, Split};
+use crossbeam_utils::rule::{Outcome, Protocol};
+
+/// The rule: all that know of a publisher know of the same.
+pub struct OnePublisher;
+
+impl Protocol<Shown, Option<PublisherId>> for OnePublisher {
+    ghost use Rattle.std.specs.Prelude.{None};
+    ghost use Rattle.hot_swap.specs.Seats.{KnowOnePublisher};
+
+    ghost holds = { KnowOnePublisher };
+
+    ghost first = { None };
+}
+
+/// A look, and a publish.
+pub struct Telling;
+
+impl Outcome<Shown, Option<PublisherId>> for Telling {
+    ghost use Rattle.hot_swap.specs.Seats.{TellsPublisher};
+
+    ghost then = { TellsPublisher };
+}
+
+/// The publisher tells a watcher what it knows, and goes on knowing it.
+pub struct Shared;
+
+impl Split<Option<PublisherId>> for Shared {
+    ghost left = { λ v. v };
+
+    ghost right = { λ v. v };
+}
+
+/// A new watcher, which knows nothing, knows what it was told.
+pub struct Taken;
+
+impl Join<Option<PublisherId>> for Taken {
+    ghost use Rattle.std.specs.Prelude.{None};
+
+    ghost both = { λ v w. w };
+
+    ghost spent = { None };
+}

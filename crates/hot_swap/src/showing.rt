@@ -1,0 +1,80 @@
+//! Showing the next ruleset in place of the last.
+
+ghost use Rattle.std.specs.Prelude.{◌≡◌, ◌≤◌, [], ◌∷◌, ◌++◌, Some, IfOk, IfSome, MatchResult};
+ghost use Rattle.std.specs.Arc.{arc_value};
+ghost use Rattle.left_right.specs.Sides.{view};
+
+use crate::beginning::Beginning;
+use crate::next::Next;
+use crate::publisher_id::PublisherId;
+use crate::seats::{OnePublisher, Telling};
+use crate::shown::Shown;
+use left_right::writer::Writer;
+use ruleset::Ruleset;
+use std::alloc::{AllocError, Global};
+use std::sync::{Arc, Wait};
+
+/// What shows rulesets to the readers.
+pub(crate) type ShownWriter = Writer<Shown, Next, Option<PublisherId>, OnePublisher>;
+
+/// A writer that has shown nothing yet, with places for 1 to 65 readers.
+pub(crate) fn nothing_shown(
+    alloc: Global,
+    first: &Arc<Ruleset>,
+    known: &Beginning,
+    readers: usize,
+) -> Result<ShownWriter, AllocError>
+    requires { (1 ≤ readers) × (readers ≤ 65) }
+    ensures { IfOk result (λ w. w.desk.shown.value.known.publisher ≡ known.now.publisher) }
+{
+    let one = Shown::nothing(Arc::try_clone(first)?, known.again());
+    let two = Shown::nothing(Arc::try_clone(first)?, known.again());
+    let writer = Writer::new(alloc, one, two, readers)?;
+    Ok(writer)
+}
+
+/// Enters the next ruleset in the list and shows it, and gives all that is then installed.
+pub(crate) fn show<R: Wait>(
+    writer: ShownWriter,
+    next: Next,
+    rt: &R,
+) -> (ShownWriter, Option<Beginning>)
+    requires one { writer.desk.shown.value.known.publisher ≡ next.known.publisher }
+    ensures one { result.0.desk.shown.value.known.publisher ≡ next.known.publisher }
+    ensures keeps { view writer.desk.place ≡ Some next.known.publisher
+        → view result.0.desk.place ≡ Some next.known.publisher }
+    ensures grown { IfSome result.1 (λ k. (view result.0.desk.place ≡ Some next.known.publisher)
+        × (k.publisher ≡ next.known.publisher)
+        × (k.rulesets ≡ next.known.rulesets ++ arc_value next.rules ∷ [])) }
+{
+    let known = next.known.again();
+    let (writer, done) = publish(writer, next, rt);
+    match done {
+        Ok(()) => {
+            let grown = writer.published().grown(known);
+            (writer, grown)
+        }
+        Err(_) => (writer, None),
+    }
+}
+
+// Publishes the next ruleset. What an earlier refusal left waiting is replaced in the same publish.
+fn publish<R: Wait>(
+    mut writer: ShownWriter,
+    next: Next,
+    rt: &R,
+) -> (ShownWriter, Result<(), AllocError>)
+    requires one { writer.desk.shown.value.known.publisher ≡ next.known.publisher }
+    ensures { MatchResult result.1
+        (λ _. (view result.0.desk.place ≡ Some next.known.publisher)
+        × (result.0.desk.shown.value.generation ≡ next.generation)
+        × (arc_value result.0.desk.shown.value.rules ≡ arc_value next.rules)
+        × (result.0.desk.shown.value.known.publisher ≡ next.known.publisher))
+        (λ _. (view result.0.desk.place ≡ view writer.desk.place)
+        × (result.0.desk.shown.value ≡ writer.desk.shown.value)) }
+{
+    let Ok(()) = writer.append(next) else {
+        return (writer, Err(AllocError));
+    };
+    writer.publish_as::<Telling, R>(rt)
+}

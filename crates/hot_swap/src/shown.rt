@@ -1,0 +1,64 @@
+//! What watchers are shown.
+
+ghost use Rattle.std.specs.Prelude.{◌≡◌, ◌+◌, [], ◌∷◌, ◌++◌, length, IsTrue, IfSome};
+ghost use Rattle.std.specs.Arc.{arc_value};
+ghost use Rattle.hot_swap.specs.Published.{GoesOnwards, HasLast, IsLatest};
+
+use crate::beginning::{Beginning, Generation};
+use ruleset::Ruleset;
+use std::sync::Arc;
+
+/// A ruleset with its generation. If it was entered in the published list, it comes with the list
+/// that it ends.
+#[derive(Drop)]
+pub struct Shown {
+    pub(crate) generation: Generation,
+    pub(crate) rules: Arc<Ruleset>,
+    pub(crate) is_listed: bool,
+    pub(crate) known: Beginning,
+    ghost latest: { IsTrue is_listed → IsLatest known generation (arc_value rules) },
+}
+
+impl Shown {
+    /// What is shown before the first install: nothing that a watcher takes.
+    pub(crate) fn nothing(rules: Arc<Ruleset>, known: Beginning) -> Shown
+        ensures { (result.generation ≡ 0) × (arc_value result.rules ≡ arc_value rules)
+            × (result.known ≡ known) }
+    {
+        Shown {
+            generation: 0,
+            rules,
+            is_listed: false,
+            known,
+        }
+    }
+
+    /// All that is installed with it, where it is the next after all that was known.
+    pub(crate) fn grown(&self, mut known: Beginning) -> Option<Beginning>
+        requires publisher { self.now.known.publisher ≡ known.publisher }
+        requires next { self.now.generation ≡ length known.rulesets + 1 }
+        ensures { IfSome result (λ grown. (grown.publisher ≡ known.publisher)
+            × (grown.rulesets ≡ known.rulesets ++ arc_value self.now.rules ∷ [])) }
+    {
+        if !self.is_listed {
+            return None;
+        }
+        known.learn(&self.known);
+        Some(known)
+    }
+
+    /// What is known after a look at it, and one more owner of its ruleset, if there is room for
+    /// one. What isn't in the list, or is older than what was known, isn't taken.
+    pub(crate) fn look(&self, mut known: Beginning) -> (Beginning, Option<Arc<Ruleset>>)
+        requires { self.now.known.publisher ≡ known.publisher }
+        ensures onwards { GoesOnwards known result.0 }
+        ensures newest { IfSome result.1 (λ rules. HasLast result.0.rulesets (arc_value rules)) }
+    {
+        if !self.is_listed || self.generation < known.generation() {
+            return (known, None);
+        }
+        known.learn(&self.known);
+        let rules = Arc::try_clone(&self.rules).ok();
+        (known, rules)
+    }
+}
