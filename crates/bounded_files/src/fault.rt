@@ -1,6 +1,6 @@
 //! What a file may lack.
 
-ghost use Rattle.std.specs.Prelude.{Some};
+ghost use Rattle.std.specs.Prelude.{◌≡◌, Some};
 ghost use Rattle.bounded_files.specs.Texts.{resource_text};
 
 use std::fmt;
@@ -14,13 +14,22 @@ pub enum ResourceFault {
     Memory,
 }
 
+impl ResourceFault {
+    /// The number and the name, as they are printed.
+    pub fn name(self) -> &'static str
+        ensures { result.now ≡ resource_text self }
+    {
+        match self {
+            ResourceFault::File => "B3 File",
+            ResourceFault::Memory => "B4 Memory",
+        }
+    }
+}
+
 impl fmt::Display for ResourceFault {
     ghost output = { λ fault. Some (resource_text fault) };
 
     fn fmt<W: fmt::Write>(&self, f: &mut fmt::Formatter<W>) -> fmt::Result {
-        match self {
-            ResourceFault::File => f.write_str("B3 File"),
-            ResourceFault::Memory => f.write_str("B4 Memory"),
-        }
+        f.write_str(self.name())
     }
 }

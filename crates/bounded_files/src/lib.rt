@@ -2,10 +2,13 @@
 #![tactic(auto)]
 
 // A file is read to one byte past the most that it may have, so that a longer one shows, and no
-// more memory is taken for it.
+// more memory is taken for it. Files are read through a trait, so that files in memory can stand in
+// for those of a device; of these the contracts say which bytes were read.
 
+mod device;
+mod disk;
 mod fault;
-mod files;
 
+pub use device::{Device, write_file};
+pub use disk::{Disk, MOST_BYTES, read_within};
 pub use fault::ResourceFault;
-pub use files::{read_file, write_file};

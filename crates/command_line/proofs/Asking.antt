@@ -3,61 +3,62 @@ use Rattle.std.proofs.Common.{ℕ, List, codes}
 use Rattle.clap.specs.Words.{Text, Row}
 use Rattle.std.specs.Prelude.{Some}
 use Rattle.command_line.specs.declared.request.DeclaredShape.{DeclaredShape}
-use Rattle.command_line.specs.declared.request.Request.TheVariants as request
+use Rattle.command_line.specs.declared.request.CommandRequest.TheVariants as request
 use Rattle.command_line.specs.declared.verb.Verb.TheVariants as verb
-use Rattle.command_line.specs.declared.request.Line.TheVariants as line
+use Rattle.operator_request.specs.declared.request.OperatorRequest.TheVariants as sent
 use Rattle.command_line.specs.declared.request.Plan.{Plan}
-use Rattle.command_line.specs.Words.{AsksNothing, HasBucket, HasPlan, HasShape, HasShort, HasText}
+use Rattle.command_line.specs.Words.{VerbAsksNothing, HasBucket, HasPlan}
+use Rattle.command_line.specs.Words.{HasShape, HasShort, HasText}
 
 pub assembles_nothing : (rows : List Row)
     → ((text out : Text) → HasText (codes "IN") rows text → HasText (codes "OUT") rows out → ⊥)
-    → AsksNothing (Some verb.Assemble) rows
+    → VerbAsksNothing (Some verb.Assemble) rows
 assembles_nothing rows lacks (request.Assemble text out) asks =
     lacks text.now out.now asks.0 asks.1
 assembles_nothing rows lacks asked asks = asks
 
 pub lists_nothing : (rows : List Row) → ((path : Text) → HasText (codes "IN") rows path → ⊥)
-    → AsksNothing (Some verb.List) rows
+    → VerbAsksNothing (Some verb.List) rows
 lists_nothing rows lacks (request.List path) asks = lacks path.now asks
 lists_nothing rows lacks asked asks = asks
 
 pub verifies_nothing : (rows : List Row)
     → ((path : Text) (shape : DeclaredShape) → HasText (codes "IN") rows path
-    → HasShape rows shape → ⊥) → AsksNothing (Some verb.Verify) rows
+    → HasShape rows shape → ⊥) → VerbAsksNothing (Some verb.Verify) rows
 verifies_nothing rows lacks (request.Verify path shape) asks = lacks path.now shape asks.0 asks.1
 verifies_nothing rows lacks asked asks = asks
 
 pub runs_nothing : (rows : List Row)
     → ((path : Text) (shape : DeclaredShape) (bucket : ℕ) → HasText (codes "IN") rows path
-    → HasShape rows shape → HasBucket rows bucket → ⊥) → AsksNothing (Some verb.Run) rows
+    → HasShape rows shape → HasBucket rows bucket → ⊥) → VerbAsksNothing (Some verb.Run) rows
 runs_nothing rows lacks (request.Run path shape version bucket) asks =
     lacks path.now shape bucket asks.0 asks.1 asks.3
 runs_nothing rows lacks asked asks = asks
 
 pub serves_nothing : (rows : List Row)
     → ((manifest : Text) (plan : Plan) → HasText (codes "MANIFEST") rows manifest
-    → HasPlan rows plan → ⊥) → AsksNothing (Some verb.Serve) rows
+    → HasPlan rows plan → ⊥) → VerbAsksNothing (Some verb.Serve) rows
 serves_nothing rows lacks (request.Serve manifest plan) asks = lacks manifest.now plan asks.0 asks.1
 serves_nothing rows lacks asked asks = asks
 
 pub loads_nothing : (rows : List Row)
     → ((path : Text) (port : ℕ) → HasText (codes "PATH") rows path
-    → HasShort (codes "operator") rows port → ⊥) → AsksNothing (Some verb.Load) rows
-loads_nothing rows lacks (request.Ask (line.Load path) port) asks =
+    → HasShort (codes "operator") rows port → ⊥) → VerbAsksNothing (Some verb.Load) rows
+loads_nothing rows lacks (request.Ask (sent.Load path) port) asks =
     lacks path.now port asks.0 asks.1
 loads_nothing rows lacks asked asks = asks
 
 pub shows_nothing : (rows : List Row) → ((port : ℕ) → HasShort (codes "operator") rows port → ⊥)
-    → AsksNothing (Some verb.Show) rows
-shows_nothing rows lacks (request.Ask line.Show port) asks = lacks port asks
+    → VerbAsksNothing (Some verb.Show) rows
+shows_nothing rows lacks (request.Ask sent.Show port) asks = lacks port asks
 shows_nothing rows lacks asked asks = asks
 
 pub counts_nothing : (rows : List Row) → ((port : ℕ) → HasShort (codes "operator") rows port → ⊥)
-    → AsksNothing (Some verb.Cells) rows
-counts_nothing rows lacks (request.Ask line.Cells port) asks = lacks port asks
+    → VerbAsksNothing (Some verb.Cells) rows
+counts_nothing rows lacks (request.Ask sent.Cells port) asks = lacks port asks
 counts_nothing rows lacks asked asks = asks
 
 pub stops_nothing : (rows : List Row) → ((port : ℕ) → HasShort (codes "operator") rows port → ⊥)
-    → AsksNothing (Some verb.Stop) rows
-stops_nothing rows lacks (request.Ask line.Stop port) asks = lacks port asks
+    → VerbAsksNothing (Some verb.Stop) rows
+stops_nothing rows lacks (request.Ask sent.Stop port) asks = lacks port asks
 stops_nothing rows lacks asked asks = asks

@@ -9,7 +9,7 @@ use Rattle.clap.specs.declared.parser.matches.ArgMatches.{ArgMatches}
 use Rattle.clap.specs.Kinds.{HasKind, IsAmong}
 use Rattle.clap.specs.Words.{Text, App, Row, HasMatchesOf, fault_of, is_simple, is_simple_and_free}
 use Rattle.clap.specs.Words.{kind_of, subcommand_of, subcommand_rows_of}
-use Rattle.command_line.specs.declared.request.Request.{Request}
+use Rattle.command_line.specs.declared.request.CommandRequest.{CommandRequest}
 use Rattle.command_line.specs.Grammar.{commands}
 use Rattle.command_line.specs.Requests.{AskFor, AskForHelp, AskForNothing, TellsFault}
 use Rattle.command_line.specs.Words.{IsAsked, IsNothingAsked}
@@ -49,7 +49,7 @@ tells_fault words e (inr among) no_help no_memory = record {
   no_memory = no_memory;
 }
 
-pub asks_for : (words : List Text) (m : ArgMatches) (request : Request)
+pub asks_for : (words : List Text) (m : ArgMatches) (request : CommandRequest)
     → subcommand_rows_of m ≡ subcommand_of commands words → IsAsked (subcommand_rows_of m) request
     → AskFor words request
 asks_for words m request is asked = record {

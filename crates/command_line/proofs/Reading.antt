@@ -115,4 +115,5 @@ one_more_alike f g xs new x ys i d within alike is more =
 -- and one more of which it holds
 pub one_more_holds : {X : Type 0} (P : X → Type 0) (xs new : List X) (x : X)
     → AllByRecursion P xs → P x → new ≡ xs ++ x ∷ [] → AllByRecursion P new
-one_more_holds P xs new x all holds more = subst (AllByRecursion P) (sym more) (longer P xs x all holds)
+one_more_holds P xs new x all holds more =
+    subst (AllByRecursion P) (sym more) (longer P xs x all holds)

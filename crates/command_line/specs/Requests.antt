@@ -8,12 +8,12 @@ use Rattle.clap.specs.Values.{kind_of}
 use Rattle.clap.specs.Words.{Text, fault_of, subcommand_of}
 use Rattle.command_line.specs.declared.fault.WordsFault.{WordsFault}
 use Rattle.command_line.specs.declared.fault.WordsFault.TheVariants.{Help, Usage, Nothing, Memory}
-use Rattle.command_line.specs.declared.request.Request.{Request}
+use Rattle.command_line.specs.declared.request.CommandRequest.{CommandRequest}
 use Rattle.command_line.specs.Grammar.{commands}
 use Rattle.command_line.specs.Words.{IsAsked, IsNothingAsked}
 
 -- the words ask for this request
-pub record AskFor (words : List Text) (request : Request) : Type 0 where
+pub record AskFor (words : List Text) (request : CommandRequest) : Type 0 where
   pub asked : IsAsked (subcommand_of commands words) request
 
 -- clap finds that they ask for help
@@ -21,7 +21,7 @@ pub record AskForHelp (words : List Text) : Type 0 where
   pub found : IsAmong DisplayHelp (fault_of commands words)
 
 -- clap finds a fault in them, and no call for help
-pub record HasFault (words : List Text) : Type 0 where
+pub record AreFaulty (words : List Text) : Type 0 where
   pub kind : ErrorKind
   pub found : IsAmong kind (fault_of commands words)
   pub no_help : kind ≢ DisplayHelp
@@ -34,7 +34,7 @@ pub record AskForNothing (words : List Text) : Type 0 where
 
 -- the error tells of a fault of the words, and not of memory
 pub record TellsFault (words : List Text) (error : Error) : Type 0 where
-  pub fault : HasFault words
+  pub fault : AreFaulty words
   pub kind_is : fault.kind ≡ kind_of error
   pub no_memory : kind_of error ≢ OutOfMemory
 

@@ -8,10 +8,10 @@ use Rattle.clap.specs.Words.{Row, Text, first_of, one_of}
 use Rattle.cells.specs.Directory.{Declaration}
 use Rattle.declarations.specs.Spec.{declarations_in}
 use Rattle.command_line.specs.declared.request.DeclaredShape.{DeclaredShape}
-use Rattle.command_line.specs.declared.request.Line.TheVariants as line
+use Rattle.operator_request.specs.declared.request.OperatorRequest.TheVariants as sent
 use Rattle.command_line.specs.declared.request.Plan.{Plan}
-use Rattle.command_line.specs.declared.request.Request.{Request}
-use Rattle.command_line.specs.declared.request.Request.TheVariants as request
+use Rattle.command_line.specs.declared.request.CommandRequest.{CommandRequest}
+use Rattle.command_line.specs.declared.request.CommandRequest.TheVariants as request
 use Rattle.command_line.specs.declared.verb.Verb.{Verb}
 use Rattle.command_line.specs.declared.verb.Verb.TheVariants as verb
 
@@ -105,38 +105,41 @@ verb_named name =
     else None
 
 -- the command, with these arguments, asks for this
-abbrev pub Asks : Option Verb → List Row → Request → Type 0
-Asks (Some verb.Assemble) rows (request.Assemble text out) =
+abbrev pub VerbAsks : Option Verb → List Row → CommandRequest → Type 0
+VerbAsks (Some verb.Assemble) rows (request.Assemble text out) =
     HasText (codes "IN") rows text.now × HasText (codes "OUT") rows out.now
-Asks (Some verb.Check) rows (request.Check manifest) =
+VerbAsks (Some verb.Check) rows (request.Check manifest) =
     HasText (codes "MANIFEST") rows manifest.now
-Asks (Some verb.Compile) rows (request.Compile text shape out) =
+VerbAsks (Some verb.Compile) rows (request.Compile text shape out) =
     HasText (codes "IN") rows text.now × HasText (codes "OUT") rows out.now × HasShape rows shape
-Asks (Some verb.List) rows (request.List path) = HasText (codes "IN") rows path.now
-Asks (Some verb.Verify) rows (request.Verify path shape) =
+VerbAsks (Some verb.List) rows (request.List path) = HasText (codes "IN") rows path.now
+VerbAsks (Some verb.Verify) rows (request.Verify path shape) =
     HasText (codes "IN") rows path.now × HasShape rows shape
-Asks (Some verb.Run) rows (request.Run path shape version bucket) =
+VerbAsks (Some verb.Run) rows (request.Run path shape version bucket) =
     HasText (codes "IN") rows path.now × HasShape rows shape
     × (first_of (codes "version") rows ≡ option_copied version)
     × HasBucket rows bucket
-Asks (Some verb.Replay) rows (request.Replay manifest script) =
+VerbAsks (Some verb.Replay) rows (request.Replay manifest script) =
     HasText (codes "MANIFEST") rows manifest.now × HasText (codes "SCRIPT") rows script.now
-Asks (Some verb.Serve) rows (request.Serve manifest plan) =
+VerbAsks (Some verb.Serve) rows (request.Serve manifest plan) =
     HasText (codes "MANIFEST") rows manifest.now × HasPlan rows plan
-Asks (Some verb.Load) rows (request.Ask (line.Load path) port) =
+VerbAsks (Some verb.Load) rows (request.Ask (sent.Load path) port) =
     HasText (codes "PATH") rows path.now × HasShort (codes "operator") rows port
-Asks (Some verb.Show) rows (request.Ask line.Show port) = HasShort (codes "operator") rows port
-Asks (Some verb.Cells) rows (request.Ask line.Cells port) = HasShort (codes "operator") rows port
-Asks (Some verb.Stop) rows (request.Ask line.Stop port) = HasShort (codes "operator") rows port
-Asks verb rows request = ⊥
+VerbAsks (Some verb.Show) rows (request.Ask sent.Show port) =
+    HasShort (codes "operator") rows port
+VerbAsks (Some verb.Cells) rows (request.Ask sent.Cells port) =
+    HasShort (codes "operator") rows port
+VerbAsks (Some verb.Stop) rows (request.Ask sent.Stop port) =
+    HasShort (codes "operator") rows port
+VerbAsks verb rows request = ⊥
 
 -- they ask for no request at all
-abbrev pub AsksNothing : Option Verb → List Row → Type 0
-AsksNothing verb rows = (request : Request) → ¬ Asks verb rows request
+abbrev pub VerbAsksNothing : Option Verb → List Row → Type 0
+VerbAsksNothing verb rows = (request : CommandRequest) → ¬ VerbAsks verb rows request
 
-abbrev pub IsAsked : Option (Text × List Row) → Request → Type 0
+abbrev pub IsAsked : Option (Text × List Row) → CommandRequest → Type 0
 IsAsked None request = ⊥
-IsAsked (Some named) request = Asks (verb_named named.0) named.1 request
+IsAsked (Some named) request = VerbAsks (verb_named named.0) named.1 request
 
 abbrev pub IsNothingAsked : Option (Text × List Row) → Type 0
-IsNothingAsked named = (request : Request) → ¬ IsAsked named request
+IsNothingAsked named = (request : CommandRequest) → ¬ IsAsked named request

@@ -3,7 +3,8 @@
 use clap::Error as ClapError;
 use thiserror::Error;
 
-/// Why there is no request. What is shown of it is for the caller, with its line feeds.
+/// Why there is no request. What is shown of the first three is for the caller, with its line
+/// feeds.
 #[derive(Debug, Drop, Error)]
 pub enum WordsFault {
     /// The words ask for help: its page.
@@ -16,7 +17,7 @@ pub enum WordsFault {
     #[error("error: '--arrays' wants name:width:length, or name:64:length:quota, \
         joined by commas\n")]
     Nothing,
-    /// B4: memory was refused.
-    #[error("refused B4 Memory\n")]
+    /// Memory was refused.
+    #[error("Memory")]
     Memory,
 }

@@ -239,11 +239,17 @@ fn commands<'a>(alloc: Global, verbs: &[Verb]) -> Result<Vec<Command<'a>>, Alloc
     Ok(commands)
 }
 
+// What `--help` ends with.
+const PROGRAMS: &str = "\
+Programs are of RFC 9669's conformance groups base32, base64, divmul32, divmul64, atomic32 and
+atomic64.";
+
 /// The grammar of the command line.
 pub fn grammar<'a>(alloc: Global) -> Result<Command<'a>, AllocError>
     ensures { IfOk result (λ c. app_of c ≡ grammar.commands) }
 {
     Command::new(alloc, "rollout")
+        .after_help(PROGRAMS)
         .about("Decide by verified BPF programs which release an app is offered")
         .subcommand_required(true)
         .subcommands(commands(alloc, &VERBS)?)

@@ -15,5 +15,8 @@ mod verb;
 mod words;
 
 pub use fault::WordsFault;
-pub use request::{DeclaredShape, Line, Plan, Request};
+pub use request::{CommandRequest, DeclaredShape, Plan};
 pub use words::read_words;
+
+// The words of the contracts here come with them.
+pub use operator_request;

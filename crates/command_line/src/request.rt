@@ -4,6 +4,7 @@ ghost use Rattle.std.specs.Prelude.{◌≤◌};
 
 use attrs::Bucket;
 use declarations::ArrayDeclaration;
+use operator_request::OperatorRequest;
 
 /// The shape that a program is judged under, as the words declare it: how many releases the app
 /// has, and the arrays that the program may use.
@@ -16,7 +17,7 @@ pub struct DeclaredShape {
 
 /// One request of the command line.
 #[derive(Drop)]
-pub enum Request<'a> {
+pub enum CommandRequest<'a> {
     /// Assemble the text of one file into another.
     Assemble {
         text: &'a str,
@@ -53,7 +54,7 @@ pub enum Request<'a> {
     },
     /// Ask a server at its operator's port.
     Ask {
-        line: Line<'a>,
+        request: OperatorRequest<'a>,
         port: u16,
     },
     /// Verify it, and run it for one app.
@@ -76,15 +77,6 @@ pub struct Plan {
     pub log: bool,
     pub ghost some: { 1 ≤ workers },
     pub ghost few: { workers ≤ 64 },
-}
-
-/// What an operator asks.
-#[derive(Clone, Copy)]
-pub enum Line<'a> {
-    Load(&'a str),
-    Show,
-    Cells,
-    Stop,
 }
 
 /// Why the words ask for nothing.

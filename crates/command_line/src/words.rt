@@ -6,20 +6,24 @@ ghost use Rattle.clap.specs.Words.{Text, fault_of, found_of, rows_of, subcommand
 ghost use Rattle.clap.specs.Words.{subcommand_rows_of};
 ghost use Rattle.command_line.specs.Grammar.{commands};
 ghost use Rattle.command_line.specs.Requests.{AskFor, IsWordsFault};
-ghost use Rattle.command_line.specs.Words.{Asks, AsksNothing, IsAsked, IsNothingAsked};
+ghost use Rattle.command_line.specs.Words.{VerbAsks, VerbAsksNothing, IsAsked, IsNothingAsked};
 
 use crate::fault::WordsFault;
 use crate::grammar::grammar;
 use crate::options::{bucket_of, number_of, plan_of, shape_of, text_of};
-use crate::request::{Line, NoRequest, Request};
+use crate::request::{CommandRequest, NoRequest};
 use crate::verb::{Verb, verb_named};
 use clap::error::ErrorKind;
 use clap::{ArgMatches, Error};
+use operator_request::OperatorRequest;
 use std::alloc::Global;
 use std::convert::AsStr;
 
 /// The request of a command line's words, the first of which is the program's name.
-pub fn read_words<'a, S: AsStr>(alloc: Global, words: &'a [S]) -> Result<Request<'a>, WordsFault>
+pub fn read_words<'a, S: AsStr>(
+    alloc: Global,
+    words: &'a [S],
+) -> Result<CommandRequest<'a>, WordsFault>
     ensures request { IfOk result (AskFor (map S.text words.now)) }
     ensures fault { IfErr result (IsWordsFault (map S.text words.now)) }
 {
@@ -61,7 +65,7 @@ fn words_fault(error: Error) -> WordsFault
 // The request that the matches hold, if they hold one. Those of a parse by the grammar do where
 // their arrays are well written, since it wants each other value and checks its range: this is
 // tested, command by command.
-fn request_of<'a>(alloc: Global, matches: &ArgMatches<'a>) -> Result<Request<'a>, NoRequest>
+fn request_of<'a>(alloc: Global, matches: &ArgMatches<'a>) -> Result<CommandRequest<'a>, NoRequest>
     ensures asked { IfOk result (IsAsked (subcommand_rows_of matches.now)) }
     ensures nothing { result ≡ Err NoRequest.Wrong
         → IsNothingAsked (subcommand_rows_of matches.now) }
@@ -77,10 +81,10 @@ fn request_named<'a>(
     alloc: Global,
     verb: Option<Verb>,
     found: &ArgMatches<'a>,
-) -> Result<Request<'a>, NoRequest>
-    ensures asked { IfOk result (Asks verb (rows_of (found_of found.now))) }
+) -> Result<CommandRequest<'a>, NoRequest>
+    ensures asked { IfOk result (VerbAsks verb (rows_of (found_of found.now))) }
     ensures nothing { result ≡ Err NoRequest.Wrong
-        → AsksNothing verb (rows_of (found_of found.now)) }
+        → VerbAsksNothing verb (rows_of (found_of found.now)) }
 {
     match verb {
         Some(Verb::Assemble) => assemble_asked(found),
@@ -99,64 +103,64 @@ fn request_named<'a>(
     }
 }
 
-fn assemble_asked<'a>(found: &ArgMatches<'a>) -> Result<Request<'a>, NoRequest>
-    ensures asked { IfOk result (Asks (Some Verb.Assemble) (rows_of (found_of found.now))) }
+fn assemble_asked<'a>(found: &ArgMatches<'a>) -> Result<CommandRequest<'a>, NoRequest>
+    ensures asked { IfOk result (VerbAsks (Some Verb.Assemble) (rows_of (found_of found.now))) }
     ensures nothing { result ≡ Err NoRequest.Wrong
-        → AsksNothing (Some Verb.Assemble) (rows_of (found_of found.now)) }
+        → VerbAsksNothing (Some Verb.Assemble) (rows_of (found_of found.now)) }
 {
     let text = text_of(found, "IN")?;
     let out = text_of(found, "OUT")?;
-    Ok(Request::Assemble { text, out })
+    Ok(CommandRequest::Assemble { text, out })
 }
 
-fn check_asked<'a>(found: &ArgMatches<'a>) -> Result<Request<'a>, NoRequest>
-    ensures asked { IfOk result (Asks (Some Verb.Check) (rows_of (found_of found.now))) }
+fn check_asked<'a>(found: &ArgMatches<'a>) -> Result<CommandRequest<'a>, NoRequest>
+    ensures asked { IfOk result (VerbAsks (Some Verb.Check) (rows_of (found_of found.now))) }
     ensures nothing { result ≡ Err NoRequest.Wrong
-        → AsksNothing (Some Verb.Check) (rows_of (found_of found.now)) }
+        → VerbAsksNothing (Some Verb.Check) (rows_of (found_of found.now)) }
 {
     let manifest = text_of(found, "MANIFEST")?;
-    Ok(Request::Check { manifest })
+    Ok(CommandRequest::Check { manifest })
 }
 
-fn compile_asked<'a>(alloc: Global, found: &ArgMatches<'a>) -> Result<Request<'a>, NoRequest>
-    ensures asked { IfOk result (Asks (Some Verb.Compile) (rows_of (found_of found.now))) }
+fn compile_asked<'a>(alloc: Global, found: &ArgMatches<'a>) -> Result<CommandRequest<'a>, NoRequest>
+    ensures asked { IfOk result (VerbAsks (Some Verb.Compile) (rows_of (found_of found.now))) }
     ensures nothing { result ≡ Err NoRequest.Wrong
-        → AsksNothing (Some Verb.Compile) (rows_of (found_of found.now)) }
+        → VerbAsksNothing (Some Verb.Compile) (rows_of (found_of found.now)) }
 {
     let text = text_of(found, "IN")?;
     let out = text_of(found, "OUT")?;
     let shape = shape_of(alloc, found)?;
-    Ok(Request::Compile { text, shape, out })
+    Ok(CommandRequest::Compile { text, shape, out })
 }
 
-fn list_asked<'a>(found: &ArgMatches<'a>) -> Result<Request<'a>, NoRequest>
-    ensures asked { IfOk result (Asks (Some Verb.List) (rows_of (found_of found.now))) }
+fn list_asked<'a>(found: &ArgMatches<'a>) -> Result<CommandRequest<'a>, NoRequest>
+    ensures asked { IfOk result (VerbAsks (Some Verb.List) (rows_of (found_of found.now))) }
     ensures nothing { result ≡ Err NoRequest.Wrong
-        → AsksNothing (Some Verb.List) (rows_of (found_of found.now)) }
+        → VerbAsksNothing (Some Verb.List) (rows_of (found_of found.now)) }
 {
     let path = text_of(found, "IN")?;
-    Ok(Request::List { path })
+    Ok(CommandRequest::List { path })
 }
 
-fn verify_asked<'a>(alloc: Global, found: &ArgMatches<'a>) -> Result<Request<'a>, NoRequest>
-    ensures asked { IfOk result (Asks (Some Verb.Verify) (rows_of (found_of found.now))) }
+fn verify_asked<'a>(alloc: Global, found: &ArgMatches<'a>) -> Result<CommandRequest<'a>, NoRequest>
+    ensures asked { IfOk result (VerbAsks (Some Verb.Verify) (rows_of (found_of found.now))) }
     ensures nothing { result ≡ Err NoRequest.Wrong
-        → AsksNothing (Some Verb.Verify) (rows_of (found_of found.now)) }
+        → VerbAsksNothing (Some Verb.Verify) (rows_of (found_of found.now)) }
 {
     let path = text_of(found, "IN")?;
     let shape = shape_of(alloc, found)?;
-    Ok(Request::Verify { path, shape })
+    Ok(CommandRequest::Verify { path, shape })
 }
 
-fn run_asked<'a>(alloc: Global, found: &ArgMatches<'a>) -> Result<Request<'a>, NoRequest>
-    ensures asked { IfOk result (Asks (Some Verb.Run) (rows_of (found_of found.now))) }
+fn run_asked<'a>(alloc: Global, found: &ArgMatches<'a>) -> Result<CommandRequest<'a>, NoRequest>
+    ensures asked { IfOk result (VerbAsks (Some Verb.Run) (rows_of (found_of found.now))) }
     ensures nothing { result ≡ Err NoRequest.Wrong
-        → AsksNothing (Some Verb.Run) (rows_of (found_of found.now)) }
+        → VerbAsksNothing (Some Verb.Run) (rows_of (found_of found.now)) }
 {
     let path = text_of(found, "IN")?;
     let bucket = bucket_of(found)?;
     let shape = shape_of(alloc, found)?;
-    Ok(Request::Run {
+    Ok(CommandRequest::Run {
         path,
         shape,
         version: found.get_str("version"),
@@ -164,69 +168,69 @@ fn run_asked<'a>(alloc: Global, found: &ArgMatches<'a>) -> Result<Request<'a>, N
     })
 }
 
-fn replay_asked<'a>(found: &ArgMatches<'a>) -> Result<Request<'a>, NoRequest>
-    ensures asked { IfOk result (Asks (Some Verb.Replay) (rows_of (found_of found.now))) }
+fn replay_asked<'a>(found: &ArgMatches<'a>) -> Result<CommandRequest<'a>, NoRequest>
+    ensures asked { IfOk result (VerbAsks (Some Verb.Replay) (rows_of (found_of found.now))) }
     ensures nothing { result ≡ Err NoRequest.Wrong
-        → AsksNothing (Some Verb.Replay) (rows_of (found_of found.now)) }
+        → VerbAsksNothing (Some Verb.Replay) (rows_of (found_of found.now)) }
 {
     let manifest = text_of(found, "MANIFEST")?;
     let script = text_of(found, "SCRIPT")?;
-    Ok(Request::Replay { manifest, script })
+    Ok(CommandRequest::Replay { manifest, script })
 }
 
-fn serve_asked<'a>(found: &ArgMatches<'a>) -> Result<Request<'a>, NoRequest>
-    ensures asked { IfOk result (Asks (Some Verb.Serve) (rows_of (found_of found.now))) }
+fn serve_asked<'a>(found: &ArgMatches<'a>) -> Result<CommandRequest<'a>, NoRequest>
+    ensures asked { IfOk result (VerbAsks (Some Verb.Serve) (rows_of (found_of found.now))) }
     ensures nothing { result ≡ Err NoRequest.Wrong
-        → AsksNothing (Some Verb.Serve) (rows_of (found_of found.now)) }
+        → VerbAsksNothing (Some Verb.Serve) (rows_of (found_of found.now)) }
 {
     let manifest = text_of(found, "MANIFEST")?;
     let plan = plan_of(found)?;
-    Ok(Request::Serve { manifest, plan })
+    Ok(CommandRequest::Serve { manifest, plan })
 }
 
-fn load_asked<'a>(found: &ArgMatches<'a>) -> Result<Request<'a>, NoRequest>
-    ensures asked { IfOk result (Asks (Some Verb.Load) (rows_of (found_of found.now))) }
+fn load_asked<'a>(found: &ArgMatches<'a>) -> Result<CommandRequest<'a>, NoRequest>
+    ensures asked { IfOk result (VerbAsks (Some Verb.Load) (rows_of (found_of found.now))) }
     ensures nothing { result ≡ Err NoRequest.Wrong
-        → AsksNothing (Some Verb.Load) (rows_of (found_of found.now)) }
+        → VerbAsksNothing (Some Verb.Load) (rows_of (found_of found.now)) }
 {
     let path = text_of(found, "PATH")?;
     let port = number_of(found, "operator")?;
-    let line = Line::Load(path);
-    Ok(Request::Ask { line, port })
+    let request = OperatorRequest::Load(path);
+    Ok(CommandRequest::Ask { request, port })
 }
 
-fn show_asked<'a>(found: &ArgMatches<'a>) -> Result<Request<'a>, NoRequest>
-    ensures asked { IfOk result (Asks (Some Verb.Show) (rows_of (found_of found.now))) }
+fn show_asked<'a>(found: &ArgMatches<'a>) -> Result<CommandRequest<'a>, NoRequest>
+    ensures asked { IfOk result (VerbAsks (Some Verb.Show) (rows_of (found_of found.now))) }
     ensures nothing { result ≡ Err NoRequest.Wrong
-        → AsksNothing (Some Verb.Show) (rows_of (found_of found.now)) }
+        → VerbAsksNothing (Some Verb.Show) (rows_of (found_of found.now)) }
 {
     let port = number_of(found, "operator")?;
-    Ok(Request::Ask {
-        line: Line::Show,
+    Ok(CommandRequest::Ask {
+        request: OperatorRequest::Show,
         port,
     })
 }
 
-fn cells_asked<'a>(found: &ArgMatches<'a>) -> Result<Request<'a>, NoRequest>
-    ensures asked { IfOk result (Asks (Some Verb.Cells) (rows_of (found_of found.now))) }
+fn cells_asked<'a>(found: &ArgMatches<'a>) -> Result<CommandRequest<'a>, NoRequest>
+    ensures asked { IfOk result (VerbAsks (Some Verb.Cells) (rows_of (found_of found.now))) }
     ensures nothing { result ≡ Err NoRequest.Wrong
-        → AsksNothing (Some Verb.Cells) (rows_of (found_of found.now)) }
+        → VerbAsksNothing (Some Verb.Cells) (rows_of (found_of found.now)) }
 {
     let port = number_of(found, "operator")?;
-    Ok(Request::Ask {
-        line: Line::Cells,
+    Ok(CommandRequest::Ask {
+        request: OperatorRequest::Cells,
         port,
     })
 }
 
-fn stop_asked<'a>(found: &ArgMatches<'a>) -> Result<Request<'a>, NoRequest>
-    ensures asked { IfOk result (Asks (Some Verb.Stop) (rows_of (found_of found.now))) }
+fn stop_asked<'a>(found: &ArgMatches<'a>) -> Result<CommandRequest<'a>, NoRequest>
+    ensures asked { IfOk result (VerbAsks (Some Verb.Stop) (rows_of (found_of found.now))) }
     ensures nothing { result ≡ Err NoRequest.Wrong
-        → AsksNothing (Some Verb.Stop) (rows_of (found_of found.now)) }
+        → VerbAsksNothing (Some Verb.Stop) (rows_of (found_of found.now)) }
 {
     let port = number_of(found, "operator")?;
-    Ok(Request::Ask {
-        line: Line::Stop,
+    Ok(CommandRequest::Ask {
+        request: OperatorRequest::Stop,
         port,
     })
 }

@@ -2,3 +2,4 @@ mod Nth
 mod Once
 mod Passing
 mod Checks
+mod Long

@@ -1,5 +1,6 @@
 -- An item of a list, or an empty text behind its end.
-use Rattle.std.proofs.Common.{◌≡◌, ℕ, List, [], Option, Some, None, option_map, unwrap_or, Bor, refl, ap, ◌∙◌}
+use Rattle.std.proofs.Common.{◌≡◌, ℕ, List, [], Option, Some, None}
+use Rattle.std.proofs.Common.{option_map, unwrap_or, Bor, refl, ap, ◌∙◌}
 
 read_or : (r : Option (Bor (List ℕ))) (empty : Bor (List ℕ)) → empty.now ≡ []
     → (unwrap_or r empty).now ≡ unwrap_or (option_map (λ x. x.now) r) []

@@ -1,5 +1,7 @@
 -- The arrays of a manifest, declared over none, are those of the directory, in their order.
-use Rattle.std.proofs.Common.{◌≡◌, ℕ, zero, suc, List, [], ◌∷◌, ◌++◌, map, flat_map, Bool, true, false, ◌||◌, Option, Some, None, Result, Ok, slice_get, if◌then◌else◌, refl, ap, sym, ◌∙◌, append-nil}
+use Rattle.std.proofs.Common.{◌≡◌, ℕ, zero, suc, List, [], ◌∷◌, ◌++◌, map, flat_map}
+use Rattle.std.proofs.Common.{Bool, true, false, ◌||◌, Option, Some, None}
+use Rattle.std.proofs.Common.{Result, Ok, slice_get, if◌then◌else◌, refl, ap, sym, ◌∙◌, append-nil}
 use Rattle.std.proofs.lemmas.Slice.Eq.{bytes_eq-Decides}
 use Rattle.std.specs.List.{AllByRecursion, list_any}
 use Rattle.std.specs.Str.{bytes_eq}

@@ -7,7 +7,7 @@ use Rattle.diagnosis.specs.Shown.ShowsPlace.{shown}
 use Rattle.diagnosis.specs.Texts.{loaded_text}
 use Rattle.diagnosis.specs.declared.shown.Place.{Place}
 use Rattle.diagnosis.proofs.Once.{told_as_declared}
-use Rattle.load.specs.Files.{KnownFiles, Gives}
+use Rattle.load.specs.bounded_files.Files.{KnownFiles, Gives}
 use Rattle.load.specs.Load.{IsRulesetOf}
 use Rattle.load.specs.rulesets.Rules.{AppRule, Rules}
 

@@ -1,9 +1,9 @@
 -- What comes of the check of a manifest, which is loaded over no arrays.
-use Rattle.std.specs.Prelude.{◌≡◌, ◌⊎◌, ℕ, List, []}
+use Rattle.std.specs.Prelude.{◌≡◌, ◌⊎◌, ◌<◌, ℕ, List, [], length}
 use Rattle.cells.specs.declared.array.CellArray.{CellArray}
 use Rattle.diagnosis.specs.Reason.{IsReason}
 use Rattle.diagnosis.specs.Texts.{accepted_text}
-use Rattle.load.specs.Files.{KnownFiles}
+use Rattle.load.specs.bounded_files.Files.{KnownFiles}
 use Rattle.load.specs.Load.{IsRulesetOf, IsLoadFault}
 use Rattle.load.specs.declared.fault.LoadFault.{LoadFault}
 use Rattle.load.specs.rulesets.Rules.{Rules}
@@ -20,3 +20,8 @@ module _ (known : KnownFiles) (bytes : List ℕ) where
   pub record Fails (fault : LoadFault) (reason : List ℕ) : Type 0 where
     pub refused : IsLoadFault known [] bytes fault
     pub told : (reason ≡ []) ⊎ IsReason known bytes fault reason
+
+-- every manifest of more than 1048576 bytes comes to this fault, whatever its files give
+abbrev pub FailsIfLong : LoadFault → List ℕ → Type 0
+FailsIfLong fault reason =
+    (known : KnownFiles) (bytes : List ℕ) → 1048576 < length bytes → Fails known bytes fault reason

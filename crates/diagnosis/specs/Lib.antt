@@ -4,3 +4,4 @@ pub mod Reason
 pub mod Check
 pub mod OneCheck
 pub use Rattle.load.specs.rulesets
+pub use Rattle.load.specs as load

@@ -6,12 +6,12 @@ use Rattle.diagnosis.specs.declared.shown.Place.TheVariants.{Whole, Slot, Line}
 use Rattle.diagnosis.specs.Shown.{ShowsPlace}
 use Rattle.diagnosis.specs.Texts.{file_line, cells_line}
 use Rattle.load.specs.rulesets.Texts.{line}
-use Rattle.load.specs.Files.{KnownFiles}
+use Rattle.load.specs.bounded_files.Files.{KnownFiles}
 use Rattle.load.specs.Source.{file_of}
 use Rattle.load.specs.declared.fault.LoadFault.{LoadFault}
-use Rattle.load.specs.declared.fault.LoadFault.TheVariants.{Toml, Field, Duplicate, Cells, File}
+use Rattle.load.specs.declared.fault.LoadFault.TheVariants.{Manifest as NoManifest, Cells, File}
 use Rattle.load.specs.declared.fault.LoadFault.TheVariants.{Program, Rule, Memory}
-use Rattle.load.specs.acceptance.bpf_verify.bpf_rules.declared.refusal.Refusal.TheVariants as refusal
+use Rattle.load.specs.acceptance.bpf_verify.bpf_rules.declared.refusal.Refusal.TheVariants as verify
 use Rattle.load.specs.acceptance.declared.fault.ProgramFault.{ProgramFault}
 use Rattle.load.specs.acceptance.declared.fault.ProgramFault.TheVariants.{Flow, Verify}
 use Rattle.load.specs.acceptance.declared.fault.RuleTextFault.{RuleTextFault}
@@ -21,6 +21,8 @@ use Rattle.load.specs.acceptance.rule_lang.declared.fault.RuleFault.TheVariants 
 use Rattle.manifest.specs.App.{AppEntry}
 use Rattle.manifest.specs.Manifest.{Manifest, ReadsManifest}
 use Rattle.manifest.specs.Texts.{misfit_text, twice_text}
+use Rattle.manifest.specs.declared.fault.ManifestFault.{ManifestFault}
+use Rattle.manifest.specs.declared.fault.ManifestFault.TheVariants as unread
 use Rattle.manifest.specs.declared.fault.TomlFault.{TomlFault}
 use Rattle.manifest.specs.declared.fault.TomlFault.TheVariants as toml
 
@@ -41,6 +43,12 @@ abbrev pub IsTomlReason : TomlFault → List ℕ → Type 0
 IsTomlReason toml.TooLong text = text ≡ line (codes "more than 1048576 bytes")
 IsTomlReason toml.Text text = Unit {0}
 
+abbrev pub IsManifestReason : ManifestFault → List ℕ → Type 0
+IsManifestReason (unread.Toml fault) text = IsTomlReason fault text
+IsManifestReason (unread.Field misfit) text = text ≡ line (misfit_text misfit)
+IsManifestReason (unread.Duplicate twice) text = text ≡ twice_text twice ++ codes " stands twice\n"
+IsManifestReason unread.Memory text = text ≡ []
+
 abbrev pub IsCellsReason : List ℕ → ℕ → List ℕ → Type 0
 IsCellsReason bytes number text =
     (array : Declaration) × IsArrayAt bytes number array × (text ≡ cells_line number array.name)
@@ -51,7 +59,7 @@ IsCellsReason bytes number text =
 -- has no place
 abbrev pub slot_of : ProgramFault → Place
 slot_of (Flow (flow.Rule slot rule)) = Slot slot
-slot_of (Verify (refusal.Rule slot rule)) = Slot slot
+slot_of (Verify (verify.Rule slot rule)) = Slot slot
 slot_of fault = Whole
 
 abbrev pub line_of : RuleTextFault → Place
@@ -73,9 +81,7 @@ module _ (known : KnownFiles) (bytes : List ℕ) where
 
   -- the lines beside a refusal
   abbrev pub IsReason : LoadFault → List ℕ → Type 0
-  IsReason (Toml fault) text = IsTomlReason fault text
-  IsReason (Field misfit) text = text ≡ line (misfit_text misfit)
-  IsReason (Duplicate twice) text = text ≡ twice_text twice ++ codes " stands twice\n"
+  IsReason (NoManifest fault) text = IsManifestReason fault text
   IsReason (Cells number fault) text = IsCellsReason bytes number text
   IsReason (File number) text = IsFileReason number Whole text
   IsReason (Program number fault) text = IsFileReason number (slot_of fault) text

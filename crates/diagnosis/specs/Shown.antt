@@ -8,7 +8,7 @@ use Rattle.bpf_text.specs.Listing.{line_of}
 use Rattle.diagnosis.specs.declared.shown.Place.{Place}
 use Rattle.diagnosis.specs.declared.shown.Place.TheVariants.{Whole, Slot, Line}
 use Rattle.load.specs.rulesets.Texts.{line}
-use Rattle.load.specs.Files.{KnownFiles, Gives}
+use Rattle.load.specs.bounded_files.Files.{KnownFiles, Gives}
 
 -- the text of this line, counted from 1; it is empty behind the last
 abbrev pub text_at : ℕ → List ℕ → List ℕ

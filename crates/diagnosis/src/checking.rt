@@ -1,12 +1,13 @@
 //! From the bytes of a manifest to what is told of them.
 
 ghost use Rattle.std.specs.Prelude.{◌≡◌, ◌^◌, ◌-◌, ◌<◌, IfOk, IfErr, string_bytes};
-ghost use Rattle.diagnosis.specs.Check.{Fails, Passes};
+ghost use Rattle.diagnosis.specs.Check.{Fails, FailsIfLong, Passes};
 
 use crate::accepted::tell_accepted;
-use crate::reason::reason_of;
+use crate::reason::{reason_of, tell_toml};
 use cells::Directory;
 use load::{Files, LoadFault, load_ruleset};
+use manifest::{ManifestFault, TomlFault};
 use std::alloc::Global;
 
 /// Why a manifest is refused, and where.
@@ -61,5 +62,19 @@ pub fn check<F: Files>(alloc: Global, manifest: &[u8], files: &mut F) -> Result<
             fault: LoadFault::Memory,
             reason: String::new(alloc),
         }),
+    }
+}
+
+/// Why a manifest of more than 1048576 bytes is refused: M1, which needs none of them.
+pub fn too_long(alloc: Global) -> Refused
+    ensures { FailsIfLong result.fault (string_bytes result.reason) }
+{
+    let fault = LoadFault::Manifest(ManifestFault::Toml(TomlFault::TooLong));
+    match tell_toml(alloc, &[], TomlFault::TooLong) {
+        Some(reason) => Refused { fault, reason },
+        None => Refused {
+            fault,
+            reason: String::new(alloc),
+        },
     }
 }

@@ -16,7 +16,7 @@ mod law;
 mod reason;
 mod shown;
 
-pub use checking::{Refused, check};
+pub use checking::{Refused, check, too_long};
 pub use law::one_check;
 
 // The words of the contracts here come with them.

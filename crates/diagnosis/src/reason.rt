@@ -1,7 +1,7 @@
 //! Where and why a manifest is refused.
 
 ghost use Rattle.std.specs.Prelude.{◌≡◌, ◌^◌, ◌-◌, ◌<◌, ◌++◌, ◌⊎◌, [], OnOk, IfSome, string_bytes};
-ghost use Rattle.diagnosis.specs.Reason.{IsCellsReason, IsReason, IsTomlReason};
+ghost use Rattle.diagnosis.specs.Reason.{IsCellsReason, IsManifestReason, IsReason, IsTomlReason};
 ghost use Rattle.diagnosis.specs.Reason as specs;
 ghost use Rattle.diagnosis.specs.Texts.{cells_line};
 ghost use Rattle.diagnosis.specs.Texts as texts;
@@ -14,7 +14,7 @@ use load::acceptance::rule_compile::CompileFault;
 use load::acceptance::rule_lang::RuleFault;
 use load::acceptance::{ProgramFault, RuleTextFault};
 use load::{Files, LoadFault};
-use manifest::{TomlFault, read_manifest};
+use manifest::{ManifestFault, TomlFault, read_manifest};
 use std::alloc::{AllocError, Global};
 use std::fmt::Write;
 use toml::table_from_slice;
@@ -49,9 +49,7 @@ fn tell_reason<F: Files>(
         IsReason (F.known files.old) manifest.now fault.now (string_bytes text)) }
 {
     match fault {
-        LoadFault::Toml(fault) => tell_toml(alloc, manifest, *fault),
-        LoadFault::Field(misfit) => format!(in alloc; "{misfit}\n").ok(),
-        LoadFault::Duplicate(twice) => format!(in alloc; "{twice} stands twice\n").ok(),
+        LoadFault::Manifest(fault) => tell_manifest(alloc, manifest, fault),
         LoadFault::File { app } => tell_file(alloc, manifest, files, *app, Place::Whole),
         LoadFault::Program { app, fault } => {
             tell_file(alloc, manifest, files, *app, slot_of(fault))
@@ -62,9 +60,21 @@ fn tell_reason<F: Files>(
     }
 }
 
+// What is wrong with a manifest itself.
+fn tell_manifest(alloc: Global, manifest: &[u8], fault: &ManifestFault) -> Option<String>
+    ensures { IfSome result (λ text. IsManifestReason fault.now (string_bytes text)) }
+{
+    match fault {
+        ManifestFault::Toml(fault) => tell_toml(alloc, manifest, *fault),
+        ManifestFault::Field(misfit) => format!(in alloc; "{misfit}\n").ok(),
+        ManifestFault::Duplicate(twice) => format!(in alloc; "{twice} stands twice\n").ok(),
+        ManifestFault::Memory => None,
+    }
+}
+
 // That the bytes are too many, or what the reader of TOML says of them, which it is asked once more
 // and which ends its own lines.
-fn tell_toml(alloc: Global, manifest: &[u8], fault: TomlFault) -> Option<String>
+pub(crate) fn tell_toml(alloc: Global, manifest: &[u8], fault: TomlFault) -> Option<String>
     ensures { IfSome result (λ text. IsTomlReason fault (string_bytes text)) }
 {
     match fault {

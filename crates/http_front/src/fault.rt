@@ -1,42 +1,34 @@
 //! Why a connection has no request to read.
 
 ghost use Rattle.std.specs.Prelude.{◌≡◌, ◌≢◌, IfSome};
-ghost use Rattle.http_front.specs.Faults.{status_of};
+ghost use Rattle.http_front.specs.Faults.{post_line, status_of};
 
 use crate::status::Status;
-use thiserror::Error;
+use std::error::Error;
+use std::fmt::{self, Display};
 
 /// What is wrong, with the numbers P1 to P9 that are sent and logged. They are found in this order:
 /// P1, P6 and P7 while the head comes, then P2, P3, P4, P1 and P5 of a whole head, then P7.
-#[derive(Clone, Copy, Debug, PartialEq, Eq, Drop, Error)]
+#[derive(Clone, Copy, Debug, PartialEq, Eq, Drop)]
 pub enum PostFault {
-    /// No bytes can follow that make a head (RFC 9112, sections 2 to 5); or a Content-Length is no
-    /// number, or two tell different numbers.
-    #[error("P1 Head")]
+    /// P1: no bytes can follow that make a head (RFC 9112, sections 2 to 5); or a Content-Length is
+    /// no number, or two tell different numbers.
     Head,
-    /// The target is not the one that is served.
-    #[error("P2 Path")]
+    /// P2: the target is not the one that is served.
     Path,
-    /// The method is not POST.
-    #[error("P3 Method")]
+    /// P3: the method is not POST.
     Method,
-    /// No Content-Length, or a Transfer-Encoding.
-    #[error("P4 Length")]
+    /// P4: no Content-Length, or a Transfer-Encoding.
     Length,
-    /// A body of more than 1,048,576 bytes.
-    #[error("P5 TooLarge")]
+    /// P5: a body of more than 1,048,576 bytes.
     TooLarge,
-    /// No whole head within 16,384 bytes, or more than 64 header lines.
-    #[error("P6 HeadTooLarge")]
+    /// P6: no whole head within 16,384 bytes, or more than 64 header lines.
     HeadTooLarge,
-    /// The input ended before the head or the body did.
-    #[error("P7 Ended")]
+    /// P7: the input ended before the head or the body did.
     Ended,
-    /// The reader failed.
-    #[error("P8 Device")]
+    /// P8: the reader failed.
     Device,
-    /// Memory was refused.
-    #[error("P9 Memory")]
+    /// P9: memory was refused.
     Memory,
 }
 
@@ -57,4 +49,29 @@ impl PostFault {
             PostFault::Ended | PostFault::Device => None,
         }
     }
+
+    /// The number and the name, as the line that is sent, with its line feed.
+    pub fn line(self) -> &'static str
+        ensures { result.now ≡ post_line self }
+    {
+        match self {
+            PostFault::Head => "P1 Head\n",
+            PostFault::Path => "P2 Path\n",
+            PostFault::Method => "P3 Method\n",
+            PostFault::Length => "P4 Length\n",
+            PostFault::TooLarge => "P5 TooLarge\n",
+            PostFault::HeadTooLarge => "P6 HeadTooLarge\n",
+            PostFault::Ended => "P7 Ended\n",
+            PostFault::Device => "P8 Device\n",
+            PostFault::Memory => "P9 Memory\n",
+        }
+    }
 }
+
+impl Display for PostFault {
+    fn fmt<W: fmt::Write>(&self, f: &mut fmt::Formatter<W>) -> fmt::Result {
+        f.write_str(self.line().trim_end())
+    }
+}
+
+impl Error for PostFault {}

@@ -1,5 +1,7 @@
 -- The appids of a manifest stand once, and so do those of its apps.
-use Rattle.std.proofs.Common.{◌≡◌, ℕ, zero, suc, ◌<◌, List, [], ◌∷◌, length, map, Option, Some, None, Result, Ok, Bool, true, false, refl, slice_index_or, if◌then◌else◌, arith}
+use Rattle.std.proofs.Common.{◌≡◌, ℕ, zero, suc, ◌<◌, List, [], ◌∷◌, length, map}
+use Rattle.std.proofs.Common.{Option, Some, None, Result, Ok}
+use Rattle.std.proofs.Common.{Bool, true, false, refl, slice_index_or, if◌then◌else◌, arith}
 use Rattle.std.proofs.lemmas.List.Folds.{list_any_at}
 use Rattle.std.proofs.lemmas.Slice.Eq.{bytes_eq-Decides}
 use Rattle.std.specs.List.{list_any}
@@ -10,7 +12,7 @@ use Rattle.manifest.specs.App.{AppEntry}
 use Rattle.manifest.specs.Manifest.{Manifest, none_of, once}
 use Rattle.manifest.specs.Twice.{repeated}
 use Rattle.ruleset.specs.Rules.{AppRule, HasTwice, appids_of}
-use Rattle.load.specs.Files.{KnownFiles}
+use Rattle.bounded_files.specs.Files.{KnownFiles}
 use Rattle.load.specs.Apps.{AreAppsOf, none, next}
 
 abbrev pub entry_appids : List AppEntry → List (List ℕ)

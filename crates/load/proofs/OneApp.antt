@@ -129,7 +129,8 @@ module _ (files : List ℕ → Option (List ℕ)) (directory : List CellArray) (
           let there : ComesTo entry.source b t e =
           subst (λ (x : AppShape). ComesTo entry.source b x e) shapes
           (subst (λ (x : List ℕ). ComesTo entry.source x u e) read came) in
-          let same : c ≡ e = same_program judged told entry.source b t c e comes there known filed in
+          let same : c ≡ e = same_program judged told entry.source b t c e comes there known
+          filed in
           is ∙ ap (λ (x : Result Program AppFault). made entry t x) same
           ∙ ap (λ (x : AppShape). made entry x e) (sym shapes) ∙ sym are
 

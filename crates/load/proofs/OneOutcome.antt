@@ -20,7 +20,7 @@ use Rattle.ruleset.specs.Rules.{AppRule, Rules}
 use Rattle.load.specs.declared.fault.AppFault.{AppFault}
 use Rattle.load.specs.declared.fault.AppFault.TheVariants as app
 use Rattle.load.specs.declared.fault.LoadFault.{LoadFault}
-use Rattle.load.specs.declared.fault.LoadFault.TheVariants.{Toml, Field, Duplicate, Cells, File}
+use Rattle.load.specs.declared.fault.LoadFault.TheVariants.{Manifest as NoManifest, Cells, File}
 use Rattle.load.specs.declared.fault.LoadFault.TheVariants.{Program as NoProgram, Rule, Memory}
 use Rattle.load.specs.Apps.{AreAppsOf, RefusesApps, in_app}
 use Rattle.load.specs.Load.{Loads, IsLoadFault, of_bytes, of_arrays, of_apps, RefusesManifest}
@@ -28,10 +28,8 @@ use Rattle.load.specs.Load.{RefusesArrays}
 use Rattle.load.proofs.OneApp.{IsRefusedFrom, refused_at, same_apps, same_refusal, not_both}
 
 abbrev fault_of : ManifestFault → LoadFault
-fault_of (manifest.Toml fault) = Toml fault
-fault_of (manifest.Field misfit) = Field misfit
-fault_of (manifest.Duplicate twice) = Duplicate twice
 fault_of manifest.Memory = Memory
+fault_of fault = NoManifest fault
 
 abbrev named : List ℕ → List AppRule → Rules
 named server apps = record { server = server; apps = apps }
@@ -63,9 +61,12 @@ module _ (files : List ℕ → Option (List ℕ)) (old : List CellArray) (bytes 
 
   by_bytes : (fault : LoadFault) → RefusesManifest bytes fault → fault ≢ Memory
       → Staged (Err fault) old
-  by_bytes (Toml fault) h known = no_manifest (manifest.Toml fault) h (λ e. absurd cc)
-  by_bytes (Field misfit) h known = no_manifest (manifest.Field misfit) h (λ e. absurd cc)
-  by_bytes (Duplicate twice) h known = no_manifest (manifest.Duplicate twice) h (λ e. absurd cc)
+  by_bytes (NoManifest (manifest.Toml fault)) h known =
+      no_manifest (manifest.Toml fault) h (λ e. absurd cc)
+  by_bytes (NoManifest (manifest.Field misfit)) h known =
+      no_manifest (manifest.Field misfit) h (λ e. absurd cc)
+  by_bytes (NoManifest (manifest.Duplicate twice)) h known =
+      no_manifest (manifest.Duplicate twice) h (λ e. absurd cc)
   by_bytes Memory h known = absurd (known refl)
   by_bytes fault h known = absurd h
 

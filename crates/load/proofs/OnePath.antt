@@ -9,41 +9,44 @@ use Rattle.load.specs.declared.fault.LoadFault.{LoadFault}
 use Rattle.load.specs.declared.fault.LoadFault.TheVariants.{Memory}
 use Rattle.load.specs.declared.fault.PathFault.{PathFault}
 use Rattle.load.specs.declared.fault.PathFault.TheVariants as path
-use Rattle.load.specs.Disk.{if_within}
+use Rattle.bounded_files.specs.Files.{most_bytes, if_within}
+use Rattle.bounded_files.specs.declared.fault.ResourceFault.TheVariants as resource
 use Rattle.load.specs.Folder.{path_beside}
 use Rattle.load.specs.Load.{Loads}
 use Rattle.load.specs.Loaded.{LoadsFrom}
 use Rattle.load.specs.OneLoad.{HasOneLoad, IsUntroubled}
 
+abbrev LoadOf : Type 0
+LoadOf = Result (Rules × List CellArray) PathFault
+
 -- what a path comes to by the load of its bytes
-abbrev of_load : Result Rules LoadFault → Result Rules PathFault
-of_load (Ok rules) = Ok rules
-of_load (Err fault) = Err (path.Load fault)
+abbrev of_load : Result Rules LoadFault → List CellArray → LoadOf
+of_load (Ok rules) new = Ok (rules, new)
+of_load (Err fault) new = Err (path.Load fault)
 
 module _ (files : List ℕ → Option (List ℕ)) (place : List ℕ) where
   abbrev beside : List ℕ → Option (List ℕ)
-  beside = λ name. if_within (files (path_beside place name))
+  beside = λ name. if_within most_bytes (files (path_beside place name))
 
-  data Found (old : List CellArray) : Result Rules PathFault → List CellArray → Type 0 where
-    no_file : files place ≡ None → Found old (Err path.File) old
+  data Found (old : List CellArray) : LoadOf → Type 0 where
+    no_file : files place ≡ None → Found old (Err (path.Resource resource.File))
     file : (c : Result Rules LoadFault) (bytes : List ℕ) (new : List CellArray)
         → files place ≡ Some bytes → Loads (Some beside) old bytes c new → c ≢ Err Memory
-        → Found old (of_load c) new
+        → Found old (of_load c new)
 
-  found : (old : List CellArray) (r : Result Rules PathFault) (new : List CellArray)
-      → LoadsFrom (Some files) place old r new → IsUntroubled r → Found old r new
-  found old (Ok rules) new h known =
+  found : (old : List CellArray) (r : LoadOf) → LoadsFrom (Some files) place old r
+      → IsUntroubled r → Found old r
+  found old (Ok (rules, new)) h known =
       file (Ok rules) h.bytes new h.given h.loaded (λ e. absurd cc)
-  found old (Err path.File) new h known =
-      subst (λ (l : List CellArray). Found old (Err path.File) l) (sym h.1) (no_file h.0)
-  found old (Err path.Memory) new h known = absurd (known.0 refl)
-  found old (Err (path.Load fault)) new h known =
-      file (Err fault) h.0.0 new h.0.1 (h.0.2, h.1) (λ e. known.1 (ap of_load e))
+  found old (Err (path.Resource resource.File)) h known = no_file h
+  found old (Err (path.Resource resource.Memory)) h known = absurd (known.0 refl)
+  found old (Err (path.Load fault)) h known =
+      file (Err fault) h.0 old h.1 (h.2, refl)
+      (λ e. known.1 (ap (λ (c : Result Rules LoadFault). of_load c old) e))
 
   module _ (load : HasOneLoad) (old : List CellArray) (known : IsDirectory old) where
-    same_found : {r s : Result Rules PathFault} {new last : List CellArray} → Found old r new
-        → Found old s last → (r ≡ s) × (new ≡ last)
-    same_found (no_file h) (no_file k) = (refl, refl)
+    same_found : {r s : LoadOf} → Found old r → Found old s → r ≡ s
+    same_found (no_file h) (no_file k) = refl
     same_found (no_file h) (file c bytes last given loads untroubled) =
         absurd (none-some bytes (sym h ∙ given))
     same_found (file c bytes new given loads untroubled) (no_file h) =
@@ -54,13 +57,11 @@ module _ (files : List ℕ → Option (List ℕ)) (place : List ℕ) where
         let there : Loads (Some beside) old bytes d last =
         subst (λ (b : List ℕ). Loads (Some beside) old b d last) read again in
         let same = load beside old bytes c d new last known loads there untroubled calm in
-        (ap of_load same.0, same.1)
+        ap (λ (x : Result Rules LoadFault). of_load x new) same.0 ∙ ap (of_load d) same.1
 
 pub same_path : HasOneLoad → (files : List ℕ → Option (List ℕ)) (place : List ℕ)
-    (old : List CellArray) (r s : Result Rules PathFault) (new last : List CellArray)
-    → IsDirectory old → LoadsFrom (Some files) place old r new
-    → LoadsFrom (Some files) place old s last → IsUntroubled r → IsUntroubled s
-    → (r ≡ s) × (new ≡ last)
-same_path load files place old r s new last known h k untroubled calm =
-    same_found files place load old known (found files place old r new h untroubled)
-    (found files place old s last k calm)
+    (old : List CellArray) (r s : LoadOf) → IsDirectory old → LoadsFrom (Some files) place old r
+    → LoadsFrom (Some files) place old s → IsUntroubled r → IsUntroubled s → r ≡ s
+same_path load files place old r s known h k untroubled calm =
+    same_found files place load old known (found files place old r h untroubled)
+    (found files place old s k calm)

@@ -7,7 +7,7 @@ use Rattle.manifest.specs.App.{AppEntry}
 use Rattle.ruleset.specs.Rules.{AppRule}
 use Rattle.load.specs.declared.fault.AppFault.{AppFault}
 use Rattle.load.specs.declared.fault.AppFault.TheVariants.{File, Memory}
-use Rattle.load.specs.Files.{KnownFiles}
+use Rattle.bounded_files.specs.Files.{KnownFiles}
 use Rattle.load.specs.Source.{IsProgramIn, RefusesSource}
 
 -- the shape of an app: the number of its releases, and all arrays of the manifest in their order,

@@ -8,7 +8,7 @@ use Rattle.load.specs.declared.fault.AppFault.{AppFault}
 use Rattle.load.specs.declared.fault.AppFault.TheVariants as app
 use Rattle.load.specs.declared.fault.LoadFault.{LoadFault}
 use Rattle.load.specs.declared.fault.LoadFault.TheVariants.{File, Program, Rule, Memory}
-use Rattle.load.specs.Files.{KnownFiles}
+use Rattle.bounded_files.specs.Files.{KnownFiles}
 use Rattle.load.specs.App.{IsAppOf, RefusesApp}
 
 module _ (known : KnownFiles) (directory : List CellArray) (numbers : List ArrayNo) where

@@ -1,5 +1,4 @@
 pub mod Files
-pub mod Disk
 pub mod Folder
 pub mod Source
 pub mod App
@@ -8,4 +7,5 @@ pub mod Load
 pub mod Loaded
 pub mod OneLoad
 pub use Rattle.acceptance.specs as acceptance
+pub use Rattle.bounded_files.specs as bounded_files
 pub use Rattle.ruleset.specs as rulesets

@@ -11,15 +11,14 @@ use Rattle.manifest.specs.Manifest.{Manifest, ReadsManifest}
 use Rattle.manifest.specs.declared.fault.ManifestFault.TheVariants as manifest
 use Rattle.ruleset.specs.Rules.{Rules}
 use Rattle.load.specs.declared.fault.LoadFault.{LoadFault}
-use Rattle.load.specs.declared.fault.LoadFault.TheVariants.{Toml, Field, Duplicate, Cells, Memory}
-use Rattle.load.specs.Files.{KnownFiles}
+use Rattle.load.specs.declared.fault.LoadFault.TheVariants.{Manifest as NoManifest, Cells, Memory}
+use Rattle.bounded_files.specs.Files.{KnownFiles}
 use Rattle.load.specs.Apps.{AreAppsOf, RefusesApps}
 
 -- why bytes are no manifest; of want of memory nothing is said, here and below
 abbrev pub RefusesManifest : List ℕ → LoadFault → Type 0
-RefusesManifest bytes (Toml fault) = ReadsManifest bytes (Err (manifest.Toml fault))
-RefusesManifest bytes (Field misfit) = ReadsManifest bytes (Err (manifest.Field misfit))
-RefusesManifest bytes (Duplicate twice) = ReadsManifest bytes (Err (manifest.Duplicate twice))
+RefusesManifest bytes (NoManifest manifest.Memory) = ⊥
+RefusesManifest bytes (NoManifest fault) = ReadsManifest bytes (Err fault)
 RefusesManifest bytes Memory = Unit {0}
 RefusesManifest bytes fault = ⊥
 
@@ -50,6 +49,10 @@ module _ (known : KnownFiles) (old : List CellArray) (bytes : List ℕ) where
     pub declared : AreDeclared old manifest.arrays numbers new
     pub server_is : rules.server ≡ manifest.server
     pub apps_are : AreAppsOf known new numbers manifest.apps rules.apps
+
+  abbrev pub LoadsOver : Result (Rules × List CellArray) LoadFault → Type 0
+  LoadsOver (Ok loaded) = IsRulesetOf loaded.0 loaded.1
+  LoadsOver (Err fault) = IsLoadFault fault
 
   -- after a refusal the directory is as it was
   abbrev pub Loads : Result Rules LoadFault → List CellArray → Type 0

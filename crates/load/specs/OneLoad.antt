@@ -7,6 +7,7 @@ use Rattle.load.specs.declared.fault.LoadFault.{LoadFault}
 use Rattle.load.specs.declared.fault.LoadFault.TheVariants.{Memory}
 use Rattle.load.specs.declared.fault.PathFault.{PathFault}
 use Rattle.load.specs.declared.fault.PathFault.TheVariants as path
+use Rattle.bounded_files.specs.declared.fault.ResourceFault.TheVariants as resource
 use Rattle.load.specs.Load.{Loads}
 use Rattle.load.specs.Loaded.{LoadsFrom}
 
@@ -19,13 +20,12 @@ HasOneLoad = (files : List ℕ → Option (List ℕ)) (old : List CellArray) (by
     → r ≢ Err Memory → s ≢ Err Memory → (r ≡ s) × (new ≡ last)
 
 -- no growth was refused for it
-abbrev pub IsUntroubled : Result Rules PathFault → Type 0
-IsUntroubled r = (r ≢ Err path.Memory) × (r ≢ Err (path.Load Memory))
+abbrev pub IsUntroubled : Result (Rules × List CellArray) PathFault → Type 0
+IsUntroubled r = (r ≢ Err (path.Resource resource.Memory)) × (r ≢ Err (path.Load Memory))
 
 -- and so has the manifest at a path, with the files of its folder
 abbrev pub HasOneLoadFrom : Type 0
 HasOneLoadFrom = (files : List ℕ → Option (List ℕ)) (place : List ℕ) (old : List CellArray)
-    (r s : Result Rules PathFault) (new last : List CellArray) → IsDirectory old
-    → LoadsFrom (Some files) place old r new
-    → LoadsFrom (Some files) place old s last → IsUntroubled r → IsUntroubled s
-    → (r ≡ s) × (new ≡ last)
+    (r s : Result (Rules × List CellArray) PathFault) → IsDirectory old
+    → LoadsFrom (Some files) place old r → LoadsFrom (Some files) place old s
+    → IsUntroubled r → IsUntroubled s → r ≡ s

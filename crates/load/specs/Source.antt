@@ -10,7 +10,7 @@ use Rattle.manifest.specs.declared.app.Source.{Source}
 use Rattle.manifest.specs.declared.app.Source.TheVariants as source
 use Rattle.load.specs.declared.fault.AppFault.{AppFault}
 use Rattle.load.specs.declared.fault.AppFault.TheVariants as app
-use Rattle.load.specs.Files.{KnownFiles, Gives}
+use Rattle.bounded_files.specs.Files.{KnownFiles, Gives}
 
 abbrev pub file_of : Source → List ℕ
 file_of (source.Program file) = file

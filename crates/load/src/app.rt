@@ -8,9 +8,10 @@ ghost use Rattle.load.specs.Source as specs;
 ghost use Rattle.load.specs.App.{IsAppOf, RefusesApp, CountsApp};
 
 use crate::fault::AppFault;
-use crate::files::{FileFault, Files};
+use crate::files::Files;
 use acceptance::bpf_verify::Verified;
 use acceptance::{accept, rule_program};
+use bounded_files::ResourceFault;
 use cells::{ArrayNo, Directory, Shape};
 use manifest::{AppEntry, AppParts, Source};
 use ruleset::App;
@@ -63,8 +64,8 @@ fn load_program<F: Files>(
 {
     let bytes = match files.bytes(file_of(source)) {
         Ok(bytes) => bytes,
-        Err(FileFault::Failed) => return Err(AppFault::File),
-        Err(FileFault::Memory) => return Err(AppFault::Memory),
+        Err(ResourceFault::File) => return Err(AppFault::File),
+        Err(ResourceFault::Memory) => return Err(AppFault::Memory),
     };
     match source {
         Source::Program(_) => program_of(alloc, bytes.as_slice(), shape),

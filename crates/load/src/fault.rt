@@ -1,23 +1,18 @@
 //! Why a manifest and its files make no ruleset.
 
 use acceptance::{ProgramFault, RuleTextFault};
+use bounded_files::ResourceFault;
 use cells::CellsFault;
-use manifest::{Misfit, TomlFault, Twice};
+use manifest::ManifestFault;
 use thiserror::Error;
 
 /// What is wrong, with the numbers M1 to M8 that are printed. Arrays and apps are numbered from 1
-/// in the order of the manifest. What the first three variants hold tells more than is printed.
+/// in the order of the manifest.
 #[derive(Debug, Drop, Error)]
 pub enum LoadFault {
-    /// The manifest is no TOML document of at most 1048576 bytes.
-    #[error("M1 Toml")]
-    Toml(TomlFault),
-    /// A member is wrong, is not there, or is none of a manifest's.
-    #[error("M2 Field")]
-    Field(Misfit),
-    /// The name of an array or an appid stands twice.
-    #[error("M3 Duplicate")]
-    Duplicate(Twice),
+    /// M1 to M3: the bytes are no manifest. What it holds tells more than is printed.
+    #[error("{0}")]
+    Manifest(ManifestFault),
     /// The file of an app can't be read.
     #[error("M4 File in app {app}")]
     File { app: usize },
@@ -30,20 +25,17 @@ pub enum LoadFault {
     /// An array isn't declared: N1 or N2.
     #[error("M7 Cells {fault} in array {array}")]
     Cells { array: usize, fault: CellsFault },
-    /// Memory was refused, anywhere.
-    #[error("M8 Memory")]
+    /// M8: memory was refused, anywhere.
+    #[error("{}", ManifestFault::Memory)]
     Memory,
 }
 
 /// Why the manifest at a path comes to no ruleset.
 #[derive(Debug, Drop, Error)]
 pub enum PathFault {
-    /// It can't be read.
-    #[error("B3 File")]
-    File,
-    /// Memory for its bytes was refused.
-    #[error("B4 Memory")]
-    Memory,
+    /// B3 and B4: it can't be read, or memory for its bytes was refused.
+    #[error("{0}")]
+    Resource(ResourceFault),
     /// M1 to M8: it and its files come to no ruleset.
     #[error("{0}")]
     Load(LoadFault),

@@ -1,20 +1,10 @@
 //! The files that a manifest names.
 
 ghost use Rattle.std.specs.Prelude.{◌≡◌, ◌^◌, ◌-◌, ◌<◌, List, ℕ, Option};
-ghost use Rattle.load.specs.Files.{ReadsFile, Counts};
+ghost use Rattle.bounded_files.specs.Files.{ReadsFile};
+ghost use Rattle.load.specs.Files.{Counts};
 
-use thiserror::Error;
-
-/// Why a file gave no bytes.
-#[derive(Clone, Copy, Debug, PartialEq, Eq, Error)]
-pub enum FileFault {
-    /// It can't be read. This is counted.
-    #[error("File")]
-    Failed,
-    /// Memory was refused.
-    #[error("Memory")]
-    Memory,
-}
+use bounded_files::ResourceFault;
 
 /// Files by their names.
 pub trait Files {
@@ -25,8 +15,8 @@ pub trait Files {
     /// How many files couldn't be read so far.
     ghost failed: { Self → ℕ };
 
-    /// The bytes of a file.
-    fn bytes(&mut self, name: &str) -> Result<Vec<u8>, FileFault>
+    /// The bytes of a file. One that can't be read is counted.
+    fn bytes(&mut self, name: &str) -> Result<Vec<u8>, ResourceFault>
         requires { failed self.old < 2 ^ 64 - 1 }
         ensures known { known self.new ≡ known self.old }
         ensures read { ReadsFile (known self.old) name.now result }

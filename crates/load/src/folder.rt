@@ -4,8 +4,8 @@ ghost use Rattle.std.specs.Prelude.{◌≡◌, IfOk};
 ghost use Rattle.std.specs.Path.{path_buf_bytes};
 ghost use Rattle.load.specs.Folder as specs;
 
-use crate::disk::{Disk, read_within};
-use crate::files::{FileFault, Files};
+use crate::files::Files;
+use bounded_files::{Disk, MOST_BYTES, ResourceFault, read_within};
 use std::alloc::{AllocError, Global};
 use std::path::{Path, PathBuf};
 
@@ -42,16 +42,16 @@ impl<'a, D: Disk> Files for FolderFiles<'a, D> {
 
     ghost failed = { λ files. files.failures };
 
-    fn bytes(&mut self, name: &str) -> Result<Vec<u8>, FileFault> {
+    fn bytes(&mut self, name: &str) -> Result<Vec<u8>, ResourceFault> {
         let Ok(path) = path_beside(self.alloc, self.manifest, name) else {
-            return Err(FileFault::Memory);
+            return Err(ResourceFault::Memory);
         };
-        match read_within(self.disk, path.as_str()) {
+        match read_within(self.disk, path.as_str(), MOST_BYTES) {
             Ok(bytes) => Ok(bytes),
-            Err(FileFault::Memory) => Err(FileFault::Memory),
-            Err(FileFault::Failed) => {
+            Err(ResourceFault::Memory) => Err(ResourceFault::Memory),
+            Err(ResourceFault::File) => {
                 self.failures += 1;
-                Err(FileFault::Failed)
+                Err(ResourceFault::File)
             }
         }
     }

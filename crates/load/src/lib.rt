@@ -13,7 +13,6 @@
 
 mod app;
 mod apps;
-mod disk;
 mod fault;
 mod files;
 mod folder;
@@ -21,14 +20,15 @@ mod law;
 mod loading;
 mod path;
 
-pub use disk::{Device, Disk, read_within};
+pub use bounded_files::{Device, Disk};
 pub use fault::{LoadFault, PathFault};
-pub use files::{FileFault, Files};
+pub use files::Files;
 pub use folder::FolderFiles;
 pub use law::one_load;
-pub use loading::load_ruleset;
-pub use path::load_path;
+pub use loading::{load_over, load_ruleset};
+pub use path::{MOST_MANIFEST, load_path};
 
 // The words of the contracts here come with them.
 pub use acceptance;
+pub use bounded_files;
 pub use ruleset;

@@ -3,7 +3,7 @@
 ghost use Rattle.std.specs.Prelude.{◌≡◌, ◌^◌, ◌-◌, ◌<◌, length, All, IfOk, IfErr};
 ghost use Rattle.manifest.specs.declarations.Order.{AreDeclared};
 ghost use Rattle.load.specs.Apps.{CountsLoad};
-ghost use Rattle.load.specs.Load.{Loads, RefusesArrays, RefusesManifest};
+ghost use Rattle.load.specs.Load.{Loads, LoadsOver, RefusesArrays, RefusesManifest};
 ghost use Rattle.manifest.specs.Manifest.{ReadsManifest};
 
 use crate::apps::load_apps;
@@ -15,13 +15,8 @@ use manifest::{Manifest, ManifestFault, ManifestParts, read_manifest};
 use ruleset::Ruleset;
 use std::alloc::Global;
 
-/// The ruleset of a manifest, a TOML document of at most 1048576 bytes, whose arrays are declared
-/// in the directory. Array i of the manifest, from 0, is map i of each of its programs.
-///
-/// The faults come in this order: M1 to M3 of the manifest; M7 of the first array that isn't
-/// declared; then app by app M4 where its file can't be read, M5 where its bytes are no program,
-/// or M6 where they spell no rule. M8 comes where memory is refused. After any refusal the
-/// directory is as it was.
+/// What `load_over` comes to, with the directory changed in place. After any refusal it is as it
+/// was.
 pub fn load_ruleset<F: Files>(
     alloc: Global,
     manifest: &[u8],
@@ -31,6 +26,33 @@ pub fn load_ruleset<F: Files>(
     requires { F.failed files.old < 2 ^ 64 - 1 }
     ensures known { F.known files.new ≡ F.known files.old }
     ensures loads { Loads (F.known files.old) directory.old manifest.now result directory.new }
+    ensures count { CountsLoad (F.failed files.old) (F.failed files.new) result }
+{
+    match load_over(alloc, manifest, files, directory) {
+        Ok((rules, grown)) => {
+            *directory = grown;
+            Ok(rules)
+        }
+        Err(fault) => Err(fault),
+    }
+}
+
+/// The ruleset of a manifest, a TOML document of at most 1048576 bytes, and the directory with its
+/// arrays declared behind those that stand. Array i of the manifest, from 0, is map i of each of
+/// its programs.
+///
+/// The faults come in this order: M1 to M3 of the manifest; M7 of the first array that isn't
+/// declared; then app by app M4 where its file can't be read, M5 where its bytes are no program,
+/// or M6 where they spell no rule. M8 comes where memory is refused.
+pub fn load_over<F: Files>(
+    alloc: Global,
+    manifest: &[u8],
+    files: &mut F,
+    directory: &Directory,
+) -> Result<(Ruleset, Directory), LoadFault>
+    requires { F.failed files.old < 2 ^ 64 - 1 }
+    ensures known { F.known files.new ≡ F.known files.old }
+    ensures loads { LoadsOver (F.known files.old) directory.now manifest.now result }
     ensures count { CountsLoad (F.failed files.old) (F.failed files.new) result }
 {
     let manifest = read(alloc, manifest)?;
@@ -44,11 +66,7 @@ pub fn load_ruleset<F: Files>(
     };
     let numbers = declare_arrays(alloc, &mut grown, &arrays)?;
     let apps = load_apps(alloc, files, &grown, &numbers, apps)?;
-    let Ok(rules) = Ruleset::new(server.into_string(), apps) else {
-        unreachable!()
-    };
-    *directory = grown;
-    Ok(rules)
+    Ok((Ruleset::known(server.into_string(), apps), grown))
 }
 
 fn read(alloc: Global, bytes: &[u8]) -> Result<Manifest, LoadFault>
@@ -57,10 +75,8 @@ fn read(alloc: Global, bytes: &[u8]) -> Result<Manifest, LoadFault>
 {
     match read_manifest(alloc, bytes) {
         Ok(manifest) => Ok(manifest),
-        Err(ManifestFault::Toml(fault)) => Err(LoadFault::Toml(fault)),
-        Err(ManifestFault::Field(misfit)) => Err(LoadFault::Field(misfit)),
-        Err(ManifestFault::Duplicate(twice)) => Err(LoadFault::Duplicate(twice)),
         Err(ManifestFault::Memory) => Err(LoadFault::Memory),
+        Err(fault) => Err(LoadFault::Manifest(fault)),
     }
 }
 

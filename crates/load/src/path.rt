@@ -2,33 +2,39 @@
 
 ghost use Rattle.load.specs.Loaded.{LoadsFrom};
 
-use crate::disk::Disk;
-use crate::fault::PathFault;
-use crate::files::FileFault;
+use crate::fault::{LoadFault, PathFault};
 use crate::folder::FolderFiles;
-use crate::loading::load_ruleset;
+use crate::loading::load_over;
+use bounded_files::Disk;
 use cells::Directory;
+use manifest::{ManifestFault, TomlFault};
 use ruleset::Ruleset;
 use std::alloc::Global;
 
-/// The ruleset of the manifest at a path, whose arrays are declared in the directory. The files
-/// that it names lie in its folder. After any refusal the directory is as it was.
+/// The most bytes of a manifest: 1 MiB.
+pub const MOST_MANIFEST: u32 = 0x10_0000;
+
+/// The ruleset of the manifest at a path, and the directory with its arrays declared behind those
+/// that stand. The files that it names lie in its folder.
 pub fn load_path<D: Disk>(
     alloc: Global,
     disk: &D,
     path: &str,
-    directory: &mut Directory,
-) -> Result<Ruleset, PathFault>
-    ensures { LoadsFrom (D.known disk.now) path.now directory.old result directory.new }
+    directory: &Directory,
+) -> Result<(Ruleset, Directory), PathFault>
+    ensures { LoadsFrom (D.known disk.now) path.now directory.now result }
 {
-    let bytes = match disk.read(path) {
-        Ok(bytes) => bytes,
-        Err(FileFault::Failed) => return Err(PathFault::File),
-        Err(FileFault::Memory) => return Err(PathFault::Memory),
+    let bytes = match disk.read(path, MOST_MANIFEST) {
+        Ok(Some(bytes)) => bytes,
+        Ok(None) => {
+            let fault = ManifestFault::Toml(TomlFault::TooLong);
+            return Err(PathFault::Load(LoadFault::Manifest(fault)));
+        }
+        Err(fault) => return Err(PathFault::Resource(fault)),
     };
     let mut files = FolderFiles::beside(alloc, disk, path);
-    match load_ruleset(alloc, &bytes, &mut files, directory) {
-        Ok(rules) => Ok(rules),
+    match load_over(alloc, &bytes, &mut files, directory) {
+        Ok(loaded) => Ok(loaded),
         Err(fault) => Err(PathFault::Load(fault)),
     }
 }

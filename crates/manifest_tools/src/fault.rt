@@ -2,8 +2,8 @@
 
 ghost use Rattle.manifest_tools.specs.Manifests.{fault_text};
 
-use bounded_files::ResourceFault;
 use diagnosis::Refused;
+use diagnosis::load::bounded_files::ResourceFault;
 use replaying::ReplayFault;
 use std::fmt;
 

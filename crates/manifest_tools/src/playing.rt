@@ -6,28 +6,29 @@ ghost use Rattle.std.specs.String.{string_bytes};
 ghost use Rattle.manifest_tools.specs.Manifests.{HasReplayed, IsReplayRefusal, reply_line};
 
 use crate::fault::ManifestToolFault;
-use bounded_files::ResourceFault;
+use diagnosis::load::bounded_files::{Disk, ResourceFault};
 use replaying::replay::Reply;
-use replaying::{Device, replay_files};
+use replaying::replay_files;
 use std::alloc::{AllocError, Global};
 use std::fmt::Write;
-use std::rt::Files;
 
 /// The lines of a script's events, on a world whose first ruleset is the manifest's.
-pub fn replay_script<R: Files + AllocGlobal>(
-    rt: &R,
+pub fn replay_script<D: Disk>(
+    alloc: Global,
+    disk: &D,
     manifest: &str,
     script: &str,
 ) -> Result<String, ManifestToolFault>
     ensures text { IfOk result
-        (λ text. HasReplayed manifest.now script.now (string_bytes text)) }
-    ensures fault { IfErr result (IsReplayRefusal manifest.now script.now) }
+        (λ text. HasReplayed (D.known disk.now) manifest.now script.now (string_bytes text)) }
+    ensures fault { IfErr result
+        (IsReplayRefusal (D.known disk.now) manifest.now script.now) }
 {
-    let replies = match replay_files(rt.alloc(), &Device::new(rt), manifest, script) {
+    let replies = match replay_files(alloc, disk, manifest, script) {
         Ok(replies) => replies,
         Err(fault) => return Err(ManifestToolFault::Replay(fault)),
     };
-    match lines_of(rt.alloc(), replies.as_slice()) {
+    match lines_of(alloc, replies.as_slice()) {
         Ok(text) => Ok(text),
         Err(_) => Err(ManifestToolFault::Resource(ResourceFault::Memory)),
     }

@@ -1,25 +1,47 @@
 //! What is wrong with a request.
 
-use thiserror::Error;
+ghost use Rattle.std.specs.Prelude.{◌≡◌};
+ghost use Rattle.omaha_json.specs.Faults.{omaha_line};
+
+use std::error::Error;
+use std::fmt::{self, Display};
 
 /// Why a body is no request. Where several hold, the first is told: that it is JSON, that `request`
 /// is an object, the protocol, that `app` is a list, how long it is, and then its items.
-#[derive(Clone, Copy, Debug, Drop, Error, PartialEq, Eq)]
+#[derive(Clone, Copy, Debug, Drop, PartialEq, Eq)]
 pub enum OmahaFault {
-    /// It is no JSON text, nests deeper than 127 levels, or has a number too large for a float.
-    #[error("O1 Json")]
+    /// O1: it is no JSON text, nests deeper than 127 levels, or has a number too large for a float.
     Json,
-    /// `request` or an `appid` is missing or of another kind, `app` is no list, or an app is no
+    /// O2: `request` or an `appid` is missing or of another kind, `app` is no list, or an app is no
     /// object.
-    #[error("O2 Shape")]
     Shape,
-    /// `protocol` isn't the text `3.1`.
-    #[error("O3 Protocol")]
+    /// O3: `protocol` isn't the text `3.1`.
     Protocol,
-    /// There are more than 256 apps.
-    #[error("O4 TooManyApps")]
+    /// O4: there are more than 256 apps.
     TooManyApps,
-    /// Memory was refused; of the reply too.
-    #[error("O5 Memory")]
+    /// O5: memory was refused; of the reply too.
     Memory,
 }
+
+impl OmahaFault {
+    /// The number and the name, as the line that is sent, with its line feed.
+    pub fn line(self) -> &'static str
+        ensures { result.now ≡ omaha_line self }
+    {
+        match self {
+            OmahaFault::Json => "O1 Json\n",
+            OmahaFault::Shape => "O2 Shape\n",
+            OmahaFault::Protocol => "O3 Protocol\n",
+            OmahaFault::TooManyApps => "O4 TooManyApps\n",
+            OmahaFault::Memory => "O5 Memory\n",
+        }
+    }
+}
+
+impl Display for OmahaFault {
+    fn fmt<W: fmt::Write>(&self, f: &mut fmt::Formatter<W>) -> fmt::Result {
+        f.write_str(self.line().trim_end())
+    }
+}
+
+impl Error for OmahaFault {}

@@ -1,1 +1,3 @@
 mod Events
+mod Unread
+mod Unwritten

@@ -1,9 +1,7 @@
 -- Programs of files, under the shape that the words declare: which are accepted, and what their
 -- runs are.
-use Rattle.std.specs.Prelude.{◌≡◌, ◌⊎◌, ℕ, ◌^◌, List, [], length, Option}
+use Rattle.std.specs.Prelude.{◌≡◌, ◌⊎◌, ℕ, ◌^◌, ◌<◌, List, [], length, Option}
 use Rattle.attrs.specs.Attributes.{plain}
-use Rattle.bounded_files.specs.Files.{OfBytes}
-use Rattle.bounded_files.specs.declared.fault.ResourceFault.TheVariants.{Memory}
 use Rattle.bpf_machine.specs.bpf_semantics.Program.{ShapedProgram}
 use Rattle.bpf_machine.specs.bpf_semantics.State.{opening}
 use Rattle.bpf_machine.specs.bpf_semantics.Run.{Ends}
@@ -21,11 +19,12 @@ use Rattle.program_tools.specs.declared.fault.ProgramToolFault.TheVariants.{Arra
 use Rattle.program_tools.specs.declared.fault.ProgramToolFault.TheVariants.{Resource}
 use Rattle.command_line.specs.declared.request.DeclaredShape.{DeclaredShape}
 use Rattle.load.specs.acceptance.Program.{IsProgramOf, RefusesProgram}
-
--- a file that can't be read or written, or memory that was refused
-abbrev pub IsFileRefusal : ProgramToolFault → Type 0
-IsFileRefusal (Resource fault) = Unit {0}
-IsFileRefusal fault = ⊥
+use Rattle.load.specs.acceptance.declared.fault.ProgramFault.TheVariants.{Flow}
+use Rattle.load.specs.acceptance.flow_check.declared.fault.FlowFault.TheVariants as flow
+use Rattle.load.specs.acceptance.flow_check.declared.fault.FlowRule.TheVariants.{TooLong}
+use Rattle.load.specs.bounded_files.Files.{KnownFiles, OfFile}
+use Rattle.load.specs.bounded_files.declared.fault.ResourceFault.TheVariants.{Memory}
+use Rattle.program_tools.specs.Resources.{IsNoFile}
 
 -- the most bytes of a program
 abbrev pub most_program : ℕ
@@ -51,34 +50,42 @@ IsShapeRefusal asked fault = ⊥
 
 -- ---- programs
 
--- the program of some bytes, which is accepted under the declared shape
-pub record IsProgramFor (asked : DeclaredShape) (p : ShapedProgram) : Type 0 where
+-- the program of a file, which is accepted under the declared shape
+pub record IsProgramFor (known : KnownFiles) (path : List ℕ) (asked : DeclaredShape)
+    (p : ShapedProgram) : Type 0 where
   pub shape : IsShapeFor asked p.shape
-  pub program : OfBytes most_program (λ bytes. IsProgramOf bytes p)
+  pub program : OfFile known path (λ bytes. IsProgramOf bytes p)
 
--- why the bytes are none
+-- the fault of a file that has more bytes than a program
+abbrev pub too_long : ProgramToolFault
+too_long = Program (Flow (flow.Rule 0 TooLong))
+
+-- why the bytes of a file are none; more than 32768 aren't read, so of these it isn't said that
+-- they have no other fault
 abbrev pub IsProgramFault : AppShape → ProgramToolFault → List ℕ → Type 0
-IsProgramFault shape (Program fault) bytes = RefusesProgram bytes shape fault
+IsProgramFault shape (Program fault) bytes =
+    RefusesProgram bytes shape fault
+    ⊎ ((Program fault ≡ too_long) × (most_program < length bytes))
 IsProgramFault shape fault bytes = ⊥
 
 -- why a file is refused: the shape comes first, then the file, then its bytes, by the faults that
 -- they have under a shape
-pub data IsRefusedUnder (asked : DeclaredShape) (most : ℕ)
+pub data IsRefusedUnder (known : KnownFiles) (path : List ℕ) (asked : DeclaredShape)
     (faults : AppShape → ProgramToolFault → List ℕ → Type 0)
     (fault : ProgramToolFault) : Type 0 where
-  of_shape : IsShapeRefusal asked fault → IsRefusedUnder asked most faults fault
-  of_file : {s : AppShape} → IsShapeFor asked s → IsFileRefusal fault
-      → IsRefusedUnder asked most faults fault
-  of_bytes : {s : AppShape} → IsShapeFor asked s → OfBytes most (faults s fault)
-      → IsRefusedUnder asked most faults fault
+  of_shape : IsShapeRefusal asked fault → IsRefusedUnder known path asked faults fault
+  of_file : {s : AppShape} → IsShapeFor asked s → IsNoFile known path fault
+      → IsRefusedUnder known path asked faults fault
+  of_bytes : {s : AppShape} → IsShapeFor asked s → OfFile known path (faults s fault)
+      → IsRefusedUnder known path asked faults fault
 
-abbrev pub IsProgramRefusal : DeclaredShape → ProgramToolFault → Type 0
-IsProgramRefusal asked fault = IsRefusedUnder asked most_program IsProgramFault fault
+abbrev pub IsProgramRefusal : KnownFiles → List ℕ → DeclaredShape → ProgramToolFault → Type 0
+IsProgramRefusal known path asked fault = IsRefusedUnder known path asked IsProgramFault fault
 
 -- an accepted program has so many slots
-abbrev pub HasSlots : DeclaredShape → ℕ → Type 0
-HasSlots shape slots =
-    (p : ShapedProgram) × IsProgramFor shape p × (slots ≡ length p.code)
+abbrev pub HasSlots : KnownFiles → List ℕ → DeclaredShape → ℕ → Type 0
+HasSlots known path asked slots =
+    (p : ShapedProgram) × IsProgramFor known path asked p × (slots ≡ length p.code)
 
 -- ---- runs
 
@@ -96,10 +103,12 @@ pub record RunsTo (p : ShapedProgram) (version : Option (List ℕ))
   pub lawful : AreLawful p.shape events
 
 -- an accepted program comes to this choice after so many instructions
-abbrev pub HasChosen : DeclaredShape → Option (List ℕ) → (bucket choice count : ℕ) → Type 0
-HasChosen shape version bucket choice count =
-    (p : ShapedProgram) × IsProgramFor shape p × RunsTo p version bucket choice count
+abbrev pub HasChosen : KnownFiles → List ℕ → DeclaredShape → Option (List ℕ)
+    → (bucket choice count : ℕ) → Type 0
+HasChosen known path asked version bucket choice count =
+    (p : ShapedProgram) × IsProgramFor known path asked p × RunsTo p version bucket choice count
 
 -- it isn't accepted, or memory for the run is refused
-abbrev pub IsRunRefusal : DeclaredShape → ProgramToolFault → Type 0
-IsRunRefusal asked fault = (fault ≡ Resource Memory) ⊎ IsProgramRefusal asked fault
+abbrev pub IsRunRefusal : KnownFiles → List ℕ → DeclaredShape → ProgramToolFault → Type 0
+IsRunRefusal known path asked fault =
+    (fault ≡ Resource Memory) ⊎ IsProgramRefusal known path asked fault

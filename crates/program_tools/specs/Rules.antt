@@ -1,36 +1,37 @@
--- Programs of rules, under the shape that the words declare.
-use Rattle.std.specs.Prelude.{◌≡◌, ◌<◌, ◌≤◌, ℕ, List, length}
-use Rattle.bounded_files.specs.Files.{OfBytes}
-use Rattle.bounded_files.specs.declared.fault.ResourceFault.TheVariants.{File}
+-- Programs of rules, under the shape that the words declare. A file of more than 16 MiB counts as
+-- one that can't be read.
+use Rattle.std.specs.Prelude.{◌≡◌, ◌⊎◌, ◌≤◌, ℕ, List, length}
 use Rattle.bpf_machine.specs.bpf_semantics.Program.{ShapedProgram}
 use Rattle.cells.specs.Arrays.{AppShape}
 use Rattle.load.specs.acceptance.Rule.{IsProgramOfRule, RefusesRule}
+use Rattle.load.specs.bounded_files.Files.{KnownFiles, most_bytes, within, OfFileWithin}
 use Rattle.command_line.specs.declared.request.DeclaredShape.{DeclaredShape}
 use Rattle.program_tools.specs.declared.fault.ProgramToolFault.{ProgramToolFault}
 use Rattle.program_tools.specs.declared.fault.ProgramToolFault.TheVariants.{Resource, Rule}
-use Rattle.program_tools.specs.Assembly.{most_text}
 use Rattle.program_tools.specs.Programs.{IsShapeFor, IsRefusedUnder}
-
--- the program is accepted under the shape, and means what the rule does that the bytes spell
-pub record IsRuleProgram (shape : AppShape) (p : ShapedProgram) (bytes : List ℕ) : Type 0 where
-  pub short : length bytes ≤ most_text
-  pub shape_is : p.shape ≡ shape
-  pub program : IsProgramOfRule bytes p
-
--- such a program has so many slots
-pub record HasCompiled (asked : DeclaredShape) (slots : ℕ) : Type 0 where
-  pub shape : AppShape
-  pub shape_is : IsShapeFor asked shape
-  pub p : ShapedProgram
-  pub program : OfBytes most_text (IsRuleProgram shape p)
-  pub slots_are : slots ≡ length p.code
 
 -- why the bytes give no program
 abbrev pub IsCompileFault : AppShape → ProgramToolFault → List ℕ → Type 0
 IsCompileFault shape (Rule fault) bytes =
-    (length bytes ≤ most_text) × RefusesRule bytes shape fault
-IsCompileFault shape (Resource File) bytes = most_text < length bytes
+    (length bytes ≤ most_bytes) × RefusesRule bytes shape fault
 IsCompileFault shape fault bytes = ⊥
 
-abbrev pub IsRuleRefusal : DeclaredShape → ProgramToolFault → Type 0
-IsRuleRefusal asked fault = IsRefusedUnder asked most_text IsCompileFault fault
+module _ (known : KnownFiles) (path : List ℕ) (asked : DeclaredShape) where
+  -- the program is accepted under the declared shape, and means what the rule does that the file
+  -- spells
+  pub record IsRuleProgramFor (p : ShapedProgram) : Type 0 where
+    pub shape : IsShapeFor asked p.shape
+    pub program : OfFileWithin most_bytes known path (λ bytes. IsProgramOfRule bytes p)
+
+  abbrev pub IsRuleRefusal : ProgramToolFault → Type 0
+  IsRuleRefusal fault = IsRefusedUnder (within most_bytes known) path asked IsCompileFault fault
+
+  -- such a program has so many slots
+  abbrev pub HasCompiled : ℕ → Type 0
+  HasCompiled slots = (p : ShapedProgram) × IsRuleProgramFor p × (slots ≡ length p.code)
+
+  -- there is none, or it can't be written
+  abbrev pub IsCompileRefusal : ProgramToolFault → Type 0
+  IsCompileRefusal (Resource fault) =
+      IsRuleRefusal (Resource fault) ⊎ ((p : ShapedProgram) × IsRuleProgramFor p)
+  IsCompileRefusal fault = IsRuleRefusal fault

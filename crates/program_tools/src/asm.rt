@@ -1,46 +1,65 @@
 //! `asm`: the bytes that a text stands for.
 
-ghost use Rattle.std.specs.Prelude.{◌⊎◌, IfOk, IfErr};
-ghost use Rattle.bounded_files.specs.Files.{OfBytes};
-ghost use Rattle.program_tools.specs.Assembly.{IsAssembled, IsAssemblyRefusal, most_text};
-ghost use Rattle.program_tools.specs.Programs.{IsFileRefusal};
+ghost use Rattle.std.specs.Prelude.{IfOk, IfErr};
+ghost use Rattle.program_tools.specs.Assembly.{IsAssembled, IsAssembledFrom, IsAssemblyFault};
+ghost use Rattle.program_tools.specs.Assembly.{IsAssemblyRefusal, IsTextRefusal};
 
-use crate::MOST_TEXT;
 use crate::fault::ProgramToolFault;
-use bounded_files::{ResourceFault, read_file, write_file};
 use bpf_text::{AsmFault, AsmFaultKind, assemble};
+use load::bounded_files::{Disk, MOST_BYTES, read_within, write_file};
 use std::alloc::Global;
 use std::rt::Files;
 use std::str;
 
 /// The program that a file's text stands for. It is written only where the whole text has bytes.
-pub fn assemble_file<R: Files + AllocGlobal>(
+pub fn assemble_file<R: Files + AllocGlobal, D: Disk>(
     rt: &R,
+    disk: &D,
     text: &str,
     out: &str,
 ) -> Result<Vec<u8>, ProgramToolFault>
-    ensures program { IfOk result (λ v. OfBytes most_text (IsAssembled v.items)) }
-    ensures fault { IfErr result (λ e.
-        IsFileRefusal e ⊎ OfBytes most_text (IsAssemblyRefusal e)) }
+    ensures program { IfOk result (λ v. IsAssembledFrom (D.known disk.now) text.now v.items) }
+    ensures fault { IfErr result (IsAssemblyRefusal (D.known disk.now) text.now) }
 {
-    let bytes = read_file(rt, text, MOST_TEXT).map_err(ProgramToolFault::Resource)?;
-    let program = assembled(rt.alloc(), &bytes)?;
-    write_file(rt, out, &program).map_err(ProgramToolFault::Resource)?;
-    Ok(program)
+    let program = match program_of_text(rt.alloc(), disk, text) {
+        Ok(program) => program,
+        Err(fault) => return Err(fault),
+    };
+    match write_file(rt, out, &program) {
+        Ok(()) => Ok(program),
+        Err(fault) => Err(ProgramToolFault::Resource(fault)),
+    }
 }
 
-fn assembled(alloc: Global, bytes: &[u8]) -> Result<Vec<u8>, ProgramToolFault>
-    ensures program { IfOk result (λ v. IsAssembled v.items bytes.now) }
-    ensures fault { IfErr result (λ e. IsAssemblyRefusal e bytes.now) }
+// The program of a file's text.
+fn program_of_text<D: Disk>(
+    alloc: Global,
+    disk: &D,
+    path: &str,
+) -> Result<Vec<u8>, ProgramToolFault>
+    ensures program { IfOk result (λ v. IsAssembledFrom (D.known disk.now) path.now v.items) }
+    ensures fault { IfErr result (IsTextRefusal (D.known disk.now) path.now) }
 {
-    if bytes.len() > MOST_TEXT as usize {
-        return Err(ProgramToolFault::Resource(ResourceFault::File));
+    let bytes = match read_within(disk, path, MOST_BYTES) {
+        Ok(bytes) => bytes,
+        Err(fault) => return Err(ProgramToolFault::Resource(fault)),
+    };
+    match assembled(alloc, &bytes) {
+        Ok(program) => Ok(program),
+        Err(fault) => Err(ProgramToolFault::Text(fault)),
     }
+}
+
+// The program that bytes stand for.
+fn assembled(alloc: Global, bytes: &[u8]) -> Result<Vec<u8>, AsmFault>
+    ensures program { IfOk result (λ v. IsAssembled v.items bytes.now) }
+    ensures fault { IfErr result (IsAssemblyFault bytes.now) }
+{
     let Ok(text) = str::from_utf8(bytes) else {
-        return Err(ProgramToolFault::Text(AsmFault::At {
+        return Err(AsmFault::At {
             line: 1,
             kind: AsmFaultKind::Token,
-        }));
+        });
     };
-    assemble(alloc, text).map_err(ProgramToolFault::Text)
+    assemble(alloc, text)
 }

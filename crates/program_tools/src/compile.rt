@@ -1,36 +1,30 @@
 //! `compile`: the program of a file's rule.
 
 ghost use Rattle.std.specs.Prelude.{IfOk, IfErr};
-ghost use Rattle.program_tools.specs.Rules.{HasCompiled, IsCompileFault, IsRuleProgram};
-ghost use Rattle.program_tools.specs.Rules.{IsRuleRefusal};
+ghost use Rattle.program_tools.specs.Rules.{HasCompiled, IsCompileRefusal};
+ghost use Rattle.program_tools.specs.Rules.{IsRuleProgramFor, IsRuleRefusal};
 
-use crate::MOST_TEXT;
 use crate::fault::ProgramToolFault;
 use crate::program::declared_shape;
-use bounded_files::{ResourceFault, read_file, write_file};
 use bpf_machine::bpf_verify::Verified;
-use cells::Shape;
 use command_line::DeclaredShape;
 use load::acceptance::rule_program;
+use load::bounded_files::{Disk, MOST_BYTES, read_within, write_file};
 use std::alloc::Global;
 use std::rt::Files;
 
 /// The slots of the program of a file's rule. It is written only where the whole rule has one.
-pub fn compile_file<R: Files + AllocGlobal>(
+pub fn compile_file<R: Files + AllocGlobal, D: Disk>(
     rt: &R,
+    disk: &D,
     text: &str,
     shape: &DeclaredShape,
     out: &str,
 ) -> Result<usize, ProgramToolFault>
-    ensures slots { IfOk result (HasCompiled shape.now) }
-    ensures fault { IfErr result (IsRuleRefusal shape.now) }
+    ensures slots { IfOk result (HasCompiled (D.known disk.now) text.now shape.now) }
+    ensures fault { IfErr result (IsCompileRefusal (D.known disk.now) text.now shape.now) }
 {
-    let shape = declared_shape(rt.alloc(), shape)?;
-    let bytes = match read_file(rt, text, MOST_TEXT) {
-        Ok(bytes) => bytes,
-        Err(fault) => return Err(ProgramToolFault::Resource(fault)),
-    };
-    let program = match compiled(rt.alloc(), &shape, bytes.as_slice()) {
+    let program = match program_of_rule(rt.alloc(), disk, text, shape) {
         Ok(program) => program,
         Err(fault) => return Err(fault),
     };
@@ -40,15 +34,23 @@ pub fn compile_file<R: Files + AllocGlobal>(
     }
 }
 
-// The program of the rule that the bytes spell.
-fn compiled(alloc: Global, shape: &Shape, bytes: &[u8]) -> Result<Verified, ProgramToolFault>
-    ensures program { IfOk result (λ p. IsRuleProgram shape.now p bytes.now) }
-    ensures fault { IfErr result (λ e. IsCompileFault shape.now e bytes.now) }
+// The program of a file's rule, under the shape that the words declare. Refused is the shape before
+// the file is read.
+fn program_of_rule<D: Disk>(
+    alloc: Global,
+    disk: &D,
+    path: &str,
+    shape: &DeclaredShape,
+) -> Result<Verified, ProgramToolFault>
+    ensures program { IfOk result (IsRuleProgramFor (D.known disk.now) path.now shape.now) }
+    ensures fault { IfErr result (IsRuleRefusal (D.known disk.now) path.now shape.now) }
 {
-    if bytes.len() > MOST_TEXT as usize {
-        return Err(ProgramToolFault::Resource(ResourceFault::File));
-    }
-    match rule_program(alloc, bytes, shape) {
+    let shape = declared_shape(alloc, shape)?;
+    let bytes = match read_within(disk, path, MOST_BYTES) {
+        Ok(bytes) => bytes,
+        Err(fault) => return Err(ProgramToolFault::Resource(fault)),
+    };
+    match rule_program(alloc, bytes.as_slice(), &shape) {
         Ok(program) => Ok(program),
         Err(fault) => Err(ProgramToolFault::Rule(fault)),
     }

@@ -20,8 +20,5 @@ pub use list::list_file;
 pub use run::run_file;
 pub use verify::verify_file;
 
-/// The most bytes of a text, or to be listed: 16 MiB.
-const MOST_TEXT: u32 = 0x100_0000;
-
 // The words of the contracts here come with them.
 pub use load;

@@ -1,37 +1,27 @@
 //! `list`: the instructions of a file's bytes.
 
-ghost use Rattle.std.specs.Prelude.{◌⊎◌, IfOk, IfErr};
+ghost use Rattle.std.specs.Prelude.{IfOk, IfErr};
 ghost use Rattle.std.specs.String.{string_bytes};
-ghost use Rattle.bounded_files.specs.Files.{OfBytes};
-ghost use Rattle.program_tools.specs.Assembly.{IsListed, IsListingRefusal, most_text};
-ghost use Rattle.program_tools.specs.Programs.{IsFileRefusal};
+ghost use Rattle.program_tools.specs.Assembly.{IsListedFrom, IsListingRefusal};
 
-use crate::MOST_TEXT;
 use crate::fault::ProgramToolFault;
-use bounded_files::{ResourceFault, read_file};
 use bpf_text::{ListFault, listing};
+use load::bounded_files::{Disk, MOST_BYTES, ResourceFault, read_within};
 use std::alloc::Global;
-use std::rt::Files;
 
 /// The listing of a file's bytes.
-pub fn list_file<R: Files + AllocGlobal>(rt: &R, path: &str) -> Result<String, ProgramToolFault>
-    ensures text { IfOk result (λ text. OfBytes most_text (IsListed (string_bytes text))) }
-    ensures fault { IfErr result (λ e.
-        IsFileRefusal e ⊎ OfBytes most_text (IsListingRefusal e)) }
+pub fn list_file<D: Disk>(alloc: Global, disk: &D, path: &str) -> Result<String, ProgramToolFault>
+    ensures text { IfOk result
+        (λ text. IsListedFrom (D.known disk.now) path.now (string_bytes text)) }
+    ensures fault { IfErr result (IsListingRefusal (D.known disk.now) path.now) }
 {
-    let bytes = read_file(rt, path, MOST_TEXT).map_err(ProgramToolFault::Resource)?;
-    listed(rt.alloc(), &bytes)
-}
-
-fn listed(alloc: Global, bytes: &[u8]) -> Result<String, ProgramToolFault>
-    ensures text { IfOk result (λ text. IsListed (string_bytes text) bytes.now) }
-    ensures fault { IfErr result (λ e. IsListingRefusal e bytes.now) }
-{
-    if bytes.len() > MOST_TEXT as usize {
-        return Err(ProgramToolFault::Resource(ResourceFault::File));
+    let bytes = match read_within(disk, path, MOST_BYTES) {
+        Ok(bytes) => bytes,
+        Err(fault) => return Err(ProgramToolFault::Resource(fault)),
+    };
+    match listing(alloc, &bytes) {
+        Ok(text) => Ok(text),
+        Err(ListFault::Memory) => Err(ProgramToolFault::Resource(ResourceFault::Memory)),
+        Err(fault) => Err(ProgramToolFault::Bytes(fault)),
     }
-    listing(alloc, bytes).map_err(|fault| match fault {
-        ListFault::Memory => ProgramToolFault::Resource(ResourceFault::Memory),
-        fault => ProgramToolFault::Bytes(fault),
-    })
 }

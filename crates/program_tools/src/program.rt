@@ -1,41 +1,54 @@
 //! From a file and a declared shape to an accepted program.
 
-ghost use Rattle.std.specs.Prelude.{IfOk, IfErr};
+ghost use Rattle.std.specs.Prelude.{◌≡◌, IfOk, IfErr};
 ghost use Rattle.program_tools.specs.Programs.{IsProgramFor, IsProgramRefusal};
 ghost use Rattle.program_tools.specs.Programs.{IsShapeFor, IsShapeRefusal};
+ghost use Rattle.program_tools.specs.Programs as specs;
 
 use crate::fault::ProgramToolFault;
-use bounded_files::read_file;
 use bpf_machine::bpf_verify::Verified;
+use bpf_machine::flow_check::{FlowFault, FlowRule};
 use cells::{Directory, Shape};
 use command_line::DeclaredShape;
 use declarations::declare_all;
-use load::acceptance::accept;
+use load::acceptance::{ProgramFault, accept};
+use load::bounded_files::Disk;
 use std::alloc::Global;
-use std::rt::Files;
 
 /// The most bytes that a program can have.
 const MOST_PROGRAM: u32 = 32768;
 
 /// The program of a file, once it is accepted under the shape that the words declare. Refused is
 /// the shape before the file is read.
-pub fn program_of_file<R: Files + AllocGlobal>(
-    rt: &R,
+pub fn program_of_file<D: Disk>(
+    alloc: Global,
+    disk: &D,
     path: &str,
     shape: &DeclaredShape,
 ) -> Result<Verified, ProgramToolFault>
-    ensures program { IfOk result (IsProgramFor shape.now) }
-    ensures fault { IfErr result (IsProgramRefusal shape.now) }
+    ensures program { IfOk result (IsProgramFor (D.known disk.now) path.now shape.now) }
+    ensures fault { IfErr result (IsProgramRefusal (D.known disk.now) path.now shape.now) }
 {
-    let shape = declared_shape(rt.alloc(), shape)?;
-    let bytes = match read_file(rt, path, MOST_PROGRAM) {
-        Ok(bytes) => bytes,
+    let shape = declared_shape(alloc, shape)?;
+    let bytes = match disk.read(path, MOST_PROGRAM) {
+        Ok(Some(bytes)) => bytes,
+        Ok(None) => return Err(too_long()),
         Err(fault) => return Err(ProgramToolFault::Resource(fault)),
     };
-    match accept(rt.alloc(), bytes.as_slice(), &shape) {
+    match accept(alloc, bytes.as_slice(), &shape) {
         Ok(program) => Ok(program),
         Err(fault) => Err(ProgramToolFault::Program(fault)),
     }
+}
+
+// F7 at slot 0.
+fn too_long() -> ProgramToolFault
+    ensures { result ≡ specs.too_long }
+{
+    ProgramToolFault::Program(ProgramFault::Flow(FlowFault::Rule {
+        slot: 0,
+        rule: FlowRule::TooLong,
+    }))
 }
 
 /// The shape that the words declare, with arrays of a directory of its own.

@@ -6,32 +6,32 @@ ghost use Rattle.program_tools.specs.Programs.{HasChosen, IsRunRefusal, RunsTo};
 use crate::fault::ProgramToolFault;
 use crate::program::program_of_file;
 use attrs::{Attrs, Bucket};
-use bounded_files::ResourceFault;
 use bpf_machine::Run;
 use bpf_machine::bpf_verify::Verified;
 use cells::{PlainCells, events_fit};
 use command_line::DeclaredShape;
+use load::bounded_files::{Disk, ResourceFault};
 use std::alloc::{AllocError, Global};
-use std::rt::Files;
 use std::sync::Arc;
 
 /// The choice of a file's program, once it is accepted, and the number of its instructions.
-pub fn run_file<R: Files + AllocGlobal>(
-    rt: &R,
+pub fn run_file<D: Disk>(
+    alloc: Global,
+    disk: &D,
     path: &str,
     shape: &DeclaredShape,
     version: Option<&str>,
     bucket: Bucket,
 ) -> Result<(u8, u32), ProgramToolFault>
-    ensures run { IfOk result (λ c.
-        HasChosen shape.now (option_copied version.entry) bucket c.0 c.1) }
-    ensures fault { IfErr result (IsRunRefusal shape.now) }
+    ensures run { IfOk result (λ c. HasChosen (D.known disk.now) path.now shape.now
+        (option_copied version.entry) bucket c.0 c.1) }
+    ensures fault { IfErr result (IsRunRefusal (D.known disk.now) path.now shape.now) }
 {
-    let program = match program_of_file(rt, path, shape) {
+    let program = match program_of_file(alloc, disk, path, shape) {
         Ok(program) => program,
         Err(fault) => return Err(fault),
     };
-    match choose(rt.alloc(), program, version, bucket) {
+    match choose(alloc, program, version, bucket) {
         Ok(run) => Ok(run),
         Err(_) => Err(ProgramToolFault::Resource(ResourceFault::Memory)),
     }

@@ -6,17 +6,19 @@ ghost use Rattle.program_tools.specs.Programs.{HasSlots, IsProgramRefusal};
 use crate::fault::ProgramToolFault;
 use crate::program::program_of_file;
 use command_line::DeclaredShape;
-use std::rt::Files;
+use load::bounded_files::Disk;
+use std::alloc::Global;
 
 /// The slots of a file's program, once it is accepted.
-pub fn verify_file<R: Files + AllocGlobal>(
-    rt: &R,
+pub fn verify_file<D: Disk>(
+    alloc: Global,
+    disk: &D,
     path: &str,
     shape: &DeclaredShape,
 ) -> Result<usize, ProgramToolFault>
-    ensures slots { IfOk result (HasSlots shape.now) }
-    ensures fault { IfErr result (IsProgramRefusal shape.now) }
+    ensures slots { IfOk result (HasSlots (D.known disk.now) path.now shape.now) }
+    ensures fault { IfErr result (IsProgramRefusal (D.known disk.now) path.now shape.now) }
 {
-    let program = program_of_file(rt, path, shape)?;
+    let program = program_of_file(alloc, disk, path, shape)?;
     Ok(program.len())
 }

@@ -4,16 +4,17 @@ use Rattle.std.specs.Prelude.{◌≡◌, ℕ, List, [], ◌∷◌, Option, Some,
 use Rattle.std.specs.Arc.{arc_value}
 use Rattle.attrs.specs.Attributes as attrs
 use Rattle.cells.specs.declared.array.CellArray.{CellArray}
-use Rattle.load.specs.Files.{KnownFiles}
+use Rattle.load.specs.bounded_files.Files.{KnownFiles}
+use Rattle.load.specs.bounded_files.declared.fault.ResourceFault.TheVariants.{Memory}
 use Rattle.load.specs.Loaded.{IsLoadedFrom}
 use Rattle.replay.specs.declared.act.Act.{Act}
 use Rattle.script.specs.declared.line.EventLine.{EventLine}
 use Rattle.script.specs.declared.line.EventLine.TheVariants as line
 use Rattle.replay.specs.world.declared.event.Event.{Event}
 use Rattle.replay.specs.world.declared.event.Event.TheVariants as event
-use Rattle.replaying.specs.Loaded.{RefusesManifest}
+use Rattle.replaying.specs.Loaded.{GivesNoRuleset}
 use Rattle.replaying.specs.declared.fault.ReplayFault.{ReplayFault}
-use Rattle.replaying.specs.declared.fault.ReplayFault.TheVariants.{Memory}
+use Rattle.replaying.specs.declared.fault.ReplayFault.TheVariants.{Resource}
 
 -- one that is asked for with a count
 abbrev pub times_of : EventLine → Option ℕ
@@ -43,13 +44,14 @@ module _ (known : KnownFiles) where
 
   -- why a line asks nothing: its manifest is refused
   abbrev pub RefusesLine : EventLine → List CellArray → ReplayFault → Type 0
-  RefusesLine (line.Swap manifest) old fault = RefusesManifest known manifest old fault
-  RefusesLine asked old Memory = Unit {0}
+  RefusesLine (line.Swap manifest) old fault = GivesNoRuleset known manifest old fault
+  RefusesLine asked old (Resource Memory) = Unit {0}
   RefusesLine asked old fault = ⊥
 
   -- the fault of the first line that is refused
   pub data RefusesLines : List EventLine → List CellArray → ReplayFault → Type 0 where
-    no_memory : {lines : List EventLine} {old : List CellArray} → RefusesLines lines old Memory
+    no_memory : {lines : List EventLine} {old : List CellArray}
+        → RefusesLines lines old (Resource Memory)
     this : {asked : EventLine} {lines : List EventLine} {old : List CellArray}
         {fault : ReplayFault} → RefusesLine asked old fault
         → RefusesLines (asked ∷ lines) old fault

@@ -1,8 +1,8 @@
 -- What a manifest and a script, by their paths, come to.
 use Rattle.std.specs.Prelude.{ℕ, List, [], Some, None}
 use Rattle.cells.specs.declared.array.CellArray.{CellArray}
-use Rattle.load.specs.Disk.{within_limit}
-use Rattle.load.specs.Files.{KnownFiles, Gives}
+use Rattle.load.specs.bounded_files.Files.{KnownFiles, Gives, most_bytes, within}
+use Rattle.load.specs.bounded_files.declared.fault.ResourceFault.TheVariants.{File, Memory}
 use Rattle.load.specs.Loaded.{IsLoadedFrom}
 use Rattle.replay.specs.declared.act.Act.{Act}
 use Rattle.replay.specs.declared.reply.Reply.{Reply}
@@ -12,24 +12,24 @@ use Rattle.script.specs.declared.fault.ScriptFault.TheVariants.{Malformed}
 use Rattle.script.specs.declared.line.EventLine.{EventLine}
 use Rattle.replay.specs.world.World.{opening_world}
 use Rattle.replaying.specs.Asked.{AreActsOf, RefusesLines}
-use Rattle.replaying.specs.Loaded.{RefusesManifest}
+use Rattle.replaying.specs.Loaded.{GivesNoRuleset}
 use Rattle.replaying.specs.Replayed.{AreRepliesTo}
 use Rattle.replaying.specs.declared.fault.ReplayFault.{ReplayFault}
-use Rattle.replaying.specs.declared.fault.ReplayFault.TheVariants.{File, Memory, Script}
+use Rattle.replaying.specs.declared.fault.ReplayFault.TheVariants.{Resource, Script}
 
 -- the lines of the script at a path
 pub record AreLinesOf (known : KnownFiles) (path : List ℕ) (lines : List EventLine) : Type 0 where
   pub bytes : List ℕ
-  pub given : Gives (within_limit known) path (Some bytes)
+  pub given : Gives (within most_bytes known) path (Some bytes)
   pub script : IsScript bytes lines
 
 -- the file can't be read, or a line of its bytes is malformed
 abbrev pub RefusesScript : KnownFiles → List ℕ → ReplayFault → Type 0
-RefusesScript known path File = Gives (within_limit known) path None
-RefusesScript known path (Script line) =
-    (bytes : List ℕ) × Gives (within_limit known) path (Some bytes)
+RefusesScript known path (Resource File) = Gives (within most_bytes known) path None
+RefusesScript known path (Script (Malformed line)) =
+    (bytes : List ℕ) × Gives (within most_bytes known) path (Some bytes)
     × IsScriptFault bytes (Malformed line)
-RefusesScript known path Memory = Unit {0}
+RefusesScript known path (Resource Memory) = Unit {0}
 RefusesScript known path fault = ⊥
 
 module _ (known : KnownFiles) (manifest script : List ℕ) where
@@ -48,10 +48,10 @@ module _ (known : KnownFiles) (manifest script : List ℕ) where
 
   -- the fault that counts: of the script, or else of the manifest, or else of a swap line
   pub data IsReplayFault : ReplayFault → Type 0 where
-    of_memory : IsReplayFault Memory
+    of_memory : IsReplayFault (Resource Memory)
     of_script : {fault : ReplayFault} → RefusesScript known script fault → IsReplayFault fault
     of_manifest : {fault : ReplayFault} (lines : List EventLine) → AreLinesOf known script lines
-        → RefusesManifest known manifest [] fault → IsReplayFault fault
+        → GivesNoRuleset known manifest [] fault → IsReplayFault fault
     of_swap : {fault : ReplayFault} (lines : List EventLine) (first : Rules)
         (between : List CellArray) → AreLinesOf known script lines
         → IsLoadedFrom known manifest [] first between → RefusesLines known lines between fault

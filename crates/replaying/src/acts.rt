@@ -7,6 +7,7 @@ use crate::event::event_of;
 use crate::fault::ReplayFault;
 use cells::Directory;
 use load::Disk;
+use load::bounded_files::ResourceFault;
 use replay::Act;
 use script::EventLine;
 use std::alloc::Global;
@@ -26,7 +27,7 @@ pub(crate) fn acts_of<D: Disk>(
     for line in lines {
         let act = act_of(alloc, disk, line, directory)?;
         let Ok(()) = acts.push(act) else {
-            return Err(ReplayFault::Memory);
+            return Err(ReplayFault::Resource(ResourceFault::Memory));
         };
     }
     Ok(acts)

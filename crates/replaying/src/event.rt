@@ -10,6 +10,7 @@ use crate::loaded::load_rules;
 use attrs::{Attrs, Text};
 use cells::Directory;
 use load::Disk;
+use load::bounded_files::ResourceFault;
 use replay::world::Event;
 use script::EventLine;
 use std::alloc::{AllocError, Global};
@@ -38,7 +39,7 @@ pub(crate) fn event_of<D: Disk>(
                 worker: *worker as usize,
                 attrs,
             }),
-            Err(_) => Err(ReplayFault::Memory),
+            Err(_) => Err(ReplayFault::Resource(ResourceFault::Memory)),
         },
         EventLine::Step { worker } => Ok(Event::Step {
             worker: *worker as usize,

@@ -3,10 +3,11 @@
 ghost use Rattle.std.specs.Prelude.{IfOk, IfErr};
 ghost use Rattle.std.specs.Arc.{arc_value};
 ghost use Rattle.load.specs.Loaded.{IsLoadedFrom};
-ghost use Rattle.replaying.specs.Loaded.{RefusesManifest};
+ghost use Rattle.replaying.specs.Loaded.{GivesNoRuleset};
 
 use crate::fault::ReplayFault;
 use cells::Directory;
+use load::bounded_files::ResourceFault;
 use load::ruleset::Ruleset;
 use load::{Disk, load_path};
 use std::alloc::Global;
@@ -21,14 +22,15 @@ pub(crate) fn load_rules<D: Disk>(
 ) -> Result<Arc<Ruleset>, ReplayFault>
     ensures rules { IfOk result (λ rules.
         IsLoadedFrom (D.known disk.now) path.now directory.old (arc_value rules) directory.new) }
-    ensures fault { IfErr result (RefusesManifest (D.known disk.now) path.now directory.old) }
+    ensures fault { IfErr result (GivesNoRuleset (D.known disk.now) path.now directory.old) }
 {
-    let rules = match load_path(alloc, disk, path, directory) {
-        Ok(rules) => rules,
+    let (rules, grown) = match load_path(alloc, disk, path, directory) {
+        Ok(loaded) => loaded,
         Err(fault) => return Err(ReplayFault::Manifest(fault)),
     };
+    *directory = grown;
     match Arc::new(alloc, rules) {
         Ok(rules) => Ok(rules),
-        Err(_) => Err(ReplayFault::Memory),
+        Err(_) => Err(ReplayFault::Resource(ResourceFault::Memory)),
     }
 }

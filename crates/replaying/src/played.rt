@@ -10,8 +10,8 @@ use crate::acts::acts_of;
 use crate::fault::ReplayFault;
 use crate::loaded::load_rules;
 use cells::Directory;
+use load::bounded_files::{Disk, MOST_BYTES, ResourceFault, read_within};
 use load::ruleset::Ruleset;
-use load::{Disk, FileFault, read_within};
 use replay::world::{World, batches_compose};
 use replay::{Act, Reply, replay};
 use script::{EventLine, ScriptFault, read_script};
@@ -43,7 +43,7 @@ pub fn replay_files<D: Disk>(
     let acts = acts_of(alloc, disk, &lines, &mut directory)?;
     match play_acts(alloc, first, &acts) {
         Ok(replies) => Ok(replies),
-        Err(_) => Err(ReplayFault::Memory),
+        Err(_) => Err(ReplayFault::Resource(ResourceFault::Memory)),
     }
 }
 
@@ -52,15 +52,14 @@ fn read_lines<D: Disk>(alloc: Global, disk: &D, path: &str) -> Result<Vec<EventL
     ensures lines { IfOk result (λ lines. AreLinesOf (D.known disk.now) path.now lines.items) }
     ensures fault { IfErr result (RefusesScript (D.known disk.now) path.now) }
 {
-    let bytes = match read_within(disk, path) {
+    let bytes = match read_within(disk, path, MOST_BYTES) {
         Ok(bytes) => bytes,
-        Err(FileFault::Failed) => return Err(ReplayFault::File),
-        Err(FileFault::Memory) => return Err(ReplayFault::Memory),
+        Err(fault) => return Err(ReplayFault::Resource(fault)),
     };
     match read_script(alloc, &bytes) {
         Ok(lines) => Ok(lines),
-        Err(ScriptFault::Malformed { line }) => Err(ReplayFault::Script { line }),
-        Err(ScriptFault::Memory) => Err(ReplayFault::Memory),
+        Err(ScriptFault::Memory) => Err(ReplayFault::Resource(ResourceFault::Memory)),
+        Err(fault) => Err(ReplayFault::Script(fault)),
     }
 }
 

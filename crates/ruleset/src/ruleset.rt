@@ -52,8 +52,17 @@ impl Ruleset {
         if has_twice(apps.as_slice()) {
             return Err(RulesetFault::Duplicate);
         }
+        Ok(Ruleset::known(server, apps))
+    }
+
+    /// The ruleset of apps of which no appid is known to stand twice; none is compared.
+    pub fn known(server: String, apps: Vec<App>) -> Ruleset
+        requires { ¬ HasTwice (appids_of apps.items) }
+        ensures apps { result.apps ≡ apps.items }
+        ensures server { result.server ≡ string_bytes server }
+    {
         are_apps(apps.as_slice());
-        Ok(Ruleset { server, apps })
+        Ruleset { server, apps }
     }
 
     /// What the type keeps. It does nothing: a proof calls it for its clauses.

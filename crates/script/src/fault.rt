@@ -9,6 +9,6 @@ pub enum ScriptFault {
     #[error("B2 Script at line {line}")]
     Malformed { line: usize },
     /// Memory was refused.
-    #[error("B4 Memory")]
+    #[error("Memory")]
     Memory,
 }

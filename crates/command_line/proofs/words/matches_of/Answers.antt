@@ -2,7 +2,8 @@ use Rattle.std.proofs.Common.{map}
 use Rattle.command_line.proofs.Parsed.{kind_is, rows_are}
 use Rattle.command_line.proofs.words.matches_of.Goals as goal
 
-pub returns-in-Ok-try_get_matches_from-clause-rows : goal.returns-in-Ok-try_get_matches_from-clause-rows
+pub returns-in-Ok-try_get_matches_from-clause-rows :
+    goal.returns-in-Ok-try_get_matches_from-clause-rows
 returns-in-Ok-try_get_matches_from-clause-rows g c =
     rows_are _ (map g.S.AsStr.text c.args.words.now) _ c.in-Ok.ensures
     c.in-Ok-try_get_matches_from.ensures.matches

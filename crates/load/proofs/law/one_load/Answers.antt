@@ -8,5 +8,5 @@ returns-clause-load c = λ files old bytes r s new last known.
     c.one_verdict.ensures c.one_verdict-2.ensures known r s new last
 
 pub returns-clause-path : goal.returns-clause-path
-returns-clause-path c = λ files place old r s new last known.
-    same_path (returns-clause-load c) files place old r s new last known
+returns-clause-path c = λ files place old r s known.
+    same_path (returns-clause-load c) files place old r s known

@@ -1,15 +1,5 @@
-use Rattle.program_tools.specs.Programs.IsRefusedUnder.{of_file, of_bytes}
+use Rattle.program_tools.proofs.Unwritten.{no_program}
 use Rattle.program_tools.proofs.compile.compile_file.Goals as goal
 
 pub returns-in-Err-clause-fault : goal.returns-in-Err-clause-fault
-returns-in-Err-clause-fault g c = of_file c.in_ok-shape.ensures.shape tt
-
-pub returns-in-Err-compiled-clause-fault : goal.returns-in-Err-compiled-clause-fault
-returns-in-Err-compiled-clause-fault g c = of_bytes c.in_ok-shape.ensures.shape (record {
-  bytes = c.in-Ok.bytes.items;
-  within = c.in-Ok.ensures;
-  holds = rw c.as_slice.ensures.value at c.in-Err-compiled.ensures.fault;
-})
-
-pub returns-clause-fault : goal.returns-clause-fault
-returns-clause-fault g c = of_file c.in_ok-shape.ensures.shape tt
+returns-in-Err-clause-fault g c = no_program _ _ _ c.in-Err.fault c.in-Err.ensures.fault

@@ -1,17 +1,17 @@
-use Rattle.std.proofs.Common.{rules, ◌≡◌, Err, refl, ap}
+use Rattle.std.proofs.Common.{rules, ◌≡◌, Err}
 use Rattle.manifest.specs.declarations.Order.{AreDeclared}
 use Rattle.load.specs.Apps.{AreAppsOf, RefusesApps}
 use Rattle.load.specs.Load.{RefusesArrays, of_bytes, of_arrays, of_apps}
 use Rattle.load.proofs.Names.{never_twice}
-use Rattle.load.proofs.loading.load_ruleset.Goals as goal
+use Rattle.load.proofs.loading.load_over.Goals as goal
 
 pub returns-in_err-manifest-clause-loads : goal.returns-in_err-manifest-clause-loads
 returns-in_err-manifest-clause-loads g c =
     let answered : c.from_residual.result ≡ Err c.in_err-manifest.field-0.0 = search rules in
-    rw answered (of_bytes c.in_err-manifest.ensures.fault, refl)
+    rw answered (of_bytes c.in_err-manifest.ensures.fault)
 
 pub returns-in_default-clause-loads : goal.returns-in_default-clause-loads
-returns-in_default-clause-loads g c = (of_bytes tt, refl)
+returns-in_default-clause-loads g c = of_bytes tt
 
 pub returns-in_err-numbers-clause-loads : goal.returns-in_err-numbers-clause-loads
 returns-in_err-numbers-clause-loads g c =
@@ -19,7 +19,7 @@ returns-in_err-numbers-clause-loads g c =
     = search rules in
     let fault : RefusesArrays c.args.directory.now c.in_ok-manifest.manifest.arrays
     c.in_err-numbers.field-0.0 = search rules in
-    rw answered (of_arrays c.in_ok-manifest.ensures.manifest fault, refl)
+    rw answered (of_arrays c.in_ok-manifest.ensures.manifest fault)
 
 pub returns-in_err-apps-clause-loads : goal.returns-in_err-apps-clause-loads
 returns-in_err-apps-clause-loads g c =
@@ -31,12 +31,11 @@ returns-in_err-apps-clause-loads g c =
     = search rules in
     let fault : RefusesApps (g.F.Files.known c.args.files.now) between numbers
     c.in_ok-manifest.manifest.apps c.in_err-apps.field-0.0 = search rules in
-    rw answered (of_apps numbers between c.in_ok-manifest.ensures.manifest declared fault, refl)
+    rw answered (of_apps numbers between c.in_ok-manifest.ensures.manifest declared fault)
 
-pub unreachable-requires : goal.unreachable-requires
-unreachable-requires g c =
+pub known-requires : goal.known-requires
+known-requires g c =
     let are : AreAppsOf (g.F.Files.known c.args.files.now) c.declare_arrays.new.directory
     c.in_ok-numbers.numbers.items c.in_ok-manifest.manifest.apps c.in_ok-apps.apps.items
     = search rules in
     never_twice _ _ _ c.in_ok-manifest.manifest _ c.in_ok-manifest.ensures.manifest.1 are
-    (c.in_default-new.ensures.twice.0 (ap Err c.in_default-new.ensures.fault))

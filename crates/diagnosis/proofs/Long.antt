@@ -1,0 +1,12 @@
+-- A manifest that is too long fails for this, whatever its bytes are.
+use Rattle.std.proofs.Common.{◌≡◌, ◌⊎◌, List, ℕ, []}
+use Rattle.load.specs.Load.{of_bytes}
+use Rattle.load.specs.declared.fault.LoadFault.TheVariants.{Manifest}
+use Rattle.manifest.specs.declared.fault.ManifestFault.TheVariants.{Toml}
+use Rattle.manifest.specs.declared.fault.TomlFault.TheVariants.{TooLong}
+use Rattle.diagnosis.specs.Check.{FailsIfLong}
+use Rattle.diagnosis.specs.Reason.{IsTomlReason}
+
+pub fails_if_long : (text : List ℕ) → (text ≡ []) ⊎ IsTomlReason TooLong text
+    → FailsIfLong (Manifest (Toml TooLong)) text
+fails_if_long text told known bytes long = record { refused = of_bytes long; told = told }

@@ -1,0 +1,9 @@
+//! What an operator asks a server, and the lines that spell it.
+//!
+//! The command line makes a request of its words, and a server's operator's port reads one of the
+//! line that it is sent. Both are one type, so that what is sent is what is read.
+#![tactic(auto)]
+
+mod request;
+
+pub use request::{LINE_LIMIT, OperatorRequest};

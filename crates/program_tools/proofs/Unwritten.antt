@@ -1,0 +1,18 @@
+-- A rule that gives no program gives none that is written.
+use Rattle.std.proofs.Common.{ℕ, List, inl}
+use Rattle.load.specs.bounded_files.Files.{KnownFiles}
+use Rattle.command_line.specs.declared.request.DeclaredShape.{DeclaredShape}
+use Rattle.program_tools.specs.Rules.{IsRuleRefusal, IsCompileRefusal}
+use Rattle.program_tools.specs.declared.fault.ProgramToolFault.{ProgramToolFault}
+use Rattle.program_tools.specs.declared.fault.ProgramToolFault.TheVariants.{Resource, Arrays, Text}
+use Rattle.program_tools.specs.declared.fault.ProgramToolFault.TheVariants.{Rule, Bytes, Program}
+
+module _ (known : KnownFiles) (path : List ℕ) (asked : DeclaredShape) where
+  pub no_program : (fault : ProgramToolFault) → IsRuleRefusal known path asked fault
+      → IsCompileRefusal known path asked fault
+  no_program (Resource fault) h = inl h
+  no_program (Arrays fault) h = h
+  no_program (Text fault) h = h
+  no_program (Rule fault) h = h
+  no_program (Bytes fault) h = h
+  no_program (Program fault) h = h

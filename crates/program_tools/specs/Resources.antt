@@ -1,0 +1,12 @@
+-- Files that can't be read.
+use Rattle.std.specs.Prelude.{ℕ, List, None}
+use Rattle.load.specs.bounded_files.Files.{KnownFiles, Gives}
+use Rattle.load.specs.bounded_files.declared.fault.ResourceFault.TheVariants.{File, Memory}
+use Rattle.program_tools.specs.declared.fault.ProgramToolFault.{ProgramToolFault}
+use Rattle.program_tools.specs.declared.fault.ProgramToolFault.TheVariants.{Resource}
+
+-- the file can't be read; of want of memory nothing is said
+abbrev pub IsNoFile : KnownFiles → List ℕ → ProgramToolFault → Type 0
+IsNoFile known path (Resource File) = Gives known path None
+IsNoFile known path (Resource Memory) = Unit {0}
+IsNoFile known path fault = ⊥
