@@ -7,6 +7,7 @@ use Rattle.std.specs.List.{starts_with, ends_with}
 use Rattle.std.specs.Str.Pattern.{LacksTextAt}
 use Rattle.std.specs.Cmp.Lexicographic.{same_text}
 use Rattle.serving.specs.operator.Replies.{IsReplyTo, is_answer}
+use Rattle.command_line.specs.operator_request.declared.request.OperatorRequest.{OperatorRequest}
 use Rattle.commands.specs.Asked.{IsDoneAs}
 
 lacks_word : (word bytes : List ℕ) (r : Bool) → r ≡ starts_with nat_eq bytes word
@@ -17,13 +18,12 @@ lacks_word word bytes true is lacks =
     absurd (lacks after (sym (take-append-drop (length word) bytes)
     ∙ ap (λ (l : List ℕ). l ++ after) (sym (same_text word (take (length word) bytes) is))))
 
-pub done : (words bytes : List ℕ) → LacksTextAt (codes "refused ") bytes 0
-    → IsReplyTo words bytes → IsDoneAs words bytes
-done words bytes lacks reply = record {
-  request = reply.request;
-  asks = reply.asks;
+pub done : (request : OperatorRequest) (bytes : List ℕ) → LacksTextAt (codes "refused ") bytes 0
+    → IsReplyTo request bytes → IsDoneAs request bytes
+done request bytes lacks reply = record {
+  sent = reply.sent;
   answered = subst (λ (r : Bool). IsTrue ((r && ends_with nat_eq bytes (codes "\n"))
-      || is_answer reply.request bytes))
+      || is_answer request bytes))
       (lacks_word (codes "refused ") bytes (starts_with nat_eq bytes (codes "refused "))
       refl lacks) reply.replied;
 }

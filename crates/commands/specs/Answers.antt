@@ -1,14 +1,13 @@
--- What each request is answered, and why it is refused. Which bytes a file gave no contract can
--- say, nor what a server replies; of memory that was refused no claim is made.
-use Rattle.std.specs.Prelude.{◌≡◌, ◌⊎◌, [], None}
+-- What each request is answered, and why it is refused: by what the files give, as far as that is
+-- known. Of a device's files nothing is known, so of these it is what some bytes come to. What a
+-- server replies no contract can say; of memory that was refused no claim is made.
+use Rattle.std.specs.Prelude.{◌≡◌, []}
 use Rattle.std.specs.Option.{option_copied}
 use Rattle.std.specs.String.{string_bytes}
-use Rattle.bounded_files.specs.Files.{OfBytes}
-use Rattle.command_line.specs.declared.request.Request.{Request}
-use Rattle.command_line.specs.declared.request.Request.TheVariants as request
+use Rattle.command_line.specs.declared.request.CommandRequest.{CommandRequest}
+use Rattle.command_line.specs.declared.request.CommandRequest.TheVariants as request
 use Rattle.commands.specs.Asked.{IsAskRefusal, IsDoneAs}
 use Rattle.commands.specs.Ready.{IsServeRefusal}
-use Rattle.commands.specs.Texts.{line_words}
 use Rattle.commands.specs.declared.answer.Answer.{Answer}
 use Rattle.commands.specs.declared.answer.Answer.TheVariants.{Assembled, Checked, Compiled}
 use Rattle.commands.specs.declared.answer.Answer.TheVariants.{Listed, Accepted, Chosen, Told}
@@ -16,42 +15,46 @@ use Rattle.commands.specs.declared.answer.Answer.TheVariants.{Replayed, Ready}
 use Rattle.commands.specs.declared.fault.Fault.{Fault}
 use Rattle.commands.specs.declared.fault.Fault.TheVariants.{Manifest, Program}
 use Rattle.program_tools.specs.load.Loaded.{IsLoadedFrom}
-use Rattle.manifest_tools.specs.Manifests.{HasReplayed, IsChecked, IsCheckRefusal}
-use Rattle.manifest_tools.specs.Manifests.{IsReplayRefusal, most_manifest}
-use Rattle.program_tools.specs.Assembly.{most_text, IsAssembled, IsAssemblyRefusal}
-use Rattle.program_tools.specs.Assembly.{IsListed, IsListingRefusal}
-use Rattle.program_tools.specs.Programs.{HasChosen, HasSlots, IsFileRefusal}
 use Rattle.program_tools.specs.Programs.{IsProgramRefusal, IsRunRefusal}
-use Rattle.program_tools.specs.Rules.{HasCompiled, IsRuleRefusal}
+use Rattle.manifest_tools.specs.Manifests.{HasReplayed, IsChecked, IsCheckRefusal}
+use Rattle.manifest_tools.specs.Manifests.{IsReplayRefusal}
+use Rattle.program_tools.specs.bounded_files.Files.{KnownFiles}
+use Rattle.program_tools.specs.Assembly.{IsAssembledFrom, IsAssemblyRefusal}
+use Rattle.program_tools.specs.Assembly.{IsListedFrom, IsListingRefusal}
+use Rattle.program_tools.specs.Programs.{HasChosen, HasSlots}
+use Rattle.program_tools.specs.Rules.{HasCompiled, IsCompileRefusal}
 
-abbrev pub IsAnswer : Request → Answer → Type 0
-IsAnswer (request.Assemble text out) (Assembled program) =
-    OfBytes most_text (IsAssembled program.items)
-IsAnswer (request.Check manifest) (Checked text) =
-    OfBytes most_manifest (IsChecked (string_bytes text))
-IsAnswer (request.Compile text shape out) (Compiled slots) = HasCompiled shape slots
-IsAnswer (request.List path) (Listed text) = OfBytes most_text (IsListed (string_bytes text))
-IsAnswer (request.Verify path shape) (Accepted slots) = HasSlots shape slots
-IsAnswer (request.Run path shape version bucket) (Chosen choice instructions) =
-    HasChosen shape (option_copied version) bucket choice instructions
-IsAnswer (request.Replay manifest script) (Replayed text) =
-    HasReplayed manifest.now script.now (string_bytes text)
-IsAnswer (request.Ask line port) (Told text) = IsDoneAs (line_words line) (string_bytes text)
-IsAnswer (request.Serve manifest plan) (Ready server kept) =
-    IsLoadedFrom None manifest.now [] server.rules server.directory × (kept ≡ plan)
-IsAnswer asked answer = ⊥
+module _ (known : KnownFiles) where
+  abbrev pub IsAnswer : CommandRequest → Answer → Type 0
+  IsAnswer (request.Assemble text out) (Assembled program) =
+      IsAssembledFrom known text.now program.items
+  IsAnswer (request.Check manifest) (Checked text) =
+      IsChecked known manifest.now (string_bytes text)
+  IsAnswer (request.Compile text shape out) (Compiled slots) =
+      HasCompiled known text.now shape slots
+  IsAnswer (request.List path) (Listed text) = IsListedFrom known path.now (string_bytes text)
+  IsAnswer (request.Verify path shape) (Accepted slots) = HasSlots known path.now shape slots
+  IsAnswer (request.Run path shape version bucket) (Chosen choice instructions) =
+      HasChosen known path.now shape (option_copied version) bucket choice instructions
+  IsAnswer (request.Replay manifest script) (Replayed text) =
+      HasReplayed known manifest.now script.now (string_bytes text)
+  IsAnswer (request.Ask asked port) (Told text) = IsDoneAs asked (string_bytes text)
+  IsAnswer (request.Serve manifest plan) (Ready server kept) =
+      IsLoadedFrom known manifest.now [] server.rules server.directory × (kept ≡ plan)
+  IsAnswer asked answer = ⊥
 
-abbrev pub IsRefused : Request → Fault → Type 0
-IsRefused (request.Assemble text out) (Program fault) =
-    IsFileRefusal fault ⊎ OfBytes most_text (IsAssemblyRefusal fault)
-IsRefused (request.Check manifest) (Manifest fault) = IsCheckRefusal fault
-IsRefused (request.Compile text shape out) (Program fault) = IsRuleRefusal shape fault
-IsRefused (request.List path) (Program fault) =
-    IsFileRefusal fault ⊎ OfBytes most_text (IsListingRefusal fault)
-IsRefused (request.Verify path shape) (Program fault) = IsProgramRefusal shape fault
-IsRefused (request.Run path shape version bucket) (Program fault) = IsRunRefusal shape fault
-IsRefused (request.Replay manifest script) (Manifest fault) =
-    IsReplayRefusal manifest.now script.now fault
-IsRefused (request.Ask line port) fault = IsAskRefusal line fault
-IsRefused (request.Serve manifest plan) fault = IsServeRefusal manifest.now fault
-IsRefused asked fault = ⊥
+  abbrev pub IsRefused : CommandRequest → Fault → Type 0
+  IsRefused (request.Assemble text out) (Program fault) = IsAssemblyRefusal known text.now fault
+  IsRefused (request.Check manifest) (Manifest fault) = IsCheckRefusal known manifest.now fault
+  IsRefused (request.Compile text shape out) (Program fault) =
+      IsCompileRefusal known text.now shape fault
+  IsRefused (request.List path) (Program fault) = IsListingRefusal known path.now fault
+  IsRefused (request.Verify path shape) (Program fault) =
+      IsProgramRefusal known path.now shape fault
+  IsRefused (request.Run path shape version bucket) (Program fault) =
+      IsRunRefusal known path.now shape fault
+  IsRefused (request.Replay manifest script) (Manifest fault) =
+      IsReplayRefusal known manifest.now script.now fault
+  IsRefused (request.Ask asked port) fault = IsAskRefusal asked fault
+  IsRefused (request.Serve manifest plan) fault = IsServeRefusal known manifest.now fault
+  IsRefused asked fault = ⊥

@@ -1,25 +1,26 @@
 -- What a command has done where its status is 0, and what its words are where it is 2.
 use Rattle.std.specs.Prelude.{◌⊎◌, ℕ, List, Option, IfSome}
 use Rattle.std.specs.Io.KnownBytes.{Appends}
-use Rattle.command_line.specs.declared.request.Request.{Request}
-use Rattle.command_line.specs.Requests.{AskFor, AskForHelp, AskForNothing, HasFault}
+use Rattle.command_line.specs.declared.request.CommandRequest.{CommandRequest}
+use Rattle.command_line.specs.Requests.{AreFaulty, AskFor, AskForHelp, AskForNothing}
 use Rattle.commands.specs.declared.answer.Answer.{Answer}
 use Rattle.commands.specs.declared.fault.Fault.{Fault}
 use Rattle.commands.specs.Answers.{IsAnswer}
+use Rattle.program_tools.specs.bounded_files.Files.{KnownFiles}
 use Rattle.commands.specs.Texts.{answer_text, fault_text, refused_line}
 
--- the request was answered from some bytes: which of its file, no contract can say; and the output
--- ends with the answer's lines
-pub record IsAnswered (request : Request) (before after : Option (List ℕ)) : Type 0 where
+-- the request was answered, and the output ends with the answer's lines
+pub record IsAnswered (known : KnownFiles) (request : CommandRequest)
+    (before after : Option (List ℕ)) : Type 0 where
   pub answer : Answer
-  pub answers : IsAnswer request answer
+  pub answers : IsAnswer known request answer
   pub printed : Appends before after (answer_text answer)
 
 -- the words ask for help, or what they ask for was answered
-abbrev pub IsDone : List (List ℕ) → Option (List ℕ) → Option (List ℕ) → Type 0
-IsDone words before after =
+abbrev pub IsDone : KnownFiles → List (List ℕ) → Option (List ℕ) → Option (List ℕ) → Type 0
+IsDone known words before after =
     AskForHelp words
-    ⊎ ((request : Request) × AskFor words request × IsAnswered request before after)
+    ⊎ ((request : CommandRequest) × AskFor words request × IsAnswered known request before after)
 
 -- the line of a refusal is printed, where its text is stated
 abbrev pub PrintsRefusal : Fault → Option (List ℕ) → Option (List ℕ) → Type 0
@@ -28,4 +29,4 @@ PrintsRefusal fault before after =
 
 -- the words are faulty, or ask for nothing
 abbrev pub AreWrong : List (List ℕ) → Type 0
-AreWrong words = HasFault words ⊎ AskForNothing words
+AreWrong words = AreFaulty words ⊎ AskForNothing words

@@ -5,6 +5,9 @@ ghost use Rattle.commands.specs.Texts.{fault_text};
 use manifest_tools::ManifestToolFault;
 use program_tools::ProgramToolFault;
 use program_tools::load::PathFault;
+use program_tools::load::bounded_files::ResourceFault;
+use serving::operator::AskFault;
+use serving::operator::hot_swap::SwapFault;
 use std::fmt;
 
 /// What is wrong; it is shown as it is printed, behind `refused `.
@@ -26,7 +29,7 @@ pub enum Fault {
     Bind,
     /// H1: the publisher of a server is refused memory.
     Publisher,
-    /// N3: the counters of a server are refused memory.
+    /// S1: the counters of a server are refused memory.
     Cells,
     /// The server refuses, in these words.
     Told(String),
@@ -37,15 +40,15 @@ impl fmt::Display for Fault {
 
     fn fmt<W: fmt::Write>(&self, f: &mut fmt::Formatter<W>) -> fmt::Result {
         match self {
-            Fault::Memory => f.write_str("B4 Memory"),
+            Fault::Memory => f.write_str(ResourceFault::Memory.name()),
             Fault::Program(fault) => write!(f, "{fault}"),
             Fault::Manifest(fault) => write!(f, "{fault}"),
             Fault::Load(fault) => write!(f, "{fault}"),
-            Fault::Word => f.write_str("B1 Word"),
-            Fault::Connect => f.write_str("B5 Connect"),
+            Fault::Word => f.write_str(AskFault::Word.name()),
+            Fault::Connect => f.write_str(AskFault::Connect.name()),
             Fault::Bind => f.write_str("B6 Bind"),
-            Fault::Publisher => f.write_str("H1 Memory"),
-            Fault::Cells => f.write_str("N3 Memory"),
+            Fault::Publisher => f.write_str(SwapFault::Memory.name()),
+            Fault::Cells => f.write_str("S1 Memory"),
             Fault::Told(text) => f.write_str(text),
         }
     }

@@ -1,4 +1,5 @@
-//! The commands of the program, from the words of a command line to a status, over any two writers.
+//! The commands of the program, from the words of a command line to a status, over any files that
+//! are read and any two writers.
 #![tactic(auto)]
 
 // How a command goes. Its words are read as a request, or it is told what is wrong with them. The
@@ -13,4 +14,5 @@ mod requests;
 mod serve;
 mod status;
 
+pub use program_tools::load::{Device, Disk};
 pub use status::{command, unreadable_words, usage};

@@ -11,8 +11,9 @@ use crate::answer::Answer;
 use crate::fault::Fault;
 use crate::requests::answer;
 use crate::serve::{serve_until_stopped, staff_server};
-use command_line::{Plan, Request, WordsFault, read_words};
+use command_line::{CommandRequest, Plan, WordsFault, read_words};
 use manifest_tools::ManifestToolFault;
+use program_tools::load::Disk;
 use serving::Server;
 use std::convert::AsStr;
 use std::io::{self, ErrorKind, Write};
@@ -29,59 +30,68 @@ const REFUSED: u8 = 1;
 /// The words are wrong.
 const USAGE: u8 = 2;
 
-/// Does what the words ask, the first of which is the program's name. Results go to `out`, and
-/// refusals and usage to `err`. The status is 0 done, 1 refused or after a failed write, 2 usage.
-/// A server has served once the status is there.
-pub fn command<R, S, O, E>(rt: &R, words: &[S], out: &mut O, err: &mut E) -> u8
+/// Does what the words ask, the first of which is the program's name, with files of the disk.
+/// Results go to `out`, and refusals and usage to `err`. The status is 0 done, 1 refused or after a
+/// failed write, 2 usage. A server has served once the status is there.
+pub fn command<R, D, S, O, E>(rt: &R, disk: &D, words: &[S], out: &mut O, err: &mut E) -> u8
 where
     R: Files + Threads + Wait + AllocGlobal + Clock + Eprint + Sync,
     R: Net<Listener = TcpListener, Stream = TcpStream>,
     R::File: Send,
     R::Dir: Send,
+    D: Disk + Sync,
     S: AsStr,
     O: Write,
     E: Write,
     ensures within { result ≤ 2 }
-    ensures done { result ≡ 0 → IsDone (map S.text words.now)
+    ensures done { result ≡ 0 → IsDone (D.known disk.now) (map S.text words.now)
         (O.contents out.old) (O.contents out.new) }
     ensures silent { result ≡ 0 → err.new ≡ err.old }
     ensures wrong { result ≡ 2 → AreWrong (map S.text words.now) }
     ensures usage { result ≡ 2 → out.new ≡ out.old }
 {
     match read_words(rt.alloc(), words) {
-        Ok(request) => perform(rt, &request, out, err),
+        Ok(request) => perform(rt, disk, &request, out, err),
         Err(fault) => usage(&fault, out, err),
     }
 }
 
 // Does what a request asks, and prints the answer or the refusal.
-fn perform<R, O, E>(rt: &R, request: &Request<'_>, out: &mut O, err: &mut E) -> u8
+fn perform<R, D, O, E>(
+    rt: &R,
+    disk: &D,
+    request: &CommandRequest<'_>,
+    out: &mut O,
+    err: &mut E,
+) -> u8
 where
     R: Files + Threads + Wait + AllocGlobal + Clock + Eprint + Sync,
     R: Net<Listener = TcpListener, Stream = TcpStream>,
     R::File: Send,
     R::Dir: Send,
+    D: Disk + Sync,
     O: Write,
     E: Write,
     ensures within { result ≤ 1 }
-    ensures done { result ≡ 0 → IsAnswered request.now
+    ensures done { result ≡ 0 → IsAnswered (D.known disk.now) request.now
         (O.contents out.old) (O.contents out.new) }
     ensures silent { result ≡ 0 → err.new ≡ err.old }
 {
-    match answer(rt, request) {
-        Ok(Answer::Ready { server, plan }) => serve(rt, server, &plan, out, err),
+    match answer(rt, disk, request) {
+        Ok(Answer::Ready { server, plan }) => serve(rt, disk, server, &plan, out, err),
         Ok(answer) => status_of(write!(out, "{answer}").is_ok(), DONE),
         Err(fault) => refused_for(out, err, &fault),
     }
 }
 
 // Makes all that a server serves by, says that it is ready, and serves until its operator stops it.
-fn serve<R, O, E>(rt: &R, server: Server, plan: &Plan, out: &mut O, err: &mut E) -> u8
+fn serve<R, D, O, E>(rt: &R, disk: &D, server: Server, plan: &Plan, out: &mut O, err: &mut E) -> u8
 where
     R: Files + Threads + Wait + AllocGlobal + Clock + Eprint + Sync,
     R: Net<Listener = TcpListener, Stream = TcpStream>,
     R::File: Send,
     R::Dir: Send,
+    D: Disk + Sync,
     O: Write,
     E: Write,
     ensures within { result ≤ 1 }
@@ -93,10 +103,10 @@ where
         Err(fault) => return refused(err, &fault),
     };
     if say_ready(out).is_err() {
-        server.close();
+        server.close(rt);
         return REFUSED;
     }
-    match serve_until_stopped(rt, server, plan) {
+    match serve_until_stopped(rt, disk, server, plan) {
         Ok(()) => DONE,
         Err(fault) => refused(err, &fault),
     }

@@ -1,5 +1,7 @@
 -- A pass that grew by loads of cells, and then by those of more.
-use Rattle.std.proofs.Common.{Bool, true, ◌≡◌, ℕ, ◌+◌, ◌<◌, ◌≤◌, List, [], ◌∷◌, ◌++◌, get_or, length, take, All, refl, ap, sym, subst, ◌∙◌, arith, append_assoc, append-nil}
+use Rattle.std.proofs.Common.{Bool, true, ◌≡◌, ℕ, ◌+◌, ◌<◌, ◌≤◌}
+use Rattle.std.proofs.Common.{List, [], ◌∷◌, ◌++◌, get_or, length, take, All, refl}
+use Rattle.std.proofs.Common.{ap, sym, subst, ◌∙◌, arith, append_assoc, append-nil}
 use Rattle.std.specs.Prelude.{if◌then◌else◌, slice_get, Some}
 use Rattle.std.proofs.lemmas.List.{take_more}
 use Rattle.std.proofs.lemmas.List.Elements.{All-append, All-nil, All-push}
@@ -14,7 +16,8 @@ use Rattle.cells.specs.declared.array.CellWidth.{CellWidth}
 use Rattle.cells.specs.declared.array.CellWidth.TheVariants.{Bits32, Bits64}
 use Rattle.cells.specs.declared.event.CellEvent.{CellEvent}
 use Rattle.cells.specs.declared.event.CellOp.TheVariants.{Load}
-use Rattle.operator.specs.Counters.{ReadsCells, ReadsArrays, no_cell, one_cell, no_array, one_array, IsLoad, Tells}
+use Rattle.operator.specs.Counters.{ReadsCells, ReadsArrays, no_cell, one_cell}
+use Rattle.operator.specs.Counters.{no_array, one_array, IsLoad, Tells}
 use Rattle.operator.specs.Texts.{cell_text}
 
 -- ---- the cells of an array lie among all cells

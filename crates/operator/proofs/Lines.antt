@@ -13,10 +13,11 @@ use Rattle.std.specs.Prelude.{IfSome, IfNone, cond, not, nat_lt}
 use Rattle.std.specs.List.{position, position_or_len, prefix_len}
 use Rattle.std.specs.Io.KnownBytes.{Consumes}
 use borrow.Rule.Slice.PartMut.{put_mid, post_of}
-use Rattle.operator.specs.Line.{LineGoesOn, IsPiece, IsWhole}
-use Rattle.operator.specs.Request.{is_line_feed, line_of, line_limit, Asks, AsksNothing, IsAsked}
+use Rattle.operator.specs.Line.{IsFirstRequest, LineGoesOn, IsPiece, IsWhole, line_of}
+use Rattle.operator_request.specs.Requests.{is_line_feed, line_limit}
+use Rattle.operator_request.specs.Requests.{SpellsRequest, SpellsNoRequest}
+use Rattle.operator_request.specs.declared.request.OperatorRequest.{OperatorRequest}
 use Rattle.operator.specs.declared.line.Piece.TheVariants.{Last, Further}
-use Rattle.operator.specs.declared.request.Request.{Request}
 
 -- ---- a piece
 
@@ -146,25 +147,28 @@ module _ (line : List ℕ) where
       take_all (line_limit + 1) line
       (omega (arith, h, length-take {A = ℕ} (line_limit + 1) line))
 
-  asks_shown : (request : Request) → Asks Shown request → Asks line request
+  asks_shown : (request : OperatorRequest) → SpellsRequest Shown request
+      → SpellsRequest line request
   asks_shown request h =
-      let Of : List ℕ → Type 0 = λ l. Asks l request in subst Of (all_shown h.short) h
+      let Of : List ℕ → Type 0 = λ l. SpellsRequest l request in subst Of (all_shown h.short) h
 
-  shows_asked : (request : Request) → Asks line request → Asks Shown request
+  shows_asked : (request : OperatorRequest) → SpellsRequest line request
+      → SpellsRequest Shown request
   shows_asked request h =
-      let Of : List ℕ → Type 0 = λ l. Asks l request in
+      let Of : List ℕ → Type 0 = λ l. SpellsRequest l request in
       subst Of (sym (take_all (line_limit + 1) line (omega (arith, h.short)))) h
 
 -- what is found to be asked is what the reader's bytes ask
-pub is_asked : (told : Option (List ℕ)) (shown : List ℕ) (room : ℕ) (asked : Option Request)
+pub is_asked : (told : Option (List ℕ)) (shown : List ℕ) (room : ℕ) (asked : Option OperatorRequest)
     → room ≡ line_limit + 1 → IfSome told (λ sent. shown ≡ take room (line_of sent))
-    → IfSome asked (Asks shown) → IfNone asked (AsksNothing shown) → IsAsked told asked
+    → IfSome asked (SpellsRequest shown) → IfNone asked (SpellsNoRequest shown)
+    → IsFirstRequest told asked
 is_asked None shown room asked size same some nothing = tt
 is_asked (Some sent) shown room None size same some nothing =
-    let Of : List ℕ → Type 0 = λ l. AsksNothing l in
+    let Of : List ℕ → Type 0 = λ l. SpellsNoRequest l in
     let none = subst Of (same ∙ ap (λ (n : ℕ). take n (line_of sent)) size) nothing in
     λ request asks. none request (shows_asked (line_of sent) request asks)
 is_asked (Some sent) shown room (Some request) size same some nothing =
-    let Of : List ℕ → Type 0 = λ l. Asks l request in
+    let Of : List ℕ → Type 0 = λ l. SpellsRequest l request in
     let asks = subst Of (same ∙ ap (λ (n : ℕ). take n (line_of sent)) size) some in
     asks_shown (line_of sent) request asks

@@ -18,23 +18,22 @@ IsUninstallable publishing swap.Exhausted = publishing.latest.generation ≡ 2 ^
 IsUninstallable publishing swap.NoPlace = ⊥
 IsUninstallable publishing swap.Memory = Unit {0}
 
--- what may come of a load: the path, the arrays before it, the ruleset or the fault, and the arrays
--- after it
+-- what may come of a load: the path, the arrays before it, and the ruleset with the arrays after
+-- it, or the fault
 abbrev pub Loading : Type 0 → Type 1
-Loading F = List ℕ → List CellArray → Result Rules F → List CellArray → Type 0
+Loading F = List ℕ → List CellArray → Result (Rules × List CellArray) F → Type 0
 
 module _ {F : Type 0} (loads : Loading F) where
   -- the ruleset that was loaded is installed, and its arrays are declared, under this generation
   pub record IsInstalled (path : List ℕ) (old : Controlled) (generation : ℕ) (new : Controlled)
       : Type 0 where
     pub rules : Rules
-    pub loaded : loads path old.arrays (Ok rules) new.arrays
+    pub loaded : loads path old.arrays (Ok (rules, new.arrays))
     pub installed : Installs old.publishing rules generation new.publishing
 
   -- why nothing is
   abbrev pub IsRefusedLoad : List ℕ → Controlled → Refusal F → Type 0
-  IsRefusedLoad path old (refusal.Load fault) =
-      (after : List CellArray) × loads path old.arrays (Err fault) after
+  IsRefusedLoad path old (refusal.Load fault) = loads path old.arrays (Err fault)
   IsRefusedLoad path old (refusal.Install fault) = IsUninstallable old.publishing fault
   IsRefusedLoad path old refusal.Memory = Unit {0}
   IsRefusedLoad path old refusal.Word = ⊥

@@ -1,9 +1,24 @@
--- A line as its bytes come.
+-- A line as its bytes come, and what it asks.
 use Rattle.std.specs.Prelude.{◌≡◌, ℕ, ◌<◌, ◌≤◌, List, ◌++◌, length, take}
 use Rattle.std.specs.Prelude.{Option, None, Some, IfSome}
-use Rattle.operator.specs.Request.{line_of}
+use Rattle.std.specs.List.{before_first}
+use Rattle.operator_request.specs.Requests.{SpellsRequest, SpellsNoRequest, is_line_feed}
+use Rattle.operator_request.specs.declared.request.OperatorRequest.{OperatorRequest}
 use Rattle.operator.specs.declared.line.Piece.{Piece}
 use Rattle.operator.specs.declared.line.Piece.TheVariants.{Last, Further}
+
+-- the line that a connection sends: what stands before the first line feed, or before the end
+abbrev pub line_of : List ℕ → List ℕ
+line_of sent = before_first is_line_feed sent
+
+-- what a line asks, if anything
+abbrev pub IsAskedBy : List ℕ → Option OperatorRequest → Type 0
+IsAskedBy line None = SpellsNoRequest line
+IsAskedBy line (Some request) = SpellsRequest line request
+
+-- what the line asks that stands at the front of the bytes, where these are told
+abbrev pub IsFirstRequest : Option (List ℕ) → Option OperatorRequest → Type 0
+IsFirstRequest told asked = IfSome told (λ sent. IsAskedBy (line_of sent) asked)
 
 -- the line of what a reader had is these bytes
 abbrev pub IsWhole : Option (List ℕ) → List ℕ → Type 0

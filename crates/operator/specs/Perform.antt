@@ -8,44 +8,44 @@ use Rattle.std.specs.declared.string.String.{String}
 use Rattle.cells.specs.declared.event.CellEvent.{CellEvent}
 use Rattle.operator.specs.Control.{Controlled, Loading, IsInstalled, IsRefusedLoad}
 use Rattle.operator.specs.Counters.{IsLoad, ReadsArrays}
-use Rattle.operator.specs.Request.{IsAsked}
+use Rattle.operator.specs.Line.{IsFirstRequest}
 use Rattle.operator.specs.Texts.{ruleset_text}
 use Rattle.operator.specs.declared.reply.Refusal.{Refusal}
 use Rattle.operator.specs.declared.reply.Refusal.TheVariants as refusal
 use Rattle.operator.specs.declared.reply.Reply.{Reply}
 use Rattle.operator.specs.declared.reply.Reply.TheVariants as reply
-use Rattle.operator.specs.declared.request.Request.{Request}
-use Rattle.operator.specs.declared.request.Request.TheVariants as request
+use Rattle.operator_request.specs.declared.request.OperatorRequest.{OperatorRequest}
+use Rattle.operator_request.specs.declared.request.OperatorRequest.TheVariants as sent
 
 module _ {F : Type 0} (loads : Loading F) where
   -- what was asked, what stood before, the events on cells, the reply, and what stands then
   pub data Performs
-      : Option Request → Controlled → List CellEvent → Reply F → Controlled → Type 0 where
+      : Option OperatorRequest → Controlled → List CellEvent → Reply F → Controlled → Type 0 where
     -- the line asks nothing
     wordless : {old : Controlled} → Performs None old [] (reply.Refused refusal.Word) old
     -- a load is installed whole, or changes nothing
     loaded : {old new : Controlled} {generation : ℕ} (path : Bor (List ℕ))
         → IsInstalled loads path.now old generation new
-        → Performs (Some (request.Load path)) old [] (reply.Loaded generation) new
+        → Performs (Some (sent.Load path)) old [] (reply.Loaded generation) new
     not_loaded : {old : Controlled} {refused : Refusal F} (path : Bor (List ℕ))
         → IsRefusedLoad loads path.now old refused
-        → Performs (Some (request.Load path)) old [] (reply.Refused refused) old
+        → Performs (Some (sent.Load path)) old [] (reply.Refused refused) old
     shown : {old : Controlled} (lines : String Global)
         → string_bytes lines ≡ ruleset_text old.publishing.latest
-        → Performs (Some request.Show) old [] (reply.Told lines) old
+        → Performs (Some sent.Show) old [] (reply.Told lines) old
     counted : {old : Controlled} {events : List CellEvent} (lines : String Global)
         → ReadsArrays old.arrays events (string_bytes lines)
-        → Performs (Some request.Cells) old events (reply.Told lines) old
-    stopped : {old : Controlled} → Performs (Some request.Stop) old [] reply.Stopping old
+        → Performs (Some sent.Cells) old events (reply.Told lines) old
+    stopped : {old : Controlled} → Performs (Some sent.Stop) old [] reply.Stopping old
     -- memory for the lines is refused; of the cells some were read
     unshown : {old : Controlled}
-        → Performs (Some request.Show) old [] (reply.Refused refusal.Memory) old
+        → Performs (Some sent.Show) old [] (reply.Refused refusal.Memory) old
     uncounted : {old : Controlled} {events : List CellEvent} → All IsLoad events
-        → Performs (Some request.Cells) old events (reply.Refused refusal.Memory) old
+        → Performs (Some sent.Cells) old events (reply.Refused refusal.Memory) old
 
   -- what a connection is answered, which sends these bytes, if they are told
   pub record AnswersLine (told : Option (List ℕ)) (old : Controlled)
       (events : List CellEvent) (replied : Reply F) (new : Controlled) : Type 0 where
-    pub asked : Option Request
-    pub is_asked : IsAsked told asked
+    pub asked : Option OperatorRequest
+    pub is_asked : IsFirstRequest told asked
     pub performs : Performs asked old events replied new

@@ -5,9 +5,10 @@ use Rattle.std.specs.Prelude.{nat_eq}
 use Rattle.std.specs.Str.{bytes_eq}
 use Rattle.std.specs.List.{starts_with, ends_with, list_all}
 use Rattle.cells.specs.Names.{is_name_byte}
-use Rattle.operator.specs.Request.{Asks}
-use Rattle.operator.specs.declared.request.Request.{Request}
-use Rattle.operator.specs.declared.request.Request.TheVariants.{Load, Show, Cells, Stop}
+use Rattle.operator_request.specs.Requests.{IsSendable}
+use Rattle.operator_request.specs.declared.request.OperatorRequest.{OperatorRequest}
+use Rattle.operator_request.specs.declared.request.OperatorRequest.TheVariants.{Load, Show}
+use Rattle.operator_request.specs.declared.request.OperatorRequest.TheVariants.{Cells, Stop}
 use Rattle.hot_swap.specs.rulesets.Texts.{line}
 
 -- lines, of which the first begins with this word
@@ -30,18 +31,17 @@ abbrev pub are_counters : List ℕ → Bool
 are_counters bytes = are_counter_bytes bytes && are_lines bytes
 
 -- what is done as asked is told so
-abbrev pub is_answer : Request → List ℕ → Bool
+abbrev pub is_answer : OperatorRequest → List ℕ → Bool
 is_answer (Load path) bytes = begins_lines (codes "generation ") bytes
 is_answer Show bytes = begins_lines (codes "generation ") bytes
 is_answer Cells bytes = are_counters bytes
 is_answer Stop bytes = bytes_eq bytes (line (codes "stopping"))
 
 -- and any request may be refused
-abbrev pub is_reply : Request → List ℕ → Bool
+abbrev pub is_reply : OperatorRequest → List ℕ → Bool
 is_reply request bytes = begins_lines (codes "refused ") bytes || is_answer request bytes
 
--- the bytes are a reply to what the line asks
-pub record IsReplyTo (text bytes : List ℕ) : Type 0 where
-  pub request : Request
-  pub asks : Asks text request
+-- the words of the request are a line, and the bytes are a reply to it
+pub record IsReplyTo (request : OperatorRequest) (bytes : List ℕ) : Type 0 where
+  pub sent : IsSendable request
   pub replied : IsTrue (is_reply request bytes)

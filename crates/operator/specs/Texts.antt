@@ -4,10 +4,13 @@ use Rattle.std.specs.Prelude.{◌==◌, if◌then◌else◌}
 use Rattle.std.specs.List.{flat_map}
 use Rattle.std.specs.Option.{option_map}
 use Rattle.std.specs.String.{string_bytes}
+use Rattle.bounded_files.specs.Texts.{resource_text}
+use Rattle.bounded_files.specs.declared.fault.ResourceFault.TheVariants as resource
 use Rattle.cells.specs.declared.array.CellArray.{CellArray}
 use Rattle.hot_swap.specs.Latest.{Latest}
-use Rattle.hot_swap.specs.declared.fault.SwapFault.{SwapFault}
-use Rattle.hot_swap.specs.declared.fault.SwapFault.TheVariants as swap
+use Rattle.hot_swap.specs.Texts.{swap_text}
+use Rattle.operator.specs.declared.asking.AskFault.{AskFault}
+use Rattle.operator.specs.declared.asking.AskFault.TheVariants as ask
 use Rattle.operator.specs.declared.reply.Refusal.{Refusal}
 use Rattle.operator.specs.declared.reply.Refusal.TheVariants as refusal
 use Rattle.operator.specs.declared.reply.Reply.{Reply}
@@ -30,18 +33,18 @@ cell_text array index value =
 
 -- ---- replies
 
-abbrev pub install_text : SwapFault → List ℕ
-install_text swap.Memory = codes "H1 Memory"
-install_text swap.NoPlace = codes "H2 NoPlace"
-install_text swap.Exhausted = codes "H3 Exhausted"
+abbrev pub ask_text : AskFault → List ℕ
+ask_text ask.Word = codes "B1 Word"
+ask_text ask.Memory = resource_text resource.Memory
+ask_text ask.Connect = codes "B5 Connect"
 
 -- where the text of the loader's fault is known
 module _ {F : Type 0} (fault_text : F → Option (List ℕ)) where
   abbrev pub refusal_text : Refusal F → Option (List ℕ)
-  refusal_text refusal.Word = Some (codes "B1 Word")
-  refusal_text refusal.Memory = Some (codes "B4 Memory")
+  refusal_text refusal.Word = Some (ask_text ask.Word)
+  refusal_text refusal.Memory = Some (resource_text resource.Memory)
   refusal_text (refusal.Load fault) = fault_text fault
-  refusal_text (refusal.Install fault) = Some (install_text fault)
+  refusal_text (refusal.Install fault) = Some (swap_text fault)
 
   abbrev pub reply_text : Reply F → Option (List ℕ)
   reply_text (reply.Loaded generation) = Some (generation_line generation)

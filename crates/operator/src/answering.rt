@@ -12,9 +12,9 @@ use crate::line::read_line;
 use crate::loader::Loader;
 use crate::performing::perform;
 use crate::reply::Reply;
-use crate::request::{LINE_LIMIT, Request};
 use cells::CellSteps;
 use devices::Counted;
+use operator_request::{LINE_LIMIT, OperatorRequest};
 use std::alloc::Global;
 use std::fmt::Display;
 use std::io::{self, Read, Write};
@@ -52,7 +52,7 @@ pub fn answer<H: Wait, R: Read, L: Loader, C: CellSteps>(
     let Ok(size) = read_line(reader, &mut room) else {
         return None;
     };
-    let request = Request::of(&room[..size]);
+    let request = OperatorRequest::of(&room[..size]);
     let reply = perform(rt, alloc, loader, control, cells, pass, request);
     Some(reply)
 }

@@ -1,16 +1,18 @@
 //! The operator's side: a line is sent to a server, and its reply is read and looked at, since
 //! another server may listen at the port.
 
-ghost use Rattle.std.specs.Prelude.{◌≡◌, ◌↔◌, ◌^◌, ◌≤◌, length, Err, IfOk};
+ghost use Rattle.std.specs.Prelude.{◌≡◌, ◌↔◌, ◌^◌, ◌≤◌, length, Some, Err, IfOk};
 ghost use Rattle.operator.specs.Replies as specs;
-ghost use Rattle.operator.specs.Request.{AsksNothing};
+ghost use Rattle.operator.specs.Texts.{ask_text};
+ghost use Rattle.operator_request.specs.Requests.{IsSendable};
 
-use crate::request::Request;
+use bounded_files::ResourceFault;
+use operator_request::OperatorRequest;
 use std::alloc::Global;
+use std::fmt;
 use std::io::{self, ErrorKind, Read, Write};
 use std::net::{Ipv4Addr, Net, TcpStream};
 use std::time::Duration;
-use thiserror::Error;
 
 /// The most bytes of a reply: 8192 counters have lines of at most 60 bytes, and 256 apps such of at
 /// most 1052.
@@ -20,38 +22,58 @@ const REPLY_LIMIT: usize = 0x10_0000;
 const SILENCE_SECONDS: u64 = 600;
 
 /// Why there is no reply.
-#[derive(Clone, Copy, Debug, Drop, Error, PartialEq, Eq)]
+#[derive(Clone, Copy, Debug, Drop, PartialEq, Eq)]
 pub enum AskFault {
-    /// The line is no request.
-    #[error("B1 Word")]
+    /// B1: no line asks for it.
     Word,
-    /// Memory was refused.
-    #[error("B4 Memory")]
+    /// B4: memory was refused.
     Memory,
-    /// Nobody answers at the port, or not to the end, or nothing came for ten minutes, or it is no
-    /// operator's port.
-    #[error("B5 Connect")]
+    /// B5: nobody answers at the port, or not to the end, or nothing came for ten minutes, or it is
+    /// no operator's port.
     Connect,
 }
+
+impl AskFault {
+    /// The number and the name, as they are printed.
+    pub fn name(self) -> &'static str
+        ensures { result.now ≡ ask_text self }
+    {
+        match self {
+            AskFault::Word => "B1 Word",
+            AskFault::Memory => ResourceFault::Memory.name(),
+            AskFault::Connect => "B5 Connect",
+        }
+    }
+}
+
+impl fmt::Display for AskFault {
+    ghost output = { λ fault. Some (ask_text fault) };
+
+    fn fmt<W: fmt::Write>(&self, f: &mut fmt::Formatter<W>) -> fmt::Result {
+        f.write_str(self.name())
+    }
+}
+
+impl std::error::Error for AskFault {}
 
 /// Asks the server whose operator's port this is, on this machine, and gives the lines of its
 /// reply, of at most 1 MiB: those of a refusal begin with `refused `. What another port sends is no
 /// reply. It waits ten minutes for each piece of the reply; after B5 a load or a stop may still
 /// have been done.
-pub fn ask<H>(rt: &H, port: u16, line: &str) -> Result<Vec<u8>, AskFault>
+pub fn ask<H>(rt: &H, port: u16, request: OperatorRequest<'_>) -> Result<Vec<u8>, AskFault>
 where
     H: Net<Stream = TcpStream> + AllocGlobal,
-    ensures replied { IfOk result (λ reply. specs.IsReplyTo line.now reply.items) }
+    ensures replied { IfOk result (λ reply. specs.IsReplyTo request.entry reply.items) }
     ensures short { IfOk result (λ reply. length reply.items ≤ 2 ^ 20) }
-    ensures word { result ≡ Err AskFault.Word ↔ AsksNothing line.now }
+    ensures word { result ≡ Err AskFault.Word ↔ (¬ IsSendable request.entry) }
 {
-    let Some(request) = Request::of(line.as_bytes()) else {
+    if !request.is_sendable() {
         return Err(AskFault::Word);
-    };
+    }
     let Ok(stream) = TcpStream::connect(rt, (Ipv4Addr::LOCALHOST, port)) else {
         return Err(AskFault::Connect);
     };
-    match exchange(rt.alloc(), &stream, line) {
+    match exchange(rt.alloc(), &stream, request) {
         Ok(reply) if is_reply(request, &reply) => Ok(reply),
         Err(error) if error.kind() == ErrorKind::OutOfMemory => Err(AskFault::Memory),
         _ => Err(AskFault::Connect),
@@ -59,20 +81,20 @@ where
 }
 
 // Whether the bytes are a reply to this request.
-fn is_reply(request: Request<'_>, bytes: &[u8]) -> bool
+fn is_reply(request: OperatorRequest<'_>, bytes: &[u8]) -> bool
     ensures { result ≡ specs.is_reply request.entry bytes.now }
 {
     begins_lines(b"refused ", bytes) || is_answer(request, bytes)
 }
 
 // Whether the bytes say that it was done.
-fn is_answer(request: Request<'_>, bytes: &[u8]) -> bool
+fn is_answer(request: OperatorRequest<'_>, bytes: &[u8]) -> bool
     ensures { result ≡ specs.is_answer request.entry bytes.now }
 {
     match request {
-        Request::Load(_) | Request::Show => begins_lines(b"generation ", bytes),
-        Request::Cells => are_counters(bytes),
-        Request::Stop => bytes == b"stopping\n".as_slice(),
+        OperatorRequest::Load(_) | OperatorRequest::Show => begins_lines(b"generation ", bytes),
+        OperatorRequest::Cells => are_counters(bytes),
+        OperatorRequest::Stop => bytes == b"stopping\n".as_slice(),
     }
 }
 
@@ -115,12 +137,20 @@ fn is_counter_byte(byte: u8) -> bool
         || byte == b'\n'
 }
 
-// Sends a line, and reads all that is sent back, unless it is more than a reply may have.
-fn exchange(alloc: Global, mut stream: &TcpStream, line: &str) -> io::Result<Vec<u8>>
+// Sends the line of a request, and reads all that is sent back, unless it is more than a reply may
+// have.
+fn exchange(
+    alloc: Global,
+    mut stream: &TcpStream,
+    request: OperatorRequest<'_>,
+) -> io::Result<Vec<u8>>
     ensures { IfOk result (λ reply. length reply.items ≤ 2 ^ 20) }
 {
+    let Ok(words) = request.words(alloc) else {
+        return Err(io::Error::from(ErrorKind::OutOfMemory));
+    };
     stream.set_read_timeout(Some(Duration::from_secs(SILENCE_SECONDS)))?;
-    stream.write_all(line.as_bytes())?;
+    stream.write_all(words.as_bytes())?;
     stream.write_all(b"\n")?;
     let mut reply = Vec::new(alloc);
     let mut from = stream.take(REPLY_LIMIT as u64 + 1);

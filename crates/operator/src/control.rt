@@ -1,20 +1,20 @@
 //! The ruleset and the arrays of a server, which its operator alone changes: both at a load, or
 //! neither.
 
-ghost use Rattle.std.specs.Prelude.{◌≡◌, IfOk, IfErr, OnErr};
+ghost use Rattle.std.specs.Prelude.{◌≡◌, All, IfOk, IfErr, OnErr};
 ghost use Rattle.operator.specs.Control.{IsInstalled, IsRefusedLoad};
 
 use crate::loader::Loader;
 use crate::reply::Refusal;
 use cells::{CellArray, Directory};
 use hot_swap::ruleset::Ruleset;
-use hot_swap::{Generation, Publisher};
+use hot_swap::{Generation, Notice, Publisher};
 use std::alloc::Global;
 use std::marker::Model;
 use std::sync::{Arc, Wait};
 
-/// What installs a server's rulesets, and the arrays that these have declared.
-#[derive(Drop)]
+/// What installs a server's rulesets, and the arrays that these have declared. It is ended by
+/// `close`.
 pub struct Control {
     publisher: Publisher,
     directory: Directory,
@@ -30,6 +30,8 @@ impl Model for Control {
 
 impl Control {
     ghost use Rattle.cells.specs.Directory.{IsDirectory};
+    ghost use Rattle.hot_swap.specs.Published.{IsLatest};
+    ghost use Rattle.hot_swap.specs.rulesets.Rules.{IsRuleset};
 
     /// The control of a server that serves what this publisher shows, over these arrays.
     pub fn new(publisher: Publisher, directory: Directory) -> Control
@@ -40,6 +42,15 @@ impl Control {
             publisher,
             directory,
         }
+    }
+
+    /// What its publisher keeps. It does nothing: a proof calls it for its clauses.
+    pub fn keeps(&self)
+        ensures last { IsLatest self.now.publishing.known
+            self.now.publishing.latest.generation self.now.publishing.latest.rules }
+        ensures sound { All IsRuleset self.now.publishing.known.rulesets }
+    {
+        self.publisher.keeps();
     }
 
     /// The generation that was installed last.
@@ -56,6 +67,13 @@ impl Control {
         self.publisher.ruleset()
     }
 
+    /// A notice of all that was installed, for the publisher's watchers to learn.
+    pub fn tell(&self) -> Notice
+        ensures { result ≡ self.now.publishing.known }
+    {
+        self.publisher.tell()
+    }
+
     /// The arrays, in the order of their declarations.
     pub fn arrays(&self) -> &[CellArray]
         ensures arrays { result.now ≡ self.now.arrays }
@@ -65,7 +83,8 @@ impl Control {
     }
 
     /// Loads the manifest at a path, and installs its ruleset as the next generation. Where it is
-    /// refused nothing changes. It may wait for those who look at the ruleset before.
+    /// refused nothing changes. It may wait for those who still look at the ruleset before the
+    /// last.
     pub fn load<R: Wait, L: Loader>(
         &mut self,
         rt: &R,
@@ -78,11 +97,8 @@ impl Control {
         ensures fault { IfErr result (IsRefusedLoad (L.loads loader.now) path.now self.old) }
         ensures same { OnErr result (self.new ≡ self.old) }
     {
-        let Ok(mut directory) = self.directory.copy(alloc) else {
-            return Err(Refusal::Memory);
-        };
-        let rules = match loader.load(alloc, path, &mut directory) {
-            Ok(rules) => rules,
+        let (rules, directory) = match loader.load(alloc, path, &self.directory) {
+            Ok(loaded) => loaded,
             Err(fault) => return Err(Refusal::Load(fault)),
         };
         let Ok(rules) = Arc::new(alloc, rules) else {
@@ -95,5 +111,15 @@ impl Control {
             }
             Err(fault) => Err(Refusal::Install(fault)),
         }
+    }
+
+    /// Waits for those who look at a ruleset, and gives up the publisher and the arrays. Watchers
+    /// of this publisher see nothing more.
+    pub fn close<R: Wait>(self, rt: &R) {
+        let Control {
+            publisher,
+            directory: _directory,
+        } = self;
+        publisher.close(rt);
     }
 }

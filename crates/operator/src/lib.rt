@@ -2,8 +2,8 @@
 //!
 //! A connection brings one line: `load PATH`, `show`, `cells` or `stop`. What it asks is done by
 //! the one owner of the publisher of rulesets and of the directory of arrays, and the lines of the
-//! reply are written. A load that is refused changes nothing: the manifest is loaded over a copy of
-//! the directory, and the copy takes its place only once the ruleset is installed.
+//! reply are written. A load gives a directory beside its ruleset, which takes the place of the one
+//! before only once the ruleset is installed. So a load that is refused changes nothing.
 //!
 //! The contract of `perform` is one relation, with a constructor for each outcome of a request: the
 //! reply, what became of ruleset and arrays, and the events by which the cells were read.
@@ -16,7 +16,6 @@ mod line;
 mod loader;
 mod performing;
 mod reply;
-mod request;
 mod telling;
 
 pub use answering::{answer, write_reply};
@@ -24,8 +23,9 @@ pub use asking::{AskFault, ask};
 pub use control::Control;
 pub use loader::Loader;
 pub use reply::{Refusal, Reply};
-pub use request::Request;
 
 // The words of the contracts here come with them.
+pub use bounded_files;
 pub use devices;
 pub use hot_swap;
+pub use operator_request;

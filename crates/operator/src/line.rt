@@ -4,8 +4,8 @@
 ghost use Rattle.std.specs.Prelude.{◌≡◌, ◌-◌, ◌^◌, ◌<◌, ◌≤◌, length, take, IfOk, IfSome};
 ghost use Rattle.std.specs.List.{position};
 ghost use Rattle.devices.specs.Device.{CountsFailure};
-ghost use Rattle.operator.specs.Request.{is_line_feed, line_of};
-ghost use Rattle.operator.specs.Line.{IsPiece};
+ghost use Rattle.operator_request.specs.Requests.{is_line_feed};
+ghost use Rattle.operator.specs.Line.{IsPiece, line_of};
 
 use devices::{Counted, Failed};
 use std::io::Read;

@@ -13,16 +13,16 @@ pub trait Loader {
     /// Why there is none: its text is printed behind `refused `.
     type Fault: Display + Drop;
 
-    /// What may come of a load: the path, the arrays before it, the ruleset or the fault, and the
-    /// arrays after it.
+    /// What may come of a load: the path, the arrays before it, and the ruleset with the arrays
+    /// after it, or the fault.
     ghost loads: { Self → Loading Self.Fault };
 
-    /// The ruleset of a manifest, whose arrays are declared in the directory.
+    /// The ruleset of a manifest, and a directory of the arrays before it and of its own.
     fn load(
         &self,
         alloc: Global,
         path: &str,
-        directory: &mut Directory,
-    ) -> Result<Ruleset, Self::Fault>
-        ensures { loads self.now path.now directory.old result directory.new };
+        directory: &Directory,
+    ) -> Result<(Ruleset, Directory), Self::Fault>
+        ensures { loads self.now path.now directory.now result };
 }

@@ -7,9 +7,9 @@ ghost use Rattle.cells.specs.Grown.{Grows};
 use crate::control::Control;
 use crate::loader::Loader;
 use crate::reply::{Refusal, Reply};
-use crate::request::Request;
 use crate::telling::{tell_counters, tell_ruleset};
 use cells::CellSteps;
+use operator_request::OperatorRequest;
 use std::alloc::Global;
 use std::sync::Wait;
 
@@ -22,7 +22,7 @@ pub(crate) fn perform<R: Wait, L: Loader, C: CellSteps>(
     control: &mut Control,
     cells: &C,
     pass: &mut C::Pass,
-    request: Option<Request<'_>>,
+    request: Option<OperatorRequest<'_>>,
 ) -> Reply<L::Fault>
     requires { C.belongs cells.now pass.old }
     ensures belongs { C.belongs cells.now pass.new }
@@ -33,18 +33,20 @@ pub(crate) fn perform<R: Wait, L: Loader, C: CellSteps>(
         return Reply::Refused(Refusal::Word);
     };
     match request {
-        Request::Load(path) => match control.load(rt, alloc, loader, path) {
+        OperatorRequest::Load(path) => match control.load(rt, alloc, loader, path) {
             Ok(generation) => Reply::Loaded(generation),
             Err(refusal) => Reply::Refused(refusal),
         },
-        Request::Show => match tell_ruleset(alloc, control.generation(), control.ruleset()) {
+        OperatorRequest::Show => {
+            match tell_ruleset(alloc, control.generation(), control.ruleset()) {
+                Ok(lines) => Reply::Told(lines),
+                Err(_) => Reply::Refused(Refusal::Memory),
+            }
+        }
+        OperatorRequest::Cells => match tell_counters(alloc, control.arrays(), cells, pass) {
             Ok(lines) => Reply::Told(lines),
             Err(_) => Reply::Refused(Refusal::Memory),
         },
-        Request::Cells => match tell_counters(alloc, control.arrays(), cells, pass) {
-            Ok(lines) => Reply::Told(lines),
-            Err(_) => Reply::Refused(Refusal::Memory),
-        },
-        Request::Stop => Reply::Stopping,
+        OperatorRequest::Stop => Reply::Stopping,
     }
 }

@@ -1,9 +1,10 @@
 //! What an operator is told, as it is printed: lines, of which a refusal's begins with `refused `
 //! and has the number and name of what is wrong.
 
-ghost use Rattle.std.specs.Prelude.{◌≡◌};
-ghost use Rattle.operator.specs.Texts.{install_text, refusal_text, reply_text};
+ghost use Rattle.operator.specs.Texts.{refusal_text, reply_text};
 
+use crate::asking::AskFault;
+use bounded_files::ResourceFault;
 use hot_swap::{Generation, SwapFault};
 use std::fmt::{self, Display};
 
@@ -38,22 +39,11 @@ impl<F: Display> Display for Refusal<F> {
 
     fn fmt<W: fmt::Write>(&self, f: &mut fmt::Formatter<W>) -> fmt::Result {
         match self {
-            Refusal::Word => f.write_str("B1 Word"),
-            Refusal::Memory => f.write_str("B4 Memory"),
+            Refusal::Word => f.write_str(AskFault::Word.name()),
+            Refusal::Memory => f.write_str(ResourceFault::Memory.name()),
             Refusal::Load(fault) => write!(f, "{fault}"),
-            Refusal::Install(fault) => f.write_str(install_name(*fault)),
+            Refusal::Install(fault) => f.write_str(fault.name()),
         }
-    }
-}
-
-// The number and the name of a fault.
-fn install_name(fault: SwapFault) -> &'static str
-    ensures { result.now ≡ install_text fault }
-{
-    match fault {
-        SwapFault::Memory => "H1 Memory",
-        SwapFault::NoPlace => "H2 NoPlace",
-        SwapFault::Exhausted => "H3 Exhausted",
     }
 }
 

@@ -6,7 +6,7 @@
 #[cfg(test)]
 mod tests;
 
-use commands::{command, unreadable_words};
+use commands::{Device, command, unreadable_words};
 use std::process::ExitCode;
 use std::{env, io};
 
@@ -18,7 +18,7 @@ fn main(rt: HostRuntime) -> ExitCode {
     let mut out = rt.stdout();
     let mut err = rt.stderr();
     let status = match words_of(&rt) {
-        Ok(words) => command(&rt, words.as_slice(), &mut out, &mut err),
+        Ok(words) => command(&rt, &Device::new(&rt), words.as_slice(), &mut out, &mut err),
         Err(error) => unreadable_words(&error, &mut err),
     };
     ExitCode::from(status)

@@ -14,7 +14,7 @@ mod texts;
 mod usage;
 
 use bpf_text::assemble;
-use commands::command;
+use commands::{Device, command};
 use std::io::ErrorKind;
 use std::net::{Net, TcpListener, TcpStream};
 use std::process::Abort;
@@ -47,7 +47,7 @@ where
     }
     let mut out = Vec::new(rt.alloc());
     let mut err = Vec::new(rt.alloc());
-    let status = command(rt, words.as_slice(), &mut out, &mut err);
+    let status = command(rt, &Device::new(rt), words.as_slice(), &mut out, &mut err);
     Ok(Printed {
         status,
         out: text_of(out)?,

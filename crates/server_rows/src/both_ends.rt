@@ -1,10 +1,10 @@
 //! The server over loopback, with both ends in one process: workers in their threads, and clients.
 
 use crate::clients::{ended, halt, held, refused, silent, slow, two, waiting};
+use crate::crew::{Crew, crew_of};
 use crate::meeting::{Meeting, gate_that};
 use crate::shelf::rules;
-use hot_swap::{Publisher, Watcher};
-use locked_cells::{LockedCells, LockedPass};
+use hot_swap::Publisher;
 use std::alloc::Global;
 use std::net::{Net, SocketAddr, TcpListener, TcpStream};
 use std::sync::Wait;
@@ -15,14 +15,14 @@ use std::time::{Clock, Duration};
 use std::{io, thread};
 use workers::{Service, serve};
 
-/// So many workers of a server that offers nothing.
-pub(crate) fn workers_of(alloc: Global, count: usize) -> Result<Vec<(LockedPass, Watcher)>, Fail> {
-    let mut publisher = Publisher::new(alloc, rules(alloc, "nothing")?, count.clamp(1, 65))?;
-    let mut workers = Vec::new(alloc);
-    for _ in 0..count {
-        workers.push((LockedPass, publisher.watcher()?))?;
-    }
-    Ok(workers)
+/// The publisher of a server that offers nothing, with places for so many watchers. It is ended by
+/// `close`.
+pub(crate) fn publisher_for<H: Wait>(
+    rt: &H,
+    alloc: Global,
+    watchers: usize,
+) -> Result<Publisher, Fail> {
+    Ok(Publisher::new(rt, alloc, rules(alloc, "nothing")?, watchers.clamp(1, 65))?)
 }
 
 /// Serves with these 1 to 64 workers, each connection for so many seconds, and says whether it
@@ -31,19 +31,17 @@ fn serves<H>(
     rt: &H,
     gate: &Meeting,
     listener: TcpListener,
-    workers: Vec<(LockedPass, Watcher)>,
+    crew: Crew,
     stop: &AtomicBool,
     seconds: u64,
 ) -> bool
 where
     H: Threads + Wait + AllocGlobal + Clock + Eprint + Sync,
 {
+    let Crew { cells, workers } = crew;
     if workers.is_empty() || 64 < workers.len() {
         return false;
     }
-    let Ok(cells) = LockedCells::new(rt.alloc(), rt) else {
-        return false;
-    };
     let service = Service {
         timeout: Duration::from_secs(seconds),
         log: false,
@@ -88,7 +86,37 @@ where
 }
 
 /// Whether the clients heard what they should, the gate didn't run out, and the server ended: one
-/// of so many workers, each connection of which may last so many seconds.
+/// of these workers, each connection of which may last so many seconds.
+fn is_served_by<H>(
+    rt: &H,
+    crew: Crew,
+    clients: Clients,
+    holds: bool,
+    seconds: u64,
+) -> Result<bool, Fail>
+where
+    H: Threads
+        + Wait
+        + AllocGlobal
+        + Clock
+        + Eprint
+        + Sync
+        + Net<Listener = TcpListener, Stream = TcpStream>,
+{
+    let listener = TcpListener::bind(rt, "127.0.0.1:0")?;
+    let place = listener.local_addr()?;
+    let stop = AtomicBool::new(false);
+    let gate = gate_that(holds);
+    let (ended, heard) = thread::join(
+        rt,
+        || serves(rt, &gate, listener, crew, &stop, seconds),
+        || heard(rt, place, &gate, &stop, clients),
+    );
+    let is_heard = heard?;
+    Ok(is_heard && ended && !gate.ran_out.load(Ordering::SeqCst))
+}
+
+/// The same of a server with so many workers.
 fn is_served<H>(
     rt: &H,
     clients: Clients,
@@ -105,18 +133,13 @@ where
         + Sync
         + Net<Listener = TcpListener, Stream = TcpStream>,
 {
-    let listener = TcpListener::bind(rt, "127.0.0.1:0")?;
-    let place = listener.local_addr()?;
-    let stop = AtomicBool::new(false);
-    let gate = gate_that(holds);
-    let workers = workers_of(rt.alloc(), workers)?;
-    let (ended, heard) = thread::join(
-        rt,
-        || serves(rt, &gate, listener, workers, &stop, seconds),
-        || heard(rt, place, &gate, &stop, clients),
-    );
-    let is_heard = heard?;
-    Ok(is_heard && ended && !gate.ran_out.load(Ordering::SeqCst))
+    let mut publisher = publisher_for(rt, rt.alloc(), workers)?;
+    let is_served = match crew_of(rt.alloc(), &mut publisher, workers) {
+        Ok(crew) => is_served_by(rt, crew, clients, holds, seconds),
+        Err(fault) => Err(fault),
+    };
+    publisher.close(rt);
+    is_served
 }
 
 #[test]

@@ -31,13 +31,8 @@ const NONE: &str = "\"noupdate\"";
 
 /// The status of the reply, how many apps are offered the release and how many none, whether the
 /// offer stands first, and the counter after it.
-fn taken<H: Wait>(
-    rt: &H,
-    alloc: Global,
-    server: &mut Answering,
-    input: &[u8],
-) -> Result<String, Fail> {
-    let heard = exchange(rt, alloc, server, input, WHOLE, WHOLE);
+fn taken(alloc: Global, server: &mut Answering, input: &[u8]) -> Result<String, Fail> {
+    let heard = exchange(alloc, server, input, WHOLE, WHOLE);
     let status = heard.outcome.unwrap_or(0);
     let text = str::from_utf8(heard.written.as_slice()).unwrap_or("");
     let (offers, nones) = (times(text.as_bytes(), OFFER), times(text.as_bytes(), NONE));
@@ -47,53 +42,50 @@ fn taken<H: Wait>(
 }
 
 /// Whether this is taken by a request of these apps.
-fn is_taken<H: Wait>(
-    rt: &H,
-    alloc: Global,
-    server: &mut Answering,
-    apps: &str,
-    want: &str,
-) -> Result<bool, Fail> {
+fn is_taken(alloc: Global, server: &mut Answering, apps: &str, want: &str) -> Result<bool, Fail> {
     let input = request(alloc, apps)?;
-    let found = taken(rt, alloc, server, &input)?;
+    let found = taken(alloc, server, &input)?;
     Ok(found.as_str() == want)
 }
 
-/// Whether two apps that ask and one that pings take in order, and one that pings takes none.
+/// Whether these apps take in order, and one that pings takes none.
+fn take_in_order(alloc: Global, server: &mut Answering, apps: &str) -> Result<bool, Fail> {
+    let is_first = is_taken(alloc, server, apps, "200: 1 1 true, q[0] 2")?;
+    let is_second = is_taken(alloc, server, PINGS, "200: 0 0 false, q[0] 2")?;
+    Ok(is_first && is_second)
+}
+
+/// The same of two apps that ask and one that pings, by a server of their own.
 fn is_in_order<H: Wait>(rt: &H, alloc: Global) -> Result<bool, Fail> {
     let apps = format!(in alloc; "{ASKS},{ASKS},{PINGS}")?;
-    let mut server = server_of(alloc, "one")?;
-    let is_first = is_taken(
-        rt,
-        alloc,
-        &mut server,
-        apps.as_str(),
-        "200: 1 1 true, q[0] 2",
-    )?;
-    let is_second = is_taken(rt, alloc, &mut server, PINGS, "200: 0 0 false, q[0] 2")?;
-    Ok(is_first && is_second)
+    let mut server = server_of(rt, alloc, "one")?;
+    let is_in_order = take_in_order(alloc, &mut server, apps.as_str());
+    server.close(rt);
+    is_in_order
 }
 
 /// Whether a request to another path takes nothing.
 fn is_untaken<H: Wait>(rt: &H, alloc: Global) -> Result<bool, Fail> {
     let head = head_of(alloc, "POST /service/update HTTP/1.1\nContent-Length: 0")?;
-    let mut server = server_of(alloc, "one")?;
-    let found = taken(rt, alloc, &mut server, head.as_bytes())?;
-    Ok(found.as_str() == "404: 0 0 false, q[0] 0")
+    let mut server = server_of(rt, alloc, "one")?;
+    let found = taken(alloc, &mut server, head.as_bytes());
+    server.close(rt);
+    Ok(found?.as_str() == "404: 0 0 false, q[0] 0")
 }
 
 /// Whether all of 256 apps take.
 fn is_most<H: Wait>(rt: &H, alloc: Global) -> Result<bool, Fail> {
     let before = format!(in alloc; "{ASKS},")?.repeat(alloc, 255)?;
     let apps = format!(in alloc; "{before}{ASKS}")?;
-    let mut server = server_of(alloc, "one")?;
-    is_taken(
-        rt,
+    let mut server = server_of(rt, alloc, "one")?;
+    let is_most = is_taken(
         alloc,
         &mut server,
         apps.as_str(),
         "200: 1 255 true, q[0] 256",
-    )
+    );
+    server.close(rt);
+    is_most
 }
 
 #[test]

@@ -5,8 +5,8 @@ use crate::session::is_asked;
 use crate::shelf::{Shelf, rules};
 use cells::Directory;
 use hot_swap::Publisher;
-use locked_cells::LockedCells;
 use operator::Control;
+use shared_cells::SharedCells;
 use std::alloc::Global;
 use std::io::{self, Write};
 use std::net::{Net, SocketAddr, TcpListener, TcpStream};
@@ -28,19 +28,24 @@ where
     let Ok(rules) = rules(alloc, "nothing") else {
         return false;
     };
-    let Ok(publisher) = Publisher::new(alloc, rules, 1) else {
+    let Ok((cells, mut passes)) = SharedCells::new(alloc, 1) else {
         return false;
     };
-    let Ok(cells) = LockedCells::new(alloc, rt) else {
+    let Some(pass) = passes.pop() else {
         return false;
     };
-    let seat = OperatorSeat {
+    let Ok(publisher) = Publisher::new(rt, alloc, rules, 1) else {
+        return false;
+    };
+    let mut control = Control::new(publisher, Directory::new(alloc));
+    let mut seat = OperatorSeat {
         loader: &Shelf,
-        control: Control::new(publisher, Directory::new(alloc)),
         cells: &cells,
-        pass: cells.pass(),
+        pass,
     };
-    operate(rt, listener, seat, stop, Duration::from_secs(seconds));
+    let timeout = Duration::from_secs(seconds);
+    operate(rt, listener, &mut seat, &mut control, stop, timeout);
+    control.close(rt);
     true
 }
 

@@ -12,8 +12,7 @@ use workers::{AnswerFault, Sent, answer};
 /// 2026-03-02 01:00:00 UTC, which is day 7000 and second 3600 of Omaha's count.
 pub(crate) const MOMENT: i64 = 1772413200;
 
-/// A server with one worker.
-#[derive(Drop)]
+/// A server with one worker. It is ended by `close`.
 pub(crate) struct Answering {
     pub(crate) publisher: Publisher,
     pub(crate) watcher: Watcher,
@@ -22,22 +21,42 @@ pub(crate) struct Answering {
 }
 
 /// The server of a manifest of the shelf.
-pub(crate) fn server_of(alloc: Global, path: &str) -> Result<Answering, &'static str> {
-    let Ok(mut publisher) = Publisher::new(alloc, rules(alloc, path)?, 1) else {
-        return Err("memory");
-    };
-    let Ok(watcher) = publisher.watcher() else {
-        return Err("memory");
-    };
+pub(crate) fn server_of<H: Wait>(
+    rt: &H,
+    alloc: Global,
+    path: &str,
+) -> Result<Answering, &'static str> {
     let Ok((cells, pass)) = PlainCells::new(alloc) else {
         return Err("memory");
     };
-    Ok(Answering {
-        publisher,
-        watcher,
-        cells,
-        pass,
-    })
+    let Ok(mut publisher) = Publisher::new(rt, alloc, rules(alloc, path)?, 1) else {
+        return Err("memory");
+    };
+    match publisher.watcher() {
+        Ok(watcher) => Ok(Answering {
+            publisher,
+            watcher,
+            cells,
+            pass,
+        }),
+        Err(_) => {
+            publisher.close(rt);
+            Err("memory")
+        }
+    }
+}
+
+impl Answering {
+    /// Ends the server.
+    pub(crate) fn close<H: Wait>(self, rt: &H) {
+        let Answering {
+            publisher,
+            watcher: _watcher,
+            cells: _cells,
+            pass: _pass,
+        } = self;
+        publisher.close(rt);
+    }
 }
 
 /// How a device behaves: how many bytes it takes a call, and which call fails, if any (from 1).
@@ -62,21 +81,21 @@ pub(crate) struct Heard {
 }
 
 /// One request to the worker of this pass and this watcher.
-pub(crate) fn exchange_over<H: Wait, C: CellSteps>(
-    rt: &H,
+pub(crate) fn exchange_over<C: CellSteps>(
     alloc: Global,
-    worker: (&C, &mut C::Pass, &mut Watcher),
+    cells: &C,
+    pass: &mut C::Pass,
+    watcher: &mut Watcher,
     input: &[u8],
     reads: Device,
     writes: Device,
 ) -> Heard
-    requires { C.belongs worker.0.now worker.1.now }
+    requires { C.belongs cells.now pass.old }
+    ensures { C.belongs cells.now pass.new }
 {
-    let (cells, pass, watcher) = worker;
     let mut reader = Counted::new(FailAt::new(input, reads.piece, reads.fails));
     let mut writer = Counted::new(FailAt::new(Vec::new(alloc), writes.piece, writes.fails));
     let outcome = answer(
-        rt,
         alloc,
         &mut reader,
         &mut writer,
@@ -97,16 +116,22 @@ pub(crate) fn exchange_over<H: Wait, C: CellSteps>(
 }
 
 /// One request to the server.
-pub(crate) fn exchange<H: Wait>(
-    rt: &H,
+pub(crate) fn exchange(
     alloc: Global,
     server: &mut Answering,
     input: &[u8],
     reads: Device,
     writes: Device,
 ) -> Heard {
-    let worker = (&server.cells, &mut server.pass, &mut server.watcher);
-    exchange_over(rt, alloc, worker, input, reads, writes)
+    exchange_over(
+        alloc,
+        &server.cells,
+        &mut server.pass,
+        &mut server.watcher,
+        input,
+        reads,
+        writes,
+    )
 }
 
 /// One request to a server of its own, by a manifest of the shelf.
@@ -118,8 +143,10 @@ pub(crate) fn answered<H: Wait>(
     reads: Device,
     writes: Device,
 ) -> Result<Heard, &'static str> {
-    let mut server = server_of(alloc, path)?;
-    Ok(exchange(rt, alloc, &mut server, input, reads, writes))
+    let mut server = server_of(rt, alloc, path)?;
+    let heard = exchange(alloc, &mut server, input, reads, writes);
+    server.close(rt);
+    Ok(heard)
 }
 
 /// A POST of a body, with its head.

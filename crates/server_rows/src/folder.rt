@@ -100,9 +100,10 @@ where
 {
     let device = Device::new(rt);
     let server = server.staffed(rt, 2)?;
-    server
-        .serve(rt, &Manifests::of(&device), service())
-        .map_err(ServingFault::Serve)
+    match server.serve(rt, &Manifests::of(&device), service()) {
+        Ok(_) => Ok(()),
+        Err(fault) => Err(fault),
+    }
 }
 
 /// The first row of the session whose reply is another one.

@@ -10,6 +10,8 @@ mod clients;
 #[cfg(test)]
 mod counters;
 #[cfg(test)]
+mod crew;
+#[cfg(test)]
 mod ends;
 #[cfg(test)]
 mod exchange;

@@ -9,24 +9,33 @@ use std::alloc::{AllocError, Global};
 use std::sync::{Arc, Wait};
 use std::test::Fail;
 
-/// A server on the manifest `quota`, whose cells are one thread's.
-#[derive(Drop)]
+/// A server on the manifest `quota`, whose cells are one thread's. It is ended by `close`.
 struct Operated {
     control: Control,
     cells: PlainCells,
     pass: PlainPass,
 }
 
-fn server_of(alloc: Global) -> Result<Operated, Fail> {
+fn server_of<H: Wait>(rt: &H, alloc: Global) -> Result<Operated, Fail> {
     let mut directory = Directory::new(alloc);
     let rules = ruleset(alloc, "quota", &mut directory)?;
-    let publisher = Publisher::new(alloc, Arc::new(alloc, rules)?, 1)?;
     let (cells, pass) = PlainCells::new(alloc)?;
+    let publisher = Publisher::new(rt, alloc, Arc::new(alloc, rules)?, 1)?;
     Ok(Operated {
         control: Control::new(publisher, directory),
         cells,
         pass,
     })
+}
+
+/// Ends the server.
+fn close<H: Wait>(rt: &H, server: Operated) {
+    let Operated {
+        control,
+        cells: _cells,
+        pass: _pass,
+    } = server;
+    control.close(rt);
 }
 
 /// What is written in reply to a line, if it is heard: over a reader that takes so many bytes a
@@ -85,14 +94,26 @@ fn is_right<H: Wait>(
 }
 
 /// The first row of a session whose reply is another one, where so many bytes are read a call.
-fn first_wrong<H: Wait>(rt: &H, alloc: Global, piece: usize) -> Result<Option<&'static str>, Fail> {
-    let mut server = server_of(alloc)?;
+fn first_wrong_of<H: Wait>(
+    rt: &H,
+    alloc: Global,
+    server: &mut Operated,
+    piece: usize,
+) -> Result<Option<&'static str>, AllocError> {
     for row in LINES.split('\n') {
-        if !is_right(rt, alloc, &mut server, row, piece)? {
+        if !is_right(rt, alloc, server, row, piece)? {
             return Ok(Some(row));
         }
     }
     Ok(None)
+}
+
+/// The same of a server of its own.
+fn first_wrong<H: Wait>(rt: &H, alloc: Global, piece: usize) -> Result<Option<&'static str>, Fail> {
+    let mut server = server_of(rt, alloc)?;
+    let found = first_wrong_of(rt, alloc, &mut server, piece);
+    close(rt, server);
+    Ok(found?)
 }
 
 /// A line, and its reply. In both `;` stands for the line feed.
@@ -134,8 +155,10 @@ fn is_first_replied<H: Wait>(
     line: &[u8],
     want: &[u8],
 ) -> Result<bool, Fail> {
-    let mut server = server_of(alloc)?;
-    Ok(is_replied(rt, alloc, &mut server, line, 100, want))
+    let mut server = server_of(rt, alloc)?;
+    let is_replied = is_replied(rt, alloc, &mut server, line, 100, want);
+    close(rt, server);
+    Ok(is_replied)
 }
 
 /// Whether a line that asks to load a path of so many bytes has this reply.
@@ -152,13 +175,15 @@ fn is_long_replied<H: Wait>(
 /// Whether a reader that fails at its first, second or third call gets no reply, and nothing is
 /// done.
 fn is_unheard<H: Wait>(rt: &H, alloc: Global) -> Result<bool, Fail> {
-    let mut server = server_of(alloc)?;
+    let mut server = server_of(rt, alloc)?;
     let mut is_none = true;
     for fails in [1, 2, 3] {
         let reply = replied(rt, alloc, &mut server, b"load yes\n", 4, fails);
         is_none = is_none && reply.is_none();
     }
-    Ok(is_none && server.control.generation() == 1)
+    let is_first = server.control.generation() == 1;
+    close(rt, server);
+    Ok(is_none && is_first)
 }
 
 /// A line of 4096 bytes is a request, and one of 4097 isn't; one whose path isn't UTF-8 is none.

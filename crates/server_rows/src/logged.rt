@@ -1,12 +1,11 @@
 //! The log of a server over loopback, by a runtime whose clock stands still and which keeps what is
 //! written on standard error.
 
-use crate::both_ends::workers_of;
+use crate::both_ends::publisher_for;
 use crate::clients::halt;
+use crate::crew::{Crew, crew_of};
 use crate::exchange::{MOMENT, times};
 use crate::loopback::{reply, sent};
-use hot_swap::Watcher;
-use locked_cells::{LockedCells, LockedPass};
 use std::alloc::{AllocError, Global};
 use std::fmt::Display;
 use std::net::{Net, Shutdown, SocketAddr, TcpListener, TcpStream};
@@ -135,21 +134,14 @@ where
 
 /// Serves with these 1 to 64 workers and a log, until it is told to stop, and says whether it
 /// could.
-fn serves<H>(
-    rt: &H,
-    listener: TcpListener,
-    workers: Vec<(LockedPass, Watcher)>,
-    stop: &AtomicBool,
-) -> bool
+fn serves<H>(rt: &H, listener: TcpListener, crew: Crew, stop: &AtomicBool) -> bool
 where
     H: Threads + Wait + AllocGlobal + Clock + Eprint + Sync,
 {
+    let Crew { cells, workers } = crew;
     if workers.is_empty() || 64 < workers.len() {
         return false;
     }
-    let Ok(cells) = LockedCells::new(rt.alloc(), rt) else {
-        return false;
-    };
     let service = Service {
         timeout: Duration::from_secs(30),
         log: true,
@@ -164,8 +156,8 @@ fn is_log(alloc: Global, kept: &str, wanted: &str) -> Result<bool, AllocError> {
     Ok(others.as_str() == wanted && kept.contains(UNACCEPTED))
 }
 
-/// Whether the log of a server with one worker is as it should be, once the server has ended.
-fn is_logged<H>(rt: &H) -> Result<bool, Fail>
+/// Whether the log of a server with these workers is as it should be, once the server has ended.
+fn is_logged_by<H>(rt: &H, crew: Crew) -> Result<bool, Fail>
 where
     H: Threads + Wait + AllocGlobal + Clock + Sync,
     H: Net<Listener = TcpListener, Stream = TcpStream>,
@@ -173,7 +165,6 @@ where
     let listener = TcpListener::bind(rt, "127.0.0.1:0")?;
     listener.set_nonblocking(true)?;
     let place = listener.local_addr()?;
-    let workers = workers_of(rt.alloc(), 1)?;
     let stop = AtomicBool::new(false);
     let still = Still {
         rt,
@@ -181,12 +172,27 @@ where
     };
     let (ended, wanted) = thread::join(
         rt,
-        || serves(&still, listener, workers, &stop),
+        || serves(&still, listener, crew, &stop),
         || wanted(rt, place, &stop),
     );
     let wanted = wanted?;
     let kept = still.errors.lock(rt);
     Ok(ended && is_log(rt.alloc(), kept.as_str(), wanted.as_str())?)
+}
+
+/// The same of a server with one worker.
+fn is_logged<H>(rt: &H) -> Result<bool, Fail>
+where
+    H: Threads + Wait + AllocGlobal + Clock + Sync,
+    H: Net<Listener = TcpListener, Stream = TcpStream>,
+{
+    let mut publisher = publisher_for(rt, rt.alloc(), 1)?;
+    let is_logged = match crew_of(rt.alloc(), &mut publisher, 1) {
+        Ok(crew) => is_logged_by(rt, crew),
+        Err(fault) => Err(fault),
+    };
+    publisher.close(rt);
+    is_logged
 }
 
 #[test]

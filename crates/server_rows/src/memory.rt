@@ -47,22 +47,19 @@ fn is_line(alloc: Global, written: &[u8], name: &str) -> Result<bool, AllocError
 }
 
 /// Asks once.
-fn asked<H: Wait>(
-    rt: &H,
-    alloc: Global,
-    server: &mut Answering,
-) -> Result<Option<u16>, AllocError> {
+fn asked(alloc: Global, server: &mut Answering) -> Result<Option<u16>, AllocError> {
     let input = again!(post(alloc, TWO_APPS))?;
-    let heard = exchange(rt, alloc, server, &input, WHOLE, WHOLE);
+    let heard = exchange(alloc, server, &input, WHOLE, WHOLE);
     again!(status_of(alloc, &heard))
 }
 
 /// Makes a server, and asks twice.
 fn asked_twice<H: Wait>(rt: &H, alloc: Global) -> Result<[Option<u16>; 2], Fail> {
-    let mut server = again!(server_of(alloc, "nothing"))?;
-    let first = asked(rt, alloc, &mut server)?;
-    let second = asked(rt, alloc, &mut server)?;
-    Ok([first, second])
+    let mut server = again!(server_of(rt, alloc, "nothing"))?;
+    let first = asked(alloc, &mut server);
+    let second = asked(alloc, &mut server);
+    server.close(rt);
+    Ok([first?, second?])
 }
 
 #[test]

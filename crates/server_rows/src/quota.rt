@@ -1,65 +1,83 @@
-//! A quota that four workers take from at once, over locked cells: as many offers as it has, and no
-//! more.
+//! Quotas from which several workers take at once, over shared cells: as many offers as they have,
+//! and no more.
+
+ghost use Rattle.shared_cells.specs.Passes.{IsPassOf};
 
 use crate::counters::{OFFER, asking};
+use crate::crew::{Crew, crew_of};
 use crate::exchange::{WHOLE, exchange_over, times};
 use crate::shelf::rules;
 use cells::{CellNo, CellOp, CellSteps};
 use hot_swap::{Publisher, Watcher};
-use locked_cells::LockedCells;
+use shared_cells::{SharedCells, SharedPass};
 use std::alloc::Global;
 use std::sync::Wait;
 use std::test::Fail;
 use std::thread;
+use std::thread::Threads;
 
-const WORKERS: usize = 4;
-
-/// How many requests a worker answers.
-const EACH: u32 = 400;
-
-/// How many of a worker's requests are offered the release.
-fn offers<H: Wait>(
-    rt: &H,
+/// How many of a worker's requests are offered the release, of so many.
+fn offers(
     alloc: Global,
-    cells: &LockedCells<&H>,
-    mut watcher: Watcher,
+    cells: &SharedCells,
+    worker: (SharedPass, Watcher),
     input: &[u8],
-) -> usize {
-    let mut pass = cells.pass();
+    asks: u32,
+) -> usize
+    requires { IsPassOf cells.now worker.0 }
+{
+    let (mut pass, mut watcher) = worker;
     let mut count = 0usize;
-    for _ in 0..EACH {
-        let worker = (cells, &mut pass, &mut watcher);
-        let heard = exchange_over(rt, alloc, worker, input, WHOLE, WHOLE);
+    for _ in 0..asks {
+        let heard = exchange_over(alloc, cells, &mut pass, &mut watcher, input, WHOLE, WHOLE);
         count = count.saturating_add(times(&heard.written, OFFER));
     }
     count
 }
 
-/// Watchers of the ruleset whose app takes from a quota of 1000, one a worker.
-fn watchers(alloc: Global) -> Result<Vec<Watcher>, Fail> {
-    let mut publisher = Publisher::new(alloc, rules(alloc, "thousand")?, WORKERS)?;
-    let mut watchers = Vec::new(alloc);
-    for _ in 0..WORKERS {
-        watchers.push(publisher.watcher()?)?;
-    }
-    Ok(watchers)
-}
-
-#[test]
-fn four_workers_take_a_quota(rt: HostRuntime) -> Result<(), Fail> {
-    let cells = LockedCells::new(rt.alloc(), &rt)?;
-    let watchers = watchers(rt.alloc())?;
+/// How many requests are offered the release where each worker but the last answers so many in a
+/// thread of its own, and the counter afterwards.
+fn all_offers<H>(rt: &H, crew: Crew, asks: u32) -> Result<(usize, u64), Fail>
+where
+    H: Threads + AllocGlobal + Sync,
+{
+    let Crew { cells, mut workers } = crew;
+    let Some((mut pass, _watcher)) = workers.pop() else {
+        return Err(Fail::from("no workers"));
+    };
     let input = asking(rt.alloc())?;
     let counts = thread::map_vec(
-        &rt,
-        watchers,
-        &|watcher| { offers(&rt, rt.alloc(), &cells, watcher, &input) },
+        rt,
+        workers,
+        &|worker| -> usize
+            requires { IsPassOf cells worker.0 }
+        { offers(rt.alloc(), &cells, worker, &input, asks) },
     )?;
     let mut all = 0usize;
     for count in &counts {
         all = all.saturating_add(*count);
     }
-    let count = cells.act(&mut cells.pass(), CellNo::new(0), CellOp::Load);
-    assert!(rt; all == 1000 && count == 1600, "{all} offers, q[0] {count}");
+    Ok((all, cells.act(&mut pass, CellNo::new(0), CellOp::Load)))
+}
+
+/// The same of a ruleset whose app takes of a quota, and of so many workers.
+fn taken<H>(rt: &H, path: &str, workers: usize, asks: u32) -> Result<(usize, u64), Fail>
+where
+    H: Threads + Wait + AllocGlobal + Sync,
+{
+    let places = workers.saturating_add(1).clamp(1, 65);
+    let mut publisher = Publisher::new(rt, rt.alloc(), rules(rt.alloc(), path)?, places)?;
+    let taken = match crew_of(rt.alloc(), &mut publisher, places) {
+        Ok(crew) => all_offers(rt, crew, asks),
+        Err(fault) => Err(fault),
+    };
+    publisher.close(rt);
+    taken
+}
+
+#[test]
+fn workers_take_a_quota(rt: HostRuntime) -> Result<(), Fail> {
+    assert_eq!(rt; taken(&rt, "thousand", 4, 400)?, (1000, 1600));
+    assert_eq!(rt; taken(&rt, "quota", 2, 5)?, (2, 10));
     Ok(())
 }

@@ -1,6 +1,6 @@
 //! Every refusal, by each way to get it, with its status and its line. None makes a run.
 
-use crate::exchange::{Heard, WHOLE, answered, is_printed, post};
+use crate::exchange::{Device, Heard, WHOLE, answered, is_printed, post};
 use std::alloc::{AllocError, Global};
 use std::sync::Wait;
 use std::test::Fail;
@@ -128,6 +128,57 @@ fn bodies_are_refused(rt: HostRuntime) -> Result<(), Fail> {
         assert!(rt; is_body_refused(&rt, rt.alloc(), body, line)?, "{row}");
     }
     assert!(rt; are_too_many(&rt, rt.alloc())?, "257 apps");
+    Ok(())
+}
+
+/// A request that knows no app, with a member of so many nested lists that nobody asks for.
+fn nested(alloc: Global, depth: usize) -> Result<Vec<u8>, AllocError> {
+    let opened = "[".repeat(alloc, depth)?;
+    let closed = "]".repeat(alloc, depth)?;
+    let body = format!(in alloc;
+        "{{\"request\":{{\"protocol\":\"3.1\"}},\"x\":{opened}{closed}}}"
+    )?;
+    post(alloc, body.as_str())
+}
+
+#[test]
+fn lists_that_nest(rt: HostRuntime) -> Result<(), Fail> {
+    let alloc = rt.alloc();
+    let deep = nested(alloc, 200)?;
+    assert!(rt; is_refused(&rt, alloc, &deep, "400 Bad Request", "O1 Json")?);
+    let ignored = answered(&rt, alloc, "nothing", &nested(alloc, 100)?, WHOLE, WHOLE)?;
+    assert!(rt; ignored.outcome == Ok(200));
+    Ok(())
+}
+
+const LARGE: &str = "POST /service/update2/json HTTP/1.1\nContent-Length: 1048577";
+
+/// Whether a large body is refused by its head alone: a second read would fail.
+fn is_large_unread<H: Wait>(rt: &H, alloc: Global) -> Result<bool, Fail> {
+    let head = head_of(alloc, LARGE)?;
+    let input = format!(in alloc; "{head}{{}}")?;
+    let reads = Device {
+        piece: head.len(),
+        fails: 2,
+    };
+    let heard = answered(rt, alloc, "nothing", input.as_bytes(), reads, WHOLE)?;
+    let wanted = refusal(alloc, "413 Content Too Large", "P5 TooLarge")?;
+    Ok(heard.outcome == Ok(413) && heard.written.as_slice() == wanted.as_bytes())
+}
+
+/// Whether a head of so many lines behind its first one is refused.
+fn are_lines_refused<H: Wait>(rt: &H, alloc: Global, count: usize) -> Result<bool, Fail> {
+    let lines = "a: b\r\n".repeat(alloc, count)?;
+    let input = format!(in alloc; "POST /service/update2/json HTTP/1.1\r\n{lines}\r\n")?;
+    let status = "431 Request Header Fields Too Large";
+    is_refused(rt, alloc, input.as_bytes(), status, "P6 HeadTooLarge")
+}
+
+#[test]
+fn large_bodies_and_long_heads(rt: HostRuntime) -> Result<(), Fail> {
+    assert!(rt; is_large_unread(&rt, rt.alloc())?, "a large body");
+    assert!(rt; are_lines_refused(&rt, rt.alloc(), 65)?, "65 lines");
+    assert!(rt; !are_lines_refused(&rt, rt.alloc(), 64)?, "64 lines");
     Ok(())
 }
 

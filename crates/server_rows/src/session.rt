@@ -7,6 +7,7 @@ use crate::loopback::told;
 use crate::shelf::{Shelf, ruleset};
 use cells::Directory;
 use operator::ask;
+use operator::operator_request::OperatorRequest;
 use serving::{ServingFault, staff};
 use std::net::{Net, SocketAddr, TcpListener, TcpStream};
 use std::sync::Wait;
@@ -52,9 +53,10 @@ where
         return Err(ServingFault::Serve(ServeFault::Memory));
     };
     let server = staff(rt, ports, rules, directory, workers)?;
-    server
-        .serve(rt, &Shelf, service)
-        .map_err(ServingFault::Serve)
+    match server.serve(rt, &Shelf, service) {
+        Ok(_) => Ok(()),
+        Err(fault) => Err(fault),
+    }
 }
 
 /// Two free ports.
@@ -92,12 +94,23 @@ where
     Ok(format!(in rt.alloc(); "{count}")?.into_bytes())
 }
 
+/// The request of a line: of one that is none of the words a load with an empty path, which no line
+/// spells.
+fn request_of(line: &str) -> OperatorRequest<'_> {
+    match line {
+        "show" => OperatorRequest::Show,
+        "cells" => OperatorRequest::Cells,
+        "stop" => OperatorRequest::Stop,
+        _ => OperatorRequest::Load(line.strip_prefix("load ").unwrap_or("")),
+    }
+}
+
 /// What the operator's side of a port gives for a line, or its printed fault.
 pub(crate) fn asked<H>(rt: &H, port: u16, line: &str) -> io::Result<Vec<u8>>
 where
     H: Net<Stream = TcpStream> + AllocGlobal,
 {
-    match ask(rt, port, line) {
+    match ask(rt, port, request_of(line)) {
         Ok(reply) => Ok(reply),
         Err(fault) => Ok(format!(in rt.alloc(); "{fault}")?.into_bytes()),
     }

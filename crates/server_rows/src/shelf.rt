@@ -6,9 +6,9 @@ use attrs::Text;
 use bpf_text::assemble;
 use cells::{Directory, Shape};
 use declarations::{declare_all, read_spec};
-use hot_swap::bpf_verify::{Verified, verify};
-use hot_swap::flow_check::Flow;
+use hot_swap::bpf_verify::Verified;
 use hot_swap::ruleset::{App, Ruleset};
+use load::acceptance::accept;
 use operator::Loader;
 use releases::{Package, Release};
 use std::alloc::{AllocError, Global};
@@ -36,15 +36,19 @@ pub(crate) struct Shelf;
 impl Loader for Shelf {
     type Fault = &'static str;
 
-    ghost loads = { λ _ _ _ _ _. Unit {0} };
+    ghost loads = { λ _ _ _ _. Unit {0} };
 
     fn load(
         &self,
         alloc: Global,
         path: &str,
-        directory: &mut Directory,
-    ) -> Result<Ruleset, &'static str> {
-        ruleset(alloc, path, directory)
+        directory: &Directory,
+    ) -> Result<(Ruleset, Directory), &'static str> {
+        let Ok(mut grown) = directory.copy(alloc) else {
+            return Err("memory");
+        };
+        let rules = ruleset(alloc, path, &mut grown)?;
+        Ok((rules, grown))
     }
 }
 
@@ -109,10 +113,7 @@ fn program(alloc: Global, text: &str, shape: &Shape) -> Result<Verified, &'stati
     let Ok(bytes) = assemble(alloc, lines.as_str()) else {
         return Err("a program");
     };
-    let Ok(flow) = Flow::check(alloc, &bytes) else {
-        return Err("a program");
-    };
-    match verify(alloc, flow, shape) {
+    match accept(alloc, &bytes, shape) {
         Ok(program) => Ok(program),
         Err(_) => Err("a program"),
     }

@@ -1,6 +1,7 @@
 //! Devices that fail at each of their calls, or take less than they are given.
 
 use crate::exchange::{Device, Heard, WHOLE, answered, post, success};
+use crate::refusals::{head_of, refusal};
 use crate::replies::{NO_UPDATE, TWO_APPS};
 use std::alloc::Global;
 use std::sync::Wait;
@@ -34,25 +35,77 @@ fn is_cut<H: Wait>(
     Ok(is_told && Some(heard.written.as_slice()) == whole.get(..count))
 }
 
-/// How many bytes a write takes, the call that fails, and how many bytes were written before.
-const WRITES: [(usize, u64, usize); 5] = [
-    (1_000_000, 1, 0),
-    (1_000_000, 2, 106),
-    (50, 1, 0),
-    (50, 3, 100),
-    (50, 5, 156),
+/// A request of 231 bytes is read in so many pieces of 20.
+const READS: u64 = 12;
+
+/// Each write of up to 50, and how many bytes were written before: the head has 106, the body 248.
+const WRITTEN: [(u64, usize); 8] = [
+    (1, 0),
+    (2, 50),
+    (3, 100),
+    (4, 106),
+    (5, 156),
+    (6, 206),
+    (7, 256),
+    (8, 306),
 ];
 
 #[test]
-fn devices_that_fail(rt: HostRuntime) -> Result<(), Fail> {
-    for fails in [1, 2, 9] {
+fn each_read_fails(rt: HostRuntime) -> Result<(), Fail> {
+    for fails in 1..=READS {
         assert!(rt; is_unread(&rt, rt.alloc(), fails)?, "at read {fails}");
     }
-    for (piece, fails, count) in WRITES {
-        assert!(rt;
-            is_cut(&rt, rt.alloc(), piece, fails, count)?,
-            "{piece}, {fails}"
-        );
+    assert!(rt; !is_unread(&rt, rt.alloc(), READS + 1)?);
+    Ok(())
+}
+
+#[test]
+fn each_write_fails(rt: HostRuntime) -> Result<(), Fail> {
+    for (fails, count) in WRITTEN {
+        let cut = is_cut(&rt, rt.alloc(), 50, fails, count)?;
+        assert!(rt; cut, "at write {fails}");
+    }
+    for count in 0..354 {
+        let cut = is_cut(&rt, rt.alloc(), 1, count as u64 + 1, count)?;
+        assert!(rt; cut, "at byte {count}");
+    }
+    Ok(())
+}
+
+/// How many bytes of a refusal a write takes, the write that fails, if any, and what is answered.
+const REFUSALS: [(usize, u64, Result<u16, AnswerFault>); 5] = [
+    (40, 3, Err(AnswerFault::Writing(80))),
+    (40, 2, Err(AnswerFault::Writing(40))),
+    (1, 107, Err(AnswerFault::Writing(106))),
+    (1, 0, Ok(411)),
+    (40, 0, Ok(411)),
+];
+
+/// Whether a request without a length is answered so over this writer, and as many bytes are
+/// written as is told.
+fn is_refused_over<H: Wait>(
+    rt: &H,
+    alloc: Global,
+    writes: Device,
+    want: Result<u16, AnswerFault>,
+) -> Result<bool, Fail> {
+    let whole = refusal(alloc, "411 Length Required", "P4 Length")?;
+    let head = head_of(alloc, "POST /service/update2/json HTTP/1.1\nHost: h")?;
+    let heard = answered(rt, alloc, "nothing", head.as_bytes(), WHOLE, writes)?;
+    let count = match want {
+        Err(AnswerFault::Writing(count)) => count,
+        _ => whole.len(),
+    };
+    let beginning = whole.as_bytes().get(..count);
+    Ok(heard.outcome == want && Some(heard.written.as_slice()) == beginning)
+}
+
+#[test]
+fn refusals_over_slow_writers(rt: HostRuntime) -> Result<(), Fail> {
+    for (piece, fails, want) in REFUSALS {
+        let writes = Device { piece, fails };
+        let is_refused = is_refused_over(&rt, rt.alloc(), writes, want)?;
+        assert!(rt; is_refused, "{piece}, {fails}");
     }
     Ok(())
 }

@@ -17,16 +17,16 @@ fn installed<H: Wait>(rt: &H, alloc: Global, publisher: &mut Publisher) -> u64 {
 }
 
 /// The generation that a watcher sees, or 0 where it sees none.
-fn seen<H: Wait>(rt: &H, watcher: &mut Watcher) -> u64 {
-    match watcher.current(rt) {
+fn seen(watcher: &mut Watcher) -> u64 {
+    match watcher.current() {
         Ok((generation, _rules)) => generation,
         Err(_) => 0,
     }
 }
 
 /// A publisher with places for two watchers.
-fn publisher_of(alloc: Global) -> Result<Publisher, Fail> {
-    Ok(Publisher::new(alloc, rules(alloc, "nothing")?, 2)?)
+fn publisher_of<H: Wait>(rt: &H, alloc: Global) -> Result<Publisher, Fail> {
+    Ok(Publisher::new(rt, alloc, rules(alloc, "nothing")?, 2)?)
 }
 
 fn watcher_of(publisher: &mut Publisher) -> Result<Watcher, SwapFault> {
@@ -34,29 +34,37 @@ fn watcher_of(publisher: &mut Publisher) -> Result<Watcher, SwapFault> {
 }
 
 /// Whether generations are counted from 1, each watcher sees the last, and a third has no place.
-fn are_counted<H: Wait>(rt: &H, alloc: Global) -> Result<bool, Fail> {
-    let mut publisher = publisher_of(alloc)?;
+fn counts<H: Wait>(rt: &H, alloc: Global, publisher: &mut Publisher) -> Result<bool, SwapFault> {
     let is_one = publisher.generation() == 1;
-    let mut first = watcher_of(&mut publisher)?;
-    let are_two = seen(rt, &mut first) == 1
-        && installed(rt, alloc, &mut publisher) == 2
-        && seen(rt, &mut first) == 2
-        && seen(rt, &mut first) == 2;
-    let mut second = watcher_of(&mut publisher)?;
-    let are_three = installed(rt, alloc, &mut publisher) == 3
-        && seen(rt, &mut second) == 3
-        && seen(rt, &mut first) == 3;
-    let is_full = watcher_of(&mut publisher).err() == Some(SwapFault::NoPlace);
+    let mut first = watcher_of(publisher)?;
+    let are_two = seen(&mut first) == 1
+        && installed(rt, alloc, publisher) == 2
+        && seen(&mut first) == 2
+        && seen(&mut first) == 2;
+    let mut second = watcher_of(publisher)?;
+    let are_three = installed(rt, alloc, publisher) == 3
+        && seen(&mut second) == 3
+        && seen(&mut first) == 3;
+    let is_full = watcher_of(publisher).err() == Some(SwapFault::NoPlace);
     Ok(is_one && are_two && are_three && is_full)
+}
+
+/// The same of a publisher that is ended afterwards.
+fn are_counted<H: Wait>(rt: &H, alloc: Global) -> Result<bool, Fail> {
+    let mut publisher = publisher_of(rt, alloc)?;
+    let counts = counts(rt, alloc, &mut publisher);
+    publisher.close(rt);
+    Ok(counts?)
 }
 
 /// Whether a request is answered with no update once the ruleset that offers one is replaced.
 fn is_newest<H: Wait>(rt: &H, alloc: Global) -> Result<bool, Fail> {
     let input = post(alloc, TWO_APPS)?;
     let wanted = success(alloc, NO_UPDATE)?;
-    let mut server = server_of(alloc, "below_2000")?;
+    let mut server = server_of(rt, alloc, "below_2000")?;
     let is_installed = installed(rt, alloc, &mut server.publisher) == 2;
-    let heard = exchange(rt, alloc, &mut server, &input, WHOLE, WHOLE);
+    let heard = exchange(alloc, &mut server, &input, WHOLE, WHOLE);
+    server.close(rt);
     let is_reply = heard.outcome == Ok(200) && heard.written.as_slice() == wanted.as_slice();
     Ok(is_installed && is_reply)
 }

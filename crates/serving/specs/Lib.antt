@@ -1,3 +1,5 @@
 pub mod Manifests
+pub mod Staff
 pub mod Staffed
+pub mod Ended
 pub use Rattle.workers.specs.operator

@@ -1,7 +1,7 @@
 -- Why a server isn't ready.
 use Rattle.std.specs.Prelude.{ℕ, List, []}
 use Rattle.cells.specs.declared.array.CellArray.{CellArray}
-use Rattle.load.specs.Files.{KnownFiles}
+use Rattle.load.specs.bounded_files.Files.{KnownFiles}
 use Rattle.load.specs.Loaded.{IsLoadedFrom, RefusesPath}
 use Rattle.load.specs.rulesets.Rules.{Rules}
 use Rattle.serving.specs.declared.fault.ServingFault.{ServingFault}

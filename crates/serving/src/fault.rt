@@ -1,7 +1,7 @@
 //! Why there is no server, or none that serves.
 
-use cells::CellsFault;
 use load::PathFault;
+use shared_cells::SharedFault;
 use thiserror::Error;
 use workers::ServeFault;
 use workers::operator::hot_swap::SwapFault;
@@ -17,7 +17,7 @@ pub enum ServingFault {
     Bind,
     /// The counters are refused.
     #[error("{0}")]
-    Cells(CellsFault),
+    Cells(SharedFault),
     /// The publisher of the rulesets, or a watcher of it, is refused.
     #[error("{0}")]
     Publisher(SwapFault),

@@ -2,11 +2,13 @@
 //!
 //! A server that is ready has its ruleset and its ports. One that is staffed has all that it serves
 //! by: the operator has the publisher and the directory, the workers have a watcher each, and all
-//! have passes to cells under one lock. So what can be refused is refused before a server is said
-//! to serve, but for threads (`workers`).
+//! have passes to cells that they share without a lock. So what can be refused is refused before a
+//! server is said to serve, but for threads (`workers`).
 #![tactic(auto)]
 
+mod ended;
 mod fault;
+mod last_values;
 mod manifests;
 mod server;
 mod staffed;

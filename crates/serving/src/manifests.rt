@@ -34,8 +34,8 @@ impl<'a, D: Disk> Loader for Manifests<'a, D> {
         &self,
         alloc: Global,
         path: &str,
-        directory: &mut Directory,
-    ) -> Result<Ruleset, PathFault> {
+        directory: &Directory,
+    ) -> Result<(Ruleset, Directory), PathFault> {
         load_path(alloc, self.disk, path, directory)
     }
 }

@@ -39,9 +39,9 @@ where
         (λ s. IsLoadedFrom (D.known disk.now) path.now [] s.rules s.directory) }
     ensures refused { IfErr result (RefusesToServe (D.known disk.now) path.now) }
 {
-    let mut directory = Directory::new(rt.alloc());
-    let rules = match load_path(rt.alloc(), disk, path, &mut directory) {
-        Ok(rules) => rules,
+    let alloc = rt.alloc();
+    let (rules, directory) = match load_path(alloc, disk, path, &Directory::new(alloc)) {
+        Ok(loaded) => loaded,
         Err(fault) => return Err(ServingFault::Manifest(fault)),
     };
     match bind(rt, service, operator) {
@@ -62,14 +62,10 @@ impl Server {
         &self.ports
     }
 
-    /// The server with so many workers, to serve the ruleset as generation 1. N3 where the counters
+    /// The server with so many workers, to serve the ruleset as generation 1. S1 where the counters
     /// are refused memory, H1 where the publisher or one of its watchers is, and B4 where the
     /// program itself is.
-    pub fn staffed<'a, H>(
-        self,
-        rt: &'a H,
-        workers: usize,
-    ) -> Result<StaffedServer<'a, H>, ServingFault>
+    pub fn staffed<H>(self, rt: &H, workers: usize) -> Result<StaffedServer, ServingFault>
     where
         H: Wait + AllocGlobal,
         requires some { 1 ≤ workers }

@@ -2,13 +2,17 @@
 //! publisher of its rulesets with the directory of its arrays, and its workers.
 
 ghost use Rattle.std.specs.Prelude.{◌≡◌, ◌≤◌, IfOk, IfErr, length};
-ghost use Rattle.serving.specs.Staffed.{IsStaffFault};
+ghost use Rattle.serving.specs.Ended.{LeavesOneWorld};
+ghost use Rattle.serving.specs.Staff.{IsStaff};
+ghost use Rattle.serving.specs.Staffed.{IsEndFault, IsStaffFault};
 
+use crate::ended::close_cells;
 use crate::fault::ServingFault;
+use crate::last_values::note_counters;
 use crate::worker_list::worker_list;
 use cells::Directory;
 use load::ruleset::Ruleset;
-use locked_cells::{LockedCells, LockedPass};
+use shared_cells::{Closed, SharedCells, SharedPass, passes_gain_lists};
 use std::net::{Net, TcpListener, TcpStream};
 use std::sync::{Arc, Wait};
 use std::thread::Threads;
@@ -19,23 +23,26 @@ use workers::{OperatorSeat, Ports, ServeFault, Service, run};
 
 /// A server that has its counters, its publisher and its workers. It is ended by `serve` or by
 /// `close`, and isn't let go otherwise.
-pub struct StaffedServer<'a, H: Wait> {
+pub struct StaffedServer {
     ports: Ports,
-    cells: LockedCells<&'a H>,
+    cells: SharedCells,
+    /// The operator's.
+    pass: SharedPass,
     control: Control,
-    workers: Vec<(LockedPass, Watcher)>,
+    workers: Vec<(SharedPass, Watcher)>,
+    ghost staff: { IsStaff cells pass control.publishing.known workers.items },
 }
 
 /// A server at these ports of this ruleset, which is installed as generation 1 and whose arrays are
-/// those of the directory, with so many workers. N3 where the counters are refused memory, H1 where
+/// those of the directory, with so many workers. S1 where the counters are refused memory, H1 where
 /// the publisher or one of its watchers is, and B4 where the program itself is.
-pub fn staff<'a, H>(
-    rt: &'a H,
+pub fn staff<H>(
+    rt: &H,
     ports: Ports,
     rules: Ruleset,
     directory: Directory,
     workers: usize,
-) -> Result<StaffedServer<'a, H>, ServingFault>
+) -> Result<StaffedServer, ServingFault>
 where
     H: Wait + AllocGlobal,
     requires some { 1 ≤ workers }
@@ -51,29 +58,33 @@ where
     let Ok(rules) = Arc::new(alloc, rules) else {
         return Err(ServingFault::Serve(ServeFault::Memory));
     };
-    let cells = match LockedCells::new(alloc, rt) {
-        Ok(cells) => cells,
+    let (cells, mut passes) = match SharedCells::new(alloc, workers + 1) {
+        Ok(made) => made,
         Err(fault) => return Err(ServingFault::Cells(fault)),
     };
-    let mut publisher = match Publisher::new(alloc, rules, workers) {
+    let Some(pass) = passes.pop() else {
+        unreachable!()
+    };
+    let mut publisher = match Publisher::new(rt, alloc, rules, workers) {
         Ok(publisher) => publisher,
         Err(fault) => return Err(ServingFault::Publisher(fault)),
     };
-    match worker_list(alloc, &cells, &mut publisher, workers) {
+    match worker_list(alloc, passes, &mut publisher) {
         Ok(workers) => Ok(StaffedServer {
             ports,
             cells,
+            pass,
             control: Control::new(publisher, directory),
             workers,
         }),
         Err(fault) => {
-            drop(publisher);
+            publisher.close(rt);
             Err(fault)
         }
     }
 }
 
-impl<H: Wait> StaffedServer<'_, H> {
+impl StaffedServer {
     /// The two ports.
     pub fn ports(&self) -> &Ports
         ensures { result.now ≡ self.now.ports }
@@ -81,40 +92,65 @@ impl<H: Wait> StaffedServer<'_, H> {
         &self.ports
     }
 
-    /// Serves until the operator stops the server. Later rulesets come from the loader. B4 where
-    /// memory or a thread was refused.
-    pub fn serve<L>(self, rt: &H, loader: &L, service: Service) -> Result<(), ServeFault>
+    /// Serves until the operator stops the server, and gives the counters as they are left; those
+    /// that aren't 0 have a line of the log. Later rulesets come from the loader. B4 where memory
+    /// or a thread was refused, and H2 where a worker can't be asked at the end what it has seen.
+    pub fn serve<H, L>(self, rt: &H, loader: &L, service: Service) -> Result<Closed, ServingFault>
     where
-        H: Threads + AllocGlobal + Clock + Eprint + Sync,
+        H: Threads + Wait + AllocGlobal + Clock + Eprint + Sync,
         H: Net<Listener = TcpListener, Stream = TcpStream>,
-        L: Loader + Sync,
-        L::Fault: Send,
+        L: Loader,
         requires some { 1 ≤ length self.workers.items }
         requires few { length self.workers.items ≤ 64 }
+        // What all threads did to the counters is one legal history, and that of one world.
+        ensures world { IfOk result
+            (LeavesOneWorld self.cells self.control.publishing.known.rulesets) }
+        ensures fault { IfErr result IsEndFault }
     {
+        passes_gain_lists();
         let StaffedServer {
             ports,
             cells,
-            control,
+            pass,
+            mut control,
             workers,
         } = self;
         let seat = OperatorSeat {
             loader,
-            control,
             cells: &cells,
-            pass: cells.pass(),
+            pass,
         };
-        run(rt, ports, seat, workers, service)
+        let back = match run(rt, ports, seat, &mut control, workers, service) {
+            Ok(back) => back,
+            Err(fault) => {
+                control.close(rt);
+                return Err(ServingFault::Serve(fault));
+            }
+        };
+        match close_cells(rt.alloc(), cells, back) {
+            Ok(closed) => {
+                if service.log {
+                    note_counters(rt, control.arrays(), &closed);
+                }
+                control.close(rt);
+                Ok(closed)
+            }
+            Err(fault) => {
+                control.close(rt);
+                Err(fault)
+            }
+        }
     }
 
     /// Ends a server that doesn't serve.
-    pub fn close(self) {
+    pub fn close<H: Wait>(self, rt: &H) {
         let StaffedServer {
             ports: _ports,
             cells: _cells,
+            pass: _pass,
             control,
             workers: _workers,
         } = self;
-        drop(control);
+        control.close(rt);
     }
 }

@@ -1,6 +1,8 @@
 -- A cell that is only loaded and counted up by 1 counts the Adds, and each limit lets as many
 -- through.
-use Rattle.std.proofs.Common.{◌≡◌, ◌≢◌, ℕ, ◌+◌, ◌%◌, ◌^◌, ◌<◌, Bool, true, false, min, List, [], ◌∷◌, length, sym, ap, ◌∙◌, subst, arith, add-zero, get_or-set_same, get_or-set_other, length-set}
+use Rattle.std.proofs.Common.{◌≡◌, ◌≢◌, ℕ, ◌+◌, ◌%◌, ◌^◌, ◌<◌, Bool, true, false, min}
+use Rattle.std.proofs.Common.{List, [], ◌∷◌, length, sym, ap, ◌∙◌, subst, arith}
+use Rattle.std.proofs.Common.{add-zero, get_or-set_same, get_or-set_other, length-set}
 use Rattle.std.specs.Prelude.{if◌then◌else◌, ◌==◌, ◌&&◌, nat_lt, All, slice_index, slice_set}
 use Rattle.std.proofs.lemmas.Bool.Decides.{nat_tests}
 use Rattle.std.proofs.lemmas.List.Elements.{All-head, All-tail}
@@ -10,7 +12,8 @@ use Rattle.std.proofs.Math.Nat.{mod-eq_of_lt}
 use mathlib.Core.Logic.{dite}
 use native.Mathlib.Decide.{ℕ_discrete}
 use Rattle.cells.specs.declared.event.CellOp.{CellOp}
-use Rattle.cells.specs.declared.event.CellOp.TheVariants.{Load, Store, Add, Or, And, Xor, Swap, CompareExchange}
+use Rattle.cells.specs.declared.event.CellOp.TheVariants.{Load, Store, Add, Or, And}
+use Rattle.cells.specs.declared.event.CellOp.TheVariants.{Xor, Swap, CompareExchange}
 use Rattle.cells.specs.declared.event.CellEvent.{CellEvent}
 use Rattle.cells.specs.Events.{limit, after, reply_of, value_after, IsEvent}
 use Rattle.cells.specs.Grown.{GrewBy}

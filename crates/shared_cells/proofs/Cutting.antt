@@ -1,5 +1,7 @@
 -- The rule holds at first, and while seats are cut and joined.
-use Rattle.std.proofs.Common.{◌≡◌, ◌≢◌, ℕ, zero, suc, ◌+◌, ◌-◌, ◌<◌, List, [], ◌∷◌, ◌++◌, length, set, refl, sym, ap, ◌∙◌, subst, ⊎_elim, arith, length-append, zero-add, add-zero}
+use Rattle.std.proofs.Common.{◌≡◌, ◌≢◌, ℕ, zero, suc, ◌+◌, ◌-◌, ◌<◌}
+use Rattle.std.proofs.Common.{List, [], ◌∷◌, ◌++◌, length, set, refl, sym, ap, ◌∙◌}
+use Rattle.std.proofs.Common.{subst, ⊎_elim, arith, length-append, zero-add, add-zero}
 use Rattle.std.specs.Prelude.{nat_lt, All, sum_by, ◌==◌}
 use Rattle.std.proofs.lemmas.Bool.Decides.{nat_tests}
 use Rattle.std.proofs.lemmas.List.Sums.{sum_by-cons, sum_by_push}
@@ -12,7 +14,8 @@ use Rattle.cells.specs.Events.{AreZeros}
 use Rattle.shared_cells.specs.declared.rule.Account.{Account}
 use Rattle.shared_cells.specs.History.{Entry}
 use Rattle.shared_cells.specs.Words.{stored_word}
-use Rattle.shared_cells.specs.Rule.{account, new_accounts, all_but_first, first_only, AgreesWith, accounts_of, one_if, HasHistory}
+use Rattle.shared_cells.specs.Rule.{account, new_accounts, all_but_first, first_only}
+use Rattle.shared_cells.specs.Rule.{AgreesWith, accounts_of, one_if, HasHistory}
 use Rattle.shared_cells.proofs.Accounts.{sum_set, count-cons, count-append}
 use Rattle.shared_cells.proofs.Words.{stored_word-zero}
 
@@ -73,7 +76,8 @@ begins n ws zeros = record {
   where
     told : (id : ℕ) (v : List Account) → get_elem? (new_accounts 0 n ∷ []) id ≡ some v
         → All (AgreesWith []) v
-    told zero v e = subst (All (AgreesWith [])) (some-injective (new_accounts 0 n) v e) (new_agree 0 n)
+    told zero v e = subst (All (AgreesWith [])) (some-injective (new_accounts 0 n) v e)
+        (new_agree 0 n)
     told (suc id) v e = absurd (some-ne-none v (sym e))
 
 cut_in_two : (f : List Account → ℕ) (v : List Account) → f [] ≡ 0
@@ -90,7 +94,8 @@ rest_agrees history (x ∷ xs) h = All-tail (AgreesWith history) x xs h
 first_agrees : (history : List Entry) (v : List Account) → All (AgreesWith history) v
     → All (AgreesWith history) (first_only v)
 first_agrees history [] h = h
-first_agrees history (x ∷ xs) h = All-cons (AgreesWith history) x [] (All-head (AgreesWith history) x xs h)
+first_agrees history (x ∷ xs) h =
+    All-cons (AgreesWith history) x [] (All-head (AgreesWith history) x xs h)
     (All-nil (AgreesWith history))
 
 -- what is counted of one account and of others adds up

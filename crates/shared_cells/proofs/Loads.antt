@@ -1,11 +1,13 @@
 -- A legal history stays legal when the Loads of one pass are taken out, and the other passes keep
 -- their events.
-use Rattle.std.proofs.Common.{◌≡◌, ◌≢◌, ℕ, Bool, true, false, not, ◌&&◌, List, [], ◌∷◌, refl, subst, ◌∙◌, ap, cond, arith}
+use Rattle.std.proofs.Common.{◌≡◌, ◌≢◌, ℕ, Bool, true, false, not, ◌&&◌}
+use Rattle.std.proofs.Common.{List, [], ◌∷◌, refl, subst, ◌∙◌, ap, cond, arith}
 use Rattle.std.specs.Prelude.{◌==◌, if◌then◌else◌, slice_index, slice_set}
 use Rattle.std.proofs.lemmas.Bool.Decides.{nat_tests}
 use Rattle.std.proofs.lemmas.List.{set-get_or}
 use Rattle.cells.specs.declared.event.CellOp.{CellOp}
-use Rattle.cells.specs.declared.event.CellOp.TheVariants.{Load, Store, Add, Or, And, Xor, Swap, CompareExchange}
+use Rattle.cells.specs.declared.event.CellOp.TheVariants.{Load, Store, Add, Or, And}
+use Rattle.cells.specs.declared.event.CellOp.TheVariants.{Xor, Swap, CompareExchange}
 use Rattle.cells.specs.declared.event.CellEvent.{CellEvent}
 use Rattle.cells.specs.Events.{limit, after, IsEvent}
 use Rattle.cells.specs.Grown.{GrewBy}

@@ -1,5 +1,7 @@
 -- Each step keeps the rule.
-use Rattle.std.proofs.Common.{◌≡◌, ◌≢◌, ℕ, ◌+◌, ◌%◌, ◌<◌, ◌≤◌, List, [], ◌∷◌, ◌++◌, length, set, refl, sym, ap, ◌∙◌, subst, ⊎_elim, arith, get_or-set_same, get_or-set_other, length-set}
+use Rattle.std.proofs.Common.{◌≡◌, ◌≢◌, ℕ, ◌+◌, ◌%◌, ◌<◌, ◌≤◌}
+use Rattle.std.proofs.Common.{List, [], ◌∷◌, ◌++◌, length, set, refl, sym, ap, ◌∙◌, subst}
+use Rattle.std.proofs.Common.{⊎_elim, arith, get_or-set_same, get_or-set_other, length-set}
 use Rattle.std.specs.Prelude.{slice_index, slice_set, nat_lt, All, sum_by, ◌==◌}
 use Rattle.std.proofs.lemmas.Bool.Decides.{nat_tests}
 use Rattle.std.proofs.lemmas.List.Elements.{All-nil, All-cons, All-head, All-tail}
@@ -17,7 +19,8 @@ use Rattle.shared_cells.specs.declared.rule.Account.{Account}
 use Rattle.shared_cells.specs.History.{Entry, events_by}
 use Rattle.shared_cells.specs.Words.{stored_word, stored_value}
 use Rattle.shared_cells.specs.Passes.{CellsView, PassView, IsPassOf}
-use Rattle.shared_cells.specs.Rule.{account, first_number, first_events, KnowsOne, Gains, AgreesWith, accounts_of, one_if, HasHistory}
+use Rattle.shared_cells.specs.Rule.{account, first_number, first_events, KnowsOne}
+use Rattle.shared_cells.specs.Rule.{Gains, AgreesWith, accounts_of, one_if, HasHistory}
 use Rattle.shared_cells.proofs.Accounts.{sum_set, two_seats, count-cons, at_most_one, one_itself}
 use Rattle.shared_cells.proofs.Histories.{by_pass, legal_more, own_more, others_stay}
 use Rattle.shared_cells.proofs.Words.{stored_value-stored_word}

@@ -1,5 +1,6 @@
 -- What each kind of step does to a cell's word is what its operation does to the value.
-use Rattle.std.proofs.Common.{◌≡◌, ◌≢◌, ℕ, ◌+◌, ◌*◌, ◌/◌, ◌%◌, ◌^◌, Bool, true, false, refl, sym, ap, ◌∙◌, arith, eq-eqb, ne_eqb}
+use Rattle.std.proofs.Common.{◌≡◌, ◌≢◌, ℕ, ◌+◌, ◌*◌, ◌/◌, ◌%◌, ◌^◌}
+use Rattle.std.proofs.Common.{Bool, true, false, refl, sym, ap, ◌∙◌, arith, eq-eqb, ne_eqb}
 use Rattle.std.specs.Prelude.{nat_lt, if◌then◌else◌, bit_and, bit_or, bit_xor, ◌==◌}
 use Rattle.std.proofs.lemmas.Nat.{pow_pos, or_block, and_block, xor_block, mod-pow-add, shl-shr}
 use Rattle.std.proofs.Math.Nat.{add-mul-mod_self_right, mod-add-div', mul-mod_left}

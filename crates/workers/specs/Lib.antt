@@ -1,2 +1,5 @@
+pub mod Runs
+pub mod Back
 pub use Rattle.answering.specs as answering
+pub use Rattle.one_world.specs as one_world
 pub use Rattle.operator.specs as operator

@@ -5,30 +5,36 @@
 //! come one after another. The operator's `stop` ends both: the clients' port is told by a flag and
 //! woken by one more connection.
 //!
-//! What a connection is answered is proved of `answer` here and of `answer` in `operator`. Of
-//! threads, sockets and clocks nothing is proved but that each pass goes on belonging to its cells,
-//! and that a server that gives up does so for want of memory or of a thread.
+//! What a connection is answered is proved of `answer` here and of `answer` in `operator`. All
+//! threads give back what they were given once the server ends: a worker's pass made the events of
+//! runs, one run after the other, and nothing else, and the operator's made Loads alone. Of sockets
+//! and clocks nothing is proved, and of a server that gives up that it does so for want of memory
+//! or of a thread.
 #![tactic(auto)]
 
 mod accept;
 mod clock;
 mod fault;
 mod gate;
+mod laws;
 mod log;
 mod operating;
 mod ports;
+mod promise;
 mod queue;
 mod running;
 mod worker;
 
 pub use fault::ServeFault;
 pub use gate::{Gate, Open};
+pub use laws::answers_are_runs;
 pub use operating::{OperatorSeat, operate};
 pub use ports::{Ports, bind};
-pub use running::{run, serve};
+pub use running::{Returned, run, serve, serve_returning};
 pub use worker::Service;
 
 // The words of the contracts here come with them.
 pub use answering;
 pub use answering::{AnswerFault, Sent, answer};
+pub use one_world;
 pub use operator;

@@ -1,9 +1,13 @@
 //! The operator's port: one connection after another, each with a limit of time. It ends with the
 //! connection that asks to stop, or once it is told to.
 
+ghost use Rattle.std.specs.Prelude.{◌≡◌};
+ghost use Rattle.operator.specs.hot_swap.Published.{GoesOnwards};
+ghost use Rattle.workers.specs.Back.{OperatorBack};
+
 use crate::accept::Port;
 use crate::clock::Limits;
-use cells::CellSteps;
+use cells::{CellSteps, growth};
 use devices::{Counted, Timed, drain};
 use operator::{Control, Loader, Reply, answer, write_reply};
 use std::fmt::Display;
@@ -13,27 +17,28 @@ use std::sync::Wait;
 use std::sync::atomic::AtomicBool;
 use std::time::{Clock, Duration};
 
-/// The operator's seat: where rulesets come from, what a load changes, and the cells with the
-/// operator's own pass to them.
+/// The operator's seat: where rulesets come from, and the cells with the operator's own pass to
+/// them.
 #[derive(Drop)]
 pub struct OperatorSeat<'a, L, C: CellSteps>
 where
     C::Pass: Drop,
 {
     pub loader: &'a L,
-    pub control: Control,
     pub cells: &'a C,
     pub pass: C::Pass,
 }
 
-/// Answers connections until one has asked to stop, or until `stop` is set and one more comes,
-/// which isn't answered; that the server ends is for the caller to see to. The line of a connection
-/// has to come within the limit of time, and its reply to be taken within the same again, since a
-/// load may last. A connection that fails is passed over, and so is one that can't be accepted.
+/// Answers connections, whose loads change the control, until one has asked to stop, or until
+/// `stop` is set and one more comes, which isn't answered; that the server ends is for the caller
+/// to see to. The line of a connection has to come within the limit of time, and its reply to be
+/// taken within the same again, since a load may last. A connection that fails is passed over, and
+/// so is one that can't be accepted.
 pub fn operate<H, L, C>(
     rt: &H,
     listener: &TcpListener,
-    mut seat: OperatorSeat<'_, L, C>,
+    seat: &mut OperatorSeat<'_, L, C>,
+    control: &mut Control,
     stop: &AtomicBool,
     timeout: Duration,
 )
@@ -42,15 +47,18 @@ where
     L: Loader,
     C: CellSteps,
     C::Pass: Drop,
-    requires { C.belongs seat.cells.now seat.pass }
+    requires { C.belongs seat.old.cells.now seat.old.pass }
+    ensures back { OperatorBack (C.belongs seat.old.cells.now) C.grew seat.old.pass seat.new.pass }
+    ensures onwards { GoesOnwards control.old.publishing.known control.new.publishing.known }
 {
+    growth::<C>();
     let mut port = Port::new(listener, stop, false);
     for _ in rt.forever() {
         let Some(call) = port.accept(rt) else {
-            break;
+            return;
         };
-        if attend(rt, &call.stream, &mut seat, timeout) {
-            break;
+        if attend(rt, &call.stream, seat, control, timeout) {
+            return;
         }
     }
 }
@@ -60,6 +68,7 @@ fn attend<H, L, C>(
     rt: &H,
     stream: &TcpStream,
     seat: &mut OperatorSeat<'_, L, C>,
+    control: &mut Control,
     timeout: Duration,
 ) -> bool
 where
@@ -68,7 +77,9 @@ where
     C: CellSteps,
     C::Pass: Drop,
     requires { C.belongs seat.old.cells.now seat.old.pass }
-    ensures { C.belongs seat.new.cells.now seat.new.pass }
+    ensures cells { seat.new.cells ≡ seat.old.cells }
+    ensures back { OperatorBack (C.belongs seat.old.cells.now) C.grew seat.old.pass seat.new.pass }
+    ensures onwards { GoesOnwards control.old.publishing.known control.new.publishing.known }
 {
     let Some(limits) = Limits::begin(rt, timeout) else {
         return false;
@@ -79,7 +90,7 @@ where
         rt.alloc(),
         &mut reader,
         seat.loader,
-        &mut seat.control,
+        control,
         seat.cells,
         &mut seat.pass,
     ) else {

@@ -1,19 +1,24 @@
 //! A worker: it takes connections from the queue and answers them, one after another.
 
+ghost use Rattle.std.specs.Prelude.{◌≡◌};
+ghost use Rattle.workers.specs.Back.{WorkerBack};
+
 use crate::accept::Call;
 use crate::clock::{Limits, micros_since, unix_second};
 use crate::gate::Gate;
+use crate::laws::answers_are_runs;
 use crate::log::{Log, LogLine};
 use crate::queue::next;
 use answering::{AnswerFault, Sent, answer};
-use cells::CellSteps;
+use cells::{CellSteps, growth};
 use crossbeam_channel::Receiver;
 use devices::{Counted, Timed, drain, take_rest};
+use one_world::runs_add_up;
 use operator::hot_swap::Watcher;
 use std::io;
 use std::net::TcpStream;
 use std::sync::Wait;
-use std::time::{Clock, Duration, Instant};
+use std::time::{Clock, Duration};
 
 /// How a server serves.
 #[derive(Clone, Copy, Debug)]
@@ -37,21 +42,25 @@ where
     pub(crate) watcher: Watcher,
 }
 
-/// Answers until the queue is closed.
+/// Answers until the queue is closed, and gives back the pass and the watcher.
 pub(crate) fn work<H, G, C>(
     rt: &H,
     gate: &G,
     queue: Receiver<Call>,
     mut seat: WorkerSeat<'_, C>,
     service: Service,
-)
+) -> (C::Pass, Watcher)
 where
     H: Wait + AllocGlobal + Clock + Eprint,
     G: Gate,
     C: CellSteps,
     C::Pass: Drop,
     requires { C.belongs seat.cells.now seat.pass }
+    ensures { WorkerBack (C.belongs seat.entry.cells.now) C.grew
+        (seat.entry.pass, seat.entry.watcher) result }
 {
+    growth::<C>();
+    runs_add_up();
     let mut log = Log::new(rt.alloc());
     for _ in rt.forever() {
         let Some(call) = next(rt, &queue, &mut log) else {
@@ -61,10 +70,15 @@ where
         let _attended = attend(rt, &call, &mut seat, service, &mut log);
         gate.after(call.number);
     }
+    let WorkerSeat {
+        cells: _cells,
+        pass,
+        watcher,
+    } = seat;
+    (pass, watcher)
 }
 
-// Answers one connection. Where the clock can't tell when the connection has to be done, nothing is
-// read, as of a client that can't be read.
+// Answers one connection.
 fn attend<H, C>(
     rt: &H,
     call: &Call,
@@ -77,15 +91,14 @@ where
     C: CellSteps,
     C::Pass: Drop,
     requires { C.belongs seat.old.cells.now seat.old.pass }
-    ensures { C.belongs seat.new.cells.now seat.new.pass }
+    ensures cells { seat.new.cells ≡ seat.old.cells }
+    ensures back { WorkerBack (C.belongs seat.old.cells.now) C.grew
+        (seat.old.pass, seat.old.watcher) (seat.new.pass, seat.new.watcher) }
 {
     let moment = unix_second(rt);
     log.write_earlier(rt, moment);
     let limits = Limits::begin(rt, service.timeout);
-    let (outcome, bytes) = match limits {
-        Some(limits) => answer_until(rt, &call.stream, seat, moment, limits.until()),
-        None => (Err(AnswerFault::Reading), 0),
-    };
+    let (outcome, bytes) = answer_within(rt, &call.stream, seat, moment, limits);
     if service.log {
         let line = LogLine {
             moment,
@@ -99,25 +112,33 @@ where
     finish(rt, &call.stream, &outcome)
 }
 
-// Answers one connection until then, and tells how many bytes were written.
-fn answer_until<H, C>(
+// Answers one connection within its limits, and tells how many bytes were written. Where the clock
+// can't tell when the connection has to be done, nothing is read, as of a client that can't be
+// read.
+fn answer_within<H, C>(
     rt: &H,
     stream: &TcpStream,
     seat: &mut WorkerSeat<'_, C>,
     moment: i64,
-    until: Instant,
+    limits: Option<Limits>,
 ) -> (Result<Sent, AnswerFault>, u64)
 where
-    H: Wait + AllocGlobal + Clock,
+    H: AllocGlobal + Clock,
     C: CellSteps,
     C::Pass: Drop,
     requires { C.belongs seat.old.cells.now seat.old.pass }
-    ensures { C.belongs seat.new.cells.now seat.new.pass }
+    ensures cells { seat.new.cells ≡ seat.old.cells }
+    ensures back { WorkerBack (C.belongs seat.old.cells.now) C.grew
+        (seat.old.pass, seat.old.watcher) (seat.new.pass, seat.new.watcher) }
 {
-    let mut reader = Counted::new(Timed::new(stream, rt, until));
-    let mut writer = Counted::new(Timed::new(stream, rt, until));
+    runs_add_up();
+    answers_are_runs();
+    let Some(limits) = limits else {
+        return (Err(AnswerFault::Reading), 0);
+    };
+    let mut reader = Counted::new(Timed::new(stream, rt, limits.until()));
+    let mut writer = Counted::new(Timed::new(stream, rt, limits.until()));
     let outcome = answer(
-        rt,
         rt.alloc(),
         &mut reader,
         &mut writer,

@@ -2,7 +2,7 @@
 //! And a write that fails.
 
 use command_line::WordsFault;
-use commands::{command, unreadable_words, usage};
+use commands::{Device, command, unreadable_words, usage};
 use std::io::ErrorKind;
 use std::net::{Net, TcpListener, TcpStream};
 use std::rt::Files;
@@ -49,7 +49,7 @@ where
 {
     let mut out: &mut [u8] = room;
     let mut err: &mut [u8] = said;
-    command(rt, &WORDS, &mut out, &mut err)
+    command(rt, &Device::new(rt), &WORDS, &mut out, &mut err)
 }
 
 const REFUSALS: [&[u8]; 4] = [

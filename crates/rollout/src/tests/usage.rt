@@ -49,6 +49,7 @@ fn words(rt: HostRuntime) -> Result<(), Fail> {
 
 /// Pages of help, and what they name.
 const PAGES: &str = "rollout --help -> verify
+rollout --help -> base32, base64, divmul32, divmul64, atomic32
 rollout run --help -> --bucket
 rollout verify --help -> name:width:length
 rollout check --help -> MANIFEST

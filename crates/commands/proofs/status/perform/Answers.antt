@@ -14,7 +14,7 @@ returns-in-Ok-clause-done g c zero = record {
 pub returns-in-Ok-Ready-clause-done : goal.returns-in-Ok-Ready-clause-done
 returns-in-Ok-Ready-clause-done g c zero = record {
   answer = Ready c.in-Ok-Ready.server c.in-Ok-Ready.plan;
-  answers = subst (λ a. IsAnswer c.args.request.now a) c.in-Ok-Ready.field-0-is
-      c.in-Ok-Ready.ensures.answer;
+  answers = subst (λ a. IsAnswer (g.D.Disk.known c.args.disk.now) c.args.request.now a)
+      c.in-Ok-Ready.field-0-is c.in-Ok-Ready.ensures.answer;
   printed = c.serve.ensures.done zero;
 }

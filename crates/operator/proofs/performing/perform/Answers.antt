@@ -2,7 +2,8 @@ use Rattle.std.proofs.Common.{◌≡◌, List, subst}
 use Rattle.std.specs.String.{string_bytes}
 use Rattle.cells.specs.declared.array.CellArray.{CellArray}
 use Rattle.operator.specs.Counters.{ReadsArrays}
-use Rattle.operator.specs.Perform.{wordless, loaded, not_loaded, shown, counted, stopped, unshown, uncounted}
+use Rattle.operator.specs.Perform.{wordless, loaded, not_loaded, shown}
+use Rattle.operator.specs.Perform.{counted, stopped, unshown, uncounted}
 use Rattle.operator.specs.Texts.{ruleset_text}
 use Rattle.operator.proofs.Counted.{grows_none}
 use Rattle.operator.proofs.performing.perform.Goals as goal

@@ -1,8 +1,10 @@
-use Rattle.std.proofs.Common.{◌≡◌, ℕ, ◌+◌, ◌-◌, ◌<◌, List, [], ◌∷◌, ◌++◌, length, sym, ap, ◌∙◌, arith, length-append}
+use Rattle.std.proofs.Common.{◌≡◌, ℕ, ◌+◌, ◌-◌, ◌<◌, List, [], ◌∷◌, ◌++◌}
+use Rattle.std.proofs.Common.{length, sym, ap, ◌∙◌, arith, length-append}
 use Rattle.atomic_table.specs.Table.{Me}
 use Rattle.std.proofs.lemmas.List.Elements.{All-same, All-push}
 use Rattle.shared_cells.specs.declared.rule.Account.{Account}
-use Rattle.shared_cells.specs.Rule.{all_but_first, first_only, first_number, first_events, account, new_accounts}
+use Rattle.shared_cells.specs.Rule.{all_but_first, first_only, first_number}
+use Rattle.shared_cells.specs.Rule.{first_events, account, new_accounts}
 use Rattle.shared_cells.specs.Passes.{PassView, IsNewPass}
 use Rattle.shared_cells.proofs.Cutting.{splits, cut_from}
 use Rattle.shared_cells.proofs.opening.cut_passes.Goals as goal

@@ -1,5 +1,13 @@
+use Rattle.std.specs.Prelude.{◌≡◌}
+use Rattle.operator.specs.hot_swap.Published.{GoesOnwards}
+use Rattle.workers.specs.Back.{OperatorBack}
 use Rattle.workers.proofs.operating.operate.Given as goal
 
--- the pass goes on belonging to the cells
+-- the operator's pass has only looked, and what is installed goes on
 abbrev pub invariant-loop : goal.invariant-loop
-invariant-loop g l = g.C.CellSteps.belongs l.seat.cells.now l.seat.pass
+invariant-loop g l = record {
+  cells : l.seat.cells ≡ l.initial.seat.cells;
+  back : OperatorBack (g.C.CellSteps.belongs l.initial.seat.cells.now) (g.C.CellSteps.grew)
+      l.initial.seat.pass l.seat.pass;
+  onwards : GoesOnwards l.initial.control.publishing.known l.control.publishing.known;
+}

@@ -1,5 +1,10 @@
+use Rattle.std.specs.Prelude.{◌≡◌}
+use Rattle.workers.specs.Back.{WorkerBack}
 use Rattle.workers.proofs.worker.work.Given as goal
 
--- the pass goes on belonging to the cells
+-- the worker goes on with the same cells, as it is to come back
 abbrev pub invariant-loop : goal.invariant-loop
-invariant-loop g l = g.C.CellSteps.belongs l.seat.cells.now l.seat.pass
+invariant-loop g l =
+    (l.seat.cells ≡ l.fn.seat.cells)
+    × WorkerBack (g.C.CellSteps.belongs l.fn.seat.cells.now) (g.C.CellSteps.grew)
+    (l.fn.seat.pass, l.fn.seat.watcher) (l.seat.pass, l.seat.watcher)

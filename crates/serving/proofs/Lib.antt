@@ -1,0 +1,2 @@
+mod Staffing
+mod Ending

@@ -1,0 +1,22 @@
+use Rattle.std.proofs.Common.{All, sym, ap, subst, ◌∙◌}
+use Rattle.workers.specs.operator.hot_swap.Latest.{Publishing}
+use Rattle.workers.specs.operator.hot_swap.Published.{Beginning}
+use Rattle.serving.specs.Staff.{IsNewWorker}
+use Rattle.serving.proofs.Staffing.{is_staff}
+use Rattle.serving.proofs.staffed.staff.Goals as goal
+
+pub invariant_of-result : goal.invariant_of-result
+invariant_of-result g c =
+    let made = c.in-Ok-new.ensures in
+    let cells = c.in-Ok-new.made.0 in
+    let workers = c.in-Ok-worker_list.workers.items in
+    let known = ap (λ (p : Publishing). p.known) c.new-in-Ok-worker_list.ensures.publishing
+    ∙ c.in-Ok-worker_list.ensures.known in
+    record {
+      staff = is_staff cells c.new-in-Ok-worker_list.result.publishing.known
+          c.in-Ok-new.made.1.items c.pop.new.self.items c.in-Some.pass workers
+          (made.many ∙ sym made.all) made.each c.in-Some.ensures.items
+          c.in-Ok-worker_list.ensures.all
+          (λ new. subst (λ (b : Beginning). All (IsNewWorker cells.table b) workers) (sym known)
+          (c.in-Ok-worker_list.ensures.each cells.table new));
+    }

@@ -1,0 +1,4 @@
+mod Onwards
+mod OfRuns
+mod Served
+mod Looked

@@ -1,0 +1,113 @@
+-- What one request of the operator did, and one more after others.
+use Rattle.std.proofs.Common.{◌≡◌, List, [], ◌∷◌, ◌++◌}
+use Rattle.std.proofs.Common.{Option, refl, sym, subst}
+use Rattle.std.specs.Prelude.{ℕ}
+use Rattle.std.proofs.lemmas.List.Elements.{All-nil, All-append, All-push}
+use Rattle.cells.specs.Grown.{Grows, GrowsByAppend}
+use Rattle.cells.specs.declared.array.CellArray.{CellArray}
+use Rattle.cells.specs.declared.event.CellEvent.{CellEvent}
+use Rattle.one_world.specs.Passes.{AreLoads}
+use Rattle.operator.specs.Control.{Controlled, Loading}
+use Rattle.operator.specs.Counters.{IsLoad, ReadsCells, ReadsArrays}
+use Rattle.operator.specs.Counters.{no_cell, one_cell, no_array, one_array}
+use Rattle.operator.specs.Perform.{Performs, AnswersLine, wordless, loaded, not_loaded, shown}
+use Rattle.operator.specs.Perform.{counted, stopped, unshown, uncounted}
+use Rattle.operator.specs.declared.reply.Reply.{Reply}
+use Rattle.operator.specs.operator_request.declared.request.OperatorRequest.{OperatorRequest}
+use Rattle.operator.specs.hot_swap.Published.{GoesOnwards}
+use Rattle.workers.proofs.Onwards.{goes_nowhere}
+use Rattle.workers.specs.Back.{OperatorBack}
+
+-- ---- what reads the counters makes Loads alone
+
+of_cells : {array : CellArray} {count : ℕ} {events : List CellEvent} {lines : List ℕ}
+    → ReadsCells array count events lines → AreLoads events
+of_cells no_cell = All-nil IsLoad
+of_cells (one_cell {index} {events} {lines} value before) =
+    All-push IsLoad events _ (of_cells before) refl
+
+of_arrays : {arrays : List CellArray} {events : List CellEvent} {lines : List ℕ}
+    → ReadsArrays arrays events lines → AreLoads events
+of_arrays no_array = All-nil IsLoad
+of_arrays (one_array {arrays} {before} {events} first next) =
+    All-append IsLoad before events (of_arrays first) (of_cells next)
+
+-- ---- what is installed goes on
+
+pub goes_nowhere_by : (old new : Controlled) → new ≡ old
+    → GoesOnwards old.publishing.known new.publishing.known
+goes_nowhere_by old new same = rw same (goes_nowhere old.publishing.known)
+
+-- ---- one request
+
+module _ {F : Type 0} (loads : Loading F) where
+  performs_loads : (asked : Option OperatorRequest) (old new : Controlled) (events : List CellEvent)
+      (replied : Reply F) → Performs loads asked old events replied new → AreLoads events
+  performs_loads asked old new events replied wordless = All-nil IsLoad
+  performs_loads asked old new events replied (loaded path is) = All-nil IsLoad
+  performs_loads asked old new events replied (not_loaded path is) = All-nil IsLoad
+  performs_loads asked old new events replied (shown lines is) = All-nil IsLoad
+  performs_loads asked old new events replied (counted lines reads) = of_arrays reads
+  performs_loads asked old new events replied stopped = All-nil IsLoad
+  performs_loads asked old new events replied unshown = All-nil IsLoad
+  performs_loads asked old new events replied (uncounted all) = all
+
+  performs_onwards : (asked : Option OperatorRequest) (old new : Controlled)
+      (events : List CellEvent) (replied : Reply F) → Performs loads asked old events replied new
+      → GoesOnwards old.publishing.known new.publishing.known
+  performs_onwards asked old new events replied wordless = goes_nowhere old.publishing.known
+  performs_onwards asked old new events replied (loaded path is) = record {
+    publisher = is.installed.publisher;
+    onwards = (is.rules ∷ [], sym is.installed.listed);
+  }
+  performs_onwards asked old new events replied (not_loaded path is) =
+      goes_nowhere old.publishing.known
+  performs_onwards asked old new events replied (shown lines is) = goes_nowhere old.publishing.known
+  performs_onwards asked old new events replied (counted lines reads) =
+      goes_nowhere old.publishing.known
+  performs_onwards asked old new events replied stopped = goes_nowhere old.publishing.known
+  performs_onwards asked old new events replied unshown = goes_nowhere old.publishing.known
+  performs_onwards asked old new events replied (uncounted all) = goes_nowhere old.publishing.known
+
+  module _ {P : Type 0} (grew : P → CellEvent → P → Type 0) where
+    pub has_looked : (told : Option (List ℕ)) (old new : Controlled) (replied : Reply F) (p q : P)
+        → Grows grew p q (λ events. AnswersLine loads told old events replied new)
+        → Grows grew p q AreLoads
+    has_looked told old new replied p q did = record {
+      events = did.events;
+      grown = did.grown;
+      of = performs_loads did.of.asked old new did.events replied did.of.performs;
+    }
+
+    pub has_gone_on : (told : Option (List ℕ)) (old new : Controlled) (replied : Reply F) (p q : P)
+        → Grows grew p q (λ events. AnswersLine loads told old events replied new)
+        → GoesOnwards old.publishing.known new.publishing.known
+    has_gone_on told old new replied p q did =
+        performs_onwards did.of.asked old new did.events replied did.of.performs
+
+module _ {P : Type 0} (belongs : P → Type 0) (grew : P → CellEvent → P → Type 0) where
+  pub looked_at_nothing : (p q : P) → q ≡ p → Grows grew p q AreLoads
+  looked_at_nothing p q same = record { events = []; grown = same; of = All-nil IsLoad }
+
+  -- ---- one after the other
+
+  pub back_later : GrowsByAppend grew → (p m q : P) → OperatorBack belongs grew p m
+      → OperatorBack belongs grew m q → OperatorBack belongs grew p q
+  back_later append p m q first last = record {
+    belongs_yet = last.belongs_yet;
+    looked = record {
+      events = first.looked.events ++ last.looked.events;
+      grown = append p first.looked.events m last.looked.events q first.looked.grown
+          last.looked.grown;
+      of = All-append IsLoad first.looked.events last.looked.events first.looked.of last.looked.of;
+    };
+  }
+
+-- the cells are the same
+pub back_on : {X P : Type 0} (belongs : X → P → Type 0) (grew : P → CellEvent → P → Type 0)
+    → GrowsByAppend grew → (first later : X) → later ≡ first → (p m q : P)
+    → OperatorBack (belongs first) grew p m → OperatorBack (belongs later) grew m q
+    → OperatorBack (belongs first) grew p q
+back_on belongs grew append first later same p m q so_far last =
+    back_later (belongs first) grew append p m q so_far
+    (subst (λ x. OperatorBack (belongs x) grew m q) same last)

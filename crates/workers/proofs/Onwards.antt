@@ -1,0 +1,33 @@
+-- What is known of a published list goes on.
+use Rattle.std.proofs.Common.{◌≡◌, ℕ, List, [], ◌++◌, length, All, refl, sym, ap, subst, ◌∙◌}
+use Rattle.std.proofs.Common.{append_assoc, append-nil}
+use Rattle.operator.specs.hot_swap.Published.{Beginning, GoesOnwards, HasLast, IsLatest}
+use Rattle.operator.specs.hot_swap.rulesets.Rules.{Rules, IsRuleset}
+use Rattle.workers.specs.Back.{IsPublished}
+
+pub goes_nowhere : (known : Beginning) → GoesOnwards known known
+goes_nowhere known = record { publisher = refl; onwards = ([], append-nil known.rulesets) }
+
+pub goes_further : (u v w : Beginning) → GoesOnwards u v → GoesOnwards v w → GoesOnwards u w
+goes_further u v w first then_on = record {
+  publisher = then_on.publisher ∙ first.publisher;
+  onwards = (
+    first.onwards.0 ++ then_on.onwards.0,
+    sym (append_assoc u.rulesets first.onwards.0 then_on.onwards.0)
+        ∙ ap (λ (l : List Rules). l ++ then_on.onwards.0) first.onwards.1 ∙ then_on.onwards.1,
+  );
+}
+
+-- what is told, of a publisher that keeps this
+pub is_published : (known told : Beginning) (generation latest : ℕ) (rules : Rules)
+    → told ≡ known → generation ≡ latest → IsLatest known latest rules
+    → All IsRuleset known.rulesets → IsPublished told generation
+is_published known told generation latest rules same is last sound = record {
+  sound = subst (λ (b : Beginning). All IsRuleset b.rulesets) (sym same) sound;
+  rules = rules;
+  last = record {
+    generation_is =
+        is ∙ last.generation_is ∙ ap (λ (b : Beginning). length b.rulesets) (sym same);
+    rules_are = subst (λ (b : Beginning). HasLast b.rulesets rules) (sym same) last.rules_are;
+  };
+}

@@ -1,0 +1,29 @@
+-- What the threads of a server give back once they have ended: their passes, with what was done by
+-- them, and their watchers, with what they know.
+use Rattle.std.specs.Prelude.{ℕ, All}
+use Rattle.cells.specs.Grown.{Grows}
+use Rattle.cells.specs.declared.event.CellEvent.{CellEvent}
+use Rattle.one_world.specs.InTurn.{AreOfRuns}
+use Rattle.one_world.specs.Passes.{AreLoads}
+use Rattle.operator.specs.hot_swap.Published.{Beginning, GoesOnwards, IsLatest}
+use Rattle.operator.specs.hot_swap.rulesets.Rules.{Rules, IsRuleset}
+
+module _ {P : Type 0} (belongs : P → Type 0) (grew : P → CellEvent → P → Type 0) where
+  -- A worker, its pass and its watcher. The pass belongs to the cells, and grew by the events of
+  -- runs, one run after the other, and by nothing else. Each run is under one of the rulesets that
+  -- the watcher knows, and these begin with those that it knew.
+  pub record WorkerBack (old new : P × Beginning) : Type 0 where
+    pub belongs_yet : belongs new.0
+    pub onwards : GoesOnwards old.1 new.1
+    pub ran : Grows grew old.0 new.0 (AreOfRuns new.1.rulesets)
+
+  -- the operator's pass: it belongs to the cells, and grew by Loads alone
+  pub record OperatorBack (old new : P) : Type 0 where
+    pub belongs_yet : belongs new
+    pub looked : Grows grew old new AreLoads
+
+-- of what was published each ruleset is sound, and the last one is of this generation
+pub record IsPublished (published : Beginning) (generation : ℕ) : Type 0 where
+  pub sound : All IsRuleset published.rulesets
+  pub rules : Rules
+  pub last : IsLatest published generation rules
