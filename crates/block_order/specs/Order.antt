@@ -1,0 +1,98 @@
+-- What it means that one program is another one in order: each of its instructions but JA stands
+-- there, at a place of its own, and leads to the same instructions as before.
+use Rattle.std.specs.Prelude.{◌≡◌, ℕ, ◌+◌, ◌⊎◌, ℤ, List, Option, Some, slice_get}
+use Rattle.bpf_insn.specs.declared.operand.Distance.{Distance}
+use Rattle.bpf_insn.specs.declared.insn.Insn.{Insn}
+use Rattle.bpf_insn.specs.declared.insn.Insn.TheVariants.{Jump, JumpIf, Exit}
+use Rattle.bpf_insn.specs.Program.{Program, ◌>>=◌, at, landing, slots_moved}
+use Rattle.flow_check.specs.Edges.{target_of, next_of}
+use Rattle.flow_check.specs.Fault.{IsRead}
+use Rattle.flow_check.specs.Flow.{IsAcceptedAs}
+
+-- where the instructions of the old program stand in the new one, by their old slots; none where an
+-- instruction was dropped
+abbrev pub Places : Type 0
+Places = ℕ → Option ℕ
+
+-- places that are kept in a list
+abbrev pub place_at : List (Option ℕ) → ℕ → Option ℕ
+place_at places s = slice_get places s >>= λ t. t
+
+-- a JA at slot t lands on slot u
+abbrev pub IsJump : Program → ℕ → ℕ → Type 0
+IsJump q t u = (d : Distance) × (at q t ≡ Some (Jump d)) × (landing t (slots_moved d) ≡ Some u)
+
+-- slot t is slot u, or one JA leads from there to it
+abbrev pub LeadsOnto : Program → ℕ → ℕ → Type 0
+LeadsOnto q t u = (t ≡ u) ⊎ IsJump q t u
+
+-- slot t of the new program leads to what stood at slot s of the old one
+abbrev pub GoesOnAt : Places → Program → ℕ → ℕ → Type 0
+GoesOnAt places q t s = (u : ℕ) × (places s ≡ Some u) × LeadsOnto q t u
+
+-- ---- one instruction
+
+-- a conditional jump, and the same one with an offset of its own
+abbrev pub IsSameJump : Insn → Insn → Type 0
+IsSameJump (JumpIf bits condition left right offset) j =
+    (moved : ℤ) × (j ≡ JumpIf bits condition left right moved)
+IsSameJump i j = ⊥
+
+-- the conditional jump of slot s stands at slot t, and lands on the place of what it landed on
+pub record IsJumpKept (places : Places) (q : Program) (s t : ℕ) (i : Insn) : Type 0 where
+  pub moved : Insn
+  pub stands : at q t ≡ Some moved
+  pub same : IsSameJump i moved
+  pub target : ℕ
+  pub landed : target_of s i ≡ Some target
+  pub place : ℕ
+  pub placed : places target ≡ Some place
+  pub lands : target_of t moved ≡ Some place
+
+-- the instruction of slot s stands at slot t and leads on as before; of a JA nothing has to stand
+-- there but what it leads to
+abbrev pub IsKeptAs : Places → Program → ℕ → ℕ → Insn → Type 0
+IsKeptAs places q s t (Jump d) =
+    (target : ℕ) × (landing s (slots_moved d) ≡ Some target) × GoesOnAt places q t target
+IsKeptAs places q s t (JumpIf bits condition left right offset) =
+    IsJumpKept places q s t (JumpIf bits condition left right offset)
+    × GoesOnAt places q (t + 1) (s + 1)
+IsKeptAs places q s t Exit = at q t ≡ Some Exit
+IsKeptAs places q s t i = (at q t ≡ Some i) × GoesOnAt places q (next_of t i) (next_of s i)
+
+abbrev pub IsKeptAt : Places → Program → Program → ℕ → ℕ → Type 0
+IsKeptAt places p q s t = (i : Insn) × (at p s ≡ Some i) × IsKeptAs places q s t i
+
+-- neither a jump nor EXIT
+abbrev pub IsStraight : Insn → Type 0
+IsStraight (Jump d) = ⊥
+IsStraight (JumpIf bits condition left right offset) = ⊥
+IsStraight Exit = ⊥
+IsStraight i = Unit {0}
+
+-- the instruction stands at slot t, and goes on there to what came after slot s
+abbrev pub IsStraightKept : Places → Program → ℕ → ℕ → Insn → Type 0
+IsStraightKept places q s t i =
+    (at q t ≡ Some i) × GoesOnAt places q (next_of t i) (next_of s i)
+
+-- ---- the whole program
+
+-- the entry stays the entry, and each instruction that has a place is kept there; so each one that
+-- a run may come to has a place
+pub record IsOrderOf (places : Places) (p q : Program) : Type 0 where
+  pub start : places 0 ≡ Some 0
+  pub kept : (s t : ℕ) → places s ≡ Some t → IsKeptAt places p q s t
+
+-- bytes that the flow check accepts as the same program in order: all edges lead forward, and all
+-- instructions are reached
+pub record HasOrder (p : Program) (ordered : List ℕ) : Type 0 where
+  pub new : Program
+  pub accepted : IsAcceptedAs ordered new
+  pub places : Places
+  pub order : IsOrderOf places p new
+
+-- bytes that are read as a program, and the bytes of its order
+pub record IsOrdered (bytes ordered : List ℕ) : Type 0 where
+  pub old : Program
+  pub read : IsRead bytes old
+  pub order : HasOrder old ordered

@@ -1,0 +1,44 @@
+-- The places that are reached from one, and marks of them.
+use Rattle.std.specs.Prelude.{◌≡◌, ℕ, ◌<◌, Bool, false, List, length, Some, Contains}
+use Rattle.std.specs.Prelude.{slice_index_or, if◌then◌else◌}
+use Rattle.std.specs.List.{sum_by}
+use Rattle.bpf_insn.specs.declared.insn.Insn.{Insn}
+use Rattle.bpf_insn.specs.Program.{Program, at}
+use Rattle.flow_check.specs.Edges.{successors}
+use Rattle.flow_check.specs.Sweep.{IsMarked}
+
+-- the places that some run of edges leads to from one
+pub data ReachedFrom (p : Program) (first : ℕ) : ℕ → Type 0 where
+  here : ReachedFrom p first first
+  along : {s t : ℕ} {i : Insn} → ReachedFrom p first s → at p s ≡ Some i
+      → Contains (successors s i) t → ReachedFrom p first t
+
+abbrev pub IsUnmarked : List Bool → ℕ → Type 0
+IsUnmarked marks t = (t < length marks) × (slice_index_or marks t false ≡ false)
+
+-- a place that is marked leads to this one, which isn't
+abbrev pub LeadsOutOf : Program → List Bool → ℕ → Type 0
+LeadsOutOf p marks t =
+    (s : ℕ) × (i : Insn) × IsMarked marks s × (at p s ≡ Some i) × Contains (successors s i) t
+    × IsUnmarked marks t
+
+-- a place that is marked leads to places that are
+abbrev pub IsClosed : Program → List Bool → Type 0
+IsClosed p marks =
+    (s : ℕ) (i : Insn) (t : ℕ) → IsMarked marks s → at p s ≡ Some i → Contains (successors s i) t
+    → t < length marks → IsMarked marks t
+
+-- how many places aren't marked
+abbrev pub unmarked_count : List Bool → ℕ
+unmarked_count marks = sum_by (λ b. if b then 0 else 1) marks
+
+-- the start is marked, and no place but those that are reached from it
+pub record IsReachedSo (p : Program) (first : ℕ) (marks : List Bool) : Type 0 where
+  pub length_is : length marks ≡ length p
+  pub sound : (m : ℕ) → IsMarked marks m → ReachedFrom p first m
+  pub start : IsMarked marks first
+
+-- the marks stand at the places within the program that are reached, and at no others
+pub record AreReachedFrom (p : Program) (first : ℕ) (marks : List Bool) : Type 0 where
+  pub so : IsReachedSo p first marks
+  pub closed : IsClosed p marks

@@ -1,0 +1,11 @@
+//! What a program does stays as it is when its blocks are put in order.
+
+ghost use Rattle.bpf_insn.specs.Program.{Program};
+ghost use Rattle.block_order.specs.Law.{DoAlike};
+ghost use Rattle.block_order.specs.Order.{IsOrderOf, Places};
+
+/// A law: from every opening state and on all replies a program in order has the events on counters
+/// and the choice of the program that it was made of.
+pub fn order_keeps_runs()
+    ensures { (places : Places) (p : Program) (q : Program) → IsOrderOf places p q → DoAlike p q }
+{}

@@ -1,0 +1,21 @@
+//! Basic blocks in order: a program whose jumps lead backward, though it has no cycle, is written
+//! with its blocks in an order in which every jump leads forward.
+#![tactic(auto)]
+
+mod disorder;
+mod kept;
+mod law;
+mod order;
+mod plan;
+mod reach;
+mod read;
+mod ready;
+mod same;
+mod write;
+
+pub use law::order_keeps_runs;
+pub use order::ordered;
+
+// The words of the contracts here come with them.
+pub use bpf_semantics;
+pub use flow_check;

@@ -1,0 +1,86 @@
+//! Which slot is next. Of the blocks that are ready, to which no instruction leads that has no
+//! place yet, it is the lowest; and within a block it is the next instruction. A block begins at
+//! the entry, where a jump lands, and behind a conditional jump.
+
+ghost use Rattle.std.specs.Prelude.{ℕ, ◌<◌, ◌≤◌, IfSome, length};
+
+use bpf_insn::Insn;
+use flow_check::{jump_target, next_place};
+
+fn is_marked(marks: &[bool], slot: usize) -> bool {
+    match marks.get(slot) {
+        Some(mark) => *mark,
+        None => false,
+    }
+}
+
+/// Sets the mark of the place, if there is one within the program.
+fn set_mark(marks: &mut [bool], place: Option<usize>, mark: bool) {
+    if let Some(place) = place
+        && place < marks.len()
+    {
+        marks[place] = mark;
+    }
+}
+
+/// Marks the slots behind the entry at which a block begins.
+pub fn mark_heads(heads: &mut [bool], code: &[Option<Insn>], reached: &[bool])
+    requires { length code.now ≤ 4096 }
+{
+    for (slot, place) in code.iter().enumerate() {
+        if let Some(insn) = *place
+            && is_marked(reached, slot)
+        {
+            set_mark(heads, jump_target(slot, insn), true);
+            if let Insn::JumpIf { .. } = insn {
+                set_mark(heads, next_place(slot, insn), true);
+            }
+        }
+    }
+}
+
+/// Marks the slots to which an instruction leads that is reached and has no place yet.
+pub fn mark_entered(
+    entered: &mut [bool],
+    code: &[Option<Insn>],
+    reached: &[bool],
+    places: &[Option<usize>],
+)
+    requires { length code.now ≤ 4096 }
+{
+    for slot in 0..entered.len() {
+        set_mark(entered, Some(slot), false);
+    }
+    for (slot, place) in code.iter().enumerate() {
+        if let Some(insn) = *place
+            && is_marked(reached, slot)
+            && let Some(None) = places.get(slot)
+        {
+            set_mark(entered, jump_target(slot, insn), true);
+            set_mark(entered, next_place(slot, insn), true);
+        }
+    }
+}
+
+/// The slot that is next, if one is ready.
+pub fn next_ready(
+    heads: &[bool],
+    entered: &[bool],
+    reached: &[bool],
+    places: &[Option<usize>],
+) -> Option<usize>
+    ensures { IfSome result (λ s. s < length places.now) }
+{
+    let mut first = None;
+    for (slot, place) in places.iter().enumerate() {
+        if place.is_none() && is_marked(reached, slot) && !is_marked(entered, slot) {
+            if !is_marked(heads, slot) {
+                return Some(slot);
+            }
+            if first.is_none() {
+                first = Some(slot);
+            }
+        }
+    }
+    first
+}
