@@ -56,7 +56,7 @@ fn little_endian(bytes: &[u8]) -> u64
 impl Interpreter {
     /// The number of the bytes at an address; none outside context and stack, or where a byte is
     /// unset.
-    fn number_at(&self, address: u64, count: u64) -> Option<u64>
+    pub fn number_at(&self, address: u64, count: u64) -> Option<u64>
         requires { count ≤ 8 }
         ensures { result ≡ read_at (state_of self.now) address count }
     {

@@ -63,7 +63,7 @@ impl Interpreter {
     }
 
     /// What a register has, if it is set.
-    pub(crate) fn register(&self, register: Reg) -> Option<u64>
+    pub fn register(&self, register: Reg) -> Option<u64>
         ensures { result ≡ reads.register (state_of self.now) register }
     {
         self.registers[register.index()]

@@ -1,0 +1,100 @@
+-- The line that tells one step of a run: slot and instruction, and behind a semicolon each what a
+-- counter was asked and replied, the register that was written, and the bytes of the stack that
+-- were, as a number.
+use Rattle.std.specs.Prelude.{ℕ, ◌+◌, ◌-◌, ℤ, List, [], ◌++◌, length, take, codes, Bool, ◌&&◌}
+use Rattle.std.specs.Prelude.{nat_le, nat_lt, Option, Some, None}
+use Rattle.std.specs.Fmt.{decimal}
+use Rattle.std.specs.List.{find}
+use Rattle.bpf_insn.specs.declared.insn.Insn.{Insn}
+use Rattle.bpf_insn.specs.declared.insn.Insn.TheVariants.{StoreImm, Store}
+use Rattle.bpf_insn.specs.declared.reg.Reg.{Reg}
+use Rattle.bpf_insn.specs.Program.{at, ◌>>=◌}
+use Rattle.bpf_insn.specs.Table.{number_of}
+use Rattle.bpf_text.specs.Listing.{line_of}
+use Rattle.bpf_verify.specs.bpf_rules.Reads.{writes}
+use Rattle.bpf_semantics.specs.Memory.{address_of, stack_top}
+use Rattle.bpf_semantics.specs.Program.{ShapedProgram}
+use Rattle.bpf_semantics.specs.Reads.{register, byte_count}
+use Rattle.bpf_semantics.specs.State.{State, read_at}
+use Rattle.cells.specs.Arrays.{AppShape}
+use Rattle.cells.specs.declared.array.CellArray.{CellArray}
+use Rattle.cells.specs.declared.event.CellEvent.{CellEvent}
+use Rattle.cells.specs.declared.event.CellOp.{CellOp}
+use Rattle.cells.specs.declared.event.CellOp.TheVariants as op
+
+-- the text of an instruction: its line in a listing, without the line feed that ends it
+abbrev pub insn_text : Insn → List ℕ
+insn_text i = take (length (line_of i) - 1) (line_of i)
+
+-- ---- counters
+
+abbrev pub has_cell : ℕ → CellArray → Bool
+has_cell cell a = nat_le a.base cell && nat_lt cell (a.base + a.length)
+
+-- a counter by the name of its array and its index there, as `q[0]`
+abbrev pub named_cell : ℕ → Option CellArray → List ℕ
+named_cell cell None = codes "cell " ++ decimal cell
+named_cell cell (Some a) = a.name ++ codes "[" ++ decimal (cell - a.base) ++ codes "]"
+
+abbrev pub cell_text : AppShape → ℕ → List ℕ
+cell_text shape cell = named_cell cell (find (has_cell cell) shape.arrays)
+
+abbrev pub op_text : CellOp → List ℕ
+op_text op.Load = codes "load"
+op_text (op.Store x) = codes "store " ++ decimal x
+op_text (op.Add x) = codes "add " ++ decimal x
+op_text (op.Or x) = codes "or " ++ decimal x
+op_text (op.And x) = codes "and " ++ decimal x
+op_text (op.Xor x) = codes "xor " ++ decimal x
+op_text (op.Swap x) = codes "swap " ++ decimal x
+op_text (op.CompareExchange x y) = codes "compare " ++ decimal x ++ codes " swap " ++ decimal y
+
+abbrev pub event_part : AppShape → Option CellEvent → List ℕ
+event_part shape None = []
+event_part shape (Some e) =
+    codes " ; " ++ cell_text shape e.cell ++ codes " " ++ op_text e.op
+    ++ codes " replied " ++ decimal e.reply
+
+-- ---- registers and stack
+
+abbrev pub register_part : Option Reg → Option ℕ → List ℕ
+register_part (Some r) (Some value) =
+    codes " ; r" ++ decimal (number_of r) ++ codes " " ++ decimal value
+register_part r value = []
+
+-- the number of the bytes at an address, which is told by its distance from the stack's top
+abbrev pub stack_part : ℕ → Option ℕ → List ℕ
+stack_part address None = []
+stack_part address (Some value) =
+    codes " ; [r10-" ++ decimal (stack_top - address) ++ codes "] " ++ decimal value
+
+abbrev pub bytes_part : State → Option ℕ → (offset : ℤ) → (count : ℕ) → List ℕ
+bytes_part t None offset count = []
+bytes_part t (Some base) offset count =
+    let address = address_of base offset in stack_part address (read_at t address count)
+
+-- the bytes that a store leaves there
+abbrev pub stored_part : Insn → State → List ℕ
+stored_part (StoreImm size dst offset imm) t =
+    bytes_part t (register t dst) offset (byte_count size)
+stored_part (Store size dst src offset) t = bytes_part t (register t dst) offset (byte_count size)
+stored_part i t = []
+
+abbrev pub written_part : Insn → State → List ℕ
+written_part i t = register_part (writes i) (writes i >>= λ r. register t r)
+
+-- ---- a step
+
+-- the instruction at a slot, what it asked, and what it left
+abbrev pub step_line : AppShape → ℕ → Insn → Option CellEvent → State → List ℕ
+step_line shape slot i asked t =
+    decimal slot ++ codes ": " ++ insn_text i ++ event_part shape asked ++ written_part i t
+    ++ stored_part i t ++ codes "\n"
+
+abbrev pub line_if : AppShape → ℕ → Option Insn → Option CellEvent → State → List ℕ
+line_if shape slot None asked t = []
+line_if shape slot (Some i) asked t = step_line shape slot i asked t
+
+-- the line of the step from one state to another
+abbrev pub line_between : ShapedProgram → State → Option CellEvent → State → List ℕ
+line_between p s asked t = line_if p.shape s.slot (at p.code s.slot) asked t
