@@ -1,5 +1,5 @@
 //! Tests of `attrs` and `cells`, against values that were worked out by hand: the attributes of an
-//! app of a request, and a program's helpers; directories, shapes and plain counters. A crate with
+//! app of a request, and a program's helpers; directories, shapes and counters. A crate with
 //! tests is proved twice, so they stand apart from the two.
 #![tactic(auto)]
 
@@ -11,5 +11,7 @@ mod attrs_of;
 mod counters;
 #[cfg(test)]
 mod facts;
+#[cfg(test)]
+mod memory;
 #[cfg(test)]
 mod texts;

@@ -8,24 +8,24 @@ use Rattle.cells.specs.Grown.{GrewBy}
 use Rattle.bpf_machine.specs.bpf_semantics.Program.{ShapedProgram}
 use Rattle.bpf_machine.specs.bpf_semantics.State.{opening}
 use Rattle.bpf_machine.specs.bpf_semantics.Run.{Ends}
-use Rattle.bench.specs.declared.runs.Tally.{Tally}
+use Rattle.bench.specs.declared.runs.RunTotals.{RunTotals}
 
 abbrev pub bucket_of : ℕ → ℕ
 bucket_of k = 1000 * k + 500
 
 -- app k is in its bucket, and has no attributes but this
-abbrev pub IsApp : ℕ → Attributes → Type 0
-IsApp k a = a ≡ plain [] None (bucket_of k)
+abbrev pub IsBenchApp : ℕ → Attributes → Type 0
+IsBenchApp k a = a ≡ plain [] None (bucket_of k)
 
 -- the ten apps, in order
 pub record AreApps (apps : List Attributes) : Type 0 where
   pub ten : length apps ≡ 10
-  pub each : (k : ℕ) (a : Attributes) → slice_get apps k ≡ Some a → IsApp k a
+  pub each : (k : ℕ) (a : Attributes) → slice_get apps k ≡ Some a → IsBenchApp k a
 
-abbrev pub no_runs : Tally
+abbrev pub no_runs : RunTotals
 no_runs = record { instructions = 0; choices = fnv1a [] }
 
-abbrev pub with_run : Tally → ℕ → ℕ → Tally
+abbrev pub with_run : RunTotals → ℕ → ℕ → RunTotals
 with_run t choice count =
     record { instructions = t.instructions + count; choices = with_byte t.choices choice }
 
@@ -38,17 +38,18 @@ pub record RunsOnce (p : ShapedProgram) (a : Attributes) (before after : List �
 
 -- the tally of the first n runs, one after the other on the same cells, with the values that the
 -- cells had before and have after them: run n is that of app n modulo ten
-pub data Runs (p : ShapedProgram) (apps : List Attributes) (opened : List ℕ)
-    : ℕ → List ℕ → Tally → Type 0 where
-  none : Runs p apps opened 0 opened no_runs
-  more : {n choice count : ℕ} {values after : List ℕ} {t : Tally} {a : Attributes}
-      → Runs p apps opened n values t → slice_get apps (n % 10) ≡ Some a
+pub data RunsInTurn (p : ShapedProgram) (apps : List Attributes) (opened : List ℕ)
+    : ℕ → List ℕ → RunTotals → Type 0 where
+  none : RunsInTurn p apps opened 0 opened no_runs
+  more : {n choice count : ℕ} {values after : List ℕ} {t : RunTotals} {a : Attributes}
+      → RunsInTurn p apps opened n values t → slice_get apps (n % 10) ≡ Some a
       → RunsOnce p a values after choice count
-      → Runs p apps opened (n + 1) after (with_run t choice count)
+      → RunsInTurn p apps opened (n + 1) after (with_run t choice count)
 
 -- the tally of so many runs, on cells that open at 0
-pub record AreRuns (p : ShapedProgram) (apps : List Attributes) (n : ℕ) (t : Tally) : Type 0 where
+pub record AreRuns (p : ShapedProgram) (apps : List Attributes) (n : ℕ) (t : RunTotals)
+    : Type 0 where
   pub opened : List ℕ
   pub zero : AreZeros 8192 opened
   pub values : List ℕ
-  pub runs : Runs p apps opened n values t
+  pub runs : RunsInTurn p apps opened n values t

@@ -3,11 +3,11 @@
 ghost use Rattle.std.specs.Prelude.{◌≡◌, ◌≤◌};
 ghost use Rattle.std.specs.IoError.{error_kind};
 
-use crate::fault::Fault;
+use crate::benchmark::{Benchmark, ProgramSize, benchmark_of};
+use crate::fault::BenchFault;
 use crate::judge::{verified, verify_times};
 use crate::pattern::Pattern;
 use crate::program::program;
-use crate::request::{Request, Size, request_of};
 use crate::runs::{apps, run_times};
 use attrs::fnv1a;
 use std::alloc::Global;
@@ -35,10 +35,10 @@ pub fn command<S: AsStr, O: Write, E: Write>(
 ) -> u8
     ensures { result ≤ 2 }
 {
-    let done = match request_of(alloc, words) {
-        Ok(Some(request)) => answer(alloc, &request, out),
+    let done = match benchmark_of(alloc, words) {
+        Ok(Some(benchmark)) => answer(alloc, &benchmark, out),
         Ok(None) => return usage(err),
-        Err(_) => Err(Fault::Memory),
+        Err(_) => Err(BenchFault::Memory),
     };
     match done {
         Ok(()) => DONE,
@@ -46,13 +46,13 @@ pub fn command<S: AsStr, O: Write, E: Write>(
     }
 }
 
-fn answer<O: Write>(alloc: Global, request: &Request, out: &mut O) -> Result<(), Fault> {
-    match request {
-        Request::Bytes { size, pattern } => {
+fn answer<O: Write>(alloc: Global, benchmark: &Benchmark, out: &mut O) -> Result<(), BenchFault> {
+    match benchmark {
+        Benchmark::Bytes { size, pattern } => {
             let bytes = program(alloc, *pattern, size.blocks)?;
             out.write_all(&bytes)?;
         }
-        Request::Verify {
+        Benchmark::Verify {
             size,
             times,
             patterns,
@@ -61,7 +61,7 @@ fn answer<O: Write>(alloc: Global, request: &Request, out: &mut O) -> Result<(),
                 verify_one(alloc, *size, *times, *pattern, out)?;
             }
         }
-        Request::Run {
+        Benchmark::Run {
             size,
             times,
             patterns,
@@ -76,11 +76,11 @@ fn answer<O: Write>(alloc: Global, request: &Request, out: &mut O) -> Result<(),
 
 fn verify_one<O: Write>(
     alloc: Global,
-    size: Size,
+    size: ProgramSize,
     times: u32,
     pattern: Pattern,
     out: &mut O,
-) -> Result<(), Fault> {
+) -> Result<(), BenchFault> {
     let bytes = program(alloc, pattern, size.blocks)?;
     verify_times(alloc, &bytes, times)?;
     let slots = bytes.len() / 8;
@@ -94,14 +94,14 @@ fn verify_one<O: Write>(
 
 fn run_one<O: Write>(
     alloc: Global,
-    size: Size,
+    size: ProgramSize,
     times: u32,
     pattern: Pattern,
     out: &mut O,
-) -> Result<(), Fault> {
+) -> Result<(), BenchFault> {
     let bytes = program(alloc, pattern, size.blocks)?;
     let Ok(program) = Arc::new(alloc, verified(alloc, &bytes)?) else {
-        return Err(Fault::Memory);
+        return Err(BenchFault::Memory);
     };
     let tally = run_times(alloc, &program, &apps(alloc)?, times)?;
     let slots = bytes.len() / 8;
@@ -122,12 +122,12 @@ pub fn unreadable_words<E: Write>(error: &io::Error, err: &mut E) -> u8
     ensures memory { error_kind error.now ≡ ErrorKind.OutOfMemory → result ≡ 1 }
 {
     match error.kind() {
-        ErrorKind::OutOfMemory => refused(&Fault::Memory, err),
+        ErrorKind::OutOfMemory => refused(&BenchFault::Memory, err),
         _ => usage(err),
     }
 }
 
-fn refused<E: Write>(fault: &Fault, err: &mut E) -> u8
+fn refused<E: Write>(fault: &BenchFault, err: &mut E) -> u8
     ensures { result ≡ 1 }
 {
     let _ = writeln!(err, "bench: {fault}");

@@ -6,7 +6,7 @@ use std::{fmt, io};
 
 /// What went wrong.
 #[derive(Debug, Drop)]
-pub enum Fault {
+pub enum BenchFault {
     /// Memory is refused.
     Memory,
     /// A line can't be written.
@@ -15,24 +15,24 @@ pub enum Fault {
     Program(ProgramFault),
 }
 
-impl From<AllocError> for Fault {
+impl From<AllocError> for BenchFault {
     fn from(_: AllocError) -> Self {
-        Fault::Memory
+        BenchFault::Memory
     }
 }
 
-impl From<io::Error> for Fault {
+impl From<io::Error> for BenchFault {
     fn from(_: io::Error) -> Self {
-        Fault::Output
+        BenchFault::Output
     }
 }
 
-impl fmt::Display for Fault {
+impl fmt::Display for BenchFault {
     fn fmt<W: fmt::Write>(&self, f: &mut fmt::Formatter<W>) -> fmt::Result {
         match self {
-            Fault::Memory => f.write_str("out of memory"),
-            Fault::Output => f.write_str("can't write"),
-            Fault::Program(fault) => write!(f, "{fault}"),
+            BenchFault::Memory => f.write_str("out of memory"),
+            BenchFault::Output => f.write_str("can't write"),
+            BenchFault::Program(fault) => write!(f, "{fault}"),
         }
     }
 }

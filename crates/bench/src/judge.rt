@@ -2,9 +2,9 @@
 
 ghost use Rattle.std.specs.Prelude.{◌≡◌, ◌<◌, IfOk, IfErr, OnOk};
 ghost use Rattle.acceptance.specs.Program.{IsProgramOf};
-ghost use Rattle.bench.specs.Judged.{AreAccepted, IsProgramFault, bench_shape};
+ghost use Rattle.bench.specs.Judged.{AreAccepted, IsBenchFault, bench_shape};
 
-use crate::fault::Fault;
+use crate::fault::BenchFault;
 use acceptance::accept;
 use bpf_machine::bpf_verify::Verified;
 use cells::Shape;
@@ -19,18 +19,18 @@ fn bench_shape(alloc: Global) -> Shape
 }
 
 /// The program that the bytes are, once it is accepted for an app of 64 releases.
-pub fn verified(alloc: Global, bytes: &[u8]) -> Result<Verified, Fault>
+pub fn verified(alloc: Global, bytes: &[u8]) -> Result<Verified, BenchFault>
     ensures program { IfOk result (IsProgramOf bytes.now) }
     ensures shape { IfOk result (λ v. v.shape ≡ bench_shape) }
-    ensures fault { IfErr result (λ e. IsProgramFault bytes.now e) }
+    ensures fault { IfErr result (λ e. IsBenchFault bytes.now e) }
 {
-    accept(alloc, bytes, &bench_shape(alloc)).map_err(Fault::Program)
+    accept(alloc, bytes, &bench_shape(alloc)).map_err(BenchFault::Program)
 }
 
 /// Verifies the program that the bytes are so many times.
-pub fn verify_times(alloc: Global, bytes: &[u8], times: u32) -> Result<(), Fault>
+pub fn verify_times(alloc: Global, bytes: &[u8], times: u32) -> Result<(), BenchFault>
     ensures accepted { OnOk result (0 < times → AreAccepted bytes.now) }
-    ensures fault { IfErr result (λ e. IsProgramFault bytes.now e) }
+    ensures fault { IfErr result (λ e. IsBenchFault bytes.now e) }
 {
     for n in 0..times {
         let _program = verified(alloc, bytes)?;

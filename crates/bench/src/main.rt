@@ -3,6 +3,7 @@
 //! everywhere. It reads no clock: `bench/run` times whole processes from outside.
 #![tactic(auto)]
 
+mod benchmark;
 mod blocks;
 mod command;
 mod fault;
@@ -10,7 +11,6 @@ mod fnv;
 mod judge;
 mod pattern;
 mod program;
-mod request;
 mod runs;
 
 use crate::command::{command, unreadable_words};

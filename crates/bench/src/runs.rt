@@ -1,9 +1,9 @@
 //! Running a program over and over, for ten apps in turn. A run allocates nothing.
 
 ghost use Rattle.std.specs.Prelude.{◌≡◌, ◌<◌, ◌≤◌, map, length, IfOk};
-ghost use Rattle.bench.specs.Runs.{AreApps, AreRuns, IsApp, RunsOnce};
+ghost use Rattle.bench.specs.Runs.{AreApps, AreRuns, IsBenchApp, RunsOnce};
 
-use crate::fault::Fault;
+use crate::fault::BenchFault;
 use crate::fnv::hash_more;
 use attrs::{Attrs, fnv1a};
 use bpf_machine::Run;
@@ -14,33 +14,33 @@ use std::sync::Arc;
 
 /// What runs come to: the instructions of all of them, and the hash of their choices.
 #[derive(Clone, Copy, Debug, PartialEq, Eq)]
-pub struct Tally {
+pub struct RunTotals {
     pub instructions: u64,
     pub choices: u64,
 }
 
 /// App `k` of the ten.
-fn app_at(alloc: Global, k: u16) -> Result<Arc<Attrs>, Fault>
+fn app_at(alloc: Global, k: u16) -> Result<Arc<Attrs>, BenchFault>
     requires { k < 10 }
-    ensures { IfOk result (λ app. IsApp k app.value) }
+    ensures { IfOk result (λ app. IsBenchApp k app.value) }
 {
     let Ok(attrs) = Attrs::plain(alloc, "", None, 1000 * k + 500) else {
-        return Err(Fault::Memory);
+        return Err(BenchFault::Memory);
     };
     let Ok(attrs) = Arc::new(alloc, attrs) else {
-        return Err(Fault::Memory);
+        return Err(BenchFault::Memory);
     };
     Ok(attrs)
 }
 
 /// The ten apps: their buckets are 500, 1500 and so on.
-pub fn apps(alloc: Global) -> Result<Vec<Arc<Attrs>>, Fault>
+pub fn apps(alloc: Global) -> Result<Vec<Arc<Attrs>>, BenchFault>
     ensures { IfOk result (λ apps. AreApps (map (λ a. a.value) apps.items)) }
 {
     let mut apps = Vec::new(alloc);
     for k in 0..10 {
         let Ok(()) = apps.push(app_at(alloc, k)?) else {
-            return Err(Fault::Memory);
+            return Err(BenchFault::Memory);
         };
     }
     Ok(apps)
@@ -53,7 +53,7 @@ fn run_once(
     app: &Arc<Attrs>,
     cells: &PlainCells,
     pass: &mut PlainPass,
-) -> Result<(u8, u32), Fault>
+) -> Result<(u8, u32), BenchFault>
     ensures runs { IfOk result (λ c.
         RunsOnce program.now.value app.now.value pass.old pass.new c.0 c.1) }
     ensures short { IfOk result (λ c. c.1 ≤ 4096) }
@@ -71,20 +71,20 @@ pub fn run_times(
     program: &Arc<Verified>,
     apps: &[Arc<Attrs>],
     times: u32,
-) -> Result<Tally, Fault>
+) -> Result<RunTotals, BenchFault>
     requires { length apps.now ≡ 10 }
     ensures { IfOk result (AreRuns program.now.value (map (λ a. a.value) apps.now) times) }
 {
     let Ok((cells, mut pass)) = PlainCells::new(alloc) else {
-        return Err(Fault::Memory);
+        return Err(BenchFault::Memory);
     };
-    let mut tally = Tally {
+    let mut tally = RunTotals {
         instructions: 0,
         choices: fnv1a(&[]),
     };
     for n in 0..times {
         let (choice, count) = run_once(program, &apps[n as usize % 10], &cells, &mut pass)?;
-        tally = Tally {
+        tally = RunTotals {
             instructions: tally.instructions + count as u64,
             choices: hash_more(tally.choices, choice),
         };

@@ -91,10 +91,11 @@ fn is_told(alloc: Global, files: &mut MemFiles, row: &str) -> Result<(), Fail> {
     let (changes, want) = halves(row, " | ")?;
     let manifest = changed(alloc, SAMPLE, changes)?;
     let told = told(alloc, files, manifest.as_str())?;
-    must(row, told.as_str(), fits(told.as_str(), want))
+    let want = want.replace(alloc, "\n", " ")?;
+    must(row, told.as_str(), fits(told.as_str(), want.as_str()))
 }
 
-/// Each row: what is changed in the sample, and what is told.
+/// Each row: what is changed in the sample, and what is told, where a new line is a blank.
 fn each_is_told(alloc: Global, rows: &str) -> Result<(), Fail> {
     let mut files = files(alloc, RULES)?;
     for row in rows.split("\n- ").skip(1) {

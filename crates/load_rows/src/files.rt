@@ -3,7 +3,8 @@
 ghost use Rattle.std.specs.Prelude.{◌≡◌, option_copied};
 ghost use Rattle.load_rows.specs.Files as specs;
 
-use load::{Disk, FileFault, Files};
+use load::Files;
+use load::bounded_files::{Disk, ResourceFault};
 use std::alloc::{AllocError, Global};
 use std::marker::Model;
 
@@ -78,14 +79,14 @@ impl Files for MemFiles {
 
     ghost failed = { λ m. m.failures };
 
-    fn bytes(&mut self, name: &str) -> Result<Vec<u8>, FileFault> {
+    fn bytes(&mut self, name: &str) -> Result<Vec<u8>, ResourceFault> {
         let Some(bytes) = find(self.files.as_slice(), name) else {
             self.failures += 1;
-            return Err(FileFault::Failed);
+            return Err(ResourceFault::File);
         };
         match Vec::from_slice(self.alloc, bytes) {
             Ok(bytes) => Ok(bytes),
-            Err(_) => Err(FileFault::Memory),
+            Err(_) => Err(ResourceFault::Memory),
         }
     }
 
@@ -100,13 +101,16 @@ impl Disk for MemFiles {
 
     ghost known = { λ m. Some (specs.given m.files.items) };
 
-    fn read(&self, path: &str) -> Result<Vec<u8>, FileFault> {
+    fn read(&self, path: &str, most: u32) -> Result<Option<Vec<u8>>, ResourceFault> {
         let Some(bytes) = find(self.files.as_slice(), path) else {
-            return Err(FileFault::Failed);
+            return Err(ResourceFault::File);
         };
+        if bytes.len() > most as usize {
+            return Ok(None);
+        }
         match Vec::from_slice(self.alloc, bytes) {
-            Ok(bytes) => Ok(bytes),
-            Err(_) => Err(FileFault::Memory),
+            Ok(bytes) => Ok(Some(bytes)),
+            Err(_) => Err(ResourceFault::Memory),
         }
     }
 }

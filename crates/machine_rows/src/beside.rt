@@ -3,9 +3,9 @@
 
 use crate::given::{attributes, code_of};
 use crate::row::row_of;
+use acceptance::accept;
 use bpf_insn::Insn;
-use bpf_machine::bpf_verify::{Verified, verify};
-use bpf_machine::flow_check::Flow;
+use bpf_machine::bpf_verify::Verified;
 use bpf_machine::{Progress, Run};
 use bpf_text::assemble;
 use cells::{PlainCells, PlainPass, Shape};
@@ -33,8 +33,8 @@ fn compared(progress: Progress, observed: Observed) -> Comparison {
 }
 
 fn accepted(alloc: Global, text: &str) -> Result<Verified, Fail> {
-    let flow = Flow::check(alloc, &assemble(alloc, text)?)?;
-    Ok(verify(alloc, flow, &Shape::plain(alloc, 64))?)
+    let bytes = assemble(alloc, text)?;
+    Ok(accept(alloc, &bytes, &Shape::plain(alloc, 64))?)
 }
 
 /// One step of both, each over its own counters; none where they have not done the same number of

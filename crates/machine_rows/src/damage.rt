@@ -4,9 +4,8 @@
 
 use crate::given::{attributes, shape_over};
 use crate::runs::runs_alike;
+use acceptance::accept;
 use attrs::Attrs;
-use bpf_machine::bpf_verify::verify;
-use bpf_machine::flow_check::Flow;
 use bpf_text::assemble;
 use cells::Shape;
 use std::alloc::Global;
@@ -74,10 +73,7 @@ impl Judge {
     /// Judges one text.
     fn judge(&mut self, alloc: Global, bytes: &[u8]) -> Result<(), Fail> {
         self.judged = self.judged.wrapping_add(1);
-        let Ok(flow) = Flow::check(alloc, bytes) else {
-            return Ok(());
-        };
-        let Ok(program) = verify(alloc, flow, &self.shape) else {
+        let Ok(program) = accept(alloc, bytes, &self.shape) else {
             return Ok(());
         };
         self.accepted = self.accepted.wrapping_add(1);

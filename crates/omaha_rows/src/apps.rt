@@ -2,13 +2,13 @@
 
 ghost use Rattle.std.specs.Prelude.{◌≡◌, ◌≤◌, IfOk, length};
 
+use acceptance::accept;
 use attrs::{Moment, Text};
 use bpf_text::assemble;
 use cells::Shape;
 use omaha_json::{OmahaFault, Request, read_request, reply_text};
 use releases::{Package, Release};
-use ruleset::bpf_verify::{Verified, verify};
-use ruleset::flow_check::Flow;
+use ruleset::bpf_verify::Verified;
 use ruleset::{App, Ruleset};
 use std::alloc::{AllocError, Global};
 use std::sync::Arc;
@@ -22,8 +22,8 @@ fn program(alloc: Global, count: u8) -> Result<Arc<Verified>, Fail>
     requires { count ≤ 64 }
     ensures { IfOk result (λ p. p.value.shape.releases ≡ count) }
 {
-    let flow = Flow::check(alloc, &assemble(alloc, "mov r0, 0\nexit")?)?;
-    let program = verify(alloc, flow, &Shape::plain(alloc, count))?;
+    let bytes = assemble(alloc, "mov r0, 0\nexit")?;
+    let program = accept(alloc, &bytes, &Shape::plain(alloc, count))?;
     Ok(Arc::new(alloc, program)?)
 }
 

@@ -1,6 +1,7 @@
 //! Memory that is refused once, to `parse` or to `compile`. What is told of a text is asked for
-//! again where memory was refused, and the second answer is the untroubled one. So these tests
-//! pass with ample memory, and wherever one growth of theirs is refused (docs/PROVING.md).
+//! again where memory was refused, and the second answer is the untroubled one. A refusal of the
+//! two is printed. So these tests pass with ample memory, and wherever one growth of theirs is
+//! refused (docs/PROVING.md).
 
 use crate::given::{halves, must};
 use crate::told::{told, told_as_read};
@@ -19,47 +20,54 @@ const COMPILED: &str = r#"
 when attr ap is "abc" and not take(q, 0) offer 1; otherwise none; => 20 slots
 "#;
 
-fn is_refused(told: &Result<String, AllocError>) -> bool {
+/// Whether memory was refused: to a call, which is then printed, or to the test itself.
+fn is_refused<R: Print>(rt: &R, told: &Result<String, AllocError>) -> Result<bool, Fail> {
     match told {
-        Ok(told) => told.as_str() == "L5 Memory" || told.as_str() == "C2 Memory",
-        Err(AllocError) => true,
+        Ok(told) if told.as_str() == "L5 Memory" => {
+            println!(rt; "parse: L5 Memory")?;
+            Ok(true)
+        }
+        Ok(told) if told.as_str() == "C2 Memory" => {
+            println!(rt; "compile: C2 Memory")?;
+            Ok(true)
+        }
+        Ok(_) => Ok(false),
+        Err(AllocError) => Ok(true),
     }
 }
 
-fn read_again(alloc: Global, text: &str) -> Result<String, AllocError> {
-    let answer = told_as_read(alloc, text, 1);
-    if is_refused(&answer) {
-        told_as_read(alloc, text, 1)
-    } else {
-        answer
+fn read_again<R: Print>(rt: &R, alloc: Global, text: &str) -> Result<String, Fail> {
+    let mut answer = told_as_read(alloc, text, 1);
+    if is_refused(rt, &answer)? {
+        answer = told_as_read(alloc, text, 1);
     }
+    Ok(answer?)
 }
 
-fn compiled_again(alloc: Global, text: &str) -> Result<String, AllocError> {
-    let answer = told(alloc, text);
-    if is_refused(&answer) {
-        told(alloc, text)
-    } else {
-        answer
+fn compiled_again<R: Print>(rt: &R, alloc: Global, text: &str) -> Result<String, Fail> {
+    let mut answer = told(alloc, text);
+    if is_refused(rt, &answer)? {
+        answer = told(alloc, text);
     }
+    Ok(answer?)
 }
 
-fn is_read(alloc: Global, row: &str) -> Result<(), Fail> {
+fn is_read<R: Print>(rt: &R, alloc: Global, row: &str) -> Result<(), Fail> {
     let (text, want) = halves(row, " => ")?;
-    let found = read_again(alloc, text)?;
+    let found = read_again(rt, alloc, text)?;
     must(row, found.as_str(), found.as_str() == want)
 }
 
-fn is_compiled(alloc: Global, row: &str) -> Result<(), Fail> {
+fn is_compiled<R: Print>(rt: &R, alloc: Global, row: &str) -> Result<(), Fail> {
     let (text, want) = halves(row, " => ")?;
-    let found = compiled_again(alloc, text)?;
+    let found = compiled_again(rt, alloc, text)?;
     must(row, found.as_str(), found.as_str() == want)
 }
 
 #[test]
 fn memory_to_read(rt: HostRuntime) -> Result<(), Fail> {
     for row in READ.lines().skip(1) {
-        is_read(rt.alloc(), row)?;
+        is_read(&rt, rt.alloc(), row)?;
     }
     Ok(())
 }
@@ -67,7 +75,7 @@ fn memory_to_read(rt: HostRuntime) -> Result<(), Fail> {
 #[test]
 fn memory_to_compile(rt: HostRuntime) -> Result<(), Fail> {
     for row in COMPILED.lines().skip(1) {
-        is_compiled(rt.alloc(), row)?;
+        is_compiled(&rt, rt.alloc(), row)?;
     }
     Ok(())
 }

@@ -3,6 +3,7 @@
 
 ghost use Rattle.std.specs.Prelude.{◌≡◌, ◌≤◌, IfOk, length};
 
+use acceptance::accept;
 use attrs::{Attrs, Text};
 use bpf_text::assemble;
 use cells::Shape;
@@ -10,8 +11,7 @@ use releases::{Package, Release, is_appid};
 use std::alloc::{AllocError, Global};
 use std::sync::Arc;
 use std::test::Fail;
-use world::bpf_verify::{Verified, verify};
-use world::flow_check::Flow;
+use world::bpf_verify::Verified;
 use world::ruleset::{App, Ruleset};
 use world::{Effect, Event, World, WorldFault, play};
 
@@ -21,6 +21,10 @@ pub(crate) const BELOW_100: &str =
 
 /// Two slots, and no release.
 pub(crate) const NONE: &str = "mov r0, 0\nexit\n";
+
+/// Takes one of the quota q[0], which is 2, and offers the release where one was left.
+pub(crate) const TAKE: &str = "ldcell r6, 0, 0\nmov r2, 1\nfadddw [r6+0], r2\njge r2, 2, +2
+mov r0, 1\nexit\nmov r0, 0\nexit\n";
 
 const HASH: &str = "ba7816bf8f01cfea414140de5dae2223b00361a396177a9cb410ff61f20015ad";
 
@@ -64,8 +68,7 @@ fn package(alloc: Global) -> Result<Package, AllocError> {
 
 /// The app that runs the program of a text, of this shape.
 pub(crate) fn app_over(alloc: Global, appid: &str, text: &str, shape: &Shape) -> Result<App, Fail> {
-    let flow = Flow::check(alloc, &assemble(alloc, text)?)?;
-    let program = verify(alloc, flow, shape)?;
+    let program = accept(alloc, &assemble(alloc, text)?, shape)?;
     Ok(app_of(alloc, appid, Arc::new(alloc, program)?)?)
 }
 

@@ -1,7 +1,7 @@
 //! The counters of a world, and events in batches: what is read is the value that the counters
 //! have, workers take of one quota, and a list of events may be played in parts.
 
-use crate::apps::{BELOW_100, rules, rules_over, world_over};
+use crate::apps::{BELOW_100, TAKE, rules, rules_over, world_over};
 use crate::table::must_play;
 use cells::{ArrayNo, CellNo, CellWidth, Directory, Shape};
 use std::alloc::Global;
@@ -50,10 +50,6 @@ fn a_second_batch_goes_on_with_the_world(rt: HostRuntime) -> Result<(), Fail> {
     must_play(rt.alloc(), &mut world, FIRST)?;
     must_play(rt.alloc(), &mut world, SECOND)
 }
-
-/// Takes one of the quota q[0], which is 2, and offers the release where one was left.
-const TAKE: &str = "ldcell r6, 0, 0\nmov r2, 1\nfadddw [r6+0], r2\njge r2, 2, +2
-mov r0, 1\nexit\nmov r0, 0\nexit\n";
 
 /// One release, and the array q of one counter with a quota of 2.
 fn quota_of_two(alloc: Global) -> Result<Shape, Fail> {

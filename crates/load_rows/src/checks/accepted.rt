@@ -13,7 +13,8 @@ const ROWS: &str = r#"
 - name = "q" => name = "n" & name = "n" / width = 32 => name = "a" / width = 32
  | array n:64:1:2 / array a:32:10 / app x releases 1 slots 9 / app y releases 0 slots 5 /
 - length = 1 => length = 4096 & quota = 2 => quota = 9223372036854775807
- | array q:64:4096:9223372036854775807 / array n:32:10 / app x releases 1 slots 9 / app y releases 0 slots 5 /
+ | array q:64:4096:9223372036854775807 / array n:32:10 /
+app x releases 1 slots 9 / app y releases 0 slots 5 /
 "#;
 
 #[test]

@@ -23,7 +23,8 @@ const ROWS: &str = r#"
 - name = "n" => name = "q" | M3 Duplicate / array q stands twice /
 - appid = "y" => appid = "x" | M3 Duplicate / app x stands twice /
 - width = 32 / length = 10 => width = 64 / length = 4096 | 
-M7 Cells N1 CellsFull in array 2 / array[2].length: n passes the 4096 cells that all arrays of a width have /
+M7 Cells N1 CellsFull in array 2 /
+array[2].length: n passes the 4096 cells that all arrays of a width have /
 - "x.bpf" => "z.bpf" | M4 File in app 1 / app[1].program: z.bpf /
 - "x.bpf" => "unreadable.bpf" | M4 File in app 1 / app[1].program: unreadable.bpf /
 - "y.rule" => "z.rule" | M4 File in app 2 / app[2].rule: z.rule /

@@ -1,10 +1,10 @@
-//! Memory that is refused once: a load that answers M8 leaves the directory as it was, and gives
-//! the ruleset when it is asked again. So this test passes with ample memory, and wherever one
-//! growth of a load is refused (docs/PROVING.md).
+//! Memory that is refused once: a load that answers M8 prints it, leaves the directory as it was,
+//! and gives the ruleset when it is asked again. So this test passes with ample memory, and
+//! wherever one growth of a load is refused (docs/PROVING.md).
 
 use super::{SAMPLE, ruleset_from};
 use crate::files::MemFiles;
-use cells::Directory;
+use cells::{CellArray, CellWidth, CellsFault, Directory};
 use load::LoadFault;
 use load::ruleset::Ruleset;
 use std::alloc::{AllocError, Global};
@@ -39,17 +39,49 @@ fn is_loaded(
     Ok(are_both && rules.apps().len() == 2)
 }
 
-/// The same, asked again where memory was refused and the directory is as it was.
-fn is_loaded_again(
+/// A directory of an array that the manifest doesn't have.
+fn directory_of_one(alloc: Global) -> Result<Directory, CellsFault> {
+    let mut directory = Directory::new(alloc);
+    let _number = directory.declare(alloc, "old", CellWidth::Bits64, 10, Some(5))?;
+    Ok(directory)
+}
+
+fn is_old(array: &CellArray) -> bool {
+    array.name.as_str() == "old" && (array.base, array.length) == (0, 10) && array.quota == Some(5)
+}
+
+fn is_new(array: &CellArray) -> bool {
+    array.name.as_str() == "q" && (array.base, array.length) == (10, 1) && array.quota == Some(2)
+}
+
+fn is_as_before(directory: &Directory) -> bool {
+    match directory.arrays() {
+        [old] => is_old(old),
+        _ => false,
+    }
+}
+
+fn has_both(directory: &Directory) -> bool {
+    match directory.arrays() {
+        [old, new] => is_old(old) && is_new(new),
+        _ => false,
+    }
+}
+
+/// Whether a load gives the ruleset, asked again where memory was refused and the directory is as
+/// it was.
+fn is_loaded_again<R: Print>(
+    rt: &R,
     alloc: Global,
     files: &mut MemFiles,
     directory: &mut Directory,
-) -> Result<bool, LoadFault> {
+) -> Result<bool, Fail> {
     match is_loaded(alloc, files, directory) {
-        Err(LoadFault::Memory) if directory.arrays().is_empty() => {
-            is_loaded(alloc, files, directory)
+        Err(LoadFault::Memory) if is_as_before(directory) => {
+            println!(rt; "load: M8 Memory")?;
+            Ok(is_loaded(alloc, files, directory)?)
         }
-        answer => answer,
+        answer => Ok(answer?),
     }
 }
 
@@ -60,11 +92,18 @@ fn files_again(alloc: Global) -> Result<MemFiles, AllocError> {
     }
 }
 
+fn directory_again(alloc: Global) -> Result<Directory, CellsFault> {
+    match directory_of_one(alloc) {
+        Err(CellsFault::Memory) => directory_of_one(alloc),
+        answer => answer,
+    }
+}
+
 #[test]
 fn memory(rt: HostRuntime) -> Result<(), Fail> {
     let mut files = files_again(rt.alloc())?;
-    let mut directory = Directory::new(rt.alloc());
-    let is_loaded = is_loaded_again(rt.alloc(), &mut files, &mut directory)?;
-    assert!(rt; is_loaded && directory.arrays().len() == 1);
+    let mut directory = directory_again(rt.alloc())?;
+    let is_loaded = is_loaded_again(&rt, rt.alloc(), &mut files, &mut directory)?;
+    assert!(rt; is_loaded && has_both(&directory));
     Ok(())
 }

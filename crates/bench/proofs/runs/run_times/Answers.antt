@@ -1,5 +1,5 @@
 use Rattle.std.proofs.Common.{ℕ, ◌+◌, ◌%◌, ◌<◌, length, map, ap, rules, arith}
-use Rattle.bench.specs.declared.runs.Tally.{Tally}
+use Rattle.bench.specs.declared.runs.RunTotals.{RunTotals}
 use Rattle.bench.specs.Runs as runs
 use Rattle.bench.proofs.Apps.{app_at, run_added}
 use Rattle.bench.proofs.runs.run_times.Goals as goal
@@ -14,7 +14,7 @@ loop-n-preserved c =
     let app =
     app_at (λ a. a.value) c.args.apps.now (c.loop-n.n % 10)
     c.index-apps-n.result within c.index-apps-n.is in
-    let tally : ℕ → Tally = λ h. record {
+    let tally : ℕ → RunTotals = λ h. record {
       instructions = c.loop-n.tally.instructions + c.in_ok-choice.count;
       choices = h;
     } in

@@ -8,40 +8,40 @@ use std::convert::AsStr;
 
 /// How long a program is: so many blocks, of four slots each, and four slots more.
 #[derive(Clone, Copy)]
-pub struct Size {
+pub struct ProgramSize {
     pub blocks: u16,
     pub ghost in_range: { blocks < 1024 },
 }
 
 /// What is asked for.
 #[derive(Drop)]
-pub enum Request {
+pub enum Benchmark {
     /// The bytes of one program.
     Bytes {
-        size: Size,
+        size: ProgramSize,
         pattern: Pattern,
     },
     /// To verify each of some programs so many times.
     Verify {
-        size: Size,
+        size: ProgramSize,
         times: u32,
         patterns: Vec<Pattern>,
     },
     /// To verify each of some programs once, and to run it so many times.
     Run {
-        size: Size,
+        size: ProgramSize,
         times: u32,
         patterns: Vec<Pattern>,
     },
 }
 
 /// The size of a word: a number of slots, 4 to 4096, that four divides.
-fn size_of(word: &str) -> Option<Size> {
+fn size_of(word: &str) -> Option<ProgramSize> {
     let slots: u16 = word.parse().ok()?;
     if slots < 4 || slots > 4096 || slots % 4 != 0 {
         return None;
     }
-    Some(Size {
+    Some(ProgramSize {
         blocks: slots / 4 - 1,
     })
 }
@@ -62,8 +62,8 @@ fn patterns_of<S: AsStr>(alloc: Global, words: &[S]) -> Result<Option<Vec<Patter
     })
 }
 
-/// The request of the words, of which the first is the program's name; none where they are wrong.
-pub fn request_of<S: AsStr>(alloc: Global, words: &[S]) -> Result<Option<Request>, AllocError> {
+/// The benchmark of the words, of which the first is the program's name; none where they are wrong.
+pub fn benchmark_of<S: AsStr>(alloc: Global, words: &[S]) -> Result<Option<Benchmark>, AllocError> {
     let [_, verb, size, rest @ ..] = words else {
         return Ok(None);
     };
@@ -72,7 +72,7 @@ pub fn request_of<S: AsStr>(alloc: Global, words: &[S]) -> Result<Option<Request
     };
     match (verb.as_str(), rest) {
         ("bytes", [word]) => match Pattern::named(word.as_str()) {
-            Some(pattern) => Ok(Some(Request::Bytes { size, pattern })),
+            Some(pattern) => Ok(Some(Benchmark::Bytes { size, pattern })),
             None => Ok(None),
         },
         (verb, [times, words @ ..]) => {
@@ -82,20 +82,25 @@ pub fn request_of<S: AsStr>(alloc: Global, words: &[S]) -> Result<Option<Request
             let Some(patterns) = patterns_of(alloc, words)? else {
                 return Ok(None);
             };
-            Ok(timed_request(verb, size, times, patterns))
+            Ok(timed_benchmark(verb, size, times, patterns))
         }
         _ => Ok(None),
     }
 }
 
-fn timed_request(verb: &str, size: Size, times: u32, patterns: Vec<Pattern>) -> Option<Request> {
+fn timed_benchmark(
+    verb: &str,
+    size: ProgramSize,
+    times: u32,
+    patterns: Vec<Pattern>,
+) -> Option<Benchmark> {
     match verb {
-        "verify" => Some(Request::Verify {
+        "verify" => Some(Benchmark::Verify {
             size,
             times,
             patterns,
         }),
-        "run" => Some(Request::Run {
+        "run" => Some(Benchmark::Run {
             size,
             times,
             patterns,
