@@ -1,0 +1,253 @@
+"""Memory that is refused to the built program: to its commands, and to servers at both ports."""
+import re
+import subprocess
+import time
+
+from asking import Server, app, array, manifest, post, request, whole, without_moment
+from refusing import Wrong, told
+
+PATIENCE = 60
+LINE = re.compile(r"refused ([A-Z]\d+ Memory)\n")
+# Bytes that stand in an OUT before a command.
+BEFORE = b"as it was"
+
+RULES = {
+    "none.rule": "otherwise none;\n",
+    "take.rule": "count n[0]; when version < 2.0 and take(q, 0) offer 1; otherwise none;\n",
+    "count.rule": "count n[1]; when bucket(77) < 5000 and attr ap is \"beta\" offer 1;\n"
+    "otherwise none;\n",
+    "a.txt": "mov r0, 0\nldxh r2, [r1+16]\njge r2, 5000, l\nmov r0, 1\nl: exit\n",
+}
+ARRAYS = array("q", 64, 1, 1000) + array("n", 64, 2)
+TAKING = ARRAYS + app("x", "take.rule", "2.0") + app("y", "count.rule", "2.0")
+MANIFESTS = {
+    "first.toml": manifest("first", TAKING),
+    "next.toml": manifest("next", array("more", 64, 3), TAKING, app("z", "none.rule", "3.0")),
+    # The array `more` in another shape: this one is loaded where no array of next.toml stands.
+    "other.toml": manifest("other", array("more", 32, 5), TAKING),
+    "script.txt": "start 0 x 99 1.0\nstep 0 4097\nswap next.toml\nstart 1 z 7 -\nstep 1 4097\n"
+    "finish 0\nfinish 1\n",
+}
+
+COMMANDS = {
+    "asm": ["asm", "a.txt", "OUT"],
+    "list": ["list", "a.bin"],
+    "verify": ["verify", "a.bin", "--releases", "1"],
+    "verify, with arrays": ["verify", "take.bin", "--releases", "1", "--arrays", "q:64:1:9,n:64:2"],
+    "compile": ["compile", "take.rule", "OUT", "--releases", "1", "--arrays", "q:64:1:9,n:64:2"],
+    "run": ["run", "take.bin", "--releases", "1", "--arrays", "q:64:1:9,n:64:2", "--version", "1"],
+    "check": ["check", "next.toml"],
+    "replay": ["replay", "first.toml", "script.txt"],
+}
+
+
+
+
+def write_files(folder, program):
+    for name, text in (RULES | MANIFESTS).items():
+        (folder / name).write_text(text)
+    compiled = [word.replace("OUT", "take.bin") for word in COMMANDS["compile"]]
+    for words in (["asm", "a.txt", "a.bin"], compiled):
+        subprocess.run([program, *words], cwd=folder, check=True, capture_output=True)
+
+
+def is_refused_event(found, untroubled):
+    """Whether a script was played up to an event that was refused memory, and then went on."""
+    before, refused, _ = found[1].partition("refused E6 Memory\n")
+    return found[0] == 0 and found[2] == "" and refused and untroubled[1].startswith(before)
+
+
+class Commands:
+    """The program's commands, each in a process of its own."""
+
+    def __init__(self, refusal, folder, program):
+        self.refusal, self.folder, self.program = refusal, folder, program
+        write_files(folder, program)
+
+    def once(self, words):
+        """Status, output, errors, and the bytes of OUT."""
+        how = {"env": self.refusal.env(), "cwd": self.folder, "timeout": PATIENCE}
+        done = subprocess.run([self.program, *words], capture_output=True, text=True, **how)
+        return done.returncode, done.stdout, done.stderr, (self.folder / "OUT").read_bytes()
+
+    def told(self, name, words):
+        def answer(call):
+            (self.folder / "OUT").write_bytes(BEFORE)
+            self.refusal.ask(call)
+            found = self.once(words)
+            if not self.refusal.is_reached():
+                return None
+            return kind(found, self.once(words))
+
+        print(told(f"rollout {name}", self.refusal.in_turn(answer)))
+
+
+def kind(found, untroubled):
+    """How a command answered that was refused memory, of which the second answer is untroubled."""
+    refused = LINE.fullmatch(found[2])
+    if untroubled[0] != 0 or untroubled[2]:
+        raise Wrong(f"again: {untroubled}")
+    if refused and found == (1, "", found[2], BEFORE):
+        return refused[1]
+    if is_refused_event(found, untroubled):
+        return "E6 Memory, of an event"
+    if found == untroubled:
+        return "done all the same"
+    raise Wrong(f"{found}")
+
+
+ASK = post(request("x", "y"))
+CELL = re.compile(r"(\w+\[\d+\]) (\d+)")
+
+
+def state(server):
+    """What the operator sees: generation and apps, and the counters."""
+    return server.ask("show"), server.ask("cells")
+
+
+def serves(server):
+    """Whether it answers, and ends when it is told to."""
+    if server.process.poll() is not None:
+        return False
+    status, _ = whole(server.exchange(ASK)) or (0, "")
+    return status == 200 and server.ask("stop") == "stopping\n" and server.ends() == 0
+
+
+class Servers:
+    """Servers of one worker, over the first manifest."""
+
+    def __init__(self, refusal, folder, program):
+        self.refusal, self.folder, self.program = refusal, folder, program
+
+    def server(self):
+        how = {"env": self.refusal.env(), "cwd": self.folder}
+        return Server(self.program, self.folder / "first.toml", 1, **how)
+
+    def told(self, name, task):
+        print(told(f"server: {name}", self.refusal.in_turn(lambda call: task(self, call))))
+
+    def start(self, call):
+        """A server that starts serves; one that is refused memory says so, and that alone."""
+        self.refusal.ask(call)
+        with self.server() as server:
+            if server.first == "":
+                status, said = server.ends(), server.said()
+                if status != 1 or not LINE.fullmatch(said):
+                    raise Wrong(f"status {status}, {said!r}")
+                answer = LINE.fullmatch(said)[1]
+            else:
+                # What is still made once it says that it serves.
+                time.sleep(0.05)
+                answer = "serves all the same"
+            if not self.refusal.is_reached():
+                return None
+            if server.first != "" and not serves(server):
+                raise Wrong(f"it says {server.first!r}, and then {server.said()!r}")
+        with self.server() as server:
+            if not serves(server):
+                raise Wrong(f"again: {server.first!r}, {server.said()!r}")
+        return answer
+
+    def at_operator(self, call, line, untroubled, again):
+        """A line to a server with that call refused; `again` is then asked of it."""
+        self.refusal.ask(0)
+        with self.server() as server:
+            server.exchange(ASK)
+            before = state(server)
+            self.refusal.ask(call)
+            reply = server.ask(line)
+            if not self.refusal.is_reached():
+                return None
+            if reply == untroubled(before):
+                return "done all the same"
+            if not LINE.fullmatch(reply):
+                raise Wrong(f"{reply!r}")
+            if state(server) != before:
+                raise Wrong(f"{reply!r}, and {before} became {state(server)}")
+            again(server, before)
+            return LINE.fullmatch(reply)[1]
+
+    def asked(self, call, line, untroubled):
+        def again(server, before):
+            if (reply := server.ask(line)) != untroubled(before):
+                raise Wrong(f"again: {reply!r}")
+
+        return self.at_operator(call, line, untroubled, again)
+
+    def load(self, call):
+        """Its arrays aren't seen, but a load that declares one of them otherwise is."""
+
+        def next_one(server, before):
+            if server.ask("load next.toml") != "generation 2\n":
+                raise Wrong("again: no generation 2")
+            shown, cells = state(server)
+            if cells != before[1] or "app z releases 1 slots" not in shown:
+                raise Wrong(f"again: {shown} {cells}")
+
+        def other_one(server, _before):
+            if (reply := server.ask("load other.toml")) != "generation 2\n":
+                raise Wrong(f"an array of a refused load stands: {reply!r}")
+
+        self.at_operator(call, "load next.toml", lambda _: "generation 2\n", other_one)
+        return self.at_operator(call, "load next.toml", lambda _: "generation 2\n", next_one)
+
+
+class Answers:
+    """One server that is asked again and again for two apps, each of which counts."""
+
+    # The counters that rise where no app was run, the first, and both.
+    RUNS = [{}, {"q[0]": 1, "n[0]": 1}, {"q[0]": 1, "n[0]": 1, "n[1]": 1}]
+
+    def __init__(self, servers):
+        self.servers = servers
+
+    def risen(self, server):
+        """By how much each counter rose since it was asked."""
+        found = {name: int(value) for name, value in CELL.findall(server.ask("cells"))}
+        risen = {name: value - self.cells.get(name, 0) for name, value in found.items()}
+        self.cells = found
+        return {name: by for name, by in risen.items() if by}
+
+    def judged(self, server, reply):
+        """How it answered; the counters have to rise by the runs that were made."""
+        status, text = whole(reply) or (0, "")
+        if status == 200 and without_moment(text) == self.untroubled:
+            allowed, answer = self.RUNS[2:], "done all the same"
+        elif status == 500 and text in ("P9 Memory\n", "O5 Memory\n"):
+            allowed, answer = self.RUNS, f"500 {text.strip()}"
+        else:
+            raise Wrong(f"{status} {text!r}")
+        if (risen := self.risen(server)) not in allowed:
+            raise Wrong(f"{answer}, and the counters rose by {risen}")
+        return answer
+
+    def twice(self, server, call):
+        """Asks with that call refused, and again."""
+        self.servers.refusal.ask(call)
+        reply = server.exchange(ASK)
+        is_reached = self.servers.refusal.is_reached()
+        answer = self.judged(server, reply)
+        if not is_reached:
+            return None
+        if self.judged(server, server.exchange(ASK)) != "done all the same":
+            raise Wrong("again: another answer")
+        return answer
+
+    def told(self):
+        refusal = self.servers.refusal
+        refusal.ask(0)
+        self.cells = {}
+        with self.servers.server() as server:
+            self.untroubled = without_moment(whole(server.exchange(ASK))[1])
+            self.risen(server)
+            answers = refusal.in_turn(lambda call: self.twice(server, call))
+            print(told("server: a request of two apps", answers))
+
+
+SERVER = {
+    "start": Servers.start,
+    "load": Servers.load,
+    "show": lambda servers, call: servers.asked(call, "show", lambda before: before[0]),
+    "cells": lambda servers, call: servers.asked(call, "cells", lambda before: before[1]),
+    "stop": lambda servers, call: servers.asked(call, "stop", lambda _: "stopping\n"),
+}
