@@ -1,9 +1,11 @@
 -- How a number is read.
-use Rattle.std.proofs.Common.{◌≡◌, ℕ, ◌<◌, ◌≤◌, List, length, get_or, ◌==◌, Some, None, Result, Ok, Err, true, false, refl, sym, Bool, cond, arith}
+use Rattle.std.proofs.Common.{◌≡◌, ℕ, ◌<◌, ◌≤◌, List, length, get_or, ◌==◌, Some, None}
+use Rattle.std.proofs.Common.{Result, Ok, Err, true, false, refl, sym, Bool, cond, arith}
 use Rattle.std.specs.Result.{result_ok}
 use Rattle.std.specs.Str.{all_ascii_digits}
 use Rattle.std.specs.Str.Parse.{ParsesUnsigned, digits_value}
-use Rattle.std.proofs.lemmas.Str.Parse.{IsNumeralModel, digits_value_short, parse_plain, numerals_by_value, tells_all_ascii_digits}
+use Rattle.std.proofs.lemmas.Str.Parse.{IsNumeralModel, digits_value_short, parse_plain}
+use Rattle.std.proofs.lemmas.Str.Parse.{numerals_by_value, tells_all_ascii_digits}
 use Rattle.std.proofs.lemmas.Option.{cond_some, none-some}
 use Rattle.std.proofs.lemmas.Grind.{common_steps}
 use Rattle.attrs.specs.Version.{decimal_number, is_decimal_number}

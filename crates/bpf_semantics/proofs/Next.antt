@@ -10,7 +10,9 @@ use Rattle.bpf_insn.specs.declared.operand.Size.{Size}
 use Rattle.bpf_insn.specs.declared.operand.AtomicOp.{AtomicOp}
 use Rattle.bpf_insn.specs.declared.operand.AtomicSize.{AtomicSize}
 use Rattle.bpf_insn.specs.declared.insn.Insn.{Insn}
-use Rattle.bpf_insn.specs.declared.insn.Insn.TheVariants.{Alu, Mov, MovSx, Neg, End, Jump, JumpIf, Call, Exit, Load, StoreImm, Store, Atomic, Wide}
+use Rattle.bpf_insn.specs.declared.insn.Insn.TheVariants.{Alu, Mov, MovSx, Neg, End}
+use Rattle.bpf_insn.specs.declared.insn.Insn.TheVariants.{Jump, JumpIf, Call, Exit, Load}
+use Rattle.bpf_insn.specs.declared.insn.Insn.TheVariants.{StoreImm, Store, Atomic, Wide}
 use Rattle.bpf_insn.specs.Table.{number_of}
 use Rattle.bpf_insn.specs.Words.{immediate}
 use Rattle.bpf_insn.specs.Program.{◌>>=◌, at, landing}
@@ -18,8 +20,10 @@ use Rattle.bpf_semantics.specs.Program.{ShapedProgram}
 use Rattle.bpf_semantics.specs.Memory.{address_of, is_in_stack, stack_start, cell_at}
 use Rattle.bpf_semantics.specs.State.{State, with_bytes, with_register}
 use Rattle.bpf_semantics.specs.Reads.{byte_count, register}
-use Rattle.bpf_semantics.specs.Outcome.{Outcome, Asks, Trap, needed, write, branch, finish, jump_to, go_to, moved, moved_to, ask, answer}
-use Rattle.bpf_semantics.specs.Counters.{reach, load_cell, store_cell, store_asks, atomic_asks, atomic_count, cell_op, fetched, expected, cut}
+use Rattle.bpf_semantics.specs.Outcome.{Outcome, Asks, Trap, needed, write, branch, finish}
+use Rattle.bpf_semantics.specs.Outcome.{jump_to, go_to, moved, moved_to, ask, answer}
+use Rattle.bpf_semantics.specs.Counters.{reach, load_cell, store_cell, store_asks, atomic_asks}
+use Rattle.bpf_semantics.specs.Counters.{atomic_count, cell_op, fetched, expected, cut}
 use Rattle.bpf_semantics.specs.Step.{act, act_at, step, store}
 use Rattle.bpf_semantics.specs.Laws.{IsNext}
 

@@ -6,7 +6,8 @@ use Rattle.cells.specs.Events.{event}
 use Rattle.bpf_semantics.specs.Program.{ShapedProgram}
 use Rattle.bpf_semantics.specs.State.{State}
 use Rattle.bpf_semantics.specs.Outcome.{Outcome, Going, Asks, Done, Trap}
-use Rattle.bpf_semantics.specs.Run.{Ends, last, more, asked, Traps, now, later, replied, replies, IsSameEnd}
+use Rattle.bpf_semantics.specs.Run.{Ends, last, more, asked, Traps, now}
+use Rattle.bpf_semantics.specs.Run.{later, replied, replies, IsSameEnd}
 
 abbrev choice_of : Outcome → ℕ
 choice_of (Done choice) = choice

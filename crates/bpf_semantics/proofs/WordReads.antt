@@ -1,13 +1,17 @@
 -- What is read of context and stack has as many bytes as were asked for.
-use Rattle.std.proofs.Common.{◌≡◌, ℕ, zero, suc, ◌+◌, ◌-◌, ◌*◌, ◌^◌, ◌<◌, List, [], ◌∷◌, ◌++◌, take, drop, replicate, All, Option, Some, None, Bool, true, false, refl, arith}
+use Rattle.std.proofs.Common.{◌≡◌, ℕ, zero, suc, ◌+◌, ◌-◌, ◌*◌, ◌^◌, ◌<◌}
+use Rattle.std.proofs.Common.{List, [], ◌∷◌, ◌++◌, take, drop, replicate, All}
+use Rattle.std.proofs.Common.{Option, Some, None, Bool, true, false, refl, arith}
 use Rattle.std.specs.Prelude.{IfSome, slice_index, if◌then◌else◌}
 use Rattle.std.specs.Int.{bytes_low_first, byte_at}
 use Rattle.std.proofs.Math.Nat.{pow-succ'}
-use Rattle.std.proofs.lemmas.List.Elements.{All-nil, All-cons, All-head, All-tail, All-append, All-drop, All-replicate}
+use Rattle.std.proofs.lemmas.List.Elements.{All-nil, All-cons, All-head, All-tail}
+use Rattle.std.proofs.lemmas.List.Elements.{All-append, All-drop, All-replicate}
 use Rattle.attrs.specs.Context.{Context, context_bytes}
 use Rattle.bpf_insn.specs.Words.{little_endian}
 use Rattle.bpf_insn.specs.Program.{◌>>=◌}
-use Rattle.bpf_semantics.specs.Memory.{context_start, stack_start, is_in_context, is_in_stack, set_bytes}
+use Rattle.bpf_semantics.specs.Memory.{context_start, stack_start}
+use Rattle.bpf_semantics.specs.Memory.{is_in_context, is_in_stack, set_bytes}
 use Rattle.bpf_semantics.specs.State.{State, HasWords, context_part, read_at}
 
 abbrev pub IsByte : ℕ → Type 0

@@ -16,7 +16,8 @@ use Rattle.bpf_insn.specs.declared.operand.Extension.TheVariants as extend
 use Rattle.bpf_insn.specs.declared.operand.LoadKind.{LoadKind}
 use Rattle.bpf_insn.specs.declared.operand.LoadKind.TheVariants as load
 use Rattle.bpf_insn.specs.Words.{word_width, word, immediate}
-use Rattle.bpf_insn.specs.Arithmetic.{FitsWidth, alu_result, negated, extended, end_width, reordered}
+use Rattle.bpf_insn.specs.Arithmetic.{FitsWidth, alu_result, negated}
+use Rattle.bpf_insn.specs.Arithmetic.{extended, end_width, reordered}
 use Rattle.bpf_semantics.specs.Reads.{load_count, filled}
 
 abbrev pub IsWord : ℕ → Type 0

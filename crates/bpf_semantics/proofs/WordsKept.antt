@@ -1,5 +1,6 @@
 -- Each step keeps words.
-use Rattle.std.proofs.Common.{◌≡◌, ℕ, ◌+◌, ◌-◌, ◌/◌, ◌%◌, ◌^◌, ◌<◌, ℤ, FitsSigned, Option, Some, None, Bool, true, false, refl, arith}
+use Rattle.std.proofs.Common.{◌≡◌, ℕ, ◌+◌, ◌-◌, ◌/◌, ◌%◌, ◌^◌, ◌<◌, ℤ, FitsSigned}
+use Rattle.std.proofs.Common.{Option, Some, None, Bool, true, false, refl, arith}
 use Rattle.std.specs.Prelude.{IfSome, ◌&&◌, nat_le, nat_lt, ◌==◌, if◌then◌else◌}
 use Rattle.std.specs.Int.{w32}
 use Rattle.std.proofs.lemmas.Nat.{mod_below}
@@ -17,7 +18,9 @@ use Rattle.bpf_insn.specs.declared.operand.LoadKind.{LoadKind}
 use Rattle.bpf_insn.specs.declared.operand.AtomicOp.{AtomicOp}
 use Rattle.bpf_insn.specs.declared.operand.AtomicSize.{AtomicSize}
 use Rattle.bpf_insn.specs.declared.insn.Insn.{Insn}
-use Rattle.bpf_insn.specs.declared.insn.Insn.TheVariants.{Alu, Mov, MovSx, Neg, End, Jump, JumpIf, Call, Exit, Load, StoreImm, Store, Atomic, Wide}
+use Rattle.bpf_insn.specs.declared.insn.Insn.TheVariants.{Alu, Mov, MovSx, Neg, End}
+use Rattle.bpf_insn.specs.declared.insn.Insn.TheVariants.{Jump, JumpIf, Call, Exit, Load}
+use Rattle.bpf_insn.specs.declared.insn.Insn.TheVariants.{StoreImm, Store, Atomic, Wide}
 use Rattle.bpf_insn.specs.Table.{number_of}
 use Rattle.bpf_insn.specs.Words.{word, immediate}
 use Rattle.bpf_insn.specs.Arithmetic.{FitsWidth, alu_result, negated, extended, reordered}
@@ -26,16 +29,23 @@ use Rattle.bpf_insn.specs.Program.{◌>>=◌, at, landing, slots_moved}
 use Rattle.bpf_insn.specs.Spelling.{IsEncodable, imm_field}
 use Rattle.bpf_semantics.specs.Program.{ShapedProgram}
 use Rattle.bpf_semantics.specs.Memory.{address_of, is_in_stack, stack_start, cell_at}
-use Rattle.bpf_semantics.specs.State.{State, HasWords, read_at, with_bytes, with_register, with_result}
-use Rattle.bpf_semantics.specs.Reads.{register, operand, both, only, byte_count, load_count, filled, loaded}
-use Rattle.bpf_semantics.specs.Outcome.{Outcome, Asks, Trap, needed, write, branch, finish, jump_to, go_to, moved, moved_to, ask, answer}
-use Rattle.bpf_semantics.specs.Counters.{reach, load_cell, store_cell, store_asks, atomic_asks, atomic_count, cell_op, fetched, expected, cut}
+use Rattle.bpf_semantics.specs.State.{State, HasWords, read_at, with_bytes}
+use Rattle.bpf_semantics.specs.State.{with_register, with_result}
+use Rattle.bpf_semantics.specs.Reads.{register, operand, both, only}
+use Rattle.bpf_semantics.specs.Reads.{byte_count, load_count, filled, loaded}
+use Rattle.bpf_semantics.specs.Outcome.{Outcome, Asks, Trap, needed, write, branch, finish}
+use Rattle.bpf_semantics.specs.Outcome.{jump_to, go_to, moved, moved_to, ask, answer}
+use Rattle.bpf_semantics.specs.Counters.{reach, load_cell, store_cell, store_asks, atomic_asks}
+use Rattle.bpf_semantics.specs.Counters.{atomic_count, cell_op, fetched, expected, cut}
 use Rattle.bpf_semantics.specs.Calls.{wide_value, helper_result}
 use Rattle.bpf_semantics.specs.Step.{act, act_at, store}
 use Rattle.bpf_semantics.specs.Laws.{GivesWords, KeepsWords}
-use Rattle.bpf_semantics.proofs.WordResults.{IsWord, is_word, alu_word, negated_word, immediate_word, extended_word, reordered_word, filled_word}
+use Rattle.bpf_semantics.proofs.WordResults.{IsWord, is_word, alu_word, negated_word}
+use Rattle.bpf_semantics.proofs.WordResults.{immediate_word, extended_word}
+use Rattle.bpf_semantics.proofs.WordResults.{reordered_word, filled_word}
 use Rattle.bpf_semantics.proofs.WordReads.{IsByte, IsBelow, read_lt}
-use Rattle.bpf_semantics.proofs.WordHelpers.{Words, set_word, only_word, both_word, wide_word, helper_word}
+use Rattle.bpf_semantics.proofs.WordHelpers.{Words, set_word, only_word}
+use Rattle.bpf_semantics.proofs.WordHelpers.{both_word, wide_word, helper_word}
 
 -- ---- states
 

@@ -1,5 +1,6 @@
 -- The arguments of a listing's line are read again as they were written.
-use Rattle.std.proofs.Common.{◌≡◌, ℕ, suc, ◌<◌, ◌^◌, ℤ, pos, negsuc, FitsSigned, w16, w32, Option, Some, None, true, nat_lt, nat_le, if◌then◌else◌, refl, ap, arith}
+use Rattle.std.proofs.Common.{◌≡◌, ℕ, suc, ◌<◌, ◌^◌, ℤ, pos, negsuc, FitsSigned, w16, w32, Option}
+use Rattle.std.proofs.Common.{Some, None, true, nat_lt, nat_le, if◌then◌else◌, refl, ap, arith}
 use Rattle.std.proofs.lemmas.Int.{to_z_pos}
 use Rattle.std.specs.Int.{cast_signed}
 use Rattle.bpf_insn.specs.declared.operand.Operand as operands

@@ -1,5 +1,6 @@
 -- The tokens of each argument of a listing, and what they say when they are read again.
-use Rattle.std.proofs.Common.{◌≡◌, ℕ, suc, ◌<◌, ◌^◌, ℤ, pos, negsuc, List, [], ◌∷◌, ◌++◌, Option, Some, None, false, option_map, refl, ap, ◌∙◌, append_assoc}
+use Rattle.std.proofs.Common.{◌≡◌, ℕ, suc, ◌<◌, ◌^◌, ℤ, pos, negsuc, List, [], ◌∷◌, ◌++◌}
+use Rattle.std.proofs.Common.{Option, Some, None, false, option_map, refl, ap, ◌∙◌, append_assoc}
 use Rattle.std.specs.Fmt.{signed_decimal}
 use Rattle.bpf_insn.specs.declared.reg.Reg.{Reg}
 use Rattle.bpf_insn.specs.Program.{slots_moved}
@@ -15,7 +16,8 @@ use Rattle.bpf_text.specs.Tokens.{Name, word_goes_on, tokens_of}
 use Rattle.bpf_text.specs.Items.{Tokens, item_at_front}
 use Rattle.bpf_text.specs.Listing.{register_text, with_sign, argument_text}
 use Rattle.bpf_text.proofs.Named.{register_is_named}
-use Rattle.bpf_text.proofs.Lexing.{front, figure, word_token, open_token, close_token, decimal_token, minus_token, plus_token}
+use Rattle.bpf_text.proofs.Lexing.{front, figure, word_token, open_token, close_token}
+use Rattle.bpf_text.proofs.Lexing.{decimal_token, minus_token, plus_token}
 
 -- ---- what is read of each argument
 

@@ -1,5 +1,8 @@
 -- A listing assembles to the bytes that it was written of.
-use Rattle.std.proofs.Common.{◌≡◌, ℕ, zero, suc, ◌+◌, ◌-◌, ◌*◌, ◌<◌, ◌≤◌, ◌^◌, ℤ, pos, negsuc, List, [], ◌∷◌, ◌++◌, length, map, Option, Some, None, Result, Ok, option_map, Bool, true, false, ◌&&◌, ◌==◌, nat_le, slice_index, codes, refl, sym, ap, ◌∙◌, append_assoc, length-append, arith}
+use Rattle.std.proofs.Common.{◌≡◌, ℕ, zero, suc, ◌+◌, ◌-◌, ◌*◌, ◌<◌, ◌≤◌, ◌^◌, ℤ, pos, negsuc}
+use Rattle.std.proofs.Common.{List, [], ◌∷◌, ◌++◌, length, map, Option, Some, None, Result}
+use Rattle.std.proofs.Common.{Ok, option_map, Bool, true, false, ◌&&◌, ◌==◌, nat_le, slice_index}
+use Rattle.std.proofs.Common.{codes, refl, sym, ap, ◌∙◌, append_assoc, length-append, arith}
 use Rattle.std.specs.Prelude.{ok_or}
 use Rattle.std.proofs.lemmas.List.Folds.{list_all-append}
 use Rattle.std.proofs.lemmas.List.Splits.{slice_split-cons_no, length-slice_split}
@@ -21,9 +24,13 @@ use Rattle.bpf_text.specs.declared.fault.AsmFaultKind.TheVariants as kind
 use Rattle.bpf_text.specs.declared.operand.Given.TheVariants.{Argument}
 use Rattle.bpf_text.specs.declared.three.UpToThree.{UpToThree}
 use Rattle.bpf_text.specs.Arguments.{mnemonic_of, arguments_of}
-use Rattle.bpf_text.specs.Assembly.{slots_in, slots_of_word, too_long, line_fault, fault_or, first_fault, placed, argument_if, arguments_at, insn_at, bytes_onto, bytes_of_placed, onto_bytes, unless_fault, label_slot, assembly_of, assembly_of_lines, Assembles}
+use Rattle.bpf_text.specs.Assembly.{slots_in, slots_of_word, too_long, line_fault, fault_or}
+use Rattle.bpf_text.specs.Assembly.{first_fault, placed, argument_if, arguments_at, insn_at}
+use Rattle.bpf_text.specs.Assembly.{bytes_onto, bytes_of_placed, onto_bytes, unless_fault}
+use Rattle.bpf_text.specs.Assembly.{label_slot, assembly_of, assembly_of_lines, Assembles}
 use Rattle.bpf_text.specs.Lines.{Line, lines_in, read_line}
-use Rattle.bpf_text.specs.Listing.{Lists, listing_of, line_of, register_text, with_sign, argument_text, text_behind}
+use Rattle.bpf_text.specs.Listing.{Lists, listing_of, line_of, register_text}
+use Rattle.bpf_text.specs.Listing.{with_sign, argument_text, text_behind}
 use Rattle.bpf_text.specs.Results.{◌>>?◌, in_turn}
 use Rattle.bpf_text.specs.Statements.{insn_of}
 use Rattle.bpf_text.specs.Tables.{tables}
@@ -37,7 +44,8 @@ use Rattle.bpf_text.proofs.Again.{HasShortOption}
 use Rattle.bpf_text.proofs.Exact.{by_tables}
 use Rattle.bpf_text.proofs.Placing.{slots_more}
 use Rattle.bpf_text.proofs.Reading.{length-slots, length-encodings}
-use Rattle.bpf_text.proofs.Rereading.{line_text, arguments_text, line_ends, are_short, stated, as_line, line_again}
+use Rattle.bpf_text.proofs.Rereading.{line_text, arguments_text, line_ends}
+use Rattle.bpf_text.proofs.Rereading.{are_short, stated, as_line, line_again}
 use Rattle.bpf_text.proofs.Splitting.{parts_cons}
 use Rattle.bpf_text.proofs.Statements.{insn_again}
 

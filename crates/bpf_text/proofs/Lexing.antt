@@ -1,5 +1,7 @@
 -- The tokens of a listing's words, numbers and marks.
-use Rattle.std.proofs.Common.{◌≡◌, ℕ, ◌<◌, ◌≤◌, ◌^◌, List, [], ◌∷◌, ◌++◌, length, Option, Some, Bool, true, false, ◌&&◌, not, ◌==◌, nat_lt, nat_le, option_map, slice_index_or, refl, ap, ◌∙◌, arith}
+use Rattle.std.proofs.Common.{◌≡◌, ℕ, ◌<◌, ◌≤◌, ◌^◌, List, [], ◌∷◌, ◌++◌, length}
+use Rattle.std.proofs.Common.{Option, Some, Bool, true, false, ◌&&◌, not, ◌==◌, nat_lt}
+use Rattle.std.proofs.Common.{nat_le, option_map, slice_index_or, refl, ap, ◌∙◌, arith}
 use Rattle.std.proofs.lemmas.Fmt.{decimal_is_IsNumeral}
 use Rattle.std.proofs.lemmas.Str.Parse.{digit_from_value}
 use Rattle.std.specs.Fmt.{decimal}
@@ -11,9 +13,12 @@ use Rattle.bpf_text.specs.declared.token.Sign.TheVariants.{Absent, Minus, Plus}
 use Rattle.bpf_text.specs.declared.token.Figure.{Figure}
 use Rattle.bpf_text.specs.declared.token.Token.{Token}
 use Rattle.bpf_text.specs.declared.token.Token.TheVariants.{Word, Number, Comma, Open, Close}
-use Rattle.bpf_text.specs.Tokens.{Name, is_blank, is_word_start, is_mark, is_word_byte, word_goes_on, pieces, onto_piece, token_of, tokens_in, tokens_of, is_numeral, numeral, unsigned_number, number_if_small}
+use Rattle.bpf_text.specs.Tokens.{Name, is_blank, is_word_start, is_mark, is_word_byte}
+use Rattle.bpf_text.specs.Tokens.{word_goes_on, pieces, onto_piece, token_of, tokens_in}
+use Rattle.bpf_text.specs.Tokens.{tokens_of, is_numeral, numeral, unsigned_number, number_if_small}
 use Rattle.bpf_text.proofs.Named.{is_word_text}
-use Rattle.bpf_text.proofs.Tokenizing.{name_plain, pieces_alone, pieces_onto, with_piece, small_number}
+use Rattle.bpf_text.proofs.Tokenizing.{name_plain, pieces_alone}
+use Rattle.bpf_text.proofs.Tokenizing.{pieces_onto, with_piece, small_number}
 
 pub and_both : (a b : Bool) → (a && b) ≡ true → (a ≡ true) × (b ≡ true)
 and_both true b h = (refl, h)

@@ -1,6 +1,7 @@
 -- Each mnemonic and each register is found by its text: a computation a word. The last line of a
 -- list takes each that is left in turn.
-use Rattle.std.proofs.Common.{◌≡◌, ℕ, List, [], ◌∷◌, length, Some, Bool, true, false, ◌&&◌, nat_le, refl}
+use Rattle.std.proofs.Common.{◌≡◌, ℕ, List, [], ◌∷◌, length, Some}
+use Rattle.std.proofs.Common.{Bool, true, false, ◌&&◌, nat_le, refl}
 use Rattle.std.specs.List.{list_all}
 use Rattle.bpf_insn.specs.declared.reg.Reg.{Reg}
 use Rattle.bpf_insn.specs.declared.reg.Reg.TheVariants.{R0}

@@ -1,14 +1,17 @@
 -- The two passes over a text: one line more, and both together.
-use Rattle.std.proofs.Common.{◌≡◌, ℕ, ◌+◌, List, [], ◌∷◌, ◌++◌, length, map, Option, Result, Ok, Err, IfOk, IfErr, inl, inr, sym, ap, ◌∙◌, append_assoc}
+use Rattle.std.proofs.Common.{◌≡◌, ℕ, ◌+◌, List, [], ◌∷◌, ◌++◌, length, map, Option}
+use Rattle.std.proofs.Common.{Result, Ok, Err, IfOk, IfErr, inl, inr, sym, ap, ◌∙◌, append_assoc}
 use Rattle.std.specs.Str.Lines.{lines}
 use Rattle.std.specs.Vec.{vec_items}
 use Rattle.bpf_text.specs.declared.fault.AsmFault.{AsmFault}
 use Rattle.bpf_text.specs.declared.fault.AsmFaultKind.{AsmFaultKind}
 use Rattle.bpf_text.specs.declared.scan.Reading as code
-use Rattle.bpf_text.specs.Assembly.{first_fault, fault_or, bytes_of_placed, placed, label_slot, unless_fault, assembly_of}
+use Rattle.bpf_text.specs.Assembly.{first_fault, fault_or, bytes_of_placed}
+use Rattle.bpf_text.specs.Assembly.{placed, label_slot, unless_fault, assembly_of}
 use Rattle.bpf_text.specs.Lines.{Line, lines_in, read_line}
 use Rattle.bpf_text.specs.Names.{placed_named}
-use Rattle.bpf_text.specs.Reading.{HasRead, ReadsOn, bytes_read, IsByteFault, IsTableFault, IsWholeReading}
+use Rattle.bpf_text.specs.Reading.{HasRead, ReadsOn, bytes_read}
+use Rattle.bpf_text.specs.Reading.{IsByteFault, IsTableFault, IsWholeReading}
 use Rattle.bpf_text.specs.Tables.{tables}
 use Rattle.bpf_text.specs.Tokens.{Name}
 

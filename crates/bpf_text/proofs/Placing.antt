@@ -1,5 +1,7 @@
 -- One line more: its fault, its label and its instruction.
-use Rattle.std.proofs.Common.{◌≡◌, ℕ, ◌+◌, ◌≤◌, List, [], ◌∷◌, ◌++◌, length, map, Option, Some, None, is_some, Ok, Err, Bool, true, false, if◌then◌else◌, refl, sym, ap, ◌∙◌, subst, append_assoc, length-append, arith}
+use Rattle.std.proofs.Common.{◌≡◌, ℕ, ◌+◌, ◌≤◌, List, [], ◌∷◌, ◌++◌, length, map, Option}
+use Rattle.std.proofs.Common.{Some, None, is_some, Ok, Err, Bool, true, false, if◌then◌else◌}
+use Rattle.std.proofs.Common.{refl, sym, ap, ◌∙◌, subst, append_assoc, length-append, arith}
 use Rattle.std.proofs.lemmas.List.{append-nil}
 use Rattle.std.proofs.lemmas.Slice.Eq.{bytes_eq-Decides}
 use Rattle.std.specs.Bool.{Decides}
@@ -12,7 +14,9 @@ use Rattle.bpf_text.specs.Labels.{slot_at, labels_after}
 use Rattle.bpf_text.specs.Lines.{Line, Body}
 use Rattle.bpf_text.specs.Names.{placed_named}
 use Rattle.bpf_text.specs.Reading.{ReadsOn}
-use Rattle.bpf_text.specs.Assembly.{slots_of_body, slots_of_word, slots_in, is_label, label_slot, has_slot, has_label, too_long, fault_of_body, Placed, placed, placed_body}
+use Rattle.bpf_text.specs.Assembly.{slots_of_body, slots_of_word, slots_in, is_label}
+use Rattle.bpf_text.specs.Assembly.{label_slot, has_slot, has_label, too_long}
+use Rattle.bpf_text.specs.Assembly.{fault_of_body, Placed, placed, placed_body}
 
 -- ---- one line more at the end
 

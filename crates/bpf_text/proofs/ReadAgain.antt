@@ -1,5 +1,6 @@
 -- The tokens of arguments that an instruction wants are read as these arguments again.
-use Rattle.std.proofs.Common.{◌≡◌, ℤ, pos, negsuc, FitsSigned, w16, w32, [], ◌∷◌, ◌++◌, Option, Some, None, Result, Ok, option_map, refl, ap, ◌∙◌}
+use Rattle.std.proofs.Common.{◌≡◌, ℤ, pos, negsuc, FitsSigned, w16, w32, [], ◌∷◌, ◌++◌}
+use Rattle.std.proofs.Common.{Option, Some, None, Result, Ok, option_map, refl, ap, ◌∙◌}
 use Rattle.bpf_insn.specs.declared.operand.Distance.TheVariants.{Short, Long}
 use Rattle.bpf_insn.specs.declared.operand.WideValue.TheVariants as wide
 use Rattle.bpf_insn.specs.declared.insn.Insn.{Insn}

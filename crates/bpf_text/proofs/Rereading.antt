@@ -1,5 +1,6 @@
 -- The line of an instruction is read as that instruction, with no label.
-use Rattle.std.proofs.Common.{◌≡◌, ℕ, List, [], ◌∷◌, ◌++◌, Option, Some, None, Ok, false, option_map, codes, refl, sym, ap, ◌∙◌, append_assoc}
+use Rattle.std.proofs.Common.{◌≡◌, ℕ, List, [], ◌∷◌, ◌++◌, Option, Some, None}
+use Rattle.std.proofs.Common.{Ok, false, option_map, codes, refl, sym, ap, ◌∙◌, append_assoc}
 use Rattle.std.proofs.lemmas.List.{append-nil}
 use Rattle.bpf_insn.specs.declared.insn.Insn.{Insn}
 use Rattle.bpf_insn.specs.Spelling.{IsEncodable}
@@ -12,7 +13,8 @@ use Rattle.bpf_text.specs.declared.three.UpToThree.{UpToThree}
 use Rattle.bpf_text.specs.declared.token.Token.TheVariants.{Word, Comma}
 use Rattle.bpf_text.specs.Arguments.{mnemonic_of, arguments_of}
 use Rattle.bpf_text.specs.Items.{Items, Tokens, items_of}
-use Rattle.bpf_text.specs.Lines.{Statement, Line, Body, body_of, split_label, line_if_tokens, read_line}
+use Rattle.bpf_text.specs.Lines.{Statement, Line, Body, body_of}
+use Rattle.bpf_text.specs.Lines.{split_label, line_if_tokens, read_line}
 use Rattle.bpf_text.specs.Listing.{argument_text, text_behind, line_of}
 use Rattle.bpf_text.specs.Operands.{items_as}
 use Rattle.bpf_text.specs.Signatures.{kinds_of}
@@ -24,7 +26,8 @@ use Rattle.bpf_text.proofs.Named.{is_named}
 use Rattle.bpf_text.proofs.Lexing.{front, word_token, comma_token}
 use Rattle.bpf_text.proofs.Arguments.{onto, tokens_of_argument, item_of_argument, argument_tokens}
 use Rattle.bpf_text.proofs.Again.{HasShortOption, all_fit, is_short_if}
-use Rattle.bpf_text.proofs.ReadAgain.{Nothing, Single, Pair, Triple, arguments_again, Shaped, shape_of, behind, at_front, tokens_of_arguments, items_again}
+use Rattle.bpf_text.proofs.ReadAgain.{Nothing, Single, Pair, Triple, arguments_again, Shaped}
+use Rattle.bpf_text.proofs.ReadAgain.{shape_of, behind, at_front, tokens_of_arguments, items_again}
 
 -- ---- the line's text, grouped from its end
 

@@ -1,5 +1,6 @@
 -- A word is its stem and its suffix.
-use Rattle.std.proofs.Common.{◌≡◌, ℕ, List, [], ◌∷◌, ◌++◌, length, take, drop, Bool, true, false, ◌&&◌, nat_eq, refl, sym, ap, ◌∙◌}
+use Rattle.std.proofs.Common.{◌≡◌, ℕ, List, [], ◌∷◌, ◌++◌, length, take, drop}
+use Rattle.std.proofs.Common.{Bool, true, false, ◌&&◌, nat_eq, refl, sym, ap, ◌∙◌}
 use Rattle.std.specs.Str.{bytes_eq}
 
 split_and : (a b c d : Bool) → b ≡ (c && d) → (a && b) ≡ ((a && c) && d)

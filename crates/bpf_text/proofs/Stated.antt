@@ -1,5 +1,7 @@
 -- Each line that states an instruction is read as it, and no other line is.
-use Rattle.std.proofs.Common.{◌≡◌, ℕ, ◌+◌, ℤ, pos, ◌-ℤ◌, FitsSigned, w16, w32, ◌∷◌, Option, Some, None, option_map, Ok, Bool, true, false, ◌&&◌, not, if◌then◌else◌, refl, sym, ap, ◌∙◌}
+use Rattle.std.proofs.Common.{◌≡◌, ℕ, ◌+◌, ℤ, pos, ◌-ℤ◌, FitsSigned, w16, w32, ◌∷◌}
+use Rattle.std.proofs.Common.{Option, Some, None, option_map, Ok}
+use Rattle.std.proofs.Common.{Bool, true, false, ◌&&◌, not, if◌then◌else◌, refl, sym, ap, ◌∙◌}
 use Rattle.std.specs.Prelude.{ok_or}
 use Rattle.bpf_insn.specs.declared.reg.Reg.{Reg}
 use Rattle.bpf_insn.specs.declared.insn.Insn.{Insn}
@@ -16,25 +18,29 @@ use Rattle.bpf_text.specs.declared.signature.Kind.{Kind}
 use Rattle.bpf_text.specs.declared.signature.Kind.TheVariants as kind
 use Rattle.bpf_text.specs.declared.token.Figure.{Figure}
 use Rattle.bpf_text.specs.Arguments.{mnemonic_of, arguments_of}
-use Rattle.bpf_text.specs.Assembly.{SlotOf, slots_to, in_field, short_distance, long_distance, argument_at, argument_if, arguments_at}
+use Rattle.bpf_text.specs.Assembly.{SlotOf, slots_to, in_field, short_distance}
+use Rattle.bpf_text.specs.Assembly.{long_distance, argument_at, argument_if, arguments_at}
 use Rattle.bpf_text.specs.declared.mnemonic.Mnemonic.{Mnemonic}
 use Rattle.bpf_text.specs.declared.three.UpToThree.{UpToThree}
 use Rattle.bpf_text.specs.declared.token.Token.TheVariants.{Word}
 use Rattle.bpf_text.specs.Items.{Items, Tokens, items_of}
 use Rattle.bpf_text.specs.Lines.{body_of}
 use Rattle.bpf_text.specs.Listing.{register_text}
-use Rattle.bpf_text.specs.Operands.{has_plus, has_sign, if_of_kind, register_given, memory_given, item_as, item_if, all_given, items_as}
+use Rattle.bpf_text.specs.Operands.{has_plus, has_sign, if_of_kind, register_given}
+use Rattle.bpf_text.specs.Operands.{memory_given, item_as, item_if, all_given, items_as}
 use Rattle.bpf_text.specs.Ranges.{imm_of, wide_of, short_of, long_of}
 use Rattle.bpf_text.specs.Results.{OrFault, ◌>>?◌, map_ok, in_turn}
 use Rattle.bpf_text.specs.Signatures.{kinds_of, is_of, is_of_if}
-use Rattle.bpf_text.specs.States.{IsDistanceTo, IsArgument, IsArgumentIf, States, IsReadAs, ReadsAsStated}
+use Rattle.bpf_text.specs.States.{IsDistanceTo, IsArgument, IsArgumentIf}
+use Rattle.bpf_text.specs.States.{States, IsReadAs, ReadsAsStated}
 use Rattle.bpf_text.specs.Tokens.{Name}
 use Rattle.bpf_text.specs.Vocabulary.{Vocabulary, IsExact}
 use Rattle.bpf_text.specs.Words.{word_of}
 use Rattle.bpf_text.proofs.Lexing.{and_both}
 use Rattle.bpf_text.proofs.States.{stated_only}
 use Rattle.bpf_text.proofs.Statements.{of_kinds}
-use Rattle.bpf_text.proofs.Distances.{DistanceFits, distances_fit, fits_15, fits_31, imm_plain, signed, wide_plain}
+use Rattle.bpf_text.proofs.Distances.{DistanceFits, distances_fit, fits_15}
+use Rattle.bpf_text.proofs.Distances.{fits_31, imm_plain, signed, wide_plain}
 
 no_truth : ◌≡◌ {A = Bool} false true → ⊥
 no_truth h = cc

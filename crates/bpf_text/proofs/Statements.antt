@@ -1,6 +1,7 @@
 -- The way back from a word and its arguments is exact: what it finds has them, and it finds each
 -- instruction. A list of all that are left takes each in turn.
-use Rattle.std.proofs.Common.{◌≡◌, ℤ, Option, Some, None, IfSome, is_some, Bool, true, false, refl, sym, ap, ◌∙◌}
+use Rattle.std.proofs.Common.{◌≡◌, ℤ, Option, Some, None, IfSome, is_some}
+use Rattle.std.proofs.Common.{Bool, true, false, refl, sym, ap, ◌∙◌}
 use Rattle.bpf_insn.specs.declared.reg.Reg.{Reg}
 use Rattle.bpf_insn.specs.declared.operand.Bits.{Bits}
 use Rattle.bpf_insn.specs.declared.operand.Condition.{Condition}
@@ -10,14 +11,16 @@ use Rattle.bpf_insn.specs.declared.operand.WideValue.TheVariants as wide
 use Rattle.bpf_insn.specs.declared.insn.Insn.{Insn}
 use Rattle.bpf_insn.specs.declared.insn.Insn.TheVariants as insn
 use Rattle.bpf_text.specs.declared.argument.Argument.{Argument}
-use Rattle.bpf_text.specs.declared.argument.Argument.TheVariants.{Register, Imm, Number, Memory, Distance}
+use Rattle.bpf_text.specs.declared.argument.Argument.TheVariants.{Register, Imm, Number}
+use Rattle.bpf_text.specs.declared.argument.Argument.TheVariants.{Memory, Distance}
 use Rattle.bpf_text.specs.declared.mnemonic.Mnemonic.{Mnemonic}
 use Rattle.bpf_text.specs.declared.mnemonic.Mnemonic.TheVariants as word
 use Rattle.bpf_text.specs.declared.three.UpToThree.{UpToThree}
 use Rattle.bpf_text.specs.Arguments.{mnemonic_of, arguments_of}
 use Rattle.bpf_text.specs.Three.{none, one, two, three}
 use Rattle.bpf_text.specs.Signatures.{kinds_of, are_of, KindsAgree}
-use Rattle.bpf_text.specs.Statements.{insn_of, insn_with, insn_of_none, insn_of_one, insn_of_two, insn_of_three, load_of, store_of}
+use Rattle.bpf_text.specs.Statements.{insn_of, insn_with, insn_of_none, insn_of_one}
+use Rattle.bpf_text.specs.Statements.{insn_of_two, insn_of_three, load_of, store_of}
 
 abbrev pub Has : Mnemonic → UpToThree Argument → Insn → Type 0
 Has m a i = (mnemonic_of i ≡ m) × (arguments_of i ≡ a)

@@ -1,5 +1,6 @@
 -- A line is read as an instruction only where it states it.
-use Rattle.std.proofs.Common.{◌≡◌, ℕ, ◌+◌, ℤ, pos, ◌-ℤ◌, ◌∷◌, [], Option, Some, None, option_map, Ok, Bool, true, false, not, if◌then◌else◌, refl, sym, ap, ◌∙◌, subst}
+use Rattle.std.proofs.Common.{◌≡◌, ℕ, ◌+◌, ℤ, pos, ◌-ℤ◌, ◌∷◌, [], Option, Some, None, option_map}
+use Rattle.std.proofs.Common.{Ok, Bool, true, false, not, if◌then◌else◌, refl, sym, ap, ◌∙◌, subst}
 use Rattle.std.specs.Prelude.{ok_or}
 use Rattle.bpf_insn.specs.declared.insn.Insn.{Insn}
 use Rattle.bpf_insn.specs.declared.reg.Reg.{Reg}
@@ -17,17 +18,20 @@ use Rattle.bpf_text.specs.declared.three.UpToThree.{UpToThree}
 use Rattle.bpf_text.specs.declared.token.Figure.{Figure}
 use Rattle.bpf_text.specs.declared.token.Token.TheVariants.{Word}
 use Rattle.bpf_text.specs.Arguments.{mnemonic_of}
-use Rattle.bpf_text.specs.Assembly.{SlotOf, slots_to, in_field, short_distance, long_distance, argument_at, argument_if, arguments_at}
+use Rattle.bpf_text.specs.Assembly.{SlotOf, slots_to, in_field, short_distance}
+use Rattle.bpf_text.specs.Assembly.{long_distance, argument_at, argument_if, arguments_at}
 use Rattle.bpf_text.specs.Items.{Items, Tokens, items_of}
 use Rattle.bpf_text.specs.Lines.{Statement, body_of}
-use Rattle.bpf_text.specs.Operands.{has_plus, has_sign, if_of_kind, register_given, memory_given, item_as, item_if, items_as}
+use Rattle.bpf_text.specs.Operands.{has_plus, has_sign, if_of_kind, register_given}
+use Rattle.bpf_text.specs.Operands.{memory_given, item_as, item_if, items_as}
 use Rattle.bpf_text.specs.Ranges.{imm_of, wide_of, short_of, long_of}
 use Rattle.bpf_text.specs.Signatures.{kinds_of}
 use Rattle.bpf_text.specs.States.{IsDistanceTo, IsArgument, IsArgumentIf, States, IsReadAs}
 use Rattle.bpf_text.specs.Tokens.{Name}
 use Rattle.bpf_text.specs.Vocabulary.{Vocabulary, IsExact}
 use Rattle.bpf_text.specs.Words.{word_of}
-use Rattle.bpf_text.proofs.Successes.{all_given_ok, bind_ok, err_ok, in_turn_ok, map_ok_is, mapped, ok_or_ok, none_some, same_ok, same_some}
+use Rattle.bpf_text.proofs.Successes.{all_given_ok, bind_ok, err_ok, in_turn_ok, map_ok_is}
+use Rattle.bpf_text.proofs.Successes.{mapped, ok_or_ok, none_some, same_ok, same_some}
 
 -- ---- one operand
 

@@ -1,5 +1,6 @@
 -- What a row of steps answers where none of them fails.
-use Rattle.std.proofs.Common.{◌≡◌, Option, Some, None, option_map, Ok, Err, Bool, true, false, ◌||◌, if◌then◌else◌, refl, ap}
+use Rattle.std.proofs.Common.{◌≡◌, Option, Some, None, option_map, Ok, Err}
+use Rattle.std.proofs.Common.{Bool, true, false, ◌||◌, if◌then◌else◌, refl, ap}
 use Rattle.std.specs.Prelude.{ok_or}
 use Rattle.bpf_text.specs.declared.fault.AsmFaultKind.{AsmFaultKind}
 use Rattle.bpf_text.specs.declared.fault.AsmFaultKind.TheVariants as fault

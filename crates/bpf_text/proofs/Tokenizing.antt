@@ -1,5 +1,7 @@
 -- The pieces of a line one by one, and the numbers that digits write.
-use Rattle.std.proofs.Common.{◌≡◌, ℕ, suc, ◌+◌, ◌*◌, ◌<◌, ◌≤◌, ◌^◌, List, [], ◌∷◌, ◌++◌, length, take, drop, map, get_or, Option, Some, None, Bool, true, false, ◌||◌, not, ◌==◌, option_map, refl, sym, ap, ◌∙◌, subst, arith}
+use Rattle.std.proofs.Common.{◌≡◌, ℕ, suc, ◌+◌, ◌*◌, ◌<◌, ◌≤◌, ◌^◌, List, [], ◌∷◌, ◌++◌}
+use Rattle.std.proofs.Common.{length, take, drop, map, get_or, Option, Some, None, Bool, true}
+use Rattle.std.proofs.Common.{false, ◌||◌, not, ◌==◌, option_map, refl, sym, ap, ◌∙◌, subst, arith}
 use Rattle.std.proofs.lemmas.Str.Parse.{digits_value-take-le}
 use Rattle.std.proofs.lemmas.Int.Digits.{digits_value_more}
 use Rattle.std.proofs.lemmas.List.{take_all}
@@ -8,7 +10,9 @@ use Rattle.std.specs.Char.{digit_value}
 use Rattle.std.specs.Str.Parse.{digits_value}
 use Rattle.bpf_text.specs.declared.token.Token.{Token}
 use Rattle.bpf_text.specs.Names.{Bytes, token_named}
-use Rattle.bpf_text.specs.Tokens.{Name, is_blank, is_mark, is_word_byte, word_goes_on, onto_piece, pieces, piece_len, token_of, tokens_in, tokens_of, number_if_small, magnitude}
+use Rattle.bpf_text.specs.Tokens.{Name, is_blank, is_mark, is_word_byte, word_goes_on}
+use Rattle.bpf_text.specs.Tokens.{onto_piece, pieces, piece_len, token_of}
+use Rattle.bpf_text.specs.Tokens.{tokens_in, tokens_of, number_if_small, magnitude}
 
 -- a letter, a digit or _ is no mark, no blank and no semicolon
 pub name_plain : (d : ℕ) → is_word_byte d ≡ true

@@ -1,7 +1,8 @@
 use Rattle.std.proofs.Common.{◌≡◌, ◌≢◌, ℕ, ℤ, rules, pos, refl, sym, ap, ◌∙◌, of_z, to_z, w32}
 use Rattle.std.proofs.Math.Facts.{to_z-of_z}
 use mir.Val.{SFits}
-use Rattle.bpf_machine.proofs.Results.{call_agrees, lookup_ready, lookup_is, compare_ready, compare_is, length_is, bucket_ready, bucket_is}
+use Rattle.bpf_machine.proofs.Results.{call_agrees, lookup_ready, lookup_is, compare_ready}
+use Rattle.bpf_machine.proofs.Results.{compare_is, length_is, bucket_ready, bucket_is}
 use Rattle.bpf_machine.proofs.calls.call.Goals as goal
 
 -- a test of the number's bits

@@ -3,7 +3,8 @@ use Rattle.bpf_insn.specs.declared.insn.Width.{Width}
 use Rattle.bpf_insn.specs.Program.{slots}
 use Rattle.bpf_insn.specs.Spelling.{slots_of, width_of}
 use Rattle.flow_check.proofs.Layouts.{part_within}
-use Rattle.flow_check.proofs.Readings.{alone_start, alone_whole, decoded_more, decoded_stopped, length-more}
+use Rattle.flow_check.proofs.Readings.{alone_start, alone_whole, decoded_more}
+use Rattle.flow_check.proofs.Readings.{decoded_stopped, length-more}
 use Rattle.flow_check.proofs.Verdicts.{one_verdict}
 use Rattle.flow_check.proofs.law.one_verdict.Goals as goal
 
