@@ -26,7 +26,7 @@ LINK = re.compile(r"\]\(([^)#]+)(?:#[^)]*)?\)")
 SPEC = re.compile(r"\(\.\./crates/([^)]+\.antt)\)")
 STOREY = re.compile(r"^# (\w+): (.+)\n((?:\w.*\n)+)", re.M)
 PICTURE = re.compile(r"(?<=\n## The crates\n\n```\n).*?(?=```\n)", re.S)
-FUNCTION = re.compile(r"\bfn (\w+)\b(.*?)(?:\n\s*\{\}?|;)\s*\n", re.S)
+FUNCTION = re.compile(r"\bfn (\w+)\b(.*?)(?:\s\{\}?|;)\s*\n", re.S)
 
 
 def crates():
