@@ -17,7 +17,6 @@ use Rattle.attrs.specs.Facts.{attributes_of, texts_of}
 use Rattle.attrs.specs.declared.facts.AppFacts.{AppFacts}
 use Rattle.attrs.specs.declared.facts.RequestFacts.{RequestFacts}
 use Rattle.cells.specs.declared.event.CellEvent.{CellEvent}
-use Rattle.omaha_json.specs.Request.{Request}
 use Rattle.one_world.specs.InTurn.{AreOfRuns, NoneAreOfRuns, OfRunsAppend}
 use Rattle.one_world.specs.Runs.{AppRun, IsRunUnder, AtEnd}
 use Rattle.one_world.specs.world.World.{ruleset_at}
@@ -118,7 +117,7 @@ module _ (law : Laws) (watcher : Beginning) (moment : ℤ) where
       ap (ruleset_at watcher.rulesets) is.generation_is
       ∙ last_at watcher.rulesets rules is.rules_are
 
-  of_request : (request : Request) (events : List CellEvent) (reply : Reply)
+  of_request : (request : _) (events : List CellEvent) (reply : Reply)
       → RepliesToRequest request watcher moment events reply → AreOfRuns watcher.rulesets events
   of_request request events reply
       (replied {generation = g} {rules = rules} {choices = cs} is made) =
