@@ -4,7 +4,7 @@ use Rattle.std.specs.Prelude.{Some, None, is_some, option_and_then, unwrap_or, i
 use Rattle.attrs.specs.declared.facts.AppFacts.{AppFacts}
 use Rattle.attrs.specs.declared.facts.RequestFacts.{RequestFacts}
 use Rattle.attrs.specs.Attributes.{Attributes, kept_text}
-use Rattle.attrs.specs.Bucket.{named_bucket, app_bucket}
+use Rattle.attrs.specs.Bucket.{named_bucket, hashed_bucket}
 use Rattle.attrs.specs.Context.{Context, version_known, updatecheck, ping, event}
 use Rattle.attrs.specs.Context.{cohort_known, installdate_known, unknown_day}
 use Rattle.attrs.specs.Moment.{elapsed_days, elapsed_seconds}
@@ -33,15 +33,19 @@ known_flags app =
 abbrev pub asked_flags : AppFacts → ℕ
 asked_flags app = flag app.updatecheck updatecheck + flag app.ping ping + flag app.event event
 
-abbrev pub context_of : AppFacts → RequestFacts → ℤ → Context
-context_of app request moment = record {
+-- an app that names no bucket is in the one that its request is hashed to
+abbrev pub context_in : (app : AppFacts) (hashed : ℕ) (moment : ℤ) → Context
+context_in app hashed moment = record {
   version = unwrap_or (app_version app) (replicate 4 0);
-  bucket = app_bucket app request;
+  bucket = unwrap_or (named_bucket app) hashed;
   flags = known_flags app + asked_flags app;
   install_day = unwrap_or (known_day app.installdate) unknown_day;
   today = elapsed_days moment;
   seconds = elapsed_seconds moment;
 }
+
+abbrev pub context_of : AppFacts → RequestFacts → ℤ → Context
+context_of app request moment = context_in app (hashed_bucket request) moment
 
 -- the texts in their order
 abbrev pub texts_of : AppFacts → RequestFacts → List (List ℕ)

@@ -5,16 +5,17 @@ ghost use Rattle.std.specs.Prelude.{◌≡◌, ◌<◌, ◌≤◌, option_copied
 ghost use Rattle.attrs.specs.Attributes.{plain_context};
 ghost use Rattle.attrs.specs.Facts as specs;
 
-use crate::bucket::{bucket_or_hash, named_bucket};
+use crate::bucket::named_bucket;
 use crate::context::Context;
-use crate::facts::{AppFacts, RequestFacts};
+use crate::facts::AppFacts;
 use crate::moment::{Elapsed, Moment};
 use crate::text::lent;
 use crate::version::read_version;
 
-/// The context of an app of a request at a moment.
-pub(crate) fn context_of(app: &AppFacts, request: &RequestFacts, moment: Moment) -> Context
-    ensures { result ≡ specs.context_of app.now request.now moment }
+/// The context of an app at a moment, in the bucket that it names or else the request's.
+pub(crate) fn context_in(app: &AppFacts, hashed: u16, moment: Moment) -> Context
+    requires { hashed < 10000 }
+    ensures { result ≡ specs.context_in app.now hashed moment }
 {
     let version = app_version(app);
     let named = named_bucket(app);
@@ -25,7 +26,7 @@ pub(crate) fn context_of(app: &AppFacts, request: &RequestFacts, moment: Moment)
     let elapsed = Elapsed::at(moment);
     Context {
         version: version.unwrap_or([0; 4]),
-        bucket: bucket_or_hash(named, request),
+        bucket: named.unwrap_or(hashed),
         flags: known + asked_flags(app),
         install_day: installed.unwrap_or(Context::UNKNOWN_DAY),
         today: elapsed.days,

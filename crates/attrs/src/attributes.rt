@@ -2,10 +2,12 @@
 
 ghost use Rattle.std.specs.Prelude.{◌≡◌, ◌<◌, ◌≤◌, length, [], slice_index_or};
 ghost use Rattle.std.specs.Prelude.{IfOk, string_bytes, option_copied};
+ghost use Rattle.attrs.specs.Bucket as specs;
 ghost use Rattle.attrs.specs.Context.{HasContextRanges};
 ghost use Rattle.attrs.specs.Attributes.{kept_text, AreShort};
 
-use crate::app_context::{context_of, plain_context};
+use crate::app_context::{context_in, plain_context};
+use crate::bucket::hashed_bucket;
 use crate::context::Context;
 use crate::facts::{AppFacts, RequestFacts};
 use crate::moment::Moment;
@@ -94,8 +96,22 @@ impl Attrs {
     ) -> Result<Attrs, AttrFault>
         ensures { IfOk result (λ a. a ≡ attributes_of app.now request.now moment) }
     {
+        Attrs::of_hashed(alloc, app, request, hashed_bucket(request), moment)
+    }
+
+    /// The same, of an app of a request whose hashed bucket is known.
+    pub fn of_hashed(
+        alloc: Global,
+        app: &AppFacts,
+        request: &RequestFacts,
+        hashed: u16,
+        moment: Moment,
+    ) -> Result<Attrs, AttrFault>
+        requires { hashed ≡ specs.hashed_bucket request.now }
+        ensures { IfOk result (λ a. a ≡ attributes_of app.now request.now moment) }
+    {
         Ok(Attrs {
-            context: context_of(app, request, moment),
+            context: context_in(app, hashed, moment),
             appid: keep_text(alloc, Some(app.appid.as_str()))?,
             version: keep_text(alloc, lent(&app.version))?,
             brand: keep_text(alloc, lent(&app.brand))?,
@@ -104,6 +120,18 @@ impl Attrs {
             cohort: keep_text(alloc, lent(&app.cohort))?,
             platform: keep_text(alloc, lent(&request.platform))?,
         })
+    }
+
+    /// The same in another bucket, 0 to 9999, which no cohort names.
+    pub fn in_bucket(self, bucket: u16) -> Attrs
+        requires { bucket < 10000 }
+        ensures { result ≡ record self { context = record self.context { bucket = bucket } } }
+    {
+        let context = Context {
+            bucket,
+            ..self.context
+        };
+        Attrs { context, ..self }
     }
 
     /// The context of these attributes.

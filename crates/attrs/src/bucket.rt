@@ -82,19 +82,28 @@ pub fn app_bucket(app: &AppFacts, request: &RequestFacts) -> u16
     ensures value { result ≡ specs.app_bucket app.now request.now }
     ensures range { result < 10000 }
 {
-    bucket_or_hash(named_bucket(app), request)
-}
-
-/// The bucket that a cohort named, or else that of the request.
-pub(crate) fn bucket_or_hash(named: Option<u16>, request: &RequestFacts) -> u16
-    requires { IfSome named (λ bucket. bucket < 10000) }
-    ensures value { result ≡ unwrap_or named (specs.hashed_bucket request.now) }
-    ensures range { result < 10000 }
-{
-    match named {
+    match named_bucket(app) {
         Some(bucket) => bucket,
         None => hashed_bucket(request),
     }
+}
+
+/// The same, of an app of a request whose hashed bucket is known.
+pub fn named_or_hashed(app: &AppFacts, hashed: u16) -> u16
+    requires { hashed < 10000 }
+    ensures value { result ≡ unwrap_or (specs.named_bucket app.now) hashed }
+    ensures range { result < 10000 }
+{
+    named_bucket(app).unwrap_or(hashed)
+}
+
+/// The bucket of all apps of a request that name none: a hash of who asks. It takes time by the
+/// length of the request's id, so who asks for many apps makes it once.
+pub fn hashed_bucket(request: &RequestFacts) -> u16
+    ensures value { result ≡ specs.hashed_bucket request.now }
+    ensures range { result < 10000 }
+{
+    (fnv1a(asker(request).as_bytes()) % BUCKETS) as u16
 }
 
 /// The bucket that the app's cohort names, if it does.
@@ -117,14 +126,6 @@ fn cohort_bucket(cohort: &str) -> Option<u16>
         Some(bucket) => Some(bucket as u16),
         None => None,
     }
-}
-
-// The bucket of a request, by a hash of who asks.
-fn hashed_bucket(request: &RequestFacts) -> u16
-    ensures value { result ≡ specs.hashed_bucket request.now }
-    ensures range { result < 10000 }
-{
-    (fnv1a(asker(request).as_bytes()) % BUCKETS) as u16
 }
 
 // The request's id, or its session's where that is empty or absent.

@@ -14,7 +14,9 @@ mod text;
 mod version;
 
 pub use attributes::{AttrFault, Attrs};
-pub use bucket::{Bucket, app_bucket, cohort_keeps_bucket, four_digits};
+pub use bucket::{
+    Bucket, app_bucket, cohort_keeps_bucket, four_digits, hashed_bucket, named_or_hashed,
+};
 pub use context::Context;
 pub use facts::{AppFacts, RequestFacts};
 pub use hash::fnv1a;
