@@ -9,15 +9,18 @@ import shutil
 import sys
 
 from building.crates import OUT, PROGRAM, ROOT, say
+from building.version import VERSION
 
 SHARE = "share/rollout"
 # The program comes last: it is replaced in one step, with nothing behind it that could fail. A
 # server that runs goes on with the file that it has.
 PLACES = {
     f"{SHARE}/README.md": ROOT / "README.md",
+    f"{SHARE}/VERSION": VERSION,
     f"{SHARE}/docs": ROOT / "docs",
     f"{SHARE}/examples": ROOT / "examples",
-    "bin/rollout": OUT / PROGRAM,
+    "bin/rollout": ROOT / "building" / "installed",
+    "libexec/rollout": OUT / PROGRAM,
 }
 # What checks the pages stays with the sources.
 LEFT_OUT = shutil.ignore_patterns("*.py", "__pycache__")
@@ -56,11 +59,17 @@ def set_in_place(place, undo):
     """What stood there stays beside it, for the time that a later step may fail."""
     new, old = beside(place, "new"), beside(place, "old")
     remove(old)
-    if os.path.lexists(place):
+    if not os.path.lexists(place):
+        undo.callback(remove, place)
+    elif new.is_dir():
         place.rename(old)
         undo.callback(old.rename, place)
-    new.rename(place)
-    undo.callback(place.rename, new)
+        undo.callback(place.rename, new)
+    else:
+        # It is replaced in one step: a launcher is there at any moment.
+        shutil.copy2(place, old)
+        undo.callback(old.replace, place)
+    new.replace(place)
 
 
 def cause(error):
@@ -83,4 +92,4 @@ def install(folder):
         sys.exit(f"rollout: nothing is installed: {cause(error)}")
     for place in shared:
         remove(beside(place, "old"))
-    say(f"installed {program}; its pages and examples lie in {folder / SHARE}")
+    say(f"installed {folder / 'bin' / PROGRAM}; its pages and examples lie in {folder / SHARE}")
