@@ -1,6 +1,7 @@
-//! Rulesets of one app x, and the reply to a body under them.
+//! Rulesets of the apps x and one with braces in its appid, and the reply to a body under them.
 
-ghost use Rattle.std.specs.Prelude.{◌≡◌, ◌≤◌, IfOk, length};
+ghost use Rattle.std.specs.Prelude.{◌≡◌, ◌≤◌, IfOk, IsTrue, length};
+ghost use Rattle.releases.specs.Appid.{is_appid};
 
 use acceptance::accept;
 use attrs::{Moment, Text};
@@ -17,6 +18,9 @@ use std::test::Fail;
 /// The SHA-256 of `abc`.
 const HASH: &str = "ba7816bf8f01cfea414140de5dae2223b00361a396177a9cb410ff61f20015ad";
 
+/// An appid as updaters write a GUID.
+const BRACED: &str = "{5b6f8a1e-3c2d-4e7f-9a0b-1c2d3e4f5a6b}";
+
 /// A program that offers nothing, of an app with so many releases.
 fn program(alloc: Global, count: u8) -> Result<Arc<Verified>, Fail>
     requires { count ≤ 64 }
@@ -27,13 +31,24 @@ fn program(alloc: Global, count: u8) -> Result<Arc<Verified>, Fail>
     Ok(Arc::new(alloc, program)?)
 }
 
-/// The server `prod` with the app x, which has so many releases of so many packages each.
+/// The server `prod` with its two apps, each of so many releases of so many packages each.
 pub(crate) fn rules_of(alloc: Global, count: u8, packages: u8) -> Result<Ruleset, Fail> {
-    let count = count.min(64);
-    let releases = releases(alloc, count, packages.clamp(1, 16))?;
-    let program = program(alloc, count)?;
-    let apps = vec![in alloc; App::new(String::from_str(alloc, "x")?, program, releases)]?;
+    let (count, packages) = (count.min(64), packages.clamp(1, 16));
+    let plain = app(alloc, "x", count, packages)?;
+    let braced = app(alloc, BRACED, count, packages)?;
+    let apps = vec![in alloc; plain, braced]?;
     Ok(Ruleset::new(String::from_str(alloc, "prod")?, apps)?)
+}
+
+fn app(alloc: Global, appid: &str, count: u8, packages: u8) -> Result<App, Fail>
+    requires named { IsTrue (is_appid appid.now) }
+    requires all { count ≤ 64 }
+    requires some { 1 ≤ packages }
+    requires few { packages ≤ 16 }
+{
+    let releases = releases(alloc, count, packages)?;
+    let program = program(alloc, count)?;
+    Ok(App::new(String::from_str(alloc, appid)?, program, releases))
 }
 
 fn releases(alloc: Global, count: u8, packages: u8) -> Result<Vec<Release>, AllocError>

@@ -48,8 +48,8 @@ fn told_app(alloc: Global, facts: &AppFacts) -> Result<String, AllocError> {
     words.join(alloc, " ")
 }
 
-/// What is read of a body, in lines.
-fn told(alloc: Global, body: &str) -> Result<String, Fail> {
+/// What is read of a body, in lines: the request's ids and platform, and then each app.
+pub(crate) fn told(alloc: Global, body: &str) -> Result<String, Fail> {
     let request = read(alloc, body.as_bytes())?;
     let mut lines = vec![in alloc; told_request(alloc, request.facts())?]?;
     for app in request.apps() {

@@ -82,8 +82,13 @@ fn choices_of(alloc: Global, text: &str) -> Result<Vec<Option<u8>>, AllocError> 
     Ok(choices)
 }
 
-/// Whether a body has this reply.
-fn is_replied(alloc: Global, title: &str, body: &str, reply: &str) -> Result<bool, Fail> {
+/// Whether a body has this reply, under the releases, moment and choices of the title.
+pub(crate) fn is_replied(
+    alloc: Global,
+    title: &str,
+    body: &str,
+    reply: &str,
+) -> Result<bool, Fail> {
     let mut words = title.split(" |").skip(1);
     let releases = words.next().unwrap_or("").trim().parse::<u8>()?;
     let moment = words.next().unwrap_or("").trim().parse::<i64>()?;
