@@ -1,8 +1,8 @@
 //! The apps of a request: each is looked up, and run if it asks for an update, app after app.
 
-ghost use Rattle.std.specs.Prelude.{◌≡◌, false, IfOk, MatchResult};
+ghost use Rattle.std.specs.Prelude.{◌≡◌, ◌<◌, false, IfOk, MatchResult};
 ghost use Rattle.std.specs.Arc.{arc_value};
-ghost use Rattle.attrs.specs.Bucket.{app_bucket};
+ghost use Rattle.attrs.specs.Bucket.{app_bucket, hashed_bucket};
 ghost use Rattle.attrs.specs.Facts.{attributes_of};
 ghost use Rattle.bpf_machine.specs.bpf_semantics.State.{opening};
 ghost use Rattle.bpf_machine.specs.StandsFor.{RunStandsFor};
@@ -10,7 +10,7 @@ ghost use Rattle.cells.specs.Grown.{Grows};
 ghost use Rattle.answering.specs.Apps.{FindsApp, FindsApps, RunsFew};
 
 use crate::turn::Turn;
-use attrs::{AppFacts, Attrs, Moment, RequestFacts, app_bucket};
+use attrs::{AppFacts, Attrs, Moment, RequestFacts, hashed_bucket, named_or_hashed};
 use bpf_machine::Run;
 use bpf_machine::bpf_verify::Verified;
 use cells::{CellSteps, growth};
@@ -25,15 +25,17 @@ fn start(
     program: &Arc<Verified>,
     app: &AppFacts,
     facts: &RequestFacts,
+    hashed: u16,
     moment: &Moment,
 ) -> Result<(Run, u16), AllocError>
+    requires { hashed ≡ hashed_bucket facts.now }
     ensures program { IfOk result (λ r. r.0.program ≡ arc_value program.now) }
     ensures stands { IfOk result (λ r. RunStandsFor r.0
         (opening (attributes_of app.now facts.now moment.now))) }
     ensures going { IfOk result (λ r. r.0.is_done ≡ false) }
     ensures bucket { IfOk result (λ r. r.1 ≡ app_bucket app.now facts.now) }
 {
-    let Ok(attrs) = Attrs::of(alloc, app, facts, *moment) else {
+    let Ok(attrs) = Attrs::of_hashed(alloc, app, facts, hashed, *moment) else {
         return Err(AllocError);
     };
     let bucket = attrs.context().bucket;
@@ -47,15 +49,18 @@ fn start(
 }
 
 // What the ruleset has for an app, with the choice of its run to its end, if it has one. Where
-// memory is refused no run is made.
+// memory is refused no run is made. An app that names no bucket is in the hashed one.
 fn run_app<'r, C: CellSteps>(
     turn: &Turn<'_, C>,
     app: &AppFacts,
     facts: &RequestFacts,
+    hashed: u16,
     rules: &'r Ruleset,
     pass: &mut C::Pass,
 ) -> Result<Option<FoundApp<'r>>, AllocError>
-    requires { C.belongs turn.now.cells.now pass.old }
+    requires belongs { C.belongs turn.now.cells.now pass.old }
+    requires hashed { hashed ≡ hashed_bucket facts.now }
+    requires range { hashed < 10000 }
     ensures belongs { C.belongs turn.now.cells.now pass.new }
     ensures finds { MatchResult result
         (λ found. Grows C.grew pass.old pass.new
@@ -66,10 +71,11 @@ fn run_app<'r, C: CellSteps>(
         return Ok(None);
     };
     if !app.updatecheck {
-        return Ok(Some(FoundApp::new(known, app_bucket(app, facts), None)));
+        return Ok(Some(FoundApp::new(known, named_or_hashed(app, hashed), None)));
     }
     known.keeps();
-    let Ok((run, bucket)) = start(turn.alloc, known.program(), app, facts, turn.moment) else {
+    let Ok((run, bucket)) = start(turn.alloc, known.program(), app, facts, hashed, turn.moment)
+    else {
         return Err(AllocError);
     };
     let (choice, _) = run.run(turn.cells, pass);
@@ -94,12 +100,14 @@ pub fn run_apps<'r, C: CellSteps>(
 {
     growth::<C>();
     let facts = request.facts();
+    // Once a request: it takes time by the length of the request's id.
+    let hashed = hashed_bucket(facts);
     let apps = request.apps();
     let Ok(mut found) = Vec::with_capacity(turn.alloc, apps.len()) else {
         return Err(AllocError);
     };
     for app in apps {
-        let Ok(one) = run_app(turn, app, facts, rules, pass) else {
+        let Ok(one) = run_app(turn, app, facts, hashed, rules, pass) else {
             return Err(AllocError);
         };
         let Ok(()) = found.push(one) else {

@@ -1,4 +1,6 @@
 use Rattle.std.proofs.Common.{◌≡◌, ◌∙◌, None, Some, List, ℕ, true, false, ap, sym, rules}
+use Rattle.std.specs.Prelude.{unwrap_or}
+use Rattle.attrs.specs.Bucket.{named_bucket}
 use Rattle.hot_swap.specs.rulesets.Rules.{app_of}
 use Rattle.answering.proofs.Grown.{grows_none, grows_ran, grows_found, not_true, not_false}
 use Rattle.answering.proofs.Grown.{finds_none, finds_unasked, found_is}
@@ -20,9 +22,11 @@ returns-then-not-app-clause-finds g c =
     first_of (search rules, search (rules, not_true)) in
     let same = ap (λ (z : List ℕ). app_of rules' z) c.as_str.ensures in
     let knows = sym same ∙ sym c.in-Some.ensures.found in
+    let bucket =
+    c.named_or_hashed.ensures.value ∙ ap (unwrap_or (named_bucket app')) c.requires.hashed in
     let is =
-    found_is rules' facts' app' None c.in-Some.known.now c.app_bucket.result c.new.result
-    knows c.app_bucket.ensures.value c.new.ensures in
+    found_is rules' facts' app' None c.in-Some.known.now c.named_or_hashed.result c.new.result
+    knows bucket c.new.ensures in
     grows_none (g.C.CellSteps.grew) _ _
     (finds_unasked rules' facts' c.args.turn.now.moment.now app' (Some c.new.result) asks is)
 
