@@ -7,6 +7,8 @@
 #[cfg(test)]
 mod beside;
 #[cfg(test)]
+mod bits;
+#[cfg(test)]
 mod damage;
 #[cfg(test)]
 mod given;
