@@ -1,0 +1,211 @@
+"""Why one of two verifiers accepts a program that the other refuses: rollout's and Linux's.
+
+Where Linux alone does, three things are tried, alone and together, by programs that do the same and
+that rollout judges:
+
+- each result, and each number on an edge and at a join, is copied onto itself, and so tidied again;
+- each path is code of its own, so that nothing is joined;
+- rollout is told what Linux knows. Where Linux's log says of a register that it lies from 4 to 7
+  and has bit 0, the program tests that, and leaves with the choice 0 where it isn't so, which no
+  run does.
+
+Told is what has to be, from the program's first place on, and of that the most is left out again.
+The instructions at the places that stay are the cause.
+
+Where rollout alone does, Linux is told what it knew itself before each JSET.
+"""
+from dataclasses import dataclass
+
+from bpf_code import GREATEST, REGISTERS, Insn, Label, encoded, places
+from bpf_forms import NONE, Point, apart, copied_again, joined, nothing
+from linux_verifier import ALL_PATHS, Known, copies_told
+
+# A program may have so many slots.
+MOST_SLOTS = 4096
+SCRATCH = 9
+AGAIN = "a number is tidied once"
+JOINED = "paths are joined"
+UNSAID = "a range and bits don't say it"
+FORGOTTEN = "Linux forgets the range where JSET goes on"
+
+
+# ---- what Linux knows
+
+
+@dataclass(frozen=True)
+class Fact:
+    """What Linux knows of a register at a point; nothing where it finds that no run comes there."""
+
+    point: Point
+    register: int
+    known: object
+
+
+def points_of(insns):
+    """The points of a program, each with the registers of which something new may be known."""
+    for at, insn in enumerate(insns):
+        if insn.branches():
+            yield Point(at, "on"), REGISTERS
+            yield Point(at, "taken"), REGISTERS
+        elif insn.word != "exit":
+            yield Point(at), [insn.dst]
+
+
+def known_at(linux, insns, releases, registers):
+    """What Linux knows at these points, of each its registers, over all paths: by its log of the
+    paths by themselves. Of a point where it finds that no run comes there is nothing."""
+    probes = []
+
+    def more(point):
+        made = []
+        for register in registers.get(point, []):
+            probes.append((point, register))
+            made += [Label(("probe", len(probes))), Insn("mov", register, src=register)]
+        return made
+
+    items = apart(insns, more)
+    told = copies_told(linux.judge(encoded(items), releases, ALL_PATHS).log)
+    at_label, found = places(items), {}
+    for number, probe in enumerate(probes, 1):
+        known = told.get(at_label["probe", number])
+        before = found.get(probe)
+        if known is not None:
+            found[probe] = known if before is None else known.joined(before)
+    return found
+
+
+def facts_of(linux, insns, releases):
+    """What Linux knows at each point of a program."""
+    registers = dict(points_of(insns))
+    found = known_at(linux, insns, releases, registers)
+    return [
+        Fact(point, register, found.get((point, register)))
+        for point, its in registers.items()
+        for register in (its if (point, its[0]) in found else its[:1])
+    ]
+
+
+def ranges_before_tests(linux, insns, releases):
+    """More code: where JSET goes on, tests of the range that Linux knew before it."""
+    jsets = [at for at, insn in enumerate(insns) if insn.word == "jset"]
+    registers = {Point(at, "in"): [insns[at].dst] for at in jsets}
+    found = known_at(linux, insns, releases, registers)
+    facts = []
+    for (point, register), known in found.items():
+        range_alone = Known(known.lo, known.hi, 0, GREATEST)
+        facts.append(Fact(Point(point.place, "on"), register, range_alone))
+    return telling(facts)
+
+
+def compared(word, register, number, target):
+    """A conditional jump by a number of any size."""
+    if -(2**31) <= (signed := number - (number >> 63 << 64)) < 2**31:
+        return [Insn(word, register, imm=signed, target=target)]
+    wide = Insn("lddw", SCRATCH, imm=number)
+    return [wide, Insn(word, register, src=SCRATCH, target=target)]
+
+
+def tests(fact, name):
+    """Code that leaves where what is known isn't so; the name is of labels in it."""
+    register, known = fact.register, fact.known
+    if known is None:
+        return compared("jge", register, 0, NONE)
+    if known.lo == known.hi:
+        return compared("jne", register, known.lo, NONE)
+    made = compared("jlt", register, known.lo, NONE) if known.lo > 0 else []
+    made += compared("jgt", register, known.hi, NONE) if known.hi < GREATEST else []
+    made += compared("jset", register, GREATEST ^ known.may, NONE) if known.may < GREATEST else []
+    for bit in (1 << n for n in range(64) if known.has >> n & 1):
+        past = Label((name, bit))
+        made += compared("jset", register, bit, past.name) + [Insn("ja", target=NONE), past]
+    return made
+
+
+def telling(facts):
+    """More code: the tests of these facts."""
+    made = []
+
+    def more(point):
+        found = []
+        for fact in facts:
+            if fact.point == point:
+                made.append(fact)
+                found += tests(fact, len(made))
+        return found
+
+    return more
+
+
+# ---- the cause
+
+
+def enough(facts, accepts):
+    """How many facts, from the first on, are enough; none where all aren't."""
+    if not accepts(facts):
+        return None
+    least, most = 0, len(facts)
+    while least < most:
+        middle = (least + most) // 2
+        least, most = (least, middle) if accepts(facts[:middle]) else (middle + 1, most)
+    return least
+
+
+def needed(facts, accepts):
+    """Of facts that are enough those that can't be left out; the latest are left out first."""
+    kept = facts
+    for fact in reversed(facts):
+        others = [it for it in kept if it != fact]
+        kept = others if accepts(others) else kept
+    return kept
+
+
+def kind(insns, fact):
+    """By what instruction Linux knows more."""
+    insn = insns[fact.point.place]
+    kinds = {"sub": "add", "neg": "add", "or": "and", "xor": "and", "rsh": "lsh", "arsh": "lsh"}
+    names = {"add": "ADD, SUB, NEG", "mul": "MUL", "and": "AND, OR, XOR", "lsh": "shifts"}
+    names |= {"mov": "MOV", "jset": "JSET"}
+    if not insn.branches():
+        return names.get(kinds.get(insn.word, insn.word), "loads")
+    if fact.known is not None and fact.register not in (insn.dst, insn.src):
+        return "a jump tells of copies"
+    if insn.src == insn.dst:
+        return "a register is compared with itself"
+    if insn.bits == 32:
+        return "a jump in 32 bits"
+    if insn.word.startswith("js") and insn.word != "jset":
+        return "a signed jump"
+    return "JSET" if insn.word == "jset" else "an unsigned jump"
+
+
+def cause_of_ours(linux, insns, releases):
+    """Why rollout alone accepts a program: what Linux forgets, or what its log says last."""
+    told = encoded(joined(insns, ranges_before_tests(linux, insns, releases)))
+    if linux.judge(told, releases).accepts:
+        return FORGOTTEN
+    return linux.judge(encoded(joined(insns, nothing)), releases).word()
+
+
+def cause_of_theirs(linux, rollout, insns, releases):
+    """Why Linux alone accepts a program, in a few words, by the form of it that has to be told the
+    least, from the first place on."""
+    facts = facts_of(linux, insns, releases)
+    again = copied_again(insns)
+    least, words = len(facts) + 1, [UNSAID]
+    for form, also, names in [
+        (joined, nothing, []),
+        (joined, again, [AGAIN]),
+        (apart, nothing, [JOINED]),
+        (apart, again, [AGAIN, JOINED]),
+    ]:
+
+        def accepts(some, form=form, also=also):
+            told = telling(some)
+            code = encoded(form(insns, lambda point: told(point) + also(point)))
+            return len(code) <= 8 * MOST_SLOTS and rollout.judge(code, releases).accepts
+
+        count = enough(facts, accepts)
+        if count is not None and count < least:
+            kinds = {kind(insns, fact) for fact in needed(facts[:count], accepts)}
+            least, words = count, [*names, *sorted(kinds)]
+    return " and ".join(words)
