@@ -8,7 +8,7 @@ use Rattle.command_line.specs.declared.verb.Verb.{Verb}
 use Rattle.command_line.specs.declared.verb.Verb.TheVariants as verb
 use Rattle.command_line.specs.declared.verb.Verb.TheVariants.{Assemble, Check, Compile, Verify, Run}
 use Rattle.command_line.specs.declared.verb.Verb.TheVariants.{Replay, Serve, Load}
-use Rattle.command_line.specs.declared.verb.Verb.TheVariants.{Show, Cells, Stop}
+use Rattle.command_line.specs.declared.verb.Verb.TheVariants.{Order, Show, Cells, Stop}
 
 -- a word by its place, which has to be there
 abbrev pub file : Text → Rule
@@ -83,6 +83,9 @@ compile_command =
 abbrev pub list_command : Shape
 list_command = command (codes "list") (file (codes "IN") ∷ [])
 
+abbrev pub order_command : Shape
+order_command = command (codes "order") (file (codes "IN") ∷ file (codes "OUT") ∷ [])
+
 abbrev pub verify_command : Shape
 verify_command = command (codes "verify") (file (codes "IN") ∷ releases ∷ arrays ∷ [])
 
@@ -113,6 +116,7 @@ verb_command Check = check_command
 verb_command Compile = compile_command
 verb_command verb.List = list_command
 verb_command Load = load_command
+verb_command Order = order_command
 verb_command Replay = replay_command
 verb_command Run = run_command
 verb_command Serve = serve_command
@@ -124,6 +128,6 @@ verb_command Verify = verify_command
 abbrev pub commands : App
 commands = record {
   top = record (new_shape (codes "rollout")) { is_leaf = false; subcommand_required = true };
-  subs = map verb_command (Assemble ∷ Cells ∷ Check ∷ Compile ∷ verb.List ∷ Load ∷ Replay ∷ Run
-      ∷ Serve ∷ Show ∷ Stop ∷ Verify ∷ []);
+  subs = map verb_command (Assemble ∷ Cells ∷ Check ∷ Compile ∷ verb.List ∷ Load ∷ Order ∷ Replay
+      ∷ Run ∷ Serve ∷ Show ∷ Stop ∷ Verify ∷ []);
 }

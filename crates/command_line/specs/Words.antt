@@ -94,6 +94,7 @@ verb_named name =
     else if bytes_eq name (codes "check") then Some verb.Check
     else if bytes_eq name (codes "compile") then Some verb.Compile
     else if bytes_eq name (codes "list") then Some verb.List
+    else if bytes_eq name (codes "order") then Some verb.Order
     else if bytes_eq name (codes "verify") then Some verb.Verify
     else if bytes_eq name (codes "run") then Some verb.Run
     else if bytes_eq name (codes "replay") then Some verb.Replay
@@ -113,6 +114,8 @@ VerbAsks (Some verb.Check) rows (request.Check manifest) =
 VerbAsks (Some verb.Compile) rows (request.Compile text shape out) =
     HasText (codes "IN") rows text.now × HasText (codes "OUT") rows out.now × HasShape rows shape
 VerbAsks (Some verb.List) rows (request.List path) = HasText (codes "IN") rows path.now
+VerbAsks (Some verb.Order) rows (request.Order path out) =
+    HasText (codes "IN") rows path.now × HasText (codes "OUT") rows out.now
 VerbAsks (Some verb.Verify) rows (request.Verify path shape) =
     HasText (codes "IN") rows path.now × HasShape rows shape
 VerbAsks (Some verb.Run) rows (request.Run path shape version bucket) =

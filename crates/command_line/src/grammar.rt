@@ -73,6 +73,19 @@ fn list_command<'a>(alloc: Global) -> Result<Command<'a>, AllocError>
     command_of(alloc, "list", about, arguments)
 }
 
+fn order_command<'a>(alloc: Global) -> Result<Command<'a>, AllocError>
+    ensures shape { IfOk result (λ c. shape_of c ≡ grammar.order_command) }
+    ensures local { IfOk result (λ c. (fields_of c).has_globals ≡ false) }
+{
+    let arguments = vec![in alloc;
+        program_argument(alloc),
+        file_argument(alloc, "OUT", "File that gets the program in order"),
+    ]?;
+    let about = "Put a program's blocks in an order in which each jump leads forward; \
+                 prints `N slots`";
+    command_of(alloc, "order", about, arguments)
+}
+
 fn verify_command<'a>(alloc: Global) -> Result<Command<'a>, AllocError>
     ensures shape { IfOk result (λ c. shape_of c ≡ grammar.verify_command) }
     ensures local { IfOk result (λ c. (fields_of c).has_globals ≡ false) }
@@ -216,6 +229,7 @@ fn verb_command<'a>(alloc: Global, verb: Verb) -> Result<Command<'a>, AllocError
         Verb::Compile => compile_command(alloc),
         Verb::List => list_command(alloc),
         Verb::Load => load_command(alloc),
+        Verb::Order => order_command(alloc),
         Verb::Replay => replay_command(alloc),
         Verb::Run => run_command(alloc),
         Verb::Serve => serve_command(alloc),

@@ -19,4 +19,7 @@ pub use request::{CommandRequest, DeclaredShape, Plan};
 pub use words::read_words;
 
 // The words of the contracts here come with them.
+pub use attrs;
+pub use cells;
+pub use declarations;
 pub use operator_request;

@@ -37,6 +37,11 @@ pub enum CommandRequest<'a> {
     List {
         path: &'a str,
     },
+    /// Write a file's program into another file, with its blocks in order.
+    Order {
+        path: &'a str,
+        out: &'a str,
+    },
     /// Verify a file's program.
     Verify {
         path: &'a str,

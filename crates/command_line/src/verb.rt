@@ -10,6 +10,7 @@ pub enum Verb {
     Check,
     Compile,
     List,
+    Order,
     Verify,
     Run,
     Replay,
@@ -21,13 +22,14 @@ pub enum Verb {
 }
 
 /// All commands, by their names' order.
-pub const VERBS: [Verb; 12] = [
+pub const VERBS: [Verb; 13] = [
     Verb::Assemble,
     Verb::Cells,
     Verb::Check,
     Verb::Compile,
     Verb::List,
     Verb::Load,
+    Verb::Order,
     Verb::Replay,
     Verb::Run,
     Verb::Serve,
@@ -45,6 +47,7 @@ pub fn verb_named(name: &str) -> Option<Verb>
         "check" => Some(Verb::Check),
         "compile" => Some(Verb::Compile),
         "list" => Some(Verb::List),
+        "order" => Some(Verb::Order),
         "verify" => Some(Verb::Verify),
         "run" => Some(Verb::Run),
         "replay" => Some(Verb::Replay),

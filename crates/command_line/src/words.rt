@@ -91,6 +91,7 @@ fn request_named<'a>(
         Some(Verb::Check) => check_asked(found),
         Some(Verb::Compile) => compile_asked(alloc, found),
         Some(Verb::List) => list_asked(found),
+        Some(Verb::Order) => order_asked(found),
         Some(Verb::Verify) => verify_asked(alloc, found),
         Some(Verb::Run) => run_asked(alloc, found),
         Some(Verb::Replay) => replay_asked(found),
@@ -140,6 +141,16 @@ fn list_asked<'a>(found: &ArgMatches<'a>) -> Result<CommandRequest<'a>, NoReques
 {
     let path = text_of(found, "IN")?;
     Ok(CommandRequest::List { path })
+}
+
+fn order_asked<'a>(found: &ArgMatches<'a>) -> Result<CommandRequest<'a>, NoRequest>
+    ensures asked { IfOk result (VerbAsks (Some Verb.Order) (rows_of (found_of found.now))) }
+    ensures nothing { result ≡ Err NoRequest.Wrong
+        → VerbAsksNothing (Some Verb.Order) (rows_of (found_of found.now)) }
+{
+    let path = text_of(found, "IN")?;
+    let out = text_of(found, "OUT")?;
+    Ok(CommandRequest::Order { path, out })
 }
 
 fn verify_asked<'a>(alloc: Global, found: &ArgMatches<'a>) -> Result<CommandRequest<'a>, NoRequest>

@@ -11,7 +11,7 @@ use Rattle.commands.specs.Ready.{IsServeRefusal}
 use Rattle.commands.specs.declared.answer.Answer.{Answer}
 use Rattle.commands.specs.declared.answer.Answer.TheVariants.{Assembled, Checked, Compiled}
 use Rattle.commands.specs.declared.answer.Answer.TheVariants.{Listed, Accepted, Chosen, Told}
-use Rattle.commands.specs.declared.answer.Answer.TheVariants.{Replayed, Ready}
+use Rattle.commands.specs.declared.answer.Answer.TheVariants.{Ordered, Replayed, Ready}
 use Rattle.commands.specs.declared.fault.Fault.{Fault}
 use Rattle.commands.specs.declared.fault.Fault.TheVariants.{Manifest, Program}
 use Rattle.program_tools.specs.load.Loaded.{IsLoadedFrom}
@@ -21,6 +21,7 @@ use Rattle.manifest_tools.specs.Manifests.{IsReplayRefusal}
 use Rattle.program_tools.specs.bounded_files.Files.{KnownFiles}
 use Rattle.program_tools.specs.Assembly.{IsAssembledFrom, IsAssemblyRefusal}
 use Rattle.program_tools.specs.Assembly.{IsListedFrom, IsListingRefusal}
+use Rattle.program_tools.specs.Orders.{IsOrderedFrom, IsOrderRefusal}
 use Rattle.program_tools.specs.Programs.{HasChosen, HasSlots}
 use Rattle.program_tools.specs.Rules.{HasCompiled, IsCompileRefusal}
 
@@ -33,6 +34,8 @@ module _ (known : KnownFiles) where
   IsAnswer (request.Compile text shape out) (Compiled slots) =
       HasCompiled known text.now shape slots
   IsAnswer (request.List path) (Listed text) = IsListedFrom known path.now (string_bytes text)
+  IsAnswer (request.Order path out) (Ordered program) =
+      IsOrderedFrom known path.now program.items
   IsAnswer (request.Verify path shape) (Accepted slots) = HasSlots known path.now shape slots
   IsAnswer (request.Run path shape version bucket) (Chosen choice instructions) =
       HasChosen known path.now shape (option_copied version) bucket choice instructions
@@ -49,6 +52,7 @@ module _ (known : KnownFiles) where
   IsRefused (request.Compile text shape out) (Program fault) =
       IsCompileRefusal known text.now shape fault
   IsRefused (request.List path) (Program fault) = IsListingRefusal known path.now fault
+  IsRefused (request.Order path out) (Program fault) = IsOrderRefusal known path.now fault
   IsRefused (request.Verify path shape) (Program fault) =
       IsProgramRefusal known path.now shape fault
   IsRefused (request.Run path shape version bucket) (Program fault) =

@@ -5,7 +5,7 @@ use Rattle.std.specs.String.{string_bytes}
 use Rattle.commands.specs.declared.answer.Answer.{Answer}
 use Rattle.commands.specs.declared.answer.Answer.TheVariants.{Assembled, Checked, Compiled}
 use Rattle.commands.specs.declared.answer.Answer.TheVariants.{Listed, Accepted, Chosen, Replayed}
-use Rattle.commands.specs.declared.answer.Answer.TheVariants.{Ready}
+use Rattle.commands.specs.declared.answer.Answer.TheVariants.{Ordered, Ready}
 use Rattle.commands.specs.declared.answer.Answer.TheVariants as answer
 use Rattle.commands.specs.declared.fault.Fault.{Fault}
 use Rattle.commands.specs.declared.fault.Fault.TheVariants.{Memory, Program, Manifest}
@@ -29,6 +29,7 @@ answer_text (Assembled program) = line (decimal (length program.items / 8) ++ co
 answer_text (Checked text) = string_bytes text
 answer_text (Compiled slots) = line (decimal slots ++ codes " slots")
 answer_text (Listed text) = string_bytes text
+answer_text (Ordered program) = line (decimal (length program.items / 8) ++ codes " slots")
 answer_text (Accepted slots) = line (codes "accepted " ++ decimal slots ++ codes " slots")
 answer_text (Chosen choice instructions) =
     line (codes "choice " ++ decimal choice

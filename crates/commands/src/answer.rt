@@ -18,6 +18,8 @@ pub enum Answer {
     Compiled { slots: usize },
     /// The listing of the bytes: a line an instruction.
     Listed { text: String },
+    /// The program in order, of which the number of slots is printed.
+    Ordered { program: Vec<u8> },
     /// The program is accepted; its length in slots.
     Accepted { slots: usize },
     /// The program chose a release, or none, and did so many instructions.
@@ -42,6 +44,10 @@ impl fmt::Display for Answer {
             Answer::Checked { text } => f.write_str(text),
             Answer::Compiled { slots } => writeln!(f, "{slots} slots"),
             Answer::Listed { text } => f.write_str(text),
+            Answer::Ordered { program } => {
+                let slots = program.len() / 8;
+                writeln!(f, "{slots} slots")
+            }
             Answer::Accepted { slots } => writeln!(f, "accepted {slots} slots"),
             Answer::Chosen {
                 choice,

@@ -15,7 +15,7 @@ use std::fmt;
 pub enum Fault {
     /// B4: memory that the command itself wants is refused.
     Memory,
-    /// `asm`, `list`, `compile`, `verify` or `run` is refused.
+    /// `asm`, `list`, `compile`, `order`, `verify` or `run` is refused.
     Program(ProgramToolFault),
     /// `check` or `replay` is refused.
     Manifest(ManifestToolFault),

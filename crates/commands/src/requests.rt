@@ -10,7 +10,7 @@ use crate::serve::prepare_server;
 use command_line::CommandRequest;
 use manifest_tools::{check_file, replay_script};
 use program_tools::load::Disk;
-use program_tools::{assemble_file, compile_file, list_file, run_file, verify_file};
+use program_tools::{assemble_file, compile_file, list_file, order_file, run_file, verify_file};
 use std::net::{Net, TcpListener, TcpStream};
 use std::rt::Files;
 
@@ -36,6 +36,9 @@ where
         }),
         CommandRequest::List { path } => Ok(Answer::Listed {
             text: list_file(alloc, disk, path).map_err(Fault::Program)?,
+        }),
+        CommandRequest::Order { path, out } => Ok(Answer::Ordered {
+            program: order_file(rt, disk, path, out).map_err(Fault::Program)?,
         }),
         CommandRequest::Verify { path, shape } => Ok(Answer::Accepted {
             slots: verify_file(alloc, disk, path, shape).map_err(Fault::Program)?,

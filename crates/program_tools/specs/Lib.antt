@@ -1,5 +1,6 @@
 pub mod Resources
 pub mod Assembly
+pub mod Orders
 pub mod Programs
 pub mod Rules
 pub mod Texts

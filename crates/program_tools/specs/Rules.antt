@@ -2,7 +2,7 @@
 -- one that can't be read.
 use Rattle.std.specs.Prelude.{◌≡◌, ◌⊎◌, ◌≤◌, ℕ, List, length}
 use Rattle.bpf_machine.specs.bpf_semantics.Program.{ShapedProgram}
-use Rattle.cells.specs.Arrays.{AppShape}
+use Rattle.command_line.specs.cells.Arrays.{AppShape}
 use Rattle.load.specs.acceptance.Rule.{IsProgramOfRule, RefusesRule}
 use Rattle.load.specs.bounded_files.Files.{KnownFiles, most_bytes, within, OfFileWithin}
 use Rattle.command_line.specs.declared.request.DeclaredShape.{DeclaredShape}

@@ -3,7 +3,7 @@
 ghost use Rattle.program_tools.specs.Texts.{fault_text};
 
 use bpf_text::{AsmFault, ListFault};
-use cells::CellsFault;
+use command_line::cells::CellsFault;
 use load::acceptance::{ProgramFault, RuleTextFault};
 use load::bounded_files::ResourceFault;
 use std::fmt;

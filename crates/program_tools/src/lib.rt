@@ -1,4 +1,4 @@
-//! The commands on single programs: `asm`, `list`, `compile`, `verify` and `run`.
+//! The commands on single programs: `asm`, `list`, `compile`, `order`, `verify` and `run`.
 #![tactic(auto)]
 
 // How each goes. The shape is made that the words declare, where the command has one. Then the file
@@ -9,6 +9,7 @@ mod asm;
 mod compile;
 mod fault;
 mod list;
+mod order;
 mod program;
 mod run;
 mod verify;
@@ -17,6 +18,7 @@ pub use asm::assemble_file;
 pub use compile::compile_file;
 pub use fault::ProgramToolFault;
 pub use list::list_file;
+pub use order::order_file;
 pub use run::run_file;
 pub use verify::verify_file;
 

@@ -8,15 +8,15 @@ ghost use Rattle.program_tools.specs.Programs as specs;
 use crate::fault::ProgramToolFault;
 use bpf_machine::bpf_verify::Verified;
 use bpf_machine::flow_check::{FlowFault, FlowRule};
-use cells::{Directory, Shape};
 use command_line::DeclaredShape;
-use declarations::declare_all;
+use command_line::cells::{Directory, Shape};
+use command_line::declarations::declare_all;
 use load::acceptance::{ProgramFault, accept};
 use load::bounded_files::Disk;
 use std::alloc::Global;
 
 /// The most bytes that a program can have.
-const MOST_PROGRAM: u32 = 32768;
+pub const MOST_PROGRAM: u32 = 32768;
 
 /// The program of a file, once it is accepted under the shape that the words declare. Refused is
 /// the shape before the file is read.
@@ -41,8 +41,8 @@ pub fn program_of_file<D: Disk>(
     }
 }
 
-// F7 at slot 0.
-fn too_long() -> ProgramToolFault
+/// F7 at slot 0.
+pub fn too_long() -> ProgramToolFault
     ensures { result ≡ specs.too_long }
 {
     ProgramToolFault::Program(ProgramFault::Flow(FlowFault::Rule {

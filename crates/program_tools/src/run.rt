@@ -5,11 +5,11 @@ ghost use Rattle.program_tools.specs.Programs.{HasChosen, IsRunRefusal, RunsTo};
 
 use crate::fault::ProgramToolFault;
 use crate::program::program_of_file;
-use attrs::{Attrs, Bucket};
 use bpf_machine::Run;
 use bpf_machine::bpf_verify::Verified;
-use cells::{PlainCells, events_fit};
 use command_line::DeclaredShape;
+use command_line::attrs::{Attrs, Bucket};
+use command_line::cells::{PlainCells, events_fit};
 use load::bounded_files::{Disk, ResourceFault};
 use std::alloc::{AllocError, Global};
 use std::sync::Arc;

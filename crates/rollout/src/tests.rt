@@ -5,6 +5,7 @@
 mod arrays;
 mod checks;
 mod memory;
+mod orders;
 mod programs;
 mod refusals;
 mod replays;

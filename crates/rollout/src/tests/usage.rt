@@ -7,6 +7,9 @@ use std::test::Fail;
 const WORDS: &str = "rollout -> usage
 rollout frob -> usage
 rollout asm a.txt -> usage
+rollout order a.bin -> usage
+rollout order a.bin b.bin c.bin -> usage
+rollout order a.bin b.bin --releases 1 -> usage
 rollout run --releases 0 -> usage
 rollout run a.bin -> usage
 rollout run a.bin --releases 65 -> usage
@@ -50,6 +53,7 @@ fn words(rt: HostRuntime) -> Result<(), Fail> {
 /// Pages of help, and what they name.
 const PAGES: &str = "rollout --help -> verify
 rollout --help -> base32, base64, divmul32, divmul64, atomic32
+rollout order --help -> <IN> <OUT>
 rollout run --help -> --bucket
 rollout verify --help -> name:width:length
 rollout check --help -> MANIFEST

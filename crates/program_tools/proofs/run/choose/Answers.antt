@@ -1,9 +1,9 @@
 use Rattle.std.proofs.Common.{◌≡◌, ◌∙◌, ap, List, [], option_copied, subst}
-use Rattle.cells.specs.declared.event.CellEvent.{CellEvent}
+use Rattle.command_line.specs.cells.declared.event.CellEvent.{CellEvent}
 use Rattle.bpf_machine.specs.bpf_semantics.Program.{ShapedProgram}
 use Rattle.bpf_machine.specs.bpf_semantics.State.{opening}
 use Rattle.bpf_machine.specs.bpf_semantics.Run.{Ends}
-use Rattle.attrs.specs.Attributes.{Attributes, plain}
+use Rattle.command_line.specs.attrs.Attributes.{Attributes, plain}
 use Rattle.program_tools.proofs.Events.{all_fit}
 use Rattle.program_tools.proofs.run.choose.Goals as goal
 

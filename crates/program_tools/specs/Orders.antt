@@ -1,0 +1,47 @@
+-- What the command `order` answers from the bytes of a file.
+use Rattle.std.specs.Prelude.{◌≡◌, ◌⊎◌, ℕ, ◌<◌, List, length}
+use Rattle.block_order.specs.Order.{IsOrdered}
+use Rattle.block_order.specs.Refusal.{IsOrderFault}
+use Rattle.block_order.specs.flow_check.Flow.{IsAcceptedAs}
+use Rattle.block_order.specs.flow_check.declared.fault.FlowFault.{FlowFault}
+use Rattle.block_order.specs.flow_check.declared.fault.FlowFault.TheVariants as flow
+use Rattle.load.specs.acceptance.bpf_insn.Program.{Program}
+use Rattle.load.specs.acceptance.declared.fault.ProgramFault.TheVariants.{Flow}
+use Rattle.load.specs.bounded_files.Files.{KnownFiles, OfFile}
+use Rattle.program_tools.specs.Programs.{most_program, too_long}
+use Rattle.program_tools.specs.Resources.{IsNoFile}
+use Rattle.program_tools.specs.declared.fault.ProgramToolFault.{ProgramToolFault}
+use Rattle.program_tools.specs.declared.fault.ProgramToolFault.TheVariants as fault
+
+-- the bytes are a program, and this is the same one in order; one that is in order already stays
+-- byte for byte as it is
+pub record IsOrderedAs (bytes program : List ℕ) : Type 0 where
+  pub order : IsOrdered bytes program
+  pub same : (p : Program) → IsAcceptedAs bytes p → program ≡ bytes
+
+-- why the bytes have no order; one that is in order already is refused for want of memory alone
+pub record HasNoOrder (bytes : List ℕ) (fault : FlowFault) : Type 0 where
+  pub why : IsOrderFault bytes fault
+  pub memory : (p : Program) → IsAcceptedAs bytes p → fault ≡ flow.Memory
+
+-- of more than 32768 bytes, which aren't read, it isn't said that they have no other fault
+abbrev pub IsNoOrder : ProgramToolFault → List ℕ → Type 0
+IsNoOrder (fault.Program (Flow why)) bytes =
+    HasNoOrder bytes why
+    ⊎ ((fault.Program (Flow why) ≡ too_long) × (most_program < length bytes))
+IsNoOrder refused bytes = ⊥
+
+module _ (known : KnownFiles) (path : List ℕ) where
+  abbrev pub IsOrderedFrom : List ℕ → Type 0
+  IsOrderedFrom program = OfFile known path (λ bytes. IsOrderedAs bytes program)
+
+  -- the file can't be read, or its bytes have no order
+  abbrev pub IsUnordered : ProgramToolFault → Type 0
+  IsUnordered (fault.Program why) = OfFile known path (IsNoOrder (fault.Program why))
+  IsUnordered refused = IsNoFile known path refused
+
+  -- or they have one, which can't be written
+  abbrev pub IsOrderRefusal : ProgramToolFault → Type 0
+  IsOrderRefusal (fault.Resource why) =
+      IsUnordered (fault.Resource why) ⊎ ((program : List ℕ) × IsOrderedFrom program)
+  IsOrderRefusal refused = IsUnordered refused

@@ -1,0 +1,61 @@
+//! `order`: a program with its blocks in order.
+
+ghost use Rattle.std.specs.Prelude.{IfOk, IfErr};
+ghost use Rattle.program_tools.specs.Orders.{HasNoOrder, IsOrderedAs, IsOrderedFrom};
+ghost use Rattle.program_tools.specs.Orders.{IsOrderRefusal, IsUnordered};
+
+use crate::fault::ProgramToolFault;
+use crate::program::{MOST_PROGRAM, too_long};
+use block_order::flow_check::FlowFault;
+use block_order::ordered;
+use load::acceptance::ProgramFault;
+use load::bounded_files::{Disk, write_file};
+use std::alloc::Global;
+use std::rt::Files;
+
+/// The program of a file in order. It is written only where the whole program has an order.
+pub fn order_file<R: Files + AllocGlobal, D: Disk>(
+    rt: &R,
+    disk: &D,
+    path: &str,
+    out: &str,
+) -> Result<Vec<u8>, ProgramToolFault>
+    ensures program { IfOk result (λ v. IsOrderedFrom (D.known disk.now) path.now v.items) }
+    ensures fault { IfErr result (IsOrderRefusal (D.known disk.now) path.now) }
+{
+    let program = match order_of_file(rt.alloc(), disk, path) {
+        Ok(program) => program,
+        Err(fault) => return Err(fault),
+    };
+    match write_file(rt, out, &program) {
+        Ok(()) => Ok(program),
+        Err(fault) => Err(ProgramToolFault::Resource(fault)),
+    }
+}
+
+// The program of a file in order.
+fn order_of_file<D: Disk>(alloc: Global, disk: &D, path: &str) -> Result<Vec<u8>, ProgramToolFault>
+    ensures program { IfOk result (λ v. IsOrderedFrom (D.known disk.now) path.now v.items) }
+    ensures fault { IfErr result (IsUnordered (D.known disk.now) path.now) }
+{
+    let bytes = match disk.read(path, MOST_PROGRAM) {
+        Ok(Some(bytes)) => bytes,
+        Ok(None) => return Err(too_long()),
+        Err(fault) => return Err(ProgramToolFault::Resource(fault)),
+    };
+    match order_of(alloc, bytes.as_slice()) {
+        Ok(program) => Ok(program),
+        Err(fault) => Err(ProgramToolFault::Program(ProgramFault::Flow(fault))),
+    }
+}
+
+// The program of bytes in order.
+fn order_of(alloc: Global, bytes: &[u8]) -> Result<Vec<u8>, FlowFault>
+    ensures program { IfOk result (λ v. IsOrderedAs bytes.now v.items) }
+    ensures fault { IfErr result (HasNoOrder bytes.now) }
+{
+    match ordered(alloc, bytes) {
+        Ok(program) => Ok(program),
+        Err(fault) => Err(fault),
+    }
+}
