@@ -21,7 +21,7 @@ use Rattle.abs_value.specs.Bounds.{count_of, sign_bit}
 use Rattle.abs_value.specs.Known.{some_of, any_of, unknown, xor_bits}
 use Rattle.abs_value.specs.Known.{left_bits, right_bits, cut_bits}
 use Rattle.abs_value.specs.Results.{known_bits}
-use Rattle.abs_value.specs.Covers.{IsBetween, IsWithin, Fits, Holds}
+use Rattle.abs_value.specs.Covers.{IsBetween, AreBitsOf, Fits, Holds}
 use Rattle.abs_value.proofs.Cuts.{IsOf}
 use Rattle.abs_value.proofs.ShiftedRanges.{arsh_low}
 use Rattle.abs_value.proofs.Within.{zero_within, within_and, within_or}
@@ -31,7 +31,7 @@ use Rattle.abs_value.proofs.Within.{within_right, within_left, within_mod}
 pub some_of_fits : (k z : ℕ) → z < 2 ^ k → Fits (some_of (2 ^ k - 1)) z
 some_of_fits k z lt = record { has = zero_within z; no_others = within }
   where
-    within : IsWithin z (2 ^ k - 1)
+    within : AreBitsOf z (2 ^ k - 1)
     within i = elim (cases_lt i k) [
       | inl low ↦
           let one = bit_at_ones k i low in
@@ -75,13 +75,13 @@ has_bit p q i = bit_at_xor (xor_bits p q).may_have (bit_or (unknown p) (unknown 
 xor_fits : (p q : KnownBits) (x y : ℕ) → Fits p x → Fits q y → Fits (xor_bits p q) (bit_xor x y)
 xor_fits p q x y h k = record { has = has; no_others = within }
   where
-    has : IsWithin (xor_bits p q).has (bit_xor x y)
+    has : AreBitsOf (xor_bits p q).has (bit_xor x y)
     has i = rw (has_bit p q i, bit_at_xor x y i)
         (xor_least (bit_at p.has i) (bit_at p.may_have i) (bit_at x i) (bit_at q.has i)
         (bit_at q.may_have i) (bit_at y i) (h.has i) (h.no_others i) (bit_at-lt p.may_have i)
         (k.has i) (k.no_others i) (bit_at-lt q.may_have i))
 
-    within : IsWithin (bit_xor x y) (xor_bits p q).may_have
+    within : AreBitsOf (bit_xor x y) (xor_bits p q).may_have
     within i = rw (may_bit p q i, bit_at_xor x y i)
         (xor_most (bit_at p.has i) (bit_at p.may_have i) (bit_at x i) (bit_at q.has i)
         (bit_at q.may_have i) (bit_at y i) (h.has i) (h.no_others i) (bit_at-lt p.may_have i)

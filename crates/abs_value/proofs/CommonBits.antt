@@ -9,7 +9,7 @@ use Rattle.std.proofs.lemmas.Nat.Bits.{bit_at-zero, bit_at_and, bit_at-lt}
 use Rattle.std.proofs.lemmas.Nat.Bits.{bit_at-pow_other, bit_at_not, bit_at_above, and_pow}
 use Rattle.abs_value.specs.declared.known_bits.KnownBits.{KnownBits}
 use Rattle.abs_value.specs.Narrowing.{is_one_bit, with_one_of, without_bits}
-use Rattle.abs_value.specs.Covers.{IsWord, IsWithin, Fits}
+use Rattle.abs_value.specs.Covers.{IsWord, AreBitsOf, Fits}
 use Rattle.abs_value.proofs.Within.{within_le, within_itself, zero_within}
 use Rattle.abs_value.proofs.Within.{within_and, or_within, within_both}
 
@@ -40,7 +40,7 @@ set_bit x j some = elim (cases_eq (bit_at x j) 0) [
   | inr one ↦ let lt = bit_at-lt x j in omega (arith, one, lt)
 ]
 
-power_within : (x j : ℕ) → bit_and x (2 ^ j) ≢ 0 → IsWithin (2 ^ j) x
+power_within : (x j : ℕ) → bit_and x (2 ^ j) ≢ 0 → AreBitsOf (2 ^ j) x
 power_within x j some i = elim (cases_eq i j) [
   | inl same ↦
       let one = set_bit x j some in
@@ -49,14 +49,14 @@ power_within x j some i = elim (cases_eq i j) [
   | inr other ↦ let none = bit_at-pow_other j i other in omega (arith, none)
 ]
 
-one_bit_within : (x n : ℕ) → IsWord n → is_one_bit n ≡ true → bit_and x n ≢ 0 → IsWithin n x
+one_bit_within : (x n : ℕ) → IsWord n → is_one_bit n ≡ true → bit_and x n ≢ 0 → AreBitsOf n x
 one_bit_within x n wn is some = elim (cases_eq n 0) [
   | inl none ↦ rw none (zero_within x)
   | inr there ↦
       let e : bit_and n (n - 1) ≡ 0 = grind (arith, is) in
       let top = leading_top 64 n (omega (arith, there)) wn in
       let power = one_bit_power n top.0 e top.2 top.3 in
-      subst (λ (m : ℕ). bit_and x m ≢ 0 → IsWithin m x) (sym power) (power_within x top.0) some
+      subst (λ (m : ℕ). bit_and x m ≢ 0 → AreBitsOf m x) (sym power) (power_within x top.0) some
 ]
 
 pub one_of_fits : (n x : ℕ) (p : KnownBits) → IsWord n → Fits p x → bit_and x n ≢ 0
@@ -70,12 +70,12 @@ one_of_fits n x p wn h some = elim (cases_Bool (is_one_bit n)) [
 ]
 
 -- what is possible shares a bit where the number does
-pub shares_too : (m n x : ℕ) → IsWithin x m → bit_and x n ≢ 0 → bit_and m n ≢ 0
+pub shares_too : (m n x : ℕ) → AreBitsOf x m → bit_and x n ≢ 0 → bit_and m n ≢ 0
 shares_too m n x h some none =
     let le = within_le (bit_and x n) (bit_and m n) (within_and x n m n h (within_itself n)) in
     some (omega (arith, le, none))
 
-apart_within : (x n : ℕ) → IsWord x → IsWord n → bit_and x n ≡ 0 → IsWithin x (bit_not w64 n)
+apart_within : (x n : ℕ) → IsWord x → IsWord n → bit_and x n ≡ 0 → AreBitsOf x (bit_not w64 n)
 apart_within x n wx wn none i = elim (cases_lt i 64) [
   | inl low ↦
       let s = bit_at_not w64 n i wn low in

@@ -46,7 +46,7 @@ use Rattle.abs_value.specs.Values.{moved_in_context, moved_in_stack, or_unusable
 use Rattle.abs_value.specs.Values.{alu_value, copied_value, extended_value, reordered_value}
 use Rattle.abs_value.specs.Values.{loaded_value, join_values, refined, numbers}
 use Rattle.abs_value.specs.Lookups.{answer_of, with_answer, lookup_value, call_value}
-use Rattle.abs_value.specs.Order.{IsInOrder, AreInOrder}
+use Rattle.abs_value.specs.Order.{HasOrderedEnds, AreInOrder}
 use Rattle.abs_value.specs.Covers.{IsBetween}
 use Rattle.abs_value.proofs.ShiftedRanges.{shifted_right_holds}
 use Rattle.abs_value.proofs.Products.{quotient_holds}
@@ -118,16 +118,16 @@ alu_range w op a b h k = elim (cases_Bool (are_single a b)) [
 
 pointer_in_order : (op : AluOp) (from : Places) (by : Number) (o : Option Places)
     → moved_in_context op from by ≡ o → from.lo ≤ from.hi → IsRange by.range
-    → IsInOrder (or_unusable (option_map Ctx o))
+    → HasOrderedEnds (or_unusable (option_map Ctx o))
 pointer_in_order op from by None e h k = tt
 pointer_in_order op from by (Some r) e h k = context_in_order op from r by e h k
 
-stack_in_order : (o : Option ℕ) → IsInOrder (or_unusable (option_map Stk o))
+stack_in_order : (o : Option ℕ) → HasOrderedEnds (or_unusable (option_map Stk o))
 stack_in_order None = tt
 stack_in_order (Some n) = tt
 
-pub alu_in_order : (w : Bits) (op : AluOp) (a b : Abs) → IsInOrder a → IsInOrder b
-    → IsInOrder (alu_value w op a b)
+pub alu_in_order : (w : Bits) (op : AluOp) (a b : Abs) → HasOrderedEnds a → HasOrderedEnds b
+    → HasOrderedEnds (alu_value w op a b)
 alu_in_order w op (Num a) (Num b) h k = alu_range w op a b h k
 alu_in_order Bits64 op (Ctx from) (Num by) h k =
     pointer_in_order op from by (moved_in_context op from by) refl h k
@@ -135,25 +135,25 @@ alu_in_order Bits64 op (Stk place) (Num by) h k = stack_in_order (moved_in_stack
 alu_in_order Bits64 op a b h k = tt
 alu_in_order Bits32 op a b h k = tt
 
-pub copied_in_order : (w : Bits) (a : Abs) → IsInOrder a → IsInOrder (copied_value w a)
+pub copied_in_order : (w : Bits) (a : Abs) → HasOrderedEnds a → HasOrderedEnds (copied_value w a)
 copied_in_order w (Num a) h =
     tidied_range (cut_interval w a.range) (cut_bits w a.bits) (cut_range w a.range h)
 copied_in_order Bits64 a h = h
 copied_in_order Bits32 a h = tt
 
-pub extended_in_order : (e : Extension) (a : Abs) → IsInOrder (extended_value e a)
+pub extended_in_order : (e : Extension) (a : Abs) → HasOrderedEnds (extended_value e a)
 extended_in_order e (Num a) = chosen_number (is_single a) (single (extended e a.range.lo))
     (full (extension_class e)) (omega arith) (full_range (extension_class e))
 extended_in_order e a = tt
 
 pub reordered_in_order : (o : ByteOrder) (size : EndSize) (a : Abs)
-    → IsInOrder (reordered_value o size a)
+    → HasOrderedEnds (reordered_value o size a)
 reordered_in_order o size (Num a) = chosen_number (is_single a)
     (single (reordered o size a.range.lo))
     (up_to (2 ^ bits (end_width size) - 1)) (omega arith) (omega arith)
 reordered_in_order o size a = tt
 
-pub loaded_in_order : (kind : LoadKind) → IsInOrder (loaded_value kind)
+pub loaded_in_order : (kind : LoadKind) → HasOrderedEnds (loaded_value kind)
 loaded_in_order load.Byte = omega arith
 loaded_in_order load.Half = omega arith
 loaded_in_order load.Word = omega arith
@@ -162,7 +162,8 @@ loaded_in_order load.SignedByte = omega arith
 loaded_in_order load.SignedHalf = omega arith
 loaded_in_order load.SignedWord = omega arith
 
-pub join_in_order : (a b : Abs) → IsInOrder a → IsInOrder b → IsInOrder (join_values a b)
+pub join_in_order : (a b : Abs) → HasOrderedEnds a → HasOrderedEnds b
+    → HasOrderedEnds (join_values a b)
 join_in_order (Num a) (Num b) h k =
     tidied_range (hull a.range b.range) (common a.bits b.bits) (omega (arith, h, k))
 join_in_order (Ctx a) (Ctx b) h k = omega (arith, h, k)
@@ -170,28 +171,28 @@ join_in_order a b h k = grind arith
 
 -- ---- lookups and calls
 
-answer_in_order : (lookup : Lookup) (found : Bool) → IsInOrder (answer_of lookup found)
+answer_in_order : (lookup : Lookup) (found : Bool) → HasOrderedEnds (answer_of lookup found)
 answer_in_order lookup true = tt
 answer_in_order lookup false = omega arith
 
-chosen_in_order : (b : Bool) (v w : Abs) → IsInOrder v → IsInOrder w
-    → IsInOrder (if b then v else w)
+chosen_in_order : (b : Bool) (v w : Abs) → HasOrderedEnds v → HasOrderedEnds w
+    → HasOrderedEnds (if b then v else w)
 chosen_in_order true v w h k = h
 chosen_in_order false v w h k = k
 
-pub with_answer_in_order : (call : ℕ) (found : Bool) (v : Abs) → IsInOrder v
-    → IsInOrder (with_answer call found v)
+pub with_answer_in_order : (call : ℕ) (found : Bool) (v : Abs) → HasOrderedEnds v
+    → HasOrderedEnds (with_answer call found v)
 with_answer_in_order call found (MayCell lookup) h = chosen_in_order (lookup.slot == call)
     (answer_of lookup found) (MayCell lookup) (answer_in_order lookup found) h
 with_answer_in_order call found (Cell (Found lookup)) h = chosen_in_order (lookup.slot == call)
     (answer_of lookup found) (Cell (Found lookup)) (answer_in_order lookup found) h
 with_answer_in_order call found v h = h
 
-lookup_in_order : (slot : ℕ) (v : Abs) → IsInOrder (lookup_value slot v)
+lookup_in_order : (slot : ℕ) (v : Abs) → HasOrderedEnds (lookup_value slot v)
 lookup_in_order slot (Map index) = tt
 lookup_in_order slot v = tt
 
-pub call_in_order : (helper : ℤ) (slot : ℕ) (v : Abs) → IsInOrder (call_value helper slot v)
+pub call_in_order : (helper : ℤ) (slot : ℕ) (v : Abs) → HasOrderedEnds (call_value helper slot v)
 call_in_order (negsuc n) slot v = tt
 call_in_order (pos n) slot v =
     chosen_in_order (n == 1) (lookup_value slot v) _ (lookup_in_order slot v)
@@ -268,7 +269,7 @@ numbers_in_order None h = tt
 numbers_in_order (Some p) h = h
 
 pub refined_in_order : (w : Bits) (c : Condition) (jumps : Bool) (a b : Abs)
-    → IsInOrder a → IsInOrder b → AreInOrder (refined w c jumps a b)
+    → HasOrderedEnds a → HasOrderedEnds b → AreInOrder (refined w c jumps a b)
 refined_in_order w c jumps (Num a) (Num b) h k =
     numbers_in_order (narrowed w c jumps a b) (narrowed_ranges w c jumps a b h k)
 refined_in_order w c jumps a b h k = (h, k)

@@ -29,7 +29,7 @@ use Rattle.abs_value.specs.Lookups.{slot_with_answer, state_with_answer}
 use Rattle.abs_value.specs.Lookups.{after_null_check, with_both, after_comparison}
 use Rattle.abs_value.specs.Lookups.{compares_with_zero, is_found, is_register}
 use Rattle.abs_value.specs.Lookups.{refined_state, call_value, called_registers, called}
-use Rattle.abs_value.specs.Order.{IsInOrder, AreInOrder, IsSlotInOrder, IsStateInOrder}
+use Rattle.abs_value.specs.Order.{HasOrderedEnds, AreInOrder, IsSlotInOrder, IsStateInOrder}
 use Rattle.abs_value.proofs.Lists.{here, past, other, set_at}
 use Rattle.abs_value.proofs.Slots.{slot_at-join, slot_at-join_past}
 use Rattle.abs_value.proofs.Writes.{register_at-join, register_at-join_past, unset}
@@ -38,14 +38,14 @@ use Rattle.abs_value.proofs.Order.{loaded_in_order, join_in_order, refined_in_or
 use Rattle.abs_value.proofs.Order.{with_answer_in_order, call_in_order}
 
 abbrev AreInRegisters : List Abs → Type 0
-AreInRegisters values = (r : ℕ) → IsInOrder (register_at values r)
+AreInRegisters values = (r : ℕ) → HasOrderedEnds (register_at values r)
 
 abbrev AreInSlots : List AbsSlot → Type 0
 AreInSlots slots = (i : ℕ) → IsSlotInOrder (slot_at slots i)
 
 -- ---- registers
 
-write_at : (values : List Abs) (r : ℕ) (v : Abs) → AreInRegisters values → IsInOrder v
+write_at : (values : List Abs) (r : ℕ) (v : Abs) → AreInRegisters values → HasOrderedEnds v
     → AreInRegisters (slice_set values r v)
 write_at values r v h k q = elim (set_at Abs values r v Unusable q) [
   | here same e ↦ rw e k
@@ -53,18 +53,18 @@ write_at values r v h k q = elim (set_at Abs values r v Unusable q) [
   | other apart e ↦ rw e (h q)
 ]
 
-pub written_in_order : (e : AbsState) (r : Reg) (v : Abs) → IsStateInOrder e → IsInOrder v
+pub written_in_order : (e : AbsState) (r : Reg) (v : Abs) → IsStateInOrder e → HasOrderedEnds v
     → IsStateInOrder (with_value e r v)
 written_in_order e r v h k =
     record { registers = write_at e.registers (number_of r) v h.registers k; stack = h.stack }
 
-operand_written : (e : AbsState) (src : Operand) (v : Abs) → IsStateInOrder e → IsInOrder v
+operand_written : (e : AbsState) (src : Operand) (v : Abs) → IsStateInOrder e → HasOrderedEnds v
     → IsStateInOrder (with_operand e src v)
 operand_written e (Imm k) v h i = h
 operand_written e (Register r) v h i = written_in_order e r v h i
 
 pub operand_in_order : (e : AbsState) (bits : Bits) (src : Operand) → IsStateInOrder e
-    → IsInOrder (operand_value e bits src)
+    → HasOrderedEnds (operand_value e bits src)
 operand_in_order e bits (Imm k) h = omega arith
 operand_in_order e bits (Register r) h = h.registers (number_of r)
 
@@ -91,27 +91,27 @@ written_slots slots place n h =
     one_of (nat_le (place % 8 + n) 8) first (with_set first (place / 8 + 1) (next_bits place n)) one
     (set_slot first (place / 8 + 1) _ one tt)
 
-stored_slots : (slots : List AbsSlot) (place n : ℕ) (v : Abs) → AreInSlots slots → IsInOrder v
+stored_slots : (slots : List AbsSlot) (place n : ℕ) (v : Abs) → AreInSlots slots → HasOrderedEnds v
     → AreInSlots (stored slots place n v)
 stored_slots slots place n v h k = one_of (is_whole_slot place n)
     (slice_set slots (place / 8) (Kept v)) (with_written slots place n)
     (set_slot slots (place / 8) (Kept v) h k) (written_slots slots place n h)
 
-pub stored_in_order : (e : AbsState) (place n : ℕ) (v : Abs) → IsStateInOrder e → IsInOrder v
+pub stored_in_order : (e : AbsState) (place n : ℕ) (v : Abs) → IsStateInOrder e → HasOrderedEnds v
     → IsStateInOrder (with_stored e place n v)
 stored_in_order e place n v h k =
     record { registers = h.registers; stack = stored_slots e.stack place n v h.stack k }
 
-kept_in_order : (slot : AbsSlot) (v : Abs) → IsSlotInOrder slot → IsInOrder v
-    → IsInOrder (kept_or slot v)
+kept_in_order : (slot : AbsSlot) (v : Abs) → IsSlotInOrder slot → HasOrderedEnds v
+    → HasOrderedEnds (kept_or slot v)
 kept_in_order (Kept w) v h k = h
 kept_in_order (Bytes mask) v h k = k
 
 pub load_in_order : (e : AbsState) (place : ℕ) (kind : LoadKind) → IsStateInOrder e
-    → IsInOrder (loaded_from e.stack place kind)
+    → HasOrderedEnds (loaded_from e.stack place kind)
 load_in_order e place Double h = by_test (place % 8 == 0)
   where
-    by_test : (b : Bool) → IsInOrder (if b then kept_or (slot_at e.stack (place / 8))
+    by_test : (b : Bool) → HasOrderedEnds (if b then kept_or (slot_at e.stack (place / 8))
         (loaded_value Double) else loaded_value Double)
     by_test true = kept_in_order (slot_at e.stack (place / 8)) (loaded_value Double)
         (h.stack (place / 8)) (loaded_in_order Double)
@@ -120,7 +120,7 @@ load_in_order e place kind h = loaded_in_order kind
 
 -- ---- joins, and the start
 
-kept_slot_in_order : (v : Abs) → IsInOrder v → IsSlotInOrder (kept_slot v)
+kept_slot_in_order : (v : Abs) → HasOrderedEnds v → IsSlotInOrder (kept_slot v)
 kept_slot_in_order Unusable h = tt
 kept_slot_in_order (Num a) h = h
 kept_slot_in_order (Ctx a) h = h
@@ -229,7 +229,7 @@ edge_in_order e bits condition left right jumps h =
 
 -- ---- calls
 
-called_at : (values : List Abs) (v : Abs) → AreInRegisters values → IsInOrder v
+called_at : (values : List Abs) (v : Abs) → AreInRegisters values → HasOrderedEnds v
     → AreInRegisters (called_registers values v)
 called_at values v h k zero = k
 called_at values v h k (suc zero) = tt

@@ -14,7 +14,7 @@ use Rattle.abs_value.specs.declared.number.Number.{Number}
 use Rattle.abs_value.specs.Intervals.{IsRange}
 use Rattle.abs_value.specs.Known.{is_consistent, shared}
 use Rattle.abs_value.specs.Numbers.{number, trimmed, with_shared, tidy, is_empty, tidied}
-use Rattle.abs_value.specs.Covers.{IsWord, IsBetween, IsWithin, Fits, Holds}
+use Rattle.abs_value.specs.Covers.{IsWord, IsBetween, AreBitsOf, Fits, Holds}
 use Rattle.abs_value.proofs.ShiftedRanges.{div-le-div, wide, below_power}
 use Rattle.abs_value.proofs.Within.{high_bits, no_difference, and_of_within, within_le}
 use Rattle.abs_value.proofs.Within.{within_then, or_within, within_both, and_within, within_or_left}
@@ -59,7 +59,7 @@ low_mask k i le lt =
     let s = bit_at_not w64 (2 ^ k - 1) i small (omega arith) in omega (arith, s, ones)
 
 above_within : (m x k : ℕ) → k ≤ 64 → m / 2 ^ k ≡ x / 2 ^ k
-    → IsWithin (bit_and m (bit_not w64 (2 ^ k - 1))) x
+    → AreBitsOf (bit_and m (bit_not w64 (2 ^ k - 1))) x
 above_within m x k le same i = elim (cases_lt i k) [
   | inl low ↦
       let s = bit_at_and m (bit_not w64 (2 ^ k - 1)) i in
@@ -69,7 +69,7 @@ above_within m x k le same i = elim (cases_lt i k) [
       let e = high_bits m x k i same high in omega (arith, s, e)
 ]
 
-within_above : (m x k : ℕ) → m / 2 ^ k ≡ x / 2 ^ k → IsWithin x (bit_or m (2 ^ k - 1))
+within_above : (m x k : ℕ) → m / 2 ^ k ≡ x / 2 ^ k → AreBitsOf x (bit_or m (2 ^ k - 1))
 within_above m x k same i = elim (cases_lt i k) [
   | inl low ↦
       let s = bit_at_or m (2 ^ k - 1) i in

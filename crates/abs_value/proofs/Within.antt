@@ -7,7 +7,7 @@ use Rattle.std.proofs.lemmas.Bool.{cases_lt}
 use Rattle.std.proofs.lemmas.Nat.{pow_pos, shr-shr, shr_split, mod_below, and_le_r}
 use Rattle.std.proofs.lemmas.Nat.Bits.{bit_at-zero, bit_at_and, bit_at_or, bit_at_xor, bit_at_above}
 use Rattle.std.proofs.lemmas.Nat.Bits.{bit_at_cat_low, bit_at_cat_high, same_from_bits}
-use Rattle.abs_value.specs.Covers.{IsWithin}
+use Rattle.abs_value.specs.Covers.{AreBitsOf}
 
 -- ---- bits of shifted and cut numbers
 
@@ -50,34 +50,34 @@ no_difference a b none = same_from_bits a b one
 
 -- ---- numbers within another
 
-pub and_of_within : (m n : ℕ) → IsWithin m n → bit_and m n ≡ m
+pub and_of_within : (m n : ℕ) → AreBitsOf m n → bit_and m n ≡ m
 and_of_within m n h = same_from_bits (bit_and m n) m one
   where
     one : (i : ℕ) → bit_at (bit_and m n) i ≡ bit_at m i
     one i = let s = bit_at_and m n i in let le = h i in omega (arith, s, le)
 
-pub within_le : (m n : ℕ) → IsWithin m n → m ≤ n
+pub within_le : (m n : ℕ) → AreBitsOf m n → m ≤ n
 within_le m n h =
     let e = and_of_within m n h in let part = and_le_r m n in omega (arith, e, part)
 
-pub within_itself : (n : ℕ) → IsWithin n n
+pub within_itself : (n : ℕ) → AreBitsOf n n
 within_itself n i = omega arith
 
-pub zero_within : (n : ℕ) → IsWithin 0 n
+pub zero_within : (n : ℕ) → AreBitsOf 0 n
 zero_within n i = let none = bit_at-zero i in omega (arith, none)
 
-pub within_then : (m n x : ℕ) → IsWithin m n → IsWithin n x → IsWithin m x
+pub within_then : (m n x : ℕ) → AreBitsOf m n → AreBitsOf n x → AreBitsOf m x
 within_then m n x h k i = let one = h i in let two = k i in omega (arith, one, two)
 
-pub within_and : (m n x y : ℕ) → IsWithin m x → IsWithin n y
-    → IsWithin (bit_and m n) (bit_and x y)
+pub within_and : (m n x y : ℕ) → AreBitsOf m x → AreBitsOf n y
+    → AreBitsOf (bit_and m n) (bit_and x y)
 within_and m n x y h k i =
     let s = bit_at_and m n i in
     let t = bit_at_and x y i in
     let one = h i in
     let two = k i in omega (arith, s, t, one, two)
 
-pub within_or : (m n x y : ℕ) → IsWithin m x → IsWithin n y → IsWithin (bit_or m n) (bit_or x y)
+pub within_or : (m n x y : ℕ) → AreBitsOf m x → AreBitsOf n y → AreBitsOf (bit_or m n) (bit_or x y)
 within_or m n x y h k i =
     let s = bit_at_or m n i in
     let t = bit_at_or x y i in
@@ -85,37 +85,37 @@ within_or m n x y h k i =
     let two = k i in omega (arith, s, t, one, two)
 
 -- both are within, or it is within both
-pub or_within : (m n x : ℕ) → IsWithin m x → IsWithin n x → IsWithin (bit_or m n) x
+pub or_within : (m n x : ℕ) → AreBitsOf m x → AreBitsOf n x → AreBitsOf (bit_or m n) x
 or_within m n x h k i =
     let s = bit_at_or m n i in
     let one = h i in
     let two = k i in omega (arith, s, one, two)
 
-pub within_both : (x m n : ℕ) → IsWithin x m → IsWithin x n → IsWithin x (bit_and m n)
+pub within_both : (x m n : ℕ) → AreBitsOf x m → AreBitsOf x n → AreBitsOf x (bit_and m n)
 within_both x m n h k i =
     let s = bit_at_and m n i in
     let one = h i in
     let two = k i in omega (arith, s, one, two)
 
-pub and_within : (m n : ℕ) → IsWithin (bit_and m n) m
+pub and_within : (m n : ℕ) → AreBitsOf (bit_and m n) m
 and_within m n i = let s = bit_at_and m n i in omega (arith, s)
 
-pub and_within_right : (m n : ℕ) → IsWithin (bit_and m n) n
+pub and_within_right : (m n : ℕ) → AreBitsOf (bit_and m n) n
 and_within_right m n i = let s = bit_at_and m n i in omega (arith, s)
 
-pub within_or_left : (m n : ℕ) → IsWithin m (bit_or m n)
+pub within_or_left : (m n : ℕ) → AreBitsOf m (bit_or m n)
 within_or_left m n i = let s = bit_at_or m n i in omega (arith, s)
 
-pub within_or_right : (m n : ℕ) → IsWithin n (bit_or m n)
+pub within_or_right : (m n : ℕ) → AreBitsOf n (bit_or m n)
 within_or_right m n i = let s = bit_at_or m n i in omega (arith, s)
 
-pub within_right : (m x k : ℕ) → IsWithin m x → IsWithin (m / 2 ^ k) (x / 2 ^ k)
+pub within_right : (m x k : ℕ) → AreBitsOf m x → AreBitsOf (m / 2 ^ k) (x / 2 ^ k)
 within_right m x k h i =
     let s = right_bit m k i in
     let t = right_bit x k i in
     let one = h (k + i) in omega (arith, s, t, one)
 
-pub within_left : (m x k : ℕ) → IsWithin m x → IsWithin (m * 2 ^ k) (x * 2 ^ k)
+pub within_left : (m x k : ℕ) → AreBitsOf m x → AreBitsOf (m * 2 ^ k) (x * 2 ^ k)
 within_left m x k h i = elim (cases_lt i k) [
   | inl low ↦ let s = left_low m k i low in omega (arith, s)
   | inr high ↦
@@ -124,7 +124,7 @@ within_left m x k h i = elim (cases_lt i k) [
       let one = h (i - k) in omega (arith, s, t, one)
 ]
 
-pub within_mod : (m x k : ℕ) → IsWithin m x → IsWithin (m % 2 ^ k) (x % 2 ^ k)
+pub within_mod : (m x k : ℕ) → AreBitsOf m x → AreBitsOf (m % 2 ^ k) (x % 2 ^ k)
 within_mod m x k h i = elim (cases_lt i k) [
   | inl low ↦
       let s = mod_low_bit m k i low in

@@ -69,13 +69,13 @@ abbrev pub IsBetween : Interval → ℕ → Type 0
 IsBetween a x = (a.lo ≤ x) × (x ≤ a.hi)
 
 -- each bit of the first is one of the second's
-abbrev pub IsWithin : ℕ → ℕ → Type 0
-IsWithin m n = (i : ℕ) → bit_at m i ≤ bit_at n i
+abbrev pub AreBitsOf : ℕ → ℕ → Type 0
+AreBitsOf m n = (i : ℕ) → bit_at m i ≤ bit_at n i
 
 -- it has the bits that it has to have, and no others than it may have
 pub record Fits (p : KnownBits) (x : ℕ) : Type 0 where
-  pub has : IsWithin p.has x
-  pub no_others : IsWithin x p.may_have
+  pub has : AreBitsOf p.has x
+  pub no_others : AreBitsOf x p.may_have
 
 -- a number of 64 bits, from the least to the most that it may be, with the bits that are known
 pub record Holds (a : Number) (x : ℕ) : Type 0 where

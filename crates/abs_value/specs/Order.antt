@@ -25,20 +25,20 @@ use Rattle.abs_value.specs.Lookups.{with_answer, refined_state, call_value, call
 
 -- ---- values
 
-abbrev pub IsInOrder : Abs → Type 0
-IsInOrder (Num a) = IsRange a.range
-IsInOrder (Ctx from) = from.lo ≤ from.hi
-IsInOrder v = Unit {0}
+abbrev pub HasOrderedEnds : Abs → Type 0
+HasOrderedEnds (Num a) = IsRange a.range
+HasOrderedEnds (Ctx from) = from.lo ≤ from.hi
+HasOrderedEnds v = Unit {0}
 
 abbrev pub AreInOrder : Option (Abs × Abs) → Type 0
 AreInOrder None = Unit {0}
-AreInOrder (Some p) = IsInOrder p.0 × IsInOrder p.1
+AreInOrder (Some p) = HasOrderedEnds p.0 × HasOrderedEnds p.1
 
 abbrev pub KeepsOrder : (Abs → Abs) → Type 0
-KeepsOrder f = (a : Abs) → IsInOrder a → IsInOrder (f a)
+KeepsOrder f = (a : Abs) → HasOrderedEnds a → HasOrderedEnds (f a)
 
 abbrev pub KeepsBothInOrder : (Abs → Abs → Abs) → Type 0
-KeepsBothInOrder f = (a b : Abs) → IsInOrder a → IsInOrder b → IsInOrder (f a b)
+KeepsBothInOrder f = (a b : Abs) → HasOrderedEnds a → HasOrderedEnds b → HasOrderedEnds (f a b)
 
 abbrev pub ResultsInOrder : Type 0
 ResultsInOrder = (bits : Bits) (op : AluOp) → KeepsBothInOrder (alu_value bits op)
@@ -57,12 +57,13 @@ ReorderingsInOrder =
     (order : ByteOrder) (size : EndSize) → KeepsOrder (reordered_value order size)
 
 abbrev pub LoadedInOrder : Type 0
-LoadedInOrder = (kind : LoadKind) → IsInOrder (loaded_value kind)
+LoadedInOrder = (kind : LoadKind) → HasOrderedEnds (loaded_value kind)
 
 -- what is left on an edge
 abbrev pub EdgesInOrder : Type 0
 EdgesInOrder =
-    (bits : Bits) (condition : Condition) (jumps : Bool) (a b : Abs) → IsInOrder a → IsInOrder b
+    (bits : Bits) (condition : Condition) (jumps : Bool) (a b : Abs) → HasOrderedEnds a
+    → HasOrderedEnds b
     → AreInOrder (refined bits condition jumps a b)
 
 abbrev pub JoinsInOrder : Type 0
@@ -72,17 +73,17 @@ abbrev pub AnswersInOrder : Type 0
 AnswersInOrder = (call : ℕ) (found : Bool) → KeepsOrder (with_answer call found)
 
 abbrev pub CallsInOrder : Type 0
-CallsInOrder = (helper : ℤ) (slot : ℕ) (v : Abs) → IsInOrder (call_value helper slot v)
+CallsInOrder = (helper : ℤ) (slot : ℕ) (v : Abs) → HasOrderedEnds (call_value helper slot v)
 
 -- ---- states
 
 abbrev pub IsSlotInOrder : AbsSlot → Type 0
-IsSlotInOrder (Kept v) = IsInOrder v
+IsSlotInOrder (Kept v) = HasOrderedEnds v
 IsSlotInOrder (Bytes mask) = Unit {0}
 
 -- of each value in a register, or kept in the stack, the ends are in order
 pub record IsStateInOrder (e : AbsState) : Type 0 where
-  pub registers : (r : ℕ) → IsInOrder (value_at e r)
+  pub registers : (r : ℕ) → HasOrderedEnds (value_at e r)
   pub stack : (i : ℕ) → IsSlotInOrder (slot_at e.stack i)
 
 abbrev pub OpeningInOrder : Type 0
@@ -91,22 +92,22 @@ OpeningInOrder = IsStateInOrder opening_state
 abbrev pub OperandsInOrder : Type 0
 OperandsInOrder =
     (e : AbsState) (bits : Bits) (src : Operand)
-    → IsStateInOrder e → IsInOrder (operand_value e bits src)
+    → IsStateInOrder e → HasOrderedEnds (operand_value e bits src)
 
 abbrev pub WritesInOrder : Type 0
 WritesInOrder =
     (e : AbsState) (r : Reg) (v : Abs)
-    → IsStateInOrder e → IsInOrder v → IsStateInOrder (with_value e r v)
+    → IsStateInOrder e → HasOrderedEnds v → IsStateInOrder (with_value e r v)
 
 abbrev pub StoresInOrder : Type 0
 StoresInOrder =
     (e : AbsState) (place n : ℕ) (v : Abs)
-    → IsStateInOrder e → IsInOrder v → IsStateInOrder (with_stored e place n v)
+    → IsStateInOrder e → HasOrderedEnds v → IsStateInOrder (with_stored e place n v)
 
 abbrev pub LoadsInOrder : Type 0
 LoadsInOrder =
     (e : AbsState) (place : ℕ) (kind : LoadKind)
-    → IsStateInOrder e → IsInOrder (loaded_from e.stack place kind)
+    → IsStateInOrder e → HasOrderedEnds (loaded_from e.stack place kind)
 
 abbrev pub StateJoinsInOrder : Type 0
 StateJoinsInOrder =

@@ -17,7 +17,7 @@ use Rattle.bpf_machine.specs.bpf_semantics.Run.{Ends}
 use Rattle.bpf_machine.specs.bpf_semantics.State.{opening}
 use Rattle.cells.specs.Grown.{Grows, GrowsByAppend}
 use Rattle.cells.specs.declared.event.CellEvent.{CellEvent}
-use Rattle.hot_swap.specs.rulesets.Rules.{AppRule, Rules, IsApp, Knows, app_of, appid_of}
+use Rattle.hot_swap.specs.rulesets.Rules.{AppRule, Rules, IsApp, ListsApp, app_of, appid_of}
 use Rattle.omaha_json.specs.Found.{FoundApp, found_app, found_apps, found_with, known_app}
 use Rattle.answering.specs.Apps.{RunsApp, RunsApps, RunsFew, FindsApp, FindsApps}
 use Rattle.answering.specs.Apps.{unasked, unknown, ran, none, then}
@@ -36,10 +36,10 @@ kept_appid app kept = let named = kept.named in grind (arith, named)
 
 -- so attribute 0 is the appid, where the ruleset has the app
 known_by : (rules : Rules) (app : AppFacts) (facts : RequestFacts) (moment : ℤ) (known : AppRule)
-    → IsApp known → Knows rules app.appid known
-    → Knows rules (appid_of (attributes_of app facts moment)) known
+    → IsApp known → ListsApp rules app.appid known
+    → ListsApp rules (appid_of (attributes_of app facts moment)) known
 known_by rules app facts moment known kept is =
-    subst (λ (appid : List ℕ). Knows rules appid known)
+    subst (λ (appid : List ℕ). ListsApp rules appid known)
     (sym is.appid_is ∙ kept_appid known kept
     ∙ ap (λ (text : List ℕ). kept_text (Some text)) is.appid_is) is
 
@@ -116,7 +116,7 @@ module _ {P : Type 0} (grew : P → CellEvent → P → Type 0) where
     -- a run of an app's program, from its opening on
     pub grows_ran : (p q : P) (app : AppFacts) (known : AppRule) (run : Held) (choice count : ℕ)
         → app.updatecheck ≡ true → app_of rules app.appid ≡ Some known
-        → IsApp known → Knows rules app.appid known
+        → IsApp known → ListsApp rules app.appid known
         → run.program ≡ known.program
         → RunStandsFor run (opening (attributes_of app facts moment))
         → Runs grew run p q choice count

@@ -9,7 +9,7 @@ use Rattle.bpf_machine.specs.bpf_verify.Covers.{AreLawful, Fits}
 use Rattle.bpf_machine.specs.bpf_semantics.Run.{Ends}
 use Rattle.bpf_machine.specs.bpf_semantics.State.{opening}
 use Rattle.cells.specs.declared.event.CellEvent.{CellEvent}
-use Rattle.hot_swap.specs.rulesets.Rules.{AppRule, Rules, Knows, app_of, appid_of}
+use Rattle.hot_swap.specs.rulesets.Rules.{AppRule, Rules, ListsApp, app_of, appid_of}
 use Rattle.omaha_json.specs.Found.{FoundApp, found_app, found_apps}
 
 module _ (rules : Rules) (facts : RequestFacts) (moment : ℤ) where
@@ -24,7 +24,7 @@ module _ (rules : Rules) (facts : RequestFacts) (moment : ℤ) where
     -- the app's arrays allow
     ran : {choice : ℕ} {events : List CellEvent} (known : AppRule) (count : ℕ)
         → app.updatecheck ≡ true → app_of rules app.appid ≡ Some known
-        → Knows rules (appid_of (attributes_of app facts moment)) known
+        → ListsApp rules (appid_of (attributes_of app facts moment)) known
         → Ends known.program (opening (attributes_of app facts moment)) events choice count
         → All Fits events → AreLawful known.program.shape events
         → RunsApp app (Some choice) events

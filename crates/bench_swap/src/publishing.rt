@@ -1,6 +1,6 @@
 //! A publisher and its watchers at work.
 
-use crate::work::{Kind, Work};
+use crate::work::{Work, WorkKind};
 use anyhow::Result;
 use hot_swap::ruleset::Ruleset;
 use hot_swap::{Publisher, Watcher};
@@ -100,8 +100,8 @@ pub(crate) fn done<H: Threads + Wait + Sync>(
     let rules = empty(alloc)?;
     let stop = AtomicBool::new(false);
     match work.kind {
-        Kind::Looks => Ok(look_all(rt, looking, work.times, &stop)?),
-        Kind::Installs => {
+        WorkKind::Looks => Ok(look_all(rt, looking, work.times, &stop)?),
+        WorkKind::Installs => {
             let (seen, installed) = join(
                 rt,
                 || look_all(rt, looking, PATIENCE, &stop),

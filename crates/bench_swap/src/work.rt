@@ -4,7 +4,7 @@ use anyhow::{Context, Error, Result};
 
 /// What is done so often.
 #[derive(Clone, Copy, Debug, PartialEq, Eq)]
-pub(crate) enum Kind {
+pub(crate) enum WorkKind {
     /// Each watcher that looks does so, in a thread of its own.
     Looks,
     /// A ruleset is installed, while the watchers that look do so.
@@ -14,7 +14,7 @@ pub(crate) enum Kind {
 /// What is done, how often, and with how many watchers that look and that stand still.
 #[derive(Clone, Copy, Debug, PartialEq, Eq)]
 pub(crate) struct Work {
-    pub(crate) kind: Kind,
+    pub(crate) kind: WorkKind,
     pub(crate) times: u32,
     pub(crate) looking: usize,
     pub(crate) still: usize,
@@ -42,10 +42,10 @@ pub(crate) fn work_of(words: &[String]) -> Result<Work> {
     })
 }
 
-fn kind_of(word: &str) -> Result<Kind> {
+fn kind_of(word: &str) -> Result<WorkKind> {
     match word {
-        "looks" => Ok(Kind::Looks),
-        "installs" => Ok(Kind::Installs),
+        "looks" => Ok(WorkKind::Looks),
+        "installs" => Ok(WorkKind::Installs),
         _ => Err(Error::msg("looks or installs")),
     }
 }

@@ -11,7 +11,7 @@ use std::alloc::{AllocError, Global};
 
 /// An instruction of the ordered program, and the old slot on which it lands where it jumps.
 #[derive(Clone, Copy)]
-pub struct Line {
+pub struct PlannedLine {
     pub insn: Insn,
     pub target: Option<usize>,
 }
@@ -19,19 +19,19 @@ pub struct Line {
 /// The lines so far, by their slots; of each old slot its new one; and the old slot to which the
 /// last line goes on.
 #[derive(Drop)]
-pub struct Plan {
-    pub lines: Vec<Option<Line>>,
+pub struct BlockPlan {
+    pub lines: Vec<Option<PlannedLine>>,
     pub places: Vec<Option<usize>>,
     pending: Option<usize>,
 }
 
-impl Plan {
+impl BlockPlan {
     /// No line yet, of a program of so many slots.
-    fn new(alloc: Global, count: usize) -> Result<Plan, AllocError>
+    fn new(alloc: Global, count: usize) -> Result<BlockPlan, AllocError>
         ensures { IfOk result (λ p. length p.places.items ≡ count) }
     {
         let places = vec![in alloc; None; count]?;
-        Ok(Plan {
+        Ok(BlockPlan {
             lines: Vec::new(alloc),
             places,
             pending: None,
@@ -47,7 +47,7 @@ impl Plan {
                 distance: Distance::Short(0),
             };
             let target = self.pending;
-            self.lines.push(Some(Line { insn, target }))?;
+            self.lines.push(Some(PlannedLine { insn, target }))?;
         }
         self.pending = None;
         Ok(())
@@ -66,7 +66,7 @@ impl Plan {
             self.pending = target;
             return Ok(());
         }
-        self.lines.push(Some(Line { insn, target }))?;
+        self.lines.push(Some(PlannedLine { insn, target }))?;
         if insn.width() == Width::Two {
             self.lines.push(None)?;
         }
@@ -76,14 +76,18 @@ impl Plan {
 }
 
 /// The lines of the places that are reached, as far as they can be put in order.
-pub fn planned(alloc: Global, code: &[Option<Insn>], reached: &[bool]) -> Result<Plan, AllocError>
+pub fn planned(
+    alloc: Global,
+    code: &[Option<Insn>],
+    reached: &[bool],
+) -> Result<BlockPlan, AllocError>
     requires { length code.now ≤ 4096 }
     ensures { IfOk result (λ p. length p.places.items ≡ length code.now) }
 {
     let mut heads = vec![in alloc; false; code.len()]?;
     mark_heads(&mut heads, code, reached);
     let mut entered = vec![in alloc; false; code.len()]?;
-    let mut plan = Plan::new(alloc, code.len())?;
+    let mut plan = BlockPlan::new(alloc, code.len())?;
     for _count in 0..code.len() {
         mark_entered(&mut entered, code, reached, &plan.places);
         let Some(slot) = next_ready(&heads, &entered, reached, &plan.places) else {

@@ -1,7 +1,7 @@
 //! The bytes of the lines: each jump gets the offset to the place of the slot that it names.
 
 use crate::kept::place_of;
-use crate::plan::{Line, Plan};
+use crate::plan::{BlockPlan, PlannedLine};
 use bpf_insn::{Distance, Insn, encode};
 use std::alloc::{AllocError, Global};
 
@@ -29,7 +29,7 @@ fn with_offset(jump: Insn, offset: i16) -> Insn {
 }
 
 /// The instruction of a line at its slot. None where it jumps to a slot that has no place ahead.
-fn resolved(line: Line, slot: usize, places: &[Option<usize>]) -> Option<Insn> {
+fn resolved(line: PlannedLine, slot: usize, places: &[Option<usize>]) -> Option<Insn> {
     let Some(target) = line.target else {
         return Some(line.insn);
     };
@@ -42,7 +42,7 @@ fn resolved(line: Line, slot: usize, places: &[Option<usize>]) -> Option<Insn> {
 }
 
 /// The bytes of the lines, if each jump has a place ahead.
-pub fn written(alloc: Global, plan: &Plan) -> Result<Option<Vec<u8>>, AllocError> {
+pub fn written(alloc: Global, plan: &BlockPlan) -> Result<Option<Vec<u8>>, AllocError> {
     let mut bytes = Vec::new(alloc);
     for (slot, place) in plan.lines.iter().enumerate() {
         if let Some(line) = *place {

@@ -4,8 +4,8 @@ use Rattle.std.specs.Prelude.{◌||◌, ◌&&◌, not}
 use Rattle.bpf_insn.specs.declared.insn.Insn.{Insn}
 use Rattle.cells.specs.Arrays.{AppShape}
 use Rattle.abs_value.specs.declared.state.AbsState.{AbsState}
-use Rattle.bpf_rules.specs.declared.refusal.Rule.{Rule}
-use Rattle.bpf_rules.specs.declared.refusal.Rule.TheVariants as rule
+use Rattle.bpf_rules.specs.declared.refusal.VerifierRule.{VerifierRule}
+use Rattle.bpf_rules.specs.declared.refusal.VerifierRule.TheVariants as rule
 use Rattle.bpf_rules.specs.Rules.{reads_unusable, writes_frame, computes_pointer, moves_outside}
 use Rattle.bpf_rules.specs.Rules.{compares_pointer, accesses_outside, stores_pointer}
 use Rattle.bpf_rules.specs.Rules.{writes_context, has_no_address, misuses_helper, names_no_array}
@@ -27,7 +27,7 @@ pub record Passes (shape : AppShape) (e : AbsState) (i : Insn) : Type 0 where
   pub result : wrong_result shape e i ≡ false
   pub quota : breaks_quota shape e i ≡ false
 
-none_cond : (b : Bool) (r : Rule) (x : Option Rule) → cond b (Some r) x ≡ None
+none_cond : (b : Bool) (r : VerifierRule) (x : Option VerifierRule) → cond b (Some r) x ≡ None
     → (b ≡ false) × (x ≡ None)
 none_cond true r x h = absurd cc
 none_cond false r x h = (refl, h)

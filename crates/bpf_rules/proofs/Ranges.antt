@@ -23,7 +23,7 @@ use Rattle.abs_value.specs.Numbers.{single}
 use Rattle.abs_value.specs.Values.{or_unusable, alu_value, copied_value}
 use Rattle.abs_value.specs.Values.{negated_value, extended_value, reordered_value}
 use Rattle.abs_value.specs.States.{value_of, operand_value}
-use Rattle.abs_value.specs.Order.{IsInOrder, IsStateInOrder, ResultsInOrder, CopiesInOrder}
+use Rattle.abs_value.specs.Order.{HasOrderedEnds, IsStateInOrder, ResultsInOrder, CopiesInOrder}
 use Rattle.abs_value.specs.Order.{NegationsInOrder, ExtensionsInOrder, ReorderingsInOrder}
 use Rattle.abs_value.specs.Order.{LoadedInOrder, OperandsInOrder, WritesInOrder}
 use Rattle.abs_value.specs.Order.{StoresInOrder, LoadsInOrder, RefinedInOrder, CalledInOrder}
@@ -48,36 +48,37 @@ pub record Ranges : Type 0 where
   pub calls : CalledInOrder
 
 loaded_in_order : (r : Ranges) (e : AbsState) (place : Option ℕ) (kind : LoadKind)
-    → IsStateInOrder e → IsInOrder (loaded_at e place kind)
+    → IsStateInOrder e → HasOrderedEnds (loaded_at e place kind)
 loaded_in_order r e None kind h = r.loaded kind
 loaded_in_order r e (Some place) kind h = r.loads e place kind h
 
 stored_in_order : (r : Ranges) (e : AbsState) (place : Option ℕ) (n : ℕ) (v : Abs)
-    → IsStateInOrder e → IsInOrder v → IsStateInOrder (stored_at e place n v)
+    → IsStateInOrder e → HasOrderedEnds v → IsStateInOrder (stored_at e place n v)
 stored_in_order r e None n v h k = h
 stored_in_order r e (Some place) n v h k = r.stores e place n v h k
 
 fetched_in_order : (r : Ranges) (e : AbsState) (dst : Option Reg) (v : Abs)
-    → IsStateInOrder e → IsInOrder v → IsStateInOrder (with_fetched e dst v)
+    → IsStateInOrder e → HasOrderedEnds v → IsStateInOrder (with_fetched e dst v)
 fetched_in_order r e None v h k = h
 fetched_in_order r e (Some dst) v h k = r.writes e dst v h k
 
 -- no address of a map or a cell is a range
-map_in_order : (i : ℕ) (o : Option CellArray) → IsInOrder (or_unusable (o >>= λ a. Some (Map i)))
+map_in_order : (i : ℕ) (o : Option CellArray)
+    → HasOrderedEnds (or_unusable (o >>= λ a. Some (Map i)))
 map_in_order i None = tt
 map_in_order i (Some a) = tt
 
-cell_in_order : (o : Option ℕ) → IsInOrder (or_unusable (option_map fixed_cell o))
+cell_in_order : (o : Option ℕ) → HasOrderedEnds (or_unusable (option_map fixed_cell o))
 cell_in_order None = tt
 cell_in_order (Some c) = tt
 
 cells_in_order : (n : ℕ) (o : Option CellArray)
-    → IsInOrder (or_unusable (o >>= λ a. option_map fixed_cell (cell_behind a n)))
+    → HasOrderedEnds (or_unusable (o >>= λ a. option_map fixed_cell (cell_behind a n)))
 cells_in_order n None = tt
 cells_in_order n (Some a) = cell_in_order (cell_behind a n)
 
 wide_in_order : (shape : AppShape) (value : WideValue)
-    → IsInOrder (or_unusable (wide_abs shape value))
+    → HasOrderedEnds (or_unusable (wide_abs shape value))
 wide_in_order shape (wide.Number n) = omega arith
 wide_in_order shape (wide.Map (pos i)) = map_in_order i (slice_get shape.arrays i)
 wide_in_order shape (wide.Map (negsuc i)) = tt

@@ -27,8 +27,8 @@ use Rattle.abs_value.specs.States.{value_of, operand_value}
 use Rattle.abs_value.specs.Lookups.{compares_with_zero}
 use Rattle.bpf_rules.specs.declared.helper.Helper.{Helper}
 use Rattle.bpf_rules.specs.declared.helper.Helper.TheVariants.{Lookup, AttrIs, AttrLen, Bucket}
-use Rattle.bpf_rules.specs.declared.refusal.Rule.{Rule}
-use Rattle.bpf_rules.specs.declared.refusal.Rule.TheVariants as rule
+use Rattle.bpf_rules.specs.declared.refusal.VerifierRule.{VerifierRule}
+use Rattle.bpf_rules.specs.declared.refusal.VerifierRule.TheVariants as rule
 use Rattle.bpf_rules.specs.Reads.{helper_of, reads, writes}
 use Rattle.bpf_rules.specs.Arrays.{wide_abs}
 use Rattle.bpf_rules.specs.Memory.{accesses, is_outside, changes_context, is_no_address}
@@ -210,7 +210,7 @@ breaks_quota shape e i = accesses (reaches_quota shape) e i && not (leaves_quota
 
 -- ---- the rule with the lowest number that fails
 
-unfoldable pub first_rule : AppShape → AbsState → Insn → Option Rule
+unfoldable pub first_rule : AppShape → AbsState → Insn → Option VerifierRule
 first_rule shape e i =
     if reads_unusable e i then Some rule.Unusable
     else if writes_frame i then Some rule.WritesFrame

@@ -6,7 +6,7 @@ ghost use Rattle.cells.specs.Arrays.{AppShape};
 ghost use Rattle.bpf_rules.specs.Rules as rules;
 ghost use Rattle.bpf_rules.specs.Transfer.{after};
 
-use crate::refusal::Rule;
+use crate::refusal::VerifierRule;
 use abs_value::{Abs, AbsState};
 use bpf_insn::{AluOp, Bits, ByteOrder, EndSize, Extension, Insn, Operand, Reg};
 
@@ -28,22 +28,22 @@ fn moves_address(bits: Bits, op: AluOp, a: Abs, b: Abs) -> bool
 
 /// The first rule that an operation of two operands breaks.
 #[tactic(auto, unfolding(crate::specs::Rules::first_rule))]
-pub fn alu_rule(e: &AbsState, bits: Bits, op: AluOp, dst: Reg, src: Operand) -> Option<Rule>
+pub fn alu_rule(e: &AbsState, bits: Bits, op: AluOp, dst: Reg, src: Operand) -> Option<VerifierRule>
     ensures { (shape : AppShape)
         → rules.first_rule shape e.now (Insn.Alu bits op dst src) ≡ result }
 {
     let a = e.value(dst);
     let b = e.operand(bits, src);
     if a.is_unusable() || b.is_unusable() {
-        Some(Rule::Unusable)
+        Some(VerifierRule::Unusable)
     } else if dst.index() == 10 {
-        Some(Rule::WritesFrame)
+        Some(VerifierRule::WritesFrame)
     } else if !a.is_pointer() && !b.is_pointer() {
         None
     } else if !moves_address(bits, op, a, b) {
-        Some(Rule::PointerArithmetic)
+        Some(VerifierRule::PointerArithmetic)
     } else if a.pointer_result(bits, op, b).is_none() {
-        Some(Rule::OffsetRange)
+        Some(VerifierRule::OffsetRange)
     } else {
         None
     }
@@ -51,16 +51,16 @@ pub fn alu_rule(e: &AbsState, bits: Bits, op: AluOp, dst: Reg, src: Operand) -> 
 
 /// The first rule that MOV breaks.
 #[tactic(auto, unfolding(crate::specs::Rules::first_rule))]
-pub fn mov_rule(e: &AbsState, bits: Bits, dst: Reg, src: Operand) -> Option<Rule>
+pub fn mov_rule(e: &AbsState, bits: Bits, dst: Reg, src: Operand) -> Option<VerifierRule>
     ensures { (shape : AppShape) → rules.first_rule shape e.now (Insn.Mov bits dst src) ≡ result }
 {
     let value = e.operand(bits, src);
     if value.is_unusable() {
-        Some(Rule::Unusable)
+        Some(VerifierRule::Unusable)
     } else if dst.index() == 10 {
-        Some(Rule::WritesFrame)
+        Some(VerifierRule::WritesFrame)
     } else if bits == Bits::Bits32 && value.is_pointer() {
-        Some(Rule::PointerArithmetic)
+        Some(VerifierRule::PointerArithmetic)
     } else {
         None
     }
@@ -68,7 +68,7 @@ pub fn mov_rule(e: &AbsState, bits: Bits, dst: Reg, src: Operand) -> Option<Rule
 
 /// The first rule that an operation of a number breaks: NEG, MOVSX and END.
 #[tactic(auto, unfolding(crate::specs::Rules::first_rule))]
-pub fn unary_rule(e: &AbsState, dst: Reg, src: Reg) -> Option<Rule>
+pub fn unary_rule(e: &AbsState, dst: Reg, src: Reg) -> Option<VerifierRule>
     ensures extended { (shape : AppShape) (extension : Extension)
         → rules.first_rule shape e.now (Insn.MovSx extension dst src) ≡ result }
     ensures negated { (shape : AppShape) (bits : Bits) → src ≡ dst
@@ -78,11 +78,11 @@ pub fn unary_rule(e: &AbsState, dst: Reg, src: Reg) -> Option<Rule>
 {
     let value = e.value(src);
     if value.is_unusable() {
-        Some(Rule::Unusable)
+        Some(VerifierRule::Unusable)
     } else if dst.index() == 10 {
-        Some(Rule::WritesFrame)
+        Some(VerifierRule::WritesFrame)
     } else if value.is_pointer() {
-        Some(Rule::PointerArithmetic)
+        Some(VerifierRule::PointerArithmetic)
     } else {
         None
     }

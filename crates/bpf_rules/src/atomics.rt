@@ -13,7 +13,7 @@ ghost use Rattle.bpf_rules.specs.Transfer as transfer;
 
 use crate::access::Access;
 use crate::memory::{changes_context, exchanges_stack, is_no_address, is_outside, reaches_quota};
-use crate::refusal::Rule;
+use crate::refusal::VerifierRule;
 use abs_value::bpf_semantics::fetched;
 use abs_value::{Abs, AbsState, Number};
 use bpf_insn::{AtomicOp, AtomicSize, Insn, Reg};
@@ -80,27 +80,27 @@ pub fn atomic_rule(
     dst: Reg,
     src: Reg,
     offset: i16,
-) -> Option<Rule>
+) -> Option<VerifierRule>
     ensures { rules.first_rule shape.now e.now (Insn.Atomic op size dst src offset) ≡ result }
 {
     let address = e.value(dst);
     let access = Access::atomic(size, dst, offset);
     if reads_unusable(e, op, dst, src) {
-        Some(Rule::Unusable)
+        Some(VerifierRule::Unusable)
     } else if fetches_frame(op, src) {
-        Some(Rule::WritesFrame)
+        Some(VerifierRule::WritesFrame)
     } else if is_outside(shape, access, address) {
-        Some(Rule::Access)
+        Some(VerifierRule::Access)
     } else if stores_pointer(e, op, src) {
-        Some(Rule::StoresPointer)
+        Some(VerifierRule::StoresPointer)
     } else if changes_context(access, address) {
-        Some(Rule::WritesContext)
+        Some(VerifierRule::WritesContext)
     } else if is_no_address(access, address) {
-        Some(Rule::NotAddress)
+        Some(VerifierRule::NotAddress)
     } else if exchanges_stack(access, address) {
-        Some(Rule::Kind)
+        Some(VerifierRule::Kind)
     } else if !takes(e, op, src) && reaches_quota(shape, access, address) {
-        Some(Rule::QuotaCell)
+        Some(VerifierRule::QuotaCell)
     } else {
         None
     }

@@ -10,7 +10,7 @@ ghost use Rattle.bpf_rules.specs.Rules as rules;
 
 use crate::helper::Helper;
 use crate::memory::text_unset;
-use crate::refusal::Rule;
+use crate::refusal::VerifierRule;
 use abs_value::bpf_semantics::STACK_SIZE;
 use abs_value::{Abs, AbsState};
 use bpf_insn::{Insn, Reg};
@@ -80,14 +80,14 @@ fn takes(e: &AbsState, helper: Option<Helper>) -> bool
 
 /// The first rule that a CALL breaks.
 #[tactic(auto, unfolding(crate::specs::Rules::first_rule))]
-pub fn call_rule(e: &AbsState, helper: i32) -> Option<Rule>
+pub fn call_rule(e: &AbsState, helper: i32) -> Option<VerifierRule>
     ensures { (shape : AppShape) → rules.first_rule shape e.now (Insn.Call helper) ≡ result }
 {
     let called = Helper::of(helper);
     if reads_unusable(e, called) || compares_unset(e, called) {
-        Some(Rule::Unusable)
+        Some(VerifierRule::Unusable)
     } else if !takes(e, called) {
-        Some(Rule::Helper)
+        Some(VerifierRule::Helper)
     } else {
         None
     }
@@ -104,14 +104,14 @@ fn is_choice(shape: &Shape, value: Abs) -> bool
 
 /// The first rule that EXIT breaks.
 #[tactic(auto, unfolding(crate::specs::Rules::first_rule))]
-pub fn exit_rule(shape: &Shape, e: &AbsState) -> Option<Rule>
+pub fn exit_rule(shape: &Shape, e: &AbsState) -> Option<VerifierRule>
     ensures { rules.first_rule shape.now e.now Insn.Exit ≡ result }
 {
     let value = e.value(Reg::R0);
     if value.is_unusable() {
-        Some(Rule::Unusable)
+        Some(VerifierRule::Unusable)
     } else if !is_choice(shape, value) {
-        Some(Rule::Result)
+        Some(VerifierRule::Result)
     } else {
         None
     }

@@ -4,7 +4,7 @@ ghost use Rattle.std.specs.Prelude.{◌≡◌, ℤ};
 ghost use Rattle.cells.specs.Arrays.{AppShape};
 ghost use Rattle.bpf_rules.specs.Rules as rules;
 
-use crate::refusal::Rule;
+use crate::refusal::VerifierRule;
 use abs_value::{Abs, AbsState, compares_with_zero};
 use bpf_insn::{Bits, Condition, Insn, Operand, Reg};
 
@@ -23,18 +23,18 @@ pub fn jump_rule(
     condition: Condition,
     left: Reg,
     right: Operand,
-) -> Option<Rule>
+) -> Option<VerifierRule>
     ensures { (shape : AppShape) (offset : ℤ)
         → rules.first_rule shape e.now (Insn.JumpIf bits condition left right offset) ≡ result }
 {
     let a = e.value(left);
     let b = e.operand(bits, right);
     if a.is_unusable() || b.is_unusable() {
-        Some(Rule::Unusable)
+        Some(VerifierRule::Unusable)
     } else if (a.is_pointer() || b.is_pointer())
         && !(compares_with_zero(bits, condition, right) && may_be_null(a))
     {
-        Some(Rule::PointerCompare)
+        Some(VerifierRule::PointerCompare)
     } else {
         None
     }

@@ -11,7 +11,7 @@ ghost use Rattle.bpf_rules.specs.Transfer.{loaded_at};
 use crate::access::Access;
 use crate::arrays::wide;
 use crate::memory::{is_no_address, is_outside, meets_unset, stack_place};
-use crate::refusal::Rule;
+use crate::refusal::VerifierRule;
 use abs_value::bpf_semantics::load_count;
 use abs_value::{Abs, AbsState};
 use bpf_insn::{Insn, LoadKind, Reg, WideValue};
@@ -26,19 +26,19 @@ pub fn load_rule(
     dst: Reg,
     src: Reg,
     offset: i16,
-) -> Option<Rule>
+) -> Option<VerifierRule>
     ensures { rules.first_rule shape.now e.now (Insn.Load kind dst src offset) ≡ result }
 {
     let address = e.value(src);
     let access = Access::load(kind, src, offset);
     if address.is_unusable() || meets_unset(e, address, offset, access.count) {
-        Some(Rule::Unusable)
+        Some(VerifierRule::Unusable)
     } else if dst.index() == 10 {
-        Some(Rule::WritesFrame)
+        Some(VerifierRule::WritesFrame)
     } else if is_outside(shape, access, address) {
-        Some(Rule::Access)
+        Some(VerifierRule::Access)
     } else if is_no_address(access, address) {
-        Some(Rule::NotAddress)
+        Some(VerifierRule::NotAddress)
     } else {
         None
     }
@@ -57,13 +57,13 @@ pub fn load(e: &AbsState, kind: LoadKind, address: Abs, offset: i16) -> Abs
 
 /// The first rule that a wide load breaks.
 #[tactic(auto, unfolding(crate::specs::Rules::first_rule))]
-pub fn wide_rule(shape: &Shape, dst: Reg, value: WideValue) -> Option<Rule>
+pub fn wide_rule(shape: &Shape, dst: Reg, value: WideValue) -> Option<VerifierRule>
     ensures { (e : AbsState) → rules.first_rule shape.now e (Insn.Wide dst value) ≡ result }
 {
     if dst.index() == 10 {
-        Some(Rule::WritesFrame)
+        Some(VerifierRule::WritesFrame)
     } else if wide(shape, value).is_none() {
-        Some(Rule::MapIndex)
+        Some(VerifierRule::MapIndex)
     } else {
         None
     }

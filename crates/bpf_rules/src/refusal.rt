@@ -8,7 +8,7 @@ use thiserror::Error;
 
 /// A rule that an instruction breaks; of several the first is answered.
 #[derive(Clone, Copy, Debug, PartialEq, Eq, Error)]
-pub enum Rule {
+pub enum VerifierRule {
     /// It reads a register that may be unset or that holds different kinds on different paths, or a
     /// byte of the stack that may be unset.
     #[error("V1 Unusable")]
@@ -61,7 +61,7 @@ pub enum Rule {
 pub enum Refusal {
     /// The first slot at which a rule fails, and the first rule that fails there.
     #[error("{rule} at slot {slot}")]
-    Rule { slot: usize, rule: Rule },
+    Rule { slot: usize, rule: VerifierRule },
     /// An allocation was refused.
     #[error("V15 Memory")]
     Memory,

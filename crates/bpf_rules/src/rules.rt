@@ -9,14 +9,14 @@ use crate::atomics::atomic_rule;
 use crate::calls::{call_rule, exit_rule};
 use crate::jumps::jump_rule;
 use crate::loads::{load_rule, wide_rule};
-use crate::refusal::Rule;
+use crate::refusal::VerifierRule;
 use crate::stores::{store_imm_rule, store_rule};
 use abs_value::AbsState;
 use bpf_insn::Insn;
 use cells::Shape;
 
 /// The first rule that an instruction breaks, by what is known at its place.
-pub fn first_rule(shape: &Shape, e: &AbsState, insn: &Insn) -> Option<Rule>
+pub fn first_rule(shape: &Shape, e: &AbsState, insn: &Insn) -> Option<VerifierRule>
     ensures { result ≡ rules.first_rule shape.now e.now insn.now }
 {
     match *insn {

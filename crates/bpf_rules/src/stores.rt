@@ -11,7 +11,7 @@ use crate::access::Access;
 use crate::memory::{
     changes_context, is_no_address, is_outside, is_slot, reaches_quota, stack_place,
 };
-use crate::refusal::Rule;
+use crate::refusal::VerifierRule;
 use abs_value::bpf_semantics::byte_count;
 use abs_value::{Abs, AbsState};
 use bpf_insn::{Insn, Reg, Size};
@@ -25,22 +25,22 @@ pub fn store_imm_rule(
     size: Size,
     dst: Reg,
     offset: i16,
-) -> Option<Rule>
+) -> Option<VerifierRule>
     ensures { (imm : ℤ)
         → rules.first_rule shape.now e.now (Insn.StoreImm size dst offset imm) ≡ result }
 {
     let address = e.value(dst);
     let access = Access::store(size, dst, offset);
     if address.is_unusable() {
-        Some(Rule::Unusable)
+        Some(VerifierRule::Unusable)
     } else if is_outside(shape, access, address) {
-        Some(Rule::Access)
+        Some(VerifierRule::Access)
     } else if changes_context(access, address) {
-        Some(Rule::WritesContext)
+        Some(VerifierRule::WritesContext)
     } else if is_no_address(access, address) {
-        Some(Rule::NotAddress)
+        Some(VerifierRule::NotAddress)
     } else if reaches_quota(shape, access, address) {
-        Some(Rule::QuotaCell)
+        Some(VerifierRule::QuotaCell)
     } else {
         None
     }
@@ -55,26 +55,26 @@ pub fn store_rule(
     dst: Reg,
     src: Reg,
     offset: i16,
-) -> Option<Rule>
+) -> Option<VerifierRule>
     ensures { rules.first_rule shape.now e.now (Insn.Store size dst src offset) ≡ result }
 {
     let address = e.value(dst);
     let value = e.value(src);
     let access = Access::store(size, dst, offset);
     if address.is_unusable() || value.is_unusable() {
-        Some(Rule::Unusable)
+        Some(VerifierRule::Unusable)
     } else if is_outside(shape, access, address) {
-        Some(Rule::Access)
+        Some(VerifierRule::Access)
     } else if value.is_pointer()
         && !is_slot(stack_place(address, offset, access.count), access.count)
     {
-        Some(Rule::StoresPointer)
+        Some(VerifierRule::StoresPointer)
     } else if changes_context(access, address) {
-        Some(Rule::WritesContext)
+        Some(VerifierRule::WritesContext)
     } else if is_no_address(access, address) {
-        Some(Rule::NotAddress)
+        Some(VerifierRule::NotAddress)
     } else if reaches_quota(shape, access, address) {
-        Some(Rule::QuotaCell)
+        Some(VerifierRule::QuotaCell)
     } else {
         None
     }

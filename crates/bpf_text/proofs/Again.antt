@@ -12,8 +12,8 @@ use Rattle.bpf_insn.specs.declared.insn.Insn.TheVariants as insn
 use Rattle.bpf_insn.specs.Spelling.{IsEncodable, imm_field}
 use Rattle.bpf_text.specs.declared.argument.Argument as arguments
 use Rattle.bpf_text.specs.declared.argument.Argument.TheVariants as argument
-use Rattle.bpf_text.specs.declared.signature.Kind.{Kind}
-use Rattle.bpf_text.specs.declared.signature.Kind.TheVariants as kind
+use Rattle.bpf_text.specs.declared.signature.OperandKind.{OperandKind}
+use Rattle.bpf_text.specs.declared.signature.OperandKind.TheVariants as kind
 use Rattle.bpf_text.specs.declared.three.UpToThree.{UpToThree}
 use Rattle.bpf_text.specs.Arguments.{mnemonic_of, arguments_of, operand_argument}
 use Rattle.bpf_text.specs.Ranges.{imm_of, short_of, long_of}
@@ -55,7 +55,7 @@ long_again (negsuc n) h = minus_number 31 n h.sfits
 -- ---- arguments of the kinds that their instruction wants
 
 -- an argument of this kind, whose numbers fit their fields
-abbrev pub Fits : Kind → arguments.Argument → Type 0
+abbrev pub Fits : OperandKind → arguments.Argument → Type 0
 Fits kind.Register (argument.Register r) = Unit {0}
 Fits kind.Source (argument.Register r) = Unit {0}
 Fits kind.Source (argument.Imm k) = FitsSigned w32 k
@@ -66,12 +66,12 @@ Fits kind.ShortWay (argument.Distance (Short k)) = FitsSigned w16 k
 Fits kind.LongWay (argument.Distance (Long k)) = FitsSigned w32 k
 Fits k a = ⊥
 
-abbrev pub FitsIf : Option Kind → Option arguments.Argument → Type 0
+abbrev pub FitsIf : Option OperandKind → Option arguments.Argument → Type 0
 FitsIf None None = Unit {0}
 FitsIf (Some k) (Some a) = Fits k a
 FitsIf k a = ⊥
 
-pub record AllFit (k : UpToThree Kind) (a : UpToThree arguments.Argument) : Type 0 where
+pub record AllFit (k : UpToThree OperandKind) (a : UpToThree arguments.Argument) : Type 0 where
   pub first : FitsIf k.first a.first
   pub second : FitsIf k.second a.second
   pub third : FitsIf k.third a.third
@@ -112,7 +112,7 @@ short_15 : (k : ℤ) → FitsSigned w16 k → IsShort k
 short_15 (pos n) h = let e : n < 2 ^ 15 = h.sfits in omega (arith, e)
 short_15 (negsuc n) h = let e : n < 2 ^ 15 = h.sfits in omega (arith, e)
 
-is_short : (k : Kind) (a : arguments.Argument) → Fits k a → HasShort a
+is_short : (k : OperandKind) (a : arguments.Argument) → Fits k a → HasShort a
 is_short kind.Register (argument.Register r) h = tt
 is_short kind.Source (argument.Register r) h = tt
 is_short kind.Source (argument.Imm k) h = short_31 k h
@@ -127,7 +127,8 @@ abbrev pub HasShortOption : Option arguments.Argument → Type 0
 HasShortOption None = Unit {0}
 HasShortOption (Some a) = HasShort a
 
-pub is_short_if : (k : Option Kind) (a : Option arguments.Argument) → FitsIf k a → HasShortOption a
+pub is_short_if : (k : Option OperandKind) (a : Option arguments.Argument) → FitsIf k a
+    → HasShortOption a
 is_short_if None None h = tt
 is_short_if (Some k) (Some a) h = is_short k a h
 is_short_if k a h = absurd h

@@ -6,8 +6,8 @@ use Rattle.bpf_insn.specs.declared.reg.Reg.{Reg}
 use Rattle.bpf_insn.specs.Program.{slots_moved}
 use Rattle.bpf_text.specs.declared.token.Sign.TheVariants.{Absent, Minus, Plus}
 use Rattle.bpf_text.specs.declared.token.Figure.{Figure}
-use Rattle.bpf_text.specs.declared.token.Token.{Token}
-use Rattle.bpf_text.specs.declared.token.Token.TheVariants.{Word, Number, Open, Close}
+use Rattle.bpf_text.specs.declared.token.AsmToken.{AsmToken}
+use Rattle.bpf_text.specs.declared.token.AsmToken.TheVariants.{Word, Number, Open, Close}
 use Rattle.bpf_text.specs.declared.argument.Argument.{Argument}
 use Rattle.bpf_text.specs.declared.argument.Argument.TheVariants as argument
 use Rattle.bpf_text.specs.declared.item.Item.{Item}
@@ -61,11 +61,11 @@ HasShort (argument.Distance d) = IsShort (slots_moved d)
 abbrev pub onto : Tokens → Option Tokens → Option Tokens
 onto ts o = option_map (λ us. ts ++ us) o
 
-one_front : (t : Token Name) (o : Option Tokens) → front t o ≡ onto (t ∷ []) o
+one_front : (t : AsmToken Name) (o : Option Tokens) → front t o ≡ onto (t ∷ []) o
 one_front t None = refl
 one_front t (Some ts) = refl
 
-four_front : (a b c d : Token Name) (o : Option Tokens)
+four_front : (a b c d : AsmToken Name) (o : Option Tokens)
     → front a (front b (front c (front d o))) ≡ onto (a ∷ b ∷ c ∷ d ∷ []) o
 four_front a b c d None = refl
 four_front a b c d (Some ts) = refl

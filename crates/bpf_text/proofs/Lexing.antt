@@ -11,8 +11,8 @@ use Rattle.std.specs.Str.Parse.{digits_value, AllDigits, IsNumeral}
 use Rattle.bpf_text.specs.declared.token.Sign.{Sign}
 use Rattle.bpf_text.specs.declared.token.Sign.TheVariants.{Absent, Minus, Plus}
 use Rattle.bpf_text.specs.declared.token.Figure.{Figure}
-use Rattle.bpf_text.specs.declared.token.Token.{Token}
-use Rattle.bpf_text.specs.declared.token.Token.TheVariants.{Word, Number, Comma, Open, Close}
+use Rattle.bpf_text.specs.declared.token.AsmToken.{AsmToken}
+use Rattle.bpf_text.specs.declared.token.AsmToken.TheVariants.{Word, Number, Comma, Open, Close}
 use Rattle.bpf_text.specs.Tokens.{Name, is_blank, is_word_start, is_mark, is_word_byte}
 use Rattle.bpf_text.specs.Tokens.{word_goes_on, pieces, onto_piece, token_of, tokens_in}
 use Rattle.bpf_text.specs.Tokens.{tokens_of, is_numeral, numeral, unsigned_number, number_if_small}
@@ -41,10 +41,10 @@ piece_whole c (d ∷ w) rest semicolon blank mark names ends =
     pieces_onto c ((d ∷ w) ++ rest) semicolon blank (simp (mark, both.0) refl)
     ∙ ap (onto_piece c) (piece_whole d w rest plain.0 plain.1 plain.2 both.1 ends)
 
-abbrev pub front : Token Name → Option (List (Token Name)) → Option (List (Token Name))
+abbrev pub front : AsmToken Name → Option (List (AsmToken Name)) → Option (List (AsmToken Name))
 front t o = option_map (λ ts. t ∷ ts) o
 
-token_piece : (c : ℕ) (w rest : List ℕ) (t : Token Name) → (c == 59) ≡ false → is_blank c ≡ false
+token_piece : (c : ℕ) (w rest : List ℕ) (t : AsmToken Name) → (c == 59) ≡ false → is_blank c ≡ false
     → is_mark c ≡ false → list_all is_word_byte w ≡ true → word_goes_on rest ≡ false
     → token_of (c ∷ w) ≡ Some t → tokens_of ((c ∷ w) ++ rest) ≡ front t (tokens_of rest)
 token_piece c w rest t semicolon blank mark names ends is =

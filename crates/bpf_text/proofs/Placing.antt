@@ -16,7 +16,7 @@ use Rattle.bpf_text.specs.Names.{placed_named}
 use Rattle.bpf_text.specs.Reading.{ReadsOn}
 use Rattle.bpf_text.specs.Assembly.{slots_of_body, slots_of_word, slots_in, is_label}
 use Rattle.bpf_text.specs.Assembly.{label_slot, has_slot, has_label, too_long}
-use Rattle.bpf_text.specs.Assembly.{fault_of_body, Placed, placed, placed_body}
+use Rattle.bpf_text.specs.Assembly.{fault_of_body, PlacedStatement, placed, placed_body}
 
 -- ---- one line more at the end
 
@@ -67,7 +67,7 @@ placed_more n s (k ∷ ls) l =
     let w = slots_of_body k.body in
     let e : (n + 1) + length ls ≡ n + length (k ∷ ls) = omega arith in
     let f : (s + w) + slots_in ls ≡ s + (w + slots_in ls) = omega arith in
-    ap (λ (ps : List Placed). placed_body n s k.body ++ ps)
+    ap (λ (ps : List PlacedStatement). placed_body n s k.body ++ ps)
     (placed_more (n + 1) (s + w) ls l
     ∙ ap (λ (m : ℕ). placed (n + 1) (s + w) ls ++ placed_body m ((s + w) + slots_in ls) l.body) e
     ∙ ap (λ (m : ℕ). placed (n + 1) (s + w) ls ++ placed_body (n + length (k ∷ ls)) m l.body) f)
@@ -143,7 +143,8 @@ read_on before after l small fine lines slots labels placing ls h =
             (0 + slots_in ls) q h.labels free (h.slots ∙ omega arith) ∙ sym (label_append 0 ls l q);
         placed_are =
             placing
-            ∙ ap (λ (ps : List Placed). ps ++ placed_body (before.lines + 1) before.slots l.body)
+            ∙ ap (λ (ps : List PlacedStatement). ps ++ placed_body
+            (before.lines + 1) before.slots l.body)
             h.placed_are
             ∙ ap (λ (n : ℕ). placed 1 0 ls ++ placed_body n before.slots l.body) number
             ∙ ap (λ (s : ℕ). placed 1 0 ls ++ placed_body (1 + length ls) s l.body)

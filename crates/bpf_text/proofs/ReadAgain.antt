@@ -11,10 +11,10 @@ use Rattle.bpf_text.specs.declared.argument.Argument.TheVariants as argument
 use Rattle.bpf_text.specs.declared.fault.AsmFaultKind.{AsmFaultKind}
 use Rattle.bpf_text.specs.declared.item.Item.{Item}
 use Rattle.bpf_text.specs.declared.operand.Given.TheVariants.{Argument}
-use Rattle.bpf_text.specs.declared.signature.Kind.{Kind}
-use Rattle.bpf_text.specs.declared.signature.Kind.TheVariants as kind
+use Rattle.bpf_text.specs.declared.signature.OperandKind.{OperandKind}
+use Rattle.bpf_text.specs.declared.signature.OperandKind.TheVariants as kind
 use Rattle.bpf_text.specs.declared.three.UpToThree.{UpToThree}
-use Rattle.bpf_text.specs.declared.token.Token.TheVariants.{Comma}
+use Rattle.bpf_text.specs.declared.token.AsmToken.TheVariants.{Comma}
 use Rattle.bpf_text.specs.Arguments.{arguments_of}
 use Rattle.bpf_text.specs.Items.{Items, Tokens, item_at_front, item_after_comma, items_of, at_end}
 use Rattle.bpf_text.specs.Operands.{item_as, item_if, items_as, all_given}
@@ -50,7 +50,7 @@ long_read : (k : ℤ) → FitsSigned w32 k → item_as tables kind.LongWay
 long_read (pos n) h = let e = long_again (pos n) h in simp e refl
 long_read (negsuc n) h = let e = long_again (negsuc n) h in simp e refl
 
-argument_again : (k : Kind) (a : arguments.Argument) → Fits k a
+argument_again : (k : OperandKind) (a : arguments.Argument) → Fits k a
     → item_as tables k (item_of_argument a) ≡ Ok (Argument a)
 argument_again kind.Register (argument.Register r) h =
     let d = (register_is_named r).found in simp d refl
@@ -64,13 +64,13 @@ argument_again kind.ShortWay (argument.Distance (Short k)) h = short_read k h
 argument_again kind.LongWay (argument.Distance (Long k)) h = long_read k h
 argument_again k a h = absurd h
 
-again_if : (k : Option Kind) (a : Option arguments.Argument) → FitsIf k a
+again_if : (k : Option OperandKind) (a : Option arguments.Argument) → FitsIf k a
     → item_if tables k (option_map item_of_argument a) ≡ Ok (option_map Argument a)
 again_if None None h = refl
 again_if (Some k) (Some a) h = ap (map_ok Some) (argument_again k a h)
 again_if k a h = absurd h
 
-pub arguments_again : (k : UpToThree Kind) (a : UpToThree arguments.Argument) → AllFit k a
+pub arguments_again : (k : UpToThree OperandKind) (a : UpToThree arguments.Argument) → AllFit k a
     → items_as tables k (map_three item_of_argument a) ≡ Ok (map_three Argument a)
 arguments_again k a h =
     let x = item_if tables k.first (option_map item_of_argument a.first) in

@@ -10,10 +10,10 @@ use Rattle.bpf_text.specs.declared.mnemonic.Mnemonic.{Mnemonic}
 use Rattle.bpf_text.specs.declared.operand.Given.{Given}
 use Rattle.bpf_text.specs.declared.operand.Given.TheVariants.{Argument}
 use Rattle.bpf_text.specs.declared.three.UpToThree.{UpToThree}
-use Rattle.bpf_text.specs.declared.token.Token.TheVariants.{Word, Comma}
+use Rattle.bpf_text.specs.declared.token.AsmToken.TheVariants.{Word, Comma}
 use Rattle.bpf_text.specs.Arguments.{mnemonic_of, arguments_of}
 use Rattle.bpf_text.specs.Items.{Items, Tokens, items_of}
-use Rattle.bpf_text.specs.Lines.{Statement, Line, Body, body_of}
+use Rattle.bpf_text.specs.Lines.{AsmStatement, Line, Body, body_of}
 use Rattle.bpf_text.specs.Lines.{split_label, line_if_tokens, read_line}
 use Rattle.bpf_text.specs.Listing.{argument_text, text_behind, line_of}
 use Rattle.bpf_text.specs.Operands.{items_as}
@@ -146,7 +146,7 @@ abbrev labelled : Option Name × Tokens → Line
 labelled p = record { label = p.0; body = body_of tables p.1 }
 
 -- the statement of an instruction
-abbrev pub stated : Insn → Statement
+abbrev pub stated : Insn → AsmStatement
 stated i = record { mnemonic = mnemonic_of i; arguments = map_three Argument (arguments_of i) }
 
 body_again : (w : Name) (ts : Tokens) (m : Mnemonic) (items : Items) (a : UpToThree (Given Name))

@@ -14,22 +14,22 @@ use Rattle.bpf_text.specs.declared.item.Item.{Item}
 use Rattle.bpf_text.specs.declared.item.Item.TheVariants as item
 use Rattle.bpf_text.specs.declared.operand.Given.{Given}
 use Rattle.bpf_text.specs.declared.operand.Given.TheVariants as given
-use Rattle.bpf_text.specs.declared.signature.Kind.{Kind}
-use Rattle.bpf_text.specs.declared.signature.Kind.TheVariants as kind
+use Rattle.bpf_text.specs.declared.signature.OperandKind.{OperandKind}
+use Rattle.bpf_text.specs.declared.signature.OperandKind.TheVariants as kind
 use Rattle.bpf_text.specs.declared.token.Figure.{Figure}
 use Rattle.bpf_text.specs.Arguments.{mnemonic_of, arguments_of}
 use Rattle.bpf_text.specs.Assembly.{SlotOf, slots_to, in_field, short_distance}
 use Rattle.bpf_text.specs.Assembly.{long_distance, argument_at, argument_if, arguments_at}
 use Rattle.bpf_text.specs.declared.mnemonic.Mnemonic.{Mnemonic}
 use Rattle.bpf_text.specs.declared.three.UpToThree.{UpToThree}
-use Rattle.bpf_text.specs.declared.token.Token.TheVariants.{Word}
+use Rattle.bpf_text.specs.declared.token.AsmToken.TheVariants.{Word}
 use Rattle.bpf_text.specs.Items.{Items, Tokens, items_of}
 use Rattle.bpf_text.specs.Lines.{body_of}
 use Rattle.bpf_text.specs.Listing.{register_text}
 use Rattle.bpf_text.specs.Operands.{has_plus, has_sign, if_of_kind, register_given}
 use Rattle.bpf_text.specs.Operands.{memory_given, item_as, item_if, all_given, items_as}
 use Rattle.bpf_text.specs.Ranges.{imm_of, wide_of, short_of, long_of}
-use Rattle.bpf_text.specs.Results.{OrFault, ◌>>?◌, map_ok, in_turn}
+use Rattle.bpf_text.specs.Results.{OrAsmFault, ◌>>?◌, map_ok, in_turn}
 use Rattle.bpf_text.specs.Signatures.{kinds_of, is_of, is_of_if}
 use Rattle.bpf_text.specs.States.{IsDistanceTo, IsArgument, IsArgumentIf}
 use Rattle.bpf_text.specs.States.{States, IsReadAs, ReadsAsStated}
@@ -47,7 +47,7 @@ no_truth h = cc
 
 -- ---- one operand
 
-abbrev IsRead : Vocabulary → SlotOf → ℕ → Kind → Item Name → Argument → Type 0
+abbrev IsRead : Vocabulary → SlotOf → ℕ → OperandKind → Item Name → Argument → Type 0
 IsRead v slot_of s k i a =
     (g : Given Name) × (item_as v k i ≡ Ok g) × (argument_at slot_of s g ≡ Ok a)
 
@@ -62,7 +62,7 @@ leads_ok slot_of s w z h =
     ∙ ap Ok (sym h.2)
 
 module _ (v : Vocabulary) (exact : IsExact v) (slot_of : SlotOf) (s : ℕ) where
-  name_read : (k : Kind) (w : Name) (r : Reg) → is_of k (argument.Register r) ≡ true
+  name_read : (k : OperandKind) (w : Name) (r : Reg) → is_of k (argument.Register r) ≡ true
       → w ≡ register_text r → IsRead v slot_of s k (item.Name w) (argument.Register r)
   name_read kind.Register w r h e =
       (given.Argument (argument.Register r), ap register_given ((exact.registers w r).1 e), refl)
@@ -70,7 +70,7 @@ module _ (v : Vocabulary) (exact : IsExact v) (slot_of : SlotOf) (s : ℕ) where
       (given.Argument (argument.Register r), ap register_given ((exact.registers w r).1 e), refl)
   name_read k w r h e = absurd (no_truth h)
 
-  short_way : (k : Kind) (w : Name) (z : ℤ)
+  short_way : (k : OperandKind) (w : Name) (z : ℤ)
       → is_of k (argument.Distance (Short z)) ≡ true → FitsSigned w16 z → IsDistanceTo slot_of s w z
       → IsRead v slot_of s k (item.Name w) (argument.Distance (Short z))
   short_way kind.ShortWay w z h f l = (
@@ -82,7 +82,7 @@ module _ (v : Vocabulary) (exact : IsExact v) (slot_of : SlotOf) (s : ℕ) where
   )
   short_way k w z h f l = absurd (no_truth h)
 
-  long_way : (k : Kind) (w : Name) (z : ℤ)
+  long_way : (k : OperandKind) (w : Name) (z : ℤ)
       → is_of k (argument.Distance (Long z)) ≡ true → FitsSigned w32 z → IsDistanceTo slot_of s w z
       → IsRead v slot_of s k (item.Name w) (argument.Distance (Long z))
   long_way kind.LongWay w z h f l = (
@@ -98,7 +98,8 @@ module _ (v : Vocabulary) (exact : IsExact v) (slot_of : SlotOf) (s : ℕ) where
       → if_of_kind t o ≡ Ok (given.Argument a)
   read_if t o a h e = ap (λ (u : Bool). if_of_kind u o) h ∙ ap (if_of_kind true) e
 
-  imm_read : (k : Kind) (f : Figure) (z : ℤ) → is_of k (argument.Imm z) ≡ true → imm_of f ≡ Some z
+  imm_read : (k : OperandKind) (f : Figure) (z : ℤ) → is_of k (argument.Imm z) ≡ true
+      → imm_of f ≡ Some z
       → IsRead v slot_of s k (item.Number f) (argument.Imm z)
   imm_read kind.Source f z h e = (
     given.Argument (argument.Imm z),
@@ -116,7 +117,7 @@ module _ (v : Vocabulary) (exact : IsExact v) (slot_of : SlotOf) (s : ℕ) where
   )
   imm_read k f z h e = absurd (no_truth h)
 
-  number_read : (k : Kind) (f : Figure) (n : ℕ) → is_of k (argument.Number n) ≡ true
+  number_read : (k : OperandKind) (f : Figure) (n : ℕ) → is_of k (argument.Number n) ≡ true
       → wide_of f ≡ Some n → IsRead v slot_of s k (item.Number f) (argument.Number n)
   number_read kind.Number f n h e = (
     given.Argument (argument.Number n),
@@ -127,7 +128,7 @@ module _ (v : Vocabulary) (exact : IsExact v) (slot_of : SlotOf) (s : ℕ) where
   )
   number_read k f n h e = absurd (no_truth h)
 
-  short_read : (k : Kind) (f : Figure) (z : ℤ) → is_of k (argument.Distance (Short z)) ≡ true
+  short_read : (k : OperandKind) (f : Figure) (z : ℤ) → is_of k (argument.Distance (Short z)) ≡ true
       → short_of f ≡ Some z → IsRead v slot_of s k (item.Number f) (argument.Distance (Short z))
   short_read kind.ShortWay f z h e = (
     given.Argument (argument.Distance (Short z)),
@@ -138,7 +139,7 @@ module _ (v : Vocabulary) (exact : IsExact v) (slot_of : SlotOf) (s : ℕ) where
   )
   short_read k f z h e = absurd (no_truth h)
 
-  long_read : (k : Kind) (f : Figure) (z : ℤ) → is_of k (argument.Distance (Long z)) ≡ true
+  long_read : (k : OperandKind) (f : Figure) (z : ℤ) → is_of k (argument.Distance (Long z)) ≡ true
       → long_of f ≡ Some z → IsRead v slot_of s k (item.Number f) (argument.Distance (Long z))
   long_read kind.LongWay f z h e = (
     given.Argument (argument.Distance (Long z)),
@@ -149,7 +150,7 @@ module _ (v : Vocabulary) (exact : IsExact v) (slot_of : SlotOf) (s : ℕ) where
   )
   long_read k f z h e = absurd (no_truth h)
 
-  place_read : (k : Kind) (w : Name) (f : Figure) (r : Reg) (z : ℤ)
+  place_read : (k : OperandKind) (w : Name) (f : Figure) (r : Reg) (z : ℤ)
       → is_of k (argument.Memory r z) ≡ true → w ≡ register_text r → short_of f ≡ Some z
       → IsRead v slot_of s k (item.Memory w f) (argument.Memory r z)
   place_read kind.Memory w f r z h d e = (
@@ -162,7 +163,8 @@ module _ (v : Vocabulary) (exact : IsExact v) (slot_of : SlotOf) (s : ℕ) where
   )
   place_read k w f r z h d e = absurd (no_truth h)
 
-  item_read : (k : Kind) (i : Item Name) (a : Argument) → is_of k a ≡ true → DistanceFits (Some a)
+  item_read : (k : OperandKind) (i : Item Name) (a : Argument) → is_of k a ≡ true
+      → DistanceFits (Some a)
       → IsArgument slot_of s i a → IsRead v slot_of s k i a
   item_read k (item.Name w) (argument.Register r) h f e = name_read k w r h e
   item_read k (item.Name w) (argument.Distance (Short z)) h f e = short_way k w z h f e
@@ -174,7 +176,7 @@ module _ (v : Vocabulary) (exact : IsExact v) (slot_of : SlotOf) (s : ℕ) where
   item_read k (item.Memory w n) (argument.Memory r z) h f e = place_read k w n r z h e.0 e.1
   item_read k i a h f e = absurd e
 
-  place_if : (k : Option Kind) (i : Option (Item Name)) (a : Option Argument)
+  place_if : (k : Option OperandKind) (i : Option (Item Name)) (a : Option Argument)
       → is_of_if k a ≡ true → DistanceFits a → IsArgumentIf slot_of s i a
       → (g : Option (Given Name)) × (item_if v k i ≡ Ok g) × (argument_if slot_of s g ≡ Ok a)
   place_if None None None h f e = (None, refl, refl)
@@ -208,20 +210,21 @@ stated_all v exact slot_of s tokens i fits h =
     let z = place_if v exact slot_of s k.third h.items.third a.third more.1 f.2 h.third in
     let g : UpToThree (Given Name) = record { first = x.0; second = y.0; third = z.0 } in
     let given : items_as v k h.items ≡ Ok g =
-    ap (λ (r : OrFault (Option (Given Name))).
+    ap (λ (r : OrAsmFault (Option (Given Name))).
     all_given r (item_if v k.second h.items.second) (item_if v k.third h.items.third)) x.1
-    ∙ ap (λ (r : OrFault (Option (Given Name))).
+    ∙ ap (λ (r : OrAsmFault (Option (Given Name))).
     all_given (Ok x.0) r (item_if v k.third h.items.third)) y.1
-    ∙ ap (λ (r : OrFault (Option (Given Name))). all_given (Ok x.0) (Ok y.0) r) z.1 in
+    ∙ ap (λ (r : OrAsmFault (Option (Given Name))). all_given (Ok x.0) (Ok y.0) r) z.1 in
     let placed : arguments_at slot_of s g ≡ Ok a =
-    ap (λ (r : OrFault (Option Argument)).
+    ap (λ (r : OrAsmFault (Option Argument)).
     in_turn r (argument_if slot_of s y.0) (argument_if slot_of s z.0)) x.2
-    ∙ ap (λ (r : OrFault (Option Argument)). in_turn (Ok a.first) r (argument_if slot_of s z.0)) y.2
-    ∙ ap (λ (r : OrFault (Option Argument)). in_turn (Ok a.first) (Ok a.second) r) z.2 in (
+    ∙ ap (λ (r : OrAsmFault (Option Argument)). in_turn (Ok a.first) r (argument_if slot_of s z.0))
+    y.2
+    ∙ ap (λ (r : OrAsmFault (Option Argument)). in_turn (Ok a.first) (Ok a.second) r) z.2 in (
       record { mnemonic = m; arguments = g },
       ap (body_of v) h.word ∙ body_read v (word_of m) h.rest m h.items g
           ((exact.mnemonics (word_of m) m).1 refl) h.operands given,
-      ap (λ (r : OrFault (UpToThree Argument)). r >>? λ b. ok_or (v.insn_of m b) fault.Operand)
+      ap (λ (r : OrAsmFault (UpToThree Argument)). r >>? λ b. ok_or (v.insn_of m b) fault.Operand)
           placed
           ∙ ap (λ o. ok_or o fault.Operand) ((exact.insns m a i).1 (refl, refl)),
     )

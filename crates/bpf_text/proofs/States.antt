@@ -12,16 +12,16 @@ use Rattle.bpf_text.specs.declared.item.Item.{Item}
 use Rattle.bpf_text.specs.declared.item.Item.TheVariants as item
 use Rattle.bpf_text.specs.declared.operand.Given.{Given}
 use Rattle.bpf_text.specs.declared.operand.Given.TheVariants as given
-use Rattle.bpf_text.specs.declared.signature.Kind.{Kind}
-use Rattle.bpf_text.specs.declared.signature.Kind.TheVariants as kind
+use Rattle.bpf_text.specs.declared.signature.OperandKind.{OperandKind}
+use Rattle.bpf_text.specs.declared.signature.OperandKind.TheVariants as kind
 use Rattle.bpf_text.specs.declared.three.UpToThree.{UpToThree}
 use Rattle.bpf_text.specs.declared.token.Figure.{Figure}
-use Rattle.bpf_text.specs.declared.token.Token.TheVariants.{Word}
+use Rattle.bpf_text.specs.declared.token.AsmToken.TheVariants.{Word}
 use Rattle.bpf_text.specs.Arguments.{mnemonic_of}
 use Rattle.bpf_text.specs.Assembly.{SlotOf, slots_to, in_field, short_distance}
 use Rattle.bpf_text.specs.Assembly.{long_distance, argument_at, argument_if, arguments_at}
 use Rattle.bpf_text.specs.Items.{Items, Tokens, items_of}
-use Rattle.bpf_text.specs.Lines.{Statement, body_of}
+use Rattle.bpf_text.specs.Lines.{AsmStatement, body_of}
 use Rattle.bpf_text.specs.Operands.{has_plus, has_sign, if_of_kind, register_given}
 use Rattle.bpf_text.specs.Operands.{memory_given, item_as, item_if, items_as}
 use Rattle.bpf_text.specs.Ranges.{imm_of, wide_of, short_of, long_of}
@@ -131,7 +131,7 @@ module _ (v : Vocabulary) (exact : IsExact v) (slot_of : SlotOf) (s : ℕ) where
       (ok_or_ok fault.Range (long_distance p.0) a p.2) in
       subst (IsArgument slot_of s (item.Name w)) e (leads slot_of s w p.0 p.1)
 
-  item_is : (k : Kind) (i : Item Name) (g : Given Name) (a : Argument)
+  item_is : (k : OperandKind) (i : Item Name) (g : Given Name) (a : Argument)
       → item_as v k i ≡ Ok g → argument_at slot_of s g ≡ Ok a → IsArgument slot_of s i a
   item_is kind.Register (item.Name w) g a h e = name_is w g a h e
   item_is kind.Source (item.Name w) g a h e = name_is w g a h e
@@ -149,7 +149,8 @@ module _ (v : Vocabulary) (exact : IsExact v) (slot_of : SlotOf) (s : ℕ) where
 
   -- ---- all operands
 
-  place : (k : Option Kind) (i : Option (Item Name)) (g : Option (Given Name)) (a : Option Argument)
+  place : (k : Option OperandKind) (i : Option (Item Name)) (g : Option (Given Name))
+      (a : Option Argument)
       → item_if v k i ≡ Ok g → argument_if slot_of s g ≡ Ok a → IsArgumentIf slot_of s i a
   place None None g a h e =
       subst (IsArgumentIf slot_of s None) (same_ok (ap (argument_if slot_of s) (same_ok h) ∙ e)) tt
@@ -160,7 +161,7 @@ module _ (v : Vocabulary) (exact : IsExact v) (slot_of : SlotOf) (s : ℕ) where
   place (Some k) None g a h e = absurd (err_ok h)
   place None (Some i) g a h e = absurd (err_ok h)
 
-pub record IsBody (v : Vocabulary) (tokens : Tokens) (b : Statement) : Type 0 where
+pub record IsBody (v : Vocabulary) (tokens : Tokens) (b : AsmStatement) : Type 0 where
   word : Name
   rest : Tokens
   items : Items
@@ -169,7 +170,7 @@ pub record IsBody (v : Vocabulary) (tokens : Tokens) (b : Statement) : Type 0 wh
   items_are : items_of rest ≡ Some items
   given : items_as v (kinds_of b.mnemonic) items ≡ Ok b.arguments
 
-body_is : (v : Vocabulary) (tokens : Tokens) (b : Statement) → body_of v tokens ≡ Ok (Some b)
+body_is : (v : Vocabulary) (tokens : Tokens) (b : AsmStatement) → body_of v tokens ≡ Ok (Some b)
     → IsBody v tokens b
 body_is v [] b h = absurd (none_some (same_ok h))
 body_is v (Word w ∷ rest) b h =
@@ -183,10 +184,11 @@ body_is v (Word w ∷ rest) b h =
       items = q.0;
       tokens_are = refl;
       named = ok_or_ok fault.Mnemonic (v.mnemonic_named w) p.0 p.1
-          ∙ ap (λ (t : Statement). Some t.mnemonic) e;
+          ∙ ap (λ (t : AsmStatement). Some t.mnemonic) e;
       items_are = ok_or_ok fault.Operand (items_of rest) q.0 q.1;
       given =
-          let P : Statement → Type 0 = λ t. items_as v (kinds_of t.mnemonic) q.0 ≡ Ok t.arguments in
+          let P : AsmStatement → Type 0 =
+          λ t. items_as v (kinds_of t.mnemonic) q.0 ≡ Ok t.arguments in
           subst P e r.1;
     }
 body_is v (t ∷ rest) b h = absurd (err_ok h)

@@ -7,15 +7,15 @@ use Rattle.bpf_text.specs.declared.fault.AsmFaultKind.TheVariants as fault
 use Rattle.bpf_text.specs.declared.operand.Given.{Given}
 use Rattle.bpf_text.specs.declared.three.UpToThree.{UpToThree}
 use Rattle.bpf_text.specs.Operands.{is_other_kind, all_given}
-use Rattle.bpf_text.specs.Results.{OrFault, ◌>>?◌, map_ok, in_turn}
+use Rattle.bpf_text.specs.Results.{OrAsmFault, ◌>>?◌, map_ok, in_turn}
 use Rattle.bpf_text.specs.Tokens.{Name}
 
 -- ---- steps that didn't fail
 
-pub err_ok : {A : Type 0} {e : AsmFaultKind} {x : A} → ◌≡◌ {A = OrFault A} (Err e) (Ok x) → ⊥
+pub err_ok : {A : Type 0} {e : AsmFaultKind} {x : A} → ◌≡◌ {A = OrAsmFault A} (Err e) (Ok x) → ⊥
 err_ok h = cc
 
-pub same_ok : {A : Type 0} {x y : A} → ◌≡◌ {A = OrFault A} (Ok x) (Ok y) → x ≡ y
+pub same_ok : {A : Type 0} {x y : A} → ◌≡◌ {A = OrAsmFault A} (Ok x) (Ok y) → x ≡ y
 same_ok h = cc
 
 pub same_some : {A : Type 0} {x y : A} → Some x ≡ Some y → x ≡ y
@@ -24,7 +24,7 @@ same_some h = cc
 pub none_some : {A : Type 0} {x : A} → ◌≡◌ {A = Option A} None (Some x) → ⊥
 none_some h = cc
 
-pub bind_ok : {A B : Type 0} (r : OrFault A) (f : A → OrFault B) (y : B) → (r >>? f) ≡ Ok y
+pub bind_ok : {A B : Type 0} (r : OrAsmFault A) (f : A → OrAsmFault B) (y : B) → (r >>? f) ≡ Ok y
     → (x : A) × (r ≡ Ok x) × (f x ≡ Ok y)
 bind_ok (Ok x) f y h = (x, refl, h)
 bind_ok (Err e) f y h = absurd (err_ok h)
@@ -34,7 +34,7 @@ pub ok_or_ok : {A : Type 0} (e : AsmFaultKind) (o : Option A) (x : A) → ok_or 
 ok_or_ok e (Some y) x h = ap Some (same_ok h)
 ok_or_ok e None x h = absurd (err_ok h)
 
-pub map_ok_is : {A B : Type 0} (f : A → B) (r : OrFault A) (y : B) → map_ok f r ≡ Ok y
+pub map_ok_is : {A B : Type 0} (f : A → B) (r : OrAsmFault A) (y : B) → map_ok f r ≡ Ok y
     → (x : A) × (r ≡ Ok x) × (f x ≡ y)
 map_ok_is f (Ok x) y h = (x, refl, same_ok h)
 map_ok_is f (Err e) y h = absurd (err_ok h)
@@ -44,12 +44,13 @@ pub mapped : {A B : Type 0} (f : A → B) (o : Option A) (y : B) → option_map 
 mapped f (Some x) y h = (x, refl, same_some h)
 mapped f None y h = absurd (none_some h)
 
-pub record AreOk {A : Type 0} (a b c : OrFault (Option A)) (g : UpToThree A) : Type 0 where
+pub record AreOk {A : Type 0} (a b c : OrAsmFault (Option A)) (g : UpToThree A) : Type 0 where
   pub first : a ≡ Ok g.first
   pub second : b ≡ Ok g.second
   pub third : c ≡ Ok g.third
 
-pub in_turn_ok : {A : Type 0} (a b c : OrFault (Option A)) (g : UpToThree A) → in_turn a b c ≡ Ok g
+pub in_turn_ok : {A : Type 0} (a b c : OrAsmFault (Option A)) (g : UpToThree A)
+    → in_turn a b c ≡ Ok g
     → AreOk a b c g
 in_turn_ok (Ok x) (Ok y) (Ok z) g h =
     let e = same_ok h in
@@ -62,12 +63,12 @@ in_turn_ok (Err e) b c g h = absurd (err_ok h)
 in_turn_ok (Ok x) (Err e) c g h = absurd (err_ok h)
 in_turn_ok (Ok x) (Ok y) (Err e) g h = absurd (err_ok h)
 
-else_ok : {A : Type 0} (t : Bool) (r : OrFault A) (e : AsmFaultKind) (x : A)
+else_ok : {A : Type 0} (t : Bool) (r : OrAsmFault A) (e : AsmFaultKind) (x : A)
     → (if t then Err e else r) ≡ Ok x → r ≡ Ok x
 else_ok true r e x h = absurd (err_ok h)
 else_ok false r e x h = h
 
-pub all_given_ok : (a b c : OrFault (Option (Given Name))) (g : UpToThree (Given Name))
+pub all_given_ok : (a b c : OrAsmFault (Option (Given Name))) (g : UpToThree (Given Name))
     → all_given a b c ≡ Ok g → AreOk a b c g
 all_given_ok a b c g h =
     in_turn_ok a b c g (else_ok (is_other_kind a || (is_other_kind b || is_other_kind c))

@@ -8,8 +8,8 @@ use Rattle.std.proofs.lemmas.List.{take_all}
 use Rattle.std.specs.List.{prefix_len}
 use Rattle.std.specs.Char.{digit_value}
 use Rattle.std.specs.Str.Parse.{digits_value}
-use Rattle.bpf_text.specs.declared.token.Token.{Token}
-use Rattle.bpf_text.specs.Names.{Bytes, token_named}
+use Rattle.bpf_text.specs.declared.token.AsmToken.{AsmToken}
+use Rattle.bpf_text.specs.Names.{NameBytes, token_named}
 use Rattle.bpf_text.specs.Tokens.{Name, is_blank, is_mark, is_word_byte, word_goes_on}
 use Rattle.bpf_text.specs.Tokens.{onto_piece, pieces, piece_len, token_of}
 use Rattle.bpf_text.specs.Tokens.{tokens_in, tokens_of, number_if_small, magnitude}
@@ -89,8 +89,8 @@ pieces_first c rest semicolon blank = piece_by_mark c rest (is_mark c) semicolon
 
 -- ---- tokens
 
-pub with_piece : (p : List ℕ) (ps : List (List ℕ)) (t : Token Name)
-    → token_of p ≡ Some t → (o : Option (List (Token Name))) → tokens_in ps ≡ o
+pub with_piece : (p : List ℕ) (ps : List (List ℕ)) (t : AsmToken Name)
+    → token_of p ≡ Some t → (o : Option (List (AsmToken Name))) → tokens_in ps ≡ o
     → tokens_in (p ∷ ps) ≡ option_map (λ ts. t ∷ ts) o
 with_piece p ps t e None h = simp (e, h) refl
 with_piece p ps t e (Some ts) h = simp (e, h) refl
@@ -98,35 +98,38 @@ with_piece p ps t e (Some ts) h = simp (e, h) refl
 no_piece : (p : List ℕ) (ps : List (List ℕ)) → token_of p ≡ None → tokens_in (p ∷ ps) ≡ None
 no_piece p ps e = simp e refl
 
-tokens_onto : (xs : List (Token Bytes)) (t : Token Bytes) (ts : List (Token Name))
+tokens_onto : (xs : List (AsmToken NameBytes)) (t : AsmToken NameBytes) (ts : List (AsmToken Name))
     → map token_named (xs ++ (t ∷ [])) ++ ts ≡ map token_named xs ++ (token_named t ∷ ts)
 tokens_onto [] t ts = refl
 tokens_onto (x ∷ xs) t ts =
-    ap (λ (us : List (Token Name)). token_named x ∷ us) (tokens_onto xs t ts)
+    ap (λ (us : List (AsmToken Name)). token_named x ∷ us) (tokens_onto xs t ts)
 
-onto_option : (xs ys : List (Token Bytes)) (t : Token Bytes) (o : Option (List (Token Name)))
+onto_option : (xs ys : List (AsmToken NameBytes)) (t : AsmToken NameBytes)
+    (o : Option (List (AsmToken Name)))
     → ys ≡ xs ++ (t ∷ []) → option_map (λ ts. map token_named xs ++ ts)
     (option_map (λ ts. token_named t ∷ ts) o) ≡ option_map (λ ts. map token_named ys ++ ts) o
 onto_option xs ys t None e = refl
 onto_option xs ys t (Some ts) e = ap Some
-    (sym (ap (λ (zs : List (Token Bytes)). map token_named zs ++ ts) e ∙ tokens_onto xs t ts))
+    (sym (ap (λ (zs : List (AsmToken NameBytes)). map token_named zs ++ ts) e
+    ∙ tokens_onto xs t ts))
 
 -- a line whose tokens so far are xs, and one token more
-pub token_more : (line rest p after : List ℕ) (xs ys : List (Token Bytes)) (t : Token Bytes)
+pub token_more : (line rest p after : List ℕ) (xs ys : List (AsmToken NameBytes))
+    (t : AsmToken NameBytes)
     → tokens_of line ≡ option_map (λ ts. map token_named xs ++ ts) (tokens_of rest)
     → pieces rest ≡ p ∷ pieces after → Some (token_named t) ≡ token_of p → ys ≡ xs ++ (t ∷ [])
     → tokens_of line ≡ option_map (λ ts. map token_named ys ++ ts) (tokens_of after)
 token_more line rest p after xs ys t h first e more =
-    h ∙ ap (λ (o : Option (List (Token Name))). option_map (λ ts. map token_named xs ++ ts) o)
+    h ∙ ap (λ (o : Option (List (AsmToken Name))). option_map (λ ts. map token_named xs ++ ts) o)
     (ap tokens_in first
     ∙ with_piece p (pieces after) (token_named t) (sym e) (tokens_of after) refl)
     ∙ onto_option xs ys t (tokens_of after) more
 
-pub token_missing : (line rest p after : List ℕ) (xs : List (Token Bytes))
+pub token_missing : (line rest p after : List ℕ) (xs : List (AsmToken NameBytes))
     → tokens_of line ≡ option_map (λ ts. map token_named xs ++ ts) (tokens_of rest)
     → pieces rest ≡ p ∷ pieces after → None ≡ token_of p → tokens_of line ≡ None
 token_missing line rest p after xs h first e =
-    h ∙ ap (λ (o : Option (List (Token Name))). option_map (λ ts. map token_named xs ++ ts) o)
+    h ∙ ap (λ (o : Option (List (AsmToken Name))). option_map (λ ts. map token_named xs ++ ts) o)
     (ap tokens_in first ∙ no_piece p (pieces after) (sym e))
 
 -- ---- numbers

@@ -16,10 +16,10 @@ use Rattle.bpf_text.specs.declared.mnemonic.Mnemonic.{Mnemonic}
 use Rattle.bpf_text.specs.declared.mnemonic.Mnemonic.TheVariants.{LoadNumber, LoadMap, LoadCell}
 use Rattle.bpf_text.specs.declared.operand.Given.{Given}
 use Rattle.bpf_text.specs.declared.operand.Given.TheVariants as given
-use Rattle.bpf_text.specs.declared.scan.Placed as the_placed
+use Rattle.bpf_text.specs.declared.scan.PlacedStatement as the_placed
 use Rattle.bpf_text.specs.declared.three.UpToThree.{UpToThree}
 use Rattle.bpf_text.specs.Lines.{Line, Body, lines_in}
-use Rattle.bpf_text.specs.Results.{OrFault, ◌>>?◌, map_ok, in_turn}
+use Rattle.bpf_text.specs.Results.{OrAsmFault, ◌>>?◌, map_ok, in_turn}
 use Rattle.bpf_text.specs.Tokens.{Name}
 use Rattle.bpf_text.specs.Vocabulary.{Vocabulary, IsExact}
 
@@ -97,15 +97,15 @@ first_fault before (l ∷ rest) =
 -- ---- jumps to labels
 
 -- a statement, with its line and its slot
-abbrev pub Placed : Type 0
-Placed = the_placed.Placed Name
+abbrev pub PlacedStatement : Type 0
+PlacedStatement = the_placed.PlacedStatement Name
 
-abbrev pub placed_body : ℕ → ℕ → Body → List Placed
+abbrev pub placed_body : ℕ → ℕ → Body → List PlacedStatement
 placed_body n s (Ok (Some d)) = record { line = n; slot = s; statement = d } ∷ []
 placed_body n s body = []
 
 -- the statements of lines that begin at line n and slot s
-abbrev pub placed : ℕ → ℕ → List Line → List Placed
+abbrev pub placed : ℕ → ℕ → List Line → List PlacedStatement
 placed n s [] = []
 placed n s (l ∷ ls) = placed_body n s l.body ++ placed (n + 1) (s + slots_of_body l.body) ls
 
@@ -120,21 +120,21 @@ abbrev pub long_distance : ℤ → Option Argument
 long_distance z = if in_field 31 z then Some (Distance (Long z)) else None
 
 -- slots are counted from the instruction after the jump
-abbrev pub slots_to : SlotOf → ℕ → Name → OrFault ℤ
+abbrev pub slots_to : SlotOf → ℕ → Name → OrAsmFault ℤ
 slots_to slot_of s name = ok_or (slot_of name) kind.Label >>? λ t. Ok (pos t -ℤ pos (s + 1))
 
-abbrev pub argument_at : SlotOf → ℕ → Given Name → OrFault Argument
+abbrev pub argument_at : SlotOf → ℕ → Given Name → OrAsmFault Argument
 argument_at slot_of s (given.Argument a) = Ok a
 argument_at slot_of s (given.ShortTo name) =
     slots_to slot_of s name >>? λ z. ok_or (short_distance z) kind.Range
 argument_at slot_of s (given.LongTo name) =
     slots_to slot_of s name >>? λ z. ok_or (long_distance z) kind.Range
 
-abbrev pub argument_if : SlotOf → ℕ → Option (Given Name) → OrFault (Option Argument)
+abbrev pub argument_if : SlotOf → ℕ → Option (Given Name) → OrAsmFault (Option Argument)
 argument_if slot_of s None = Ok None
 argument_if slot_of s (Some g) = map_ok Some (argument_at slot_of s g)
 
-abbrev pub arguments_at : SlotOf → ℕ → UpToThree (Given Name) → OrFault (UpToThree Argument)
+abbrev pub arguments_at : SlotOf → ℕ → UpToThree (Given Name) → OrAsmFault (UpToThree Argument)
 arguments_at slot_of s g =
     let a = argument_if slot_of s g.first in
     let b = argument_if slot_of s g.second in
@@ -142,7 +142,7 @@ arguments_at slot_of s g =
     in_turn a b c
 
 -- the instruction with this word and these arguments: there is one, since they are of its kinds
-abbrev pub insn_at : Vocabulary → SlotOf → Placed → OrFault Insn
+abbrev pub insn_at : Vocabulary → SlotOf → PlacedStatement → OrAsmFault Insn
 insn_at v slot_of p =
     arguments_at slot_of p.slot p.statement.arguments >>? λ a.
     ok_or (v.insn_of p.statement.mnemonic a) kind.Operand
@@ -151,12 +151,12 @@ abbrev pub onto_bytes : List ℕ → BytesOrFault → BytesOrFault
 onto_bytes bs (Ok more) = Ok (bs ++ more)
 onto_bytes bs (Err e) = Err e
 
-abbrev pub bytes_onto : ℕ → OrFault Insn → BytesOrFault → BytesOrFault
+abbrev pub bytes_onto : ℕ → OrAsmFault Insn → BytesOrFault → BytesOrFault
 bytes_onto n (Err e) later = Err (at_line n e)
 bytes_onto n (Ok i) later = onto_bytes (encoding i) later
 
 -- the encodings of the statements, or the first that can't jump where it should
-abbrev pub bytes_of_placed : Vocabulary → SlotOf → List Placed → BytesOrFault
+abbrev pub bytes_of_placed : Vocabulary → SlotOf → List PlacedStatement → BytesOrFault
 bytes_of_placed v slot_of [] = Ok []
 bytes_of_placed v slot_of (p ∷ ps) =
     bytes_onto p.line (insn_at v slot_of p) (bytes_of_placed v slot_of ps)

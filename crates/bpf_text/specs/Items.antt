@@ -3,8 +3,8 @@ use Rattle.std.specs.Prelude.{List, [], ◌∷◌, Option, Some, None}
 use Rattle.bpf_insn.specs.Program.{◌>>=◌}
 use Rattle.bpf_text.specs.declared.token.Sign.TheVariants.{Plus}
 use Rattle.bpf_text.specs.declared.token.Figure.{Figure}
-use Rattle.bpf_text.specs.declared.token.Token.{Token}
-use Rattle.bpf_text.specs.declared.token.Token.TheVariants as token
+use Rattle.bpf_text.specs.declared.token.AsmToken.{AsmToken}
+use Rattle.bpf_text.specs.declared.token.AsmToken.TheVariants as token
 use Rattle.bpf_text.specs.declared.item.Item.{Item}
 use Rattle.bpf_text.specs.declared.item.Item.TheVariants.{Name, Number, Memory}
 use Rattle.bpf_text.specs.declared.three.UpToThree.{UpToThree}
@@ -16,7 +16,7 @@ abbrev pub no_offset : Figure
 no_offset = record { sign = Plus; magnitude = Some 0 }
 
 abbrev pub Tokens : Type 0
-Tokens = List (Token names.Name)
+Tokens = List (AsmToken names.Name)
 
 -- the operand at the front, and the tokens behind it
 abbrev pub item_at_front : Tokens → Option (Item names.Name × Tokens)

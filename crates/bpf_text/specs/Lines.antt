@@ -3,23 +3,23 @@ use Rattle.std.specs.Prelude.{List, [], ◌∷◌, ℕ, map, Option, Some, None,
 use Rattle.std.specs.Str.Lines.{lines}
 use Rattle.bpf_text.specs.declared.fault.AsmFaultKind.TheVariants as fault
 use Rattle.bpf_text.specs.declared.line.Line as the_line
-use Rattle.bpf_text.specs.declared.line.Statement as the_statement
-use Rattle.bpf_text.specs.declared.token.Token.TheVariants.{Word, Colon}
+use Rattle.bpf_text.specs.declared.line.AsmStatement as the_statement
+use Rattle.bpf_text.specs.declared.token.AsmToken.TheVariants.{Word, Colon}
 use Rattle.bpf_text.specs.Items.{Tokens, items_of}
 use Rattle.bpf_text.specs.Operands.{items_as}
-use Rattle.bpf_text.specs.Results.{OrFault, ◌>>?◌}
+use Rattle.bpf_text.specs.Results.{OrAsmFault, ◌>>?◌}
 use Rattle.bpf_text.specs.Signatures.{kinds_of}
 use Rattle.bpf_text.specs.Tokens.{Name, tokens_of}
 use Rattle.bpf_text.specs.Vocabulary.{Vocabulary}
 
-abbrev pub Statement : Type 0
-Statement = the_statement.Statement Name
+abbrev pub AsmStatement : Type 0
+AsmStatement = the_statement.AsmStatement Name
 
 abbrev pub Line : Type 0
 Line = the_line.Line Name
 
 abbrev pub Body : Type 0
-Body = OrFault (Option Statement)
+Body = OrAsmFault (Option AsmStatement)
 
 -- an instruction's word, and its operands
 abbrev pub body_of : Vocabulary → Tokens → Body
@@ -41,7 +41,7 @@ line_of_tokens v tokens =
     record { label = (split_label tokens).0; body = body_of v (split_label tokens).1 }
 
 abbrev pub line_if_tokens : Vocabulary → Option Tokens → Line
-line_if_tokens v None = record { label = None; body = Err fault.Token }
+line_if_tokens v None = record { label = None; body = Err fault.AsmToken }
 line_if_tokens v (Some tokens) = line_of_tokens v tokens
 
 unfoldable pub read_line : Vocabulary → List ℕ → Line

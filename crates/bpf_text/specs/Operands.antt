@@ -14,17 +14,17 @@ use Rattle.bpf_text.specs.declared.argument.Argument.TheVariants as argument
 use Rattle.bpf_text.specs.declared.argument.Argument as arguments
 use Rattle.bpf_text.specs.declared.operand.Given.{Given}
 use Rattle.bpf_text.specs.declared.operand.Given.TheVariants.{Argument, ShortTo, LongTo}
-use Rattle.bpf_text.specs.declared.signature.Kind.{Kind}
-use Rattle.bpf_text.specs.declared.signature.Kind.TheVariants as kind
+use Rattle.bpf_text.specs.declared.signature.OperandKind.{OperandKind}
+use Rattle.bpf_text.specs.declared.signature.OperandKind.TheVariants as kind
 use Rattle.bpf_text.specs.declared.three.UpToThree.{UpToThree}
 use Rattle.bpf_text.specs.Items.{Items}
 use Rattle.bpf_text.specs.Ranges.{imm_of, wide_of, short_of, long_of}
-use Rattle.bpf_text.specs.Results.{OrFault, map_ok, in_turn}
+use Rattle.bpf_text.specs.Results.{OrAsmFault, map_ok, in_turn}
 use Rattle.bpf_text.specs.Tokens.{Name}
 use Rattle.bpf_text.specs.Vocabulary.{Vocabulary}
 
 abbrev pub GivenOrFault : Type 0
-GivenOrFault = OrFault (Given Name)
+GivenOrFault = OrAsmFault (Given Name)
 
 abbrev pub if_of_kind : Bool → Option arguments.Argument → GivenOrFault
 if_of_kind false a = Err fault.Operand
@@ -64,7 +64,7 @@ abbrev pub long_given : Figure → GivenOrFault
 long_given f =
     if_of_kind (has_sign f.sign) (option_map (λ k. argument.Distance (Long k)) (long_of f))
 
-abbrev pub item_as : Vocabulary → Kind → Item Name → GivenOrFault
+abbrev pub item_as : Vocabulary → OperandKind → Item Name → GivenOrFault
 item_as v kind.Register (item.Name w) = register_given (v.register_named w)
 item_as v kind.Source (item.Name w) = register_given (v.register_named w)
 item_as v kind.Source (item.Number f) = imm_given f
@@ -80,22 +80,25 @@ item_as v k i = Err fault.Operand
 -- ---- all operands
 
 -- an operand stands where one is wanted, and nowhere else
-abbrev pub item_if : Vocabulary → Option Kind → Option (Item Name) → OrFault (Option (Given Name))
+abbrev pub item_if : Vocabulary → Option OperandKind → Option (Item Name)
+    → OrAsmFault (Option (Given Name))
 item_if v None None = Ok None
 item_if v (Some k) (Some i) = map_ok Some (item_as v k i)
 item_if v k i = Err fault.Operand
 
-abbrev pub is_other_kind : {A : Type 0} → OrFault A → Bool
+abbrev pub is_other_kind : {A : Type 0} → OrAsmFault A → Bool
 is_other_kind (Err fault.Operand) = true
 is_other_kind r = false
 
 -- A3 of any operand comes before A5 of another
-abbrev pub all_given : (a b c : OrFault (Option (Given Name))) → OrFault (UpToThree (Given Name))
+abbrev pub all_given : (a b c : OrAsmFault (Option (Given Name)))
+    → OrAsmFault (UpToThree (Given Name))
 all_given a b c =
     if is_other_kind a || (is_other_kind b || is_other_kind c) then Err fault.Operand
     else in_turn a b c
 
-abbrev pub items_as : Vocabulary → UpToThree Kind → Items → OrFault (UpToThree (Given Name))
+abbrev pub items_as : Vocabulary → UpToThree OperandKind → Items
+    → OrAsmFault (UpToThree (Given Name))
 items_as v k i =
     let a = item_if v k.first i.first in
     let b = item_if v k.second i.second in

@@ -3,18 +3,18 @@ use Rattle.std.specs.Prelude.{Option, Result, Ok, Err}
 use Rattle.bpf_text.specs.declared.fault.AsmFaultKind.{AsmFaultKind}
 use Rattle.bpf_text.specs.declared.three.UpToThree.{UpToThree}
 
-abbrev pub OrFault : Type 0 → Type 0
-OrFault A = Result A AsmFaultKind
+abbrev pub OrAsmFault : Type 0 → Type 0
+OrAsmFault A = Result A AsmFaultKind
 
 infixl 10 ◌>>?◌
-abbrev pub ◌>>?◌ : {A B : Type 0} → OrFault A → (A → OrFault B) → OrFault B
+abbrev pub ◌>>?◌ : {A B : Type 0} → OrAsmFault A → (A → OrAsmFault B) → OrAsmFault B
 (Ok x) >>? f = f x
 (Err e) >>? f = Err e
 
-abbrev pub map_ok : {A B : Type 0} → (A → B) → OrFault A → OrFault B
+abbrev pub map_ok : {A B : Type 0} → (A → B) → OrAsmFault A → OrAsmFault B
 map_ok f (Ok x) = Ok (f x)
 map_ok f (Err e) = Err e
 
 -- of three that may be absent, the first fault or all
-abbrev pub in_turn : {A : Type 0} → (a b c : OrFault (Option A)) → OrFault (UpToThree A)
+abbrev pub in_turn : {A : Type 0} → (a b c : OrAsmFault (Option A)) → OrAsmFault (UpToThree A)
 in_turn a b c = a >>? λ x. b >>? λ y. c >>? λ z. Ok (record { first = x; second = y; third = z })

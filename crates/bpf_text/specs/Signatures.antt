@@ -7,13 +7,13 @@ use Rattle.bpf_text.specs.declared.argument.Argument.TheVariants as argument
 use Rattle.bpf_text.specs.declared.three.UpToThree.{UpToThree}
 use Rattle.bpf_text.specs.declared.mnemonic.Mnemonic.{Mnemonic}
 use Rattle.bpf_text.specs.declared.mnemonic.Mnemonic.TheVariants as word
-use Rattle.bpf_text.specs.declared.signature.Kind.{Kind}
-use Rattle.bpf_text.specs.declared.signature.Kind.TheVariants.{Register, Source, Imm, Number}
-use Rattle.bpf_text.specs.declared.signature.Kind.TheVariants.{Memory, ShortWay, LongWay}
+use Rattle.bpf_text.specs.declared.signature.OperandKind.{OperandKind}
+use Rattle.bpf_text.specs.declared.signature.OperandKind.TheVariants.{Register, Source, Imm, Number}
+use Rattle.bpf_text.specs.declared.signature.OperandKind.TheVariants.{Memory, ShortWay, LongWay}
 use Rattle.bpf_text.specs.Arguments.{mnemonic_of, arguments_of}
 use Rattle.bpf_text.specs.Three.{none, one, two, three}
 
-abbrev pub kinds_of : Mnemonic → UpToThree Kind
+abbrev pub kinds_of : Mnemonic → UpToThree OperandKind
 kinds_of (word.Alu bits op) = two Register Source
 kinds_of (word.Mov bits) = two Register Source
 kinds_of (word.MovSx extension) = two Register Register
@@ -33,7 +33,7 @@ kinds_of word.LoadMap = two Register Imm
 kinds_of word.LoadCell = three Register Imm Imm
 
 -- an argument is of a kind
-abbrev pub is_of : Kind → Argument → Bool
+abbrev pub is_of : OperandKind → Argument → Bool
 is_of Register (argument.Register r) = true
 is_of Source (argument.Register r) = true
 is_of Source (argument.Imm k) = true
@@ -44,12 +44,12 @@ is_of ShortWay (argument.Distance (Short k)) = true
 is_of LongWay (argument.Distance (Long k)) = true
 is_of k a = false
 
-abbrev pub is_of_if : Option Kind → Option Argument → Bool
+abbrev pub is_of_if : Option OperandKind → Option Argument → Bool
 is_of_if None None = true
 is_of_if (Some k) (Some a) = is_of k a
 is_of_if k a = false
 
-abbrev pub are_of : UpToThree Kind → UpToThree Argument → Bool
+abbrev pub are_of : UpToThree OperandKind → UpToThree Argument → Bool
 are_of k a =
     is_of_if k.first a.first && (is_of_if k.second a.second && is_of_if k.third a.third)
 

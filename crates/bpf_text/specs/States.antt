@@ -10,11 +10,11 @@ use Rattle.bpf_text.specs.declared.argument.Argument.TheVariants.{Register, Imm,
 use Rattle.bpf_text.specs.declared.argument.Argument.TheVariants.{Memory, Distance}
 use Rattle.bpf_text.specs.declared.item.Item.{Item}
 use Rattle.bpf_text.specs.declared.item.Item.TheVariants as item
-use Rattle.bpf_text.specs.declared.token.Token.TheVariants.{Word}
+use Rattle.bpf_text.specs.declared.token.AsmToken.TheVariants.{Word}
 use Rattle.bpf_text.specs.Arguments.{mnemonic_of, arguments_of}
 use Rattle.bpf_text.specs.Assembly.{SlotOf, insn_at}
 use Rattle.bpf_text.specs.Items.{Items, Tokens, items_of}
-use Rattle.bpf_text.specs.Lines.{Statement, body_of}
+use Rattle.bpf_text.specs.Lines.{AsmStatement, body_of}
 use Rattle.bpf_text.specs.Listing.{register_text}
 use Rattle.bpf_text.specs.Ranges.{imm_of, wide_of, short_of, long_of}
 use Rattle.bpf_text.specs.Tokens.{Name}
@@ -54,7 +54,7 @@ pub record States (slot_of : SlotOf) (s : ℕ) (tokens : Tokens) (i : Insn) : Ty
 -- the line at slot s is read as the instruction
 abbrev pub IsReadAs : Vocabulary → SlotOf → ℕ → Tokens → Insn → Type 0
 IsReadAs v slot_of s tokens i =
-    (b : Statement) × (body_of v tokens ≡ Ok (Some b))
+    (b : AsmStatement) × (body_of v tokens ≡ Ok (Some b))
     × (insn_at v slot_of (record { line = 0; slot = s; statement = b }) ≡ Ok i)
 
 -- a line is read as an instruction just where it states it, and its numbers fit their fields

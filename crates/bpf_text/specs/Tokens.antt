@@ -8,8 +8,8 @@ use Rattle.std.specs.Str.Parse.{digits_value}
 use Rattle.bpf_insn.specs.Program.{◌>>=◌}
 use Rattle.bpf_text.specs.declared.token.Sign.{Sign}
 use Rattle.bpf_text.specs.declared.token.Sign.TheVariants.{Absent, Minus, Plus}
-use Rattle.bpf_text.specs.declared.token.Token.{Token}
-use Rattle.bpf_text.specs.declared.token.Token.TheVariants.{Word, Number, Comma, Colon, Open, Close}
+use Rattle.bpf_text.specs.declared.token.AsmToken.{AsmToken}
+use Rattle.bpf_text.specs.declared.token.AsmToken.TheVariants.{Word, Number, Comma, Colon, Open, Close}
 
 -- a name: a word's bytes
 abbrev pub Name : Type 0
@@ -24,7 +24,7 @@ is_word_start c = is_ascii_alphabetic c || (c == 95)
 abbrev pub is_word_byte : ℕ → Bool
 is_word_byte c = is_word_start c || is_ascii_digit c
 
-abbrev pub mark_of : ℕ → Option (Token Name)
+abbrev pub mark_of : ℕ → Option (AsmToken Name)
 mark_of c =
     if c == 44 then Some Comma
     else if c == 58 then Some Colon
@@ -71,20 +71,20 @@ number_if_small n = if nat_lt n (2 ^ 64) then Some n else None
 abbrev pub magnitude : ℕ → List ℕ → Option ℕ
 magnitude radix digits = number_if_small (digits_value radix digits)
 
-abbrev pub numeral : Sign → ℕ → List ℕ → Option (Token Name)
+abbrev pub numeral : Sign → ℕ → List ℕ → Option (AsmToken Name)
 numeral sign radix digits =
     if is_numeral radix digits
     then Some (Number (record { sign = sign; magnitude = magnitude radix digits })) else None
 
 -- 0x and 1 to 16 hexadecimal digits, or decimal digits
-abbrev pub unsigned_number : List ℕ → Option (Token Name)
+abbrev pub unsigned_number : List ℕ → Option (AsmToken Name)
 unsigned_number piece =
     if (slice_index_or piece 0 0 == 48) && (slice_index_or piece 1 0 == 120)
     then (if nat_le (length piece) 18 then numeral Absent 16 (drop 2 piece) else None)
     else numeral Absent 10 piece
 
 -- a word has at most 32 characters
-abbrev pub token_of : List ℕ → Option (Token Name)
+abbrev pub token_of : List ℕ → Option (AsmToken Name)
 token_of [] = None
 token_of (c ∷ rest) =
     if is_mark c then mark_of c
@@ -94,10 +94,10 @@ token_of (c ∷ rest) =
     else if c == 43 then numeral Plus 10 rest
     else unsigned_number (c ∷ rest)
 
-abbrev pub tokens_in : List (List ℕ) → Option (List (Token Name))
+abbrev pub tokens_in : List (List ℕ) → Option (List (AsmToken Name))
 tokens_in [] = Some []
 tokens_in (p ∷ ps) = token_of p >>= λ t. tokens_in ps >>= λ ts. Some (t ∷ ts)
 
 -- the tokens of a line; None where one of its pieces is none
-abbrev pub tokens_of : List ℕ → Option (List (Token Name))
+abbrev pub tokens_of : List ℕ → Option (List (AsmToken Name))
 tokens_of line = tokens_in (pieces line)

@@ -31,7 +31,7 @@ use crate::fault::{AsmFault, AsmFaultKind};
 use crate::label::{Labels, label_slot};
 use crate::line::{read_line, split_line};
 use crate::operand::Given;
-use crate::scan::{Placed, Reading, add_line};
+use crate::scan::{PlacedStatement, Reading, add_line};
 use crate::statement::insn_of;
 use crate::three::UpToThree;
 use bpf_insn::{Distance, Insn, encode};
@@ -107,7 +107,10 @@ fn arguments_at<'a>(
     })
 }
 
-fn insn_at<'a>(labels: &Labels<'a>, placed: &Placed<&'a [u8]>) -> Result<Insn, AsmFaultKind>
+fn insn_at<'a>(
+    labels: &Labels<'a>,
+    placed: &PlacedStatement<&'a [u8]>,
+) -> Result<Insn, AsmFaultKind>
     ensures { result ≡ insn_at tables (slot_at labels.now) (placed_named placed.now) }
 {
     let arguments = arguments_at(labels, placed.slot, placed.statement.arguments)?;
@@ -178,7 +181,7 @@ fn assembled(alloc: Global, text: &[u8]) -> Result<Vec<u8>, AsmFault>
 /// stand between tokens, and `;` begins a comment. A jump goes to a label or a distance with its
 /// sign; an imm is -2147483648 to 4294967295, the number of `lddw` -2^63 to 2^64 - 1.
 ///
-/// Refused with the first line that has a fault of its own (of several the lowest: `Token`,
+/// Refused with the first line that has a fault of its own (of several the lowest: `AsmToken`,
 /// `Mnemonic`, `Operand`, `Label` for one given twice, `Range`, `TooLong` past slot 4096), else
 /// with the first jump to an unknown label; or with `Memory` where a growth was refused.
 pub fn assemble(alloc: Global, text: &str) -> Result<Vec<u8>, AsmFault>

@@ -1,7 +1,7 @@
 //! The operands behind an instruction's word: words, numbers and memory, with commas between.
 
 ghost use Rattle.std.specs.Prelude.{◌≡◌, ◌∷◌, option_map};
-ghost use Rattle.bpf_text.specs.declared.token.Token.TheVariants.{Open};
+ghost use Rattle.bpf_text.specs.declared.token.AsmToken.TheVariants.{Open};
 ghost use Rattle.bpf_text.specs.Items.{item_at_front, item_after_comma, at_end, items_of};
 ghost use Rattle.bpf_text.specs.Names.{
   tokens_named,
@@ -12,7 +12,7 @@ ghost use Rattle.bpf_text.specs.Names.{
 };
 
 use crate::three::{UpToThree, none};
-use crate::token::{Figure, Sign, Token};
+use crate::token::{AsmToken, Figure, Sign};
 
 /// One operand as it is written.
 #[derive(Drop)]
@@ -27,24 +27,26 @@ pub enum Item<N> {
 /// The operands, in their order.
 pub type Items<'a> = UpToThree<Item<&'a [u8]>>;
 
-type Tokens<'t, 'a> = &'t [Token<&'a [u8]>];
+type Tokens<'t, 'a> = &'t [AsmToken<&'a [u8]>];
 
 // What stands behind the bracket that opens.
 fn memory_behind<'a, 't>(tokens: Tokens<'t, 'a>) -> Option<(Item<&'a [u8]>, Tokens<'t, 'a>)>
     ensures { option_map front_named result ≡ item_at_front (Open ∷ tokens_named tokens.now) }
 {
     match tokens {
-        [Token::Word(word), Token::Close, rest @ ..] => {
+        [AsmToken::Word(word), AsmToken::Close, rest @ ..] => {
             let none = Figure {
                 sign: Sign::Plus,
                 magnitude: Some(0),
             };
             Some((Item::Memory(word, none), rest))
         }
-        [Token::Word(word), Token::Number(n), Token::Close, rest @ ..] => Some((
-            Item::Memory(word, *n),
-            rest,
-        )),
+        [
+            AsmToken::Word(word),
+            AsmToken::Number(n),
+            AsmToken::Close,
+            rest @ ..,
+        ] => Some((Item::Memory(word, *n), rest)),
         _ => None,
     }
 }
@@ -53,9 +55,9 @@ fn item_at_front<'a, 't>(tokens: Tokens<'t, 'a>) -> Option<(Item<&'a [u8]>, Toke
     ensures { option_map front_named result ≡ item_at_front (tokens_named tokens.now) }
 {
     match tokens {
-        [Token::Word(word), rest @ ..] => Some((Item::Name(word), rest)),
-        [Token::Number(n), rest @ ..] => Some((Item::Number(*n), rest)),
-        [Token::Open, rest @ ..] => memory_behind(rest),
+        [AsmToken::Word(word), rest @ ..] => Some((Item::Name(word), rest)),
+        [AsmToken::Number(n), rest @ ..] => Some((Item::Number(*n), rest)),
+        [AsmToken::Open, rest @ ..] => memory_behind(rest),
         _ => None,
     }
 }
@@ -67,7 +69,7 @@ fn item_after_comma<'a, 't>(
 {
     match tokens {
         [] => Some((None, tokens)),
-        [Token::Comma, rest @ ..] => {
+        [AsmToken::Comma, rest @ ..] => {
             let (item, rest) = item_at_front(rest)?;
             Some((Some(item), rest))
         }
@@ -75,7 +77,7 @@ fn item_after_comma<'a, 't>(
     }
 }
 
-fn at_end<'a>(items: Items<'a>, rest: &[Token<&'a [u8]>]) -> Option<Items<'a>>
+fn at_end<'a>(items: Items<'a>, rest: &[AsmToken<&'a [u8]>]) -> Option<Items<'a>>
     ensures { items_if_named result ≡ at_end (items_named items.entry) (tokens_named rest.now) }
 {
     match rest {
@@ -85,7 +87,7 @@ fn at_end<'a>(items: Items<'a>, rest: &[Token<&'a [u8]>]) -> Option<Items<'a>>
 }
 
 /// The operands that tokens spell, or `None` where they spell none.
-pub fn items_of<'a>(tokens: &[Token<&'a [u8]>]) -> Option<Items<'a>>
+pub fn items_of<'a>(tokens: &[AsmToken<&'a [u8]>]) -> Option<Items<'a>>
     ensures { items_if_named result ≡ items_of (tokens_named tokens.now) }
 {
     if tokens.is_empty() {

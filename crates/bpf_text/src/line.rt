@@ -12,7 +12,7 @@ ghost use Rattle.bpf_text.specs.Lines.{
 };
 ghost use Rattle.bpf_text.specs.Names.{tokens_named, body_named, split_named, line_named};
 ghost use Rattle.bpf_text.specs.Tables.{tables};
-ghost use Rattle.bpf_text.specs.declared.token.Token.TheVariants.{Word};
+ghost use Rattle.bpf_text.specs.declared.token.AsmToken.TheVariants.{Word};
 
 use crate::fault::AsmFaultKind;
 use crate::item::items_of;
@@ -20,14 +20,14 @@ use crate::mnemonic::Mnemonic;
 use crate::operand::{Given, items_as};
 use crate::signature::kinds_of;
 use crate::three::UpToThree;
-use crate::token::{Token, read_tokens};
+use crate::token::{AsmToken, read_tokens};
 use crate::vocabulary::mnemonic_named;
 use std::alloc::AllocError;
 
 /// An instruction as a line states it: its word, and arguments in which a label may stand for a
 /// distance.
 #[derive(Drop)]
-pub struct Statement<N> {
+pub struct AsmStatement<N> {
     pub mnemonic: Mnemonic,
     pub arguments: UpToThree<Given<N>>,
 }
@@ -36,13 +36,13 @@ pub struct Statement<N> {
 #[derive(Drop)]
 pub struct Line<N> {
     pub label: Option<N>,
-    pub body: Result<Option<Statement<N>>, AsmFaultKind>,
+    pub body: Result<Option<AsmStatement<N>>, AsmFaultKind>,
 }
 
-type Body<'a> = Result<Option<Statement<&'a [u8]>>, AsmFaultKind>;
+type Body<'a> = Result<Option<AsmStatement<&'a [u8]>>, AsmFaultKind>;
 
 // An instruction's word, and the tokens behind it.
-fn statement_of<'a>(word: &'a [u8], rest: &[Token<&'a [u8]>]) -> Body<'a>
+fn statement_of<'a>(word: &'a [u8], rest: &[AsmToken<&'a [u8]>]) -> Body<'a>
     ensures { body_named result ≡ body_of tables (Word word.now ∷ tokens_named rest.now) }
 {
     let Some(mnemonic) = mnemonic_named(word) else {
@@ -52,33 +52,35 @@ fn statement_of<'a>(word: &'a [u8], rest: &[Token<&'a [u8]>]) -> Body<'a>
         return Err(AsmFaultKind::Operand);
     };
     let arguments = items_as(kinds_of(mnemonic), items)?;
-    Ok(Some(Statement {
+    Ok(Some(AsmStatement {
         mnemonic,
         arguments,
     }))
 }
 
-fn body_of<'a>(tokens: &[Token<&'a [u8]>]) -> Body<'a>
+fn body_of<'a>(tokens: &[AsmToken<&'a [u8]>]) -> Body<'a>
     ensures { body_named result ≡ body_of tables (tokens_named tokens.now) }
 {
     match tokens {
         [] => Ok(None),
-        [Token::Word(word), rest @ ..] => statement_of(word, rest),
+        [AsmToken::Word(word), rest @ ..] => statement_of(word, rest),
         _ => Err(AsmFaultKind::Mnemonic),
     }
 }
 
 // The label at the front, and the tokens behind it.
-fn split_label<'a, 't>(tokens: &'t [Token<&'a [u8]>]) -> (Option<&'a [u8]>, &'t [Token<&'a [u8]>])
+fn split_label<'a, 't>(
+    tokens: &'t [AsmToken<&'a [u8]>],
+) -> (Option<&'a [u8]>, &'t [AsmToken<&'a [u8]>])
     ensures { split_named result ≡ split_label (tokens_named tokens.now) }
 {
     match tokens {
-        [Token::Word(word), Token::Colon, rest @ ..] => (Some(word), rest),
+        [AsmToken::Word(word), AsmToken::Colon, rest @ ..] => (Some(word), rest),
         _ => (None, tokens),
     }
 }
 
-fn line_of_tokens<'a>(tokens: &[Token<&'a [u8]>]) -> Line<&'a [u8]>
+fn line_of_tokens<'a>(tokens: &[AsmToken<&'a [u8]>]) -> Line<&'a [u8]>
     ensures { line_named result ≡ line_of_tokens tables (tokens_named tokens.now) }
 {
     let (label, rest) = split_label(tokens);
@@ -91,7 +93,7 @@ fn line_of_tokens<'a>(tokens: &[Token<&'a [u8]>]) -> Line<&'a [u8]>
 /// Reads a line, with room for its tokens.
 #[tactic(auto, unfolding(crate::specs::Lines::read_line))]
 pub fn read_line<'a>(
-    tokens: &mut Vec<Token<&'a [u8]>>,
+    tokens: &mut Vec<AsmToken<&'a [u8]>>,
     line: &'a [u8],
 ) -> Result<Line<&'a [u8]>, AllocError>
     ensures { IfOk result (λ l. line_named l ≡ read_line tables line.now) }
@@ -101,7 +103,7 @@ pub fn read_line<'a>(
     } else {
         Ok(Line {
             label: None,
-            body: Err(AsmFaultKind::Token),
+            body: Err(AsmFaultKind::AsmToken),
         })
     }
 }

@@ -32,7 +32,7 @@ use crate::argument::Argument;
 use crate::fault::AsmFaultKind;
 use crate::item::{Item, Items};
 use crate::range::{imm_of, long_of, short_of, wide_of};
-use crate::signature::Kind;
+use crate::signature::OperandKind;
 use crate::three::UpToThree;
 use crate::token::{Figure, Sign};
 use crate::vocabulary::register_named;
@@ -129,25 +129,25 @@ fn long_given<'a>(figure: Figure) -> GivenOrFault<'a>
     if_of_kind(has_sign(figure), distance)
 }
 
-fn item_as<'a>(kind: Kind, item: Item<&'a [u8]>) -> GivenOrFault<'a>
+fn item_as<'a>(kind: OperandKind, item: Item<&'a [u8]>) -> GivenOrFault<'a>
     ensures { map_ok given_named result ≡ item_as tables kind (item_named item.entry) }
 {
     match (kind, item) {
-        (Kind::Register | Kind::Source, Item::Name(word)) => register_given(word),
-        (Kind::ShortWay, Item::Name(word)) => Ok(Given::ShortTo(word)),
-        (Kind::LongWay, Item::Name(word)) => Ok(Given::LongTo(word)),
-        (Kind::Source | Kind::Imm, Item::Number(figure)) => imm_given(figure),
-        (Kind::Number, Item::Number(figure)) => number_given(figure),
-        (Kind::ShortWay, Item::Number(figure)) => short_given(figure),
-        (Kind::LongWay, Item::Number(figure)) => long_given(figure),
-        (Kind::Memory, Item::Memory(word, offset)) => memory_given(word, offset),
+        (OperandKind::Register | OperandKind::Source, Item::Name(word)) => register_given(word),
+        (OperandKind::ShortWay, Item::Name(word)) => Ok(Given::ShortTo(word)),
+        (OperandKind::LongWay, Item::Name(word)) => Ok(Given::LongTo(word)),
+        (OperandKind::Source | OperandKind::Imm, Item::Number(figure)) => imm_given(figure),
+        (OperandKind::Number, Item::Number(figure)) => number_given(figure),
+        (OperandKind::ShortWay, Item::Number(figure)) => short_given(figure),
+        (OperandKind::LongWay, Item::Number(figure)) => long_given(figure),
+        (OperandKind::Memory, Item::Memory(word, offset)) => memory_given(word, offset),
         _ => Err(AsmFaultKind::Operand),
     }
 }
 
 // An operand stands where one is wanted, and nowhere else.
 fn item_if<'a>(
-    kind: Option<Kind>,
+    kind: Option<OperandKind>,
     item: Option<Item<&'a [u8]>>,
 ) -> Result<Option<Given<&'a [u8]>>, AsmFaultKind>
     ensures { given_if_named result ≡ item_if tables kind (option_map item_named item.entry) }
@@ -170,7 +170,7 @@ fn is_other_kind(given: Result<Option<Given<&[u8]>>, AsmFaultKind>) -> bool
 
 /// The operands as their kinds: A3 of any comes before A5 of another.
 pub fn items_as<'a>(
-    kinds: UpToThree<Kind>,
+    kinds: UpToThree<OperandKind>,
     items: Items<'a>,
 ) -> Result<UpToThree<Given<&'a [u8]>>, AsmFaultKind>
     ensures { all_given_named result ≡ items_as tables kinds (items_named items.entry) }

@@ -28,16 +28,16 @@ ghost use Rattle.bpf_text.specs.Reading.{AddsBody, ReadsOn, IsLineFault};
 
 use crate::fault::{AsmFault, AsmFaultKind};
 use crate::label::{Labels, add_label, label_slot};
-use crate::line::{Line, Statement};
+use crate::line::{AsmStatement, Line};
 use crate::mnemonic::Mnemonic;
 use std::alloc::AllocError;
 
 /// A statement with its line, from 1, and its slot.
 #[derive(Drop)]
-pub struct Placed<N> {
+pub struct PlacedStatement<N> {
     pub line: usize,
     pub slot: u16,
-    pub statement: Statement<N>,
+    pub statement: AsmStatement<N>,
 }
 
 /// What the first pass has read.
@@ -46,7 +46,7 @@ pub struct Reading<'a> {
     pub lines: usize,
     pub slots: u16,
     pub labels: Labels<'a>,
-    pub placed: Vec<Placed<&'a [u8]>>,
+    pub placed: Vec<PlacedStatement<&'a [u8]>>,
 }
 
 fn slots_of_word(mnemonic: Mnemonic) -> u16
@@ -82,7 +82,7 @@ fn too_long(slots: u16) -> Option<AsmFaultKind>
 fn fault_of_body(
     slots: u16,
     twice: bool,
-    body: &Result<Option<Statement<&[u8]>>, AsmFaultKind>,
+    body: &Result<Option<AsmStatement<&[u8]>>, AsmFaultKind>,
 ) -> Option<AsmFaultKind>
     requires { slots ≤ 4096 }
     ensures { result ≡ fault_of_body slots twice (body_named body.now) }
@@ -111,10 +111,10 @@ fn note_label<'a>(
 
 // Notes the instruction of a line, if it has one, and answers its slots.
 fn place<'a>(
-    placed: &mut Vec<Placed<&'a [u8]>>,
+    placed: &mut Vec<PlacedStatement<&'a [u8]>>,
     line: usize,
     slot: u16,
-    body: Result<Option<Statement<&'a [u8]>>, AsmFaultKind>,
+    body: Result<Option<AsmStatement<&'a [u8]>>, AsmFaultKind>,
 ) -> Result<u16, AllocError>
     ensures slots { IfOk result (λ n. n ≡ slots_of_body (body_named body.entry)) }
     ensures small { IfOk result (λ n. n ≤ 2) }
@@ -123,7 +123,7 @@ fn place<'a>(
     match body {
         Ok(Some(statement)) => {
             let slots = slots_of_word(statement.mnemonic);
-            placed.push(Placed {
+            placed.push(PlacedStatement {
                 line,
                 slot,
                 statement,

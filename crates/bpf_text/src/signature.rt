@@ -8,7 +8,7 @@ use crate::three::{UpToThree, none, one, three, two};
 
 /// What an operand is.
 #[derive(Clone, Copy)]
-pub enum Kind {
+pub enum OperandKind {
     Register,
     /// A register or an imm.
     Source,
@@ -25,23 +25,30 @@ pub enum Kind {
 }
 
 /// The kinds of the operands behind a word.
-pub fn kinds_of(mnemonic: Mnemonic) -> UpToThree<Kind>
+pub fn kinds_of(mnemonic: Mnemonic) -> UpToThree<OperandKind>
     ensures { result ≡ kinds_of mnemonic }
 {
     match mnemonic {
-        Mnemonic::Alu(_, _) | Mnemonic::Mov(_) => two(Kind::Register, Kind::Source),
-        Mnemonic::MovSx(_) => two(Kind::Register, Kind::Register),
-        Mnemonic::Neg(_) | Mnemonic::End(_, _) => one(Kind::Register),
-        Mnemonic::Jump => one(Kind::ShortWay),
-        Mnemonic::JumpLong => one(Kind::LongWay),
-        Mnemonic::JumpIf(_, _) => three(Kind::Register, Kind::Source, Kind::ShortWay),
-        Mnemonic::Call => one(Kind::Imm),
+        Mnemonic::Alu(_, _) | Mnemonic::Mov(_) => two(OperandKind::Register, OperandKind::Source),
+        Mnemonic::MovSx(_) => two(OperandKind::Register, OperandKind::Register),
+        Mnemonic::Neg(_) | Mnemonic::End(_, _) => one(OperandKind::Register),
+        Mnemonic::Jump => one(OperandKind::ShortWay),
+        Mnemonic::JumpLong => one(OperandKind::LongWay),
+        Mnemonic::JumpIf(_, _) => three(
+            OperandKind::Register,
+            OperandKind::Source,
+            OperandKind::ShortWay,
+        ),
+        Mnemonic::Call => one(OperandKind::Imm),
         Mnemonic::Exit => none(),
-        Mnemonic::Load(_) => two(Kind::Register, Kind::Memory),
-        Mnemonic::StoreImm(_) => two(Kind::Memory, Kind::Imm),
-        Mnemonic::Store(_) | Mnemonic::Atomic(_, _) => two(Kind::Memory, Kind::Register),
-        Mnemonic::LoadNumber => two(Kind::Register, Kind::Number),
-        Mnemonic::LoadMap => two(Kind::Register, Kind::Imm),
-        Mnemonic::LoadCell => three(Kind::Register, Kind::Imm, Kind::Imm),
+        Mnemonic::Load(_) => two(OperandKind::Register, OperandKind::Memory),
+        Mnemonic::StoreImm(_) => two(OperandKind::Memory, OperandKind::Imm),
+        Mnemonic::Store(_) | Mnemonic::Atomic(_, _) => two(
+            OperandKind::Memory,
+            OperandKind::Register,
+        ),
+        Mnemonic::LoadNumber => two(OperandKind::Register, OperandKind::Number),
+        Mnemonic::LoadMap => two(OperandKind::Register, OperandKind::Imm),
+        Mnemonic::LoadCell => three(OperandKind::Register, OperandKind::Imm, OperandKind::Imm),
     }
 }

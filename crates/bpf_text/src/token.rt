@@ -59,7 +59,7 @@ pub struct Figure {
 
 /// One token of a line, with names of type `N`: here bytes of the text, in definitions lists.
 #[derive(Clone, Copy)]
-pub enum Token<N> {
+pub enum AsmToken<N> {
     Word(N),
     Number(Figure),
     Comma,
@@ -92,14 +92,14 @@ fn is_mark(c: u8) -> bool
     c == b',' || c == b':' || c == b'[' || c == b']'
 }
 
-fn mark_of<'a>(c: u8) -> Option<Token<&'a [u8]>>
+fn mark_of<'a>(c: u8) -> Option<AsmToken<&'a [u8]>>
     ensures { option_map token_named result ≡ mark_of c }
 {
     match c {
-        b',' => Some(Token::Comma),
-        b':' => Some(Token::Colon),
-        b'[' => Some(Token::Open),
-        b']' => Some(Token::Close),
+        b',' => Some(AsmToken::Comma),
+        b':' => Some(AsmToken::Colon),
+        b'[' => Some(AsmToken::Open),
+        b']' => Some(AsmToken::Close),
         _ => None,
     }
 }
@@ -147,19 +147,19 @@ fn magnitude(radix: u8, digits: &[u8]) -> Option<u64>
     Some(n)
 }
 
-fn numeral<'a>(sign: Sign, radix: u8, digits: &[u8]) -> Option<Token<&'a [u8]>>
+fn numeral<'a>(sign: Sign, radix: u8, digits: &[u8]) -> Option<AsmToken<&'a [u8]>>
     requires { 1 ≤ radix }
     ensures { option_map token_named result ≡ numeral sign radix digits.now }
 {
     if is_numeral(radix, digits) {
         let magnitude = magnitude(radix, digits);
-        Some(Token::Number(Figure { sign, magnitude }))
+        Some(AsmToken::Number(Figure { sign, magnitude }))
     } else {
         None
     }
 }
 
-fn unsigned_number<'a>(piece: &[u8]) -> Option<Token<&'a [u8]>>
+fn unsigned_number<'a>(piece: &[u8]) -> Option<AsmToken<&'a [u8]>>
     ensures { option_map token_named result ≡ unsigned_number piece.now }
 {
     if piece.len() >= 2 && piece[0] == b'0' && piece[1] == b'x' {
@@ -173,7 +173,7 @@ fn unsigned_number<'a>(piece: &[u8]) -> Option<Token<&'a [u8]>>
     }
 }
 
-fn token_of<'a>(piece: &'a [u8]) -> Option<Token<&'a [u8]>>
+fn token_of<'a>(piece: &'a [u8]) -> Option<AsmToken<&'a [u8]>>
     ensures { option_map token_named result ≡ token_of piece.now }
 {
     let (first, rest) = piece.split_first()?;
@@ -182,7 +182,7 @@ fn token_of<'a>(piece: &'a [u8]) -> Option<Token<&'a [u8]>>
         mark_of(first)
     } else if is_word_start(first) {
         if piece.len() <= 32 {
-            Some(Token::Word(piece))
+            Some(AsmToken::Word(piece))
         } else {
             None
         }
@@ -221,7 +221,7 @@ fn piece_length(first: u8, rest: &[u8]) -> usize
 
 /// Reads the tokens of a line, in place of what was there, and answers whether all of it is tokens.
 pub fn read_tokens<'a>(
-    tokens: &mut Vec<Token<&'a [u8]>>,
+    tokens: &mut Vec<AsmToken<&'a [u8]>>,
     line: &'a [u8],
 ) -> Result<bool, AllocError>
     ensures { IfOk result (λ whole. tokens_of line.now ≡ tokens_if whole tokens.new.items) }

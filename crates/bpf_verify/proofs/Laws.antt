@@ -6,15 +6,16 @@ use Rattle.bpf_insn.specs.Program.{Program}
 use Rattle.bpf_rules.specs.bpf_semantics.Program.{ShapedProgram, shaped}
 use Rattle.cells.specs.Arrays.{AppShape}
 use Rattle.bpf_rules.specs.abs_value.declared.state.AbsState.{AbsState}
-use Rattle.bpf_rules.specs.declared.refusal.Rule.{Rule}
+use Rattle.bpf_rules.specs.declared.refusal.VerifierRule.{VerifierRule}
 use Rattle.bpf_rules.specs.Rules.{first_rule}
-use Rattle.bpf_verify.specs.Accepted.{IsFine, Fails, IsRefusedAt, HasOneVerdict}
+use Rattle.bpf_verify.specs.Accepted.{IsFine, Fails, IsRefusedAt, ProgramHasOneVerdict}
 
-fails_not_fine : (p : ShapedProgram) (s : ℕ) (rule : Rule) → Fails p s rule → IsFine p s → ⊥
+fails_not_fine : (p : ShapedProgram) (s : ℕ) (rule : VerifierRule) → Fails p s rule → IsFine p s → ⊥
 fails_not_fine p s rule f fine =
     none-some rule (sym (fine f.entry f.insn f.entry_is f.insn_is) ∙ f.rule_is)
 
-same_rule : (p : ShapedProgram) (s : ℕ) (rule other : Rule) → Fails p s rule → Fails p s other
+same_rule : (p : ShapedProgram) (s : ℕ) (rule other : VerifierRule) → Fails p s rule
+    → Fails p s other
     → rule ≡ other
 same_rule p s rule other a b =
     let entry : a.entry ≡ b.entry = same_Some _ _ (sym a.entry_is ∙ b.entry_is) in
@@ -22,7 +23,7 @@ same_rule p s rule other a b =
     same_Some _ _ (sym a.rule_is ∙ ap (λ (e : AbsState). first_rule p.shape e a.insn) entry
     ∙ ap (λ (i : Insn). first_rule p.shape b.entry i) insn ∙ b.rule_is)
 
-same_refusal : (p : ShapedProgram) (s t : ℕ) (rule other : Rule)
+same_refusal : (p : ShapedProgram) (s t : ℕ) (rule other : VerifierRule)
     → IsRefusedAt p s rule → IsRefusedAt p t other → (s ≡ t) × (rule ≡ other)
 same_refusal p s t rule other a b =
     let not_below : ¬ (s < t) = λ lt. fails_not_fine p s rule a.fails (b.before s lt) in
@@ -30,7 +31,7 @@ same_refusal p s t rule other a b =
     let same : s ≡ t = omega (arith, not_below, not_above) in
     (same, same_rule p t rule other (subst (λ (n : ℕ). Fails p n rule) same a.fails) b.fails)
 
-pub one_verdict : (p : Program) (shape : AppShape) → HasOneVerdict p shape
+pub one_verdict : (p : Program) (shape : AppShape) → ProgramHasOneVerdict p shape
 one_verdict p shape = record {
   either =
       λ s rule accepted refused. fails_not_fine (shaped p shape) s rule refused.fails (accepted s);

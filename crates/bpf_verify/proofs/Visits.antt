@@ -13,7 +13,7 @@ use Rattle.bpf_rules.specs.flow_check.Edges.{target_of, goes_on, next_of}
 use Rattle.bpf_rules.specs.flow_check.Flow.{IsLayout, IsForward, IsAhead}
 use Rattle.bpf_rules.specs.abs_value.declared.state.AbsState.{AbsState}
 use Rattle.bpf_rules.specs.abs_value.States.{opening_state}
-use Rattle.bpf_rules.specs.declared.refusal.Rule.{Rule}
+use Rattle.bpf_rules.specs.declared.refusal.VerifierRule.{VerifierRule}
 use Rattle.bpf_rules.specs.Rules.{first_rule}
 use Rattle.bpf_rules.specs.Transfer.{edges, next_edge, jumping, going_on}
 use Rattle.bpf_verify.specs.Pool.{Waiting, waits_at, held, IsChanged}
@@ -91,7 +91,7 @@ module _ (p : ShapedProgram) (k : ℕ) (i : Insn) (layout : IsLayout p.code) (fl
       stays false x = refl
 
   module _ (e : AbsState) (some : here1 ≡ Some e) where
-    pub refused : (rule : Rule) → first_rule p.shape e i ≡ Some rule → IsRefusedAt p k rule
+    pub refused : (rule : VerifierRule) → first_rule p.shape e i ≡ Some rule → IsRefusedAt p k rule
     refused rule fails = record {
       before = λ s lt. h.fine s lt;
       fails =

@@ -8,7 +8,7 @@ use Rattle.cells.specs.Arrays.{AppShape}
 use Rattle.bpf_rules.specs.abs_value.declared.state.AbsState.{AbsState}
 use Rattle.bpf_rules.specs.abs_value.States.{join_states, opening_state}
 use Rattle.bpf_rules.specs.abs_value.Order.{IsStateInOrder}
-use Rattle.bpf_rules.specs.declared.refusal.Rule.{Rule}
+use Rattle.bpf_rules.specs.declared.refusal.VerifierRule.{VerifierRule}
 use Rattle.bpf_rules.specs.declared.refusal.Refusal.{Refusal}
 use Rattle.bpf_rules.specs.declared.refusal.Refusal.TheVariants as refusal
 use Rattle.bpf_rules.specs.Rules.{first_rule}
@@ -56,7 +56,7 @@ abbrev pub IsAccepted : Program → AppShape → Type 0
 IsAccepted code shape = (s : ℕ) → IsFine (shaped code shape) s
 
 -- the place has an entry by which this rule fails, and none before it
-pub record Fails (p : ShapedProgram) (s : ℕ) (rule : Rule) : Type 0 where
+pub record Fails (p : ShapedProgram) (s : ℕ) (rule : VerifierRule) : Type 0 where
   pub entry : AbsState
   pub insn : Insn
   pub entry_is : entry_of p s ≡ Some entry
@@ -64,7 +64,7 @@ pub record Fails (p : ShapedProgram) (s : ℕ) (rule : Rule) : Type 0 where
   pub rule_is : first_rule p.shape entry insn ≡ Some rule
 
 -- the first place that fails, and its first rule
-pub record IsRefusedAt (p : ShapedProgram) (s : ℕ) (rule : Rule) : Type 0 where
+pub record IsRefusedAt (p : ShapedProgram) (s : ℕ) (rule : VerifierRule) : Type 0 where
   pub before : (k : ℕ) → k < s → IsFine p k
   pub fails : Fails p s rule
 
@@ -75,10 +75,10 @@ IsRefusal code shape refusal.Memory = Unit {0}
 -- ---- no program has two verdicts
 
 -- it is accepted, or refused at one place by one rule
-pub record HasOneVerdict (code : Program) (shape : AppShape) : Type 0 where
-  pub either : (s : ℕ) (rule : Rule) → IsAccepted code shape
+pub record ProgramHasOneVerdict (code : Program) (shape : AppShape) : Type 0 where
+  pub either : (s : ℕ) (rule : VerifierRule) → IsAccepted code shape
       → ¬ IsRefusedAt (shaped code shape) s rule
-  pub refusal : (s t : ℕ) (rule other : Rule) → IsRefusedAt (shaped code shape) s rule
+  pub refusal : (s t : ℕ) (rule other : VerifierRule) → IsRefusedAt (shaped code shape) s rule
       → IsRefusedAt (shaped code shape) t other → (s ≡ t) × (rule ≡ other)
 
 -- ---- ends are in order

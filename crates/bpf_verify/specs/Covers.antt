@@ -56,10 +56,10 @@ RunsEndWell p = (s : State) → IsCovered p s → s.count ≤ s.slot → EndsWel
 abbrev pub AreLawful : AppShape → List CellEvent → Type 0
 AreLawful shape events = All (λ e. IsLawful shape e.cell e.op) events
 
-abbrev pub Fits : CellEvent → Type 0
-Fits e = CanReply e.cell e.op e.reply
+abbrev pub HasPossibleReply : CellEvent → Type 0
+HasPossibleReply e = CanReply e.cell e.op e.reply
 
 abbrev pub RunsAreLawful : ShapedProgram → Type 0
 RunsAreLawful p =
     (s : State) (events : List CellEvent) (choice count : ℕ) → IsCovered p s
-    → All Fits events → Ends p s events choice count → AreLawful p.shape events
+    → All HasPossibleReply events → Ends p s events choice count → AreLawful p.shape events

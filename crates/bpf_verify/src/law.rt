@@ -4,14 +4,14 @@
 ghost use Rattle.bpf_insn.specs.Program.{Program};
 ghost use Rattle.bpf_rules.specs.bpf_semantics.Program.{ShapedProgram};
 ghost use Rattle.cells.specs.Arrays.{AppShape};
-ghost use Rattle.bpf_verify.specs.Accepted.{HasOneVerdict, HasEndsInOrder};
+ghost use Rattle.bpf_verify.specs.Accepted.{ProgramHasOneVerdict, HasEndsInOrder};
 
 use bpf_rules::abs_value::states_stay_in_order;
 use bpf_rules::edges_stay_in_order;
 
 /// A law: a program under a shape is accepted, or refused at one place by one rule.
 pub fn one_verdict()
-    ensures { (p : Program) (shape : AppShape) → HasOneVerdict p shape }
+    ensures { (p : Program) (shape : AppShape) → ProgramHasOneVerdict p shape }
 {}
 
 /// A law: where an instruction begins, the ends of all that is known are in order.

@@ -30,7 +30,7 @@ mod sweep;
 mod table;
 mod verified;
 
-pub use bpf_rules::{Refusal, Rule};
+pub use bpf_rules::{Refusal, VerifierRule};
 pub use cells::Shape;
 pub use law::{ends_are_in_order, one_verdict};
 pub use table::table_is_enough;

@@ -5,7 +5,7 @@ use Rattle.std.proofs.lemmas.List.Elements.{All-nil}
 use Rattle.std.proofs.lemmas.Option.{none-some}
 use Rattle.cells.specs.Directory.{IsDirectory}
 use Rattle.manifest.specs.Manifest.{Manifest}
-use Rattle.manifest.specs.OneReading.{HasOneReading}
+use Rattle.manifest.specs.OneReading.{HasOneManifest}
 use Rattle.manifest.specs.declared.fault.ManifestFault.{ManifestFault}
 use Rattle.load.specs.declared.fault.LoadFault.{LoadFault}
 use Rattle.load.specs.declared.fault.LoadFault.TheVariants.{Memory}
@@ -39,7 +39,7 @@ is_memory : (e : LoadFault) → (e ≢ Memory → ⊥) → e ≡ Memory
 is_memory Memory h = refl
 is_memory e h = absurd (h (λ x. absurd cc))
 
-module _ (load : HasOneLoad) (reading : (bytes : List ℕ) → HasOneReading bytes)
+module _ (load : HasOneLoad) (reading : (bytes : List ℕ) → HasOneManifest bytes)
     (files : List ℕ → Option (List ℕ)) (bytes : List ℕ) where
   same_text : (text other : List ℕ) → Passes (Some files) bytes text
       → Passes (Some files) bytes other → text ≡ other

@@ -4,8 +4,8 @@ use Rattle.cells.specs.Directory.{Declaration, declaration}
 use Rattle.cells.specs.declared.array.CellArray.{CellArray}
 use Rattle.declarations.specs.Texts.{declaration_text}
 use Rattle.load.specs.Source.{file_of}
-use Rattle.manifest.specs.declared.app.Source.{Source}
-use Rattle.manifest.specs.declared.app.Source.TheVariants.{Program, Rule}
+use Rattle.manifest.specs.declared.app.ProgramSource.{ProgramSource}
+use Rattle.manifest.specs.declared.app.ProgramSource.TheVariants.{Program, Rule}
 use Rattle.load.specs.rulesets.Rules.{AppRule}
 use Rattle.load.specs.rulesets.Texts.{line, app_line}
 
@@ -31,12 +31,12 @@ loaded_text arrays apps = flat_map declared_line arrays ++ flat_map app_line app
 
 -- ---- of one that is refused: the path of a member, in which tables are numbered from 1
 
-abbrev pub source_key : Source → List ℕ
+abbrev pub source_key : ProgramSource → List ℕ
 source_key (Program file) = codes "program"
 source_key (Rule file) = codes "rule"
 
 -- the name of an app's file
-abbrev pub file_line : ℕ → Source → List ℕ
+abbrev pub file_line : ℕ → ProgramSource → List ℕ
 file_line number source = line (codes "app[" ++ decimal number ++ codes "]." ++ source_key source
     ++ codes ": " ++ file_of source)
 

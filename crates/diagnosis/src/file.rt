@@ -8,7 +8,7 @@ ghost use Rattle.load.specs.Source as specs;
 
 use crate::shown::{Place, show};
 use load::Files;
-use manifest::{AppEntry, Source, read_manifest};
+use manifest::{AppEntry, ProgramSource, read_manifest};
 use std::alloc::{AllocError, Global};
 use std::fmt::Write;
 
@@ -57,7 +57,7 @@ fn tell_entry<F: Files>(
     }
 }
 
-fn tell_name(text: &mut String, app: usize, source: &Source) -> Result<(), AllocError>
+fn tell_name(text: &mut String, app: usize, source: &ProgramSource) -> Result<(), AllocError>
     ensures { OnOk result
         (string_bytes text.new ≡ string_bytes text.old ++ file_line app source.now) }
 {
@@ -66,17 +66,22 @@ fn tell_name(text: &mut String, app: usize, source: &Source) -> Result<(), Alloc
     writeln!(text, "app[{app}].{key}: {file}")
 }
 
-fn key_of(source: &Source) -> &'static str
+fn key_of(source: &ProgramSource) -> &'static str
     ensures { result.now ≡ source_key source.now }
 {
     match source {
-        Source::Program(_) => "program",
-        Source::Rule(_) => "rule",
+        ProgramSource::Program(_) => "program",
+        ProgramSource::Rule(_) => "rule",
     }
 }
 
 // The place in the file, which is read once more.
-fn show_again<F: Files>(alloc: Global, files: &mut F, source: &Source, place: Place) -> String
+fn show_again<F: Files>(
+    alloc: Global,
+    files: &mut F,
+    source: &ProgramSource,
+    place: Place,
+) -> String
     requires { F.failed files.old < 2 ^ 64 - 1 }
     ensures known { F.known files.new ≡ F.known files.old }
     ensures shows { ShowsPlace (F.known files.old) (specs.file_of source.now) place
@@ -94,11 +99,11 @@ fn show_again<F: Files>(alloc: Global, files: &mut F, source: &Source, place: Pl
     }
 }
 
-fn file_of(source: &Source) -> &str
+fn file_of(source: &ProgramSource) -> &str
     ensures { result.now ≡ specs.file_of source.now }
 {
     match source {
-        Source::Program(file) => file.as_str(),
-        Source::Rule(file) => file.as_str(),
+        ProgramSource::Program(file) => file.as_str(),
+        ProgramSource::Rule(file) => file.as_str(),
     }
 }

@@ -9,7 +9,7 @@ use Rattle.hot_swap.proofs.Prefixes.{has_last}
 use Rattle.hot_swap.specs.Published.{Beginning, IsLatest}
 use Rattle.hot_swap.specs.Seats.{TellsPublisher}
 use Rattle.hot_swap.specs.declared.publisher_id.PublisherId.{PublisherId}
-use Rattle.hot_swap.specs.declared.next.Next.{Next}
+use Rattle.hot_swap.specs.declared.next.NextInstall.{NextInstall}
 use Rattle.hot_swap.specs.declared.next.Stamp.{Stamp}
 use Rattle.hot_swap.specs.declared.shown.Shown.{Shown}
 use Rattle.ruleset.specs.Rules.{Rules}
@@ -21,41 +21,43 @@ stamp_of x = record {
   publisher = x.known.publisher;
 }
 
-abbrev pub brought : Next → Stamp
+abbrev pub brought : NextInstall → Stamp
 brought x = record {
   generation = x.generation;
   rules = arc_value x.rules;
   publisher = x.known.publisher;
 }
 
-abbrev pub replaced : Stamp → Next → Stamp
+abbrev pub replaced : Stamp → NextInstall → Stamp
 replaced s x = brought x
 
 -- the list of what waits ends with this operation
-abbrev pub EndsIn : List Next → List Next → Next → Type 0
+abbrev pub EndsIn : List NextInstall → List NextInstall → NextInstall → Type 0
 EndsIn all waiting next = all ≡ waiting ++ next ∷ []
 
 -- whatever was waiting, the last operation is what is shown
-pub applied_last : (shown : Shown) (waiting all : List Next) (next : Next) → EndsIn all waiting next
+pub applied_last : (shown : Shown) (waiting all : List NextInstall) (next : NextInstall)
+    → EndsIn all waiting next
     → fold replaced (stamp_of shown) all ≡ brought next
 applied_last shown waiting all next e =
     ap (fold replaced (stamp_of shown)) e
     ∙ fold-append replaced (stamp_of shown) waiting (next ∷ [])
 
 -- so it is what any value has that a publish may show
-pub brings : (shown new : Shown) (waiting all : List Next) (next : Next) → EndsIn all waiting next
+pub brings : (shown new : Shown) (waiting all : List NextInstall) (next : NextInstall)
+    → EndsIn all waiting next
     → stamp_of new ≡ fold replaced (stamp_of shown) all → stamp_of new ≡ brought next
 brings shown new waiting all next e is = is ∙ applied_last shown waiting all next e
 
 -- the next ruleset is shown, and the seat behind the publish knows its publisher
-abbrev pub IsShown : Option PublisherId → Shown → Next → Type 0
+abbrev pub IsShown : Option PublisherId → Shown → NextInstall → Type 0
 IsShown after new next = (after ≡ Some next.known.publisher)
     × (new.generation ≡ next.generation)
     × (arc_value new.rules ≡ arc_value next.rules)
     × (new.known.publisher ≡ next.known.publisher)
 
 -- what a publish gives, put together
-pub told : {U E : Type 0} (P Q : Type 0) (r : Result U E) (next : Next) (old new : Shown)
+pub told : {U E : Type 0} (P Q : Type 0) (r : Result U E) (next : NextInstall) (old new : Shown)
     (before after : Option PublisherId) (s : Stamp) → s ≡ brought next
     → MatchResult r (λ _. (stamp_of new ≡ s) × P) (λ _. (new ≡ old) × Q)
     → MatchResult r (λ _. TellsPublisher before old new after) (λ _. after ≡ before)

@@ -16,7 +16,7 @@ use std::sync::Arc;
 
 /// The install of a ruleset behind all that was known.
 #[derive(Drop)]
-pub struct Next {
+pub struct NextInstall {
     generation: Generation,
     install: u64,
     pub(crate) rules: Arc<Ruleset>,
@@ -27,13 +27,13 @@ pub struct Next {
     ghost book: { id_of (arc_value end).word.book ≡ known.publisher },
 }
 
-impl Next {
+impl NextInstall {
     /// The install of this ruleset, of which it is one more owner.
     pub(crate) fn new(
         end: &Arc<ListEnd>,
         known: &Beginning,
         rules: &Arc<Ruleset>,
-    ) -> Result<Next, AllocError>
+    ) -> Result<NextInstall, AllocError>
         requires room { length known.now.rulesets < 2 ^ 64 - 1 }
         requires book { id_of (arc_value end.now).word.book ≡ known.now.publisher }
         ensures { IfOk result
@@ -42,7 +42,7 @@ impl Next {
         let rules = Arc::try_clone(rules)?;
         let end = Arc::try_clone(end)?;
         let install = end.begin_install();
-        Ok(Next {
+        Ok(NextInstall {
             generation: known.generation() + 1,
             install,
             rules,
@@ -89,7 +89,7 @@ impl Next {
             × (arc_value result.rules ≡ arc_value self.rules)
             × (result.known.publisher ≡ self.known.publisher) }
     {
-        let Next {
+        let NextInstall {
             generation,
             install: _,
             rules,
@@ -112,7 +112,7 @@ pub struct Stamp {
     pub publisher: PublisherId,
 }
 
-impl Absorb<Next> for Shown {
+impl Absorb<NextInstall> for Shown {
     type State = Stamp;
 
     ghost state = { λ x. record {
@@ -127,12 +127,12 @@ impl Absorb<Next> for Shown {
       publisher = x.known.publisher;
     } };
 
-    fn absorb_first(&mut self, operation: &Next, _other: &Shown) -> Result<(), AllocError> {
+    fn absorb_first(&mut self, operation: &NextInstall, _other: &Shown) -> Result<(), AllocError> {
         *self = operation.listed()?;
         Ok(())
     }
 
-    fn absorb_second(&mut self, operation: Next, _other: &Shown) -> Result<(), Next> {
+    fn absorb_second(&mut self, operation: NextInstall, _other: &Shown) -> Result<(), NextInstall> {
         *self = operation.unlisted();
         Ok(())
     }

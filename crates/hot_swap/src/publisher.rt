@@ -7,7 +7,7 @@ ghost use Rattle.std.specs.Arc.{arc_value};
 use crate::beginning::{Beginning, Generation};
 use crate::fault::SwapFault;
 use crate::list_end::ListEnd;
-use crate::next::Next;
+use crate::next::NextInstall;
 use crate::notice::Notice;
 use crate::seats::{Shared, Taken};
 use crate::showing::{ShownWriter, nothing_shown, show};
@@ -71,7 +71,7 @@ impl Publisher {
         let Ok(end) = Arc::new(alloc, end) else {
             return Err(SwapFault::Memory);
         };
-        let Ok(next) = Next::new(&end, &known, &first) else {
+        let Ok(next) = NextInstall::new(&end, &known, &first) else {
             return Err(SwapFault::Memory);
         };
         let Ok(writer) = nothing_shown(alloc, &first, &known, watchers) else {
@@ -130,7 +130,7 @@ impl Publisher {
             return Err(SwapFault::Exhausted);
         }
         next.keeps();
-        let Ok(operation) = Next::new(&self.end, &self.known, &next) else {
+        let Ok(operation) = NextInstall::new(&self.end, &self.known, &next) else {
             return Err(SwapFault::Memory);
         };
         let grown = replace_with(
@@ -196,7 +196,7 @@ impl Publisher {
         if self.known.generation() == u64::MAX {
             return false;
         }
-        let Ok(operation) = Next::new(&self.end, &self.known, rules) else {
+        let Ok(operation) = NextInstall::new(&self.end, &self.known, rules) else {
             return false;
         };
         self.writer.append(operation).is_ok()

@@ -5,7 +5,7 @@ ghost use Rattle.std.specs.Arc.{arc_value};
 ghost use Rattle.left_right.specs.Sides.{view};
 
 use crate::beginning::Beginning;
-use crate::next::Next;
+use crate::next::NextInstall;
 use crate::publisher_id::PublisherId;
 use crate::seats::{OnePublisher, Telling};
 use crate::shown::Shown;
@@ -15,7 +15,7 @@ use std::alloc::{AllocError, Global};
 use std::sync::{Arc, Wait};
 
 /// What shows rulesets to the readers.
-pub(crate) type ShownWriter = Writer<Shown, Next, Option<PublisherId>, OnePublisher>;
+pub(crate) type ShownWriter = Writer<Shown, NextInstall, Option<PublisherId>, OnePublisher>;
 
 /// A writer that has shown nothing yet, with places for 1 to 65 readers.
 pub(crate) fn nothing_shown(
@@ -36,7 +36,7 @@ pub(crate) fn nothing_shown(
 /// Enters the next ruleset in the list and shows it, and gives all that is then installed.
 pub(crate) fn show<R: Wait>(
     writer: ShownWriter,
-    next: Next,
+    next: NextInstall,
     rt: &R,
 ) -> (ShownWriter, Option<Beginning>)
     requires one { writer.desk.shown.value.known.publisher ≡ next.known.publisher }
@@ -61,7 +61,7 @@ pub(crate) fn show<R: Wait>(
 // Publishes the next ruleset. What an earlier refusal left waiting is replaced in the same publish.
 fn publish<R: Wait>(
     mut writer: ShownWriter,
-    next: Next,
+    next: NextInstall,
     rt: &R,
 ) -> (ShownWriter, Result<(), AllocError>)
     requires one { writer.desk.shown.value.known.publisher ≡ next.known.publisher }

@@ -113,8 +113,8 @@ module _ (files : List ℕ → Option (List ℕ)) (directory : List CellArray) (
         subst (λ (l : List AppEntry). IsRefusedFrom l (length r.before) fault) (sym r.stands)
         (refused_from r.before r.apps r.entry r.after fault r.supplied r.refused)
 
-    module _ (judged : (p : Program) (shape : AppShape) → verify.HasOneVerdict p shape)
-        (told : (shape : AppShape) (text : List ℕ) → rules.HasOneVerdict shape text) where
+    module _ (judged : (p : Program) (shape : AppShape) → verify.ProgramHasOneVerdict p shape)
+        (told : (shape : AppShape) (text : List ℕ) → rules.RuleHasOneVerdict shape text) where
       same_found : (entry : AppEntry) {r s : Result AppRule AppFault} → Found entry r
           → Found entry s → r ≡ s
       same_found entry (no_file h) (no_file k) = refl

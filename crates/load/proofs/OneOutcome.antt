@@ -13,7 +13,7 @@ use Rattle.cells.specs.declared.fault.CellsFault.TheVariants as cells
 use Rattle.manifest.specs.declarations.Order.{AreDeclared, IsRefusedArray}
 use Rattle.manifest.specs.declarations.OneWay.{ListsDeclareOneWay}
 use Rattle.manifest.specs.Manifest.{Manifest, ReadsManifest}
-use Rattle.manifest.specs.OneReading.{HasOneReading}
+use Rattle.manifest.specs.OneReading.{HasOneManifest}
 use Rattle.manifest.specs.declared.fault.ManifestFault.{ManifestFault}
 use Rattle.manifest.specs.declared.fault.ManifestFault.TheVariants as manifest
 use Rattle.ruleset.specs.Rules.{AppRule, Rules}
@@ -112,9 +112,9 @@ module _ (files : List ℕ → Option (List ℕ)) (old : List CellArray) (bytes 
       subst (λ (l : List CellArray). Staged (Err fault) l) (sym h.1)
       (of_fault (λ e. known (ap (λ x. Err x) e)) h.0)
 
-  module _ (reading : (text : List ℕ) → HasOneReading text) (declare : ListsDeclareOneWay)
-      (told : (shape : AppShape) (text : List ℕ) → rules.HasOneVerdict shape text)
-      (judged : (p : Program) (shape : AppShape) → verify.HasOneVerdict p shape)
+  module _ (reading : (text : List ℕ) → HasOneManifest text) (declare : ListsDeclareOneWay)
+      (told : (shape : AppShape) (text : List ℕ) → rules.RuleHasOneVerdict shape text)
+      (judged : (p : Program) (shape : AppShape) → verify.ProgramHasOneVerdict p shape)
       (known : IsDirectory old) where
     same_supplied : (m : Manifest) (numbers : List ArrayNo) (between : List CellArray)
         {r s : Result Rules LoadFault} {new last : List CellArray}

@@ -8,7 +8,7 @@ use Rattle.acceptance.specs.bpf_semantics.Program.{shaped}
 use Rattle.acceptance.specs.bpf_verify.Accepted as verify
 use Rattle.acceptance.specs.bpf_verify.Accepted.{IsRefusedAt}
 use Rattle.acceptance.specs.bpf_verify.bpf_rules.declared.refusal.Refusal.TheVariants as refusal
-use Rattle.acceptance.specs.bpf_verify.bpf_rules.declared.refusal.Rule.{Rule}
+use Rattle.acceptance.specs.bpf_verify.bpf_rules.declared.refusal.VerifierRule.{VerifierRule}
 use Rattle.acceptance.specs.declared.fault.ProgramFault.TheVariants.{Flow, Verify}
 use Rattle.acceptance.specs.declared.fault.RuleTextFault.TheVariants.{Text, Compile}
 use Rattle.cells.specs.Arrays.{AppShape}
@@ -24,14 +24,14 @@ use Rattle.acceptance.specs.rule_lang.declared.fault.RuleFault.TheVariants.{At}
 use Rattle.acceptance.specs.rule_lang.declared.fault.RuleFaultKind.{RuleFaultKind}
 use Rattle.acceptance.specs.rule_lang.declared.fault.RuleFaultKind.TheVariants.{Token}
 use Rattle.acceptance.specs.rule_lang.declared.rule.Statement.{Statement}
-use Rattle.manifest.specs.declared.app.Source.{Source}
-use Rattle.manifest.specs.declared.app.Source.TheVariants as source
+use Rattle.manifest.specs.declared.app.ProgramSource.{ProgramSource}
+use Rattle.manifest.specs.declared.app.ProgramSource.TheVariants as source
 use Rattle.load.specs.declared.fault.AppFault.{AppFault}
 use Rattle.load.specs.declared.fault.AppFault.TheVariants as app
 use Rattle.load.specs.Source.{IsProgramFrom, RefusesFile}
 
 -- what the bytes of a file come to under a shape
-abbrev pub ComesTo : Source → List ℕ → AppShape → Result Program AppFault → Type 0
+abbrev pub ComesTo : ProgramSource → List ℕ → AppShape → Result Program AppFault → Type 0
 ComesTo from bytes shape (Ok code) = IsProgramFrom from bytes (shaped code shape)
 ComesTo from bytes shape (Err fault) = RefusesFile from bytes shape fault
 
@@ -41,7 +41,7 @@ data Read (bytes : List ℕ) (shape : AppShape) : Result Program AppFault → Ty
   accepted : (code : Program) → IsProgramOf bytes (shaped code shape) → Read bytes shape (Ok code)
   no_flow : (slot : ℕ) (rule : FlowRule) → IsFlowFault bytes (flow.Rule slot rule)
       → HasOneVerdict bytes → Read bytes shape (Err (app.Program (Flow (flow.Rule slot rule))))
-  refused : (slot : ℕ) (rule : Rule) → IsRefusedProgram bytes shape (refusal.Rule slot rule)
+  refused : (slot : ℕ) (rule : VerifierRule) → IsRefusedProgram bytes shape (refusal.Rule slot rule)
       → Read bytes shape (Err (app.Program (Verify (refusal.Rule slot rule))))
 
 read : (bytes : List ℕ) (shape : AppShape) (file : List ℕ) (r : Result Program AppFault)
@@ -57,8 +57,8 @@ read bytes shape file (Err app.Memory) h known = absurd (known refl)
 read bytes shape file (Err app.File) h known = absurd h
 read bytes shape file (Err (app.Rule fault)) h known = absurd h
 
-module _ (judged : (p : Program) (shape : AppShape) → verify.HasOneVerdict p shape) where
-  not_refused : (bytes : List ℕ) (shape : AppShape) (p : Program) (slot : ℕ) (rule : Rule)
+module _ (judged : (p : Program) (shape : AppShape) → verify.ProgramHasOneVerdict p shape) where
+  not_refused : (bytes : List ℕ) (shape : AppShape) (p : Program) (slot : ℕ) (rule : VerifierRule)
       → IsProgramOf bytes (shaped p shape)
       → IsRefusedProgram bytes shape (refusal.Rule slot rule) → ⊥
   not_refused bytes shape p slot rule h k =
@@ -123,7 +123,7 @@ abbrev kind_in : OrFault (List Statement) → RuleFaultKind
 kind_in (Err (At line kind)) = kind
 kind_in verdict = Token
 
-module _ (told : (shape : AppShape) (text : List ℕ) → rules.HasOneVerdict shape text) where
+module _ (told : (shape : AppShape) (text : List ℕ) → rules.RuleHasOneVerdict shape text) where
   same_rule : (bytes : List ℕ) (shape : AppShape) (rule other : List Statement)
       → IsTextOf bytes shape rule → IsTextOf bytes shape other → rule ≡ other
   same_rule bytes shape rule other h k =
@@ -180,9 +180,9 @@ module _ (told : (shape : AppShape) (text : List ℕ) → rules.HasOneVerdict sh
 
 -- ---- either
 
-module _ (judged : (p : Program) (shape : AppShape) → verify.HasOneVerdict p shape)
-    (told : (shape : AppShape) (text : List ℕ) → rules.HasOneVerdict shape text) where
-  pub same_program : (from : Source) (bytes : List ℕ) (shape : AppShape)
+module _ (judged : (p : Program) (shape : AppShape) → verify.ProgramHasOneVerdict p shape)
+    (told : (shape : AppShape) (text : List ℕ) → rules.RuleHasOneVerdict shape text) where
+  pub same_program : (from : ProgramSource) (bytes : List ℕ) (shape : AppShape)
       (r s : Result Program AppFault) → ComesTo from bytes shape r
       → ComesTo from bytes shape s → r ≢ Err app.Memory → s ≢ Err app.Memory → r ≡ s
   same_program (source.Program file) bytes shape r s h k known also =

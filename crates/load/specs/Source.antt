@@ -6,18 +6,18 @@ use Rattle.acceptance.specs.Rule as rule
 use Rattle.acceptance.specs.Rule.{IsProgramOfRule, RefusesRule}
 use Rattle.acceptance.specs.bpf_semantics.Program.{ShapedProgram}
 use Rattle.cells.specs.Arrays.{AppShape}
-use Rattle.manifest.specs.declared.app.Source.{Source}
-use Rattle.manifest.specs.declared.app.Source.TheVariants as source
+use Rattle.manifest.specs.declared.app.ProgramSource.{ProgramSource}
+use Rattle.manifest.specs.declared.app.ProgramSource.TheVariants as source
 use Rattle.load.specs.declared.fault.AppFault.{AppFault}
 use Rattle.load.specs.declared.fault.AppFault.TheVariants as app
 use Rattle.bounded_files.specs.Files.{KnownFiles, Gives}
 
-abbrev pub file_of : Source → List ℕ
+abbrev pub file_of : ProgramSource → List ℕ
 file_of (source.Program file) = file
 file_of (source.Rule file) = file
 
 -- the program that the bytes of the file give
-abbrev pub IsProgramFrom : Source → List ℕ → ShapedProgram → Type 0
+abbrev pub IsProgramFrom : ProgramSource → List ℕ → ShapedProgram → Type 0
 IsProgramFrom (source.Program file) bytes p = IsProgramOf bytes p
 IsProgramFrom (source.Rule file) bytes p = IsProgramOfRule bytes p
 
@@ -35,16 +35,16 @@ RefusesText bytes shape app.Memory = Unit {0}
 RefusesText bytes shape fault = ⊥
 
 -- why the bytes of the file give none
-abbrev pub RefusesFile : Source → List ℕ → AppShape → AppFault → Type 0
+abbrev pub RefusesFile : ProgramSource → List ℕ → AppShape → AppFault → Type 0
 RefusesFile (source.Program file) bytes shape fault = RefusesBytes bytes shape fault
 RefusesFile (source.Rule file) bytes shape fault = RefusesText bytes shape fault
 
-abbrev pub IsProgramIn : KnownFiles → Source → ShapedProgram → Type 0
+abbrev pub IsProgramIn : KnownFiles → ProgramSource → ShapedProgram → Type 0
 IsProgramIn known from p =
     (bytes : List ℕ) × Gives known (file_of from) (Some bytes) × IsProgramFrom from bytes p
 
 -- why there is none: no file, or what its bytes are
-abbrev pub RefusesSource : KnownFiles → Source → AppShape → AppFault → Type 0
+abbrev pub RefusesSource : KnownFiles → ProgramSource → AppShape → AppFault → Type 0
 RefusesSource known from shape app.File = Gives known (file_of from) None
 RefusesSource known from shape app.Memory = Unit {0}
 RefusesSource known from shape fault =

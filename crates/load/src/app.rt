@@ -13,7 +13,7 @@ use acceptance::bpf_verify::Verified;
 use acceptance::{accept, rule_program};
 use bounded_files::ResourceFault;
 use cells::{ArrayNo, Directory, Shape};
-use manifest::{AppEntry, AppParts, Source};
+use manifest::{AppEntry, AppParts, ProgramSource};
 use ruleset::App;
 use std::alloc::Global;
 use std::sync::Arc;
@@ -52,7 +52,7 @@ pub(crate) fn load_app<F: Files>(
 fn load_program<F: Files>(
     alloc: Global,
     files: &mut F,
-    source: &Source,
+    source: &ProgramSource,
     shape: &Shape,
 ) -> Result<Verified, AppFault>
     requires { F.failed files.old < 2 ^ 64 - 1 }
@@ -68,8 +68,8 @@ fn load_program<F: Files>(
         Err(ResourceFault::Memory) => return Err(AppFault::Memory),
     };
     match source {
-        Source::Program(_) => program_of(alloc, bytes.as_slice(), shape),
-        Source::Rule(_) => program_of_rule(alloc, bytes.as_slice(), shape),
+        ProgramSource::Program(_) => program_of(alloc, bytes.as_slice(), shape),
+        ProgramSource::Rule(_) => program_of_rule(alloc, bytes.as_slice(), shape),
     }
 }
 
@@ -97,11 +97,11 @@ fn program_of_rule(alloc: Global, text: &[u8], shape: &Shape) -> Result<Verified
     }
 }
 
-fn file_of(source: &Source) -> &str
+fn file_of(source: &ProgramSource) -> &str
     ensures { result.now ≡ specs.file_of source.now }
 {
     match source {
-        Source::Program(file) => file.as_str(),
-        Source::Rule(file) => file.as_str(),
+        ProgramSource::Program(file) => file.as_str(),
+        ProgramSource::Rule(file) => file.as_str(),
     }
 }

@@ -11,7 +11,7 @@ use Rattle.manifest.specs.declared.fault.Twice.{Twice}
 use Rattle.manifest.specs.declared.misfit.Misfit.{Misfit}
 use Rattle.manifest.specs.Manifest.{Manifest, IsTree, HasNoTree, ReadsManifest}
 use Rattle.manifest.specs.Manifest.{tables_of, once}
-use Rattle.manifest.specs.OneReading.{HasOneReading}
+use Rattle.manifest.specs.OneReading.{HasOneManifest}
 
 -- what comes of the tables of a tree
 abbrev of_names : Result Manifest Twice → Result Manifest ManifestFault
@@ -61,6 +61,6 @@ same bytes (tree r t is read) (tree s u are others) =
     let one : t ≡ u = same_Some t u (sym is.document ∙ are.document) in
     read ∙ ap (λ x. of_tables (tables_of x)) one ∙ sym others
 
-pub one_reading : (bytes : List ℕ) → HasOneReading bytes
+pub one_reading : (bytes : List ℕ) → HasOneManifest bytes
 one_reading bytes r s h k given other =
     same bytes (found bytes r h given) (found bytes s k other)

@@ -4,8 +4,8 @@ use Rattle.std.specs.Prelude.{Option, Some, None, option_map, Result, Ok}
 use Rattle.toml.specs.Data.{Data, Members, get_member, as_str}
 use Rattle.releases.specs.Appid.{is_appid}
 use Rattle.releases.specs.Release.{Release}
-use Rattle.manifest.specs.declared.app.Source.{Source}
-use Rattle.manifest.specs.declared.app.Source.TheVariants.{Program, Rule}
+use Rattle.manifest.specs.declared.app.ProgramSource.{ProgramSource}
+use Rattle.manifest.specs.declared.app.ProgramSource.TheVariants.{Program, Rule}
 use Rattle.manifest.specs.declared.kind.Kind.TheVariants as kind
 use Rattle.manifest.specs.declared.misfit.InList.{InList}
 use Rattle.manifest.specs.declared.misfit.AppMisfit.{AppMisfit}
@@ -19,7 +19,7 @@ use Rattle.manifest.specs.Release.{release_of}
 -- an app: its appid, the file of its program, and its releases
 pub record AppEntry : Type 0 where
   pub appid : List ℕ
-  pub source : Source
+  pub source : ProgramSource
   pub releases : List Release
 
 -- what an app keeps: its appid is one, and it has at most 64 releases
@@ -28,16 +28,16 @@ pub record IsAppEntry (appid : List ℕ) (releases : List Release) : Type 0 wher
   pub few : length releases ≤ 64
 
 -- the file is that of a program or that of a rule, and there is just one
-abbrev pub source_of : Option Data → Option Data → Option Source
+abbrev pub source_of : Option Data → Option Data → Option ProgramSource
 source_of (Some program) None = option_map (λ file. Program file) (as_str program)
 source_of None (Some rule) = option_map (λ file. Rule file) (as_str rule)
 source_of None None = None
 source_of (Some program) (Some rule) = None
 
-abbrev pub source_in : Members → Result Source AppMisfit
+abbrev pub source_in : Members → Result ProgramSource AppMisfit
 source_in table =
     needs (source_of (get_member (codes "program") table) (get_member (codes "rule") table))
-    misfit.Source (λ source. Ok source)
+    misfit.ProgramSource (λ source. Ok source)
 
 -- at most 64 releases
 abbrev pub releases_of : Members → Result (List Release) (InList ReleaseMisfit)

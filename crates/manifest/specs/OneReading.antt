@@ -5,6 +5,6 @@ use Rattle.manifest.specs.declared.fault.ManifestFault.{ManifestFault}
 use Rattle.manifest.specs.declared.fault.ManifestFault.TheVariants.{Memory}
 
 -- bytes have one manifest or one fault, want of memory aside
-abbrev pub HasOneReading : List ℕ → Type 0
-HasOneReading bytes = (r s : Result Manifest ManifestFault) → ReadsManifest bytes r
+abbrev pub HasOneManifest : List ℕ → Type 0
+HasOneManifest bytes = (r s : Result Manifest ManifestFault) → ReadsManifest bytes r
     → ReadsManifest bytes s → r ≢ Err Memory → s ≢ Err Memory → r ≡ s

@@ -42,7 +42,7 @@ release_text (release.Packages list) =
 abbrev pub app_text : AppMisfit → List ℕ
 app_text (app.Unknown key) = key ++ codes ": no member of an app"
 app_text app.Appid = codes "appid: a text of 1 to 1024 bytes"
-app_text app.Source = codes "program or rule: one of the two, the name of a file"
+app_text app.ProgramSource = codes "program or rule: one of the two, the name of a file"
 app_text (app.Releases list) =
     list_text release_text (codes "release") (codes "at most 64 tables") list
 

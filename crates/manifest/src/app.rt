@@ -12,7 +12,7 @@ ghost use Rattle.manifest.specs.App as specs;
 use crate::kind::{Kind, unknown_member};
 use crate::member::{member, text};
 use crate::misfit::{AppMisfit, InList, ReleaseMisfit};
-use crate::rows::{Row, read_rows};
+use crate::rows::{TableRow, read_rows};
 use crate::unread::{Unread, copy, quote};
 use attrs::Text;
 use releases::Release;
@@ -25,7 +25,7 @@ const MAX_RELEASES: usize = 64;
 
 /// The file from which an app's program comes, by its name.
 #[derive(Drop)]
-pub enum Source {
+pub enum ProgramSource {
     /// The bytes of a program.
     Program(Text),
     /// The text of a rule.
@@ -36,7 +36,7 @@ pub enum Source {
 #[derive(Drop)]
 pub struct AppEntry {
     appid: Text,
-    source: Source,
+    source: ProgramSource,
     releases: Vec<Release>,
 }
 
@@ -64,7 +64,7 @@ impl AppEntry {
     }
 
     /// Where its program comes from.
-    pub fn source(&self) -> &Source
+    pub fn source(&self) -> &ProgramSource
         ensures { result.now ≡ self.now.source }
     {
         &self.source
@@ -83,7 +83,7 @@ impl AppEntry {
 #[derive(Drop)]
 pub struct AppParts {
     pub appid: Text,
-    pub source: Source,
+    pub source: ProgramSource,
     pub releases: Vec<Release>,
 }
 
@@ -104,7 +104,7 @@ impl AppEntry {
     }
 }
 
-impl Row for AppEntry {
+impl TableRow for AppEntry {
     type Misfit = AppMisfit;
 
     ghost row_of = { specs.app_of };
@@ -148,19 +148,19 @@ fn appid(table: &Table) -> Option<&str>
 }
 
 // Either a program or a rule.
-fn read_source(alloc: Global, table: &Table) -> Result<Source, Unread<AppMisfit>>
+fn read_source(alloc: Global, table: &Table) -> Result<ProgramSource, Unread<AppMisfit>>
     ensures { ReadsAs (specs.source_in (table_view table.now)) result }
 {
     match (member(table, "program"), member(table, "rule")) {
         (Some(program), None) => match program.as_str() {
-            Some(file) => Ok(Source::Program(copy(alloc, file)?)),
-            None => Err(Unread::Misfit(AppMisfit::Source)),
+            Some(file) => Ok(ProgramSource::Program(copy(alloc, file)?)),
+            None => Err(Unread::Misfit(AppMisfit::ProgramSource)),
         },
         (None, Some(rule)) => match rule.as_str() {
-            Some(file) => Ok(Source::Rule(copy(alloc, file)?)),
-            None => Err(Unread::Misfit(AppMisfit::Source)),
+            Some(file) => Ok(ProgramSource::Rule(copy(alloc, file)?)),
+            None => Err(Unread::Misfit(AppMisfit::ProgramSource)),
         },
-        _ => Err(Unread::Misfit(AppMisfit::Source)),
+        _ => Err(Unread::Misfit(AppMisfit::ProgramSource)),
     }
 }
 

@@ -11,7 +11,7 @@ ghost use Rattle.manifest.specs.Array as specs;
 use crate::kind::{Kind, unknown_member};
 use crate::member::{member, number, number_of, text};
 use crate::misfit::ArrayMisfit;
-use crate::rows::Row;
+use crate::rows::TableRow;
 use crate::unread::{Unread, quote};
 use cells::{ArrayName, CellWidth};
 use declarations::ArrayDeclaration;
@@ -24,7 +24,7 @@ const MAX_LENGTH: u64 = 4096;
 /// The greatest quota, 2^63 - 1.
 const MAX_QUOTA: u64 = 9223372036854775807;
 
-impl Row for ArrayDeclaration {
+impl TableRow for ArrayDeclaration {
     type Misfit = ArrayMisfit;
 
     ghost row_of = { specs.array_of };

@@ -46,7 +46,7 @@ mod rows;
 mod twice;
 mod unread;
 
-pub use app::{AppEntry, AppParts, Source};
+pub use app::{AppEntry, AppParts, ProgramSource};
 pub use fault::{ManifestFault, TomlFault, Twice};
 pub use law::one_reading;
 pub use manifest::{Manifest, ManifestParts};

@@ -46,7 +46,7 @@ pub enum AppMisfit {
     Unknown(Quote),
     Appid,
     /// There is neither a program nor a rule, or both, or it is no text.
-    Source,
+    ProgramSource,
     Releases(InList<ReleaseMisfit>),
 }
 
@@ -111,7 +111,9 @@ impl Display for AppMisfit {
         match self {
             AppMisfit::Unknown(key) => write!(f, "{key}: no member of an app"),
             AppMisfit::Appid => f.write_str("appid: a text of 1 to 1024 bytes"),
-            AppMisfit::Source => f.write_str("program or rule: one of the two, the name of a file"),
+            AppMisfit::ProgramSource => f.write_str(
+                "program or rule: one of the two, the name of a file",
+            ),
             AppMisfit::Releases(InList::Count) => f.write_str("release: at most 64 tables"),
             AppMisfit::Releases(InList::NoTable(number)) => write!(f, "release[{number}]: a table"),
             AppMisfit::Releases(InList::At(number, misfit)) => {

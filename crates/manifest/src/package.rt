@@ -10,7 +10,7 @@ ghost use Rattle.manifest.specs.Package as specs;
 use crate::kind::{Kind, unknown_member};
 use crate::member::{number, text, truth};
 use crate::misfit::PackageMisfit;
-use crate::rows::Row;
+use crate::rows::TableRow;
 use crate::unread::{Unread, copy, quote};
 use releases::Package;
 use std::alloc::Global;
@@ -20,7 +20,7 @@ use toml::Table;
 /// of JSON takes exactly.
 const MAX_SIZE: u64 = 9007199254740991;
 
-impl Row for Package {
+impl TableRow for Package {
     type Misfit = PackageMisfit;
 
     ghost row_of = { specs.package_of };

@@ -9,7 +9,7 @@ ghost use Rattle.manifest.specs.Release as specs;
 use crate::kind::{Kind, unknown_member};
 use crate::member::text;
 use crate::misfit::{InList, PackageMisfit, ReleaseMisfit};
-use crate::rows::{Row, read_rows};
+use crate::rows::{TableRow, read_rows};
 use crate::unread::{Unread, copy, quote};
 use attrs::read_version;
 use releases::{Package, Release};
@@ -19,7 +19,7 @@ use toml::Table;
 /// The most packages of a release.
 const MAX_PACKAGES: usize = 16;
 
-impl Row for Release {
+impl TableRow for Release {
     type Misfit = ReleaseMisfit;
 
     ghost row_of = { specs.release_of };

@@ -13,7 +13,7 @@ use std::alloc::Global;
 use toml::{Table, Value};
 
 /// What one table of a list is read as.
-pub(crate) trait Row: Drop {
+pub(crate) trait TableRow: Drop {
     type Misfit: Drop;
 
     ghost row_of: { Members → Result Self Self.Misfit };
@@ -23,7 +23,7 @@ pub(crate) trait Row: Drop {
 }
 
 /// The rows of a member that is a list of so many tables; one that may be empty may be absent.
-pub(crate) fn read_rows<R: Row>(
+pub(crate) fn read_rows<R: TableRow>(
     alloc: Global,
     table: &Table,
     key: &str,
@@ -64,7 +64,10 @@ fn has_count(items: &[Value], from: usize, to: usize) -> bool
     from <= items.len() && items.len() <= to
 }
 
-fn read_items<R: Row>(alloc: Global, items: &[Value]) -> Result<Vec<R>, Unread<InList<R::Misfit>>>
+fn read_items<R: TableRow>(
+    alloc: Global,
+    items: &[Value],
+) -> Result<Vec<R>, Unread<InList<R::Misfit>>>
     ensures rows { ReadsListAs (items_from R.row_of 1 (map view items.now)) result }
     ensures count { IfOk result (λ v. length v.items ≡ length items.now) }
 {
@@ -82,7 +85,7 @@ fn read_items<R: Row>(alloc: Global, items: &[Value]) -> Result<Vec<R>, Unread<I
     Ok(rows)
 }
 
-fn read_item<R: Row>(
+fn read_item<R: TableRow>(
     alloc: Global,
     number: usize,
     item: &Value,

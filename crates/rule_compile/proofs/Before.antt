@@ -14,8 +14,8 @@ use Rattle.bpf_insn.specs.Program.{Program}
 use Rattle.cells.specs.Arrays.{AppShape}
 use Rattle.rule_lang.specs.declared.rule.Statement.{Statement}
 use Rattle.rule_lang.specs.declared.rule.Statement.TheVariants.{Count, When}
-use Rattle.rule_lang.specs.declared.test.Relation.{Relation}
-use Rattle.rule_lang.specs.declared.test.Relation.TheVariants as relation
+use Rattle.rule_lang.specs.declared.test.Comparison.{Comparison}
+use Rattle.rule_lang.specs.declared.test.Comparison.TheVariants as relation
 use Rattle.rule_lang.specs.declared.test.Test as the_test
 use Rattle.rule_lang.specs.declared.test.Test.TheVariants as test
 use Rattle.rule_lang.specs.Meaning.{flag_bit, attribute_number}
@@ -78,7 +78,7 @@ attribute_before n text sense l q =
     ∷ Some (insn.jump_if (insn.turned sense jump.Ne) R0 0 (length q - l)) ∷ [] in
     before_then _ (calls ++ q) q (stores_before 63 text (calls ++ q)) (before_list calls q)
 
-version_before : (r : Relation) (ns : List ℕ) (sense : Bool) (l : ℕ) (q : Program)
+version_before : (r : Comparison) (ns : List ℕ) (sense : Bool) (l : ℕ) (q : Program)
     → IsBefore (version_code r ns sense l q) q
 version_before relation.Lt ns sense l q = order_before jump.Lt jump.Lt 0 ns sense l q
 version_before relation.Le ns sense l q = order_before jump.Lt jump.Le 0 ns sense l q

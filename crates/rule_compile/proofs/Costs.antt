@@ -9,8 +9,8 @@ use Rattle.rule_lang.specs.declared.condition.Step.{Step}
 use Rattle.rule_lang.specs.declared.condition.Step.TheVariants as step
 use Rattle.rule_lang.specs.declared.rule.Statement.{Statement}
 use Rattle.rule_lang.specs.declared.rule.Statement.TheVariants.{Count, When}
-use Rattle.rule_lang.specs.declared.test.Relation.{Relation}
-use Rattle.rule_lang.specs.declared.test.Relation.TheVariants as relation
+use Rattle.rule_lang.specs.declared.test.Comparison.{Comparison}
+use Rattle.rule_lang.specs.declared.test.Comparison.TheVariants as relation
 use Rattle.rule_lang.specs.declared.test.Test as the_test
 use Rattle.rule_lang.specs.declared.test.Test.TheVariants as test
 use Rattle.rule_lang.specs.Cost.{tests_in, tests_of, cost}
@@ -40,7 +40,7 @@ stores_length left (a ∷ b ∷ c ∷ []) q = omega arith
 stores_length left (a ∷ b ∷ c ∷ d ∷ text) q = let h = stores_length (left - 4) text q in
     omega (arith, h)
 
-version_length : (r : Relation) (w : List ℕ) (sense : Bool) (l : ℕ) (q : Program)
+version_length : (r : Comparison) (w : List ℕ) (sense : Bool) (l : ℕ) (q : Program)
     → length (version_code r (four_of w) sense l q) ≤ 14 + length q
 version_length relation.Lt w sense l q = omega arith
 version_length relation.Le w sense l q = omega arith

@@ -10,8 +10,8 @@ use Rattle.std.specs.declared.cmp.Ordering.TheVariants.{Less, Equal, Greater}
 use Rattle.bpf_insn.specs.declared.operand.Condition.{Condition}
 use Rattle.bpf_insn.specs.declared.operand.Condition.TheVariants as jump
 use Rattle.bpf_insn.specs.Conditions.{compares}
-use Rattle.rule_lang.specs.declared.test.Relation.{Relation}
-use Rattle.rule_lang.specs.declared.test.Relation.TheVariants as relation
+use Rattle.rule_lang.specs.declared.test.Comparison.{Comparison}
+use Rattle.rule_lang.specs.declared.test.Comparison.TheVariants as relation
 use Rattle.rule_lang.specs.Meaning.{Behaviour, relates, place_cmp, version_cmp}
 use Rattle.rule_compile.specs.Code.{condition_of, four_of}
 use Rattle.rule_compile.proofs.VersionWords.{if_equal, if_ordered}
@@ -33,11 +33,11 @@ order v n = elim (cases_lt v n) [
   ]
 ]
 
-pub relates_is : (r : Relation) (v n : ℕ)
+pub relates_is : (r : Comparison) (v n : ℕ)
     → relates r (nat_cmp v n) ≡ compares w32 (condition_of r) v n
 relates_is r v n = by_order r (order v n)
   where
-    by_order : (r : Relation) → Order v n
+    by_order : (r : Comparison) → Order v n
         → relates r (nat_cmp v n) ≡ compares w32 (condition_of r) v n
     by_order relation.Lt (less h) = grind (arith, h)
     by_order relation.Lt (same h) = grind (arith, h)
@@ -70,24 +70,24 @@ cmp_greater : (v n : ℕ) → n < v → nat_cmp v n ≡ Greater
 cmp_greater v n h = grind (arith, h)
 
 -- the relations of order, and the condition that decides them before the last word
-abbrev pub IsOrder : Relation → Type 0
+abbrev pub IsOrder : Comparison → Type 0
 IsOrder relation.Eq = ⊥
 IsOrder relation.Ne = ⊥
 IsOrder r = Unit {0}
 
-abbrev pub strict_of : Relation → Condition
+abbrev pub strict_of : Comparison → Condition
 strict_of relation.Lt = jump.Lt
 strict_of relation.Le = jump.Lt
 strict_of r = jump.Gt
 
 -- the word before the last ones
-word_orders : (r : Relation) (v n : ℕ) (o : Ordering) (x y z : Behaviour) → IsOrder r
+word_orders : (r : Comparison) (v n : ℕ) (o : Ordering) (x y z : Behaviour) → IsOrder r
     → z ≡ (if relates r o then x else y)
     → (if compares w32 (strict_of r) v n then x else if compares w32 jump.Ne v n then y
     else z) ≡ (if relates r (ordering_then (nat_cmp v n) o) then x else y)
 word_orders r v n o x y z is h = by_order r is (order v n) h
   where
-    by_order : (r : Relation) → IsOrder r → Order v n → z ≡ (if relates r o then x else y)
+    by_order : (r : Comparison) → IsOrder r → Order v n → z ≡ (if relates r o then x else y)
         → (if compares w32 (strict_of r) v n then x else if compares w32 jump.Ne v n then y
         else z) ≡ (if relates r (ordering_then (nat_cmp v n) o) then x else y)
     by_order relation.Eq is d h = absurd is
@@ -105,13 +105,13 @@ word_orders r v n o x y z is h = by_order r is (order v n) h
     by_order relation.Gt is (same d) h = rw (cmp_equal v n d) (grind (arith, d, h))
     by_order relation.Gt is (more d) h = rw (cmp_greater v n d) (grind (arith, d))
 
-last_word : (r : Relation) (v n : ℕ) (x y : Behaviour)
+last_word : (r : Comparison) (v n : ℕ) (x y : Behaviour)
     → (if compares w32 (condition_of r) v n then x else y) ≡ (if relates r
     (nat_cmp v n) then x else y)
 last_word r v n x y = ap (λ (b : Bool). if b then x else y) (sym (relates_is r v n))
 
 -- an order, from the first word on
-pub ordered_is : (r : Relation) (v w : List ℕ) (x y : Behaviour) → IsOrder r
+pub ordered_is : (r : Comparison) (v w : List ℕ) (x y : Behaviour) → IsOrder r
     → if_ordered (strict_of r) (condition_of r) (slice_index v) 0
     (four_of w) x y ≡ (if relates r (version_cmp v w) then x else y)
 ordered_is r v w x y is =

@@ -8,8 +8,8 @@ use Rattle.cells.specs.Arrays.{AppShape, IsShape}
 use Rattle.bpf_verify.specs.Table.{Known}
 use Rattle.rule_lang.specs.declared.test.Attribute.{Attribute}
 use Rattle.rule_lang.specs.declared.test.Attribute.TheVariants as attribute
-use Rattle.rule_lang.specs.declared.test.Relation.{Relation}
-use Rattle.rule_lang.specs.declared.test.Relation.TheVariants as relation
+use Rattle.rule_lang.specs.declared.test.Comparison.{Comparison}
+use Rattle.rule_lang.specs.declared.test.Comparison.TheVariants as relation
 use Rattle.rule_lang.specs.declared.test.Test as the_test
 use Rattle.rule_lang.specs.declared.test.Test.TheVariants as test
 use Rattle.rule_lang.specs.Fits.{test_fits}
@@ -39,7 +39,8 @@ few_attributes attribute.Platform = omega arith
 module _ (shape : AppShape) (is_shape : IsShape shape) where
   -- ---- tests
 
-  version_front : (r : Relation) (w : List ℕ) (sense : Bool) (l : ℕ) (q : Program) (ds : List Known)
+  version_front : (r : Comparison) (w : List ℕ) (sense : Bool) (l : ℕ) (q : Program)
+      (ds : List Known)
       → IsRest shape q ds → IsLabel shape q ds l
       → IsFront shape (version_code r (four_of w) sense l q) q ds
   version_front relation.Lt w sense l q ds h label =

@@ -19,7 +19,7 @@ use Rattle.rule_lang.specs.declared.condition.Step.TheVariants as step
 use Rattle.rule_lang.specs.declared.rule.Statement.{Statement}
 use Rattle.rule_lang.specs.declared.rule.Statement.TheVariants.{Count, When}
 use Rattle.rule_lang.specs.Fits.{test_fits, step_fits, statement_fits, is_release, fits}
-use Rattle.rule_lang.specs.Meaning.{Behaviour, Chooses, Follows, decide}
+use Rattle.rule_lang.specs.Meaning.{Behaviour, Chooses, HasTrace, decide}
 use Rattle.rule_lang.specs.Meaning.{decide_one, decide_steps, behaviour}
 use Rattle.rule_lang.specs.Shapes.{array_named, cell_of}
 use Rattle.rule_lang.specs.Trees.{Tree, Asked, Negated, Both, Either, with_step, trees_from}
@@ -191,7 +191,7 @@ module _ (p : ShapedProgram) (a : Attributes) (fit : FitFields a) (shape : IsSha
     second_step = ap (λ (q : Program). act_at p.shape first (at q 1)) code_is
 
     pub rule_runs : IsRuleInRange xs → fits p.shape xs ≡ true → AreMade xs
-        → (es : List CellEvent) (choice : ℕ) → Follows (behaviour a p.shape xs) es choice
+        → (es : List CellEvent) (choice : ℕ) → HasTrace (behaviour a p.shape xs) es choice
         → (count : ℕ) × Ends p (opening a) es choice count
     unfolding first second
     rule_runs range fits made es choice follows =

@@ -26,7 +26,7 @@ use Rattle.bpf_verify.specs.bpf_semantics.Reads.{both}
 use Rattle.bpf_verify.specs.bpf_semantics.Outcome.{Going, Asks, write, branch, finish}
 use Rattle.bpf_verify.specs.bpf_semantics.Step.{step, act, act_at, load}
 use Rattle.bpf_verify.specs.bpf_semantics.Run.{Ends, last, more, asked}
-use Rattle.rule_lang.specs.Meaning.{Behaviour, Chooses, Follows}
+use Rattle.rule_lang.specs.Meaning.{Behaviour, Chooses, HasTrace}
 use Rattle.rule_lang.specs.Meaning as does
 use Rattle.rule_compile.specs.Instructions as insn
 use Rattle.rule_compile.proofs.Labels.{at_here, next_here, later_here}
@@ -42,7 +42,7 @@ module _ (p : ShapedProgram) (a : Attributes) where
 
   -- each run that the behaviour allows is made from the state
   abbrev pub EndsAs : State → Behaviour → Type 0
-  EndsAs s b = (es : List CellEvent) (choice : ℕ) → Follows b es choice → (count : ℕ)
+  EndsAs s b = (es : List CellEvent) (choice : ℕ) → HasTrace b es choice → (count : ℕ)
       × Ends p s es choice count
 
   -- from each state at this rest of which this is known
@@ -104,7 +104,7 @@ module _ (p : ShapedProgram) (a : Attributes) where
       → EndsAs s b
   chosen_is k b is s e = subst (EndsAs s) (sym is) (λ es end follows. ends es end follows)
     where
-      ends : (es : List CellEvent) (end : ℕ) → Follows (Chooses k) es end → (count : ℕ)
+      ends : (es : List CellEvent) (end : ℕ) → HasTrace (Chooses k) es end → (count : ℕ)
           × Ends p s es end count
       ends [] end follows = subst (λ (n : ℕ). (count : ℕ) × Ends p s [] n count) follows
           (s.count + 1, last e refl)

@@ -17,8 +17,8 @@ use Rattle.cells.specs.Arrays.{IsShape}
 use Rattle.rule_lang.specs.declared.test.Flag as the_flag
 use Rattle.rule_lang.specs.declared.test.Flag.TheVariants.{VersionKnown, Updatecheck, Ping}
 use Rattle.rule_lang.specs.declared.test.Flag.TheVariants.{Event, CohortKnown, InstalldateKnown}
-use Rattle.rule_lang.specs.declared.test.Relation.{Relation}
-use Rattle.rule_lang.specs.declared.test.Relation.TheVariants as relation
+use Rattle.rule_lang.specs.declared.test.Comparison.{Comparison}
+use Rattle.rule_lang.specs.declared.test.Comparison.TheVariants as relation
 use Rattle.rule_lang.specs.declared.test.Test as the_test
 use Rattle.rule_lang.specs.declared.test.Test.TheVariants as test
 use Rattle.rule_lang.specs.Fits.{test_fits}
@@ -47,7 +47,7 @@ use Rattle.rule_compile.proofs.Relations.{ordered_is, equal_is, unequal_is}
 abbrev later_of : List ℕ → List ℕ
 later_of w = slice_index w 1 ∷ slice_index w 2 ∷ slice_index w 3 ∷ []
 
-pub is_relation : (r : Relation) → IsRelation (condition_of r)
+pub is_relation : (r : Comparison) → IsRelation (condition_of r)
 is_relation relation.Lt = tt
 is_relation relation.Le = tt
 is_relation relation.Eq = tt
@@ -56,7 +56,7 @@ is_relation relation.Ge = tt
 is_relation relation.Gt = tt
 
 -- a jump on the turned condition is a choice by the relation
-related : (r : Relation) (sense : Bool) (v n : ℕ) (x y : Behaviour)
+related : (r : Comparison) (sense : Bool) (v n : ℕ) (x y : Behaviour)
     → (if compares w32 (turned sense (condition_of r)) v n then x else y) ≡ (if relates r
     (nat_cmp v n) then (if sense then x else y) else (if sense then y else x))
 related r sense v n x y = by_sense (condition_of r) sense v n x y (is_relation r)
@@ -115,7 +115,7 @@ module _ (p : ShapedProgram) (a : Attributes) (fit : FitFields a) (shape : IsSha
     (h 1, second_reads p a fit, (h 2, third_reads p a fit, (h 3, fourth_reads p a fit, tt))),
   )
 
-  field_test : (kind : LoadKind) (offset v : ℕ) (r : Relation) (n : ℕ) (sense : Bool) (l : ℕ)
+  field_test : (kind : LoadKind) (offset v : ℕ) (r : Comparison) (n : ℕ) (sense : Bool) (l : ℕ)
       (q : Program) (choice : ℕ) (x y : Behaviour) → Reads p a kind offset v → v < 2 ^ 32
       → n < 2 ^ 32
       → Goes (from_label q l) choice x → Goes q choice y
@@ -127,7 +127,7 @@ module _ (p : ShapedProgram) (a : Attributes) (fit : FitFields a) (shape : IsSha
       (field_runs p a kind offset v (turned sense (condition_of r)) n l q choice x y reads hv hn to
       on)
 
-  order_test : (r : Relation) (w : List ℕ) (sense : Bool) (l : ℕ) (q : Program) (choice : ℕ)
+  order_test : (r : Comparison) (w : List ℕ) (sense : Bool) (l : ℕ) (q : Program) (choice : ℕ)
       (x y : Behaviour) → IsOrder r → ((k : ℕ) → slice_index w k < 2 ^ 32) → l ≤ length q
       → Goes (from_label q l) choice x → Goes q choice y
       → Goes (code.order_code (strict_of r) (condition_of r) 0 (four_of w) sense l q) choice
@@ -152,7 +152,7 @@ module _ (p : ShapedProgram) (a : Attributes) (fit : FitFields a) (shape : IsSha
       (equal_runs p a (slice_index a.context.version) fit.version 0 (slice_index w 0)
       (later_of w) sense l q choice x y (four_read w h) within to on)
 
-  version_test : (r : Relation) (w : List ℕ) (sense : Bool) (l : ℕ) (q : Program) (choice : ℕ)
+  version_test : (r : Comparison) (w : List ℕ) (sense : Bool) (l : ℕ) (q : Program) (choice : ℕ)
       (x y : Behaviour) → ((k : ℕ) → slice_index w k < 2 ^ 32) → l ≤ length q
       → Goes (from_label q l) choice x → Goes q choice y
       → Goes (version_code r (four_of w) sense l q) choice

@@ -18,8 +18,8 @@ use Rattle.rule_lang.specs.declared.condition.Step.{Step}
 use Rattle.rule_lang.specs.declared.condition.Step.TheVariants as step
 use Rattle.rule_lang.specs.declared.rule.Statement.{Statement}
 use Rattle.rule_lang.specs.declared.rule.Statement.TheVariants.{Count, When}
-use Rattle.rule_lang.specs.declared.test.Relation.{Relation}
-use Rattle.rule_lang.specs.declared.test.Relation.TheVariants as relation
+use Rattle.rule_lang.specs.declared.test.Comparison.{Comparison}
+use Rattle.rule_lang.specs.declared.test.Comparison.TheVariants as relation
 use Rattle.rule_lang.specs.declared.test.Test as the_test
 use Rattle.rule_lang.specs.declared.test.Test.TheVariants as test
 use Rattle.rule_lang.specs.Meaning.{flag_bit, attribute_number}
@@ -31,7 +31,7 @@ use Rattle.rule_compile.specs.Blocks as code
 
 -- ---- tests
 
-abbrev pub condition_of : Relation → Condition
+abbrev pub condition_of : Comparison → Condition
 condition_of relation.Lt = jump.Lt
 condition_of relation.Le = jump.Le
 condition_of relation.Eq = jump.Eq
@@ -39,7 +39,7 @@ condition_of relation.Ne = jump.Ne
 condition_of relation.Ge = jump.Ge
 condition_of relation.Gt = jump.Gt
 
-abbrev pub version_code : Relation → List ℕ → Bool → ℕ → Program → Program
+abbrev pub version_code : Comparison → List ℕ → Bool → ℕ → Program → Program
 version_code relation.Lt ns sense label rest = code.order_code jump.Lt jump.Lt 0 ns sense label rest
 version_code relation.Le ns sense label rest = code.order_code jump.Lt jump.Le 0 ns sense label rest
 version_code relation.Eq ns sense label rest = code.equal_code 0 ns sense label rest

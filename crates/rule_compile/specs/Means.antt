@@ -7,12 +7,12 @@ use Rattle.bpf_verify.specs.bpf_semantics.Run.{Ends}
 use Rattle.bpf_verify.specs.bpf_semantics.State.{opening}
 use Rattle.cells.specs.declared.event.CellEvent.{CellEvent}
 use Rattle.rule_lang.specs.declared.rule.Statement.{Statement}
-use Rattle.rule_lang.specs.Meaning.{behaviour, Follows}
+use Rattle.rule_lang.specs.Meaning.{behaviour, HasTrace}
 
 -- for attributes whose context is in its ranges, and for whatever the cells reply: the run makes
 -- the events that the rule means, and ends with its choice
 abbrev pub Means : Attributes → List Statement → ShapedProgram → Type 0
 Means a rule p =
     HasContextRanges a.context → (es : List CellEvent) (choice : ℕ)
-    → Follows (behaviour a p.shape rule) es choice
+    → HasTrace (behaviour a p.shape rule) es choice
     → (count : ℕ) × Ends p (opening a) es choice count

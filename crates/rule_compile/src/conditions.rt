@@ -12,7 +12,7 @@ use crate::fault::CompileFault;
 use crate::goals::{Goal, Goals};
 use crate::test::put_test;
 use cells::Shape;
-use rule_lang::{Condition, Step};
+use rule_lang::{RuleCondition, Step};
 
 /// The goals of the two conditions of a chain: the first one leaves the chain where it is of this
 /// sense, and the second one decides.

@@ -17,7 +17,7 @@ use crate::instructions as insn;
 use crate::test::{array_number, place_named};
 use bpf_insn::{AtomicSize, Insn};
 use cells::{CellArray, CellWidth, Shape};
-use rule_lang::{Condition, Statement, Step};
+use rule_lang::{RuleCondition, Statement, Step};
 use std::alloc::Global;
 
 /// The steps of a condition, from the last to the first: it goes to the label where it holds.

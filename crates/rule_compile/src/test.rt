@@ -17,7 +17,7 @@ use crate::versions::{put_equal, put_order};
 use attrs::Context;
 use bpf_insn::{Condition, LoadKind};
 use cells::{CellArray, Shape};
-use rule_lang::{Attribute, Flag, Relation, Test};
+use rule_lang::{Attribute, Comparison, Flag, Test};
 
 /// Where the days begin in the context.
 const TODAY: u8 = Context::TODAY_OFFSET;
@@ -25,16 +25,16 @@ const TODAY: u8 = Context::TODAY_OFFSET;
 const INSTALL_DAY: u8 = Context::INSTALL_DAY_OFFSET;
 
 /// The condition of a jump.
-fn condition_of(relation: Relation) -> Condition
+fn condition_of(relation: Comparison) -> Condition
     ensures { result ≡ code.condition_of relation }
 {
     match relation {
-        Relation::Lt => Condition::Lt,
-        Relation::Le => Condition::Le,
-        Relation::Eq => Condition::Eq,
-        Relation::Ne => Condition::Ne,
-        Relation::Ge => Condition::Ge,
-        Relation::Gt => Condition::Gt,
+        Comparison::Lt => Condition::Lt,
+        Comparison::Le => Condition::Le,
+        Comparison::Eq => Condition::Eq,
+        Comparison::Ne => Condition::Ne,
+        Comparison::Ge => Condition::Ge,
+        Comparison::Gt => Condition::Gt,
     }
 }
 
@@ -108,7 +108,7 @@ fn quota_at(arrays: &[CellArray], place: usize) -> u64
 /// A comparison of versions.
 fn put_version(
     rest: &mut Code,
-    relation: Relation,
+    relation: Comparison,
     numbers: &[u32],
     sense: bool,
     label: usize,
@@ -123,12 +123,12 @@ fn put_version(
 {
     let (lt, gt) = (Condition::Lt, Condition::Gt);
     match relation {
-        Relation::Lt => put_order(rest, lt, lt, 0, numbers, sense, label),
-        Relation::Le => put_order(rest, lt, Condition::Le, 0, numbers, sense, label),
-        Relation::Eq => put_equal(rest, 0, numbers, sense, label),
-        Relation::Ne => put_equal(rest, 0, numbers, !sense, label),
-        Relation::Ge => put_order(rest, gt, Condition::Ge, 0, numbers, sense, label),
-        Relation::Gt => put_order(rest, gt, gt, 0, numbers, sense, label),
+        Comparison::Lt => put_order(rest, lt, lt, 0, numbers, sense, label),
+        Comparison::Le => put_order(rest, lt, Condition::Le, 0, numbers, sense, label),
+        Comparison::Eq => put_equal(rest, 0, numbers, sense, label),
+        Comparison::Ne => put_equal(rest, 0, numbers, !sense, label),
+        Comparison::Ge => put_order(rest, gt, Condition::Ge, 0, numbers, sense, label),
+        Comparison::Gt => put_order(rest, gt, gt, 0, numbers, sense, label),
     }
 }
 

@@ -21,8 +21,8 @@ use Rattle.rule_lang.specs.declared.test.Attribute.TheVariants as attribute
 use Rattle.rule_lang.specs.declared.test.Flag as the_flag
 use Rattle.rule_lang.specs.declared.test.Flag.TheVariants.{VersionKnown, Updatecheck, Ping, Event}
 use Rattle.rule_lang.specs.declared.test.Flag.TheVariants.{CohortKnown, InstalldateKnown}
-use Rattle.rule_lang.specs.declared.test.Relation.{Relation}
-use Rattle.rule_lang.specs.declared.test.Relation.TheVariants.{Lt, Le, Eq, Ne, Ge, Gt}
+use Rattle.rule_lang.specs.declared.test.Comparison.{Comparison}
+use Rattle.rule_lang.specs.declared.test.Comparison.TheVariants.{Lt, Le, Eq, Ne, Ge, Gt}
 use Rattle.rule_lang.specs.declared.test.Test as the_test
 use Rattle.rule_lang.specs.declared.test.Test.TheVariants as test
 use Rattle.rule_lang.specs.Shapes.{array_named, cell_of, quota_of}
@@ -30,7 +30,7 @@ use Rattle.rule_lang.specs.Trees.{Tree, Asked, Negated, Both, Either, trees_from
 
 -- ---- numbers, versions, flags and attributes
 
-abbrev pub relates : Relation → Ordering → Bool
+abbrev pub relates : Comparison → Ordering → Bool
 relates Lt Less = true
 relates Le Less = true
 relates Le Equal = true
@@ -89,12 +89,12 @@ pub data Behaviour : Type 0 where
   Asks : (cell : ℕ) → CellOp → (ℕ → Behaviour) → Behaviour
 
 -- these events, whatever their replies, are what it does, and it ends with the choice
-abbrev pub Follows : Behaviour → List CellEvent → ℕ → Type 0
-Follows (Chooses k) [] choice = k ≡ choice
-Follows (Chooses k) (e ∷ es) choice = ⊥
-Follows (Asks cell op next) [] choice = ⊥
-Follows (Asks cell op next) (e ∷ es) choice =
-    (e.cell ≡ cell) × (e.op ≡ op) × (e.reply < 2 ^ 64) × Follows (next e.reply) es choice
+abbrev pub HasTrace : Behaviour → List CellEvent → ℕ → Type 0
+HasTrace (Chooses k) [] choice = k ≡ choice
+HasTrace (Chooses k) (e ∷ es) choice = ⊥
+HasTrace (Asks cell op next) [] choice = ⊥
+HasTrace (Asks cell op next) (e ∷ es) choice =
+    (e.cell ≡ cell) × (e.op ≡ op) × (e.reply < 2 ^ 64) × HasTrace (next e.reply) es choice
 
 -- ---- tests and conditions
 

@@ -4,4 +4,4 @@ pub mod Drafts
 pub mod Reading
 pub mod Sound
 pub mod Results
-pub mod Advances
+pub mod ReadsOne

@@ -85,25 +85,25 @@ abbrev pub row : TestKind → TestRow
 -- "version" rel ver
 row the_kind.Version = record {
   word = keyword.Version;
-  wants = want.Relation ∷ want.Version ∷ [];
+  wants = want.Comparison ∷ want.Version ∷ [];
   says = λ s ts. version_test ts;
 }
 -- "bucket" [ "(" num ")" ] [ "mod" num ] rel num
 row the_kind.Bucket = record {
   word = keyword.Bucket;
-  wants = want.Salt ∷ want.Modulus ∷ want.Relation ∷ want.Number ∷ [];
+  wants = want.Salt ∷ want.Modulus ∷ want.Comparison ∷ want.Number ∷ [];
   says = λ s ts. bucket_test ts;
 }
 -- "today" rel num
 row the_kind.Today = record {
   word = keyword.Today;
-  wants = want.Relation ∷ want.Number ∷ [];
+  wants = want.Comparison ∷ want.Number ∷ [];
   says = λ s ts. today_test ts;
 }
 -- "installed" rel num
 row the_kind.Installed = record {
   word = keyword.Installed;
-  wants = want.Relation ∷ want.Number ∷ [];
+  wants = want.Comparison ∷ want.Number ∷ [];
   says = λ s ts. installed_test ts;
 }
 -- "flag" name

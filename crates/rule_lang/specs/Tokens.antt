@@ -6,7 +6,7 @@ use Rattle.std.specs.List.{prefix_len}
 use Rattle.std.specs.Char.{is_ascii_digit}
 use Rattle.cells.specs.Names as names
 use Rattle.rule_lang.specs.declared.keyword.Keyword.{Keyword}
-use Rattle.rule_lang.specs.declared.test.Relation.TheVariants.{Lt, Le, Eq, Ne, Ge, Gt}
+use Rattle.rule_lang.specs.declared.test.Comparison.TheVariants.{Lt, Le, Eq, Ne, Ge, Gt}
 use Rattle.rule_lang.specs.declared.token.Class as the_class
 use Rattle.rule_lang.specs.declared.token.Class.TheVariants as class
 use Rattle.rule_lang.specs.declared.token.Piece as the_piece
@@ -111,13 +111,13 @@ longer t = Some (piece.Token t 2)
 -- an equals sign stands behind the character, or not
 abbrev pub relation_at : ℕ → Bool → Option Piece
 relation_at c true =
-    if c == 60 then longer (token.Relation Le)
-    else if c == 62 then longer (token.Relation Ge)
-    else if c == 61 then longer (token.Relation Eq)
-    else if c == 33 then longer (token.Relation Ne) else None
+    if c == 60 then longer (token.Comparison Le)
+    else if c == 62 then longer (token.Comparison Ge)
+    else if c == 61 then longer (token.Comparison Eq)
+    else if c == 33 then longer (token.Comparison Ne) else None
 relation_at c false =
-    if c == 60 then mark (token.Relation Lt)
-    else if c == 62 then mark (token.Relation Gt) else None
+    if c == 60 then mark (token.Comparison Lt)
+    else if c == 62 then mark (token.Comparison Gt) else None
 
 abbrev pub or_else : Option Piece → Option Piece → Option Piece
 or_else (Some p) other = Some p

@@ -33,6 +33,7 @@ IsRuleFault s text e = (e ≡ Memory) ⊎ IsVerdict s text (Err e)
 abbrev pub HasVerdict : AppShape → Text → Type 0
 HasVerdict s text = (v : OrFault (List Statement)) × IsVerdict s text v
 
-abbrev pub HasOneVerdict : AppShape → Text → Type 0
-HasOneVerdict s text = (v w : OrFault (List Statement)) → IsVerdict s text v → IsVerdict s text w
+abbrev pub RuleHasOneVerdict : AppShape → Text → Type 0
+RuleHasOneVerdict s text = (v w : OrFault (List Statement)) → IsVerdict s text v
+    → IsVerdict s text w
     → v ≡ w

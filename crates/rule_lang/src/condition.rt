@@ -19,11 +19,11 @@ pub enum Step {
 /// A condition in post-fix order: `a and not b` is the steps `a`, `b`, `Not`, `And`. So a chain of
 /// any length is read, kept and let go by loops.
 #[derive(Debug, Drop)]
-pub struct Condition {
+pub struct RuleCondition {
     steps: Vec<Step>,
 }
 
-impl Model for Condition {
+impl Model for RuleCondition {
     ghost use Rattle.std.specs.Prelude.{List};
     ghost use Rattle.rule_lang.specs.declared.condition.Step.{Step};
 
@@ -36,13 +36,13 @@ impl Model for Condition {
     ghost invariant = { λ c. IsCondition c.steps.items };
 }
 
-impl Condition {
+impl RuleCondition {
     /// The condition of these steps.
-    pub fn of(steps: Vec<Step>) -> Condition
+    pub fn of(steps: Vec<Step>) -> RuleCondition
         requires { IsCondition steps.items }
         ensures { result ≡ steps.items }
     {
-        Condition { steps }
+        RuleCondition { steps }
     }
 
     /// The steps, in post-fix order.

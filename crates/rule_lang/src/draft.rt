@@ -6,7 +6,7 @@ ghost use Rattle.rule_lang.specs.Named.{seen, draft_seen};
 ghost use Rattle.rule_lang.specs.Reader.Reading as reading;
 ghost use Rattle.rule_lang.specs.Trees.{IsCondition};
 
-use crate::condition::{Condition, Step};
+use crate::condition::{RuleCondition, Step};
 use crate::fault::RuleFault;
 use crate::frame::{Frames, first_frame};
 use crate::pending::Pending;
@@ -97,6 +97,6 @@ pub fn add_when(alloc: Global, draft: &mut Draft, release: u8) -> Result<(), All
     if draft.noted.is_some() {
         return Ok(());
     }
-    let condition = Condition::of(steps);
+    let condition = RuleCondition::of(steps);
     add(draft, Statement::When { condition, release })
 }

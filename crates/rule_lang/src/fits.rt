@@ -5,7 +5,7 @@ ghost use Rattle.std.specs.List.{list_all};
 ghost use Rattle.rule_lang.specs.Fits as the_fits;
 ghost use Rattle.rule_lang.specs.Shapes as shapes;
 
-use crate::condition::{Condition, Step};
+use crate::condition::{RuleCondition, Step};
 use crate::rule::{Rule, Statement};
 use crate::test::Test;
 use cells::{CellArray, Shape};
@@ -69,7 +69,7 @@ fn step_fits(shape: &Shape, step: &Step) -> bool
     }
 }
 
-fn condition_fits(shape: &Shape, condition: &Condition) -> bool
+fn condition_fits(shape: &Shape, condition: &RuleCondition) -> bool
     ensures { result ≡ list_all (the_fits.step_fits shape.now) condition.now }
 {
     condition.steps().iter().all(|step| step_fits(shape, step))

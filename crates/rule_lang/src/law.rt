@@ -3,7 +3,7 @@
 
 ghost use Rattle.cells.specs.Arrays.{AppShape};
 ghost use Rattle.rule_lang.specs.Tokens.{Text};
-ghost use Rattle.rule_lang.specs.Verdicts.{HasVerdict, HasOneVerdict};
+ghost use Rattle.rule_lang.specs.Verdicts.{HasVerdict, RuleHasOneVerdict};
 ghost use Rattle.rule_lang.specs.Words.{AreExact};
 
 /// A law: each word of the grammar, each flag and each attribute is found by its own text, and by
@@ -20,5 +20,5 @@ pub fn some_verdict()
 
 /// A law: a text has no two verdicts under a shape.
 pub fn one_verdict()
-    ensures { (s : AppShape) (text : Text) → HasOneVerdict s text }
+    ensures { (s : AppShape) (text : Text) → RuleHasOneVerdict s text }
 {}

@@ -64,10 +64,10 @@ mod test_reader;
 mod test_table;
 mod token;
 
-pub use condition::{Condition, Step};
+pub use condition::{RuleCondition, Step};
 pub use fault::{RuleFault, RuleFaultKind};
 pub use law::{one_verdict, some_verdict, words_are_exact};
 pub use literal::Literal;
 pub use parser::parse;
 pub use rule::{Rule, Statement};
-pub use test::{Attribute, Flag, Relation, Test};
+pub use test::{Attribute, Comparison, Flag, Test};

@@ -9,7 +9,7 @@ use crate::fault::{RuleFault, RuleFaultKind};
 use crate::fits::array_named;
 use crate::keyword::{Keyword, attribute_named, flag_named};
 use crate::lexer::Placed;
-use crate::test::{Attribute, Flag, Relation};
+use crate::test::{Attribute, Comparison, Flag};
 use crate::token::Token;
 use attrs::read_version;
 use cells::{CellArray, Shape};
@@ -38,12 +38,12 @@ pub fn text_of<'a>(token: Token<&'a str>) -> &'a str
 }
 
 /// A comparison.
-pub fn relation<'a>(placed: Placed<&'a str>) -> Relation
+pub fn relation<'a>(placed: Placed<&'a str>) -> Comparison
     ensures { result ≡ parts.relation (placed_named placed.entry) }
 {
     match placed.token {
-        Token::Relation(relation) => relation,
-        _ => Relation::Eq,
+        Token::Comparison(relation) => relation,
+        _ => Comparison::Eq,
     }
 }
 

@@ -20,7 +20,7 @@ pub enum Want {
     /// One to four numbers.
     Version,
     Text,
-    Relation,
+    Comparison,
     /// `(`, a number and `)`, or none of them.
     Salt,
     /// The name `mod` and a number, or neither.
@@ -64,7 +64,7 @@ pub fn takes<'a>(want: Want, token: Token<&'a str>) -> bool
         (Want::Number, Token::Number(_)) => true,
         (Want::Version, Token::Number(_) | Token::Version(_)) => true,
         (Want::Text, Token::Text(_)) => true,
-        (Want::Relation, Token::Relation(_)) => true,
+        (Want::Comparison, Token::Comparison(_)) => true,
         (Want::Salt, Token::Open) => true,
         (Want::Modulus, Token::Name(name)) => is_modulus_word(name),
         (Want::Semicolon, Token::Semicolon) => true,

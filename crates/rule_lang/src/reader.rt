@@ -7,7 +7,7 @@ ghost use Rattle.rule_lang.specs.Parts as parts;
 ghost use Rattle.rule_lang.specs.Parts.{out_of_range as out_of};
 ghost use Rattle.rule_lang.specs.Reader.Reading as reading;
 ghost use Rattle.rule_lang.specs.Tests as tests;
-ghost use Rattle.rule_lang.specs.Reader.Advances.{Advances};
+ghost use Rattle.rule_lang.specs.Reader.ReadsOne.{ReadsOne};
 ghost use Rattle.rule_lang.specs.Reader.Results.{IsReadFault, ReadsTo, Makes};
 ghost use Rattle.rule_lang.specs.Reader.Sound.{IsSound, IsSoundAfter};
 ghost use Rattle.rule_lang.specs.Trees.{IsCondition};
@@ -201,7 +201,7 @@ fn advance<'a>(
 ) -> Result<usize, RuleFault>
     requires within { place ≤ length tokens.now }
     requires sound { IsSound (draft_seen draft.old) }
-    ensures next { Advances result shape.now (draft_seen draft.old) (draft_seen draft.new)
+    ensures next { ReadsOne result shape.now (draft_seen draft.old) (draft_seen draft.new)
         (placed_all tokens.now) place }
     ensures further { IfOk result (λ p. (place < p) × (p ≤ length tokens.now)) }
 {

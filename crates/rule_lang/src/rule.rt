@@ -2,7 +2,7 @@
 
 ghost use Rattle.std.specs.Prelude.{◌≡◌};
 
-use crate::condition::Condition;
+use crate::condition::RuleCondition;
 use cells::ArrayName;
 use std::marker::Model;
 
@@ -10,9 +10,15 @@ use std::marker::Model;
 #[derive(Debug, Drop)]
 pub enum Statement {
     /// Adds 1 to a cell of an array without a quota.
-    Count { array: ArrayName, index: u16 },
+    Count {
+        array: ArrayName,
+        index: u16,
+    },
     /// Ends with the release, from 1, where the condition holds.
-    When { condition: Condition, release: u8 },
+    When {
+        condition: RuleCondition,
+        release: u8,
+    },
 }
 
 /// A rule: its statements in their order, and then `otherwise none`.

@@ -23,7 +23,7 @@ pub enum TestKind {
 
 static VERSION: [Want; 3] = [
     Want::Keyword(Keyword::Version),
-    Want::Relation,
+    Want::Comparison,
     Want::Version,
 ];
 
@@ -31,15 +31,19 @@ static BUCKET: [Want; 5] = [
     Want::Keyword(Keyword::Bucket),
     Want::Salt,
     Want::Modulus,
-    Want::Relation,
+    Want::Comparison,
     Want::Number,
 ];
 
-static TODAY: [Want; 3] = [Want::Keyword(Keyword::Today), Want::Relation, Want::Number];
+static TODAY: [Want; 3] = [
+    Want::Keyword(Keyword::Today),
+    Want::Comparison,
+    Want::Number,
+];
 
 static INSTALLED: [Want; 3] = [
     Want::Keyword(Keyword::Installed),
-    Want::Relation,
+    Want::Comparison,
     Want::Number,
 ];
 

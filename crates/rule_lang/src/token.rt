@@ -8,7 +8,7 @@ ghost use Rattle.rule_lang.specs.Tokens as tokens;
 ghost use Rattle.rule_lang.specs.declared.token.Class.TheVariants.{Number as number};
 
 use crate::keyword::{Keyword, keyword_named};
-use crate::test::Relation;
+use crate::test::Comparison;
 
 /// One token, with the texts of names, numbers and literals of type `N`: here parts of the text, in
 /// definitions lists of bytes.
@@ -22,7 +22,7 @@ pub enum Token<N> {
     Version(N),
     /// What stands between quotation marks.
     Text(N),
-    Relation(Relation),
+    Comparison(Comparison),
     Semicolon,
     Comma,
     OpenBracket,
@@ -182,12 +182,12 @@ fn relation_at<'a>(c: u8, equals: bool) -> Option<Piece<&'a str>>
     ensures { option_map piece_named result ≡ tokens.relation_at c equals }
 {
     match (c, equals) {
-        (b'<', true) => Some(Piece::Token(Token::Relation(Relation::Le), 2)),
-        (b'<', false) => Some(Piece::Token(Token::Relation(Relation::Lt), 1)),
-        (b'>', true) => Some(Piece::Token(Token::Relation(Relation::Ge), 2)),
-        (b'>', false) => Some(Piece::Token(Token::Relation(Relation::Gt), 1)),
-        (b'=', true) => Some(Piece::Token(Token::Relation(Relation::Eq), 2)),
-        (b'!', true) => Some(Piece::Token(Token::Relation(Relation::Ne), 2)),
+        (b'<', true) => Some(Piece::Token(Token::Comparison(Comparison::Le), 2)),
+        (b'<', false) => Some(Piece::Token(Token::Comparison(Comparison::Lt), 1)),
+        (b'>', true) => Some(Piece::Token(Token::Comparison(Comparison::Ge), 2)),
+        (b'>', false) => Some(Piece::Token(Token::Comparison(Comparison::Gt), 1)),
+        (b'=', true) => Some(Piece::Token(Token::Comparison(Comparison::Eq), 2)),
+        (b'!', true) => Some(Piece::Token(Token::Comparison(Comparison::Ne), 2)),
         _ => None,
     }
 }

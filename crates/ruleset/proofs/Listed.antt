@@ -3,11 +3,11 @@ use Rattle.std.proofs.Common.{◌≡◌, ◌<◌, ℕ, List, [], length, map, ge
 use Rattle.std.proofs.Common.{inl, inr, sym, ap, ◌∙◌, IfSome, Contains, arith}
 use Rattle.std.proofs.lemmas.List.{get_or-map, get_or_default, length-map}
 use Rattle.std.proofs.lemmas.Bool.{cases_order}
-use Rattle.ruleset.specs.Rules.{Rules, AppRule, Knows, KnowsOne, HasTwice, appids_of}
+use Rattle.ruleset.specs.Rules.{Rules, AppRule, ListsApp, HasOneApp, HasTwice, appids_of}
 
 pub known_found : (rules : Rules) (appid : List ℕ) (o : Option (Bor AppRule))
     → IfSome o (λ a. Contains rules.apps a.now) → IfSome o (λ a. a.now.appid ≡ appid)
-    → IfSome o (λ a. Knows rules appid a.now)
+    → IfSome o (λ a. ListsApp rules appid a.now)
 known_found rules appid None listed is = tt
 known_found rules appid (Some a) listed is = record { listed = listed; appid_is = is }
 
@@ -44,6 +44,6 @@ one_app apps once a b same left right = elim (cases_order left.0 right.0) [
   ]
 ]
 
-pub one_known : (rules : Rules) → ¬ HasTwice (appids_of rules.apps) → KnowsOne rules
+pub one_known : (rules : Rules) → ¬ HasTwice (appids_of rules.apps) → HasOneApp rules
 one_known rules once appid a b left right = one_app rules.apps once a b
     (left.appid_is ∙ sym right.appid_is) left.listed right.listed

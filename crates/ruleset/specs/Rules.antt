@@ -20,14 +20,14 @@ pub record Rules : Type 0 where
   pub apps : List AppRule
 
 -- the ruleset has the app of this appid
-pub record Knows (rules : Rules) (appid : List ℕ) (app : AppRule) : Type 0 where
+pub record ListsApp (rules : Rules) (appid : List ℕ) (app : AppRule) : Type 0 where
   pub listed : Contains rules.apps app
   pub appid_is : app.appid ≡ appid
 
 -- it has this program for the appid: that of its app
 pub record Offers (rules : Rules) (appid : List ℕ) (program : ShapedProgram) : Type 0 where
   pub app : AppRule
-  pub known : Knows rules appid app
+  pub known : ListsApp rules appid app
   pub program_is : app.program ≡ program
 
 -- it has no program for the appid
@@ -35,9 +35,9 @@ abbrev pub OffersNone : Rules → List ℕ → Type 0
 OffersNone rules appid = (program : ShapedProgram) → ¬ Offers rules appid program
 
 -- of an appid it has at most one app
-abbrev pub KnowsOne : Rules → Type 0
-KnowsOne rules = (appid : List ℕ) (a b : AppRule)
-    → Knows rules appid a → Knows rules appid b → a ≡ b
+abbrev pub HasOneApp : Rules → Type 0
+HasOneApp rules = (appid : List ℕ) (a b : AppRule)
+    → ListsApp rules appid a → ListsApp rules appid b → a ≡ b
 
 -- the appid of the app for which attributes are: the text of number 0
 abbrev pub appid_of : Attributes → List ℕ
@@ -90,5 +90,5 @@ pub record AppsAreKept (apps : List AppRule) : Type 0 where
 -- what a ruleset keeps for its runs: it is sound, with at most one app of an appid, each of which
 -- keeps what an app keeps
 pub record IsRuleset (rules : Rules) : Type 0 where
-  pub one : KnowsOne rules
+  pub one : HasOneApp rules
   pub each : All IsApp rules.apps

@@ -38,7 +38,7 @@ impl Model for Ruleset {
 
 impl Ruleset {
     ghost use Rattle.std.specs.Prelude.{string_bytes};
-    ghost use Rattle.ruleset.specs.Rules.{HasTwice, IsRuleset, Knows, OffersNone};
+    ghost use Rattle.ruleset.specs.Rules.{HasTwice, IsRuleset, ListsApp, OffersNone};
     ghost use Rattle.ruleset.specs.Rules.{app_of, appids_of};
 
     /// The ruleset of these apps, for a server of this name; it takes no memory. M3 exactly where
@@ -91,7 +91,7 @@ impl Ruleset {
     /// The app of an appid.
     pub fn find(&self, appid: &str) -> Option<&App>
         ensures found { option_copied result ≡ app_of self.now appid.now }
-        ensures known { IfSome result (λ a. Knows self.now appid.now a.now) }
+        ensures known { IfSome result (λ a. ListsApp self.now appid.now a.now) }
         ensures none { IfNone result (OffersNone self.now appid.now) }
     {
         find_app(self.apps(), appid)

@@ -5,7 +5,7 @@ use Rattle.std.proofs.lemmas.List.Elements.{All-append, All-cons, All-contains, 
 use Rattle.std.proofs.lemmas.Option.{get_or_from_slice_get, slice_get_within}
 use Rattle.std.specs.Prelude.{slice_get}
 use Rattle.bpf_machine.specs.bpf_semantics.Program.{ShapedProgram}
-use Rattle.ruleset.specs.Rules.{Rules, AppRule, Knows, Offers, IsApp, IsRuleset, AlwaysEndsWell}
+use Rattle.ruleset.specs.Rules.{Rules, AppRule, ListsApp, Offers, IsApp, IsRuleset, AlwaysEndsWell}
 use Rattle.world.specs.World.{ruleset_at, HasApp, HasProgram}
 
 pub some_rules : (a b : Rules) → ◌≡◌ {A = Option Rules} (Some a) (Some b) → a ≡ b
@@ -95,5 +95,5 @@ one_program rs number appid p q all left right =
     (sym right.has.ruleset_is ∙ left.has.ruleset_is) in
     let sound = sound_at rs number left.has.rules all left.has.ruleset_is in
     let app_is : left.app ≡ right.app = sound.one appid left.app right.app left.has.known
-    (subst (λ (r : Rules). Knows r appid right.app) same right.has.known) in
+    (subst (λ (r : Rules). ListsApp r appid right.app) same right.has.known) in
     sym left.program_is ∙ ap (λ (a : AppRule). a.program) app_is ∙ right.program_is

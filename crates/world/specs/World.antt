@@ -6,7 +6,7 @@ use Rattle.attrs.specs.Attributes.{Attributes}
 use Rattle.bpf_machine.specs.bpf_semantics.Memory.{cell_count}
 use Rattle.bpf_machine.specs.bpf_semantics.State.{State}
 use Rattle.bpf_machine.specs.bpf_semantics.Program.{ShapedProgram}
-use Rattle.ruleset.specs.Rules.{Rules, AppRule, Knows}
+use Rattle.ruleset.specs.Rules.{Rules, AppRule, ListsApp}
 
 -- a run stands under the ruleset that was the newest when it started, and has come to a state; one
 -- that ended has its choice and the number of its instructions
@@ -52,7 +52,7 @@ pub record HasApp (rulesets : List Rules) (number : ℕ) (appid : List ℕ)
     (app : AppRule) : Type 0 where
   pub rules : Rules
   pub ruleset_is : ruleset_at rulesets number ≡ Some rules
-  pub known : Knows rules appid app
+  pub known : ListsApp rules appid app
 
 -- the program that it has for the appid: that of its app
 pub record HasProgram (rulesets : List Rules) (number : ℕ) (appid : List ℕ)

@@ -10,7 +10,7 @@ use bpf_text::{AsmFault, AsmFaultKind, ListFault, assemble, listing};
 use cells::{ArrayNo, CellWidth, CellsFault, Directory, Shape};
 use std::alloc::Global;
 use std::test::Fail;
-use world::bpf_verify::{Refusal, Rule, verify};
+use world::bpf_verify::{Refusal, VerifierRule, verify};
 use world::flow_check::{Flow, FlowFault, FlowRule};
 
 /// The answer of a call, or of a second one where the first is this refusal of memory. With a
@@ -138,7 +138,7 @@ fn verdicts(rt: HostRuntime) -> Result<(), Fail> {
     let one = is_accepted_again(&rt, alloc, BELOW_100, &Shape::plain(alloc, 1))?;
     assert!(rt; one == Ok(true));
     let none = is_accepted_again(&rt, alloc, BELOW_100, &Shape::plain(alloc, 0))?;
-    let rule = Rule::Result;
+    let rule = VerifierRule::Result;
     assert!(rt; none == Err(Refusal::Rule { slot: 4, rule }));
     Ok(())
 }

@@ -3,7 +3,7 @@
 use super::{SAMPLE, must_tell, read};
 use cells::CellWidth;
 use declarations::ArrayDeclaration;
-use manifest::{AppEntry, Source};
+use manifest::{AppEntry, ProgramSource};
 use releases::{Package, Release};
 use std::alloc::{AllocError, Global};
 use std::test::Fail;
@@ -57,7 +57,7 @@ fn is_app(apps: &[AppEntry]) -> bool {
     match apps {
         [app, ..] => {
             app.appid() == "x"
-                && matches!(app.source(), Source::Program(file) if file.as_str() == "x.bpf")
+                && matches!(app.source(), ProgramSource::Program(file) if file.as_str() == "x.bpf")
                 && is_release(app.releases())
         }
         [] => false,

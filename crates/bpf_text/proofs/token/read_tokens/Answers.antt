@@ -1,5 +1,5 @@
 use Rattle.std.proofs.Common.{rules, ◌≡◌, ◌∷◌, Some, None, Option}
-use Rattle.bpf_text.specs.declared.token.Token.{Token}
+use Rattle.bpf_text.specs.declared.token.AsmToken.{AsmToken}
 use Rattle.bpf_text.specs.Names.{token_named}
 use Rattle.bpf_text.specs.Tokens.{Name, pieces, token_of}
 use Rattle.bpf_text.proofs.Tokenizing.{piece_at, token_more, token_missing}
@@ -14,7 +14,7 @@ returns-in_default-token_of c =
     let first : pieces rest ≡ front ∷ pieces back = piece_at rest c.in-Some.after.now front back
     c.in-Some.first.now c.piece_length.result whole (search rules)
     (search rules) c.piece_length.ensures.is c.split_at.ensures.front c.split_at.ensures.back in
-    let missing : ◌≡◌ {A = Option (Token Name)} None (token_of front) = search rules in
+    let missing : ◌≡◌ {A = Option (AsmToken Name)} None (token_of front) = search rules in
     token_missing c.args.line.now rest front back c.loop-first.tokens.items c.loop-first.invariant
     first missing
 
@@ -28,7 +28,7 @@ loop-first-preserved c =
     let first : pieces rest ≡ front ∷ pieces back = piece_at rest c.in-Some.after.now front back
     c.in-Some.first.now c.piece_length.result whole (search rules)
     (search rules) c.piece_length.ensures.is c.split_at.ensures.front c.split_at.ensures.back in
-    let found : ◌≡◌ {A = Option (Token Name)} (Some (token_named token)) (token_of front) =
+    let found : ◌≡◌ {A = Option (AsmToken Name)} (Some (token_named token)) (token_of front) =
     search rules in
     token_more c.args.line.now rest front back c.loop-first.tokens.items c.push.new.self.items token
     c.loop-first.invariant first found (search rules)

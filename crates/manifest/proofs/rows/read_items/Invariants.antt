@@ -7,8 +7,9 @@ use Rattle.manifest.proofs.rows.read_items.Given as goal
 -- the rows so far and those of the rest are all of them
 abbrev pub invariant-loop-rest : goal.invariant-loop-rest
 invariant-loop-rest g l = record {
-  rows : behind l.rows.items (items_from g.R.Row.row_of (length l.rows.items + 1) (map view l.rest))
-      ≡ items_from g.R.Row.row_of 1 (map view l.items);
+  rows : behind l.rows.items (items_from g.R.TableRow.row_of (length l.rows.items + 1)
+      (map view l.rest))
+      ≡ items_from g.R.TableRow.row_of 1 (map view l.items);
   count : length l.rows.items + length l.rest ≡ length l.items;
 }
 

@@ -1,6 +1,6 @@
 use Rattle.std.proofs.Common.{ap, ◌∙◌, sym, length, ◌+◌}
 use Rattle.hot_swap.proofs.Published.{is_latest}
-use Rattle.hot_swap.proofs.next.Next.entered.Goals as goal
+use Rattle.hot_swap.proofs.next.NextInstall.entered.Goals as goal
 
 pub returns-clause-listed : goal.returns-clause-listed
 returns-clause-listed c =
