@@ -114,8 +114,8 @@ pub(crate) fn named_bucket(app: &AppFacts) -> Option<u16>
     cohort_bucket(lent(&app.cohort)?)
 }
 
-// The bucket that a cohort names: `b:` and exactly four ASCII digits.
-fn cohort_bucket(cohort: &str) -> Option<u16>
+/// The bucket that a cohort names, from 0 to 9999: `b:` and exactly four ASCII digits.
+pub fn cohort_bucket(cohort: &str) -> Option<u16>
     ensures value { result ≡ specs.cohort_bucket cohort.now }
     ensures range { IfSome result (λ bucket. bucket < 10000) }
 {

@@ -9,7 +9,8 @@ use Rattle.bpf_insn.specs.Program.{◌>>=◌}
 use Rattle.bpf_text.specs.declared.token.Sign.{Sign}
 use Rattle.bpf_text.specs.declared.token.Sign.TheVariants.{Absent, Minus, Plus}
 use Rattle.bpf_text.specs.declared.token.AsmToken.{AsmToken}
-use Rattle.bpf_text.specs.declared.token.AsmToken.TheVariants.{Word, Number, Comma, Colon, Open, Close}
+use Rattle.bpf_text.specs.declared.token.AsmToken.TheVariants.{Word, Number, Comma, Colon}
+use Rattle.bpf_text.specs.declared.token.AsmToken.TheVariants.{Open, Close}
 
 -- a name: a word's bytes
 abbrev pub Name : Type 0

@@ -16,7 +16,7 @@ use Rattle.rule_lang.specs.Words.{modulus_word}
 use Rattle.rule_lang.proofs.Machine.{Place, AtStatement, AtFact, AtOperator, AtEnd}
 use Rattle.rule_lang.proofs.Machine.{State}
 use Rattle.rule_lang.proofs.Machine.{runs, start}
-use Rattle.rule_lang.proofs.Machine.{Completes, CompletesIf, HasTrace, GoesOn, IsClosed, closed}
+use Rattle.rule_lang.proofs.Machine.{Completes, CompletesIf, Follows, GoesOn, IsClosed, closed}
 use Rattle.rule_lang.proofs.Machine.{IsOffered}
 use Rattle.rule_lang.proofs.StepsBack.{same_word, given_or, whole, here, runs_back}
 
@@ -68,7 +68,7 @@ a_rule : Some_of (λ ts. g.IsRule ts)
 a_rule =
     record { tokens = fill otherwise_phrase []; fits = g.otherwise (filled otherwise_phrase []) }
 
-closing : (n : ℕ) → Some_of (λ ts. HasTrace n ts)
+closing : (n : ℕ) → Some_of (λ ts. Follows n ts)
 closing zero = record {
   tokens = fill offer_phrase a_rule.tokens;
   fits = whole IsOffered (fill offer_phrase a_rule.tokens) (record {
@@ -82,7 +82,7 @@ closing (suc n) =
     let ts = on 0 token.Close ∷ inner.tokens in
     record {
       tokens = ts;
-      fits = whole (λ us. IsClosed (λ vs. HasTrace n vs) us) ts (closed refl inner.fits);
+      fits = whole (λ us. IsClosed (λ vs. Follows n vs) us) ts (closed refl inner.fits);
     }
 
 from_place : (l : Place) → Some_of (λ ts. GoesOn l ts)

@@ -113,19 +113,19 @@ pub data IsClosed (Then : List Placed → Type 0) : List Placed → Type 0 where
       → IsClosed Then (p ∷ ts)
 
 -- behind a fact inside so many parentheses
-abbrev pub HasTrace : ℕ → List Placed → Type 0
-HasTrace zero ts = IsRestOfCond IsOffered ts
-HasTrace (suc n) ts = IsRestOfCond (λ us. IsClosed (λ vs. HasTrace n vs) us) ts
+abbrev pub Follows : ℕ → List Placed → Type 0
+Follows zero ts = IsRestOfCond IsOffered ts
+Follows (suc n) ts = IsRestOfCond (λ us. IsClosed (λ vs. Follows n vs) us) ts
 
 pub record IsFactAhead (n : ℕ) (ts : List Placed) : Type 0 where
   pub rest : List Placed
   pub fact : g.IsFact ts rest
-  pub more : HasTrace n rest
+  pub more : Follows n rest
 
 abbrev pub GoesOn : Place → List Placed → Type 0
 GoesOn AtStatement ts = g.IsRule ts
 GoesOn (AtFact n) ts = IsFactAhead n ts
-GoesOn (AtOperator n) ts = HasTrace n ts
+GoesOn (AtOperator n) ts = Follows n ts
 GoesOn AtEnd ts = Unit {0}
 
 pub record Completes (x : State) (ts : List Placed) : Type 0 where

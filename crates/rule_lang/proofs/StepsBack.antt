@@ -22,7 +22,7 @@ use Rattle.rule_lang.specs.Words.{keyword_number, same_keyword}
 use Rattle.rule_lang.proofs.Keeping.{same_ok}
 use Rattle.rule_lang.proofs.Machine.{Place, AtStatement, AtFact, AtOperator, AtEnd}
 use Rattle.rule_lang.proofs.Machine.{State, state, tail, test_step, place_step, wants_step, step}
-use Rattle.rule_lang.proofs.Machine.{runs, IsRestOfCond, IsOffered, IsClosed, closed, HasTrace}
+use Rattle.rule_lang.proofs.Machine.{runs, IsRestOfCond, IsOffered, IsClosed, closed, Follows}
 use Rattle.rule_lang.proofs.Machine.{IsFactAhead, GoesOn, Completes, CompletesIf}
 
 -- ---- words
@@ -131,19 +131,19 @@ cond_of : (Then : List Placed → Type 0) (ts rest : List Placed) → g.IsFact t
 cond_of Then ts rest f c = c.conds ts (g.term (c.terms ts (g.fact f)))
 
 and_ahead : (n : ℕ) (p : Placed) (ts : List Placed) → p.token ≡ token.Keyword keyword.And
-    → IsFactAhead n ts → HasTrace n (p ∷ ts)
+    → IsFactAhead n ts → Follows n (p ∷ ts)
 and_ahead zero p ts is f = joined IsOffered p ts f.rest is f.fact f.more
 and_ahead (suc n) p ts is f =
-    joined (λ us. IsClosed (λ vs. HasTrace n vs) us) p ts f.rest is f.fact f.more
+    joined (λ us. IsClosed (λ vs. Follows n vs) us) p ts f.rest is f.fact f.more
 
 or_ahead : (n : ℕ) (p : Placed) (ts : List Placed) → p.token ≡ token.Keyword keyword.Or
-    → IsFactAhead n ts → HasTrace n (p ∷ ts)
+    → IsFactAhead n ts → Follows n (p ∷ ts)
 or_ahead zero p ts is f = parted IsOffered p ts f.rest is f.fact f.more
 or_ahead (suc n) p ts is f =
-    parted (λ us. IsClosed (λ vs. HasTrace n vs) us) p ts f.rest is f.fact f.more
+    parted (λ us. IsClosed (λ vs. Follows n vs) us) p ts f.rest is f.fact f.more
 
 enclose : (n : ℕ) (p : Placed) (ts end : List Placed) → p.token ≡ token.Open → g.IsCond ts end
-    → IsClosed (λ vs. HasTrace n vs) end → IsFactAhead n (p ∷ ts)
+    → IsClosed (λ vs. Follows n vs) end → IsFactAhead n (p ∷ ts)
 enclose n p ts end is c (closed {ts = us} closes more) = record {
   rest = us;
   fact = g.enclosed is c closes;
@@ -178,7 +178,7 @@ denied n p ts is f = record { rest = f.rest; fact = g.denied is f.fact; more = f
 in_parentheses : (n : ℕ) (p : Placed) (ts : List Placed) → p.token ≡ token.Open
     → IsFactAhead (suc n) ts → IsFactAhead n (p ∷ ts)
 in_parentheses n p ts is f =
-    let Then = λ (us : List Placed). IsClosed (λ (vs : List Placed). HasTrace n vs) us in
+    let Then = λ (us : List Placed). IsClosed (λ (vs : List Placed). Follows n vs) us in
     let c : IsRestOfCond Then f.rest = f.more in
     enclose n p ts c.end is (cond_of Then ts f.rest f.fact c) c.more
 
@@ -198,11 +198,11 @@ fact_back n token.Open p ts is h = in_parentheses n p ts is (here (AtFact (suc n
 fact_back n t p ts is h = kind_back n t (kind_of t) p ts refl is h
 
 operator_back : (n : ℕ) (t : Token) (p : Placed) (ts : List Placed) → p.token ≡ t
-    → CompletesIf (place_step (AtOperator n) t) ts → HasTrace n (p ∷ ts)
+    → CompletesIf (place_step (AtOperator n) t) ts → Follows n (p ∷ ts)
 operator_back n (token.Keyword keyword.And) p ts is h = and_ahead n p ts is (here (AtFact n) ts h)
 operator_back n (token.Keyword keyword.Or) p ts is h = or_ahead n p ts is (here (AtFact n) ts h)
 operator_back (suc n) token.Close p ts is h =
-    whole (λ us. IsClosed (λ vs. HasTrace n vs) us) (p ∷ ts) (closed is (here (AtOperator n) ts h))
+    whole (λ us. IsClosed (λ vs. Follows n vs) us) (p ∷ ts) (closed is (here (AtOperator n) ts h))
 operator_back zero (token.Keyword keyword.Offer) p ts is h = whole IsOffered (p ∷ ts) (record {
   rest = h.rest;
   offer = worded keyword.Offer (tail offer_phrase) p ts h.rest is h.phrase;
