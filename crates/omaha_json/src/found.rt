@@ -1,10 +1,11 @@
 //! What a ruleset has for the apps of a request, so that each is looked up once an answer.
 
 ghost use Rattle.std.specs.Prelude.{◌≡◌, ◌<◌, length, slice_index_or, IfOk};
+ghost use Rattle.attrs.specs.Bucket.{hashed_bucket};
 ghost use Rattle.omaha_json.specs.Found as specs;
 
 use crate::request::Request;
-use attrs::{AppFacts, RequestFacts, app_bucket};
+use attrs::{AppFacts, RequestFacts, hashed_bucket, named_or_hashed};
 use releases::Release;
 use ruleset::{App, Ruleset};
 use std::alloc::{AllocError, Global};
@@ -93,9 +94,10 @@ fn find_each<'a>(
         ≡ specs.found_apps rules.now facts.now apps.now choices.now) }
     ensures each { IfOk result (λ found. length found.items ≡ length apps.now) }
 {
+    let hashed = hashed_bucket(facts);
     let mut found = Vec::with_capacity(alloc, apps.len())?;
     for i in 0..apps.len() {
-        found.push(find_app(facts, &apps[i], rules, choice_at(choices, i)))?;
+        found.push(find_app(&apps[i], hashed, rules, choice_at(choices, i)))?;
     }
     Ok(found)
 }
@@ -108,17 +110,19 @@ fn choice_at(choices: &[Option<u8>], place: usize) -> Option<u8>
     choices[place]
 }
 
-// What a ruleset has for an app.
+// What a ruleset has for an app of a request whose hashed bucket is known.
 fn find_app<'a>(
-    facts: &RequestFacts,
     app: &AppFacts,
+    hashed: u16,
     rules: &'a Ruleset,
     choice: Option<u8>,
 ) -> Option<FoundApp<'a>>
-    ensures { result ≡ specs.found_app rules.now facts.now app.now choice }
+    requires { hashed < 10000 }
+    ensures { (facts : _) → hashed ≡ hashed_bucket facts
+        → result ≡ specs.found_app rules.now facts app.now choice }
 {
     match rules.find(app.appid.as_str()) {
-        Some(known) => Some(FoundApp::new(known, app_bucket(app, facts), choice)),
+        Some(known) => Some(FoundApp::new(known, named_or_hashed(app, hashed), choice)),
         None => None,
     }
 }

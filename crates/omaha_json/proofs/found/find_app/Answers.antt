@@ -1,8 +1,13 @@
+use Rattle.std.proofs.Common.{ap, ◌∙◌}
+use Rattle.std.specs.Prelude.{unwrap_or}
+use Rattle.attrs.specs.Bucket.{named_bucket}
 use Rattle.omaha_json.proofs.Apps.{found_is}
 use Rattle.omaha_json.proofs.found.find_app.Goals as goal
 
 pub returns-in-Some : goal.returns-in-Some
-returns-in-Some c =
-    found_is c.args.rules.now c.args.facts.now c.args.app.now c.args.choice
-    c.in-Some.known.now c.as_str.result.now c.app_bucket.result c.new.result
-    c.as_str.ensures c.in-Some.ensures.found c.app_bucket.ensures.value c.new.ensures
+returns-in-Some c facts is =
+    let hashed =
+    c.named_or_hashed.ensures.value ∙ ap (unwrap_or (named_bucket c.args.app.now)) is in
+    found_is c.args.rules.now facts c.args.app.now c.args.choice
+    c.in-Some.known.now c.as_str.result.now c.named_or_hashed.result c.new.result
+    c.as_str.ensures c.in-Some.ensures.found hashed c.new.ensures
