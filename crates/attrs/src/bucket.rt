@@ -77,18 +77,7 @@ pub fn cohort_keeps_bucket()
     ensures { (n : ℕ) → n < 10000 → specs.cohort_bucket (specs.told_cohort n) ≡ Some n }
 {}
 
-/// The bucket of an app, from 0 to 9999.
-pub fn app_bucket(app: &AppFacts, request: &RequestFacts) -> u16
-    ensures value { result ≡ specs.app_bucket app.now request.now }
-    ensures range { result < 10000 }
-{
-    match named_bucket(app) {
-        Some(bucket) => bucket,
-        None => hashed_bucket(request),
-    }
-}
-
-/// The same, of an app of a request whose hashed bucket is known.
+/// The bucket of an app, from 0 to 9999, of a request whose hashed bucket is known.
 pub fn named_or_hashed(app: &AppFacts, hashed: u16) -> u16
     requires { hashed < 10000 }
     ensures value { result ≡ unwrap_or (specs.named_bucket app.now) hashed }

@@ -15,8 +15,7 @@ mod version;
 
 pub use attributes::{AttrFault, Attrs};
 pub use bucket::{
-    Bucket, app_bucket, cohort_bucket, cohort_keeps_bucket, four_digits, hashed_bucket,
-    named_or_hashed,
+    Bucket, cohort_bucket, cohort_keeps_bucket, four_digits, hashed_bucket, named_or_hashed,
 };
 pub use context::Context;
 pub use facts::{AppFacts, RequestFacts};

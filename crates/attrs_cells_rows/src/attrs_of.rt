@@ -2,7 +2,7 @@
 //! protocol's values, and that memory suffices.
 
 use crate::facts::{app_of, attributes_at, request_of};
-use attrs::{Context, Elapsed, app_bucket, fnv1a};
+use attrs::{Context, Elapsed, fnv1a, hashed_bucket, named_or_hashed};
 use std::alloc::Global;
 use std::test::Fail;
 
@@ -116,7 +116,8 @@ const REQUESTS: [(&str, u16); 6] = [
 
 fn bucket_of(alloc: Global, facts: &str) -> Result<u16, Fail> {
     let app = app_of(alloc, "none=")?;
-    Ok(app_bucket(&app, &request_of(alloc, facts)?))
+    let hashed = hashed_bucket(&request_of(alloc, facts)?);
+    Ok(named_or_hashed(&app, hashed))
 }
 
 #[test]
