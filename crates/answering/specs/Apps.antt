@@ -5,7 +5,7 @@ use Rattle.std.specs.Prelude.{Option, Some, None}
 use Rattle.attrs.specs.Facts.{attributes_of}
 use Rattle.attrs.specs.declared.facts.AppFacts.{AppFacts}
 use Rattle.attrs.specs.declared.facts.RequestFacts.{RequestFacts}
-use Rattle.bpf_machine.specs.bpf_verify.Covers.{AreLawful, Fits}
+use Rattle.bpf_machine.specs.bpf_verify.Covers.{AreLawful, HasPossibleReply}
 use Rattle.bpf_machine.specs.bpf_semantics.Run.{Ends}
 use Rattle.bpf_machine.specs.bpf_semantics.State.{opening}
 use Rattle.cells.specs.declared.event.CellEvent.{CellEvent}
@@ -26,7 +26,7 @@ module _ (rules : Rules) (facts : RequestFacts) (moment : ℤ) where
         → app.updatecheck ≡ true → app_of rules app.appid ≡ Some known
         → ListsApp rules (appid_of (attributes_of app facts moment)) known
         → Ends known.program (opening (attributes_of app facts moment)) events choice count
-        → All Fits events → AreLawful known.program.shape events
+        → All HasPossibleReply events → AreLawful known.program.shape events
         → RunsApp app (Some choice) events
 
   -- app after app, with their choices, and their events one after the other

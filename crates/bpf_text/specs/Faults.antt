@@ -12,7 +12,7 @@ use Rattle.bpf_text.specs.declared.fault.ListFault.TheVariants as list_fault
 -- ---- a text that has no bytes
 
 abbrev pub kind_text : AsmFaultKind → List ℕ
-kind_text kind.AsmToken = codes "A1 AsmToken"
+kind_text kind.Token = codes "A1 Token"
 kind_text kind.Mnemonic = codes "A2 Mnemonic"
 kind_text kind.Operand = codes "A3 Operand"
 kind_text kind.Label = codes "A4 Label"

@@ -41,7 +41,7 @@ line_of_tokens v tokens =
     record { label = (split_label tokens).0; body = body_of v (split_label tokens).1 }
 
 abbrev pub line_if_tokens : Vocabulary → Option Tokens → Line
-line_if_tokens v None = record { label = None; body = Err fault.AsmToken }
+line_if_tokens v None = record { label = None; body = Err fault.Token }
 line_if_tokens v (Some tokens) = line_of_tokens v tokens
 
 unfoldable pub read_line : Vocabulary → List ℕ → Line

@@ -181,7 +181,7 @@ fn assembled(alloc: Global, text: &[u8]) -> Result<Vec<u8>, AsmFault>
 /// stand between tokens, and `;` begins a comment. A jump goes to a label or a distance with its
 /// sign; an imm is -2147483648 to 4294967295, the number of `lddw` -2^63 to 2^64 - 1.
 ///
-/// Refused with the first line that has a fault of its own (of several the lowest: `AsmToken`,
+/// Refused with the first line that has a fault of its own (of several the lowest: `Token`,
 /// `Mnemonic`, `Operand`, `Label` for one given twice, `Range`, `TooLong` past slot 4096), else
 /// with the first jump to an unknown label; or with `Memory` where a growth was refused.
 pub fn assemble(alloc: Global, text: &str) -> Result<Vec<u8>, AsmFault>

@@ -43,7 +43,7 @@ impl From<AllocError> for ListFault {
 #[derive(Clone, Copy, Debug, PartialEq, Eq)]
 pub enum AsmFaultKind {
     /// A1: a character or a number that is no token.
-    AsmToken,
+    Token,
     /// A2: an unknown instruction word.
     Mnemonic,
     /// A3: a wrong number or kind of operands.
@@ -70,7 +70,7 @@ fn asm_fault_name(kind: AsmFaultKind) -> &'static str
     ensures { result.now ≡ kind_text kind }
 {
     match kind {
-        AsmFaultKind::AsmToken => "A1 AsmToken",
+        AsmFaultKind::Token => "A1 Token",
         AsmFaultKind::Mnemonic => "A2 Mnemonic",
         AsmFaultKind::Operand => "A3 Operand",
         AsmFaultKind::Label => "A4 Label",

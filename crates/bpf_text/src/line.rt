@@ -103,7 +103,7 @@ pub fn read_line<'a>(
     } else {
         Ok(Line {
             label: None,
-            body: Err(AsmFaultKind::AsmToken),
+            body: Err(AsmFaultKind::Token),
         })
     }
 }

@@ -6,11 +6,11 @@ use Rattle.command_line.specs.cells.declared.event.CellEvent.{CellEvent}
 use Rattle.command_line.specs.cells.Events.{AreCells, IsEvent}
 use Rattle.command_line.specs.cells.Grown.{GrewBy}
 use Rattle.command_line.specs.cells.Widths.{EventsFit}
-use Rattle.bpf_machine.specs.bpf_verify.Covers.{Fits}
+use Rattle.bpf_machine.specs.bpf_verify.Covers.{HasPossibleReply}
 
 pub all_fit : EventsFit → (old : List ℕ) (events : List CellEvent) (new : List ℕ) → AreCells old
-    → GrewBy IsEvent old events new → All Fits events
-all_fit fit old [] new cells grew = All-nil Fits
+    → GrewBy IsEvent old events new → All HasPossibleReply events
+all_fit fit old [] new cells grew = All-nil HasPossibleReply
 all_fit fit old (e ∷ events) new cells (m, is, rest) =
     let one = fit old m e cells is in
-    All-cons Fits e events one.reply (all_fit fit m events new one.cells rest)
+    All-cons HasPossibleReply e events one.reply (all_fit fit m events new one.cells rest)
