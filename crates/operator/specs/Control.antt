@@ -4,8 +4,8 @@ use Rattle.cells.specs.declared.array.CellArray.{CellArray}
 use Rattle.hot_swap.specs.Latest.{Publishing, Installs}
 use Rattle.hot_swap.specs.declared.fault.SwapFault.{SwapFault}
 use Rattle.hot_swap.specs.declared.fault.SwapFault.TheVariants as swap
-use Rattle.operator.specs.declared.reply.Refusal.{Refusal}
-use Rattle.operator.specs.declared.reply.Refusal.TheVariants as refusal
+use Rattle.operator.specs.declared.reply.OperatorRefusal.{OperatorRefusal}
+use Rattle.operator.specs.declared.reply.OperatorRefusal.TheVariants as refusal
 use Rattle.hot_swap.specs.rulesets.Rules.{Rules}
 
 pub record Controlled : Type 0 where
@@ -32,7 +32,7 @@ module _ {F : Type 0} (loads : Loading F) where
     pub installed : Installs old.publishing rules generation new.publishing
 
   -- why nothing is
-  abbrev pub IsRefusedLoad : List ℕ → Controlled → Refusal F → Type 0
+  abbrev pub IsRefusedLoad : List ℕ → Controlled → OperatorRefusal F → Type 0
   IsRefusedLoad path old (refusal.Load fault) = loads path old.arrays (Err fault)
   IsRefusedLoad path old (refusal.Install fault) = IsUninstallable old.publishing fault
   IsRefusedLoad path old refusal.Memory = Unit {0}

@@ -10,24 +10,25 @@ use Rattle.operator.specs.Control.{Controlled, Loading, IsInstalled, IsRefusedLo
 use Rattle.operator.specs.Counters.{IsLoad, ReadsArrays}
 use Rattle.operator.specs.Line.{IsFirstRequest}
 use Rattle.operator.specs.Texts.{ruleset_text}
-use Rattle.operator.specs.declared.reply.Refusal.{Refusal}
-use Rattle.operator.specs.declared.reply.Refusal.TheVariants as refusal
-use Rattle.operator.specs.declared.reply.Reply.{Reply}
-use Rattle.operator.specs.declared.reply.Reply.TheVariants as reply
+use Rattle.operator.specs.declared.reply.OperatorRefusal.{OperatorRefusal}
+use Rattle.operator.specs.declared.reply.OperatorRefusal.TheVariants as refusal
+use Rattle.operator.specs.declared.reply.OperatorReply.{OperatorReply}
+use Rattle.operator.specs.declared.reply.OperatorReply.TheVariants as reply
 use Rattle.operator_request.specs.declared.request.OperatorRequest.{OperatorRequest}
 use Rattle.operator_request.specs.declared.request.OperatorRequest.TheVariants as sent
 
 module _ {F : Type 0} (loads : Loading F) where
   -- what was asked, what stood before, the events on cells, the reply, and what stands then
   pub data Performs
-      : Option OperatorRequest → Controlled → List CellEvent → Reply F → Controlled → Type 0 where
+      : Option OperatorRequest → Controlled → List CellEvent → OperatorReply F → Controlled
+      → Type 0 where
     -- the line asks nothing
     wordless : {old : Controlled} → Performs None old [] (reply.Refused refusal.Word) old
     -- a load is installed whole, or changes nothing
     loaded : {old new : Controlled} {generation : ℕ} (path : Bor (List ℕ))
         → IsInstalled loads path.now old generation new
         → Performs (Some (sent.Load path)) old [] (reply.Loaded generation) new
-    not_loaded : {old : Controlled} {refused : Refusal F} (path : Bor (List ℕ))
+    not_loaded : {old : Controlled} {refused : OperatorRefusal F} (path : Bor (List ℕ))
         → IsRefusedLoad loads path.now old refused
         → Performs (Some (sent.Load path)) old [] (reply.Refused refused) old
     shown : {old : Controlled} (lines : String Global)
@@ -45,7 +46,7 @@ module _ {F : Type 0} (loads : Loading F) where
 
   -- what a connection is answered, which sends these bytes, if they are told
   pub record AnswersLine (told : Option (List ℕ)) (old : Controlled)
-      (events : List CellEvent) (replied : Reply F) (new : Controlled) : Type 0 where
+      (events : List CellEvent) (replied : OperatorReply F) (new : Controlled) : Type 0 where
     pub asked : Option OperatorRequest
     pub is_asked : IsFirstRequest told asked
     pub performs : Performs asked old events replied new

@@ -11,10 +11,10 @@ use Rattle.hot_swap.specs.Latest.{Latest}
 use Rattle.hot_swap.specs.Texts.{swap_text}
 use Rattle.operator.specs.declared.asking.AskFault.{AskFault}
 use Rattle.operator.specs.declared.asking.AskFault.TheVariants as ask
-use Rattle.operator.specs.declared.reply.Refusal.{Refusal}
-use Rattle.operator.specs.declared.reply.Refusal.TheVariants as refusal
-use Rattle.operator.specs.declared.reply.Reply.{Reply}
-use Rattle.operator.specs.declared.reply.Reply.TheVariants as reply
+use Rattle.operator.specs.declared.reply.OperatorRefusal.{OperatorRefusal}
+use Rattle.operator.specs.declared.reply.OperatorRefusal.TheVariants as refusal
+use Rattle.operator.specs.declared.reply.OperatorReply.{OperatorReply}
+use Rattle.operator.specs.declared.reply.OperatorReply.TheVariants as reply
 use Rattle.hot_swap.specs.rulesets.Texts.{line, app_line}
 
 -- ---- what is told of a ruleset and of the counters
@@ -40,13 +40,13 @@ ask_text ask.Connect = codes "B5 Connect"
 
 -- where the text of the loader's fault is known
 module _ {F : Type 0} (fault_text : F → Option (List ℕ)) where
-  abbrev pub refusal_text : Refusal F → Option (List ℕ)
+  abbrev pub refusal_text : OperatorRefusal F → Option (List ℕ)
   refusal_text refusal.Word = Some (ask_text ask.Word)
   refusal_text refusal.Memory = Some (resource_text resource.Memory)
   refusal_text (refusal.Load fault) = fault_text fault
   refusal_text (refusal.Install fault) = Some (swap_text fault)
 
-  abbrev pub reply_text : Reply F → Option (List ℕ)
+  abbrev pub reply_text : OperatorReply F → Option (List ℕ)
   reply_text (reply.Loaded generation) = Some (generation_line generation)
   reply_text (reply.Told lines) = Some (string_bytes lines)
   reply_text reply.Stopping = Some (line (codes "stopping"))

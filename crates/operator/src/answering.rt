@@ -11,7 +11,7 @@ use crate::control::Control;
 use crate::line::read_line;
 use crate::loader::Loader;
 use crate::performing::perform;
-use crate::reply::Reply;
+use crate::reply::OperatorReply;
 use cells::CellSteps;
 use devices::Counted;
 use operator_request::{LINE_LIMIT, OperatorRequest};
@@ -33,7 +33,7 @@ pub fn answer<H: Wait, R: Read, L: Loader, C: CellSteps>(
     control: &mut Control,
     cells: &C,
     pass: &mut C::Pass,
-) -> Option<Reply<L::Fault>>
+) -> Option<OperatorReply<L::Fault>>
     requires belongs { C.belongs cells.now pass.old }
     requires reads { reader.old.failures < 2 ^ 64 - 1 }
     ensures belongs { C.belongs cells.now pass.new }
@@ -58,7 +58,7 @@ pub fn answer<H: Wait, R: Read, L: Loader, C: CellSteps>(
 }
 
 /// Writes a reply; it takes no memory.
-pub fn write_reply<W: Write, F: Display>(writer: &mut W, reply: &Reply<F>) -> io::Result<()>
+pub fn write_reply<W: Write, F: Display>(writer: &mut W, reply: &OperatorReply<F>) -> io::Result<()>
     ensures { OnOk result (IfSome (reply_text F.output reply.now)
         (λ text. Appends (W.contents writer.old) (W.contents writer.new) text)) }
 {

@@ -5,7 +5,7 @@ ghost use Rattle.std.specs.Prelude.{◌≡◌, All, IfOk, IfErr, OnErr};
 ghost use Rattle.operator.specs.Control.{IsInstalled, IsRefusedLoad};
 
 use crate::loader::Loader;
-use crate::reply::Refusal;
+use crate::reply::OperatorRefusal;
 use cells::{CellArray, Directory};
 use hot_swap::ruleset::Ruleset;
 use hot_swap::{Generation, Notice, Publisher};
@@ -91,7 +91,7 @@ impl Control {
         alloc: Global,
         loader: &L,
         path: &str,
-    ) -> Result<Generation, Refusal<L::Fault>>
+    ) -> Result<Generation, OperatorRefusal<L::Fault>>
         ensures done { IfOk result
             (λ n. IsInstalled (L.loads loader.now) path.now self.old n self.new) }
         ensures fault { IfErr result (IsRefusedLoad (L.loads loader.now) path.now self.old) }
@@ -99,17 +99,17 @@ impl Control {
     {
         let (rules, directory) = match loader.load(alloc, path, &self.directory) {
             Ok(loaded) => loaded,
-            Err(fault) => return Err(Refusal::Load(fault)),
+            Err(fault) => return Err(OperatorRefusal::Load(fault)),
         };
         let Ok(rules) = Arc::new(alloc, rules) else {
-            return Err(Refusal::Memory);
+            return Err(OperatorRefusal::Memory);
         };
         match self.publisher.install(rt, rules) {
             Ok(generation) => {
                 self.directory = directory;
                 Ok(generation)
             }
-            Err(fault) => Err(Refusal::Install(fault)),
+            Err(fault) => Err(OperatorRefusal::Install(fault)),
         }
     }
 

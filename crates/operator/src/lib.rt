@@ -22,7 +22,7 @@ pub use answering::{answer, write_reply};
 pub use asking::{AskFault, ask};
 pub use control::Control;
 pub use loader::Loader;
-pub use reply::{Refusal, Reply};
+pub use reply::{OperatorRefusal, OperatorReply};
 
 // The words of the contracts here come with them.
 pub use bounded_files;

@@ -6,7 +6,7 @@ ghost use Rattle.cells.specs.Grown.{Grows};
 
 use crate::control::Control;
 use crate::loader::Loader;
-use crate::reply::{Refusal, Reply};
+use crate::reply::{OperatorRefusal, OperatorReply};
 use crate::telling::{tell_counters, tell_ruleset};
 use cells::CellSteps;
 use operator_request::OperatorRequest;
@@ -23,30 +23,30 @@ pub(crate) fn perform<R: Wait, L: Loader, C: CellSteps>(
     cells: &C,
     pass: &mut C::Pass,
     request: Option<OperatorRequest<'_>>,
-) -> Reply<L::Fault>
+) -> OperatorReply<L::Fault>
     requires { C.belongs cells.now pass.old }
     ensures belongs { C.belongs cells.now pass.new }
     ensures performs { Grows C.grew pass.old pass.new (λ events.
         Performs (L.loads loader.now) request.entry control.old events result control.new) }
 {
     let Some(request) = request else {
-        return Reply::Refused(Refusal::Word);
+        return OperatorReply::Refused(OperatorRefusal::Word);
     };
     match request {
         OperatorRequest::Load(path) => match control.load(rt, alloc, loader, path) {
-            Ok(generation) => Reply::Loaded(generation),
-            Err(refusal) => Reply::Refused(refusal),
+            Ok(generation) => OperatorReply::Loaded(generation),
+            Err(refusal) => OperatorReply::Refused(refusal),
         },
         OperatorRequest::Show => {
             match tell_ruleset(alloc, control.generation(), control.ruleset()) {
-                Ok(lines) => Reply::Told(lines),
-                Err(_) => Reply::Refused(Refusal::Memory),
+                Ok(lines) => OperatorReply::Told(lines),
+                Err(_) => OperatorReply::Refused(OperatorRefusal::Memory),
             }
         }
         OperatorRequest::Cells => match tell_counters(alloc, control.arrays(), cells, pass) {
-            Ok(lines) => Reply::Told(lines),
-            Err(_) => Reply::Refused(Refusal::Memory),
+            Ok(lines) => OperatorReply::Told(lines),
+            Err(_) => OperatorReply::Refused(OperatorRefusal::Memory),
         },
-        OperatorRequest::Stop => Reply::Stopping,
+        OperatorRequest::Stop => OperatorReply::Stopping,
     }
 }

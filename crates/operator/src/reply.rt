@@ -10,7 +10,7 @@ use std::fmt::{self, Display};
 
 /// Why a request is refused.
 #[derive(Debug, Drop)]
-pub enum Refusal<F> {
+pub enum OperatorRefusal<F> {
     /// B1: the line is no request.
     Word,
     /// B4: memory that the request itself wants is refused.
@@ -23,7 +23,7 @@ pub enum Refusal<F> {
 
 /// The reply to a request.
 #[derive(Debug, Drop)]
-pub enum Reply<F> {
+pub enum OperatorReply<F> {
     /// A ruleset was loaded and installed as this generation.
     Loaded(Generation),
     /// The lines of what was asked for.
@@ -31,31 +31,31 @@ pub enum Reply<F> {
     /// The server ends.
     Stopping,
     /// Nothing was done.
-    Refused(Refusal<F>),
+    Refused(OperatorRefusal<F>),
 }
 
-impl<F: Display> Display for Refusal<F> {
+impl<F: Display> Display for OperatorRefusal<F> {
     ghost output = { refusal_text F.output };
 
     fn fmt<W: fmt::Write>(&self, f: &mut fmt::Formatter<W>) -> fmt::Result {
         match self {
-            Refusal::Word => f.write_str(AskFault::Word.name()),
-            Refusal::Memory => f.write_str(ResourceFault::Memory.name()),
-            Refusal::Load(fault) => write!(f, "{fault}"),
-            Refusal::Install(fault) => f.write_str(fault.name()),
+            OperatorRefusal::Word => f.write_str(AskFault::Word.name()),
+            OperatorRefusal::Memory => f.write_str(ResourceFault::Memory.name()),
+            OperatorRefusal::Load(fault) => write!(f, "{fault}"),
+            OperatorRefusal::Install(fault) => f.write_str(fault.name()),
         }
     }
 }
 
-impl<F: Display> Display for Reply<F> {
+impl<F: Display> Display for OperatorReply<F> {
     ghost output = { reply_text F.output };
 
     fn fmt<W: fmt::Write>(&self, f: &mut fmt::Formatter<W>) -> fmt::Result {
         match self {
-            Reply::Loaded(generation) => writeln!(f, "generation {generation}"),
-            Reply::Told(lines) => f.write_str(lines),
-            Reply::Stopping => f.write_str("stopping\n"),
-            Reply::Refused(refusal) => writeln!(f, "refused {refusal}"),
+            OperatorReply::Loaded(generation) => writeln!(f, "generation {generation}"),
+            OperatorReply::Told(lines) => f.write_str(lines),
+            OperatorReply::Stopping => f.write_str("stopping\n"),
+            OperatorReply::Refused(refusal) => writeln!(f, "refused {refusal}"),
         }
     }
 }
