@@ -19,7 +19,7 @@ use Rattle.answering.specs.Answer.{RepliesToRequest, RepliesToBody, RepliesTo, R
 use Rattle.answering.specs.Answer.{IsHeard, IsHeardBody}
 use Rattle.answering.specs.Answer.{replied, unowned, broken_off, asked, refused, unread}
 use Rattle.answering.specs.Answer.{taken, rejected}
-use Rattle.answering.specs.Reply.{Reply, success, omaha_rejection}
+use Rattle.answering.specs.Reply.{HttpReply, success, omaha_rejection}
 
 module _ (body : List ℕ) (watcher : Beginning) (moment : ℤ) where
   -- the body's fault, or memory that was refused
@@ -64,7 +64,7 @@ module _ {P : Type 0} (grew : P → CellEvent → P → Type 0)
 -- ---- no run was made where the status is neither 200 nor 500
 
 module _ (request : Request) (watcher : Beginning) (moment : ℤ) where
-  pub idle_request : {events : List CellEvent} {reply : Reply}
+  pub idle_request : {events : List CellEvent} {reply : HttpReply}
       → RepliesToRequest request watcher moment events reply
       → code_of reply.status ≢ 200 → code_of reply.status ≢ 500 → events ≡ []
   idle_request (replied l r) h k = absurd (h refl)
@@ -72,7 +72,7 @@ module _ (request : Request) (watcher : Beginning) (moment : ℤ) where
   idle_request (broken_off l r) h k = absurd (k refl)
 
 module _ (body : List ℕ) (watcher : Beginning) (moment : ℤ) where
-  pub idle_body : {events : List CellEvent} {reply : Reply}
+  pub idle_body : {events : List CellEvent} {reply : HttpReply}
       → RepliesToBody body watcher moment events reply
       → code_of reply.status ≢ 200 → code_of reply.status ≢ 500 → events ≡ []
   idle_body (asked e j) h k = idle_request _ watcher moment j h k
@@ -80,7 +80,7 @@ module _ (body : List ℕ) (watcher : Beginning) (moment : ℤ) where
   idle_body unread h k = refl
 
 module _ (told : Option (List ℕ)) (watcher : Beginning) (moment : ℤ) where
-  pub idle_input : {events : List CellEvent} {reply : Reply}
+  pub idle_input : {events : List CellEvent} {reply : HttpReply}
       → RepliesTo told watcher moment events reply
       → code_of reply.status ≢ 200 → code_of reply.status ≢ 500 → events ≡ []
   idle_input (taken body b j) h k = idle_body body watcher moment j h k
@@ -89,7 +89,7 @@ module _ (told : Option (List ℕ)) (watcher : Beginning) (moment : ℤ) where
 module _ (told : Option (List ℕ)) where
   -- what was read of a body is what was heard of a reader
   pub is_heard : (body slice : List ℕ) → AnswersPost told (Ok body) → slice ≡ body
-      → (read : Result Request Reply) → IsHeardBody slice read → IsHeard told read
+      → (read : Result Request HttpReply) → IsHeardBody slice read → IsHeard told read
   is_heard body slice b e (Ok request) r =
       (body, b, ap request_in (sym e) ∙ r)
   is_heard body slice b e (Err reply) r = λ watcher moment.
@@ -99,7 +99,7 @@ module _ (told : Option (List ℕ)) where
 module _ {P : Type 0} (grew : P → CellEvent → P → Type 0)
     (told : Option (List ℕ)) (watcher : Beginning) (moment : ℤ) where
   -- a request was heard, and replied to
-  pub is_answered : (p q : P) (request : Request) (reply : Reply) → IsHeard told (Ok request)
+  pub is_answered : (p q : P) (request : Request) (reply : HttpReply) → IsHeard told (Ok request)
       → Grows grew p q (λ events. RepliesToRequest request watcher moment events reply)
       → RepliesByRuns grew told watcher moment p q reply
   is_answered p q request reply h a = record {
@@ -109,7 +109,7 @@ module _ {P : Type 0} (grew : P → CellEvent → P → Type 0)
   }
 
   -- no run was made where the status is neither 200 nor 500
-  pub idle : {p q : P} {reply : Reply} → RepliesByRuns grew told watcher moment p q reply
+  pub idle : {p q : P} {reply : HttpReply} → RepliesByRuns grew told watcher moment p q reply
       → code_of reply.status ≢ 200 → code_of reply.status ≢ 500 → q ≡ p
   idle {p} {q} a h k =
       let G : List CellEvent → Type 0 = λ z. GrewBy grew p z q in

@@ -16,14 +16,14 @@ use Rattle.omaha_json.specs.declared.fault.OmahaFault.TheVariants as omaha
 use Rattle.hot_swap.specs.rulesets.Rules.{Rules}
 use Rattle.cells.specs.Grown.{Grows}
 use Rattle.answering.specs.Apps.{RunsApps, RunsFew}
-use Rattle.answering.specs.Reply.{Reply, success, rejection}
+use Rattle.answering.specs.Reply.{HttpReply, success, rejection}
 use Rattle.answering.specs.Reply.{omaha_rejection, no_place, settled_reply}
 use Rattle.answering.specs.declared.answering.AnswerFault.{AnswerFault}
 use Rattle.answering.specs.declared.answering.AnswerFault.TheVariants as answer
 
 -- of a request, under the ruleset that the watcher saw last
 pub data RepliesToRequest (request : Request) (watcher : Beginning) (moment : ℤ)
-    : List CellEvent → Reply → Type 0 where
+    : List CellEvent → HttpReply → Type 0 where
   -- Omaha's reply: all apps are answered under one ruleset, each by the choice of its run
   replied : {generation : ℕ} {rules : Rules} {choices : List (Option ℕ)} {events : List CellEvent}
       → IsLatest watcher generation rules
@@ -40,8 +40,8 @@ pub data RepliesToRequest (request : Request) (watcher : Beginning) (moment : �
 
 -- of a body
 pub data RepliesToBody (body : List ℕ) (watcher : Beginning) (moment : ℤ)
-    : List CellEvent → Reply → Type 0 where
-  asked : {request : Request} {events : List CellEvent} {reply : Reply}
+    : List CellEvent → HttpReply → Type 0 where
+  asked : {request : Request} {events : List CellEvent} {reply : HttpReply}
       → request_in body ≡ Ok request → RepliesToRequest request watcher moment events reply
       → RepliesToBody body watcher moment events reply
   -- it is no request
@@ -52,8 +52,8 @@ pub data RepliesToBody (body : List ℕ) (watcher : Beginning) (moment : ℤ)
 
 -- of the bytes of a reader, where it tells them
 pub data RepliesTo (told : Option (List ℕ)) (watcher : Beginning) (moment : ℤ)
-    : List CellEvent → Reply → Type 0 where
-  taken : {events : List CellEvent} {reply : Reply} (body : List ℕ) → AnswersPost told (Ok body)
+    : List CellEvent → HttpReply → Type 0 where
+  taken : {events : List CellEvent} {reply : HttpReply} (body : List ℕ) → AnswersPost told (Ok body)
       → RepliesToBody body watcher moment events reply
       → RepliesTo told watcher moment events reply
   -- there is no body to read, and the client is told why
@@ -62,13 +62,13 @@ pub data RepliesTo (told : Option (List ℕ)) (watcher : Beginning) (moment : �
       → RepliesTo told watcher moment [] (rejection status (post_name fault))
 
 -- what a body is: a request, or it is refused, whatever ruleset and moment there are
-abbrev pub IsHeardBody : List ℕ → Result Request Reply → Type 0
+abbrev pub IsHeardBody : List ℕ → Result Request HttpReply → Type 0
 IsHeardBody body (Ok request) = request_in body ≡ Ok request
 IsHeardBody body (Err reply) =
     (watcher : Beginning) (moment : ℤ) → RepliesToBody body watcher moment [] reply
 
 -- and what the bytes of a reader are
-abbrev pub IsHeard : Option (List ℕ) → Result Request Reply → Type 0
+abbrev pub IsHeard : Option (List ℕ) → Result Request HttpReply → Type 0
 IsHeard told (Ok request) =
     (body : List ℕ) × AnswersPost told (Ok body) × (request_in body ≡ Ok request)
 IsHeard told (Err reply) =
@@ -82,13 +82,13 @@ WritesNothing (answer.Writing written) = ⊥
 
 -- the reply is that to the bytes of the reader, and the pass grew by the events of its runs
 module _ {P : Type 0} (grew : P → CellEvent → P → Type 0) where
-  abbrev pub RepliesByRuns : Option (List ℕ) → Beginning → ℤ → P → P → Reply → Type 0
+  abbrev pub RepliesByRuns : Option (List ℕ) → Beginning → ℤ → P → P → HttpReply → Type 0
   RepliesByRuns told watcher moment before after reply =
       Grows grew before after (λ events. RepliesTo told watcher moment events reply)
 
   -- what was found before anything is written: the reply, or that there is none
   abbrev pub Settles : {A : Type 0} → Option (List ℕ) → Beginning → ℤ → P → P
-      → Result (Result (Vec ℕ A) Reply) AnswerFault → Type 0
+      → Result (Result (Vec ℕ A) HttpReply) AnswerFault → Type 0
   Settles told watcher moment before after (Ok outcome) =
       RepliesByRuns told watcher moment before after (settled_reply outcome)
   Settles told watcher moment before after (Err e) = WritesNothing e × (after ≡ before)

@@ -10,32 +10,32 @@ use Rattle.omaha_json.specs.Faults.{omaha_name}
 use Rattle.omaha_json.specs.declared.fault.OmahaFault.{OmahaFault}
 use Rattle.omaha_json.specs.declared.fault.OmahaFault.TheVariants as omaha
 
-pub record Reply : Type 0 where
+pub record HttpReply : Type 0 where
   pub status : Status
   pub text : List ℕ
 
 -- as HTTP has it
-abbrev pub message_bytes : Reply → List ℕ
+abbrev pub message_bytes : HttpReply → List ℕ
 message_bytes reply = reply_bytes reply.status reply.text
 
 -- ---- the text of a reply to a request
 
-abbrev pub success : List ℕ → Reply
+abbrev pub success : List ℕ → HttpReply
 success text = record { status = status.Success; text = text }
 
 -- ---- refusals: the number and the name of a fault, and a line feed
 
-abbrev pub rejection : Status → List ℕ → Reply
+abbrev pub rejection : Status → List ℕ → HttpReply
 rejection status name = record { status = status; text = line name }
 
 abbrev pub omaha_status : OmahaFault → Status
 omaha_status omaha.Memory = status.InternalServerError
 omaha_status fault = status.BadRequest
 
-abbrev pub omaha_rejection : OmahaFault → Reply
+abbrev pub omaha_rejection : OmahaFault → HttpReply
 omaha_rejection fault = rejection (omaha_status fault) (omaha_name fault)
 
-abbrev pub no_place : Reply
+abbrev pub no_place : HttpReply
 no_place = rejection status.InternalServerError (swap_text swap.NoPlace)
 
 -- any status but that of Omaha's reply
@@ -47,10 +47,10 @@ abbrev pub line_by : Status → List ℕ → List ℕ
 line_by status.Success text = []
 line_by s text = text
 
-abbrev pub told_line : Reply → List ℕ
+abbrev pub told_line : HttpReply → List ℕ
 told_line reply = line_by reply.status reply.text
 
 -- what the code hands on, as a reply
-abbrev pub settled_reply : {A : Type 0} → Result (Vec ℕ A) Reply → Reply
+abbrev pub settled_reply : {A : Type 0} → Result (Vec ℕ A) HttpReply → HttpReply
 settled_reply (Ok text) = success text.items
 settled_reply (Err rejection) = rejection

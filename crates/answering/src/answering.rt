@@ -9,7 +9,7 @@ ghost use Rattle.http_front.specs.Post.{AnswersPost};
 ghost use Rattle.http_front.specs.Reply.{code_of};
 ghost use Rattle.http_front.specs.declared.fault.PostFault.TheVariants as fault;
 ghost use Rattle.answering.specs.Answer.{RepliesByRuns, WritesNothing, Settles};
-ghost use Rattle.answering.specs.Reply.{Reply, message_bytes, told_line, settled_reply};
+ghost use Rattle.answering.specs.Reply.{HttpReply, message_bytes, told_line, settled_reply};
 
 use crate::reading::hear;
 use crate::rejection::Rejection;
@@ -65,7 +65,7 @@ pub fn answer<R: Read, W: Write, C: CellSteps>(
     ensures watched { GoesOnwards watcher.old watcher.new }
 
     // What was written is the reply to what was read, under the ruleset that the watcher gave.
-    ensures replied { IfOk result (λ sent. (reply : Reply)
+    ensures replied { IfOk result (λ sent. (reply : HttpReply)
         × (code_of reply.status ≡ sent.status) × (sent.line.now ≡ told_line reply)
         × RepliesByRuns C.grew (R.remaining reader.old.inner) watcher.new moment
         pass.old pass.new reply
@@ -77,7 +77,7 @@ pub fn answer<R: Read, W: Write, C: CellSteps>(
 
     // Or a beginning of it was written.
     ensures begun { (n : ℕ) → result ≡ Err (AnswerFault.Writing n)
-        → (reply : Reply) × (n ≤ length (message_bytes reply))
+        → (reply : HttpReply) × (n ≤ length (message_bytes reply))
         × RepliesByRuns C.grew (R.remaining reader.old.inner) watcher.new moment
         pass.old pass.new reply
         × Appends (W.contents writer.old.inner) (W.contents writer.new.inner)

@@ -5,6 +5,7 @@ ghost use Rattle.std.specs.Prelude.{◌≡◌};
 ghost use Rattle.http_front.specs.Faults.{post_name};
 ghost use Rattle.answering.specs.Reply as specs;
 
+use hot_swap::SwapFault;
 use http_front::{PostFault, Status};
 use omaha_json::OmahaFault;
 use std::marker::Model;
@@ -19,7 +20,7 @@ pub struct Rejection {
 impl Model for Rejection {
     ghost use Rattle.answering.specs.Reply as specs;
 
-    ghost Value = { specs.Reply };
+    ghost Value = { specs.HttpReply };
 
     ghost view = { λ r. record { status = r.status; text = r.line.now } };
 
@@ -33,7 +34,7 @@ impl Rejection {
     {
         Rejection {
             status: Status::InternalServerError,
-            line: b"H2 NoPlace\n",
+            line: SwapFault::NoPlace.line().as_bytes(),
         }
     }
 

@@ -5,7 +5,7 @@ use Rattle.cells.specs.Events.{AreZeros, IsEvent}
 use Rattle.hot_swap.specs.Published.{Beginning}
 use Rattle.http_front.specs.Reply.{code_of}
 use Rattle.answering.specs.Answer.{RepliesByRuns}
-use Rattle.answering.specs.Reply.{Reply, message_bytes}
+use Rattle.answering.specs.Reply.{HttpReply, message_bytes}
 use Rattle.bench_answer.specs.declared.answers.Tally.{Tally}
 
 -- 2026-03-02 01:00:00 UTC, the moment of each answer
@@ -16,7 +16,7 @@ moment = pos 1772413200
 -- others after it
 pub record IsReplied (request : List ℕ) (watcher : Beginning) (before after written : List ℕ)
     : Type 0 where
-  pub reply : Reply
+  pub reply : HttpReply
   pub success : code_of reply.status ≡ 200
   pub is_reply : RepliesByRuns IsEvent (Some request) watcher moment before after reply
   pub bytes : written ≡ message_bytes reply
