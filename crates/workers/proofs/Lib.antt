@@ -1,4 +1,5 @@
 mod Onwards
 mod OfRuns
 mod Served
+mod InPlace
 mod Looked

@@ -3,16 +3,16 @@ use Rattle.std.proofs.Common.{◌≡◌, List, [], ◌∷◌, ◌++◌}
 use Rattle.std.proofs.Common.{Option, refl, sym, subst}
 use Rattle.std.specs.Prelude.{ℕ}
 use Rattle.std.proofs.lemmas.List.Elements.{All-nil, All-append, All-push}
-use Rattle.cells.specs.Grown.{Grows, GrowsByAppend}
-use Rattle.cells.specs.declared.array.CellArray.{CellArray}
-use Rattle.cells.specs.declared.event.CellEvent.{CellEvent}
+use Rattle.one_world.specs.cells.Grown.{Grows, GrowsByAppend}
+use Rattle.one_world.specs.cells.declared.array.CellArray.{CellArray}
+use Rattle.one_world.specs.cells.declared.event.CellEvent.{CellEvent}
 use Rattle.one_world.specs.Passes.{AreLoads}
 use Rattle.operator.specs.Control.{Controlled, Loading}
 use Rattle.operator.specs.Counters.{IsLoad, ReadsCells, ReadsArrays}
 use Rattle.operator.specs.Counters.{no_cell, one_cell, no_array, one_array}
 use Rattle.operator.specs.Perform.{Performs, AnswersLine, wordless, loaded, not_loaded, shown}
 use Rattle.operator.specs.Perform.{counted, stopped, unshown, uncounted}
-use Rattle.operator.specs.declared.reply.Reply.{Reply}
+use Rattle.operator.specs.declared.reply.OperatorReply.{OperatorReply}
 use Rattle.operator.specs.operator_request.declared.request.OperatorRequest.{OperatorRequest}
 use Rattle.operator.specs.hot_swap.Published.{GoesOnwards}
 use Rattle.workers.proofs.Onwards.{goes_nowhere}
@@ -42,7 +42,7 @@ goes_nowhere_by old new same = rw same (goes_nowhere old.publishing.known)
 
 module _ {F : Type 0} (loads : Loading F) where
   performs_loads : (asked : Option OperatorRequest) (old new : Controlled) (events : List CellEvent)
-      (replied : Reply F) → Performs loads asked old events replied new → AreLoads events
+      (replied : OperatorReply F) → Performs loads asked old events replied new → AreLoads events
   performs_loads asked old new events replied wordless = All-nil IsLoad
   performs_loads asked old new events replied (loaded path is) = All-nil IsLoad
   performs_loads asked old new events replied (not_loaded path is) = All-nil IsLoad
@@ -53,7 +53,8 @@ module _ {F : Type 0} (loads : Loading F) where
   performs_loads asked old new events replied (uncounted all) = all
 
   performs_onwards : (asked : Option OperatorRequest) (old new : Controlled)
-      (events : List CellEvent) (replied : Reply F) → Performs loads asked old events replied new
+      (events : List CellEvent) (replied : OperatorReply F)
+      → Performs loads asked old events replied new
       → GoesOnwards old.publishing.known new.publishing.known
   performs_onwards asked old new events replied wordless = goes_nowhere old.publishing.known
   performs_onwards asked old new events replied (loaded path is) = record {
@@ -70,7 +71,8 @@ module _ {F : Type 0} (loads : Loading F) where
   performs_onwards asked old new events replied (uncounted all) = goes_nowhere old.publishing.known
 
   module _ {P : Type 0} (grew : P → CellEvent → P → Type 0) where
-    pub has_looked : (told : Option (List ℕ)) (old new : Controlled) (replied : Reply F) (p q : P)
+    pub has_looked : (told : Option (List ℕ)) (old new : Controlled) (replied : OperatorReply F)
+        (p q : P)
         → Grows grew p q (λ events. AnswersLine loads told old events replied new)
         → Grows grew p q AreLoads
     has_looked told old new replied p q did = record {
@@ -79,7 +81,8 @@ module _ {F : Type 0} (loads : Loading F) where
       of = performs_loads did.of.asked old new did.events replied did.of.performs;
     }
 
-    pub has_gone_on : (told : Option (List ℕ)) (old new : Controlled) (replied : Reply F) (p q : P)
+    pub has_gone_on : (told : Option (List ℕ)) (old new : Controlled) (replied : OperatorReply F)
+        (p q : P)
         → Grows grew p q (λ events. AnswersLine loads told old events replied new)
         → GoesOnwards old.publishing.known new.publishing.known
     has_gone_on told old new replied p q did =

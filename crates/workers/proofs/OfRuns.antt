@@ -11,12 +11,12 @@ use Rattle.answering.specs.Answer.{replied, unowned, broken_off, asked, refused,
 use Rattle.answering.specs.Answer.{taken, rejected}
 use Rattle.answering.specs.Apps.{RunsApp, RunsApps, unasked, unknown, ran, none}
 use Rattle.answering.specs.Apps as runs
-use Rattle.answering.specs.Reply.{Reply}
-use Rattle.attrs.specs.Attributes.{AreShort, kept_text}
-use Rattle.attrs.specs.Facts.{attributes_of, texts_of}
-use Rattle.attrs.specs.declared.facts.AppFacts.{AppFacts}
-use Rattle.attrs.specs.declared.facts.RequestFacts.{RequestFacts}
-use Rattle.cells.specs.declared.event.CellEvent.{CellEvent}
+use Rattle.answering.specs.Reply.{HttpReply}
+use Rattle.one_world.specs.attrs.Attributes.{AreShort, kept_text}
+use Rattle.one_world.specs.attrs.Facts.{attributes_of, texts_of}
+use Rattle.one_world.specs.attrs.declared.facts.AppFacts.{AppFacts}
+use Rattle.one_world.specs.attrs.declared.facts.RequestFacts.{RequestFacts}
+use Rattle.one_world.specs.cells.declared.event.CellEvent.{CellEvent}
 use Rattle.one_world.specs.InTurn.{AreOfRuns, NoneAreOfRuns, OfRunsAppend}
 use Rattle.one_world.specs.Runs.{AppRun, IsRunUnder, AtEnd}
 use Rattle.one_world.specs.world.World.{ruleset_at}
@@ -117,7 +117,7 @@ module _ (law : Laws) (watcher : Beginning) (moment : ℤ) where
       ap (ruleset_at watcher.rulesets) is.generation_is
       ∙ last_at watcher.rulesets rules is.rules_are
 
-  of_request : (request : _) (events : List CellEvent) (reply : Reply)
+  of_request : (request : _) (events : List CellEvent) (reply : HttpReply)
       → RepliesToRequest request watcher moment events reply → AreOfRuns watcher.rulesets events
   of_request request events reply
       (replied {generation = g} {rules = rules} {choices = cs} is made) =
@@ -128,7 +128,7 @@ module _ (law : Laws) (watcher : Beginning) (moment : ℤ) where
       of_apps law watcher.rulesets g rules (listed_as g rules is) request.facts moment _ few.1
       events few.2
 
-  of_body : (body : List ℕ) (events : List CellEvent) (reply : Reply)
+  of_body : (body : List ℕ) (events : List CellEvent) (reply : HttpReply)
       → RepliesToBody body watcher moment events reply → AreOfRuns watcher.rulesets events
   of_body body events reply (asked {request = request} is replies) =
       of_request request events reply replies

@@ -1,24 +1,24 @@
--- What one answer did, and one more after others; and workers whose threads have promised to give
--- them back.
-use Rattle.std.proofs.Common.{◌≡◌, ℕ, suc, ◌<◌, List, [], ◌∷◌, ◌++◌}
-use Rattle.std.proofs.Common.{length, get_or, map, refl, sym, ap}
-use Rattle.std.proofs.Common.{subst, ◌∙◌, arith, append_assoc, append-nil}
-use Rattle.std.proofs.lemmas.List.Elements.{All-rest, All-same, All-push}
-use Rattle.std.proofs.lemmas.List.{length-map, map_push, get_or-map}
+-- What one answer did, and one more after others; and a worker whose thread has promised to give it
+-- back.
+use Rattle.std.proofs.Common.{◌≡◌, ℕ, List, [], ◌++◌, refl, ap, subst}
 use Rattle.std.specs.List.{AllZip}
-use Rattle.std.specs.Prelude.{ℤ, Option, All, Result, Ok, Err, IfOk, IfErr}
+use Rattle.std.specs.Prelude.{ℤ, Option, Result, Ok, Err, IfOk, IfErr}
+use Rattle.std.specs.declared.thread.PromisedHandle.{PromisedHandle}
 use Rattle.answering.specs.Answer.{RepliesByRuns, WritesNothing}
-use Rattle.answering.specs.Reply.{Reply}
+use Rattle.answering.specs.Reply.{HttpReply}
 use Rattle.answering.specs.declared.answering.AnswerFault.{AnswerFault}
 use Rattle.answering.specs.declared.answering.AnswerFault.TheVariants.{Ended, Reading, Writing}
-use Rattle.cells.specs.Grown.{Grows, GrowsByAppend}
-use Rattle.cells.specs.declared.event.CellEvent.{CellEvent}
+use Rattle.one_world.specs.cells.Grown.{Grows, GrowsByAppend}
+use Rattle.one_world.specs.cells.declared.event.CellEvent.{CellEvent}
 use Rattle.one_world.specs.InTurn.{AreOfRuns, NoneAreOfRuns, OfRunsAppend, OfRunsStay}
 use Rattle.operator.specs.hot_swap.Published.{Beginning, GoesOnwards}
 use Rattle.operator.specs.hot_swap.rulesets.Rules.{Rules}
+use Rattle.workers.proofs.InPlace.{zip_through}
 use Rattle.workers.proofs.Onwards.{goes_nowhere, goes_further}
-use Rattle.workers.specs.Back.{WorkerBack}
+use Rattle.workers.specs.Back.{WorkerBack, WorkersBack}
+use Rattle.workers.specs.Promised.{IsPromiseOf}
 use Rattle.workers.specs.Runs.{AnswersAreOfRuns}
+use Rattle.workers.specs.declared.promise.OfWorker.{OfWorker}
 
 -- ---- what a watcher knows
 
@@ -33,7 +33,7 @@ runs_stay stay v w events goes of =
 module _ {P : Type 0} (grew : P → CellEvent → P → Type 0) (none : NoneAreOfRuns)
     (answers : AnswersAreOfRuns) (told : Option (List ℕ)) (w : Beginning) (moment : ℤ)
     (p q : P) where
-  by_reply : (reply : Reply) → RepliesByRuns grew told w moment p q reply
+  by_reply : (reply : HttpReply) → RepliesByRuns grew told w moment p q reply
       → Grows grew p q (AreOfRuns w.rulesets)
   by_reply reply is = record {
     events = is.events;
@@ -45,12 +45,12 @@ module _ {P : Type 0} (grew : P → CellEvent → P → Type 0) (none : NoneAreO
   did_nothing same = record { events = []; grown = same; of = none w.rulesets }
 
   -- whatever comes of it, as `answer` has it
-  pub by_answer : {S : Type 0} (outcome : Result S AnswerFault) (X Y Z : S → Reply → Type 0)
-      (U V : ℕ → Reply → Type 0) (T : Type 0)
-      → IfOk outcome (λ sent. (reply : Reply) × X sent reply × Y sent reply
+  pub by_answer : {S : Type 0} (outcome : Result S AnswerFault) (X Y Z : S → HttpReply → Type 0)
+      (U V : ℕ → HttpReply → Type 0) (T : Type 0)
+      → IfOk outcome (λ sent. (reply : HttpReply) × X sent reply × Y sent reply
       × RepliesByRuns grew told w moment p q reply × Z sent reply)
       → ((n : ℕ) → outcome ≡ Err (Writing n)
-      → (reply : Reply) × U n reply × RepliesByRuns grew told w moment p q reply × V n reply)
+      → (reply : HttpReply) × U n reply × RepliesByRuns grew told w moment p q reply × V n reply)
       → IfErr outcome (λ e. WritesNothing e → (q ≡ p) × T)
       → Grows grew p q (AreOfRuns w.rulesets)
   by_answer (Ok sent) X Y Z U V T replied begun unread = by_reply replied.0 replied.3
@@ -94,69 +94,32 @@ back_on belongs grew join append stay first later same a b c so_far last =
 
 -- ---- workers whose threads have promised to give them back
 
-module _ {P K : Type 0} (belongs : P → Type 0) (was : K → P × Beginning) (Over : K → Type 0) where
-  abbrev Promised : (all yielded rest : List (P × Beginning)) → List K → Type 0
-  Promised all yielded rest children =
-      All (λ (w : P × Beginning). belongs w.0) rest × (all ≡ yielded ++ rest)
-      × (map was children ≡ yielded) × All Over children
+abbrev WorkerThread : (X P : Type 0) → Type 0
+WorkerThread X P = PromisedHandle (P × Beginning) (OfWorker X P)
 
-  pub one_thread : (all yielded rest next : List (P × Beginning)) (worker : P × Beginning)
-      (children pushed : List K) (child : K)
-      → All (λ (w : P × Beginning). belongs w.0) rest → all ≡ yielded ++ rest
-      → map was children ≡ yielded → All Over children
-      → rest ≡ worker ∷ next → pushed ≡ children ++ child ∷ [] → was child ≡ worker → Over child
-      → Promised all (yielded ++ worker ∷ []) next pushed
-  one_thread all yielded rest next worker children pushed child belong known so_far over taken
-      grown is here = (
-        All-rest (λ (w : P × Beginning). belongs w.0) worker next rest taken belong,
-        known ∙ ap (λ (ws : List (P × Beginning)). yielded ++ ws) taken
-            ∙ sym (append_assoc yielded (worker ∷ []) next),
-        ap (map was) grown ∙ map_push was children child
-            ∙ ap (λ (w : P × Beginning). map was children ++ w ∷ []) is
-            ∙ ap (λ (ws : List (P × Beginning)). ws ++ worker ∷ []) so_far,
-        All-same Over pushed (children ++ child ∷ []) grown
-            (All-push Over children child over here),
-      )
+module _ {X P : Type 0} (belongs : X → P → Type 0) (grew : P → CellEvent → P → Type 0)
+    (cells : X) where
+  is_back : (worker : P × Beginning) (promise : OfWorker X P) (back : P × Beginning)
+      → IsPromiseOf cells worker promise
+      → WorkerBack (belongs promise.cells.value) grew promise.given.value back
+      → WorkerBack (belongs cells) grew worker back
+  is_back worker promise back is kept =
+      subst (λ (x : X). WorkerBack (belongs x) grew worker back) is.cells_are
+      (subst (λ (w : P × Beginning). WorkerBack (belongs promise.cells.value) grew w back)
+      is.worker_is kept)
 
-nothing_left : {A : Type 0} (rest : List A) → length rest ≡ 0 → rest ≡ []
-nothing_left [] none = refl
-nothing_left (x ∷ rest) none = absurd (omega (arith, none))
-
-pub all_taken : {A : Type 0} (all yielded rest : List A) → all ≡ yielded ++ rest
-    → length rest ≡ 0 → yielded ≡ all
-all_taken all yielded rest known none =
-    sym (known ∙ ap (λ ws. yielded ++ ws) (nothing_left rest none) ∙ append-nil yielded)
-
--- place by place
-zip_each : {A B : Type 0} (R : A → B → Type 0) (xs : List A) (ys : List B)
-    → length ys ≡ length xs
-    → ((k : ℕ) (d : A) (e : B) → k < length xs → R (get_or xs k d) (get_or ys k e))
-    → AllZip R xs ys
-zip_each R [] [] same each = tt
-zip_each R [] (y ∷ ys) same each = absurd (omega (arith, same))
-zip_each R (x ∷ xs) [] same each = absurd (omega (arith, same))
-zip_each R (x ∷ xs) (y ∷ ys) same each = (
-  each 0 x y (omega arith),
-  zip_each R xs ys (omega (arith, same)) (λ k d e less. each (suc k) d e (omega (arith, less))),
-)
-
-module _ {P K : Type 0} (belongs : P → Type 0) (grew : P → CellEvent → P → Type 0)
-    (was : K → P × Beginning) where
-  -- each promise was kept
-  pub all_back : (children : List K) (old new : List (P × Beginning))
-      → map was children ≡ old → length new ≡ length children
-      → ((k : ℕ) (d : P × Beginning) → k < length children
-      → (child : K) × (child ≡ get_or children k child)
-      × WorkerBack belongs grew (was child) (get_or new k d))
-      → AllZip (WorkerBack belongs grew) old new
-  all_back children old new promised many kept =
-      let long = length-map children was in
-      let same : length children ≡ length old =
-      sym long ∙ ap (λ (ws : List (P × Beginning)). length ws) promised in
-      zip_each (WorkerBack belongs grew) old new (many ∙ same) (λ k d e less.
-      let inside : k < length children = omega (arith, same, less) in
-      let one = kept k e inside in
-      let is : get_or old k d ≡ was one.0 =
-      ap (λ (ws : List (P × Beginning)). get_or ws k d) (sym promised)
-      ∙ get_or-map was children k one.0 d inside ∙ ap was (sym one.1) in
-      subst (λ (w : P × Beginning). WorkerBack belongs grew w (get_or new k e)) (sym is) one.2)
+  pub all_back : (workers : List (P × Beginning)) (threads : List (WorkerThread X P))
+      (back : List (P × Beginning))
+      → AllZip (λ (worker : P × Beginning) (thread : WorkerThread X P).
+      IsPromiseOf cells worker thread.promise) workers threads
+      → AllZip (λ (thread : WorkerThread X P) (new : P × Beginning).
+      WorkerBack (belongs thread.promise.cells.value) grew thread.promise.given.value new)
+      threads back
+      → WorkersBack (belongs cells) grew workers back
+  all_back = zip_through
+      (λ (worker : P × Beginning) (thread : WorkerThread X P).
+      IsPromiseOf cells worker thread.promise)
+      (λ (thread : WorkerThread X P) (new : P × Beginning).
+      WorkerBack (belongs thread.promise.cells.value) grew thread.promise.given.value new)
+      (WorkerBack (belongs cells) grew)
+      (λ worker thread new is kept. is_back worker thread.promise new is kept)

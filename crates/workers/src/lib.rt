@@ -13,7 +13,9 @@
 #![tactic(auto)]
 
 mod accept;
+mod clients;
 mod clock;
+mod crew;
 mod fault;
 mod gate;
 mod laws;
@@ -22,15 +24,18 @@ mod operating;
 mod ports;
 mod promise;
 mod queue;
+mod returned;
 mod running;
 mod worker;
 
+pub use clients::{serve, serve_returning};
 pub use fault::ServeFault;
 pub use gate::{Gate, Open};
 pub use laws::answers_are_runs;
 pub use operating::{OperatorSeat, operate};
 pub use ports::{Ports, bind};
-pub use running::{Returned, run, serve, serve_returning};
+pub use returned::Returned;
+pub use running::run;
 pub use worker::Service;
 
 // The words of the contracts here come with them.

@@ -7,15 +7,19 @@ ghost use Rattle.workers.specs.Back.{OperatorBack};
 
 use crate::accept::Port;
 use crate::clock::Limits;
-use cells::{CellSteps, growth};
-use devices::{Counted, Timed, drain};
-use operator::{Control, Loader, Reply, answer, write_reply};
+use one_world::cells::{CellSteps, growth};
+use operator::devices::{Counted, Timed, drain};
+use operator::{Control, Loader, OperatorReply, answer, write_reply};
 use std::fmt::Display;
 use std::io;
 use std::net::{TcpListener, TcpStream};
 use std::sync::Wait;
 use std::sync::atomic::AtomicBool;
 use std::time::{Clock, Duration};
+
+/// How many seconds an operator may take to send a line, and again to take the reply: who is slower
+/// would hold up the next one, who may want to halt a release.
+const OPERATOR_SECONDS: u64 = 5;
 
 /// The operator's seat: where rulesets come from, and the cells with the operator's own pass to
 /// them.
@@ -31,9 +35,9 @@ where
 
 /// Answers connections, whose loads change the control, until one has asked to stop, or until
 /// `stop` is set and one more comes, which isn't answered; that the server ends is for the caller
-/// to see to. The line of a connection has to come within the limit of time, and its reply to be
-/// taken within the same again, since a load may last. A connection that fails is passed over, and
-/// so is one that can't be accepted.
+/// to see to. The line of a connection has to come within 5 seconds, and its reply to be taken
+/// within 5 more, since a load may last; or within the limit of time, where that is shorter. A
+/// connection that fails is passed over, and so is one that can't be accepted.
 pub fn operate<H, L, C>(
     rt: &H,
     listener: &TcpListener,
@@ -52,12 +56,13 @@ where
     ensures onwards { GoesOnwards control.old.publishing.known control.new.publishing.known }
 {
     growth::<C>();
+    let limit = timeout.min(Duration::from_secs(OPERATOR_SECONDS));
     let mut port = Port::new(listener, stop, false);
     for _ in rt.forever() {
         let Some(call) = port.accept(rt) else {
             return;
         };
-        if attend(rt, &call.stream, seat, control, timeout) {
+        if attend(rt, &call.stream, seat, control, limit) {
             return;
         }
     }
@@ -97,14 +102,14 @@ where
         return false;
     };
     let _sent = send(rt, stream, &reply, timeout);
-    matches!(reply, Reply::Stopping)
+    matches!(reply, OperatorReply::Stopping)
 }
 
 // Sends a reply, and reads what the client goes on to send.
 fn send<H: Clock, F: Display>(
     rt: &H,
     stream: &TcpStream,
-    reply: &Reply<F>,
+    reply: &OperatorReply<F>,
     timeout: Duration,
 ) -> io::Result<()> {
     let Some(limits) = Limits::begin(rt, timeout) else {

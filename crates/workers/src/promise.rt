@@ -1,7 +1,6 @@
-//! What a server's threads promise: to give back what they were given, with what they did by it.
+//! What a worker's thread promises: to give back the worker that it was given, with what it did.
 
-use crate::fault::ServeFault;
-use cells::CellSteps;
+use one_world::cells::CellSteps;
 use operator::hot_swap::Watcher;
 use std::snapshot::Snapshot;
 use std::thread::Promise;
@@ -17,21 +16,4 @@ impl<C: CellSteps> Promise<(C::Pass, Watcher)> for OfWorker<C> {
     ghost use Rattle.workers.specs.Back.{WorkerBack};
 
     ghost kept_by = { λ p back. WorkerBack (C.belongs p.cells.value) C.grew p.given.value back };
-}
-
-/// The promise of the thread that serves, which was given these workers over these cells.
-#[derive(Drop)]
-pub(crate) struct OfServer<C: CellSteps> {
-    pub(crate) cells: Snapshot<C>,
-    pub(crate) given: Snapshot<Vec<(C::Pass, Watcher)>>,
-}
-
-impl<C: CellSteps> Promise<Result<Vec<(C::Pass, Watcher)>, ServeFault>> for OfServer<C> {
-    ghost use Rattle.std.specs.Prelude.{IfOk};
-    ghost use Rattle.std.specs.List.{AllZip};
-    ghost use Rattle.workers.specs.Back.{WorkerBack};
-
-    ghost kept_by = { λ p served. IfOk served
-        (λ back. AllZip (WorkerBack (C.belongs p.cells.value) C.grew)
-        p.given.value.items back.items) };
 }

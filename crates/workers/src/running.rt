@@ -1,147 +1,104 @@
-//! The server's threads, from their start to their end: the workers with the thread that accepts
-//! for them, and the operator's port beside them. Whichever side ends first sets a flag and wakes
-//! the other by a connection, so that both end. Each thread promises to give back what it was given
-//! (`promise`), so all is given back at the end.
+//! A server from its start to its end: its workers, the thread that accepts connections for them,
+//! and the operator's port, which is answered beside them. Once the operator has asked to stop, a
+//! flag is set, and a connection wakes the thread that accepts: it closes the clients' port and the
+//! queue, and the workers end. The threads give back what they were given (`promise`), so all is
+//! given back at the end.
 
-ghost use Rattle.std.specs.Prelude.{◌≤◌, All, IfOk, length};
-ghost use Rattle.std.specs.List.{AllZip};
+ghost use Rattle.std.specs.Prelude.{◌≡◌, ◌≤◌, All, IfOk, length};
 ghost use Rattle.operator.specs.hot_swap.Published.{GoesOnwards};
-ghost use Rattle.workers.specs.Back.{IsPublished, OperatorBack, WorkerBack};
+ghost use Rattle.workers.specs.Back.{IsPublished, OperatorBack, ServerBack};
 
 use crate::accept::Call;
+use crate::crew::{joined, start_workers};
 use crate::fault::ServeFault;
-use crate::gate::{Gate, Open};
+use crate::gate::Open;
 use crate::operating::{OperatorSeat, operate};
 use crate::ports::{Ports, wake};
-use crate::promise::{OfServer, OfWorker};
 use crate::queue::{WAITING, fill};
-use crate::worker::{Service, WorkerSeat, work};
-use cells::CellSteps;
-use operator::hot_swap::{Generation, Notice, Watcher};
+use crate::returned::Returned;
+use crate::worker::Service;
+use crossbeam_channel::Sender;
+use one_world::cells::CellSteps;
+use operator::hot_swap::Watcher;
 use operator::{Control, Loader};
-use std::net::{Net, TcpListener, TcpStream};
-use std::snapshot::Snapshot;
+use std::net::{Net, SocketAddr, TcpListener, TcpStream};
 use std::sync::Wait;
 use std::sync::atomic::{AtomicBool, Ordering};
 use std::thread;
-use std::thread::Threads;
-use std::time::Clock;
+use std::thread::{Scope, Threads};
+use std::time::{Clock, Duration};
 
-/// Answers each connection within the limit of time, until `stop` is set and one more connection
-/// comes, which isn't answered; those that were accepted before are, while the port is closed. Each
-/// pair of a pass and a watcher is a worker of its own, and there are 1 to 64.
-pub fn serve<H, G, C>(
-    rt: &H,
-    gate: &G,
+// Starts the thread that puts connections into the queue, until the flag is set; it closes the port
+// and the queue.
+fn start_accepting<'s, E, H>(
+    rt: &'s H,
+    scope: &Scope<'s, E>,
     listener: TcpListener,
-    cells: &C,
-    workers: Vec<(C::Pass, Watcher)>,
-    stop: &AtomicBool,
-    service: Service,
+    queue: Sender<Call>,
+    stop: &'s AtomicBool,
+    log: bool,
 ) -> Result<(), ServeFault>
 where
-    H: Threads + Wait + AllocGlobal + Clock + Eprint + Sync,
-    G: Gate + Sync,
-    C: CellSteps + Sync,
-    C::Pass: Send + Drop,
-    requires belongs { All (λ worker. C.belongs cells.now worker.0) workers.items }
-    requires some { 1 ≤ length workers.items }
-    requires few { length workers.items ≤ 64 }
+    H: Wait + AllocGlobal + Clock + Eprint + Sync,
 {
-    match serve_returning(rt, gate, listener, cells, workers, stop, service) {
+    match scope.spawn(move || fill(rt, listener, &queue, stop, log)) {
         Ok(_) => Ok(()),
-        Err(fault) => Err(fault),
+        Err(_) => Err(ServeFault::Memory),
     }
 }
 
-/// The same, and gives the workers back, in their order.
-pub fn serve_returning<H, G, C>(
+// Answers the operator until one has asked to stop, ends the clients' side, which listens at this
+// address, and gives the operator's pass back.
+fn operate_beside<H, L, C>(
     rt: &H,
-    gate: &G,
-    listener: TcpListener,
-    cells: &C,
-    workers: Vec<(C::Pass, Watcher)>,
+    listener: &TcpListener,
+    mut seat: OperatorSeat<'_, L, C>,
+    control: &mut Control,
     stop: &AtomicBool,
-    service: Service,
-) -> Result<Vec<(C::Pass, Watcher)>, ServeFault>
+    clients: SocketAddr,
+    timeout: Duration,
+) -> C::Pass
 where
-    H: Threads + Wait + AllocGlobal + Clock + Eprint + Sync,
-    G: Gate + Sync,
-    C: CellSteps + Sync,
-    C::Pass: Send + Drop,
-    requires belongs { All (λ worker. C.belongs cells.now worker.0) workers.items }
-    requires some { 1 ≤ length workers.items }
-    requires few { length workers.items ≤ 64 }
-    ensures { IfOk result
-        (λ back. AllZip (WorkerBack (C.belongs cells.now) C.grew) workers.items back.items) }
+    H: Wait + AllocGlobal + Clock + Eprint,
+    H: Net<Stream = TcpStream>,
+    L: Loader,
+    C: CellSteps,
+    C::Pass: Drop,
+    requires { C.belongs seat.cells.now seat.pass }
+    ensures back { OperatorBack (C.belongs seat.entry.cells.now) C.grew seat.entry.pass result }
+    ensures onwards { GoesOnwards control.old.publishing.known control.new.publishing.known }
 {
-    let Ok((queue, from)) = crossbeam_channel::bounded::<Call, _>(rt.alloc(), WAITING) else {
-        return Err(ServeFault::Memory);
-    };
-    thread::scope(
-        thread::scope_env(),
-        rt,
-        |scope| -> Result<Vec<(C::Pass, Watcher)>, ServeFault>
-            requires { All (λ worker. C.belongs cells.now worker.0) workers.items }
-            ensures { IfOk result
-                (λ back. AllZip (WorkerBack (C.belongs cells.entry.now) C.grew)
-                workers.items back.items) }
-        {
-            let mut children = Vec::new(rt.alloc());
-            for worker in workers {
-                let Ok(mine) = from.clone() else {
-                    return Err(ServeFault::Memory);
-                };
-                let promise = OfWorker {
-                    cells: Snapshot::of(cells),
-                    given: Snapshot::of(&worker),
-                };
-                let job = move || -> (C::Pass, Watcher)
-                    requires { C.belongs cells.now worker.0 }
-                    ensures { WorkerBack (C.belongs cells.entry.now) C.grew worker result }
-                {
-                    let (pass, watcher) = worker;
-                    let seat = WorkerSeat {
-                        cells,
-                        pass,
-                        watcher,
-                    };
-                    work(rt, gate, mine, seat, service)
-                };
-                let Ok(child) = scope.spawn_with(promise, job) else {
-                    return Err(ServeFault::Memory);
-                };
-                let Ok(()) = children.push(child) else {
-                    return Err(ServeFault::Memory);
-                };
-            }
-            drop(from);
-            fill(rt, listener, &queue, stop, service.log);
-            drop(queue);
-            match thread::join_promised(rt, children) {
-                Ok(back) => Ok(back),
-                Err(_) => Err(ServeFault::Memory),
-            }
-        },
-    )
+    operate(rt, listener, &mut seat, control, stop, timeout);
+    stop.store(true, Ordering::SeqCst);
+    wake(rt, clients);
+    let OperatorSeat {
+        loader: _loader,
+        cells: _cells,
+        pass,
+    } = seat;
+    pass
 }
 
-/// What a server gives back once it has ended.
-#[derive(Drop)]
-pub struct Returned<P: Drop> {
-    /// The operator's pass.
-    pub operator: P,
-    /// The workers, in their order.
-    pub workers: Vec<(P, Watcher)>,
-    /// All that was installed by then.
-    pub published: Notice,
-    /// The generation that was installed last.
-    pub generation: Generation,
+// What is given back, once all threads have ended.
+fn returned<P: Drop>(operator: P, workers: Vec<(P, Watcher)>, control: &Control) -> Returned<P>
+    ensures operator { result.operator ≡ operator }
+    ensures workers { result.workers ≡ workers }
+    ensures known { result.published ≡ control.now.publishing.known }
+    ensures published { IsPublished result.published result.generation }
+{
+    control.keeps();
+    Returned {
+        operator,
+        workers,
+        published: control.tell(),
+        generation: control.generation(),
+    }
 }
 
 /// Serves clients with these workers, of which there are 1 to 64, and the operator's port beside
-/// them, until one of the two sides ends. The operator is answered in this thread. Where nothing
-/// was refused all passes and watchers are given back.
+/// them, until the operator has asked to stop. The operator is answered in this thread. Where
+/// nothing was refused all passes and watchers are given back; B4 comes before any client is
+/// answered.
 pub fn run<H, L, C>(
     rt: &H,
     ports: Ports,
@@ -160,16 +117,15 @@ where
     requires workers { All (λ worker. C.belongs seat.cells.now worker.0) workers.items }
     requires some { 1 ≤ length workers.items }
     requires few { length workers.items ≤ 64 }
-    ensures operator { IfOk result
-        (λ back. OperatorBack (C.belongs seat.entry.cells.now) C.grew
-        seat.entry.pass back.operator) }
-    ensures workers { IfOk result (λ back. AllZip
-        (WorkerBack (C.belongs seat.entry.cells.now) C.grew) workers.items back.workers.items) }
-    ensures onwards { IfOk result
-        (λ back. GoesOnwards control.old.publishing.known back.published) }
-    ensures published { IfOk result (λ back. IsPublished back.published back.generation) }
+    ensures back { IfOk result (ServerBack (C.belongs seat.entry.cells.now) C.grew
+        seat.entry.pass workers.items control.old.publishing.known) }
 {
+    let Ok((queue, from)) = crossbeam_channel::bounded::<Call, _>(rt.alloc(), WAITING) else {
+        return Err(ServeFault::Memory);
+    };
     let stop = AtomicBool::new(false);
+    let gate = Open;
+    let timeout = service.timeout;
     let OperatorSeat {
         loader,
         cells,
@@ -178,8 +134,8 @@ where
     let Ports {
         service: listener,
         operator,
-        service_address,
-        operator_address,
+        service_address: clients,
+        operator_address: _operator_address,
     } = ports;
     thread::scope(
         thread::scope_env(),
@@ -187,64 +143,25 @@ where
         |scope| -> Result<Returned<C::Pass>, ServeFault>
             requires pass { C.belongs cells.now pass }
             requires workers { All (λ worker. C.belongs cells.now worker.0) workers.items }
-            requires some { 1 ≤ length workers.items }
-            requires few { length workers.items ≤ 64 }
-            ensures operator { IfOk result
-                (λ back. OperatorBack (C.belongs cells.entry.now) C.grew pass back.operator) }
-            ensures workers { IfOk result (λ back. AllZip
-                (WorkerBack (C.belongs cells.entry.now) C.grew) workers.items back.workers.items) }
-            ensures onwards { IfOk result
-                (λ back. GoesOnwards control.entry.now.publishing.known back.published) }
-            ensures published { IfOk result (λ back. IsPublished back.published back.generation) }
+            ensures { IfOk result (ServerBack (C.belongs cells.entry.now) C.grew
+                pass workers.items control.entry.now.publishing.known) }
         {
-            let flag = &stop;
-            let timeout = service.timeout;
-            let promise = OfServer {
-                cells: Snapshot::of(cells),
-                given: Snapshot::of(&workers),
-            };
-            let job = move || -> Result<Vec<(C::Pass, Watcher)>, ServeFault>
-                requires workers { All (λ worker. C.belongs cells.now worker.0) workers.items }
-                requires some { 1 ≤ length workers.items }
-                requires few { length workers.items ≤ 64 }
-                ensures { IfOk result (λ back.
-                    AllZip (WorkerBack (C.belongs cells.entry.now) C.grew)
-                    workers.items back.items) }
-            {
-                let served = serve_returning(rt, &Open, listener, cells, workers, flag, service);
-                if served.is_err() {
-                    flag.store(true, Ordering::SeqCst);
-                    wake(rt, operator_address);
-                }
-                served
-            };
-            let Ok(serving) = scope.spawn_with(promise, job) else {
+            let Ok(room) = Vec::with_capacity(rt.alloc(), workers.len()) else {
                 return Err(ServeFault::Memory);
             };
-            let mut seat = OperatorSeat {
+            let Ok(threads) = start_workers(rt, &gate, scope, from, cells, workers, service) else {
+                return Err(ServeFault::Memory);
+            };
+            let Ok(()) = start_accepting(rt, scope, listener, queue, &stop, service.log) else {
+                return Err(ServeFault::Memory);
+            };
+            let seat = OperatorSeat {
                 loader,
                 cells,
                 pass,
             };
-            operate(rt, &operator, &mut seat, control, flag, timeout);
-            flag.store(true, Ordering::SeqCst);
-            wake(rt, service_address);
-            let workers = match serving.join(rt) {
-                Ok(workers) => workers,
-                Err(fault) => return Err(fault),
-            };
-            control.keeps();
-            let OperatorSeat {
-                loader: _loader,
-                cells: _cells,
-                pass,
-            } = seat;
-            Ok(Returned {
-                operator: pass,
-                workers,
-                published: control.tell(),
-                generation: control.generation(),
-            })
+            let pass = operate_beside(rt, &operator, seat, control, &stop, clients, timeout);
+            Ok(returned(pass, joined(rt, threads, room), control))
         },
     )
 }

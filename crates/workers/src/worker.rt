@@ -10,10 +10,10 @@ use crate::laws::answers_are_runs;
 use crate::log::{Log, LogLine};
 use crate::queue::next;
 use answering::{AnswerFault, Sent, answer};
-use cells::{CellSteps, growth};
 use crossbeam_channel::Receiver;
-use devices::{Counted, Timed, drain, take_rest};
+use one_world::cells::{CellSteps, growth};
 use one_world::runs_add_up;
+use operator::devices::{Counted, Timed, drain, take_rest};
 use operator::hot_swap::Watcher;
 use std::io;
 use std::net::TcpStream;
@@ -33,13 +33,13 @@ pub struct Service {
 
 /// A worker's seat: by what it answers.
 #[derive(Drop)]
-pub(crate) struct WorkerSeat<'a, C: CellSteps>
+struct WorkerSeat<'a, C: CellSteps>
 where
     C::Pass: Drop,
 {
-    pub(crate) cells: &'a C,
-    pub(crate) pass: C::Pass,
-    pub(crate) watcher: Watcher,
+    cells: &'a C,
+    pass: C::Pass,
+    watcher: Watcher,
 }
 
 /// Answers until the queue is closed, and gives back the pass and the watcher.
@@ -47,7 +47,8 @@ pub(crate) fn work<H, G, C>(
     rt: &H,
     gate: &G,
     queue: Receiver<Call>,
-    mut seat: WorkerSeat<'_, C>,
+    cells: &C,
+    worker: (C::Pass, Watcher),
     service: Service,
 ) -> (C::Pass, Watcher)
 where
@@ -55,12 +56,17 @@ where
     G: Gate,
     C: CellSteps,
     C::Pass: Drop,
-    requires { C.belongs seat.cells.now seat.pass }
-    ensures { WorkerBack (C.belongs seat.entry.cells.now) C.grew
-        (seat.entry.pass, seat.entry.watcher) result }
+    requires { C.belongs cells.now worker.0 }
+    ensures { WorkerBack (C.belongs cells.now) C.grew worker result }
 {
     growth::<C>();
     runs_add_up();
+    let (pass, watcher) = worker;
+    let mut seat = WorkerSeat {
+        cells,
+        pass,
+        watcher,
+    };
     let mut log = Log::new(rt.alloc());
     for _ in rt.forever() {
         let Some(call) = next(rt, &queue, &mut log) else {

@@ -10,9 +10,8 @@ loop-init g c = (
 
 pub loop-preserved : goal.loop-preserved
 loop-preserved g c = let inv = c.loop.invariant in (
-  c.attend-attended.ensures.cells ∙ inv.0,
+  ap (λ (b : Bor g.row.C.Denot). b.now) c.attend-attended.ensures.cells ∙ inv.0,
   back_on (g.C.CellSteps.belongs) (g.C.CellSteps.grew) c.growth.ensures.append
-      c.runs_add_up.ensures.append c.runs_add_up.ensures.stay _ _
-      (ap (λ (b : Bor g.row.C.Denot). b.now) inv.0) _ _ _ inv.1
+      c.runs_add_up.ensures.append c.runs_add_up.ensures.stay _ _ inv.0 _ _ _ inv.1
       c.attend-attended.ensures.back,
 )

@@ -1,32 +1,40 @@
-use Rattle.std.proofs.Common.{List, sym, ap, subst, ◌∙◌}
-use Rattle.std.specs.List.{AllZip}
+use Rattle.std.proofs.Common.{◌≡◌, length, sym, ap, subst, arith}
 use Rattle.std.specs.Prelude.{Vec}
 use Rattle.std.specs.declared.alloc.Global.{Global}
 use Rattle.operator.specs.hot_swap.Published.{Beginning, GoesOnwards}
-use Rattle.workers.specs.Back.{WorkerBack}
-use Rattle.workers.specs.declared.promise.OfServer.{OfServer}
-use Rattle.workers.proofs.Onwards.{is_published}
+use Rattle.workers.specs.Back.{OperatorBack, WorkersBack}
+use Rattle.workers.proofs.InPlace.{as_many}
+use Rattle.workers.proofs.Served.{all_back}
 use Rattle.workers.proofs.running.fn.run.scope.Goals as goal
+
+pub joined-requires : goal.joined-requires
+joined-requires g c =
+    let many : length c.in-Ok-start_workers.threads.items ≡ length c.captures.workers.items =
+    as_many _ c.captures.workers.items c.in-Ok-start_workers.threads.items
+    c.in-Ok-start_workers.ensures in
+    let workers = c.captures.workers.ok.0 in
+    let threads = c.in-Ok-start_workers.threads.ok.0 in
+    let room = c.in-Ok.ensures.capacity in
+    record {
+      empty = c.in-Ok.ensures.items;
+      enough = omega (arith, many, workers, threads, room);
+    }
 
 pub returns : goal.returns
 returns g c =
     let P = g.row.C-Pass.Denot in
     let belongs = g.C.CellSteps.belongs in
     let grew = g.C.CellSteps.grew in
-    let promise = c.in-Ok.ensures.ok in
-    let cells = ap (λ (p : OfServer g.row.C.Denot P). p.cells.value) promise ∙ c.of.ensures in
-    let given = ap (λ (p : OfServer g.row.C.Denot P). p.given.value.items) promise
-    ∙ ap (λ (v : Vec (P × Beginning) Global). v.items) c.of-2.ensures in
+    let cells = c.captures.cells.now in
+    let old = c.captures.workers.items in
     record {
-      operator = c.operate.ensures.back;
-      workers = subst
-          (λ (x : g.row.C.Denot). AllZip (WorkerBack (belongs x) grew) c.captures.workers.items
-          c.in-Ok-join.workers.items) cells
-          (subst (λ (ws : List (P × Beginning)). AllZip
-          (WorkerBack (belongs c.in-Ok.serving.promise.cells.value) grew) ws
-          c.in-Ok-join.workers.items) given c.in-Ok-join.ensures);
-      onwards = subst (GoesOnwards c.captures.control.now.publishing.known) (sym c.tell.ensures)
-          c.operate.ensures.onwards;
-      published = is_published _ _ _ _ _ c.tell.ensures c.generation.ensures c.keeps.ensures.last
-          c.keeps.ensures.sound;
+      operator = subst (λ (pass : P). OperatorBack (belongs cells) grew c.captures.pass pass)
+          (sym c.returned.ensures.operator) c.operate_beside-pass.ensures.back;
+      workers = subst (WorkersBack (belongs cells) grew old)
+          (sym (ap (λ (v : Vec (P × Beginning) Global). v.items) c.returned.ensures.workers))
+          (all_back belongs grew cells old c.in-Ok-start_workers.threads.items
+          c.joined.result.items c.in-Ok-start_workers.ensures c.joined.ensures);
+      onwards = subst (GoesOnwards c.captures.control.now.publishing.known)
+          (sym c.returned.ensures.known) c.operate_beside-pass.ensures.onwards;
+      published = c.returned.ensures.published;
     }

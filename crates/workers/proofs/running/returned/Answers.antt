@@ -1,0 +1,7 @@
+use Rattle.workers.proofs.Onwards.{is_published}
+use Rattle.workers.proofs.running.returned.Goals as goal
+
+pub returns-clause-published : goal.returns-clause-published
+returns-clause-published g c =
+    is_published _ _ _ _ _ c.tell.ensures c.generation.ensures c.keeps.ensures.last
+    c.keeps.ensures.sound

@@ -1,0 +1,94 @@
+//! The clients' side of a server: a thread that accepts connections, and the workers that answer
+//! them.
+
+ghost use Rattle.std.specs.Prelude.{◌≤◌, All, IfOk, length};
+ghost use Rattle.workers.specs.Back.{WorkersBack};
+
+use crate::accept::Call;
+use crate::crew::{joined, start_workers};
+use crate::fault::ServeFault;
+use crate::gate::Gate;
+use crate::queue::{WAITING, fill};
+use crate::worker::Service;
+use one_world::cells::CellSteps;
+use operator::hot_swap::Watcher;
+use std::net::TcpListener;
+use std::sync::Wait;
+use std::sync::atomic::AtomicBool;
+use std::thread;
+use std::thread::Threads;
+use std::time::Clock;
+
+/// Answers each connection within the limit of time, until `stop` is set and one more connection
+/// comes, which isn't answered; those that were accepted before are, while the port is closed. Each
+/// pair of a pass and a watcher is a worker of its own, and there are 1 to 64. B4 comes before any
+/// connection is accepted.
+pub fn serve<H, G, C>(
+    rt: &H,
+    gate: &G,
+    listener: TcpListener,
+    cells: &C,
+    workers: Vec<(C::Pass, Watcher)>,
+    stop: &AtomicBool,
+    service: Service,
+) -> Result<(), ServeFault>
+where
+    H: Threads + Wait + AllocGlobal + Clock + Eprint + Sync,
+    G: Gate + Sync,
+    C: CellSteps + Sync,
+    C::Pass: Send + Drop,
+    requires belongs { All (λ worker. C.belongs cells.now worker.0) workers.items }
+    requires some { 1 ≤ length workers.items }
+    requires few { length workers.items ≤ 64 }
+{
+    match serve_returning(rt, gate, listener, cells, workers, stop, service) {
+        Ok(_) => Ok(()),
+        Err(fault) => Err(fault),
+    }
+}
+
+/// The same, and gives the workers back, in their order. The room for them is taken before the
+/// first thread is started.
+pub fn serve_returning<H, G, C>(
+    rt: &H,
+    gate: &G,
+    listener: TcpListener,
+    cells: &C,
+    workers: Vec<(C::Pass, Watcher)>,
+    stop: &AtomicBool,
+    service: Service,
+) -> Result<Vec<(C::Pass, Watcher)>, ServeFault>
+where
+    H: Threads + Wait + AllocGlobal + Clock + Eprint + Sync,
+    G: Gate + Sync,
+    C: CellSteps + Sync,
+    C::Pass: Send + Drop,
+    requires belongs { All (λ worker. C.belongs cells.now worker.0) workers.items }
+    requires some { 1 ≤ length workers.items }
+    requires few { length workers.items ≤ 64 }
+    ensures { IfOk result
+        (λ back. WorkersBack (C.belongs cells.now) C.grew workers.items back.items) }
+{
+    let Ok((queue, from)) = crossbeam_channel::bounded::<Call, _>(rt.alloc(), WAITING) else {
+        return Err(ServeFault::Memory);
+    };
+    thread::scope(
+        thread::scope_env(),
+        rt,
+        |scope| -> Result<Vec<(C::Pass, Watcher)>, ServeFault>
+            requires { All (λ worker. C.belongs cells.now worker.0) workers.items }
+            ensures { IfOk result (λ back.
+                WorkersBack (C.belongs cells.entry.now) C.grew workers.items back.items) }
+        {
+            let Ok(room) = Vec::with_capacity(rt.alloc(), workers.len()) else {
+                return Err(ServeFault::Memory);
+            };
+            let Ok(threads) = start_workers(rt, gate, scope, from, cells, workers, service) else {
+                return Err(ServeFault::Memory);
+            };
+            fill(rt, listener, &queue, stop, service.log);
+            drop(queue);
+            Ok(joined(rt, threads, room))
+        },
+    )
+}

@@ -1,0 +1,99 @@
+//! Workers in threads of their own: each thread is started with the promise to give its worker
+//! back, and all are joined in their order.
+
+ghost use Rattle.std.specs.Prelude.{◌≡◌, ◌≤◌, [], All, IfOk, vec_capacity, vec_len};
+ghost use Rattle.std.specs.List.{AllZip};
+ghost use Rattle.workers.specs.Promised.{IsPromiseOf};
+
+use crate::accept::Call;
+use crate::fault::ServeFault;
+use crate::gate::Gate;
+use crate::promise::OfWorker;
+use crate::worker::{Service, work};
+use crossbeam_channel::Receiver;
+use one_world::cells::CellSteps;
+use operator::hot_swap::Watcher;
+use std::snapshot::Snapshot;
+use std::sync::Wait;
+use std::thread::{Promise, PromisedHandle, Scope, Threads};
+use std::time::Clock;
+
+/// Starts a thread for each worker, in their order. B4 where one can't be started; those that were
+/// end once the queue is closed.
+pub(crate) fn start_workers<'s, E, H, G, C>(
+    rt: &'s H,
+    gate: &'s G,
+    scope: &Scope<'s, E>,
+    queue: Receiver<Call>,
+    cells: &'s C,
+    workers: Vec<(C::Pass, Watcher)>,
+    service: Service,
+) -> Result<Vec<PromisedHandle<(C::Pass, Watcher), OfWorker<C>>>, ServeFault>
+where
+    H: Wait + AllocGlobal + Clock + Eprint + Sync,
+    G: Gate + Sync,
+    C: CellSteps + Sync,
+    C::Pass: Send + Drop + 's,
+    requires { All (λ worker. C.belongs cells.now worker.0) workers.items }
+    ensures { IfOk result (λ threads.
+        AllZip (λ worker thread. IsPromiseOf cells.now worker thread.promise)
+        workers.items threads.items) }
+{
+    let mut threads = Vec::new(rt.alloc());
+    for worker in workers {
+        let Ok(mine) = queue.clone() else {
+            return Err(ServeFault::Memory);
+        };
+        let Ok(thread) = start_worker(rt, gate, scope, mine, cells, worker, service) else {
+            return Err(ServeFault::Memory);
+        };
+        let Ok(()) = threads.push(thread) else {
+            return Err(ServeFault::Memory);
+        };
+    }
+    Ok(threads)
+}
+
+fn start_worker<'s, E, H, G, C>(
+    rt: &'s H,
+    gate: &'s G,
+    scope: &Scope<'s, E>,
+    queue: Receiver<Call>,
+    cells: &'s C,
+    worker: (C::Pass, Watcher),
+    service: Service,
+) -> Result<PromisedHandle<(C::Pass, Watcher), OfWorker<C>>, ServeFault>
+where
+    H: Wait + AllocGlobal + Clock + Eprint + Sync,
+    G: Gate + Sync,
+    C: CellSteps + Sync,
+    C::Pass: Send + Drop + 's,
+    requires { C.belongs cells.now worker.0 }
+    ensures { IfOk result (λ thread. IsPromiseOf cells.now worker thread.promise) }
+{
+    let promise = OfWorker {
+        cells: Snapshot::of(cells),
+        given: Snapshot::of(&worker),
+    };
+    let job = move || work(rt, gate, queue, cells, worker, service);
+    match scope.spawn_with(promise, job) {
+        Ok(thread) => Ok(thread),
+        Err(_) => Err(ServeFault::Memory),
+    }
+}
+
+/// Joins each thread, and puts what it gives into the room, in their order. It takes no memory.
+pub(crate) fn joined<H: Threads, T: Drop, P: Promise<T>>(
+    rt: &H,
+    threads: Vec<PromisedHandle<T, P>>,
+    mut room: Vec<T>,
+) -> Vec<T>
+    requires empty { room.items ≡ [] }
+    requires enough { vec_len threads ≤ vec_capacity room }
+    ensures { AllZip (λ thread back. P.kept_by thread.promise back) threads.items result.items }
+{
+    for thread in threads {
+        room.push_reserved(thread.join(rt));
+    }
+    room
+}
