@@ -1,32 +1,31 @@
 //! The end of a server: its threads have given back all that they were given, and its counters are
 //! closed.
 
-ghost use Rattle.std.specs.Prelude.{◌≡◌, ◌+◌, All, IfOk, IfErr, length};
+ghost use Rattle.std.specs.Prelude.{◌≡◌, ◌+◌, ◌≤◌, [], All, IfOk, IfErr, length, vec_capacity};
 ghost use mathlib.Core.List.{IsPrefix};
 ghost use Rattle.workers.specs.Back.{IsPublished};
 ghost use Rattle.serving.specs.Ended.{AreLeftByOneWorld, HasLooked, HasServed};
-ghost use Rattle.serving.specs.Staffed.{IsEndFault};
 
-use crate::fault::ServingFault;
 use shared_cells::{Closed, SharedCells, SharedPass, passes_gain_lists};
-use std::alloc::Global;
+use workers::Returned;
 use workers::one_world::{runs_add_up, threads_are_one_world};
 use workers::operator::hot_swap::{Generation, Notice, SwapFault, Watcher, generations_go_onwards};
-use workers::{Returned, ServeFault};
 
-/// Closes the cells by all passes to them, once what was published is more than any worker has
-/// seen. B4 where memory is refused, and H2 where a worker can't be asked what it has seen.
+/// Closes the cells by all passes to them, for which there is room, once what was published is more
+/// than any worker has seen. H2 where a worker can't be asked what it has seen.
 pub(crate) fn close_cells(
-    alloc: Global,
     cells: SharedCells,
     back: Returned<SharedPass>,
-) -> Result<Closed, ServingFault>
+    mut room: Vec<SharedPass>,
+) -> Result<Closed, SwapFault>
     requires all { cells.passes ≡ length back.workers.items + 1 }
     requires operator { HasLooked cells.table back.operator }
     requires workers { All (HasServed cells.table back.published) back.workers.items }
     requires published { IsPublished back.published back.generation }
+    requires empty { room.items ≡ [] }
+    requires enough { length back.workers.items + 1 ≤ vec_capacity room }
     ensures world { IfOk result (AreLeftByOneWorld cells back.published.rulesets) }
-    ensures fault { IfErr result IsEndFault }
+    ensures fault { IfErr result (λ e. e ≡ SwapFault.NoPlace) }
 {
     threads_are_one_world();
     runs_add_up();
@@ -36,20 +35,15 @@ pub(crate) fn close_cells(
         published,
         generation,
     } = back;
-    let mut passes = Vec::new(alloc);
-    let Ok(()) = passes.push(operator) else {
-        return Err(ServingFault::Serve(ServeFault::Memory));
-    };
+    room.push_reserved(operator);
     while let Some(worker) = workers.pop() {
         let pass = match pass_of(worker, &published, generation) {
             Ok(pass) => pass,
-            Err(fault) => return Err(ServingFault::Publisher(fault)),
+            Err(fault) => return Err(fault),
         };
-        let Ok(()) = passes.push(pass) else {
-            return Err(ServingFault::Serve(ServeFault::Memory));
-        };
+        room.push_reserved(pass);
     }
-    let Ok(closed) = cells.close(passes) else {
+    let Ok(closed) = cells.close(room) else {
         unreachable!()
     };
     Ok(closed)

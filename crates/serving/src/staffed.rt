@@ -1,7 +1,7 @@
 //! A server with all that it serves by, which is made before anything is served: its counters, the
 //! publisher of its rulesets with the directory of its arrays, and its workers.
 
-ghost use Rattle.std.specs.Prelude.{◌≡◌, ◌≤◌, IfOk, IfErr, length};
+ghost use Rattle.std.specs.Prelude.{◌≡◌, ◌+◌, ◌≤◌, [], IfOk, IfErr, length, vec_capacity};
 ghost use Rattle.serving.specs.Ended.{LeavesOneWorld};
 ghost use Rattle.serving.specs.Staff.{IsStaff};
 ghost use Rattle.serving.specs.Staffed.{IsEndFault, IsStaffFault};
@@ -30,7 +30,11 @@ pub struct StaffedServer {
     pass: SharedPass,
     control: Control,
     workers: Vec<(SharedPass, Watcher)>,
+    /// For all passes, when they come back.
+    room: Vec<SharedPass>,
     ghost staff: { IsStaff cells pass control.publishing.known workers.items },
+    ghost empty: { room.items ≡ [] },
+    ghost enough: { length workers.items + 1 ≤ vec_capacity room },
 }
 
 /// A server at these ports of this ruleset, which is installed as generation 1 and whose arrays are
@@ -58,6 +62,9 @@ where
     let Ok(rules) = Arc::new(alloc, rules) else {
         return Err(ServingFault::Serve(ServeFault::Memory));
     };
+    let Ok(room) = Vec::with_capacity(alloc, workers + 1) else {
+        return Err(ServingFault::Serve(ServeFault::Memory));
+    };
     let (cells, mut passes) = match SharedCells::new(alloc, workers + 1) {
         Ok(made) => made,
         Err(fault) => return Err(ServingFault::Cells(fault)),
@@ -76,6 +83,7 @@ where
             pass,
             control: Control::new(publisher, directory),
             workers,
+            room,
         }),
         Err(fault) => {
             publisher.close(rt);
@@ -94,7 +102,8 @@ impl StaffedServer {
 
     /// Serves until the operator stops the server, and gives the counters as they are left; those
     /// that aren't 0 have a line of the log. Later rulesets come from the loader. B4 where memory
-    /// or a thread was refused, and H2 where a worker can't be asked at the end what it has seen.
+    /// or a thread was refused, which is before any client is answered, and H2 where a worker can't
+    /// be asked at the end what it has seen.
     pub fn serve<H, L>(self, rt: &H, loader: &L, service: Service) -> Result<Closed, ServingFault>
     where
         H: Threads + Wait + AllocGlobal + Clock + Eprint + Sync,
@@ -114,6 +123,7 @@ impl StaffedServer {
             pass,
             mut control,
             workers,
+            room,
         } = self;
         let seat = OperatorSeat {
             loader,
@@ -127,7 +137,7 @@ impl StaffedServer {
                 return Err(ServingFault::Serve(fault));
             }
         };
-        match close_cells(rt.alloc(), cells, back) {
+        match close_cells(cells, back, room) {
             Ok(closed) => {
                 if service.log {
                     note_counters(rt, control.arrays(), &closed);
@@ -137,7 +147,7 @@ impl StaffedServer {
             }
             Err(fault) => {
                 control.close(rt);
-                Err(fault)
+                Err(ServingFault::Publisher(fault))
             }
         }
     }
@@ -150,6 +160,7 @@ impl StaffedServer {
             pass: _pass,
             control,
             workers: _workers,
+            room: _room,
         } = self;
         control.close(rt);
     }

@@ -1,4 +1,4 @@
-use Rattle.std.proofs.Common.{All, sym, ap, subst, ◌∙◌}
+use Rattle.std.proofs.Common.{All, sym, ap, subst, ◌∙◌, arith}
 use Rattle.workers.specs.operator.hot_swap.Latest.{Publishing}
 use Rattle.workers.specs.operator.hot_swap.Published.{Beginning}
 use Rattle.serving.specs.Staff.{IsNewWorker}
@@ -12,11 +12,17 @@ invariant_of-result g c =
     let workers = c.in-Ok-worker_list.workers.items in
     let known = ap (λ (p : Publishing). p.known) c.new-in-Ok-worker_list.ensures.publishing
     ∙ c.in-Ok-worker_list.ensures.known in
+    let is = is_staff cells c.new-in-Ok-worker_list.result.publishing.known
+    c.in-Ok-new.made.1.items c.pop.new.self.items c.in-Some.pass workers
+    (made.many ∙ sym made.all) made.each c.in-Some.ensures.items
+    c.in-Ok-worker_list.ensures.all
+    (λ new. subst (λ (b : Beginning). All (IsNewWorker cells.table b) workers) (sym known)
+    (c.in-Ok-worker_list.ensures.each cells.table new)) in
+    let all = is.all in
+    let many = made.many in
+    let room = c.in-Ok-with_capacity.ensures.capacity in
     record {
-      staff = is_staff cells c.new-in-Ok-worker_list.result.publishing.known
-          c.in-Ok-new.made.1.items c.pop.new.self.items c.in-Some.pass workers
-          (made.many ∙ sym made.all) made.each c.in-Some.ensures.items
-          c.in-Ok-worker_list.ensures.all
-          (λ new. subst (λ (b : Beginning). All (IsNewWorker cells.table b) workers) (sym known)
-          (c.in-Ok-worker_list.ensures.each cells.table new));
+      staff = is;
+      empty = c.in-Ok-with_capacity.ensures.items;
+      enough = omega (arith, all, many, room);
     }
