@@ -1,18 +1,27 @@
 -- What files give by their paths, and what is read of them.
 use Rattle.std.specs.Prelude.{◌≡◌, ℕ, ◌+◌, ◌^◌, ◌<◌, ◌≤◌, nat_le, if◌then◌else◌, List, length, take}
-use Rattle.std.specs.Prelude.{Vec, Option, Some, None, option_map, IfSome, Result, Ok, Err}
+use Rattle.std.specs.Prelude.{Bool, Vec, Option, Some, None, option_map, IfSome, Result, Ok, Err}
 use Rattle.std.specs.declared.alloc.Global.{Global}
 use Rattle.bounded_files.specs.declared.fault.ResourceFault.{ResourceFault}
 use Rattle.bounded_files.specs.declared.fault.ResourceFault.TheVariants.{File, Memory}
 
--- what is known of files: the bytes that each path gives, or nothing where it can't be read; of the
--- files of a device nothing is known
-abbrev pub KnownFiles : Type 0
-KnownFiles = Option (List ℕ → Option (List ℕ))
+-- what is known of a file: the bytes that a reading of it gives, and whether it is a regular file,
+-- as a FIFO, a folder, a terminal and any other device isn't
+pub record KnownFile : Type 0 where
+  pub bytes : List ℕ
+  pub is_regular : Bool
 
--- for all that is known, the path may give this
+-- what is known of files: the one to which each path leads, or nothing where it can't be read; of
+-- the files of a device nothing is known
+abbrev pub KnownFiles : Type 0
+KnownFiles = Option (List ℕ → Option KnownFile)
+
+abbrev pub bytes_of : Option KnownFile → Option (List ℕ)
+bytes_of file = option_map (λ f. f.bytes) file
+
+-- for all that is known, the path may give these bytes, or none
 abbrev pub Gives : KnownFiles → List ℕ → Option (List ℕ) → Type 0
-Gives known path given = IfSome known (λ files. files path ≡ given)
+Gives known path given = IfSome known (λ files. bytes_of (files path) ≡ given)
 
 -- the file has more than so many bytes
 abbrev pub HasMore : ℕ → KnownFiles → List ℕ → Type 0
@@ -28,19 +37,36 @@ ReadsAtMost most known path (Ok None) = HasMore most known path
 ReadsAtMost most known path (Err File) = Gives known path None
 ReadsAtMost most known path (Err Memory) = Unit {0}
 
--- ---- files whose length is bounded
+-- ---- files that count as ones that can't be read
+
+-- what is no regular file
+abbrev pub if_regular : Option KnownFile → Option KnownFile
+if_regular None = None
+if_regular (Some file) = if file.is_regular then Some file else None
+
+abbrev pub regular_files : KnownFiles → KnownFiles
+regular_files known = option_map (λ files. λ path. if_regular (files path)) known
 
 -- the most bytes of a text, of a script, and of a file that a manifest names: 16 MiB
 abbrev pub most_bytes : ℕ
 most_bytes = 2 ^ 24
 
--- a longer file counts as one that can't be read
-abbrev pub if_within : ℕ → Option (List ℕ) → Option (List ℕ)
+-- what is longer
+abbrev pub if_within : ℕ → Option KnownFile → Option KnownFile
 if_within most None = None
-if_within most (Some bytes) = if nat_le (length bytes) most then Some bytes else None
+if_within most (Some file) = if nat_le (length file.bytes) most then Some file else None
 
 abbrev pub within : ℕ → KnownFiles → KnownFiles
 within most known = option_map (λ files. λ path. if_within most (files path)) known
+
+-- ---- what is read of a file whose length is bounded
+
+-- a longer one isn't read
+abbrev pub whole : Result (Option (Vec ℕ Global)) ResourceFault
+    → Result (Vec ℕ Global) ResourceFault
+whole (Ok (Some v)) = Ok v
+whole (Ok None) = Err File
+whole (Err fault) = Err fault
 
 -- of want of memory nothing is said
 abbrev pub ReadsFile : KnownFiles → List ℕ → Result (Vec ℕ Global) ResourceFault → Type 0

@@ -1,12 +1,13 @@
 //! The files of a device.
 
-ghost use Rattle.std.specs.Prelude.{IfOk};
-ghost use Rattle.bounded_files.specs.Files.{IsBeginning, IsWithin};
+ghost use Rattle.std.specs.Prelude.{◌↔◌, List, ℕ, None, IfOk, IsOk};
+ghost use Rattle.std.specs.Fs.{IsFile, file_type};
+ghost use Rattle.bounded_files.specs.Files.{IsBeginning, IsWithin, ReadsAtMost};
 
 use crate::disk::Disk;
 use crate::fault::ResourceFault;
 use std::alloc::Global;
-use std::fs;
+use std::fs::{self, Metadata, OpenFile};
 use std::io::{self, Error, ErrorKind, Read};
 use std::rt::Files;
 
@@ -30,25 +31,53 @@ impl<'a, R: Files + AllocGlobal> Disk for Device<'a, R> {
     ghost known = { λ _. None };
 
     fn read(&self, path: &str, most: u32) -> Result<Option<Vec<u8>>, ResourceFault> {
-        let bytes = read_past(self.rt, path, most)?;
-        if bytes.len() > most as usize {
-            return Ok(None);
-        }
-        Ok(Some(bytes))
+        read_opened(self.rt.alloc(), fs::open(self.rt, path), most)
+    }
+
+    fn read_regular(&self, path: &str, most: u32) -> Result<Option<Vec<u8>>, ResourceFault> {
+        read_opened(self.rt.alloc(), open_regular(self.rt, path), most)
     }
 }
 
-// The first bytes of a file, one more than are allowed at most.
-fn read_past<R: Files + AllocGlobal>(
-    rt: &R,
-    path: &str,
+// A regular file, opened. What the path leads to is looked at before it is opened, since opening a
+// FIFO waits for somebody who writes to it, and what was opened is looked at again, since another
+// file may stand there by then. A FIFO that is put there between the two is still waited for.
+fn open_regular<R: Files>(rt: &R, path: &str) -> io::Result<R::File> {
+    require_regular(&fs::metadata(rt, path)?)?;
+    let file = fs::open(rt, path)?;
+    require_regular(&file.metadata()?)?;
+    Ok(file)
+}
+
+fn require_regular(found: &Metadata) -> io::Result<()>
+    ensures { IsOk result ↔ IsFile (file_type found.now) }
+{
+    if found.is_file() {
+        return Ok(());
+    }
+    Err(Error::from(ErrorKind::InvalidInput))
+}
+
+// The bytes of what was opened; None where it has more than so many.
+fn read_opened<F: Read + Drop>(
+    alloc: Global,
+    opened: io::Result<F>,
     most: u32,
-) -> Result<Vec<u8>, ResourceFault> {
-    let read = match fs::open(rt, path) {
-        Ok(file) => read_beginning(rt.alloc(), file, most),
+) -> Result<Option<Vec<u8>>, ResourceFault>
+    ensures { (path : List ℕ) → ReadsAtMost most None path result }
+{
+    let read = match opened {
+        Ok(file) => read_beginning(alloc, file, most),
         Err(error) => Err(error),
     };
-    read.map_err(|error| fault_of(&error))
+    let bytes = match read {
+        Ok(bytes) => bytes,
+        Err(error) => return Err(fault_of(&error)),
+    };
+    if bytes.len() > most as usize {
+        return Ok(None);
+    }
+    Ok(Some(bytes))
 }
 
 /// The first bytes that a reader gives, one more than are allowed at most: of one whose bytes are

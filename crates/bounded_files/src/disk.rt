@@ -1,7 +1,9 @@
-//! Files by their paths, and how much is taken of one.
+//! Files by their paths, of which kind they have to be, and how much is taken of one.
 
-ghost use Rattle.std.specs.Prelude.{◌≤◌, length, IfOk, List, ℕ, Option};
-ghost use Rattle.bounded_files.specs.Files.{ReadsAtMost, ReadsFile, within};
+ghost use Rattle.std.specs.Prelude.{◌≡◌, ◌≤◌, length, IfOk, List, ℕ, Option};
+ghost use Rattle.bounded_files.specs.Files.{KnownFile, ReadsAtMost, ReadsFile};
+ghost use Rattle.bounded_files.specs.Files.{regular_files, within};
+ghost use Rattle.bounded_files.specs.Files as specs;
 
 use crate::fault::ResourceFault;
 
@@ -10,13 +12,19 @@ pub const MOST_BYTES: u32 = 0x100_0000;
 
 /// Files by their paths.
 pub trait Disk {
-    /// What each path gives, the bytes of its file or nothing where it can't be read: known of
-    /// files in memory, and not of those of a device.
-    ghost known: { Self → Option (List ℕ → Option (List ℕ)) };
+    /// What each path leads to, a file or nothing that can be read: known of files in memory, and
+    /// not of those of a device.
+    ghost known: { Self → Option (List ℕ → Option KnownFile) };
 
-    /// The bytes of a file; None where it has more than so many.
+    /// The bytes of a file of any kind; None where it has more than so many. One that has no bytes
+    /// yet, as a FIFO, is waited for.
     fn read(&self, path: &str, most: u32) -> Result<Option<Vec<u8>>, ResourceFault>
         ensures { ReadsAtMost most (known self.now) path.now result };
+
+    /// The bytes of a regular file; None where it has more than so many. What is no regular file
+    /// counts as one that can't be read, and isn't waited for.
+    fn read_regular(&self, path: &str, most: u32) -> Result<Option<Vec<u8>>, ResourceFault>
+        ensures { ReadsAtMost most (regular_files (known self.now)) path.now result };
 }
 
 /// The bytes of a file of at most so many. A longer one counts as one that can't be read.
@@ -24,7 +32,25 @@ pub fn read_within<D: Disk>(disk: &D, path: &str, most: u32) -> Result<Vec<u8>, 
     ensures read { ReadsFile (within most (D.known disk.now)) path.now result }
     ensures short { IfOk result (λ v. length v.items ≤ most) }
 {
-    match disk.read(path, most) {
+    whole(disk.read(path, most))
+}
+
+/// The same of a regular file.
+pub fn read_regular_within<D: Disk>(
+    disk: &D,
+    path: &str,
+    most: u32,
+) -> Result<Vec<u8>, ResourceFault>
+    ensures read { ReadsFile (within most (regular_files (D.known disk.now))) path.now result }
+    ensures short { IfOk result (λ v. length v.items ≤ most) }
+{
+    whole(disk.read_regular(path, most))
+}
+
+fn whole(read: Result<Option<Vec<u8>>, ResourceFault>) -> Result<Vec<u8>, ResourceFault>
+    ensures { result ≡ specs.whole read }
+{
+    match read {
         Ok(Some(bytes)) => Ok(bytes),
         Ok(None) => Err(ResourceFault::File),
         Err(fault) => Err(fault),

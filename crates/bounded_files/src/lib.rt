@@ -1,14 +1,16 @@
-//! Files of at most so many bytes.
+//! Files of at most so many bytes, of any kind or regular ones alone.
 #![tactic(auto)]
 
 // A file is read to one byte past the most that it may have, so that a longer one shows, and no
-// more memory is taken for it. Files are read through a trait, so that files in memory can stand in
-// for those of a device; of these the contracts say which bytes were read.
+// more memory is taken for it. A path that has to lead to a regular file is looked at before it is
+// opened, so that nobody waits for the writer of a FIFO. Files are read through a trait, so that
+// files in memory can stand in for those of a device; of these the contracts say which bytes were
+// read.
 
 mod device;
 mod disk;
 mod fault;
 
 pub use device::{Device, write_file};
-pub use disk::{Disk, MOST_BYTES, read_within};
+pub use disk::{Disk, MOST_BYTES, read_regular_within, read_within};
 pub use fault::ResourceFault;
