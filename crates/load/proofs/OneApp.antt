@@ -7,6 +7,7 @@ use Rattle.acceptance.specs.bpf_insn.Program.{Program}
 use Rattle.acceptance.specs.bpf_semantics.Program.{shaped}
 use Rattle.acceptance.specs.bpf_verify.Accepted as verify
 use Rattle.acceptance.specs.rule_lang.Verdicts as rules
+use Rattle.bounded_files.specs.Files.{KnownFile, bytes_of}
 use Rattle.cells.specs.Arrays.{AppShape}
 use Rattle.cells.specs.declared.array.ArrayNo.{ArrayNo}
 use Rattle.cells.specs.declared.array.CellArray.{CellArray}
@@ -51,7 +52,7 @@ made entry shape (Ok code) = Ok (record {
 })
 made entry shape (Err fault) = Err fault
 
-module _ (files : List ℕ → Option (List ℕ)) (directory : List CellArray) (numbers : List ArrayNo)
+module _ (files : List ℕ → Option KnownFile) (directory : List CellArray) (numbers : List ArrayNo)
   where
     -- what an entry comes to
     abbrev pub EntryComesTo : AppEntry → Result AppRule AppFault → Type 0
@@ -60,11 +61,12 @@ module _ (files : List ℕ → Option (List ℕ)) (directory : List CellArray) (
 
     -- by its file
     data Found (entry : AppEntry) : Result AppRule AppFault → Type 0 where
-      no_file : files (file_of entry.source) ≡ None → Found entry (Err app.File)
+      no_file : bytes_of (files (file_of entry.source)) ≡ None → Found entry (Err app.File)
       file : (r : Result AppRule AppFault) (shape : AppShape) (bytes : List ℕ)
           (c : Result Program AppFault) → IsShapeOf directory numbers entry shape
-          → files (file_of entry.source) ≡ Some bytes → ComesTo entry.source bytes shape c
-          → c ≢ Err app.Memory → r ≡ made entry shape c → Found entry r
+          → bytes_of (files (file_of entry.source)) ≡ Some bytes
+          → ComesTo entry.source bytes shape c → c ≢ Err app.Memory → r ≡ made entry shape c
+          → Found entry r
 
     found : (entry : AppEntry) (r : Result AppRule AppFault) → EntryComesTo entry r
         → r ≢ Err app.Memory → Found entry r

@@ -4,6 +4,7 @@ use Rattle.std.proofs.Common.{refl, sym, ap, subst}
 use Rattle.acceptance.specs.bpf_insn.Program.{Program}
 use Rattle.acceptance.specs.bpf_verify.Accepted as verify
 use Rattle.acceptance.specs.rule_lang.Verdicts as rules
+use Rattle.bounded_files.specs.Files.{KnownFile}
 use Rattle.cells.specs.Arrays.{AppShape}
 use Rattle.cells.specs.Directory.{IsDirectory}
 use Rattle.cells.specs.declared.array.ArrayNo.{ArrayNo}
@@ -34,7 +35,7 @@ fault_of fault = NoManifest fault
 abbrev named : List ℕ → List AppRule → Rules
 named server apps = record { server = server; apps = apps }
 
-module _ (files : List ℕ → Option (List ℕ)) (old : List CellArray) (bytes : List ℕ) where
+module _ (files : List ℕ → Option KnownFile) (old : List CellArray) (bytes : List ℕ) where
   -- what a manifest's apps come to, once its arrays are declared
   data Supplied (m : Manifest) (numbers : List ArrayNo) (between : List CellArray)
       : Result Rules LoadFault → List CellArray → Type 0 where

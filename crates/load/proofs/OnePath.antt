@@ -9,7 +9,7 @@ use Rattle.load.specs.declared.fault.LoadFault.{LoadFault}
 use Rattle.load.specs.declared.fault.LoadFault.TheVariants.{Memory}
 use Rattle.load.specs.declared.fault.PathFault.{PathFault}
 use Rattle.load.specs.declared.fault.PathFault.TheVariants as path
-use Rattle.bounded_files.specs.Files.{most_bytes, if_within}
+use Rattle.bounded_files.specs.Files.{KnownFile, bytes_of, if_regular, if_within, most_bytes}
 use Rattle.bounded_files.specs.declared.fault.ResourceFault.TheVariants as resource
 use Rattle.load.specs.Folder.{path_beside}
 use Rattle.load.specs.Load.{Loads}
@@ -24,14 +24,17 @@ abbrev of_load : Result Rules LoadFault → List CellArray → LoadOf
 of_load (Ok rules) new = Ok (rules, new)
 of_load (Err fault) new = Err (path.Load fault)
 
-module _ (files : List ℕ → Option (List ℕ)) (place : List ℕ) where
-  abbrev beside : List ℕ → Option (List ℕ)
-  beside = λ name. if_within most_bytes (files (path_beside place name))
+module _ (files : List ℕ → Option KnownFile) (place : List ℕ) where
+  abbrev beside : List ℕ → Option KnownFile
+  beside = λ name. if_within most_bytes (if_regular (files (path_beside place name)))
+
+  abbrev there : Option (List ℕ)
+  there = bytes_of (if_regular (files place))
 
   data Found (old : List CellArray) : LoadOf → Type 0 where
-    no_file : files place ≡ None → Found old (Err (path.Resource resource.File))
+    no_file : there ≡ None → Found old (Err (path.Resource resource.File))
     file : (c : Result Rules LoadFault) (bytes : List ℕ) (new : List CellArray)
-        → files place ≡ Some bytes → Loads (Some beside) old bytes c new → c ≢ Err Memory
+        → there ≡ Some bytes → Loads (Some beside) old bytes c new → c ≢ Err Memory
         → Found old (of_load c new)
 
   found : (old : List CellArray) (r : LoadOf) → LoadsFrom (Some files) place old r
@@ -54,12 +57,12 @@ module _ (files : List ℕ → Option (List ℕ)) (place : List ℕ) where
     same_found (file c bytes new given loads untroubled)
         (file d others last also again calm) =
         let read : others ≡ bytes = same_Some others bytes (sym also ∙ given) in
-        let there : Loads (Some beside) old bytes d last =
+        let other : Loads (Some beside) old bytes d last =
         subst (λ (b : List ℕ). Loads (Some beside) old b d last) read again in
-        let same = load beside old bytes c d new last known loads there untroubled calm in
+        let same = load beside old bytes c d new last known loads other untroubled calm in
         ap (λ (x : Result Rules LoadFault). of_load x new) same.0 ∙ ap (of_load d) same.1
 
-pub same_path : HasOneLoad → (files : List ℕ → Option (List ℕ)) (place : List ℕ)
+pub same_path : HasOneLoad → (files : List ℕ → Option KnownFile) (place : List ℕ)
     (old : List CellArray) (r s : LoadOf) → IsDirectory old → LoadsFrom (Some files) place old r
     → LoadsFrom (Some files) place old s → IsUntroubled r → IsUntroubled s → r ≡ s
 same_path load files place old r s known h k untroubled calm =

@@ -1,7 +1,7 @@
 -- Where the files of a manifest lie: names are taken from its folder.
 use Rattle.std.specs.Prelude.{ℕ, List, [], Option, Some, None, option_map}
 use Rattle.std.specs.Path.{path_parent, path_join}
-use Rattle.bounded_files.specs.Files.{KnownFiles, most_bytes, within}
+use Rattle.bounded_files.specs.Files.{KnownFiles, most_bytes, regular_files, within}
 
 abbrev pub folder_or_none : Option (List ℕ) → List ℕ
 folder_or_none None = []
@@ -14,8 +14,9 @@ folder_of manifest = folder_or_none (path_parent manifest)
 abbrev pub path_beside : List ℕ → List ℕ → List ℕ
 path_beside manifest name = path_join (folder_of manifest) name
 
--- what the names in a manifest give: each is taken from the folder of that manifest, and a file of
--- more than 16 MiB counts as one that can't be read
+-- to what the names in a manifest lead: each is taken from the folder of that manifest, and what is
+-- no regular file, or has more than 16 MiB, counts as one that can't be read
 abbrev pub known_beside : KnownFiles → List ℕ → KnownFiles
 known_beside known manifest =
-    option_map (λ files. λ name. files (path_beside manifest name)) (within most_bytes known)
+    option_map (λ files. λ name. files (path_beside manifest name))
+    (within most_bytes (regular_files known))

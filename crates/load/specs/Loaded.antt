@@ -1,8 +1,9 @@
--- What the manifest at a path comes to, with the files of its folder. Where nothing is known of the
--- files, as of a device's, it is what a manifest and files of some bytes come to.
+-- What the manifest at a path comes to, with the files of its folder. What is no regular file
+-- counts as one that can't be read. Where nothing is known of the files, as of a device's, it is
+-- what a manifest and files of some bytes come to.
 use Rattle.std.specs.Prelude.{ℕ, List, Some, None, Result, Ok, Err}
 use Rattle.cells.specs.declared.array.CellArray.{CellArray}
-use Rattle.bounded_files.specs.Files.{KnownFiles, Gives}
+use Rattle.bounded_files.specs.Files.{KnownFiles, Gives, regular_files}
 use Rattle.bounded_files.specs.declared.fault.ResourceFault.TheVariants.{File, Memory}
 use Rattle.load.specs.Folder.{known_beside}
 use Rattle.load.specs.Load.{IsRulesetOf, IsLoadFault}
@@ -14,15 +15,15 @@ module _ (known : KnownFiles) (path : List ℕ) (old : List CellArray) where
   -- the ruleset of the file's bytes, and the directory after it
   pub record IsLoadedFrom (rules : Rules) (new : List CellArray) : Type 0 where
     pub bytes : List ℕ
-    pub given : Gives known path (Some bytes)
+    pub given : Gives (regular_files known) path (Some bytes)
     pub loaded : IsRulesetOf (known_beside known path) old bytes rules new
 
   -- the file can't be read, or its bytes come to no ruleset; of want of memory nothing is said
   abbrev pub RefusesPath : PathFault → Type 0
-  RefusesPath (Resource File) = Gives known path None
+  RefusesPath (Resource File) = Gives (regular_files known) path None
   RefusesPath (Resource Memory) = Unit {0}
   RefusesPath (Load fault) =
-      (bytes : List ℕ) × Gives known path (Some bytes)
+      (bytes : List ℕ) × Gives (regular_files known) path (Some bytes)
       × IsLoadFault (known_beside known path) old bytes fault
 
   abbrev pub LoadsFrom : Result (Rules × List CellArray) PathFault → Type 0

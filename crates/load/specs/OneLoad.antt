@@ -1,5 +1,6 @@
 -- A manifest has one load.
 use Rattle.std.specs.Prelude.{◌≡◌, ◌≢◌, ℕ, List, Option, Some, Result, Err}
+use Rattle.bounded_files.specs.Files.{KnownFile}
 use Rattle.cells.specs.Directory.{IsDirectory}
 use Rattle.cells.specs.declared.array.CellArray.{CellArray}
 use Rattle.ruleset.specs.Rules.{Rules}
@@ -14,7 +15,7 @@ use Rattle.load.specs.Loaded.{LoadsFrom}
 -- of files that tell their bytes, one directory and one manifest have one load, want of memory
 -- aside: one ruleset, or one fault, and one directory after it
 abbrev pub HasOneLoad : Type 0
-HasOneLoad = (files : List ℕ → Option (List ℕ)) (old : List CellArray) (bytes : List ℕ)
+HasOneLoad = (files : List ℕ → Option KnownFile) (old : List CellArray) (bytes : List ℕ)
     (r s : Result Rules LoadFault) (new last : List CellArray) → IsDirectory old
     → Loads (Some files) old bytes r new → Loads (Some files) old bytes s last
     → r ≢ Err Memory → s ≢ Err Memory → (r ≡ s) × (new ≡ last)
@@ -25,7 +26,7 @@ IsUntroubled r = (r ≢ Err (path.Resource resource.Memory)) × (r ≢ Err (path
 
 -- and so has the manifest at a path, with the files of its folder
 abbrev pub HasOneLoadFrom : Type 0
-HasOneLoadFrom = (files : List ℕ → Option (List ℕ)) (place : List ℕ) (old : List CellArray)
+HasOneLoadFrom = (files : List ℕ → Option KnownFile) (place : List ℕ) (old : List CellArray)
     (r s : Result (Rules × List CellArray) PathFault) → IsDirectory old
     → LoadsFrom (Some files) place old r → LoadsFrom (Some files) place old s
     → IsUntroubled r → IsUntroubled s → r ≡ s

@@ -1,16 +1,16 @@
 //! The files that a manifest names.
 
 ghost use Rattle.std.specs.Prelude.{◌≡◌, ◌^◌, ◌-◌, ◌<◌, List, ℕ, Option};
-ghost use Rattle.bounded_files.specs.Files.{ReadsFile};
+ghost use Rattle.bounded_files.specs.Files.{KnownFile, ReadsFile};
 ghost use Rattle.load.specs.Files.{Counts};
 
 use bounded_files::ResourceFault;
 
 /// Files by their names.
 pub trait Files {
-    /// What each name gives, the bytes of its file or nothing where it can't be read: known of
-    /// files in memory, and not of those of a device.
-    ghost known: { Self → Option (List ℕ → Option (List ℕ)) };
+    /// To what each name leads, a file or nothing that can be read: known of files in memory, and
+    /// not of those of a device.
+    ghost known: { Self → Option (List ℕ → Option KnownFile) };
 
     /// How many files couldn't be read so far.
     ghost failed: { Self → ℕ };

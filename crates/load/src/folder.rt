@@ -5,12 +5,13 @@ ghost use Rattle.std.specs.Path.{path_buf_bytes};
 ghost use Rattle.load.specs.Folder as specs;
 
 use crate::files::Files;
-use bounded_files::{Disk, MOST_BYTES, ResourceFault, read_within};
+use bounded_files::{Disk, MOST_BYTES, ResourceFault, read_regular_within};
 use std::alloc::{AllocError, Global};
 use std::path::{Path, PathBuf};
 
 /// Files named from the folder of a manifest. A name that is an absolute path is taken as it
-/// stands. A file of more than 16 MiB counts as one that can't be read.
+/// stands, and `..` leads out of the folder. What is no regular file, as a FIFO, a folder or a
+/// device, or has more than 16 MiB, counts as one that can't be read.
 #[derive(Drop)]
 pub struct FolderFiles<'a, D> {
     alloc: Global,
@@ -46,7 +47,7 @@ impl<'a, D: Disk> Files for FolderFiles<'a, D> {
         let Ok(path) = path_beside(self.alloc, self.manifest, name) else {
             return Err(ResourceFault::Memory);
         };
-        match read_within(self.disk, path.as_str(), MOST_BYTES) {
+        match read_regular_within(self.disk, path.as_str(), MOST_BYTES) {
             Ok(bytes) => Ok(bytes),
             Err(ResourceFault::Memory) => Err(ResourceFault::Memory),
             Err(ResourceFault::File) => {

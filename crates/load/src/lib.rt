@@ -31,4 +31,5 @@ pub use path::{MOST_MANIFEST, load_path};
 // The words of the contracts here come with them.
 pub use acceptance;
 pub use bounded_files;
+pub use manifest;
 pub use ruleset;

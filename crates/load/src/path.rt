@@ -15,7 +15,8 @@ use std::alloc::Global;
 pub const MOST_MANIFEST: u32 = 0x10_0000;
 
 /// The ruleset of the manifest at a path, and the directory with its arrays declared behind those
-/// that stand. The files that it names lie in its folder.
+/// that stand. The files that it names lie in its folder. It has to be a regular file, as have
+/// they; B3 comes where it isn't, or can't be read.
 pub fn load_path<D: Disk>(
     alloc: Global,
     disk: &D,
@@ -24,7 +25,7 @@ pub fn load_path<D: Disk>(
 ) -> Result<(Ruleset, Directory), PathFault>
     ensures { LoadsFrom (D.known disk.now) path.now directory.now result }
 {
-    let bytes = match disk.read(path, MOST_MANIFEST) {
+    let bytes = match disk.read_regular(path, MOST_MANIFEST) {
         Ok(Some(bytes)) => bytes,
         Ok(None) => {
             let fault = ManifestFault::Toml(TomlFault::TooLong);

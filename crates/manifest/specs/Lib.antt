@@ -11,4 +11,5 @@ pub mod Manifest
 pub mod OneReading
 pub mod Texts
 pub use Rattle.attrs.specs as attrs
+pub use Rattle.cells.specs as cells
 pub use Rattle.declarations.specs as declarations

@@ -55,4 +55,5 @@ pub use quote::Quote;
 pub use read::read_manifest;
 
 // The words of the contracts here come with them.
+pub use cells;
 pub use declarations;
