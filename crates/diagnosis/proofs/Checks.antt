@@ -3,15 +3,16 @@ use Rattle.std.proofs.Common.{◌≡◌, ◌≢◌, ℕ, List, [], Option, Some,
 use Rattle.std.proofs.Common.{refl, sym, ◌∙◌, ap, arith}
 use Rattle.std.proofs.lemmas.List.Elements.{All-nil}
 use Rattle.std.proofs.lemmas.Option.{none-some}
-use Rattle.cells.specs.Directory.{IsDirectory}
-use Rattle.manifest.specs.Manifest.{Manifest}
-use Rattle.manifest.specs.OneReading.{HasOneManifest}
-use Rattle.manifest.specs.declared.fault.ManifestFault.{ManifestFault}
+use Rattle.load.specs.manifest.cells.Directory.{IsDirectory}
+use Rattle.load.specs.manifest.Manifest.{Manifest}
+use Rattle.load.specs.manifest.OneReading.{HasOneManifest}
+use Rattle.load.specs.manifest.declared.fault.ManifestFault.{ManifestFault}
+use Rattle.load.specs.bounded_files.Files.{KnownFile}
 use Rattle.load.specs.declared.fault.LoadFault.{LoadFault}
 use Rattle.load.specs.declared.fault.LoadFault.TheVariants.{Memory}
 use Rattle.load.specs.OneLoad.{HasOneLoad}
 use Rattle.load.specs.rulesets.Rules.{Rules}
-use Rattle.diagnosis.specs.Check.{Fails, Passes}
+use Rattle.diagnosis.specs.Check.{FailsCheck, PassesCheck}
 use Rattle.diagnosis.specs.OneCheck.{HasOneCheck}
 use Rattle.diagnosis.specs.Texts.{accepted_text}
 
@@ -40,9 +41,9 @@ is_memory Memory h = refl
 is_memory e h = absurd (h (λ x. absurd cc))
 
 module _ (load : HasOneLoad) (reading : (bytes : List ℕ) → HasOneManifest bytes)
-    (files : List ℕ → Option (List ℕ)) (bytes : List ℕ) where
-  same_text : (text other : List ℕ) → Passes (Some files) bytes text
-      → Passes (Some files) bytes other → text ≡ other
+    (files : List ℕ → Option KnownFile) (bytes : List ℕ) where
+  same_text : (text other : List ℕ) → PassesCheck (Some files) bytes text
+      → PassesCheck (Some files) bytes other → text ≡ other
   same_text text other p q =
       let loads = load files [] bytes (Ok p.rules) (Ok q.rules) p.arrays q.arrays empty p.loaded
       q.loaded (λ x. absurd cc) (λ x. absurd cc) in
@@ -55,15 +56,15 @@ module _ (load : HasOneLoad) (reading : (bytes : List ℕ) → HasOneManifest by
       p.text_is ∙ ap (λ (m : Manifest). accepted_text m.arrays p.rules.apps) read
       ∙ ap (λ (r : Rules). accepted_text q.loaded.manifest.arrays r.apps) same ∙ sym q.text_is
 
-  same_fault : (e f : LoadFault) (reason other : List ℕ) → Fails (Some files) bytes e reason
-      → Fails (Some files) bytes f other → e ≢ Memory → f ≢ Memory → e ≡ f
+  same_fault : (e f : LoadFault) (reason other : List ℕ) → FailsCheck (Some files) bytes e reason
+      → FailsCheck (Some files) bytes f other → e ≢ Memory → f ≢ Memory → e ≡ f
   same_fault e f reason other h k known also =
       let loads = load files [] bytes (Err e) (Err f) [] [] empty (h.refused, refl)
       (k.refused, refl) (λ x. known (ap fault_in x)) (λ x. also (ap fault_in x)) in
       ap fault_in loads.0
 
-  not_both : (text : List ℕ) (e : LoadFault) (reason : List ℕ) → Passes (Some files) bytes text
-      → Fails (Some files) bytes e reason → e ≢ Memory → ⊥
+  not_both : (text : List ℕ) (e : LoadFault) (reason : List ℕ) → PassesCheck (Some files) bytes text
+      → FailsCheck (Some files) bytes e reason → e ≢ Memory → ⊥
   not_both text e reason p h known =
       let loads = load files [] bytes (Ok p.rules) (Err e) p.arrays [] empty p.loaded
       (h.refused, refl) (λ x. absurd cc) (λ x. known (ap fault_in x)) in

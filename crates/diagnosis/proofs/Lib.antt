@@ -1,5 +1,6 @@
 mod Nth
 mod Once
+mod Parts
 mod Passing
 mod Checks
 mod Long

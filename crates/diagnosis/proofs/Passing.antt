@@ -1,7 +1,8 @@
 -- From what was loaded, and from what was read again, to what is told.
-use Rattle.std.proofs.Common.{◌≡◌, ℕ, List, [], Some, ◌∙◌, subst}
-use Rattle.cells.specs.declared.array.CellArray.{CellArray}
-use Rattle.diagnosis.specs.Check.{Passes}
+use Rattle.std.proofs.Common.{◌≡◌, ℕ, List, [], Some, true, ◌∙◌, subst}
+use Rattle.load.specs.manifest.cells.declared.array.CellArray.{CellArray}
+use Rattle.diagnosis.specs.Check.{PassesCheck}
+use Rattle.diagnosis.specs.Inside.{is_inside}
 use Rattle.diagnosis.specs.Shown.{IsShown, ShowsPlace}
 use Rattle.diagnosis.specs.Shown.ShowsPlace.{shown}
 use Rattle.diagnosis.specs.Texts.{loaded_text}
@@ -14,7 +15,7 @@ use Rattle.load.specs.rulesets.Rules.{AppRule, Rules}
 pub passes : (known : KnownFiles) (old : List CellArray) (bytes text : List ℕ) (rules : Rules)
     (arrays lent : List CellArray) (apps : List AppRule) → old ≡ []
     → IsRulesetOf known old bytes rules arrays → lent ≡ arrays → apps ≡ rules.apps
-    → text ≡ loaded_text lent apps → Passes known bytes text
+    → text ≡ loaded_text lent apps → PassesCheck known bytes text
 passes known old bytes text rules arrays lent apps is loaded same_arrays same_apps told =
     let over_none = rw is at loaded in
     let told_of_them = rw (same_arrays, same_apps) at told in
@@ -27,8 +28,9 @@ passes known old bytes text rules arrays lent apps is loaded same_arrays same_ap
     }
 
 pub is_shown : (known : KnownFiles) (file lent bytes slice text : List ℕ) (place : Place)
-    → lent ≡ file → Gives known lent (Some bytes) → slice ≡ bytes → IsShown place slice text
-    → ShowsPlace known file place text
-is_shown known file lent bytes slice text place same gives whole is =
-    shown bytes (subst (λ (name : List ℕ). Gives known name (Some bytes)) same gives)
+    → lent ≡ file → is_inside lent ≡ true → Gives known lent (Some bytes) → slice ≡ bytes
+    → IsShown place slice text → ShowsPlace known file place text
+is_shown known file lent bytes slice text place same stays gives whole is =
+    shown bytes (subst (λ (name : List ℕ). is_inside name ≡ true) same stays)
+    (subst (λ (name : List ℕ). Gives known name (Some bytes)) same gives)
     (subst (λ (b : List ℕ). IsShown place b text) whole is)

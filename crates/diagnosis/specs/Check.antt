@@ -1,6 +1,6 @@
 -- What comes of the check of a manifest, which is loaded over no arrays.
 use Rattle.std.specs.Prelude.{◌≡◌, ◌⊎◌, ◌<◌, ℕ, List, [], length}
-use Rattle.cells.specs.declared.array.CellArray.{CellArray}
+use Rattle.load.specs.manifest.cells.declared.array.CellArray.{CellArray}
 use Rattle.diagnosis.specs.Reason.{IsReason}
 use Rattle.diagnosis.specs.Texts.{accepted_text}
 use Rattle.load.specs.bounded_files.Files.{KnownFiles}
@@ -10,18 +10,19 @@ use Rattle.load.specs.rulesets.Rules.{Rules}
 
 module _ (known : KnownFiles) (bytes : List ℕ) where
   -- it comes to a ruleset, and this is told of its arrays and its apps
-  pub record Passes (text : List ℕ) : Type 0 where
+  pub record PassesCheck (text : List ℕ) : Type 0 where
     pub rules : Rules
     pub arrays : List CellArray
     pub loaded : IsRulesetOf known [] bytes rules arrays
     pub text_is : text ≡ accepted_text loaded.manifest.arrays rules.apps
 
   -- it has this fault, and this is told of where and why, if not for want of memory nothing
-  pub record Fails (fault : LoadFault) (reason : List ℕ) : Type 0 where
+  pub record FailsCheck (fault : LoadFault) (reason : List ℕ) : Type 0 where
     pub refused : IsLoadFault known [] bytes fault
     pub told : (reason ≡ []) ⊎ IsReason known bytes fault reason
 
 -- every manifest of more than 1048576 bytes comes to this fault, whatever its files give
 abbrev pub FailsIfLong : LoadFault → List ℕ → Type 0
 FailsIfLong fault reason =
-    (known : KnownFiles) (bytes : List ℕ) → 1048576 < length bytes → Fails known bytes fault reason
+    (known : KnownFiles) (bytes : List ℕ) → 1048576 < length bytes
+    → FailsCheck known bytes fault reason

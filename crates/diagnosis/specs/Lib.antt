@@ -1,4 +1,5 @@
 pub mod Texts
+pub mod Inside
 pub mod Shown
 pub mod Reason
 pub mod Check

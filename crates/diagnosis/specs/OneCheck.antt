@@ -1,19 +1,20 @@
 -- A manifest has one check.
 use Rattle.std.specs.Prelude.{◌≡◌, ◌≢◌, ℕ, List, Option, Some}
+use Rattle.load.specs.bounded_files.Files.{KnownFile}
 use Rattle.load.specs.declared.fault.LoadFault.{LoadFault}
 use Rattle.load.specs.declared.fault.LoadFault.TheVariants.{Memory}
-use Rattle.diagnosis.specs.Check.{Fails, Passes}
+use Rattle.diagnosis.specs.Check.{FailsCheck, PassesCheck}
 
 -- of files that tell their bytes a manifest passes with one text, or has one fault, want of memory
 -- aside
-pub record HasOneCheck (files : List ℕ → Option (List ℕ)) (bytes : List ℕ) : Type 0 where
-  pub text : (text other : List ℕ) → Passes (Some files) bytes text
-      → Passes (Some files) bytes other → text ≡ other
-  pub fault : (e f : LoadFault) (reason other : List ℕ) → Fails (Some files) bytes e reason
-      → Fails (Some files) bytes f other → e ≢ Memory → f ≢ Memory → e ≡ f
+pub record HasOneCheck (files : List ℕ → Option KnownFile) (bytes : List ℕ) : Type 0 where
+  pub text : (text other : List ℕ) → PassesCheck (Some files) bytes text
+      → PassesCheck (Some files) bytes other → text ≡ other
+  pub fault : (e f : LoadFault) (reason other : List ℕ) → FailsCheck (Some files) bytes e reason
+      → FailsCheck (Some files) bytes f other → e ≢ Memory → f ≢ Memory → e ≡ f
   pub either : (text : List ℕ) (e : LoadFault) (reason : List ℕ)
-      → Passes (Some files) bytes text → Fails (Some files) bytes e reason → e ≡ Memory
+      → PassesCheck (Some files) bytes text → FailsCheck (Some files) bytes e reason → e ≡ Memory
 
 abbrev pub ChecksOneWay : Type 0
-ChecksOneWay = (files : List ℕ → Option (List ℕ)) (bytes : List ℕ)
+ChecksOneWay = (files : List ℕ → Option KnownFile) (bytes : List ℕ)
     → HasOneCheck files bytes

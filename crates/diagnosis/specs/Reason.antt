@@ -1,6 +1,6 @@
 -- Where and why a manifest is refused.
 use Rattle.std.specs.Prelude.{◌≡◌, ℕ, ◌-◌, List, [], ◌++◌, codes, slice_get, Some, Ok}
-use Rattle.cells.specs.Directory.{Declaration}
+use Rattle.load.specs.manifest.cells.Directory.{Declaration}
 use Rattle.diagnosis.specs.declared.shown.Place.{Place}
 use Rattle.diagnosis.specs.declared.shown.Place.TheVariants.{Whole, Slot, Line}
 use Rattle.diagnosis.specs.Shown.{ShowsPlace}
@@ -18,13 +18,13 @@ use Rattle.load.specs.acceptance.declared.fault.RuleTextFault.{RuleTextFault}
 use Rattle.load.specs.acceptance.declared.fault.RuleTextFault.TheVariants.{Text}
 use Rattle.load.specs.acceptance.flow_check.declared.fault.FlowFault.TheVariants as flow
 use Rattle.load.specs.acceptance.rule_lang.declared.fault.RuleFault.TheVariants as rule
-use Rattle.manifest.specs.App.{AppEntry}
-use Rattle.manifest.specs.Manifest.{Manifest, ReadsManifest}
-use Rattle.manifest.specs.Texts.{misfit_text, twice_text}
-use Rattle.manifest.specs.declared.fault.ManifestFault.{ManifestFault}
-use Rattle.manifest.specs.declared.fault.ManifestFault.TheVariants as unread
-use Rattle.manifest.specs.declared.fault.TomlFault.{TomlFault}
-use Rattle.manifest.specs.declared.fault.TomlFault.TheVariants as toml
+use Rattle.load.specs.manifest.App.{AppEntry}
+use Rattle.load.specs.manifest.Manifest.{Manifest, ReadsManifest}
+use Rattle.load.specs.manifest.Texts.{misfit_text, twice_text}
+use Rattle.load.specs.manifest.declared.fault.ManifestFault.{ManifestFault}
+use Rattle.load.specs.manifest.declared.fault.ManifestFault.TheVariants as unread
+use Rattle.load.specs.manifest.declared.fault.TomlFault.{TomlFault}
+use Rattle.load.specs.manifest.declared.fault.TomlFault.TheVariants as toml
 
 -- ---- entries by their numbers, from 1
 

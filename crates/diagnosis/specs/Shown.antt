@@ -1,10 +1,11 @@
 -- What is shown of an app's file: the place at which its fault lies.
 use Rattle.std.specs.Prelude.{◌≡◌, ℕ, ◌-◌, List, [], ◌++◌, codes, decimal, slice_get, unwrap_or}
-use Rattle.std.specs.Prelude.{Some, IsUtf8}
+use Rattle.std.specs.Prelude.{Some, true, IsUtf8}
 use Rattle.std.specs.Str.Lines.{lines}
 use Rattle.bpf_insn.specs.Spelling.{Spells}
 use Rattle.bpf_insn.specs.declared.insn.Insn.{Insn}
 use Rattle.bpf_text.specs.Listing.{line_of}
+use Rattle.diagnosis.specs.Inside.{is_inside}
 use Rattle.diagnosis.specs.declared.shown.Place.{Place}
 use Rattle.diagnosis.specs.declared.shown.Place.TheVariants.{Whole, Slot, Line}
 use Rattle.load.specs.rulesets.Texts.{line}
@@ -24,9 +25,9 @@ IsShown (Line number) bytes text =
     IsUtf8 bytes
     × (text ≡ line (codes "line " ++ decimal number ++ codes ": " ++ text_at number bytes))
 
--- the file is read again, and its place is shown; or nothing is, for want of memory or of the file,
--- or because there is no such place
+-- the file is one of the manifest's folder, is read again, and its place is shown; or nothing is:
+-- of a file from outside, for want of memory or of the file, or because there is no such place
 pub data ShowsPlace (known : KnownFiles) (file : List ℕ) (place : Place) : List ℕ → Type 0 where
   nothing : ShowsPlace known file place []
-  shown : {text : List ℕ} (bytes : List ℕ) → Gives known file (Some bytes)
+  shown : {text : List ℕ} (bytes : List ℕ) → is_inside file ≡ true → Gives known file (Some bytes)
       → IsShown place bytes text → ShowsPlace known file place text

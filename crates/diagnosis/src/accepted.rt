@@ -1,10 +1,10 @@
 //! What is told of a manifest that is accepted.
 
 ghost use Rattle.std.specs.Prelude.{◌≡◌, ◌++◌, flat_map, IfOk, OnOk, string_bytes};
-ghost use Rattle.declarations.specs.Texts as declarations;
+ghost use Rattle.load.specs.manifest.declarations.Texts as declarations;
 ghost use Rattle.diagnosis.specs.Texts.{declared_line, loaded_text};
 
-use cells::{CellArray, CellWidth};
+use load::manifest::cells::{CellArray, CellWidth};
 use load::ruleset::{App, tell_apps};
 use std::alloc::{AllocError, Global};
 use std::fmt::Write;

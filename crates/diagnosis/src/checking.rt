@@ -1,13 +1,13 @@
 //! From the bytes of a manifest to what is told of them.
 
 ghost use Rattle.std.specs.Prelude.{◌≡◌, ◌^◌, ◌-◌, ◌<◌, IfOk, IfErr, string_bytes};
-ghost use Rattle.diagnosis.specs.Check.{Fails, FailsIfLong, Passes};
+ghost use Rattle.diagnosis.specs.Check.{FailsCheck, FailsIfLong, PassesCheck};
 
 use crate::accepted::tell_accepted;
 use crate::reason::{reason_of, tell_toml};
-use cells::Directory;
+use load::manifest::cells::Directory;
+use load::manifest::{ManifestFault, TomlFault};
 use load::{Files, LoadFault, load_ruleset};
-use manifest::{ManifestFault, TomlFault};
 use std::alloc::Global;
 
 /// Why a manifest is refused, and where.
@@ -35,7 +35,8 @@ pub struct Refused {
 ///   line, the line follows with its text, as `line 2: count q[0];`, which is empty at the text's
 ///   end. Where M5 has a slot at which an instruction begins, it follows as it is listed:
 ///   `slot 1: exit`. The file is read once more for that line, which is left out where it can't be
-///   read again; and a device may give other bytes than before.
+///   read again; and a device may give other bytes than before. It is left out, too, where the file
+///   lies outside the manifest's folder, by a name that is absolute or has a part `..`.
 /// - M7: `array[2].length: r passes the 4096 cells that all arrays of a width have`.
 ///
 /// M8 comes where memory for the load or for the text of an accepted manifest is refused. Where it
@@ -44,9 +45,9 @@ pub fn check<F: Files>(alloc: Global, manifest: &[u8], files: &mut F) -> Result<
     requires { F.failed files.old < 2 ^ 64 - 2 }
     ensures known { F.known files.new ≡ F.known files.old }
     ensures passes { IfOk result (λ text.
-        Passes (F.known files.old) manifest.now (string_bytes text)) }
+        PassesCheck (F.known files.old) manifest.now (string_bytes text)) }
     ensures fails { IfErr result (λ r.
-        Fails (F.known files.old) manifest.now r.fault (string_bytes r.reason)) }
+        FailsCheck (F.known files.old) manifest.now r.fault (string_bytes r.reason)) }
 {
     let mut directory = Directory::new(alloc);
     let rules = match load_ruleset(alloc, manifest, files, &mut directory) {

@@ -6,9 +6,10 @@ ghost use Rattle.diagnosis.specs.Shown.{ShowsPlace};
 ghost use Rattle.diagnosis.specs.Texts.{file_line, source_key};
 ghost use Rattle.load.specs.Source as specs;
 
+use crate::inside::is_inside;
 use crate::shown::{Place, show};
 use load::Files;
-use manifest::{AppEntry, ProgramSource, read_manifest};
+use load::manifest::{AppEntry, ProgramSource, read_manifest};
 use std::alloc::{AllocError, Global};
 use std::fmt::Write;
 
@@ -75,7 +76,7 @@ fn key_of(source: &ProgramSource) -> &'static str
     }
 }
 
-// The place in the file, which is read once more.
+// The place in the file, which is read once more if it lies in the manifest's folder.
 fn show_again<F: Files>(
     alloc: Global,
     files: &mut F,
@@ -90,7 +91,11 @@ fn show_again<F: Files>(
     if place == Place::Whole {
         return String::new(alloc);
     }
-    let Ok(bytes) = files.bytes(file_of(source)) else {
+    let name = file_of(source);
+    if !is_inside(name) {
+        return String::new(alloc);
+    }
+    let Ok(bytes) = files.bytes(name) else {
         return String::new(alloc);
     };
     match show(alloc, place, bytes.as_slice()) {

@@ -2,8 +2,8 @@
 
 ghost use Rattle.diagnosis.specs.OneCheck.{ChecksOneWay};
 
+use load::manifest::one_reading;
 use load::one_load;
-use manifest::one_reading;
 
 /// A law: of files that tell their bytes, a manifest passes with one text, or has one fault, want
 /// of memory aside. It is called by nothing that runs.

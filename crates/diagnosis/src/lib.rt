@@ -7,11 +7,14 @@
 // for what it says. A member that doesn't fit and a name that stands twice are told by the fault
 // itself. All others have a number, of an array or an app. So the manifest is read once more to
 // find the entry of that number, and where the fault lies in an app's file, that file is read once
-// more to show the line of the rule, or the instruction of the program, at which it lies.
+// more to show the line of the rule, or the instruction of the program, at which it lies. Manifests
+// of others are checked, too, so of a file that lies outside the manifest's folder nothing is
+// shown.
 
 mod accepted;
 mod checking;
 mod file;
+mod inside;
 mod law;
 mod reason;
 mod shown;

@@ -2,9 +2,9 @@
 use Rattle.std.specs.Prelude.{◌≡◌, ℕ, List, Option, None, Some}
 use Rattle.std.specs.List.{flat_map}
 use Rattle.std.specs.String.{string_bytes}
-use Rattle.diagnosis.specs.Check.{Passes, Fails}
+use Rattle.diagnosis.specs.Check.{PassesCheck, FailsCheck}
 use Rattle.diagnosis.specs.load.Folder.{known_beside}
-use Rattle.diagnosis.specs.load.bounded_files.Files.{KnownFiles, Gives, OfFile}
+use Rattle.diagnosis.specs.load.bounded_files.Files.{KnownFiles, Gives, OfFile, regular_files}
 use Rattle.diagnosis.specs.load.bounded_files.Texts.{resource_text}
 use Rattle.diagnosis.specs.load.bounded_files.declared.fault.ResourceFault.TheVariants as resource
 use Rattle.manifest_tools.specs.declared.fault.ManifestToolFault.{ManifestToolFault}
@@ -22,16 +22,17 @@ module _ (known : KnownFiles) where
 
   -- the manifest of the file comes to a ruleset with these lines of arrays and apps
   abbrev pub IsChecked : List ℕ → List ℕ → Type 0
-  IsChecked path text = OfFile known path (λ bytes. Passes (known_beside known path) bytes text)
+  IsChecked path text =
+      OfFile (regular_files known) path (λ bytes. PassesCheck (known_beside known path) bytes text)
 
-  -- the file can't be read, or its manifest comes to none, where and why this is; of want of memory
-  -- for the file nothing is said
+  -- it is no regular file that can be read, or its manifest comes to none, where and why this is;
+  -- of want of memory for the file nothing is said
   abbrev pub IsCheckRefusal : List ℕ → ManifestToolFault → Type 0
-  IsCheckRefusal path (fault.Resource resource.File) = Gives known path None
+  IsCheckRefusal path (fault.Resource resource.File) = Gives (regular_files known) path None
   IsCheckRefusal path (fault.Resource resource.Memory) = Unit {0}
   IsCheckRefusal path (fault.Diagnosed refused) =
-      OfFile known path (λ bytes.
-      Fails (known_beside known path) bytes refused.fault (string_bytes refused.reason))
+      OfFile (regular_files known) path (λ bytes.
+      FailsCheck (known_beside known path) bytes refused.fault (string_bytes refused.reason))
   IsCheckRefusal path refused = ⊥
 
   -- ---- replay

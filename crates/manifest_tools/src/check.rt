@@ -11,13 +11,13 @@ use diagnosis::{check, too_long};
 use std::alloc::Global;
 
 /// The lines of the arrays and apps of a file's manifest. The files that it names lie in its
-/// folder.
+/// folder. It has to be a regular file, as have they; B3 comes where it isn't, or can't be read.
 pub fn check_file<D: Disk>(alloc: Global, disk: &D, path: &str) -> Result<String, ManifestToolFault>
     ensures text { IfOk result
         (λ text. IsChecked (D.known disk.now) path.now (string_bytes text)) }
     ensures fault { IfErr result (IsCheckRefusal (D.known disk.now) path.now) }
 {
-    let bytes = match disk.read(path, MOST_MANIFEST) {
+    let bytes = match disk.read_regular(path, MOST_MANIFEST) {
         Ok(Some(bytes)) => bytes,
         Ok(None) => return Err(ManifestToolFault::Diagnosed(too_long(alloc))),
         Err(fault) => return Err(ManifestToolFault::Resource(fault)),
