@@ -28,6 +28,11 @@ impl<'a, R: Files + AllocGlobal> Disk for Examples<'a, R> {
         let path = path.strip_prefix("examples/").unwrap_or(path);
         self.device.read(path, most)
     }
+
+    fn read_regular(&self, path: &str, most: u32) -> Result<Option<Vec<u8>>, ResourceFault> {
+        let path = path.strip_prefix("examples/").unwrap_or(path);
+        self.device.read_regular(path, most)
+    }
 }
 
 /// What a manifest declares.

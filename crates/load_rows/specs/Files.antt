@@ -1,12 +1,26 @@
 -- What files in memory give by their names.
-use Rattle.std.specs.Prelude.{ℕ, List, [], ◌∷◌, Option, None, if◌then◌else◌}
+use Rattle.std.specs.Prelude.{ℕ, List, [], ◌∷◌, Bool, Option, Some, None, if◌then◌else◌}
 use Rattle.std.specs.Str.{bytes_eq}
+use Rattle.load.specs.bounded_files.Files.{KnownFile}
 
 pub record MemFile : Type 0 where
   pub name : List ℕ
   pub bytes : Option (List ℕ)
+  pub is_regular : Bool
 
--- the bytes of the first file of the name, if it can be read
-abbrev pub given : List MemFile → List ℕ → Option (List ℕ)
-given [] name = None
-given (file ∷ files) name = if bytes_eq file.name name then file.bytes else given files name
+-- the first file of the name
+abbrev pub found : List MemFile → List ℕ → Option MemFile
+found [] name = None
+found (file ∷ files) name = if bytes_eq file.name name then Some file else found files name
+
+abbrev pub of_kind : Bool → Option (List ℕ) → Option KnownFile
+of_kind is_regular None = None
+of_kind is_regular (Some bytes) = Some (record { bytes = bytes; is_regular = is_regular })
+
+-- what is known of it, if it can be read
+abbrev pub if_readable : Option MemFile → Option KnownFile
+if_readable None = None
+if_readable (Some file) = of_kind file.is_regular file.bytes
+
+abbrev pub given : List MemFile → List ℕ → Option KnownFile
+given files name = if_readable (found files name)

@@ -45,6 +45,10 @@ shape.rule: when offer 1; / otherwise none;
 name.rule: when take(q, 0) offer 1; / otherwise none;
 unfinished.rule: count n[0];
 count.rule: count n[9]; /   count q[0]; / otherwise none;
+/abs/token.rule: # a comment / otherwise none; $
+../token.rule: # a comment / otherwise none; $
+sub/../token.rule: # a comment / otherwise none; $
+./sub//..token.rule: # a comment / otherwise none; $
 "#;
 
 /// The check of a manifest. It has no clauses, so that no proof reads the texts of a test.

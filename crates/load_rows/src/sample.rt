@@ -15,6 +15,7 @@ mov r0, 0 / exit
 - unset.bpf: exit
 - unreached.bpf: mov r0, 0 / exit / exit
 - back.bpf: mov r0, 0 / ja -2
+- ../back.bpf: mov r0, 0 / ja -2
 - other_array.bpf: ldcell r6, 1, 0 / mov r0, 0 / exit
 - wide.bpf: lddw r6, 0 / ldcell r7, 2, 8 / mov r0, 0 / exit
 "#;

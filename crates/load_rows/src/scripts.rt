@@ -1,5 +1,6 @@
 //! Scripts: manifests with their programs, each in a folder of its own.
 
+mod kinds;
 mod limits;
 mod lines;
 mod played;

@@ -4,7 +4,8 @@ use super::{each_is_told, told_alone};
 use crate::sample::{must, repeated};
 use std::test::Fail;
 
-/// What is changed, and what is told: the refusal, and the lines of its reason.
+/// What is changed, and what is told: the refusal, and the lines of its reason. Of a file outside
+/// the manifest's folder no line is shown.
 const ROWS: &str = r#"
 - server = "prod" => server = | M1 Toml / TOML parse error at line 2, column
 - name = "q" => name = "q | M1 Toml / TOML parse error at line 4, column
@@ -54,6 +55,17 @@ array[2].length: n passes the 4096 cells that all arrays of a width have /
  | M6 Rule L2 Shape at line 1 in app 2 / app[2].rule: unfinished.rule / line 1: count n[0]; /
 - "y.rule" => "ended.rule"
  | M6 Rule L2 Shape at line 2 in app 2 / app[2].rule: ended.rule / line 2:  /
+- "y.rule" => "./sub//..token.rule"
+ | M6 Rule L1 Token at line 2 in app 2 / app[2].rule: ./sub//..token.rule /
+line 2: otherwise none; $ /
+- "y.rule" => "/abs/token.rule"
+ | M6 Rule L1 Token at line 2 in app 2 / app[2].rule: /abs/token.rule /
+- "y.rule" => "../token.rule"
+ | M6 Rule L1 Token at line 2 in app 2 / app[2].rule: ../token.rule /
+- "y.rule" => "sub/../token.rule"
+ | M6 Rule L1 Token at line 2 in app 2 / app[2].rule: sub/../token.rule /
+- "x.bpf" => "../back.bpf"
+ | M5 Program F1 BackJump at slot 1 in app 1 / app[1].program: ../back.bpf /
 - program = "x.bpf" => rule = "costly.rule"
  | M6 Rule C1 TooLong in app 1 / app[1].rule: costly.rule /
 "#;
