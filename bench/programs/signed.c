@@ -1,9 +1,9 @@
-/* Quotients and remainders of numbers with a sign, in both widths, by constants and by registers:
-   on both sides of 0, to the least number of each width. No divisor is 0 or -1: C knows no quotient
-   by 0, and none of the least number by -1. */
-#include "context.h"
+/* Quotients and remainders of numbers with a sign, which clang has from -mcpu=v4 on. */
+#include "corpus.h"
 
-uint64_t rule(const struct context *app) {
+/* In both widths, by constants and by registers: on both sides of 0, to the least number of each
+   width. No divisor is 0 or -1: C knows no quotient by 0, and none of the least number by -1. */
+RULE(signed_quotients, 64, "") {
     int64_t wide = (int64_t)((uint64_t)app->version[0] << 32 | app->version[1]);
     int32_t a = (int32_t)app->version[2], b = (int32_t)app->version[3];
     int64_t by = (int64_t)app->bucket - 5000;
