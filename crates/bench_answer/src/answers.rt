@@ -1,12 +1,12 @@
 //! Answering one request over and over, by one worker whose reader and writer are memory.
 
 ghost use Rattle.std.specs.Prelude.{◌≡◌, ◌+◌, IfOk};
-ghost use Rattle.bench_answer.specs.Answered.{IsReplied, IsTally};
+ghost use Rattle.bench_answer.specs.Answered.{IsReplied, IsTally, IsTallyFromZeros};
 
 use answering::answer;
 use anyhow::{Context, Error, Result};
 use attrs::fnv1a;
-use cells::{PlainCells, PlainPass};
+use cells::{CellSteps, PlainCells};
 use hot_swap::ruleset::Ruleset;
 use hot_swap::{Publisher, Watcher};
 use http_front::Counted;
@@ -24,15 +24,18 @@ pub(crate) struct Tally {
 }
 
 /// Answers the request once, into the room of an earlier reply.
-fn answer_once(
+fn answer_once<C: CellSteps>(
     alloc: Global,
     input: &[u8],
     mut room: Vec<u8>,
-    pass: &mut PlainPass,
+    cells: &C,
+    pass: &mut C::Pass,
     watcher: &mut Watcher,
 ) -> Result<Vec<u8>>
-    ensures { IfOk result (λ reply.
-        IsReplied input.now watcher.new pass.old pass.new reply.items) }
+    requires { C.belongs cells.now pass.old }
+    ensures belongs { C.belongs cells.now pass.new }
+    ensures replied { IfOk result (λ reply.
+        IsReplied C.grew input.now watcher.new pass.old pass.new reply.items) }
 {
     room.clear();
     let mut reader = Counted::new(input);
@@ -41,7 +44,7 @@ fn answer_once(
         alloc,
         &mut reader,
         &mut writer,
-        &PlainCells,
+        cells,
         pass,
         watcher,
         MOMENT,
@@ -59,15 +62,23 @@ fn sum(bytes: u64, more: usize) -> Result<u64>
     bytes.checked_add(more as u64).context("too many bytes")
 }
 
-/// Answers the request so often, under the ruleset that the watcher sees.
-fn answer_times(alloc: Global, watcher: &mut Watcher, input: &[u8], times: u32) -> Result<Tally>
-    ensures { IfOk result (IsTally input.now times) }
+/// Answers the request so often, under the ruleset that the watcher sees, by runs that act on the
+/// cells.
+pub(crate) fn answer_times<C: CellSteps>(
+    alloc: Global,
+    cells: &C,
+    pass: &mut C::Pass,
+    watcher: &mut Watcher,
+    input: &[u8],
+    times: u32,
+) -> Result<Tally>
+    requires { C.belongs cells.now pass.old }
+    ensures { IfOk result (IsTally C.grew input.now times pass.old pass.new) }
 {
-    let (_cells, mut pass) = PlainCells::new(alloc)?;
     let mut reply = Vec::new(alloc);
     let mut bytes = 0u64;
     for n in 0..times {
-        reply = answer_once(alloc, input, reply, &mut pass, watcher)?;
+        reply = answer_once(alloc, input, reply, cells, pass, watcher)?;
         bytes = sum(bytes, reply.len())?;
     }
     Ok(Tally {
@@ -76,7 +87,15 @@ fn answer_times(alloc: Global, watcher: &mut Watcher, input: &[u8], times: u32) 
     })
 }
 
-/// Answers the request so often, under one ruleset.
+/// The same on cells of its own.
+fn answer_alone(alloc: Global, watcher: &mut Watcher, input: &[u8], times: u32) -> Result<Tally>
+    ensures { IfOk result (IsTallyFromZeros input.now times) }
+{
+    let (cells, mut pass) = PlainCells::new(alloc)?;
+    answer_times(alloc, &cells, &mut pass, watcher, input, times)
+}
+
+/// The same under one ruleset.
 pub(crate) fn answer_under<H: Wait>(
     rt: &H,
     alloc: Global,
@@ -84,11 +103,11 @@ pub(crate) fn answer_under<H: Wait>(
     input: &[u8],
     times: u32,
 ) -> Result<Tally>
-    ensures { IfOk result (IsTally input.now times) }
+    ensures { IfOk result (IsTallyFromZeros input.now times) }
 {
     let mut publisher = Publisher::new(rt, alloc, rules, 1)?;
     let tally = match publisher.watcher() {
-        Ok(mut watcher) => answer_times(alloc, &mut watcher, input, times),
+        Ok(mut watcher) => answer_alone(alloc, &mut watcher, input, times),
         Err(fault) => Err(Error::from(fault)),
     };
     publisher.close(rt);

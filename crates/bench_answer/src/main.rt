@@ -1,17 +1,23 @@
-//! Answers a request over memory as often as it is told, and prints what the replies come to, which
-//! is the same on every machine. It reads no clock: `bench/answer` times whole processes.
+//! Answers a request over memory as often as it is told, or takes from a quota, by one worker or by
+//! several at once, and prints what came of it, which is the same on every machine. It reads no
+//! clock: `bench/answer` and `bench/quotas` time whole processes.
 #![tactic(auto)]
 
 mod answers;
+mod quotas;
 mod requests;
 mod rules;
+mod work;
 
 use crate::answers::{Tally, answer_under};
+use crate::quotas::told;
 use crate::requests::{WORKED, of_apps, post};
+use crate::work::work_of;
 use anyhow::{Context, Result};
 use std::alloc::Global;
 use std::env;
 use std::sync::Wait;
+use std::thread::Threads;
 
 /// The most apps that a request may have.
 const MAX_APPS: u16 = 256;
@@ -22,23 +28,37 @@ fn tally_of<H: Wait>(rt: &H, alloc: Global, word: &str, times: u32) -> Result<Ta
         let input = post(alloc, WORKED)?;
         return answer_under(rt, alloc, rules::worked(alloc)?, &input, times);
     }
-    let count: u16 = word.parse().ok().context("worked, or a number of apps")?;
+    let count: u16 = word
+        .parse()
+        .ok()
+        .context("worked, a number of apps, or the work of several")?;
     let body = of_apps(alloc, count.min(MAX_APPS))?;
     let input = post(alloc, body.as_str())?;
     answer_under(rt, alloc, rules::many(alloc, MAX_APPS)?, &input, times)
 }
 
+/// Does what a word names so often, and tells what came of it.
+fn line_of<H: Threads + Wait + Sync>(
+    rt: &H,
+    alloc: Global,
+    word: &str,
+    times: u32,
+) -> Result<String> {
+    if let Some(work) = work_of(word) {
+        return told(rt, alloc, work, times);
+    }
+    let Tally { bytes, reply } = tally_of(rt, alloc, word, times)?;
+    Ok(format!(in alloc; "answers={times} bytes={bytes} reply={reply}")?)
+}
+
 fn main(rt: HostRuntime) -> Result<()> {
     let words: Vec<String> = env::args(&rt)?.collect(rt.alloc())?;
     let mut words = words.iter().skip(1);
-    let times = words.next().context("bench_answer TIMES REQUEST..")?;
+    let times = words.next().context("bench_answer TIMES WORK..")?;
     let times: u32 = times.parse().ok().context("a number of times")?;
     for word in words {
-        let tally = tally_of(&rt, rt.alloc(), word.as_str(), times)?;
-        println!(rt;
-            "{word} answers={times} bytes={} reply={}",
-            tally.bytes, tally.reply
-        )?;
+        let line = line_of(&rt, rt.alloc(), word.as_str(), times)?;
+        println!(rt; "{word} {line}")?;
     }
     Ok(())
 }

@@ -6,7 +6,7 @@ use acceptance::accept;
 use anyhow::{Result, ensure};
 use attrs::Text;
 use bpf_text::assemble;
-use cells::Shape;
+use cells::{CellWidth, Directory, Shape};
 use hot_swap::bpf_verify::Verified;
 use hot_swap::ruleset::{App, Ruleset};
 use releases::{Package, Release, is_appid};
@@ -19,25 +19,34 @@ const BELOW_2000: &str = "ldxh r2, [r1+16]\nmov r0, 0\njge r2, 2000, end\nmov r0
 /// Offers the last of 64 releases.
 const THE_LAST: &str = "mov r0, 64\nexit";
 
+/// How many may take of the quota. Nobody is meant to find it used up.
+pub(crate) const QUOTA: u64 = 2_000_000_000;
+
+/// Takes of the quota, and offers the first release.
+const TAKES: &str = "ldcell r6, 0, 0\nmov r2, 1\nfadddw [r6+0], r2\nmov r0, 0\n\
+    jge r2, 2000000000, end\nmov r0, 1\nend:\nexit";
+
 /// The SHA-256 of `abc`.
 const HASH: &str = "ba7816bf8f01cfea414140de5dae2223b00361a396177a9cb410ff61f20015ad";
 
 /// The ruleset of a server `prod` that knows the app `x`, which has one release of one package.
 pub(crate) fn worked(alloc: Global) -> Result<Arc<Ruleset>> {
-    let program = program(alloc, BELOW_2000, 1)?;
+    let program = program(alloc, BELOW_2000, &Shape::plain(alloc, 1))?;
     let apps = vec![in alloc; app(alloc, "x", &program, 1)?]?;
     ruleset(alloc, apps)
 }
 
 /// The ruleset of a server `prod` that knows so many apps, each of 64 releases of 16 packages.
 pub(crate) fn many(alloc: Global, count: u16) -> Result<Arc<Ruleset>> {
-    let program = program(alloc, THE_LAST, 64)?;
-    let mut apps = Vec::new(alloc);
-    for number in 0..count {
-        let appid = format!(in alloc; "app{number}")?;
-        apps.push(app(alloc, appid.as_str(), &program, 16)?)?;
-    }
-    ruleset(alloc, apps)
+    let program = program(alloc, THE_LAST, &Shape::plain(alloc, 64))?;
+    ruleset(alloc, apps(alloc, count, &program, 16)?)
+}
+
+/// The ruleset of a server `prod` that knows so many apps, each of one release of one package. Each
+/// run takes from one quota, whichever app it is of: it adds 1 to cell 0.
+pub(crate) fn takers(alloc: Global, count: u16) -> Result<Arc<Ruleset>> {
+    let program = program(alloc, TAKES, &quota_shape(alloc)?)?;
+    ruleset(alloc, apps(alloc, count, &program, 1)?)
 }
 
 fn ruleset(alloc: Global, apps: Vec<App>) -> Result<Arc<Ruleset>> {
@@ -45,13 +54,33 @@ fn ruleset(alloc: Global, apps: Vec<App>) -> Result<Arc<Ruleset>> {
     Ok(Arc::new(alloc, Ruleset::new(server, apps)?)?)
 }
 
-/// The program of a text, for an app with so many releases.
-fn program(alloc: Global, text: &str, releases: u8) -> Result<Arc<Verified>>
-    requires { releases ≤ 64 }
-{
+/// The shape of an app with one release that takes from a quota.
+fn quota_shape(alloc: Global) -> Result<Shape> {
+    let mut directory = Directory::new(alloc);
+    let array = directory.declare(alloc, "q", CellWidth::Bits64, 1, Some(QUOTA))?;
+    ensure!(array.number < directory.arrays().len(), "no array");
+    Ok(Shape::of(alloc, 1, &directory, &[array])?)
+}
+
+/// The program of a text, for apps of a shape.
+fn program(alloc: Global, text: &str, shape: &Shape) -> Result<Arc<Verified>> {
     let bytes = assemble(alloc, text)?;
-    let program = accept(alloc, &bytes, &Shape::plain(alloc, releases))?;
+    let program = accept(alloc, &bytes, shape)?;
     Ok(Arc::new(alloc, program)?)
+}
+
+/// So many apps `app0`, `app1` and so on, each with as many releases as the program has, each of so
+/// many packages.
+fn apps(alloc: Global, count: u16, program: &Arc<Verified>, packages: u8) -> Result<Vec<App>>
+    requires some { 1 ≤ packages }
+    requires few { packages ≤ 16 }
+{
+    let mut apps = Vec::new(alloc);
+    for number in 0..count {
+        let appid = format!(in alloc; "app{number}")?;
+        apps.push(app(alloc, appid.as_str(), program, packages)?)?;
+    }
+    Ok(apps)
 }
 
 /// An app with as many releases as its program has, each of so many packages.

@@ -1,9 +1,8 @@
-use Rattle.cells.specs.Events.{AreZeros}
 use Rattle.bench_answer.specs.Answered.{AreAnswers}
 use Rattle.bench_answer.proofs.answers.answer_times.Given as goal
 
 -- the answers so far
 abbrev pub invariant-loop-n : goal.invariant-loop-n
-invariant-loop-n l =
-    AreZeros 8192 l.initial.pass
-    × AreAnswers l.input l.initial.pass l.n l.pass l.bytes l.reply.items
+invariant-loop-n g l =
+    g.C.CellSteps.belongs l.cells l.pass
+    × AreAnswers (g.C.CellSteps.grew) l.input l.initial.pass l.n l.pass l.bytes l.reply.items
