@@ -21,6 +21,13 @@ class Trouble(Exception):
 
 def processor_time(command, source=os.devnull):
     """The processor time of a process in seconds, and its output; the source is its input."""
+    took, _, output = times_of(command, source)
+    return took, output
+
+
+def times_of(command, source=os.devnull):
+    """The processor time of a process in seconds, its time by the clock, and its output."""
+    start = time.monotonic()
     with tempfile.TemporaryFile() as out, tempfile.TemporaryFile() as err:
         with open(source, "rb") as given:
             process = subprocess.Popen(command, stdin=given, stdout=out, stderr=err)
@@ -32,12 +39,13 @@ def processor_time(command, source=os.devnull):
                 process.wait()
                 raise Trouble(f"not in {PATIENCE} s")
             time.sleep(0.001)
+        clock = time.monotonic() - start
         process.returncode = os.waitstatus_to_exitcode(status)
         out.seek(0)
         err.seek(0)
         if process.returncode != 0:
             raise Trouble("refused: " + err.read().decode().strip())
-        return usage.ru_utime + usage.ru_stime, out.read().decode()
+        return usage.ru_utime + usage.ru_stime, clock, out.read().decode()
 
 
 def time_so_far(pid):
@@ -54,6 +62,7 @@ class Measured:
         self.source = source
         self.rarely, self.often = rarely, often
         self.took = {rarely: [], often: []}
+        self.clock = {rarely: [], often: []}
         self.output = None
         self.trouble = None
 
@@ -62,15 +71,23 @@ class Measured:
             if self.trouble is None:
                 try:
                     command = [word.replace("TIMES", str(times)) for word in self.command]
-                    took, self.output = processor_time(command, self.source)
+                    took, clock, self.output = times_of(command, self.source)
                     self.took[times].append(took)
+                    self.clock[times].append(clock)
                 except Trouble as trouble:
                     self.trouble = str(trouble)
 
     def each(self):
-        """The time of one verification or run, in each round."""
-        start = min(self.took[self.rarely])
-        return [(took - start) / (self.often - self.rarely) for took in self.took[self.often]]
+        """The processor time of one verification, run or answer, in each round."""
+        return self.of_one(self.took)
+
+    def each_by_clock(self):
+        """The same by the clock."""
+        return self.of_one(self.clock)
+
+    def of_one(self, took):
+        start = min(took[self.rarely])
+        return [(one - start) / (self.often - self.rarely) for one in took[self.often]]
 
     def least(self):
         return min(self.each())
@@ -120,6 +137,14 @@ def show_machine():
 
 def show_load(when):
     print(f"load at the {when}: " + " ".join(f"{x:.1f}" for x in os.getloadavg()))
+
+
+def build_program(crate, words):
+    """Proves and builds the program of a crate; where nothing has changed, `rt run` only runs it."""
+    print(f"proving and building crates/{crate.name}, where it has changed", file=sys.stderr)
+    done = subprocess.run(["rt", "run", "--", *words], cwd=crate, capture_output=True, text=True)
+    if done.returncode != 0:
+        sys.exit(done.stdout + done.stderr)
 
 
 def build_server_peer(out):
