@@ -2,50 +2,35 @@
 
 use crate::clients::{ended, halt, held, refused, silent, slow, two, waiting};
 use crate::crew::{Crew, crew_of};
-use crate::meeting::{Meeting, gate_that};
-use crate::shelf::rules;
-use hot_swap::Publisher;
-use std::alloc::Global;
+use crate::meeting::{Meeting, gate_that_holds};
+use crate::shelf::publisher_of;
+use crate::whole_server::service_of;
 use std::net::{Net, SocketAddr, TcpListener, TcpStream};
 use std::sync::Wait;
 use std::sync::atomic::{AtomicBool, Ordering};
 use std::test::Fail;
 use std::thread::Threads;
-use std::time::{Clock, Duration};
+use std::time::Clock;
 use std::{io, thread};
-use workers::{Service, serve};
+use workers::{Gate, Service, serve};
 
-/// The publisher of a server that offers nothing, with places for so many watchers. It is ended by
-/// `close`.
-pub(crate) fn publisher_for<H: Wait>(
+/// Serves with these 1 to 64 workers, until it is told to stop, and says whether it could.
+pub(crate) fn serves<H, G>(
     rt: &H,
-    alloc: Global,
-    watchers: usize,
-) -> Result<Publisher, Fail> {
-    Ok(Publisher::new(rt, alloc, rules(alloc, "nothing")?, watchers.clamp(1, 65))?)
-}
-
-/// Serves with these 1 to 64 workers, each connection for so many seconds, and says whether it
-/// could.
-fn serves<H>(
-    rt: &H,
-    gate: &Meeting,
+    gate: &G,
     listener: TcpListener,
     crew: Crew,
     stop: &AtomicBool,
-    seconds: u64,
+    service: Service,
 ) -> bool
 where
     H: Threads + Wait + AllocGlobal + Clock + Eprint + Sync,
+    G: Gate + Sync,
 {
     let Crew { cells, workers } = crew;
     if workers.is_empty() || 64 < workers.len() {
         return false;
     }
-    let service = Service {
-        timeout: Duration::from_secs(seconds),
-        log: false,
-    };
     serve(rt, gate, listener, &cells, workers, stop, service).is_ok()
 }
 
@@ -86,12 +71,13 @@ where
 }
 
 /// Whether the clients heard what they should, the gate didn't run out, and the server ended: one
-/// of these workers, each connection of which may last so many seconds.
+/// of these workers, whose gate holds so many calls, and each connection of which may last so many
+/// seconds.
 fn is_served_by<H>(
     rt: &H,
     crew: Crew,
     clients: Clients,
-    holds: bool,
+    holds: u64,
     seconds: u64,
 ) -> Result<bool, Fail>
 where
@@ -106,21 +92,22 @@ where
     let listener = TcpListener::bind(rt, "127.0.0.1:0")?;
     let place = listener.local_addr()?;
     let stop = AtomicBool::new(false);
-    let gate = gate_that(holds);
+    let gate = gate_that_holds(holds);
+    let service = service_of(seconds);
     let (ended, heard) = thread::join(
         rt,
-        || serves(rt, &gate, listener, crew, &stop, seconds),
+        || serves(rt, &gate, listener, crew, &stop, service),
         || heard(rt, place, &gate, &stop, clients),
     );
     let is_heard = heard?;
     Ok(is_heard && ended && !gate.ran_out.load(Ordering::SeqCst))
 }
 
-/// The same of a server with so many workers.
+/// The same of a server that offers nothing, with so many workers.
 fn is_served<H>(
     rt: &H,
     clients: Clients,
-    holds: bool,
+    holds: u64,
     workers: usize,
     seconds: u64,
 ) -> Result<bool, Fail>
@@ -133,7 +120,7 @@ where
         + Sync
         + Net<Listener = TcpListener, Stream = TcpStream>,
 {
-    let mut publisher = publisher_for(rt, rt.alloc(), workers)?;
+    let mut publisher = publisher_of(rt, rt.alloc(), "nothing", workers)?;
     let is_served = match crew_of(rt.alloc(), &mut publisher, workers) {
         Ok(crew) => is_served_by(rt, crew, clients, holds, seconds),
         Err(fault) => Err(fault),
@@ -145,31 +132,32 @@ where
 #[test]
 fn clients_are_served(rt: HostRuntime) -> Result<(), Fail> {
     assert!(rt;
-        is_served(&rt, Clients::Two, true, 2, 30)?,
+        is_served(&rt, Clients::Two, 1, 2, 30)?,
         "two answers at once"
     );
+    assert!(rt; is_served(&rt, Clients::Held, 0, 2, 30)?, "a head is held");
     assert!(rt;
-        is_served(&rt, Clients::Held, false, 2, 30)?,
-        "a head is held"
-    );
-    assert!(rt;
-        is_served(&rt, Clients::Silent, false, 1, 1)?,
+        is_served(&rt, Clients::Silent, 0, 1, 1)?,
         "a silent one is dropped"
     );
     assert!(rt;
-        is_served(&rt, Clients::Slow, false, 1, 1)?,
+        is_served(&rt, Clients::Slow, 0, 1, 1)?,
         "a slow one is dropped"
     );
     assert!(rt;
-        is_served(&rt, Clients::Waiting, true, 1, 30)?,
+        is_served(&rt, Clients::Waiting, 3, 3, 30)?,
+        "three are held, and a stop"
+    );
+    assert!(rt;
+        is_served(&rt, Clients::Waiting, 1, 1, 30)?,
         "accepted before a stop"
     );
     assert!(rt;
-        is_served(&rt, Clients::Refused, false, 1, 30)?,
+        is_served(&rt, Clients::Refused, 0, 1, 30)?,
         "a refusal is heard"
     );
     assert!(rt;
-        is_served(&rt, Clients::Ended, false, 1, 30)?,
+        is_served(&rt, Clients::Ended, 0, 1, 30)?,
         "a reply is heard whole"
     );
     Ok(())

@@ -23,20 +23,41 @@ fn is_replied<H: AllocGlobal>(rt: &H, stream: &TcpStream) -> io::Result<bool> {
     Ok(bytes.starts_with(b"HTTP/1.1 200 OK\r\n") && bytes.ends_with(b"\"server\":\"prod\"}}"))
 }
 
+/// Connections that have sent a whole request each.
+fn asked_times<H>(rt: &H, place: SocketAddr, count: u32) -> io::Result<Vec<TcpStream>>
+where
+    H: Net<Stream = TcpStream> + AllocGlobal,
+{
+    let mut streams = Vec::new(rt.alloc());
+    for _ in 0..count {
+        streams.push(asked(rt, place)?)?;
+    }
+    Ok(streams)
+}
+
+/// Whether each of them hears that reply.
+fn are_replied<H: AllocGlobal>(rt: &H, streams: &[TcpStream]) -> io::Result<bool> {
+    for stream in streams.iter() {
+        if !is_replied(rt, stream)? {
+            return Ok(false);
+        }
+    }
+    Ok(true)
+}
+
 /// Ends a server.
 pub(crate) fn halt<H: Net<Stream = TcpStream>>(rt: &H, place: SocketAddr, stop: &AtomicBool) {
     stop.store(true, Ordering::SeqCst);
     let _last = TcpStream::connect(rt, place);
 }
 
-/// Two requests at once, of which the second is answered first.
+/// Two requests at once, of which the first is held until the second was answered.
 pub(crate) fn two<H>(rt: &H, place: SocketAddr) -> io::Result<bool>
 where
     H: Net<Stream = TcpStream> + AllocGlobal,
 {
-    let first = asked(rt, place)?;
-    let second = asked(rt, place)?;
-    Ok(is_replied(rt, &second)? && is_replied(rt, &first)?)
+    let streams = asked_times(rt, place, 2)?;
+    are_replied(rt, &streams)
 }
 
 /// A request whose body comes once another one was answered.
@@ -47,7 +68,7 @@ where
     let whole = post(rt.alloc(), TWO_APPS)?;
     let (head, body) = whole.split_at(whole.len().saturating_sub(TWO_APPS.len()));
     let first = sent(rt, place, head)?;
-    let came = awaits(&gate.begun);
+    let came = gate.awaits_calls(1);
     let second = asked(rt, place)?;
     let answered = awaits(&gate.made);
     let later = is_replied(rt, &second)?;
@@ -55,16 +76,25 @@ where
     Ok(came && answered && later && is_replied(rt, &first)?)
 }
 
-/// A client that sends nothing until a second one was answered, and is answered then.
-pub(crate) fn at_once<H>(rt: &H, place: SocketAddr) -> io::Result<bool>
+/// A client that sends nothing, and whether a second one is answered beside it.
+fn beside_silent<H>(rt: &H, place: SocketAddr) -> io::Result<(TcpStream, bool)>
 where
     H: Net<Stream = TcpStream> + AllocGlobal,
 {
     let first = sent(rt, place, b"")?;
     let second = asked(rt, place)?;
     let heard = is_replied(rt, &second)?;
+    Ok((first, heard))
+}
+
+/// A client that sends nothing until a second one was answered, and is answered then.
+pub(crate) fn at_once<H>(rt: &H, place: SocketAddr) -> io::Result<bool>
+where
+    H: Net<Stream = TcpStream> + AllocGlobal,
+{
+    let (first, heard) = beside_silent(rt, place)?;
     send(&first, &post(rt.alloc(), TWO_APPS)?)?;
-    Ok(heard && is_replied(rt, &first)?)
+    Ok(is_replied(rt, &first)? && heard)
 }
 
 /// A client that sends nothing, and a second one that asks the one worker.
@@ -72,9 +102,7 @@ pub(crate) fn silent<H>(rt: &H, place: SocketAddr) -> io::Result<bool>
 where
     H: Net<Stream = TcpStream> + AllocGlobal,
 {
-    let silent = sent(rt, place, b"")?;
-    let second = asked(rt, place)?;
-    let heard = is_replied(rt, &second)?;
+    let (silent, heard) = beside_silent(rt, place)?;
     let none = reply(rt.alloc(), &silent).unwrap_or(Vec::new(rt.alloc()));
     Ok(heard && none.is_empty())
 }
@@ -95,7 +123,8 @@ where
     is_replied(rt, &second)
 }
 
-/// Three requests to one worker, of which the first is held until the server was told to stop.
+/// Three requests at once, of which as many as the gate holds wait at it until the server was told
+/// to stop. Where it doesn't hold them all the listener has half a second to take the others.
 pub(crate) fn waiting<H>(
     rt: &H,
     place: SocketAddr,
@@ -105,14 +134,14 @@ pub(crate) fn waiting<H>(
 where
     H: Net<Stream = TcpStream> + AllocGlobal + Clock,
 {
-    let first = asked(rt, place)?;
-    let came = awaits(&gate.begun);
-    let second = asked(rt, place)?;
-    let third = asked(rt, place)?;
-    thread::sleep(rt, Duration::from_millis(500));
+    let streams = asked_times(rt, place, 3)?;
+    let came = gate.awaits_calls(gate.holds);
+    if gate.holds < 3 {
+        thread::sleep(rt, Duration::from_millis(500));
+    }
     halt(rt, place, stop);
     gate.made.store(true, Ordering::SeqCst);
-    Ok(came && is_replied(rt, &first)? && is_replied(rt, &second)? && is_replied(rt, &third)?)
+    Ok(are_replied(rt, &streams)? && came)
 }
 
 /// A client that ends its body with a line's end that it doesn't count, and hears the whole reply.

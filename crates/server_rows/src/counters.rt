@@ -29,29 +29,75 @@ pub(crate) const OFFER: &str = "\"version\":\"2.0.0.0\"";
 
 const NONE: &str = "\"noupdate\"";
 
-/// The status of the reply, how many apps are offered the release and how many none, whether the
-/// offer stands first, and the counter after it.
-fn taken(alloc: Global, server: &mut Answering, input: &[u8]) -> Result<String, Fail> {
+/// What a request takes: the status of the reply, how many apps are offered the release and how
+/// many none, whether the offer stands first, and the counter after it.
+#[derive(Clone, Copy, PartialEq, Eq)]
+struct RequestTake {
+    status: u16,
+    offers: usize,
+    nones: usize,
+    is_first: bool,
+    count: u64,
+}
+
+/// What is taken by the request of another path, which is none.
+const NOTHING: RequestTake = RequestTake {
+    status: 404,
+    offers: 0,
+    nones: 0,
+    is_first: false,
+    count: 0,
+};
+
+/// What is taken by two apps that ask, and then by one that pings.
+const TWO: RequestTake = RequestTake {
+    status: 200,
+    offers: 1,
+    nones: 1,
+    is_first: true,
+    count: 2,
+};
+
+const PINGED: RequestTake = RequestTake {
+    status: 200,
+    count: 2,
+    ..NOTHING
+};
+
+/// What is taken by 256 apps that ask.
+const MOST: RequestTake = RequestTake {
+    nones: 255,
+    count: 256,
+    ..TWO
+};
+
+fn taken(alloc: Global, server: &mut Answering, input: &[u8]) -> RequestTake {
     let heard = exchange(alloc, server, input, WHOLE, WHOLE);
-    let status = heard.outcome.unwrap_or(0);
     let text = str::from_utf8(heard.written.as_slice()).unwrap_or("");
-    let (offers, nones) = (times(text.as_bytes(), OFFER), times(text.as_bytes(), NONE));
-    let is_first = text.find(OFFER) < text.find(NONE);
-    let count = server.pass.value(CellNo::new(0));
-    Ok(format!(in alloc; "{status}: {offers} {nones} {is_first}, q[0] {count}")?)
+    RequestTake {
+        status: heard.outcome.unwrap_or(0),
+        offers: times(text.as_bytes(), OFFER),
+        nones: times(text.as_bytes(), NONE),
+        is_first: text.find(OFFER) < text.find(NONE),
+        count: server.pass.value(CellNo::new(0)),
+    }
 }
 
 /// Whether this is taken by a request of these apps.
-fn is_taken(alloc: Global, server: &mut Answering, apps: &str, want: &str) -> Result<bool, Fail> {
+fn is_taken(
+    alloc: Global,
+    server: &mut Answering,
+    apps: &str,
+    want: RequestTake,
+) -> Result<bool, Fail> {
     let input = request(alloc, apps)?;
-    let found = taken(alloc, server, &input)?;
-    Ok(found.as_str() == want)
+    Ok(taken(alloc, server, &input) == want)
 }
 
 /// Whether these apps take in order, and one that pings takes none.
 fn take_in_order(alloc: Global, server: &mut Answering, apps: &str) -> Result<bool, Fail> {
-    let is_first = is_taken(alloc, server, apps, "200: 1 1 true, q[0] 2")?;
-    let is_second = is_taken(alloc, server, PINGS, "200: 0 0 false, q[0] 2")?;
+    let is_first = is_taken(alloc, server, apps, TWO)?;
+    let is_second = is_taken(alloc, server, PINGS, PINGED)?;
     Ok(is_first && is_second)
 }
 
@@ -64,28 +110,26 @@ fn is_in_order<H: Wait>(rt: &H, alloc: Global) -> Result<bool, Fail> {
     is_in_order
 }
 
+/// Whether this is taken by a request, the first of a server of its own.
+fn is_first<H: Wait>(rt: &H, alloc: Global, input: &[u8], want: RequestTake) -> Result<bool, Fail> {
+    let mut server = server_of(rt, alloc, "one")?;
+    let found = taken(alloc, &mut server, input);
+    server.close(rt);
+    Ok(found == want)
+}
+
 /// Whether a request to another path takes nothing.
 fn is_untaken<H: Wait>(rt: &H, alloc: Global) -> Result<bool, Fail> {
     let head = head_of(alloc, "POST /service/update HTTP/1.1\nContent-Length: 0")?;
-    let mut server = server_of(rt, alloc, "one")?;
-    let found = taken(alloc, &mut server, head.as_bytes());
-    server.close(rt);
-    Ok(found?.as_str() == "404: 0 0 false, q[0] 0")
+    is_first(rt, alloc, head.as_bytes(), NOTHING)
 }
 
 /// Whether all of 256 apps take.
 fn is_most<H: Wait>(rt: &H, alloc: Global) -> Result<bool, Fail> {
     let before = format!(in alloc; "{ASKS},")?.repeat(alloc, 255)?;
     let apps = format!(in alloc; "{before}{ASKS}")?;
-    let mut server = server_of(rt, alloc, "one")?;
-    let is_most = is_taken(
-        alloc,
-        &mut server,
-        apps.as_str(),
-        "200: 1 255 true, q[0] 256",
-    );
-    server.close(rt);
-    is_most
+    let input = request(alloc, apps.as_str())?;
+    is_first(rt, alloc, &input, MOST)
 }
 
 #[test]

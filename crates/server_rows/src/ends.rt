@@ -2,9 +2,8 @@
 
 use crate::loopback::{reply, sent};
 use crate::session::is_asked;
-use crate::shelf::{Shelf, rules};
+use crate::shelf::{Shelf, publisher_of};
 use cells::Directory;
-use hot_swap::Publisher;
 use operator::Control;
 use shared_cells::SharedCells;
 use std::alloc::Global;
@@ -25,16 +24,13 @@ where
     H: Wait + AllocGlobal + Clock + Eprint,
 {
     let alloc = rt.alloc();
-    let Ok(rules) = rules(alloc, "nothing") else {
-        return false;
-    };
     let Ok((cells, mut passes)) = SharedCells::new(alloc, 1) else {
         return false;
     };
     let Some(pass) = passes.pop() else {
         return false;
     };
-    let Ok(publisher) = Publisher::new(rt, alloc, rules, 1) else {
+    let Ok(publisher) = publisher_of(rt, alloc, "nothing", 1) else {
         return false;
     };
     let mut control = Control::new(publisher, Directory::new(alloc));

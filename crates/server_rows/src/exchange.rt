@@ -1,11 +1,12 @@
 //! A server over memory, with a ruleset, a watcher and cells; and one exchange with it.
 
-use crate::shelf::rules;
+use crate::shelf::publisher_of;
 use cells::{CellSteps, PlainCells, PlainPass};
 use hot_swap::{Publisher, Watcher};
 use http_front::{Counted, FailAt};
 use std::alloc::{AllocError, Global};
 use std::fmt::Display;
+use std::io::{self, Write};
 use std::sync::Wait;
 use workers::{AnswerFault, Sent, answer};
 
@@ -29,9 +30,7 @@ pub(crate) fn server_of<H: Wait>(
     let Ok((cells, pass)) = PlainCells::new(alloc) else {
         return Err("memory");
     };
-    let Ok(mut publisher) = Publisher::new(rt, alloc, rules(alloc, path)?, 1) else {
-        return Err("memory");
-    };
+    let mut publisher = publisher_of(rt, alloc, path, 1)?;
     match publisher.watcher() {
         Ok(watcher) => Ok(Answering {
             publisher,
@@ -59,23 +58,49 @@ impl Answering {
     }
 }
 
-/// How a device behaves: how many bytes it takes a call, and which call fails, if any (from 1).
+/// How a device behaves: how many bytes it takes a call, which call fails, if any (from 1), and how
+/// many bytes it takes in all, behind which a call takes none.
 #[derive(Clone, Copy)]
 pub(crate) struct Device {
     pub(crate) piece: usize,
     pub(crate) fails: u64,
+    pub(crate) room: usize,
 }
 
 /// A device that takes what it is given.
 pub(crate) const WHOLE: Device = Device {
     piece: 1_000_000,
     fails: 0,
+    room: 1_000_000_000,
 };
 
-/// What came of a request, what the log tells of it, and what was written.
+/// A writer that takes no byte beyond its room.
+#[derive(Drop)]
+struct Bounded {
+    taken: Vec<u8>,
+    room: usize,
+}
+
+impl Write for Bounded {
+    fn write(&mut self, buf: &[u8]) -> io::Result<usize> {
+        let left = self.room.saturating_sub(self.taken.len());
+        let count = buf.len().min(left);
+        self.taken.extend_from_slice(&buf[..count])?;
+        Ok(count)
+    }
+
+    fn flush(&mut self) -> io::Result<()> {
+        Ok(())
+    }
+}
+
+/// What came of a request, how often its reader and its writer failed, what the log tells of it,
+/// and what was written.
 #[derive(Drop)]
 pub(crate) struct Heard {
     pub(crate) outcome: Result<u16, AnswerFault>,
+    pub(crate) read_failures: u64,
+    pub(crate) write_failures: u64,
     pub(crate) told: Option<Sent>,
     pub(crate) written: Vec<u8>,
 }
@@ -93,8 +118,13 @@ pub(crate) fn exchange_over<C: CellSteps>(
     requires { C.belongs cells.now pass.old }
     ensures { C.belongs cells.now pass.new }
 {
+    let input = &input[..input.len().min(reads.room)];
     let mut reader = Counted::new(FailAt::new(input, reads.piece, reads.fails));
-    let mut writer = Counted::new(FailAt::new(Vec::new(alloc), writes.piece, writes.fails));
+    let bounded = Bounded {
+        taken: Vec::new(alloc),
+        room: writes.room,
+    };
+    let mut writer = Counted::new(FailAt::new(bounded, writes.piece, writes.fails));
     let outcome = answer(
         alloc,
         &mut reader,
@@ -110,8 +140,10 @@ pub(crate) fn exchange_over<C: CellSteps>(
     };
     Heard {
         outcome,
+        read_failures: reader.failures(),
+        write_failures: writer.failures(),
         told,
-        written: writer.into_inner().into_inner(),
+        written: writer.into_inner().into_inner().taken,
     }
 }
 

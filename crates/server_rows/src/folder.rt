@@ -1,7 +1,8 @@
 //! A server whose manifests are files, with their programs in a folder of their own.
 
 use crate::exchange::is_printed;
-use crate::session::{first_wrong, service};
+use crate::session::first_wrong;
+use crate::whole_server::service_of;
 use load::Device;
 use serving::{Manifests, Server, ServingFault, prepare};
 use std::alloc::{AllocError, Global};
@@ -69,14 +70,25 @@ where
     prepare(rt, &Device::new(rt), path, port, 0)
 }
 
+/// Why no server is ready, if none is.
+fn fault_of<H>(rt: &H, path: &str, port: u16) -> Option<ServingFault>
+where
+    H: Files + AllocGlobal + Net<Listener = TcpListener, Stream = TcpStream>,
+{
+    match prepared(rt, path, port) {
+        Ok(_server) => None,
+        Err(fault) => Some(fault),
+    }
+}
+
 /// Whether no server is ready, and this is printed of it.
 fn is_refused<H>(rt: &H, path: &str, port: u16, want: &str) -> Result<bool, AllocError>
 where
     H: Files + AllocGlobal + Net<Listener = TcpListener, Stream = TcpStream>,
 {
-    match prepared(rt, path, port) {
-        Ok(_server) => Ok(false),
-        Err(fault) => is_printed(rt.alloc(), &fault, want),
+    match fault_of(rt, path, port) {
+        None => Ok(false),
+        Some(fault) => is_printed(rt.alloc(), &fault, want),
     }
 }
 
@@ -100,7 +112,7 @@ where
 {
     let device = Device::new(rt);
     let server = server.staffed(rt, 2)?;
-    match server.serve(rt, &Manifests::of(&device), service()) {
+    match server.serve(rt, &Manifests::of(&device), service_of(10)) {
         Ok(_) => Ok(()),
         Err(fault) => Err(fault),
     }

@@ -45,3 +45,5 @@ mod staffed;
 mod swaps;
 #[cfg(test)]
 mod swaps_under_load;
+#[cfg(test)]
+mod whole_server;

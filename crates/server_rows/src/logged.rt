@@ -1,11 +1,12 @@
 //! The log of a server over loopback, by a runtime whose clock stands still and which keeps what is
 //! written on standard error.
 
-use crate::both_ends::publisher_for;
+use crate::both_ends::serves;
 use crate::clients::halt;
 use crate::crew::{Crew, crew_of};
 use crate::exchange::{MOMENT, times};
 use crate::loopback::{reply, sent};
+use crate::shelf::publisher_of;
 use std::alloc::{AllocError, Global};
 use std::fmt::Display;
 use std::net::{Net, Shutdown, SocketAddr, TcpListener, TcpStream};
@@ -15,7 +16,7 @@ use std::test::Fail;
 use std::thread::Threads;
 use std::time::{Clock, Duration};
 use std::{io, thread};
-use workers::{Open, Service, serve};
+use workers::{Open, Service};
 
 /// A runtime at one moment, whose standard error is a text.
 #[derive(Drop)]
@@ -92,14 +93,18 @@ where
     Ok(stream)
 }
 
-/// Puts the line that the log should have of a connection behind the others. Omaha's reply tells
-/// the moment of the clock.
-fn want_line(alloc: Global, stream: &TcpStream, told: &str, log: &mut String) -> Result<(), Fail> {
+/// How many bytes are replied; of Omaha's reply none is counted that tells another moment than the
+/// clock's.
+fn replied_bytes(alloc: Global, stream: &TcpStream, told: &str) -> io::Result<usize> {
     let reply = reply(alloc, stream)?;
-    if told == "200" && times(&reply, DAYSTART) != 1 {
-        return Err(Fail::from("a reply at another moment"));
-    }
-    let (size, client) = (reply.len(), stream.local_addr()?);
+    let is_right = told != "200" || times(&reply, DAYSTART) == 1;
+    Ok(if is_right { reply.len() } else { 0 })
+}
+
+/// Puts the line that the log should have of a connection behind the others.
+fn want_line(alloc: Global, stream: &TcpStream, told: &str, log: &mut String) -> Result<(), Fail> {
+    let size = replied_bytes(alloc, stream, told)?;
+    let client = stream.local_addr()?;
     Ok(writeln!(log, "{MOMENT} {client} {told} {size} 0")?)
 }
 
@@ -132,23 +137,6 @@ where
     Ok(log)
 }
 
-/// Serves with these 1 to 64 workers and a log, until it is told to stop, and says whether it
-/// could.
-fn serves<H>(rt: &H, listener: TcpListener, crew: Crew, stop: &AtomicBool) -> bool
-where
-    H: Threads + Wait + AllocGlobal + Clock + Eprint + Sync,
-{
-    let Crew { cells, workers } = crew;
-    if workers.is_empty() || 64 < workers.len() {
-        return false;
-    }
-    let service = Service {
-        timeout: Duration::from_secs(30),
-        log: true,
-    };
-    serve(rt, &Open, listener, &cells, workers, stop, service).is_ok()
-}
-
 /// Whether these lines are those that were wanted, and some of connections that couldn't be
 /// accepted.
 fn is_log(alloc: Global, kept: &str, wanted: &str) -> Result<bool, AllocError> {
@@ -170,9 +158,13 @@ where
         rt,
         errors: Mutex::new(String::new(rt.alloc())),
     };
+    let service = Service {
+        timeout: Duration::from_secs(30),
+        log: true,
+    };
     let (ended, wanted) = thread::join(
         rt,
-        || serves(&still, listener, crew, &stop),
+        || serves(&still, &Open, listener, crew, &stop, service),
         || wanted(rt, place, &stop),
     );
     let wanted = wanted?;
@@ -186,7 +178,7 @@ where
     H: Threads + Wait + AllocGlobal + Clock + Sync,
     H: Net<Listener = TcpListener, Stream = TcpStream>,
 {
-    let mut publisher = publisher_for(rt, rt.alloc(), 1)?;
+    let mut publisher = publisher_of(rt, rt.alloc(), "nothing", 1)?;
     let is_logged = match crew_of(rt.alloc(), &mut publisher, 1) {
         Ok(crew) => is_logged_by(rt, crew),
         Err(fault) => Err(fault),

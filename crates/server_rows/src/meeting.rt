@@ -1,6 +1,6 @@
 //! A gate at which calls meet.
 
-use std::sync::atomic::{AtomicBool, Ordering};
+use std::sync::atomic::{AtomicBool, AtomicU64, Ordering};
 use std::thread;
 use workers::Gate;
 
@@ -18,32 +18,43 @@ pub(crate) fn awaits(flag: &AtomicBool) -> bool {
     false
 }
 
-/// A gate that tells when the first call is reached and the second is made, and may hold the first
-/// until then, or until another thread says that it was.
+/// A gate that counts the calls that are reached and tells when the second is made. It may hold the
+/// first few until then, or until another thread says that it was.
 #[derive(Drop)]
 pub(crate) struct Meeting {
-    holds: bool,
-    pub(crate) begun: AtomicBool,
+    pub(crate) holds: u64,
+    reached: AtomicU64,
     pub(crate) made: AtomicBool,
     pub(crate) ran_out: AtomicBool,
 }
 
-pub(crate) fn gate_that(holds: bool) -> Meeting {
+pub(crate) fn gate_that_holds(calls: u64) -> Meeting {
     Meeting {
-        holds,
-        begun: AtomicBool::new(false),
+        holds: calls,
+        reached: AtomicU64::new(0),
         made: AtomicBool::new(false),
         ran_out: AtomicBool::new(false),
     }
 }
 
+impl Meeting {
+    /// Waits until so many calls are reached, and says whether they were.
+    pub(crate) fn awaits_calls(&self, calls: u64) -> bool {
+        for _ in 0..TURNS {
+            if calls <= self.reached.load(Ordering::SeqCst) {
+                return true;
+            }
+            thread::yield_now();
+        }
+        false
+    }
+}
+
 impl Gate for Meeting {
     fn before(&self, call: u64) {
-        if call == 1 {
-            self.begun.store(true, Ordering::SeqCst);
-            if self.holds && !awaits(&self.made) {
-                self.ran_out.store(true, Ordering::SeqCst);
-            }
+        let _reached = self.reached.fetch_add(1, Ordering::SeqCst);
+        if call <= self.holds && !awaits(&self.made) {
+            self.ran_out.store(true, Ordering::SeqCst);
         }
     }
 

@@ -1,10 +1,12 @@
-//! Memory that is refused once: a request gets a line that says so, and asked again it is answered
-//! as ever. So this passes with ample memory, and wherever one growth of it is refused, which
-//! `rt try --test --fail-alloc N -- memory` does for each N (docs/PROVING.md).
+//! Memory that is refused once: a request that takes of a quota gets a line that says so, which the
+//! test prints, and asked again it is answered as ever, by the count that the runs that were made
+//! left. So this passes with ample memory, and wherever one growth of it is refused, which
+//! `bench/refused` does for each in turn (docs/PROVING.md).
 
 use crate::exchange::{Answering, Heard, WHOLE, exchange, post, server_of, success};
 use crate::refusals::refusal;
 use crate::replies::{NO_UPDATE, TWO_APPS};
+use cells::CellNo;
 use std::alloc::{AllocError, Global};
 use std::sync::Wait;
 use std::test::Fail;
@@ -20,42 +22,84 @@ macro_rules! again {
     };
 }
 
-/// The status of a request's answer, where it is the reply or tells of memory; 0 where the writer
-/// failed, and None of any other answer.
-fn status_of(alloc: Global, heard: &Heard) -> Result<Option<u16>, AllocError> {
-    let written = heard.written.as_slice();
-    let (status, is_expected) = match heard.outcome {
-        Ok(200) => (200, is_reply(alloc, written)?),
-        Ok(500) => (
-            500,
-            is_line(alloc, written, "O5 Memory")? || is_line(alloc, written, "P9 Memory")?,
-        ),
-        Err(AnswerFault::Writing(_)) => (0, true),
-        _ => (0, false),
-    };
-    Ok(is_expected.then_some(status))
+/// The reply to `TWO_APPS` where the app that is known is offered the release.
+const OFFERED: &str = ")]}'\n{\"response\":{\"app\":[{\"appid\":\"x\",\"cohort\":\"b:6037\",\
+    \"status\":\"ok\",\"updatecheck\":{\"manifest\":{\"packages\":{\"package\":[{\"hash_sha256\":\
+    \"ba7816bf8f01cfea414140de5dae2223b00361a396177a9cb410ff61f20015ad\",\
+    \"name\":\"x.bin\",\"required\":true,\"size\":3}]},\"version\":\"2.0.0.0\"},\"status\":\"ok\",\
+    \"urls\":{\"url\":[{\"codebase\":\"http://dl.example/\"}]}}},\
+    {\"appid\":\"y\",\"status\":\"error-unknownApplication\"}],\
+    \"daystart\":{\"elapsed_days\":7000,\"elapsed_seconds\":3600},\"protocol\":\"3.1\",\
+    \"server\":\"prod\"}}";
+
+/// What came of a request that takes of a quota of one.
+#[derive(Clone, Copy, PartialEq, Eq)]
+enum MemoryAnswer {
+    /// The whole reply, after one addition to the counter.
+    Replied,
+    /// A line of status 500, since memory for the head or the body was refused.
+    ReadingRefused,
+    /// The same of memory for the reply.
+    ReplyRefused,
+    /// The writer failed.
+    Unwritten,
+    /// Another answer, or another count.
+    Wrong,
 }
 
-fn is_reply(alloc: Global, written: &[u8]) -> Result<bool, AllocError> {
-    let reply = success(alloc, NO_UPDATE)?;
+/// The lines that tell of refused memory.
+const REFUSALS: [(MemoryAnswer, &str); 2] = [
+    (MemoryAnswer::ReadingRefused, "P9 Memory"),
+    (MemoryAnswer::ReplyRefused, "O5 Memory"),
+];
+
+fn is_reply(alloc: Global, written: &[u8], text: &str) -> Result<bool, AllocError> {
+    let reply = success(alloc, text)?;
     Ok(written == reply.as_slice())
 }
 
-fn is_line(alloc: Global, written: &[u8], name: &str) -> Result<bool, AllocError> {
+fn is_refusal(alloc: Global, written: &[u8], name: &str) -> Result<bool, AllocError> {
     let line = refusal(alloc, "500 Internal Server Error", name)?;
     Ok(written == line.as_bytes())
 }
 
-/// Asks once.
-fn asked(alloc: Global, server: &mut Answering) -> Result<Option<u16>, AllocError> {
+/// The refusal of memory that was written.
+fn refusal_in(alloc: Global, written: &[u8]) -> Result<MemoryAnswer, AllocError> {
+    for (answer, name) in REFUSALS {
+        if is_refusal(alloc, written, name)? {
+            return Ok(answer);
+        }
+    }
+    Ok(MemoryAnswer::Wrong)
+}
+
+/// What was heard of a server on whose counter so many additions were made before.
+fn asked_of(alloc: Global, heard: &Heard, before: u64) -> Result<MemoryAnswer, AllocError> {
+    let written = heard.written.as_slice();
+    let text = if before == 0 { OFFERED } else { NO_UPDATE };
+    let is_reply = is_reply(alloc, written, text)?;
+    match heard.outcome {
+        Ok(200) if is_reply => Ok(MemoryAnswer::Replied),
+        Ok(500) => refusal_in(alloc, written),
+        Err(AnswerFault::Writing(_)) => Ok(MemoryAnswer::Unwritten),
+        _ => Ok(MemoryAnswer::Wrong),
+    }
+}
+
+/// Asks once. The counter rises by one with a reply, and by one at most without.
+fn asked(alloc: Global, server: &mut Answering) -> Result<MemoryAnswer, AllocError> {
+    let before = server.pass.value(CellNo::new(0));
     let input = again!(post(alloc, TWO_APPS))?;
     let heard = exchange(alloc, server, &input, WHOLE, WHOLE);
-    again!(status_of(alloc, &heard))
+    let rise = server.pass.value(CellNo::new(0)).wrapping_sub(before);
+    let asked = again!(asked_of(alloc, &heard, before))?;
+    let is_right = rise == 1 || rise == 0 && asked != MemoryAnswer::Replied;
+    Ok(if is_right { asked } else { MemoryAnswer::Wrong })
 }
 
 /// Makes a server, and asks twice.
-fn asked_twice<H: Wait>(rt: &H, alloc: Global) -> Result<[Option<u16>; 2], Fail> {
-    let mut server = again!(server_of(rt, alloc, "nothing"))?;
+fn asked_twice<H: Wait>(rt: &H, alloc: Global) -> Result<[MemoryAnswer; 2], Fail> {
+    let mut server = again!(server_of(rt, alloc, "one"))?;
     let first = asked(alloc, &mut server);
     let second = asked(alloc, &mut server);
     server.close(rt);
@@ -65,8 +109,13 @@ fn asked_twice<H: Wait>(rt: &H, alloc: Global) -> Result<[Option<u16>; 2], Fail>
 #[test]
 fn memory_that_is_refused_is_told(rt: HostRuntime) -> Result<(), Fail> {
     let [first, second] = asked_twice(&rt, rt.alloc())?;
-    assert!(rt; first.is_some(), "the first");
-    assert!(rt; second.is_some(), "the second");
-    assert!(rt; first == Some(200) || second == Some(200));
+    for (answer, name) in REFUSALS {
+        if first == answer {
+            println!(rt; "answer: 500 {name}")?;
+        }
+    }
+    assert!(rt; first != MemoryAnswer::Wrong, "the first");
+    assert!(rt; second != MemoryAnswer::Wrong, "the second");
+    assert!(rt; first == MemoryAnswer::Replied || second == MemoryAnswer::Replied);
     Ok(())
 }

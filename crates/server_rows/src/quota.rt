@@ -6,9 +6,9 @@ ghost use Rattle.shared_cells.specs.Passes.{IsPassOf};
 use crate::counters::{OFFER, asking};
 use crate::crew::{Crew, crew_of};
 use crate::exchange::{WHOLE, exchange_over, times};
-use crate::shelf::rules;
+use crate::shelf::publisher_of;
 use cells::{CellNo, CellOp, CellSteps};
-use hot_swap::{Publisher, Watcher};
+use hot_swap::Watcher;
 use shared_cells::{SharedCells, SharedPass};
 use std::alloc::Global;
 use std::sync::Wait;
@@ -66,7 +66,7 @@ where
     H: Threads + Wait + AllocGlobal + Sync,
 {
     let places = workers.saturating_add(1).clamp(1, 65);
-    let mut publisher = Publisher::new(rt, rt.alloc(), rules(rt.alloc(), path)?, places)?;
+    let mut publisher = publisher_of(rt, rt.alloc(), path, places)?;
     let taken = match crew_of(rt.alloc(), &mut publisher, places) {
         Ok(crew) => all_offers(rt, crew, asks),
         Err(fault) => Err(fault),

@@ -160,6 +160,7 @@ fn is_large_unread<H: Wait>(rt: &H, alloc: Global) -> Result<bool, Fail> {
     let reads = Device {
         piece: head.len(),
         fails: 2,
+        ..WHOLE
     };
     let heard = answered(rt, alloc, "nothing", input.as_bytes(), reads, WHOLE)?;
     let wanted = refusal(alloc, "413 Content Too Large", "P5 TooLarge")?;

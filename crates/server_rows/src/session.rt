@@ -1,63 +1,14 @@
-//! A server over loopback, and its operator: both ends in one process.
-
-ghost use Rattle.std.specs.Prelude.{◌≤◌};
+//! Sessions at the two ports of a server: what is sent, and the replies.
 
 use crate::exchange::{post, times};
 use crate::loopback::told;
-use crate::shelf::{Shelf, ruleset};
-use cells::Directory;
+use crate::whole_server::{Work, wrong};
 use operator::ask;
 use operator::operator_request::OperatorRequest;
-use serving::{ServingFault, staff};
+use std::io;
 use std::net::{Net, SocketAddr, TcpListener, TcpStream};
-use std::sync::Wait;
 use std::test::Fail;
-use std::thread::Threads;
-use std::time::{Clock, Duration};
-use std::{io, thread};
-use workers::{Ports, ServeFault, Service, bind};
-
-/// Each connection may last ten seconds.
-pub(crate) fn service() -> Service {
-    Service {
-        timeout: Duration::from_secs(10),
-        log: false,
-    }
-}
-
-/// Serves a manifest of the shelf with four workers, until it is stopped.
-pub(crate) fn served<H>(rt: &H, ports: Ports, path: &str) -> Result<(), ServingFault>
-where
-    H: Threads + Wait + AllocGlobal + Clock + Eprint + Sync,
-    H: Net<Listener = TcpListener, Stream = TcpStream>,
-{
-    served_by(rt, ports, path, 4, service())
-}
-
-/// Serves a manifest of the shelf with so many workers, until it is stopped.
-pub(crate) fn served_by<H>(
-    rt: &H,
-    ports: Ports,
-    path: &str,
-    workers: usize,
-    service: Service,
-) -> Result<(), ServingFault>
-where
-    H: Threads + Wait + AllocGlobal + Clock + Eprint + Sync,
-    H: Net<Listener = TcpListener, Stream = TcpStream>,
-    requires some { 1 ≤ workers }
-    requires few { workers ≤ 64 }
-{
-    let mut directory = Directory::new(rt.alloc());
-    let Ok(rules) = ruleset(rt.alloc(), path, &mut directory) else {
-        return Err(ServingFault::Serve(ServeFault::Memory));
-    };
-    let server = staff(rt, ports, rules, directory, workers)?;
-    match server.serve(rt, &Shelf, service) {
-        Ok(_) => Ok(()),
-        Err(fault) => Err(fault),
-    }
-}
+use workers::{Ports, bind};
 
 /// Two free ports.
 pub(crate) fn ports_of<H>(rt: &H, service: u16, operator: u16) -> io::Result<Ports>
@@ -68,7 +19,7 @@ where
 }
 
 /// An app that asks for an update.
-const ONE_APP: &str =
+pub(crate) const ONE_APP: &str =
     "{\"request\":{\"protocol\":\"3.1\",\"app\":[{\"appid\":\"x\",\"updatecheck\":{}}]}}";
 
 /// Four apps that ask for an update.
@@ -208,31 +159,11 @@ where
     }
 }
 
-/// Whether a server of this manifest answers these rows, and then ends.
-fn is_played<H>(rt: &H, path: &'static str, rows: &'static str) -> Result<bool, Fail>
-where
-    H: Threads + Wait + AllocGlobal + Clock + Eprint + Sync,
-    H: Net<Listener = TcpListener, Stream = TcpStream>,
-{
-    let ports = ports_of(rt, 0, 0)?;
-    let (service, operator) = (ports.service(), ports.operator());
-    let (ended, wrong) = thread::join(
-        rt,
-        || served(rt, ports, path),
-        || first_wrong(rt, rows, service, operator),
-    );
-    ended?;
-    match wrong {
-        Some(row) => Err(Fail::from(row)),
-        None => Ok(true),
-    }
-}
-
 #[test]
 fn sessions(rt: HostRuntime) -> Result<(), Fail> {
-    assert!(rt; is_played(&rt, "quota", SESSION)?);
-    assert!(rt; is_played(&rt, "quota", TAKEN)?);
-    assert!(rt; is_played(&rt, "yes", ASKED)?);
+    assert_eq!(rt; wrong(&rt, "quota", 4, 10, Work::Rows(SESSION))?, None);
+    assert_eq!(rt; wrong(&rt, "quota", 4, 10, Work::Rows(TAKEN))?, None);
+    assert_eq!(rt; wrong(&rt, "yes", 4, 10, Work::Rows(ASKED))?, None);
     Ok(())
 }
 

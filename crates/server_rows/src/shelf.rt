@@ -6,13 +6,14 @@ use attrs::Text;
 use bpf_text::assemble;
 use cells::{Directory, Shape};
 use declarations::{declare_all, read_spec};
+use hot_swap::Publisher;
 use hot_swap::bpf_verify::Verified;
 use hot_swap::ruleset::{App, Ruleset};
 use load::acceptance::accept;
 use operator::Loader;
 use releases::{Package, Release};
 use std::alloc::{AllocError, Global};
-use std::sync::Arc;
+use std::sync::{Arc, Wait};
 
 /// A path, the server's text, the arrays, and the program of the app, in which `;` stands for the
 /// line feed. Those that take of `q[0]` offer the release to as many as its quota. The program of
@@ -28,7 +29,11 @@ quota|quota|q:64:1:2,w:32:3|ldcell r6, 0, 0;mov r2, 1;fadddw [r6+0], r2;jge r2, 
 yes|yes|z:64:2|mov r0, 1;exit
 no|no|z:64:2|mov r0, 0;exit
 unset|unset|z:64:1|exit
-other_quota|other|q:64:1:3|mov r0, 0;exit";
+other_quota|other|q:64:1:3|mov r0, 0;exit
+forty|forty|q:64:1:40|ldcell r6, 0, 0;mov r2, 1;fadddw [r6+0], r2;jge r2, 40, +2;\
+    mov r0, 1;exit;mov r0, 0;exit
+other_forty|other_forty|q:64:1:40|ldcell r6, 0, 0;mov r2, 1;fadddw [r6+0], r2;mov r0, 0;\
+    jge r2, 40, end;mov r0, 1;end:;exit";
 
 /// The loader of these manifests. It says in words why there is no ruleset.
 pub(crate) struct Shelf;
@@ -57,6 +62,20 @@ pub(crate) fn rules(alloc: Global, path: &str) -> Result<Arc<Ruleset>, &'static 
     let mut directory = Directory::new(alloc);
     let rules = ruleset(alloc, path, &mut directory)?;
     Arc::new(alloc, rules).or(Err("memory"))
+}
+
+/// A publisher of the ruleset of a path, with places for 1 to 65 watchers. It is ended by `close`.
+pub(crate) fn publisher_of<H: Wait>(
+    rt: &H,
+    alloc: Global,
+    path: &str,
+    watchers: usize,
+) -> Result<Publisher, &'static str> {
+    let first = rules(alloc, path)?;
+    match Publisher::new(rt, alloc, first, watchers.clamp(1, 65)) {
+        Ok(publisher) => Ok(publisher),
+        Err(_) => Err("memory"),
+    }
 }
 
 /// The ruleset of a path, whose arrays are declared in the directory.

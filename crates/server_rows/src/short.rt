@@ -14,10 +14,27 @@ fn heard<H: Wait>(rt: &H, alloc: Global, reads: Device, writes: Device) -> Resul
     Ok(answered(rt, alloc, "nothing", &input, reads, writes)?)
 }
 
-/// Whether nothing is written where reads of 20 bytes fail at this call.
-fn is_unread<H: Wait>(rt: &H, alloc: Global, fails: u64) -> Result<bool, Fail> {
-    let heard = heard(rt, alloc, Device { piece: 20, fails }, WHOLE)?;
-    Ok(heard.outcome == Err(AnswerFault::Reading) && heard.written.is_empty())
+/// Whether nothing is written over this reader, which fails so often, and this is answered.
+fn is_unread<H: Wait>(
+    rt: &H,
+    alloc: Global,
+    reads: Device,
+    fault: AnswerFault,
+    failures: u64,
+) -> Result<bool, Fail> {
+    let heard = heard(rt, alloc, reads, WHOLE)?;
+    let is_told = heard.outcome == Err(fault) && heard.read_failures == failures;
+    Ok(is_told && heard.written.is_empty() && heard.write_failures == 0)
+}
+
+/// The same of a reader of 20 bytes a call that fails at this call.
+fn is_failed<H: Wait>(rt: &H, alloc: Global, fails: u64) -> Result<bool, Fail> {
+    let reads = Device {
+        piece: 20,
+        fails,
+        ..WHOLE
+    };
+    is_unread(rt, alloc, reads, AnswerFault::Reading, 1)
 }
 
 /// Whether these are the first bytes of the reply, and it is told how many they are, where writes
@@ -30,13 +47,26 @@ fn is_cut<H: Wait>(
     count: usize,
 ) -> Result<bool, Fail> {
     let whole = success(alloc, NO_UPDATE)?;
-    let heard = heard(rt, alloc, WHOLE, Device { piece, fails })?;
-    let is_told = heard.outcome == Err(AnswerFault::Writing(count));
+    let writes = Device {
+        piece,
+        fails,
+        ..WHOLE
+    };
+    let heard = heard(rt, alloc, WHOLE, writes)?;
+    let is_told = heard.outcome == Err(AnswerFault::Writing(count)) && heard.write_failures == 1;
     Ok(is_told && Some(heard.written.as_slice()) == whole.get(..count))
 }
 
-/// A request of 231 bytes is read in so many pieces of 20.
+/// How many bytes the request has, and in how many pieces of 20 it is read.
+const SIZE: usize = 231;
+
 const READS: u64 = 12;
+
+/// A reader that ends a byte before the request does.
+const ENDED: Device = Device {
+    room: SIZE - 1,
+    ..WHOLE
+};
 
 /// Each write of up to 50, and how many bytes were written before: the head has 106, the body 248.
 const WRITTEN: [(u64, usize); 8] = [
@@ -53,9 +83,11 @@ const WRITTEN: [(u64, usize); 8] = [
 #[test]
 fn each_read_fails(rt: HostRuntime) -> Result<(), Fail> {
     for fails in 1..=READS {
-        assert!(rt; is_unread(&rt, rt.alloc(), fails)?, "at read {fails}");
+        assert!(rt; is_failed(&rt, rt.alloc(), fails)?, "at read {fails}");
     }
-    assert!(rt; !is_unread(&rt, rt.alloc(), READS + 1)?);
+    assert!(rt; !is_failed(&rt, rt.alloc(), READS + 1)?, "behind the last");
+    let is_ended = is_unread(&rt, rt.alloc(), ENDED, AnswerFault::Ended, 0)?;
+    assert!(rt; is_ended, "a byte short");
     Ok(())
 }
 
@@ -72,13 +104,18 @@ fn each_write_fails(rt: HostRuntime) -> Result<(), Fail> {
     Ok(())
 }
 
-/// How many bytes of a refusal a write takes, the write that fails, if any, and what is answered.
-const REFUSALS: [(usize, u64, Result<u16, AnswerFault>); 5] = [
-    (40, 3, Err(AnswerFault::Writing(80))),
-    (40, 2, Err(AnswerFault::Writing(40))),
-    (1, 107, Err(AnswerFault::Writing(106))),
-    (1, 0, Ok(411)),
-    (40, 0, Ok(411)),
+/// How many bytes of a refusal a write takes, the write that fails, if any, how many bytes there is
+/// room for, and what is answered. The refusal has 107 bytes.
+const REFUSALS: [(usize, u64, usize, Result<u16, AnswerFault>); 9] = [
+    (40, 3, 1000, Err(AnswerFault::Writing(80))),
+    (40, 2, 1000, Err(AnswerFault::Writing(40))),
+    (40, 0, 40, Err(AnswerFault::Writing(40))),
+    (40, 0, 106, Err(AnswerFault::Writing(106))),
+    (40, 0, 107, Ok(411)),
+    (1, 107, 1000, Err(AnswerFault::Writing(106))),
+    (1, 108, 1000, Ok(411)),
+    (1, 0, 1000, Ok(411)),
+    (40, 0, 1000, Ok(411)),
 ];
 
 /// Whether a request without a length is answered so over this writer, and as many bytes are
@@ -92,20 +129,21 @@ fn is_refused_over<H: Wait>(
     let whole = refusal(alloc, "411 Length Required", "P4 Length")?;
     let head = head_of(alloc, "POST /service/update2/json HTTP/1.1\nHost: h")?;
     let heard = answered(rt, alloc, "nothing", head.as_bytes(), WHOLE, writes)?;
-    let count = match want {
-        Err(AnswerFault::Writing(count)) => count,
-        _ => whole.len(),
+    let (count, failures) = match want {
+        Err(AnswerFault::Writing(count)) => (count, 1),
+        _ => (whole.len(), 0),
     };
     let beginning = whole.as_bytes().get(..count);
-    Ok(heard.outcome == want && Some(heard.written.as_slice()) == beginning)
+    let is_told = heard.outcome == want && heard.write_failures == failures;
+    Ok(is_told && Some(heard.written.as_slice()) == beginning)
 }
 
 #[test]
 fn refusals_over_slow_writers(rt: HostRuntime) -> Result<(), Fail> {
-    for (piece, fails, want) in REFUSALS {
-        let writes = Device { piece, fails };
+    for (piece, fails, room, want) in REFUSALS {
+        let writes = Device { piece, fails, room };
         let is_refused = is_refused_over(&rt, rt.alloc(), writes, want)?;
-        assert!(rt; is_refused, "{piece}, {fails}");
+        assert!(rt; is_refused, "{piece}, {fails}, {room}");
     }
     Ok(())
 }

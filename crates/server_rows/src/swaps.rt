@@ -2,7 +2,7 @@
 
 use crate::exchange::{WHOLE, exchange, is_printed, post, server_of, success};
 use crate::replies::{NO_UPDATE, TWO_APPS};
-use crate::shelf::rules;
+use crate::shelf::{publisher_of, rules};
 use hot_swap::{Publisher, SwapFault, Watcher};
 use std::alloc::Global;
 use std::sync::Wait;
@@ -22,11 +22,6 @@ fn seen(watcher: &mut Watcher) -> u64 {
         Ok((generation, _rules)) => generation,
         Err(_) => 0,
     }
-}
-
-/// A publisher with places for two watchers.
-fn publisher_of<H: Wait>(rt: &H, alloc: Global) -> Result<Publisher, Fail> {
-    Ok(Publisher::new(rt, alloc, rules(alloc, "nothing")?, 2)?)
 }
 
 fn watcher_of(publisher: &mut Publisher) -> Result<Watcher, SwapFault> {
@@ -49,9 +44,9 @@ fn counts<H: Wait>(rt: &H, alloc: Global, publisher: &mut Publisher) -> Result<b
     Ok(is_one && are_two && are_three && is_full)
 }
 
-/// The same of a publisher that is ended afterwards.
+/// The same of a publisher with places for two, which is ended afterwards.
 fn are_counted<H: Wait>(rt: &H, alloc: Global) -> Result<bool, Fail> {
-    let mut publisher = publisher_of(rt, alloc)?;
+    let mut publisher = publisher_of(rt, alloc, "nothing", 2)?;
     let counts = counts(rt, alloc, &mut publisher);
     publisher.close(rt);
     Ok(counts?)

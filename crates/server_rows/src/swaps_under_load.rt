@@ -1,82 +1,246 @@
-//! Rulesets are swapped while clients ask: each reply is wholly of one generation, and none is
-//! lost.
+//! Rulesets are swapped while clients ask: each reply is wholly of one generation, none is lost,
+//! and of a quota that the rulesets share as many are offered a release as it has.
 
 use crate::exchange::times;
-use crate::session::{FOUR_APPS, asked, ports_of, posted, served};
-use std::net::{Net, SocketAddr, TcpStream};
+use crate::meeting::awaits;
+use crate::session::{FOUR_APPS, ONE_APP, is_asked, posted};
+use crate::whole_server::{Work, wrong};
+use std::net::{Net, SocketAddr, TcpListener, TcpStream};
+use std::sync::atomic::{AtomicBool, AtomicU64, Ordering};
 use std::test::Fail;
+use std::thread::Threads;
 use std::{io, thread};
 
-/// How many requests each of two clients makes.
-const REQUESTS: u32 = 200;
-
-/// How many rulesets are installed meanwhile.
-const LOADS: u64 = 60;
-
-/// Whether all apps of the reply were answered under the ruleset that it names.
-fn is_whole(reply: &[u8]) -> bool {
-    let offered = times(reply, "\"manifest\"");
-    let refused = times(reply, "\"noupdate\"");
-    (reply.ends_with(b"\"server\":\"yes\"}}") && offered == 4 && refused == 0)
-        || (reply.ends_with(b"\"server\":\"no\"}}") && offered == 0 && refused == 4)
+/// What clients ask while rulesets are loaded in turn.
+#[derive(Clone, Copy)]
+struct Swaps {
+    /// The manifest that is served at first, and the one that is loaded in turn with it. Each has
+    /// its name as the server's text.
+    served: &'static str,
+    other: &'static str,
+    /// How many loads there are. They begin once a client was answered.
+    loads: u64,
+    /// How often each of four clients asks, and how often before it waits until all is loaded.
+    asks: u64,
+    before: u64,
+    /// A request, and how many apps it has.
+    body: &'static str,
+    apps: usize,
 }
 
-/// How many of a client's requests got a whole reply.
-fn whole_replies<H>(rt: &H, place: SocketAddr) -> u32
+/// Clients that don't wait for the loads. Of the two rulesets one offers each app the release and
+/// one none.
+const WHOLE: Swaps = Swaps {
+    served: "yes",
+    other: "no",
+    loads: 60,
+    asks: 100,
+    before: 100,
+    body: FOUR_APPS,
+    apps: 4,
+};
+
+/// Clients that take of a quota of 40. Before all is loaded they ask 36 times at most.
+const QUOTA: Swaps = Swaps {
+    served: "forty",
+    other: "other_forty",
+    loads: 7,
+    asks: 30,
+    before: 9,
+    body: ONE_APP,
+    apps: 1,
+};
+
+/// How many replies of a ruleset offer a release to all apps, and how many to none.
+#[derive(Drop)]
+struct Replies {
+    offers: AtomicU64,
+    refusals: AtomicU64,
+}
+
+impl Replies {
+    fn new() -> Replies {
+        Replies {
+            offers: AtomicU64::new(0),
+            refusals: AtomicU64::new(0),
+        }
+    }
+
+    /// Counts a reply to so many apps, if it is whole.
+    fn count(&self, reply: &[u8], apps: usize) {
+        let offered = times(reply, "\"manifest\"");
+        let refused = times(reply, "\"noupdate\"");
+        if offered == apps && refused == 0 {
+            let _before = self.offers.fetch_add(1, Ordering::SeqCst);
+        }
+        if offered == 0 && refused == apps {
+            let _before = self.refusals.fetch_add(1, Ordering::SeqCst);
+        }
+    }
+
+    fn counts(&self) -> (u64, u64) {
+        let offers = self.offers.load(Ordering::SeqCst);
+        (offers, self.refusals.load(Ordering::SeqCst))
+    }
+}
+
+/// How far clients and loads are, and what was replied.
+#[derive(Drop)]
+struct Progress {
+    begun: AtomicBool,
+    loaded: AtomicBool,
+    served: Replies,
+    other: Replies,
+}
+
+impl Progress {
+    fn new() -> Progress {
+        Progress {
+            begun: AtomicBool::new(false),
+            loaded: AtomicBool::new(false),
+            served: Replies::new(),
+            other: Replies::new(),
+        }
+    }
+}
+
+/// The server's text of a reply.
+fn server_text(reply: &[u8]) -> &str {
+    let text = str::from_utf8(reply).unwrap_or("");
+    let (_before, server) = text.split_once("\"server\":\"").unwrap_or((text, ""));
+    server.strip_suffix("\"}}").unwrap_or("")
+}
+
+/// Counts a reply by the ruleset that it names.
+fn count(progress: &Progress, swaps: Swaps, reply: &[u8]) {
+    let server = server_text(reply);
+    if server == swaps.served {
+        progress.served.count(reply, swaps.apps);
+    }
+    if server == swaps.other {
+        progress.other.count(reply, swaps.apps);
+    }
+}
+
+/// What one client does.
+fn ask<H>(rt: &H, place: SocketAddr, swaps: Swaps, progress: &Progress)
 where
     H: Net<Stream = TcpStream> + AllocGlobal,
 {
-    let mut whole = 0u32;
-    for _ in 0..REQUESTS {
-        match posted(rt, place, FOUR_APPS) {
-            Ok(reply) if is_whole(&reply) => whole = whole.saturating_add(1),
-            _ => {}
+    for i in 0..swaps.asks {
+        if i == swaps.before {
+            let _loaded = awaits(&progress.loaded);
         }
+        if let Ok(reply) = posted(rt, place, swaps.body) {
+            count(progress, swaps, &reply);
+        }
+        progress.begun.store(true, Ordering::SeqCst);
     }
-    whole
+}
+
+/// What two clients do at once.
+fn ask_twice<H>(rt: &H, place: SocketAddr, swaps: Swaps, progress: &Progress)
+where
+    H: Threads + AllocGlobal + Sync,
+    H: Net<Listener = TcpListener, Stream = TcpStream>,
+{
+    let _done = thread::join(
+        rt,
+        || ask(rt, place, swaps, progress),
+        || ask(rt, place, swaps, progress),
+    );
+}
+
+/// What four clients do at once.
+fn ask_all<H>(rt: &H, place: SocketAddr, swaps: Swaps, progress: &Progress)
+where
+    H: Threads + AllocGlobal + Sync,
+    H: Net<Listener = TcpListener, Stream = TcpStream>,
+{
+    let _done = thread::join(
+        rt,
+        || ask_twice(rt, place, swaps, progress),
+        || ask_twice(rt, place, swaps, progress),
+    );
 }
 
 /// Whether a load is answered by the next generation.
-fn is_installed<H>(rt: &H, port: u16, i: u64) -> io::Result<bool>
+fn is_installed<H>(rt: &H, port: u16, swaps: Swaps, i: u64) -> io::Result<bool>
 where
     H: Net<Stream = TcpStream> + AllocGlobal,
 {
-    let line = if i % 2 == 0 { "load no" } else { "load yes" };
+    let path = if i % 2 == 0 {
+        swaps.other
+    } else {
+        swaps.served
+    };
+    let line = format!(in rt.alloc(); "load {path}")?;
     let want = format!(in rt.alloc(); "generation {}\n", i.saturating_add(2))?;
-    Ok(asked(rt, port, line)?.as_slice() == want.as_bytes())
+    is_asked(rt, port, line.as_str(), want.as_str())
 }
 
 /// How many loads were answered so.
-fn installed<H>(rt: &H, port: u16) -> u64
+fn installed<H>(rt: &H, port: u16, swaps: Swaps, progress: &Progress) -> u64
 where
     H: Net<Stream = TcpStream> + AllocGlobal,
 {
+    let _begun = awaits(&progress.begun);
     let mut installed = 0u64;
-    for i in 0..LOADS {
-        if is_installed(rt, port, i).unwrap_or(false) {
+    for i in 0..swaps.loads {
+        if is_installed(rt, port, swaps, i).unwrap_or(false) {
             installed = installed.saturating_add(1);
         }
     }
+    progress.loaded.store(true, Ordering::SeqCst);
     installed
+}
+
+/// Loads while clients ask, and says whether each load was answered by the next generation.
+fn swapped<H>(rt: &H, place: SocketAddr, port: u16, swaps: Swaps, progress: &Progress) -> bool
+where
+    H: Threads + AllocGlobal + Sync,
+    H: Net<Listener = TcpListener, Stream = TcpStream>,
+{
+    let (installed, _asked) = thread::join(
+        rt,
+        || installed(rt, port, swaps, progress),
+        || ask_all(rt, place, swaps, progress),
+    );
+    installed == swaps.loads
+}
+
+/// Whether all loads are answered and each client gets all its replies, wholly of one ruleset.
+pub(crate) fn are_whole<H>(rt: &H, place: SocketAddr, port: u16) -> bool
+where
+    H: Threads + AllocGlobal + Sync,
+    H: Net<Listener = TcpListener, Stream = TcpStream>,
+{
+    let progress = Progress::new();
+    let is_swapped = swapped(rt, place, port, WHOLE, &progress);
+    let (yes, _none) = progress.served.counts();
+    let (_none, no) = progress.other.counts();
+    is_swapped && yes.saturating_add(no) == 400
+}
+
+/// Whether the first 40 of 120 that ask are offered the release, some by each ruleset.
+pub(crate) fn is_shared<H>(rt: &H, place: SocketAddr, port: u16) -> io::Result<bool>
+where
+    H: Threads + AllocGlobal + Sync,
+    H: Net<Listener = TcpListener, Stream = TcpStream>,
+{
+    let progress = Progress::new();
+    let is_swapped = swapped(rt, place, port, QUOTA, &progress);
+    let (served, none_served) = progress.served.counts();
+    let (other, none_other) = progress.other.counts();
+    let are_offered = served.saturating_add(other) == 40 && 0 < served && 0 < other;
+    let are_refused = none_served.saturating_add(none_other) == 80;
+    let is_counted = is_asked(rt, port, "cells", "q[0] 120\n")?;
+    Ok(is_swapped && are_offered && are_refused && is_counted)
 }
 
 #[test]
 fn swaps_under_load(rt: HostRuntime) -> Result<(), Fail> {
-    let ports = ports_of(&rt, 0, 0)?;
-    let (service, port) = (ports.service(), ports.operator().port());
-    let client = || whole_replies(&rt, service);
-    let work = || {
-        let clients = || thread::join(&rt, client, client);
-        let done = thread::join(&rt, || installed(&rt, port), clients);
-        let _stopped = asked(&rt, port, "stop");
-        done
-    };
-    let (ended, (loads, (first, second))) = thread::join(&rt, || served(&rt, ports, "yes"), work);
-    ended?;
-    assert!(rt; loads == LOADS, "{loads} loads");
-    assert!(rt;
-        first == REQUESTS && second == REQUESTS,
-        "{first} and {second} replies"
-    );
+    assert_eq!(rt; wrong(&rt, "yes", 4, 10, Work::Swaps)?, None);
+    assert_eq!(rt; wrong(&rt, "forty", 4, 10, Work::Quota)?, None);
     Ok(())
 }

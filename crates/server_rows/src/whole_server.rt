@@ -1,0 +1,117 @@
+//! A whole server over loopback, with its operator, and what is done at its two ports.
+
+ghost use Rattle.std.specs.Prelude.{◌≤◌};
+
+use crate::clients::at_once;
+use crate::session::{first_wrong, is_asked, ports_of};
+use crate::shelf::{Shelf, ruleset};
+use crate::staffed::is_given_up;
+use crate::swaps_under_load::{are_whole, is_shared};
+use cells::Directory;
+use serving::{ServingFault, staff};
+use std::net::{Net, SocketAddr, TcpListener, TcpStream};
+use std::sync::Wait;
+use std::test::Fail;
+use std::thread;
+use std::thread::Threads;
+use std::time::{Clock, Duration};
+use workers::{Ports, ServeFault, Service};
+
+/// What is done at a server's ports.
+#[derive(Clone, Copy)]
+pub(crate) enum Work {
+    /// Lines and requests are sent one after another, and each has its reply; the last is a stop.
+    Rows(&'static str),
+    /// A client sends nothing until another one was answered.
+    AtOnce,
+    /// A client sends nothing, and another one asks the only worker.
+    Silent,
+    /// Rulesets are swapped while clients ask.
+    Swaps,
+    /// Rulesets that share a quota are swapped while clients take of it.
+    Quota,
+}
+
+/// Each connection may last so many seconds, and there is no log.
+pub(crate) fn service_of(seconds: u64) -> Service {
+    Service {
+        timeout: Duration::from_secs(seconds),
+        log: false,
+    }
+}
+
+/// Serves a manifest of the shelf with 1 to 64 workers, until the server is stopped.
+fn served<H>(
+    rt: &H,
+    ports: Ports,
+    path: &str,
+    workers: usize,
+    service: Service,
+) -> Result<(), ServingFault>
+where
+    H: Threads + Wait + AllocGlobal + Clock + Eprint + Sync,
+    H: Net<Listener = TcpListener, Stream = TcpStream>,
+{
+    let mut directory = Directory::new(rt.alloc());
+    let Ok(rules) = ruleset(rt.alloc(), path, &mut directory) else {
+        return Err(ServingFault::Serve(ServeFault::Memory));
+    };
+    let server = staff(rt, ports, rules, directory, workers.clamp(1, 64))?;
+    match server.serve(rt, &Shelf, service) {
+        Ok(_) => Ok(()),
+        Err(fault) => Err(fault),
+    }
+}
+
+/// What goes wrong at the ports of a server, if anything does. Then the server is stopped.
+fn wrong_at<H>(
+    rt: &H,
+    clients: SocketAddr,
+    operator: SocketAddr,
+    work: Work,
+) -> Option<&'static str>
+where
+    H: Threads + AllocGlobal + Clock + Sync,
+    H: Net<Listener = TcpListener, Stream = TcpStream>,
+{
+    let port = operator.port();
+    let is_done = match work {
+        Work::Rows(rows) => return first_wrong(rt, rows, clients, operator),
+        Work::AtOnce => at_once(rt, clients),
+        Work::Silent => is_given_up(rt, clients),
+        Work::Swaps => Ok(are_whole(rt, clients, port)),
+        Work::Quota => is_shared(rt, clients, port),
+    };
+    if !is_asked(rt, port, "stop", "stopping\n").unwrap_or(false) {
+        return Some("the stop");
+    }
+    match is_done {
+        Ok(true) => None,
+        _ => Some("what clients heard"),
+    }
+}
+
+/// What goes wrong with a server of this manifest, if anything does, while this is done at its
+/// ports. It has 1 to 64 workers, and each connection may last so many seconds.
+pub(crate) fn wrong<H>(
+    rt: &H,
+    path: &'static str,
+    workers: usize,
+    seconds: u64,
+    work: Work,
+) -> Result<Option<&'static str>, Fail>
+where
+    H: Threads + Wait + AllocGlobal + Clock + Eprint + Sync,
+    H: Net<Listener = TcpListener, Stream = TcpStream>,
+{
+    let ports = ports_of(rt, 0, 0)?;
+    let (clients, operator) = (ports.service(), ports.operator());
+    let service = service_of(seconds);
+    let (ended, wrong) = thread::join(
+        rt,
+        || served(rt, ports, path, workers, service),
+        || wrong_at(rt, clients, operator, work),
+    );
+    ended?;
+    Ok(wrong)
+}
