@@ -145,7 +145,7 @@ impl Disk for MemFiles {
 
 // A copy of the bytes of a file, if it can be read; None where it has more than so many.
 fn copied(alloc: Global, found: Option<&[u8]>, most: u32) -> Result<Option<Vec<u8>>, ResourceFault>
-    ensures { (known : KnownFiles) (path : List ℕ) → Gives known path (option_copied found)
+    ensures { (known : KnownFiles) (path : List ℕ) → Gives known path (option_copied found.entry)
         → ReadsAtMost most known path result }
 {
     let Some(bytes) = found else {
