@@ -66,7 +66,8 @@ order_code strict last k (n ∷ m ∷ ns) sense label rest =
 -- ---- a bucket
 
 -- a register, or its remainder by a modulus, against a number
-abbrev pub remainder_code : (modulus : Option ℕ) → Condition → Reg → ℕ → ℕ → Program → Program
+abbrev pub remainder_code : (modulus : Option ℕ) → Condition → Reg → ℕ → ℕ → Program
+    → Program
 remainder_code None condition r n label rest = jump_to (insn.jump_if condition r n) label rest
 remainder_code (Some m) condition r n label rest =
     Some (insn.take_remainder r m) ∷ jump_to (insn.jump_if condition r n) label rest
