@@ -19,7 +19,7 @@ use Rattle.bpf_rules.specs.Transfer.{edges, next_edge, jumping, going_on}
 use Rattle.bpf_verify.specs.Pool.{Waiting, waits_at, held, IsChanged}
 use Rattle.bpf_verify.specs.Accepted.{join_all, incoming, entry_of, IsFine, IsRefusedAt}
 use Rattle.bpf_verify.specs.Kept.{jumps_to, most_ahead, greatest_ahead, greatest_kept}
-use Rattle.bpf_verify.specs.Sweep.{arrived, falling, IsAdded, IsSwept}
+use Rattle.bpf_verify.specs.Sweep.{arrived, falling, IsAdded, IsSwept, HasArrived}
 use Rattle.bpf_verify.proofs.Places.{at_within, start_at}
 use Rattle.bpf_verify.proofs.Joining.{falls, arrived_none}
 use Rattle.bpf_verify.proofs.Swept.{swept_next, most_after}
@@ -57,31 +57,43 @@ within_length p k i n flow is len = each (target_of k i) refl
         let a = target_ahead p k i flow is u e in
         let lt = at_within p u a.1 in omega (arith, lt, len)
 
+-- what a place's own entry is once it is reached
+pub arrives : (p : ShapedProgram) (k : ℕ) (fell here : Option AbsState) (w w1 : Waiting)
+    → k < length p.code → IsSwept p k fell w → here ≡ arrived (waits_at w k) fell
+    → IsChanged w w1 k None → w1.most ≡ w.most → held w1 ≤ w1.most → HasArrived p k here w1
+arrives p k fell here w w1 within h is gave same held = record {
+  fell = fell;
+  waited = w;
+  swept = h;
+  entry = is ∙ h.entry within;
+  gave = gave;
+  most = same;
+  room = held;
+}
+
 module _ (p : ShapedProgram) (k : ℕ) (i : Insn) (layout : IsLayout p.code) (flow : IsForward p.code)
-    (is : at p.code k ≡ Some i)
-    (here here1 : Option AbsState) (w w1 : Waiting) (h : IsSwept p k here w)
-    (arrives : here1 ≡ arrived (waits_at w k) here)
-    (gave : IsChanged w w1 k None) (same_most : w1.most ≡ w.most)
-    (held_most : held w1 ≤ w1.most) where
-  pub entry_is : entry_of p k ≡ here1
-  entry_is = let within = at_within p.code k (ap is_some is) in sym (arrives ∙ h.entry within)
+    (is : at p.code k ≡ Some i) (here : Option AbsState) (w : Waiting)
+    (a : HasArrived p k here w) where
+  -- without an entry it isn't judged
+  pub none_fine : here ≡ None → IsFine p k
+  none_fine none e j entry there = absurd (none-some e (sym none ∙ a.entry ∙ entry))
 
   -- no entry comes to it
-  pub passed_over : here1 ≡ None → IsSwept p (next_of k i) here1 w1
+  pub passed_over : here ≡ None → IsSwept p (next_of k i) here w
   passed_over none =
-      let no : entry_of p k ≡ None = entry_is ∙ none in
-      rw none (swept_next p k i layout is here None w w1 w1 h (record {
+      let no : entry_of p k ≡ None = sym a.entry ∙ none in
+      rw none (swept_next p k i layout is a.fell None a.waited w w a.swept (record {
         target = None;
         jump = None;
         rest = [];
-        gave = gave;
-        same_most = same_most;
-        held_most = held_most;
+        gave = a.gave;
+        same_most = a.most;
+        held_most = a.room;
         added = refl;
         edges_are = rw no refl;
         rest_is = λ m x. stays (next_of k i == m) x;
         target_is = λ u e. absurd (none-some u e);
-        fine = λ e j entry there. absurd (none-some e (sym no ∙ entry));
+        fine = λ e j entry there. none_fine none e j entry there;
         none_most = λ none. refl;
         jump_is = λ some. rw no refl;
       }))
@@ -90,36 +102,45 @@ module _ (p : ShapedProgram) (k : ℕ) (i : Insn) (layout : IsLayout p.code) (fl
       stays true x = sym (arrived_none x)
       stays false x = refl
 
-  module _ (e : AbsState) (some : here1 ≡ Some e) where
+  module _ (e : AbsState) (some : here ≡ Some e) where
     pub refused : (rule : VerifierRule) → first_rule p.shape e i ≡ Some rule → IsRefusedAt p k rule
     refused rule fails = record {
-      before = λ s lt. h.fine s lt;
-      fails =
-          record { entry = e; insn = i; entry_is = entry_is ∙ some; insn_is = is; rule_is = fails };
+      before = λ s lt. a.swept.fine s lt;
+      fails = record {
+        entry = e;
+        insn = i;
+        entry_is = sym a.entry ∙ some;
+        insn_is = is;
+        rule_is = fails;
+      };
     }
 
-    pub gone_on : (here2 : Option AbsState) (w2 : Waiting) → first_rule p.shape e i ≡ None
-        → IsAdded (target_of k i) (jumping e i) w1 w2 → here2 ≡ falling p.shape k e i
+    pub passes : first_rule p.shape e i ≡ None → IsFine p k
+    passes none f j entry there =
+        ap (λ x. first_rule p.shape x j) (same_Some f e (sym entry ∙ sym a.entry ∙ some))
+        ∙ ap (λ x. first_rule p.shape e x) (same_Some j i (sym there ∙ is)) ∙ none
+
+    pub gone_on : (here2 : Option AbsState) (w2 : Waiting) → IsFine p k
+        → IsAdded (target_of k i) (jumping e i) w w2 → here2 ≡ falling p.shape k e i
         → IsSwept p (next_of k i) here2 w2
     unfolding edges
-    gone_on here2 w2 passes added falls_to =
-        let entry : entry_of p k ≡ Some e = entry_is ∙ some in
-        rw falls_to (swept_next p k i layout is here (falling p.shape k e i) w w1 w2 h (record {
+    gone_on here2 w2 fine added falls_to =
+        let entry : entry_of p k ≡ Some e = sym a.entry ∙ some in
+        rw falls_to (swept_next p k i layout is a.fell (falling p.shape k e i) a.waited w w2 a.swept
+        (record {
           target = target_of k i;
           jump = jumping e i;
           rest = next_edge p.shape k e i;
-          gave = gave;
-          same_most = same_most;
-          held_most = held_most;
+          gave = a.gave;
+          same_most = a.most;
+          held_most = a.room;
           added = added;
           edges_are = rw (entry, is) refl;
           rest_is = λ m x. falls (next_of k i) (goes_on i) (going_on p.shape k e i) m x;
           target_is = λ u leads.
-              let a = target_ahead p.code k i flow is u leads in
-              record { ahead = a.0; place = a.1; target = jumps_here p.code k u i is leads };
-          fine = λ f j entry_f there.
-              ap (λ x. first_rule p.shape x j) (same_Some f e (sym entry_f ∙ entry))
-              ∙ ap (λ x. first_rule p.shape e x) (same_Some j i (sym there ∙ is)) ∙ passes;
+              let t = target_ahead p.code k i flow is u leads in
+              record { ahead = t.0; place = t.1; target = jumps_here p.code k u i is leads };
+          fine = λ f j entry_f there. fine f j entry_f there;
           none_most = λ none.
               let there : is_some (entry_of p k) ≡ true = ap is_some entry in
               absurd (grind (arith, there, none));
@@ -178,3 +199,10 @@ at_end p k here w le h = elim h.place [
 pub fine_all : (p : ShapedProgram) → ((s : ℕ) → s < length p.code → IsFine p s) → (s : ℕ)
     → IsFine p s
 fine_all p each s e i is what = each s (at_within p.code s (ap is_some what)) e i is what
+
+-- of a walk that comes to the end
+pub end_accepted : (p : ShapedProgram) (k : ℕ) (here : Option AbsState) (w : Waiting)
+    → length p.code ≤ k → IsSwept p k here w → (s : ℕ) → IsFine p s
+end_accepted p k here w le h =
+    let end = at_end p k here w le h in
+    fine_all p (λ s lt. h.fine s (omega (arith, lt, end)))

@@ -5,7 +5,7 @@ use Rattle.bpf_insn.specs.Program.{Program}
 use Rattle.cells.specs.Arrays.{AppShape}
 use Rattle.bpf_verify.specs.Pool.{waits_at}
 use Rattle.bpf_rules.specs.bpf_semantics.Program.{shaped}
-use Rattle.bpf_verify.specs.Sweep.{arrived, IsSwept}
+use Rattle.bpf_verify.specs.Sweep.{arrived, IsSwept, HasArrived}
 use Rattle.bpf_verify.specs.declared.entries.Entries.{Entries}
 
 -- none where no run goes on to the place
@@ -15,6 +15,10 @@ at_hand e = if e.is_live then Some e.here else None
 -- before place k is judged
 abbrev pub AreSwept : Program → AppShape → ℕ → Entries → Type 0
 AreSwept code shape k e = IsSwept (shaped code shape) k (at_hand e) e.waiting
+
+-- at place k
+abbrev pub HaveArrived : Program → AppShape → ℕ → Entries → Type 0
+HaveArrived code shape k e = HasArrived (shaped code shape) k (at_hand e) e.waiting
 
 -- what falls through, joined after what waits for the place
 abbrev pub arriving : Entries → ℕ → Option AbsState

@@ -4,6 +4,7 @@ pub mod Accepted
 pub mod Kept
 pub mod Sweep
 pub mod Entries
+pub mod Walk
 pub mod Covers
 pub mod Table
 pub use Rattle.bpf_rules.specs as bpf_rules

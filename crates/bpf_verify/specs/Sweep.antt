@@ -10,7 +10,7 @@ use Rattle.bpf_rules.specs.abs_value.declared.state.AbsState.{AbsState}
 use Rattle.bpf_rules.specs.abs_value.States.{join_states}
 use Rattle.bpf_rules.specs.Transfer.{going_on}
 use Rattle.bpf_verify.specs.Pool.{Waiting, waits_at, held, joined_with, IsChanged}
-use Rattle.bpf_verify.specs.Accepted.{join_all, incoming, IsFine}
+use Rattle.bpf_verify.specs.Accepted.{join_all, incoming, entry_of, IsFine}
 use Rattle.bpf_verify.specs.Kept.{jumps_to, most_ahead, greatest_kept}
 
 -- what is at hand where a place is reached: what waited, and then what falls through
@@ -35,6 +35,17 @@ pub record IsSwept (p : ShapedProgram) (k : ℕ) (here : Option AbsState) (w : W
   pub fine : (s : ℕ) → s < k → IsFine p s
   pub exact : w.most + 1 ≡ greatest_kept p k
   pub most : w.most ≤ most_ahead p.code k
+
+-- at place k: its entry is at hand, and what waited for it is given up
+pub record HasArrived (p : ShapedProgram) (k : ℕ) (here : Option AbsState) (w : Waiting)
+    : Type 0 where
+  pub fell : Option AbsState
+  pub waited : Waiting
+  pub swept : IsSwept p k fell waited
+  pub entry : here ≡ entry_of p k
+  pub gave : IsChanged waited w k None
+  pub most : w.most ≡ waited.most
+  pub room : held w ≤ w.most
 
 -- an edge to a target is added to what waits; none where it is dropped, or where there is no jump
 abbrev pub IsAdded : Option ℕ → Option AbsState → Waiting → Waiting → Type 0

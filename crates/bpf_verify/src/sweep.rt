@@ -6,8 +6,8 @@ ghost use Rattle.std.specs.Prelude.{◌≡◌, ◌<◌, ◌≤◌, ◌+◌, leng
 ghost use Rattle.bpf_insn.specs.Program.{at};
 ghost use Rattle.bpf_rules.specs.flow_check.Edges.{next_of};
 ghost use Rattle.bpf_rules.specs.bpf_semantics.Program.{shaped};
-ghost use Rattle.bpf_verify.specs.Accepted.{IsRefusal, IsAccepted};
-ghost use Rattle.bpf_verify.specs.Entries.{AreSwept};
+ghost use Rattle.bpf_verify.specs.Accepted.{IsFine, IsRefusal, IsAccepted};
+ghost use Rattle.bpf_verify.specs.Entries.{AreSwept, HaveArrived};
 ghost use Rattle.bpf_verify.specs.Kept.{IsPeak, IsPeakBefore, greatest_ahead};
 
 use crate::entries::Entries;
@@ -15,8 +15,58 @@ use bpf_insn::Insn;
 use bpf_rules::flow_check::Flow;
 use bpf_rules::{Refusal, first_rule};
 use cells::Shape;
+use std::alloc::AllocError;
 
-/// Judges the instruction at the slot.
+/// Judges the instruction at the slot by the entry at hand; where there is none, nothing is judged.
+pub fn judge(
+    entries: &Entries,
+    flow: &Flow,
+    shape: &Shape,
+    slot: usize,
+    insn: &Insn,
+) -> Result<(), Refusal>
+    requires place { at flow.now slot ≡ Some insn.now }
+    requires here { HaveArrived flow.now shape.now slot entries.now }
+    ensures fine { OnOk result (IsFine (shaped flow.now shape.now) slot) }
+    ensures refused { IfErr result (λ r. IsRefusal flow.now shape.now r) }
+    ensures exact { IfErr result (λ r. IsPeakBefore (shaped flow.now shape.now) r
+        (entries.now.waiting.most + 1)) }
+{
+    flow.keeps();
+    if !entries.is_live {
+        return Ok(());
+    }
+    match first_rule(shape, &entries.here, insn) {
+        Some(rule) => Err(Refusal::Rule { slot, rule }),
+        None => Ok(()),
+    }
+}
+
+/// Carries the entry at hand on along the edges of the instruction, at which no rule fails.
+pub fn carry_on(
+    entries: &mut Entries,
+    flow: &Flow,
+    shape: &Shape,
+    slot: usize,
+    insn: &Insn,
+) -> Result<(), AllocError>
+    requires place { at flow.now slot ≡ Some insn.now }
+    requires here { HaveArrived flow.now shape.now slot entries.old }
+    requires fine { IsFine (shaped flow.now shape.now) slot }
+    ensures swept { OnOk result
+        (AreSwept flow.now shape.now (next_of slot insn.now) entries.new) }
+    ensures most { OnErr result (entries.new.waiting.most ≡ entries.old.waiting.most) }
+{
+    flow.keeps();
+    if !entries.is_live {
+        return Ok(());
+    }
+    entries.jump(slot, insn)?;
+    entries.go_on(shape, slot, insn);
+    Ok(())
+}
+
+// One place: its entry is made, it is judged, and the entry carried on.
 fn visit(
     entries: &mut Entries,
     flow: &Flow,
@@ -33,16 +83,9 @@ fn visit(
         (entries.new.waiting.most + 1)) }
     ensures most { OnErr result (entries.new.waiting.most ≡ entries.old.waiting.most) }
 {
-    flow.keeps();
     entries.arrive(slot)?;
-    if !entries.is_live {
-        return Ok(());
-    }
-    if let Some(rule) = first_rule(shape, &entries.here, insn) {
-        return Err(Refusal::Rule { slot, rule });
-    }
-    entries.jump(slot, insn)?;
-    entries.go_on(shape, slot, insn);
+    judge(entries, flow, shape, slot, insn)?;
+    carry_on(entries, flow, shape, slot, insn)?;
     Ok(())
 }
 

@@ -2,7 +2,7 @@ use Rattle.std.proofs.Common.{◌∙◌, ap, arith}
 use Rattle.bpf_rules.specs.bpf_semantics.Program.{shaped}
 use Rattle.bpf_verify.specs.Entries.{at_hand}
 use Rattle.bpf_verify.specs.Kept.{greatest_kept}
-use Rattle.bpf_verify.proofs.Visits.{swept_most, at_end, fine_all}
+use Rattle.bpf_verify.proofs.Visits.{swept_most, at_end, end_accepted}
 use Rattle.bpf_verify.proofs.sweep.sweep.Goals as goal
 
 pub returns-in_err-visit-clause-most : goal.returns-in_err-visit-clause-most
@@ -13,12 +13,9 @@ returns-in_err-visit-clause-most c =
 
 pub returns-clause-accepted : goal.returns-clause-accepted
 returns-clause-accepted c =
-    let p = shaped c.args.flow.now c.args.shape.now in
-    let end = at_end (shaped c.args.flow.now c.args.shape.now) c.loop-slot.slot
+    end_accepted (shaped c.args.flow.now c.args.shape.now) c.loop-slot.slot
     (at_hand c.loop-slot.entries) c.loop-slot.entries.waiting
-    (omega (arith, c.loop-slot-test.false, c.len.ensures)) c.loop-slot.invariant in
-    fine_all (shaped c.args.flow.now c.args.shape.now)
-    (λ s lt. c.loop-slot.invariant.fine s (omega (arith, lt, end)))
+    (omega (arith, c.loop-slot-test.false, c.len.ensures)) c.loop-slot.invariant
 
 pub returns-clause-exact : goal.returns-clause-exact
 returns-clause-exact c =

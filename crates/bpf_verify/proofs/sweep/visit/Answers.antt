@@ -1,54 +1,14 @@
-use Rattle.std.proofs.Common.{◌∙◌, length, ap, sym, refl, rules, arith}
+use Rattle.std.proofs.Common.{refl}
 use Rattle.bpf_rules.specs.bpf_semantics.Program.{shaped}
 use Rattle.bpf_verify.specs.Entries.{at_hand}
-use Rattle.bpf_verify.specs.Sweep.{falling}
 use Rattle.bpf_verify.proofs.Places.{at_within}
-use Rattle.bpf_verify.proofs.Visits.{within_length, passed_over, refused, gone_on}
+use Rattle.bpf_verify.proofs.Visits.{arrives}
 use Rattle.bpf_verify.proofs.sweep.visit.Goals as goal
-use Rattle.bpf_verify.proofs.sweep.visit.Goals.{In_ok-arrive}
 
-pub returns-then-not-entries-clause-swept : goal.returns-then-not-entries-clause-swept
-returns-then-not-entries-clause-swept c =
-    passed_over (shaped c.args.flow.now c.args.shape.now) c.args.slot c.args.insn.now
-    c.keeps.ensures.flow.program c.keeps.ensures.forward c.requires.place
+pub judge-requires-clause-here : goal.judge-requires-clause-here
+judge-requires-clause-here c =
+    arrives (shaped c.args.flow.now c.args.shape.now) c.args.slot
     (at_hand c.args.entries.now) (at_hand c.arrive.new.self) c.args.entries.now.waiting
-    c.arrive.new.self.waiting c.requires.swept c.in_ok-arrive.ensures.here
-    c.in_ok-arrive.ensures.waiting c.in_ok-arrive.ensures.most c.in_ok-arrive.ensures.held
-    (rw c.if-not-entries.true refl)
-
-pub returns-in-Some-clause-refused : goal.returns-in-Some-clause-refused
-returns-in-Some-clause-refused c =
-    refused (shaped c.args.flow.now c.args.shape.now) c.args.slot c.args.insn.now
-    c.keeps.ensures.flow.program c.keeps.ensures.forward c.requires.place
-    (at_hand c.args.entries.now) (at_hand c.arrive.new.self) c.args.entries.now.waiting
-    c.arrive.new.self.waiting c.requires.swept c.in_ok-arrive.ensures.here
-    c.in_ok-arrive.ensures.waiting c.in_ok-arrive.ensures.most c.in_ok-arrive.ensures.held
-    c.arrive.new.self.here (rw c.if-not-entries.false refl) c.in-Some.rule
-    (sym c.first_rule.ensures ∙ c.in-Some.is)
-
-pub jump-requires-clause-slot : goal.jump-requires-clause-slot
-jump-requires-clause-slot c =
-    let lt = at_within c.args.flow.now c.args.slot (rw c.requires.place refl) in
-    omega (arith, lt, c.keeps.ensures.flow.short)
-
-pub jump-requires-clause-target : goal.jump-requires-clause-target
-jump-requires-clause-target c = within_length c.args.flow.now c.args.slot c.args.insn.now
-    (length c.arrive.new.self.waiting.entries) c.keeps.ensures.forward c.requires.place
-    (c.in_ok-arrive.ensures.waiting.len ∙ c.requires.swept.len)
-
-pub go_on-requires : goal.go_on-requires
-go_on-requires c =
-    let lt = at_within c.args.flow.now c.args.slot (rw c.requires.place refl) in
-    omega (arith, lt, c.keeps.ensures.flow.short)
-
-pub returns-clause-swept : goal.returns-clause-swept
-returns-clause-swept c =
-    gone_on (shaped c.args.flow.now c.args.shape.now) c.args.slot c.args.insn.now
-    c.keeps.ensures.flow.program c.keeps.ensures.forward c.requires.place
-    (at_hand c.args.entries.now) (at_hand c.arrive.new.self) c.args.entries.now.waiting
-    c.arrive.new.self.waiting c.requires.swept c.in_ok-arrive.ensures.here
-    c.in_ok-arrive.ensures.waiting c.in_ok-arrive.ensures.most c.in_ok-arrive.ensures.held
-    c.arrive.new.self.here (rw c.if-not-entries.false refl)
-    (at_hand c.go_on.new.self) c.go_on.new.self.waiting (search rules)
-    (rw c.go_on.ensures.waiting c.in_ok-jump.ensures.added) (c.go_on.ensures.here
-    ∙ ap (λ e. falling c.args.shape.now c.args.slot e c.args.insn.now) c.in_ok-jump.ensures.here)
+    c.arrive.new.self.waiting (at_within c.args.flow.now c.args.slot (rw c.requires.place refl))
+    c.requires.swept c.in_ok-arrive.ensures.here c.in_ok-arrive.ensures.waiting
+    c.in_ok-arrive.ensures.most c.in_ok-arrive.ensures.held

@@ -1,0 +1,25 @@
+-- A walk over the places of a program, by the entries that the sweep judges by.
+use Rattle.std.specs.Prelude.{ℕ, ◌≤◌, length, Option}
+use Rattle.bpf_insn.specs.Program.{Program}
+use Rattle.cells.specs.Arrays.{AppShape}
+use Rattle.bpf_rules.specs.abs_value.declared.state.AbsState.{AbsState}
+use Rattle.bpf_verify.specs.Accepted.{IsAccepted}
+use Rattle.bpf_verify.specs.Entries.{at_hand, AreSwept, HaveArrived}
+use Rattle.bpf_verify.specs.declared.walk.Walk.{Walk}
+
+-- the entry of the place at which it stands; none where no edge leads to it
+abbrev pub entry_here : Walk → Option AbsState
+entry_here w = at_hand w.entries
+
+-- no rule fails before place k, which is next
+abbrev pub StandsBefore : Program → AppShape → ℕ → Walk → Type 0
+StandsBefore code shape k w = AreSwept code shape k w.entries
+
+-- no rule fails before place k, and its entry is at hand
+abbrev pub StandsAt : Program → AppShape → ℕ → Walk → Type 0
+StandsAt code shape k w = HaveArrived code shape k w.entries
+
+-- one that has come to the end has found that the program is accepted
+abbrev pub EndIsAccepted : Program → AppShape → Type 0
+EndIsAccepted code shape =
+    (k : ℕ) (w : Walk) → length code ≤ k → StandsBefore code shape k w → IsAccepted code shape

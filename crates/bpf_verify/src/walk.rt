@@ -1,0 +1,91 @@
+//! A walk over the places of a program, for those who tell what is known at each. It goes as the
+//! sweep does, and its user drives it: arrive, look at the entry, judge, carry on.
+
+ghost use Rattle.std.specs.Prelude.{◌≡◌, ◌<◌, length, option_copied, IfOk, IfErr, OnOk, Some};
+ghost use Rattle.bpf_insn.specs.Program.{Program, at};
+ghost use Rattle.bpf_rules.specs.bpf_semantics.Program.{shaped};
+ghost use Rattle.bpf_rules.specs.flow_check.Edges.{next_of};
+ghost use Rattle.cells.specs.Arrays.{AppShape};
+ghost use Rattle.bpf_verify.specs.Accepted.{IsFine, IsRefusal};
+ghost use Rattle.bpf_verify.specs.Walk.{entry_here, StandsBefore, StandsAt, EndIsAccepted};
+
+use crate::entries::Entries;
+use crate::sweep;
+use bpf_insn::Insn;
+use bpf_rules::Refusal;
+use bpf_rules::abs_value::AbsState;
+use bpf_rules::flow_check::Flow;
+use cells::Shape;
+use std::alloc::{AllocError, Global};
+
+/// The entries of a program's places, one after the other, upwards. It keeps what `verify` keeps:
+/// the entry at hand, which is changed in place, and those that wait for targets ahead.
+#[derive(Drop)]
+pub struct Walk {
+    entries: Entries,
+}
+
+impl Walk {
+    /// A walk that stands before the first place, under whatever shape.
+    pub fn start(alloc: Global, flow: &Flow) -> Result<Walk, AllocError>
+        ensures { IfOk result (λ w. (shape : AppShape) → StandsBefore flow.now shape 0 w) }
+    {
+        flow.keeps();
+        let Ok(entries) = Entries::opening(alloc, flow.len()) else {
+            return Err(AllocError);
+        };
+        Ok(Walk { entries })
+    }
+
+    /// Arrives at the next place, which is that of the slot.
+    pub fn arrive(&mut self, slot: usize) -> Result<(), AllocError>
+        ensures { OnOk result ((code : Program) (shape : AppShape) → slot < length code
+            → StandsBefore code shape slot self.old → StandsAt code shape slot self.new) }
+    {
+        self.entries.arrive(slot)?;
+        Ok(())
+    }
+
+    /// What is known at the place, before its instruction; none where no edge leads to it.
+    pub fn entry(&self) -> Option<&AbsState>
+        ensures { option_copied result ≡ entry_here self.now }
+    {
+        if self.entries.is_live {
+            Some(&self.entries.here)
+        } else {
+            None
+        }
+    }
+
+    /// Judges the place as `verify` does: the refusal is the program's. It is never V15.
+    pub fn judge(&self, flow: &Flow, shape: &Shape, slot: usize, insn: &Insn) -> Result<(), Refusal>
+        requires place { at flow.now slot ≡ Some insn.now }
+        requires here { StandsAt flow.now shape.now slot self.now }
+        ensures fine { OnOk result (IsFine (shaped flow.now shape.now) slot) }
+        ensures refused { IfErr result (λ r. IsRefusal flow.now shape.now r) }
+    {
+        sweep::judge(&self.entries, flow, shape, slot, insn)
+    }
+
+    /// Goes on from a place at which no rule fails, along the edges of its instruction.
+    pub fn carry_on(
+        &mut self,
+        flow: &Flow,
+        shape: &Shape,
+        slot: usize,
+        insn: &Insn,
+    ) -> Result<(), AllocError>
+        requires place { at flow.now slot ≡ Some insn.now }
+        requires here { StandsAt flow.now shape.now slot self.old }
+        requires fine { IsFine (shaped flow.now shape.now) slot }
+        ensures { OnOk result
+            (StandsBefore flow.now shape.now (next_of slot insn.now) self.new) }
+    {
+        sweep::carry_on(&mut self.entries, flow, shape, slot, insn)
+    }
+}
+
+/// A law: a walk that comes to the end has found that the program is accepted.
+pub fn end_is_accepted()
+    ensures { (code : Program) (shape : AppShape) → EndIsAccepted code shape }
+{}
