@@ -3,4 +3,5 @@ pub mod Loads
 pub mod Passes
 pub mod Quotas
 pub mod Rule
+pub mod Texts
 pub mod Words

@@ -1,19 +1,41 @@
 //! Why there are no shared cells.
 
-ghost use Rattle.std.specs.Prelude.{◌≡◌};
+ghost use Rattle.std.specs.Prelude.{◌≡◌, Some};
+ghost use Rattle.shared_cells.specs.Texts.{shared_text};
 ghost use Rattle.shared_cells.specs.declared.fault.SharedFault.TheVariants.{Memory};
 
 use std::alloc::{AllocError, AllocFailed};
-use thiserror::Error;
+use std::error::Error;
+use std::fmt::{self, Display};
 
 /// The refusal of `SharedCells::new`, with the number that is printed; `close` has it in its type
 /// alone.
-#[derive(Clone, Copy, Debug, PartialEq, Eq, Error)]
+#[derive(Clone, Copy, Debug, PartialEq, Eq)]
 pub enum SharedFault {
-    /// Memory was refused.
-    #[error("S1 Memory")]
+    /// S1: memory was refused.
     Memory,
 }
+
+impl SharedFault {
+    /// The number and the name, as they are printed.
+    pub fn name(self) -> &'static str
+        ensures { result.now ≡ shared_text self }
+    {
+        match self {
+            SharedFault::Memory => "S1 Memory",
+        }
+    }
+}
+
+impl Display for SharedFault {
+    ghost output = { λ fault. Some (shared_text fault) };
+
+    fn fmt<W: fmt::Write>(&self, f: &mut fmt::Formatter<W>) -> fmt::Result {
+        f.write_str(self.name())
+    }
+}
+
+impl Error for SharedFault {}
 
 impl From<AllocError> for SharedFault {
     ghost from_gives = { λ _ fault. fault ≡ Memory };
