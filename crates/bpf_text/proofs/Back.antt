@@ -51,7 +51,7 @@ use Rattle.bpf_text.proofs.Statements.{insn_again}
 
 -- ---- no line of a listing has a control character
 
-abbrev is_plain : List ℕ → Bool
+abbrev pub is_plain : List ℕ → Bool
 is_plain t = list_all (λ c. nat_le 32 c) t
 
 plain_append : (xs ys : List ℕ) → is_plain xs ≡ true → is_plain ys ≡ true
@@ -107,7 +107,7 @@ plain_behind : (divider : List ℕ) (o : Option arguments.Argument)
 plain_behind divider None d h = refl
 plain_behind divider (Some a) d h = plain_append divider (argument_text a) d (plain_argument a h)
 
-plain_line : (i : Insn) → IsEncodable i → is_plain (line_text i) ≡ true
+pub plain_line : (i : Insn) → IsEncodable i → is_plain (line_text i) ≡ true
 plain_line i p =
     let a = arguments_of i in
     let short = are_short i p in
@@ -148,7 +148,7 @@ no_return (c ∷ xs) (suc i) h = no_return xs i (and_both (nat_le 32 c) (is_plai
 keeps_plain : (xs : List ℕ) → is_plain xs ≡ true → strip_carriage_return xs ≡ xs
 keeps_plain xs h = let e = no_return xs (length xs - 1) h in simp e refl
 
-line_of_plain : (xs ys : List ℕ) → is_plain xs ≡ true → lines (xs ++ (10 ∷ ys)) ≡ xs ∷ lines ys
+pub line_of_plain : (xs ys : List ℕ) → is_plain xs ≡ true → lines (xs ++ (10 ∷ ys)) ≡ xs ∷ lines ys
 line_of_plain xs ys h =
     let some : 0 < length (slice_split is_newline ys) =
     omega (arith, length-slice_split is_newline ys) in
@@ -227,7 +227,7 @@ bytes_again slot_of n s (i ∷ is) =
     ∙ ap (onto_bytes (encoding i))
     (bytes_again slot_of (n + 1) (s + slots_of_word (mnemonic_of i)) is)
 
-lines_assemble : (is : List Insn) → length (layout is) ≤ 4096
+pub lines_assemble : (is : List Insn) → length (layout is) ≤ 4096
     → assembly_of_lines tables (map as_line is) ≡ Ok (encodings is)
 lines_assemble is short =
     ap (λ (o : Option AsmFault). unless_fault o

@@ -13,6 +13,7 @@ pub mod Again
 pub mod ReadAgain
 pub mod Rereading
 pub mod Back
+pub mod Remarks
 pub mod Once
 pub mod States
 pub mod Successes

@@ -38,7 +38,7 @@ arguments_text a = text_behind (codes " ") a.first
 abbrev pub line_text : Insn → List ℕ
 line_text i = word_of (mnemonic_of i) ++ arguments_text (arguments_of i)
 
-regroup : (w a b c : List ℕ) → ((w ++ a) ++ b) ++ c ≡ w ++ (a ++ (b ++ (c ++ [])))
+pub regroup : (w a b c : List ℕ) → ((w ++ a) ++ b) ++ c ≡ w ++ (a ++ (b ++ (c ++ [])))
 regroup w a b c =
     append_assoc (w ++ a) b c ∙ append_assoc w a (b ++ c)
     ∙ ap (λ (d : List ℕ). w ++ (a ++ (b ++ d))) (sym (append-nil c))

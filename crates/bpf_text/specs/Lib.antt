@@ -12,6 +12,7 @@ pub mod Operands
 pub mod Lines
 pub mod Labels
 pub mod Assembly
+pub mod Remarks
 pub mod States
 pub mod Faults
 pub mod Statements

@@ -4,6 +4,7 @@
 ghost use Rattle.std.specs.Prelude.{ℕ, List};
 ghost use Rattle.bpf_text.specs.Assembly.{HasOneAssembly};
 ghost use Rattle.bpf_text.specs.Listing.{HasOneListing};
+ghost use Rattle.bpf_text.specs.Remarks.{RemarkedInsn, RemarksAreSkipped};
 ghost use Rattle.bpf_text.specs.Signatures.{KindsAgree};
 ghost use Rattle.bpf_text.specs.States.{ReadsAsStated};
 ghost use Rattle.bpf_text.specs.Vocabulary.{Vocabulary, IsExact};
@@ -25,6 +26,11 @@ pub fn reads_as_stated()
 /// A law: a text stands for one list of bytes, or has one fault.
 pub fn one_assembly()
     ensures { (text : List ℕ) → HasOneAssembly text }
+{}
+
+/// A law: with a comment behind each of its lines a listing stands for the same bytes.
+pub fn remarks_are_skipped()
+    ensures { (lines : List RemarkedInsn) → RemarksAreSkipped lines }
 {}
 
 /// A law: bytes have one listing, or one first fault. It is proved by decoding at each slot.

@@ -84,7 +84,8 @@ fn push_argument(out: &mut String, argument: Argument) -> Result<(), AllocError>
     }
 }
 
-fn push_behind(
+/// Writes an argument, if there is one, behind what divides it from what stands before it.
+pub fn push_behind(
     out: &mut String,
     divider: &str,
     argument: Option<Argument>,
@@ -98,7 +99,8 @@ fn push_behind(
     Ok(())
 }
 
-fn push_word(out: &mut String, mnemonic: Mnemonic) -> Result<(), AllocError>
+/// Writes the word of a mnemonic.
+pub fn push_word(out: &mut String, mnemonic: Mnemonic) -> Result<(), AllocError>
     ensures { OnOk result (Appends out.old out.new (word_of mnemonic)) }
 {
     out.push_str(mnemonic.stem())?;

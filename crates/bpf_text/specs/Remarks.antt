@@ -1,0 +1,50 @@
+-- A listing with a remark behind each of its lines, which the assembler skips.
+use Rattle.std.specs.Prelude.{◌≡◌, ℕ, ◌≤◌, List, [], ◌∷◌, ◌++◌, length, map, codes}
+use Rattle.std.specs.Prelude.{Bool, true, ◌&&◌, ◌||◌, ◌==◌, nat_le, Ok}
+use Rattle.std.specs.List.{AllByRecursion, list_all}
+use Rattle.bpf_insn.specs.declared.insn.Insn.{Insn}
+use Rattle.bpf_insn.specs.Spelling.{IsEncodable}
+use Rattle.bpf_insn.specs.Program.{encodings, layout}
+use Rattle.bpf_text.specs.Arguments.{mnemonic_of, arguments_of}
+use Rattle.bpf_text.specs.Assembly.{Assembles}
+use Rattle.bpf_text.specs.Listing.{text_behind}
+use Rattle.bpf_text.specs.Tokens.{is_blank}
+use Rattle.bpf_text.specs.Words.{word_of}
+
+-- blanks, and behind them nothing or a comment
+abbrev pub is_blank_or_comment : List ℕ → Bool
+is_blank_or_comment [] = true
+is_blank_or_comment (c ∷ rest) = (c == 59) || (is_blank c && is_blank_or_comment rest)
+
+-- that, with no control character
+pub record IsRemark (text : List ℕ) : Type 0 where
+  pub skipped : is_blank_or_comment text ≡ true
+  pub plain : list_all (λ c. nat_le 32 c) text ≡ true
+
+-- an instruction, and what stands behind it
+pub record RemarkedInsn : Type 0 where
+  pub insn : Insn
+  pub remark : List ℕ
+
+-- the line of an instruction without the line feed that ends it
+abbrev pub bare_line : Insn → List ℕ
+bare_line i =
+    word_of (mnemonic_of i)
+    ++ text_behind (codes " ") ((arguments_of i).first)
+    ++ text_behind (codes ", ") ((arguments_of i).second)
+    ++ text_behind (codes ", ") ((arguments_of i).third)
+
+abbrev pub remarked_listing : List RemarkedInsn → List ℕ
+remarked_listing [] = []
+remarked_listing (l ∷ ls) =
+    bare_line l.insn ++ l.remark ++ codes "\n" ++ remarked_listing ls
+
+abbrev pub insns_of : List RemarkedInsn → List Insn
+insns_of ls = map (λ l. l.insn) ls
+
+-- with whatever remarks, the listing of at most 4096 slots stands for the same bytes
+abbrev pub RemarksAreSkipped : List RemarkedInsn → Type 0
+RemarksAreSkipped ls =
+    AllByRecursion IsEncodable (insns_of ls) → AllByRecursion (λ l. IsRemark l.remark) ls
+    → length (layout (insns_of ls)) ≤ 4096
+    → Assembles (remarked_listing ls) (Ok (encodings (insns_of ls)))
