@@ -72,6 +72,11 @@ abbrev pub IsRefusal : Program → AppShape → Refusal → Type 0
 IsRefusal code shape (refusal.Rule s rule) = IsRefusedAt (shaped code shape) s rule
 IsRefusal code shape refusal.Memory = Unit {0}
 
+-- a rule, and it fails at this place
+abbrev pub FailsAt : ℕ → Refusal → Type 0
+FailsAt k (refusal.Rule s rule) = s ≡ k
+FailsAt k refusal.Memory = ⊥
+
 -- ---- no program has two verdicts
 
 -- it is accepted, or refused at one place by one rule

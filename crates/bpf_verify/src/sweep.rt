@@ -6,7 +6,7 @@ ghost use Rattle.std.specs.Prelude.{◌≡◌, ◌<◌, ◌≤◌, ◌+◌, leng
 ghost use Rattle.bpf_insn.specs.Program.{at};
 ghost use Rattle.bpf_rules.specs.flow_check.Edges.{next_of};
 ghost use Rattle.bpf_rules.specs.bpf_semantics.Program.{shaped};
-ghost use Rattle.bpf_verify.specs.Accepted.{IsFine, IsRefusal, IsAccepted};
+ghost use Rattle.bpf_verify.specs.Accepted.{IsFine, IsRefusal, FailsAt, IsAccepted};
 ghost use Rattle.bpf_verify.specs.Entries.{AreSwept, HaveArrived};
 ghost use Rattle.bpf_verify.specs.Kept.{IsPeak, IsPeakBefore, greatest_ahead};
 
@@ -28,6 +28,7 @@ pub fn judge(
     requires place { at flow.now slot ≡ Some insn.now }
     requires here { HaveArrived flow.now shape.now slot entries.now }
     ensures fine { OnOk result (IsFine (shaped flow.now shape.now) slot) }
+    ensures here { IfErr result (λ r. FailsAt slot r) }
     ensures refused { IfErr result (λ r. IsRefusal flow.now shape.now r) }
     ensures exact { IfErr result (λ r. IsPeakBefore (shaped flow.now shape.now) r
         (entries.now.waiting.most + 1)) }

@@ -6,7 +6,7 @@ ghost use Rattle.bpf_insn.specs.Program.{Program, at};
 ghost use Rattle.bpf_rules.specs.bpf_semantics.Program.{shaped};
 ghost use Rattle.bpf_rules.specs.flow_check.Edges.{next_of};
 ghost use Rattle.cells.specs.Arrays.{AppShape};
-ghost use Rattle.bpf_verify.specs.Accepted.{IsFine, IsRefusal};
+ghost use Rattle.bpf_verify.specs.Accepted.{IsFine, IsRefusal, FailsAt};
 ghost use Rattle.bpf_verify.specs.Walk.{entry_here, StandsBefore, StandsAt, EndIsAccepted};
 
 use crate::entries::Entries;
@@ -37,7 +37,8 @@ impl Walk {
         Ok(Walk { entries })
     }
 
-    /// Arrives at the next place, which is that of the slot.
+    /// Arrives at the next place, which is that of the slot. After a refusal of memory, here or by
+    /// `carry_on`, the walk is of no use.
     pub fn arrive(&mut self, slot: usize) -> Result<(), AllocError>
         ensures { OnOk result ((code : Program) (shape : AppShape) → slot < length code
             → StandsBefore code shape slot self.old → StandsAt code shape slot self.new) }
@@ -57,12 +58,13 @@ impl Walk {
         }
     }
 
-    /// Judges the place as `verify` does: the refusal is the program's. It is never V15.
+    /// Judges the place as `verify` does: a refusal is the program's.
     pub fn judge(&self, flow: &Flow, shape: &Shape, slot: usize, insn: &Insn) -> Result<(), Refusal>
         requires place { at flow.now slot ≡ Some insn.now }
         requires here { StandsAt flow.now shape.now slot self.now }
         ensures fine { OnOk result (IsFine (shaped flow.now shape.now) slot) }
         ensures refused { IfErr result (λ r. IsRefusal flow.now shape.now r) }
+        ensures here { IfErr result (λ r. FailsAt slot r) }
     {
         sweep::judge(&self.entries, flow, shape, slot, insn)
     }
