@@ -1,11 +1,16 @@
 -- Marks that are set one by one.
 use Rattle.std.proofs.Common.{◌≡◌, ℕ, zero, suc, ◌<◌, Bool, true, false}
-use Rattle.std.proofs.Common.{List, [], ◌∷◌, length, refl, sym, ap, subst, arith, inl, inr}
+use Rattle.std.proofs.Common.{List, [], ◌∷◌, length, Some, refl, sym, ap, subst, arith, inl, inr}
 use Rattle.std.specs.Prelude.{◌⊎◌, replicate, slice_index_or, slice_set}
 use Rattle.std.proofs.lemmas.Grind.{common_steps}
-use Rattle.bpf_insn.specs.Program.{Program}
+use Rattle.bpf_insn.specs.declared.insn.Insn.{Insn}
+use Rattle.bpf_insn.specs.Program.{Program, at}
+use Rattle.flow_check.specs.Edges.{target_of}
 use Rattle.flow_check.specs.Sweep.{IsMarked}
 use Rattle.block_order.specs.Reach.{ReachedFrom, here, along, LeadsOutOf, IsReachedSo}
+use Rattle.block_order.specs.Reach.{AreReachedFrom}
+use Rattle.block_order.specs.Refusal.{ClosesCycle}
+use Rattle.block_order.proofs.Places.{at_within}
 
 pub marked_cases : (marks : List Bool) (k m : ℕ) → IsMarked (slice_set marks k true) m
     → (m ≡ k) ⊎ IsMarked marks m
@@ -62,3 +67,27 @@ reached_more p first marks t so (s, i, marked, is, contains, un) = record {
   ];
   start = marked_kept marks t first so.start;
 }
+
+-- an instruction that is reached is marked
+pub reached_marked : (p : Program) (first : ℕ) (marks : List Bool) → AreReachedFrom p first marks
+    → (m : ℕ) → ReachedFrom p first m → (j : Insn) → at p m ≡ Some j → IsMarked marks m
+reached_marked p first marks reached m from j is = marked m from (at_within p m j is)
+  where
+    marked : (u : ℕ) → ReachedFrom p first u → u < length p → IsMarked marks u
+    marked u here lt = reached.so.start
+    marked u (along {s} {t} {i} before at_s leads) lt =
+        reached.closed s i u (marked s before (at_within p s i at_s)) at_s leads
+        (rw reached.so.length_is lt)
+
+-- a jump back that isn't reached from where it lands closes no cycle
+pub no_cycle : (p : Program) (marks : List Bool) (s t : ℕ) (i : Insn) → AreReachedFrom p t marks
+    → at p s ≡ Some i → target_of s i ≡ Some t → slice_index_or marks s false ≡ false
+    → ¬ ClosesCycle p s
+no_cycle p marks s t i reached is lands unmarked (j, u, is_j, lands_j, le, from) =
+    let same : i ≡ j = cc in
+    let lands_i : target_of s i ≡ Some u =
+    subst (λ x. target_of s x ≡ Some u) (sym same) lands_j in
+    let there : t ≡ u = cc in
+    let mark : IsMarked marks s =
+    reached_marked p t marks reached s (subst (λ n. ReachedFrom p n s) (sym there) from) i is in
+    absurd cc

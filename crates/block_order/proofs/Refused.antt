@@ -1,23 +1,81 @@
--- What is wrong with a place that is reached is a refusal of the bytes.
-use Rattle.std.proofs.Common.{ℕ, List}
-use Rattle.bpf_insn.specs.Program.{Program}
+-- What is wrong with the marked places is a refusal of the bytes, and F7 where nothing is.
+use Rattle.std.proofs.Common.{◌≡◌, ℕ, ◌<◌, Bool, List, Some, refl, inl, inr}
+use Rattle.bpf_insn.specs.declared.insn.Insn.{Insn}
+use Rattle.bpf_insn.specs.Program.{Program, at}
 use Rattle.flow_check.specs.declared.fault.FlowRule.{FlowRule}
 use Rattle.flow_check.specs.declared.fault.FlowRule.TheVariants.{BackJump, Outside}
-use Rattle.flow_check.specs.declared.fault.FlowRule.TheVariants.{InsideWide, FallsOff}
+use Rattle.flow_check.specs.declared.fault.FlowRule.TheVariants.{InsideWide, FallsOff, TooLong}
 use Rattle.flow_check.specs.declared.fault.FlowFault.TheVariants.{Rule}
 use Rattle.flow_check.specs.Fault.{IsRead}
-use Rattle.block_order.specs.Reach.{ReachedFrom}
-use Rattle.block_order.specs.Refusal.{BreaksOrder, IsDisorder, IsOrderFault}
+use Rattle.flow_check.specs.Sweep.{IsMarked}
+use Rattle.block_order.specs.Reach.{ReachedFrom, AreReachedFrom}
+use Rattle.block_order.specs.Refusal.{IsStray, StaysWithin, ClosesCycle, IsStrayBy}
+use Rattle.block_order.specs.Refusal.{IsFirstStray, IsOrderFault}
+use Rattle.block_order.proofs.Marks.{reached_marked}
 
-module _ (bytes : List ℕ) (p : Program) (read : IsRead bytes p) (s : ℕ)
-    (reached : ReachedFrom p 0 s) where
-  disorder : (rule : FlowRule) → BreaksOrder p s rule → IsDisorder bytes s rule
-  disorder rule breaks =
-      record { program = p; read = read; reached = reached; breaks = breaks }
+-- what leads out of the program is an instruction
+stray_at : (p : Program) (s : ℕ) (rule : FlowRule) → IsStray p s rule
+    → (i : Insn) × (at p s ≡ Some i)
+stray_at p s BackJump (i, is, jumps, below) = (i, is)
+stray_at p s Outside (i, t, is, lands, past) = (i, is)
+stray_at p s InsideWide (i, t, is, lands, half) = (i, is)
+stray_at p s FallsOff (i, is, goes, ends) = (i, is)
+stray_at p s rule stray = absurd stray
 
-  pub refused : (rule : FlowRule) → BreaksOrder p s rule → IsOrderFault bytes (Rule s rule)
-  refused BackJump breaks = disorder BackJump breaks
-  refused Outside breaks = disorder Outside breaks
-  refused InsideWide breaks = disorder InsideWide breaks
-  refused FallsOff breaks = disorder FallsOff breaks
-  refused rule breaks = absurd breaks
+module _ (p : Program) (marks : List Bool) (reached : AreReachedFrom p 0 marks) where
+  within_reached : (s : ℕ) → (IsMarked marks s → StaysWithin p s) → ReachedFrom p 0 s
+      → StaysWithin p s
+  within_reached s within from rule stray =
+      let o : (i : Insn) × (at p s ≡ Some i) = stray_at p s rule stray in
+      within (reached_marked p 0 marks reached s from o.0 o.1) rule stray
+
+  acyclic_reached : (s : ℕ) → (IsMarked marks s → ¬ ClosesCycle p s) → ReachedFrom p 0 s
+      → ¬ ClosesCycle p s
+  acyclic_reached s straight from closes =
+      straight (reached_marked p 0 marks reached s from closes.0 closes.2) closes
+
+  module _ (bytes : List ℕ) (read : IsRead bytes p) where
+    pub stray_first : (s : ℕ) (rule : FlowRule) → IsMarked marks s → IsStrayBy p s rule
+        → ((t : ℕ) → t < s → IsMarked marks t → StaysWithin p t) → IsOrderFault bytes (Rule s rule)
+    stray_first s rule mark breaks before = told rule breaks
+      where
+        first : (rule : FlowRule) → IsStrayBy p s rule → IsFirstStray bytes s rule
+        first rule breaks = record {
+          program = p;
+          read = read;
+          reached = reached.so.sound s mark;
+          breaks = breaks;
+          before = λ t lt. within_reached t (before t lt);
+        }
+
+        told : (rule : FlowRule) → IsStrayBy p s rule → IsOrderFault bytes (Rule s rule)
+        told BackJump breaks = inl (first BackJump breaks)
+        told Outside breaks = first Outside breaks
+        told InsideWide breaks = first InsideWide breaks
+        told FallsOff breaks = first FallsOff breaks
+        told rule breaks = absurd breaks.strays
+
+    module _ (within : (s : ℕ) → IsMarked marks s → StaysWithin p s) where
+      pub cycle_first : (s : ℕ) → IsMarked marks s → ClosesCycle p s
+          → ((t : ℕ) → t < s → IsMarked marks t → ¬ ClosesCycle p t)
+          → IsOrderFault bytes (Rule s BackJump)
+      cycle_first s mark closes before = inr record {
+        program = p;
+        read = read;
+        within = λ t. within_reached t (within t);
+        reached = reached.so.sound s mark;
+        closes = closes;
+        before = λ t lt. acyclic_reached t (before t lt);
+      }
+
+      pub orderable : ((s : ℕ) → IsMarked marks s → ¬ ClosesCycle p s)
+          → IsOrderFault bytes (Rule 0 TooLong)
+      orderable acyclic = (
+        refl,
+        inr record {
+          program = p;
+          read = read;
+          within = λ t. within_reached t (within t);
+          acyclic = λ t. acyclic_reached t (acyclic t);
+        },
+      )

@@ -1,39 +1,86 @@
--- Why a program isn't put in order: it has a cycle, or a run of its edges leads out of it.
-use Rattle.std.specs.Prelude.{◌≡◌, ℕ, ◌≤◌, List, Some, IsSome}
+-- Why a program isn't put in order: some run of its edges leads onto no instruction, or comes back
+-- to where it was, or its order is too long.
+use Rattle.std.specs.Prelude.{◌≡◌, ℕ, ◌<◌, ◌≤◌, ◌⊎◌, List, length, Some, None, IsSome}
 use Rattle.bpf_insn.specs.declared.insn.Insn.{Insn}
 use Rattle.bpf_insn.specs.Program.{Program, at}
 use Rattle.flow_check.specs.declared.fault.FlowRule.{FlowRule}
-use Rattle.flow_check.specs.declared.fault.FlowRule.TheVariants.{BackJump, Empty, TooLong}
+use Rattle.flow_check.specs.declared.fault.FlowRule.TheVariants.{BackJump, Outside, InsideWide}
+use Rattle.flow_check.specs.declared.fault.FlowRule.TheVariants.{FallsOff, Empty, TooLong}
 use Rattle.flow_check.specs.declared.fault.FlowRule.TheVariants.{Insn as NoInsn}
 use Rattle.flow_check.specs.declared.fault.FlowFault.{FlowFault}
 use Rattle.flow_check.specs.declared.fault.FlowFault.TheVariants.{Rule, Memory}
-use Rattle.flow_check.specs.Edges.{jump_of, target_of, BreaksEdge}
-use Rattle.flow_check.specs.Fault.{IsFlowFault, IsRead}
+use Rattle.flow_check.specs.Edges.{jump_of, target_of, IsOutside, IsInsideWide, IsFallingOff}
+use Rattle.flow_check.specs.Fault.{IsFlowFault, IsRead, rule_number}
 use Rattle.block_order.specs.Reach.{ReachedFrom}
 
--- it jumps below slot 0, or back to a place from which it is reached again
-abbrev pub IsCycleJump : Program → ℕ → Type 0
-IsCycleJump p s =
-    (i : Insn) × (at p s ≡ Some i) × IsSome (jump_of i)
-    × ((t : ℕ) → target_of s i ≡ Some t → (t ≤ s) × ReachedFrom p t s)
+-- ---- what no order mends
 
--- no order mends it
-abbrev pub BreaksOrder : Program → ℕ → FlowRule → Type 0
-BreaksOrder p s BackJump = IsCycleJump p s
-BreaksOrder p s rule = BreaksEdge p s rule
+-- it jumps below slot 0
+abbrev pub IsBelow : Program → ℕ → Type 0
+IsBelow p s = (i : Insn) × (at p s ≡ Some i) × IsSome (jump_of i) × (target_of s i ≡ None)
 
--- a place that is reached breaks the rule in any order
-pub record IsDisorder (bytes : List ℕ) (s : ℕ) (rule : FlowRule) : Type 0 where
+-- an edge of the place leads onto no instruction
+abbrev pub IsStray : Program → ℕ → FlowRule → Type 0
+IsStray p s BackJump = IsBelow p s
+IsStray p s Outside = IsOutside p s
+IsStray p s InsideWide = IsInsideWide p s
+IsStray p s FallsOff = IsFallingOff p s
+IsStray p s rule = ⊥
+
+-- the instruction jumps nowhere, or onto an instruction
+pub record LandsWithin (p : Program) (s : ℕ) : Type 0 where
+  pub below : ¬ IsBelow p s
+  pub outside : ¬ IsOutside p s
+  pub inside : ¬ IsInsideWide p s
+
+-- every edge of the place leads onto an instruction
+abbrev pub StaysWithin : Program → ℕ → Type 0
+StaysWithin p s = (rule : FlowRule) → ¬ IsStray p s rule
+
+-- it jumps back to a place from which it is reached again
+abbrev pub ClosesCycle : Program → ℕ → Type 0
+ClosesCycle p s =
+    (i : Insn) × (t : ℕ) × (at p s ≡ Some i) × (target_of s i ≡ Some t) × (t ≤ s)
+    × ReachedFrom p t s
+
+-- ---- which fault is the answer
+
+-- of the ways in which a place leads onto no instruction, the one with the lowest number
+pub record IsStrayBy (p : Program) (s : ℕ) (rule : FlowRule) : Type 0 where
+  pub strays : IsStray p s rule
+  pub lowest : (other : FlowRule) → rule_number other < rule_number rule → ¬ IsStray p s other
+
+-- the lowest place that is reached and leads onto no instruction
+pub record IsFirstStray (bytes : List ℕ) (s : ℕ) (rule : FlowRule) : Type 0 where
   pub program : Program
   pub read : IsRead bytes program
   pub reached : ReachedFrom program 0 s
-  pub breaks : BreaksOrder program s rule
+  pub breaks : IsStrayBy program s rule
+  pub before : (t : ℕ) → t < s → ReachedFrom program 0 t → StaysWithin program t
 
--- when each fault is the answer: what can't be read is refused as the flow check refuses it; of
--- want of memory nothing is said, and of F7 no more than its slot
+-- what is reached leads onto instructions alone, and this is the lowest jump that closes a cycle
+pub record IsFirstCycle (bytes : List ℕ) (s : ℕ) : Type 0 where
+  pub program : Program
+  pub read : IsRead bytes program
+  pub within : (t : ℕ) → ReachedFrom program 0 t → StaysWithin program t
+  pub reached : ReachedFrom program 0 s
+  pub closes : ClosesCycle program s
+  pub before : (t : ℕ) → t < s → ReachedFrom program 0 t → ¬ ClosesCycle program t
+
+-- what is reached leads onto instructions alone, and closes no cycle
+pub record IsOrderable (bytes : List ℕ) : Type 0 where
+  pub program : Program
+  pub read : IsRead bytes program
+  pub within : (t : ℕ) → ReachedFrom program 0 t → StaysWithin program t
+  pub acyclic : (t : ℕ) → ReachedFrom program 0 t → ¬ ClosesCycle program t
+
+-- when each fault is the answer: what can't be read is refused as the flow check refuses it, and F7
+-- comes where the bytes are too long, or where nothing but the length of their order forbids it,
+-- which isn't compared here; of want of memory nothing is said
 abbrev pub IsOrderFault : List ℕ → FlowFault → Type 0
 IsOrderFault bytes (Rule s Empty) = IsFlowFault bytes (Rule s Empty)
-IsOrderFault bytes (Rule s TooLong) = s ≡ 0
+IsOrderFault bytes (Rule s TooLong) = (s ≡ 0) × ((32768 < length bytes) ⊎ IsOrderable bytes)
 IsOrderFault bytes (Rule s (NoInsn e)) = IsFlowFault bytes (Rule s (NoInsn e))
-IsOrderFault bytes (Rule s rule) = IsDisorder bytes s rule
+IsOrderFault bytes (Rule s BackJump) = IsFirstStray bytes s BackJump ⊎ IsFirstCycle bytes s
+IsOrderFault bytes (Rule s rule) = IsFirstStray bytes s rule
 IsOrderFault bytes Memory = Unit {0}

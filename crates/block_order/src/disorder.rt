@@ -1,12 +1,13 @@
-//! Why a program has no order: the lowest place that leads out of it, or the lowest jump back that
-//! closes a cycle.
+//! Why a program has no order: the lowest place that leads onto no instruction, or the lowest jump
+//! that closes a cycle.
 
-ghost use Rattle.std.specs.Prelude.{◌≡◌, ◌<◌, ◌≤◌, IfOk, IfSome, IsSome, IsTrue, Some, length};
+ghost use Rattle.std.specs.Prelude.{◌≡◌, ℕ, ◌<◌, ◌≤◌, IfOk, IfSome, IfNone, IsSome, IsTrue};
+ghost use Rattle.std.specs.Prelude.{None, Some, false, length};
 ghost use Rattle.bpf_insn.specs.Program as program;
 ghost use Rattle.bpf_insn.specs.declared.insn.Insn.{Insn};
 ghost use Rattle.flow_check.specs.Edges.{jump_of};
 ghost use Rattle.flow_check.specs.Sweep.{IsMarked};
-ghost use Rattle.block_order.specs.Refusal.{BreaksOrder, IsCycleJump};
+ghost use Rattle.block_order.specs.Refusal.{IsStrayBy, LandsWithin, StaysWithin, ClosesCycle};
 
 use crate::reach::reached_from;
 use bpf_insn::Insn;
@@ -15,17 +16,19 @@ use std::alloc::{AllocError, Global};
 
 /// Whether the instruction is a jump.
 fn is_jump(insn: Insn) -> bool
-    ensures { IsTrue result → IsSome (jump_of insn) }
+    ensures yes { IsTrue result → IsSome (jump_of insn) }
+    ensures no { result ≡ false → jump_of insn ≡ None }
 {
     matches!(insn, Insn::Jump { .. } | Insn::JumpIf { .. })
 }
 
-/// The rule that the jump breaks wherever it stands: it lands below slot 0, at the end or past it,
-/// or in a second half.
+/// The rule that the jump breaks in any order: it lands below slot 0, at the end or past it, or
+/// in a second half.
 fn stray_jump(code: &[Option<Insn>], slot: usize, insn: Insn) -> Option<FlowRule>
     requires short { length code.now ≤ 4096 }
     requires at { program.at code.now slot ≡ Some insn }
-    ensures { IfSome result (λ rule. BreaksOrder code.now slot rule) }
+    ensures some { IfSome result (λ rule. IsStrayBy code.now slot rule) }
+    ensures none { IfNone result (LandsWithin code.now slot) }
 {
     if !is_jump(insn) {
         return None;
@@ -44,7 +47,8 @@ fn stray_jump(code: &[Option<Insn>], slot: usize, insn: Insn) -> Option<FlowRule
 fn stray(code: &[Option<Insn>], slot: usize, insn: Insn) -> Option<FlowRule>
     requires short { length code.now ≤ 4096 }
     requires at { program.at code.now slot ≡ Some insn }
-    ensures { IfSome result (λ rule. BreaksOrder code.now slot rule) }
+    ensures some { IfSome result (λ rule. IsStrayBy code.now slot rule) }
+    ensures none { IfNone result (StaysWithin code.now slot) }
 {
     if let Some(rule) = stray_jump(code, slot, insn) {
         return Some(rule);
@@ -55,11 +59,14 @@ fn stray(code: &[Option<Insn>], slot: usize, insn: Insn) -> Option<FlowRule>
     }
 }
 
-/// The lowest place that is reached and leads out of the program, and the rule that it breaks.
+/// The lowest place that is reached and leads onto no instruction, and the rule that it breaks.
 pub fn first_stray(code: &[Option<Insn>], reached: &[bool]) -> Option<(usize, FlowRule)>
     requires short { length code.now ≤ 4096 }
     requires length { length reached.now ≡ length code.now }
-    ensures { IfSome result (λ f. IsMarked reached.now f.0 × BreaksOrder code.now f.0 f.1) }
+    ensures some { IfSome result (λ f. IsMarked reached.now f.0 × IsStrayBy code.now f.0 f.1) }
+    ensures before { IfSome result (λ f. (s : ℕ) → s < f.0 → IsMarked reached.now s
+        → StaysWithin code.now s) }
+    ensures none { IfNone result ((s : ℕ) → IsMarked reached.now s → StaysWithin code.now s) }
 {
     for (slot, place) in code.iter().enumerate() {
         if let Some(insn) = *place
@@ -82,18 +89,17 @@ fn closes_cycle(
     requires short { length code.now ≤ 4096 }
     requires at { program.at code.now slot ≡ Some insn }
     requires within { slot < length code.now }
-    ensures { IfOk result (λ b. IsTrue b → IsCycleJump code.now slot) }
+    ensures yes { IfOk result (λ b. IsTrue b → ClosesCycle code.now slot) }
+    ensures no { IfOk result (λ b. b ≡ false → ¬ ClosesCycle code.now slot) }
 {
-    if !is_jump(insn) {
+    let Some(target) = jump_target(slot, insn) else {
+        return Ok(false);
+    };
+    if target > slot {
         return Ok(false);
     }
-    match jump_target(slot, insn) {
-        Some(target) if target <= slot => {
-            let marks = reached_from(alloc, code, target)?;
-            Ok(marks[slot])
-        }
-        _ => Ok(false),
-    }
+    let marks = reached_from(alloc, code, target)?;
+    Ok(marks[slot])
 }
 
 /// The lowest jump that closes a cycle.
@@ -104,7 +110,12 @@ pub fn first_cycle(
 ) -> Result<Option<usize>, AllocError>
     requires short { length code.now ≤ 4096 }
     requires length { length reached.now ≡ length code.now }
-    ensures { IfOk result (λ o. IfSome o (λ s. IsMarked reached.now s × IsCycleJump code.now s)) }
+    ensures some { IfOk result (λ o. IfSome o (λ s.
+        IsMarked reached.now s × ClosesCycle code.now s)) }
+    ensures before { IfOk result (λ o. IfSome o (λ s. (t : ℕ) → t < s → IsMarked reached.now t
+        → ¬ ClosesCycle code.now t)) }
+    ensures none { IfOk result (λ o. IfNone o ((s : ℕ) → IsMarked reached.now s
+        → ¬ ClosesCycle code.now s)) }
 {
     for (slot, place) in code.iter().enumerate() {
         if let Some(insn) = *place

@@ -3,14 +3,15 @@
 //! compared with the program instruction by instruction. So it doesn't hang on the plan that a
 //! program in order does what the program did.
 
-ghost use Rattle.std.specs.Prelude.{◌≡◌, ℕ, ◌<◌, ◌≤◌, IfOk, IfErr, IfSome};
+ghost use Rattle.std.specs.Prelude.{◌≡◌, ℕ, ◌<◌, ◌≤◌, IfOk, IfErr, IfSome, IfNone};
 ghost use Rattle.std.specs.Prelude.{IsTrue, List, MatchResult, length};
 ghost use Rattle.bpf_insn.specs.Program.{Program};
 ghost use Rattle.flow_check.specs.Fault.{IsRead};
 ghost use Rattle.flow_check.specs.Flow.{IsAcceptedAs, program_bytes};
+ghost use Rattle.flow_check.specs.Sweep.{IsMarked};
 ghost use Rattle.block_order.specs.Order.{HasOrder, IsOrdered};
 ghost use Rattle.block_order.specs.Reach.{AreReachedFrom};
-ghost use Rattle.block_order.specs.Refusal.{IsOrderFault};
+ghost use Rattle.block_order.specs.Refusal.{IsOrderFault, StaysWithin};
 
 use crate::disorder::{first_cycle, first_stray};
 use crate::kept::is_in_order;
@@ -64,19 +65,19 @@ fn arranged(
     }
 }
 
-/// The lowest place that is reached and leads out of the program, as a fault.
-#[tactic(auto, using(crate::proofs::Refused::refused))]
+/// The lowest place that is reached and leads onto no instruction, as a fault.
 fn stray_fault(code: &[Option<Insn>], reached: &[bool]) -> Option<FlowFault>
     requires short { length code.now ≤ 4096 }
     requires reached { AreReachedFrom code.now 0 reached.now }
-    ensures { IfSome result (λ e. (b : List ℕ) → IsRead b code.now → IsOrderFault b e) }
+    ensures some { IfSome result (λ e. (b : List ℕ) → IsRead b code.now → IsOrderFault b e) }
+    ensures none { IfNone result ((s : ℕ) → IsMarked reached.now s → StaysWithin code.now s) }
 {
     let (slot, rule) = first_stray(code, reached)?;
     Some(FlowFault::Rule { slot, rule })
 }
 
 /// Why no order was found: a cycle, or else that the program is too long once it is in order.
-#[tactic(auto, using(crate::proofs::Refused::refused))]
+#[tactic(auto, using(crate::proofs::Refused::cycle_first, crate::proofs::Refused::orderable))]
 fn order_fault(
     alloc: Global,
     code: &[Option<Insn>],
@@ -84,6 +85,7 @@ fn order_fault(
 ) -> Result<FlowFault, AllocError>
     requires short { length code.now ≤ 4096 }
     requires reached { AreReachedFrom code.now 0 reached.now }
+    requires within { (s : ℕ) → IsMarked reached.now s → StaysWithin code.now s }
     ensures { IfOk result (λ e. (b : List ℕ) → IsRead b code.now → IsOrderFault b e) }
 {
     Ok(match first_cycle(alloc, code, reached)? {
@@ -155,9 +157,9 @@ fn copied(alloc: Global, bytes: &[u8], flow: &Flow) -> Result<Vec<u8>, AllocErro
 /// are those that were read.
 ///
 /// F6, F7 and F8 come as `Flow::check` tells them. F1 to F4 are told of reached slots alone: of the
-/// lowest that jumps below slot 0 or out of the program, or lets it fall off its end, and else F1
-/// of the lowest that closes a cycle. F7 also comes where the program in order has more than 4096
-/// slots. F9 may come at any time.
+/// lowest that jumps below slot 0, out of the program or into a wide load, or lets it fall off its
+/// end, and else F1 of the lowest jump that closes a cycle. F7 also comes where there is neither,
+/// and the program in order has more than 4096 slots. F9 may come at any time.
 pub fn ordered(alloc: Global, bytes: &[u8]) -> Result<Vec<u8>, FlowFault>
     ensures program { IfOk result (λ v. IsOrdered bytes.now v.items) }
     ensures same { (p : Program) → IsAcceptedAs bytes.now p
