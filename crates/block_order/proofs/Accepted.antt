@@ -1,5 +1,6 @@
 -- A program that the flow check accepts is its own order.
-use Rattle.std.proofs.Common.{◌≡◌, ℕ, ◌+◌, ◌*◌, ℤ, pos, negsuc, ◌≤ℤ◌, List, [], ◌∷◌, ◌++◌, length}
+use Rattle.std.proofs.Common.{◌≡◌, ℕ, zero, suc, ◌+◌, ◌*◌, ◌<◌, ◌≤◌, ℤ, pos, negsuc, ◌≤ℤ◌}
+use Rattle.std.proofs.Common.{List, [], ◌∷◌, ◌++◌, length}
 use Rattle.std.proofs.Common.{Option, Some, None, refl, sym, ap, subst, ◌∙◌, arith, inl, inr}
 use Rattle.std.specs.Prelude.{IsSome, option_to_list}
 use Rattle.std.specs.List.{AllByRecursion}
@@ -11,7 +12,9 @@ use Rattle.flow_check.specs.Edges.{JumpsForward, next_of, successors}
 use Rattle.flow_check.specs.Fault.{IsRead}
 use Rattle.flow_check.specs.Flow.{IsFlow, IsAhead, IsForward, program_bytes}
 use Rattle.block_order.specs.Order.{Places, GoesOnAt, IsKeptAs, IsOrderOf, IsOrdered}
+use Rattle.block_order.specs.Order.{LeavesJumps, other, jumped}
 use Rattle.block_order.proofs.Layouts.{length_program_bytes}
+use Rattle.block_order.proofs.Places.{at_within}
 
 -- each instruction at its own slot
 abbrev own : Program → Places
@@ -63,6 +66,30 @@ module _ (p : Program) (s : ℕ) where
   kept Exit is forward h = is
   kept i is forward h = (is, goes_on (next_of s i) h.0)
 
+-- ---- its jumps lead on
+
+some_insn : (o : Option Insn) → IsSome o → (i : Insn) × (o ≡ Some i)
+some_insn None some = absurd cc
+some_insn (Some i) some = (i, refl)
+
+leave : (p : Program) (s : ℕ) (i : Insn) → at p s ≡ Some i → JumpsForward i
+    → AllByRecursion (IsAhead p s) (successors s i)
+    → ((t : ℕ) → s < t → IsSome (at p t) → LeavesJumps p t) → LeavesJumps p s
+leave p s (Jump d) is forward h on =
+    let l = lands p s (slots_moved d) [] forward h in jumped is l.1 (on l.0 l.2.0 l.2.1)
+leave p s i is forward h on = other is tt
+
+leave_own : (p : Program) → IsForward p → (n s : ℕ) → length p ≤ s + n → IsSome (at p s)
+    → LeavesJumps p s
+leave_own p f zero s past some =
+    let i = some_insn (at p s) some in
+    let lt : s < length p = at_within p s i.0 i.1 in
+    absurd (omega (arith, lt, past))
+leave_own p f (suc n) s past some =
+    let i = some_insn (at p s) some in
+    leave p s i.0 i.1 (f.forward s i.0 i.1) (f.ahead s i.0 i.1)
+    (λ t lt there. leave_own p f n t (omega (arith, past, lt)) there)
+
 own_order : (p : Program) → IsForward p → IsOrderOf (own p) p p
 own_order p f = record {
   start = own_at p 0 (at p 0) refl f.start;
@@ -72,6 +99,8 @@ own_order p f = record {
     subst (λ (n : ℕ). IsKeptAs (own p) p s n o.0) o.2
         (kept p s o.0 o.1 (f.forward s o.0 o.1) (f.ahead s o.0 o.1)),
   );
+  leaves = λ s t e. let o = own_is p s t (at p s) refl e in
+      leave_own p f (length p) s (omega arith) (subst IsSome (sym o.1) refl);
 }
 
 accepted_read : (bytes : List ℕ) (p : Program) → IsFlow p → program_bytes p ≡ bytes → IsRead bytes p

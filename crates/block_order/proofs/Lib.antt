@@ -6,3 +6,6 @@ pub mod Marks
 pub mod Straight
 pub mod Accepted
 pub mod Refused
+pub mod JumpsOn
+pub mod Successors
+pub mod Acyclic

@@ -1,5 +1,6 @@
 -- A program in order does what the program did: on the same replies its runs make the same events
 -- on counters and come to the same choice. It may count other instructions, since JAs come and go.
+-- And only what has no cycle has an order.
 use Rattle.std.specs.Prelude.{ℕ, List}
 use Rattle.bpf_semantics.specs.attrs.Attributes.{Attributes}
 use Rattle.bpf_insn.specs.Program.{Program}
@@ -8,6 +9,8 @@ use Rattle.bpf_semantics.specs.cells.declared.event.CellEvent.{CellEvent}
 use Rattle.bpf_semantics.specs.Program.{shaped}
 use Rattle.bpf_semantics.specs.Run.{Ends, Traps}
 use Rattle.bpf_semantics.specs.State.{opening}
+use Rattle.block_order.specs.Order.{IsOrdered}
+use Rattle.block_order.specs.Refusal.{IsOrderable}
 
 -- whatever run of the old program ends, the new one's ends with its events and its choice
 abbrev pub EndAlike : Program → Program → Type 0
@@ -26,3 +29,7 @@ TrapAlike p q =
 pub record DoAlike (p q : Program) : Type 0 where
   pub end : EndAlike p q
   pub trap : TrapAlike p q
+
+-- bytes that have an order spell a program whose edges lead onto instructions, and close no cycle
+abbrev pub HasNoCycle : List ℕ → List ℕ → Type 0
+HasNoCycle bytes ordered = IsOrdered bytes ordered → IsOrderable bytes

@@ -75,13 +75,27 @@ abbrev pub IsStraightKept : Places → Program → ℕ → ℕ → Insn → Type
 IsStraightKept places q s t i =
     (at q t ≡ Some i) × GoesOnAt places q (next_of t i) (next_of s i)
 
+-- ---- jumps alone
+
+-- no JA
+abbrev pub IsNoJump : Insn → Type 0
+IsNoJump (Jump d) = ⊥
+IsNoJump i = Unit {0}
+
+-- JAs alone lead from the place to another instruction, and not round
+pub data LeavesJumps (p : Program) : ℕ → Type 0 where
+  other : {s : ℕ} {i : Insn} → at p s ≡ Some i → IsNoJump i → LeavesJumps p s
+  jumped : {s t : ℕ} {d : Distance} → at p s ≡ Some (Jump d) → landing s (slots_moved d) ≡ Some t
+      → LeavesJumps p t → LeavesJumps p s
+
 -- ---- the whole program
 
 -- the entry stays the entry, and each instruction that has a place is kept there; so each one that
--- a run may come to has a place
+-- a run may come to has a place. A loop of JAs, of which nothing has to stand there, has none
 pub record IsOrderOf (places : Places) (p q : Program) : Type 0 where
   pub start : places 0 ≡ Some 0
   pub kept : (s t : ℕ) → places s ≡ Some t → IsKeptAt places p q s t
+  pub leaves : (s t : ℕ) → places s ≡ Some t → LeavesJumps p s
 
 -- bytes that the flow check accepts as the same program in order: all edges lead forward, and all
 -- instructions are reached

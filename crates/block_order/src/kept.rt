@@ -8,6 +8,7 @@ ghost use Rattle.block_order.specs.Order.{place_at, IsJump, GoesOnAt};
 ghost use Rattle.block_order.specs.Order.{IsSameJump, IsJumpKept, IsStraight, IsStraightKept};
 ghost use Rattle.block_order.specs.Order.{IsKeptAs, IsOrderOf};
 
+use crate::leaving::all_leave_jumps;
 use crate::same::is_same;
 use bpf_insn::{Distance, Insn};
 use flow_check::{Flow, jump_target};
@@ -198,6 +199,9 @@ pub fn is_in_order(code: &[Option<Insn>], flow: &Flow, places: &[Option<usize>])
     ensures { IsTrue result → IsOrderOf (place_at places.now) code.now flow.now }
 {
     if !keeps_entry(places) {
+        return false;
+    }
+    if !all_leave_jumps(code, places) {
         return false;
     }
     for (slot, place) in code.iter().enumerate() {

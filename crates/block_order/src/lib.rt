@@ -5,6 +5,7 @@
 mod disorder;
 mod kept;
 mod law;
+mod leaving;
 mod order;
 mod plan;
 mod reach;
@@ -13,7 +14,7 @@ mod ready;
 mod same;
 mod write;
 
-pub use law::order_keeps_runs;
+pub use law::{order_has_no_cycle, order_keeps_runs};
 pub use order::ordered;
 
 // The words of the contracts here come with them.

@@ -18,4 +18,5 @@ returns c = λ yes. record {
       let within : s < length c.args.places.now = place_within c.args.places.now s t is in
       c.loop-slot.invariant s
       (omega (arith, within, c.requires.length, c.loop-slot-test.false)) t is;
+  leaves = λ s t is. c.all_leave_jumps.ensures c.if-not-all_leave_jumps.false s t is;
 }
