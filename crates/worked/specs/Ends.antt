@@ -1,4 +1,4 @@
--- An operation on a number and the ends of a class: 0, 1, the greatest signed number, the least and
+-- An operation on a number and the ends of a class: 0, 1, the highest signed number, the lowest and
 -- -1.
 use Rattle.std.specs.Prelude.{ℕ, ℤ, pos, negsuc, List, [], ◌∷◌, map}
 use Rattle.bpf_insn.specs.declared.operand.AluOp.{AluOp}

@@ -26,7 +26,7 @@ pub fn sums()
 pub fn negations()
     ensures one { negated Bits64 1 ≡ 0xFFFFFFFFFFFFFFFF }
     ensures zero { negated Bits64 0 ≡ 0 }
-    ensures least { negated Bits64 0x8000000000000000 ≡ 0x8000000000000000 }
+    ensures lowest { negated Bits64 0x8000000000000000 ≡ 0x8000000000000000 }
     ensures one_of_32 { negated Bits32 1 ≡ 0xFFFFFFFF }
     ensures low_half { negated Bits32 0x7FFFFFFFE ≡ 2 }
 {}
@@ -57,7 +57,7 @@ pub fn shifts()
 pub fn arithmetic_shifts()
     ensures negative { alu_result Bits64 Arsh 0xFFFFFFFFFFFFFFF0 2 ≡ 0xFFFFFFFFFFFFFFFC }
     ensures rounds_down { alu_result Bits64 Arsh 0xFFFFFFFFFFFFFFF7 1 ≡ 0xFFFFFFFFFFFFFFFB }
-    ensures least { alu_result Bits64 Arsh 0x8000000000000000 63 ≡ 0xFFFFFFFFFFFFFFFF }
+    ensures lowest { alu_result Bits64 Arsh 0x8000000000000000 63 ≡ 0xFFFFFFFFFFFFFFFF }
     ensures masked { alu_result Bits64 Arsh 0xFFFFFFFFFFFFFFF0 66 ≡ 0xFFFFFFFFFFFFFFFC }
     ensures positive { alu_result Bits64 Arsh 0x7FFFFFFFFFFFFFFF 60 ≡ 7 }
     ensures negative_of_32 { alu_result Bits32 Arsh 0x80000000 4 ≡ 0xF8000000 }
@@ -96,9 +96,9 @@ pub fn byte_orders()
 /// An imm as an operand: sign-extended to 64 bits, or its own 32 bits.
 pub fn immediates()
     ensures minus_one { immediate Bits64 (negsuc 0) ≡ 0xFFFFFFFFFFFFFFFF }
-    ensures least { immediate Bits64 (negsuc 2147483647) ≡ 0xFFFFFFFF80000000 }
-    ensures greatest { immediate Bits64 (pos 2147483647) ≡ 0x7FFFFFFF }
+    ensures lowest { immediate Bits64 (negsuc 2147483647) ≡ 0xFFFFFFFF80000000 }
+    ensures highest { immediate Bits64 (pos 2147483647) ≡ 0x7FFFFFFF }
     ensures minus_one_of_32 { immediate Bits32 (negsuc 0) ≡ 0xFFFFFFFF }
-    ensures least_of_32 { immediate Bits32 (negsuc 2147483647) ≡ 0x80000000 }
-    ensures greatest_of_32 { immediate Bits32 (pos 2147483647) ≡ 0x7FFFFFFF }
+    ensures lowest_of_32 { immediate Bits32 (negsuc 2147483647) ≡ 0x80000000 }
+    ensures highest_of_32 { immediate Bits32 (pos 2147483647) ≡ 0x7FFFFFFF }
 {}

@@ -1,5 +1,5 @@
 //! Products, quotients and remainders (RFC 9669, "Arithmetic Instructions") that were worked out by
-//! hand. A row has a number by 0, by 1, by the greatest signed number, by the least and by -1: of
+//! hand. A row has a number by 0, by 1, by the highest signed number, by the lowest and by -1: of
 //! the class, in a register, and of 32 bits, as an imm.
 
 ghost use Rattle.std.specs.Prelude.{◌≡◌, [], ◌∷◌, map, pos, negsuc};
@@ -14,26 +14,26 @@ pub fn products()
     ensures zero { by_each Bits64 Mul 0 ≡ 0 ∷ 0 ∷ 0 ∷ 0 ∷ 0 ∷ [] }
     ensures one { by_each Bits64 Mul 1
         ≡ 0 ∷ 1 ∷ 0x7FFFFFFFFFFFFFFF ∷ 0x8000000000000000 ∷ 0xFFFFFFFFFFFFFFFF ∷ [] }
-    ensures greatest { by_each Bits64 Mul 0x7FFFFFFFFFFFFFFF
+    ensures highest { by_each Bits64 Mul 0x7FFFFFFFFFFFFFFF
         ≡ 0 ∷ 0x7FFFFFFFFFFFFFFF ∷ 1 ∷ 0x8000000000000000 ∷ 0x8000000000000001 ∷ [] }
-    ensures least { by_each Bits64 Mul 0x8000000000000000
+    ensures lowest { by_each Bits64 Mul 0x8000000000000000
         ≡ 0 ∷ 0x8000000000000000 ∷ 0x8000000000000000 ∷ 0 ∷ 0x8000000000000000 ∷ [] }
     ensures minus_one { by_each Bits64 Mul 0xFFFFFFFFFFFFFFFF
         ≡ 0 ∷ 0xFFFFFFFFFFFFFFFF ∷ 0x8000000000000001 ∷ 0x8000000000000000 ∷ 1 ∷ [] }
     ensures zero_by_imm { by_imms Bits64 Mul 0 ≡ 0 ∷ 0 ∷ 0 ∷ 0 ∷ 0 ∷ [] }
     ensures one_by_imm { by_imms Bits64 Mul 1
         ≡ 0 ∷ 1 ∷ 0x7FFFFFFF ∷ 0xFFFFFFFF80000000 ∷ 0xFFFFFFFFFFFFFFFF ∷ [] }
-    ensures greatest_by_imm { by_imms Bits64 Mul 0x7FFFFFFFFFFFFFFF
+    ensures highest_by_imm { by_imms Bits64 Mul 0x7FFFFFFFFFFFFFFF
         ≡ 0 ∷ 0x7FFFFFFFFFFFFFFF ∷ 0x7FFFFFFF80000001 ∷ 0x80000000 ∷ 0x8000000000000001 ∷ [] }
-    ensures least_by_imm { by_imms Bits64 Mul 0x8000000000000000
+    ensures lowest_by_imm { by_imms Bits64 Mul 0x8000000000000000
         ≡ 0 ∷ 0x8000000000000000 ∷ 0x8000000000000000 ∷ 0 ∷ 0x8000000000000000 ∷ [] }
     ensures minus_one_by_imm { by_imms Bits64 Mul 0xFFFFFFFFFFFFFFFF
         ≡ 0 ∷ 0xFFFFFFFFFFFFFFFF ∷ 0xFFFFFFFF80000001 ∷ 0x80000000 ∷ 1 ∷ [] }
     ensures zero_of_32 { by_each Bits32 Mul 0 ≡ 0 ∷ 0 ∷ 0 ∷ 0 ∷ 0 ∷ [] }
     ensures one_of_32 { by_each Bits32 Mul 1 ≡ 0 ∷ 1 ∷ 0x7FFFFFFF ∷ 0x80000000 ∷ 0xFFFFFFFF ∷ [] }
-    ensures greatest_of_32 { by_each Bits32 Mul 0x7FFFFFFF
+    ensures highest_of_32 { by_each Bits32 Mul 0x7FFFFFFF
         ≡ 0 ∷ 0x7FFFFFFF ∷ 1 ∷ 0x80000000 ∷ 0x80000001 ∷ [] }
-    ensures least_of_32 { by_each Bits32 Mul 0x80000000
+    ensures lowest_of_32 { by_each Bits32 Mul 0x80000000
         ≡ 0 ∷ 0x80000000 ∷ 0x80000000 ∷ 0 ∷ 0x80000000 ∷ [] }
     ensures minus_one_of_32 { by_each Bits32 Mul 0xFFFFFFFF
         ≡ 0 ∷ 0xFFFFFFFF ∷ 0x80000001 ∷ 0x80000000 ∷ 1 ∷ [] }
@@ -43,50 +43,50 @@ pub fn products()
 pub fn quotients()
     ensures zero { by_each Bits64 Div 0 ≡ 0 ∷ 0 ∷ 0 ∷ 0 ∷ 0 ∷ [] }
     ensures one { by_each Bits64 Div 1 ≡ 0 ∷ 1 ∷ 0 ∷ 0 ∷ 0 ∷ [] }
-    ensures greatest { by_each Bits64 Div 0x7FFFFFFFFFFFFFFF
+    ensures highest { by_each Bits64 Div 0x7FFFFFFFFFFFFFFF
         ≡ 0 ∷ 0x7FFFFFFFFFFFFFFF ∷ 1 ∷ 0 ∷ 0 ∷ [] }
-    ensures least { by_each Bits64 Div 0x8000000000000000
+    ensures lowest { by_each Bits64 Div 0x8000000000000000
         ≡ 0 ∷ 0x8000000000000000 ∷ 1 ∷ 1 ∷ 0 ∷ [] }
     ensures minus_one { by_each Bits64 Div 0xFFFFFFFFFFFFFFFF
         ≡ 0 ∷ 0xFFFFFFFFFFFFFFFF ∷ 2 ∷ 1 ∷ 1 ∷ [] }
     ensures zero_by_imm { by_imms Bits64 Div 0 ≡ 0 ∷ 0 ∷ 0 ∷ 0 ∷ 0 ∷ [] }
     ensures one_by_imm { by_imms Bits64 Div 1 ≡ 0 ∷ 1 ∷ 0 ∷ 0 ∷ 0 ∷ [] }
-    ensures greatest_by_imm { by_imms Bits64 Div 0x7FFFFFFFFFFFFFFF
+    ensures highest_by_imm { by_imms Bits64 Div 0x7FFFFFFFFFFFFFFF
         ≡ 0 ∷ 0x7FFFFFFFFFFFFFFF ∷ 0x100000002 ∷ 0 ∷ 0 ∷ [] }
-    ensures least_by_imm { by_imms Bits64 Div 0x8000000000000000
+    ensures lowest_by_imm { by_imms Bits64 Div 0x8000000000000000
         ≡ 0 ∷ 0x8000000000000000 ∷ 0x100000002 ∷ 0 ∷ 0 ∷ [] }
     ensures minus_one_by_imm { by_imms Bits64 Div 0xFFFFFFFFFFFFFFFF
         ≡ 0 ∷ 0xFFFFFFFFFFFFFFFF ∷ 0x200000004 ∷ 1 ∷ 1 ∷ [] }
     ensures zero_of_32 { by_each Bits32 Div 0 ≡ 0 ∷ 0 ∷ 0 ∷ 0 ∷ 0 ∷ [] }
     ensures one_of_32 { by_each Bits32 Div 1 ≡ 0 ∷ 1 ∷ 0 ∷ 0 ∷ 0 ∷ [] }
-    ensures greatest_of_32 { by_each Bits32 Div 0x7FFFFFFF ≡ 0 ∷ 0x7FFFFFFF ∷ 1 ∷ 0 ∷ 0 ∷ [] }
-    ensures least_of_32 { by_each Bits32 Div 0x80000000 ≡ 0 ∷ 0x80000000 ∷ 1 ∷ 1 ∷ 0 ∷ [] }
+    ensures highest_of_32 { by_each Bits32 Div 0x7FFFFFFF ≡ 0 ∷ 0x7FFFFFFF ∷ 1 ∷ 0 ∷ 0 ∷ [] }
+    ensures lowest_of_32 { by_each Bits32 Div 0x80000000 ≡ 0 ∷ 0x80000000 ∷ 1 ∷ 1 ∷ 0 ∷ [] }
     ensures minus_one_of_32 { by_each Bits32 Div 0xFFFFFFFF ≡ 0 ∷ 0xFFFFFFFF ∷ 2 ∷ 1 ∷ 1 ∷ [] }
 {}
 
-/// `sdiv` and `sdiv32` round toward 0; a divisor of 0 gives 0, and the least number by -1 itself.
+/// `sdiv` and `sdiv32` round toward 0; a divisor of 0 gives 0, and the lowest number by -1 itself.
 pub fn signed_quotients()
     ensures zero { by_each Bits64 Sdiv 0 ≡ 0 ∷ 0 ∷ 0 ∷ 0 ∷ 0 ∷ [] }
     ensures one { by_each Bits64 Sdiv 1 ≡ 0 ∷ 1 ∷ 0 ∷ 0 ∷ 0xFFFFFFFFFFFFFFFF ∷ [] }
-    ensures greatest { by_each Bits64 Sdiv 0x7FFFFFFFFFFFFFFF
+    ensures highest { by_each Bits64 Sdiv 0x7FFFFFFFFFFFFFFF
         ≡ 0 ∷ 0x7FFFFFFFFFFFFFFF ∷ 1 ∷ 0 ∷ 0x8000000000000001 ∷ [] }
-    ensures least { by_each Bits64 Sdiv 0x8000000000000000
+    ensures lowest { by_each Bits64 Sdiv 0x8000000000000000
         ≡ 0 ∷ 0x8000000000000000 ∷ 0xFFFFFFFFFFFFFFFF ∷ 1 ∷ 0x8000000000000000 ∷ [] }
     ensures minus_one { by_each Bits64 Sdiv 0xFFFFFFFFFFFFFFFF
         ≡ 0 ∷ 0xFFFFFFFFFFFFFFFF ∷ 0 ∷ 0 ∷ 1 ∷ [] }
     ensures zero_by_imm { by_imms Bits64 Sdiv 0 ≡ 0 ∷ 0 ∷ 0 ∷ 0 ∷ 0 ∷ [] }
     ensures one_by_imm { by_imms Bits64 Sdiv 1 ≡ 0 ∷ 1 ∷ 0 ∷ 0 ∷ 0xFFFFFFFFFFFFFFFF ∷ [] }
-    ensures greatest_by_imm { by_imms Bits64 Sdiv 0x7FFFFFFFFFFFFFFF
+    ensures highest_by_imm { by_imms Bits64 Sdiv 0x7FFFFFFFFFFFFFFF
         ≡ 0 ∷ 0x7FFFFFFFFFFFFFFF ∷ 0x100000002 ∷ 0xFFFFFFFF00000001 ∷ 0x8000000000000001 ∷ [] }
-    ensures least_by_imm { by_imms Bits64 Sdiv 0x8000000000000000
+    ensures lowest_by_imm { by_imms Bits64 Sdiv 0x8000000000000000
         ≡ 0 ∷ 0x8000000000000000 ∷ 0xFFFFFFFEFFFFFFFE ∷ 0x100000000 ∷ 0x8000000000000000 ∷ [] }
     ensures minus_one_by_imm { by_imms Bits64 Sdiv 0xFFFFFFFFFFFFFFFF
         ≡ 0 ∷ 0xFFFFFFFFFFFFFFFF ∷ 0 ∷ 0 ∷ 1 ∷ [] }
     ensures zero_of_32 { by_each Bits32 Sdiv 0 ≡ 0 ∷ 0 ∷ 0 ∷ 0 ∷ 0 ∷ [] }
     ensures one_of_32 { by_each Bits32 Sdiv 1 ≡ 0 ∷ 1 ∷ 0 ∷ 0 ∷ 0xFFFFFFFF ∷ [] }
-    ensures greatest_of_32 { by_each Bits32 Sdiv 0x7FFFFFFF
+    ensures highest_of_32 { by_each Bits32 Sdiv 0x7FFFFFFF
         ≡ 0 ∷ 0x7FFFFFFF ∷ 1 ∷ 0 ∷ 0x80000001 ∷ [] }
-    ensures least_of_32 { by_each Bits32 Sdiv 0x80000000
+    ensures lowest_of_32 { by_each Bits32 Sdiv 0x80000000
         ≡ 0 ∷ 0x80000000 ∷ 0xFFFFFFFF ∷ 1 ∷ 0x80000000 ∷ [] }
     ensures minus_one_of_32 { by_each Bits32 Sdiv 0xFFFFFFFF ≡ 0 ∷ 0xFFFFFFFF ∷ 0 ∷ 0 ∷ 1 ∷ [] }
 {}
@@ -95,25 +95,26 @@ pub fn signed_quotients()
 pub fn remainders()
     ensures zero { by_each Bits64 Mod 0 ≡ 0 ∷ 0 ∷ 0 ∷ 0 ∷ 0 ∷ [] }
     ensures one { by_each Bits64 Mod 1 ≡ 1 ∷ 0 ∷ 1 ∷ 1 ∷ 1 ∷ [] }
-    ensures greatest { by_each Bits64 Mod 0x7FFFFFFFFFFFFFFF
+    ensures highest { by_each Bits64 Mod 0x7FFFFFFFFFFFFFFF
         ≡ 0x7FFFFFFFFFFFFFFF ∷ 0 ∷ 0 ∷ 0x7FFFFFFFFFFFFFFF ∷ 0x7FFFFFFFFFFFFFFF ∷ [] }
-    ensures least { by_each Bits64 Mod 0x8000000000000000
+    ensures lowest { by_each Bits64 Mod 0x8000000000000000
         ≡ 0x8000000000000000 ∷ 0 ∷ 1 ∷ 0 ∷ 0x8000000000000000 ∷ [] }
     ensures minus_one { by_each Bits64 Mod 0xFFFFFFFFFFFFFFFF
         ≡ 0xFFFFFFFFFFFFFFFF ∷ 0 ∷ 1 ∷ 0x7FFFFFFFFFFFFFFF ∷ 0 ∷ [] }
     ensures zero_by_imm { by_imms Bits64 Mod 0 ≡ 0 ∷ 0 ∷ 0 ∷ 0 ∷ 0 ∷ [] }
     ensures one_by_imm { by_imms Bits64 Mod 1 ≡ 1 ∷ 0 ∷ 1 ∷ 1 ∷ 1 ∷ [] }
-    ensures greatest_by_imm { by_imms Bits64 Mod 0x7FFFFFFFFFFFFFFF
+    ensures highest_by_imm { by_imms Bits64 Mod 0x7FFFFFFFFFFFFFFF
         ≡ 0x7FFFFFFFFFFFFFFF ∷ 0 ∷ 1 ∷ 0x7FFFFFFFFFFFFFFF ∷ 0x7FFFFFFFFFFFFFFF ∷ [] }
-    ensures least_by_imm { by_imms Bits64 Mod 0x8000000000000000
+    ensures lowest_by_imm { by_imms Bits64 Mod 0x8000000000000000
         ≡ 0x8000000000000000 ∷ 0 ∷ 2 ∷ 0x8000000000000000 ∷ 0x8000000000000000 ∷ [] }
     ensures minus_one_by_imm { by_imms Bits64 Mod 0xFFFFFFFFFFFFFFFF
         ≡ 0xFFFFFFFFFFFFFFFF ∷ 0 ∷ 3 ∷ 0x7FFFFFFF ∷ 0 ∷ [] }
     ensures zero_of_32 { by_each Bits32 Mod 0 ≡ 0 ∷ 0 ∷ 0 ∷ 0 ∷ 0 ∷ [] }
     ensures one_of_32 { by_each Bits32 Mod 1 ≡ 1 ∷ 0 ∷ 1 ∷ 1 ∷ 1 ∷ [] }
-    ensures greatest_of_32 { by_each Bits32 Mod 0x7FFFFFFF
+    ensures highest_of_32 { by_each Bits32 Mod 0x7FFFFFFF
         ≡ 0x7FFFFFFF ∷ 0 ∷ 0 ∷ 0x7FFFFFFF ∷ 0x7FFFFFFF ∷ [] }
-    ensures least_of_32 { by_each Bits32 Mod 0x80000000 ≡ 0x80000000 ∷ 0 ∷ 1 ∷ 0 ∷ 0x80000000 ∷ [] }
+    ensures lowest_of_32 { by_each Bits32 Mod 0x80000000
+        ≡ 0x80000000 ∷ 0 ∷ 1 ∷ 0 ∷ 0x80000000 ∷ [] }
     ensures minus_one_of_32 { by_each Bits32 Mod 0xFFFFFFFF
         ≡ 0xFFFFFFFF ∷ 0 ∷ 1 ∷ 0x7FFFFFFF ∷ 0 ∷ [] }
 {}
@@ -122,25 +123,25 @@ pub fn remainders()
 pub fn signed_remainders()
     ensures zero { by_each Bits64 Smod 0 ≡ 0 ∷ 0 ∷ 0 ∷ 0 ∷ 0 ∷ [] }
     ensures one { by_each Bits64 Smod 1 ≡ 1 ∷ 0 ∷ 1 ∷ 1 ∷ 0 ∷ [] }
-    ensures greatest { by_each Bits64 Smod 0x7FFFFFFFFFFFFFFF
+    ensures highest { by_each Bits64 Smod 0x7FFFFFFFFFFFFFFF
         ≡ 0x7FFFFFFFFFFFFFFF ∷ 0 ∷ 0 ∷ 0x7FFFFFFFFFFFFFFF ∷ 0 ∷ [] }
-    ensures least { by_each Bits64 Smod 0x8000000000000000
+    ensures lowest { by_each Bits64 Smod 0x8000000000000000
         ≡ 0x8000000000000000 ∷ 0 ∷ 0xFFFFFFFFFFFFFFFF ∷ 0 ∷ 0 ∷ [] }
     ensures minus_one { by_each Bits64 Smod 0xFFFFFFFFFFFFFFFF
         ≡ 0xFFFFFFFFFFFFFFFF ∷ 0 ∷ 0xFFFFFFFFFFFFFFFF ∷ 0xFFFFFFFFFFFFFFFF ∷ 0 ∷ [] }
     ensures zero_by_imm { by_imms Bits64 Smod 0 ≡ 0 ∷ 0 ∷ 0 ∷ 0 ∷ 0 ∷ [] }
     ensures one_by_imm { by_imms Bits64 Smod 1 ≡ 1 ∷ 0 ∷ 1 ∷ 1 ∷ 0 ∷ [] }
-    ensures greatest_by_imm { by_imms Bits64 Smod 0x7FFFFFFFFFFFFFFF
+    ensures highest_by_imm { by_imms Bits64 Smod 0x7FFFFFFFFFFFFFFF
         ≡ 0x7FFFFFFFFFFFFFFF ∷ 0 ∷ 1 ∷ 0x7FFFFFFF ∷ 0 ∷ [] }
-    ensures least_by_imm { by_imms Bits64 Smod 0x8000000000000000
+    ensures lowest_by_imm { by_imms Bits64 Smod 0x8000000000000000
         ≡ 0x8000000000000000 ∷ 0 ∷ 0xFFFFFFFFFFFFFFFE ∷ 0 ∷ 0 ∷ [] }
     ensures minus_one_by_imm { by_imms Bits64 Smod 0xFFFFFFFFFFFFFFFF
         ≡ 0xFFFFFFFFFFFFFFFF ∷ 0 ∷ 0xFFFFFFFFFFFFFFFF ∷ 0xFFFFFFFFFFFFFFFF ∷ 0 ∷ [] }
     ensures zero_of_32 { by_each Bits32 Smod 0 ≡ 0 ∷ 0 ∷ 0 ∷ 0 ∷ 0 ∷ [] }
     ensures one_of_32 { by_each Bits32 Smod 1 ≡ 1 ∷ 0 ∷ 1 ∷ 1 ∷ 0 ∷ [] }
-    ensures greatest_of_32 { by_each Bits32 Smod 0x7FFFFFFF
+    ensures highest_of_32 { by_each Bits32 Smod 0x7FFFFFFF
         ≡ 0x7FFFFFFF ∷ 0 ∷ 0 ∷ 0x7FFFFFFF ∷ 0 ∷ [] }
-    ensures least_of_32 { by_each Bits32 Smod 0x80000000
+    ensures lowest_of_32 { by_each Bits32 Smod 0x80000000
         ≡ 0x80000000 ∷ 0 ∷ 0xFFFFFFFF ∷ 0 ∷ 0 ∷ [] }
     ensures minus_one_of_32 { by_each Bits32 Smod 0xFFFFFFFF
         ≡ 0xFFFFFFFF ∷ 0 ∷ 0xFFFFFFFF ∷ 0xFFFFFFFF ∷ 0 ∷ [] }
