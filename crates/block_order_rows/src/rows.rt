@@ -67,6 +67,9 @@ const REFUSALS: &str = r#"
 - a cycle of one slot
   ja -1
   F1 BackJump at slot 0
+- a cycle of JAs alone
+  mov r0, 0 / ja +0 / ja -2 / exit
+  F1 BackJump at slot 2
 - a cycle of one block
   mov r0, 0 / add r0, 1 / jlt r0, 5, -2 / exit
   F1 BackJump at slot 2
