@@ -7,9 +7,10 @@
 //!
 //! What a connection is answered is proved of `answer` here and of `answer` in `operator`. All
 //! threads give back what they were given once the server ends: a worker's pass made the events of
-//! runs, one run after the other, and nothing else, and the operator's made Loads alone. Of sockets
-//! and clocks nothing is proved, and of a server that gives up that it does so for want of memory
-//! or of a thread.
+//! runs, one run after the other, and nothing else, and the operator's made Loads alone. A server
+//! says that it serves once its threads are there. Of sockets and clocks nothing is proved, and of
+//! a server that gives up that it does so for want of memory or of a thread, or since it can't say
+//! that it serves.
 #![tactic(auto)]
 
 mod accept;
@@ -24,6 +25,7 @@ mod operating;
 mod ports;
 mod promise;
 mod queue;
+mod ready;
 mod returned;
 mod running;
 mod worker;

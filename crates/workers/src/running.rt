@@ -1,12 +1,14 @@
 //! A server from its start to its end: its workers, the thread that accepts connections for them,
-//! and the operator's port, which is answered beside them. Once the operator has asked to stop, a
-//! flag is set, and a connection wakes the thread that accepts: it closes the clients' port and the
-//! queue, and the workers end. The threads give back what they were given (`promise`), so all is
-//! given back at the end.
+//! and the operator's port, which is answered beside them. All threads are there before the server
+//! says that it serves. Once the operator has asked to stop, a flag is set, and a connection wakes
+//! the thread that accepts: it closes the clients' port and the queue, and the workers end. The
+//! threads give back what they were given (`promise`), so all is given back at the end.
 
-ghost use Rattle.std.specs.Prelude.{◌≡◌, ◌≤◌, All, IfOk, length};
+ghost use Rattle.std.specs.Io.KnownBytes.{Appends};
+ghost use Rattle.std.specs.Prelude.{◌≡◌, ◌≤◌, All, IfOk, OnOk, length};
 ghost use Rattle.operator.specs.hot_swap.Published.{GoesOnwards};
 ghost use Rattle.workers.specs.Back.{IsPublished, OperatorBack, ServerBack};
+ghost use Rattle.workers.specs.Texts.{serving_line};
 
 use crate::accept::Call;
 use crate::crew::{joined, start_workers};
@@ -15,12 +17,15 @@ use crate::gate::Open;
 use crate::operating::{OperatorSeat, operate};
 use crate::ports::{Ports, wake};
 use crate::queue::{WAITING, fill};
+use crate::ready::{Ready, ReadyLine, take_back};
 use crate::returned::Returned;
 use crate::worker::Service;
 use crossbeam_channel::Sender;
 use one_world::cells::CellSteps;
+use operator::bounded_files::ResourceFault;
 use operator::hot_swap::Watcher;
 use operator::{Control, Loader};
+use std::io::Write;
 use std::net::{Net, SocketAddr, TcpListener, TcpStream};
 use std::sync::Wait;
 use std::sync::atomic::{AtomicBool, Ordering};
@@ -47,6 +52,15 @@ where
     }
 }
 
+// Ends the clients' side, which listens at this address.
+fn end_clients<H>(rt: &H, stop: &AtomicBool, clients: SocketAddr)
+where
+    H: Wait + Clock + Net<Stream = TcpStream>,
+{
+    stop.store(true, Ordering::SeqCst);
+    wake(rt, clients);
+}
+
 // Answers the operator until one has asked to stop, ends the clients' side, which listens at this
 // address, and gives the operator's pass back.
 fn operate_beside<H, L, C>(
@@ -69,8 +83,7 @@ where
     ensures onwards { GoesOnwards control.old.publishing.known control.new.publishing.known }
 {
     operate(rt, listener, &mut seat, control, stop, timeout);
-    stop.store(true, Ordering::SeqCst);
-    wake(rt, clients);
+    end_clients(rt, stop, clients);
     let OperatorSeat {
         loader: _loader,
         cells: _cells,
@@ -95,33 +108,34 @@ fn returned<P: Drop>(operator: P, workers: Vec<(P, Watcher)>, control: &Control)
     }
 }
 
-/// Serves clients with these workers, of which there are 1 to 64, and the operator's port beside
-/// them, until the operator has asked to stop. The operator is answered in this thread. Where
-/// nothing was refused all passes and watchers are given back; B4 comes before any client is
-/// answered.
-pub fn run<H, L, C>(
+// Serves as `run` does, and gives what `ready` gives back.
+fn run_saying<H, L, C, S>(
     rt: &H,
     ports: Ports,
     seat: OperatorSeat<'_, L, C>,
     control: &mut Control,
     workers: Vec<(C::Pass, Watcher)>,
     service: Service,
-) -> Result<Returned<C::Pass>, ServeFault>
+    ready: S,
+) -> Result<(Returned<C::Pass>, S::Said), ResourceFault>
 where
     H: Threads + Wait + AllocGlobal + Clock + Eprint + Sync,
     H: Net<Listener = TcpListener, Stream = TcpStream>,
     L: Loader,
     C: CellSteps + Sync,
     C::Pass: Send + Drop,
+    S: Ready + Drop,
     requires pass { C.belongs seat.cells.now seat.pass }
     requires workers { All (λ worker. C.belongs seat.cells.now worker.0) workers.items }
     requires some { 1 ≤ length workers.items }
     requires few { length workers.items ≤ 64 }
-    ensures back { IfOk result (ServerBack (C.belongs seat.entry.cells.now) C.grew
-        seat.entry.pass workers.items control.old.publishing.known) }
+    ensures back { IfOk result (λ r. ServerBack (C.belongs seat.entry.cells.now) C.grew
+        seat.entry.pass workers.items control.old.publishing.known r.0) }
+    ensures said { IfOk result
+        (λ r. S.says ready control.old.publishing.latest.generation r.1) }
 {
     let Ok((queue, from)) = crossbeam_channel::bounded::<Call, _>(rt.alloc(), WAITING) else {
-        return Err(ServeFault::Memory);
+        return Err(ResourceFault::Memory);
     };
     let stop = AtomicBool::new(false);
     let gate = Open;
@@ -140,20 +154,26 @@ where
     thread::scope(
         thread::scope_env(),
         rt,
-        |scope| -> Result<Returned<C::Pass>, ServeFault>
+        |scope| -> Result<(Returned<C::Pass>, S::Said), ResourceFault>
             requires pass { C.belongs cells.now pass }
             requires workers { All (λ worker. C.belongs cells.now worker.0) workers.items }
-            ensures { IfOk result (ServerBack (C.belongs cells.entry.now) C.grew
-                pass workers.items control.entry.now.publishing.known) }
+            ensures back { IfOk result (λ r. ServerBack (C.belongs cells.entry.now) C.grew
+                pass workers.items control.entry.now.publishing.known r.0) }
+            ensures said { IfOk result
+                (λ r. S.says ready control.entry.now.publishing.latest.generation r.1) }
         {
             let Ok(room) = Vec::with_capacity(rt.alloc(), workers.len()) else {
-                return Err(ServeFault::Memory);
+                return Err(ResourceFault::Memory);
             };
             let Ok(threads) = start_workers(rt, &gate, scope, from, cells, workers, service) else {
-                return Err(ServeFault::Memory);
+                return Err(ResourceFault::Memory);
             };
             let Ok(()) = start_accepting(rt, scope, listener, queue, &stop, service.log) else {
-                return Err(ServeFault::Memory);
+                return Err(ResourceFault::Memory);
+            };
+            let Ok(said) = ready.say(control.generation()) else {
+                end_clients(rt, &stop, clients);
+                return Err(ResourceFault::File);
             };
             let seat = OperatorSeat {
                 loader,
@@ -161,7 +181,47 @@ where
                 pass,
             };
             let pass = operate_beside(rt, &operator, seat, control, &stop, clients, timeout);
-            Ok(returned(pass, joined(rt, threads, room), control))
+            Ok((returned(pass, joined(rt, threads, room), control), said))
         },
     )
+}
+
+/// Serves clients with these workers, of which there are 1 to 64, and the operator's port beside
+/// them, until the operator has asked to stop. The operator is answered in this thread. Once all
+/// threads are there, `out` is told which generation is served. Where nothing was refused all
+/// passes and watchers are given back. B4, of memory or of a thread, comes before any client is
+/// answered and before anything is written, and B3 where `out` can't be written.
+pub fn run<H, L, C, O>(
+    rt: &H,
+    ports: Ports,
+    seat: OperatorSeat<'_, L, C>,
+    control: &mut Control,
+    workers: Vec<(C::Pass, Watcher)>,
+    service: Service,
+    out: &mut O,
+) -> Result<Returned<C::Pass>, ResourceFault>
+where
+    H: Threads + Wait + AllocGlobal + Clock + Eprint + Sync,
+    H: Net<Listener = TcpListener, Stream = TcpStream>,
+    L: Loader,
+    C: CellSteps + Sync,
+    C::Pass: Send + Drop,
+    O: Write,
+    requires pass { C.belongs seat.cells.now seat.pass }
+    requires workers { All (λ worker. C.belongs seat.cells.now worker.0) workers.items }
+    requires some { 1 ≤ length workers.items }
+    requires few { length workers.items ≤ 64 }
+    ensures back { IfOk result (ServerBack (C.belongs seat.entry.cells.now) C.grew
+        seat.entry.pass workers.items control.old.publishing.known) }
+    ensures said { OnOk result (Appends (O.contents out.old) (O.contents out.new)
+        (serving_line control.old.publishing.latest.generation)) }
+{
+    let ready = ReadyLine { out };
+    match run_saying(rt, ports, seat, control, workers, service, ready) {
+        Ok((back, out)) => {
+            take_back(out);
+            Ok(back)
+        }
+        Err(fault) => Err(fault),
+    }
 }

@@ -1,11 +1,11 @@
-use Rattle.std.proofs.Common.{◌≡◌, length, sym, ap, subst, arith}
+use Rattle.std.proofs.Common.{◌≡◌, ℕ, length, sym, ap, subst, arith}
 use Rattle.std.specs.Prelude.{Vec}
 use Rattle.std.specs.declared.alloc.Global.{Global}
 use Rattle.operator.specs.hot_swap.Published.{Beginning, GoesOnwards}
 use Rattle.workers.specs.Back.{OperatorBack, WorkersBack}
 use Rattle.workers.proofs.InPlace.{as_many}
 use Rattle.workers.proofs.Served.{all_back}
-use Rattle.workers.proofs.running.fn.run.scope.Goals as goal
+use Rattle.workers.proofs.running.fn.run_saying.scope.Goals as goal
 
 pub joined-requires : goal.joined-requires
 joined-requires g c =
@@ -28,13 +28,17 @@ returns g c =
     let cells = c.captures.cells.now in
     let old = c.captures.workers.items in
     record {
-      operator = subst (λ (pass : P). OperatorBack (belongs cells) grew c.captures.pass pass)
-          (sym c.returned.ensures.operator) c.operate_beside-pass.ensures.back;
-      workers = subst (WorkersBack (belongs cells) grew old)
-          (sym (ap (λ (v : Vec (P × Beginning) Global). v.items) c.returned.ensures.workers))
-          (all_back belongs grew cells old c.in-Ok-start_workers.threads.items
-          c.joined.result.items c.in-Ok-start_workers.ensures c.joined.ensures);
-      onwards = subst (GoesOnwards c.captures.control.now.publishing.known)
-          (sym c.returned.ensures.known) c.operate_beside-pass.ensures.onwards;
-      published = c.returned.ensures.published;
+      back = record {
+        operator = subst (λ (pass : P). OperatorBack (belongs cells) grew c.captures.pass pass)
+            (sym c.returned.ensures.operator) c.operate_beside-pass.ensures.back;
+        workers = subst (WorkersBack (belongs cells) grew old)
+            (sym (ap (λ (v : Vec (P × Beginning) Global). v.items) c.returned.ensures.workers))
+            (all_back belongs grew cells old c.in-Ok-start_workers.threads.items
+            c.joined.result.items c.in-Ok-start_workers.ensures c.joined.ensures);
+        onwards = subst (GoesOnwards c.captures.control.now.publishing.known)
+            (sym c.returned.ensures.known) c.operate_beside-pass.ensures.onwards;
+        published = c.returned.ensures.published;
+      };
+      said = subst (λ (n : ℕ). g.S.Ready.says c.captures.ready n c.in-Ok-say.said)
+          c.generation.ensures c.in-Ok-say.ensures;
     }

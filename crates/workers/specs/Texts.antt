@@ -1,0 +1,7 @@
+-- What a server says of itself.
+use Rattle.std.specs.Prelude.{ℕ, List, ◌++◌, codes, decimal}
+use Rattle.operator.specs.hot_swap.rulesets.Texts.{line}
+
+-- that it serves the ruleset of this generation
+abbrev pub serving_line : ℕ → List ℕ
+serving_line generation = line (codes "serving generation " ++ decimal generation)

@@ -1,0 +1,52 @@
+//! What a server says once it is ready, which is when all its threads are made. It says so in the
+//! closure of `thread::scope`, of which nothing is known of what it wrote through a `&mut` that it
+//! holds. So it holds a value of a type parameter, which gives back what it wrote to.
+
+ghost use Rattle.std.specs.Io.KnownBytes.{Appends};
+ghost use Rattle.std.specs.Prelude.{◌≡◌, ℕ, IfOk, OnOk};
+ghost use Rattle.workers.specs.Texts.{serving_line};
+
+use operator::hot_swap::Generation;
+use std::io::{self, Write};
+
+/// What says that a server serves the ruleset of a generation.
+pub(crate) trait Ready {
+    type Said;
+
+    ghost says: { Self → ℕ → Self.Said → Type 0 };
+
+    fn say(self, generation: Generation) -> io::Result<Self::Said>
+        ensures { IfOk result (λ said. says self generation said) };
+}
+
+/// A writer, to which the line is written.
+#[derive(Drop)]
+pub(crate) struct ReadyLine<'a, O> {
+    pub(crate) out: &'a mut O,
+}
+
+impl<'a, O: Write> Ready for ReadyLine<'a, O> {
+    type Said = &'a mut O;
+
+    ghost says = { λ line generation said. (said.ghost_name ≡ line.out.ghost_name)
+        × Appends (O.contents line.out.now) (O.contents said.now) (serving_line generation) };
+
+    fn say(self, generation: Generation) -> io::Result<&'a mut O> {
+        let ReadyLine { out } = self;
+        write_line(out, generation)?;
+        Ok(out)
+    }
+}
+
+fn write_line<O: Write>(out: &mut O, generation: Generation) -> io::Result<()>
+    ensures { OnOk result
+        (Appends (O.contents out.old) (O.contents out.new) (serving_line generation)) }
+{
+    writeln!(out, "serving generation {generation}")?;
+    out.flush()
+}
+
+/// Does nothing, but it uses a writer that was given back, which ties it to the one that was lent.
+pub(crate) fn take_back<O>(out: &mut O)
+    ensures { out.new ≡ out.old }
+{}
