@@ -1,27 +1,42 @@
 //! Why there is no server, or none that serves.
 
+ghost use Rattle.serving.specs.Texts.{serving_text};
+
 use load::PathFault;
 use shared_cells::SharedFault;
-use thiserror::Error;
-use workers::ServeFault;
+use std::error::Error;
+use std::fmt::{self, Display};
+use workers::operator::bounded_files::ResourceFault;
 use workers::operator::hot_swap::SwapFault;
 
-/// What is wrong, as it is printed.
-#[derive(Debug, Drop, Error)]
+/// What is wrong; it is shown as it is printed.
+#[derive(Debug, Drop)]
 pub enum ServingFault {
     /// B3, B4, M1 to M8: the manifest comes to no ruleset.
-    #[error("{0}")]
     Manifest(PathFault),
-    /// A port can't be bound.
-    #[error("B6 Bind")]
+    /// B6: a port can't be bound.
     Bind,
-    /// The counters are refused.
-    #[error("{0}")]
+    /// S1: the counters are refused memory.
     Cells(SharedFault),
-    /// The publisher of the rulesets, or a watcher of it, is refused.
-    #[error("{0}")]
+    /// H1 or H2: the publisher of the rulesets, or a watcher of it, is refused.
     Publisher(SwapFault),
-    /// B4: memory that the server itself wants, or a thread, is refused.
-    #[error("{0}")]
-    Serve(ServeFault),
+    /// B4: memory that the server itself wants, or a thread, is refused. B3: that it serves can't
+    /// be written.
+    Resource(ResourceFault),
 }
+
+impl Display for ServingFault {
+    ghost output = { serving_text };
+
+    fn fmt<W: fmt::Write>(&self, f: &mut fmt::Formatter<W>) -> fmt::Result {
+        match self {
+            ServingFault::Manifest(fault) => write!(f, "{fault}"),
+            ServingFault::Bind => f.write_str("B6 Bind"),
+            ServingFault::Cells(fault) => f.write_str(fault.name()),
+            ServingFault::Publisher(fault) => f.write_str(fault.name()),
+            ServingFault::Resource(fault) => f.write_str(fault.name()),
+        }
+    }
+}
+
+impl Error for ServingFault {}

@@ -3,7 +3,7 @@
 //! A server that is ready has its ruleset and its ports. One that is staffed has all that it serves
 //! by: the operator has the publisher and the directory, the workers have a watcher each, and all
 //! have passes to cells that they share without a lock. So what can be refused is refused before a
-//! server is said to serve, but for threads (`workers`).
+//! server says that it serves, which it does once its threads are there, too (`workers`).
 #![tactic(auto)]
 
 mod ended;

@@ -1,5 +1,5 @@
-//! From a manifest's path to a server that has all to serve: what can be wrong is found before the
-//! server is said to serve, but for threads.
+//! From a manifest's path to a server that has all to serve but its threads: what can be wrong with
+//! either is found before these are made.
 
 ghost use Rattle.std.specs.Prelude.{◌≡◌, ◌≤◌, [], IfOk, IfErr, length};
 ghost use Rattle.load.specs.Loaded.{IsLoadedFrom};

@@ -1,7 +1,9 @@
 //! A server with all that it serves by, which is made before anything is served: its counters, the
 //! publisher of its rulesets with the directory of its arrays, and its workers.
 
-ghost use Rattle.std.specs.Prelude.{◌≡◌, ◌+◌, ◌≤◌, [], IfOk, IfErr, length, vec_capacity};
+ghost use Rattle.std.specs.Prelude.{◌≡◌, ◌+◌, ◌≤◌, [], IfOk, IfErr, OnOk, length, vec_capacity};
+ghost use Rattle.std.specs.Io.KnownBytes.{Appends};
+ghost use Rattle.workers.specs.Texts.{serving_line};
 ghost use Rattle.serving.specs.Ended.{LeavesOneWorld};
 ghost use Rattle.serving.specs.Staff.{IsStaff};
 ghost use Rattle.serving.specs.Staffed.{IsEndFault, IsStaffFault};
@@ -13,13 +15,15 @@ use crate::worker_list::worker_list;
 use cells::Directory;
 use load::ruleset::Ruleset;
 use shared_cells::{Closed, SharedCells, SharedPass, passes_gain_lists};
+use std::io::Write;
 use std::net::{Net, TcpListener, TcpStream};
 use std::sync::{Arc, Wait};
 use std::thread::Threads;
 use std::time::Clock;
+use workers::operator::bounded_files::ResourceFault;
 use workers::operator::hot_swap::{Publisher, Watcher};
 use workers::operator::{Control, Loader};
-use workers::{OperatorSeat, Ports, ServeFault, Service, run};
+use workers::{OperatorSeat, Ports, Service, run};
 
 /// A server that has its counters, its publisher and its workers. It is ended by `serve` or by
 /// `close`, and isn't let go otherwise.
@@ -60,10 +64,10 @@ where
 {
     let alloc = rt.alloc();
     let Ok(rules) = Arc::new(alloc, rules) else {
-        return Err(ServingFault::Serve(ServeFault::Memory));
+        return Err(ServingFault::Resource(ResourceFault::Memory));
     };
     let Ok(room) = Vec::with_capacity(alloc, workers + 1) else {
-        return Err(ServingFault::Serve(ServeFault::Memory));
+        return Err(ServingFault::Resource(ResourceFault::Memory));
     };
     let (cells, mut passes) = match SharedCells::new(alloc, workers + 1) {
         Ok(made) => made,
@@ -101,19 +105,29 @@ impl StaffedServer {
     }
 
     /// Serves until the operator stops the server, and gives the counters as they are left; those
-    /// that aren't 0 have a line of the log. Later rulesets come from the loader. B4 where memory
-    /// or a thread was refused, which is before any client is answered, and H2 where a worker can't
-    /// be asked at the end what it has seen.
-    pub fn serve<H, L>(self, rt: &H, loader: &L, service: Service) -> Result<Closed, ServingFault>
+    /// that aren't 0 have a line of the log. Once all threads are there, `out` is told that the
+    /// server serves. Later rulesets come from the loader. B4 where memory or a thread was refused,
+    /// which is before any client is answered and before anything is written; B3 where `out` can't
+    /// be written; and H2 where a worker can't be asked at the end what it has seen.
+    pub fn serve<H, L, O>(
+        self,
+        rt: &H,
+        loader: &L,
+        service: Service,
+        out: &mut O,
+    ) -> Result<Closed, ServingFault>
     where
         H: Threads + Wait + AllocGlobal + Clock + Eprint + Sync,
         H: Net<Listener = TcpListener, Stream = TcpStream>,
         L: Loader,
+        O: Write,
         requires some { 1 ≤ length self.workers.items }
         requires few { length self.workers.items ≤ 64 }
         // What all threads did to the counters is one legal history, and that of one world.
         ensures world { IfOk result
             (LeavesOneWorld self.cells self.control.publishing.known.rulesets) }
+        ensures said { OnOk result (Appends (O.contents out.old) (O.contents out.new)
+            (serving_line self.control.publishing.latest.generation)) }
         ensures fault { IfErr result IsEndFault }
     {
         passes_gain_lists();
@@ -130,11 +144,11 @@ impl StaffedServer {
             cells: &cells,
             pass,
         };
-        let back = match run(rt, ports, seat, &mut control, workers, service) {
+        let back = match run(rt, ports, seat, &mut control, workers, service, out) {
             Ok(back) => back,
             Err(fault) => {
                 control.close(rt);
-                return Err(ServingFault::Serve(fault));
+                return Err(ServingFault::Resource(fault));
             }
         };
         match close_cells(cells, back, room) {

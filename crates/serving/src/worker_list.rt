@@ -8,7 +8,7 @@ ghost use Rattle.serving.specs.Staffed.{IsStaffFault};
 use crate::fault::ServingFault;
 use shared_cells::SharedPass;
 use std::alloc::Global;
-use workers::ServeFault;
+use workers::operator::bounded_files::ResourceFault;
 use workers::operator::hot_swap::{Publisher, Watcher};
 
 /// A worker for each of these passes, which watches this publisher; it has a place for each. H1
@@ -33,7 +33,7 @@ pub(crate) fn worker_list(
             Err(fault) => return Err(ServingFault::Publisher(fault)),
         };
         let Ok(()) = workers.push((pass, watcher)) else {
-            return Err(ServingFault::Serve(ServeFault::Memory));
+            return Err(ServingFault::Resource(ResourceFault::Memory));
         };
     }
     Ok(workers)
