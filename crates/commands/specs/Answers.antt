@@ -7,13 +7,12 @@ use Rattle.std.specs.String.{string_bytes}
 use Rattle.command_line.specs.declared.request.CommandRequest.{CommandRequest}
 use Rattle.command_line.specs.declared.request.CommandRequest.TheVariants as request
 use Rattle.commands.specs.Asked.{IsAskRefusal, IsDoneAs}
-use Rattle.commands.specs.Ready.{IsServeRefusal}
 use Rattle.commands.specs.declared.answer.Answer.{Answer}
 use Rattle.commands.specs.declared.answer.Answer.TheVariants.{Assembled, Checked, Compiled}
 use Rattle.commands.specs.declared.answer.Answer.TheVariants.{Listed, Accepted, Chosen, Told}
 use Rattle.commands.specs.declared.answer.Answer.TheVariants.{Ordered, Replayed, Ready}
 use Rattle.commands.specs.declared.fault.Fault.{Fault}
-use Rattle.commands.specs.declared.fault.Fault.TheVariants.{Manifest, Program}
+use Rattle.commands.specs.declared.fault.Fault.TheVariants.{Manifest, Program, Serving}
 use Rattle.program_tools.specs.load.Loaded.{IsLoadedFrom}
 use Rattle.program_tools.specs.Programs.{IsProgramRefusal, IsRunRefusal}
 use Rattle.manifest_tools.specs.Manifests.{HasReplayed, IsChecked, IsCheckRefusal}
@@ -24,6 +23,7 @@ use Rattle.program_tools.specs.Assembly.{IsListedFrom, IsListingRefusal}
 use Rattle.program_tools.specs.Orders.{IsOrderedFrom, IsOrderRefusal}
 use Rattle.program_tools.specs.Programs.{HasChosen, HasSlots}
 use Rattle.program_tools.specs.Rules.{HasCompiled, IsCompileRefusal}
+use Rattle.serving.specs.Manifests.{RefusesToServe}
 
 module _ (known : KnownFiles) where
   abbrev pub IsAnswer : CommandRequest → Answer → Type 0
@@ -60,5 +60,6 @@ module _ (known : KnownFiles) where
   IsRefused (request.Replay manifest script) (Manifest fault) =
       IsReplayRefusal known manifest.now script.now fault
   IsRefused (request.Ask asked port) fault = IsAskRefusal asked fault
-  IsRefused (request.Serve manifest plan) fault = IsServeRefusal known manifest.now fault
+  IsRefused (request.Serve manifest plan) (Serving fault) =
+      RefusesToServe known manifest.now fault
   IsRefused asked fault = ⊥

@@ -1,8 +1,9 @@
 -- What a server answers at its operator's port, and why it gives no answer.
 use Rattle.std.specs.Prelude.{ℕ, List, IsTrue}
 use Rattle.commands.specs.declared.fault.Fault.{Fault}
-use Rattle.commands.specs.declared.fault.Fault.TheVariants.{Connect, Memory, Told, Word}
+use Rattle.commands.specs.declared.fault.Fault.TheVariants.{Ask, Told}
 use Rattle.serving.specs.operator.Replies.{is_answer}
+use Rattle.serving.specs.operator.declared.asking.AskFault.TheVariants.{Word}
 use Rattle.command_line.specs.operator_request.Requests.{IsSendable}
 use Rattle.command_line.specs.operator_request.declared.request.OperatorRequest.{OperatorRequest}
 
@@ -14,7 +15,6 @@ pub record IsDoneAs (request : OperatorRequest) (bytes : List ℕ) : Type 0 wher
 -- the server refuses, nobody answers, memory was refused, or no line asks for it
 abbrev pub IsAskRefusal : OperatorRequest → Fault → Type 0
 IsAskRefusal request (Told text) = Unit {0}
-IsAskRefusal request Connect = Unit {0}
-IsAskRefusal request Memory = Unit {0}
-IsAskRefusal request Word = ¬ IsSendable request
+IsAskRefusal request (Ask Word) = ¬ IsSendable request
+IsAskRefusal request (Ask fault) = Unit {0}
 IsAskRefusal request fault = ⊥

@@ -1,5 +1,4 @@
 pub mod Texts
 pub mod Asked
-pub mod Ready
 pub mod Answers
 pub mod Commands

@@ -5,6 +5,7 @@ ghost use Rattle.commands.specs.Texts.{answer_text};
 
 use command_line::Plan;
 use serving::Server;
+use serving::operator::hot_swap::Generation;
 use std::fmt;
 
 /// What a request is answered, by lines that are each ended by LF.
@@ -55,7 +56,10 @@ impl fmt::Display for Answer {
             } => writeln!(f, "choice {choice} after {instructions} instructions"),
             Answer::Replayed { text } => f.write_str(text),
             Answer::Told { text } => f.write_str(text),
-            Answer::Ready { .. } => f.write_str("serving generation 1\n"),
+            Answer::Ready { .. } => {
+                let first: Generation = 1;
+                writeln!(f, "serving generation {first}")
+            }
         }
     }
 }

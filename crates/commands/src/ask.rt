@@ -23,9 +23,9 @@ where
 {
     let reply = match ask(rt, port, request) {
         Ok(reply) => reply,
-        Err(AskFault::Word) => return Err(Fault::Word),
-        Err(AskFault::Memory) => return Err(Fault::Memory),
-        Err(AskFault::Connect) => return Err(Fault::Connect),
+        Err(AskFault::Word) => return Err(Fault::Ask(AskFault::Word)),
+        Err(AskFault::Memory) => return Err(Fault::Ask(AskFault::Memory)),
+        Err(AskFault::Connect) => return Err(Fault::Ask(AskFault::Connect)),
     };
     match read_reply(rt.alloc(), reply.as_slice()) {
         Ok(text) => Ok(text),
@@ -40,14 +40,14 @@ fn read_reply(alloc: Global, reply: &[u8]) -> Result<String, Fault>
     ensures fault { IfErr result (λ e. (request : asked.OperatorRequest) → IsAskRefusal request e) }
 {
     let Ok(text) = str::from_utf8(reply) else {
-        return Err(Fault::Connect);
+        return Err(Fault::Ask(AskFault::Connect));
     };
     if let Some(refusal) = text.strip_prefix("refused ") {
         return Err(told(alloc, refusal));
     }
     match String::from_str(alloc, text) {
         Ok(text) => Ok(text),
-        Err(_) => Err(Fault::Memory),
+        Err(_) => Err(Fault::Ask(AskFault::Memory)),
     }
 }
 
@@ -57,6 +57,6 @@ fn told(alloc: Global, refusal: &str) -> Fault
     let words = refusal.strip_suffix('\n').unwrap_or(refusal);
     match String::from_str(alloc, words) {
         Ok(words) => Fault::Told(words),
-        Err(_) => Fault::Memory,
+        Err(_) => Fault::Ask(AskFault::Memory),
     }
 }

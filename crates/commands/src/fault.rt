@@ -4,33 +4,24 @@ ghost use Rattle.commands.specs.Texts.{fault_text};
 
 use manifest_tools::ManifestToolFault;
 use program_tools::ProgramToolFault;
-use program_tools::load::PathFault;
 use program_tools::load::bounded_files::ResourceFault;
+use serving::ServingFault;
 use serving::operator::AskFault;
-use serving::operator::hot_swap::SwapFault;
 use std::fmt;
 
 /// What is wrong; it is shown as it is printed, behind `refused `.
 #[derive(Debug, Drop)]
 pub enum Fault {
-    /// B4: memory that the command itself wants is refused.
-    Memory,
+    /// B3: what is to be printed can't be written. B4: memory for the words is refused.
+    Resource(ResourceFault),
     /// `asm`, `list`, `compile`, `order`, `verify` or `run` is refused.
     Program(ProgramToolFault),
     /// `check` or `replay` is refused.
     Manifest(ManifestToolFault),
-    /// B3, B4, M1 to M8: the manifest of a server comes to no ruleset.
-    Load(PathFault),
-    /// B1: no line says what the operator asks.
-    Word,
-    /// B5: nobody answers at the operator's port.
-    Connect,
-    /// B6: a port can't be bound.
-    Bind,
-    /// H1: the publisher of a server is refused memory.
-    Publisher,
-    /// S1: the counters of a server are refused memory.
-    Cells,
+    /// There is no server, or none that serves.
+    Serving(ServingFault),
+    /// B1, B4, B5: a server isn't asked.
+    Ask(AskFault),
     /// The server refuses, in these words.
     Told(String),
 }
@@ -40,15 +31,11 @@ impl fmt::Display for Fault {
 
     fn fmt<W: fmt::Write>(&self, f: &mut fmt::Formatter<W>) -> fmt::Result {
         match self {
-            Fault::Memory => f.write_str(ResourceFault::Memory.name()),
+            Fault::Resource(fault) => f.write_str(fault.name()),
             Fault::Program(fault) => write!(f, "{fault}"),
             Fault::Manifest(fault) => write!(f, "{fault}"),
-            Fault::Load(fault) => write!(f, "{fault}"),
-            Fault::Word => f.write_str(AskFault::Word.name()),
-            Fault::Connect => f.write_str(AskFault::Connect.name()),
-            Fault::Bind => f.write_str("B6 Bind"),
-            Fault::Publisher => f.write_str(SwapFault::Memory.name()),
-            Fault::Cells => f.write_str("S1 Memory"),
+            Fault::Serving(fault) => write!(f, "{fault}"),
+            Fault::Ask(fault) => f.write_str(fault.name()),
             Fault::Told(text) => f.write_str(text),
         }
     }

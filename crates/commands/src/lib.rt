@@ -4,8 +4,8 @@
 
 // How a command goes. Its words are read as a request, or it is told what is wrong with them. The
 // request is answered: by a command on a program or a manifest, by a server at its operator's port,
-// or, for `serve`, by a server that is ready. The answer's lines are printed, and a ready server
-// then serves until it is stopped. The status says whether all this was done.
+// or, for `serve`, by a server that is ready. The answer's lines are printed; a ready server says
+// that it serves, and does so until it is stopped. The status says whether all this was done.
 
 mod answer;
 mod ask;

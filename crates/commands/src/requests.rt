@@ -6,11 +6,11 @@ ghost use Rattle.commands.specs.Answers.{IsAnswer, IsRefused};
 use crate::answer::Answer;
 use crate::ask::ask_server;
 use crate::fault::Fault;
-use crate::serve::prepare_server;
 use command_line::CommandRequest;
 use manifest_tools::{check_file, replay_script};
 use program_tools::load::Disk;
 use program_tools::{assemble_file, compile_file, list_file, order_file, run_file, verify_file};
+use serving::prepare;
 use std::net::{Net, TcpListener, TcpStream};
 use std::rt::Files;
 
@@ -61,7 +61,7 @@ where
             text: replay_script(alloc, disk, manifest, script).map_err(Fault::Manifest)?,
         }),
         CommandRequest::Serve { manifest, plan } => Ok(Answer::Ready {
-            server: prepare_server(rt, disk, manifest, plan)?,
+            server: prepare(rt, disk, manifest, plan.port, plan.operator).map_err(Fault::Serving)?,
             plan: *plan,
         }),
         CommandRequest::Ask { request, port } => Ok(Answer::Told {

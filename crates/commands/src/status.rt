@@ -5,15 +5,16 @@ ghost use Rattle.std.specs.IoError.{error_kind};
 ghost use Rattle.std.specs.Io.KnownBytes.{Appends};
 ghost use Rattle.command_line.specs.Requests.{AskForHelp, IsWordsFault};
 ghost use Rattle.commands.specs.Commands.{AreWrong, IsAnswered, IsDone, PrintsRefusal};
-ghost use Rattle.commands.specs.Texts.{serving_line};
+ghost use Rattle.serving.specs.workers.Texts.{serving_line};
 
 use crate::answer::Answer;
 use crate::fault::Fault;
 use crate::requests::answer;
-use crate::serve::{serve_until_stopped, staff_server};
+use crate::serve::serve_until_stopped;
 use command_line::{CommandRequest, Plan, WordsFault, read_words};
 use manifest_tools::ManifestToolFault;
 use program_tools::load::Disk;
+use program_tools::load::bounded_files::ResourceFault;
 use serving::Server;
 use std::convert::AsStr;
 use std::io::{self, ErrorKind, Write};
@@ -79,12 +80,12 @@ where
 {
     match answer(rt, disk, request) {
         Ok(Answer::Ready { server, plan }) => serve(rt, disk, server, &plan, out, err),
-        Ok(answer) => status_of(write!(out, "{answer}").is_ok(), DONE),
+        Ok(answer) => printed(err, write!(out, "{answer}").is_ok()),
         Err(fault) => refused_for(out, err, &fault),
     }
 }
 
-// Makes all that a server serves by, says that it is ready, and serves until its operator stops it.
+// Serves until the operator stops the server, which says when it does.
 fn serve<R, D, O, E>(rt: &R, disk: &D, server: Server, plan: &Plan, out: &mut O, err: &mut E) -> u8
 where
     R: Files + Threads + Wait + AllocGlobal + Clock + Eprint + Sync,
@@ -95,28 +96,13 @@ where
     O: Write,
     E: Write,
     ensures within { result ≤ 1 }
-    ensures done { result ≡ 0 → Appends (O.contents out.old) (O.contents out.new) serving_line }
+    ensures done { result ≡ 0 → Appends (O.contents out.old) (O.contents out.new) (serving_line 1) }
     ensures silent { result ≡ 0 → err.new ≡ err.old }
 {
-    let server = match staff_server(rt, server, plan) {
-        Ok(server) => server,
-        Err(fault) => return refused(err, &fault),
-    };
-    if say_ready(out).is_err() {
-        server.close(rt);
-        return REFUSED;
-    }
-    match serve_until_stopped(rt, disk, server, plan) {
+    match serve_until_stopped(rt, disk, server, plan, out) {
         Ok(()) => DONE,
-        Err(fault) => refused(err, &fault),
+        Err(fault) => refused(err, &Fault::Serving(fault)),
     }
-}
-
-fn say_ready<O: Write>(out: &mut O) -> io::Result<()>
-    ensures { OnOk result (Appends (O.contents out.old) (O.contents out.new) serving_line) }
-{
-    writeln!(out, "serving generation 1")?;
-    out.flush()
 }
 
 /// What words are answered that can't be read: their memory was refused, or one isn't UTF-8.
@@ -125,7 +111,7 @@ pub fn unreadable_words<E: Write>(error: &io::Error, err: &mut E) -> u8
     ensures memory { error_kind error.now ≡ ErrorKind.OutOfMemory → result ≡ 1 }
 {
     match error.kind() {
-        ErrorKind::OutOfMemory => refused(err, &Fault::Memory),
+        ErrorKind::OutOfMemory => refused(err, &Fault::Resource(ResourceFault::Memory)),
         _ => status_of(writeln!(err, "error: a word isn't UTF-8").is_ok(), USAGE),
     }
 }
@@ -143,10 +129,22 @@ pub fn usage<O: Write, E: Write>(fault: &WordsFault, out: &mut O, err: &mut E) -
     ensures usage { result ≡ 2 → out.new ≡ out.old }
 {
     match fault {
-        WordsFault::Help(_) => status_of(write!(out, "{fault}").is_ok(), DONE),
-        WordsFault::Memory => refused(err, &Fault::Memory),
+        WordsFault::Help(_) => printed(err, write!(out, "{fault}").is_ok()),
+        WordsFault::Memory => refused(err, &Fault::Resource(ResourceFault::Memory)),
         _ => status_of(write!(err, "{fault}").is_ok(), USAGE),
     }
+}
+
+// The status of what was to be printed. Where it couldn't be written, that is the refusal.
+fn printed<E: Write>(err: &mut E, written: bool) -> u8
+    ensures status { result ≡ (if written then 0 else 1) }
+    ensures within { result ≤ 1 }
+    ensures silent { result ≡ 0 → err.new ≡ err.old }
+{
+    if written {
+        return DONE;
+    }
+    refused(err, &Fault::Resource(ResourceFault::File))
 }
 
 // Prints where and why a manifest is refused on standard output, and the refusal.

@@ -8,7 +8,8 @@ pub returns-in-Ok-clause-done : goal.returns-in-Ok-clause-done
 returns-in-Ok-clause-done g c zero = record {
   answer = c.in-Ok.answer;
   answers = c.in-Ok.ensures.answer;
-  printed = of_written _ _ _ _ c.status_of.ensures c.is_ok.ensures.value c.write.ensures.bytes zero;
+  printed = of_written _ _ _ _ c.printed.ensures.status c.is_ok.ensures.value
+      c.write.ensures.bytes zero;
 }
 
 pub returns-in-Ok-Ready-clause-done : goal.returns-in-Ok-Ready-clause-done
