@@ -112,7 +112,8 @@ where
 {
     let device = Device::new(rt);
     let server = server.staffed(rt, 2)?;
-    match server.serve(rt, &Manifests::of(&device), service_of(10)) {
+    let mut said = Vec::new(rt.alloc());
+    match server.serve(rt, &Manifests::of(&device), service_of(10), &mut said) {
         Ok(_) => Ok(()),
         Err(fault) => Err(fault),
     }

@@ -8,14 +8,16 @@ use crate::shelf::{Shelf, ruleset};
 use crate::staffed::is_given_up;
 use crate::swaps_under_load::{are_whole, is_shared};
 use cells::Directory;
+use operator::bounded_files::ResourceFault;
 use serving::{ServingFault, staff};
+use std::io::Write;
 use std::net::{Net, SocketAddr, TcpListener, TcpStream};
 use std::sync::Wait;
 use std::test::Fail;
 use std::thread;
 use std::thread::Threads;
 use std::time::{Clock, Duration};
-use workers::{Ports, ServeFault, Service};
+use workers::{Ports, Service};
 
 /// What is done at a server's ports.
 #[derive(Clone, Copy)]
@@ -40,7 +42,36 @@ pub(crate) fn service_of(seconds: u64) -> Service {
     }
 }
 
-/// Serves a manifest of the shelf with 1 to 64 workers, until the server is stopped.
+/// Serves a manifest of the shelf with 1 to 64 workers, until the server is stopped, and says to
+/// this writer that it does.
+pub(crate) fn served_to<H, O>(
+    rt: &H,
+    ports: Ports,
+    path: &str,
+    workers: usize,
+    service: Service,
+    out: &mut O,
+) -> Result<(), ServingFault>
+where
+    H: Threads + Wait + AllocGlobal + Clock + Eprint + Sync,
+    H: Net<Listener = TcpListener, Stream = TcpStream>,
+    O: Write,
+{
+    let mut directory = Directory::new(rt.alloc());
+    let Ok(rules) = ruleset(rt.alloc(), path, &mut directory) else {
+        return Err(ServingFault::Resource(ResourceFault::Memory));
+    };
+    let server = staff(rt, ports, rules, directory, workers.clamp(1, 64))?;
+    match server.serve(rt, &Shelf, service, out) {
+        Ok(_) => Ok(()),
+        Err(fault) => Err(fault),
+    }
+}
+
+/// What a server says once it serves its first ruleset.
+const SERVING: &[u8] = b"serving generation 1\n";
+
+/// The same, and B3 where it said anything else than that it serves.
 fn served<H>(
     rt: &H,
     ports: Ports,
@@ -52,15 +83,12 @@ where
     H: Threads + Wait + AllocGlobal + Clock + Eprint + Sync,
     H: Net<Listener = TcpListener, Stream = TcpStream>,
 {
-    let mut directory = Directory::new(rt.alloc());
-    let Ok(rules) = ruleset(rt.alloc(), path, &mut directory) else {
-        return Err(ServingFault::Serve(ServeFault::Memory));
-    };
-    let server = staff(rt, ports, rules, directory, workers.clamp(1, 64))?;
-    match server.serve(rt, &Shelf, service) {
-        Ok(_) => Ok(()),
-        Err(fault) => Err(fault),
+    let mut said = Vec::new(rt.alloc());
+    served_to(rt, ports, path, workers, service, &mut said)?;
+    if said.as_slice() == SERVING {
+        return Ok(());
     }
+    Err(ServingFault::Resource(ResourceFault::File))
 }
 
 /// What goes wrong at the ports of a server, if anything does. Then the server is stopped.
