@@ -1,0 +1,6 @@
+use Rattle.access_log.proofs.Added.{then_adds}
+use Rattle.access_log.proofs.events.write_unaccepted.Goals as goal
+
+pub returns : goal.returns
+returns c =
+    then_adds c.in_ok-write_kind.ensures c.in_ok-write_text.ensures

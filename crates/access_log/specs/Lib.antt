@@ -1,0 +1,7 @@
+pub mod Members
+pub mod Tokens
+pub mod Utc
+pub mod Excerpt
+pub mod Room
+pub mod Apps
+pub mod Line

@@ -1,0 +1,112 @@
+-- What a line of the log says of an event, and its text: a JSON object, and a line feed.
+use Rattle.std.specs.Prelude.{◌≡◌, ℕ, ◌≤◌, List, [], ◌∷◌, ◌++◌, codes, length, All}
+use Rattle.std.specs.Prelude.{nat_lt, if◌then◌else◌, option_copied}
+use Rattle.json.specs.Print.{print}
+use Rattle.json.specs.Token.{Token, begin_object, end_object}
+use Rattle.access_log.specs.Apps.{apps_members}
+use Rattle.access_log.specs.Members.{text_member, number_member, optional_member}
+use Rattle.access_log.specs.Members.{count_member, excerpt_members}
+use Rattle.access_log.specs.Utc.{utc_text}
+use Rattle.access_log.specs.declared.event.Connection.{Connection}
+use Rattle.access_log.specs.declared.event.Counter.{Counter}
+use Rattle.access_log.specs.declared.event.LogEvent.{LogEvent}
+use Rattle.access_log.specs.declared.event.LogEvent.TheVariants as log
+use Rattle.access_log.specs.declared.event.Load.{Load}
+use Rattle.access_log.specs.declared.event.Start.{Start}
+use Rattle.access_log.specs.declared.excerpt.Excerpt.{Excerpt}
+use Rattle.access_log.specs.declared.utc.Utc.{Utc}
+
+-- ---- the members of an event, in their order
+
+abbrev pub kind_member : List ℕ → List Token
+kind_member kind = text_member (codes "kind") kind
+
+abbrev pub path_members : Excerpt → List Token
+path_members path = excerpt_members (codes "path") (codes "path_left_out") path
+
+abbrev pub start_members : Start → List Token
+start_members start =
+    kind_member (codes "start") ++ path_members start.manifest
+    ++ number_member (codes "port") start.port
+    ++ number_member (codes "operator") start.operator
+    ++ optional_member (codes "refusal") (option_copied start.refusal)
+
+abbrev pub load_members : Load → List Token
+load_members load =
+    kind_member (codes "load") ++ path_members load.path
+    ++ count_member (codes "generation") load.generation
+    ++ optional_member (codes "refusal") (option_copied load.refusal)
+
+-- what was replied, if anything was
+abbrev pub reply_members : Connection → List Token
+reply_members connection =
+    count_member (codes "status") connection.status
+    ++ optional_member (codes "refusal") (option_copied connection.refusal)
+    ++ optional_member (codes "cause") (option_copied connection.cause)
+    ++ count_member (codes "generation") connection.generation
+    ++ number_member (codes "bytes") connection.bytes
+    ++ number_member (codes "micros") connection.micros
+
+abbrev pub connection_members : Connection → List Token
+connection_members connection =
+    kind_member (codes "connection")
+    ++ text_member (codes "peer") connection.peer.now
+    ++ optional_member (codes "forwarded") (option_copied connection.forwarded)
+    ++ reply_members connection
+    ++ apps_members connection.apps.now
+
+abbrev pub unaccepted_members : List ℕ → List Token
+unaccepted_members reason =
+    kind_member (codes "unaccepted") ++ text_member (codes "reason") reason
+
+abbrev pub lost_members : ℕ → List Token
+lost_members lines = kind_member (codes "lost") ++ number_member (codes "lines") lines
+
+abbrev pub counter_members : Counter → List Token
+counter_members counter =
+    kind_member (codes "counter")
+    ++ text_member (codes "array") counter.array.now
+    ++ number_member (codes "index") counter.index
+    ++ number_member (codes "value") counter.value
+
+abbrev pub said : LogEvent → List Token
+said (log.Start start) = start_members start
+said (log.Load load) = load_members load
+said (log.Connection connection) = connection_members connection
+said (log.Unaccepted reason) = unaccepted_members reason.now
+said (log.Lost lines) = lost_members lines
+said log.Stop = kind_member (codes "stop")
+said (log.Counter counter) = counter_members counter
+
+-- ---- the line
+
+-- an object begins with the time
+abbrev pub begun_at : Utc → List Token
+begun_at time = (begin_object ∷ []) ++ text_member (codes "time") (utc_text time)
+
+abbrev pub object_at : Utc → List Token → List Token
+object_at time members = begun_at time ++ members ++ (end_object ∷ [])
+
+abbrev pub with_line_feed : List Token → List ℕ
+with_line_feed tokens = print tokens ++ 10 ∷ []
+
+abbrev pub line_with : Utc → List Token → List ℕ
+line_with time members = with_line_feed (object_at time members)
+
+-- What stands in the place of a line of so many bytes. None of a connection comes to that by what a
+-- server tells: its apps have 3400 bytes, and what stands before them some 430.
+abbrev pub too_long_members : ℕ → List Token
+too_long_members bytes = kind_member (codes "too-long") ++ number_member (codes "bytes") bytes
+
+-- a line of more than 4096 bytes is left out, and how many it would have is told
+abbrev pub line_or_length : Utc → List ℕ → List ℕ
+line_or_length time whole =
+    if nat_lt 4096 (length whole) then line_with time (too_long_members (length whole)) else whole
+
+-- the line of an event
+abbrev pub event_line : Utc → LogEvent → List ℕ
+event_line time e = line_or_length time (line_with time (said e))
+
+-- one line: it has a line feed at its end, and no other control character
+abbrev pub IsOneLine : List ℕ → Type 0
+IsOneLine line = (text : List ℕ) × (line ≡ text ++ 10 ∷ []) × All (λ b. 32 ≤ b) text

@@ -1,0 +1,23 @@
+//! The lines of a server's log: a JSON object (RFC 8259) each, which says what happened and when.
+//!
+//! What an event says is defined as tokens of JSON, in a fixed order, and its line is what the
+//! kit's writer prints of them, with a line feed behind. A line has at most 4096 bytes and no
+//! control character but its line feed. So much of a client's request is told as has room: a text
+//! is cut, and of many apps the first are told, and what is left out stands there as a number.
+#![tactic(auto)]
+
+mod apps;
+mod asked;
+mod event;
+mod events;
+mod excerpt;
+mod line;
+mod member;
+mod room;
+mod utc;
+
+pub use asked::{AskedApp, Outcome};
+pub use event::{Connection, Counter, Load, LogEvent, Start};
+pub use excerpt::Excerpt;
+pub use line::log_line;
+pub use utc::Utc;
