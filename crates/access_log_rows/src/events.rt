@@ -1,0 +1,183 @@
+//! Each kind of event, and its line.
+
+use crate::given::{AT, NOTES, answered, line_at};
+use access_log::{AskedApp, Connection, Counter, Excerpt, Load, LogEvent, Outcome, Start};
+use std::alloc::Global;
+use std::test::Fail;
+
+/// The lines at 2026-11-24T12:19:16.042Z, each behind its time and up to its line feed. A line is
+/// broken where it is too wide for this page.
+const LINES: &str = r##"
+"kind":"start","path":"m.toml","port":8080,"operator":8081}
+
+"kind":"start","path":"m.toml","port":80,"operator":8081,"refusal":"B6 Bind"}
+
+"kind":"load","path":"next.toml","generation":2}
+
+"kind":"load","path":"a\tb","path_left_out":9,"refusal":"M2 Shape"}
+
+"kind":"unaccepted","reason":"Too many open files (os error 24)"}
+
+"kind":"lost","lines":18446744073709551615}
+
+"kind":"stop"}
+
+"kind":"counter","array":"canary","index":3,"value":18446744073709551615}
+
+"kind":"connection","peer":"[2001:db8::1]:443","status":411,"refusal":"P4 Length","bytes":111,
+"micros":9}
+
+"kind":"connection","peer":"[fe80::1%2]:80","refusal":"P8 Device","cause":"time-out","bytes":0,
+"micros":0}
+
+"kind":"connection","peer":"127.0.0.1:41248","forwarded":"203.0.113.7","status":200,
+"generation":5,"bytes":566,"micros":68,"apps":[{"appid":"notes","version":"1.0","bucket":9999,
+"named":true,"choice":2,"release":"1.1"}]}
+
+"kind":"connection","peer":"127.0.0.1:41248","forwarded":"203.0.113.7","status":200,
+"generation":5,"bytes":566,"micros":68,"apps":[{"appid":"q\"\\é","bucket":0,"named":false,
+"unknown":true,"event":"[{\"a\":\"\\n\"}]"},{"appid":"editor","version":"","bucket":7,
+"named":false},{"appid":"\u0001\n/","bucket":7,"named":false,"choice":0,"event":"\t{}",
+"event_left_out":12}]}
+"##;
+
+fn whole(text: &str) -> Excerpt<'_> {
+    Excerpt { text, left_out: 0 }
+}
+
+fn start(refusal: Option<&'static str>, port: u16) -> LogEvent<'static> {
+    LogEvent::Start(Start {
+        manifest: whole("m.toml"),
+        port,
+        operator: 8081,
+        refusal,
+    })
+}
+
+fn load(
+    path: Excerpt<'static>,
+    generation: u64,
+    refusal: Option<&'static str>,
+) -> LogEvent<'static> {
+    LogEvent::Load(Load {
+        path,
+        generation,
+        refusal,
+    })
+}
+
+fn unanswered(
+    peer: &'static str,
+    status: u16,
+    refusal: &'static str,
+    cause: Option<&'static str>,
+    bytes: u64,
+) -> LogEvent<'static> {
+    LogEvent::Connection(Connection {
+        peer,
+        forwarded: None,
+        status,
+        refusal: Some(refusal),
+        cause,
+        generation: 0,
+        bytes,
+        micros: if status == 0 { 0 } else { 9 },
+        apps: &[],
+    })
+}
+
+fn app(
+    appid: &'static str,
+    version: Option<&'static str>,
+    bucket: u16,
+    outcome: Outcome<'static>,
+    event: Option<Excerpt<'static>>,
+) -> AskedApp<'static> {
+    AskedApp {
+        appid,
+        version,
+        bucket,
+        named: false,
+        outcome,
+        event,
+    }
+}
+
+// The lines of the server's own events, and of refused connections.
+fn told(alloc: Global) -> Result<String, Fail> {
+    let cut = Excerpt {
+        text: "a\tb",
+        left_out: 9,
+    };
+    let mut lines = String::new(alloc);
+    for event in [
+        start(None, 8080),
+        start(Some("B6 Bind"), 80),
+        load(whole("next.toml"), 2, None),
+        load(cut, 0, Some("M2 Shape")),
+        LogEvent::Unaccepted("Too many open files (os error 24)"),
+        LogEvent::Lost(18446744073709551615),
+        LogEvent::Stop,
+        LogEvent::Counter(Counter {
+            array: "canary",
+            index: 3,
+            value: 18446744073709551615,
+        }),
+        unanswered("[2001:db8::1]:443", 411, "P4 Length", None, 111),
+        unanswered("[fe80::1%2]:80", 0, "P8 Device", Some("time-out"), 0),
+    ] {
+        lines.push_str(line_at(alloc, &AT, &event)?.as_str())?;
+    }
+    Ok(lines)
+}
+
+// Those of connections whose requests were answered.
+fn answers(alloc: Global) -> Result<String, Fail> {
+    let cut = Excerpt {
+        text: "\t{}",
+        left_out: 12,
+    };
+    let apps = [
+        app(
+            "q\"\\é",
+            None,
+            0,
+            Outcome::Unknown,
+            Some(whole("[{\"a\":\"\\n\"}]")),
+        ),
+        app("editor", Some(""), 7, Outcome::Unasked, None),
+        app("\u{1}\n/", None, 7, Outcome::NoUpdate, Some(cut)),
+    ];
+    let mut lines = line_at(alloc, &AT, &answered(&[NOTES]))?;
+    lines.push_str(line_at(alloc, &AT, &answered(&apps))?.as_str())?;
+    Ok(lines)
+}
+
+// The lines as they stand in the table.
+fn as_rows(alloc: Global, lines: &str) -> Result<String, Fail> {
+    let mut rows = String::new(alloc);
+    for line in lines.lines() {
+        let rest = line.strip_prefix("{\"time\":\"2026-11-24T12:19:16.042Z\",");
+        rows.push_str(rest.ok_or("a line that begins with the time")?)?;
+        rows.push('\n')?;
+    }
+    Ok(rows)
+}
+
+// The table, with its broken lines whole.
+fn rows(alloc: Global) -> Result<String, Fail> {
+    let joined = LINES.trim().replace(alloc, "\n\n", "\u{2}")?;
+    let joined = joined.replace(alloc, "\n", "")?;
+    let mut rows = joined.replace(alloc, "\u{2}", "\n")?;
+    rows.push('\n')?;
+    Ok(rows)
+}
+
+#[test]
+fn each_event_has_its_line(rt: HostRuntime) -> Result<(), Fail> {
+    let mut lines = told(rt.alloc())?;
+    lines.push_str(answers(rt.alloc())?.as_str())?;
+    let found = as_rows(rt.alloc(), &lines)?;
+    assert!(rt; found == rows(rt.alloc())?, "{found}");
+    Ok(())
+}

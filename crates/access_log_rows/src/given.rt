@@ -1,0 +1,47 @@
+//! What the tests are given: a time, an app, a connection, and the line of an event.
+
+use access_log::{AskedApp, Connection, LogEvent, Outcome, Utc, log_line};
+use std::alloc::Global;
+use std::io::{self, ErrorKind};
+
+/// 2026-11-24T12:19:16.042Z
+pub(crate) const AT: Utc = Utc {
+    year: 2026,
+    month: 11,
+    day: 24,
+    hour: 12,
+    minute: 19,
+    second: 16,
+    millis: 42,
+};
+
+/// An app that is offered a release.
+pub(crate) const NOTES: AskedApp<'static> = AskedApp {
+    appid: "notes",
+    version: Some("1.0"),
+    bucket: 9999,
+    named: true,
+    outcome: Outcome::Offered(2, "1.1"),
+    event: None,
+};
+
+/// A connection by way of a proxy, whose request was answered.
+pub(crate) fn answered<'a>(apps: &'a [AskedApp<'a>]) -> LogEvent<'a> {
+    LogEvent::Connection(Connection {
+        peer: "127.0.0.1:41248",
+        forwarded: Some("203.0.113.7"),
+        status: 200,
+        refusal: None,
+        cause: None,
+        generation: 5,
+        bytes: 566,
+        micros: 68,
+        apps,
+    })
+}
+
+/// The line of an event.
+pub(crate) fn line_at(alloc: Global, at: &Utc, event: &LogEvent<'_>) -> io::Result<String> {
+    let line = log_line(alloc, at, event)?;
+    String::from_utf8(line).map_err(|_| io::Error::from(ErrorKind::InvalidData))
+}

@@ -1,0 +1,33 @@
+//! Moments by the second after 1970 began, as RFC 3339 has them.
+
+use crate::given::line_at;
+use access_log::{LogEvent, Utc};
+use std::test::Fail;
+
+const ROWS: &[(u64, u16, &str)] = &[
+    (0, 0, "1970-01-01T00:00:00.000Z"),
+    (1, 7, "1970-01-01T00:00:01.007Z"),
+    (86399, 999, "1970-01-01T23:59:59.999Z"),
+    (86400, 10, "1970-01-02T00:00:00.010Z"),
+    (951782399, 0, "2000-02-28T23:59:59.000Z"),
+    (951782400, 0, "2000-02-29T00:00:00.000Z"),
+    (951868800, 0, "2000-03-01T00:00:00.000Z"),
+    (1167609600, 0, "2007-01-01T00:00:00.000Z"),
+    (1795522756, 42, "2026-11-24T12:19:16.042Z"),
+    (4107542399, 0, "2100-02-28T23:59:59.000Z"),
+    (4107542400, 0, "2100-03-01T00:00:00.000Z"),
+    (253402300799, 999, "9999-12-31T23:59:59.999Z"),
+];
+
+#[test]
+fn times_are_those_of_the_calendar(rt: HostRuntime) -> Result<(), Fail> {
+    for (seconds, millis, text) in ROWS {
+        let at = Utc::of_unix(*seconds, *millis).ok_or("a year up to 9999")?;
+        let line = line_at(rt.alloc(), &at, &LogEvent::Stop)?;
+        let wanted = format!(in rt.alloc(); "{{\"time\":\"{text}\",\"kind\":\"stop\"}}\n")?;
+        assert!(rt; line == wanted, "{seconds}: {line}");
+    }
+    assert!(rt; Utc::of_unix(253402300800, 0).is_none());
+    assert!(rt; Utc::of_unix(u64::MAX, 0).is_none());
+    Ok(())
+}
