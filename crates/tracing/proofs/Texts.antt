@@ -1,25 +1,15 @@
--- The text of an instruction is its line without the line feed; and the slots of a program.
+-- The slots of a program, and the line of a step.
 use Rattle.std.proofs.Common.{◌≡◌, ℕ, zero, suc, ◌+◌, ◌<◌, List, [], ◌∷◌, ◌++◌, length, take}
-use Rattle.std.proofs.Common.{codes, ap, ◌∙◌, refl, arith, add-one, append_assoc}
+use Rattle.std.proofs.Common.{ap, ◌∙◌, refl, arith, add-one, append_assoc}
 use Rattle.std.proofs.Common.{Option, Some, IsSome}
 use Rattle.std.proofs.lemmas.Bool.{false≢true}
 use Rattle.bpf_insn.specs.declared.insn.Insn.{Insn}
 use Rattle.bpf_insn.specs.Program.{Program, at}
-use Rattle.bpf_text.specs.Listing.{line_of, text_behind}
-use Rattle.bpf_text.specs.Arguments.{mnemonic_of, arguments_of}
-use Rattle.bpf_text.specs.Words.{word_of}
 use Rattle.bpf_semantics.specs.Program.{ShapedProgram, shaped}
 use Rattle.cells.specs.Arrays.{AppShape}
 use Rattle.bpf_semantics.specs.State.{State}
 use Rattle.cells.specs.declared.event.CellEvent.{CellEvent}
 use Rattle.tracing.specs.Lines.{step_line, line_between}
-
-pub line_ends : (i : Insn) → (front : List ℕ) × (line_of i ≡ front ++ 10 ∷ [])
-line_ends i =
-    let x = text_behind (codes " ") ((arguments_of i).first) in
-    let y = text_behind (codes ", ") ((arguments_of i).second) in
-    let z = text_behind (codes ", ") ((arguments_of i).third) in
-    (word_of (mnemonic_of i) ++ x ++ y ++ z, refl)
 
 next_slot : (p : Program) (s : ℕ) → s < length p → take (suc s) p ≡ take s p ++ at p s ∷ []
 next_slot [] s within = absurd (omega (arith, within))

@@ -1,7 +1,7 @@
 -- The line that tells one step of a run: slot and instruction, and behind a semicolon each what a
 -- counter was asked and replied, the register that was written, and the bytes of the stack that
 -- were, as a number.
-use Rattle.std.specs.Prelude.{ℕ, ◌+◌, ◌-◌, ℤ, List, [], ◌++◌, length, take, codes, Bool, ◌&&◌}
+use Rattle.std.specs.Prelude.{ℕ, ◌+◌, ◌-◌, ℤ, List, [], ◌++◌, codes, Bool, ◌&&◌}
 use Rattle.std.specs.Prelude.{nat_le, nat_lt, Option, Some, None}
 use Rattle.std.specs.Fmt.{decimal}
 use Rattle.std.specs.List.{find}
@@ -10,7 +10,7 @@ use Rattle.bpf_insn.specs.declared.insn.Insn.TheVariants.{StoreImm, Store}
 use Rattle.bpf_insn.specs.declared.reg.Reg.{Reg}
 use Rattle.bpf_insn.specs.Program.{at, ◌>>=◌}
 use Rattle.bpf_insn.specs.Table.{number_of}
-use Rattle.bpf_text.specs.Listing.{line_of}
+use Rattle.bpf_text.specs.Remarks.{bare_line}
 use Rattle.bpf_verify.specs.bpf_rules.Reads.{writes}
 use Rattle.bpf_semantics.specs.Memory.{address_of, stack_top}
 use Rattle.bpf_semantics.specs.Program.{ShapedProgram}
@@ -21,10 +21,6 @@ use Rattle.cells.specs.declared.array.CellArray.{CellArray}
 use Rattle.cells.specs.declared.event.CellEvent.{CellEvent}
 use Rattle.cells.specs.declared.event.CellOp.{CellOp}
 use Rattle.cells.specs.declared.event.CellOp.TheVariants as op
-
--- the text of an instruction: its line in a listing, without the line feed that ends it
-abbrev pub insn_text : Insn → List ℕ
-insn_text i = take (length (line_of i) - 1) (line_of i)
 
 -- ---- counters
 
@@ -88,7 +84,7 @@ written_part i t = register_part (writes i) (writes i >>= λ r. register t r)
 -- the instruction at a slot, what it asked, and what it left
 abbrev pub step_line : AppShape → ℕ → Insn → Option CellEvent → State → List ℕ
 step_line shape slot i asked t =
-    decimal slot ++ codes ": " ++ insn_text i ++ event_part shape asked ++ written_part i t
+    decimal slot ++ codes ": " ++ bare_line i ++ event_part shape asked ++ written_part i t
     ++ stored_part i t ++ codes "\n"
 
 abbrev pub line_if : AppShape → ℕ → Option Insn → Option CellEvent → State → List ℕ

@@ -43,12 +43,12 @@ pub fn trace(alloc: Global, program: &Verified, attrs: Arc<Attrs>) -> Result<Tra
         let slot = run.slot();
         let insn = *program.insn(slot);
         match run.step(&code, shape, &cells, &mut pass) {
-            Observed::Going => push_step(alloc, &mut text, shape, slot, insn, None, &run)?,
+            Observed::Going => push_step(&mut text, shape, slot, insn, None, &run)?,
             Observed::Event(event) => {
-                push_step(alloc, &mut text, shape, slot, insn, Some(event), &run)?;
+                push_step(&mut text, shape, slot, insn, Some(event), &run)?;
             }
             Observed::Done(choice) => {
-                push_step(alloc, &mut text, shape, slot, insn, None, &run)?;
+                push_step(&mut text, shape, slot, insn, None, &run)?;
                 return Ok(TracedRun {
                     text,
                     choice: choice as u8,

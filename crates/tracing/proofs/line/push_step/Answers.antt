@@ -1,6 +1,7 @@
 use Rattle.std.proofs.Common.{◌++◌, codes, string_bytes}
 use Rattle.std.specs.Fmt.{decimal}
 use Rattle.reference.specs.Marks.{state_of}
+use Rattle.bpf_text.specs.Remarks.{bare_line}
 use Rattle.tracing.specs.Lines as specs
 use Rattle.tracing.proofs.Texts.{gathered}
 use Rattle.tracing.proofs.line.push_step.Goals as goal
@@ -12,10 +13,10 @@ returns c =
       c.in_ok-push_stored.ensures,
       c.in_ok-push_written.ensures,
       c.in_ok-push_event.ensures,
-      c.in_ok-push_insn.ensures,
+      c.in_ok-push_bare_line.ensures,
       c.in_ok-write.ensures.bytes,
     )
     (gathered (string_bytes c.args.text.now) (decimal c.args.slot ++ codes ": ")
-    (specs.insn_text c.args.insn) (specs.event_part c.args.shape.now c.args.asked)
+    (bare_line c.args.insn) (specs.event_part c.args.shape.now c.args.asked)
     (specs.written_part c.args.insn (state_of c.args.run.now))
     (specs.stored_part c.args.insn (state_of c.args.run.now)) (codes "\n"))
