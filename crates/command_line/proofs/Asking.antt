@@ -1,14 +1,19 @@
 -- A command whose words lack something asks for nothing.
 use Rattle.std.proofs.Common.{ℕ, List, codes}
 use Rattle.clap.specs.Words.{Text, Row}
-use Rattle.std.specs.Prelude.{Some}
+use Rattle.std.proofs.Common.{◌∙◌, sym, subst}
+use Rattle.std.specs.Prelude.{Option, Some, option_copied}
+use Rattle.command_line.specs.AppOptions.{HasTold, IsPlace}
+use Rattle.command_line.specs.declared.told.ToldApp.{ToldApp}
+use Rattle.command_line.specs.declared.request.AskedRun.{AskedRun}
 use Rattle.command_line.specs.declared.request.DeclaredShape.{DeclaredShape}
 use Rattle.command_line.specs.declared.request.CommandRequest.TheVariants as request
 use Rattle.command_line.specs.declared.verb.Verb.TheVariants as verb
 use Rattle.operator_request.specs.declared.request.OperatorRequest.TheVariants as sent
 use Rattle.command_line.specs.declared.request.Plan.{Plan}
-use Rattle.command_line.specs.Words.{VerbAsksNothing, HasBucket, HasPlan}
-use Rattle.command_line.specs.Words.{HasShape, HasShort, HasText}
+use Rattle.command_line.specs.Values.{HasPlan}
+use Rattle.command_line.specs.Words.{AsksToRun, VerbAsksNothing}
+use Rattle.command_line.specs.Values.{HasShape, HasShort, HasText}
 
 pub assembles_nothing : (rows : List Row)
     → ((text out : Text) → HasText (codes "IN") rows text → HasText (codes "OUT") rows out → ⊥)
@@ -28,12 +33,19 @@ pub verifies_nothing : (rows : List Row)
 verifies_nothing rows lacks (request.Verify path shape) asks = lacks path.now shape asks.0 asks.1
 verifies_nothing rows lacks asked asks = asks
 
-pub runs_nothing : (rows : List Row)
-    → ((path : Text) (shape : DeclaredShape) (bucket : ℕ) → HasText (codes "IN") rows path
-    → HasShape rows shape → HasBucket rows bucket → ⊥) → VerbAsksNothing (Some verb.Run) rows
-runs_nothing rows lacks (request.Run path shape version bucket) asks =
-    lacks path.now shape bucket asks.0 asks.1 asks.3
+pub runs_nothing : (rows : List Row) → ((run : AskedRun) → AsksToRun rows run → ⊥)
+    → VerbAsksNothing (Some verb.Run) rows
+runs_nothing rows lacks (request.Run run) asks = lacks run asks.0
+runs_nothing rows lacks (request.Trace run) asks = lacks run asks.0
 runs_nothing rows lacks asked asks = asks
+
+-- the cohort that the words tell has no place for any bucket
+pub no_place : (rows : List Row) (app : ToldApp) → HasTold rows app
+    → ((bucket : Option ℕ) → IsPlace rows (option_copied app.cohort) bucket → ⊥)
+    → VerbAsksNothing (Some verb.Run) rows
+no_place rows app told lacks = runs_nothing rows (λ run asks.
+    lacks run.bucket (subst (λ (cohort : Option Text). IsPlace rows cohort run.bucket)
+    (asks.told.attributes.cohort ∙ sym told.attributes.cohort) asks.place))
 
 pub serves_nothing : (rows : List Row)
     → ((manifest : Text) (plan : Plan) → HasText (codes "MANIFEST") rows manifest

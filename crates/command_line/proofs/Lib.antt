@@ -2,3 +2,5 @@ mod Built
 mod Reading
 mod Asking
 mod Parsed
+mod Attributes
+mod Lacking

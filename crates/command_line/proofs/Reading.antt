@@ -19,7 +19,7 @@ use Rattle.clap.specs.Simple.{app_of_fields}
 use Rattle.clap.specs.Words.{Text, App, Shape, AddsSubcommand, app_of, shape_of, new_app}
 use Rattle.clap.specs.Words.{with_subcommand, first_value, one_text, first_of, rows_of}
 use Rattle.clap.proofs.WalkLemmas.{first_value-rows, one_text-rows}
-use Rattle.command_line.specs.Words.{HasNumber, HasText}
+use Rattle.command_line.specs.Values.{HasNumber, HasText}
 
 pub text_read : (f : Found) (id : Text) (r : Option (Bor Text))
     → option_map (λ s. s.now) r ≡ first_value f id

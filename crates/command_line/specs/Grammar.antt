@@ -1,6 +1,6 @@
 -- The commands of the command line, with their arguments.
 use Rattle.std.specs.Prelude.{ℕ, pos, List, [], ◌∷◌, map, Some, true, false, codes}
-use Rattle.clap.specs.declared.builder.action.ArgAction.TheVariants.{Set, SetTrue}
+use Rattle.clap.specs.declared.builder.action.ArgAction.TheVariants.{Append, Set, SetTrue}
 use Rattle.clap.specs.declared.builder.value_parser.ValueParser.TheVariants.{Signed}
 use Rattle.clap.specs.Simple.{Shape, new_shape}
 use Rattle.clap.specs.Words.{App, Rule, Text, new_rule}
@@ -36,12 +36,13 @@ arrays = option (codes "arrays")
 abbrev pub version : Rule
 version = option (codes "version")
 
--- `--bucket N`, 0 by default
+-- `--bucket N`
 abbrev pub bucket : Rule
-bucket = record (option (codes "bucket")) {
-  defaults = codes "0" ∷ [];
-  parser = Some (Signed (pos 0) (pos 9999));
-}
+bucket = record (option (codes "bucket")) { parser = Some (Signed (pos 0) (pos 9999)) }
+
+-- `--attr NAME=TEXT`, any number of times
+abbrev pub attr : Rule
+attr = record (option (codes "attr")) { action = Some Append }
 
 -- `--NAME N`, which has to be there, from 1
 abbrev pub number : Text → ℕ → Rule
@@ -61,9 +62,18 @@ timeout = record (option (codes "timeout")) {
   parser = Some (Signed (pos 1) (pos 3600));
 }
 
+-- `--NAME`, a flag
+abbrev pub flag : Text → Rule
+flag name = record (new_rule name) { long = Some name; action = Some SetTrue }
+
 -- `--log`
 abbrev pub log : Rule
-log = record (new_rule (codes "log")) { long = Some (codes "log"); action = Some SetTrue }
+log = flag (codes "log")
+
+-- what is told of an app that asks
+abbrev pub told : List Rule
+told = version ∷ attr ∷ flag (codes "ping") ∷ flag (codes "event") ∷ option (codes "today")
+    ∷ option (codes "installed") ∷ []
 
 -- ---- commands
 
@@ -91,7 +101,8 @@ verify_command = command (codes "verify") (file (codes "IN") ∷ releases ∷ ar
 
 abbrev pub run_command : Shape
 run_command =
-    command (codes "run") (file (codes "IN") ∷ releases ∷ arrays ∷ version ∷ bucket ∷ [])
+    command (codes "run")
+    (file (codes "IN") ∷ releases ∷ arrays ∷ bucket ∷ flag (codes "trace") ∷ told)
 
 abbrev pub replay_command : Shape
 replay_command =
@@ -124,10 +135,13 @@ verb_command Show = operator_command (codes "show")
 verb_command Stop = operator_command (codes "stop")
 verb_command Verify = verify_command
 
+abbrev pub verbs : List Verb
+verbs = Assemble ∷ Cells ∷ Check ∷ Compile ∷ verb.List ∷ Load ∷ Order ∷ Replay ∷ Run ∷ Serve ∷ Show
+    ∷ Stop ∷ Verify ∷ []
+
 -- all of them, in the order of their names
 abbrev pub commands : App
 commands = record {
   top = record (new_shape (codes "rollout")) { is_leaf = false; subcommand_required = true };
-  subs = map verb_command (Assemble ∷ Cells ∷ Check ∷ Compile ∷ verb.List ∷ Load ∷ Order ∷ Replay
-      ∷ Run ∷ Serve ∷ Show ∷ Stop ∷ Verify ∷ []);
+  subs = map verb_command verbs;
 }

@@ -1,4 +1,8 @@
 pub mod Grammar
+pub mod Values
+pub mod Apps
+pub mod AppOptions
+pub mod Misfits
 pub mod Words
 pub mod Requests
 pub use Rattle.attrs.specs as attrs

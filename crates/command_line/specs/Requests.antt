@@ -42,5 +42,5 @@ pub record TellsFault (words : List Text) (error : Error) : Type 0 where
 abbrev pub IsWordsFault : List Text → WordsFault → Type 0
 IsWordsFault words (Help page) = AskForHelp words × (kind_of page ≡ DisplayHelp)
 IsWordsFault words (Usage error) = TellsFault words error
-IsWordsFault words Nothing = AskForNothing words
+IsWordsFault words (Nothing misfit) = AskForNothing words
 IsWordsFault words Memory = Unit {0}

@@ -1,11 +1,28 @@
-//! The arguments and options that commands have.
+//! A command, and the arguments and options that commands have.
 
-ghost use Rattle.std.specs.Prelude.{◌≡◌, codes, false};
-ghost use Rattle.clap.specs.Words.{rule_of};
+ghost use Rattle.std.specs.Prelude.{◌≡◌, IfOk, codes, false, map};
+ghost use Rattle.std.specs.List.{AllByRecursion};
+ghost use Rattle.clap.specs.Words.{rule_of, shape_of};
+ghost use Rattle.clap.specs.declared.builder.command.Command.TheViews.{out-Command as fields_of};
 ghost use Rattle.command_line.specs.Grammar as grammar;
 
-use clap::{Arg, ArgAction, value_parser};
-use std::alloc::Global;
+use clap::{Arg, ArgAction, Command, value_parser};
+use std::alloc::{AllocError, Global};
+
+/// A command of these arguments, each of which it has to itself.
+pub fn command_of<'a>(
+    alloc: Global,
+    name: &'a str,
+    about: &'a str,
+    arguments: Vec<Arg<'a>>,
+) -> Result<Command<'a>, AllocError>
+    requires { AllByRecursion (λ a. a.global ≡ false) arguments.items }
+    ensures shape { IfOk result (λ c.
+        shape_of c ≡ grammar.command name.now (map rule_of arguments.entry.items)) }
+    ensures local { IfOk result (λ c. (fields_of c).has_globals ≡ false) }
+{
+    Command::new(alloc, name).about(about).args(arguments)
+}
 
 /// A word by its place, which has to be there.
 pub fn file_argument<'a>(alloc: Global, id: &'a str, help: &'a str) -> Arg<'a>
@@ -59,7 +76,7 @@ pub fn arrays_option<'a>(alloc: Global) -> Arg<'a>
         )
 }
 
-/// `--bucket N`, 0 by default.
+/// `--bucket N`.
 pub fn bucket_option<'a>(alloc: Global) -> Arg<'a>
     ensures rule { rule_of result ≡ grammar.bucket }
     ensures local { result.global ≡ false }
@@ -68,9 +85,8 @@ pub fn bucket_option<'a>(alloc: Global) -> Arg<'a>
         .long("bucket")
         .value_name("N")
         .action(ArgAction::Set)
-        .default_value("0")
         .value_parser(value_parser!(u16).range(0..=9999))
-        .help("Bucket of the app, 0 to 9999")
+        .help("Bucket of the app, 0 to 9999; the one that its cohort names, or else 0 by default")
 }
 
 /// `--NAME N`, which has to be there, from 1 to 65535.
@@ -148,4 +164,57 @@ pub fn version_option<'a>(alloc: Global) -> Arg<'a>
         .value_name("T")
         .action(ArgAction::Set)
         .help("Version of the app: one to four numbers joined by dots; absent by default")
+}
+
+/// `--attr NAME=TEXT`, any number of times.
+pub fn attr_option<'a>(alloc: Global) -> Arg<'a>
+    ensures rule { rule_of result ≡ grammar.attr }
+    ensures local { result.global ≡ false }
+{
+    Arg::new(alloc, "attr")
+        .long("attr")
+        .value_name("NAME=TEXT")
+        .action(ArgAction::Append)
+        .help("Attribute of the app: appid, brand, ap, lang, cohort or platform, each once at most")
+}
+
+/// `--NAME DAY`.
+pub fn day_option<'a>(alloc: Global, name: &'a str, help: &'a str) -> Arg<'a>
+    ensures rule { rule_of result ≡ grammar.option name.now }
+    ensures local { result.global ≡ false }
+{
+    Arg::new(alloc, name)
+        .long(name)
+        .value_name("DAY")
+        .action(ArgAction::Set)
+        .help(help)
+}
+
+/// `--today DAY`.
+pub fn today_option<'a>(alloc: Global) -> Arg<'a>
+    ensures rule { rule_of result ≡ grammar.option (codes "today") }
+    ensures local { result.global ≡ false }
+{
+    let help = "Day from 2007-01-01 on, 0 to 2919382, or its date, as 2026-12-01; 0 by default";
+    day_option(alloc, "today", help)
+}
+
+/// `--installed DAY`.
+pub fn installed_option<'a>(alloc: Global) -> Arg<'a>
+    ensures rule { rule_of result ≡ grammar.option (codes "installed") }
+    ensures local { result.global ≡ false }
+{
+    let help = "Day of the installation, 0 to 4294967294, or its date; unknown by default";
+    day_option(alloc, "installed", help)
+}
+
+/// `--NAME`.
+pub fn flag_option<'a>(alloc: Global, name: &'a str, help: &'a str) -> Arg<'a>
+    ensures rule { rule_of result ≡ grammar.flag name.now }
+    ensures local { result.global ≡ false }
+{
+    Arg::new(alloc, name)
+        .long(name)
+        .action(ArgAction::SetTrue)
+        .help(help)
 }

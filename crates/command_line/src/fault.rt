@@ -1,5 +1,6 @@
 //! Why the words of a command line are no request.
 
+use crate::option_misfit::OptionMisfit;
 use clap::Error as ClapError;
 use thiserror::Error;
 
@@ -13,10 +14,9 @@ pub enum WordsFault {
     /// The grammar doesn't take the words: what is wrong, and the usage.
     #[error("{0}")]
     Usage(ClapError),
-    /// The grammar takes them, and they ask for nothing: their arrays aren't well written.
-    #[error("error: '--arrays' wants name:width:length, or name:64:length:quota, \
-        joined by commas\n")]
-    Nothing,
+    /// The grammar takes them, and they ask for nothing: this option isn't well written.
+    #[error("error: {0}\n")]
+    Nothing(OptionMisfit),
     /// Memory was refused.
     #[error("Memory")]
     Memory,

@@ -3,19 +3,28 @@
 
 // How words are read. `grammar` says to `clap` which commands there are, with the arguments and
 // options of each, and `clap` takes the words by it, or finds their first fault. What it gives are
-// texts by their names; `words` makes a request of them, command by command, and reads the text of
-// `--arrays`, which the grammar leaves as it is.
+// texts by their names; `words` makes a request of them, command by command, and reads the texts of
+// `--arrays`, `--attr`, `--today` and `--installed`, which the grammar leaves as they are.
 
+mod app_options;
 mod arguments;
 mod fault;
 mod grammar;
+mod option_misfit;
 mod options;
+mod program_commands;
+mod program_words;
 mod request;
+mod server_commands;
+mod server_words;
+mod told;
 mod verb;
 mod words;
 
 pub use fault::WordsFault;
-pub use request::{CommandRequest, DeclaredShape, Plan};
+pub use option_misfit::OptionMisfit;
+pub use request::{AskedRun, CommandRequest, DeclaredShape, Plan};
+pub use told::ToldApp;
 pub use words::read_words;
 
 // The words of the contracts here come with them.

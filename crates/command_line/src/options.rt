@@ -1,10 +1,11 @@
 //! What the values of arguments and options are.
 
-ghost use Rattle.std.specs.Prelude.{◌≡◌, ℕ, ◌≤◌, IfNone, IfOk, IfSome, Err};
-ghost use Rattle.clap.specs.Words.{found_of, rows_of};
-ghost use Rattle.command_line.specs.Words.{HasArrays, HasBucket, HasPlan, HasReleases, HasShape};
-ghost use Rattle.command_line.specs.Words.{HasShort, HasText, LacksArrays, LacksBucket, LacksPlan};
-ghost use Rattle.command_line.specs.Words.{LacksReleases, LacksShape, LacksShort, LacksText};
+ghost use Rattle.std.specs.Prelude.{◌≡◌, ℕ, ◌≤◌, IfNone, IfOk, IfSome, Err, option_copied};
+ghost use Rattle.clap.specs.Words.{first_of, found_of, rows_of};
+ghost use Rattle.command_line.specs.Values.{HasArrays, HasBucket, HasFlag, HasPlan, HasReleases};
+ghost use Rattle.command_line.specs.Values.{HasShape};
+ghost use Rattle.command_line.specs.Values.{HasShort, HasText, LacksArrays, LacksBucket, LacksPlan};
+ghost use Rattle.command_line.specs.Values.{LacksReleases, LacksShape, LacksShort, LacksText};
 
 use crate::request::{DeclaredShape, NoRequest, Plan};
 use attrs::Bucket;
@@ -29,7 +30,7 @@ pub fn plan_of(found: &ArgMatches<'_>) -> Result<Plan, NoRequest>
         operator,
         workers,
         timeout,
-        log: found.get_flag("log"),
+        log: flag_of(found, "log"),
     })
 }
 
@@ -59,6 +60,20 @@ pub fn text_of<'a>(found: &ArgMatches<'a>, id: &str) -> Result<&'a str, NoReques
     }
 }
 
+/// The text of an option, if it stands.
+pub fn optional_text<'a>(found: &ArgMatches<'a>, id: &str) -> Option<&'a str>
+    ensures { option_copied result ≡ first_of id.now (rows_of (found_of found.now)) }
+{
+    found.get_str(id)
+}
+
+/// Whether a flag stands.
+pub fn flag_of(found: &ArgMatches<'_>, id: &str) -> bool
+    ensures { HasFlag id.now (rows_of (found_of found.now)) result }
+{
+    found.get_flag(id)
+}
+
 /// The shape that the options declare.
 pub fn shape_of(alloc: Global, found: &ArgMatches<'_>) -> Result<DeclaredShape, NoRequest>
     ensures given { IfOk result (HasShape (rows_of (found_of found.now))) }
@@ -81,7 +96,8 @@ fn releases_of(found: &ArgMatches<'_>) -> Option<u8>
     }
 }
 
-fn arrays_of(alloc: Global, found: &ArgMatches<'_>) -> Result<Vec<ArrayDeclaration>, NoRequest>
+/// The arrays that an option declares, none without it.
+pub fn arrays_of(alloc: Global, found: &ArgMatches<'_>) -> Result<Vec<ArrayDeclaration>, NoRequest>
     ensures given { IfOk result (λ v. HasArrays (rows_of (found_of found.now)) v.items) }
     ensures lacking { result ≡ Err NoRequest.Wrong → LacksArrays (rows_of (found_of found.now)) }
 {
@@ -95,7 +111,7 @@ fn arrays_of(alloc: Global, found: &ArgMatches<'_>) -> Result<Vec<ArrayDeclarati
     }
 }
 
-/// The bucket of an option, or its default.
+/// The bucket of an option.
 pub fn bucket_of(found: &ArgMatches<'_>) -> Result<Bucket, NoRequest>
     ensures given { IfOk result (HasBucket (rows_of (found_of found.now))) }
     ensures lacking { result ≡ Err NoRequest.Wrong → LacksBucket (rows_of (found_of found.now)) }

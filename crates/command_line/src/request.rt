@@ -2,6 +2,7 @@
 
 ghost use Rattle.std.specs.Prelude.{◌≤◌};
 
+use crate::told::ToldApp;
 use attrs::Bucket;
 use declarations::ArrayDeclaration;
 use operator_request::OperatorRequest;
@@ -13,6 +14,16 @@ pub struct DeclaredShape {
     pub releases: u8,
     pub arrays: Vec<ArrayDeclaration>,
     pub ghost releases_in_range: { releases ≤ 64 },
+}
+
+/// A run that is asked for: of a file's program, for one app, in this bucket or the one that its
+/// cohort names.
+#[derive(Drop)]
+pub struct AskedRun<'a> {
+    pub path: &'a str,
+    pub shape: DeclaredShape,
+    pub app: ToldApp<'a>,
+    pub bucket: Option<Bucket>,
 }
 
 /// One request of the command line.
@@ -62,13 +73,10 @@ pub enum CommandRequest<'a> {
         request: OperatorRequest<'a>,
         port: u16,
     },
-    /// Verify it, and run it for one app.
-    Run {
-        path: &'a str,
-        shape: DeclaredShape,
-        version: Option<&'a str>,
-        bucket: Bucket,
-    },
+    /// Verify a file's program, and run it.
+    Run(AskedRun<'a>),
+    /// The same, and tell each step of the run.
+    Trace(AskedRun<'a>),
 }
 
 /// How a server serves: its two ports, its workers, the seconds of a connection, and whether each

@@ -2,7 +2,7 @@ use Rattle.std.proofs.Common.{codes, ◌≡◌, ◌∙◌, ap, sym, List, Some, 
 use Rattle.std.specs.Prelude.{option_map, Err}
 use Rattle.cells.specs.Directory.{Declaration}
 use Rattle.clap.specs.Words.{found_of}
-use Rattle.command_line.specs.Words.{declared_by}
+use Rattle.command_line.specs.Values.{declared_by}
 use Rattle.command_line.proofs.Reading.{text_is, text_read}
 use Rattle.command_line.proofs.options.arrays_of.Goals as goal
 

@@ -1,6 +1,6 @@
 use Rattle.std.proofs.Common.{codes, ◌≡◌, sym, subst, ℕ, arith}
 use Rattle.clap.specs.Words.{found_of, rows_of}
-use Rattle.command_line.specs.Words.{HasBucket}
+use Rattle.command_line.specs.Values.{HasBucket}
 use Rattle.command_line.proofs.Reading.{number_missing, number_read, number_same}
 use Rattle.command_line.proofs.options.bucket_of.Goals.{in_default-via-in-Some+else-number-lt10000}
 use Rattle.command_line.proofs.options.bucket_of.Goals.{in_default-via-in_default}

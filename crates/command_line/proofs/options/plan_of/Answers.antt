@@ -1,6 +1,4 @@
-use Rattle.std.proofs.Common.{codes, rules, ◌∙◌}
-use Rattle.clap.proofs.WalkLemmas.{one_text-rows}
-use Rattle.clap.specs.Words.{found_of}
+use Rattle.std.proofs.Common.{rules}
 use Rattle.command_line.proofs.options.plan_of.Goals as goal
 
 pub returns-in_err-port-clause-lacking : goal.returns-in_err-port-clause-lacking
@@ -25,12 +23,5 @@ returns-clause-given c = record {
   operator = c.in_ok-operator.ensures.given;
   workers = c.in_ok-workers.ensures.given;
   timeout = c.in_ok-timeout.ensures.given;
-  log = record {
-    absent = λ none.
-        c.get_flag.ensures.none (one_text-rows (found_of c.args.found.now) (codes "log") ∙ none);
-    unset = λ no.
-        c.get_flag.ensures.other (one_text-rows (found_of c.args.found.now) (codes "log") ∙ no);
-    set = λ set.
-        c.get_flag.ensures.value (one_text-rows (found_of c.args.found.now) (codes "log") ∙ set);
-  };
+  log = c.flag_of.ensures;
 }

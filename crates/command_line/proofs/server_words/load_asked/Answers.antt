@@ -1,7 +1,7 @@
 use Rattle.std.proofs.Common.{rules}
 use Rattle.clap.specs.Words.{found_of, rows_of}
 use Rattle.command_line.proofs.Asking.{loads_nothing}
-use Rattle.command_line.proofs.words.load_asked.Goals as goal
+use Rattle.command_line.proofs.server_words.load_asked.Goals as goal
 
 pub returns-in_err-port-clause-nothing : goal.returns-in_err-port-clause-nothing
 returns-in_err-port-clause-nothing c = λ wrong.

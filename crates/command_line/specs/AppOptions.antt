@@ -1,0 +1,99 @@
+-- What the options say of the app that asks.
+use Rattle.std.specs.Prelude.{◌≡◌, ℕ, ◌+◌, List, [], ◌∷◌, Option, Some, None, is_some, length, drop}
+use Rattle.std.specs.Prelude.{codes, nat_eq, IsSomeAnd, if◌then◌else◌}
+use Rattle.std.specs.Option.{option_and_then, option_copied, option_or, unwrap_or}
+use Rattle.std.specs.List.{starts_with}
+use Rattle.attrs.specs.Bucket.{cohort_bucket}
+use Rattle.clap.specs.Words.{Row, Text, all_of, first_of}
+use Rattle.command_line.specs.declared.told.ToldApp.{ToldApp}
+use Rattle.command_line.specs.Values.{HasBucket, HasFlag}
+use Rattle.days.specs.Day.{day_in}
+
+-- ---- attributes
+
+-- all texts NAME=TEXT that are given
+abbrev pub given : List Row → List Text
+given rows = unwrap_or (all_of (codes "attr") rows) []
+
+-- what stands behind this beginning
+abbrev pub value_of : Text → (beginning : Text) → Option Text
+value_of text beginning =
+    if starts_with nat_eq text beginning then Some (drop (length beginning) text) else None
+
+-- the same of the first text that begins so
+abbrev pub value_in : List Text → (beginning : Text) → Option Text
+value_in [] beginning = None
+value_in (text ∷ rest) beginning = option_or (value_of text beginning) (value_in rest beginning)
+
+abbrev pub count_text : Option Text → ℕ
+count_text text = if is_some text then 1 else 0
+
+abbrev pub count_attributes : ToldApp → ℕ
+count_attributes told =
+    count_text (option_copied told.appid) + count_text (option_copied told.brand)
+    + count_text (option_copied told.ap) + count_text (option_copied told.lang)
+    + count_text (option_copied told.cohort) + count_text (option_copied told.platform)
+
+-- the app has these attributes
+pub record HasAttributes (rows : List Row) (told : ToldApp) : Type 0 where
+  pub appid : option_copied told.appid ≡ value_in (given rows) (codes "appid=")
+  pub version : option_copied told.version ≡ first_of (codes "version") rows
+  pub brand : option_copied told.brand ≡ value_in (given rows) (codes "brand=")
+  pub ap : option_copied told.ap ≡ value_in (given rows) (codes "ap=")
+  pub lang : option_copied told.lang ≡ value_in (given rows) (codes "lang=")
+  pub cohort : option_copied told.cohort ≡ value_in (given rows) (codes "cohort=")
+  pub platform : option_copied told.platform ≡ value_in (given rows) (codes "platform=")
+
+-- ---- days
+
+-- day 0 where none is given
+abbrev pub IsToday : Option Text → ℕ → Type 0
+IsToday None day = day ≡ 0
+IsToday (Some text) day = day_in 2919382 text ≡ Some day
+
+abbrev pub LacksToday : Option Text → Type 0
+LacksToday None = ⊥
+LacksToday (Some text) = day_in 2919382 text ≡ None
+
+-- unknown where none is given
+abbrev pub IsInstallDay : Option Text → Option ℕ → Type 0
+IsInstallDay None day = day ≡ None
+IsInstallDay (Some text) day = IsSomeAnd day (λ d. day_in 4294967294 text ≡ Some d)
+
+abbrev pub LacksInstalled : Option Text → Type 0
+LacksInstalled None = ⊥
+LacksInstalled (Some text) = day_in 4294967294 text ≡ None
+
+-- ---- an app
+
+-- the app is told of by these options: each text gives one of its attributes, and none twice
+pub record HasTold (rows : List Row) (told : ToldApp) : Type 0 where
+  pub attributes : HasAttributes rows told
+  pub each : length (given rows) ≡ count_attributes told
+  pub ping : HasFlag (codes "ping") rows told.ping
+  pub event : HasFlag (codes "event") rows told.event
+  pub today : IsToday (first_of (codes "today") rows) told.today
+  pub installed : IsInstallDay (first_of (codes "installed") rows) told.installed
+
+abbrev pub LacksTold : List Row → Type 0
+LacksTold rows = (told : ToldApp) → ¬ HasTold rows told
+
+-- ---- its bucket
+
+-- none of its own where the cohort names one, beside which the option may not stand; else the
+-- option's, or 0 without it
+abbrev pub IsPlaceBeside : List Row → (named : Option ℕ) → (text : Option Text) → Option ℕ → Type 0
+IsPlaceBeside rows (Some bucket) (Some text) place = ⊥
+IsPlaceBeside rows (Some bucket) None place = place ≡ None
+IsPlaceBeside rows None (Some text) place = IsSomeAnd place (HasBucket rows)
+IsPlaceBeside rows None None place = place ≡ Some 0
+
+abbrev pub LacksPlaceBeside : List Row → (named : Option ℕ) → (text : Option Text) → Type 0
+LacksPlaceBeside rows named text = (place : Option ℕ) → ¬ IsPlaceBeside rows named text place
+
+abbrev pub IsPlace : List Row → (cohort : Option Text) → Option ℕ → Type 0
+IsPlace rows cohort place =
+    IsPlaceBeside rows (option_and_then cohort_bucket cohort) (first_of (codes "bucket") rows) place
+
+abbrev pub LacksPlace : List Row → (cohort : Option Text) → Type 0
+LacksPlace rows cohort = (place : Option ℕ) → ¬ IsPlace rows cohort place

@@ -1,0 +1,44 @@
+-- The app that the words tell of, as its request would: it asks for an update at the first second
+-- of a day.
+use Rattle.std.specs.Prelude.{ℕ, ◌+◌, ◌*◌, ℤ, pos, [], Option, Some, None, option_copied}
+use Rattle.std.specs.Prelude.{unwrap_or, true}
+use Rattle.attrs.specs.Attributes.{Attributes}
+use Rattle.attrs.specs.Facts.{attributes_of}
+use Rattle.attrs.specs.Moment.{first_second}
+use Rattle.attrs.specs.declared.facts.AppFacts.{AppFacts}
+use Rattle.attrs.specs.declared.facts.RequestFacts.{RequestFacts}
+use Rattle.command_line.specs.declared.told.ToldApp.{ToldApp}
+
+-- what its request says of it; an appid that isn't told is empty
+abbrev pub app_facts : ToldApp → AppFacts
+app_facts told = record {
+  appid = unwrap_or (option_copied told.appid) [];
+  version = option_copied told.version;
+  brand = option_copied told.brand;
+  ap = option_copied told.ap;
+  lang = option_copied told.lang;
+  cohort = option_copied told.cohort;
+  installdate = told.installed;
+  updatecheck = true;
+  ping = told.ping;
+  event = told.event;
+}
+
+abbrev pub request_facts : ToldApp → RequestFacts
+request_facts told = record {
+  requestid = None;
+  sessionid = None;
+  platform = option_copied told.platform;
+}
+
+abbrev pub moment : ToldApp → ℤ
+moment told = pos (first_second + 86400 * told.today)
+
+-- in a bucket of its own, or else where its cohort puts it
+abbrev pub placed : Option ℕ → Attributes → Attributes
+placed None a = a
+placed (Some bucket) a = record a { context = record a.context { bucket = bucket } }
+
+abbrev pub attributes_told : ToldApp → (bucket : Option ℕ) → Attributes
+attributes_told told bucket =
+    placed bucket (attributes_of (app_facts told) (request_facts told) (moment told))

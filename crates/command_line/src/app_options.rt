@@ -1,0 +1,222 @@
+//! What the options say of the app that asks: its attributes, its bucket and its days.
+
+ghost use Rattle.std.specs.Prelude.{◌≡◌, ◌≤◌, Err, IfOk, None, Some, codes, length, map};
+ghost use Rattle.std.specs.Option.{option_and_then, option_copied};
+ghost use Rattle.attrs.specs.Bucket.{cohort_bucket};
+ghost use Rattle.clap.specs.Words.{first_of, found_of, rows_of};
+ghost use Rattle.command_line.specs.AppOptions as specs;
+ghost use Rattle.command_line.specs.Values.{HasFlag};
+ghost use Rattle.days.specs.Day.{day_in};
+
+use crate::options::{bucket_of, flag_of, optional_text};
+use crate::request::NoRequest;
+use crate::told::ToldApp;
+use attrs::{Bucket, cohort_bucket};
+use clap::ArgMatches;
+use days::day_in;
+
+/// The last day that a moment can have, 9999-12-31.
+const LAST_DAY: u32 = 2919382;
+
+/// The last day that an app can be installed on: the next number stands for an unknown one.
+const LAST_INSTALLED: u32 = 4294967294;
+
+/// The app of which the options tell.
+pub fn told_of<'a>(found: &ArgMatches<'a>) -> Result<ToldApp<'a>, NoRequest>
+    ensures given { IfOk result (specs.HasTold (rows_of (found_of found.now))) }
+    ensures lacking { result ≡ Err NoRequest.Wrong
+        → specs.LacksTold (rows_of (found_of found.now)) }
+{
+    let today = today_of(found)?;
+    let installed = installed_of(found)?;
+    let told = described(found, today, installed);
+    let given = count_given(found);
+    let counted = count_attributes(&told);
+    // Each text gives one of the attributes, and none is given twice.
+    if given == counted {
+        Ok(told)
+    } else {
+        Err(NoRequest::Wrong)
+    }
+}
+
+// The app of these days, with the first text of each attribute.
+fn described<'a>(found: &ArgMatches<'a>, today: u32, installed: Option<u32>) -> ToldApp<'a>
+    requires { today ≤ 2919382 }
+    ensures attributes { specs.HasAttributes (rows_of (found_of found.now)) result }
+    ensures ping { HasFlag (codes "ping") (rows_of (found_of found.now)) result.ping }
+    ensures event { HasFlag (codes "event") (rows_of (found_of found.now)) result.event }
+    ensures today { result.today ≡ today }
+    ensures installed { result.installed ≡ installed }
+{
+    ToldApp {
+        appid: attribute_of(found, "appid="),
+        version: optional_text(found, "version"),
+        brand: attribute_of(found, "brand="),
+        ap: attribute_of(found, "ap="),
+        lang: attribute_of(found, "lang="),
+        cohort: attribute_of(found, "cohort="),
+        platform: attribute_of(found, "platform="),
+        ping: flag_of(found, "ping"),
+        event: flag_of(found, "event"),
+        today,
+        installed,
+    }
+}
+
+// ---- attributes
+
+// How many of the attributes the words give.
+fn count_attributes(told: &ToldApp<'_>) -> usize
+    ensures { result ≡ specs.count_attributes told.now }
+{
+    count(told.appid)
+        + count(told.brand)
+        + count(told.ap)
+        + count(told.lang)
+        + count(told.cohort)
+        + count(told.platform)
+}
+
+fn count(text: Option<&str>) -> usize
+    ensures value { result ≡ specs.count_text (option_copied text.entry) }
+    ensures limit { result ≤ 1 }
+{
+    if text.is_some() { 1 } else { 0 }
+}
+
+// How many texts NAME=TEXT there are.
+fn count_given(found: &ArgMatches<'_>) -> usize
+    ensures { result ≡ length (specs.given (rows_of (found_of found.now))) }
+{
+    match found.get_strs("attr") {
+        Some(given) => given.len(),
+        None => 0,
+    }
+}
+
+// The text behind the first NAME= of this name.
+fn attribute_of<'a>(found: &ArgMatches<'a>, name: &str) -> Option<&'a str>
+    ensures { option_copied result
+        ≡ specs.value_in (specs.given (rows_of (found_of found.now))) name.now }
+{
+    match found.get_strs("attr") {
+        Some(given) => value_in(given, name),
+        None => None,
+    }
+}
+
+fn value_in<'a>(given: &[&'a str], name: &str) -> Option<&'a str>
+    ensures { option_copied result
+        ≡ specs.value_in (map (λ text. text.now) given.now) name.now }
+{
+    for text in given {
+        if let Some(value) = value_of(*text, name) {
+            return Some(value);
+        }
+    }
+    None
+}
+
+fn value_of<'a>(text: &'a str, name: &str) -> Option<&'a str>
+    ensures { option_copied result ≡ specs.value_of text.now name.now }
+{
+    text.strip_prefix(name)
+}
+
+// ---- days
+
+/// The day of the moment, 0 where the words tell none.
+pub fn today_of(found: &ArgMatches<'_>) -> Result<u32, NoRequest>
+    ensures given { IfOk result
+        (specs.IsToday (first_of (codes "today") (rows_of (found_of found.now)))) }
+    ensures limit { IfOk result (λ day. day ≤ 2919382) }
+    ensures lacking { result ≡ Err NoRequest.Wrong
+        → specs.LacksToday (first_of (codes "today") (rows_of (found_of found.now))) }
+{
+    today_told(optional_text(found, "today"))
+}
+
+fn today_told(text: Option<&str>) -> Result<u32, NoRequest>
+    ensures given { IfOk result (specs.IsToday (option_copied text.entry)) }
+    ensures limit { IfOk result (λ day. day ≤ 2919382) }
+    ensures lacking { result ≡ Err NoRequest.Wrong → specs.LacksToday (option_copied text.entry) }
+{
+    match text {
+        Some(text) => day_told(LAST_DAY, text),
+        None => Ok(0),
+    }
+}
+
+/// The day of the installation, where the words tell one.
+pub fn installed_of(found: &ArgMatches<'_>) -> Result<Option<u32>, NoRequest>
+    ensures given { IfOk result
+        (specs.IsInstallDay (first_of (codes "installed") (rows_of (found_of found.now)))) }
+    ensures lacking { result ≡ Err NoRequest.Wrong
+        → specs.LacksInstalled (first_of (codes "installed") (rows_of (found_of found.now))) }
+{
+    installed_told(optional_text(found, "installed"))
+}
+
+fn installed_told(text: Option<&str>) -> Result<Option<u32>, NoRequest>
+    ensures given { IfOk result (specs.IsInstallDay (option_copied text.entry)) }
+    ensures lacking { result ≡ Err NoRequest.Wrong
+        → specs.LacksInstalled (option_copied text.entry) }
+{
+    match text {
+        Some(text) => Ok(Some(day_told(LAST_INSTALLED, text)?)),
+        None => Ok(None),
+    }
+}
+
+fn day_told(most: u32, text: &str) -> Result<u32, NoRequest>
+    ensures given { IfOk result (λ day. day_in most text.now ≡ Some day) }
+    ensures limit { IfOk result (λ day. day ≤ most) }
+    ensures lacking { result ≡ Err NoRequest.Wrong → day_in most text.now ≡ None }
+{
+    match day_in(most, text) {
+        Some(day) => Ok(day),
+        None => Err(NoRequest::Wrong),
+    }
+}
+
+// ---- bucket
+
+/// The bucket of an option, or 0, of an app whose cohort names none. Of one whose cohort does,
+/// none, and the option may not stand beside it.
+pub fn place_of(found: &ArgMatches<'_>, cohort: Option<&str>) -> Result<Option<Bucket>, NoRequest>
+    ensures given { IfOk result
+        (specs.IsPlace (rows_of (found_of found.now)) (option_copied cohort.entry)) }
+    ensures lacking { result ≡ Err NoRequest.Wrong
+        → specs.LacksPlace (rows_of (found_of found.now)) (option_copied cohort.entry) }
+{
+    place_beside(found, bucket_named(cohort), optional_text(found, "bucket"))
+}
+
+fn place_beside(
+    found: &ArgMatches<'_>,
+    named: Option<u16>,
+    text: Option<&str>,
+) -> Result<Option<Bucket>, NoRequest>
+    ensures given { IfOk result
+        (specs.IsPlaceBeside (rows_of (found_of found.now)) named (option_copied text.entry)) }
+    ensures lacking { result ≡ Err NoRequest.Wrong
+        → specs.LacksPlaceBeside (rows_of (found_of found.now)) named (option_copied text.entry) }
+{
+    match (named, text) {
+        (Some(_), Some(_)) => Err(NoRequest::Wrong),
+        (Some(_), None) => Ok(None),
+        (None, Some(_)) => Ok(Some(bucket_of(found)?)),
+        (None, None) => Ok(Some(Bucket::new(0))),
+    }
+}
+
+// The bucket that a cohort names.
+fn bucket_named(cohort: Option<&str>) -> Option<u16>
+    ensures { result ≡ option_and_then cohort_bucket (option_copied cohort.entry) }
+{
+    match cohort {
+        Some(cohort) => cohort_bucket(cohort),
+        None => None,
+    }
+}

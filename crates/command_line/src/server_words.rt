@@ -1,0 +1,94 @@
+//! What the commands on manifests, and those to a server, ask for.
+
+ghost use Rattle.std.specs.Prelude.{◌≡◌, IfOk, Err, Some};
+ghost use Rattle.clap.specs.Words.{found_of, rows_of};
+ghost use Rattle.command_line.specs.Words.{VerbAsks, VerbAsksNothing};
+
+use crate::options::{number_of, plan_of, text_of};
+use crate::request::{CommandRequest, NoRequest};
+use crate::verb::Verb;
+use clap::ArgMatches;
+use operator_request::OperatorRequest;
+
+/// What `check` asks for.
+pub fn check_asked<'a>(found: &ArgMatches<'a>) -> Result<CommandRequest<'a>, NoRequest>
+    ensures asked { IfOk result (VerbAsks (Some Verb.Check) (rows_of (found_of found.now))) }
+    ensures nothing { result ≡ Err NoRequest.Wrong
+        → VerbAsksNothing (Some Verb.Check) (rows_of (found_of found.now)) }
+{
+    let manifest = text_of(found, "MANIFEST")?;
+    Ok(CommandRequest::Check { manifest })
+}
+
+/// What `replay` asks for.
+pub fn replay_asked<'a>(found: &ArgMatches<'a>) -> Result<CommandRequest<'a>, NoRequest>
+    ensures asked { IfOk result (VerbAsks (Some Verb.Replay) (rows_of (found_of found.now))) }
+    ensures nothing { result ≡ Err NoRequest.Wrong
+        → VerbAsksNothing (Some Verb.Replay) (rows_of (found_of found.now)) }
+{
+    let manifest = text_of(found, "MANIFEST")?;
+    let script = text_of(found, "SCRIPT")?;
+    Ok(CommandRequest::Replay { manifest, script })
+}
+
+/// What `serve` asks for.
+pub fn serve_asked<'a>(found: &ArgMatches<'a>) -> Result<CommandRequest<'a>, NoRequest>
+    ensures asked { IfOk result (VerbAsks (Some Verb.Serve) (rows_of (found_of found.now))) }
+    ensures nothing { result ≡ Err NoRequest.Wrong
+        → VerbAsksNothing (Some Verb.Serve) (rows_of (found_of found.now)) }
+{
+    let manifest = text_of(found, "MANIFEST")?;
+    let plan = plan_of(found)?;
+    Ok(CommandRequest::Serve { manifest, plan })
+}
+
+/// What `load` asks for.
+pub fn load_asked<'a>(found: &ArgMatches<'a>) -> Result<CommandRequest<'a>, NoRequest>
+    ensures asked { IfOk result (VerbAsks (Some Verb.Load) (rows_of (found_of found.now))) }
+    ensures nothing { result ≡ Err NoRequest.Wrong
+        → VerbAsksNothing (Some Verb.Load) (rows_of (found_of found.now)) }
+{
+    let path = text_of(found, "PATH")?;
+    let port = number_of(found, "operator")?;
+    let request = OperatorRequest::Load(path);
+    Ok(CommandRequest::Ask { request, port })
+}
+
+/// What `show` asks for.
+pub fn show_asked<'a>(found: &ArgMatches<'a>) -> Result<CommandRequest<'a>, NoRequest>
+    ensures asked { IfOk result (VerbAsks (Some Verb.Show) (rows_of (found_of found.now))) }
+    ensures nothing { result ≡ Err NoRequest.Wrong
+        → VerbAsksNothing (Some Verb.Show) (rows_of (found_of found.now)) }
+{
+    let port = number_of(found, "operator")?;
+    Ok(CommandRequest::Ask {
+        request: OperatorRequest::Show,
+        port,
+    })
+}
+
+/// What `cells` asks for.
+pub fn cells_asked<'a>(found: &ArgMatches<'a>) -> Result<CommandRequest<'a>, NoRequest>
+    ensures asked { IfOk result (VerbAsks (Some Verb.Cells) (rows_of (found_of found.now))) }
+    ensures nothing { result ≡ Err NoRequest.Wrong
+        → VerbAsksNothing (Some Verb.Cells) (rows_of (found_of found.now)) }
+{
+    let port = number_of(found, "operator")?;
+    Ok(CommandRequest::Ask {
+        request: OperatorRequest::Cells,
+        port,
+    })
+}
+
+/// What `stop` asks for.
+pub fn stop_asked<'a>(found: &ArgMatches<'a>) -> Result<CommandRequest<'a>, NoRequest>
+    ensures asked { IfOk result (VerbAsks (Some Verb.Stop) (rows_of (found_of found.now))) }
+    ensures nothing { result ≡ Err NoRequest.Wrong
+        → VerbAsksNothing (Some Verb.Stop) (rows_of (found_of found.now)) }
+{
+    let port = number_of(found, "operator")?;
+    Ok(CommandRequest::Ask {
+        request: OperatorRequest::Stop,
+        port,
+    })
+}
