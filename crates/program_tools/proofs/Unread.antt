@@ -1,8 +1,8 @@
 -- A file that can't be read.
 use Rattle.std.proofs.Common.{ℕ, List, Err}
-use Rattle.load.specs.bounded_files.Files.{KnownFiles, ReadsAtMost, ReadsFile}
-use Rattle.load.specs.bounded_files.declared.fault.ResourceFault.{ResourceFault}
-use Rattle.load.specs.bounded_files.declared.fault.ResourceFault.TheVariants.{File, Memory}
+use Rattle.bounded_files.specs.Files.{KnownFiles, ReadsAtMost, ReadsFile}
+use Rattle.bounded_files.specs.declared.fault.ResourceFault.{ResourceFault}
+use Rattle.bounded_files.specs.declared.fault.ResourceFault.TheVariants.{File, Memory}
 use Rattle.program_tools.specs.Resources.{IsNoFile}
 use Rattle.program_tools.specs.declared.fault.ProgramToolFault.TheVariants.{Resource}
 

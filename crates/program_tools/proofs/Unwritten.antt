@@ -1,6 +1,6 @@
 -- A rule that gives no program gives none that is written.
 use Rattle.std.proofs.Common.{ℕ, List, inl}
-use Rattle.load.specs.bounded_files.Files.{KnownFiles}
+use Rattle.bounded_files.specs.Files.{KnownFiles}
 use Rattle.command_line.specs.declared.request.DeclaredShape.{DeclaredShape}
 use Rattle.program_tools.specs.Rules.{IsRuleRefusal, IsCompileRefusal}
 use Rattle.program_tools.specs.declared.fault.ProgramToolFault.{ProgramToolFault}

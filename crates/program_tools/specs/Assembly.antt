@@ -7,7 +7,7 @@ use Rattle.bpf_text.specs.declared.fault.AsmFaultKind.TheVariants.{Token}
 use Rattle.bpf_text.specs.declared.fault.ListFault.TheVariants.{Insn}
 use Rattle.bpf_text.specs.Assembly.{Assembles, at_line, IsAsmFault}
 use Rattle.bpf_text.specs.Listing.{Lists, IsFirstFault}
-use Rattle.load.specs.bounded_files.Files.{KnownFiles, most_bytes, within, OfFileWithin}
+use Rattle.bounded_files.specs.Files.{KnownFiles, most_bytes, within, OfFileWithin}
 use Rattle.program_tools.specs.Resources.{IsNoFile}
 use Rattle.program_tools.specs.declared.fault.ProgramToolFault.{ProgramToolFault}
 use Rattle.program_tools.specs.declared.fault.ProgramToolFault.TheVariants.{Resource, Text, Bytes}

@@ -5,9 +5,9 @@ use Rattle.block_order.specs.Refusal.{IsOrderFault}
 use Rattle.block_order.specs.flow_check.Flow.{IsAcceptedAs}
 use Rattle.block_order.specs.flow_check.declared.fault.FlowFault.{FlowFault}
 use Rattle.block_order.specs.flow_check.declared.fault.FlowFault.TheVariants as flow
-use Rattle.load.specs.acceptance.bpf_insn.Program.{Program}
-use Rattle.load.specs.acceptance.declared.fault.ProgramFault.TheVariants.{Flow}
-use Rattle.load.specs.bounded_files.Files.{KnownFiles, OfFile}
+use Rattle.acceptance.specs.bpf_insn.Program.{Program}
+use Rattle.acceptance.specs.declared.fault.ProgramFault.TheVariants.{Flow}
+use Rattle.bounded_files.specs.Files.{KnownFiles, OfFile}
 use Rattle.program_tools.specs.Programs.{most_program, too_long}
 use Rattle.program_tools.specs.Resources.{IsNoFile}
 use Rattle.program_tools.specs.declared.fault.ProgramToolFault.{ProgramToolFault}

@@ -1,7 +1,7 @@
 -- Programs of files, under the shape that the words declare: which are accepted, and what their
 -- runs are.
-use Rattle.std.specs.Prelude.{◌≡◌, ◌⊎◌, ℕ, ◌^◌, ◌<◌, List, [], length, Option}
-use Rattle.command_line.specs.attrs.Attributes.{plain}
+use Rattle.std.specs.Prelude.{◌≡◌, ◌⊎◌, ℕ, ◌^◌, ◌<◌, List, [], length}
+use Rattle.command_line.specs.attrs.Attributes.{Attributes}
 use Rattle.bpf_machine.specs.bpf_semantics.Program.{ShapedProgram}
 use Rattle.bpf_machine.specs.bpf_semantics.State.{opening}
 use Rattle.bpf_machine.specs.bpf_semantics.Run.{Ends}
@@ -17,14 +17,17 @@ use Rattle.command_line.specs.declarations.Order.{AreDeclared, IsRefusedArray}
 use Rattle.program_tools.specs.declared.fault.ProgramToolFault.{ProgramToolFault}
 use Rattle.program_tools.specs.declared.fault.ProgramToolFault.TheVariants.{Arrays, Program}
 use Rattle.program_tools.specs.declared.fault.ProgramToolFault.TheVariants.{Resource}
+use Rattle.command_line.specs.Apps.{attributes_told}
+use Rattle.command_line.specs.declared.request.AskedRun.{AskedRun}
 use Rattle.command_line.specs.declared.request.DeclaredShape.{DeclaredShape}
-use Rattle.load.specs.acceptance.Program.{IsProgramOf, RefusesProgram}
-use Rattle.load.specs.acceptance.declared.fault.ProgramFault.TheVariants.{Flow}
-use Rattle.load.specs.acceptance.flow_check.declared.fault.FlowFault.TheVariants as flow
-use Rattle.load.specs.acceptance.flow_check.declared.fault.FlowRule.TheVariants.{TooLong}
-use Rattle.load.specs.bounded_files.Files.{KnownFiles, OfFile}
-use Rattle.load.specs.bounded_files.declared.fault.ResourceFault.TheVariants.{Memory}
+use Rattle.acceptance.specs.Program.{IsProgramOf, RefusesProgram}
+use Rattle.acceptance.specs.declared.fault.ProgramFault.TheVariants.{Flow}
+use Rattle.acceptance.specs.flow_check.declared.fault.FlowFault.TheVariants as flow
+use Rattle.acceptance.specs.flow_check.declared.fault.FlowRule.TheVariants.{TooLong}
+use Rattle.bounded_files.specs.Files.{KnownFiles, OfFile}
+use Rattle.bounded_files.specs.declared.fault.ResourceFault.TheVariants.{Memory}
 use Rattle.program_tools.specs.Resources.{IsNoFile}
+use Rattle.tracing.specs.Trace.{IsTrace}
 
 -- the most bytes of a program
 abbrev pub most_program : ℕ
@@ -89,24 +92,28 @@ HasSlots known path asked slots =
 
 -- ---- runs
 
--- the program's run for an app with no appid, and this version and bucket, on cells that open at 0;
--- each of its events is on a cell of the shape's arrays, and on one of an array with a quota it is
--- a load or an add of 1
-pub record RunsTo (p : ShapedProgram) (version : Option (List ℕ))
-    (bucket choice count : ℕ) : Type 0 where
+-- the program's run for an app of these attributes, on cells that open at 0; each of its events is
+-- on a cell of the shape's arrays, and on one of an array with a quota it is a load or an add of 1
+pub record RunsTo (p : ShapedProgram) (a : Attributes) (choice count : ℕ) : Type 0 where
   pub values : List ℕ
   pub opens : AreZeros 8192 values
   pub events : List CellEvent
   pub values_after : List ℕ
   pub grew : GrewBy IsEvent values events values_after
-  pub ends : Ends p (opening (plain [] version bucket)) events choice count
+  pub ends : Ends p (opening a) events choice count
   pub lawful : AreLawful p.shape events
 
--- an accepted program comes to this choice after so many instructions
-abbrev pub HasChosen : KnownFiles → List ℕ → DeclaredShape → Option (List ℕ)
-    → (bucket choice count : ℕ) → Type 0
-HasChosen known path asked version bucket choice count =
-    (p : ShapedProgram) × IsProgramFor known path asked p × RunsTo p version bucket choice count
+-- the program that is asked for is accepted, and comes to this choice after so many instructions
+abbrev pub HasChosen : KnownFiles → AskedRun → (choice count : ℕ) → Type 0
+HasChosen known asked choice count =
+    (p : ShapedProgram) × IsProgramFor known asked.path.now asked.shape p
+    × RunsTo p (attributes_told asked.app asked.bucket) choice count
+
+-- and this is the trace of its run
+abbrev pub HasTraced : KnownFiles → AskedRun → (choice count : ℕ) → (text : List ℕ) → Type 0
+HasTraced known asked choice count text =
+    (p : ShapedProgram) × IsProgramFor known asked.path.now asked.shape p
+    × IsTrace p (attributes_told asked.app asked.bucket) choice count text
 
 -- it isn't accepted, or memory for the run is refused
 abbrev pub IsRunRefusal : KnownFiles → List ℕ → DeclaredShape → ProgramToolFault → Type 0

@@ -1,7 +1,7 @@
 -- Files that can't be read.
 use Rattle.std.specs.Prelude.{ℕ, List, None}
-use Rattle.load.specs.bounded_files.Files.{KnownFiles, Gives}
-use Rattle.load.specs.bounded_files.declared.fault.ResourceFault.TheVariants.{File, Memory}
+use Rattle.bounded_files.specs.Files.{KnownFiles, Gives}
+use Rattle.bounded_files.specs.declared.fault.ResourceFault.TheVariants.{File, Memory}
 use Rattle.program_tools.specs.declared.fault.ProgramToolFault.{ProgramToolFault}
 use Rattle.program_tools.specs.declared.fault.ProgramToolFault.TheVariants.{Resource}
 

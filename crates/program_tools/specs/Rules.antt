@@ -3,8 +3,8 @@
 use Rattle.std.specs.Prelude.{◌≡◌, ◌⊎◌, ◌≤◌, ℕ, List, length}
 use Rattle.bpf_machine.specs.bpf_semantics.Program.{ShapedProgram}
 use Rattle.command_line.specs.cells.Arrays.{AppShape}
-use Rattle.load.specs.acceptance.Rule.{IsProgramOfRule, RefusesRule}
-use Rattle.load.specs.bounded_files.Files.{KnownFiles, most_bytes, within, OfFileWithin}
+use Rattle.acceptance.specs.Rule.{IsProgramOfRule, RefusesRule}
+use Rattle.bounded_files.specs.Files.{KnownFiles, most_bytes, within, OfFileWithin}
 use Rattle.command_line.specs.declared.request.DeclaredShape.{DeclaredShape}
 use Rattle.program_tools.specs.declared.fault.ProgramToolFault.{ProgramToolFault}
 use Rattle.program_tools.specs.declared.fault.ProgramToolFault.TheVariants.{Resource, Rule}

@@ -5,8 +5,8 @@ ghost use Rattle.program_tools.specs.Assembly.{IsAssembled, IsAssembledFrom, IsA
 ghost use Rattle.program_tools.specs.Assembly.{IsAssemblyRefusal, IsTextRefusal};
 
 use crate::fault::ProgramToolFault;
+use bounded_files::{Disk, MOST_BYTES, read_within, write_file};
 use bpf_text::{AsmFault, AsmFaultKind, assemble};
-use load::bounded_files::{Disk, MOST_BYTES, read_within, write_file};
 use std::alloc::Global;
 use std::rt::Files;
 use std::str;

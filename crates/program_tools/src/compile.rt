@@ -6,10 +6,10 @@ ghost use Rattle.program_tools.specs.Rules.{IsRuleProgramFor, IsRuleRefusal};
 
 use crate::fault::ProgramToolFault;
 use crate::program::declared_shape;
+use acceptance::rule_program;
+use bounded_files::{Disk, MOST_BYTES, read_within, write_file};
 use bpf_machine::bpf_verify::Verified;
 use command_line::DeclaredShape;
-use load::acceptance::rule_program;
-use load::bounded_files::{Disk, MOST_BYTES, read_within, write_file};
 use std::alloc::Global;
 use std::rt::Files;
 

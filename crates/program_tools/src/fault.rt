@@ -2,10 +2,10 @@
 
 ghost use Rattle.program_tools.specs.Texts.{fault_text};
 
+use acceptance::{ProgramFault, RuleTextFault};
+use bounded_files::ResourceFault;
 use bpf_text::{AsmFault, ListFault};
 use command_line::cells::CellsFault;
-use load::acceptance::{ProgramFault, RuleTextFault};
-use load::bounded_files::ResourceFault;
 use std::fmt;
 
 /// What is wrong; it is shown as it is printed.

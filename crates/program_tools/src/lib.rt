@@ -19,8 +19,11 @@ pub use compile::compile_file;
 pub use fault::ProgramToolFault;
 pub use list::list_file;
 pub use order::order_file;
-pub use run::run_file;
+pub use run::{run_file, trace_file};
 pub use verify::verify_file;
 
 // The words of the contracts here come with them.
-pub use load;
+pub use acceptance;
+pub use bounded_files;
+pub use command_line;
+pub use tracing;

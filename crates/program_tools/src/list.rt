@@ -5,8 +5,8 @@ ghost use Rattle.std.specs.String.{string_bytes};
 ghost use Rattle.program_tools.specs.Assembly.{IsListedFrom, IsListingRefusal};
 
 use crate::fault::ProgramToolFault;
+use bounded_files::{Disk, MOST_BYTES, ResourceFault, read_within};
 use bpf_text::{ListFault, listing};
-use load::bounded_files::{Disk, MOST_BYTES, ResourceFault, read_within};
 use std::alloc::Global;
 
 /// The listing of a file's bytes.

@@ -1,61 +1,78 @@
-//! `run`: the run of a file's program for one app.
+//! `run`: the run of a file's program for one app, as its choice alone or step by step.
 
-ghost use Rattle.std.specs.Prelude.{◌≡◌, ◌≤◌, length, IfOk, IfErr, option_copied};
-ghost use Rattle.program_tools.specs.Programs.{HasChosen, IsRunRefusal, RunsTo};
+ghost use Rattle.std.specs.Prelude.{◌≡◌, ◌≤◌, length, IfOk, IfErr, string_bytes};
+ghost use Rattle.std.specs.Arc.{arc_value};
+ghost use Rattle.command_line.specs.Apps.{attributes_told};
+ghost use Rattle.program_tools.specs.Programs.{HasChosen, HasTraced, IsRunRefusal, RunsTo};
+ghost use Rattle.tracing.specs.Trace.{IsTrace};
 
 use crate::fault::ProgramToolFault;
 use crate::program::program_of_file;
+use bounded_files::{Disk, ResourceFault};
 use bpf_machine::Run;
 use bpf_machine::bpf_verify::Verified;
-use command_line::DeclaredShape;
 use command_line::attrs::{Attrs, Bucket};
 use command_line::cells::{PlainCells, events_fit};
-use load::bounded_files::{Disk, ResourceFault};
+use command_line::{AskedRun, ToldApp};
 use std::alloc::{AllocError, Global};
 use std::sync::Arc;
+use tracing::{TracedRun, trace};
 
-/// The choice of a file's program, once it is accepted, and the number of its instructions.
+/// The choice of a file's program for an app, once it is accepted, and the number of its
+/// instructions.
 pub fn run_file<D: Disk>(
     alloc: Global,
     disk: &D,
-    path: &str,
-    shape: &DeclaredShape,
-    version: Option<&str>,
-    bucket: Bucket,
+    asked: &AskedRun<'_>,
 ) -> Result<(u8, u32), ProgramToolFault>
-    ensures run { IfOk result (λ c. HasChosen (D.known disk.now) path.now shape.now
-        (option_copied version.entry) bucket c.0 c.1) }
-    ensures fault { IfErr result (IsRunRefusal (D.known disk.now) path.now shape.now) }
+    ensures run { IfOk result (λ c. HasChosen (D.known disk.now) asked.now c.0 c.1) }
+    ensures fault { IfErr result
+        (IsRunRefusal (D.known disk.now) asked.now.path.now asked.now.shape) }
 {
-    let program = match program_of_file(alloc, disk, path, shape) {
+    let program = match program_of_file(alloc, disk, asked.path, &asked.shape) {
         Ok(program) => program,
         Err(fault) => return Err(fault),
     };
-    match choose(alloc, program, version, bucket) {
+    match choose(alloc, program, &asked.app, asked.bucket) {
         Ok(run) => Ok(run),
         Err(_) => Err(ProgramToolFault::Resource(ResourceFault::Memory)),
     }
 }
 
-// The program's run for an app with no appid, and this version and bucket, on cells of its own
-// that open at 0: its choice and the number of its instructions.
+/// The same, with a line for each instruction that the run does.
+pub fn trace_file<D: Disk>(
+    alloc: Global,
+    disk: &D,
+    asked: &AskedRun<'_>,
+) -> Result<TracedRun, ProgramToolFault>
+    ensures run { IfOk result (λ t.
+        HasTraced (D.known disk.now) asked.now t.choice t.count (string_bytes t.text)) }
+    ensures fault { IfErr result
+        (IsRunRefusal (D.known disk.now) asked.now.path.now asked.now.shape) }
+{
+    let program = match program_of_file(alloc, disk, asked.path, &asked.shape) {
+        Ok(program) => program,
+        Err(fault) => return Err(fault),
+    };
+    match traced(alloc, &program, &asked.app, asked.bucket) {
+        Ok(run) => Ok(run),
+        Err(_) => Err(ProgramToolFault::Resource(ResourceFault::Memory)),
+    }
+}
+
+// The program's run for an app, on cells of its own that open at 0: its choice and the number of
+// its instructions.
 fn choose(
     alloc: Global,
     program: Verified,
-    version: Option<&str>,
-    bucket: Bucket,
+    app: &ToldApp<'_>,
+    bucket: Option<Bucket>,
 ) -> Result<(u8, u32), AllocError>
-    ensures run { IfOk result (λ c.
-        RunsTo program (option_copied version.entry) bucket c.0 c.1) }
+    ensures run { IfOk result (λ c. RunsTo program (attributes_told app.now bucket) c.0 c.1) }
     ensures release { IfOk result (λ c. c.0 ≤ program.shape.releases) }
     ensures ends { IfOk result (λ c. c.1 ≤ length program.code) }
 {
-    let Ok(attrs) = Attrs::plain(alloc, "", version, bucket.number()) else {
-        return Err(AllocError);
-    };
-    let Ok(attrs) = Arc::new(alloc, attrs) else {
-        return Err(AllocError);
-    };
+    let attrs = shared_attributes(alloc, app, bucket)?;
     let Ok((cells, mut pass)) = PlainCells::new(alloc) else {
         return Err(AllocError);
     };
@@ -68,4 +85,33 @@ fn choose(
         return Err(AllocError);
     };
     Ok(Run::start(program, attrs).run(&cells, &mut pass))
+}
+
+// The trace of the program's run for an app.
+fn traced(
+    alloc: Global,
+    program: &Verified,
+    app: &ToldApp<'_>,
+    bucket: Option<Bucket>,
+) -> Result<TracedRun, AllocError>
+    ensures { IfOk result (λ t. IsTrace program.now (attributes_told app.now bucket)
+        t.choice t.count (string_bytes t.text)) }
+{
+    let attrs = shared_attributes(alloc, app, bucket)?;
+    trace(alloc, program, attrs)
+}
+
+// The attributes of an app in a bucket.
+fn shared_attributes(
+    alloc: Global,
+    app: &ToldApp<'_>,
+    bucket: Option<Bucket>,
+) -> Result<Arc<Attrs>, AllocError>
+    ensures { IfOk result (λ attrs. arc_value attrs ≡ attributes_told app.now bucket) }
+{
+    let attrs = app.attributes(alloc, bucket)?;
+    match Arc::new(alloc, attrs) {
+        Ok(attrs) => Ok(attrs),
+        Err(_) => Err(AllocError),
+    }
 }

@@ -5,8 +5,8 @@ ghost use Rattle.program_tools.specs.Programs.{HasSlots, IsProgramRefusal};
 
 use crate::fault::ProgramToolFault;
 use crate::program::program_of_file;
+use bounded_files::Disk;
 use command_line::DeclaredShape;
-use load::bounded_files::Disk;
 use std::alloc::Global;
 
 /// The slots of a file's program, once it is accepted.

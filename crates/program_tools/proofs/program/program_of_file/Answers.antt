@@ -1,5 +1,5 @@
 use Rattle.std.proofs.Common.{rules, inl, inr, refl, Some}
-use Rattle.load.specs.bounded_files.Files.{Gives, HasMore}
+use Rattle.bounded_files.specs.Files.{Gives, HasMore}
 use Rattle.program_tools.proofs.Unread.{unread}
 use Rattle.program_tools.specs.Programs.IsRefusedUnder.{of_file, of_bytes}
 use Rattle.program_tools.proofs.program.program_of_file.Goals as goal
