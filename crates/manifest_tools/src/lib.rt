@@ -12,3 +12,6 @@ mod playing;
 pub use check::check_file;
 pub use fault::ManifestToolFault;
 pub use playing::replay_script;
+
+// The words of the contracts here come with them.
+pub use diagnosis::load;
