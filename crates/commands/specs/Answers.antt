@@ -2,18 +2,17 @@
 -- known. Of a device's files nothing is known, so of these it is what some bytes come to. What a
 -- server replies no contract can say; of memory that was refused no claim is made.
 use Rattle.std.specs.Prelude.{◌≡◌, []}
-use Rattle.std.specs.Option.{option_copied}
 use Rattle.std.specs.String.{string_bytes}
-use Rattle.command_line.specs.declared.request.CommandRequest.{CommandRequest}
-use Rattle.command_line.specs.declared.request.CommandRequest.TheVariants as request
+use Rattle.program_tools.specs.command_line.declared.request.CommandRequest.{CommandRequest}
+use Rattle.program_tools.specs.command_line.declared.request.CommandRequest.TheVariants as request
 use Rattle.commands.specs.Asked.{IsAskRefusal, IsDoneAs}
 use Rattle.commands.specs.declared.answer.Answer.{Answer}
 use Rattle.commands.specs.declared.answer.Answer.TheVariants.{Assembled, Checked, Compiled}
 use Rattle.commands.specs.declared.answer.Answer.TheVariants.{Listed, Accepted, Chosen, Told}
-use Rattle.commands.specs.declared.answer.Answer.TheVariants.{Ordered, Replayed, Ready}
+use Rattle.commands.specs.declared.answer.Answer.TheVariants.{Ordered, Replayed, Ready, Traced}
 use Rattle.commands.specs.declared.fault.Fault.{Fault}
 use Rattle.commands.specs.declared.fault.Fault.TheVariants.{Manifest, Program, Serving}
-use Rattle.program_tools.specs.load.Loaded.{IsLoadedFrom}
+use Rattle.manifest_tools.specs.load.Loaded.{IsLoadedFrom}
 use Rattle.program_tools.specs.Programs.{IsProgramRefusal, IsRunRefusal}
 use Rattle.manifest_tools.specs.Manifests.{HasReplayed, IsChecked, IsCheckRefusal}
 use Rattle.manifest_tools.specs.Manifests.{IsReplayRefusal}
@@ -21,7 +20,7 @@ use Rattle.program_tools.specs.bounded_files.Files.{KnownFiles}
 use Rattle.program_tools.specs.Assembly.{IsAssembledFrom, IsAssemblyRefusal}
 use Rattle.program_tools.specs.Assembly.{IsListedFrom, IsListingRefusal}
 use Rattle.program_tools.specs.Orders.{IsOrderedFrom, IsOrderRefusal}
-use Rattle.program_tools.specs.Programs.{HasChosen, HasSlots}
+use Rattle.program_tools.specs.Programs.{HasChosen, HasSlots, HasTraced}
 use Rattle.program_tools.specs.Rules.{HasCompiled, IsCompileRefusal}
 use Rattle.serving.specs.Manifests.{RefusesToServe}
 
@@ -37,8 +36,10 @@ module _ (known : KnownFiles) where
   IsAnswer (request.Order path out) (Ordered program) =
       IsOrderedFrom known path.now program.items
   IsAnswer (request.Verify path shape) (Accepted slots) = HasSlots known path.now shape slots
-  IsAnswer (request.Run path shape version bucket) (Chosen choice instructions) =
-      HasChosen known path.now shape (option_copied version) bucket choice instructions
+  IsAnswer (request.Run run) (Chosen choice instructions) =
+      HasChosen known run choice instructions
+  IsAnswer (request.Trace run) (Traced lines choice instructions) =
+      HasTraced known run choice instructions (string_bytes lines)
   IsAnswer (request.Replay manifest script) (Replayed text) =
       HasReplayed known manifest.now script.now (string_bytes text)
   IsAnswer (request.Ask asked port) (Told text) = IsDoneAs asked (string_bytes text)
@@ -55,8 +56,10 @@ module _ (known : KnownFiles) where
   IsRefused (request.Order path out) (Program fault) = IsOrderRefusal known path.now fault
   IsRefused (request.Verify path shape) (Program fault) =
       IsProgramRefusal known path.now shape fault
-  IsRefused (request.Run path shape version bucket) (Program fault) =
-      IsRunRefusal known path.now shape fault
+  IsRefused (request.Run run) (Program fault) =
+      IsRunRefusal known run.path.now run.shape fault
+  IsRefused (request.Trace run) (Program fault) =
+      IsRunRefusal known run.path.now run.shape fault
   IsRefused (request.Replay manifest script) (Manifest fault) =
       IsReplayRefusal known manifest.now script.now fault
   IsRefused (request.Ask asked port) fault = IsAskRefusal asked fault

@@ -4,8 +4,8 @@ use Rattle.commands.specs.declared.fault.Fault.{Fault}
 use Rattle.commands.specs.declared.fault.Fault.TheVariants.{Ask, Told}
 use Rattle.serving.specs.operator.Replies.{is_answer}
 use Rattle.serving.specs.operator.declared.asking.AskFault.TheVariants.{Word}
-use Rattle.command_line.specs.operator_request.Requests.{IsSendable}
-use Rattle.command_line.specs.operator_request.declared.request.OperatorRequest.{OperatorRequest}
+use Rattle.program_tools.specs.operator_request.Requests.{IsSendable}
+use Rattle.program_tools.specs.operator_request.declared.request.OperatorRequest.{OperatorRequest}
 
 -- the bytes say that what a line asked was done: they are a reply to it, and no refusal
 pub record IsDoneAs (request : OperatorRequest) (bytes : List ℕ) : Type 0 where

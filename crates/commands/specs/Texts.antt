@@ -5,7 +5,7 @@ use Rattle.std.specs.String.{string_bytes}
 use Rattle.commands.specs.declared.answer.Answer.{Answer}
 use Rattle.commands.specs.declared.answer.Answer.TheVariants.{Assembled, Checked, Compiled}
 use Rattle.commands.specs.declared.answer.Answer.TheVariants.{Listed, Accepted, Chosen, Replayed}
-use Rattle.commands.specs.declared.answer.Answer.TheVariants.{Ordered, Ready}
+use Rattle.commands.specs.declared.answer.Answer.TheVariants.{Ordered, Ready, Traced}
 use Rattle.commands.specs.declared.answer.Answer.TheVariants as answer
 use Rattle.commands.specs.declared.fault.Fault.{Fault}
 use Rattle.commands.specs.declared.fault.Fault.TheVariants.{Resource, Program, Manifest}
@@ -14,7 +14,7 @@ use Rattle.commands.specs.declared.fault.Fault.TheVariants as fault
 use Rattle.manifest_tools.specs.Manifests as manifest
 use Rattle.program_tools.specs.Texts as program
 use Rattle.program_tools.specs.bounded_files.Texts.{resource_text}
-use Rattle.program_tools.specs.rulesets.Texts.{line}
+use Rattle.manifest_tools.specs.rulesets.Texts.{line}
 use Rattle.serving.specs.operator.Texts.{ask_text}
 use Rattle.serving.specs.Texts.{serving_text}
 use Rattle.serving.specs.workers.Texts.{serving_line}
@@ -28,6 +28,9 @@ answer_text (Ordered program) = line (decimal (length program.items / 8) ++ code
 answer_text (Accepted slots) = line (codes "accepted " ++ decimal slots ++ codes " slots")
 answer_text (Chosen choice instructions) =
     line (codes "choice " ++ decimal choice
+    ++ codes " after " ++ decimal instructions ++ codes " instructions")
+answer_text (Traced lines choice instructions) =
+    line (string_bytes lines ++ codes "choice " ++ decimal choice
     ++ codes " after " ++ decimal instructions ++ codes " instructions")
 answer_text (Replayed text) = string_bytes text
 answer_text (answer.Told text) = string_bytes text

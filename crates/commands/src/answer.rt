@@ -3,7 +3,7 @@
 ghost use Rattle.std.specs.Prelude.{Some};
 ghost use Rattle.commands.specs.Texts.{answer_text};
 
-use command_line::Plan;
+use program_tools::command_line::Plan;
 use serving::Server;
 use serving::operator::hot_swap::Generation;
 use std::fmt;
@@ -12,25 +12,53 @@ use std::fmt;
 #[derive(Drop)]
 pub enum Answer {
     /// The text was assembled into these bytes, of which the number of slots is printed.
-    Assembled { program: Vec<u8> },
+    Assembled {
+        program: Vec<u8>,
+    },
     /// The manifest comes to a ruleset; the lines of its arrays and apps.
-    Checked { text: String },
+    Checked {
+        text: String,
+    },
     /// The rule was compiled into a program of so many slots.
-    Compiled { slots: usize },
+    Compiled {
+        slots: usize,
+    },
     /// The listing of the bytes: a line an instruction.
-    Listed { text: String },
+    Listed {
+        text: String,
+    },
     /// The program in order, of which the number of slots is printed.
-    Ordered { program: Vec<u8> },
+    Ordered {
+        program: Vec<u8>,
+    },
     /// The program is accepted; its length in slots.
-    Accepted { slots: usize },
+    Accepted {
+        slots: usize,
+    },
     /// The program chose a release, or none, and did so many instructions.
-    Chosen { choice: u8, instructions: u32 },
+    Chosen {
+        choice: u8,
+        instructions: u32,
+    },
+    /// The same, behind the lines of the program's run.
+    Traced {
+        lines: String,
+        choice: u8,
+        instructions: u32,
+    },
     /// The script was played; the lines of its events.
-    Replayed { text: String },
+    Replayed {
+        text: String,
+    },
     /// The lines of a server's reply.
-    Told { text: String },
+    Told {
+        text: String,
+    },
     /// The server of a manifest is ready to serve.
-    Ready { server: Server, plan: Plan },
+    Ready {
+        server: Server,
+        plan: Plan,
+    },
 }
 
 impl fmt::Display for Answer {
@@ -54,6 +82,14 @@ impl fmt::Display for Answer {
                 choice,
                 instructions,
             } => writeln!(f, "choice {choice} after {instructions} instructions"),
+            Answer::Traced {
+                lines,
+                choice,
+                instructions,
+            } => writeln!(
+                f,
+                "{lines}choice {choice} after {instructions} instructions"
+            ),
             Answer::Replayed { text } => f.write_str(text),
             Answer::Told { text } => f.write_str(text),
             Answer::Ready { .. } => {

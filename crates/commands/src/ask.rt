@@ -4,10 +4,10 @@ ghost use Rattle.std.specs.Prelude.{IfOk, IfErr};
 ghost use Rattle.std.specs.String.{string_bytes};
 ghost use Rattle.commands.specs.Asked.{IsAskRefusal, IsDoneAs};
 ghost use Rattle.serving.specs.operator.Replies.{IsReplyTo};
-ghost use Rattle.command_line.specs.operator_request.declared.request.OperatorRequest as asked;
+ghost use Rattle.program_tools.specs.operator_request.declared.request.OperatorRequest as asked;
 
 use crate::fault::Fault;
-use command_line::operator_request::OperatorRequest;
+use program_tools::command_line::operator_request::OperatorRequest;
 use serving::operator::{AskFault, ask};
 use std::alloc::Global;
 use std::net::{Net, TcpStream};

@@ -3,8 +3,8 @@
 ghost use Rattle.commands.specs.Texts.{fault_text};
 
 use manifest_tools::ManifestToolFault;
+use manifest_tools::load::bounded_files::ResourceFault;
 use program_tools::ProgramToolFault;
-use program_tools::load::bounded_files::ResourceFault;
 use serving::ServingFault;
 use serving::operator::AskFault;
 use std::fmt;

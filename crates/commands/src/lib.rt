@@ -14,5 +14,6 @@ mod requests;
 mod serve;
 mod status;
 
-pub use program_tools::load::{Device, Disk};
+pub use manifest_tools::load::{Device, Disk};
+pub use program_tools::command_line;
 pub use status::{command, unreadable_words, usage};

@@ -6,10 +6,12 @@ ghost use Rattle.commands.specs.Answers.{IsAnswer, IsRefused};
 use crate::answer::Answer;
 use crate::ask::ask_server;
 use crate::fault::Fault;
-use command_line::CommandRequest;
+use manifest_tools::load::Disk;
 use manifest_tools::{check_file, replay_script};
-use program_tools::load::Disk;
-use program_tools::{assemble_file, compile_file, list_file, order_file, run_file, verify_file};
+use program_tools::command_line::CommandRequest;
+use program_tools::{
+    assemble_file, compile_file, list_file, order_file, run_file, trace_file, verify_file,
+};
 use serving::prepare;
 use std::net::{Net, TcpListener, TcpStream};
 use std::rt::Files;
@@ -43,18 +45,19 @@ where
         CommandRequest::Verify { path, shape } => Ok(Answer::Accepted {
             slots: verify_file(alloc, disk, path, shape).map_err(Fault::Program)?,
         }),
-        CommandRequest::Run {
-            path,
-            shape,
-            version,
-            bucket,
-        } => {
-            let run = run_file(alloc, disk, path, shape, *version, *bucket).map_err(
-                Fault::Program,
-            )?;
+        CommandRequest::Run(asked) => {
+            let run = run_file(alloc, disk, asked).map_err(Fault::Program)?;
             Ok(Answer::Chosen {
                 choice: run.0,
                 instructions: run.1,
+            })
+        }
+        CommandRequest::Trace(asked) => {
+            let run = trace_file(alloc, disk, asked).map_err(Fault::Program)?;
+            Ok(Answer::Traced {
+                lines: run.text,
+                choice: run.choice,
+                instructions: run.count,
             })
         }
         CommandRequest::Replay { manifest, script } => Ok(Answer::Replayed {

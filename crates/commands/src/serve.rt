@@ -5,8 +5,8 @@ ghost use Rattle.std.specs.Io.KnownBytes.{Appends};
 ghost use Rattle.std.specs.Prelude.{◌≡◌, ◌*◌, OnOk};
 ghost use Rattle.serving.specs.workers.Texts.{serving_line};
 
-use command_line::Plan;
-use program_tools::load::Disk;
+use manifest_tools::load::Disk;
+use program_tools::command_line::Plan;
 use serving::workers::Service;
 use serving::{Manifests, Server, ServingFault};
 use std::io::Write;

@@ -3,7 +3,7 @@
 ghost use Rattle.std.specs.Prelude.{◌≡◌, ◌≤◌, List, ℕ, map, OnOk, if◌then◌else◌};
 ghost use Rattle.std.specs.IoError.{error_kind};
 ghost use Rattle.std.specs.Io.KnownBytes.{Appends};
-ghost use Rattle.command_line.specs.Requests.{AskForHelp, IsWordsFault};
+ghost use Rattle.program_tools.specs.command_line.Requests.{AskForHelp, IsWordsFault};
 ghost use Rattle.commands.specs.Commands.{AreWrong, IsAnswered, IsDone, PrintsRefusal};
 ghost use Rattle.serving.specs.workers.Texts.{serving_line};
 
@@ -11,10 +11,10 @@ use crate::answer::Answer;
 use crate::fault::Fault;
 use crate::requests::answer;
 use crate::serve::serve_until_stopped;
-use command_line::{CommandRequest, Plan, WordsFault, read_words};
 use manifest_tools::ManifestToolFault;
-use program_tools::load::Disk;
-use program_tools::load::bounded_files::ResourceFault;
+use manifest_tools::load::Disk;
+use manifest_tools::load::bounded_files::ResourceFault;
+use program_tools::command_line::{CommandRequest, Plan, WordsFault, read_words};
 use serving::Server;
 use std::convert::AsStr;
 use std::io::{self, ErrorKind, Write};
