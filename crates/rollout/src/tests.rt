@@ -3,6 +3,7 @@
 //! folder of its own, where its files lie.
 
 mod arrays;
+mod attributes;
 mod checks;
 mod memory;
 mod orders;

@@ -1,7 +1,7 @@
 //! Memory that is refused to the command: a refusal of its own, status 1, and nothing printed else.
 //! And a write that fails.
 
-use command_line::WordsFault;
+use commands::command_line::WordsFault;
 use commands::{Device, command, unreadable_words, usage};
 use std::io::ErrorKind;
 use std::net::{Net, TcpListener, TcpStream};

@@ -17,6 +17,17 @@ rollout run a.bin --releases -1 -> usage
 rollout run a.bin --releases x -> usage
 rollout run a.bin --releases 0 --bucket 10000 -> usage
 rollout run a.bin --releases 0 --releases 0 -> usage
+rollout run a.bin --releases 0 --attr brand -> usage
+rollout run a.bin --releases 0 --attr colour=red -> usage
+rollout run a.bin --releases 0 --attr brand=a --attr brand=b -> usage
+rollout run a.bin --releases 0 --attr cohort=b:0042 --bucket 42 -> usage
+rollout run a.bin --releases 0 --today 2919383 -> usage
+rollout run a.bin --releases 0 --today 2006-12-31 -> usage
+rollout run a.bin --releases 0 --today 2026-02-29 -> usage
+rollout run a.bin --releases 0 --today 2026-2-01 -> usage
+rollout run a.bin --releases 0 --today 10000-01-01 -> usage
+rollout run a.bin --releases 0 --installed 4294967295 -> usage
+rollout run a.bin --releases 0 --installed x -> usage
 rollout verify a.bin --releases 0 --bucket 1 -> usage
 rollout verify a.bin b.bin --releases 0 -> usage
 rollout check -> usage
