@@ -1,0 +1,37 @@
+-- What is written part by part is written as a whole.
+use Rattle.std.proofs.Common.{◌≡◌, ℕ, zero, suc, ◌-◌, ◌<◌, List, [], ◌∷◌, ◌++◌, replicate}
+use Rattle.std.proofs.Common.{refl, sym, ap, ◌∙◌, append_assoc, arith}
+use Rattle.std.proofs.lemmas.List.{append-nil}
+use native.Mathlib.Numerals.{unary_clauses}
+
+pub line_gathered : (o line blanks mark text ends : List ℕ)
+    → o ++ (line ++ blanks) ++ mark ++ text ++ ends
+    ≡ o ++ (line ++ (blanks ++ mark ++ text) ++ ends)
+line_gathered o line blanks mark text ends = simp append_assoc refl
+
+-- one of so many blanks, and then the others
+pub one_blank : (o : List ℕ) (n : ℕ) → 0 < n
+    → (o ++ (32 ∷ [])) ++ replicate (n - 1) 32 ≡ o ++ replicate n 32
+one_blank o zero lt = absurd (omega (arith, lt))
+one_blank o (suc n) lt = simp unary_clauses (append_assoc o (32 ∷ []) (replicate n 32))
+
+pub blank_pushed : (o new : List ℕ) (n : ℕ) → 0 < n → new ≡ o ++ (32 ∷ [])
+    → new ++ replicate (n - 1) 32 ≡ o ++ replicate n 32
+blank_pushed o new n lt pushed =
+    ap (λ (u : List ℕ). u ++ replicate (n - 1) 32) pushed ∙ one_blank o n lt
+
+-- a line without a remark
+pub bare_gathered : (o line : List ℕ)
+    → (o ++ line) ++ (10 ∷ []) ≡ o ++ ((line ++ []) ++ (10 ∷ []))
+bare_gathered o line =
+    append_assoc o line (10 ∷ [])
+    ∙ ap (λ (u : List ℕ). o ++ (u ++ (10 ∷ []))) (sym (append-nil line))
+
+-- one part further
+pub told_further : (o one rest new whole : List ℕ) → new ≡ o ++ one → o ++ (one ++ rest) ≡ whole
+    → new ++ rest ≡ whole
+told_further o one rest new whole grown is =
+    ap (λ (t : List ℕ). t ++ rest) grown ∙ append_assoc o one rest ∙ is
+
+pub told_to_end : (o whole : List ℕ) → o ++ [] ≡ whole → o ≡ whole
+told_to_end o whole is = sym (append-nil o) ∙ is

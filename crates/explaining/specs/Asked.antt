@@ -1,0 +1,43 @@
+-- The words of the rules: what each asks, or what is wrong with what it finds. The sentences are
+-- made of them.
+use Rattle.std.specs.Prelude.{ℕ, List, codes}
+use Rattle.bpf_verify.specs.bpf_rules.declared.refusal.VerifierRule.{VerifierRule}
+use Rattle.bpf_verify.specs.bpf_rules.declared.refusal.VerifierRule.TheVariants as rule
+
+unfoldable pub asked_of : VerifierRule → List ℕ
+asked_of rule.Unusable = codes " may be unset, or paths disagree on it"
+asked_of rule.WritesFrame = codes "r10 has the stack's top, and isn't written"
+asked_of rule.PointerArithmetic =
+    codes ": only a place in context or stack is moved, by a number and in 64 bits"
+asked_of rule.OffsetRange = codes " may move it out of its region"
+asked_of rule.PointerCompare =
+    codes ": only what a lookup gave or a cell's address is compared, with 0 by 64-bit jeq or jne"
+asked_of rule.Access = codes " may lie outside the region"
+asked_of rule.StoresPointer = codes ": a pointer is stored to a whole slot of the stack alone"
+asked_of rule.WritesContext = codes ": the context isn't written"
+asked_of rule.NotAddress = codes " may be 0: compare it with 0 first"
+asked_of rule.Helper = codes "there is no helper "
+asked_of rule.MapIndex = codes "there is no array "
+asked_of rule.Kind = codes ": no atomic operation goes to the stack"
+asked_of rule.Result = codes ", and there are "
+asked_of rule.QuotaCell =
+    codes ", of an array with a quota: only a load or an atomic add of 1 with fetch touches it"
+
+-- of memory
+unfoldable pub unset_byte : List ℕ
+unset_byte = codes " has a byte that may be unset"
+
+-- of an array
+unfoldable pub no_cell_at : List ℕ
+no_cell_at = codes " has no cell at byte "
+
+-- of a cell that isn't accessed so
+unfoldable pub cells_ask : List ℕ
+cells_ask = codes ": a cell is accessed as a whole, at its own address and without a sign"
+
+unfoldable pub lookup_takes : List ℕ
+lookup_takes = codes "helper 1 takes a map and a number: "
+
+unfoldable pub attr_is_takes : List ℕ
+attr_is_takes =
+    codes "helper 2 takes a number, and of the stack a place and a single length up to 64: "

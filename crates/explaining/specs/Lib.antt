@@ -1,0 +1,9 @@
+pub mod Values
+pub mod Reads
+pub mod Way
+pub mod Known
+pub mod Asked
+pub mod Sentences
+pub mod Lines
+pub use Rattle.bpf_verify.specs as bpf_verify
+pub use Rattle.bpf_text.specs as bpf_text

@@ -1,0 +1,30 @@
+//! A program with what is known before each of its instructions, in words: its listing, each line
+//! with a comment behind it, so that the text assembles to the same bytes.
+#![tactic(auto)]
+
+// What is told of a place is the definition's entry there, which a walk over the places lends
+// (`bpf_verify`). Told are the registers that the instruction reads, those that changed where the
+// instruction before goes on to it, and the slot of the stack that a load reads. At the place that
+// is refused the rule is told, and what is known instead of what it asks; behind it nothing is
+// known, so the listing goes on without comments.
+
+mod arrays;
+mod asks;
+mod bits;
+mod known;
+mod law;
+mod line;
+mod operands;
+mod reads;
+mod sentence;
+mod telling;
+mod values;
+mod way;
+mod wrong;
+
+pub use law::registers_are_read;
+pub use telling::{Explained, explain};
+
+// The words of the contracts here come with them.
+pub use bpf_text;
+pub use bpf_verify;
