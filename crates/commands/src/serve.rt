@@ -2,7 +2,8 @@
 
 ghost use Rattle.std.specs.Duration.{as_nanos};
 ghost use Rattle.std.specs.Io.KnownBytes.{Appends};
-ghost use Rattle.std.specs.Prelude.{◌≡◌, ◌*◌, OnOk};
+ghost use Rattle.std.specs.Prelude.{◌≡◌, ◌*◌, ◌⊎◌, OnOk, IfErr};
+ghost use Rattle.serving.specs.Staffed.{IsStaffFault, IsEndFault};
 ghost use Rattle.serving.specs.workers.Texts.{serving_line};
 
 use manifest_tools::load::Disk;
@@ -16,7 +17,9 @@ use std::thread::Threads;
 use std::time::{Clock, Duration};
 
 /// Makes all that a server serves by, and serves by the plan until the operator stops it. Once all
-/// is made, `out` is told that the first generation is served.
+/// is made, `out` is told that the first generation is served. S1, H1 or B4 where memory is refused
+/// before, B4 where memory or a thread is, B3 where `out` can't be written, and H2 where a server
+/// that has ended can't give its counters.
 pub fn serve_until_stopped<R, D, O>(
     rt: &R,
     disk: &D,
@@ -29,7 +32,9 @@ where
     R: Net<Listener = TcpListener, Stream = TcpStream>,
     D: Disk + Sync,
     O: Write,
-    ensures { OnOk result (Appends (O.contents out.old) (O.contents out.new) (serving_line 1)) }
+    ensures said { OnOk result
+        (Appends (O.contents out.old) (O.contents out.new) (serving_line 1)) }
+    ensures fault { IfErr result (λ e. IsStaffFault e ⊎ IsEndFault e) }
 {
     let server = match server.staffed(rt, usize::from(plan.workers)) {
         Ok(server) => server,
