@@ -1,0 +1,5 @@
+pub mod Lexemes
+pub mod Places
+pub mod Followers
+pub mod Sentences
+pub mod Told

@@ -1,0 +1,100 @@
+-- What is told of a rule's text that is refused: line and column, what stands there and what is
+-- expected, and the line itself with a caret.
+use Rattle.std.specs.Prelude.{◌≡◌, ◌⊎◌, ◌<◌, ◌≤◌, ℕ, ◌+◌, ◌-◌, List, [], ◌++◌, codes, decimal}
+use Rattle.std.specs.Prelude.{length, take, Err, if◌then◌else◌}
+use Rattle.cells.specs.Arrays.{AppShape}
+use Rattle.rule_diagnosis.specs.declared.follower.Follower.{Follower}
+use Rattle.rule_diagnosis.specs.Followers.{AreFollowers, listed, is_missing_semicolon}
+use Rattle.rule_diagnosis.specs.Lexemes.{spread, lexeme_start}
+use Rattle.rule_diagnosis.specs.Places.{line_text, line_at, pad_at}
+use Rattle.rule_diagnosis.specs.Sentences.{lexeme_text, token_sentence, name_sentence}
+use Rattle.rule_diagnosis.specs.Sentences.{range_sentence}
+use Rattle.rule_lang.specs.declared.fault.RuleFault.TheVariants.{At}
+use Rattle.rule_lang.specs.declared.fault.RuleFaultKind.{RuleFaultKind}
+use Rattle.rule_lang.specs.declared.fault.RuleFaultKind.TheVariants as kind
+use Rattle.rule_lang.specs.Tokens.{Text}
+use Rattle.rule_lang.specs.Verdicts.{IsVerdict}
+
+-- ---- the place
+
+-- the text with a lexeme a line has its fault in this row, and it is of the same kind; and that
+-- row's lexeme stands in the line of the text's own fault
+pub record LiesAt (s : AppShape) (text : Text) (line : ℕ) (k : RuleFaultKind) (row : ℕ)
+    : Type 0 where
+  pub from : 2 ≤ row
+  pub fault : IsVerdict s (spread text) (Err (At row k))
+  pub line_is : line_at (take (lexeme_start (row - 2) text) text) ≡ line
+
+-- the lexeme in a row; the two before it stand in the rows before
+abbrev pub lexeme : Text → ℕ → Text
+lexeme text row = line_text row (spread text)
+
+-- how many bytes stand before the lexeme in a row, and to the end of the one before it
+abbrev pub row_start : Text → ℕ → ℕ
+row_start text row = lexeme_start (row - 2) text
+
+abbrev pub row_end_before : Text → ℕ → ℕ
+row_end_before text row = lexeme_start (row - 3) text + length (lexeme text (row - 1))
+
+-- ---- the lines
+
+abbrev pub ended : Text → Text
+ended text = text ++ codes "\n"
+
+-- a sentence on a place, the text of its line, and a caret behind the blanks up to the place
+abbrev pub lines_of : (line : ℕ) → (shown pad sentence : Text) → Text
+lines_of number shown pad sentence =
+    ended (codes "line " ++ decimal number ++ codes ", column " ++ decimal (length pad + 1)
+    ++ codes ": " ++ sentence)
+    ++ ended (codes "  " ++ shown) ++ ended (codes "  " ++ pad ++ codes "^")
+
+abbrev pub told_at : Text → (place : ℕ) → (sentence : Text) → Text
+told_at text place sentence =
+    let before = take place text in
+    lines_of (line_at before) (line_text (line_at before) text) (pad_at before) sentence
+
+-- of a token that is misplaced; where a semicolon is missing the place is behind the lexeme before
+abbrev pub shape_sentence : (found : Text) → List Follower → Text
+shape_sentence found fs =
+    lexeme_text found ++ codes " stands where " ++ listed fs ++ codes " is expected"
+
+abbrev pub shape_place : Text → ℕ → List Follower → ℕ
+shape_place text row fs =
+    if is_missing_semicolon fs then row_end_before text row else row_start text row
+
+-- of the other kinds, by rows with a lexeme each
+abbrev pub sentence_in : AppShape → (rows : Text) → RuleFaultKind → ℕ → Text
+sentence_in s rows kind.Token row = token_sentence (line_text row rows)
+sentence_in s rows kind.Shape row = []
+sentence_in s rows kind.Name row =
+    name_sentence s (line_text (row - 1) rows) (line_text row rows)
+sentence_in s rows kind.Range row =
+    range_sentence s (line_text (row - 2) rows) (line_text (row - 1) rows) (line_text row rows)
+
+abbrev pub sentence : AppShape → Text → RuleFaultKind → ℕ → Text
+sentence s text k row = sentence_in s (spread text) k row
+
+-- the lines, by the row of the lexeme
+abbrev pub AreLines : AppShape → Text → RuleFaultKind → ℕ → Text → Type 0
+AreLines s text kind.Shape row told =
+    (fs : List Follower) × AreFollowers s (take (row_start text row) text) fs
+    × (told ≡ told_at text (shape_place text row fs) (shape_sentence (lexeme text row) fs))
+AreLines s text k row told = told ≡ told_at text (row_start text row) (sentence s text k row)
+
+-- ---- what is told of a text whose fault has this line and kind
+
+unfoldable pub rule_too_long : Text
+rule_too_long = codes "a rule has at most 65536 bytes\n"
+
+abbrev pub IsRuleTooLong : Text → RuleFaultKind → Text → Type 0
+IsRuleTooLong text kind.Range told = (65536 < length text) × (told ≡ rule_too_long)
+IsRuleTooLong text k told = ⊥
+
+pub record HasRulePlace (s : AppShape) (text : Text) (line : ℕ) (k : RuleFaultKind) (told : Text)
+    : Type 0 where
+  pub row : ℕ
+  pub lies : LiesAt s text line k row
+  pub lines : AreLines s text k row told
+
+abbrev pub IsRuleTold : AppShape → Text → (line : ℕ) → RuleFaultKind → (told : Text) → Type 0
+IsRuleTold s text line k told = IsRuleTooLong text k told ⊎ HasRulePlace s text line k told

@@ -1,0 +1,186 @@
+//! What may stand behind the beginning of a rule, one by one, and how it is told.
+
+ghost use Rattle.std.specs.Prelude.{◌≡◌, ◌++◌, OnOk, option_map, string_bytes};
+ghost use Rattle.rule_diagnosis.specs.Followers as followers;
+
+use std::alloc::AllocError;
+use std::fmt::Write;
+
+/// A token, or all tokens of a kind.
+#[derive(Clone, Copy)]
+pub enum Follower {
+    When,
+    Count,
+    Otherwise,
+    None,
+    Offer,
+    And,
+    Or,
+    Not,
+    Version,
+    Bucket,
+    Today,
+    Installed,
+    Flag,
+    Attr,
+    Take,
+    Is,
+    /// The name `mod` and a number.
+    Modulus,
+    Open,
+    Close,
+    OpenBracket,
+    CloseBracket,
+    Comma,
+    Semicolon,
+    /// One of the six comparisons.
+    Comparison,
+    Name,
+    Number,
+    /// Two to four numbers, joined by dots.
+    Numbers,
+    /// A text in quotation marks.
+    Literal,
+    /// The end of the rule's text.
+    End,
+}
+
+/// Each once, in the order in which they are told.
+pub static FOLLOWERS: [Follower; 29] = [
+    Follower::When,
+    Follower::Count,
+    Follower::Otherwise,
+    Follower::None,
+    Follower::Offer,
+    Follower::And,
+    Follower::Or,
+    Follower::Not,
+    Follower::Version,
+    Follower::Bucket,
+    Follower::Today,
+    Follower::Installed,
+    Follower::Flag,
+    Follower::Attr,
+    Follower::Take,
+    Follower::Is,
+    Follower::Modulus,
+    Follower::Open,
+    Follower::Close,
+    Follower::OpenBracket,
+    Follower::CloseBracket,
+    Follower::Comma,
+    Follower::Semicolon,
+    Follower::Comparison,
+    Follower::Name,
+    Follower::Number,
+    Follower::Numbers,
+    Follower::Literal,
+    Follower::End,
+];
+
+/// How it is tried.
+pub fn sample(follower: Follower) -> &'static str
+    ensures { result.now ≡ followers.sample follower }
+{
+    match follower {
+        Follower::When => "when",
+        Follower::Count => "count",
+        Follower::Otherwise => "otherwise",
+        Follower::None => "none",
+        Follower::Offer => "offer",
+        Follower::And => "and",
+        Follower::Or => "or",
+        Follower::Not => "not",
+        Follower::Version => "version",
+        Follower::Bucket => "bucket",
+        Follower::Today => "today",
+        Follower::Installed => "installed",
+        Follower::Flag => "flag",
+        Follower::Attr => "attr",
+        Follower::Take => "take",
+        Follower::Is => "is",
+        Follower::Modulus => "mod 1",
+        Follower::Open => "(",
+        Follower::Close => ")",
+        Follower::OpenBracket => "[",
+        Follower::CloseBracket => "]",
+        Follower::Comma => ",",
+        Follower::Semicolon => ";",
+        Follower::Comparison => "<",
+        Follower::Name => "a",
+        Follower::Number => "1",
+        Follower::Numbers => "1.0",
+        Follower::Literal => "\"\"",
+        Follower::End => "",
+    }
+}
+
+// How all tokens of a kind are told.
+fn kind_text(follower: Follower) -> Option<&'static str>
+    ensures { option_map (λ t. t.now) result ≡ followers.kind_text follower }
+{
+    match follower {
+        Follower::Modulus => Some("\"mod\""),
+        Follower::Comparison => Some("a comparison"),
+        Follower::Name => Some("a name"),
+        Follower::Number => Some("a number"),
+        Follower::Numbers => Some("a version"),
+        Follower::Literal => Some("a text in \"\""),
+        Follower::End => Some("the text's end"),
+        _ => None,
+    }
+}
+
+fn tell_shown(text: &mut String, follower: Follower) -> Result<(), AllocError>
+    ensures { OnOk result
+        (string_bytes text.new ≡ string_bytes text.old ++ followers.shown follower) }
+{
+    match kind_text(follower) {
+        Some(kind) => text.push_str(kind),
+        None => {
+            let word = sample(follower);
+            write!(text, "\"{word}\"")
+        }
+    }
+}
+
+fn separator(rest: &[Follower]) -> &'static str
+    ensures { result.now ≡ followers.separator rest.now }
+{
+    match rest {
+        [] => "",
+        [_] => " or ",
+        [_, _, ..] => ", ",
+    }
+}
+
+/// Followers in a row, as `"offer", "and" or "or"`.
+pub fn tell_listed(text: &mut String, listed: &[Follower]) -> Result<(), AllocError>
+    ensures { OnOk result
+        (string_bytes text.new ≡ string_bytes text.old ++ followers.listed listed.now) }
+{
+    let mut left = listed;
+    while let [first, rest @ ..] = left {
+        tell_one(text, *first, rest)?;
+        left = rest;
+    }
+    Ok(())
+}
+
+fn tell_one(text: &mut String, first: Follower, rest: &[Follower]) -> Result<(), AllocError>
+    ensures { OnOk result (string_bytes text.new ≡ string_bytes text.old
+        ++ followers.shown first ++ followers.separator rest.now) }
+{
+    tell_shown(text, first)?;
+    text.push_str(separator(rest))
+}
+
+/// Whether nothing but a semicolon may stand.
+pub fn is_missing_semicolon(listed: &[Follower]) -> bool
+    ensures { result ≡ followers.is_missing_semicolon listed.now }
+{
+    match listed {
+        [Follower::Semicolon] => true,
+        _ => false,
+    }
+}

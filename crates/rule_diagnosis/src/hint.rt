@@ -1,0 +1,81 @@
+//! What is written in place of a lexeme that is no word of a rule, where that is plain.
+
+ghost use Rattle.std.specs.Prelude.{◌≡◌};
+ghost use Rattle.rule_diagnosis.specs.Sentences as sentences;
+
+use crate::lexeme::{byte_at, is_relation, is_word};
+use crate::quoting::character_code;
+
+#[tactic(auto, unfolding(crate::specs::Sentences::text_hint))]
+fn text_hint() -> &'static str
+    ensures { result.now ≡ sentences.text_hint }
+{
+    ": a text ends in its line, and has at most 64 characters of ASCII, without \\"
+}
+
+#[tactic(auto, unfolding(crate::specs::Sentences::relation_hint))]
+fn relation_hint() -> &'static str
+    ensures { result.now ≡ sentences.relation_hint }
+{
+    ": the comparisons are <, <=, ==, !=, >= and >"
+}
+
+#[tactic(auto, unfolding(crate::specs::Sentences::joint_hint))]
+fn joint_hint() -> &'static str
+    ensures { result.now ≡ sentences.joint_hint }
+{
+    ": conditions are joined by and, or and not"
+}
+
+#[tactic(auto, unfolding(crate::specs::Sentences::word_hint))]
+fn word_hint() -> &'static str
+    ensures { result.now ≡ sentences.word_hint }
+{
+    ": a version is one to four numbers, joined by dots"
+}
+
+fn character_hint(n: u32) -> &'static str
+    ensures { result.now ≡ sentences.character_hint n }
+{
+    if n == 0xfeff {
+        ": a byte order mark"
+    } else {
+        ""
+    }
+}
+
+fn mark_hint(c: u8) -> &'static str
+    ensures { result.now ≡ sentences.mark_hint c }
+{
+    if c == b'%' {
+        ": 1 percent is 100 buckets"
+    } else if c == b'&' || c == b'|' {
+        joint_hint()
+    } else if c == b'/' {
+        ": a remark begins with #"
+    } else if c == b'\'' {
+        ": a text stands in \"\""
+    } else {
+        ""
+    }
+}
+
+/// What is written in its place; empty where that isn't plain.
+#[tactic(auto, unfolding(crate::specs::Sentences::hint))]
+pub fn hint(lexeme: &str) -> &'static str
+    ensures { result.now ≡ sentences.hint lexeme.now }
+{
+    let text = lexeme.as_bytes();
+    let c = byte_at(text, 0);
+    if 128 <= c {
+        character_hint(character_code(text))
+    } else if c == b'"' {
+        text_hint()
+    } else if is_relation(c) {
+        relation_hint()
+    } else if is_word(c) {
+        word_hint()
+    } else {
+        mark_hint(c)
+    }
+}

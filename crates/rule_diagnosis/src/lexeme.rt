@@ -1,0 +1,134 @@
+//! The lexemes of a rule's text, byte by byte: to what kind each belongs, and where one begins.
+
+ghost use Rattle.std.specs.Prelude.{◌≡◌};
+ghost use Rattle.rule_diagnosis.specs.Lexemes as lexemes;
+
+/// The kind of lexeme to which a byte belongs.
+#[derive(Clone, Copy)]
+pub enum Lexeme {
+    /// None: a blank or a line end.
+    Blank,
+    /// None: from `#` to the line's end.
+    Remark,
+    /// Letters, digits, `_` and dots.
+    Word,
+    /// `<`, `=`, `>` and `!`.
+    Relation,
+    /// A text, from its first quotation mark on.
+    Quoted,
+    /// The second quotation mark of a text.
+    Unquote,
+    /// Characters beyond ASCII.
+    Foreign,
+    /// Another character, which is a lexeme of its own.
+    Mark,
+}
+
+/// A byte of a text, 0 behind its end.
+pub fn byte_at(text: &[u8], place: usize) -> u8
+    ensures { result ≡ lexemes.byte_at text.now place }
+{
+    match text.get(place) {
+        Some(c) => *c,
+        None => 0,
+    }
+}
+
+fn divides(c: u8, next: u8) -> bool
+    ensures { result ≡ lexemes.divides c next }
+{
+    c == b' ' || c == b'\t' || c == b'\n' || (c == b'\r' && next == b'\n')
+}
+
+/// A letter, a digit, `_` or a dot.
+pub fn is_word(c: u8) -> bool
+    ensures { result ≡ lexemes.is_word c }
+{
+    c.is_ascii_alphabetic() || c == b'_' || c.is_ascii_digit() || c == b'.'
+}
+
+/// A character of comparisons.
+pub fn is_relation(c: u8) -> bool
+    ensures { result ≡ lexemes.is_relation c }
+{
+    c == b'<' || c == b'=' || c == b'>' || c == b'!'
+}
+
+fn fresh(c: u8, next: u8) -> Lexeme
+    ensures { result ≡ lexemes.fresh c next }
+{
+    if divides(c, next) {
+        Lexeme::Blank
+    } else if c == b'#' {
+        Lexeme::Remark
+    } else if is_word(c) {
+        Lexeme::Word
+    } else if is_relation(c) {
+        Lexeme::Relation
+    } else if c == b'"' {
+        Lexeme::Quoted
+    } else if 128 <= c {
+        Lexeme::Foreign
+    } else {
+        Lexeme::Mark
+    }
+}
+
+/// The kind of a byte that stands behind one of a kind, and in front of the next.
+pub fn lexeme_after(before: Lexeme, c: u8, next: u8) -> Lexeme
+    ensures { result ≡ lexemes.lexeme_after before c next }
+{
+    match before {
+        Lexeme::Remark => if c == b'\n' {
+            Lexeme::Blank
+        } else {
+            Lexeme::Remark
+        },
+        Lexeme::Quoted => quoted_after(c),
+        _ => fresh(c, next),
+    }
+}
+
+fn quoted_after(c: u8) -> Lexeme
+    ensures { result ≡ lexemes.quoted_after c }
+{
+    match c {
+        b'"' => Lexeme::Unquote,
+        b'\n' => Lexeme::Blank,
+        _ => Lexeme::Quoted,
+    }
+}
+
+/// Whether a lexeme begins with a byte of the second kind behind one of the first.
+pub fn begins_lexeme(before: Lexeme, now: Lexeme) -> bool
+    ensures { result ≡ lexemes.begins_lexeme before now }
+{
+    match (before, now) {
+        (_, Lexeme::Blank | Lexeme::Remark | Lexeme::Unquote) => false,
+        (Lexeme::Word, Lexeme::Word) => false,
+        (Lexeme::Relation, Lexeme::Relation) => false,
+        (Lexeme::Quoted, Lexeme::Quoted) => false,
+        (Lexeme::Foreign, Lexeme::Foreign) => false,
+        _ => true,
+    }
+}
+
+/// Whether a byte is a carriage return that stands alone.
+pub fn is_lone(now: Lexeme, c: u8) -> bool
+    ensures { result ≡ lexemes.is_lone now c }
+{
+    match now {
+        Lexeme::Mark => c == b'\r',
+        _ => false,
+    }
+}
+
+/// Whether a byte belongs to a lexeme.
+pub fn is_kept(now: Lexeme) -> bool
+    ensures { result ≡ lexemes.is_kept now }
+{
+    match now {
+        Lexeme::Blank | Lexeme::Remark => false,
+        _ => true,
+    }
+}

@@ -1,0 +1,63 @@
+//! Places of a text, told by the bytes before them.
+
+ghost use Rattle.std.specs.Prelude.{◌≡◌, ◌≤◌, ◌+◌, length, IfOk, OnOk, string_bytes};
+ghost use Rattle.rule_diagnosis.specs.Places as places;
+
+use std::alloc::{AllocError, Global};
+
+/// The text of a line, counted from 1, which is empty behind the last.
+pub fn line_text(number: usize, text: &str) -> &str
+    ensures { result.now ≡ places.line_text number text.now }
+{
+    text.lines().nth(number.saturating_sub(1)).unwrap_or("")
+}
+
+/// The line of a place, from 1.
+pub fn line_at(before: &[u8]) -> usize
+    ensures line { result ≡ places.line_at before.now }
+    ensures within { result ≤ 1 + length before.now }
+{
+    let mut line = 1;
+    let mut left = before;
+    while let [c, rest @ ..] = left {
+        if *c == b'\n' {
+            line += 1;
+        }
+        left = rest;
+    }
+    line
+}
+
+/// Blanks for what stands before a place in its line; tabs stay.
+pub fn pad_at(alloc: Global, before: &[u8]) -> Result<String, AllocError>
+    ensures { IfOk result (λ pad. string_bytes pad ≡ places.pad_at before.now) }
+{
+    let mut pad = String::new(alloc);
+    let mut left = before;
+    while let [c, rest @ ..] = left {
+        pad_by(&mut pad, *c)?;
+        left = rest;
+    }
+    Ok(pad)
+}
+
+fn is_continuation(c: u8) -> bool
+    ensures { result ≡ places.is_continuation c }
+{
+    128 <= c && c < 192
+}
+
+fn pad_by(pad: &mut String, c: u8) -> Result<(), AllocError>
+    ensures { OnOk result (string_bytes pad.new ≡ places.padded (string_bytes pad.old) c) }
+{
+    if c == b'\n' {
+        pad.clear();
+        Ok(())
+    } else if is_continuation(c) {
+        Ok(())
+    } else if c == b'\t' {
+        pad.push_str("\t")
+    } else {
+        pad.push_str(" ")
+    }
+}

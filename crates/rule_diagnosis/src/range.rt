@@ -1,0 +1,111 @@
+//! What is said of a number, a `not` or a parenthesis that is out of its range (L4).
+
+ghost use Rattle.std.specs.Prelude.{◌≡◌, ◌++◌, OnOk, option_copied, string_bytes};
+ghost use Rattle.rule_diagnosis.specs.Sentences as sentences;
+
+use crate::quoting::tell_lexeme;
+use crate::sentence::array_named;
+use cells::{CellArray, Shape};
+use std::alloc::AllocError;
+use std::fmt::Write;
+
+#[tactic(auto, unfolding(crate::specs::Sentences::depth_range))]
+fn depth_range() -> &'static str
+    ensures { result.now ≡ sentences.depth_range }
+{
+    "at most 32 of not and ( stand in one another"
+}
+
+#[tactic(auto, unfolding(crate::specs::Sentences::version_range))]
+fn version_range() -> &'static str
+    ensures { result.now ≡ sentences.version_range }
+{
+    "each number of a version is at most 4294967295"
+}
+
+fn tell_releases(text: &mut String, releases: u8) -> Result<(), AllocError>
+    ensures { OnOk result
+        (string_bytes text.new ≡ string_bytes text.old ++ sentences.releases_range releases) }
+{
+    if releases == 0 {
+        text.push_str("the app has no release")
+    } else {
+        write!(text, "the app's releases are 1 to {releases}")
+    }
+}
+
+fn tell_cells(text: &mut String, array: Option<&CellArray>) -> Result<(), AllocError>
+    ensures { OnOk result (string_bytes text.new ≡ string_bytes text.old
+        ++ sentences.cells_range (option_copied array.entry)) }
+{
+    match array {
+        Some(array) => tell_cells_of(text, array),
+        None => Ok(()),
+    }
+}
+
+fn tell_cells_of(text: &mut String, array: &CellArray) -> Result<(), AllocError>
+    ensures { OnOk result
+        (string_bytes text.new ≡ string_bytes text.old ++ sentences.cells_of array.now) }
+{
+    text.push_str(array.name.as_str())?;
+    tell_indexes(text, array.length)
+}
+
+fn tell_indexes(text: &mut String, length: u16) -> Result<(), AllocError>
+    ensures { OnOk result
+        (string_bytes text.new ≡ string_bytes text.old ++ sentences.index_range length) }
+{
+    write!(text, "'s indexes are below {length}")
+}
+
+fn number_range(before: &str, earlier: &str) -> &'static str
+    ensures { result.now ≡ sentences.number_range before.now earlier.now }
+{
+    if before == "mod" {
+        "1 to 4294967295"
+    } else if before == "(" {
+        "0 to 18446744073709551615"
+    } else if earlier == "version" {
+        version_range()
+    } else {
+        "0 to 4294967295"
+    }
+}
+
+fn tell_range_of(
+    text: &mut String,
+    shape: &Shape,
+    earlier: &str,
+    before: &str,
+    found: &str,
+) -> Result<(), AllocError>
+    ensures { OnOk result (string_bytes text.new ≡ string_bytes text.old
+        ++ sentences.range shape.now earlier.now before.now found.now) }
+{
+    if found == "not" || found == "(" {
+        text.push_str(depth_range())
+    } else if before == "offer" {
+        tell_releases(text, shape.releases())
+    } else if before == "[" || before == "," {
+        tell_cells(text, array_named(shape.arrays(), earlier))
+    } else {
+        text.push_str(number_range(before, earlier))
+    }
+}
+
+/// What is said of L4, behind the two lexemes before.
+pub fn tell_range(
+    text: &mut String,
+    shape: &Shape,
+    earlier: &str,
+    before: &str,
+    found: &str,
+) -> Result<(), AllocError>
+    ensures { OnOk result (string_bytes text.new ≡ string_bytes text.old
+        ++ sentences.range_sentence shape.now earlier.now before.now found.now) }
+{
+    tell_lexeme(text, found)?;
+    text.push_str(" is out of range: ")?;
+    tell_range_of(text, shape, earlier, before, found)
+}

@@ -1,0 +1,143 @@
+//! What is said of a lexeme that is no word (L1), a name that isn't there (L3), or out of its range
+//! (L4).
+
+ghost use Rattle.std.specs.Prelude.{◌≡◌, ◌++◌, OnOk, flat_map, option_copied, string_bytes};
+ghost use Rattle.rule_diagnosis.specs.Sentences as sentences;
+ghost use Rattle.rule_lang.specs.Shapes as shapes;
+
+use crate::hint::hint;
+use crate::quoting::tell_lexeme;
+use cells::{CellArray, Shape};
+use std::alloc::AllocError;
+use std::fmt::Write;
+
+/// What is said of L1.
+pub fn tell_token(text: &mut String, found: &str) -> Result<(), AllocError>
+    ensures { OnOk result
+        (string_bytes text.new ≡ string_bytes text.old ++ sentences.token_sentence found.now) }
+{
+    tell_lexeme(text, found)?;
+    text.push_str(no_word())?;
+    text.push_str(hint(found))
+}
+
+#[tactic(auto, unfolding(crate::specs::Sentences::no_word))]
+fn no_word() -> &'static str
+    ensures { result.now ≡ sentences.no_word }
+{
+    " is no word of a rule"
+}
+
+#[tactic(auto, unfolding(crate::specs::Sentences::flags))]
+fn flags() -> &'static str
+    ensures { result.now ≡ sentences.flags }
+{
+    "version_known, updatecheck, ping, event, cohort_known, installdate_known"
+}
+
+#[tactic(auto, unfolding(crate::specs::Sentences::attributes))]
+fn attributes() -> &'static str
+    ensures { result.now ≡ sentences.attributes }
+{
+    "appid, version, brand, ap, lang, cohort, platform"
+}
+
+#[tactic(auto, unfolding(crate::specs::Sentences::no_quota_hint))]
+fn no_quota_hint() -> &'static str
+    ensures { result.now ≡ sentences.no_quota_hint }
+{
+    " has no quota: count adds to it, and take doesn't"
+}
+
+#[tactic(auto, unfolding(crate::specs::Sentences::quota_hint))]
+fn quota_hint() -> &'static str
+    ensures { result.now ≡ sentences.quota_hint }
+{
+    " has a quota: take adds to it, and count doesn't"
+}
+
+/// The first array of a name.
+pub fn array_named<'a>(arrays: &'a [CellArray], name: &str) -> Option<&'a CellArray>
+    ensures { option_copied result ≡ shapes.array_named name.now arrays.now }
+{
+    for array in arrays {
+        if array.name.as_str() == name {
+            return Some(array);
+        }
+    }
+    None
+}
+
+fn tell_next(text: &mut String, arrays: &[CellArray]) -> Result<(), AllocError>
+    ensures { OnOk result
+        (string_bytes text.new ≡ string_bytes text.old ++ flat_map sentences.next_name arrays.now) }
+{
+    for array in arrays {
+        tell_one(text, array)?;
+    }
+    Ok(())
+}
+
+fn tell_one(text: &mut String, array: &CellArray) -> Result<(), AllocError>
+    ensures { OnOk result
+        (string_bytes text.new ≡ string_bytes text.old ++ sentences.next_name array.now) }
+{
+    let name = array.name.as_str();
+    write!(text, ", {name}")
+}
+
+fn tell_names(text: &mut String, arrays: &[CellArray]) -> Result<(), AllocError>
+    ensures { OnOk result
+        (string_bytes text.new ≡ string_bytes text.old ++ sentences.array_names arrays.now) }
+{
+    match arrays {
+        [] => text.push_str("none"),
+        [first, others @ ..] => {
+            text.push_str(first.name.as_str())?;
+            tell_next(text, others)
+        }
+    }
+}
+
+// Of a name that stands where an array is expected.
+fn tell_array(text: &mut String, shape: &Shape, found: &str) -> Result<(), AllocError>
+    ensures { OnOk result (string_bytes text.new ≡ string_bytes text.old
+        ++ sentences.array_sentence shape.now found.now (shapes.array_named found.now
+        shape.now.arrays)) }
+{
+    tell_lexeme(text, found)?;
+    match array_named(shape.arrays(), found) {
+        Some(array) => text.push_str(if array.quota.is_some() {
+            quota_hint()
+        } else {
+            no_quota_hint()
+        }),
+        None => {
+            text.push_str(" is no array; there are: ")?;
+            tell_names(text, shape.arrays())
+        }
+    }
+}
+
+/// What is said of L3, behind the lexeme before.
+pub fn tell_name(
+    text: &mut String,
+    shape: &Shape,
+    before: &str,
+    found: &str,
+) -> Result<(), AllocError>
+    ensures { OnOk result (string_bytes text.new ≡ string_bytes text.old
+        ++ sentences.name_sentence shape.now before.now found.now) }
+{
+    if before == "flag" {
+        tell_lexeme(text, found)?;
+        text.push_str(" is no flag; there are: ")?;
+        text.push_str(flags())
+    } else if before == "attr" {
+        tell_lexeme(text, found)?;
+        text.push_str(" is no attribute; there are: ")?;
+        text.push_str(attributes())
+    } else {
+        tell_array(text, shape, found)
+    }
+}

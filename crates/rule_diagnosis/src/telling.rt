@@ -1,0 +1,243 @@
+//! What is told of a rule's text that is refused.
+
+ghost use Rattle.std.specs.Prelude.{◌≡◌, ◌↔◌, ◌++◌, ◌≤◌, ◌<◌, ℕ, List, Err, take, length};
+ghost use Rattle.std.specs.Prelude.{IfSome, IsTrue, OnOk, string_bytes};
+ghost use Rattle.rule_diagnosis.specs.Lexemes as lexemes;
+ghost use Rattle.rule_diagnosis.specs.Told as specs;
+ghost use Rattle.rule_lang.specs.Verdicts.{IsVerdict};
+
+use crate::follower::{Follower, is_missing_semicolon, tell_listed};
+use crate::place::{line_at, line_text, pad_at};
+use crate::quoting::tell_lexeme;
+use crate::range::tell_range;
+use crate::sentence::{tell_name, tell_token};
+use crate::spread::{lexeme_start, spread};
+use crate::trial::followers_of;
+use cells::Shape;
+use rule_lang::{RuleFault, RuleFaultKind, parse};
+use std::alloc::{AllocError, Global};
+use std::fmt::Write;
+use std::str;
+
+/// The most bytes of a rule's text.
+const MOST_BYTES: usize = 65536;
+
+/// What is told of a text whose fault has this line and kind, under the shape of its app: lines,
+/// each ended by a line feed, as
+///
+/// ```text
+/// line 1, column 31: "when" stands where ";" is expected
+///   when version < 2.0.4 offer 1
+///                               ^
+/// ```
+///
+/// Columns are counted in characters from 1. Where nothing but a semicolon may stand the place is
+/// behind the last word. None where memory is refused, where the fault isn't this text's, and
+/// where the text's words, a line each, are more than 65536 bytes.
+pub fn tell_rule_fault(
+    alloc: Global,
+    text: &str,
+    shape: &Shape,
+    line: usize,
+    kind: RuleFaultKind,
+) -> Option<String>
+    ensures { IfSome result
+        (λ told. specs.IsRuleTold shape.now text.now line kind (string_bytes told)) }
+{
+    if text.len() > MOST_BYTES {
+        return tell_too_long(alloc, kind);
+    }
+    let Ok(rows) = spread(alloc, text.as_bytes()) else {
+        return None;
+    };
+    let Ok(rows) = str::from_utf8(rows.as_slice()) else {
+        return None;
+    };
+    let Some(row) = row_of(alloc, rows, shape, kind) else {
+        return None;
+    };
+    let at = lexeme_start(row.saturating_sub(2), text.as_bytes());
+    if line_at(front(text.as_bytes(), at)) != line {
+        return None;
+    }
+    match kind {
+        RuleFaultKind::Token => tell_other(alloc, text, shape, rows, row, RuleFaultKind::Token),
+        RuleFaultKind::Shape => tell_shape(alloc, text, shape, rows, row),
+        RuleFaultKind::Name => tell_other(alloc, text, shape, rows, row, RuleFaultKind::Name),
+        RuleFaultKind::Range => tell_other(alloc, text, shape, rows, row, RuleFaultKind::Range),
+    }
+}
+
+fn tell_too_long(alloc: Global, kind: RuleFaultKind) -> Option<String>
+    ensures { IfSome result (λ told. (text : List ℕ) → 65536 < length text
+        → specs.IsRuleTooLong text kind (string_bytes told)) }
+{
+    match kind {
+        RuleFaultKind::Range => match String::from_str(alloc, rule_too_long()) {
+            Ok(told) => Some(told),
+            Err(_) => None,
+        },
+        _ => None,
+    }
+}
+
+#[tactic(auto, unfolding(crate::specs::Told::rule_too_long))]
+fn rule_too_long() -> &'static str
+    ensures { result.now ≡ specs.rule_too_long }
+{
+    "a rule has at most 65536 bytes\n"
+}
+
+// The row of the lexeme at which a fault of this kind lies; None where it has none.
+fn row_of(alloc: Global, rows: &str, shape: &Shape, kind: RuleFaultKind) -> Option<usize>
+    ensures { IfSome result (λ row. (2 ≤ row)
+        × IsVerdict shape.now rows.now (Err (RuleFault.At row kind))) }
+{
+    match parse(alloc, rows, shape) {
+        Err(RuleFault::At { line, kind: other }) if 2 <= line && is_same(kind, other) => Some(line),
+        _ => None,
+    }
+}
+
+fn is_same(kind: RuleFaultKind, other: RuleFaultKind) -> bool
+    ensures { IsTrue result ↔ (kind ≡ other) }
+{
+    kind == other
+}
+
+// At most so many bytes of the front.
+fn front(text: &[u8], count: usize) -> &[u8]
+    ensures { result.now ≡ take count text.now }
+{
+    if count < text.len() {
+        &text[..count]
+    } else {
+        text
+    }
+}
+
+// Of a token that is misplaced.
+fn tell_shape(alloc: Global, text: &str, shape: &Shape, rows: &str, row: usize) -> Option<String>
+    requires { rows.now ≡ lexemes.spread text.now }
+    ensures { IfSome result (λ told. specs.AreLines shape.now text.now RuleFaultKind.Shape row
+        (string_bytes told)) }
+{
+    let at = lexeme_start(row.saturating_sub(2), text.as_bytes());
+    let Some(found) = followers_of(alloc, shape, front(text.as_bytes(), at)) else {
+        return None;
+    };
+    let mut sentence = String::new(alloc);
+    match tell_misplaced(&mut sentence, line_text(row, rows), found.as_slice()) {
+        Ok(()) => {
+            let place = place_of(text, rows, row, found.as_slice());
+            tell_at(alloc, text, place, sentence.as_str())
+        }
+        Err(_) => None,
+    }
+}
+
+fn tell_misplaced(text: &mut String, lexeme: &str, found: &[Follower]) -> Result<(), AllocError>
+    ensures { OnOk result (string_bytes text.new ≡ string_bytes text.old
+        ++ specs.shape_sentence lexeme.now found.now) }
+{
+    tell_lexeme(text, lexeme)?;
+    text.push_str(" stands where ")?;
+    tell_listed(text, found)?;
+    text.push_str(" is expected")
+}
+
+// Where a semicolon is missing, behind the lexeme before, else at the lexeme.
+fn place_of(text: &str, rows: &str, row: usize, found: &[Follower]) -> usize
+    requires { rows.now ≡ lexemes.spread text.now }
+    ensures { result ≡ specs.shape_place text.now row found.now }
+{
+    if is_missing_semicolon(found) {
+        let before = line_text(row.saturating_sub(1), rows);
+        lexeme_start(row.saturating_sub(3), text.as_bytes()) + before.len()
+    } else {
+        lexeme_start(row.saturating_sub(2), text.as_bytes())
+    }
+}
+
+// Of a fault of another kind.
+fn tell_other(
+    alloc: Global,
+    text: &str,
+    shape: &Shape,
+    rows: &str,
+    row: usize,
+    kind: RuleFaultKind,
+) -> Option<String>
+    requires { rows.now ≡ lexemes.spread text.now }
+    ensures { IfSome result (λ told. string_bytes told ≡ specs.told_at text.now
+        (specs.row_start text.now row) (specs.sentence shape.now text.now kind row)) }
+{
+    let mut sentence = String::new(alloc);
+    match tell_sentence(&mut sentence, shape, rows, row, kind) {
+        Ok(()) => {
+            let at = lexeme_start(row.saturating_sub(2), text.as_bytes());
+            tell_at(alloc, text, at, sentence.as_str())
+        }
+        Err(_) => None,
+    }
+}
+
+fn tell_sentence(
+    text: &mut String,
+    shape: &Shape,
+    rows: &str,
+    row: usize,
+    kind: RuleFaultKind,
+) -> Result<(), AllocError>
+    ensures { OnOk result (string_bytes text.new ≡ string_bytes text.old
+        ++ specs.sentence_in shape.now rows.now kind row) }
+{
+    let found = line_text(row, rows);
+    let before = line_text(row.saturating_sub(1), rows);
+    let earlier = line_text(row.saturating_sub(2), rows);
+    match kind {
+        RuleFaultKind::Token => tell_token(text, found),
+        RuleFaultKind::Shape => Ok(()),
+        RuleFaultKind::Name => tell_name(text, shape, before, found),
+        RuleFaultKind::Range => tell_range(text, shape, earlier, before, found),
+    }
+}
+
+// A sentence on a place, and the line with a caret.
+fn tell_at(alloc: Global, text: &str, place: usize, sentence: &str) -> Option<String>
+    ensures { IfSome result
+        (λ told. string_bytes told ≡ specs.told_at text.now place sentence.now) }
+{
+    let before = front(text.as_bytes(), place);
+    let line = line_at(before);
+    let Ok(pad) = pad_at(alloc, before) else {
+        return None;
+    };
+    let mut told = String::new(alloc);
+    match tell_lines(
+        &mut told,
+        line,
+        line_text(line, text),
+        pad.as_str(),
+        sentence,
+    ) {
+        Ok(()) => Some(told),
+        Err(_) => None,
+    }
+}
+
+fn tell_lines(
+    text: &mut String,
+    line: usize,
+    shown: &str,
+    pad: &str,
+    sentence: &str,
+) -> Result<(), AllocError>
+    ensures { OnOk result (string_bytes text.new ≡ string_bytes text.old
+        ++ specs.lines_of line shown.now pad.now sentence.now) }
+{
+    let column = pad.len() + 1;
+    writeln!(text, "line {line}, column {column}: {sentence}")?;
+    writeln!(text, "  {shown}")?;
+    writeln!(text, "  {pad}^")
+}
