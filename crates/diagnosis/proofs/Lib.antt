@@ -1,4 +1,3 @@
-mod Nth
 mod Once
 mod Parts
 mod Passing

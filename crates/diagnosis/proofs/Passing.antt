@@ -1,5 +1,6 @@
 -- From what was loaded, and from what was read again, to what is told.
 use Rattle.std.proofs.Common.{◌≡◌, ℕ, List, [], Some, true, ◌∙◌, subst}
+use Rattle.load.specs.manifest.cells.Arrays.{AppShape}
 use Rattle.load.specs.manifest.cells.declared.array.CellArray.{CellArray}
 use Rattle.diagnosis.specs.Check.{PassesCheck}
 use Rattle.diagnosis.specs.Inside.{is_inside}
@@ -27,10 +28,10 @@ passes known old bytes text rules arrays lent apps is loaded same_arrays same_ap
           rules.apps over_none.read.1 over_none.declared;
     }
 
-pub is_shown : (known : KnownFiles) (file lent bytes slice text : List ℕ) (place : Place)
-    → lent ≡ file → is_inside lent ≡ true → Gives known lent (Some bytes) → slice ≡ bytes
-    → IsShown place slice text → ShowsPlace known file place text
-is_shown known file lent bytes slice text place same stays gives whole is =
+pub is_shown : (known : KnownFiles) (file lent bytes slice text : List ℕ) (s : AppShape)
+    (place : Place) → lent ≡ file → is_inside lent ≡ true → Gives known lent (Some bytes)
+    → slice ≡ bytes → IsShown s place slice text → ShowsPlace known file s place text
+is_shown known file lent bytes slice text s place same stays gives whole is =
     shown bytes (subst (λ (name : List ℕ). is_inside name ≡ true) same stays)
     (subst (λ (name : List ℕ). Gives known name (Some bytes)) same gives)
-    (subst (λ (b : List ℕ). IsShown place b text) whole is)
+    (subst (λ (b : List ℕ). IsShown s place b text) whole is)

@@ -1,4 +1,5 @@
 pub mod Texts
+pub mod Advice
 pub mod Inside
 pub mod Shown
 pub mod Reason

@@ -1,8 +1,14 @@
 -- Where and why a manifest is refused.
 use Rattle.std.specs.Prelude.{◌≡◌, ℕ, ◌-◌, List, [], ◌++◌, codes, slice_get, Some, Ok}
+use Rattle.load.specs.App.{IsShapeOf}
+use Rattle.load.specs.manifest.cells.Arrays.{AppShape}
 use Rattle.load.specs.manifest.cells.Directory.{Declaration}
+use Rattle.load.specs.manifest.cells.declared.array.ArrayNo.{ArrayNo}
+use Rattle.load.specs.manifest.cells.declared.array.CellArray.{CellArray}
+use Rattle.load.specs.manifest.declarations.Order.{AreDeclared}
+use Rattle.diagnosis.specs.Advice.{advice}
 use Rattle.diagnosis.specs.declared.shown.Place.{Place}
-use Rattle.diagnosis.specs.declared.shown.Place.TheVariants.{Whole, Slot, Line}
+use Rattle.diagnosis.specs.declared.shown.Place.TheVariants.{Whole, Slot, Rule as InRule}
 use Rattle.diagnosis.specs.Shown.{ShowsPlace}
 use Rattle.diagnosis.specs.Texts.{file_line, cells_line}
 use Rattle.load.specs.rulesets.Texts.{line}
@@ -26,15 +32,11 @@ use Rattle.load.specs.manifest.declared.fault.ManifestFault.TheVariants as unrea
 use Rattle.load.specs.manifest.declared.fault.TomlFault.{TomlFault}
 use Rattle.load.specs.manifest.declared.fault.TomlFault.TheVariants as toml
 
--- ---- entries by their numbers, from 1
+-- ---- an entry by its number, from 1
 
 abbrev pub IsArrayAt : List ℕ → ℕ → Declaration → Type 0
 IsArrayAt bytes number array = (manifest : Manifest) × ReadsManifest bytes (Ok manifest)
     × (slice_get manifest.arrays (number - 1) ≡ Some array)
-
-abbrev pub IsAppAt : List ℕ → ℕ → AppEntry → Type 0
-IsAppAt bytes number app = (manifest : Manifest) × ReadsManifest bytes (Ok manifest)
-    × (slice_get manifest.apps (number - 1) ≡ Some app)
 
 -- ---- faults of the manifest's bytes, and of its arrays
 
@@ -45,7 +47,8 @@ IsTomlReason toml.Text text = Unit {0}
 
 abbrev pub IsManifestReason : ManifestFault → List ℕ → Type 0
 IsManifestReason (unread.Toml fault) text = IsTomlReason fault text
-IsManifestReason (unread.Field misfit) text = text ≡ line (misfit_text misfit)
+IsManifestReason (unread.Field misfit) text =
+    text ≡ line (misfit_text misfit) ++ advice misfit
 IsManifestReason (unread.Duplicate twice) text = text ≡ twice_text twice ++ codes " stands twice\n"
 IsManifestReason unread.Memory text = text ≡ []
 
@@ -62,22 +65,34 @@ slot_of (Flow (flow.Rule slot rule)) = Slot slot
 slot_of (Verify (verify.Rule slot rule)) = Slot slot
 slot_of fault = Whole
 
-abbrev pub line_of : RuleTextFault → Place
-line_of (Text (rule.At number kind)) = Line number
-line_of fault = Whole
+abbrev pub rule_place : RuleTextFault → Place
+rule_place (Text (rule.At line kind)) = InRule line kind
+rule_place fault = Whole
+
+-- the shape of an app, with these arrays declared over none
+pub record HasShape (arrays : List Declaration) (app : AppEntry) (shape : AppShape) : Type 0 where
+  pub numbers : List ArrayNo
+  pub directory : List CellArray
+  pub declared : AreDeclared [] arrays numbers directory
+  pub shape_is : IsShapeOf directory numbers app shape
 
 -- the name of the file, and what is shown of it
-pub record IsTold (known : KnownFiles) (number : ℕ) (place : Place) (app : AppEntry) (text : List ℕ)
-    : Type 0 where
+pub record IsTold (known : KnownFiles) (number : ℕ) (shape : AppShape) (place : Place)
+    (app : AppEntry) (text : List ℕ) : Type 0 where
   pub place_text : List ℕ
-  pub shows : ShowsPlace known (file_of app.source) place place_text
+  pub shows : ShowsPlace known (file_of app.source) shape place place_text
   pub text_is : text ≡ file_line number app.source ++ place_text
 
 module _ (known : KnownFiles) (bytes : List ℕ) where
   -- of the app of this number
-  abbrev pub IsFileReason : ℕ → Place → List ℕ → Type 0
-  IsFileReason number place text =
-      (app : AppEntry) × IsAppAt bytes number app × IsTold known number place app text
+  pub record IsFileReason (number : ℕ) (place : Place) (text : List ℕ) : Type 0 where
+    pub manifest : Manifest
+    pub read : ReadsManifest bytes (Ok manifest)
+    pub app : AppEntry
+    pub stands : slice_get manifest.apps (number - 1) ≡ Some app
+    pub shape : AppShape
+    pub shape_is : HasShape manifest.arrays app shape
+    pub told : IsTold known number shape place app text
 
   -- the lines beside a refusal
   abbrev pub IsReason : LoadFault → List ℕ → Type 0
@@ -85,5 +100,5 @@ module _ (known : KnownFiles) (bytes : List ℕ) where
   IsReason (Cells number fault) text = IsCellsReason bytes number text
   IsReason (File number) text = IsFileReason number Whole text
   IsReason (Program number fault) text = IsFileReason number (slot_of fault) text
-  IsReason (Rule number fault) text = IsFileReason number (line_of fault) text
+  IsReason (Rule number fault) text = IsFileReason number (rule_place fault) text
   IsReason Memory text = text ≡ []

@@ -7,8 +7,10 @@ ghost use Rattle.diagnosis.specs.Texts.{file_line, source_key};
 ghost use Rattle.load.specs.Source as specs;
 
 use crate::inside::is_inside;
+use crate::shape::shape_of;
 use crate::shown::{Place, show};
 use load::Files;
+use load::manifest::cells::Shape;
 use load::manifest::{AppEntry, ProgramSource, read_manifest};
 use std::alloc::{AllocError, Global};
 use std::fmt::Write;
@@ -32,12 +34,16 @@ pub(crate) fn tell_file<F: Files>(
     let Some(entry) = manifest.apps().get(app.saturating_sub(1)) else {
         return None;
     };
-    tell_entry(alloc, files, app, place, entry)
+    let Some(shape) = shape_of(alloc, manifest.arrays(), entry) else {
+        return None;
+    };
+    tell_entry(alloc, files, &shape, app, place, entry)
 }
 
 fn tell_entry<F: Files>(
     alloc: Global,
     files: &mut F,
+    shape: &Shape,
     app: usize,
     place: Place,
     entry: &AppEntry,
@@ -45,13 +51,13 @@ fn tell_entry<F: Files>(
     requires { F.failed files.old < 2 ^ 64 - 1 }
     ensures known { F.known files.new ≡ F.known files.old }
     ensures told { IfSome result (λ text.
-        IsTold (F.known files.old) app place entry.now (string_bytes text)) }
+        IsTold (F.known files.old) app shape.now place entry.now (string_bytes text)) }
 {
     let mut text = String::new(alloc);
     let Ok(()) = tell_name(&mut text, app, entry.source()) else {
         return None;
     };
-    let shown = show_again(alloc, files, entry.source(), place);
+    let shown = show_again(alloc, files, shape, entry.source(), place);
     match text.push_str(shown.as_str()) {
         Ok(()) => Some(text),
         Err(_) => None,
@@ -80,12 +86,13 @@ fn key_of(source: &ProgramSource) -> &'static str
 fn show_again<F: Files>(
     alloc: Global,
     files: &mut F,
+    shape: &Shape,
     source: &ProgramSource,
     place: Place,
 ) -> String
     requires { F.failed files.old < 2 ^ 64 - 1 }
     ensures known { F.known files.new ≡ F.known files.old }
-    ensures shows { ShowsPlace (F.known files.old) (specs.file_of source.now) place
+    ensures shows { ShowsPlace (F.known files.old) (specs.file_of source.now) shape.now place
         (string_bytes result) }
 {
     if place == Place::Whole {
@@ -98,7 +105,7 @@ fn show_again<F: Files>(
     let Ok(bytes) = files.bytes(name) else {
         return String::new(alloc);
     };
-    match show(alloc, place, bytes.as_slice()) {
+    match show(alloc, place, shape, bytes.as_slice()) {
         Some(text) => text,
         None => String::new(alloc),
     }

@@ -12,11 +12,13 @@
 // shown.
 
 mod accepted;
+mod advice;
 mod checking;
 mod file;
 mod inside;
 mod law;
 mod reason;
+mod shape;
 mod shown;
 
 pub use checking::{Refused, check, too_long};

@@ -1,11 +1,16 @@
 //! Where and why a manifest is refused.
 
-ghost use Rattle.std.specs.Prelude.{◌≡◌, ◌^◌, ◌-◌, ◌<◌, ◌++◌, ◌⊎◌, [], OnOk, IfSome, string_bytes};
+ghost use Rattle.std.specs.Prelude.{◌≡◌, ◌^◌, ◌-◌, ◌<◌, ◌++◌, ◌⊎◌, []};
+ghost use Rattle.std.specs.Prelude.{OnOk, IfSome, string_bytes};
 ghost use Rattle.diagnosis.specs.Reason.{IsCellsReason, IsManifestReason, IsReason, IsTomlReason};
 ghost use Rattle.diagnosis.specs.Reason as specs;
 ghost use Rattle.diagnosis.specs.Texts.{cells_line};
+ghost use Rattle.diagnosis.specs.Advice.{advice};
 ghost use Rattle.diagnosis.specs.Texts as texts;
+ghost use Rattle.load.specs.manifest.Texts.{misfit_text};
+ghost use Rattle.load.specs.rulesets.Texts.{line};
 
+use crate::advice::advice;
 use crate::file::tell_file;
 use crate::shown::Place;
 use load::acceptance::bpf_verify::Refusal;
@@ -13,11 +18,16 @@ use load::acceptance::flow_check::FlowFault;
 use load::acceptance::rule_compile::CompileFault;
 use load::acceptance::rule_lang::RuleFault;
 use load::acceptance::{ProgramFault, RuleTextFault};
-use load::manifest::{ManifestFault, TomlFault, read_manifest};
+use load::manifest::{ManifestFault, Misfit, TomlFault, read_manifest};
 use load::{Files, LoadFault};
 use std::alloc::{AllocError, Global};
 use std::fmt::Write;
 use toml::table_from_slice;
+
+// How the tables of a manifest are begun, since of a list that is begun otherwise the reader of
+// TOML mostly names another line.
+const TABLES: &str =
+    "tables begin with [[array]], [[app]], [[app.release]] or [[app.release.package]]\n";
 
 /// The lines beside the refusal of a manifest; none where memory for them is refused.
 pub(crate) fn reason_of<F: Files>(
@@ -54,7 +64,13 @@ fn tell_reason<F: Files>(
         LoadFault::Program { app, fault } => {
             tell_file(alloc, manifest, files, *app, slot_of(fault))
         }
-        LoadFault::Rule { app, fault } => tell_file(alloc, manifest, files, *app, line_of(fault)),
+        LoadFault::Rule { app, fault } => tell_file(
+            alloc,
+            manifest,
+            files,
+            *app,
+            rule_place(fault),
+        ),
         LoadFault::Cells { array, .. } => tell_array(alloc, manifest, *array),
         LoadFault::Memory => None,
     }
@@ -66,10 +82,29 @@ fn tell_manifest(alloc: Global, manifest: &[u8], fault: &ManifestFault) -> Optio
 {
     match fault {
         ManifestFault::Toml(fault) => tell_toml(alloc, manifest, *fault),
-        ManifestFault::Field(misfit) => format!(in alloc; "{misfit}\n").ok(),
+        ManifestFault::Field(misfit) => tell_misfit(alloc, misfit),
         ManifestFault::Duplicate(twice) => format!(in alloc; "{twice} stands twice\n").ok(),
         ManifestFault::Memory => None,
     }
+}
+
+fn tell_misfit(alloc: Global, misfit: &Misfit) -> Option<String>
+    ensures { IfSome result (λ text.
+        string_bytes text ≡ line (misfit_text misfit.now) ++ advice misfit.now) }
+{
+    let mut text = String::new(alloc);
+    match push_misfit(&mut text, misfit) {
+        Ok(()) => Some(text),
+        Err(_) => None,
+    }
+}
+
+fn push_misfit(text: &mut String, misfit: &Misfit) -> Result<(), AllocError>
+    ensures { OnOk result (string_bytes text.new
+        ≡ string_bytes text.old ++ line (misfit_text misfit.now) ++ advice misfit.now) }
+{
+    writeln!(text, "{misfit}")?;
+    text.push_str(advice(misfit))
 }
 
 // That the bytes are too many, or what the reader of TOML says of them, which it is asked once more
@@ -80,7 +115,7 @@ pub(crate) fn tell_toml(alloc: Global, manifest: &[u8], fault: TomlFault) -> Opt
     match fault {
         TomlFault::TooLong => format!(in alloc; "more than 1048576 bytes\n").ok(),
         TomlFault::Text => match table_from_slice(alloc, manifest) {
-            Err(error) if !error.is_memory() => format!(in alloc; "{error}").ok(),
+            Err(error) if !error.is_memory() => format!(in alloc; "{error}{TABLES}").ok(),
             _ => None,
         },
     }
@@ -97,11 +132,11 @@ fn slot_of(fault: &ProgramFault) -> Place
     }
 }
 
-fn line_of(fault: &RuleTextFault) -> Place
-    ensures { result ≡ specs.line_of fault.now }
+fn rule_place(fault: &RuleTextFault) -> Place
+    ensures { result ≡ specs.rule_place fault.now }
 {
     match fault {
-        RuleTextFault::Text(RuleFault::At { line, .. }) => Place::Line(*line),
+        RuleTextFault::Text(RuleFault::At { line, kind }) => Place::Rule(*line, *kind),
         RuleTextFault::Text(RuleFault::Memory) => Place::Whole,
         RuleTextFault::Compile(CompileFault::TooLong) => Place::Whole,
         RuleTextFault::Compile(CompileFault::Memory) => Place::Whole,

@@ -1,11 +1,14 @@
 //! What is shown of an app's file: the place at which its fault lies.
 
 ghost use Rattle.std.specs.Prelude.{◌≡◌, IfSome, string_bytes};
-ghost use Rattle.diagnosis.specs.Shown.{IsShown};
+ghost use Rattle.diagnosis.specs.Shown.{IsInsnShown, IsShown};
 ghost use Rattle.diagnosis.specs.Shown as specs;
 
 use bpf_insn::decode_at;
 use bpf_text::line_of;
+use load::acceptance::rule_lang::RuleFaultKind;
+use load::manifest::cells::Shape;
+use rule_diagnosis::{line_text, tell_rule_fault};
 use std::alloc::Global;
 use std::str;
 
@@ -16,23 +19,24 @@ pub(crate) enum Place {
     Whole,
     /// The instruction that begins at a slot.
     Slot(usize),
-    /// A line of its text, from 1.
-    Line(usize),
+    /// A line of a rule's text, from 1, in which there is a fault of this kind.
+    Rule(usize, RuleFaultKind),
 }
 
-/// The line that shows a place, unless there is no such place or memory is refused.
-pub(crate) fn show(alloc: Global, place: Place, bytes: &[u8]) -> Option<String>
-    ensures { IfSome result (λ text. IsShown place bytes.now (string_bytes text)) }
+/// The lines that show a place in the file of an app of this shape, unless there is no such place
+/// or memory is refused.
+pub(crate) fn show(alloc: Global, place: Place, shape: &Shape, bytes: &[u8]) -> Option<String>
+    ensures { IfSome result (λ text. IsShown shape.now place bytes.now (string_bytes text)) }
 {
     match place {
         Place::Whole => None,
         Place::Slot(slot) => show_insn(alloc, slot, bytes),
-        Place::Line(number) => show_line(alloc, number, bytes),
+        Place::Rule(line, kind) => show_rule(alloc, shape, line, kind, bytes),
     }
 }
 
 fn show_insn(alloc: Global, slot: usize, bytes: &[u8]) -> Option<String>
-    ensures { IfSome result (λ text. IsShown (Place.Slot slot) bytes.now (string_bytes text)) }
+    ensures { IfSome result (λ text. IsInsnShown slot bytes.now (string_bytes text)) }
 {
     let Ok((insn, _)) = decode_at(bytes, slot) else {
         return None;
@@ -46,22 +50,32 @@ fn show_insn(alloc: Global, slot: usize, bytes: &[u8]) -> Option<String>
     }
 }
 
-fn show_line(alloc: Global, number: usize, bytes: &[u8]) -> Option<String>
-    ensures { IfSome result (λ text. IsShown (Place.Line number) bytes.now (string_bytes text)) }
+// What is told of the fault of a rule, or at least its line.
+fn show_rule(
+    alloc: Global,
+    shape: &Shape,
+    line: usize,
+    kind: RuleFaultKind,
+    bytes: &[u8],
+) -> Option<String>
+    ensures { IfSome result (λ text.
+        IsShown shape.now (Place.Rule line kind) bytes.now (string_bytes text)) }
 {
     let Ok(text) = str::from_utf8(bytes) else {
         return None;
     };
-    let line = text_at(number, text);
-    match format!(in alloc; "line {number}: {line}\n") {
-        Ok(text) => Some(text),
-        Err(_) => None,
+    match tell_rule_fault(alloc, text, shape, line, kind) {
+        Some(told) => Some(told),
+        None => show_line(alloc, line, text),
     }
 }
 
-// The text of a line, which is empty behind the last.
-fn text_at(number: usize, text: &str) -> &str
-    ensures { result.now ≡ specs.text_at number text.now }
+fn show_line(alloc: Global, number: usize, text: &str) -> Option<String>
+    ensures { IfSome result (λ shown. string_bytes shown ≡ specs.numbered_line number text.now) }
 {
-    text.lines().nth(number.saturating_sub(1)).unwrap_or("")
+    let line = line_text(number, text);
+    match format!(in alloc; "line {number}: {line}\n") {
+        Ok(shown) => Some(shown),
+        Err(_) => None,
+    }
 }

@@ -15,7 +15,7 @@ returns-in_default-clause-shows g c = rw c.new-in_default.ensures.bytes nothing
 
 pub returns-in-Some-clause-shows : goal.returns-in-Some-clause-shows
 returns-in-Some-clause-shows g c =
-    is_shown _ _ _ _ _ _ _ c.file_of-name.ensures
+    is_shown _ _ _ _ _ _ _ _ c.file_of-name.ensures
     (sym c.is_inside.ensures ∙ c.if-not-is_inside.false) c.in-Ok.ensures.read
     c.as_slice.ensures.value c.in-Some.ensures
 

@@ -1,0 +1,45 @@
+-- What is said beside a member that doesn't fit: of one that there isn't, which there are, and of a
+-- list of tables how they are begun.
+use Rattle.std.specs.Prelude.{ℕ, List, [], codes}
+use Rattle.load.specs.manifest.declared.misfit.AppMisfit.{AppMisfit}
+use Rattle.load.specs.manifest.declared.misfit.AppMisfit.TheVariants as app
+use Rattle.load.specs.manifest.declared.misfit.ArrayMisfit.{ArrayMisfit}
+use Rattle.load.specs.manifest.declared.misfit.ArrayMisfit.TheVariants as array
+use Rattle.load.specs.manifest.declared.misfit.InList.TheVariants.{Count, At}
+use Rattle.load.specs.manifest.declared.misfit.Misfit.{Misfit}
+use Rattle.load.specs.manifest.declared.misfit.Misfit.TheVariants as misfit
+use Rattle.load.specs.manifest.declared.misfit.PackageMisfit.{PackageMisfit}
+use Rattle.load.specs.manifest.declared.misfit.PackageMisfit.TheVariants as the_package
+use Rattle.load.specs.manifest.declared.misfit.ReleaseMisfit.{ReleaseMisfit}
+use Rattle.load.specs.manifest.declared.misfit.ReleaseMisfit.TheVariants as release
+
+abbrev pub package_advice : PackageMisfit → List ℕ
+package_advice (the_package.Unknown key) =
+    codes "the members of a package: name, hash_sha256, size, required\n"
+package_advice m = []
+
+abbrev pub release_advice : ReleaseMisfit → List ℕ
+release_advice (release.Unknown key) =
+    codes "the members of a release: version, codebase, package\n"
+release_advice (release.Packages Count) =
+    codes "each package begins with [[app.release.package]]\n"
+release_advice (release.Packages (At number m)) = package_advice m
+release_advice m = []
+
+abbrev pub app_advice : AppMisfit → List ℕ
+app_advice (app.Unknown key) = codes "the members of an app: appid, program or rule, release\n"
+app_advice (app.Releases Count) = codes "each release begins with [[app.release]]\n"
+app_advice (app.Releases (At number m)) = release_advice m
+app_advice m = []
+
+abbrev pub array_advice : ArrayMisfit → List ℕ
+array_advice (array.Unknown key) = codes "the members of an array: name, width, length, quota\n"
+array_advice m = []
+
+unfoldable pub advice : Misfit → List ℕ
+advice (misfit.Unknown key) = codes "the members of a manifest: server, array, app\n"
+advice (misfit.Arrays Count) = codes "each array begins with [[array]]\n"
+advice (misfit.Arrays (At number m)) = array_advice m
+advice (misfit.Apps Count) = codes "each app begins with [[app]]\n"
+advice (misfit.Apps (At number m)) = app_advice m
+advice m = []
