@@ -83,10 +83,11 @@ fn told_alone(alloc: Global, manifest: &str) -> Result<String, Fail> {
     Ok(told(alloc, &mut files, manifest)?)
 }
 
-/// Whether that is what is wanted. What the reader of TOML says behind its place is its own affair.
+/// Whether that is what is wanted. What the reader of TOML says behind its place is its own affair;
+/// how tables begin stands behind it.
 fn fits(told: &str, want: &str) -> bool {
     if want.starts_with("M1") {
-        return told.starts_with(want.trim()) && told.ends_with(" / ");
+        return told.starts_with(want.trim()) && told.ends_with("[[app.release.package]] / ");
     }
     told.trim() == want.trim()
 }

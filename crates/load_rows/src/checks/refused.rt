@@ -10,9 +10,11 @@ const ROWS: &str = r#"
 - server = "prod" => server = | M1 Toml / TOML parse error at line 2, column
 - name = "q" => name = "q | M1 Toml / TOML parse error at line 4, column
 - server = => sever = | M2 Field / sever: no member of a manifest /
+the members of a manifest: server, array, app /
 - server = "prod" => server = 1 | M2 Field / server: a text /
 - length = 10 => length = 4097 | M2 Field / array[2].length: a whole number from 1 to 4096 /
 - quota = 2 => limit = 2 | M2 Field / array[1].limit: no member of an array /
+the members of an array: name, width, length, quota /
 - rule = "y.rule" => rule = "y.rule" / program = "x.bpf"
  | M2 Field / app[2].program or rule: one of the two, the name of a file /
 - version = "2.0.0.0" => version = "two"
@@ -21,6 +23,7 @@ const ROWS: &str = r#"
  | M2 Field / app[1].release[1].package[1].size: a whole number from 0 to 9007199254740991 /
 - rule = "y.rule" => rule = "y.rule" / release = [1] | M2 Field / app[2].release[1]: a table /
 - rule = "y.rule" => rule = "y.rule" / release = 1 | M2 Field / app[2].release: at most 64 tables /
+each release begins with [[app.release]] /
 - name = "n" => name = "q" | M3 Duplicate / array q stands twice /
 - appid = "y" => appid = "x" | M3 Duplicate / app x stands twice /
 - width = 32 / length = 10 => width = 64 / length = 4096 | 
@@ -44,20 +47,31 @@ array[2].length: n passes the 4096 cells that all arrays of a width have /
  | M5 Program V11 MapIndex at slot 2 in app 1 / app[1].program: wide.bpf / slot 2: ldcell r7, 2, 8 /
 - "y.rule" => "no_text.rule" | M6 Rule L1 Token at line 1 in app 2 / app[2].rule: no_text.rule /
 - "y.rule" => "token.rule"
- | M6 Rule L1 Token at line 2 in app 2 / app[2].rule: token.rule / line 2: otherwise none; $ /
+ | M6 Rule L1 Token at line 2 in app 2 / app[2].rule: token.rule /
+line 2, column 17: "$" is no word of a rule /   otherwise none; $ /                   ^ /
 - "y.rule" => "shape.rule"
- | M6 Rule L2 Shape at line 1 in app 2 / app[2].rule: shape.rule / line 1: when offer 1; /
+ | M6 Rule L2 Shape at line 1 in app 2 / app[2].rule: shape.rule /
+line 1, column 6: "offer" stands where "not", "version", "bucket", "today", "installed", "flag",
+"attr", "take" or "(" is expected /   when offer 1; /        ^ /
 - "y.rule" => "name.rule"
- | M6 Rule L4 Range at line 1 in app 2 / app[2].rule: name.rule / line 1: when take(q, 0) offer 1; /
+ | M6 Rule L4 Range at line 1 in app 2 / app[2].rule: name.rule /
+line 1, column 23: "1" is out of range: the app has no release /   when take(q, 0) offer 1; /
+                        ^ /
 - "y.rule" => "count.rule"
- | M6 Rule L3 Name at line 2 in app 2 / app[2].rule: count.rule / line 2:   count q[0]; /
+ | M6 Rule L3 Name at line 2 in app 2 / app[2].rule: count.rule /
+line 2, column 9: "q" has a quota: take adds to it, and count doesn't /     count q[0]; /
+          ^ /
 - "y.rule" => "unfinished.rule"
- | M6 Rule L2 Shape at line 1 in app 2 / app[2].rule: unfinished.rule / line 1: count n[0]; /
+ | M6 Rule L2 Shape at line 1 in app 2 / app[2].rule: unfinished.rule /
+line 1, column 12: the text's end stands where "when", "count" or "otherwise" is expected /
+  count n[0]; /              ^ /
 - "y.rule" => "ended.rule"
- | M6 Rule L2 Shape at line 2 in app 2 / app[2].rule: ended.rule / line 2:  /
+ | M6 Rule L2 Shape at line 2 in app 2 / app[2].rule: ended.rule /
+line 2, column 1: the text's end stands where "when", "count" or "otherwise" is expected /
+   /   ^ /
 - "y.rule" => "./sub//..token.rule"
  | M6 Rule L1 Token at line 2 in app 2 / app[2].rule: ./sub//..token.rule /
-line 2: otherwise none; $ /
+line 2, column 17: "$" is no word of a rule /   otherwise none; $ /                   ^ /
 - "y.rule" => "/abs/token.rule"
  | M6 Rule L1 Token at line 2 in app 2 / app[2].rule: /abs/token.rule /
 - "y.rule" => "../token.rule"
