@@ -38,7 +38,11 @@ app = [{ appid = \"x\", program = \"k_none.bin\" }, { appid = \"y\", program = \
     ),
     (
         "server = \"\"\napp = [{ appid = \"x\", rule = \"k_wrong.rule\" }]",
-        "app[1].rule: k_wrong.rule\nline 2: count q[0];\n",
+        "app[1].rule: k_wrong.rule
+line 2, column 7: \"q\" is no array; there are: none
+  count q[0];
+        ^
+",
         "refused M6 Rule L3 Name at line 2 in app 1\n",
     ),
     (
