@@ -1,1 +1,2 @@
+mod Magnitudes
 mod Numbers

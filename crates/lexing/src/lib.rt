@@ -1,6 +1,11 @@
-//! What texts of several kinds spell alike: here the decimal numbers of declarations and scripts.
+//! What the texts of this repository spell alike: letters, digits and the numbers that they write,
+//! in assembler, rules, names of arrays, versions, declarations and scripts.
 #![tactic(auto)]
 
 mod decimal;
+mod digits;
+mod letter;
 
 pub use decimal::decimal_within;
+pub use digits::{digit_value, magnitude};
+pub use letter::{is_letter, is_word_byte};
