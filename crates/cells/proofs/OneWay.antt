@@ -30,7 +30,8 @@ same_array old apart i j a b at_i at_j same =
     same_Some a b (sym at_i ∙ ap (λ n. slice_get old n) one ∙ at_j)
 
 same_outcome : (d : Declaration) {old : List CellArray} {n m : ℕ} {new last : List CellArray}
-    → HasDistinctNames old → Declares d old n new → Declares d old m last → (n ≡ m) × (new ≡ last)
+    → HasDistinctNames old → Declares d old n new → Declares d old m last
+    → (n ≡ m) × (new ≡ last)
 same_outcome d apart (again {n = i} {a = a} at is) (again {n = j} {a = b} there are) =
     (apart i j a b at there (is.name ∙ sym are.name), refl)
 same_outcome d {old} apart (again {n = i} {a = a} at is) (anew fresh room) =

@@ -1,18 +1,12 @@
 -- Names of arrays: a letter or `_`, then letters, digits and `_`, at most 32 in all, in ASCII.
-use Rattle.std.specs.Prelude.{ℕ, ◌≤◌, Bool, false, ◌==◌, ◌&&◌, ◌||◌, IsTrue}
+use Rattle.std.specs.Prelude.{ℕ, ◌≤◌, Bool, false, ◌&&◌, IsTrue}
 use Rattle.std.specs.Prelude.{List, [], ◌∷◌, length}
-use Rattle.std.specs.Char.{is_ascii_alphabetic, is_ascii_digit}
 use Rattle.std.specs.List.{list_all}
-
-abbrev pub is_letter : ℕ → Bool
-is_letter c = is_ascii_alphabetic c || (c == 95)
-
-abbrev pub is_name_byte : ℕ → Bool
-is_name_byte c = is_letter c || is_ascii_digit c
+pub use Rattle.lexing.specs.Letter.{is_letter, is_word_byte}
 
 abbrev pub is_spelled : List ℕ → Bool
 is_spelled [] = false
-is_spelled (c ∷ rest) = is_letter c && list_all is_name_byte rest
+is_spelled (c ∷ rest) = is_letter c && list_all is_word_byte rest
 
 pub record IsName (text : List ℕ) : Type 0 where
   pub spelled : IsTrue (is_spelled text)

@@ -5,7 +5,9 @@ ghost use Rattle.std.specs.List.{list_all};
 ghost use Rattle.cells.specs.Arrays as array;
 ghost use Rattle.cells.specs.Names.{IsName};
 ghost use Rattle.cells.specs.Names as names;
+ghost use Rattle.lexing.specs.Letter.{is_word_byte};
 
+use lexing::{is_letter, is_word_byte};
 use std::alloc::{AllocError, Global};
 use std::marker::Model;
 
@@ -102,21 +104,9 @@ fn is_spelled(bytes: &[u8]) -> bool
 }
 
 fn goes_on(bytes: &[u8]) -> bool
-    ensures { result ≡ list_all names.is_name_byte bytes.now }
+    ensures { result ≡ list_all is_word_byte bytes.now }
 {
-    bytes.iter().all(|byte| is_name_byte(*byte))
-}
-
-fn is_letter(byte: u8) -> bool
-    ensures { result ≡ names.is_letter byte }
-{
-    byte.is_ascii_alphabetic() || byte == b'_'
-}
-
-fn is_name_byte(byte: u8) -> bool
-    ensures { result ≡ names.is_name_byte byte }
-{
-    is_letter(byte) || byte.is_ascii_digit()
+    bytes.iter().all(|byte| is_word_byte(*byte))
 }
 
 impl CellArray {

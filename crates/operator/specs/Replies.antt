@@ -4,7 +4,7 @@ use Rattle.std.specs.Prelude.{ℕ, List, length, Bool, ◌==◌, ◌&&◌, ◌||
 use Rattle.std.specs.Prelude.{nat_eq}
 use Rattle.std.specs.Str.{bytes_eq}
 use Rattle.std.specs.List.{starts_with, ends_with, list_all}
-use Rattle.cells.specs.Names.{is_name_byte}
+use Rattle.cells.specs.Names.{is_word_byte}
 use Rattle.operator_request.specs.Requests.{IsSendable}
 use Rattle.operator_request.specs.declared.request.OperatorRequest.{OperatorRequest}
 use Rattle.operator_request.specs.declared.request.OperatorRequest.TheVariants.{Load, Show}
@@ -17,7 +17,7 @@ begins_lines word bytes = starts_with nat_eq bytes word && ends_with nat_eq byte
 
 -- the bytes of lines like `name[0] 1`
 abbrev pub is_counter_byte : ℕ → Bool
-is_counter_byte c = is_name_byte c || (c == 91) || (c == 93) || (c == 32) || (c == 10)
+is_counter_byte c = is_word_byte c || (c == 91) || (c == 93) || (c == 32) || (c == 10)
 
 abbrev pub are_counter_bytes : List ℕ → Bool
 are_counter_bytes bytes = list_all is_counter_byte bytes
