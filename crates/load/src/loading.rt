@@ -66,7 +66,10 @@ pub fn load_over<F: Files>(
     };
     let numbers = declare_arrays(alloc, &mut grown, &arrays)?;
     let apps = load_apps(alloc, files, &grown, &numbers, apps)?;
-    Ok((Ruleset::known(server.into_string(), apps), grown))
+    let Ok(rules) = Ruleset::known(server.into_string(), apps) else {
+        return Err(LoadFault::Memory);
+    };
+    Ok((rules, grown))
 }
 
 fn read(alloc: Global, bytes: &[u8]) -> Result<Manifest, LoadFault>

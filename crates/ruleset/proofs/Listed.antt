@@ -1,15 +1,9 @@
--- Apps in a list: what was found is known, an appid has one app, and a list of appids at a place.
-use Rattle.std.proofs.Common.{◌≡◌, ◌<◌, ℕ, List, [], length, map, get_or, Option, Some, None, Bor}
-use Rattle.std.proofs.Common.{inl, inr, sym, ap, ◌∙◌, IfSome, Contains, arith}
+-- Apps in a list: an appid has one app, and a list of appids at a place.
+use Rattle.std.proofs.Common.{◌≡◌, ◌<◌, ℕ, List, [], length, map, get_or}
+use Rattle.std.proofs.Common.{inl, inr, sym, ap, ◌∙◌, Contains, arith}
 use Rattle.std.proofs.lemmas.List.{get_or-map, get_or_default, length-map}
 use Rattle.std.proofs.lemmas.Bool.{cases_order}
-use Rattle.ruleset.specs.Rules.{Rules, AppRule, ListsApp, HasOneApp, HasTwice, appids_of}
-
-pub known_found : (rules : Rules) (appid : List ℕ) (o : Option (Bor AppRule))
-    → IfSome o (λ a. Contains rules.apps a.now) → IfSome o (λ a. a.now.appid ≡ appid)
-    → IfSome o (λ a. ListsApp rules appid a.now)
-known_found rules appid None listed is = tt
-known_found rules appid (Some a) listed is = record { listed = listed; appid_is = is }
+use Rattle.ruleset.specs.Rules.{Rules, AppRule, HasOneApp, HasTwice, appids_of}
 
 pub map_at : {X Y : Type 0} (f : X → Y) (xs : List X) (k : ℕ) (x : X) (d : Y) → k < length xs
     → x ≡ get_or xs k x → get_or (map f xs) k d ≡ f x

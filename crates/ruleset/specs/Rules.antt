@@ -1,7 +1,7 @@
 -- A ruleset: the apps that a server knows, in order, each with its program and its releases.
 use Rattle.std.specs.Prelude.{◌≡◌, ℕ, ◌<◌, List, [], length, map, slice_index_or, All, Contains}
 use Rattle.std.specs.Prelude.{Option, IsTrue}
-use Rattle.std.specs.List.{find}
+use Rattle.std.specs.List.{find, position}
 use Rattle.std.specs.Str.{bytes_eq}
 use Rattle.releases.specs.attrs.Attributes.{Attributes, AreShort}
 use Rattle.bpf_verify.specs.bpf_semantics.State.{opening}
@@ -53,6 +53,10 @@ app_of rules appid = app_in rules.apps appid
 abbrev pub appids_of : List AppRule → List (List ℕ)
 appids_of apps = map (λ a. a.appid) apps
 
+-- the place of an appid in a list of appids, from 0
+abbrev pub place_of : List (List ℕ) → List ℕ → Option ℕ
+place_of appids appid = position (bytes_eq appid) appids
+
 -- an appid stands at two places
 pub record HasTwice (appids : List (List ℕ)) : Type 0 where
   pub first : ℕ
@@ -82,8 +86,9 @@ pub record IsApp (app : AppRule) : Type 0 where
   pub ends : AlwaysEndsWell app.program
   pub all : ChoosesAmong app.program app.releases
 
--- what the apps of a ruleset keep
-pub record AppsAreKept (apps : List AppRule) : Type 0 where
+-- what the apps of a ruleset keep, which are looked up in a list of their appids
+pub record AppsAreKept (appids : List (List ℕ)) (apps : List AppRule) : Type 0 where
+  pub listed : appids ≡ appids_of apps
   pub once : ¬ HasTwice (appids_of apps)
   pub each : All IsApp apps
 

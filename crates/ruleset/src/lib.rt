@@ -2,6 +2,7 @@
 #![tactic(auto)]
 
 mod app;
+mod appid_set;
 mod ruleset;
 mod telling;
 mod twice;

@@ -1,11 +1,12 @@
 //! The apps of a server, found by their appids.
 
-ghost use Rattle.std.specs.Prelude.{◌≡◌, ◌≢◌, ◌↔◌, IfOk, IfErr, IfSome, IfNone, All, Contains};
-ghost use Rattle.std.specs.Prelude.{option_copied};
-ghost use Rattle.ruleset.specs.Rules.{IsApp, app_in};
+ghost use Rattle.std.specs.Prelude.{◌≡◌, ◌↔◌, IfOk, IfSome, IfNone, All, option_copied};
+ghost use Rattle.ruleset.specs.Rules.{IsApp};
 
 use crate::app::App;
+use crate::appid_set::AppidSet;
 use crate::twice::has_twice;
+use std::alloc::AllocError;
 use std::marker::Model;
 use thiserror::Error;
 
@@ -15,6 +16,8 @@ pub enum RulesetFault {
     /// An appid stands twice.
     #[error("M3 Duplicate")]
     Duplicate,
+    #[error("M8 Memory")]
+    Memory,
 }
 
 /// The apps that a server knows, in order, and the text that names the server. No appid stands
@@ -23,6 +26,7 @@ pub enum RulesetFault {
 pub struct Ruleset {
     server: String,
     apps: Vec<App>,
+    appids: AppidSet,
 }
 
 impl Model for Ruleset {
@@ -33,7 +37,7 @@ impl Model for Ruleset {
 
     ghost view = { λ r. record { server = string_bytes r.server; apps = r.apps.items } };
 
-    ghost invariant = { λ r. AppsAreKept r.apps.items };
+    ghost invariant = { λ r. AppsAreKept r.appids r.apps.items };
 }
 
 impl Ruleset {
@@ -41,28 +45,35 @@ impl Ruleset {
     ghost use Rattle.ruleset.specs.Rules.{HasTwice, IsRuleset, ListsApp, OffersNone};
     ghost use Rattle.ruleset.specs.Rules.{app_of, appids_of};
 
-    /// The ruleset of these apps, for a server of this name; it takes no memory. M3 exactly where
-    /// an appid stands twice.
+    /// The ruleset of these apps, for a server of this name. M3 exactly where an appid stands
+    /// twice, and M8 where memory is refused.
     pub fn new(server: String, apps: Vec<App>) -> Result<Ruleset, RulesetFault>
         ensures apps { IfOk result (λ r. r.apps ≡ apps.items) }
         ensures server { IfOk result (λ r. r.server ≡ string_bytes server) }
         ensures twice { (result ≡ Err RulesetFault.Duplicate) ↔ HasTwice (appids_of apps.items) }
-        ensures fault { IfErr result (λ e. e ≡ RulesetFault.Duplicate) }
     {
         if has_twice(apps.as_slice()) {
             return Err(RulesetFault::Duplicate);
         }
-        Ok(Ruleset::known(server, apps))
+        match Ruleset::known(server, apps) {
+            Ok(rules) => Ok(rules),
+            Err(_) => Err(RulesetFault::Memory),
+        }
     }
 
-    /// The ruleset of apps of which no appid is known to stand twice; none is compared.
-    pub fn known(server: String, apps: Vec<App>) -> Ruleset
+    /// The ruleset of apps of which the caller knows that no appid stands twice.
+    pub fn known(server: String, apps: Vec<App>) -> Result<Ruleset, AllocError>
         requires { ¬ HasTwice (appids_of apps.items) }
-        ensures apps { result.apps ≡ apps.items }
-        ensures server { result.server ≡ string_bytes server }
+        ensures apps { IfOk result (λ r. r.apps ≡ apps.items) }
+        ensures server { IfOk result (λ r. r.server ≡ string_bytes server) }
     {
         are_apps(apps.as_slice());
-        Ruleset { server, apps }
+        let appids = AppidSet::of(*apps.allocator(), apps.as_slice())?;
+        Ok(Ruleset {
+            server,
+            apps,
+            appids,
+        })
     }
 
     /// What the type keeps. It does nothing: a proof calls it for its clauses.
@@ -89,28 +100,25 @@ impl Ruleset {
     }
 
     /// The app of an appid.
+    #[tactic(auto, using(crate::proofs::Found::is_listed, crate::proofs::Found::offers_none))]
     pub fn find(&self, appid: &str) -> Option<&App>
         ensures found { option_copied result ≡ app_of self.now appid.now }
         ensures known { IfSome result (λ a. ListsApp self.now appid.now a.now) }
         ensures none { IfNone result (OffersNone self.now appid.now) }
     {
-        find_app(self.apps(), appid)
+        self.app_at_place(appid)
     }
-}
 
-// The first app of this appid.
-fn find_app<'a>(apps: &'a [App], appid: &str) -> Option<&'a App>
-    ensures first { option_copied result ≡ app_in apps.now appid.now }
-    ensures found { IfSome result (λ a. Contains apps.now a.now) }
-    ensures appid { IfSome result (λ a. a.now.appid ≡ appid.now) }
-    ensures none { IfNone result (All (λ a. a.appid ≢ appid.now) apps.now) }
-{
-    for app in apps {
-        if app.appid() == appid {
-            return Some(app);
-        }
+    // The app at the place of an appid.
+    #[tactic(auto, using(crate::proofs::Found::nothing_at))]
+    fn app_at_place(&self, appid: &str) -> Option<&App>
+        ensures { option_copied result ≡ app_of self.now appid.now }
+    {
+        let Some(place) = self.appids.place(appid) else {
+            return None;
+        };
+        self.apps.as_slice().get(place)
     }
-    None
 }
 
 // What each app keeps.

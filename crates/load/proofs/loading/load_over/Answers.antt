@@ -13,6 +13,9 @@ returns-in_err-manifest-clause-loads g c =
 pub returns-in_default-clause-loads : goal.returns-in_default-clause-loads
 returns-in_default-clause-loads g c = of_bytes tt
 
+pub returns-in_default-known-clause-loads : goal.returns-in_default-known-clause-loads
+returns-in_default-known-clause-loads g c = of_bytes tt
+
 pub returns-in_err-numbers-clause-loads : goal.returns-in_err-numbers-clause-loads
 returns-in_err-numbers-clause-loads g c =
     let answered : c.from_residual-in_err-numbers.result ≡ Err c.in_err-numbers.field-0.0
