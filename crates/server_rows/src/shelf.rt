@@ -157,7 +157,10 @@ fn ruleset_of(
     }
     let server = String::from_str(alloc, server)?;
     let apps = vec![in alloc; app_of(alloc, program)?]?;
-    Ok(Ruleset::new(server, apps).ok())
+    match Ruleset::new(server, apps) {
+        Ok(rules) => Ok(Some(rules)),
+        Err(_) => Err(AllocError),
+    }
 }
 
 fn release(alloc: Global) -> Result<Release, AllocError> {

@@ -1,4 +1,5 @@
-//! That a ruleset is made where there is memory, which fault is printed, and how long an appid is.
+//! That a ruleset is made where there is memory, how its faults are printed, and how long an appid
+//! is.
 
 use crate::apps::{NONE, app_over};
 use crate::table::must;
@@ -59,10 +60,18 @@ fn appids_stand_once(rt: HostRuntime) -> Result<(), Fail> {
     Ok(())
 }
 
+const FAULTS: [(RulesetFault, &str); 2] = [
+    (RulesetFault::Duplicate, "M3 Duplicate"),
+    (RulesetFault::Memory, "M8 Memory"),
+];
+
 #[test]
-fn fault_is_printed(rt: HostRuntime) -> Result<(), Fail> {
-    let printed = format!(in rt.alloc(); "{}", RulesetFault::Duplicate)?;
-    must(printed.as_str(), printed.as_str() == "M3 Duplicate")
+fn faults_are_printed(rt: HostRuntime) -> Result<(), Fail> {
+    for (fault, want) in FAULTS {
+        let printed = format!(in rt.alloc(); "{fault}")?;
+        must(printed.as_str(), printed.as_str() == want)?;
+    }
+    Ok(())
 }
 
 /// A length in bytes, and whether a text of it is an appid.

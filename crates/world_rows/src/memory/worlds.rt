@@ -10,7 +10,7 @@ use std::sync::Arc;
 use std::test::Fail;
 use world::bpf_verify::{Refusal, Verified, verify};
 use world::flow_check::Flow;
-use world::ruleset::Ruleset;
+use world::ruleset::{Ruleset, RulesetFault};
 use world::{Effect, Event, World, WorldFault};
 
 /// The program that takes of a quota of two.
@@ -40,7 +40,11 @@ fn rules_of(alloc: Global, appids: [&str; 2]) -> Result<Option<Ruleset>, AllocEr
     for appid in appids {
         apps.push(app_of(alloc, appid, program(alloc)?)?)?;
     }
-    Ok(Ruleset::new(String::new(alloc), apps).ok())
+    match Ruleset::new(String::new(alloc), apps) {
+        Ok(rules) => Ok(Some(rules)),
+        Err(RulesetFault::Duplicate) => Ok(None),
+        Err(RulesetFault::Memory) => Err(AllocError),
+    }
 }
 
 /// Whether the ruleset has both apps; none where there is no ruleset.
