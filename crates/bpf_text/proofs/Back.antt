@@ -35,7 +35,8 @@ use Rattle.bpf_text.specs.Results.{◌>>?◌, in_turn}
 use Rattle.bpf_text.specs.Statements.{insn_of}
 use Rattle.bpf_text.specs.Tables.{tables}
 use Rattle.bpf_text.specs.Three.{map_three}
-use Rattle.bpf_text.specs.Tokens.{Name, is_word_start, is_word_byte}
+use Rattle.lexing.specs.Letter.{is_letter, is_word_byte}
+use Rattle.bpf_text.specs.Tokens.{Name}
 use Rattle.bpf_text.specs.Words.{word_of}
 use Rattle.bpf_text.proofs.Named.{is_word_text, is_named, register_is_named}
 use Rattle.bpf_text.proofs.Lexing.{and_both, digit_names}
@@ -71,7 +72,7 @@ plain_names (c ∷ w) h =
 plain_word : (w : List ℕ) → is_word_text w ≡ true → is_plain w ≡ true
 plain_word [] h = refl
 plain_word (c ∷ w) h =
-    let letter = and_both (is_word_start c)
+    let letter = and_both (is_letter c)
     (list_all is_word_byte w && nat_le (length (c ∷ w)) 32) h in
     let parts = and_both (list_all is_word_byte w) (nat_le (length (c ∷ w)) 32) letter.1 in
     let name : is_word_byte c ≡ true = let l = letter.0 in simp l refl in
@@ -148,7 +149,8 @@ no_return (c ∷ xs) (suc i) h = no_return xs i (and_both (nat_le 32 c) (is_plai
 keeps_plain : (xs : List ℕ) → is_plain xs ≡ true → strip_carriage_return xs ≡ xs
 keeps_plain xs h = let e = no_return xs (length xs - 1) h in simp e refl
 
-pub line_of_plain : (xs ys : List ℕ) → is_plain xs ≡ true → lines (xs ++ (10 ∷ ys)) ≡ xs ∷ lines ys
+pub line_of_plain : (xs ys : List ℕ) → is_plain xs ≡ true
+    → lines (xs ++ (10 ∷ ys)) ≡ xs ∷ lines ys
 line_of_plain xs ys h =
     let some : 0 < length (slice_split is_newline ys) =
     omega (arith, length-slice_split is_newline ys) in

@@ -13,9 +13,11 @@ use Rattle.bpf_text.specs.declared.token.Sign.TheVariants.{Absent, Minus, Plus}
 use Rattle.bpf_text.specs.declared.token.Figure.{Figure}
 use Rattle.bpf_text.specs.declared.token.AsmToken.{AsmToken}
 use Rattle.bpf_text.specs.declared.token.AsmToken.TheVariants.{Word, Number, Comma, Open, Close}
-use Rattle.bpf_text.specs.Tokens.{Name, is_blank, is_word_start, is_mark, is_word_byte}
+use Rattle.lexing.specs.Digits.{number_if_small}
+use Rattle.lexing.specs.Letter.{is_letter, is_word_byte}
+use Rattle.bpf_text.specs.Tokens.{Name, is_blank, is_mark}
 use Rattle.bpf_text.specs.Tokens.{word_goes_on, pieces, onto_piece, token_of, tokens_in}
-use Rattle.bpf_text.specs.Tokens.{tokens_of, is_numeral, numeral, unsigned_number, number_if_small}
+use Rattle.bpf_text.specs.Tokens.{tokens_of, is_numeral, numeral, unsigned_number}
 use Rattle.bpf_text.proofs.Named.{is_word_text}
 use Rattle.bpf_text.proofs.Tokenizing.{name_plain, pieces_alone}
 use Rattle.bpf_text.proofs.Tokenizing.{pieces_onto, with_piece, small_number}
@@ -44,7 +46,8 @@ piece_whole c (d ∷ w) rest semicolon blank mark names ends =
 abbrev pub front : AsmToken Name → Option (List (AsmToken Name)) → Option (List (AsmToken Name))
 front t o = option_map (λ ts. t ∷ ts) o
 
-token_piece : (c : ℕ) (w rest : List ℕ) (t : AsmToken Name) → (c == 59) ≡ false → is_blank c ≡ false
+token_piece : (c : ℕ) (w rest : List ℕ) (t : AsmToken Name)
+    → (c == 59) ≡ false → is_blank c ≡ false
     → is_mark c ≡ false → list_all is_word_byte w ≡ true → word_goes_on rest ≡ false
     → token_of (c ∷ w) ≡ Some t → tokens_of ((c ∷ w) ++ rest) ≡ front t (tokens_of rest)
 token_piece c w rest t semicolon blank mark names ends is =
@@ -61,7 +64,7 @@ word_token [] rest is ends = absurd (false_is_true is)
     false_is_true h = cc
 word_token (c ∷ w) rest is ends =
     let letter =
-    and_both (is_word_start c) (list_all is_word_byte w && nat_le (length (c ∷ w)) 32) is in
+    and_both (is_letter c) (list_all is_word_byte w && nat_le (length (c ∷ w)) 32) is in
     let parts = and_both (list_all is_word_byte w) (nat_le (length (c ∷ w)) 32) letter.1 in
     let named : is_word_byte c ≡ true = simp letter.0 refl in
     let plain = name_plain c named in
@@ -81,7 +84,7 @@ close_token rest = with_piece (93 ∷ []) (pieces rest) Close refl (tokens_of re
 
 record IsDigit (c : ℕ) : Type 0 where
   name : is_word_byte c ≡ true
-  letter : is_word_start c ≡ false
+  letter : is_letter c ≡ false
   minus : (c == 45) ≡ false
   plus : (c == 43) ≡ false
   x : (c == 120) ≡ false
@@ -143,7 +146,7 @@ numeral_token : (ds rest : List ℕ) (n : ℕ)
 numeral_token [] rest n h value small ends = absurd (omega (arith, h.0))
 numeral_token (c ∷ ds) rest n h value small ends =
     let d = is_digit c h.1.0 in
-    let letter : is_word_start c ≡ false = d.letter in
+    let letter : is_letter c ≡ false = d.letter in
     let minus : (c == 45) ≡ false = d.minus in
     let plus : (c == 43) ≡ false = d.plus in
     let plain = name_plain c d.name in

@@ -29,13 +29,13 @@ use Rattle.bpf_text.specs.declared.mnemonic.Mnemonic.{Mnemonic}
 use Rattle.bpf_text.specs.declared.mnemonic.Mnemonic.TheVariants as word
 use Rattle.bpf_text.specs.Words.{word_of}
 use Rattle.bpf_text.specs.Listing.{register_text}
-use Rattle.bpf_text.specs.Tokens.{is_word_start, is_word_byte}
+use Rattle.lexing.specs.Letter.{is_letter, is_word_byte}
 use Rattle.bpf_text.specs.Tables.{mnemonic_named, register_named}
 
 -- a letter, and then letters, digits and _, at most 32 in all
 abbrev pub is_word_text : List ℕ → Bool
 is_word_text [] = false
-is_word_text (c ∷ w) = is_word_start c && (list_all is_word_byte w && nat_le (length (c ∷ w)) 32)
+is_word_text (c ∷ w) = is_letter c && (list_all is_word_byte w && nat_le (length (c ∷ w)) 32)
 
 pub record IsNamed (m : Mnemonic) : Type 0 where
   pub found : mnemonic_named (word_of m) ≡ Some m

@@ -14,7 +14,8 @@ use Rattle.bpf_text.specs.Listing.{text_behind}
 use Rattle.bpf_text.specs.Remarks.{is_blank_or_comment, IsRemark, RemarkedInsn, bare_line}
 use Rattle.bpf_text.specs.Remarks.{remarked_listing, insns_of, RemarksAreSkipped}
 use Rattle.bpf_text.specs.Tables.{tables}
-use Rattle.bpf_text.specs.Tokens.{is_blank, is_word_byte, word_goes_on}
+use Rattle.lexing.specs.Letter.{is_word_byte}
+use Rattle.bpf_text.specs.Tokens.{is_blank, word_goes_on}
 use Rattle.bpf_text.specs.Tokens.{pieces, tokens_in}
 use Rattle.bpf_text.specs.Words.{word_of}
 use Rattle.bpf_text.proofs.Back.{is_plain, plain_line, line_of_plain, lines_assemble}

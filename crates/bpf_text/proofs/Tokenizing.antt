@@ -1,18 +1,15 @@
--- The pieces of a line one by one, and the numbers that digits write.
-use Rattle.std.proofs.Common.{◌≡◌, ℕ, suc, ◌+◌, ◌*◌, ◌<◌, ◌≤◌, ◌^◌, List, [], ◌∷◌, ◌++◌}
-use Rattle.std.proofs.Common.{length, take, drop, map, get_or, Option, Some, None, Bool, true}
+-- The pieces of a line one by one, and numbers that 64 bits hold.
+use Rattle.std.proofs.Common.{◌≡◌, ℕ, suc, ◌+◌, ◌<◌, ◌^◌, List, [], ◌∷◌, ◌++◌}
+use Rattle.std.proofs.Common.{take, drop, map, Option, Some, None, Bool, true}
 use Rattle.std.proofs.Common.{false, ◌||◌, not, ◌==◌, option_map, refl, sym, ap, ◌∙◌, subst, arith}
-use Rattle.std.proofs.lemmas.Str.Parse.{digits_value-take-le}
-use Rattle.std.proofs.lemmas.Int.Digits.{digits_value_more}
-use Rattle.std.proofs.lemmas.List.{take_all}
 use Rattle.std.specs.List.{prefix_len}
-use Rattle.std.specs.Char.{digit_value}
-use Rattle.std.specs.Str.Parse.{digits_value}
+use Rattle.lexing.specs.Digits.{number_if_small}
+use Rattle.lexing.specs.Letter.{is_word_byte}
 use Rattle.bpf_text.specs.declared.token.AsmToken.{AsmToken}
 use Rattle.bpf_text.specs.Names.{NameBytes, token_named}
-use Rattle.bpf_text.specs.Tokens.{Name, is_blank, is_mark, is_word_byte, word_goes_on}
+use Rattle.bpf_text.specs.Tokens.{Name, is_blank, is_mark, word_goes_on}
 use Rattle.bpf_text.specs.Tokens.{onto_piece, pieces, piece_len, token_of}
-use Rattle.bpf_text.specs.Tokens.{tokens_in, tokens_of, number_if_small, magnitude}
+use Rattle.bpf_text.specs.Tokens.{tokens_in, tokens_of}
 
 -- a letter, a digit or _ is no mark, no blank and no semicolon
 pub name_plain : (d : ℕ) → is_word_byte d ≡ true
@@ -136,39 +133,6 @@ token_missing line rest p after xs h first e =
 
 pub small_number : (n : ℕ) → n < 2 ^ 64 → number_if_small n ≡ Some n
 small_number n h = grind arith
-
-large_number : (n : ℕ) → number_if_small n ≡ None → 2 ^ 64 ≤ n
-large_number n h = grind arith
-
-no_number : (n : ℕ) → 2 ^ 64 ≤ n → number_if_small n ≡ None
-no_number n h = grind arith
-
-some_number : (n m : ℕ) → number_if_small n ≡ Some m → m ≡ n
-some_number n m h = grind arith
-
-pub too_large : (radix : ℕ) (ds : List ℕ) (i n d : ℕ) → 1 ≤ radix → i < length ds
-    → n ≡ digits_value radix (take i ds) → d ≡ digit_value (get_or ds i 0)
-    → number_if_small (n * radix + d) ≡ None → magnitude radix ds ≡ None
-too_large radix ds i n d base inside so_far digit none =
-    let more : digits_value radix (take (i + 1) ds) ≡ n * radix + d =
-    digits_value_more radix ds i inside ∙ rw (← so_far, ← digit) in
-    let whole : digits_value radix (take (i + 1) ds) ≤ digits_value radix ds =
-    digits_value-take-le radix ds (i + 1) base in
-    let over : 2 ^ 64 ≤ n * radix + d = large_number (n * radix + d) none in
-    no_number (digits_value radix ds) (omega (arith, more, whole, over))
-
-pub digit_more : (radix : ℕ) (ds : List ℕ) (i n d m : ℕ)
-    → i < length ds → n ≡ digits_value radix (take i ds) → d ≡ digit_value (get_or ds i 0)
-    → number_if_small (n * radix + d) ≡ Some m → m ≡ digits_value radix (take (i + 1) ds)
-digit_more radix ds i n d m inside so_far digit some =
-    some_number (n * radix + d) m some
-    ∙ sym (digits_value_more radix ds i inside ∙ rw (← so_far, ← digit))
-
-pub all_digits : (radix : ℕ) (ds : List ℕ) (i n : ℕ) → length ds ≤ i
-    → n ≡ digits_value radix (take i ds) → n < 2 ^ 64 → Some n ≡ magnitude radix ds
-all_digits radix ds i n past so_far small =
-    let e : n ≡ digits_value radix ds = so_far ∙ ap (digits_value radix) (take_all i ds past) in
-    sym (ap number_if_small (sym e) ∙ small_number n small)
 
 -- ---- the piece at the front of a text
 

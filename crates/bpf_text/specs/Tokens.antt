@@ -1,10 +1,11 @@
 -- The tokens of a line. A comment goes from ; to the line's end, and blanks are spaces and tabs.
-use Rattle.std.specs.Prelude.{ℕ, ◌+◌, ◌^◌, List, [], ◌∷◌, length, drop}
+use Rattle.std.specs.Prelude.{ℕ, ◌+◌, List, [], ◌∷◌, length, drop}
 use Rattle.std.specs.Prelude.{Option, Some, None, Bool, false, ◌&&◌, ◌||◌, not}
 use Rattle.std.specs.Prelude.{nat_le, nat_lt, ◌==◌, if◌then◌else◌, slice_index_or}
 use Rattle.std.specs.List.{list_all, prefix_len}
-use Rattle.std.specs.Char.{is_ascii_alphabetic, is_ascii_digit, digit_value}
-use Rattle.std.specs.Str.Parse.{digits_value}
+use Rattle.std.specs.Char.{digit_value}
+use Rattle.lexing.specs.Digits.{magnitude}
+use Rattle.lexing.specs.Letter.{is_letter, is_word_byte}
 use Rattle.bpf_insn.specs.Program.{◌>>=◌}
 use Rattle.bpf_text.specs.declared.token.Sign.{Sign}
 use Rattle.bpf_text.specs.declared.token.Sign.TheVariants.{Absent, Minus, Plus}
@@ -18,12 +19,6 @@ Name = List ℕ
 
 abbrev pub is_blank : ℕ → Bool
 is_blank c = (c == 32) || (c == 9)
-
-abbrev pub is_word_start : ℕ → Bool
-is_word_start c = is_ascii_alphabetic c || (c == 95)
-
-abbrev pub is_word_byte : ℕ → Bool
-is_word_byte c = is_word_start c || is_ascii_digit c
 
 abbrev pub mark_of : ℕ → Option (AsmToken Name)
 mark_of c =
@@ -65,13 +60,6 @@ abbrev pub is_numeral : ℕ → List ℕ → Bool
 is_numeral radix digits =
     not (length digits == 0) && list_all (λ c. nat_lt (digit_value c) radix) digits
 
--- a number that 64 bits hold
-abbrev pub number_if_small : ℕ → Option ℕ
-number_if_small n = if nat_lt n (2 ^ 64) then Some n else None
-
-abbrev pub magnitude : ℕ → List ℕ → Option ℕ
-magnitude radix digits = number_if_small (digits_value radix digits)
-
 abbrev pub numeral : Sign → ℕ → List ℕ → Option (AsmToken Name)
 numeral sign radix digits =
     if is_numeral radix digits
@@ -89,7 +77,7 @@ abbrev pub token_of : List ℕ → Option (AsmToken Name)
 token_of [] = None
 token_of (c ∷ rest) =
     if is_mark c then mark_of c
-    else if is_word_start c
+    else if is_letter c
     then (if nat_le (length (c ∷ rest)) 32 then Some (Word (c ∷ rest)) else None)
     else if c == 45 then numeral Minus 10 rest
     else if c == 43 then numeral Plus 10 rest

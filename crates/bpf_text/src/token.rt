@@ -5,7 +5,6 @@ ghost use Rattle.std.specs.Prelude.{
   ◌≡◌,
   ◌∷◌,
   ◌+◌,
-  ◌*◌,
   [],
   ◌≤◌,
   ◌<◌,
@@ -21,25 +20,23 @@ ghost use Rattle.std.specs.Prelude.{
 };
 ghost use Rattle.std.specs.Char.{digit_value};
 ghost use Rattle.std.specs.List.{list_all, prefix_len};
+ghost use Rattle.lexing.specs.Letter.{is_word_byte};
 ghost use Rattle.bpf_text.specs.Names.{token_named, tokens_if};
 ghost use Rattle.bpf_text.specs.Tokens.{
   is_blank,
-  is_word_start,
-  is_word_byte,
   is_mark,
   mark_of,
   word_goes_on,
   pieces,
   is_numeral,
-  magnitude,
   numeral,
   unsigned_number,
   token_of,
   tokens_of,
   piece_len,
-  number_if_small,
 };
 
+use lexing::{digit_value, is_letter, is_word_byte, magnitude};
 use std::alloc::AllocError;
 
 /// The sign that stands before a number.
@@ -74,18 +71,6 @@ fn is_blank(c: u8) -> bool
     c == b' ' || c == b'\t'
 }
 
-fn is_word_start(c: u8) -> bool
-    ensures { result ≡ is_word_start c }
-{
-    c.is_ascii_alphabetic() || c == b'_'
-}
-
-fn is_word_byte(c: u8) -> bool
-    ensures { result ≡ is_word_byte c }
-{
-    is_word_start(c) || c.is_ascii_digit()
-}
-
 fn is_mark(c: u8) -> bool
     ensures { result ≡ is_mark c }
 {
@@ -104,18 +89,6 @@ fn mark_of<'a>(c: u8) -> Option<AsmToken<&'a [u8]>>
     }
 }
 
-// The value of a digit or letter, 36 for any other byte.
-fn digit_value(c: u8) -> u8
-    ensures { result ≡ digit_value c }
-{
-    match c {
-        b'0'..=b'9' => c - b'0',
-        b'A'..=b'Z' => c - b'A' + 10,
-        b'a'..=b'z' => c - b'a' + 10,
-        _ => 36,
-    }
-}
-
 fn are_digits(radix: u8, bytes: &[u8]) -> bool
     ensures { result ≡ list_all (λ c. nat_lt (digit_value c) radix) bytes.now }
 {
@@ -126,25 +99,6 @@ fn is_numeral(radix: u8, digits: &[u8]) -> bool
     ensures { result ≡ is_numeral radix digits.now }
 {
     !digits.is_empty() && are_digits(radix, digits)
-}
-
-// The number with one digit more, if 64 bits hold it.
-fn with_digit(n: u64, radix: u8, digit: u8) -> Option<u64>
-    ensures { result ≡ number_if_small (n * radix + digit) }
-{
-    n.checked_mul(u64::from(radix))?
-        .checked_add(u64::from(digit))
-}
-
-fn magnitude(radix: u8, digits: &[u8]) -> Option<u64>
-    requires { 1 ≤ radix }
-    ensures { result ≡ magnitude radix digits.now }
-{
-    let mut n = 0u64;
-    for c in digits {
-        n = with_digit(n, radix, digit_value(*c))?;
-    }
-    Some(n)
 }
 
 fn numeral<'a>(sign: Sign, radix: u8, digits: &[u8]) -> Option<AsmToken<&'a [u8]>>
@@ -180,7 +134,7 @@ fn token_of<'a>(piece: &'a [u8]) -> Option<AsmToken<&'a [u8]>>
     let first = *first;
     if is_mark(first) {
         mark_of(first)
-    } else if is_word_start(first) {
+    } else if is_letter(first) {
         if piece.len() <= 32 {
             Some(AsmToken::Word(piece))
         } else {

@@ -1,6 +1,6 @@
 use Rattle.std.proofs.Common.{length, drop, ◌-◌, ◌+◌, ◌≡◌, ◌≤◌}
 use Rattle.std.specs.List.{prefix_len}
-use Rattle.bpf_text.specs.Tokens.{is_word_byte}
+use Rattle.lexing.specs.Letter.{is_word_byte}
 use Rattle.bpf_text.proofs.token.name_length.Given as goal
 
 abbrev pub invariant-loop-n : goal.invariant-loop-n
