@@ -1,7 +1,6 @@
 pub mod Exact
 pub mod Runs
 pub mod Lexing
-pub mod Digits
 pub mod Sounds
 pub mod Keeping
 pub mod OperatorsKept

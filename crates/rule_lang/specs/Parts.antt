@@ -1,12 +1,12 @@
 -- What the tokens of a phrase say: numbers within their limits (or L4), and names that are known
 -- (or L3). The fault has the line of its token.
-use Rattle.std.specs.Prelude.{ℕ, ◌^◌, List, [], Option, Some, None, is_some, Result, Ok, Err}
+use Rattle.std.specs.Prelude.{ℕ, List, [], Option, Some, None, is_some, Result, Ok, Err}
 use Rattle.std.specs.Prelude.{ok_or, slice_index_or}
 use Rattle.std.specs.Prelude.{Bool, true, false, nat_le, nat_lt, if◌then◌else◌}
-use Rattle.std.specs.Str.Parse.{digits_value}
 use Rattle.attrs.specs.Version.{version_of}
 use Rattle.cells.specs.Arrays.{AppShape}
 use Rattle.cells.specs.declared.array.CellArray.{CellArray}
+use Rattle.lexing.specs.Digits.{magnitude}
 use Rattle.rule_lang.specs.declared.fault.RuleFault.{RuleFault}
 use Rattle.rule_lang.specs.declared.fault.RuleFault.TheVariants.{At}
 use Rattle.rule_lang.specs.declared.fault.RuleFaultKind.TheVariants as kind
@@ -58,14 +58,8 @@ relation p = relation_of p.token
 
 -- ---- numbers
 
-abbrev pub number_if_small : ℕ → Option ℕ
-number_if_small n = if nat_lt n (2 ^ 64) then Some n else None
-
-abbrev pub magnitude : List ℕ → Option ℕ
-magnitude digits = number_if_small (digits_value 10 digits)
-
 abbrev pub salt : Placed → OrFault ℕ
-salt p = ok_or (magnitude (text_of p.token)) (out_of_range p)
+salt p = ok_or (magnitude 10 (text_of p.token)) (out_of_range p)
 
 -- a number for which a test holds
 abbrev pub within : (ℕ → Bool) → Placed → ℕ → OrFault ℕ

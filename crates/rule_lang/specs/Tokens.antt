@@ -4,7 +4,7 @@ use Rattle.std.specs.Prelude.{ℕ, ◌+◌, List, [], ◌∷◌, take, drop, Opt
 use Rattle.std.specs.Prelude.{Bool, true, false, ◌&&◌, ◌||◌, not, ◌==◌, if◌then◌else◌}
 use Rattle.std.specs.List.{prefix_len}
 use Rattle.std.specs.Char.{is_ascii_digit}
-use Rattle.cells.specs.Names as names
+use Rattle.lexing.specs.Letter.{is_letter, is_word_byte}
 use Rattle.rule_lang.specs.declared.keyword.Keyword.{Keyword}
 use Rattle.rule_lang.specs.declared.test.Comparison.TheVariants.{Lt, Le, Eq, Ne, Ge, Gt}
 use Rattle.rule_lang.specs.declared.token.Class as the_class
@@ -29,7 +29,7 @@ Piece = the_piece.Piece Text
 -- ---- classes of bytes, in ASCII
 
 abbrev pub is_in : the_class.Class → ℕ → Bool
-is_in class.Name c = names.is_name_byte c
+is_in class.Name c = is_word_byte c
 is_in class.Digit c = is_ascii_digit c
 is_in class.Number c = is_ascii_digit c || (c == 46)
 is_in class.Literal c = is_literal_byte c
@@ -135,7 +135,7 @@ piece_of s c rest =
     else if c == 35 then Some (piece.Blank (1 + prefix_len (is_in class.Line) rest))
     else if c == 10 then Some (piece.LineEnd 1)
     else if (c == 13) && has_at rest 0 10 then Some (piece.LineEnd 2)
-    else if names.is_letter c then Some (word_of (take 32 s))
+    else if is_letter c then Some (word_of (take 32 s))
     else if is_ascii_digit c then Some (number_at s)
     else if c == 34 then text_at rest
     else symbol_at c (has_at rest 0 61)

@@ -1,7 +1,6 @@
 //! What the tokens of a phrase say: numbers within their limits, and names that are known.
 
-ghost use Rattle.std.specs.Prelude.{◌≡◌, ◌+◌, ◌*◌};
-ghost use Rattle.std.specs.Char.{digit_value};
+ghost use Rattle.std.specs.Prelude.{◌≡◌};
 ghost use Rattle.rule_lang.specs.Named.{token_named, placed_named, placed_all, array_given};
 ghost use Rattle.rule_lang.specs.Parts as parts;
 
@@ -13,6 +12,7 @@ use crate::test::{Attribute, Comparison, Flag};
 use crate::token::Token;
 use attrs::read_version;
 use cells::{CellArray, Shape};
+use lexing::magnitude;
 
 /// The token at a place of a phrase.
 pub fn part<'a>(tokens: &[Placed<&'a str>], place: usize) -> Placed<&'a str>
@@ -67,41 +67,12 @@ pub fn out_of_range<'a>(placed: Placed<&'a str>) -> RuleFault
     }
 }
 
-fn digit_value(c: u8) -> u8
-    ensures { result ≡ digit_value c }
-{
-    match c {
-        b'0'..=b'9' => c - b'0',
-        b'A'..=b'Z' => c - b'A' + 10,
-        b'a'..=b'z' => c - b'a' + 10,
-        _ => 36,
-    }
-}
-
-// The number with one digit more, if 64 bits hold it.
-fn with_digit(n: u64, digit: u8) -> Option<u64>
-    ensures { result ≡ parts.number_if_small (n * 10 + digit) }
-{
-    n.checked_mul(10)?.checked_add(u64::from(digit))
-}
-
-// The number that digits write, if 64 bits hold it.
-fn magnitude(digits: &[u8]) -> Option<u64>
-    ensures { result ≡ parts.magnitude digits.now }
-{
-    let mut n = 0u64;
-    for c in digits {
-        n = with_digit(n, digit_value(*c))?;
-    }
-    Some(n)
-}
-
 /// A number to 2 to the 64, less 1.
 pub fn salt<'a>(placed: Placed<&'a str>) -> Result<u64, RuleFault>
     ensures { result ≡ parts.salt (placed_named placed.entry) }
 {
     let text = text_of(placed.token);
-    magnitude(text.as_bytes()).ok_or(out_of_range(placed))
+    magnitude(10, text.as_bytes()).ok_or(out_of_range(placed))
 }
 
 /// A number to 4294967295.

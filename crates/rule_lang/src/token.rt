@@ -2,13 +2,13 @@
 
 ghost use Rattle.std.specs.Prelude.{◌≡◌, ◌≤◌, ◌∷◌, take, length, option_map, true};
 ghost use Rattle.std.specs.List.{prefix_len};
-ghost use Rattle.cells.specs.Names as names;
 ghost use Rattle.rule_lang.specs.Named.{piece_named};
 ghost use Rattle.rule_lang.specs.Tokens as tokens;
 ghost use Rattle.rule_lang.specs.declared.token.Class.TheVariants.{Number as number};
 
 use crate::keyword::{Keyword, keyword_named};
 use crate::test::Comparison;
+use lexing::{is_letter, is_word_byte};
 
 /// One token, with the texts of names, numbers and literals of type `N`: here parts of the text, in
 /// definitions lists of bytes.
@@ -53,17 +53,11 @@ pub enum Class {
     Line,
 }
 
-fn is_letter(c: u8) -> bool
-    ensures { result ≡ names.is_letter c }
-{
-    c.is_ascii_alphabetic() || c == b'_'
-}
-
 fn is_in(class: Class, c: u8) -> bool
     ensures { result ≡ tokens.is_in class c }
 {
     match class {
-        Class::Name => is_letter(c) || c.is_ascii_digit(),
+        Class::Name => is_word_byte(c),
         Class::Digit => c.is_ascii_digit(),
         Class::Number => c.is_ascii_digit() || c == b'.',
         Class::Literal => b' ' <= c && c <= b'~' && c != b'"' && c != b'\\',

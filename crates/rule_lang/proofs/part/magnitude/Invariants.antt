@@ -1,9 +1,0 @@
-use Rattle.std.proofs.Common.{◌≡◌, ◌<◌, ◌^◌, take}
-use Rattle.std.specs.Str.Parse.{digits_value}
-use Rattle.rule_lang.proofs.part.magnitude.Given as goal
-
-abbrev pub invariant-loop-c : goal.invariant-loop-c
-invariant-loop-c l = record {
-  so_far : l.n ≡ digits_value 10 (take l.c-index l.digits);
-  small : l.n < 2 ^ 64;
-}
