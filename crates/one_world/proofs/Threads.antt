@@ -21,13 +21,15 @@ tabled : {A : Type 0} → ℕ → (ℕ → A) → List A
 tabled zero f = []
 tabled (suc n) f = f zero ∷ tabled n (λ k. f (suc k))
 
-tabled_at : {A : Type 0} (n : ℕ) (f : ℕ → A) (k : ℕ) (d : A) → k < n → get_or (tabled n f) k d ≡ f k
+tabled_at : {A : Type 0} (n : ℕ) (f : ℕ → A) (k : ℕ) (d : A)
+    → k < n → get_or (tabled n f) k d ≡ f k
 unfolding tabled
 tabled_at zero f k d less = absurd (omega (arith, less))
 tabled_at (suc n) f zero d less = refl
 tabled_at (suc n) f (suc k) d less = tabled_at n (λ j. f (suc j)) k d (omega (arith, less))
 
-tabled_past : {A : Type 0} (n : ℕ) (f : ℕ → A) (k : ℕ) (d : A) → n ≤ k → get_or (tabled n f) k d ≡ d
+tabled_past : {A : Type 0} (n : ℕ) (f : ℕ → A) (k : ℕ) (d : A)
+    → n ≤ k → get_or (tabled n f) k d ≡ d
 unfolding tabled
 tabled_past zero f k d past = refl
 tabled_past (suc n) f zero d past = absurd (omega (arith, past))
