@@ -15,7 +15,7 @@ use Rattle.cells.specs.Arrays.{AppShape}
 use Rattle.rule_lang.specs.declared.rule.Statement.{Statement}
 use Rattle.rule_lang.specs.declared.rule.Statement.TheVariants.{Count, When}
 use Rattle.rule_lang.specs.declared.test.Comparison.{Comparison}
-use Rattle.rule_lang.specs.declared.test.Comparison.TheVariants as relation
+use Rattle.rule_lang.specs.declared.test.Comparison.TheVariants as comparison
 use Rattle.rule_lang.specs.declared.test.Test as the_test
 use Rattle.rule_lang.specs.declared.test.Test.TheVariants as test
 use Rattle.rule_lang.specs.Meaning.{flag_bit, attribute_number}
@@ -80,12 +80,12 @@ attribute_before n text sense l q =
 
 version_before : (r : Comparison) (ns : List ℕ) (sense : Bool) (l : ℕ) (q : Program)
     → IsBefore (version_code r ns sense l q) q
-version_before relation.Lt ns sense l q = order_before jump.Lt jump.Lt 0 ns sense l q
-version_before relation.Le ns sense l q = order_before jump.Lt jump.Le 0 ns sense l q
-version_before relation.Eq ns sense l q = equal_before 0 ns sense l q
-version_before relation.Ne ns sense l q = equal_before 0 ns (not sense) l q
-version_before relation.Ge ns sense l q = order_before jump.Gt jump.Ge 0 ns sense l q
-version_before relation.Gt ns sense l q = order_before jump.Gt jump.Gt 0 ns sense l q
+version_before comparison.Lt ns sense l q = order_before jump.Lt jump.Lt 0 ns sense l q
+version_before comparison.Le ns sense l q = order_before jump.Lt jump.Le 0 ns sense l q
+version_before comparison.Eq ns sense l q = equal_before 0 ns sense l q
+version_before comparison.Ne ns sense l q = equal_before 0 ns (not sense) l q
+version_before comparison.Ge ns sense l q = order_before jump.Gt jump.Ge 0 ns sense l q
+version_before comparison.Gt ns sense l q = order_before jump.Gt jump.Gt 0 ns sense l q
 
 pub test_before : (s : AppShape) (t : the_test.Test) (sense : Bool) (l : ℕ) (q : Program)
     → IsBefore (test_code s t sense l q) q

@@ -39,7 +39,7 @@ use Rattle.rule_compile.proofs.Fields.{FitFields, bucket_reads, flags_reads}
 
 -- ---- conditions and their opposites
 
--- the six conditions of relations; each has its opposite
+-- the six conditions of comparisons; each has its opposite
 abbrev pub IsRelation : Condition → Type 0
 IsRelation Eq = Unit {0}
 IsRelation Ne = Unit {0}

@@ -10,7 +10,7 @@ use Rattle.rule_lang.specs.declared.condition.Step.TheVariants as step
 use Rattle.rule_lang.specs.declared.rule.Statement.{Statement}
 use Rattle.rule_lang.specs.declared.rule.Statement.TheVariants.{Count, When}
 use Rattle.rule_lang.specs.declared.test.Comparison.{Comparison}
-use Rattle.rule_lang.specs.declared.test.Comparison.TheVariants as relation
+use Rattle.rule_lang.specs.declared.test.Comparison.TheVariants as comparison
 use Rattle.rule_lang.specs.declared.test.Test as the_test
 use Rattle.rule_lang.specs.declared.test.Test.TheVariants as test
 use Rattle.rule_lang.specs.Cost.{tests_in, tests_of, cost}
@@ -42,12 +42,12 @@ stores_length left (a ∷ b ∷ c ∷ d ∷ text) q = let h = stores_length (lef
 
 version_length : (r : Comparison) (w : List ℕ) (sense : Bool) (l : ℕ) (q : Program)
     → length (version_code r (four_of w) sense l q) ≤ 14 + length q
-version_length relation.Lt w sense l q = omega arith
-version_length relation.Le w sense l q = omega arith
-version_length relation.Eq w sense l q = omega arith
-version_length relation.Ne w sense l q = omega arith
-version_length relation.Ge w sense l q = omega arith
-version_length relation.Gt w sense l q = omega arith
+version_length comparison.Lt w sense l q = omega arith
+version_length comparison.Le w sense l q = omega arith
+version_length comparison.Eq w sense l q = omega arith
+version_length comparison.Ne w sense l q = omega arith
+version_length comparison.Ge w sense l q = omega arith
+version_length comparison.Gt w sense l q = omega arith
 
 attribute_length : (n : ℕ) (text : List ℕ) (sense : Bool) (l : ℕ) (q : Program) → length text ≤ 64
     → length (code.attribute_code n text sense l q) ≤ 22 + length q

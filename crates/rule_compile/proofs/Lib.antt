@@ -8,7 +8,7 @@ pub mod VersionWords
 pub mod StackTexts
 pub mod TextComparisons
 pub mod Arrays
-pub mod Relations
+pub mod Comparisons
 pub mod TestRuns
 pub mod Before
 pub mod RuleRuns

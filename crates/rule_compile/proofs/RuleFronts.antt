@@ -9,7 +9,7 @@ use Rattle.bpf_verify.specs.Table.{Known}
 use Rattle.rule_lang.specs.declared.test.Attribute.{Attribute}
 use Rattle.rule_lang.specs.declared.test.Attribute.TheVariants as attribute
 use Rattle.rule_lang.specs.declared.test.Comparison.{Comparison}
-use Rattle.rule_lang.specs.declared.test.Comparison.TheVariants as relation
+use Rattle.rule_lang.specs.declared.test.Comparison.TheVariants as comparison
 use Rattle.rule_lang.specs.declared.test.Test as the_test
 use Rattle.rule_lang.specs.declared.test.Test.TheVariants as test
 use Rattle.rule_lang.specs.Fits.{test_fits}
@@ -43,17 +43,17 @@ module _ (shape : AppShape) (is_shape : IsShape shape) where
       (ds : List Known)
       → IsRest shape q ds → IsLabel shape q ds l
       → IsFront shape (version_code r (four_of w) sense l q) q ds
-  version_front relation.Lt w sense l q ds h label =
+  version_front comparison.Lt w sense l q ds h label =
       order_front shape jump.Lt jump.Lt 0 (four_of w) sense l q ds (omega arith) h label
-  version_front relation.Le w sense l q ds h label =
+  version_front comparison.Le w sense l q ds h label =
       order_front shape jump.Lt jump.Le 0 (four_of w) sense l q ds (omega arith) h label
-  version_front relation.Eq w sense l q ds h label =
+  version_front comparison.Eq w sense l q ds h label =
       equal_front shape 0 (four_of w) sense l q ds (omega arith) h label
-  version_front relation.Ne w sense l q ds h label =
+  version_front comparison.Ne w sense l q ds h label =
       equal_front shape 0 (four_of w) (not sense) l q ds (omega arith) h label
-  version_front relation.Ge w sense l q ds h label =
+  version_front comparison.Ge w sense l q ds h label =
       order_front shape jump.Gt jump.Ge 0 (four_of w) sense l q ds (omega arith) h label
-  version_front relation.Gt w sense l q ds h label =
+  version_front comparison.Gt w sense l q ds h label =
       order_front shape jump.Gt jump.Gt 0 (four_of w) sense l q ds (omega arith) h label
 
   test_front : (t : the_test.Test) (sense : Bool) (l : ℕ) (q : Program) (ds : List Known)

@@ -18,12 +18,12 @@ use Rattle.rule_lang.specs.declared.test.Flag as the_flag
 use Rattle.rule_lang.specs.declared.test.Flag.TheVariants.{VersionKnown, Updatecheck, Ping}
 use Rattle.rule_lang.specs.declared.test.Flag.TheVariants.{Event, CohortKnown, InstalldateKnown}
 use Rattle.rule_lang.specs.declared.test.Comparison.{Comparison}
-use Rattle.rule_lang.specs.declared.test.Comparison.TheVariants as relation
+use Rattle.rule_lang.specs.declared.test.Comparison.TheVariants as comparison
 use Rattle.rule_lang.specs.declared.test.Test as the_test
 use Rattle.rule_lang.specs.declared.test.Test.TheVariants as test
 use Rattle.rule_lang.specs.Fits.{test_fits}
 use Rattle.rule_lang.specs.Literals.{IsLiteral, is_literal_byte, is_printable}
-use Rattle.rule_lang.specs.Meaning.{Behaviour, relates, version_cmp, bucket_by}
+use Rattle.rule_lang.specs.Meaning.{Behaviour, allows, version_cmp, bucket_by}
 use Rattle.rule_lang.specs.Meaning.{remainder, flag_bit, attribute_number, test_then}
 use Rattle.rule_lang.specs.Shapes.{array_named, cell_of, quota_of}
 use Rattle.rule_compile.specs.Instructions.{turned}
@@ -40,28 +40,28 @@ use Rattle.rule_compile.proofs.CounterPieces.{take_runs}
 use Rattle.rule_compile.proofs.StackTexts.{AreBytes}
 use Rattle.rule_compile.proofs.TextComparisons.{attribute_runs}
 use Rattle.rule_compile.proofs.Arrays.{CanTake, can_take_is, both_true}
-use Rattle.rule_compile.proofs.Relations.{relates_is, IsOrder, strict_of}
-use Rattle.rule_compile.proofs.Relations.{ordered_is, equal_is, unequal_is}
+use Rattle.rule_compile.proofs.Comparisons.{allows_is, IsOrder, strict_of}
+use Rattle.rule_compile.proofs.Comparisons.{ordered_is, equal_is, unequal_is}
 
 -- the numbers of a version but the first
 abbrev later_of : List ℕ → List ℕ
 later_of w = slice_index w 1 ∷ slice_index w 2 ∷ slice_index w 3 ∷ []
 
-pub is_relation : (r : Comparison) → IsRelation (condition_of r)
-is_relation relation.Lt = tt
-is_relation relation.Le = tt
-is_relation relation.Eq = tt
-is_relation relation.Ne = tt
-is_relation relation.Ge = tt
-is_relation relation.Gt = tt
+pub is_comparison : (r : Comparison) → IsRelation (condition_of r)
+is_comparison comparison.Lt = tt
+is_comparison comparison.Le = tt
+is_comparison comparison.Eq = tt
+is_comparison comparison.Ne = tt
+is_comparison comparison.Ge = tt
+is_comparison comparison.Gt = tt
 
--- a jump on the turned condition is a choice by the relation
+-- a jump on the turned condition is a choice by the comparison
 related : (r : Comparison) (sense : Bool) (v n : ℕ) (x y : Behaviour)
-    → (if compares w32 (turned sense (condition_of r)) v n then x else y) ≡ (if relates r
+    → (if compares w32 (turned sense (condition_of r)) v n then x else y) ≡ (if allows r
     (nat_cmp v n) then (if sense then x else y) else (if sense then y else x))
-related r sense v n x y = by_sense (condition_of r) sense v n x y (is_relation r)
+related r sense v n x y = by_sense (condition_of r) sense v n x y (is_comparison r)
     ∙ ap (λ (b : Bool). if b then (if sense then x else y) else (if sense then y else x))
-    (sym (relates_is r v n))
+    (sym (allows_is r v n))
 
 pub flag_small : (f : the_flag.Flag) → flag_bit f < 2 ^ 31
 flag_small VersionKnown = omega arith
@@ -120,7 +120,7 @@ module _ (p : ShapedProgram) (a : Attributes) (fit : FitFields a) (shape : IsSha
       → n < 2 ^ 32
       → Goes (from_label q l) choice x → Goes q choice y
       → Goes (code.field_code kind offset (turned sense (condition_of r)) n l q) choice
-      (if relates r (nat_cmp v n) then (if sense then x else y) else (if sense then y else x))
+      (if allows r (nat_cmp v n) then (if sense then x else y) else (if sense then y else x))
   field_test kind offset v r n sense l q choice x y reads hv hn to on =
       subst (Goes (code.field_code kind offset (turned sense (condition_of r)) n l q) choice)
       (related r sense v n x y)
@@ -131,20 +131,20 @@ module _ (p : ShapedProgram) (a : Attributes) (fit : FitFields a) (shape : IsSha
       (x y : Behaviour) → IsOrder r → ((k : ℕ) → slice_index w k < 2 ^ 32) → l ≤ length q
       → Goes (from_label q l) choice x → Goes q choice y
       → Goes (code.order_code (strict_of r) (condition_of r) 0 (four_of w) sense l q) choice
-      (if relates r (version_cmp a.context.version w) then (if sense then x else y)
+      (if allows r (version_cmp a.context.version w) then (if sense then x else y)
       else (if sense then y else x))
   order_test r w sense l q choice x y is h within to on =
       subst (Goes (code.order_code (strict_of r) (condition_of r) 0 (four_of w) sense l q) choice)
       (ordered_is r a.context.version w (if sense then x else y) (if sense then y else x) is)
       (order_runs p a (slice_index a.context.version) fit.version (strict_of r) (condition_of r) 0
-      (slice_index w 0) (later_of w) sense l q choice x y (is_relation r)
+      (slice_index w 0) (later_of w) sense l q choice x y (is_comparison r)
       (four_read w h) within to on)
 
   equal_test : (w : List ℕ) (sense : Bool) (l : ℕ) (q : Program) (choice : ℕ) (x y : Behaviour)
       → ((k : ℕ) → slice_index w k < 2 ^ 32) → l ≤ length q
       → Goes (from_label q l) choice x → Goes q choice y
       → Goes (code.equal_code 0 (four_of w) sense l q) choice
-      (if relates relation.Eq (version_cmp a.context.version w) then (if sense then x else y)
+      (if allows comparison.Eq (version_cmp a.context.version w) then (if sense then x else y)
       else (if sense then y else x))
   equal_test w sense l q choice x y h within to on =
       subst (Goes (code.equal_code 0 (four_of w) sense l q) choice)
@@ -156,23 +156,23 @@ module _ (p : ShapedProgram) (a : Attributes) (fit : FitFields a) (shape : IsSha
       (x y : Behaviour) → ((k : ℕ) → slice_index w k < 2 ^ 32) → l ≤ length q
       → Goes (from_label q l) choice x → Goes q choice y
       → Goes (version_code r (four_of w) sense l q) choice
-      (if relates r (version_cmp a.context.version w) then (if sense then x else y)
+      (if allows r (version_cmp a.context.version w) then (if sense then x else y)
       else (if sense then y else x))
-  version_test relation.Lt w sense l q choice x y h within to on =
-      order_test relation.Lt w sense l q choice x y tt h within to on
-  version_test relation.Le w sense l q choice x y h within to on =
-      order_test relation.Le w sense l q choice x y tt h within to on
-  version_test relation.Ge w sense l q choice x y h within to on =
-      order_test relation.Ge w sense l q choice x y tt h within to on
-  version_test relation.Gt w sense l q choice x y h within to on =
-      order_test relation.Gt w sense l q choice x y tt h within to on
-  version_test relation.Eq w sense l q choice x y h within to on =
+  version_test comparison.Lt w sense l q choice x y h within to on =
+      order_test comparison.Lt w sense l q choice x y tt h within to on
+  version_test comparison.Le w sense l q choice x y h within to on =
+      order_test comparison.Le w sense l q choice x y tt h within to on
+  version_test comparison.Ge w sense l q choice x y h within to on =
+      order_test comparison.Ge w sense l q choice x y tt h within to on
+  version_test comparison.Gt w sense l q choice x y h within to on =
+      order_test comparison.Gt w sense l q choice x y tt h within to on
+  version_test comparison.Eq w sense l q choice x y h within to on =
       equal_test w sense l q choice x y h within to on
-  version_test relation.Ne w true l q choice x y h within to on =
+  version_test comparison.Ne w true l q choice x y h within to on =
       subst (Goes (code.equal_code 0 (four_of w) false l q) choice)
       (unequal_is (version_cmp a.context.version w) x y)
       (equal_test w false l q choice x y h within to on)
-  version_test relation.Ne w false l q choice x y h within to on =
+  version_test comparison.Ne w false l q choice x y h within to on =
       subst (Goes (code.equal_code 0 (four_of w) true l q) choice)
       (unequal_is (version_cmp a.context.version w) y x)
       (equal_test w true l q choice x y h within to on)

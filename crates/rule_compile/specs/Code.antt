@@ -19,7 +19,7 @@ use Rattle.rule_lang.specs.declared.condition.Step.TheVariants as step
 use Rattle.rule_lang.specs.declared.rule.Statement.{Statement}
 use Rattle.rule_lang.specs.declared.rule.Statement.TheVariants.{Count, When}
 use Rattle.rule_lang.specs.declared.test.Comparison.{Comparison}
-use Rattle.rule_lang.specs.declared.test.Comparison.TheVariants as relation
+use Rattle.rule_lang.specs.declared.test.Comparison.TheVariants as comparison
 use Rattle.rule_lang.specs.declared.test.Test as the_test
 use Rattle.rule_lang.specs.declared.test.Test.TheVariants as test
 use Rattle.rule_lang.specs.Meaning.{flag_bit, attribute_number}
@@ -32,20 +32,24 @@ use Rattle.rule_compile.specs.Blocks as code
 -- ---- tests
 
 abbrev pub condition_of : Comparison → Condition
-condition_of relation.Lt = jump.Lt
-condition_of relation.Le = jump.Le
-condition_of relation.Eq = jump.Eq
-condition_of relation.Ne = jump.Ne
-condition_of relation.Ge = jump.Ge
-condition_of relation.Gt = jump.Gt
+condition_of comparison.Lt = jump.Lt
+condition_of comparison.Le = jump.Le
+condition_of comparison.Eq = jump.Eq
+condition_of comparison.Ne = jump.Ne
+condition_of comparison.Ge = jump.Ge
+condition_of comparison.Gt = jump.Gt
 
 abbrev pub version_code : Comparison → List ℕ → Bool → ℕ → Program → Program
-version_code relation.Lt ns sense label rest = code.order_code jump.Lt jump.Lt 0 ns sense label rest
-version_code relation.Le ns sense label rest = code.order_code jump.Lt jump.Le 0 ns sense label rest
-version_code relation.Eq ns sense label rest = code.equal_code 0 ns sense label rest
-version_code relation.Ne ns sense label rest = code.equal_code 0 ns (not sense) label rest
-version_code relation.Ge ns sense label rest = code.order_code jump.Gt jump.Ge 0 ns sense label rest
-version_code relation.Gt ns sense label rest = code.order_code jump.Gt jump.Gt 0 ns sense label rest
+version_code comparison.Lt ns sense label rest =
+    code.order_code jump.Lt jump.Lt 0 ns sense label rest
+version_code comparison.Le ns sense label rest =
+    code.order_code jump.Lt jump.Le 0 ns sense label rest
+version_code comparison.Eq ns sense label rest = code.equal_code 0 ns sense label rest
+version_code comparison.Ne ns sense label rest = code.equal_code 0 ns (not sense) label rest
+version_code comparison.Ge ns sense label rest =
+    code.order_code jump.Gt jump.Ge 0 ns sense label rest
+version_code comparison.Gt ns sense label rest =
+    code.order_code jump.Gt jump.Gt 0 ns sense label rest
 
 -- the four numbers of a version
 abbrev pub four_of : List ℕ → List ℕ

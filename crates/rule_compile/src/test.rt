@@ -25,10 +25,10 @@ const TODAY: u8 = Context::TODAY_OFFSET;
 const INSTALL_DAY: u8 = Context::INSTALL_DAY_OFFSET;
 
 /// The condition of a jump.
-fn condition_of(relation: Comparison) -> Condition
-    ensures { result ≡ code.condition_of relation }
+fn condition_of(comparison: Comparison) -> Condition
+    ensures { result ≡ code.condition_of comparison }
 {
-    match relation {
+    match comparison {
         Comparison::Lt => Condition::Lt,
         Comparison::Le => Condition::Le,
         Comparison::Eq => Condition::Eq,
@@ -108,7 +108,7 @@ fn quota_at(arrays: &[CellArray], place: usize) -> u64
 /// A comparison of versions.
 fn put_version(
     rest: &mut Code,
-    relation: Comparison,
+    comparison: Comparison,
     numbers: &[u32],
     sense: bool,
     label: usize,
@@ -116,13 +116,13 @@ fn put_version(
     requires label { label ≤ length rest.old }
     requires words { length numbers.now ≤ 4 }
     ensures code { OnOk result
-        (rest.new ≡ code.version_code relation numbers.now sense label rest.old) }
+        (rest.new ≡ code.version_code comparison numbers.now sense label rest.old) }
     ensures long { result ≡ Err CompileFault.TooLong
-        → 4096 < length (code.version_code relation numbers.now sense label rest.old) }
+        → 4096 < length (code.version_code comparison numbers.now sense label rest.old) }
     ensures range { (k : ℕ) → slice_index numbers.now k < 2 ^ 32 }
 {
     let (lt, gt) = (Condition::Lt, Condition::Gt);
-    match relation {
+    match comparison {
         Comparison::Lt => put_order(rest, lt, lt, 0, numbers, sense, label),
         Comparison::Le => put_order(rest, lt, Condition::Le, 0, numbers, sense, label),
         Comparison::Eq => put_equal(rest, 0, numbers, sense, label),
@@ -159,7 +159,7 @@ fn put_named_take(
 }
 
 /// The code of a test.
-#[tactic(auto, using(crate::proofs::Relations::four_is))]
+#[tactic(auto, using(crate::proofs::Comparisons::four_is))]
 pub fn put_test(rest: &mut Code, shape: &Shape, test: &Test, goal: Goal) -> Result<(), CompileFault>
     requires { goal.label ≤ length rest.old }
     ensures code { OnOk result
@@ -170,22 +170,25 @@ pub fn put_test(rest: &mut Code, shape: &Shape, test: &Test, goal: Goal) -> Resu
 {
     let (sense, label) = (goal.sense, goal.label);
     match test {
-        Test::Version { relation, version } => put_version(rest, *relation, version, sense, label),
+        Test::Version {
+            comparison,
+            version,
+        } => put_version(rest, *comparison, version, sense, label),
         Test::Bucket {
             salt,
             modulus,
-            relation,
+            comparison,
             number,
         } => {
-            let condition = turned(sense, condition_of(*relation));
+            let condition = turned(sense, condition_of(*comparison));
             put_bucket(rest, *salt, *modulus, condition, *number, label)
         }
-        Test::Today { relation, number } => {
-            let condition = turned(sense, condition_of(*relation));
+        Test::Today { comparison, number } => {
+            let condition = turned(sense, condition_of(*comparison));
             put_field(rest, LoadKind::Word, TODAY, condition, *number, label)
         }
-        Test::Installed { relation, number } => {
-            let condition = turned(sense, condition_of(*relation));
+        Test::Installed { comparison, number } => {
+            let condition = turned(sense, condition_of(*comparison));
             put_field(rest, LoadKind::Word, INSTALL_DAY, condition, *number, label)
         }
         Test::Flag(flag) => put_flag(rest, flag_bit(*flag), sense, label),

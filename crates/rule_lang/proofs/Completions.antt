@@ -3,7 +3,7 @@ use Rattle.std.proofs.Common.{◌≡◌, ℕ, zero, suc, List, [], ◌∷◌, �
 use Rattle.std.proofs.Common.{Bool, true, if◌then◌else◌, refl, sym, ap, ◌∙◌, subst}
 use Rattle.rule_lang.specs.declared.phrase.Want.{Want}
 use Rattle.rule_lang.specs.declared.phrase.Want.TheVariants as want
-use Rattle.rule_lang.specs.declared.test.Comparison.TheVariants as relation
+use Rattle.rule_lang.specs.declared.test.Comparison.TheVariants as comparison
 use Rattle.rule_lang.specs.declared.token.Token.TheVariants as token
 use Rattle.rule_lang.specs.Grammar as g
 use Rattle.rule_lang.specs.Lexed.{Placed, on}
@@ -29,7 +29,7 @@ filler want.Attribute = token.Name []
 filler want.Number = token.Number []
 filler want.Version = token.Number []
 filler want.Text = token.Text []
-filler want.Comparison = token.Comparison relation.Lt
+filler want.Comparison = token.Comparison comparison.Lt
 filler want.Salt = token.Open
 filler want.Modulus = token.Name modulus_word
 filler want.Semicolon = token.Semicolon

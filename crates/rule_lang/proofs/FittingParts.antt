@@ -20,7 +20,7 @@ use Rattle.rule_lang.specs.Lexed.{Placed}
 use Rattle.rule_lang.specs.Parts.{OrFault, ◌>>?◌, part, number, salt, modulus, version, flag}
 use Rattle.rule_lang.specs.Parts.{attribute}
 use Rattle.rule_lang.specs.Parts.{array, array_if, index, release, within, unknown, same}
-use Rattle.rule_lang.specs.Parts.{out_of_range, relation}
+use Rattle.rule_lang.specs.Parts.{out_of_range, comparison}
 use Rattle.rule_lang.specs.Says.{count_of}
 use Rattle.rule_lang.specs.Shapes.{array_named}
 use Rattle.rule_lang.specs.Tests.{row, take_test, begins, optional, past, bucket_test, attr_test}
@@ -160,7 +160,7 @@ bucket_fits s ts =
     let divided = begins want.Modulus ts j in
     let k = past divided 2 j in
     free_third s (optional salted (salt (part ts 2))) (optional divided (modulus (part ts (j + 1))))
-    (number (part ts (k + 1))) (λ n m l. test.Bucket n m (relation (part ts k)) l) (λ n m l. refl)
+    (number (part ts (k + 1))) (λ n m l. test.Bucket n m (comparison (part ts k)) l) (λ n m l. refl)
 
 attr_fits : (s : AppShape) (ts : List Placed) → IfRead (test_fits s) (attr_test ts)
 attr_fits s ts = each (test_fits s) (attribute (part ts 1)) (λ a. literal (part ts 3) >>? λ text.
@@ -170,12 +170,12 @@ attr_fits s ts = each (test_fits s) (attribute (part ts 1)) (λ a. literal (part
 pub by_kind : (s : AppShape) (ts : List Placed) (k : TestKind)
     → IfRead (test_fits s) ((row k).says s ts)
 by_kind s ts the_kind.Version =
-    free s (version (part ts 2)) (λ v. test.Version (relation (part ts 1)) v) (λ v. refl)
+    free s (version (part ts 2)) (λ v. test.Version (comparison (part ts 1)) v) (λ v. refl)
 by_kind s ts the_kind.Bucket = bucket_fits s ts
 by_kind s ts the_kind.Today =
-    free s (number (part ts 2)) (λ n. test.Today (relation (part ts 1)) n) (λ n. refl)
+    free s (number (part ts 2)) (λ n. test.Today (comparison (part ts 1)) n) (λ n. refl)
 by_kind s ts the_kind.Installed =
-    free s (number (part ts 2)) (λ n. test.Installed (relation (part ts 1)) n) (λ n. refl)
+    free s (number (part ts 2)) (λ n. test.Installed (comparison (part ts 1)) n) (λ n. refl)
 by_kind s ts the_kind.Flag = free s (flag (part ts 1)) (λ f. test.Flag f) (λ f. refl)
 by_kind s ts the_kind.Attr = attr_fits s ts
 by_kind s ts the_kind.Take = take_fits s ts

@@ -30,17 +30,17 @@ use Rattle.rule_lang.specs.Trees.{Tree, Asked, Negated, Both, Either, trees_from
 
 -- ---- numbers, versions, flags and attributes
 
-abbrev pub relates : Comparison → Ordering → Bool
-relates Lt Less = true
-relates Le Less = true
-relates Le Equal = true
-relates Eq Equal = true
-relates Ne Less = true
-relates Ne Greater = true
-relates Ge Equal = true
-relates Ge Greater = true
-relates Gt Greater = true
-relates r o = false
+abbrev pub allows : Comparison → Ordering → Bool
+allows Lt Less = true
+allows Le Less = true
+allows Le Equal = true
+allows Eq Equal = true
+allows Ne Less = true
+allows Ne Greater = true
+allows Ge Equal = true
+allows Ge Greater = true
+allows Gt Greater = true
+allows r o = false
 
 -- by the number at a place
 abbrev pub place_cmp : List ℕ → List ℕ → ℕ → Ordering
@@ -106,13 +106,13 @@ take_then cell quota met unmet =
 -- what comes where a test holds, or where it doesn't
 abbrev pub test_then : Attributes → AppShape → the_test.Test → Behaviour → Behaviour → Behaviour
 test_then a s (test.Version r w) met unmet =
-    if relates r (version_cmp a.context.version w) then met else unmet
+    if allows r (version_cmp a.context.version w) then met else unmet
 test_then a s (test.Bucket salt modulus r n) met unmet =
-    if relates r (nat_cmp (remainder modulus (bucket_by a salt)) n) then met else unmet
+    if allows r (nat_cmp (remainder modulus (bucket_by a salt)) n) then met else unmet
 test_then a s (test.Today r n) met unmet =
-    if relates r (nat_cmp a.context.today n) then met else unmet
+    if allows r (nat_cmp a.context.today n) then met else unmet
 test_then a s (test.Installed r n) met unmet =
-    if relates r (nat_cmp a.context.install_day n) then met else unmet
+    if allows r (nat_cmp a.context.install_day n) then met else unmet
 test_then a s (test.Flag f) met unmet =
     if bit_and a.context.flags (flag_bit f) == 0 then unmet else met
 test_then a s (test.Attr n text) met unmet =

@@ -15,7 +15,7 @@ use Rattle.rule_lang.specs.declared.test.Attribute.{Attribute}
 use Rattle.rule_lang.specs.declared.test.Attribute.TheVariants as attributes
 use Rattle.rule_lang.specs.declared.test.Flag.{Flag}
 use Rattle.rule_lang.specs.declared.test.Comparison.{Comparison}
-use Rattle.rule_lang.specs.declared.test.Comparison.TheVariants as relations
+use Rattle.rule_lang.specs.declared.test.Comparison.TheVariants as comparisons
 use Rattle.rule_lang.specs.declared.token.Token.TheVariants as token
 use Rattle.rule_lang.specs.Fits.{is_release}
 use Rattle.rule_lang.specs.Lexed.{Placed, on}
@@ -49,12 +49,12 @@ text_of (token.Text w) = w
 text_of t = []
 
 -- of a token that is one
-abbrev pub relation_of : Token → Comparison
-relation_of (token.Comparison r) = r
-relation_of t = relations.Eq
+abbrev pub comparison_of : Token → Comparison
+comparison_of (token.Comparison r) = r
+comparison_of t = comparisons.Eq
 
-abbrev pub relation : Placed → Comparison
-relation p = relation_of p.token
+abbrev pub comparison : Placed → Comparison
+comparison p = comparison_of p.token
 
 -- ---- numbers
 

@@ -14,7 +14,7 @@ use Rattle.rule_lang.specs.declared.test_table.TestKind.TheVariants as the_kind
 use Rattle.rule_lang.specs.declared.token.Token.TheVariants as token
 use Rattle.rule_lang.specs.Lexed.{Placed}
 use Rattle.rule_lang.specs.Literals.{is_literal}
-use Rattle.rule_lang.specs.Parts.{OrFault, ◌>>?◌, part, text_of, relation, salt, modulus, number}
+use Rattle.rule_lang.specs.Parts.{OrFault, ◌>>?◌, part, text_of, comparison, salt, modulus, number}
 use Rattle.rule_lang.specs.Parts.{version, flag, attribute, array, index, out_of_range}
 use Rattle.rule_lang.specs.Phrases.{Phrase, phrase_of, takes}
 use Rattle.rule_lang.specs.Tokens.{Token}
@@ -22,7 +22,7 @@ use Rattle.rule_lang.specs.Tokens.{Token}
 -- ---- what the tokens of a test say
 
 abbrev pub version_test : List Placed → OrFault Test
-version_test ts = version (part ts 2) >>? λ v. Ok (test.Version (relation (part ts 1)) v)
+version_test ts = version (part ts 2) >>? λ v. Ok (test.Version (comparison (part ts 1)) v)
 
 -- whether a part that may be left out begins at a place
 abbrev pub begins : Want → List Placed → ℕ → Bool
@@ -46,13 +46,13 @@ bucket_test ts =
     optional salted (salt (part ts 2)) >>? λ s.
     optional divided (modulus (part ts (j + 1))) >>? λ m.
     number (part ts (k + 1)) >>? λ n.
-    Ok (test.Bucket s m (relation (part ts k)) n)
+    Ok (test.Bucket s m (comparison (part ts k)) n)
 
 abbrev pub today_test : List Placed → OrFault Test
-today_test ts = number (part ts 2) >>? λ n. Ok (test.Today (relation (part ts 1)) n)
+today_test ts = number (part ts 2) >>? λ n. Ok (test.Today (comparison (part ts 1)) n)
 
 abbrev pub installed_test : List Placed → OrFault Test
-installed_test ts = number (part ts 2) >>? λ n. Ok (test.Installed (relation (part ts 1)) n)
+installed_test ts = number (part ts 2) >>? λ n. Ok (test.Installed (comparison (part ts 1)) n)
 
 abbrev pub flag_test : List Placed → OrFault Test
 flag_test ts = flag (part ts 1) >>? λ f. Ok (test.Flag f)

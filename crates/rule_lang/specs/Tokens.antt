@@ -109,13 +109,13 @@ abbrev pub longer : Token → Option Piece
 longer t = Some (piece.Token t 2)
 
 -- an equals sign stands behind the character, or not
-abbrev pub relation_at : ℕ → Bool → Option Piece
-relation_at c true =
+abbrev pub comparison_at : ℕ → Bool → Option Piece
+comparison_at c true =
     if c == 60 then longer (token.Comparison Le)
     else if c == 62 then longer (token.Comparison Ge)
     else if c == 61 then longer (token.Comparison Eq)
     else if c == 33 then longer (token.Comparison Ne) else None
-relation_at c false =
+comparison_at c false =
     if c == 60 then mark (token.Comparison Lt)
     else if c == 62 then mark (token.Comparison Gt) else None
 
@@ -124,7 +124,7 @@ or_else (Some p) other = Some p
 or_else None other = other
 
 abbrev pub symbol_at : ℕ → Bool → Option Piece
-symbol_at c equals = or_else (mark_at c) (relation_at c equals)
+symbol_at c equals = or_else (mark_at c) (comparison_at c equals)
 
 -- ---- the front of a text
 

@@ -38,11 +38,11 @@ pub fn text_of<'a>(token: Token<&'a str>) -> &'a str
 }
 
 /// A comparison.
-pub fn relation<'a>(placed: Placed<&'a str>) -> Comparison
-    ensures { result ≡ parts.relation (placed_named placed.entry) }
+pub fn comparison<'a>(placed: Placed<&'a str>) -> Comparison
+    ensures { result ≡ parts.comparison (placed_named placed.entry) }
 {
     match placed.token {
-        Token::Comparison(relation) => relation,
+        Token::Comparison(comparison) => comparison,
         _ => Comparison::Eq,
     }
 }

@@ -42,7 +42,7 @@ pub enum Attribute {
 pub enum Test {
     /// The app's version against four numbers, which are compared in their order.
     Version {
-        relation: Comparison,
+        comparison: Comparison,
         version: [u32; 4],
     },
     /// The app's bucket, 0 to 9999, or that under a salt, against a number; with a modulus, which
@@ -50,17 +50,17 @@ pub enum Test {
     Bucket {
         salt: Option<u64>,
         modulus: Option<u32>,
-        relation: Comparison,
+        comparison: Comparison,
         number: u32,
     },
     /// The day of the request against a number.
     Today {
-        relation: Comparison,
+        comparison: Comparison,
         number: u32,
     },
     /// The day of installation, 4294967295 where it isn't known, against a number.
     Installed {
-        relation: Comparison,
+        comparison: Comparison,
         number: u32,
     },
     /// Whether the flag is set.

@@ -11,7 +11,7 @@ use crate::fault::RuleFault;
 use crate::lexer::Placed;
 use crate::literal::Literal;
 use crate::part::{
-    array, attribute, flag, index, modulus, number, out_of_range, part, relation, salt, text_of,
+    array, attribute, comparison, flag, index, modulus, number, out_of_range, part, salt, text_of,
     version,
 };
 use crate::phrase::{Want, takes};
@@ -24,8 +24,11 @@ fn version_test<'a>(tokens: &[Placed<&'a str>]) -> Result<Test, RuleFault>
     ensures { result ≡ tests.version_test (placed_all tokens.now) }
 {
     let version = version(part(tokens, 2))?;
-    let relation = relation(part(tokens, 1));
-    Ok(Test::Version { relation, version })
+    let comparison = comparison(part(tokens, 1));
+    Ok(Test::Version {
+        comparison,
+        version,
+    })
 }
 
 // Whether a part that may be left out begins at a place.
@@ -73,11 +76,11 @@ fn bucket_test<'a>(tokens: &[Placed<&'a str>]) -> Result<Test, RuleFault>
     let salt = optional_salt(salted, part(tokens, 2))?;
     let modulus = optional_modulus(divided, part(tokens, behind_salt + 1))?;
     let number = number(part(tokens, behind_modulus + 1))?;
-    let relation = relation(part(tokens, behind_modulus));
+    let comparison = comparison(part(tokens, behind_modulus));
     Ok(Test::Bucket {
         salt,
         modulus,
-        relation,
+        comparison,
         number,
     })
 }
@@ -86,16 +89,16 @@ fn today_test<'a>(tokens: &[Placed<&'a str>]) -> Result<Test, RuleFault>
     ensures { result ≡ tests.today_test (placed_all tokens.now) }
 {
     let number = number(part(tokens, 2))?;
-    let relation = relation(part(tokens, 1));
-    Ok(Test::Today { relation, number })
+    let comparison = comparison(part(tokens, 1));
+    Ok(Test::Today { comparison, number })
 }
 
 fn installed_test<'a>(tokens: &[Placed<&'a str>]) -> Result<Test, RuleFault>
     ensures { result ≡ tests.installed_test (placed_all tokens.now) }
 {
     let number = number(part(tokens, 2))?;
-    let relation = relation(part(tokens, 1));
-    Ok(Test::Installed { relation, number })
+    let comparison = comparison(part(tokens, 1));
+    Ok(Test::Installed { comparison, number })
 }
 
 fn flag_test<'a>(tokens: &[Placed<&'a str>]) -> Result<Test, RuleFault>

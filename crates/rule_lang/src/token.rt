@@ -172,8 +172,8 @@ fn text_at<'a>(rest: &'a [u8]) -> Option<Piece<&'a str>>
 }
 
 // A comparison that stands at the front, where an equals sign may stand behind its first character.
-fn relation_at<'a>(c: u8, equals: bool) -> Option<Piece<&'a str>>
-    ensures { option_map piece_named result ≡ tokens.relation_at c equals }
+fn comparison_at<'a>(c: u8, equals: bool) -> Option<Piece<&'a str>>
+    ensures { option_map piece_named result ≡ tokens.comparison_at c equals }
 {
     match (c, equals) {
         (b'<', true) => Some(Piece::Token(Token::Comparison(Comparison::Le), 2)),
@@ -205,7 +205,7 @@ fn symbol_at<'a>(c: u8, equals: bool) -> Option<Piece<&'a str>>
 {
     match mark_at(c) {
         Some(piece) => Some(piece),
-        None => relation_at(c, equals),
+        None => comparison_at(c, equals),
     }
 }
 
