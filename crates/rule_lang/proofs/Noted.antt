@@ -105,12 +105,12 @@ turned false a b = refl
 pub opener_noted : (d : Draft) (depth : ℕ) (p : Placed) (v : OrFault Tree) (adds : Adds) (e : Draft)
     → (d.noted ≡ None → d.condition.depth ≡ depth)
     → Noted (with_fault_if (too_deep d) (out_of_range p) d).noted v adds e
-    → Noted d.noted (says.opened depth p v) adds e
+    → Noted d.noted (says.within_depth depth p v) adds e
 opener_noted d depth p v adds e deep h =
     let x = out_of_range p in
     let first : Noted (first_if (too_deep d) d.noted x) v adds e = subst (λ (o : Option RuleFault).
     Noted o v adds e) (noted_is (too_deep d) x d) h in
-    revalued d.noted (if too_deep d then Err x else v) (says.opened depth p v) adds e (λ none.
+    revalued d.noted (if too_deep d then Err x else v) (says.within_depth depth p v) adds e (λ none.
     turned {A = OrFault Tree} (nat_lt d.condition.depth 32) (Err x) v
     ∙ ap (λ (n : ℕ). if nat_lt n 32 then v else Err x) (deep none)) (opener_by (too_deep d) d.noted
     x v adds e first)

@@ -17,16 +17,17 @@ abbrev pub test_says : AppShape → {ts rest : List Placed} → g.IsTest ts rest
 test_says s (g.of k {ts = ts} h) = (tests.row k).says s ts
 
 -- `not` and parentheses are at most 32 deep: an opener, so many being open, and what it opens
-abbrev pub opened : (depth : ℕ) → Placed → OrFault Tree → OrFault Tree
-opened depth p inside = if nat_lt depth 32 then inside else Err (out_of_range p)
+abbrev pub within_depth : (depth : ℕ) → Placed → OrFault Tree → OrFault Tree
+within_depth depth p inside = if nat_lt depth 32 then inside else Err (out_of_range p)
 
 abbrev mutual
   -- of a fact inside so many openers; a test has its first token's line
   pub fact_says : AppShape → (depth : ℕ) → {ts rest : List Placed} → g.IsFact ts rest
       → OrFault Tree
   fact_says s depth (g.denied {p = p} is f) =
-      opened depth p (fact_says s (depth + 1) f >>? λ c. Ok (Negated c))
-  fact_says s depth (g.enclosed {p = p} is c closes) = opened depth p (cond_says s (depth + 1) c)
+      within_depth depth p (fact_says s (depth + 1) f >>? λ c. Ok (Negated c))
+  fact_says s depth (g.enclosed {p = p} is c closes) =
+      within_depth depth p (cond_says s (depth + 1) c)
   fact_says s depth (g.asked {p = p} t) = test_says s t >>? λ x. Ok (Asked p.line x)
 
   pub term_says : AppShape → (depth : ℕ) → {ts rest : List Placed} → g.IsTerm ts rest
