@@ -4,7 +4,7 @@ use Rattle.std.specs.Prelude.{ℕ, List, length, Bool, ◌==◌, ◌&&◌, ◌||
 use Rattle.std.specs.Prelude.{nat_eq}
 use Rattle.std.specs.Str.{bytes_eq}
 use Rattle.std.specs.List.{starts_with, ends_with, list_all}
-use Rattle.cells.specs.Names.{is_word_byte}
+use Rattle.lexing.specs.Letter.{is_word_byte}
 use Rattle.operator_request.specs.Requests.{IsSendable}
 use Rattle.operator_request.specs.declared.request.OperatorRequest.{OperatorRequest}
 use Rattle.operator_request.specs.declared.request.OperatorRequest.TheVariants.{Load, Show}

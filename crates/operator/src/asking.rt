@@ -7,6 +7,7 @@ ghost use Rattle.operator.specs.Texts.{ask_text};
 ghost use Rattle.operator_request.specs.Requests.{IsSendable};
 
 use bounded_files::ResourceFault;
+use lexing::is_word_byte;
 use operator_request::OperatorRequest;
 use std::alloc::Global;
 use std::fmt;
@@ -128,13 +129,7 @@ fn are_counter_bytes(bytes: &[u8]) -> bool
 fn is_counter_byte(byte: u8) -> bool
     ensures { result ≡ specs.is_counter_byte byte }
 {
-    byte.is_ascii_alphabetic()
-        || byte == b'_'
-        || byte.is_ascii_digit()
-        || byte == b'['
-        || byte == b']'
-        || byte == b' '
-        || byte == b'\n'
+    is_word_byte(byte) || byte == b'[' || byte == b']' || byte == b' ' || byte == b'\n'
 }
 
 // Sends the line of a request, and reads all that is sent back, unless it is more than a reply may
