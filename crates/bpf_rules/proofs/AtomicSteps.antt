@@ -37,7 +37,7 @@ use Rattle.bpf_rules.specs.Transfer.{edges, edge_to, fetched_value, with_fetched
 use Rattle.bpf_rules.proofs.Given.{Given}
 use Rattle.bpf_rules.proofs.Passes.{Passes, two_usable, three_usable}
 use Rattle.bpf_rules.proofs.Outcomes.{answers, fetch_safe, ask_safe}
-use Rattle.bpf_rules.proofs.Cells.{IsAt}
+use Rattle.bpf_rules.proofs.CellAddresses.{IsAt}
 use Rattle.bpf_rules.proofs.CellSteps.{there, whole_cell, lawful_there, lawful_by}
 
 -- ---- the address

@@ -32,7 +32,7 @@ use Rattle.bpf_rules.specs.Transfer.{edge_to}
 use Rattle.bpf_rules.proofs.Given.{Given}
 use Rattle.bpf_rules.proofs.Passes.{true_and, not_false}
 use Rattle.bpf_rules.proofs.Outcomes.{answers, fetch_safe, ask_safe}
-use Rattle.bpf_rules.proofs.Cells.{IsAt, is_at, cell_there}
+use Rattle.bpf_rules.proofs.CellAddresses.{IsAt, is_at, cell_there}
 
 -- ---- an access that is a cell's
 

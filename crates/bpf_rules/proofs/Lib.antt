@@ -6,7 +6,7 @@ pub mod Computing
 pub mod Jumping
 pub mod ContextReads
 pub mod Regions
-pub mod Cells
+pub mod CellAddresses
 pub mod CellSteps
 pub mod AtomicSteps
 pub mod WideSteps

@@ -28,7 +28,7 @@ use Rattle.bpf_rules.specs.Transfer.{edges}
 use Rattle.bpf_rules.proofs.Given.{Given}
 use Rattle.bpf_rules.proofs.Passes.{Passes, true_and}
 use Rattle.bpf_rules.proofs.Outcomes.{answers, write_safe}
-use Rattle.bpf_rules.proofs.Cells.{array_is}
+use Rattle.bpf_rules.proofs.CellAddresses.{array_is}
 
 -- what is loaded, and that the value stands for it
 record Loads (g : Answers) (v : Option Abs) (o : Option ℕ) : Type 0 where
