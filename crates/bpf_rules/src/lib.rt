@@ -50,4 +50,6 @@ pub use transfer::{go_on_in, jump_in, step_in};
 // The words of the contracts here come with them.
 pub use abs_value;
 pub use abs_value::bpf_semantics;
+pub use bpf_insn;
+pub use cells;
 pub use flow_check;

@@ -6,8 +6,8 @@ use Rattle.std.proofs.Math.Seq.{append_snoc}
 use Rattle.std.proofs.lemmas.Bool.{cases_Bool}
 use Rattle.std.proofs.lemmas.List.{append-nil}
 use Rattle.std.proofs.lemmas.Option.{none-some}
-use Rattle.bpf_insn.specs.declared.insn.Insn.{Insn}
-use Rattle.bpf_insn.specs.Program.{at}
+use Rattle.bpf_rules.specs.bpf_insn.declared.insn.Insn.{Insn}
+use Rattle.bpf_rules.specs.bpf_insn.Program.{at}
 use Rattle.bpf_rules.specs.bpf_semantics.Program.{ShapedProgram}
 use Rattle.bpf_rules.specs.flow_check.Edges.{next_of}
 use Rattle.bpf_rules.specs.flow_check.Flow.{IsLayout}

@@ -5,8 +5,8 @@ use Rattle.std.proofs.Common.{Bool, true, false, refl, sym, ap, subst, ◌∙◌
 use Rattle.std.specs.Prelude.{◌⊎◌, IsSome, is_some, ◌==◌, ◌&&◌, nat_lt, max, if◌then◌else◌}
 use Rattle.std.proofs.lemmas.Bool.{cases_Bool, cases_lt}
 use Rattle.std.proofs.lemmas.Option.{none-some}
-use Rattle.bpf_insn.specs.declared.insn.Insn.{Insn}
-use Rattle.bpf_insn.specs.Program.{Program, at}
+use Rattle.bpf_rules.specs.bpf_insn.declared.insn.Insn.{Insn}
+use Rattle.bpf_rules.specs.bpf_insn.Program.{Program, at}
 use Rattle.bpf_rules.specs.bpf_semantics.Program.{ShapedProgram}
 use Rattle.bpf_rules.specs.flow_check.Edges.{next_of}
 use Rattle.bpf_rules.specs.flow_check.Flow.{IsLayout}

@@ -9,11 +9,11 @@ use Rattle.std.proofs.lemmas.Bool.{cases_lt, cases_Bool}
 use Rattle.std.proofs.lemmas.List.{get_or_past}
 use Rattle.std.proofs.lemmas.List.FromFn.{get_or-map-range_with_len, length-map-range_with_len}
 use Rattle.std.proofs.lemmas.Nat.Bits.{bit_at_and, bit_at_ones}
-use Rattle.bpf_insn.specs.declared.insn.Insn.{Insn}
-use Rattle.bpf_insn.specs.Program.{Program, at}
+use Rattle.bpf_rules.specs.bpf_insn.declared.insn.Insn.{Insn}
+use Rattle.bpf_rules.specs.bpf_insn.Program.{Program, at}
 use Rattle.bpf_rules.specs.bpf_semantics.Memory.{stack_size}
 use Rattle.bpf_rules.specs.bpf_semantics.Program.{ShapedProgram, shaped}
-use Rattle.cells.specs.Arrays.{AppShape}
+use Rattle.bpf_rules.specs.cells.Arrays.{AppShape}
 use Rattle.bpf_rules.specs.abs_value.declared.interval.Interval.{Interval}
 use Rattle.bpf_rules.specs.abs_value.declared.known_bits.KnownBits.{KnownBits}
 use Rattle.bpf_rules.specs.abs_value.declared.number.Number.{Number}

@@ -6,8 +6,8 @@ use Rattle.std.specs.Prelude.{IfSome, is_some, ◌==◌, ◌||◌, if◌then◌e
 use Rattle.std.specs.List.{AllByRecursion}
 use Rattle.std.proofs.lemmas.List.{length-replicate}
 use Rattle.std.proofs.lemmas.Option.{same_Some, none-some}
-use Rattle.bpf_insn.specs.declared.insn.Insn.{Insn}
-use Rattle.bpf_insn.specs.Program.{Program, at, ◌>>=◌}
+use Rattle.bpf_rules.specs.bpf_insn.declared.insn.Insn.{Insn}
+use Rattle.bpf_rules.specs.bpf_insn.Program.{Program, at, ◌>>=◌}
 use Rattle.bpf_rules.specs.bpf_semantics.Program.{ShapedProgram}
 use Rattle.bpf_rules.specs.flow_check.Edges.{target_of, goes_on, next_of}
 use Rattle.bpf_rules.specs.flow_check.Flow.{IsLayout, IsForward, IsAhead}

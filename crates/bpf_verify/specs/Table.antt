@@ -2,10 +2,10 @@
 -- and each edge leads within it, the program is accepted. What the sweep finds may be narrower.
 use Rattle.std.specs.Prelude.{◌≡◌, ℕ, ◌<◌, ◌≤◌, List, length, Some, None, Bool, true}
 use Rattle.std.specs.List.{AllByRecursion}
-use Rattle.bpf_insn.specs.declared.insn.Insn.{Insn}
-use Rattle.bpf_insn.specs.Program.{Program, at}
+use Rattle.bpf_rules.specs.bpf_insn.declared.insn.Insn.{Insn}
+use Rattle.bpf_rules.specs.bpf_insn.Program.{Program, at}
 use Rattle.bpf_rules.specs.bpf_semantics.Memory.{stack_size}
-use Rattle.cells.specs.Arrays.{AppShape}
+use Rattle.bpf_rules.specs.cells.Arrays.{AppShape}
 use Rattle.bpf_rules.specs.abs_value.declared.value.Abs.{Abs}
 use Rattle.bpf_rules.specs.abs_value.declared.value.Abs.TheVariants.{Unusable, Num, Ctx}
 use Rattle.bpf_rules.specs.abs_value.declared.state.AbsState.{AbsState}

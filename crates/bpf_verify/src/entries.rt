@@ -12,11 +12,11 @@ ghost use Rattle.bpf_verify.specs.Sweep.{falling, IsAdded};
 ghost use Rattle.bpf_verify.specs.Entries.{at_hand, arriving};
 
 use crate::pool::Pool;
-use bpf_insn::Insn;
 use bpf_rules::abs_value::{AbsState, joins_commute};
+use bpf_rules::bpf_insn::Insn;
+use bpf_rules::cells::Shape;
 use bpf_rules::flow_check::{jump_target, next_place};
 use bpf_rules::{Compared, go_on_in, is_lookup_check, jump_in};
-use cells::Shape;
 use std::alloc::{AllocError, Global};
 
 /// The entry at hand, if a run goes on to the place, and those that wait.

@@ -31,8 +31,8 @@ mod table;
 mod verified;
 mod walk;
 
+pub use bpf_rules::cells::Shape;
 pub use bpf_rules::{Refusal, VerifierRule};
-pub use cells::Shape;
 pub use law::{ends_are_in_order, one_verdict};
 pub use table::table_is_enough;
 pub use verified::{Verified, verify, verify_counted};
