@@ -2,7 +2,7 @@
 -- text is gone through byte by byte, each of which belongs to a lexeme of some kind or to none.
 use Rattle.std.specs.Prelude.{ℕ, zero, suc, ◌+◌, [], ◌∷◌, ◌++◌, nat_le, slice_index_or}
 use Rattle.std.specs.Prelude.{Bool, true, false, ◌==◌, ◌&&◌, ◌||◌, if◌then◌else◌}
-use Rattle.cells.specs.Names.{is_name_byte}
+use Rattle.cells.specs.Names.{is_word_byte}
 use Rattle.rule_diagnosis.specs.declared.lexeme.Lexeme.{Lexeme}
 use Rattle.rule_diagnosis.specs.declared.lexeme.Lexeme.TheVariants.{Blank, Remark, Word, Relation}
 use Rattle.rule_diagnosis.specs.declared.lexeme.Lexeme.TheVariants.{Quoted, Unquote, Foreign, Mark}
@@ -19,7 +19,7 @@ abbrev pub divides : (c next : ℕ) → Bool
 divides c next = (c == 32) || (c == 9) || (c == 10) || ((c == 13) && (next == 10))
 
 abbrev pub is_word : ℕ → Bool
-is_word c = is_name_byte c || (c == 46)
+is_word c = is_word_byte c || (c == 46)
 
 abbrev pub is_relation : ℕ → Bool
 is_relation c = (c == 60) || (c == 61) || (c == 62) || (c == 33)
