@@ -77,7 +77,11 @@ fn refused_once(rt: HostRuntime) -> Result<(), Fail> {
     assert!(rt; room.starts_with(b"choice 0 after 2 instructions\n"));
     // An answer that can't be written is B3.
     let mut narrow = [0; 10];
-    assert_eq!(rt; run_none(&rt, &mut narrow, &mut said), 1);
+    status = run_none(&rt, &mut narrow, &mut said);
+    if REFUSALS.iter().any(|line| said.starts_with(line)) {
+        status = run_none(&rt, &mut narrow, &mut said);
+    }
+    assert_eq!(rt; status, 1);
     assert!(rt; said.starts_with(b"refused B3 File\n"));
     fs::remove_file(&rt, "m.bin")?;
     Ok(())
