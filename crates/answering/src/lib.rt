@@ -18,10 +18,14 @@ mod rejection;
 mod replying;
 mod sent;
 mod turn;
+mod witness;
 
-pub use answering::{AnswerFault, answer};
+pub use answering::{AnswerFault, answer, answer_before};
 pub use sent::Sent;
+pub use turn::Turn;
+pub use witness::{Nobody, Witness};
 
 // The words of the contracts here come with them.
 pub use hot_swap;
 pub use http_front;
+pub use omaha_json;

@@ -7,15 +7,17 @@ ghost use Rattle.answering.specs.Answer.{IsHeard, IsHeardBody, WritesNothing};
 
 use crate::answering::AnswerFault;
 use crate::rejection::Rejection;
+use crate::witness::Witness;
 use http_front::{Counted, PostFault, read_post};
 use omaha_json::{Request, read_request};
 use std::alloc::Global;
 use std::io::Read;
 
 /// Reads a request, or finds what the client is told in its place.
-pub fn hear<R: Read>(
+pub fn hear<R: Read, W: Witness>(
     alloc: Global,
     reader: &mut Counted<R>,
+    witness: &mut W,
 ) -> Result<Result<Request, Rejection>, AnswerFault>
     requires { reader.old.failures < 2 ^ 64 - 1 }
     ensures heard { IfOk result (IsHeard (R.remaining reader.old.inner)) }
@@ -26,7 +28,7 @@ pub fn hear<R: Read>(
         → reader.new.failures ≡ reader.old.failures + 1 }
 {
     let fault = match read_post(alloc, reader) {
-        Ok(body) => return Ok(request_of(alloc, body.as_slice())),
+        Ok(body) => return Ok(request_of(alloc, body.as_slice(), witness)),
         Err(fault) => fault,
     };
     match fault.status() {
@@ -39,11 +41,14 @@ pub fn hear<R: Read>(
 }
 
 // The request that a body is, or what its client is told in its place.
-fn request_of(alloc: Global, body: &[u8]) -> Result<Request, Rejection>
+fn request_of<W: Witness>(alloc: Global, body: &[u8], witness: &mut W) -> Result<Request, Rejection>
     ensures { IsHeardBody body.now result }
 {
     match read_request(alloc, body) {
-        Ok(request) => Ok(request),
+        Ok(request) => {
+            witness.hear(body, &request);
+            Ok(request)
+        }
         Err(fault) => Err(Rejection::of_omaha(fault)),
     }
 }

@@ -8,17 +8,20 @@ ghost use Rattle.answering.specs.Reply.{settled_reply};
 use crate::apps::run_apps;
 use crate::rejection::Rejection;
 use crate::turn::Turn;
+use crate::witness::Witness;
 use cells::CellSteps;
 use hot_swap::Watcher;
 use hot_swap::ruleset::Ruleset;
 use omaha_json::{OmahaFault, Request, found_text};
 
-/// The text of the reply to a request, or why there is none. The ruleset is asked for once.
-pub fn reply_to<C: CellSteps>(
+/// The text of the reply to a request, or why there is none. The ruleset is asked for once. The
+/// witness sees what the apps were answered.
+pub fn reply_to<C: CellSteps, W: Witness>(
     turn: &Turn<'_, C>,
     request: &Request,
     pass: &mut C::Pass,
     watcher: &mut Watcher,
+    witness: &mut W,
 ) -> Result<Vec<u8>, Rejection>
     requires { C.belongs turn.now.cells.now pass.old }
     ensures belongs { C.belongs turn.now.cells.now pass.new }
@@ -34,13 +37,9 @@ pub fn reply_to<C: CellSteps>(
     let Ok(found) = run_apps(turn, request, rules, pass) else {
         return Err(Rejection::of_omaha(OmahaFault::Memory));
     };
-    match found_text(
-        turn.alloc,
-        request,
-        rules.server(),
-        found.as_slice(),
-        *turn.moment,
-    ) {
+    let answers = found.as_slice();
+    witness.see(current.0, request, answers);
+    match found_text(turn.alloc, request, rules.server(), answers, *turn.moment) {
         Ok(text) => Ok(text),
         Err(_) => Err(Rejection::of_omaha(OmahaFault::Memory)),
     }

@@ -45,22 +45,22 @@ impl<'a> FoundApp<'a> {
         }
     }
 
-    // The app's releases.
-    pub(crate) fn releases(&self) -> &'a [Release]
+    /// The app's releases.
+    pub fn releases(&self) -> &'a [Release]
         ensures { result.now ≡ self.now.releases }
     {
         self.releases
     }
 
-    // Its bucket.
-    pub(crate) fn bucket(&self) -> u16
+    /// Its bucket.
+    pub fn bucket(&self) -> u16
         ensures { result ≡ self.now.bucket }
     {
         self.bucket
     }
 
-    // The choice of its run.
-    pub(crate) fn choice(&self) -> Option<u8>
+    /// The choice of its run: `None` where none was made.
+    pub fn choice(&self) -> Option<u8>
         ensures { result ≡ self.now.choice }
     {
         self.choice

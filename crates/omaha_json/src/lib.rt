@@ -19,3 +19,4 @@ pub use found::FoundApp;
 pub use reading::read_request;
 pub use reply::{found_text, reply_text};
 pub use request::Request;
+pub use update::release_at;

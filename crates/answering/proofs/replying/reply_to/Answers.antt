@@ -25,7 +25,7 @@ returns-in_default-run_apps-clause-replies g c =
 
 pub found_text-requires : goal.found_text-requires
 found_text-requires g c =
-    ap length c.as_slice.ensures.value
+    ap length c.as_slice-answers.ensures.value
     ∙ finds_length _ _ _ c.in-Ok-run_apps.ensures.finds.of
 
 pub returns-in-Ok-found_text-clause-replies : goal.returns-in-Ok-found_text-clause-replies
@@ -37,8 +37,8 @@ returns-in-Ok-found_text-clause-replies g c =
     let fits : SFits w64 c.args.turn.now.moment.now = search rules in
     let text = simp to_z-of_z at c.in-Ok-found_text.ensures.text in
     is_replied (g.C.CellSteps.grew) c.args.request.now _ c.args.turn.now.moment.now _ _
-    c.in-Ok.current.0 rules' c.in-Ok-run_apps.found.items c.as_slice.result.now
-    c.server.result.now _ newest c.server.ensures c.as_slice.ensures.value text
+    c.in-Ok.current.0 rules' c.in-Ok-run_apps.found.items c.as_slice-answers.result.now
+    c.server.result.now _ newest c.server.ensures c.as_slice-answers.ensures.value text
     c.in-Ok-run_apps.ensures.finds
 
 pub returns-clause-replies : goal.returns-clause-replies
