@@ -8,14 +8,14 @@ use Rattle.std.proofs.lemmas.List.Folds.{list_all-append}
 use Rattle.std.specs.Int.{bit_at}
 use Rattle.std.specs.Fmt.{decimal, signed_decimal, digits, digits_onto, digit_glyph}
 use Rattle.std.specs.List.{AllByRecursion, list_all, find}
-use Rattle.bpf_insn.specs.declared.insn.Insn.{Insn}
-use Rattle.bpf_insn.specs.declared.insn.Insn.TheVariants.{Load}
-use Rattle.bpf_insn.specs.declared.operand.LoadKind.{LoadKind}
-use Rattle.bpf_insn.specs.declared.reg.Reg.{Reg}
-use Rattle.bpf_insn.specs.Table.{number_of}
+use Rattle.bpf_verify.specs.bpf_rules.bpf_insn.declared.insn.Insn.{Insn}
+use Rattle.bpf_verify.specs.bpf_rules.bpf_insn.declared.insn.Insn.TheVariants.{Load}
+use Rattle.bpf_verify.specs.bpf_rules.bpf_insn.declared.operand.LoadKind.{LoadKind}
+use Rattle.bpf_verify.specs.bpf_rules.bpf_insn.declared.reg.Reg.{Reg}
+use Rattle.bpf_verify.specs.bpf_rules.bpf_insn.Table.{number_of}
 use Rattle.bpf_text.specs.Listing.{with_sign}
-use Rattle.cells.specs.Arrays.{AppShape}
-use Rattle.cells.specs.declared.array.CellArray.{CellArray}
+use Rattle.bpf_verify.specs.bpf_rules.cells.Arrays.{AppShape}
+use Rattle.bpf_verify.specs.bpf_rules.cells.declared.array.CellArray.{CellArray}
 use Rattle.bpf_verify.specs.abs_value.declared.number.Number.{Number}
 use Rattle.bpf_verify.specs.abs_value.declared.origin.Lookup.{Lookup}
 use Rattle.bpf_verify.specs.abs_value.declared.origin.Origin.TheVariants.{Found, Fixed}

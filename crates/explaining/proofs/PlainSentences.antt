@@ -4,14 +4,15 @@ use Rattle.std.proofs.Common.{List, [], ◌∷◌}
 use Rattle.std.proofs.Common.{codes, ◌||◌, ◌==◌}
 use Rattle.std.proofs.Common.{Option, Some, None, refl, slice_get}
 use Rattle.std.specs.Int.{w64, cast_signed}
-use Rattle.bpf_insn.specs.declared.insn.Insn.{Insn}
-use Rattle.bpf_insn.specs.declared.insn.Insn.TheVariants.{Alu, Load, Call, Wide}
-use Rattle.bpf_insn.specs.declared.operand.AluOp.{AluOp}
-use Rattle.bpf_insn.specs.declared.operand.WideValue.TheVariants as wide
-use Rattle.bpf_insn.specs.declared.reg.Reg.{Reg}
-use Rattle.bpf_insn.specs.declared.reg.Reg.TheVariants.{R0, R1, R2, R3}
-use Rattle.cells.specs.Arrays.{AppShape}
-use Rattle.cells.specs.declared.array.CellArray.{CellArray}
+use Rattle.bpf_verify.specs.bpf_rules.bpf_insn.declared.insn.Insn.{Insn}
+use Rattle.bpf_verify.specs.bpf_rules.bpf_insn.declared.insn.Insn.TheVariants.{Alu, Load}
+use Rattle.bpf_verify.specs.bpf_rules.bpf_insn.declared.insn.Insn.TheVariants.{Call, Wide}
+use Rattle.bpf_verify.specs.bpf_rules.bpf_insn.declared.operand.AluOp.{AluOp}
+use Rattle.bpf_verify.specs.bpf_rules.bpf_insn.declared.operand.WideValue.TheVariants as wide
+use Rattle.bpf_verify.specs.bpf_rules.bpf_insn.declared.reg.Reg.{Reg}
+use Rattle.bpf_verify.specs.bpf_rules.bpf_insn.declared.reg.Reg.TheVariants.{R0, R1, R2, R3}
+use Rattle.bpf_verify.specs.bpf_rules.cells.Arrays.{AppShape}
+use Rattle.bpf_verify.specs.bpf_rules.cells.declared.array.CellArray.{CellArray}
 use Rattle.bpf_verify.specs.abs_value.declared.state.AbsState.{AbsState}
 use Rattle.bpf_verify.specs.abs_value.declared.value.Abs.{Abs}
 use Rattle.bpf_verify.specs.abs_value.declared.value.Abs.TheVariants.{Num}

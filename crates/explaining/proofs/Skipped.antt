@@ -3,10 +3,10 @@ use Rattle.std.proofs.Common.{◌≡◌, ℕ, zero, suc, ◌≤◌, List, [], �
 use Rattle.std.proofs.Common.{true, Option, Some, None, Ok, max, ◌-◌}
 use Rattle.std.proofs.Common.{refl, sym, ap, ◌∙◌, subst, replicate, append_assoc}
 use Rattle.std.specs.List.{AllByRecursion}
-use Rattle.bpf_insn.specs.declared.insn.Insn.{Insn}
-use Rattle.bpf_insn.specs.declared.insn.Insn.TheVariants.{Wide}
-use Rattle.bpf_insn.specs.Program.{Program, at, layout, encodings}
-use Rattle.bpf_insn.specs.Spelling.{IsEncodable, encoding}
+use Rattle.bpf_verify.specs.bpf_rules.bpf_insn.declared.insn.Insn.{Insn}
+use Rattle.bpf_verify.specs.bpf_rules.bpf_insn.declared.insn.Insn.TheVariants.{Wide}
+use Rattle.bpf_verify.specs.bpf_rules.bpf_insn.Program.{Program, at, layout, encodings}
+use Rattle.bpf_verify.specs.bpf_rules.bpf_insn.Spelling.{IsEncodable, encoding}
 use Rattle.bpf_text.specs.Assembly.{Assembles}
 use Rattle.bpf_text.specs.Remarks.{is_blank_or_comment, IsRemark, RemarkedInsn, bare_line}
 use Rattle.bpf_text.specs.Remarks.{remarked_listing, insns_of, RemarksAreSkipped}

@@ -3,10 +3,10 @@
 use Rattle.std.specs.Prelude.{◌≡◌, ℕ, ◌-◌, max, List, [], ◌∷◌, ◌++◌, codes, length, replicate}
 use Rattle.std.specs.Prelude.{Option, Some, None, true}
 use Rattle.std.specs.Fmt.{decimal}
-use Rattle.bpf_insn.specs.declared.insn.Insn.{Insn}
-use Rattle.bpf_insn.specs.Program.{Program, layout}
+use Rattle.bpf_verify.specs.bpf_rules.bpf_insn.declared.insn.Insn.{Insn}
+use Rattle.bpf_verify.specs.bpf_rules.bpf_insn.Program.{Program, layout}
 use Rattle.bpf_text.specs.Remarks.{RemarkedInsn, bare_line, remarked_listing}
-use Rattle.cells.specs.Arrays.{AppShape}
+use Rattle.bpf_verify.specs.bpf_rules.cells.Arrays.{AppShape}
 use Rattle.bpf_verify.specs.flow_check.Edges.{next_of}
 use Rattle.bpf_verify.specs.bpf_semantics.Program.{ShapedProgram, shaped}
 use Rattle.bpf_verify.specs.Accepted.{entry_of, IsAccepted, IsRefusedAt}

@@ -1,17 +1,19 @@
 -- The registers that an instruction reads, and the memory that it accesses, each as one value.
 use Rattle.std.specs.Prelude.{◌≡◌, ℕ, ℤ, Bool, false, ◌||◌, ◌==◌, if◌then◌else◌}
 use Rattle.std.specs.Prelude.{Option, Some, None, ◌++◌, option_to_list, List}
-use Rattle.bpf_insn.specs.declared.insn.Insn.{Insn}
-use Rattle.bpf_insn.specs.declared.insn.Insn.TheVariants.{Alu, Mov, MovSx, Neg, End, Jump, JumpIf}
-use Rattle.bpf_insn.specs.declared.insn.Insn.TheVariants.{Call, Exit, Load, StoreImm, Store}
-use Rattle.bpf_insn.specs.declared.insn.Insn.TheVariants.{Atomic, Wide}
-use Rattle.bpf_insn.specs.declared.operand.AtomicOp.{AtomicOp}
-use Rattle.bpf_insn.specs.declared.operand.AtomicOp.TheVariants.{CompareExchange}
-use Rattle.bpf_insn.specs.declared.operand.Operand.{Operand}
-use Rattle.bpf_insn.specs.declared.operand.Operand.TheVariants.{Imm, Register}
-use Rattle.bpf_insn.specs.declared.reg.Reg.{Reg}
-use Rattle.bpf_insn.specs.declared.reg.Reg.TheVariants.{R0, R1, R2, R3}
-use Rattle.bpf_insn.specs.Table.{number_of}
+use Rattle.bpf_verify.specs.bpf_rules.bpf_insn.declared.insn.Insn.{Insn}
+use Rattle.bpf_verify.specs.bpf_rules.bpf_insn.declared.insn.Insn.TheVariants.{Alu, Mov, MovSx, Neg}
+use Rattle.bpf_verify.specs.bpf_rules.bpf_insn.declared.insn.Insn.TheVariants.{End, Jump, JumpIf}
+use Rattle.bpf_verify.specs.bpf_rules.bpf_insn.declared.insn.Insn.TheVariants.{Call, Exit, Load}
+use Rattle.bpf_verify.specs.bpf_rules.bpf_insn.declared.insn.Insn.TheVariants.{StoreImm, Store}
+use Rattle.bpf_verify.specs.bpf_rules.bpf_insn.declared.insn.Insn.TheVariants.{Atomic, Wide}
+use Rattle.bpf_verify.specs.bpf_rules.bpf_insn.declared.operand.AtomicOp.{AtomicOp}
+use Rattle.bpf_verify.specs.bpf_rules.bpf_insn.declared.operand.AtomicOp.TheVariants as atomic
+use Rattle.bpf_verify.specs.bpf_rules.bpf_insn.declared.operand.Operand.{Operand}
+use Rattle.bpf_verify.specs.bpf_rules.bpf_insn.declared.operand.Operand.TheVariants.{Imm, Register}
+use Rattle.bpf_verify.specs.bpf_rules.bpf_insn.declared.reg.Reg.{Reg}
+use Rattle.bpf_verify.specs.bpf_rules.bpf_insn.declared.reg.Reg.TheVariants.{R0, R1, R2, R3}
+use Rattle.bpf_verify.specs.bpf_rules.bpf_insn.Table.{number_of}
 use Rattle.bpf_verify.specs.bpf_rules.declared.access.Access.{Access}
 use Rattle.bpf_verify.specs.bpf_rules.declared.helper.Helper.{Helper}
 use Rattle.bpf_verify.specs.bpf_rules.declared.helper.Helper.TheVariants.{Lookup, AttrIs}
@@ -51,7 +53,7 @@ argument_registers (Some AttrIs) = three_registers R1 R2 R3
 argument_registers (Some helper) = one_register R1
 
 abbrev pub exchanged_registers : AtomicOp → Reg → Reg → ReadRegisters
-exchanged_registers CompareExchange dst src = three_registers dst src R0
+exchanged_registers atomic.CompareExchange dst src = three_registers dst src R0
 exchanged_registers op dst src = two_registers dst src
 
 abbrev pub read_registers : Insn → ReadRegisters

@@ -6,9 +6,9 @@ use Rattle.std.specs.Fmt.{decimal}
 use Rattle.std.specs.Int.{bit_at}
 use Rattle.std.specs.List.{AllByRecursion, find}
 use Rattle.bpf_verify.specs.bpf_semantics.Memory.{stack_size}
-use Rattle.cells.specs.Arrays.{AppShape}
-use Rattle.cells.specs.Names.{IsName}
-use Rattle.cells.specs.declared.array.CellArray.{CellArray}
+use Rattle.bpf_verify.specs.bpf_rules.cells.Arrays.{AppShape}
+use Rattle.bpf_verify.specs.bpf_rules.cells.Names.{IsName}
+use Rattle.bpf_verify.specs.bpf_rules.cells.declared.array.CellArray.{CellArray}
 use Rattle.bpf_verify.specs.abs_value.declared.number.Number.{Number}
 use Rattle.bpf_verify.specs.abs_value.declared.origin.Lookup.{Lookup}
 use Rattle.bpf_verify.specs.abs_value.declared.origin.Origin.TheVariants.{Found, Fixed}

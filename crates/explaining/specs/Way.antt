@@ -1,9 +1,9 @@
 -- What changed on the way to a place: on the edge by which the instruction before goes on to it.
 use Rattle.std.specs.Prelude.{ℕ, Bool, true, false, ◌&&◌, not, ◌==◌, Option, Some, None, replicate}
-use Rattle.bpf_insn.specs.declared.insn.Insn.{Insn}
-use Rattle.bpf_insn.specs.declared.reg.Reg.{Reg}
-use Rattle.bpf_insn.specs.Table.{number_of}
-use Rattle.cells.specs.Arrays.{AppShape}
+use Rattle.bpf_verify.specs.bpf_rules.bpf_insn.declared.insn.Insn.{Insn}
+use Rattle.bpf_verify.specs.bpf_rules.bpf_insn.declared.reg.Reg.{Reg}
+use Rattle.bpf_verify.specs.bpf_rules.bpf_insn.Table.{number_of}
+use Rattle.bpf_verify.specs.bpf_rules.cells.Arrays.{AppShape}
 use Rattle.bpf_verify.specs.abs_value.declared.number.Number.{Number}
 use Rattle.bpf_verify.specs.abs_value.declared.state.AbsState.{AbsState}
 use Rattle.bpf_verify.specs.abs_value.declared.value.Abs.{Abs}

@@ -9,10 +9,10 @@ ghost use Rattle.explaining.specs.Known as specs;
 use crate::reads::ReadRegisters;
 use crate::values::push_value;
 use crate::way::Way;
-use bpf_insn::{Insn, LoadKind, Reg};
 use bpf_verify::bpf_rules::abs_value::{Abs, AbsState};
+use bpf_verify::bpf_rules::bpf_insn::{Insn, LoadKind, Reg};
+use bpf_verify::bpf_rules::cells::Shape;
 use bpf_verify::bpf_semantics::{STACK_SIZE, load_count};
-use cells::Shape;
 use std::alloc::AllocError;
 use std::fmt::Write;
 

@@ -5,8 +5,8 @@ ghost use Rattle.bpf_verify.specs.bpf_rules.Reads.{helper_of};
 ghost use Rattle.explaining.specs.Reads as specs;
 ghost use Rattle.explaining.specs.Sentences as sentences;
 
-use bpf_insn::{AtomicOp, Insn, Operand, Reg};
 use bpf_verify::bpf_rules::abs_value::AbsState;
+use bpf_verify::bpf_rules::bpf_insn::{AtomicOp, Insn, Operand, Reg};
 use bpf_verify::bpf_semantics::helpers::{ATTR_IS, ATTR_LEN, BUCKET, LOOKUP};
 use bpf_verify::bpf_semantics::{atomic_count, byte_count, load_count};
 

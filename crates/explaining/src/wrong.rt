@@ -9,11 +9,11 @@ use crate::asks::{asked_by, attr_is_takes, cells_ask, lookup_takes, no_cell_at};
 use crate::known::{push_memory, push_register};
 use crate::operands::push_register_is;
 use crate::reads::TouchedMemory;
-use bpf_insn::{Insn, Reg, WideValue};
 use bpf_verify::VerifierRule;
 use bpf_verify::bpf_rules::abs_value::{Abs, AbsState};
+use bpf_verify::bpf_rules::bpf_insn::{Insn, Reg, WideValue};
+use bpf_verify::bpf_rules::cells::{CellArray, Shape};
 use bpf_verify::bpf_semantics::helpers::{ATTR_IS, ATTR_LEN, BUCKET, LOOKUP};
-use cells::{CellArray, Shape};
 use std::alloc::AllocError;
 use std::fmt::Write;
 

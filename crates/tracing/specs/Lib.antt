@@ -1,3 +1,3 @@
 pub mod Lines
 pub mod Trace
-pub use Rattle.bpf_verify.specs as bpf_verify
+pub use Rattle.explaining.specs as explaining

@@ -1,39 +1,26 @@
 -- The line that tells one step of a run: slot and instruction, and behind a semicolon each what a
 -- counter was asked and replied, the register that was written, and the bytes of the stack that
 -- were, as a number.
-use Rattle.std.specs.Prelude.{ℕ, ◌+◌, ◌-◌, ℤ, List, [], ◌++◌, codes, Bool, ◌&&◌}
-use Rattle.std.specs.Prelude.{nat_le, nat_lt, Option, Some, None}
+use Rattle.std.specs.Prelude.{ℕ, ◌-◌, ℤ, List, [], ◌++◌, codes, Option, Some, None}
 use Rattle.std.specs.Fmt.{decimal}
-use Rattle.std.specs.List.{find}
-use Rattle.bpf_insn.specs.declared.insn.Insn.{Insn}
-use Rattle.bpf_insn.specs.declared.insn.Insn.TheVariants.{StoreImm, Store}
-use Rattle.bpf_insn.specs.declared.reg.Reg.{Reg}
-use Rattle.bpf_insn.specs.Program.{at, ◌>>=◌}
-use Rattle.bpf_insn.specs.Table.{number_of}
-use Rattle.bpf_text.specs.Remarks.{bare_line}
-use Rattle.bpf_verify.specs.bpf_rules.Reads.{writes}
-use Rattle.bpf_semantics.specs.Memory.{address_of, stack_top}
-use Rattle.bpf_semantics.specs.Program.{ShapedProgram}
-use Rattle.bpf_semantics.specs.Reads.{register, byte_count}
-use Rattle.bpf_semantics.specs.State.{State, read_at}
-use Rattle.cells.specs.Arrays.{AppShape}
-use Rattle.cells.specs.declared.array.CellArray.{CellArray}
-use Rattle.cells.specs.declared.event.CellEvent.{CellEvent}
-use Rattle.cells.specs.declared.event.CellOp.{CellOp}
-use Rattle.cells.specs.declared.event.CellOp.TheVariants as op
+use Rattle.explaining.specs.bpf_insn.declared.insn.Insn.{Insn}
+use Rattle.explaining.specs.bpf_insn.declared.insn.Insn.TheVariants.{StoreImm, Store}
+use Rattle.explaining.specs.bpf_insn.declared.reg.Reg.{Reg}
+use Rattle.explaining.specs.bpf_insn.Program.{at, ◌>>=◌}
+use Rattle.explaining.specs.bpf_insn.Table.{number_of}
+use Rattle.explaining.specs.bpf_text.Remarks.{bare_line}
+use Rattle.explaining.specs.bpf_verify.bpf_rules.Reads.{writes}
+use Rattle.explaining.specs.bpf_semantics.Memory.{address_of, stack_top}
+use Rattle.explaining.specs.bpf_semantics.Program.{ShapedProgram}
+use Rattle.explaining.specs.bpf_semantics.Reads.{register, byte_count}
+use Rattle.explaining.specs.bpf_semantics.State.{State, read_at}
+use Rattle.explaining.specs.Values.{counter_text}
+use Rattle.explaining.specs.cells.Arrays.{AppShape}
+use Rattle.explaining.specs.cells.declared.event.CellEvent.{CellEvent}
+use Rattle.explaining.specs.cells.declared.event.CellOp.{CellOp}
+use Rattle.explaining.specs.cells.declared.event.CellOp.TheVariants as op
 
 -- ---- counters
-
-abbrev pub has_cell : ℕ → CellArray → Bool
-has_cell cell a = nat_le a.base cell && nat_lt cell (a.base + a.length)
-
--- a counter by the name of its array and its index there, as `q[0]`
-abbrev pub named_cell : ℕ → Option CellArray → List ℕ
-named_cell cell None = codes "cell " ++ decimal cell
-named_cell cell (Some a) = a.name ++ codes "[" ++ decimal (cell - a.base) ++ codes "]"
-
-abbrev pub cell_text : AppShape → ℕ → List ℕ
-cell_text shape cell = named_cell cell (find (has_cell cell) shape.arrays)
 
 abbrev pub op_text : CellOp → List ℕ
 op_text op.Load = codes "load"
@@ -48,7 +35,7 @@ op_text (op.CompareExchange x y) = codes "compare " ++ decimal x ++ codes " swap
 abbrev pub event_part : AppShape → Option CellEvent → List ℕ
 event_part shape None = []
 event_part shape (Some e) =
-    codes " ; " ++ cell_text shape e.cell ++ codes " " ++ op_text e.op
+    codes " ; " ++ counter_text shape e.cell ++ codes " " ++ op_text e.op
     ++ codes " replied " ++ decimal e.reply
 
 -- ---- registers and stack

@@ -3,7 +3,8 @@
 
 // The run is the definition's own: the interpreter that holds what is set and what isn't makes its
 // steps, and after each of them the line is written of the state that it left. Since the program
-// is accepted, no step is one that the machine doesn't define.
+// is accepted, no step is one that the machine doesn't define. Counters are named as `explaining`
+// names them.
 
 mod changes;
 mod counter;
@@ -13,4 +14,4 @@ mod traced;
 pub use traced::{TracedRun, trace};
 
 // The words of the contracts here come with them.
-pub use bpf_verify;
+pub use explaining;
