@@ -8,7 +8,7 @@ use Rattle.command_line.specs.declared.verb.Verb.{Verb}
 use Rattle.command_line.specs.declared.verb.Verb.TheVariants as verb
 use Rattle.command_line.specs.declared.verb.Verb.TheVariants.{Assemble, Check, Compile, Verify, Run}
 use Rattle.command_line.specs.declared.verb.Verb.TheVariants.{Replay, Serve, Load}
-use Rattle.command_line.specs.declared.verb.Verb.TheVariants.{Order, Show, Cells, Stop}
+use Rattle.command_line.specs.declared.verb.Verb.TheVariants.{Explain, Order, Show, Cells, Stop}
 
 -- a word by its place, which has to be there
 abbrev pub file : Text → Rule
@@ -90,6 +90,9 @@ abbrev pub compile_command : Shape
 compile_command =
     command (codes "compile") (file (codes "IN") ∷ file (codes "OUT") ∷ releases ∷ arrays ∷ [])
 
+abbrev pub explain_command : Shape
+explain_command = command (codes "explain") (file (codes "IN") ∷ releases ∷ arrays ∷ [])
+
 abbrev pub list_command : Shape
 list_command = command (codes "list") (file (codes "IN") ∷ [])
 
@@ -125,6 +128,7 @@ verb_command Assemble = assemble_command
 verb_command Cells = operator_command (codes "cells")
 verb_command Check = check_command
 verb_command Compile = compile_command
+verb_command Explain = explain_command
 verb_command verb.List = list_command
 verb_command Load = load_command
 verb_command Order = order_command
@@ -136,8 +140,8 @@ verb_command Stop = operator_command (codes "stop")
 verb_command Verify = verify_command
 
 abbrev pub verbs : List Verb
-verbs = Assemble ∷ Cells ∷ Check ∷ Compile ∷ verb.List ∷ Load ∷ Order ∷ Replay ∷ Run ∷ Serve ∷ Show
-    ∷ Stop ∷ Verify ∷ []
+verbs = Assemble ∷ Cells ∷ Check ∷ Compile ∷ Explain ∷ verb.List ∷ Load ∷ Order ∷ Replay ∷ Run
+    ∷ Serve ∷ Show ∷ Stop ∷ Verify ∷ []
 
 -- all of them, in the order of their names
 abbrev pub commands : App

@@ -20,6 +20,7 @@ verb_named name =
     if bytes_eq name (codes "asm") then Some verb.Assemble
     else if bytes_eq name (codes "check") then Some verb.Check
     else if bytes_eq name (codes "compile") then Some verb.Compile
+    else if bytes_eq name (codes "explain") then Some verb.Explain
     else if bytes_eq name (codes "list") then Some verb.List
     else if bytes_eq name (codes "order") then Some verb.Order
     else if bytes_eq name (codes "verify") then Some verb.Verify
@@ -47,6 +48,8 @@ VerbAsks (Some verb.Check) rows (request.Check manifest) =
     HasText (codes "MANIFEST") rows manifest.now
 VerbAsks (Some verb.Compile) rows (request.Compile text shape out) =
     HasText (codes "IN") rows text.now × HasText (codes "OUT") rows out.now × HasShape rows shape
+VerbAsks (Some verb.Explain) rows (request.Explain path shape) =
+    HasText (codes "IN") rows path.now × HasShape rows shape
 VerbAsks (Some verb.List) rows (request.List path) = HasText (codes "IN") rows path.now
 VerbAsks (Some verb.Order) rows (request.Order path out) =
     HasText (codes "IN") rows path.now × HasText (codes "OUT") rows out.now

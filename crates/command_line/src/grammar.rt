@@ -7,7 +7,8 @@ ghost use Rattle.clap.specs.declared.builder.command.Command.TheViews.{out-Comma
 ghost use Rattle.command_line.specs.Grammar as grammar;
 
 use crate::program_commands::{
-    assemble_command, compile_command, list_command, order_command, run_command, verify_command,
+    assemble_command, compile_command, explain_command, list_command, order_command, run_command,
+    verify_command,
 };
 use crate::server_commands::{
     cells_command, check_command, load_command, replay_command, serve_command, show_command,
@@ -27,6 +28,7 @@ fn verb_command<'a>(alloc: Global, verb: Verb) -> Result<Command<'a>, AllocError
         Verb::Cells => cells_command(alloc),
         Verb::Check => check_command(alloc),
         Verb::Compile => compile_command(alloc),
+        Verb::Explain => explain_command(alloc),
         Verb::List => list_command(alloc),
         Verb::Load => load_command(alloc),
         Verb::Order => order_command(alloc),

@@ -40,6 +40,21 @@ pub fn compile_command<'a>(alloc: Global) -> Result<Command<'a>, AllocError>
     command_of(alloc, "compile", about, arguments)
 }
 
+/// The command `explain`.
+pub fn explain_command<'a>(alloc: Global) -> Result<Command<'a>, AllocError>
+    ensures shape { IfOk result (λ c. shape_of c ≡ grammar.explain_command) }
+    ensures local { IfOk result (λ c. (fields_of c).has_globals ≡ false) }
+{
+    let arguments = vec![in alloc;
+        program_argument(alloc),
+        releases_option(alloc),
+        arrays_option(alloc),
+    ]?;
+    let about = "List a program with what the verifier knows before each instruction, \
+                 and why it refuses one";
+    command_of(alloc, "explain", about, arguments)
+}
+
 /// The command `list`.
 pub fn list_command<'a>(alloc: Global) -> Result<Command<'a>, AllocError>
     ensures shape { IfOk result (λ c. shape_of c ≡ grammar.list_command) }

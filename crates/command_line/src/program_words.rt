@@ -38,6 +38,20 @@ pub fn compile_asked<'a>(
     Ok(CommandRequest::Compile { text, shape, out })
 }
 
+/// What `explain` asks for.
+pub fn explain_asked<'a>(
+    alloc: Global,
+    found: &ArgMatches<'a>,
+) -> Result<CommandRequest<'a>, NoRequest>
+    ensures asked { IfOk result (VerbAsks (Some Verb.Explain) (rows_of (found_of found.now))) }
+    ensures nothing { result ≡ Err NoRequest.Wrong
+        → VerbAsksNothing (Some Verb.Explain) (rows_of (found_of found.now)) }
+{
+    let path = text_of(found, "IN")?;
+    let shape = shape_of(alloc, found)?;
+    Ok(CommandRequest::Explain { path, shape })
+}
+
 /// What `list` asks for.
 pub fn list_asked<'a>(found: &ArgMatches<'a>) -> Result<CommandRequest<'a>, NoRequest>
     ensures asked { IfOk result (VerbAsks (Some Verb.List) (rows_of (found_of found.now))) }

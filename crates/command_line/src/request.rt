@@ -44,6 +44,11 @@ pub enum CommandRequest<'a> {
     Check {
         manifest: &'a str,
     },
+    /// List a file's program, with what is known before each instruction.
+    Explain {
+        path: &'a str,
+        shape: DeclaredShape,
+    },
     /// List the instructions of a file's bytes.
     List {
         path: &'a str,

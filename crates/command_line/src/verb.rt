@@ -9,6 +9,7 @@ pub enum Verb {
     Assemble,
     Check,
     Compile,
+    Explain,
     List,
     Order,
     Verify,
@@ -22,11 +23,12 @@ pub enum Verb {
 }
 
 /// All commands, by their names' order.
-pub const VERBS: [Verb; 13] = [
+pub const VERBS: [Verb; 14] = [
     Verb::Assemble,
     Verb::Cells,
     Verb::Check,
     Verb::Compile,
+    Verb::Explain,
     Verb::List,
     Verb::Load,
     Verb::Order,
@@ -46,6 +48,7 @@ pub fn verb_named(name: &str) -> Option<Verb>
         "asm" => Some(Verb::Assemble),
         "check" => Some(Verb::Check),
         "compile" => Some(Verb::Compile),
+        "explain" => Some(Verb::Explain),
         "list" => Some(Verb::List),
         "order" => Some(Verb::Order),
         "verify" => Some(Verb::Verify),

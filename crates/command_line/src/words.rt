@@ -12,7 +12,7 @@ use crate::fault::WordsFault;
 use crate::grammar::grammar;
 use crate::option_misfit::misfit_of;
 use crate::program_words::{
-    assemble_asked, compile_asked, list_asked, order_asked, run_asked, verify_asked,
+    assemble_asked, compile_asked, explain_asked, list_asked, order_asked, run_asked, verify_asked,
 };
 use crate::request::{CommandRequest, NoRequest};
 use crate::server_words::{
@@ -95,6 +95,7 @@ fn request_named<'a>(
         Some(Verb::Assemble) => assemble_asked(found),
         Some(Verb::Check) => check_asked(found),
         Some(Verb::Compile) => compile_asked(alloc, found),
+        Some(Verb::Explain) => explain_asked(alloc, found),
         Some(Verb::List) => list_asked(found),
         Some(Verb::Order) => order_asked(found),
         Some(Verb::Verify) => verify_asked(alloc, found),
