@@ -6,6 +6,7 @@ use Rattle.program_tools.specs.Rules.{IsRuleRefusal, IsCompileRefusal}
 use Rattle.program_tools.specs.declared.fault.ProgramToolFault.{ProgramToolFault}
 use Rattle.program_tools.specs.declared.fault.ProgramToolFault.TheVariants.{Resource, Arrays, Text}
 use Rattle.program_tools.specs.declared.fault.ProgramToolFault.TheVariants.{Rule, Bytes, Program}
+use Rattle.program_tools.specs.declared.fault.ProgramToolFault.TheVariants.{Explained}
 
 module _ (known : KnownFiles) (path : List ℕ) (asked : DeclaredShape) where
   pub no_program : (fault : ProgramToolFault) → IsRuleRefusal known path asked fault
@@ -16,3 +17,4 @@ module _ (known : KnownFiles) (path : List ℕ) (asked : DeclaredShape) where
   no_program (Rule fault) h = h
   no_program (Bytes fault) h = h
   no_program (Program fault) h = h
+  no_program (Explained text refused) h = h

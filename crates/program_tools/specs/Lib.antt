@@ -1,5 +1,6 @@
 pub mod Resources
 pub mod Assembly
+pub mod Explanations
 pub mod Orders
 pub mod Programs
 pub mod Rules

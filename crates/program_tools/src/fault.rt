@@ -2,11 +2,12 @@
 
 ghost use Rattle.program_tools.specs.Texts.{fault_text};
 
+use acceptance::bpf_verify::Refusal;
 use acceptance::{ProgramFault, RuleTextFault};
 use bounded_files::ResourceFault;
-use bpf_text::{AsmFault, ListFault};
 use command_line::cells::CellsFault;
 use std::fmt;
+use tracing::explaining::bpf_text::{AsmFault, ListFault};
 
 /// What is wrong; it is shown as it is printed.
 #[derive(Debug, Drop)]
@@ -23,6 +24,8 @@ pub enum ProgramToolFault {
     Bytes(ListFault),
     /// F1 to F9, V1 to V15: the bytes are no program, or one that isn't accepted.
     Program(ProgramFault),
+    /// V1 to V14, of `explain`: the program isn't accepted; the text has what is known of it.
+    Explained { text: String, refusal: Refusal },
 }
 
 impl fmt::Display for ProgramToolFault {
@@ -36,6 +39,7 @@ impl fmt::Display for ProgramToolFault {
             ProgramToolFault::Rule(fault) => write!(f, "{fault}"),
             ProgramToolFault::Bytes(fault) => write!(f, "{fault}"),
             ProgramToolFault::Program(fault) => write!(f, "{fault}"),
+            ProgramToolFault::Explained { refusal, .. } => write!(f, "{refusal}"),
         }
     }
 }

@@ -1,12 +1,13 @@
-//! The commands on single programs: `asm`, `list`, `compile`, `order`, `verify` and `run`.
+//! The commands on single programs: `asm`, `list`, `compile`, `order`, `verify`, `explain`, `run`.
 #![tactic(auto)]
 
 // How each goes. The shape is made that the words declare, where the command has one. Then the file
 // is read, and its bytes are taken as a text, as a rule or as a program; a program is verified, and
-// may be run. What is made of it is written last, and only where all of it stands.
+// may be explained or run. What is made of it is written last, and only where all of it stands.
 
 mod asm;
 mod compile;
+mod explain;
 mod fault;
 mod list;
 mod order;
@@ -16,6 +17,7 @@ mod verify;
 
 pub use asm::assemble_file;
 pub use compile::compile_file;
+pub use explain::explain_file;
 pub use fault::ProgramToolFault;
 pub use list::list_file;
 pub use order::order_file;

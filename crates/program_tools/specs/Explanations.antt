@@ -1,0 +1,45 @@
+-- What the command `explain` answers from the bytes of a file.
+use Rattle.std.specs.Prelude.{ℕ, List, Option, Some, None, Ok}
+use Rattle.std.specs.String.{string_bytes}
+use Rattle.acceptance.specs.Program.{AreOnly}
+use Rattle.acceptance.specs.bpf_insn.Program.{Program as Code}
+use Rattle.acceptance.specs.bpf_semantics.Program.{shaped}
+use Rattle.acceptance.specs.bpf_verify.bpf_rules.declared.refusal.Refusal.{Refusal}
+use Rattle.acceptance.specs.bpf_verify.bpf_rules.declared.refusal.Refusal.TheVariants as refusal
+use Rattle.acceptance.specs.declared.fault.ProgramFault.TheVariants.{Verify}
+use Rattle.bounded_files.specs.Files.{KnownFiles, OfFile}
+use Rattle.command_line.specs.cells.Arrays.{AppShape}
+use Rattle.command_line.specs.declared.request.DeclaredShape.{DeclaredShape}
+use Rattle.program_tools.specs.Programs.{IsProgramFault, IsRefusedUnder, IsShapeFor}
+use Rattle.program_tools.specs.declared.fault.ProgramToolFault.{ProgramToolFault}
+use Rattle.program_tools.specs.declared.fault.ProgramToolFault.TheVariants.{Explained, Program}
+use Rattle.tracing.specs.explaining.Lines.{IsExplained, IsFinding}
+use Rattle.tracing.specs.explaining.bpf_text.Assembly.{Assembles}
+
+-- the bytes are a program that is accepted under the shape, or refused so; the text tells what is
+-- known of it, and stands for the same bytes
+pub record IsExplanation (bytes : List ℕ) (shape : AppShape) (refused : Option Refusal)
+    (text : List ℕ) : Type 0 where
+  pub code : Code
+  pub are : AreOnly bytes code
+  pub finding : IsFinding code shape refused
+  pub told : IsExplained (shaped code shape) text
+  pub same : Assembles text (Ok bytes)
+
+-- why the bytes are refused, as `verify` refuses them; of a program that a rule refuses it is told
+-- what is known
+abbrev pub IsExplainFault : AppShape → ProgramToolFault → List ℕ → Type 0
+IsExplainFault shape (Explained text refused) bytes =
+    IsExplanation bytes shape (Some refused) (string_bytes text)
+IsExplainFault shape (Program (Verify (refusal.Rule slot rule))) bytes = ⊥
+IsExplainFault shape fault bytes = IsProgramFault shape fault bytes
+
+module _ (known : KnownFiles) (path : List ℕ) (asked : DeclaredShape) where
+  -- the file's program is accepted under the declared shape, and this is what is known of it
+  pub record HasExplained (text : List ℕ) : Type 0 where
+    pub shape : AppShape
+    pub shape_is : IsShapeFor asked shape
+    pub explained : OfFile known path (λ bytes. IsExplanation bytes shape None text)
+
+  abbrev pub IsExplainRefusal : ProgramToolFault → Type 0
+  IsExplainRefusal fault = IsRefusedUnder known path asked IsExplainFault fault
