@@ -8,6 +8,7 @@ use Rattle.program_tools.specs.command_line.declared.request.CommandRequest.TheV
 use Rattle.commands.specs.Asked.{IsAskRefusal, IsDoneAs}
 use Rattle.commands.specs.declared.answer.Answer.{Answer}
 use Rattle.commands.specs.declared.answer.Answer.TheVariants.{Assembled, Checked, Compiled}
+use Rattle.commands.specs.declared.answer.Answer.TheVariants.{Explained}
 use Rattle.commands.specs.declared.answer.Answer.TheVariants.{Listed, Accepted, Chosen, Told}
 use Rattle.commands.specs.declared.answer.Answer.TheVariants.{Ordered, Replayed, Ready, Traced}
 use Rattle.commands.specs.declared.fault.Fault.{Fault}
@@ -19,6 +20,7 @@ use Rattle.manifest_tools.specs.Manifests.{IsReplayRefusal}
 use Rattle.program_tools.specs.bounded_files.Files.{KnownFiles}
 use Rattle.program_tools.specs.Assembly.{IsAssembledFrom, IsAssemblyRefusal}
 use Rattle.program_tools.specs.Assembly.{IsListedFrom, IsListingRefusal}
+use Rattle.program_tools.specs.Explanations.{HasExplained, IsExplainRefusal}
 use Rattle.program_tools.specs.Orders.{IsOrderedFrom, IsOrderRefusal}
 use Rattle.program_tools.specs.Programs.{HasChosen, HasSlots, HasTraced}
 use Rattle.program_tools.specs.Rules.{HasCompiled, IsCompileRefusal}
@@ -32,6 +34,8 @@ module _ (known : KnownFiles) where
       IsChecked known manifest.now (string_bytes text)
   IsAnswer (request.Compile text shape out) (Compiled slots) =
       HasCompiled known text.now shape slots
+  IsAnswer (request.Explain path shape) (Explained text) =
+      HasExplained known path.now shape (string_bytes text)
   IsAnswer (request.List path) (Listed text) = IsListedFrom known path.now (string_bytes text)
   IsAnswer (request.Order path out) (Ordered program) =
       IsOrderedFrom known path.now program.items
@@ -52,6 +56,8 @@ module _ (known : KnownFiles) where
   IsRefused (request.Check manifest) (Manifest fault) = IsCheckRefusal known manifest.now fault
   IsRefused (request.Compile text shape out) (Program fault) =
       IsCompileRefusal known text.now shape fault
+  IsRefused (request.Explain path shape) (Program fault) =
+      IsExplainRefusal known path.now shape fault
   IsRefused (request.List path) (Program fault) = IsListingRefusal known path.now fault
   IsRefused (request.Order path out) (Program fault) = IsOrderRefusal known path.now fault
   IsRefused (request.Verify path shape) (Program fault) =

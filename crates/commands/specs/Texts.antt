@@ -4,6 +4,7 @@ use Rattle.std.specs.Fmt.{decimal}
 use Rattle.std.specs.String.{string_bytes}
 use Rattle.commands.specs.declared.answer.Answer.{Answer}
 use Rattle.commands.specs.declared.answer.Answer.TheVariants.{Assembled, Checked, Compiled}
+use Rattle.commands.specs.declared.answer.Answer.TheVariants.{Explained}
 use Rattle.commands.specs.declared.answer.Answer.TheVariants.{Listed, Accepted, Chosen, Replayed}
 use Rattle.commands.specs.declared.answer.Answer.TheVariants.{Ordered, Ready, Traced}
 use Rattle.commands.specs.declared.answer.Answer.TheVariants as answer
@@ -23,6 +24,7 @@ abbrev pub answer_text : Answer → List ℕ
 answer_text (Assembled program) = line (decimal (length program.items / 8) ++ codes " slots")
 answer_text (Checked text) = string_bytes text
 answer_text (Compiled slots) = line (decimal slots ++ codes " slots")
+answer_text (Explained text) = string_bytes text
 answer_text (Listed text) = string_bytes text
 answer_text (Ordered program) = line (decimal (length program.items / 8) ++ codes " slots")
 answer_text (Accepted slots) = line (codes "accepted " ++ decimal slots ++ codes " slots")

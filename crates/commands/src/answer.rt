@@ -23,6 +23,10 @@ pub enum Answer {
     Compiled {
         slots: usize,
     },
+    /// The program is accepted; its listing, with what is known before each instruction.
+    Explained {
+        text: String,
+    },
     /// The listing of the bytes: a line an instruction.
     Listed {
         text: String,
@@ -72,6 +76,7 @@ impl fmt::Display for Answer {
             }
             Answer::Checked { text } => f.write_str(text),
             Answer::Compiled { slots } => writeln!(f, "{slots} slots"),
+            Answer::Explained { text } => f.write_str(text),
             Answer::Listed { text } => f.write_str(text),
             Answer::Ordered { program } => {
                 let slots = program.len() / 8;

@@ -14,7 +14,7 @@ use std::fmt;
 pub enum Fault {
     /// B3: what is to be printed can't be written. B4: memory for the words is refused.
     Resource(ResourceFault),
-    /// `asm`, `list`, `compile`, `order`, `verify` or `run` is refused.
+    /// `asm`, `list`, `compile`, `order`, `verify`, `explain` or `run` is refused.
     Program(ProgramToolFault),
     /// `check` or `replay` is refused.
     Manifest(ManifestToolFault),

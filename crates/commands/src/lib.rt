@@ -11,6 +11,7 @@ mod answer;
 mod ask;
 mod fault;
 mod requests;
+mod runs;
 mod serve;
 mod status;
 

@@ -6,11 +6,12 @@ ghost use Rattle.commands.specs.Answers.{IsAnswer, IsRefused};
 use crate::answer::Answer;
 use crate::ask::ask_server;
 use crate::fault::Fault;
+use crate::runs::{chosen, traced};
 use manifest_tools::load::Disk;
 use manifest_tools::{check_file, replay_script};
 use program_tools::command_line::CommandRequest;
 use program_tools::{
-    assemble_file, compile_file, list_file, order_file, run_file, trace_file, verify_file,
+    assemble_file, compile_file, explain_file, list_file, order_file, verify_file,
 };
 use serving::prepare;
 use std::net::{Net, TcpListener, TcpStream};
@@ -36,6 +37,9 @@ where
         CommandRequest::Compile { text, shape, out } => Ok(Answer::Compiled {
             slots: compile_file(rt, disk, text, shape, out).map_err(Fault::Program)?,
         }),
+        CommandRequest::Explain { path, shape } => Ok(Answer::Explained {
+            text: explain_file(alloc, disk, path, shape).map_err(Fault::Program)?,
+        }),
         CommandRequest::List { path } => Ok(Answer::Listed {
             text: list_file(alloc, disk, path).map_err(Fault::Program)?,
         }),
@@ -45,21 +49,8 @@ where
         CommandRequest::Verify { path, shape } => Ok(Answer::Accepted {
             slots: verify_file(alloc, disk, path, shape).map_err(Fault::Program)?,
         }),
-        CommandRequest::Run(asked) => {
-            let run = run_file(alloc, disk, asked).map_err(Fault::Program)?;
-            Ok(Answer::Chosen {
-                choice: run.0,
-                instructions: run.1,
-            })
-        }
-        CommandRequest::Trace(asked) => {
-            let run = trace_file(alloc, disk, asked).map_err(Fault::Program)?;
-            Ok(Answer::Traced {
-                lines: run.text,
-                choice: run.choice,
-                instructions: run.count,
-            })
-        }
+        CommandRequest::Run(asked) => chosen(alloc, disk, asked),
+        CommandRequest::Trace(asked) => traced(alloc, disk, asked),
         CommandRequest::Replay { manifest, script } => Ok(Answer::Replayed {
             text: replay_script(alloc, disk, manifest, script).map_err(Fault::Manifest)?,
         }),

@@ -14,6 +14,7 @@ use crate::serve::serve_until_stopped;
 use manifest_tools::ManifestToolFault;
 use manifest_tools::load::Disk;
 use manifest_tools::load::bounded_files::ResourceFault;
+use program_tools::ProgramToolFault;
 use program_tools::command_line::{CommandRequest, Plan, WordsFault, read_words};
 use serving::Server;
 use std::convert::AsStr;
@@ -147,12 +148,18 @@ fn printed<E: Write>(err: &mut E, written: bool) -> u8
     refused(err, &Fault::Resource(ResourceFault::File))
 }
 
-// Prints where and why a manifest is refused on standard output, and the refusal.
+// Prints where and why a manifest or a program is refused on standard output, and the refusal.
 fn refused_for<O: Write, E: Write>(out: &mut O, err: &mut E, fault: &Fault) -> u8
     ensures { result ≡ 1 }
 {
-    if let Fault::Manifest(ManifestToolFault::Diagnosed(diagnosis)) = fault {
-        let _said = print_reason(out, diagnosis.reason.as_str());
+    match fault {
+        Fault::Manifest(ManifestToolFault::Diagnosed(diagnosis)) => {
+            let _said = print_reason(out, diagnosis.reason.as_str());
+        }
+        Fault::Program(ProgramToolFault::Explained { text, .. }) => {
+            let _said = print_reason(out, text.as_str());
+        }
+        _ => {}
     }
     refused(err, fault)
 }

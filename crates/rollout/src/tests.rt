@@ -5,6 +5,7 @@
 mod arrays;
 mod attributes;
 mod checks;
+mod explanations;
 mod memory;
 mod orders;
 mod programs;

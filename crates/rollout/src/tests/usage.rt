@@ -30,6 +30,8 @@ rollout run a.bin --releases 0 --installed 4294967295 -> usage
 rollout run a.bin --releases 0 --installed x -> usage
 rollout verify a.bin --releases 0 --bucket 1 -> usage
 rollout verify a.bin b.bin --releases 0 -> usage
+rollout explain a.bin -> usage
+rollout explain a.bin --releases 0 --bucket 1 -> usage
 rollout check -> usage
 rollout check a.toml b.toml -> usage
 rollout replay a.toml -> usage
@@ -65,6 +67,7 @@ fn words(rt: HostRuntime) -> Result<(), Fail> {
 const PAGES: &str = "rollout --help -> verify
 rollout --help -> base32, base64, divmul32, divmul64, atomic32
 rollout order --help -> <IN> <OUT>
+rollout explain --help -> --arrays
 rollout run --help -> --bucket
 rollout verify --help -> name:width:length
 rollout check --help -> MANIFEST
