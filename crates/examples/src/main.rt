@@ -1,8 +1,9 @@
-//! The programs under `examples/`, each assembled, verified and run for the apps of a table, the
-//! rules, and the server's example. What is printed is compared with the file `stdout`, whose
-//! choices and counts were worked out by hand.
+//! The programs under `examples/`, each assembled, verified and run for the apps of a table, one of
+//! them explained, the rules, and the server's example. What is printed is compared with the file
+//! `stdout`, whose choices and counts were worked out by hand.
 #![tactic(auto)]
 
+mod explained;
 mod rules;
 mod staged;
 
@@ -12,8 +13,8 @@ use anyhow::Result;
 use attrs::Attrs;
 use bpf_machine::Run;
 use bpf_machine::bpf_verify::Verified;
-use bpf_text::assemble;
 use cells::{PlainCells, Shape};
+use explaining::bpf_text::assemble;
 use load::acceptance::accept;
 use std::rt::Files;
 use std::sync::Arc;
@@ -85,6 +86,7 @@ fn main(rt: HostRuntime) -> Result<()> {
         print!(rt; "version.bpf, version {version:?}: ")?;
         show(&rt, &by_version, Some(version), 0)?;
     }
+    explained::tell_known(&rt)?;
     rules::ask_all(&rt)?;
     staged::tell_all(&rt)
 }
