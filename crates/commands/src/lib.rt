@@ -10,6 +10,7 @@
 mod answer;
 mod ask;
 mod fault;
+mod logged;
 mod requests;
 mod runs;
 mod serve;

@@ -6,9 +6,10 @@ ghost use Rattle.std.specs.Prelude.{◌≡◌, ◌*◌, ◌⊎◌, OnOk, IfErr};
 ghost use Rattle.serving.specs.Staffed.{IsStaffFault, IsEndFault};
 ghost use Rattle.serving.specs.workers.Texts.{serving_line};
 
+use crate::logged::serve_logged;
 use manifest_tools::load::Disk;
 use program_tools::command_line::Plan;
-use serving::workers::Service;
+use serving::workers::{LogQueue, Service};
 use serving::{Manifests, Server, ServingFault};
 use std::io::Write;
 use std::net::{Net, TcpListener, TcpStream};
@@ -16,19 +17,45 @@ use std::sync::Wait;
 use std::thread::Threads;
 use std::time::{Clock, Duration};
 
-/// Makes all that a server serves by, and serves by the plan until the operator stops it. Once all
-/// is made, `out` is told that the first generation is served. S1, H1 or B4 where memory is refused
-/// before, B4 where memory or a thread is, B3 where `out` can't be written, and H2 where a server
-/// that has ended can't give its counters.
+/// Makes all that a server serves by, and serves by the plan until the operator stops it, with its
+/// log or without one. Once all is made, `out` is told that the first generation is served. S1, H1
+/// or B4 where memory is refused before, B4 where memory or a thread is, B3 where `out` can't be
+/// written, and H2 where a server that has ended can't give its counters.
 pub fn serve_until_stopped<R, D, O>(
     rt: &R,
     disk: &D,
     server: Server,
+    manifest: &str,
     plan: &Plan,
     out: &mut O,
 ) -> Result<(), ServingFault>
 where
-    R: Threads + Wait + AllocGlobal + Clock + Eprint + Sync,
+    R: Threads + Wait + AllocGlobal + Clock + Eprint + Copy + Drop + Send + Sync + 'static,
+    R: Net<Listener = TcpListener, Stream = TcpStream>,
+    D: Disk + Sync,
+    O: Write,
+    ensures said { OnOk result
+        (Appends (O.contents out.old) (O.contents out.new) (serving_line 1)) }
+    ensures fault { IfErr result (λ e. IsStaffFault e ⊎ IsEndFault e) }
+{
+    if plan.log {
+        serve_logged(rt, disk, server, manifest, plan, out)
+    } else {
+        serve_by(rt, disk, server, plan, None, out)
+    }
+}
+
+/// The same, where the lines of the log go to a queue, if there is one.
+pub fn serve_by<R, D, O>(
+    rt: &R,
+    disk: &D,
+    server: Server,
+    plan: &Plan,
+    log: Option<&LogQueue>,
+    out: &mut O,
+) -> Result<(), ServingFault>
+where
+    R: Threads + Wait + AllocGlobal + Clock + Sync,
     R: Net<Listener = TcpListener, Stream = TcpStream>,
     D: Disk + Sync,
     O: Write,
@@ -40,19 +67,19 @@ where
         Ok(server) => server,
         Err(fault) => return Err(fault),
     };
-    match server.serve(rt, &Manifests::of(disk), service_of(plan), out) {
+    match server.serve(rt, &Manifests::of(disk), service_of(plan, log), out) {
         Ok(_) => Ok(()),
         Err(fault) => Err(fault),
     }
 }
 
 // How connections are served by the plan.
-fn service_of(plan: &Plan) -> Service
+fn service_of<'a>(plan: &Plan, log: Option<&'a LogQueue>) -> Service<'a>
     ensures timeout { as_nanos result.timeout ≡ plan.now.timeout * 1000000000 }
-    ensures log { result.log ≡ plan.now.log }
+    ensures log { result.log ≡ log.entry }
 {
     Service {
         timeout: Duration::from_secs(u64::from(plan.timeout)),
-        log: plan.log,
+        log,
     }
 }

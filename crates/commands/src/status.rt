@@ -9,6 +9,7 @@ ghost use Rattle.serving.specs.workers.Texts.{serving_line};
 
 use crate::answer::Answer;
 use crate::fault::Fault;
+use crate::logged::note_refusal;
 use crate::requests::answer;
 use crate::serve::serve_until_stopped;
 use manifest_tools::ManifestToolFault;
@@ -37,7 +38,7 @@ const USAGE: u8 = 2;
 /// failed write, 2 usage. A server has served once the status is there.
 pub fn command<R, D, S, O, E>(rt: &R, disk: &D, words: &[S], out: &mut O, err: &mut E) -> u8
 where
-    R: Files + Threads + Wait + AllocGlobal + Clock + Eprint + Sync,
+    R: Files + Threads + Wait + AllocGlobal + Clock + Eprint + Copy + Drop + Send + Sync + 'static,
     R: Net<Listener = TcpListener, Stream = TcpStream>,
     R::File: Send,
     R::Dir: Send,
@@ -67,7 +68,7 @@ fn perform<R, D, O, E>(
     err: &mut E,
 ) -> u8
 where
-    R: Files + Threads + Wait + AllocGlobal + Clock + Eprint + Sync,
+    R: Files + Threads + Wait + AllocGlobal + Clock + Eprint + Copy + Drop + Send + Sync + 'static,
     R: Net<Listener = TcpListener, Stream = TcpStream>,
     R::File: Send,
     R::Dir: Send,
@@ -80,16 +81,37 @@ where
     ensures silent { result ≡ 0 → err.new ≡ err.old }
 {
     match answer(rt, disk, request) {
-        Ok(Answer::Ready { server, plan }) => serve(rt, disk, server, &plan, out, err),
+        Ok(Answer::Ready { server, plan }) => {
+            serve(rt, disk, server, manifest_of(request), &plan, out, err)
+        }
         Ok(answer) => printed(err, write!(out, "{answer}").is_ok()),
-        Err(fault) => refused_for(out, err, &fault),
+        Err(fault) => {
+            note_refusal(rt, request, &fault);
+            refused_for(out, err, &fault)
+        }
+    }
+}
+
+// The manifest that is to be served; the log tells its path.
+fn manifest_of<'a>(request: &CommandRequest<'a>) -> &'a str {
+    match request {
+        CommandRequest::Serve { manifest, .. } => manifest,
+        _ => "",
     }
 }
 
 // Serves until the operator stops the server, which says when it does.
-fn serve<R, D, O, E>(rt: &R, disk: &D, server: Server, plan: &Plan, out: &mut O, err: &mut E) -> u8
+fn serve<R, D, O, E>(
+    rt: &R,
+    disk: &D,
+    server: Server,
+    manifest: &str,
+    plan: &Plan,
+    out: &mut O,
+    err: &mut E,
+) -> u8
 where
-    R: Files + Threads + Wait + AllocGlobal + Clock + Eprint + Sync,
+    R: Files + Threads + Wait + AllocGlobal + Clock + Eprint + Copy + Drop + Send + Sync + 'static,
     R: Net<Listener = TcpListener, Stream = TcpStream>,
     R::File: Send,
     R::Dir: Send,
@@ -100,7 +122,7 @@ where
     ensures done { result ≡ 0 → Appends (O.contents out.old) (O.contents out.new) (serving_line 1) }
     ensures silent { result ≡ 0 → err.new ≡ err.old }
 {
-    match serve_until_stopped(rt, disk, server, plan, out) {
+    match serve_until_stopped(rt, disk, server, manifest, plan, out) {
         Ok(()) => DONE,
         Err(fault) => refused(err, &Fault::Serving(fault)),
     }

@@ -39,7 +39,7 @@ struct Printed {
 /// Does the command of a line of words, of which `''` is the empty one.
 fn told<R>(rt: &R, line: &str) -> io::Result<Printed>
 where
-    R: Files + Threads + Wait + AllocGlobal + Clock + Eprint + Sync,
+    R: Files + Threads + Wait + AllocGlobal + Clock + Eprint + Copy + Drop + Send + Sync + 'static,
     R: Net<Listener = TcpListener, Stream = TcpStream>,
     R::File: Send,
     R::Dir: Send,
@@ -66,7 +66,18 @@ fn text_of(bytes: Vec<u8>) -> io::Result<String> {
 /// standard output with status 0. The line `usage` stands for an error of the words, with status 2.
 fn prints<R>(rt: &R, words: &str, line: &str) -> Result<(), Fail>
 where
-    R: Files + Threads + Wait + AllocGlobal + Clock + Eprint + Sync + Abort,
+    R: Files
+        + Threads
+        + Wait
+        + AllocGlobal
+        + Clock
+        + Eprint
+        + Copy
+        + Drop
+        + Send
+        + Sync
+        + 'static
+        + Abort,
     R: Net<Listener = TcpListener, Stream = TcpStream>,
     R::File: Send,
     R::Dir: Send,
@@ -95,7 +106,18 @@ fn write_program<R: Files + AllocGlobal>(rt: &R, path: &str, text: &str) -> Resu
 /// before it are the text of the program in the file.
 fn does<R>(rt: &R, path: &str, table: &str) -> Result<(), Fail>
 where
-    R: Files + Threads + Wait + AllocGlobal + Clock + Eprint + Sync + Abort,
+    R: Files
+        + Threads
+        + Wait
+        + AllocGlobal
+        + Clock
+        + Eprint
+        + Copy
+        + Drop
+        + Send
+        + Sync
+        + 'static
+        + Abort,
     R: Net<Listener = TcpListener, Stream = TcpStream>,
     R::File: Send,
     R::Dir: Send,

@@ -21,10 +21,10 @@ pub(crate) fn serves<H, G>(
     listener: TcpListener,
     crew: Crew,
     stop: &AtomicBool,
-    service: Service,
+    service: Service<'_>,
 ) -> bool
 where
-    H: Threads + Wait + AllocGlobal + Clock + Eprint + Sync,
+    H: Threads + Wait + AllocGlobal + Clock + Sync,
     G: Gate + Sync,
 {
     let Crew { cells, workers } = crew;
@@ -85,7 +85,6 @@ where
         + Wait
         + AllocGlobal
         + Clock
-        + Eprint
         + Sync
         + Net<Listener = TcpListener, Stream = TcpStream>,
 {
@@ -116,7 +115,6 @@ where
         + Wait
         + AllocGlobal
         + Clock
-        + Eprint
         + Sync
         + Net<Listener = TcpListener, Stream = TcpStream>,
 {

@@ -3,6 +3,7 @@
 use crate::loopback::{reply, sent};
 use crate::session::is_asked;
 use crate::shelf::{Shelf, publisher_of};
+use crate::whole_server::service_of;
 use cells::Directory;
 use operator::Control;
 use shared_cells::SharedCells;
@@ -14,14 +15,14 @@ use std::sync::atomic::AtomicBool;
 use std::test::Fail;
 use std::thread;
 use std::thread::Threads;
-use std::time::{Clock, Duration};
+use std::time::Clock;
 use workers::{OperatorSeat, operate};
 
 /// Serves an operator's port of a server that offers nothing, of which a connection may last so
 /// many seconds. Says whether it could.
 fn operates<H>(rt: &H, listener: &TcpListener, stop: &AtomicBool, seconds: u64) -> bool
 where
-    H: Wait + AllocGlobal + Clock + Eprint,
+    H: Wait + AllocGlobal + Clock,
 {
     let alloc = rt.alloc();
     let Ok((cells, mut passes)) = SharedCells::new(alloc, 1) else {
@@ -39,8 +40,14 @@ where
         cells: &cells,
         pass,
     };
-    let timeout = Duration::from_secs(seconds);
-    operate(rt, listener, &mut seat, &mut control, stop, timeout);
+    operate(
+        rt,
+        listener,
+        &mut seat,
+        &mut control,
+        stop,
+        service_of(seconds),
+    );
     control.close(rt);
     true
 }
@@ -62,7 +69,7 @@ where
 /// Whether a connection that sends nothing is given up at its limit of time.
 fn is_given_up<H>(rt: &H) -> Result<bool, Fail>
 where
-    H: Threads + Wait + AllocGlobal + Clock + Eprint + Sync,
+    H: Threads + Wait + AllocGlobal + Clock + Sync,
     H: Net<Listener = TcpListener, Stream = TcpStream>,
 {
     let listener = TcpListener::bind(rt, "127.0.0.1:0")?;
@@ -79,7 +86,7 @@ where
 /// Whether a port that is told to stop ends at the next connection, which isn't answered.
 fn is_stopped<H>(rt: &H) -> Result<bool, Fail>
 where
-    H: Wait + AllocGlobal + Clock + Eprint,
+    H: Wait + AllocGlobal + Clock,
     H: Net<Listener = TcpListener, Stream = TcpStream>,
 {
     let alloc = rt.alloc();

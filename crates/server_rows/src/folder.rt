@@ -105,7 +105,7 @@ where
 /// Serves with two workers, until the server is stopped.
 fn serves<H>(rt: &H, server: Server) -> Result<(), ServingFault>
 where
-    H: Files + Threads + Wait + AllocGlobal + Clock + Eprint + Sync,
+    H: Files + Threads + Wait + AllocGlobal + Clock + Sync,
     H: Net<Listener = TcpListener, Stream = TcpStream>,
     H::File: Send,
     H::Dir: Send,
@@ -122,7 +122,7 @@ where
 /// The first row of the session whose reply is another one.
 fn served_wrong<H>(rt: &H) -> Result<Option<&'static str>, Fail>
 where
-    H: Files + Threads + Wait + AllocGlobal + Clock + Eprint + Sync,
+    H: Files + Threads + Wait + AllocGlobal + Clock + Sync,
     H: Net<Listener = TcpListener, Stream = TcpStream>,
     H::File: Send,
     H::Dir: Send,

@@ -34,6 +34,8 @@ mod refusals;
 #[cfg(test)]
 mod replies;
 #[cfg(test)]
+mod server_log;
+#[cfg(test)]
 mod session;
 #[cfg(test)]
 mod shelf;

@@ -1,5 +1,5 @@
-//! The log of a server over loopback, by a runtime whose clock stands still and which keeps what is
-//! written on standard error.
+//! The log of a server over loopback, by a runtime whose clock stands still: the pieces that stand
+//! in the log's queue once the server has ended.
 
 use crate::both_ends::serves;
 use crate::clients::halt;
@@ -7,22 +7,21 @@ use crate::crew::{Crew, crew_of};
 use crate::exchange::{MOMENT, times};
 use crate::loopback::{reply, sent};
 use crate::shelf::publisher_of;
+use crossbeam_channel::Receiver;
 use std::alloc::{AllocError, Global};
-use std::fmt::Display;
 use std::net::{Net, Shutdown, SocketAddr, TcpListener, TcpStream};
+use std::sync::Wait;
 use std::sync::atomic::AtomicBool;
-use std::sync::{Mutex, Wait};
 use std::test::Fail;
 use std::thread::Threads;
 use std::time::{Clock, Duration};
-use std::{io, thread};
-use workers::{Open, Service};
+use std::{io, str, thread};
+use workers::{LogPiece, LogQueue, Open, Service};
 
-/// A runtime at one moment, whose standard error is a text.
+/// A runtime at one moment.
 #[derive(Drop)]
 struct Still<'a, R> {
     rt: &'a R,
-    errors: Mutex<String>,
 }
 
 impl<R: Threads> Threads for Still<'_, R> {}
@@ -51,43 +50,58 @@ impl<R: Clock> Clock for Still<'_, R> {
     }
 }
 
-impl<R: Wait> Eprint for Still<'_, R> {
-    fn eprint<D: Display + Drop>(&self, value: D) -> io::Result<()> {
-        let mut errors = self.errors.lock(self.rt);
-        Ok(errors.write(value)?)
-    }
-
-    fn eprintln<D: Display + Drop>(&self, value: D) -> io::Result<()> {
-        let mut errors = self.errors.lock(self.rt);
-        errors.write(value)?;
-        Ok(errors.push('\n')?)
-    }
-}
-
-/// What a client sends behind the first line of its head, in which `;` stands for the end of a
-/// line, and what the log tells of it.
+/// The headers that a client sends, in which `;` stands for the end of a line, and the body; and
+/// what the log tells of it before the bytes and behind the microseconds. `-` stands for nothing.
 const ROWS: &str = r#"
-Content-Length: 69;;{"request":{"protocol":"3.1","app":[{"appid":"x","updatecheck":{}}]}} => 200
-Content-Length: 2;;[] => 400 O2 Shape
-Host: h;; => 411 P4 Length
-Content-Length: 2;;{ => P7 Ended
+Content-Length: 69
+{"request":{"protocol":"3.1","app":[{"appid":"x","updatecheck":{}}]}}
+"status":200,"generation":1,
+,"apps":[{"appid":"x","bucket":6037,"named":false,"choice":0}]
+
+Content-Length: 69;X-Forwarded-For: ::1
+{"request":{"protocol":"3.1","app":[{"appid":"y","event":[{ }]   }]}}
+"forwarded":"::1","status":200,"generation":1,
+,"apps":[{"appid":"y","bucket":6037,"named":false,"unknown":true,"event":"[{ }]"}]
+
+Content-Length: 2
+[]
+"status":400,"refusal":"O2 Shape",
+-
+
+Host: h
+-
+"status":411,"refusal":"P4 Length",
+-
+
+Content-Length: 2
+{
+"refusal":"P7 Ended",
+-
 "#;
 
 /// What the log tells of a connection that couldn't be accepted, as of none that waits at a port
 /// that doesn't wait.
-const UNACCEPTED: &str =
-    "1772413200 - accept failed: Resource temporarily unavailable (os error 11)\n";
+const UNACCEPTED: &str = "{\"time\":\"2026-03-02T01:00:00.000Z\",\"kind\":\"unaccepted\",\
+    \"reason\":\"Resource temporarily unavailable (os error 11)\"}\n";
 
 /// The clock's moment, as Omaha's reply tells it.
 const DAYSTART: &str = "\"daystart\":{\"elapsed_days\":7000,\"elapsed_seconds\":3600}";
 
-/// A connection that has sent what is asked, and ended.
-fn asked<H>(rt: &H, place: SocketAddr, more: &str) -> Result<TcpStream, Fail>
+/// What stands on a line of a row.
+fn part(line: &str) -> &str {
+    if line == "-" { "" } else { line }
+}
+
+/// A connection that has sent these headers and this body, and ended.
+fn asked<H>(rt: &H, place: SocketAddr, headers: &str, body: &str) -> Result<TcpStream, Fail>
 where
     H: Net<Stream = TcpStream> + AllocGlobal,
 {
-    let more = more.replace(rt.alloc(), ";", "\r\n")?;
-    let bytes = format!(in rt.alloc(); "POST /service/update2/json HTTP/1.1\r\n{more}")?;
+    let headers = headers.replace(rt.alloc(), ";", "\r\n")?;
+    let mut bytes = String::from_str(rt.alloc(), "POST /service/update2/json HTTP/1.1\r\n")?;
+    bytes.push_str(&headers)?;
+    bytes.push_str("\r\n\r\n")?;
+    bytes.push_str(part(body))?;
     let stream = sent(rt, place, bytes.as_bytes())?;
     stream.shutdown(Shutdown::Write)?;
     Ok(stream)
@@ -97,44 +111,87 @@ where
 /// clock's.
 fn replied_bytes(alloc: Global, stream: &TcpStream, told: &str) -> io::Result<usize> {
     let reply = reply(alloc, stream)?;
-    let is_right = told != "200" || times(&reply, DAYSTART) == 1;
+    let is_right = !told.contains("200") || times(&reply, DAYSTART) == 1;
     Ok(if is_right { reply.len() } else { 0 })
 }
 
 /// Puts the line that the log should have of a connection behind the others.
 fn want_line(alloc: Global, stream: &TcpStream, told: &str, log: &mut String) -> Result<(), Fail> {
-    let size = replied_bytes(alloc, stream, told)?;
+    let (before, behind) = told.split_once('\n').ok_or("a row of four lines")?;
+    let size = replied_bytes(alloc, stream, before)?;
     let client = stream.local_addr()?;
-    Ok(writeln!(log, "{MOMENT} {client} {told} {size} 0")?)
+    let behind = part(behind);
+    log.push_str("{\"time\":\"2026-03-02T01:00:00.000Z\",\"kind\":\"connection\",")?;
+    Ok(writeln!(
+        log,
+        "\"peer\":\"{client}\",{before}\"bytes\":{size},\"micros\":0{behind}}}"
+    )?)
 }
 
-/// Asks all that the rows say before the first reply is read, and puts the lines that the log
-/// should have of it behind the others.
-fn ask_rows<H>(rt: &H, place: SocketAddr, log: &mut String) -> Result<(), Fail>
+/// The lines that a log should have, and those that it has.
+#[derive(Drop)]
+struct Lines {
+    wanted: String,
+    kept: String,
+}
+
+/// Asks all that the rows say before the first reply is read, and tells what the log should have of
+/// it, and what it has so far.
+fn ask_rows<H>(
+    rt: &H,
+    place: SocketAddr,
+    pieces: &Receiver<LogPiece>,
+    lines: &mut Lines,
+) -> Result<(), Fail>
 where
-    H: Net<Stream = TcpStream> + AllocGlobal,
+    H: Wait + Net<Stream = TcpStream> + AllocGlobal,
 {
     let mut streams = Vec::new(rt.alloc());
-    for row in ROWS.lines().skip(1) {
-        let (more, told) = row.split_once(" => ").ok_or("a row of two parts")?;
-        streams.push((asked(rt, place, more)?, told))?;
+    for row in ROWS.trim().split("\n\n") {
+        let (headers, rest) = row.split_once('\n').ok_or("a row of four lines")?;
+        let (body, told) = rest.split_once('\n').ok_or("a row of four lines")?;
+        streams.push((asked(rt, place, headers, body)?, told))?;
     }
     for (stream, told) in streams.iter() {
-        want_line(rt.alloc(), stream, *told, log)?;
+        want_line(rt.alloc(), stream, *told, &mut lines.wanted)?;
+        take(rt, pieces, &mut lines.kept)?;
     }
     Ok(())
 }
 
-/// Asks what the rows say, stops the server, and gives the log that it should have.
-fn wanted<H>(rt: &H, place: SocketAddr, stop: &AtomicBool) -> Result<String, Fail>
+/// Asks what the rows say, stops the server, and gives both logs.
+fn heard<H>(
+    rt: &H,
+    place: SocketAddr,
+    stop: &AtomicBool,
+    pieces: &Receiver<LogPiece>,
+) -> Result<Lines, Fail>
 where
-    H: Net<Stream = TcpStream> + AllocGlobal,
+    H: Wait + Net<Stream = TcpStream> + AllocGlobal,
 {
-    let mut log = String::new(rt.alloc());
-    let asked = ask_rows(rt, place, &mut log);
+    let mut lines = Lines {
+        wanted: String::new(rt.alloc()),
+        kept: String::new(rt.alloc()),
+    };
+    let asked = ask_rows(rt, place, pieces, &mut lines);
     halt(rt, place, stop);
     asked?;
-    Ok(log)
+    Ok(lines)
+}
+
+/// Puts the lines of the pieces that stand in a queue behind the others.
+pub(crate) fn take<H: Wait>(
+    rt: &H,
+    pieces: &Receiver<LogPiece>,
+    lines: &mut String,
+) -> Result<(), Fail> {
+    for _ in 0..u64::MAX {
+        let Ok(piece) = pieces.try_recv(rt) else {
+            return Ok(());
+        };
+        lines.push_str(str::from_utf8(&piece.text).map_err(|_| "no text")?)?;
+    }
+    Ok(())
 }
 
 /// Whether these lines are those that were wanted, and some of connections that couldn't be
@@ -154,22 +211,24 @@ where
     listener.set_nonblocking(true)?;
     let place = listener.local_addr()?;
     let stop = AtomicBool::new(false);
-    let still = Still {
+    let still = Still { rt };
+    let (queue, pieces) = LogQueue::new(rt.alloc())?;
+    let (ended, heard) = thread::join(
         rt,
-        errors: Mutex::new(String::new(rt.alloc())),
-    };
-    let service = Service {
-        timeout: Duration::from_secs(30),
-        log: true,
-    };
-    let (ended, wanted) = thread::join(
-        rt,
-        || serves(&still, &Open, listener, crew, &stop, service),
-        || wanted(rt, place, &stop),
+        || serves(&still, &Open, listener, crew, &stop, logging_to(&queue)),
+        || heard(rt, place, &stop, &pieces),
     );
-    let wanted = wanted?;
-    let kept = still.errors.lock(rt);
-    Ok(ended && is_log(rt.alloc(), kept.as_str(), wanted.as_str())?)
+    let mut lines = heard?;
+    take(rt, &pieces, &mut lines.kept)?;
+    Ok(ended && is_log(rt.alloc(), lines.kept.as_str(), lines.wanted.as_str())?)
+}
+
+/// Each connection may last half a minute, and the log goes to a queue.
+pub(crate) fn logging_to<'a>(queue: &'a LogQueue) -> Service<'a> {
+    Service {
+        timeout: Duration::from_secs(30),
+        log: Some(queue),
+    }
 }
 
 /// The same of a server with one worker.

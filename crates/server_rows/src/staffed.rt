@@ -35,7 +35,7 @@ fn workers_and_limit_are_as_asked(rt: HostRuntime) -> Result<(), Fail> {
 /// Why a server doesn't serve whose output has room for ten bytes, if it doesn't.
 fn fault_of_output<H>(rt: &H, ports: Ports) -> Option<ServingFault>
 where
-    H: Threads + Wait + AllocGlobal + Clock + Eprint + Sync,
+    H: Threads + Wait + AllocGlobal + Clock + Sync,
     H: Net<Listener = TcpListener, Stream = TcpStream>,
 {
     let mut room = [0; 10];

@@ -35,10 +35,10 @@ pub(crate) enum Work {
 }
 
 /// Each connection may last so many seconds, and there is no log.
-pub(crate) fn service_of(seconds: u64) -> Service {
+pub(crate) fn service_of(seconds: u64) -> Service<'static> {
     Service {
         timeout: Duration::from_secs(seconds),
-        log: false,
+        log: None,
     }
 }
 
@@ -49,11 +49,11 @@ pub(crate) fn served_to<H, O>(
     ports: Ports,
     path: &str,
     workers: usize,
-    service: Service,
+    service: Service<'_>,
     out: &mut O,
 ) -> Result<(), ServingFault>
 where
-    H: Threads + Wait + AllocGlobal + Clock + Eprint + Sync,
+    H: Threads + Wait + AllocGlobal + Clock + Sync,
     H: Net<Listener = TcpListener, Stream = TcpStream>,
     O: Write,
 {
@@ -77,10 +77,10 @@ fn served<H>(
     ports: Ports,
     path: &str,
     workers: usize,
-    service: Service,
+    service: Service<'_>,
 ) -> Result<(), ServingFault>
 where
-    H: Threads + Wait + AllocGlobal + Clock + Eprint + Sync,
+    H: Threads + Wait + AllocGlobal + Clock + Sync,
     H: Net<Listener = TcpListener, Stream = TcpStream>,
 {
     let mut said = Vec::new(rt.alloc());
@@ -129,12 +129,26 @@ pub(crate) fn wrong<H>(
     work: Work,
 ) -> Result<Option<&'static str>, Fail>
 where
-    H: Threads + Wait + AllocGlobal + Clock + Eprint + Sync,
+    H: Threads + Wait + AllocGlobal + Clock + Sync,
+    H: Net<Listener = TcpListener, Stream = TcpStream>,
+{
+    wrong_by(rt, path, workers, service_of(seconds), work)
+}
+
+/// The same of a server that serves so.
+pub(crate) fn wrong_by<H>(
+    rt: &H,
+    path: &'static str,
+    workers: usize,
+    service: Service<'_>,
+    work: Work,
+) -> Result<Option<&'static str>, Fail>
+where
+    H: Threads + Wait + AllocGlobal + Clock + Sync,
     H: Net<Listener = TcpListener, Stream = TcpStream>,
 {
     let ports = ports_of(rt, 0, 0)?;
     let (clients, operator) = (ports.service(), ports.operator());
-    let service = service_of(seconds);
     let (ended, wrong) = thread::join(
         rt,
         || served(rt, ports, path, workers, service),

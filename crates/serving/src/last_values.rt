@@ -1,53 +1,70 @@
-//! What is left of the counters, as the log tells it when a server has ended: a line for each that
-//! isn't 0, as the operator's `cells` has it. It takes no memory, so that none is left out.
+//! What the log tells when a server has ended: that it has, and a line for each counter that isn't
+//! 0. They wait for places in the log's queue, so that none is lost where the log is read in time.
 
 use cells::{CellArray, CellNo};
 use shared_cells::Closed;
-use std::fmt::{self, Display};
+use std::sync::Wait;
+use std::time::{Clock, Instant};
+use workers::access_log::{Counter, LogEvent};
+use workers::{LogQueue, seconds_from_now};
 
 const CELLS: u16 = 8192;
 
-/// The line of a counter.
-#[derive(Clone, Copy)]
-struct CounterLine<'a> {
-    name: &'a str,
-    index: u16,
-    value: u64,
-}
+/// How long all these lines wait for places.
+const END_SECONDS: u64 = 4;
 
-impl Display for CounterLine<'_> {
-    fn fmt<W: fmt::Write>(&self, f: &mut fmt::Formatter<W>) -> fmt::Result {
-        let (name, index, value) = (self.name, self.index, self.value);
-        writeln!(f, "{name}[{index}] {value}")
+/// Tells the log, if there is one, that a server has ended, and what is left of its counters, array
+/// after array, up to the first line that has no place in time.
+pub(crate) fn note_end<H>(rt: &H, log: Option<&LogQueue>, arrays: &[CellArray], closed: &Closed)
+where
+    H: Wait + AllocGlobal + Clock,
+{
+    let Some(queue) = log else {
+        return;
+    };
+    let until = seconds_from_now(rt, END_SECONDS);
+    if !queue.note_until(rt, &LogEvent::Stop, until) {
+        return;
     }
-}
-
-/// Writes the lines on standard error, array after array. A line is lost where standard error
-/// fails.
-pub(crate) fn note_counters<H: Eprint>(rt: &H, arrays: &[CellArray], closed: &Closed) {
     for array in arrays {
-        for index in 0..array.length {
-            note_counter(rt, array, index, closed);
+        if !note_array(rt, queue, until, array, closed) {
+            return;
         }
     }
 }
 
-fn note_counter<H: Eprint>(rt: &H, array: &CellArray, index: u16, closed: &Closed) {
-    let Some(cell) = cell_of(array, index) else {
-        return;
-    };
-    let value = closed.value(cell);
-    if value != 0 {
-        let name = array.name.as_str();
-        let _noted = rt.eprint(CounterLine { name, index, value });
+// Those of an array; whether all have a place.
+fn note_array<H>(
+    rt: &H,
+    queue: &LogQueue,
+    until: Option<Instant>,
+    array: &CellArray,
+    closed: &Closed,
+) -> bool
+where
+    H: Wait + AllocGlobal + Clock,
+{
+    for index in 0..array.length {
+        let value = value_of(array, index, closed);
+        if value != 0 && !queue.note_until(rt, &counter_event(array, index, value), until) {
+            return false;
+        }
     }
+    true
 }
 
-// None past the last cell, which no array reaches.
-fn cell_of(array: &CellArray, index: u16) -> Option<CellNo> {
-    let number = array.base.checked_add(index)?;
-    if CELLS <= number {
-        return None;
+fn counter_event<'x>(array: &'x CellArray, index: u16, value: u64) -> LogEvent<'x> {
+    LogEvent::Counter(Counter {
+        array: array.name.as_str(),
+        index,
+        value,
+    })
+}
+
+// 0 past the last cell, which no array reaches.
+fn value_of(array: &CellArray, index: u16, closed: &Closed) -> u64 {
+    match array.base.checked_add(index) {
+        Some(number) if number < CELLS => closed.value(CellNo::new(number)),
+        _ => 0,
     }
-    Some(CellNo::new(number))
 }

@@ -10,7 +10,7 @@ ghost use Rattle.serving.specs.Staffed.{IsEndFault, IsStaffFault};
 
 use crate::ended::close_cells;
 use crate::fault::ServingFault;
-use crate::last_values::note_counters;
+use crate::last_values::note_end;
 use crate::worker_list::worker_list;
 use cells::Directory;
 use load::ruleset::Ruleset;
@@ -113,11 +113,11 @@ impl StaffedServer {
         self,
         rt: &H,
         loader: &L,
-        service: Service,
+        service: Service<'_>,
         out: &mut O,
     ) -> Result<Closed, ServingFault>
     where
-        H: Threads + Wait + AllocGlobal + Clock + Eprint + Sync,
+        H: Threads + Wait + AllocGlobal + Clock + Sync,
         H: Net<Listener = TcpListener, Stream = TcpStream>,
         L: Loader,
         O: Write,
@@ -153,9 +153,7 @@ impl StaffedServer {
         };
         match close_cells(cells, back, room) {
             Ok(closed) => {
-                if service.log {
-                    note_counters(rt, control.arrays(), &closed);
-                }
+                note_end(rt, service.log, control.arrays(), &closed);
                 control.close(rt);
                 Ok(closed)
             }

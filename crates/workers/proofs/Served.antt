@@ -1,6 +1,6 @@
 -- What one answer did, and one more after others; and a worker whose thread has promised to give it
 -- back.
-use Rattle.std.proofs.Common.{◌≡◌, ℕ, List, [], ◌++◌, refl, ap, subst}
+use Rattle.std.proofs.Common.{◌≡◌, ℕ, List, [], ◌++◌, refl, subst}
 use Rattle.std.specs.List.{AllZip}
 use Rattle.std.specs.Prelude.{ℤ, Option, Result, Ok, Err, IfOk, IfErr}
 use Rattle.std.specs.declared.thread.PromisedHandle.{PromisedHandle}

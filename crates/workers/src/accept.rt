@@ -1,7 +1,8 @@
 //! The connections of a port, one after another, until the server is told to stop.
 
-use crate::clock::{pause, unix_second};
-use crate::log::note_unaccepted;
+use crate::clock::pause;
+use crate::connection_line::note_unaccepted;
+use crate::log_queue::LogQueue;
 use std::io;
 use std::net::{SocketAddr, TcpListener, TcpStream};
 use std::sync::Wait;
@@ -21,14 +22,18 @@ pub(crate) struct Call {
 pub(crate) struct Port<'a> {
     listener: &'a TcpListener,
     stop: &'a AtomicBool,
-    /// Whether a connection that can't be accepted has a line of the log.
-    log: bool,
+    /// Where a connection that can't be accepted has a line.
+    log: Option<&'a LogQueue>,
     accepted: u64,
 }
 
 impl<'a> Port<'a> {
     /// A port of which nothing is accepted yet.
-    pub(crate) fn new(listener: &'a TcpListener, stop: &'a AtomicBool, log: bool) -> Port<'a> {
+    pub(crate) fn new(
+        listener: &'a TcpListener,
+        stop: &'a AtomicBool,
+        log: Option<&'a LogQueue>,
+    ) -> Port<'a> {
         Port {
             listener,
             stop,
@@ -41,7 +46,7 @@ impl<'a> Port<'a> {
     /// answered. One that can't be accepted is passed over.
     pub(crate) fn accept<H>(&mut self, rt: &H) -> Option<Call>
     where
-        H: Wait + AllocGlobal + Clock + Eprint,
+        H: Wait + AllocGlobal + Clock,
     {
         for _ in rt.forever() {
             let accepted = self.listener.accept();
@@ -69,10 +74,10 @@ impl<'a> Port<'a> {
     // before it goes on.
     fn pass_over<H>(&self, rt: &H, error: &io::Error)
     where
-        H: AllocGlobal + Clock + Eprint,
+        H: Wait + AllocGlobal + Clock,
     {
-        if self.log {
-            let _noted = note_unaccepted(rt, unix_second(rt), error);
+        if let Some(queue) = self.log {
+            note_unaccepted(rt, queue, error);
         }
         pause(rt);
     }

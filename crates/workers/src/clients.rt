@@ -30,10 +30,10 @@ pub fn serve<H, G, C>(
     cells: &C,
     workers: Vec<(C::Pass, Watcher)>,
     stop: &AtomicBool,
-    service: Service,
+    service: Service<'_>,
 ) -> Result<(), ServeFault>
 where
-    H: Threads + Wait + AllocGlobal + Clock + Eprint + Sync,
+    H: Threads + Wait + AllocGlobal + Clock + Sync,
     G: Gate + Sync,
     C: CellSteps + Sync,
     C::Pass: Send + Drop,
@@ -56,10 +56,10 @@ pub fn serve_returning<H, G, C>(
     cells: &C,
     workers: Vec<(C::Pass, Watcher)>,
     stop: &AtomicBool,
-    service: Service,
+    service: Service<'_>,
 ) -> Result<Vec<(C::Pass, Watcher)>, ServeFault>
 where
-    H: Threads + Wait + AllocGlobal + Clock + Eprint + Sync,
+    H: Threads + Wait + AllocGlobal + Clock + Sync,
     G: Gate + Sync,
     C: CellSteps + Sync,
     C::Pass: Send + Drop,

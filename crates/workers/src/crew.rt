@@ -27,10 +27,10 @@ pub(crate) fn start_workers<'s, E, H, G, C>(
     queue: Receiver<Call>,
     cells: &'s C,
     workers: Vec<(C::Pass, Watcher)>,
-    service: Service,
+    service: Service<'s>,
 ) -> Result<Vec<PromisedHandle<(C::Pass, Watcher), OfWorker<C>>>, ServeFault>
 where
-    H: Wait + AllocGlobal + Clock + Eprint + Sync,
+    H: Wait + AllocGlobal + Clock + Sync,
     G: Gate + Sync,
     C: CellSteps + Sync,
     C::Pass: Send + Drop + 's,
@@ -61,10 +61,10 @@ fn start_worker<'s, E, H, G, C>(
     queue: Receiver<Call>,
     cells: &'s C,
     worker: (C::Pass, Watcher),
-    service: Service,
+    service: Service<'s>,
 ) -> Result<PromisedHandle<(C::Pass, Watcher), OfWorker<C>>, ServeFault>
 where
-    H: Wait + AllocGlobal + Clock + Eprint + Sync,
+    H: Wait + AllocGlobal + Clock + Sync,
     G: Gate + Sync,
     C: CellSteps + Sync,
     C::Pass: Send + Drop + 's,

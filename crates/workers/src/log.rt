@@ -1,98 +1,99 @@
-//! The log, on standard error: one line a connection, and one for each that couldn't be accepted.
+//! The lines of a worker's connections, which go to the log's queue in pieces: what a connection
+//! costs is then its line, and not a place in the queue, too.
 
-use answering::{AnswerFault, Sent};
+use crate::clock::utc_now;
+use crate::log_queue::{LogPiece, LogQueue};
+use access_log::{LogEvent, log_line};
 use std::alloc::Global;
-use std::fmt::{self, Display, Write};
-use std::io;
-use std::net::SocketAddr;
+use std::mem;
+use std::sync::Wait;
+use std::time::Clock;
 
-/// How many bytes of lines are enough to be written. With one line more they still go out in one
-/// piece, since up to 1024 bytes are printed by one write.
-const ENOUGH: usize = 800;
+/// How many bytes of lines are enough to be handed on.
+const ENOUGH: usize = 4096;
 
-/// The most bytes of a line: two numbers of 20 digits, one of 19 with its sign, an address of at
-/// most 58 bytes, a status with the name of a refusal, and blanks.
-const LONGEST: usize = 200;
-
-/// The line of a connection, as it is printed: the moment, the client's address, the reply or the
-/// fault, how many bytes were written, and how many microseconds it took.
-#[derive(Clone, Copy)]
-pub(crate) struct LogLine<'a> {
-    /// When the connection's turn came, in seconds since 1970.
-    pub moment: i64,
-    pub peer: SocketAddr,
-    pub outcome: &'a Result<Sent, AnswerFault>,
-    pub bytes: u64,
-    /// 0 where the clock fails.
-    pub micros: u64,
-}
-
-impl Display for LogLine<'_> {
-    fn fmt<W: fmt::Write>(&self, f: &mut fmt::Formatter<W>) -> fmt::Result {
-        let (moment, peer, bytes, micros) = (self.moment, self.peer, self.bytes, self.micros);
-        match self.outcome {
-            Ok(sent) => writeln!(f, "{moment} {peer} {sent} {bytes} {micros}"),
-            Err(fault) => writeln!(f, "{moment} {peer} {fault} {bytes} {micros}"),
-        }
-    }
-}
-
-/// The lines of a worker that aren't written yet. They are written in one piece, so that those of
-/// several workers don't mix: before the worker waits for a connection, where there are enough of
-/// them, and before it attends to a connection of a later second. So a line is late by a second,
-/// and by the time of the next connection, at most.
+/// The lines of a worker that aren't in the queue yet. They are put there before the worker waits
+/// for a connection, where there are enough of them, and before it attends to a connection of a
+/// later second. So a line is late by a second, and by the time of the next connection, at most.
 #[derive(Drop)]
-pub(crate) struct Log {
-    lines: String,
-    /// The moment of these lines.
+pub(crate) struct Log<'a> {
+    queue: Option<&'a LogQueue>,
+    text: Vec<u8>,
+    lines: u64,
+    /// The second of these lines.
     moment: i64,
 }
 
-impl Log {
-    /// A log without a line.
-    pub fn new(alloc: Global) -> Log {
+impl<'a> Log<'a> {
+    /// A log without a line, which is kept where there is a queue for it.
+    pub fn new(alloc: Global, queue: Option<&'a LogQueue>) -> Log<'a> {
         Log {
-            lines: String::new(alloc),
+            queue,
+            text: Vec::new(alloc),
+            lines: 0,
             moment: 0,
         }
     }
 
-    /// Puts a line behind the others. It is lost where memory is refused.
-    pub fn note<H: Eprint>(&mut self, rt: &H, line: &LogLine<'_>) {
-        // Where there is room for all of it none is kept by halves.
-        if self.lines.reserve(LONGEST).is_ok() {
-            let _noted = write!(self.lines, "{line}");
+    /// Whether it is kept.
+    pub fn is_kept(&self) -> bool {
+        self.queue.is_some()
+    }
+
+    /// Puts the line of an event behind the others. It is lost where memory is refused.
+    pub fn note<H>(&mut self, rt: &H, event: &LogEvent<'_>)
+    where
+        H: Wait + AllocGlobal + Clock,
+    {
+        match log_line(rt.alloc(), &utc_now(rt), event) {
+            Ok(line) => self.add(&line),
+            Err(_) => self.lose(),
         }
-        self.moment = line.moment;
-        if self.lines.len() >= ENOUGH {
-            self.write_out(rt);
+        if self.text.len() >= ENOUGH {
+            self.hand_on(rt);
         }
     }
 
-    /// Writes the lines of an earlier second than this.
-    pub fn write_earlier<H: Eprint>(&mut self, rt: &H, moment: i64) {
+    /// Counts a line that isn't noted.
+    pub fn lose(&self) {
+        if let Some(queue) = self.queue {
+            queue.lose(1);
+        }
+    }
+
+    fn add(&mut self, line: &[u8]) {
+        if self.text.extend_from_slice(line).is_ok() {
+            self.lines = self.lines.saturating_add(1);
+        } else {
+            self.lose();
+        }
+    }
+
+    /// Hands on the lines of an earlier second than this, which is now the log's.
+    pub fn hand_on_earlier<H>(&mut self, rt: &H, moment: i64)
+    where
+        H: Wait + AllocGlobal + Clock,
+    {
         if self.moment != moment {
-            self.write_out(rt);
+            self.hand_on(rt);
+            self.moment = moment;
         }
     }
 
-    /// Writes all lines. They are lost where standard error fails.
-    pub fn write_out<H: Eprint>(&mut self, rt: &H) {
-        if !self.lines.is_empty() {
-            let _written = rt.eprint(self.lines.as_str());
-            self.lines.clear();
+    /// Hands on all lines.
+    pub fn hand_on<H>(&mut self, rt: &H)
+    where
+        H: Wait + AllocGlobal + Clock,
+    {
+        let Some(queue) = self.queue else {
+            return;
+        };
+        if self.lines == 0 {
+            return;
         }
+        let text = mem::replace(&mut self.text, Vec::new(rt.alloc()));
+        let lines = self.lines;
+        self.lines = 0;
+        queue.put(rt, LogPiece { text, lines });
     }
-}
-
-/// Writes the line of a connection that couldn't be accepted: the moment, `-` for the client that
-/// isn't known, and the error.
-pub fn note_unaccepted<H: AllocGlobal + Eprint>(
-    rt: &H,
-    moment: i64,
-    error: &io::Error,
-) -> io::Result<()> {
-    let alloc = rt.alloc();
-    let line = format!(in alloc; "{moment} - accept failed: {error}\n")?;
-    rt.eprint(line)
 }

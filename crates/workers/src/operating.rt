@@ -7,6 +7,9 @@ ghost use Rattle.workers.specs.Back.{OperatorBack};
 
 use crate::accept::Port;
 use crate::clock::Limits;
+use crate::heard::Heard;
+use crate::load_line::note_load;
+use crate::worker::Service;
 use one_world::cells::{CellSteps, growth};
 use operator::devices::{Counted, Timed, drain};
 use operator::{Control, Loader, OperatorReply, answer, write_reply};
@@ -38,16 +41,16 @@ where
 /// to see to. The line of a connection has to come within 5 seconds, and its reply to be taken
 /// within 5 more, since a load may last; or within the limit of time, where that is shorter. A
 /// connection that fails is passed over, and so is one that can't be accepted.
-pub fn operate<H, L, C>(
+pub fn operate<'x, H, L, C>(
     rt: &H,
-    listener: &TcpListener,
+    listener: &'x TcpListener,
     seat: &mut OperatorSeat<'_, L, C>,
     control: &mut Control,
-    stop: &AtomicBool,
-    timeout: Duration,
+    stop: &'x AtomicBool,
+    service: Service<'_>,
 )
 where
-    H: Wait + AllocGlobal + Clock + Eprint,
+    H: Wait + AllocGlobal + Clock,
     L: Loader,
     C: CellSteps,
     C::Pass: Drop,
@@ -56,25 +59,29 @@ where
     ensures onwards { GoesOnwards control.old.publishing.known control.new.publishing.known }
 {
     growth::<C>();
-    let limit = timeout.min(Duration::from_secs(OPERATOR_SECONDS));
-    let mut port = Port::new(listener, stop, false);
+    let limit = service.timeout.min(Duration::from_secs(OPERATOR_SECONDS));
+    let service = Service {
+        timeout: limit,
+        log: service.log,
+    };
+    let mut port = Port::new(listener, stop, None);
     for _ in rt.forever() {
         let Some(call) = port.accept(rt) else {
             return;
         };
-        if attend(rt, &call.stream, seat, control, limit) {
+        if attend(rt, &call.stream, seat, control, service) {
             return;
         }
     }
 }
 
 // Answers one connection, and says whether it has asked to stop.
-fn attend<H, L, C>(
-    rt: &H,
-    stream: &TcpStream,
+fn attend<'x, H, L, C>(
+    rt: &'x H,
+    stream: &'x TcpStream,
     seat: &mut OperatorSeat<'_, L, C>,
     control: &mut Control,
-    timeout: Duration,
+    service: Service<'_>,
 ) -> bool
 where
     H: Wait + AllocGlobal + Clock,
@@ -86,10 +93,11 @@ where
     ensures back { OperatorBack (C.belongs seat.old.cells.now) C.grew seat.old.pass seat.new.pass }
     ensures onwards { GoesOnwards control.old.publishing.known control.new.publishing.known }
 {
-    let Some(limits) = Limits::begin(rt, timeout) else {
+    let Some(limits) = Limits::begin(rt, service.timeout) else {
         return false;
     };
-    let mut reader = Counted::new(Timed::new(stream, rt, limits.until()));
+    let timed = Timed::new(stream, rt, limits.until());
+    let mut reader = Counted::new(Heard::new(rt.alloc(), timed, service.log.is_some()));
     let Some(reply) = answer(
         rt,
         rt.alloc(),
@@ -101,7 +109,8 @@ where
     ) else {
         return false;
     };
-    let _sent = send(rt, stream, &reply, timeout);
+    let _sent = send(rt, stream, &reply, service.timeout);
+    note_load(rt, service.log, reader.into_inner(), &reply);
     matches!(reply, OperatorReply::Stopping)
 }
 

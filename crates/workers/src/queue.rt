@@ -3,6 +3,7 @@
 
 use crate::accept::{Call, Port};
 use crate::log::Log;
+use crate::log_queue::LogQueue;
 use crossbeam_channel::{Receiver, Sender};
 use std::net::TcpListener;
 use std::sync::Wait;
@@ -13,15 +14,15 @@ use std::time::Clock;
 pub(crate) const WAITING: usize = 64;
 
 /// Puts each connection of a port into the queue, and closes the port at the end.
-pub(crate) fn fill<H>(
+pub(crate) fn fill<'x, H>(
     rt: &H,
     listener: TcpListener,
     queue: &Sender<Call>,
-    stop: &AtomicBool,
-    log: bool,
+    stop: &'x AtomicBool,
+    log: Option<&'x LogQueue>,
 )
 where
-    H: Wait + AllocGlobal + Clock + Eprint,
+    H: Wait + AllocGlobal + Clock,
 {
     let mut port = Port::new(&listener, stop, log);
     for _ in rt.forever() {
@@ -35,14 +36,14 @@ where
 }
 
 /// The next connection, or none where the queue is closed. Before the worker waits for one it
-/// writes its log out, so that no line is left at the end.
-pub(crate) fn next<H>(rt: &H, queue: &Receiver<Call>, log: &mut Log) -> Option<Call>
+/// hands its log's lines on, so that none is left at the end.
+pub(crate) fn next<H>(rt: &H, queue: &Receiver<Call>, log: &mut Log<'_>) -> Option<Call>
 where
-    H: Wait + Eprint,
+    H: Wait + AllocGlobal + Clock,
 {
     if let Ok(call) = queue.try_recv(rt) {
         return Some(call);
     }
-    log.write_out(rt);
+    log.hand_on(rt);
     queue.recv(rt).ok()
 }

@@ -14,6 +14,7 @@ use crate::accept::Call;
 use crate::crew::{joined, start_workers};
 use crate::fault::ServeFault;
 use crate::gate::Open;
+use crate::log_queue::LogQueue;
 use crate::operating::{OperatorSeat, operate};
 use crate::ports::{Ports, wake};
 use crate::queue::{WAITING, fill};
@@ -31,7 +32,7 @@ use std::sync::Wait;
 use std::sync::atomic::{AtomicBool, Ordering};
 use std::thread;
 use std::thread::{Scope, Threads};
-use std::time::{Clock, Duration};
+use std::time::Clock;
 
 // Starts the thread that puts connections into the queue, until the flag is set; it closes the port
 // and the queue.
@@ -41,10 +42,10 @@ fn start_accepting<'s, E, H>(
     listener: TcpListener,
     queue: Sender<Call>,
     stop: &'s AtomicBool,
-    log: bool,
+    log: Option<&'s LogQueue>,
 ) -> Result<(), ServeFault>
 where
-    H: Wait + AllocGlobal + Clock + Eprint + Sync,
+    H: Wait + AllocGlobal + Clock + Sync,
 {
     match scope.spawn(move || fill(rt, listener, &queue, stop, log)) {
         Ok(_) => Ok(()),
@@ -70,10 +71,10 @@ fn operate_beside<H, L, C>(
     control: &mut Control,
     stop: &AtomicBool,
     clients: SocketAddr,
-    timeout: Duration,
+    service: Service<'_>,
 ) -> C::Pass
 where
-    H: Wait + AllocGlobal + Clock + Eprint,
+    H: Wait + AllocGlobal + Clock,
     H: Net<Stream = TcpStream>,
     L: Loader,
     C: CellSteps,
@@ -82,7 +83,7 @@ where
     ensures back { OperatorBack (C.belongs seat.entry.cells.now) C.grew seat.entry.pass result }
     ensures onwards { GoesOnwards control.old.publishing.known control.new.publishing.known }
 {
-    operate(rt, listener, &mut seat, control, stop, timeout);
+    operate(rt, listener, &mut seat, control, stop, service);
     end_clients(rt, stop, clients);
     let OperatorSeat {
         loader: _loader,
@@ -115,11 +116,11 @@ fn run_saying<H, L, C, S>(
     seat: OperatorSeat<'_, L, C>,
     control: &mut Control,
     workers: Vec<(C::Pass, Watcher)>,
-    service: Service,
+    service: Service<'_>,
     ready: S,
 ) -> Result<(Returned<C::Pass>, S::Said), ResourceFault>
 where
-    H: Threads + Wait + AllocGlobal + Clock + Eprint + Sync,
+    H: Threads + Wait + AllocGlobal + Clock + Sync,
     H: Net<Listener = TcpListener, Stream = TcpStream>,
     L: Loader,
     C: CellSteps + Sync,
@@ -139,7 +140,6 @@ where
     };
     let stop = AtomicBool::new(false);
     let gate = Open;
-    let timeout = service.timeout;
     let OperatorSeat {
         loader,
         cells,
@@ -180,7 +180,7 @@ where
                 cells,
                 pass,
             };
-            let pass = operate_beside(rt, &operator, seat, control, &stop, clients, timeout);
+            let pass = operate_beside(rt, &operator, seat, control, &stop, clients, service);
             Ok((returned(pass, joined(rt, threads, room), control), said))
         },
     )
@@ -197,11 +197,11 @@ pub fn run<H, L, C, O>(
     seat: OperatorSeat<'_, L, C>,
     control: &mut Control,
     workers: Vec<(C::Pass, Watcher)>,
-    service: Service,
+    service: Service<'_>,
     out: &mut O,
 ) -> Result<Returned<C::Pass>, ResourceFault>
 where
-    H: Threads + Wait + AllocGlobal + Clock + Eprint + Sync,
+    H: Threads + Wait + AllocGlobal + Clock + Sync,
     H: Net<Listener = TcpListener, Stream = TcpStream>,
     L: Loader,
     C: CellSteps + Sync,

@@ -4,12 +4,16 @@ ghost use Rattle.std.specs.Prelude.{◌≡◌};
 ghost use Rattle.workers.specs.Back.{WorkerBack};
 
 use crate::accept::Call;
-use crate::clock::{Limits, micros_since, unix_second};
+use crate::clock::{Limits, unix_second};
+use crate::connection_line::note_connection;
 use crate::gate::Gate;
+use crate::heard::Heard;
 use crate::laws::answers_are_runs;
-use crate::log::{Log, LogLine};
+use crate::log::Log;
+use crate::log_queue::LogQueue;
 use crate::queue::next;
-use answering::{AnswerFault, Sent, answer};
+use crate::seen::Seen;
+use answering::{AnswerFault, Sent, Turn, answer_before};
 use crossbeam_channel::Receiver;
 use one_world::cells::{CellSteps, growth};
 use one_world::runs_add_up;
@@ -21,14 +25,14 @@ use std::sync::Wait;
 use std::time::{Clock, Duration};
 
 /// How a server serves.
-#[derive(Clone, Copy, Debug)]
-pub struct Service {
+#[derive(Clone, Copy)]
+pub struct Service<'a> {
     /// How long a connection may last.
     pub timeout: Duration,
-    /// Whether each connection has a line of the log, on standard error, also one that couldn't be
-    /// accepted. Where connections wait for a worker its lines are written together, late by a
-    /// second and by a connection's time at most.
-    pub log: bool,
+    /// Where each connection has a line, also one that couldn't be accepted, and each load. Where
+    /// connections wait for a worker its lines are put there together, late by a second and by a
+    /// connection's time at most.
+    pub log: Option<&'a LogQueue>,
 }
 
 /// A worker's seat: by what it answers.
@@ -49,10 +53,10 @@ pub(crate) fn work<H, G, C>(
     queue: Receiver<Call>,
     cells: &C,
     worker: (C::Pass, Watcher),
-    service: Service,
+    service: Service<'_>,
 ) -> (C::Pass, Watcher)
 where
-    H: Wait + AllocGlobal + Clock + Eprint,
+    H: Wait + AllocGlobal + Clock,
     G: Gate,
     C: CellSteps,
     C::Pass: Drop,
@@ -67,7 +71,7 @@ where
         pass,
         watcher,
     };
-    let mut log = Log::new(rt.alloc());
+    let mut log = Log::new(rt.alloc(), service.log);
     for _ in rt.forever() {
         let Some(call) = next(rt, &queue, &mut log) else {
             break;
@@ -89,11 +93,11 @@ fn attend<H, C>(
     rt: &H,
     call: &Call,
     seat: &mut WorkerSeat<'_, C>,
-    service: Service,
-    log: &mut Log,
+    service: Service<'_>,
+    log: &mut Log<'_>,
 ) -> io::Result<()>
 where
-    H: Wait + AllocGlobal + Clock + Eprint,
+    H: Wait + AllocGlobal + Clock,
     C: CellSteps,
     C::Pass: Drop,
     requires { C.belongs seat.old.cells.now seat.old.pass }
@@ -102,32 +106,24 @@ where
         (seat.old.pass, seat.old.watcher) (seat.new.pass, seat.new.watcher) }
 {
     let moment = unix_second(rt);
-    log.write_earlier(rt, moment);
+    log.hand_on_earlier(rt, moment);
     let limits = Limits::begin(rt, service.timeout);
-    let (outcome, bytes) = answer_within(rt, &call.stream, seat, moment, limits);
-    if service.log {
-        let line = LogLine {
-            moment,
-            peer: call.peer,
-            outcome: &outcome,
-            bytes,
-            micros: micros_since(rt, limits),
-        };
-        log.note(rt, &line);
-    }
+    let mut seen = Seen::new(rt.alloc(), log.is_kept());
+    let outcome = answer_within(rt, &call.stream, seat, moment, limits, &mut seen);
+    note_connection(rt, log, call.peer, limits, &outcome, &seen);
     finish(rt, &call.stream, &outcome)
 }
 
-// Answers one connection within its limits, and tells how many bytes were written. Where the clock
-// can't tell when the connection has to be done, nothing is read, as of a client that can't be
-// read.
-fn answer_within<H, C>(
-    rt: &H,
-    stream: &TcpStream,
+// Answers one connection within its limits. Where the clock can't tell when the connection has to
+// be done, nothing is read, as of a client that can't be read.
+fn answer_within<'x, H, C>(
+    rt: &'x H,
+    stream: &'x TcpStream,
     seat: &mut WorkerSeat<'_, C>,
     moment: i64,
     limits: Option<Limits>,
-) -> (Result<Sent, AnswerFault>, u64)
+    seen: &mut Seen,
+) -> Result<Sent, AnswerFault>
 where
     H: AllocGlobal + Clock,
     C: CellSteps,
@@ -140,20 +136,43 @@ where
     runs_add_up();
     answers_are_runs();
     let Some(limits) = limits else {
-        return (Err(AnswerFault::Reading), 0);
+        seen.cause = Some("clock");
+        return Err(AnswerFault::Reading);
     };
-    let mut reader = Counted::new(Timed::new(stream, rt, limits.until()));
-    let mut writer = Counted::new(Timed::new(stream, rt, limits.until()));
-    let outcome = answer(
-        rt.alloc(),
+    let alloc = rt.alloc();
+    let from = Timed::new(stream, rt, limits.until());
+    let into = Timed::new(stream, rt, limits.until());
+    let mut reader = Counted::new(Heard::new(alloc, from, seen.is_kept()));
+    let mut writer = Counted::new(Heard::new(alloc, into, false));
+    let turn = Turn {
+        alloc,
+        cells: seat.cells,
+        moment: &moment,
+    };
+    let outcome = answer_before(
+        &turn,
         &mut reader,
         &mut writer,
-        seat.cells,
         &mut seat.pass,
         &mut seat.watcher,
-        moment,
+        seen,
     );
-    (outcome, writer.into_inner().bytes())
+    remember(seen, reader.into_inner(), writer.into_inner());
+    outcome
+}
+
+// What the devices of a connection remember.
+fn remember<'x, H: Clock>(
+    seen: &mut Seen,
+    reader: Heard<Timed<'x, H>>,
+    writer: Heard<Timed<'x, H>>,
+) {
+    seen.forwarded = reader.forwarded();
+    seen.cause = match reader.cause() {
+        Some(cause) => Some(cause),
+        None => writer.cause(),
+    };
+    seen.bytes = writer.into_inner().bytes();
 }
 
 // Takes what a client sent beyond its request, since a socket that is closed with bytes unread is

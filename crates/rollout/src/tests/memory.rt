@@ -42,7 +42,7 @@ const WORDS: [&str; 7] = [
 /// The status of a run, which prints into room that stands ready.
 fn run_none<R>(rt: &R, room: &mut [u8], said: &mut [u8]) -> u8
 where
-    R: Files + Threads + Wait + AllocGlobal + Clock + Eprint + Sync,
+    R: Files + Threads + Wait + AllocGlobal + Clock + Eprint + Copy + Drop + Send + Sync + 'static,
     R: Net<Listener = TcpListener, Stream = TcpStream>,
     R::File: Send,
     R::Dir: Send,

@@ -78,7 +78,7 @@ where
 /// What an operator's words are answered.
 fn told_operator<R>(rt: &R, operator: u16, words: &str) -> io::Result<Printed>
 where
-    R: Files + Threads + Wait + AllocGlobal + Clock + Eprint + Sync,
+    R: Files + Threads + Wait + AllocGlobal + Clock + Eprint + Copy + Drop + Send + Sync + 'static,
     R: Net<Listener = TcpListener, Stream = TcpStream>,
     R::File: Send,
     R::Dir: Send,
@@ -89,7 +89,7 @@ where
 
 fn is_right<R>(rt: &R, service: u16, operator: u16, row: &str) -> io::Result<bool>
 where
-    R: Files + Threads + Wait + AllocGlobal + Clock + Eprint + Sync,
+    R: Files + Threads + Wait + AllocGlobal + Clock + Eprint + Copy + Drop + Send + Sync + 'static,
     R: Net<Listener = TcpListener, Stream = TcpStream>,
     R::File: Send,
     R::Dir: Send,
@@ -111,7 +111,7 @@ where
 /// The first row whose answer is another one, once the operator's port answers.
 fn first_wrong<R>(rt: &R, service: u16, operator: u16) -> Option<&'static str>
 where
-    R: Files + Threads + Wait + AllocGlobal + Clock + Eprint + Sync,
+    R: Files + Threads + Wait + AllocGlobal + Clock + Eprint + Copy + Drop + Send + Sync + 'static,
     R: Net<Listener = TcpListener, Stream = TcpStream>,
     R::File: Send,
     R::Dir: Send,

@@ -14,3 +14,11 @@ returns g c =
       };
       onwards = has_gone_on loads (g.C.CellSteps.grew) _ _ _ _ _ _ did;
     }
+
+pub returns-in-Stopping-clause-back : goal.returns-in-Stopping-clause-back
+returns-in-Stopping-clause-back g c =
+    let loads = g.L.Loader.loads c.args.seat.now.loader.now in
+    record {
+      belongs_yet = c.answer.ensures.belongs;
+      looked = has_looked loads (g.C.CellSteps.grew) _ _ _ _ _ _ c.in-Some-answer.ensures.answers;
+    }

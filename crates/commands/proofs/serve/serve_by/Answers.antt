@@ -1,5 +1,5 @@
 use Rattle.commands.proofs.Written.{said_first}
-use Rattle.commands.proofs.serve.serve_until_stopped.Goals as goal
+use Rattle.commands.proofs.serve.serve_by.Goals as goal
 
 pub returns-in-Ok-serve-clause-said : goal.returns-in-Ok-serve-clause-said
 returns-in-Ok-serve-clause-said g c =

@@ -1,0 +1,89 @@
+//! The log of a whole server: its loads and its end, and what comes of lines that nobody reads.
+
+use crate::logged::{logging_to, take};
+use crate::whole_server::{Work, wrong_by};
+use crossbeam_channel::Receiver;
+use std::sync::Wait;
+use std::test::Fail;
+use workers::access_log::LogEvent;
+use workers::{LogPiece, LogQueue};
+
+/// What a line tells behind its time: its kind, and what follows.
+fn told_of(line: &str) -> &str {
+    match line.split_once("\"kind\":\"") {
+        Some((_, told)) => told,
+        None => line,
+    }
+}
+
+/// What the lines in a queue tell behind their times, but those of connections.
+fn lines_told<H>(rt: &H, pieces: &Receiver<LogPiece>) -> Result<String, Fail>
+where
+    H: Wait + AllocGlobal,
+{
+    let mut lines = String::new(rt.alloc());
+    take(rt, pieces, &mut lines)?;
+    let mut all = String::new(rt.alloc());
+    for line in lines.lines() {
+        let told = told_of(line);
+        if !told.starts_with("connection\"") {
+            all.push_str(told)?;
+            all.push('\n')?;
+        }
+    }
+    Ok(all)
+}
+
+/// What is sent to a server, and the replies.
+const LOADS: &str = "load unset;|refused a program;
+one|1
+load other_quota;|refused an array;
+load yes;|generation 2;
+one|1
+load quota;|generation 3;
+one|1
+one|0
+stop;|stopping;";
+
+/// What the log tells of that.
+const LOADS_TOLD: &str = r#"load","path":"unset","refusal":"a program"}
+load","path":"other_quota","refusal":"an array"}
+load","path":"yes","generation":2}
+load","path":"quota","generation":3}
+stop"}
+counter","array":"q","index":0,"value":3}
+"#;
+
+/// Loads, also those that are refused, the stop, and the counter that isn't 0 have a line each.
+#[test]
+fn loads_and_the_end_are_logged(rt: HostRuntime) -> Result<(), Fail> {
+    let (queue, pieces) = LogQueue::new(rt.alloc())?;
+    let wrong = wrong_by(&rt, "quota", 2, logging_to(&queue), Work::Rows(LOADS))?;
+    assert_eq!(rt; wrong, None);
+    assert_eq!(rt; lines_told(&rt, &pieces)?.as_str(), LOADS_TOLD);
+    Ok(())
+}
+
+/// What is sent to a server whose log is full, and the replies.
+const UNREAD: &str = "one|1
+one|1
+one|0
+stop;|stopping;";
+
+/// What the log tells once it is read: the lines of three connections and of the stop were lost.
+const UNREAD_TOLD: &str = "lost\",\"lines\":4}\nunaccepted\",\"reason\":\"read\"}\n";
+
+/// A server whose log nobody reads answers as ever, and ends.
+#[test]
+fn lines_that_nobody_reads_are_lost(rt: HostRuntime) -> Result<(), Fail> {
+    let (queue, pieces) = LogQueue::new(rt.alloc())?;
+    for _ in 0..256 {
+        queue.note(&rt, &LogEvent::Stop);
+    }
+    let wrong = wrong_by(&rt, "quota", 2, logging_to(&queue), Work::Rows(UNREAD))?;
+    assert_eq!(rt; wrong, None);
+    assert_eq!(rt; lines_told(&rt, &pieces)?.lines().count(), 256);
+    queue.note(&rt, &LogEvent::Unaccepted("read"));
+    assert_eq!(rt; lines_told(&rt, &pieces)?.as_str(), UNREAD_TOLD);
+    Ok(())
+}

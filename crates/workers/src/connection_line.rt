@@ -1,0 +1,150 @@
+//! What the log tells of a client's connection, and of one that couldn't be accepted.
+
+use crate::clock::{Limits, micros_since};
+use crate::log::Log;
+use crate::log_queue::LogQueue;
+use crate::seen::Seen;
+use access_log::{AskedApp, Connection, LogEvent};
+use answering::http_front::PostFault;
+use answering::{AnswerFault, Sent};
+use std::alloc::{AllocError, Global};
+use std::net::{IpAddr, SocketAddr};
+use std::sync::Wait;
+use std::time::Clock;
+use std::{io, str};
+
+/// Puts the line of a connection into a worker's log, where it is kept: how long it took, what came
+/// of it, and what was seen. It is lost where memory is refused.
+pub(crate) fn note_connection<H>(
+    rt: &H,
+    log: &mut Log<'_>,
+    peer: SocketAddr,
+    limits: Option<Limits>,
+    outcome: &Result<Sent, AnswerFault>,
+    seen: &Seen,
+)
+where
+    H: Wait + AllocGlobal + Clock,
+{
+    if !log.is_kept() {
+        return;
+    }
+    let micros = micros_since(rt, limits);
+    if note_kept(rt, log, peer, micros, outcome, seen).is_err() {
+        log.lose();
+    }
+}
+
+fn note_kept<H>(
+    rt: &H,
+    log: &mut Log<'_>,
+    peer: SocketAddr,
+    micros: u64,
+    outcome: &Result<Sent, AnswerFault>,
+    seen: &Seen,
+) -> Result<(), AllocError>
+where
+    H: Wait + AllocGlobal + Clock,
+{
+    let peer = peer.to_string(rt.alloc())?;
+    let forwarded = forwarded_text(rt.alloc(), seen.forwarded)?;
+    let apps = seen.asked()?;
+    let connection = Connection {
+        status: status_of(outcome),
+        generation: seen.generation,
+        bytes: seen.bytes,
+        micros,
+        ..without_texts(refusal_of(outcome), cause_of(outcome, seen))
+    };
+    log.note(
+        rt,
+        &connection_event(&peer, forwarded.as_str(), &apps, connection),
+    );
+    Ok(())
+}
+
+// A connection that failed or was refused so, or neither, of which nothing else is told.
+fn without_texts<'x>(refusal: Option<&'x str>, cause: Option<&'x str>) -> Connection<'x> {
+    Connection {
+        peer: "",
+        forwarded: None,
+        status: 0,
+        refusal,
+        cause,
+        generation: 0,
+        bytes: 0,
+        micros: 0,
+        apps: &[],
+    }
+}
+
+// The event of a connection with these texts and apps.
+fn connection_event<'x>(
+    peer: &'x str,
+    forwarded: &'x str,
+    apps: &'x [AskedApp<'x>],
+    connection: Connection<'x>,
+) -> LogEvent<'x> {
+    let forwarded = if forwarded.is_empty() {
+        None
+    } else {
+        Some(forwarded)
+    };
+    LogEvent::Connection(Connection {
+        peer,
+        forwarded,
+        apps,
+        ..connection
+    })
+}
+
+// Empty where no address is named.
+fn forwarded_text(alloc: Global, address: Option<IpAddr>) -> Result<String, AllocError> {
+    match address {
+        Some(address) => Ok(address.to_string(alloc)?),
+        None => Ok(String::new(alloc)),
+    }
+}
+
+fn status_of(outcome: &Result<Sent, AnswerFault>) -> u16 {
+    match outcome {
+        Ok(sent) => sent.status,
+        Err(_) => 0,
+    }
+}
+
+// What the client was told in place of Omaha's reply, or why it was told nothing.
+fn refusal_of(outcome: &Result<Sent, AnswerFault>) -> Option<&'static str> {
+    match outcome {
+        Ok(sent) => sent_refusal(sent),
+        Err(AnswerFault::Ended) => Some(PostFault::Ended.line().trim_end()),
+        Err(_) => Some(PostFault::Device.line().trim_end()),
+    }
+}
+
+// How the device failed.
+fn cause_of(outcome: &Result<Sent, AnswerFault>, seen: &Seen) -> Option<&'static str> {
+    match outcome {
+        Ok(_) | Err(AnswerFault::Ended) => None,
+        Err(_) => seen.cause,
+    }
+}
+
+fn sent_refusal(sent: &Sent) -> Option<&'static str> {
+    let [name @ .., b'\n'] = sent.line else {
+        return None;
+    };
+    str::from_utf8(name).ok()
+}
+
+/// Puts the line of a connection that couldn't be accepted into the queue. It is lost where memory
+/// is refused.
+pub(crate) fn note_unaccepted<H>(rt: &H, queue: &LogQueue, error: &io::Error)
+where
+    H: Wait + AllocGlobal + Clock,
+{
+    match error.to_string(rt.alloc()) {
+        Ok(reason) => queue.note(rt, &LogEvent::Unaccepted(&reason)),
+        Err(_) => queue.lose(1),
+    }
+}

@@ -1,0 +1,144 @@
+//! A device that remembers, for the log: what was read, up to so many bytes, and how it failed.
+
+ghost use Rattle.std.specs.Prelude.{◌≡◌};
+
+use operator::operator_request::OperatorRequest;
+use std::alloc::Global;
+use std::io::{self, ErrorKind, Read, Write};
+use std::net::IpAddr;
+use std::str;
+
+/// The most bytes that are kept: those of a head, and more than those of an operator's line.
+const KEPT_LIMIT: usize = 16384;
+
+/// The header that names the client's address (`Forwarded`, RFC 7239, isn't looked at).
+const FORWARDED: &str = "x-forwarded-for";
+
+/// A reader or a writer, with the bytes that were read, where they are to be kept.
+#[derive(Drop)]
+pub(crate) struct Heard<T> {
+    inner: T,
+    is_kept: bool,
+    bytes: Vec<u8>,
+    failure: Option<ErrorKind>,
+}
+
+impl<T> Heard<T> {
+    /// A device of which nothing is read yet.
+    pub(crate) fn new(alloc: Global, inner: T, is_kept: bool) -> Heard<T> {
+        Heard {
+            inner,
+            is_kept,
+            bytes: Vec::new(alloc),
+            failure: None,
+        }
+    }
+
+    /// How the device failed, if it did: a time-out, a reset, or otherwise.
+    pub(crate) fn cause(&self) -> Option<&'static str> {
+        match self.failure {
+            Some(ErrorKind::WouldBlock | ErrorKind::TimedOut) => Some("time-out"),
+            Some(ErrorKind::ConnectionReset | ErrorKind::BrokenPipe) => Some("reset"),
+            Some(_) => Some("device"),
+            None => None,
+        }
+    }
+
+    /// The path of the load that an operator asked for, if one was.
+    pub(crate) fn load_path(&self) -> Option<&str> {
+        match OperatorRequest::of(first_line(&self.bytes)) {
+            Some(OperatorRequest::Load(path)) => Some(path),
+            _ => None,
+        }
+    }
+
+    /// The address that `X-Forwarded-For` names, where it is one and no list.
+    pub(crate) fn forwarded(&self) -> Option<IpAddr> {
+        // Empty lines may stand before a request (RFC 9112, section 2.2).
+        for line in beginning_text(&self.bytes).trim_start().lines() {
+            if line.is_empty() {
+                return None;
+            }
+            if let Some((name, value)) = line.split_once(':') {
+                if name.eq_ignore_ascii_case(FORWARDED) {
+                    return IpAddr::parse_ascii(value.trim().as_bytes()).ok();
+                }
+            }
+        }
+        None
+    }
+
+    /// The device itself.
+    pub(crate) fn into_inner(self) -> T {
+        self.inner
+    }
+
+    // Bytes whose memory is refused aren't kept.
+    fn keep(&mut self, bytes: &[u8])
+        ensures { self.new.inner ≡ self.old.inner }
+    {
+        if self.is_kept && self.bytes.len() < KEPT_LIMIT {
+            let _kept = self.bytes.extend_from_slice(bytes);
+        }
+    }
+
+    fn fail(&mut self, error: &io::Error)
+        ensures { self.new.inner ≡ self.old.inner }
+    {
+        self.failure = Some(error.kind());
+    }
+}
+
+// The bytes before the first line feed.
+fn first_line(bytes: &[u8]) -> &[u8] {
+    match bytes.iter().position(|byte| *byte == b'\n') {
+        Some(end) => bytes.get(..end).unwrap_or(bytes),
+        None => bytes,
+    }
+}
+
+// The bytes before the first that isn't UTF-8.
+fn beginning_text(bytes: &[u8]) -> &str {
+    match str::from_utf8(bytes) {
+        Ok(text) => text,
+        Err(error) => match bytes.get(..error.valid_up_to()) {
+            Some(front) => str::from_utf8(front).unwrap_or(""),
+            None => "",
+        },
+    }
+}
+
+impl<R: Read> Read for Heard<R> {
+    ghost remaining = { λ d. R.remaining d.inner };
+
+    fn read(&mut self, buf: &mut [u8]) -> io::Result<usize> {
+        match self.inner.read(buf) {
+            Ok(n) => {
+                self.keep(&buf[..n]);
+                Ok(n)
+            }
+            Err(error) => {
+                self.fail(&error);
+                Err(error)
+            }
+        }
+    }
+}
+
+impl<W: Write> Write for Heard<W> {
+    ghost contents = { λ d. W.contents d.inner };
+
+    fn write(&mut self, buf: &[u8]) -> io::Result<usize> {
+        match self.inner.write(buf) {
+            Ok(n) => Ok(n),
+            Err(error) => {
+                self.fail(&error);
+                Err(error)
+            }
+        }
+    }
+
+    fn flush(&mut self) -> io::Result<()> {
+        self.inner.flush()
+    }
+}

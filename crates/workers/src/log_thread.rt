@@ -1,0 +1,114 @@
+//! The thread that writes a server's log, which nobody joins: a write to a reader that doesn't read
+//! has no end, and the server's end isn't to wait for it. It is let go by its handle, and ends with
+//! the program at the latest.
+
+use crate::clock::utc_now;
+use crate::log_queue::{LogPiece, LogQueue};
+use access_log::{LogEvent, log_line};
+use crossbeam_channel::{Receiver, Sender, bounded};
+use operator::bounded_files::ResourceFault;
+use std::str;
+use std::sync::Wait;
+use std::thread::{self, Threads};
+use std::time::{Clock, Duration};
+
+/// How long the end of a server waits for what is still to be written.
+const END_SECONDS: u64 = 4;
+
+/// What is heard when the thread has ended.
+#[derive(Drop)]
+pub struct LogEnd {
+    ended: Receiver<()>,
+}
+
+/// Starts the thread that writes the lines of a queue on standard error, until the queue is let go
+/// of and empty. B4 where memory or the thread is refused.
+pub fn start_log<H>(rt: &H) -> Result<(LogQueue, LogEnd), ResourceFault>
+where
+    H: Threads + Wait + AllocGlobal + Clock + Eprint + Copy + Drop + Send + 'static,
+{
+    let Ok((queue, from)) = LogQueue::new(rt.alloc()) else {
+        return Err(ResourceFault::Memory);
+    };
+    let Ok((ending, ended)) = bounded::<(), _>(rt.alloc(), 1) else {
+        return Err(ResourceFault::Memory);
+    };
+    let own = *rt;
+    match thread::spawn(rt, move || write_pieces(own, from, ending)) {
+        Ok(_) => Ok((queue, LogEnd { ended })),
+        Err(_) => Err(ResourceFault::Memory),
+    }
+}
+
+// Writes each piece, and at the end how many lines couldn't be written.
+fn write_pieces<H>(rt: H, pieces: Receiver<LogPiece>, ending: Sender<()>)
+where
+    H: Wait + AllocGlobal + Clock + Eprint + Drop,
+{
+    let mut unwritten = 0;
+    for _ in rt.forever() {
+        let Ok(piece) = pieces.recv(&rt) else {
+            break;
+        };
+        unwritten = write_piece(&rt, &piece, unwritten);
+    }
+    if unwritten != 0 {
+        let _told = tell_unwritten(&rt, unwritten);
+    }
+    drop(ending);
+}
+
+// Writes a piece, behind so many lines that couldn't be written, as on a full disk; how many then
+// couldn't be. A piece of which a part was written counts as a whole.
+fn write_piece<H>(rt: &H, piece: &LogPiece, unwritten: u64) -> u64
+where
+    H: AllocGlobal + Clock + Eprint,
+{
+    if unwritten != 0 && !tell_unwritten(rt, unwritten) {
+        return unwritten.saturating_add(piece.lines);
+    }
+    if write_text(rt, &piece.text) {
+        0
+    } else {
+        piece.lines
+    }
+}
+
+// Tells how many lines couldn't be written, of which the last may have been cut; whether that is
+// told.
+fn tell_unwritten<H>(rt: &H, lines: u64) -> bool
+where
+    H: AllocGlobal + Clock + Eprint,
+{
+    let Ok(line) = log_line(rt.alloc(), &utc_now(rt), &LogEvent::Lost(lines)) else {
+        return false;
+    };
+    rt.eprint("\n").is_ok() && write_text(rt, &line)
+}
+
+fn write_text<H: Eprint>(rt: &H, text: &[u8]) -> bool {
+    match str::from_utf8(text) {
+        Ok(text) => rt.eprint(text).is_ok(),
+        Err(_) => false,
+    }
+}
+
+/// Writes the line of an event at once, as of a start that is refused, when there is no thread. It
+/// is lost where memory is refused or standard error fails.
+pub fn note_at_once<H>(rt: &H, event: &LogEvent<'_>)
+where
+    H: AllocGlobal + Clock + Eprint,
+{
+    if let Ok(line) = log_line(rt.alloc(), &utc_now(rt), event) {
+        let _written = write_text(rt, &line);
+    }
+}
+
+impl LogEnd {
+    /// Waits until all lines are written, once their queue is let go of; for four seconds at most.
+    pub fn wait<H: Wait + Clock>(self, rt: &H) {
+        let _ended = self
+            .ended
+            .recv_timeout(rt, Duration::from_secs(END_SECONDS));
+    }
+}
