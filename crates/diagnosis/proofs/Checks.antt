@@ -15,6 +15,7 @@ use Rattle.load.specs.rulesets.Rules.{Rules}
 use Rattle.diagnosis.specs.Check.{FailsCheck, PassesCheck}
 use Rattle.diagnosis.specs.OneCheck.{HasOneCheck}
 use Rattle.diagnosis.specs.Texts.{accepted_text}
+use Rattle.diagnosis.specs.Warned.{warnings_of}
 
 empty : IsDirectory []
 empty = record {
@@ -42,9 +43,9 @@ is_memory e h = absurd (h (λ x. absurd cc))
 
 module _ (load : HasOneLoad) (reading : (bytes : List ℕ) → HasOneManifest bytes)
     (files : List ℕ → Option KnownFile) (bytes : List ℕ) where
-  same_text : (text other : List ℕ) → PassesCheck (Some files) bytes text
-      → PassesCheck (Some files) bytes other → text ≡ other
-  same_text text other p q =
+  same_text : (text other warnings others : List ℕ) → PassesCheck (Some files) bytes text warnings
+      → PassesCheck (Some files) bytes other others → (text ≡ other) × (warnings ≡ others)
+  same_text text other warnings others p q =
       let loads = load files [] bytes (Ok p.rules) (Ok q.rules) p.arrays q.arrays empty p.loaded
       q.loaded (λ x. absurd cc) (λ x. absurd cc) in
       let same : p.rules ≡ q.rules =
@@ -52,9 +53,12 @@ module _ (load : HasOneLoad) (reading : (bytes : List ℕ) → HasOneManifest by
       let read : p.loaded.manifest ≡ q.loaded.manifest =
       ap (λ (r : Result Manifest ManifestFault). manifest_in r q.loaded.manifest)
       (reading bytes (Ok p.loaded.manifest) (Ok q.loaded.manifest) p.loaded.read q.loaded.read
-      (λ x. absurd cc) (λ x. absurd cc)) in
-      p.text_is ∙ ap (λ (m : Manifest). accepted_text m.arrays p.rules.apps) read
-      ∙ ap (λ (r : Rules). accepted_text q.loaded.manifest.arrays r.apps) same ∙ sym q.text_is
+      (λ x. absurd cc) (λ x. absurd cc)) in (
+        p.text_is ∙ ap (λ (m : Manifest). accepted_text m.arrays p.rules.apps) read
+            ∙ ap (λ (r : Rules). accepted_text q.loaded.manifest.arrays r.apps) same
+            ∙ sym q.text_is,
+        p.warnings_are ∙ ap (λ (r : Rules). warnings_of r.apps) same ∙ sym q.warnings_are,
+      )
 
   same_fault : (e f : LoadFault) (reason other : List ℕ) → FailsCheck (Some files) bytes e reason
       → FailsCheck (Some files) bytes f other → e ≢ Memory → f ≢ Memory → e ≡ f
@@ -63,9 +67,10 @@ module _ (load : HasOneLoad) (reading : (bytes : List ℕ) → HasOneManifest by
       (k.refused, refl) (λ x. known (ap fault_in x)) (λ x. also (ap fault_in x)) in
       ap fault_in loads.0
 
-  not_both : (text : List ℕ) (e : LoadFault) (reason : List ℕ) → PassesCheck (Some files) bytes text
-      → FailsCheck (Some files) bytes e reason → e ≢ Memory → ⊥
-  not_both text e reason p h known =
+  not_both : (text warnings : List ℕ) (e : LoadFault) (reason : List ℕ)
+      → PassesCheck (Some files) bytes text warnings → FailsCheck (Some files) bytes e reason
+      → e ≢ Memory → ⊥
+  not_both text warnings e reason p h known =
       let loads = load files [] bytes (Ok p.rules) (Err e) p.arrays [] empty p.loaded
       (h.refused, refl) (λ x. absurd cc) (λ x. known (ap fault_in x)) in
       let same = loads.0 in absurd cc
@@ -74,5 +79,5 @@ module _ (load : HasOneLoad) (reading : (bytes : List ℕ) → HasOneManifest by
   one_check = record {
     text = same_text;
     fault = same_fault;
-    either = λ text e reason p h. is_memory e (not_both text e reason p h);
+    either = λ text warnings e reason p h. is_memory e (not_both text warnings e reason p h);
   }

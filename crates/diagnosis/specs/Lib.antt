@@ -2,6 +2,7 @@ pub mod Texts
 pub mod Advice
 pub mod Inside
 pub mod Shown
+pub mod Warned
 pub mod Reason
 pub mod Check
 pub mod OneCheck

@@ -3,24 +3,39 @@
 ghost use Rattle.std.specs.Prelude.{◌≡◌, ◌++◌, flat_map, IfOk, OnOk, string_bytes};
 ghost use Rattle.load.specs.manifest.declarations.Texts as declarations;
 ghost use Rattle.diagnosis.specs.Texts.{declared_line, loaded_text};
+ghost use Rattle.diagnosis.specs.Warned.{warnings_of};
 
+use crate::warned::tell_warnings;
 use load::manifest::cells::{CellArray, CellWidth};
 use load::ruleset::{App, tell_apps};
 use std::alloc::{AllocError, Global};
 use std::fmt::Write;
 
-/// A line an array, and then a line an app.
+/// What is told of a manifest that is accepted: lines, each ended by a line feed.
+#[derive(Debug, Drop)]
+pub struct CheckedManifest {
+    /// What it declares.
+    pub text: String,
+    /// What it hardly means.
+    pub warnings: String,
+}
+
+/// A line an array, and then a line an app; and the warnings.
 pub(crate) fn tell_accepted(
     alloc: Global,
     arrays: &[CellArray],
     apps: &[App],
-) -> Result<String, AllocError>
-    ensures { IfOk result (λ text. string_bytes text ≡ loaded_text arrays.now apps.now) }
+) -> Result<CheckedManifest, AllocError>
+    ensures text { IfOk result (λ told.
+        string_bytes told.text ≡ loaded_text arrays.now apps.now) }
+    ensures warnings { IfOk result (λ told. string_bytes told.warnings ≡ warnings_of apps.now) }
 {
     let mut text = String::new(alloc);
     tell_arrays(&mut text, arrays)?;
     tell_apps(&mut text, apps)?;
-    Ok(text)
+    let mut warnings = String::new(alloc);
+    tell_warnings(&mut warnings, apps)?;
+    Ok(CheckedManifest { text, warnings })
 }
 
 fn tell_arrays(text: &mut String, arrays: &[CellArray]) -> Result<(), AllocError>

@@ -3,7 +3,7 @@
 ghost use Rattle.std.specs.Prelude.{◌≡◌, ◌^◌, ◌-◌, ◌<◌, IfOk, IfErr, string_bytes};
 ghost use Rattle.diagnosis.specs.Check.{FailsCheck, FailsIfLong, PassesCheck};
 
-use crate::accepted::tell_accepted;
+use crate::accepted::{CheckedManifest, tell_accepted};
 use crate::reason::{reason_of, tell_toml};
 use load::manifest::cells::Directory;
 use load::manifest::{ManifestFault, TomlFault};
@@ -23,7 +23,10 @@ pub struct Refused {
 ///
 /// Of one that is accepted the text has a line an array, in its order, as `array q:64:1:2` (a quota
 /// comes last, where there is one), and then a line an app: `app APPID releases R slots S`. Lines
-/// are ended by a line feed.
+/// are ended by a line feed. The warnings have a line for each release whose version a later one of
+/// its app has, too, by its four numbers, whose codebase doesn't end in `/`, or begins with neither
+/// `https://` nor `http://`: `warning: app[1].release[2].codebase: no / ends it, and a client joins
+/// it with a package's name`.
 ///
 /// Of one that is refused the reason begins with the path of a member and what is wanted there, in
 /// which tables of a list are numbered from 1:
@@ -39,13 +42,17 @@ pub struct Refused {
 ///   lies outside the manifest's folder, by a name that is absolute or has a part `..`.
 /// - M7: `array[2].length: r passes the 4096 cells that all arrays of a width have`.
 ///
-/// M8 comes where memory for the load or for the text of an accepted manifest is refused. Where it
-/// is refused for the reason, the reason is left out, in whole or but for the file's name.
-pub fn check<F: Files>(alloc: Global, manifest: &[u8], files: &mut F) -> Result<String, Refused>
+/// M8 comes where memory for the load or for what is told of an accepted manifest is refused. Where
+/// it is refused for the reason, the reason is left out, in whole or but for the file's name.
+pub fn check<F: Files>(
+    alloc: Global,
+    manifest: &[u8],
+    files: &mut F,
+) -> Result<CheckedManifest, Refused>
     requires { F.failed files.old < 2 ^ 64 - 2 }
     ensures known { F.known files.new ≡ F.known files.old }
-    ensures passes { IfOk result (λ text.
-        PassesCheck (F.known files.old) manifest.now (string_bytes text)) }
+    ensures passes { IfOk result (λ told. PassesCheck (F.known files.old) manifest.now
+        (string_bytes told.text) (string_bytes told.warnings)) }
     ensures fails { IfErr result (λ r.
         FailsCheck (F.known files.old) manifest.now r.fault (string_bytes r.reason)) }
 {
@@ -58,7 +65,7 @@ pub fn check<F: Files>(alloc: Global, manifest: &[u8], files: &mut F) -> Result<
         }
     };
     match tell_accepted(alloc, directory.arrays(), rules.apps()) {
-        Ok(text) => Ok(text),
+        Ok(told) => Ok(told),
         Err(_) => Err(Refused {
             fault: LoadFault::Memory,
             reason: String::new(alloc),

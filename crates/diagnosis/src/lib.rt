@@ -20,7 +20,9 @@ mod law;
 mod reason;
 mod shape;
 mod shown;
+mod warned;
 
+pub use accepted::CheckedManifest;
 pub use checking::{Refused, check, too_long};
 pub use law::one_check;
 

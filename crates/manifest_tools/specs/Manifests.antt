@@ -20,10 +20,11 @@ reply_line reply = line (reply_text reply)
 module _ (known : KnownFiles) where
   -- ---- check
 
-  -- the manifest of the file comes to a ruleset with these lines of arrays and apps
-  abbrev pub IsChecked : List ℕ → List ℕ → Type 0
-  IsChecked path text =
-      OfFile (regular_files known) path (λ bytes. PassesCheck (known_beside known path) bytes text)
+  -- the manifest of the file comes to a ruleset with these lines of arrays and apps, and with these
+  -- warnings
+  abbrev pub IsChecked : (path text warnings : List ℕ) → Type 0
+  IsChecked path text warnings = OfFile (regular_files known) path (λ bytes.
+      PassesCheck (known_beside known path) bytes text warnings)
 
   -- it is no regular file that can be read, or its manifest comes to none, where and why this is;
   -- of want of memory for the file nothing is said

@@ -1,4 +1,4 @@
-//! `check`: what a manifest declares, or where and why it is refused.
+//! `check`: what a manifest declares and hardly means, or where and why it is refused.
 
 ghost use Rattle.std.specs.Prelude.{IfOk, IfErr};
 ghost use Rattle.std.specs.String.{string_bytes};
@@ -7,14 +7,19 @@ ghost use Rattle.manifest_tools.specs.Manifests.{IsChecked, IsCheckRefusal};
 use crate::fault::ManifestToolFault;
 use diagnosis::load::bounded_files::Disk;
 use diagnosis::load::{FolderFiles, MOST_MANIFEST};
-use diagnosis::{check, too_long};
+use diagnosis::{CheckedManifest, check, too_long};
 use std::alloc::Global;
 
-/// The lines of the arrays and apps of a file's manifest. The files that it names lie in its
-/// folder. It has to be a regular file, as have they; B3 comes where it isn't, or can't be read.
-pub fn check_file<D: Disk>(alloc: Global, disk: &D, path: &str) -> Result<String, ManifestToolFault>
-    ensures text { IfOk result
-        (λ text. IsChecked (D.known disk.now) path.now (string_bytes text)) }
+/// The lines of the arrays and apps of a file's manifest, and its warnings. The files that it names
+/// lie in its folder. It has to be a regular file, as have they; B3 comes where it isn't, or can't
+/// be read.
+pub fn check_file<D: Disk>(
+    alloc: Global,
+    disk: &D,
+    path: &str,
+) -> Result<CheckedManifest, ManifestToolFault>
+    ensures text { IfOk result (λ told. IsChecked (D.known disk.now) path.now
+        (string_bytes told.text) (string_bytes told.warnings)) }
     ensures fault { IfErr result (IsCheckRefusal (D.known disk.now) path.now) }
 {
     let bytes = match disk.read_regular(path, MOST_MANIFEST) {
@@ -24,7 +29,7 @@ pub fn check_file<D: Disk>(alloc: Global, disk: &D, path: &str) -> Result<String
     };
     let mut files = FolderFiles::beside(alloc, disk, path);
     match check(alloc, bytes.as_slice(), &mut files) {
-        Ok(text) => Ok(text),
+        Ok(told) => Ok(told),
         Err(refused) => Err(ManifestToolFault::Diagnosed(refused)),
     }
 }

@@ -1,9 +1,9 @@
 //! The commands on manifests that need no server: `check` and `replay`.
 #![tactic(auto)]
 
-// How each goes. `check` reads the manifest and loads it over no arrays: what it declares is told
-// by lines, or where and why it is refused. `replay` plays a script on a world whose first ruleset
-// is a manifest's, and tells of each event by a line.
+// How each goes. `check` reads the manifest and loads it over no arrays: what it declares, and what
+// it hardly means, is told by lines, or where and why it is refused. `replay` plays a script on a
+// world whose first ruleset is a manifest's, and tells of each event by a line.
 
 mod check;
 mod fault;
@@ -14,4 +14,4 @@ pub use fault::ManifestToolFault;
 pub use playing::replay_script;
 
 // The words of the contracts here come with them.
-pub use diagnosis::load;
+pub use diagnosis::{CheckedManifest, load};
