@@ -30,8 +30,8 @@ module _ (known : KnownFiles) where
   abbrev pub IsAnswer : CommandRequest → Answer → Type 0
   IsAnswer (request.Assemble text out) (Assembled program) =
       IsAssembledFrom known text.now program.items
-  IsAnswer (request.Check manifest) (Checked text) =
-      IsChecked known manifest.now (string_bytes text)
+  IsAnswer (request.Check manifest) (Checked told) =
+      IsChecked known manifest.now (string_bytes told.text) (string_bytes told.warnings)
   IsAnswer (request.Compile text shape out) (Compiled slots) =
       HasCompiled known text.now shape slots
   IsAnswer (request.Explain path shape) (Explained text) =

@@ -1,5 +1,5 @@
 -- The texts that the program prints for an answer and for a refusal.
-use Rattle.std.specs.Prelude.{ℕ, ◌/◌, List, ◌++◌, length, codes, Option, Some}
+use Rattle.std.specs.Prelude.{ℕ, ◌/◌, List, [], ◌++◌, length, codes, Option, Some}
 use Rattle.std.specs.Fmt.{decimal}
 use Rattle.std.specs.String.{string_bytes}
 use Rattle.commands.specs.declared.answer.Answer.{Answer}
@@ -13,6 +13,7 @@ use Rattle.commands.specs.declared.fault.Fault.TheVariants.{Resource, Program, M
 use Rattle.commands.specs.declared.fault.Fault.TheVariants.{Serving, Ask}
 use Rattle.commands.specs.declared.fault.Fault.TheVariants as fault
 use Rattle.manifest_tools.specs.Manifests as manifest
+use Rattle.manifest_tools.specs.declared.fault.ManifestToolFault.TheVariants as tool
 use Rattle.program_tools.specs.Texts as program
 use Rattle.program_tools.specs.bounded_files.Texts.{resource_text}
 use Rattle.manifest_tools.specs.rulesets.Texts.{line}
@@ -22,7 +23,7 @@ use Rattle.serving.specs.workers.Texts.{serving_line}
 
 abbrev pub answer_text : Answer → List ℕ
 answer_text (Assembled program) = line (decimal (length program.items / 8) ++ codes " slots")
-answer_text (Checked text) = string_bytes text
+answer_text (Checked told) = string_bytes told.text
 answer_text (Compiled slots) = line (decimal slots ++ codes " slots")
 answer_text (Explained text) = string_bytes text
 answer_text (Listed text) = string_bytes text
@@ -38,6 +39,16 @@ answer_text (Replayed text) = string_bytes text
 answer_text (answer.Told text) = string_bytes text
 -- the first generation
 answer_text (Ready server plan) = serving_line 1
+
+-- what goes to standard error beside an answer: the warnings of a check
+abbrev pub warnings_of : Answer → List ℕ
+warnings_of (Checked told) = string_bytes told.warnings
+warnings_of answer = []
+
+-- what is told of where and why a manifest is refused, which goes there behind the refusal
+abbrev pub refusal_reason : Fault → List ℕ
+refusal_reason (Manifest (tool.Diagnosed refused)) = string_bytes refused.reason
+refusal_reason fault = []
 
 abbrev pub fault_text : Fault → Option (List ℕ)
 fault_text (Resource fault) = Some (resource_text fault)

@@ -1,8 +1,9 @@
 //! What a request is answered.
 
-ghost use Rattle.std.specs.Prelude.{Some};
-ghost use Rattle.commands.specs.Texts.{answer_text};
+ghost use Rattle.std.specs.Prelude.{◌≡◌, Some};
+ghost use Rattle.commands.specs.Texts.{answer_text, warnings_of};
 
+use manifest_tools::CheckedManifest;
 use program_tools::command_line::Plan;
 use serving::Server;
 use serving::operator::hot_swap::Generation;
@@ -15,10 +16,8 @@ pub enum Answer {
     Assembled {
         program: Vec<u8>,
     },
-    /// The manifest comes to a ruleset; the lines of its arrays and apps.
-    Checked {
-        text: String,
-    },
+    /// The manifest comes to a ruleset; the lines of its arrays and apps, and its warnings.
+    Checked(CheckedManifest),
     /// The rule was compiled into a program of so many slots.
     Compiled {
         slots: usize,
@@ -65,6 +64,18 @@ pub enum Answer {
     },
 }
 
+impl Answer {
+    /// The lines that go to standard error beside it: the warnings of a check.
+    pub fn warnings(&self) -> &str
+        ensures { result.now ≡ warnings_of self.now }
+    {
+        match self {
+            Answer::Checked(told) => told.warnings.as_str(),
+            _ => "",
+        }
+    }
+}
+
 impl fmt::Display for Answer {
     ghost output = { λ answer. Some (answer_text answer) };
 
@@ -74,7 +85,7 @@ impl fmt::Display for Answer {
                 let slots = program.len() / 8;
                 writeln!(f, "{slots} slots")
             }
-            Answer::Checked { text } => f.write_str(text),
+            Answer::Checked(told) => f.write_str(told.text.as_str()),
             Answer::Compiled { slots } => writeln!(f, "{slots} slots"),
             Answer::Explained { text } => f.write_str(text),
             Answer::Listed { text } => f.write_str(text),

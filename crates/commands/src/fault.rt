@@ -1,6 +1,7 @@
 //! Why a request is refused.
 
-ghost use Rattle.commands.specs.Texts.{fault_text};
+ghost use Rattle.std.specs.Prelude.{◌≡◌};
+ghost use Rattle.commands.specs.Texts.{fault_text, refusal_reason};
 
 use manifest_tools::ManifestToolFault;
 use manifest_tools::load::bounded_files::ResourceFault;
@@ -24,6 +25,18 @@ pub enum Fault {
     Ask(AskFault),
     /// The server refuses, in these words.
     Told(String),
+}
+
+impl Fault {
+    /// The lines behind the refusal: where and why a manifest is refused.
+    pub fn reason(&self) -> &str
+        ensures { result.now ≡ refusal_reason self.now }
+    {
+        match self {
+            Fault::Manifest(ManifestToolFault::Diagnosed(refused)) => refused.reason.as_str(),
+            _ => "",
+        }
+    }
 }
 
 impl fmt::Display for Fault {

@@ -31,9 +31,10 @@ where
         CommandRequest::Assemble { text, out } => Ok(Answer::Assembled {
             program: assemble_file(rt, disk, text, out).map_err(Fault::Program)?,
         }),
-        CommandRequest::Check { manifest } => Ok(Answer::Checked {
-            text: check_file(alloc, disk, manifest).map_err(Fault::Manifest)?,
-        }),
+        CommandRequest::Check { manifest } => {
+            let told = check_file(alloc, disk, manifest).map_err(Fault::Manifest)?;
+            Ok(Answer::Checked(told))
+        }
         CommandRequest::Compile { text, shape, out } => Ok(Answer::Compiled {
             slots: compile_file(rt, disk, text, shape, out).map_err(Fault::Program)?,
         }),

@@ -4,7 +4,9 @@ ghost use Rattle.std.specs.Prelude.{◌≡◌, ◌≤◌, List, ℕ, map, OnOk, 
 ghost use Rattle.std.specs.IoError.{error_kind};
 ghost use Rattle.std.specs.Io.KnownBytes.{Appends};
 ghost use Rattle.program_tools.specs.command_line.Requests.{AskForHelp, IsWordsFault};
-ghost use Rattle.commands.specs.Commands.{AreWrong, IsAnswered, IsDone, PrintsRefusal};
+ghost use Rattle.commands.specs.Commands.{AreWrong, IsAnswered, IsDone, IsGiven};
+ghost use Rattle.commands.specs.Commands.{PrintsRefusal, TellsRefusal};
+ghost use Rattle.commands.specs.Texts.{answer_text, warnings_of};
 ghost use Rattle.serving.specs.workers.Texts.{serving_line};
 
 use crate::answer::Answer;
@@ -12,7 +14,6 @@ use crate::fault::Fault;
 use crate::logged::note_refusal;
 use crate::requests::answer;
 use crate::serve::serve_until_stopped;
-use manifest_tools::ManifestToolFault;
 use manifest_tools::load::Disk;
 use manifest_tools::load::bounded_files::ResourceFault;
 use program_tools::ProgramToolFault;
@@ -34,8 +35,9 @@ const REFUSED: u8 = 1;
 const USAGE: u8 = 2;
 
 /// Does what the words ask, the first of which is the program's name, with files of the disk.
-/// Results go to `out`, and refusals and usage to `err`. The status is 0 done, 1 refused or after a
-/// failed write, 2 usage. A server has served once the status is there.
+/// Results go to `out`, and refusals, usage and the warnings of `check` to `err`, which is left
+/// alone by all else that is done. The status is 0 done, 1 refused or after a failed write, 2
+/// usage. A server has served once the status is there.
 pub fn command<R, D, S, O, E>(rt: &R, disk: &D, words: &[S], out: &mut O, err: &mut E) -> u8
 where
     R: Files + Threads + Wait + AllocGlobal + Clock + Eprint + Copy + Drop + Send + Sync + 'static,
@@ -48,8 +50,7 @@ where
     E: Write,
     ensures within { result ≤ 2 }
     ensures done { result ≡ 0 → IsDone (D.known disk.now) (map S.text words.now)
-        (O.contents out.old) (O.contents out.new) }
-    ensures silent { result ≡ 0 → err.new ≡ err.old }
+        (O.contents out.old) (O.contents out.new) (IsGiven E.contents err.old err.new) }
     ensures wrong { result ≡ 2 → AreWrong (map S.text words.now) }
     ensures usage { result ≡ 2 → out.new ≡ out.old }
 {
@@ -77,14 +78,13 @@ where
     E: Write,
     ensures within { result ≤ 1 }
     ensures done { result ≡ 0 → IsAnswered (D.known disk.now) request.now
-        (O.contents out.old) (O.contents out.new) }
-    ensures silent { result ≡ 0 → err.new ≡ err.old }
+        (O.contents out.old) (O.contents out.new) (IsGiven E.contents err.old err.new) }
 {
     match answer(rt, disk, request) {
         Ok(Answer::Ready { server, plan }) => {
             serve(rt, disk, server, manifest_of(request), &plan, out, err)
         }
-        Ok(answer) => printed(err, write!(out, "{answer}").is_ok()),
+        Ok(answer) => print_answer(&answer, out, err),
         Err(fault) => {
             note_refusal(rt, request, &fault);
             refused_for(out, err, &fault)
@@ -97,6 +97,33 @@ fn manifest_of<'a>(request: &CommandRequest<'a>) -> &'a str {
     match request {
         CommandRequest::Serve { manifest, .. } => manifest,
         _ => "",
+    }
+}
+
+// Prints an answer, and its warnings.
+fn print_answer<O: Write, E: Write>(answer: &Answer, out: &mut O, err: &mut E) -> u8
+    ensures within { result ≤ 1 }
+    ensures printed { result ≡ 0 → Appends (O.contents out.old) (O.contents out.new)
+        (answer_text answer.now) }
+    ensures warned { result ≡ 0 → IsGiven E.contents err.old err.new (warnings_of answer.now) }
+{
+    match write!(out, "{answer}") {
+        Ok(()) => print_warnings(answer.warnings(), err),
+        Err(_) => refused(err, &Fault::Resource(ResourceFault::File)),
+    }
+}
+
+// Prints warnings, where there are any.
+fn print_warnings<E: Write>(warnings: &str, err: &mut E) -> u8
+    ensures within { result ≤ 1 }
+    ensures given { result ≡ 0 → IsGiven E.contents err.old err.new warnings.now }
+{
+    if warnings.is_empty() {
+        return DONE;
+    }
+    match print_lines(err, warnings) {
+        Ok(()) => DONE,
+        Err(_) => REFUSED,
     }
 }
 
@@ -170,33 +197,36 @@ fn printed<E: Write>(err: &mut E, written: bool) -> u8
     refused(err, &Fault::Resource(ResourceFault::File))
 }
 
-// Prints where and why a manifest or a program is refused on standard output, and the refusal.
+// Prints of a program that `explain` is told to the fault what is known, on standard output, and
+// the refusal.
 fn refused_for<O: Write, E: Write>(out: &mut O, err: &mut E, fault: &Fault) -> u8
     ensures { result ≡ 1 }
 {
-    match fault {
-        Fault::Manifest(ManifestToolFault::Diagnosed(diagnosis)) => {
-            let _said = print_reason(out, diagnosis.reason.as_str());
-        }
-        Fault::Program(ProgramToolFault::Explained { text, .. }) => {
-            let _said = print_reason(out, text.as_str());
-        }
-        _ => {}
+    if let Fault::Program(ProgramToolFault::Explained { text, .. }) = fault {
+        let _said = print_lines(out, text.as_str());
     }
     refused(err, fault)
-}
-
-fn print_reason<O: Write>(out: &mut O, reason: &str) -> io::Result<()>
-    ensures { OnOk result (Appends (O.contents out.old) (O.contents out.new) reason.now) }
-{
-    out.write_all(reason.as_bytes())?;
-    out.flush()
 }
 
 fn refused<E: Write>(err: &mut E, fault: &Fault) -> u8
     ensures { result ≡ 1 }
 {
-    status_of(print_refusal(err, fault).is_ok(), REFUSED)
+    status_of(tell_refusal(err, fault).is_ok(), REFUSED)
+}
+
+// Prints a refusal, and behind it where and why a manifest is refused.
+fn tell_refusal<E: Write>(err: &mut E, fault: &Fault) -> io::Result<()>
+    ensures { OnOk result (TellsRefusal fault.now (E.contents err.old) (E.contents err.new)) }
+{
+    print_refusal(err, fault)?;
+    print_lines(err, fault.reason())
+}
+
+fn print_lines<W: Write>(to: &mut W, lines: &str) -> io::Result<()>
+    ensures { OnOk result (Appends (W.contents to.old) (W.contents to.new) lines.now) }
+{
+    to.write_all(lines.as_bytes())?;
+    to.flush()
 }
 
 fn print_refusal<E: Write>(err: &mut E, fault: &Fault) -> io::Result<()>

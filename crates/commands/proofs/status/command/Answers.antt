@@ -3,7 +3,10 @@ use Rattle.commands.proofs.status.command.Goals as goal
 
 pub returns-in-Err-clause-done : goal.returns-in-Err-clause-done
 returns-in-Err-clause-done g c zero =
-    inl (c.usage.ensures.help zero (map g.S.AsStr.text c.args.words.now) c.in-Err.ensures.fault)
+    inl (
+      c.usage.ensures.help zero (map g.S.AsStr.text c.args.words.now) c.in-Err.ensures.fault,
+      c.usage.ensures.silent zero,
+    )
 
 pub returns-in-Ok-clause-done : goal.returns-in-Ok-clause-done
 returns-in-Ok-clause-done g c zero =

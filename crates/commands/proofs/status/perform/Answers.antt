@@ -1,5 +1,4 @@
 use Rattle.std.proofs.Common.{subst}
-use Rattle.commands.proofs.Written.{of_written}
 use Rattle.commands.specs.Answers.{IsAnswer}
 use Rattle.commands.specs.declared.answer.Answer.TheVariants.{Ready}
 use Rattle.commands.proofs.status.perform.Goals as goal
@@ -8,8 +7,8 @@ pub returns-in-Ok-clause-done : goal.returns-in-Ok-clause-done
 returns-in-Ok-clause-done g c zero = record {
   answer = c.in-Ok.answer;
   answers = c.in-Ok.ensures.answer;
-  printed = of_written _ _ _ _ c.printed.ensures.status c.is_ok.ensures.value
-      c.write.ensures.bytes zero;
+  printed = c.print_answer.ensures.printed zero;
+  warned = c.print_answer.ensures.warned zero;
 }
 
 pub returns-in-Ok-Ready-clause-done : goal.returns-in-Ok-Ready-clause-done
@@ -18,4 +17,5 @@ returns-in-Ok-Ready-clause-done g c zero = record {
   answers = subst (λ a. IsAnswer (g.D.Disk.known c.args.disk.now) c.args.request.now a)
       c.in-Ok-Ready.field-0-is c.in-Ok-Ready.ensures.answer;
   printed = c.serve.ensures.done zero;
+  warned = c.serve.ensures.silent zero;
 }
