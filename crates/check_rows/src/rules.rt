@@ -213,7 +213,7 @@ fn check_row(alloc: Global, shape: &Shape, row: &str) -> Result<(), Fail> {
 }
 
 /// Fails with the rule and what is told of it, unless that is wanted.
-fn must(rule: &str, told: &str, want: &str) -> Result<(), Fail> {
+pub(crate) fn must(rule: &str, told: &str, want: &str) -> Result<(), Fail> {
     if told.trim_end() == want.trim_end() {
         return Ok(());
     }

@@ -35,15 +35,15 @@ impl<'a, R: Files + AllocGlobal> Disk for Examples<'a, R> {
     }
 }
 
-/// What a manifest declares.
+/// What a manifest declares, and its warnings.
 fn tell<R: Files + AllocGlobal + Print>(rt: &R, manifest: &str) -> Result<()> {
     let bytes = fs::read(rt, manifest)?;
     let device = Device::new(rt);
     let mut files = FolderFiles::beside(rt.alloc(), &device, manifest);
-    let text = check(rt.alloc(), &bytes, &mut files)
+    let told = check(rt.alloc(), &bytes, &mut files)
         .ok()
         .context("a ruleset")?;
-    print!(rt; "{manifest}:\n{text}")?;
+    print!(rt; "{manifest}:\n{}{}", told.text, told.warnings)?;
     Ok(())
 }
 

@@ -56,7 +56,10 @@ fn checked(alloc: Global, files: &mut MemFiles, manifest: &str) -> Result<String
     if files.failures() >= 1000 {
         return Ok(String::new(alloc));
     }
-    check(alloc, manifest.as_bytes(), files)
+    match check(alloc, manifest.as_bytes(), files) {
+        Ok(told) => Ok(told.text),
+        Err(refused) => Err(refused),
+    }
 }
 
 fn one_line(alloc: Global, text: &str) -> Result<String, AllocError> {

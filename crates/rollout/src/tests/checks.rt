@@ -4,8 +4,8 @@ use super::{told, write_program};
 use std::fs;
 use std::test::Fail;
 
-/// A manifest, what is printed of it, and its refusal.
-const ROWS: [(&str, &str, &str); 7] = [
+/// A manifest, what is printed of it on standard output, and on standard error.
+const ROWS: [(&str, &str, &str); 8] = [
     (
         "server = \"prod\"
 array = [{ name = \"q\", width = 64, length = 1, quota = 2 },
@@ -16,45 +16,64 @@ app = [{ appid = \"x\", program = \"k_take.bin\" }, { appid = \"y\", program = \
     ),
     (
         "server = \"\"\napp = [{ appid = 3, rule = \"k.rule\" }]",
-        "app[1].appid: a text of 1 to 1024 bytes\n",
-        "refused M2 Field\n",
+        "",
+        "refused M2 Field\napp[1].appid: a text of 1 to 1024 bytes\n",
     ),
     (
         "server = \"\"
 app = [{ appid = \"x\", program = \"k_none.bin\" }, { appid = \"x\", program = \"k_none.bin\" }]",
-        "app x stands twice\n",
-        "refused M3 Duplicate\n",
+        "",
+        "refused M3 Duplicate\napp x stands twice\n",
     ),
     (
         "server = \"\"\napp = [{ appid = \"x\", program = \"k_no_file.bin\" }]",
-        "app[1].program: k_no_file.bin\n",
-        "refused M4 File in app 1\n",
+        "",
+        "refused M4 File in app 1\napp[1].program: k_no_file.bin\n",
     ),
     (
         "server = \"\"
 app = [{ appid = \"x\", program = \"k_none.bin\" }, { appid = \"y\", program = \"k_unset.bin\" }]",
-        "app[2].program: k_unset.bin\nslot 1: exit\n",
-        "refused M5 Program V1 Unusable at slot 1 in app 2\n",
+        "",
+        "refused M5 Program V1 Unusable at slot 1 in app 2\napp[2].program: k_unset.bin
+slot 1: exit\n",
     ),
     (
         "server = \"\"\napp = [{ appid = \"x\", rule = \"k_wrong.rule\" }]",
-        "app[1].rule: k_wrong.rule
+        "",
+        "refused M6 Rule L3 Name at line 2 in app 1
+app[1].rule: k_wrong.rule
 line 2, column 7: \"q\" is no array; there are: none
   count q[0];
         ^
 ",
-        "refused M6 Rule L3 Name at line 2 in app 1\n",
     ),
     (
         "server = \"\"
 array = [{ name = \"q\", width = 64, length = 4096 }, { name = \"r\", width = 64, length = 1 }]
 app = [{ appid = \"x\", program = \"k_none.bin\" }]",
-        "array[2].length: r passes the 4096 cells that all arrays of a width have\n",
-        "refused M7 Cells N1 CellsFull in array 2\n",
+        "",
+        "refused M7 Cells N1 CellsFull in array 2
+array[2].length: r passes the 4096 cells that all arrays of a width have\n",
+    ),
+    (
+        "server = \"\"
+[[app]]
+appid = \"x\"
+program = \"k_none.bin\"
+[[app.release]]
+version = \"1.2\"
+codebase = \"htp://dl.example/\"
+[[app.release.package]]
+name = \"x.bin\"
+hash_sha256 = \"ba7816bf8f01cfea414140de5dae2223b00361a396177a9cb410ff61f20015ad\"
+size = 3
+required = true",
+        "app x releases 1 slots 2\n",
+        "warning: app[1].release[1].codebase: it begins with neither https:// nor http://\n",
     ),
 ];
 
-/// Where and why stands on standard output, beside the refusal on standard error.
+/// A refusal stands on standard error, with where and why; so do warnings, with status 0.
 #[test]
 fn checks(rt: HostRuntime) -> Result<(), Fail> {
     let take = "ldcell r6, 0, 0 / mov r2, 1 / fadddw [r6+0], r2 / mov r0, 0 / exit";
@@ -71,13 +90,20 @@ fn checks(rt: HostRuntime) -> Result<(), Fail> {
         let checked = told(&rt, "rollout check k.toml")?;
         assert_eq!(rt; checked.out.as_str(), out);
         assert_eq!(rt; checked.err.as_str(), err);
-        assert_eq!(rt; checked.status, if err.is_empty() { 0 } else { 1 });
+        assert_eq!(rt;
+            checked.status,
+            if err.starts_with("refused ") { 1 } else { 0 }
+        );
     }
     // What is said of text that is no TOML is the reader's own.
     fs::write(&rt, "k.toml", b"server = \"\nprod\"\n")?;
     let checked = told(&rt, "rollout check k.toml")?;
-    assert!(rt; checked.out.contains("line 1"), "{}", checked.out);
-    assert_eq!(rt; checked.err.as_str(), "refused M1 Toml\n");
+    assert!(rt;
+        checked.err.starts_with("refused M1 Toml\n"),
+        "{}",
+        checked.err
+    );
+    assert!(rt; checked.err.contains("line 1") && checked.out.is_empty());
     let checked = told(&rt, "rollout check k_there_is_none.toml")?;
     assert!(rt; checked.status == 1 && checked.out.is_empty());
     assert_eq!(rt; checked.err.as_str(), "refused B3 File\n");
