@@ -2,6 +2,7 @@
 import os
 import re
 import shutil
+import signal
 import socket
 import subprocess
 import sys
@@ -109,6 +110,28 @@ def ask(port):
     return reply
 
 
+class Calls:
+    """Counts the system calls of a server's processes by `perf`, until it is asked. It makes each
+    call slower."""
+
+    EVENTS = ["raw_syscalls:sys_enter", "syscalls:sys_enter_futex"]
+
+    def __init__(self, server):
+        words = ["perf", "stat", "-x", " ", "-e", ",".join(self.EVENTS)]
+        words += ["-p", ",".join(map(str, server.processes()))]
+        self.process = subprocess.Popen(words, stderr=subprocess.PIPE, text=True)
+        time.sleep(0.5)
+
+    def counted(self):
+        """All system calls, and those of futex, by which a thread sleeps or wakes another."""
+        self.process.send_signal(signal.SIGINT)
+        told = self.process.communicate()[1]
+        found = [re.search(rf"^(\d+) .*{event}", told, re.M) for event in self.EVENTS]
+        if None in found:
+            sys.exit(f"perf counts no system calls: {told}")
+        return [int(it[1]) for it in found]
+
+
 class Used(NamedTuple):
     """What a server has used: user's and system's processor time in seconds, and how often one of
     its threads waited."""
@@ -138,6 +161,7 @@ class Running:
         reply = ask(self.kind.port)
         if self.kind.name == "rollout":
             (self.folder / "reply").write_bytes(reply.split(b"\r\n\r\n", 1)[1])
+        time.sleep(0.3)  # until nginx has started all its workers
         return self
 
     def __exit__(self, *_):
