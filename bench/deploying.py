@@ -201,18 +201,18 @@ def rotated_log(folder):
         place.chmod(0o755)
     with host.started(host.file("rollout.service")):
         asked()
-        if not awaited(lambda: " 200 " in host.log().read_text(), 5):
+        if not awaited(lambda: '"status":200,' in host.log().read_text(), 5):
             return "no line"
         words = ["--state", str(host.top / "state"), "--force", str(rotation)]
         found = called("logrotate", *words)
         if found != (0, "") or host.log().read_bytes() != b"":
             return f"{found} {host.log().read_bytes()[:80]}"
         asked()
-        if not awaited(lambda: " 200 " in host.log().read_text(), 5):
+        if not awaited(lambda: '"status":200,' in host.log().read_text(), 5):
             return "no line behind the rotation"
         if host.log().read_bytes()[:1] == b"\0":
             return "the line stands at the old place"
-        if " 200 " not in (host.log().parent / "log.1").read_text():
+        if '"status":200,' not in (host.log().parent / "log.1").read_text():
             return "the earlier line is lost"
 
 
