@@ -3,6 +3,7 @@ pub mod Lists
 pub mod Pools
 pub mod WaitingThen
 pub mod Places
+pub mod Laid
 pub mod Joining
 pub mod Swept
 pub mod Visits
