@@ -9,3 +9,4 @@ pub mod Advances
 pub mod Steps
 pub mod Outcomes
 pub mod Comes
+pub mod Walks

@@ -41,13 +41,12 @@ fn store(address: u64, size: Size, value: u64) -> Next
     ensures { result ≡ stored address size value }
 {
     if address < CELL_START {
-        Next::On {
+        Next::Step {
             change: Change::Store {
                 size,
                 place: stack_place(address, size),
                 value,
             },
-            slots: 1,
         }
     } else {
         Next::Ask {
