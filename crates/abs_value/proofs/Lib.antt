@@ -3,6 +3,7 @@ mod ShiftedRanges
 mod Products
 mod Within
 mod Tidy
+mod Settled
 mod BitsHold
 mod ResultsHold
 mod CommonBits
@@ -20,3 +21,4 @@ mod Stores
 mod Loads
 mod Order
 mod StatesInOrder
+mod Unset

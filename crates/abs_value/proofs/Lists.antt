@@ -1,6 +1,7 @@
 -- A list after one of its elements was set.
 use Rattle.std.proofs.Common.{◌≡◌, ◌≢◌, ℕ, ◌+◌, ◌<◌, List, ◌++◌, length, map, take, drop}
-use Rattle.std.proofs.Common.{ap, sym, ◌∙◌, arith, inl, inr, get_or, set, get_or-set_other}
+use Rattle.std.proofs.Common.{ap, sym, refl, ◌∙◌, arith, inl, inr, get_or, set, get_or-set_other}
+use Rattle.std.proofs.Common.{below_more, ◌≤◌}
 use Rattle.std.proofs.lemmas.Bool.{cases_lt, cases_eq}
 use Rattle.std.proofs.lemmas.List.{get_or_past, set_past, get_or_default}
 use Rattle.std.proofs.lemmas.List.{length-map, length-append, take-append-drop}
@@ -41,3 +42,26 @@ mapped_more f xs ys i v d lt h e =
     let long = mapped_length f xs ys i h in
     ap (λ w. set ys i w) e ∙ map_over_more f xs ys i (get_or ys i d) lt h
     (get_or_default ys i d (get_or ys i d) (omega (arith, long, lt)))
+
+-- ---- a loop that puts the i-th of some values in its place, or leaves it where it stands there
+
+-- one more is put
+pub put_more : {X : Type 0} (xs : List X) (i : ℕ) (v d : X) (f : ℕ → X) → i < length xs → v ≡ f i
+    → ((k : ℕ) → k < i → get_or xs k d ≡ f k)
+    → (k : ℕ) → k < i + 1 → get_or (set xs i v) k d ≡ f k
+put_more xs i v d f lt is before = below_more _ _
+    (λ k h. let ne : k ≢ i = omega (arith, h) in get_or-set_other xs i k v d ne ∙ before k h)
+    (get_or-set_at xs i i v d refl lt ∙ is)
+
+-- one more stands there
+pub stands_more : {X : Type 0} (xs : List X) (i : ℕ) (d : X) (f : ℕ → X) → get_or xs i d ≡ f i
+    → ((k : ℕ) → k < i → get_or xs k d ≡ f k) → (k : ℕ) → k < i + 1 → get_or xs k d ≡ f k
+stands_more xs i d f is before = below_more _ _ before is
+
+-- and those after it are as they were
+pub put_before : {X : Type 0} (xs old : List X) (i : ℕ) (v d : X)
+    → ((k : ℕ) → i ≤ k → get_or xs k d ≡ get_or old k d)
+    → (k : ℕ) → i + 1 ≤ k → get_or (set xs i v) k d ≡ get_or old k d
+put_before xs old i v d rest k le =
+    let ne : k ≢ i = omega (arith, le) in
+    get_or-set_other xs i k v d ne ∙ rest k (omega (arith, le))

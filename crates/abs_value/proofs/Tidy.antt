@@ -58,7 +58,7 @@ low_mask k i le lt =
     let small : 2 ^ k - 1 < 2 ^ 64 = (let more = pow_mono le in omega (arith, more)) in
     let s = bit_at_not w64 (2 ^ k - 1) i small (omega arith) in omega (arith, s, ones)
 
-above_within : (m x k : ℕ) → k ≤ 64 → m / 2 ^ k ≡ x / 2 ^ k
+pub above_within : (m x k : ℕ) → k ≤ 64 → m / 2 ^ k ≡ x / 2 ^ k
     → AreBitsOf (bit_and m (bit_not w64 (2 ^ k - 1))) x
 above_within m x k le same i = elim (cases_lt i k) [
   | inl low ↦
@@ -69,7 +69,7 @@ above_within m x k le same i = elim (cases_lt i k) [
       let e = high_bits m x k i same high in omega (arith, s, e)
 ]
 
-within_above : (m x k : ℕ) → m / 2 ^ k ≡ x / 2 ^ k → AreBitsOf x (bit_or m (2 ^ k - 1))
+pub within_above : (m x k : ℕ) → m / 2 ^ k ≡ x / 2 ^ k → AreBitsOf x (bit_or m (2 ^ k - 1))
 within_above m x k same i = elim (cases_lt i k) [
   | inl low ↦
       let s = bit_at_or m (2 ^ k - 1) i in

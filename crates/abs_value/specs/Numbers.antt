@@ -51,6 +51,12 @@ is_empty a = nat_lt a.range.hi a.range.lo || not (is_consistent a.bits)
 unfoldable pub tidied : Interval → KnownBits → Number
 tidied a p = if is_empty (tidy a p) then number a p else tidy a p
 
+-- the same range with the same bits
+abbrev pub is_same : Number → Number → Bool
+is_same a b =
+    (a.range.lo == b.range.lo) && (a.range.hi == b.range.hi)
+    && (a.bits.has == b.bits.has) && (a.bits.may_have == b.bits.may_have)
+
 -- what is known on both sides
 abbrev pub join_numbers : Number → Number → Number
 join_numbers a b = tidied (hull a.range b.range) (common a.bits b.bits)

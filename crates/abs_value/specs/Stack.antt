@@ -1,6 +1,7 @@
 -- What is known of the stack: of each of its 64 aligned slots of 8 bytes the value that it keeps,
 -- or which bytes are set.
-use Rattle.std.specs.Prelude.{ℕ, zero, suc, ◌+◌, ◌-◌, ◌*◌, ◌/◌, ◌%◌, ◌^◌, ℤ, pos, negsuc, ◌+ℤ◌}
+use Rattle.std.specs.Prelude.{◌≡◌, ◌<◌, ◌≤◌, ℕ, zero, suc, ◌+◌, ◌-◌, ◌*◌, ◌/◌, ◌%◌, ◌^◌}
+use Rattle.std.specs.Prelude.{ℤ, pos, negsuc, ◌+ℤ◌}
 use Rattle.std.specs.Prelude.{List, map, Bool, false, ◌&&◌, ◌||◌, not, nat_lt, nat_le, ◌==◌}
 use Rattle.std.specs.Prelude.{if◌then◌else◌, slice_index_or, slice_set, bit_and, bit_or}
 use Rattle.std.specs.Int.{bit_at}
@@ -34,6 +35,11 @@ is_set slots place = bit_at (mask_of (slot_at slots (place / 8))) (place % 8) ==
 abbrev pub is_unset : List AbsSlot → ℤ → Bool
 is_unset slots (pos place) = nat_lt place stack_size && not (is_set slots place)
 is_unset slots (negsuc n) = false
+
+-- no byte of the slots below this one is set
+pub record AreUnsetBelow (lowest : ℕ) (slots : List AbsSlot) : Type 0 where
+  pub within : lowest ≤ 64
+  pub unset : (i : ℕ) → i < lowest → slot_at slots i ≡ Bytes 0
 
 -- of n bytes from a place on, one lies in the stack and isn't set
 abbrev pub has_unset : List AbsSlot → ℤ → ℕ → Bool

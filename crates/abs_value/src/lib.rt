@@ -94,6 +94,7 @@ pub use origin::{Lookup, Origin};
 pub use places::Places;
 pub use relation::Relation;
 pub use slot::AbsSlot;
+pub use stack::Stack;
 pub use state::AbsState;
 pub use value::Abs;
 

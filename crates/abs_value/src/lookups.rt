@@ -6,7 +6,6 @@ ghost use Rattle.std.specs.Prelude.{◌≡◌, map};
 ghost use Rattle.abs_value.specs.Lookups as lookups;
 ghost use Rattle.abs_value.specs.Lookups.{IsEdge, after_comparison, refined_state};
 
-use crate::slot::AbsSlot;
 use crate::state::AbsState;
 use crate::value::Abs;
 use bpf_insn::{Bits, Condition, Operand, Reg};
@@ -49,21 +48,13 @@ fn answer_in_registers(registers: &mut [Abs; 11], call: u16, found: bool)
     }
 }
 
-fn answer_in_stack(stack: &mut [AbsSlot; 64], call: u16, found: bool)
-    ensures { stack.new ≡ map (lookups.slot_with_answer call found) stack.old }
-{
-    for i in 0..64 {
-        stack[i] = stack[i].with_answer(call, found);
-    }
-}
-
 impl AbsState {
     /// Makes each copy of the answer to the CALL at this slot known: the address of a cell, or 0.
     pub(crate) fn narrow_lookup(&mut self, call: u16, found: bool)
         ensures { self.new ≡ lookups.state_with_answer self.old call found }
     {
         answer_in_registers(&mut self.registers, call, found);
-        answer_in_stack(&mut self.stack, call, found);
+        self.stack.narrow_lookup(call, found);
     }
 
     /// Where a pointer is compared with 0. The address of a cell isn't 0.

@@ -1,7 +1,9 @@
 //! What is known of a number: the interval in which it lies, and some of its bits. Outside this
 //! crate a number is asked, and not opened.
 
-ghost use Rattle.std.specs.Prelude.{◌≡◌};
+ghost use Rattle.std.specs.Prelude.{◌≡◌, true, ◌&&◌, ◌==◌};
+ghost use Rattle.abs_value.specs.Intervals.{interval};
+ghost use Rattle.abs_value.specs.Known.{known};
 ghost use Rattle.abs_value.specs.Numbers as numbers;
 
 use crate::bounds::ones_of;
@@ -125,10 +127,60 @@ impl Number {
         }
     }
 
+    /// Whether both are the same.
+    fn is_same(self, other: Number) -> bool
+        ensures { result ≡ numbers.is_same self other }
+    {
+        self.range.lo == other.range.lo
+            && self.range.hi == other.range.hi
+            && self.bits.has == other.bits.has
+            && self.bits.may_have == other.bits.may_have
+    }
+
+    /// Whether it is known to stand for both by itself: where both are the same, and tidy.
+    pub(crate) fn stays(self, other: Number) -> bool
+        ensures { result ≡ true → numbers.join_numbers self other ≡ self }
+    {
+        if self.is_same(other) {
+            let Number { range, bits } = self;
+            is_settled(range.lo, range.hi, bits.has, bits.may_have)
+        } else {
+            false
+        }
+    }
+
     /// What is known on both sides.
     pub(crate) fn join(self, other: Number) -> Number
         ensures { result ≡ numbers.join_numbers self other }
     {
         Number::tidied(self.range.hull(other.range), self.bits.common(other.bits))
     }
+}
+
+/// Whether the ends are the least and the most that the bits allow, as of a single number and of a
+/// load.
+fn is_exact(lo: u64, hi: u64, has: u64, may_have: u64) -> bool
+    ensures { result ≡ ((has == lo) && (may_have == hi)) }
+{
+    has == lo && may_have == hi
+}
+
+/// Whether tidy is known to leave a number as it is: the ends don't lie beyond the bits, and no bit
+/// that isn't known lies above the highest in which the ends differ.
+fn is_settled(lo: u64, hi: u64, has: u64, may_have: u64) -> bool
+    ensures { result ≡ true → numbers.tidied (interval lo hi) (known has may_have)
+        ≡ numbers.number (interval lo hi) (known has may_have) }
+{
+    if is_exact(lo, hi, has, may_have) {
+        return true;
+    }
+    if has > lo {
+        return false;
+    }
+    if hi > may_have {
+        return false;
+    }
+    let unknown = has ^ may_have;
+    let differing = lo ^ hi;
+    unknown & !differing <= differing
 }

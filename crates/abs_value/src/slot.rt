@@ -1,7 +1,7 @@
 //! What is known of an aligned slot of 8 bytes of the stack: a value that was stored there as a
 //! whole, or which of its bytes are set. The set bytes are a mask, one bit for each byte.
 
-ghost use Rattle.std.specs.Prelude.{◌≡◌, ◌==◌, ◌<◌, bit_or};
+ghost use Rattle.std.specs.Prelude.{◌≡◌, ◌==◌, ◌<◌, bit_or, true};
 ghost use Rattle.std.specs.Int.{bit_at};
 ghost use Rattle.abs_value.specs.Lookups.{slot_with_answer};
 ghost use Rattle.abs_value.specs.Stack as slots;
@@ -73,6 +73,18 @@ impl AbsSlot {
             AbsSlot::Bytes(ALL_SET)
         } else {
             AbsSlot::Kept(value)
+        }
+    }
+
+    /// Whether it is known to stand for both by itself.
+    pub(crate) fn stays(&self, other: &AbsSlot) -> bool
+        ensures { result ≡ true → slots.join_slots self.now other.now ≡ self.now }
+    {
+        match (self, other) {
+            (AbsSlot::Kept(Abs::Num(a)), AbsSlot::Kept(Abs::Num(b))) => a.stays(*b),
+            (AbsSlot::Bytes(a), AbsSlot::Bytes(b)) => *a & *b == *a,
+            (AbsSlot::Kept(a), AbsSlot::Kept(b)) => !a.is_unusable() && a.stays(b),
+            _ => false,
         }
     }
 

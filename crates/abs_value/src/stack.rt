@@ -1,19 +1,148 @@
-//! The stack, slot by slot: which bytes are set, what a load reads and what a store leaves. Stores
-//! change the slots in place. A store touches one slot, or two where it isn't aligned.
+//! The stack, slot by slot: which bytes are set, what a load reads and what a store leaves. It is
+//! changed in place. Programs use it from its end down, and most of them little of it, so it keeps
+//! the slot below which nothing was written: joins and copies go down to that one.
 
 ghost use Rattle.std.specs.Prelude.{◌≡◌, ◌≤◌, ◌<◌, ◌+◌, ◌-◌, ◌*◌, ◌^◌, ◌%◌, ℤ, pos, negsuc, ◌≤ℤ◌};
-ghost use Rattle.std.specs.Prelude.{length};
+ghost use Rattle.std.specs.Prelude.{length, map, replicate};
 ghost use Rattle.bpf_semantics.specs.Memory.{stack_size};
 ghost use Rattle.bpf_semantics.specs.Reads as counts;
+ghost use Rattle.abs_value.specs.Lookups.{slot_with_answer};
 ghost use Rattle.abs_value.specs.Stack as slots;
+ghost use Rattle.abs_value.specs.declared.slot.AbsSlot.TheVariants.{Bytes};
 
 use crate::slot::AbsSlot;
 use crate::value::Abs;
 use bpf_insn::{LoadKind, Size};
 use bpf_semantics::{STACK_SIZE, byte_count};
+use std::marker::Model;
+
+/// The 64 slots of the stack, from its start up.
+#[derive(Debug, Drop)]
+pub struct Stack {
+    slots: [AbsSlot; 64],
+    /// No byte of the slots below this one is set.
+    lowest: usize,
+}
+
+impl Model for Stack {
+    ghost use Rattle.std.specs.Prelude.{List};
+    ghost use Rattle.abs_value.specs.declared.slot.AbsSlot.{AbsSlot};
+
+    ghost Value = { List AbsSlot };
+
+    ghost use Rattle.abs_value.specs.Stack.{AreUnsetBelow};
+
+    ghost view = { λ s. s.slots };
+
+    ghost invariant = { λ s. AreUnsetBelow s.lowest s.slots };
+}
+
+impl Stack {
+    /// One of which no byte is set.
+    pub(crate) fn empty() -> Stack
+        ensures { result ≡ replicate 64 (Bytes 0) }
+    {
+        Stack {
+            slots: [AbsSlot::Bytes(0); 64],
+            lowest: 64,
+        }
+    }
+
+    pub(crate) fn copy(&self) -> Stack
+        ensures { result ≡ self.now }
+    {
+        Stack {
+            slots: self.slots,
+            lowest: self.lowest,
+        }
+    }
+
+    /// Makes it what the other is.
+    pub(crate) fn copy_from(&mut self, other: &Stack)
+        ensures { self.new ≡ other.now }
+    {
+        let from = self.lowest.min(other.lowest);
+        copy_from(&mut self.slots, from, &other.slots);
+        self.lowest = other.lowest;
+    }
+
+    /// Whether of so many bytes from a place on, which may lie outside the stack, one lies in the
+    /// stack and isn't set.
+    pub(crate) fn has_unset(&self, place: i64, count: u16) -> bool
+        requires from { negsuc (2 ^ 32) ≤ℤ place }
+        requires to { place ≤ℤ pos (2 ^ 32) }
+        ensures { result ≡ slots.has_unset self.now place count }
+    {
+        has_unset(&self.slots, place, count)
+    }
+
+    /// What a load from a place in the stack gives.
+    #[inline]
+    pub(crate) fn load(&self, place: u16, kind: LoadKind) -> Abs
+        requires { place < stack_size }
+        ensures { result ≡ slots.loaded_from self.now place kind }
+    {
+        load(&self.slots, place, kind)
+    }
+
+    /// Stores so many low bytes of a value to a place in the stack.
+    pub(crate) fn store(&mut self, place: u16, size: Size, value: Abs)
+        requires { place + counts.byte_count size ≤ stack_size }
+        ensures { self.new ≡ slots.stored self.old place (counts.byte_count size) value }
+    {
+        store(&mut self.slots, place, size, value);
+        self.lowest = self.lowest.min((place / 8) as usize);
+    }
+
+    /// Makes each copy of the answer to the CALL at this slot known: the address of a cell, or 0.
+    pub(crate) fn narrow_lookup(&mut self, call: u16, found: bool)
+        ensures { self.new ≡ map (slot_with_answer call found) self.old }
+    {
+        answer_from(&mut self.slots, self.lowest, call, found);
+    }
+
+    /// Joins another stack in, slot by slot.
+    pub(crate) fn join_in(&mut self, other: &Stack)
+        ensures { self.new ≡ slots.join_stacks self.old other.now }
+    {
+        join_from(&mut self.slots, self.lowest, &other.slots);
+        self.lowest = self.lowest.max(other.lowest);
+    }
+}
+
+/// Copies the slots from one on, below which no byte is set on either side.
+fn copy_from(stack: &mut [AbsSlot; 64], from: usize, other: &[AbsSlot; 64])
+    requires below { slots.AreUnsetBelow from stack.old }
+    requires other { slots.AreUnsetBelow from other.now }
+    ensures { stack.new ≡ other.now }
+{
+    stack[from..].copy_from_slice(&other[from..]);
+}
+
+/// Makes an answer known in the slots from one on, below which no byte is set.
+fn answer_from(stack: &mut [AbsSlot; 64], from: usize, call: u16, found: bool)
+    requires { slots.AreUnsetBelow from stack.old }
+    ensures { stack.new ≡ map (slot_with_answer call found) stack.old }
+{
+    for i in from..64 {
+        stack[i] = stack[i].with_answer(call, found);
+    }
+}
+
+/// Joins other slots in from one on, below which no byte is set.
+fn join_from(stack: &mut [AbsSlot; 64], from: usize, other: &[AbsSlot; 64])
+    requires { slots.AreUnsetBelow from stack.old }
+    ensures { stack.new ≡ slots.join_stacks stack.old other.now }
+{
+    for i in from..64 {
+        if !stack[i].stays(&other[i]) {
+            stack[i] = stack[i].join(other[i]);
+        }
+    }
+}
 
 /// Whether the byte is set.
-pub fn is_set(stack: &[AbsSlot; 64], place: u16) -> bool
+fn is_set(stack: &[AbsSlot; 64], place: u16) -> bool
     requires { place < stack_size }
     ensures { result ≡ slots.is_set stack.now place }
 {
@@ -29,7 +158,7 @@ fn is_unset(stack: &[AbsSlot; 64], place: i64) -> bool
 
 /// Whether of so many bytes from a place on, which may lie outside the stack, one lies in the stack
 /// and isn't set.
-pub fn has_unset(stack: &[AbsSlot; 64], place: i64, count: u16) -> bool
+fn has_unset(stack: &[AbsSlot; 64], place: i64, count: u16) -> bool
     requires from { negsuc (2 ^ 32) ≤ℤ place }
     requires to { place ≤ℤ pos (2 ^ 32) }
     ensures { result ≡ slots.has_unset stack.now place count }
@@ -42,7 +171,7 @@ pub fn has_unset(stack: &[AbsSlot; 64], place: i64, count: u16) -> bool
 }
 
 /// What a load from a place in the stack gives.
-pub fn load(stack: &[AbsSlot; 64], place: u16, kind: LoadKind) -> Abs
+fn load(stack: &[AbsSlot; 64], place: u16, kind: LoadKind) -> Abs
     requires { place < stack_size }
     ensures { result ≡ slots.loaded_from stack.now place kind }
 {
@@ -72,7 +201,7 @@ fn bits_of(place: u16, count: u16) -> u16
 
 /// What a store of so many low bytes of a value to a place leaves: a whole slot keeps the value, of
 /// any other slot that it touches only the set bytes are known.
-pub fn store(stack: &mut [AbsSlot; 64], place: u16, size: Size, value: Abs)
+fn store(stack: &mut [AbsSlot; 64], place: u16, size: Size, value: Abs)
     requires { place + counts.byte_count size ≤ stack_size }
     ensures { stack.new ≡ slots.stored stack.old place (counts.byte_count size) value }
 {
@@ -86,14 +215,5 @@ pub fn store(stack: &mut [AbsSlot; 64], place: u16, size: Size, value: Abs)
     set_bytes(stack, slot, (bits % 256) as u8);
     if place % 8 + count > 8 {
         set_bytes(stack, slot + 1, (bits / 256) as u8);
-    }
-}
-
-/// Joins another stack in, slot by slot.
-pub fn join_in(stack: &mut [AbsSlot; 64], other: &[AbsSlot; 64])
-    ensures { stack.new ≡ slots.join_stacks stack.old other.now }
-{
-    for i in 0..64 {
-        stack[i] = stack[i].join(other[i]);
     }
 }

@@ -11,17 +11,16 @@ ghost use Rattle.abs_value.specs.States as states;
 
 use crate::number::Number;
 use crate::places::Places;
-use crate::slot::AbsSlot;
-use crate::stack;
+use crate::stack::Stack;
 use crate::value::Abs;
 use bpf_insn::{Bits, LoadKind, Operand, Reg, Size};
 use bpf_semantics::STACK_SIZE;
 
 /// A value for each register, by its number, and the 64 slots of the stack, from its start up.
-#[derive(Clone, Copy, Debug)]
+#[derive(Debug, Drop)]
 pub struct AbsState {
     pub registers: [Abs; 11],
-    pub stack: [AbsSlot; 64],
+    pub stack: Stack,
 }
 
 impl AbsState {
@@ -34,8 +33,26 @@ impl AbsState {
         registers[10] = Abs::Stk { place: STACK_SIZE };
         AbsState {
             registers,
-            stack: [AbsSlot::Bytes(0); 64],
+            stack: Stack::empty(),
         }
+    }
+
+    pub fn copy(&self) -> AbsState
+        ensures { result ≡ self.now }
+    {
+        AbsState {
+            registers: self.registers,
+            stack: self.stack.copy(),
+        }
+    }
+
+    /// Makes it what the other is. It takes as long as the two have slots of the stack that were
+    /// written.
+    pub fn copy_from(&mut self, other: &AbsState)
+        ensures { self.new ≡ other.now }
+    {
+        self.registers = other.registers;
+        self.stack.copy_from(&other.stack);
     }
 
     #[inline]
@@ -80,7 +97,7 @@ impl AbsState {
         requires to { place ≤ℤ pos (2 ^ 32) }
         ensures { result ≡ has_unset self.now.stack place count }
     {
-        stack::has_unset(&self.stack, place, count)
+        self.stack.has_unset(place, count)
     }
 
     /// What a load from a place in the stack gives.
@@ -89,7 +106,7 @@ impl AbsState {
         requires { place < stack_size }
         ensures { result ≡ loaded_from self.now.stack place kind }
     {
-        stack::load(&self.stack, place, kind)
+        self.stack.load(place, kind)
     }
 
     /// Stores the low bytes of a value to a place in the stack.
@@ -97,7 +114,7 @@ impl AbsState {
         requires { place + byte_count size ≤ stack_size }
         ensures { self.new ≡ states.with_stored self.old place (byte_count size) value }
     {
-        stack::store(&mut self.stack, place, size, value);
+        self.stack.store(place, size, value);
     }
 
     /// What a CALL at this slot leaves, by the number of its helper: R0 is its result, R1 to R5 are
@@ -116,7 +133,7 @@ impl AbsState {
         ensures { self.new ≡ states.join_states self.old other.now }
     {
         join_registers(&mut self.registers, &other.registers);
-        stack::join_in(&mut self.stack, &other.stack);
+        self.stack.join_in(&other.stack);
     }
 }
 
@@ -125,6 +142,8 @@ fn join_registers(registers: &mut [Abs; 11], other: &[Abs; 11])
     ensures { registers.new ≡ states.join_registers registers.old other.now }
 {
     for r in 0..11 {
-        registers[r] = registers[r].join(other[r]);
+        if !registers[r].stays(&other[r]) {
+            registers[r] = registers[r].join(other[r]);
+        }
     }
 }

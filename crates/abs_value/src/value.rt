@@ -2,7 +2,7 @@
 //! points into with the places there. A pointer stays in its region, or nothing is known of it any
 //! more.
 
-ghost use Rattle.std.specs.Prelude.{◌≡◌};
+ghost use Rattle.std.specs.Prelude.{◌≡◌, true};
 ghost use Rattle.abs_value.specs.Lookups as lookups;
 ghost use Rattle.abs_value.specs.Values as values;
 
@@ -174,6 +174,19 @@ impl Abs {
             (ATTR_LEN, _) => Abs::Num(Number::up_to(1024)),
             (BUCKET, _) => Abs::Num(Number::up_to(9999)),
             _ => Abs::Unusable,
+        }
+    }
+
+    /// Whether it is known to stand for both by itself.
+    pub(crate) fn stays(&self, other: &Abs) -> bool
+        ensures { result ≡ true → values.join_values self.now other.now ≡ self.now }
+    {
+        match (self, other) {
+            (Abs::Num(a), Abs::Num(b)) => a.stays(*b),
+            (Abs::Unusable, _) => true,
+            (Abs::Ctx(a), Abs::Ctx(b)) => a.lo <= b.lo && b.hi <= a.hi,
+            (Abs::Stk { place: a }, Abs::Stk { place: b }) => *a == *b,
+            _ => false,
         }
     }
 

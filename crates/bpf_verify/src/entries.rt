@@ -62,7 +62,7 @@ impl Entries {
             joins_commute();
             self.here.join_in(found);
         } else {
-            self.here = *found;
+            self.here.copy_from(found);
             self.is_live = true;
         }
     }
@@ -114,7 +114,7 @@ impl Entries {
             self.old.waiting self.new.waiting) }
         ensures most { OnErr result (self.new.waiting.most ≡ self.old.waiting.most) }
     {
-        let mut edge = self.here;
+        let mut edge = self.here.copy();
         if jump_in(&mut edge, insn) {
             self.waiting.add(target, &edge)?;
         }

@@ -72,12 +72,12 @@ impl Pool {
     {
         match self.free.pop() {
             Some(index) => {
-                self.entries[index as usize] = *entry;
+                self.entries[index as usize].copy_from(entry);
                 self.places[place] = Some(index);
             }
             None => {
                 let index = self.entries.len() as u16;
-                self.entries.push(*entry)?;
+                self.entries.push(entry.copy())?;
                 self.places[place] = Some(index);
             }
         }

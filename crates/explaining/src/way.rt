@@ -34,7 +34,7 @@ impl Way {
         requires { slot < 4096 }
         ensures { result ≡ specs.way_past shape.now slot e.now insn.now }
     {
-        let mut edge = *e;
+        let mut edge = e.copy();
         if next_place(slot, *insn).is_some() && go_on_in(&mut edge, shape, slot as u16, insn) {
             Way {
                 before: e.registers,

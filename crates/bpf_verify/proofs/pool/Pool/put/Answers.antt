@@ -30,7 +30,7 @@ pub invariant_of-self : goal.invariant_of-self
 invariant_of-self c =
     let at = (goal.at.invariant_of-self c).After-pop in
     let some = (goal.at.invariant_of-self c).In-Some in
-    let len = length-set c.self.inside.entries.items c.in-Some.index c.args.entry.now in
+    let len = length-set c.self.inside.entries.items c.in-Some.index c.copy_from.new.self in
     rw len (taken (length c.self.inside.entries.items) c.self.inside.places.items
     c.pop.new.self.items c.args.place c.in-Some.index (within at) (none at) (was some))
 
@@ -40,8 +40,9 @@ returns-in-Some-clause-changed c =
     let some = (goal.at.returns-in-Some-clause-changed c).In-Some in
     let pool = was some in
     let end = get-end c.pop.new.self.items c.in-Some.index in
-    rw (← c.self.view_is) (changed_in c.self.inside.entries.items c.self.inside.places.items
-    c.args.place c.in-Some.index c.args.entry.now (within at)
+    rw (← c.self.view_is, c.copy_from.ensures)
+    (changed_in c.self.inside.entries.items c.self.inside.places.items c.args.place
+    c.in-Some.index c.args.entry.now (within at)
     (pool.free_within (length c.pop.new.self.items) c.in-Some.index end)
     (λ n ne e. pool.apart n (length c.pop.new.self.items) c.in-Some.index e end))
 
@@ -49,11 +50,11 @@ pub returns-in-Some-clause-most : goal.returns-in-Some-clause-most
 returns-in-Some-clause-most c =
     let at = (goal.at.returns-in-Some-clause-most c).After-pop in
     let some = (goal.at.returns-in-Some-clause-most c).In-Some in
-    let len = length-set c.self.inside.entries.items c.in-Some.index c.args.entry.now in
+    let len = length-set c.self.inside.entries.items c.in-Some.index c.copy_from.new.self in
     let pool = taken (length c.self.inside.entries.items) c.self.inside.places.items
     c.pop.new.self.items c.args.place c.in-Some.index (within at) (none at) (was some) in
     most_kept c.args.self.now.most
-    (slice_set c.self.inside.entries.items c.in-Some.index c.args.entry.now)
+    (slice_set c.self.inside.entries.items c.in-Some.index c.copy_from.new.self)
     (slice_set c.self.inside.places.items c.args.place (Some c.in-Some.index)) c.pop.new.self.items
     (rw len pool) (sym (ap (λ w. w.most) c.self.view_is) ∙ sym len)
 
@@ -91,7 +92,7 @@ pub returns-in_ok-push-in-None-clause-changed : goal.returns-in_ok-push-in-None-
 returns-in_ok-push-in-None-clause-changed c =
     let at = (goal.at.returns-in_ok-push-in-None-clause-changed c).After-pop in
     let end = at_end (goal.at.returns-in_ok-push-in-None-clause-changed c).After-len-index in
-    rw (← c.self.view_is, c.in_ok-push-in-None.ensures.items, end)
+    rw (← c.self.view_is, c.in_ok-push-in-None.ensures.items, c.copy.ensures, end)
     (changed_end c.self.inside.entries.items c.self.inside.places.items c.args.place
     c.args.entry.now (within at) (λ n i e. c.self.invariant.within n i e))
 
@@ -103,6 +104,6 @@ returns-in_ok-push-in-None-clause-most c =
     let len = length-append-one c.self.inside.entries.items c.args.entry.now in
     let pool = grown (length c.self.inside.entries.items) c.self.inside.places.items c.args.place
     (within at) (none at) full in
-    rw (← c.self.view_is, c.in_ok-push-in-None.ensures.items, end)
+    rw (← c.self.view_is, c.in_ok-push-in-None.ensures.items, c.copy.ensures, end)
     (most_grown (length c.self.inside.entries.items)
     (c.self.inside.entries.items ++ c.args.entry.now ∷ []) _ (rw len pool) len)

@@ -1,6 +1,6 @@
 use Rattle.std.proofs.Common.{◌≡◌, ℕ, ◌<◌, ◌≤◌, length}
 use Rattle.abs_value.specs.Stack.{slot_at, join_slots}
-use Rattle.abs_value.proofs.stack.join_in.Given as goal
+use Rattle.abs_value.proofs.stack.join_from.Given as goal
 
 -- the slots below i are joined, the others are as they were
 abbrev pub invariant-loop-i : goal.invariant-loop-i

@@ -1,7 +1,12 @@
 use Rattle.std.proofs.Common.{arith}
 use Rattle.abs_value.specs.Lookups.{slot_with_answer}
 use Rattle.abs_value.proofs.Lists.{mapped_more}
-use Rattle.abs_value.proofs.lookups.answer_in_stack.Goals as goal
+use Rattle.abs_value.proofs.Unset.{answered_below}
+use Rattle.abs_value.proofs.stack.answer_from.Goals as goal
+
+pub loop-i-init : goal.loop-i-init
+loop-i-init c =
+    answered_below c.args.stack.now c.args.from c.args.call c.args.found c.requires
 
 pub loop-i-preserved : goal.loop-i-preserved
 loop-i-preserved c =
