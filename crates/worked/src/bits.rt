@@ -13,7 +13,8 @@ ghost use Rattle.abs_value.specs.Results.{alu_number, copied_number};
 ghost use Rattle.abs_value.specs.Narrowing.{narrowed};
 
 /// The ends move in to the bits, and then the bits above those in which the ends differ are known:
-/// once, so what is tidy may move on where it is made tidy again.
+/// once, so what is tidy may move on where it is made tidy again. Then a join of a number with
+/// itself isn't that number.
 pub fn tidied_once()
     ensures to_the_bits { tidy (interval 1 255) (known 4 12) ≡ with_bits 4 12 4 12 }
     ensures from_the_ends { tidy (interval 8 9) (known 0 255) ≡ with_bits 8 9 8 9 }
@@ -21,6 +22,9 @@ pub fn tidied_once()
     ensures once { tidy (interval 4 7) (known 1 255) ≡ with_bits 4 7 5 7 }
     ensures again { tidy (interval 4 7) (known 5 7) ≡ with_bits 5 7 5 7 }
     ensures copied { copied_number Bits64 (with_bits 4 7 5 7) ≡ with_bits 5 7 5 7 }
+    ensures joined { join_numbers (with_bits 4 7 5 7) (with_bits 4 7 5 7) ≡ with_bits 5 7 5 7 }
+    ensures joined_again { join_numbers (with_bits 5 7 5 7) (with_bits 5 7 5 7)
+        ≡ with_bits 5 7 5 7 }
 {}
 
 /// No number from 4 to 6 has the bits of 3: that is found where it is made tidy again. A result or

@@ -12,4 +12,6 @@ returns c = record {
   once = refl;
   again = refl;
   copied = refl;
+  joined = refl;
+  joined_again = refl;
 }
