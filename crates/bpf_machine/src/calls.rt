@@ -12,10 +12,10 @@ use crate::memory::stack_bytes;
 use crate::next::{Change, Next};
 use crate::words::Words;
 use attrs::{Attrs, helper_attr_is, helper_attr_len, helper_bucket};
-use bpf_insn::Insn;
+use bpf_verify::bpf_rules::bpf_insn::Insn;
+use bpf_verify::bpf_rules::cells::Shape;
 use bpf_verify::bpf_semantics::helpers::{ATTR_IS, ATTR_LEN, LOOKUP};
 use bpf_verify::bpf_semantics::{MAP_START, cell_address};
-use cells::Shape;
 
 /// `lookup`: the address of the array's counter at a key, or 0 where the array has no such key.
 #[inline]

@@ -4,14 +4,14 @@ use Rattle.std.proofs.Common.{Bool, true, false, refl, ap, subst, ◌∙◌, ari
 use Rattle.std.specs.Prelude.{nat_le, nat_lt, slice_get, if◌then◌else◌}
 use Rattle.std.proofs.lemmas.Bool.{lt-ltb}
 use Rattle.attrs.specs.Attributes.{Attributes}
-use Rattle.cells.specs.declared.array.CellArray.{CellArray}
-use Rattle.cells.specs.declared.event.CellOp.TheVariants.{Add}
-use Rattle.bpf_insn.specs.declared.operand.AtomicSize.{AtomicSize}
-use Rattle.bpf_insn.specs.declared.operand.AtomicSize.TheVariants.{Word, Double}
-use Rattle.bpf_insn.specs.declared.operand.Bits.TheVariants.{Bits64}
-use Rattle.bpf_insn.specs.declared.reg.Reg.TheVariants.{R2, R3}
-use Rattle.bpf_insn.specs.Conditions.{holds}
-use Rattle.bpf_insn.specs.Program.{Program, ◌>>=◌}
+use Rattle.bpf_verify.specs.bpf_rules.cells.declared.array.CellArray.{CellArray}
+use Rattle.bpf_verify.specs.bpf_rules.cells.declared.event.CellOp.TheVariants.{Add}
+use Rattle.bpf_verify.specs.bpf_rules.bpf_insn.declared.operand.AtomicSize.{AtomicSize}
+use Rattle.bpf_verify.specs.bpf_rules.bpf_insn.declared.operand.AtomicSize.TheVariants.{Word, Double}
+use Rattle.bpf_verify.specs.bpf_rules.bpf_insn.declared.operand.Bits.TheVariants.{Bits64}
+use Rattle.bpf_verify.specs.bpf_rules.bpf_insn.declared.reg.Reg.TheVariants.{R2, R3}
+use Rattle.bpf_verify.specs.bpf_rules.bpf_insn.Conditions.{holds}
+use Rattle.bpf_verify.specs.bpf_rules.bpf_insn.Program.{Program, ◌>>=◌}
 use Rattle.bpf_verify.specs.bpf_semantics.Memory.{address_of, cell_address}
 use Rattle.bpf_verify.specs.bpf_semantics.Memory.{cell_number, is_cell_address, cell_at}
 use Rattle.bpf_verify.specs.bpf_semantics.Program.{ShapedProgram}

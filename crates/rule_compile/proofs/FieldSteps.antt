@@ -5,18 +5,18 @@ use Rattle.std.specs.Prelude.{min, nat_le, ◌==◌, if◌then◌else◌}
 use Rattle.std.proofs.Math.Nat.{mod-le, min-le_left}
 use Rattle.std.proofs.lemmas.Bool.{cases_Bool, le-leb}
 use Rattle.std.proofs.lemmas.Nat.{and_le_l}
-use Rattle.bpf_insn.specs.declared.operand.AluOp.TheVariants.{And, Mod}
-use Rattle.bpf_insn.specs.declared.operand.Bits.TheVariants.{Bits32, Bits64}
-use Rattle.bpf_insn.specs.Arithmetic.{alu_result}
-use Rattle.bpf_insn.specs.Table.{number_of}
-use Rattle.bpf_insn.specs.Words.{immediate}
-use Rattle.bpf_insn.specs.declared.operand.LoadKind.{LoadKind}
-use Rattle.bpf_insn.specs.declared.operand.LoadKind.TheVariants as load
-use Rattle.bpf_insn.specs.declared.reg.Reg.{Reg}
-use Rattle.bpf_insn.specs.declared.reg.Reg.TheVariants.{R2}
-use Rattle.bpf_insn.specs.Program.{Program}
+use Rattle.bpf_verify.specs.bpf_rules.bpf_insn.declared.operand.AluOp.TheVariants.{And, Mod}
+use Rattle.bpf_verify.specs.bpf_rules.bpf_insn.declared.operand.Bits.TheVariants.{Bits32, Bits64}
+use Rattle.bpf_verify.specs.bpf_rules.bpf_insn.Arithmetic.{alu_result}
+use Rattle.bpf_verify.specs.bpf_rules.bpf_insn.Table.{number_of}
+use Rattle.bpf_verify.specs.bpf_rules.bpf_insn.Words.{immediate}
+use Rattle.bpf_verify.specs.bpf_rules.bpf_insn.declared.operand.LoadKind.{LoadKind}
+use Rattle.bpf_verify.specs.bpf_rules.bpf_insn.declared.operand.LoadKind.TheVariants as load
+use Rattle.bpf_verify.specs.bpf_rules.bpf_insn.declared.reg.Reg.{Reg}
+use Rattle.bpf_verify.specs.bpf_rules.bpf_insn.declared.reg.Reg.TheVariants.{R2}
+use Rattle.bpf_verify.specs.bpf_rules.bpf_insn.Program.{Program}
 use Rattle.bpf_verify.specs.bpf_semantics.Reads.{load_count}
-use Rattle.cells.specs.Arrays.{AppShape}
+use Rattle.bpf_verify.specs.bpf_rules.cells.Arrays.{AppShape}
 use Rattle.bpf_verify.specs.abs_value.declared.interval.Interval.{Interval}
 use Rattle.bpf_verify.specs.abs_value.declared.known_bits.KnownBits.{KnownBits}
 use Rattle.bpf_verify.specs.abs_value.declared.number.Number.{Number}

@@ -4,14 +4,14 @@ use Rattle.std.proofs.Common.{◌≡◌, ℕ, zero, suc, ◌+◌, ◌≤◌, ℤ
 use Rattle.std.proofs.Common.{false, refl, sym, ap, subst, arith, length-drop, get_or-drop}
 use Rattle.std.specs.Prelude.{◌==◌}
 use Rattle.std.proofs.lemmas.Bool.{le-leb}
-use Rattle.bpf_insn.specs.declared.insn.Insn.TheVariants.{Mov, Exit, Wide}
-use Rattle.bpf_insn.specs.declared.operand.Bits.TheVariants.{Bits64}
-use Rattle.bpf_insn.specs.declared.operand.Operand.TheVariants.{Imm, Register}
-use Rattle.bpf_insn.specs.declared.operand.WideValue.TheVariants.{Number as WideNumber}
-use Rattle.bpf_insn.specs.declared.reg.Reg.{Reg}
-use Rattle.bpf_insn.specs.Program.{Program}
-use Rattle.bpf_insn.specs.Table.{number_of}
-use Rattle.cells.specs.Arrays.{AppShape}
+use Rattle.bpf_verify.specs.bpf_rules.bpf_insn.declared.insn.Insn.TheVariants.{Mov, Exit, Wide}
+use Rattle.bpf_verify.specs.bpf_rules.bpf_insn.declared.operand.Bits.TheVariants.{Bits64}
+use Rattle.bpf_verify.specs.bpf_rules.bpf_insn.declared.operand.Operand.TheVariants.{Imm, Register}
+use Rattle.bpf_verify.specs.bpf_rules.bpf_insn.declared.operand.WideValue.TheVariants.{Number as WideNumber}
+use Rattle.bpf_verify.specs.bpf_rules.bpf_insn.declared.reg.Reg.{Reg}
+use Rattle.bpf_verify.specs.bpf_rules.bpf_insn.Program.{Program}
+use Rattle.bpf_verify.specs.bpf_rules.bpf_insn.Table.{number_of}
+use Rattle.bpf_verify.specs.bpf_rules.cells.Arrays.{AppShape}
 use Rattle.bpf_verify.specs.abs_value.declared.number.Number.{Number}
 use Rattle.bpf_verify.specs.abs_value.declared.value.Abs.{Abs}
 use Rattle.bpf_verify.specs.abs_value.declared.value.Abs.TheVariants.{Unusable, Num, Ctx}

@@ -2,16 +2,16 @@
 use Rattle.std.proofs.Common.{◌≡◌, ℕ, ◌≤◌, ℤ, pos, List, Option, Some, None}
 use Rattle.std.proofs.Common.{Bool, true, false, refl, sym, subst, arith}
 use Rattle.std.specs.Prelude.{option_map}
-use Rattle.bpf_insn.specs.declared.insn.Insn.TheVariants.{JumpIf}
-use Rattle.bpf_insn.specs.declared.operand.Bits.TheVariants.{Bits32, Bits64}
-use Rattle.bpf_insn.specs.declared.operand.Condition.{Condition}
-use Rattle.bpf_insn.specs.declared.operand.Operand.TheVariants.{Imm, Register}
-use Rattle.bpf_insn.specs.declared.reg.Reg.{Reg}
-use Rattle.bpf_insn.specs.declared.reg.Reg.TheVariants.{R2, R4}
-use Rattle.bpf_insn.specs.Program.{Program}
-use Rattle.bpf_insn.specs.Table.{number_of}
-use Rattle.bpf_insn.specs.Words.{immediate}
-use Rattle.cells.specs.Arrays.{AppShape}
+use Rattle.bpf_verify.specs.bpf_rules.bpf_insn.declared.insn.Insn.TheVariants.{JumpIf}
+use Rattle.bpf_verify.specs.bpf_rules.bpf_insn.declared.operand.Bits.TheVariants.{Bits32, Bits64}
+use Rattle.bpf_verify.specs.bpf_rules.bpf_insn.declared.operand.Condition.{Condition}
+use Rattle.bpf_verify.specs.bpf_rules.bpf_insn.declared.operand.Operand.TheVariants.{Imm, Register}
+use Rattle.bpf_verify.specs.bpf_rules.bpf_insn.declared.reg.Reg.{Reg}
+use Rattle.bpf_verify.specs.bpf_rules.bpf_insn.declared.reg.Reg.TheVariants.{R2, R4}
+use Rattle.bpf_verify.specs.bpf_rules.bpf_insn.Program.{Program}
+use Rattle.bpf_verify.specs.bpf_rules.bpf_insn.Table.{number_of}
+use Rattle.bpf_verify.specs.bpf_rules.bpf_insn.Words.{immediate}
+use Rattle.bpf_verify.specs.bpf_rules.cells.Arrays.{AppShape}
 use Rattle.bpf_verify.specs.abs_value.declared.number.Number.{Number}
 use Rattle.bpf_verify.specs.abs_value.declared.value.Abs.{Abs}
 use Rattle.bpf_verify.specs.abs_value.declared.value.Abs.TheVariants.{Num}

@@ -4,9 +4,9 @@ use Rattle.std.proofs.Common.{◌≡◌, ℕ, ◌≤◌, Option, Some, None}
 use Rattle.std.proofs.Common.{Bool, true, false, refl, subst, arith, inl, inr}
 use Rattle.std.specs.Prelude.{◌==◌, ◌||◌, nat_le, nat_lt, option_map, if◌then◌else◌, bit_and}
 use Rattle.std.proofs.lemmas.Bool.{cases_Bool, or_parts}
-use Rattle.bpf_insn.specs.declared.operand.Bits.{Bits}
-use Rattle.bpf_insn.specs.declared.operand.Condition.{Condition}
-use Rattle.bpf_insn.specs.Conditions.{holds}
+use Rattle.bpf_verify.specs.bpf_rules.bpf_insn.declared.operand.Bits.{Bits}
+use Rattle.bpf_verify.specs.bpf_rules.bpf_insn.declared.operand.Condition.{Condition}
+use Rattle.bpf_verify.specs.bpf_rules.bpf_insn.Conditions.{holds}
 use Rattle.bpf_verify.specs.abs_value.declared.interval.Interval.{Interval}
 use Rattle.bpf_verify.specs.abs_value.declared.known_bits.KnownBits.{KnownBits}
 use Rattle.bpf_verify.specs.abs_value.declared.number.Number.{Number}

@@ -6,9 +6,9 @@ use Rattle.std.proofs.Common.{refl, sym, ap, ◌∙◌, arith, inl, inr}
 use Rattle.std.specs.Prelude.{◌==◌, nat_le, nat_lt, min, unsigned_abs}
 use Rattle.std.proofs.lemmas.Bool.{cases_Bool, le-leb}
 use Rattle.std.proofs.lemmas.Int.{ints}
-use Rattle.bpf_insn.specs.declared.reg.Reg.TheVariants.{R2}
-use Rattle.bpf_insn.specs.Program.{Program}
-use Rattle.cells.specs.Arrays.{AppShape}
+use Rattle.bpf_verify.specs.bpf_rules.bpf_insn.declared.reg.Reg.TheVariants.{R2}
+use Rattle.bpf_verify.specs.bpf_rules.bpf_insn.Program.{Program}
+use Rattle.bpf_verify.specs.bpf_rules.cells.Arrays.{AppShape}
 use Rattle.bpf_verify.specs.abs_value.declared.number.Number.{Number}
 use Rattle.bpf_verify.specs.abs_value.declared.slot.AbsSlot.{AbsSlot}
 use Rattle.bpf_verify.specs.abs_value.declared.value.Abs.TheVariants.{Num, Stk}

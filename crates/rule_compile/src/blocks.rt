@@ -11,7 +11,7 @@ use crate::code::Code;
 use crate::fault::CompileFault;
 use crate::instructions as insn;
 use attrs::Context;
-use bpf_insn::{AtomicSize, Condition, LoadKind, Reg};
+use bpf_verify::bpf_rules::bpf_insn::{AtomicSize, Condition, LoadKind, Reg};
 use bpf_verify::bpf_semantics::helpers::BUCKET;
 
 /// One of two labels.

@@ -13,10 +13,10 @@ ghost use Rattle.rule_compile.specs.Writing.{CanEncode};
 use crate::bytes::program_bytes;
 use crate::fault::CompileFault;
 use crate::statements::emit;
-use bpf_insn::Insn;
+use bpf_verify::bpf_rules::bpf_insn::Insn;
+use bpf_verify::bpf_rules::cells::Shape;
 use bpf_verify::flow_check::Flow;
 use bpf_verify::{Verified, table_is_enough};
-use cells::Shape;
 use rule_lang::Rule;
 use std::alloc::{AllocError, Global};
 
