@@ -1,4 +1,4 @@
-//! The body is read: into room that is taken once, as much as the head's length says.
+//! The body is read: into room that is made once, as much as the head's length says.
 
 ghost use Rattle.std.specs.Prelude.{◌≡◌, ◌+◌, ◌-◌, ◌^◌, ◌<◌, ◌≤◌, ◌++◌, length, drop};
 ghost use Rattle.std.specs.Prelude.{Ok, Err, OnOk, IfOk, IfErr};
@@ -7,16 +7,9 @@ ghost use Rattle.http_front.specs.Reading.{IsBodyBehind, FillsBody};
 
 use crate::fault::PostFault;
 use crate::head::read_more;
+use crate::room::{begin_body, put_body};
 use devices::Counted;
-use std::alloc::{AllocError, Global};
 use std::io::Read;
-
-/// Room for so many bytes.
-pub fn room_for(alloc: Global, size: usize) -> Result<Vec<u8>, AllocError>
-    ensures { IfOk result (λ v. length v.items ≡ size) }
-{
-    Vec::from_elem(alloc, 0, size)
-}
 
 // Reads until the body is whole; its first bytes stand there already.
 fn fill<R: Read>(reader: &mut Counted<R>, body: &mut [u8], known: usize) -> Result<(), PostFault>
@@ -39,40 +32,28 @@ fn fill<R: Read>(reader: &mut Counted<R>, body: &mut [u8], known: usize) -> Resu
     Ok(())
 }
 
-// Copies the bytes to the front.
-fn put_front(body: &mut [u8], first: &[u8])
-    requires { length first.now ≤ length body.old }
-    ensures { body.new ≡ first.now ++ drop (length first.now) body.old }
-{
-    body[..first.len()].copy_from_slice(first);
-}
-
-/// Reads a body whose first bytes came with the head.
+/// Reads a body whose first bytes came with the head, into room that it makes for it.
 pub fn read_body<R: Read>(
-    alloc: Global,
     reader: &mut Counted<R>,
+    body: &mut Vec<u8>,
     first: &[u8],
     size: usize,
-) -> Result<Vec<u8>, PostFault>
+) -> Result<(), PostFault>
     requires { reader.old.failures < 2 ^ 64 - 1 }
-    ensures body { IfOk result
-        (λ v. IsBodyBehind first.now (R.remaining reader.old.inner) size (Ok v.items)) }
+    ensures body { OnOk result
+        (IsBodyBehind first.now (R.remaining reader.old.inner) size (Ok body.new.items)) }
     ensures refused { IfErr result
         (λ e. IsBodyBehind first.now (R.remaining reader.old.inner) size (Err e)) }
     ensures count { CountsDevice reader.old.failures reader.new.failures result }
 {
     if size <= first.len() {
-        return match Vec::from_slice(alloc, &first[..size]) {
-            Ok(body) => Ok(body),
+        return match put_body(body, &first[..size]) {
+            Ok(()) => Ok(()),
             Err(_) => Err(PostFault::Memory),
         };
     }
-    let Ok(mut body) = room_for(alloc, size) else {
-        return Err(PostFault::Memory);
-    };
-    put_front(body.as_mut_slice(), first);
-    match fill(reader, body.as_mut_slice(), first.len()) {
-        Ok(()) => Ok(body),
-        Err(fault) => Err(fault),
+    match begin_body(body, first, size) {
+        Ok(()) => fill(reader, body.as_mut_slice(), first.len()),
+        Err(_) => Err(PostFault::Memory),
     }
 }

@@ -15,11 +15,13 @@ mod length;
 mod lines;
 mod post;
 mod reply;
+mod room;
 mod status;
 
 pub use fault::PostFault;
 pub use post::read_post;
 pub use reply::write_reply;
+pub use room::PostRoom;
 pub use status::Status;
 
 // The words of the contracts here come with them.

@@ -12,7 +12,7 @@ pub returns-in-Ok-read_body-clause-body : goal.returns-in-Ok-read_body-clause-bo
 returns-in-Ok-read_body-clause-body g c =
     let here = stands c.in-Ok.ensures.found (omega arith) (omega arith) in
     let behind = take_rest (take c.in-Ok.found.filled c.read_head.new.buf) c.in-Ok.found.head.len in
-    body_at here c.in-Ok-asked.size _ (Ok c.in-Ok-read_body.body.items)
+    body_at here c.in-Ok-asked.size _ (Ok c.read_body.new.body.items)
     (sym c.asked.ensures.length ∙ c.in-Ok-asked.is) behind c.in-Ok-read_body.ensures.body
 
 pub returns-in-Err-read_body-clause-refused : goal.returns-in-Err-read_body-clause-refused

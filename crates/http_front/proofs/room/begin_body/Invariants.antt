@@ -1,0 +1,12 @@
+use Rattle.std.proofs.Common.{◌≡◌, ◌-◌, ◌≤◌, length, take, vec_len}
+use Rattle.http_front.proofs.room.begin_body.Given as goal
+
+-- the first bytes stand there, and what is behind them isn't past the body's end
+abbrev pub invariant-loop-body : goal.invariant-loop-body
+invariant-loop-body l =
+    (take (length l.first) l.body.items ≡ l.first)
+    × (length l.first ≤ vec_len l.body)
+    × (vec_len l.body ≤ l.size)
+
+abbrev pub decreases-loop-body : goal.decreases-loop-body
+decreases-loop-body l = l.size - vec_len l.body

@@ -1,0 +1,123 @@
+//! Room in which requests are read, so that a worker can keep it from one to the next.
+
+ghost use Rattle.std.specs.Prelude.{◌≡◌, ◌-◌, ◌^◌, ◌<◌, ◌≤◌, length, take, []};
+ghost use Rattle.std.specs.Prelude.{Ok, Err, OnOk, IfErr};
+ghost use Rattle.http_front.specs.Post.{AnswersPost, CountsDevice, IsFrugal};
+
+use crate::fault::PostFault;
+use crate::post::read_into;
+use devices::Counted;
+use std::alloc::{AllocError, Global};
+use std::io::Read;
+use std::marker::Model;
+
+/// The most bytes that a head may have.
+const HEAD_LIMIT: usize = 16_384;
+
+/// The most room for a body that is kept for the next one.
+const KEPT_BODY: usize = 65_536;
+
+/// A block of bytes that nothing was written to yet.
+static BLANK: [u8; HEAD_LIMIT] = [0; HEAD_LIMIT];
+
+/// Room for a head, and for a body of any length. It takes memory as requests need it, and keeps
+/// it: 16,384 bytes for a head, and up to 65,536 for a body; a longer body gives its room back
+/// before the next request is read. A contract sees the body that was read last.
+#[derive(Drop)]
+pub struct PostRoom {
+    head: Vec<u8>,
+    body: Vec<u8>,
+}
+
+impl Model for PostRoom {
+    ghost use Rattle.std.specs.Prelude.{List, ℕ};
+
+    ghost Value = { List ℕ };
+
+    ghost view = { λ r. r.body.items };
+}
+
+impl PostRoom {
+    /// Room without a body; it takes no memory yet.
+    pub fn new(alloc: Global) -> PostRoom
+        ensures { result ≡ [] }
+    {
+        PostRoom {
+            head: Vec::new(alloc),
+            body: Vec::new(alloc),
+        }
+    }
+
+    /// The body that was read last.
+    pub fn body(&self) -> &[u8]
+        ensures { result.now ≡ self.now }
+    {
+        self.body.as_slice()
+    }
+
+    /// The same, without the room for a head.
+    pub fn into_body(self) -> Vec<u8>
+        ensures { result.items ≡ self }
+    {
+        let PostRoom { head: _head, body } = self;
+        body
+    }
+
+    /// Reads the one POST of a connection as `read_post` does, and keeps its body. What the room
+    /// has after a refusal isn't told.
+    pub fn read_post<R: Read>(&mut self, reader: &mut Counted<R>) -> Result<(), PostFault>
+        requires { reader.old.failures < 2 ^ 64 - 1 }
+        ensures body { OnOk result (AnswersPost (R.remaining reader.old.inner) (Ok self.new)) }
+        ensures refused { IfErr result (λ e. AnswersPost (R.remaining reader.old.inner) (Err e)) }
+        ensures frugal { IfErr result
+            (IsFrugal (R.remaining reader.old.inner) (R.remaining reader.new.inner)) }
+        ensures count { CountsDevice reader.old.failures reader.new.failures result }
+    {
+        read_into(reader, &mut self.head, &mut self.body)
+    }
+}
+
+/// Makes the room for a head, if it isn't there.
+pub fn make_head_room(head: &mut Vec<u8>) -> Result<(), AllocError>
+    ensures { OnOk result (length head.new.items ≡ 16384) }
+{
+    if head.len() == HEAD_LIMIT {
+        return Ok(());
+    }
+    head.clear();
+    head.extend_from_slice(&BLANK)
+}
+
+/// Puts the whole of a body in the place of the last one.
+pub fn put_body(body: &mut Vec<u8>, bytes: &[u8]) -> Result<(), AllocError>
+    ensures { OnOk result (body.new.items ≡ bytes.now) }
+{
+    empty(body);
+    body.extend_from_slice(bytes)
+}
+
+/// Makes room for a body of so many bytes in the place of the last one, and puts its first ones
+/// there.
+pub fn begin_body(body: &mut Vec<u8>, first: &[u8], size: usize) -> Result<(), AllocError>
+    requires { length first.now ≤ size }
+    ensures first { OnOk result (take (length first.now) body.new.items ≡ first.now) }
+    ensures size { OnOk result (length body.new.items ≡ size) }
+{
+    put_body(body, first)?;
+    while body.len() < size {
+        let more = (size - body.len()).min(BLANK.len());
+        body.extend_from_slice(&BLANK[..more])?;
+    }
+    Ok(())
+}
+
+// Takes out the last body, and of the room what isn't to be kept.
+fn empty(body: &mut Vec<u8>)
+    ensures { body.new.items ≡ [] }
+{
+    if body.capacity() > KEPT_BODY {
+        *body = Vec::new(*body.allocator());
+    } else {
+        body.clear();
+    }
+}
