@@ -56,14 +56,30 @@ pub fn found_text(
         text.items ≡ specs.found_text server.now request.now.apps found.now moment) }
     ensures memory { IfErr result (λ e. e ≡ OmahaFault.Memory) }
 {
-    match write_text(alloc, server, request.apps(), found, &moment) {
+    found_text_in(Vec::new(alloc), request, server, found, moment)
+}
+
+/// The same, in the room of an earlier text.
+pub fn found_text_in(
+    room: Vec<u8>,
+    request: &Request,
+    server: &str,
+    found: &[Option<FoundApp<'_>>],
+    moment: Moment,
+) -> Result<Vec<u8>, OmahaFault>
+    requires { length found.now ≡ length request.now.apps }
+    ensures text { IfOk result (λ text.
+        text.items ≡ specs.found_text server.now request.now.apps found.now moment) }
+    ensures memory { IfErr result (λ e. e ≡ OmahaFault.Memory) }
+{
+    match write_text(room, server, request.apps(), found, &moment) {
         Ok(text) => Ok(text),
         Err(_) => Err(OmahaFault::Memory),
     }
 }
 
 fn write_text(
-    alloc: Global,
+    mut text: Vec<u8>,
     server: &str,
     apps: &[AppFacts],
     found: &[Option<FoundApp<'_>>],
@@ -73,7 +89,8 @@ fn write_text(
     ensures { IfOk result (λ text.
         text.items ≡ specs.found_text server.now apps.now found.now moment.now) }
 {
-    let mut text = Vec::with_capacity(alloc, USUAL_LENGTH)?;
+    text.clear();
+    text.reserve(USUAL_LENGTH)?;
     text.extend_from_slice(GUARD)?;
     let mut writer = Writer::new(text);
     write_reply(&mut writer, server, apps, found, moment)?;

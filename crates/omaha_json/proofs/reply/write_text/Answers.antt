@@ -10,6 +10,6 @@ returns c =
     reply_value c.args.server.now c.args.apps.now c.args.found.now c.args.moment.now in
     let before : c.new-writer.result.before ≡ guard =
     c.new-writer.ensures.before ∙ c.in_ok-extend_from_slice.ensures.items
-    ∙ ap (λ xs. xs ++ guard) c.in_ok-text.ensures.items in
+    ∙ ap (λ xs. xs ++ guard) (c.in_ok-reserve.ensures.items ∙ c.clear.ensures.items) in
     text_is c.into_inner.result.items guard c.new-writer.result c.write_reply.new.writer value
     before c.new-writer.ensures.tokens c.in_ok-write_reply.ensures c.into_inner.ensures.items
