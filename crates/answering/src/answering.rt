@@ -11,16 +11,15 @@ ghost use Rattle.http_front.specs.declared.fault.PostFault.TheVariants as fault;
 ghost use Rattle.answering.specs.Answer.{RepliesByRuns, WritesNothing, Settles};
 ghost use Rattle.answering.specs.Reply.{HttpReply, message_bytes, told_line, settled_reply};
 
-use crate::reading::hear;
-use crate::rejection::Rejection;
-use crate::replying::reply_to;
+use crate::room::AnswerRoom;
 use crate::sent::Sent;
+use crate::settling::answer_in;
 use crate::turn::Turn;
 use crate::witness::{Nobody, Witness};
 use attrs::Moment;
 use cells::CellSteps;
 use hot_swap::Watcher;
-use http_front::{Counted, PostFault, Status, WriteFault, write_reply};
+use http_front::{Counted, PostFault};
 use std::alloc::Global;
 use std::error::Error;
 use std::fmt::{self, Display};
@@ -146,69 +145,6 @@ pub fn answer_before<R: Read, W: Write, C: CellSteps, N: Witness>(
     ensures unreadable { result ≡ Err AnswerFault.Reading
         → reader.new.failures ≡ reader.old.failures + 1 }
 {
-    let outcome = settle(turn, reader, pass, watcher, witness)?;
-    match send(writer, &outcome) {
-        Ok(sent) => Ok(sent),
-        Err(WriteFault { written }) => Err(AnswerFault::Writing(written)),
-    }
-}
-
-// Reads a request, and finds its reply.
-fn settle<R: Read, C: CellSteps, N: Witness>(
-    turn: &Turn<'_, C>,
-    reader: &mut Counted<R>,
-    pass: &mut C::Pass,
-    watcher: &mut Watcher,
-    witness: &mut N,
-) -> Result<Result<Vec<u8>, Rejection>, AnswerFault>
-    requires belongs { C.belongs turn.now.cells.now pass.old }
-    requires reads { reader.old.failures < 2 ^ 64 - 1 }
-    ensures belongs { C.belongs turn.now.cells.now pass.new }
-    ensures watched { GoesOnwards watcher.old watcher.new }
-    ensures settles { Settles C.grew (R.remaining reader.old.inner) watcher.new
-        turn.now.moment.now pass.old pass.new result }
-    ensures ended { result ≡ Err AnswerFault.Ended
-        → AnswersPost (R.remaining reader.old.inner) (Err fault.Ended) }
-    ensures unreadable { result ≡ Err AnswerFault.Reading
-        → reader.new.failures ≡ reader.old.failures + 1 }
-{
-    match hear(turn.alloc, reader, witness) {
-        Ok(Ok(request)) => {
-            let outcome = reply_to(turn, &request, pass, watcher, witness);
-            Ok(outcome)
-        }
-        Ok(Err(rejection)) => Ok(Err(rejection)),
-        Err(fault) => Err(fault),
-    }
-}
-
-// Writes the reply, and tells of it.
-fn send<W: Write>(
-    writer: &mut Counted<W>,
-    outcome: &Result<Vec<u8>, Rejection>,
-) -> Result<Sent, WriteFault>
-    requires { writer.old.failures < 2 ^ 64 - 1 }
-    ensures status { IfOk result
-        (λ sent. code_of (settled_reply outcome.now).status ≡ sent.status) }
-    ensures line { IfOk result (λ sent. sent.line.now ≡ told_line (settled_reply outcome.now)) }
-    ensures bytes { WritesBeginning (W.contents writer.old.inner) (W.contents writer.new.inner)
-        (message_bytes (settled_reply outcome.now)) result }
-    ensures count { CountsFailure writer.old.failures writer.new.failures result }
-{
-    match outcome {
-        Ok(text) => {
-            write_reply(writer, Status::Success, text.as_slice())?;
-            Ok(Sent {
-                status: Status::Success.code(),
-                line: b"",
-            })
-        }
-        Err(rejection) => {
-            write_reply(writer, rejection.status(), rejection.line())?;
-            Ok(Sent {
-                status: rejection.status().code(),
-                line: rejection.line(),
-            })
-        }
-    }
+    let mut room = AnswerRoom::new(turn.alloc);
+    answer_in(turn, &mut room, reader, writer, pass, watcher, witness)
 }

@@ -16,12 +16,16 @@ mod apps;
 mod reading;
 mod rejection;
 mod replying;
+mod room;
 mod sent;
+mod settling;
 mod turn;
 mod witness;
 
 pub use answering::{AnswerFault, answer, answer_before};
+pub use room::AnswerRoom;
 pub use sent::Sent;
+pub use settling::answer_in;
 pub use turn::Turn;
 pub use witness::{Nobody, Witness};
 

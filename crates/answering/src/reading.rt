@@ -8,14 +8,15 @@ ghost use Rattle.answering.specs.Answer.{IsHeard, IsHeardBody, WritesNothing};
 use crate::answering::AnswerFault;
 use crate::rejection::Rejection;
 use crate::witness::Witness;
-use http_front::{Counted, PostFault, read_post};
+use http_front::{Counted, PostFault, PostRoom};
 use omaha_json::{Request, read_request};
 use std::alloc::Global;
 use std::io::Read;
 
-/// Reads a request, or finds what the client is told in its place.
+/// Reads a request into the room, or finds what the client is told in its place.
 pub fn hear<R: Read, W: Witness>(
     alloc: Global,
+    room: &mut PostRoom,
     reader: &mut Counted<R>,
     witness: &mut W,
 ) -> Result<Result<Request, Rejection>, AnswerFault>
@@ -27,8 +28,8 @@ pub fn hear<R: Read, W: Witness>(
     ensures unreadable { result ≡ Err AnswerFault.Reading
         → reader.new.failures ≡ reader.old.failures + 1 }
 {
-    let fault = match read_post(alloc, reader) {
-        Ok(body) => return Ok(request_of(alloc, body.as_slice(), witness)),
+    let fault = match room.read_post(reader) {
+        Ok(()) => return Ok(request_of(alloc, room.body(), witness)),
         Err(fault) => fault,
     };
     match fault.status() {

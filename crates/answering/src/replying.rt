@@ -12,12 +12,13 @@ use crate::witness::Witness;
 use cells::CellSteps;
 use hot_swap::Watcher;
 use hot_swap::ruleset::Ruleset;
-use omaha_json::{OmahaFault, Request, found_text};
+use omaha_json::{OmahaFault, Request, found_text_in};
 
-/// The text of the reply to a request, or why there is none. The ruleset is asked for once. The
-/// witness sees what the apps were answered.
+/// The text of the reply to a request, in the room of an earlier text, or why there is none. The
+/// ruleset is asked for once. The witness sees what the apps were answered.
 pub fn reply_to<C: CellSteps, W: Witness>(
     turn: &Turn<'_, C>,
+    text: Vec<u8>,
     request: &Request,
     pass: &mut C::Pass,
     watcher: &mut Watcher,
@@ -39,7 +40,7 @@ pub fn reply_to<C: CellSteps, W: Witness>(
     };
     let answers = found.as_slice();
     witness.see(current.0, request, answers);
-    match found_text(turn.alloc, request, rules.server(), answers, *turn.moment) {
+    match found_text_in(text, request, rules.server(), answers, *turn.moment) {
         Ok(text) => Ok(text),
         Err(_) => Err(Rejection::of_omaha(OmahaFault::Memory)),
     }

@@ -5,8 +5,8 @@ use Rattle.answering.proofs.reading.hear.Goals as goal
 
 pub returns-in-Ok-clause-heard : goal.returns-in-Ok-clause-heard
 returns-in-Ok-clause-heard g c =
-    is_heard _ c.in-Ok.body.items c.as_slice.result.now c.in-Ok.ensures.body
-    c.as_slice.ensures.value c.request_of.result c.request_of.ensures
+    is_heard _ c.read_post.new.self c.body.result.now c.in-Ok.ensures.body c.body.ensures
+    c.request_of.result c.request_of.ensures
 
 pub returns-in-Some-clause-heard : goal.returns-in-Some-clause-heard
 returns-in-Some-clause-heard g c =

@@ -1,6 +1,6 @@
 use Rattle.std.proofs.Common.{◌∙◌, sym}
 use Rattle.answering.proofs.Replies.{idle}
-use Rattle.answering.proofs.answering.answer_before.Goals as goal
+use Rattle.answering.proofs.settling.answer_in.Goals as goal
 
 pub returns-in-Ok-clause-idle : goal.returns-in-Ok-clause-idle
 returns-in-Ok-clause-idle g c =

@@ -1,6 +1,6 @@
 use Rattle.answering.proofs.Grown.{grows_none}
 use Rattle.answering.proofs.Replies.{is_answered}
-use Rattle.answering.proofs.answering.settle.Goals as goal
+use Rattle.answering.proofs.settling.settle.Goals as goal
 
 pub returns-in-Ok-Ok-clause-settles : goal.returns-in-Ok-Ok-clause-settles
 returns-in-Ok-Ok-clause-settles g c =

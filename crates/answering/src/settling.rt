@@ -1,0 +1,143 @@
+//! One request at a turn: it is read into room that is kept, its reply is found, and written.
+
+ghost use Rattle.std.specs.Prelude.{◌≡◌, ◌≢◌, ◌+◌, ◌-◌, ◌^◌, ◌<◌, ◌≤◌, ℕ};
+ghost use Rattle.std.specs.Prelude.{Ok, Err, length, take, IfOk, IfErr};
+ghost use Rattle.std.specs.Io.KnownBytes.{Appends};
+ghost use Rattle.hot_swap.specs.Published.{GoesOnwards};
+ghost use Rattle.http_front.specs.devices.Device.{CountsFailure, WritesBeginning};
+ghost use Rattle.http_front.specs.Post.{AnswersPost};
+ghost use Rattle.http_front.specs.Reply.{code_of};
+ghost use Rattle.http_front.specs.declared.fault.PostFault.TheVariants as fault;
+ghost use Rattle.answering.specs.Answer.{RepliesByRuns, WritesNothing, Settles};
+ghost use Rattle.answering.specs.Reply.{HttpReply, message_bytes, told_line, settled_reply};
+
+use crate::answering::AnswerFault;
+use crate::reading::hear;
+use crate::rejection::Rejection;
+use crate::replying::reply_to;
+use crate::room::AnswerRoom;
+use crate::sent::Sent;
+use crate::turn::Turn;
+use crate::witness::Witness;
+use cells::CellSteps;
+use hot_swap::Watcher;
+use http_front::{Counted, Status, WriteFault, write_reply};
+use std::io::{Read, Write};
+
+/// Reads a request at a turn into room that is kept, answers it before a witness, and tells the
+/// reply that was sent.
+pub fn answer_in<R: Read, W: Write, C: CellSteps, N: Witness>(
+    turn: &Turn<'_, C>,
+    room: &mut AnswerRoom,
+    reader: &mut Counted<R>,
+    writer: &mut Counted<W>,
+    pass: &mut C::Pass,
+    watcher: &mut Watcher,
+    witness: &mut N,
+) -> Result<Sent, AnswerFault>
+    requires belongs { C.belongs turn.now.cells.now pass.old }
+    requires reads { reader.old.failures < 2 ^ 64 - 1 }
+    requires writes { writer.old.failures < 2 ^ 64 - 1 }
+    ensures belongs { C.belongs turn.now.cells.now pass.new }
+    ensures watched { GoesOnwards watcher.old watcher.new }
+
+    // What was written is the reply to what was read, under the ruleset that the watcher gave.
+    ensures replied { IfOk result (λ sent. (reply : HttpReply)
+        × (code_of reply.status ≡ sent.status) × (sent.line.now ≡ told_line reply)
+        × RepliesByRuns C.grew (R.remaining reader.old.inner) watcher.new turn.now.moment.now
+        pass.old pass.new reply
+        × Appends (W.contents writer.old.inner) (W.contents writer.new.inner)
+        (message_bytes reply)) }
+    // A request that isn't one makes no run.
+    ensures idle { IfOk result (λ sent.
+        sent.status ≢ 200 → sent.status ≢ 500 → pass.new ≡ pass.old) }
+
+    // Or a beginning of it was written.
+    ensures begun { (n : ℕ) → result ≡ Err (AnswerFault.Writing n)
+        → (reply : HttpReply) × (n ≤ length (message_bytes reply))
+        × RepliesByRuns C.grew (R.remaining reader.old.inner) watcher.new turn.now.moment.now
+        pass.old pass.new reply
+        × Appends (W.contents writer.old.inner) (W.contents writer.new.inner)
+        (take n (message_bytes reply)) }
+    ensures unwritable { (n : ℕ) → result ≡ Err (AnswerFault.Writing n)
+        → writer.new.failures ≡ writer.old.failures + 1 }
+
+    // Or nothing was, and nothing else happened.
+    ensures unread { IfErr result
+        (λ e. WritesNothing e → (pass.new ≡ pass.old) × (writer.new ≡ writer.old)) }
+    ensures ended { result ≡ Err AnswerFault.Ended
+        → AnswersPost (R.remaining reader.old.inner) (Err fault.Ended) }
+    ensures unreadable { result ≡ Err AnswerFault.Reading
+        → reader.new.failures ≡ reader.old.failures + 1 }
+{
+    let outcome = settle(turn, room, reader, pass, watcher, witness)?;
+    match send(writer, &outcome) {
+        Ok(sent) => {
+            room.keep(outcome);
+            Ok(sent)
+        }
+        Err(WriteFault { written }) => Err(AnswerFault::Writing(written)),
+    }
+}
+
+// Reads a request, and finds its reply.
+fn settle<R: Read, C: CellSteps, N: Witness>(
+    turn: &Turn<'_, C>,
+    room: &mut AnswerRoom,
+    reader: &mut Counted<R>,
+    pass: &mut C::Pass,
+    watcher: &mut Watcher,
+    witness: &mut N,
+) -> Result<Result<Vec<u8>, Rejection>, AnswerFault>
+    requires belongs { C.belongs turn.now.cells.now pass.old }
+    requires reads { reader.old.failures < 2 ^ 64 - 1 }
+    ensures belongs { C.belongs turn.now.cells.now pass.new }
+    ensures watched { GoesOnwards watcher.old watcher.new }
+    ensures settles { Settles C.grew (R.remaining reader.old.inner) watcher.new
+        turn.now.moment.now pass.old pass.new result }
+    ensures ended { result ≡ Err AnswerFault.Ended
+        → AnswersPost (R.remaining reader.old.inner) (Err fault.Ended) }
+    ensures unreadable { result ≡ Err AnswerFault.Reading
+        → reader.new.failures ≡ reader.old.failures + 1 }
+{
+    match hear(turn.alloc, &mut room.post, reader, witness) {
+        Ok(Ok(request)) => {
+            let text = room.take_text(turn.alloc);
+            let outcome = reply_to(turn, text, &request, pass, watcher, witness);
+            Ok(outcome)
+        }
+        Ok(Err(rejection)) => Ok(Err(rejection)),
+        Err(fault) => Err(fault),
+    }
+}
+
+// Writes the reply, and tells of it.
+fn send<W: Write>(
+    writer: &mut Counted<W>,
+    outcome: &Result<Vec<u8>, Rejection>,
+) -> Result<Sent, WriteFault>
+    requires { writer.old.failures < 2 ^ 64 - 1 }
+    ensures status { IfOk result
+        (λ sent. code_of (settled_reply outcome.now).status ≡ sent.status) }
+    ensures line { IfOk result (λ sent. sent.line.now ≡ told_line (settled_reply outcome.now)) }
+    ensures bytes { WritesBeginning (W.contents writer.old.inner) (W.contents writer.new.inner)
+        (message_bytes (settled_reply outcome.now)) result }
+    ensures count { CountsFailure writer.old.failures writer.new.failures result }
+{
+    match outcome {
+        Ok(text) => {
+            write_reply(writer, Status::Success, text.as_slice())?;
+            Ok(Sent {
+                status: Status::Success.code(),
+                line: b"",
+            })
+        }
+        Err(rejection) => {
+            write_reply(writer, rejection.status(), rejection.line())?;
+            Ok(Sent {
+                status: rejection.status().code(),
+                line: rejection.line(),
+            })
+        }
+    }
+}
