@@ -1,9 +1,9 @@
 //! Answering one request over and over, by one worker whose reader and writer are memory.
 
 ghost use Rattle.std.specs.Prelude.{◌≡◌, ◌+◌, IfOk};
-ghost use Rattle.bench_answer.specs.Answered.{IsReplied, IsTally, IsTallyFromZeros};
+ghost use Rattle.bench_answer.specs.Answered.{IsReplied, IsTally, IsTallyFromZeros, moment};
 
-use answering::answer;
+use answering::{AnswerRoom, Nobody, Turn, answer_in};
 use anyhow::{Context, Error, Result};
 use attrs::fnv1a;
 use cells::{CellSteps, PlainCells};
@@ -23,31 +23,32 @@ pub(crate) struct Tally {
     pub(crate) reply: u64,
 }
 
-/// Answers the request once, into the room of an earlier reply.
+/// Answers the request once in room that is kept, and writes into that of an earlier reply.
 fn answer_once<C: CellSteps>(
-    alloc: Global,
+    turn: &Turn<'_, C>,
+    room: &mut AnswerRoom,
     input: &[u8],
-    mut room: Vec<u8>,
-    cells: &C,
+    mut written: Vec<u8>,
     pass: &mut C::Pass,
     watcher: &mut Watcher,
 ) -> Result<Vec<u8>>
-    requires { C.belongs cells.now pass.old }
-    ensures belongs { C.belongs cells.now pass.new }
+    requires belongs { C.belongs turn.now.cells.now pass.old }
+    requires moment { turn.now.moment.now ≡ moment }
+    ensures belongs { C.belongs turn.now.cells.now pass.new }
     ensures replied { IfOk result (λ reply.
         IsReplied C.grew input.now watcher.new pass.old pass.new reply.items) }
 {
-    room.clear();
+    written.clear();
     let mut reader = Counted::new(input);
-    let mut writer = Counted::new(room);
-    let sent = answer(
-        alloc,
+    let mut writer = Counted::new(written);
+    let sent = answer_in(
+        turn,
+        room,
         &mut reader,
         &mut writer,
-        cells,
         pass,
         watcher,
-        MOMENT,
+        &mut Nobody,
     )?;
     if sent.status != 200 {
         return Err(Error::msg("the request is refused"));
@@ -75,10 +76,16 @@ pub(crate) fn answer_times<C: CellSteps>(
     requires { C.belongs cells.now pass.old }
     ensures { IfOk result (IsTally C.grew input.now times pass.old pass.new) }
 {
+    let turn = Turn {
+        alloc,
+        cells,
+        moment: &MOMENT,
+    };
+    let mut room = AnswerRoom::new(alloc);
     let mut reply = Vec::new(alloc);
     let mut bytes = 0u64;
     for n in 0..times {
-        reply = answer_once(alloc, input, reply, cells, pass, watcher)?;
+        reply = answer_once(&turn, &mut room, input, reply, pass, watcher)?;
         bytes = sum(bytes, reply.len())?;
     }
     Ok(Tally {
