@@ -5,12 +5,13 @@ use http_front::PostRoom;
 use std::alloc::Global;
 use std::mem;
 
-/// The most room for a reply that is kept for the next one.
-const KEPT_TEXT: usize = 65_536;
+/// The most room for a reply that is kept for the next one: enough for 256 apps, each of which is
+/// offered a release of sixteen packages.
+const KEPT_TEXT: usize = 1_048_576;
 
 /// Room for the head and the body of a request and for the text of a reply. It takes memory as
-/// requests need it, and keeps what a head and bodies and texts up to 65,536 bytes take. No answer
-/// depends on what was read or written into it before.
+/// requests need it, and keeps what a head, a body up to 65,536 bytes and a text up to 1,048,576
+/// take. No answer depends on what was read or written into it before.
 #[derive(Drop)]
 pub struct AnswerRoom {
     pub(crate) post: PostRoom,
