@@ -1,7 +1,8 @@
 //! A reply is written: its head is put into a fixed buffer, since a reply has to be made where
-//! memory is refused too, and goes out in one piece; then the body.
+//! memory is refused too. A body that fits another fixed buffer behind the head goes out with it in
+//! one piece, since each piece is a call of the system; any other goes out behind the head.
 
-ghost use Rattle.std.specs.Prelude.{◌≡◌, ◌+◌, ◌-◌, ◌^◌, ◌<◌, ◌≤◌, ◌++◌, length};
+ghost use Rattle.std.specs.Prelude.{◌≡◌, ◌+◌, ◌-◌, ◌^◌, ◌<◌, ◌≤◌, ◌++◌, [], IsTrue, length};
 ghost use Rattle.arrayvec.specs.ArrayVec.{array_vec_len};
 ghost use Rattle.devices.specs.Device.{CountsFailure, WritesBeginning};
 ghost use Rattle.http_front.specs.Reply.{crlf, reply_head, reply_bytes};
@@ -13,6 +14,9 @@ use std::io::Write;
 
 /// More bytes than the head of any reply has.
 const HEAD_ROOM: usize = 256;
+
+/// Room for the whole reply to a request of an app or two.
+const PIECE_ROOM: usize = 2048;
 
 // Puts the text behind what the head has.
 fn put(head: &mut ArrayVec<u8, HEAD_ROOM>, text: &[u8])
@@ -53,6 +57,30 @@ fn head_of(status: Status, size: usize) -> ArrayVec<u8, HEAD_ROOM>
     head
 }
 
+// Whether the two texts fit the piece, which then has the one behind the other.
+fn fits(piece: &mut ArrayVec<u8, PIECE_ROOM>, head: &[u8], body: &[u8]) -> bool
+    requires { piece.old.items ≡ [] }
+    ensures { IsTrue result → piece.new.items ≡ head.now ++ body.now }
+{
+    piece.try_extend_from_slice(head).is_ok() && piece.try_extend_from_slice(body).is_ok()
+}
+
+// Writes one text, and then the other.
+fn write_both<W: Write>(writer: &mut Counted<W>, head: &[u8], body: &[u8]) -> Result<(), WriteFault>
+    requires { writer.old.failures < 2 ^ 64 - 1 }
+    ensures bytes { WritesBeginning (W.contents writer.old.inner) (W.contents writer.new.inner)
+        (head.now ++ body.now) result }
+    ensures count { CountsFailure writer.old.failures writer.new.failures result }
+{
+    writer.write_whole(head)?;
+    match writer.write_whole(body) {
+        Ok(()) => Ok(()),
+        Err(fault) => Err(WriteFault {
+            written: head.len() + fault.written,
+        }),
+    }
+}
+
 /// Writes a whole reply, or its beginning up to the first failure; no memory is taken.
 pub fn write_reply<W: Write>(
     writer: &mut Counted<W>,
@@ -64,13 +92,11 @@ pub fn write_reply<W: Write>(
         (reply_bytes status body.now) result }
     ensures count { CountsFailure writer.old.failures writer.new.failures result }
 {
-    let buffer = head_of(status, body.len());
-    let head = buffer.as_slice();
-    writer.write_whole(head)?;
-    match writer.write_whole(body) {
-        Ok(()) => Ok(()),
-        Err(fault) => Err(WriteFault {
-            written: head.len() + fault.written,
-        }),
+    let head = head_of(status, body.len());
+    let mut piece = ArrayVec::new();
+    if fits(&mut piece, head.as_slice(), body) {
+        writer.write_whole(piece.as_slice())
+    } else {
+        write_both(writer, head.as_slice(), body)
     }
 }

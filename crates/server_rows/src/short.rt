@@ -68,16 +68,17 @@ const ENDED: Device = Device {
     ..WHOLE
 };
 
-/// Each write of up to 50, and how many bytes were written before: the head has 106, the body 248.
+/// Each write of up to 50, and how many bytes were written before: head and body, which go out in
+/// one piece, have 354.
 const WRITTEN: [(u64, usize); 8] = [
     (1, 0),
     (2, 50),
     (3, 100),
-    (4, 106),
-    (5, 156),
-    (6, 206),
-    (7, 256),
-    (8, 306),
+    (4, 150),
+    (5, 200),
+    (6, 250),
+    (7, 300),
+    (8, 350),
 ];
 
 #[test]

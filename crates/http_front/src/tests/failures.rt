@@ -28,8 +28,8 @@ fn write_that_fails(rt: HostRuntime) -> Result<(), Fail> {
         (40, 3, 80),
         (97, 2, 97),
         (97, 1, 0),
-        (100, 2, 97),
-        (3, 36, 103),
+        (100, 2, 100),
+        (3, 36, 105),
     ] {
         let mut writer = Counted::new(FailAt::new(Vec::new(rt.alloc()), piece, call));
         let answer = write_reply(&mut writer, Status::LengthRequired, b"P4 Length\n");
@@ -39,6 +39,22 @@ fn write_that_fails(rt: HostRuntime) -> Result<(), Fail> {
         assert!(rt; Some(out.as_slice()) == REFUSAL.get(..wanted));
     }
     Ok(())
+}
+
+#[test]
+fn body_that_fits_goes_with_its_head(rt: HostRuntime) {
+    // The head has 99 bytes, and the piece of both has room for 2048. The call that fails.
+    for (size, call, wanted) in [
+        (1949, 1, Err(WriteFault { written: 0 })),
+        (1949, 2, Ok(())),
+        (1950, 2, Err(WriteFault { written: 99 })),
+        (1950, 3, Ok(())),
+    ] {
+        let body = [0; 1950];
+        let mut writer = Counted::new(FailAt::new(Vec::new(rt.alloc()), 4096, call));
+        let answer = write_reply(&mut writer, Status::LengthRequired, &body[..size]);
+        assert_eq!(rt; answer, wanted);
+    }
 }
 
 #[test]
