@@ -15,7 +15,7 @@ use crate::room::AnswerRoom;
 use crate::sent::Sent;
 use crate::settling::answer_in;
 use crate::turn::Turn;
-use crate::witness::{Nobody, Witness};
+use crate::witness::Nobody;
 use attrs::Moment;
 use cells::CellSteps;
 use hot_swap::Watcher;
@@ -98,53 +98,6 @@ pub fn answer<R: Read, W: Write, C: CellSteps>(
         cells,
         moment: &moment,
     };
-    answer_before(&turn, reader, writer, pass, watcher, &mut Nobody)
-}
-
-/// The same at a turn, before a witness.
-pub fn answer_before<R: Read, W: Write, C: CellSteps, N: Witness>(
-    turn: &Turn<'_, C>,
-    reader: &mut Counted<R>,
-    writer: &mut Counted<W>,
-    pass: &mut C::Pass,
-    watcher: &mut Watcher,
-    witness: &mut N,
-) -> Result<Sent, AnswerFault>
-    requires belongs { C.belongs turn.now.cells.now pass.old }
-    requires reads { reader.old.failures < 2 ^ 64 - 1 }
-    requires writes { writer.old.failures < 2 ^ 64 - 1 }
-    ensures belongs { C.belongs turn.now.cells.now pass.new }
-    ensures watched { GoesOnwards watcher.old watcher.new }
-
-    // What was written is the reply to what was read, under the ruleset that the watcher gave.
-    ensures replied { IfOk result (λ sent. (reply : HttpReply)
-        × (code_of reply.status ≡ sent.status) × (sent.line.now ≡ told_line reply)
-        × RepliesByRuns C.grew (R.remaining reader.old.inner) watcher.new turn.now.moment.now
-        pass.old pass.new reply
-        × Appends (W.contents writer.old.inner) (W.contents writer.new.inner)
-        (message_bytes reply)) }
-    // A request that isn't one makes no run.
-    ensures idle { IfOk result (λ sent.
-        sent.status ≢ 200 → sent.status ≢ 500 → pass.new ≡ pass.old) }
-
-    // Or a beginning of it was written.
-    ensures begun { (n : ℕ) → result ≡ Err (AnswerFault.Writing n)
-        → (reply : HttpReply) × (n ≤ length (message_bytes reply))
-        × RepliesByRuns C.grew (R.remaining reader.old.inner) watcher.new turn.now.moment.now
-        pass.old pass.new reply
-        × Appends (W.contents writer.old.inner) (W.contents writer.new.inner)
-        (take n (message_bytes reply)) }
-    ensures unwritable { (n : ℕ) → result ≡ Err (AnswerFault.Writing n)
-        → writer.new.failures ≡ writer.old.failures + 1 }
-
-    // Or nothing was, and nothing else happened.
-    ensures unread { IfErr result
-        (λ e. WritesNothing e → (pass.new ≡ pass.old) × (writer.new ≡ writer.old)) }
-    ensures ended { result ≡ Err AnswerFault.Ended
-        → AnswersPost (R.remaining reader.old.inner) (Err fault.Ended) }
-    ensures unreadable { result ≡ Err AnswerFault.Reading
-        → reader.new.failures ≡ reader.old.failures + 1 }
-{
-    let mut room = AnswerRoom::new(turn.alloc);
-    answer_in(turn, &mut room, reader, writer, pass, watcher, witness)
+    let mut room = AnswerRoom::new(alloc);
+    answer_in(&turn, &mut room, reader, writer, pass, watcher, &mut Nobody)
 }

@@ -22,7 +22,7 @@ mod settling;
 mod turn;
 mod witness;
 
-pub use answering::{AnswerFault, answer, answer_before};
+pub use answering::{AnswerFault, answer};
 pub use room::AnswerRoom;
 pub use sent::Sent;
 pub use settling::answer_in;

@@ -13,7 +13,7 @@ use crate::log::Log;
 use crate::log_queue::LogQueue;
 use crate::queue::next;
 use crate::seen::Seen;
-use answering::{AnswerFault, Sent, Turn, answer_before};
+use answering::{AnswerFault, AnswerRoom, Sent, Turn, answer_in};
 use crossbeam_channel::Receiver;
 use one_world::cells::{CellSteps, growth};
 use one_world::runs_add_up;
@@ -35,7 +35,7 @@ pub struct Service<'a> {
     pub log: Option<&'a LogQueue>,
 }
 
-/// A worker's seat: by what it answers.
+/// A worker's seat: by what it answers, and the room that it keeps for it.
 #[derive(Drop)]
 struct WorkerSeat<'a, C: CellSteps>
 where
@@ -44,6 +44,7 @@ where
     cells: &'a C,
     pass: C::Pass,
     watcher: Watcher,
+    room: AnswerRoom,
 }
 
 /// Answers until the queue is closed, and gives back the pass and the watcher.
@@ -70,6 +71,7 @@ where
         cells,
         pass,
         watcher,
+        room: AnswerRoom::new(rt.alloc()),
     };
     let mut log = Log::new(rt.alloc(), service.log);
     for _ in rt.forever() {
@@ -84,6 +86,7 @@ where
         cells: _cells,
         pass,
         watcher,
+        room: _room,
     } = seat;
     (pass, watcher)
 }
@@ -149,8 +152,9 @@ where
         cells: seat.cells,
         moment: &moment,
     };
-    let outcome = answer_before(
+    let outcome = answer_in(
         &turn,
+        &mut seat.room,
         &mut reader,
         &mut writer,
         &mut seat.pass,
