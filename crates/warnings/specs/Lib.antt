@@ -1,1 +1,7 @@
 pub mod Releases
+pub mod Possible
+pub mod Stack
+pub mod Course
+pub mod Asking
+pub mod Asked
+pub use Rattle.rule_diagnosis.specs as rule_diagnosis

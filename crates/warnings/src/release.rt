@@ -30,7 +30,7 @@ fn scheme_said() -> &'static str
     "codebase: it begins with neither https:// nor http://\n"
 }
 
-fn tell_if(
+pub(crate) fn tell_if(
     text: &mut String,
     holds: bool,
     app: usize,
@@ -56,7 +56,7 @@ fn tell_member(text: &mut String, app: usize, number: usize) -> Result<(), Alloc
     tell_number(text, number)
 }
 
-fn tell_app(text: &mut String, app: usize) -> Result<(), AllocError>
+pub(crate) fn tell_app(text: &mut String, app: usize) -> Result<(), AllocError>
     ensures { OnOk result (string_bytes text.new ≡ string_bytes text.old ++ specs.warned_app app) }
 {
     write!(text, "warning: app[{app}].")

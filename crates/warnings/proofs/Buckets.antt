@@ -1,0 +1,77 @@
+-- Whether something holds of some number below another, and of the app of some bucket.
+use Rattle.std.proofs.Common.{◌≡◌, ℕ, zero, suc, ◌+◌, ◌<◌, List, Bool, true, false, ◌||◌}
+use Rattle.std.proofs.Common.{Option, refl, sym, ap, ◌∙◌, subst, arith, inl, inr, add-one}
+use Rattle.std.proofs.lemmas.Bool.{cases_lt}
+use Rattle.releases.specs.attrs.Attributes.{Attributes, plain}
+use Rattle.warnings.specs.Asking.{RuleOfApp, any_below, in_some_bucket}
+
+or_true : (b c : Bool) → c ≡ true → (b || c) ≡ true
+or_true true c e = refl
+or_true false c e = e
+
+-- ---- numbers
+
+pub none_below_zero : (p : ℕ → Bool) → any_below p 0 ≡ false
+unfolding any_below
+none_below_zero p = refl
+
+none_below_suc : (p : ℕ → Bool) (n : ℕ) → any_below p n ≡ false → p n ≡ false
+    → any_below p (suc n) ≡ false
+unfolding any_below
+none_below_suc p n before here = ap (λ b. b || p n) before ∙ here
+
+pub none_more : (p : ℕ → Bool) (n : ℕ) → any_below p n ≡ false → p n ≡ false
+    → any_below p (n + 1) ≡ false
+none_more p n before here =
+    subst (λ m. any_below p m ≡ false) (sym (add-one n)) (none_below_suc p n before here)
+
+-- one is enough
+any_found : (p : ℕ → Bool) (m n : ℕ) → m < n → p m ≡ true → any_below p n ≡ true
+unfolding any_below
+any_found p m zero within here = absurd (omega (arith, within))
+any_found p m (suc n) within here =
+    elim (cases_lt m n) [
+      | inl before ↦ ap (λ b. b || p n) (any_found p m n before here)
+      | inr behind ↦ let same : m ≡ n = omega (arith, within, behind) in
+          or_true (any_below p n) (p n) (subst (λ k. p k ≡ true) same here)
+    ]
+
+-- ---- buckets
+
+abbrev moved : Attributes → ℕ → Attributes
+moved a bucket = record a { context = record a.context { bucket = bucket } }
+
+-- who asks is the app of some bucket
+abbrev pub IsAsker : List ℕ → Option (List ℕ) → Attributes → Type 0
+IsAsker appid version a = (bucket : ℕ) → moved a bucket ≡ plain appid version bucket
+
+pub begins : (appid : List ℕ) (version : Option (List ℕ)) (a : Attributes)
+    → a ≡ plain appid version 0 → IsAsker appid version a
+begins appid version a is bucket = ap (λ (x : Attributes). moved x bucket) is
+
+pub moves : (appid : List ℕ) (version : Option (List ℕ)) (a b : Attributes) (k : ℕ)
+    → IsAsker appid version a → b ≡ moved a k → IsAsker appid version b
+moves appid version a b k asker is bucket =
+    ap (λ (x : Attributes). moved x bucket) is ∙ asker bucket
+
+there : (asks : Attributes → Bool) (appid : List ℕ) (version : Option (List ℕ))
+    (a b : Attributes) (k : ℕ) (got : Bool) → IsAsker appid version a → b ≡ moved a k
+    → got ≡ asks b → asks (plain appid version k) ≡ got
+there asks appid version a b k got asker is answers =
+    ap asks (sym (is ∙ asker k)) ∙ sym answers
+
+pub found : (r : RuleOfApp) (asks : Attributes → Bool) (version : Option (List ℕ))
+    (a b : Attributes) (k : ℕ) (got : Bool) → IsAsker r.appid version a → b ≡ moved a k
+    → k < 10000 → got ≡ asks b → got ≡ true → true ≡ in_some_bucket r asks version
+found r asks version a b k got asker is within answers holds =
+    sym (any_found (λ bucket. asks (plain r.appid version bucket)) k 10000 within
+    (there asks r.appid version a b k got asker is answers ∙ holds))
+
+pub not_found : (asks : Attributes → Bool) (appid : List ℕ) (version : Option (List ℕ))
+    (a b : Attributes) (k : ℕ) (got : Bool) → IsAsker appid version a → b ≡ moved a k
+    → got ≡ asks b → got ≡ false
+    → any_below (λ bucket. asks (plain appid version bucket)) k ≡ false
+    → any_below (λ bucket. asks (plain appid version bucket)) (k + 1) ≡ false
+not_found asks appid version a b k got asker is answers fails before =
+    none_more (λ bucket. asks (plain appid version bucket)) k before
+    (there asks appid version a b k got asker is answers ∙ fails)

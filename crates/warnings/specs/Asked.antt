@@ -1,0 +1,123 @@
+-- What is told of an app's rule that was asked: lines, each ended by a line feed.
+use Rattle.std.specs.Prelude.{ℕ, ◌+◌, ◌-◌, ◌*◌, List, [], ◌∷◌, ◌++◌, codes, decimal, length}
+use Rattle.std.specs.Prelude.{Bool, true, false, nat_le, if◌then◌else◌}
+use Rattle.std.specs.Prelude.{Option, Some, None, option_and_then, unwrap_or}
+use Rattle.releases.specs.Release.{Release}
+use Rattle.rule_diagnosis.specs.rule_lang.declared.condition.Step.{Step}
+use Rattle.rule_diagnosis.specs.rule_lang.declared.condition.Step.TheVariants as step
+use Rattle.rule_diagnosis.specs.rule_lang.declared.rule.Statement.{Statement}
+use Rattle.rule_diagnosis.specs.rule_lang.declared.rule.Statement.TheVariants.{Count, When}
+use Rattle.warnings.specs.Asking.{RuleOfApp, in_some_bucket, someone}
+use Rattle.warnings.specs.Asking.{arrives, gives_again, may_end, may_give}
+use Rattle.warnings.specs.Releases.{line_where, warned_app}
+
+-- ---- a `when`, by the line of its first test
+
+-- no app gets to it
+unfoldable pub unreached_said : List ℕ
+unreached_said =
+    codes "this when is never reached, in any bucket, at a release's version or at none\n"
+
+-- those that get to it go on behind it
+unfoldable pub unheld_said : List ℕ
+unheld_said =
+    codes "this when never holds where it is reached, "
+    ++ codes "in any bucket, at a release's version or at none\n"
+
+abbrev pub first_line : List Step → ℕ
+first_line (step.Test line t ∷ steps) = line
+first_line steps = 0
+
+abbrev pub in_line : ℕ → List ℕ
+in_line line = codes "rule: line " ++ decimal line ++ codes ": "
+
+abbrev pub rule_line : (app line : ℕ) → (said : List ℕ) → List ℕ
+rule_line app line said = warned_app app ++ in_line line ++ said
+
+abbrev pub when_line : (app : ℕ) → (ends reached : Bool) → List Step → List ℕ
+when_line app true reached steps = []
+when_line app false true steps = rule_line app (first_line steps) unheld_said
+when_line app false false steps = rule_line app (first_line steps) unreached_said
+
+abbrev pub statement_line : (app : ℕ) → RuleOfApp → (before : List Statement) → Statement → List ℕ
+statement_line app r before (Count name index) = []
+statement_line app r before (When steps release) =
+    when_line app (someone r (may_end r before (When steps release)))
+    (someone r (arrives r before)) steps
+
+-- of the statements behind these
+abbrev pub statements_from : (app : ℕ) → RuleOfApp → (before rest : List Statement) → List ℕ
+statements_from app r before [] = []
+statements_from app r before (st ∷ rest) =
+    statement_line app r before st ++ statements_from app r (before ++ st ∷ []) rest
+
+-- ---- a release
+
+unfoldable pub ungiven_said : List ℕ
+ungiven_said = codes "no bucket gets it, at a release's version or at none\n"
+
+abbrev pub of_release : ℕ → List ℕ
+of_release number = codes "release[" ++ decimal number ++ codes "]: "
+
+abbrev pub ungiven_line : Bool → (app number : ℕ) → List ℕ
+ungiven_line true app number = []
+ungiven_line false app number = warned_app app ++ of_release number ++ ungiven_said
+
+unfoldable pub repeated_said : List ℕ
+repeated_said =
+    codes "version: in some bucket who has it gets it again, "
+    ++ codes "or a lower one, with no other attributes\n"
+
+abbrev pub release_lines : (app number : ℕ) → RuleOfApp → Release → List ℕ
+release_lines app number r release =
+    ungiven_line (someone r (may_give r number)) app number
+    ++ line_where (in_some_bucket r (gives_again r release.version) (Some release.version)) app
+    number repeated_said
+
+abbrev pub asked_from : (app number : ℕ) → RuleOfApp → List Release → List ℕ
+asked_from app number r [] = []
+asked_from app number r (release ∷ later) =
+    release_lines app number r release ++ asked_from app (number + 1) r later
+
+-- ---- how much is asked
+
+-- a rule takes room for each step of its conditions at each version; None where there is too little
+abbrev pub steps_of : Statement → ℕ
+steps_of (Count name index) = 0
+steps_of (When steps release) = length steps
+
+abbrev pub room_behind_one : (versions room : ℕ) → Statement → Option ℕ
+room_behind_one versions room st =
+    let taken = versions * steps_of st in if nat_le taken room then Some (room - taken) else None
+
+abbrev pub room_behind : (versions room : ℕ) → List Statement → Option ℕ
+room_behind versions room [] = Some room
+room_behind versions room (st ∷ rest) =
+    option_and_then (λ left. room_behind versions left rest) (room_behind_one versions room st)
+
+abbrev pub room_after : RuleOfApp → (room : ℕ) → Option ℕ
+room_after r room = room_behind (length r.releases + 1) room r.rule
+
+-- what all rules of a manifest have
+abbrev pub all_room : ℕ
+all_room = 10000
+
+-- ---- the whole
+
+abbrev pub asked_text : (app : ℕ) → RuleOfApp → List ℕ
+asked_text app r = statements_from app r [] r.rule ++ asked_from app 1 r r.releases
+
+-- there is too little room for it
+unfoldable pub unasked_said : List ℕ
+unasked_said = codes "rule: not asked which releases it gives, since that would take long\n"
+
+abbrev pub told_in : Option ℕ → (app : ℕ) → RuleOfApp → List ℕ
+told_in (Some left) app r = asked_text app r
+told_in None app r = warned_app app ++ unasked_said
+
+abbrev pub rule_text : (app room : ℕ) → RuleOfApp → List ℕ
+rule_text app room r = told_in (room_after r room) app r
+
+-- a rule that isn't asked takes no room
+abbrev pub room_left : (room : ℕ) → RuleOfApp → ℕ
+room_left room r = unwrap_or (room_after r room) room

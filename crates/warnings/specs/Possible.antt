@@ -1,0 +1,90 @@
+-- What a condition may come to for an app of which version and bucket are known. What else it says
+-- is open, or it says nothing else and all counters are at 0.
+use Rattle.std.specs.Prelude.{ℕ, List, [], ◌∷◌, Option, Some, None, nat_lt}
+use Rattle.std.specs.Prelude.{Bool, true, false, not, ◌==◌, ◌&&◌, ◌||◌, bit_and}
+use Rattle.std.specs.Ordering.{nat_cmp}
+use Rattle.releases.specs.attrs.Attributes.{Attributes}
+use Rattle.releases.specs.attrs.Helpers.{attr_is}
+use Rattle.rule_diagnosis.specs.cells.Arrays.{AppShape}
+use Rattle.rule_diagnosis.specs.rule_lang.declared.condition.Step.{Step}
+use Rattle.rule_diagnosis.specs.rule_lang.declared.test.Comparison.{Comparison}
+use Rattle.rule_diagnosis.specs.rule_lang.declared.test.Test.{Test}
+use Rattle.rule_diagnosis.specs.rule_lang.declared.test.Test.TheVariants as test
+use Rattle.rule_diagnosis.specs.rule_lang.Meaning.{allows, attribute_number, bucket_by}
+use Rattle.rule_diagnosis.specs.rule_lang.Meaning.{flag_bit, remainder, version_cmp}
+use Rattle.rule_diagnosis.specs.rule_lang.Shapes.{array_named, quota_of}
+use Rattle.rule_diagnosis.specs.rule_lang.Trees.{Tree, Asked, Negated, Both, Either, trees_from}
+use Rattle.warnings.specs.declared.possible.Possible.{Possible}
+use Rattle.warnings.specs.declared.possible.Rest.{Rest}
+use Rattle.warnings.specs.declared.possible.Rest.TheVariants.{Anything, Nothing}
+
+-- it comes to this alone, or to either
+abbrev pub decided : Bool → Possible
+decided b = record { holds = b; fails = not b }
+
+abbrev pub undecided : Possible
+undecided = record { holds = true; fails = true }
+
+-- ---- tests
+
+-- whether a test holds for an app that says this, where all counters are at 0
+abbrev pub holds_of : Attributes → AppShape → Test → Bool
+holds_of a s (test.Version r w) = allows r (version_cmp a.context.version w)
+holds_of a s (test.Bucket salt modulus r n) =
+    allows r (nat_cmp (remainder modulus (bucket_by a salt)) n)
+holds_of a s (test.Today r n) = allows r (nat_cmp a.context.today n)
+holds_of a s (test.Installed r n) = allows r (nat_cmp a.context.install_day n)
+holds_of a s (test.Flag f) = not (bit_and a.context.flags (flag_bit f) == 0)
+holds_of a s (test.Attr n text) = attr_is a (attribute_number n) text == 1
+holds_of a s (test.Take name index) = nat_lt 0 (quota_of (array_named name s.arrays))
+
+-- the last day that there is; one that isn't known is told as this, too
+abbrev pub last_day : ℕ
+last_day = 4294967295
+
+-- of a day from 0 to the last one: whether it may compare so with a number, as the first day does,
+-- or the number itself, or the last day
+abbrev pub day_possible : Comparison → ℕ → Possible
+day_possible r n =
+    let first = allows r (nat_cmp 0 n) in
+    let same = allows r (nat_cmp n n) in
+    let last = allows r (nat_cmp last_day n) in
+    record { holds = first || same || last; fails = not first || not same || not last }
+
+-- the app says what else it will
+abbrev pub open_possible : Attributes → AppShape → Test → Possible
+open_possible a s (test.Version r w) = decided (holds_of a s (test.Version r w))
+open_possible a s (test.Bucket salt modulus r n) =
+    decided (holds_of a s (test.Bucket salt modulus r n))
+open_possible a s (test.Today r n) = day_possible r n
+open_possible a s (test.Installed r n) = day_possible r n
+open_possible a s t = undecided
+
+abbrev pub test_possible : Rest → Attributes → AppShape → Test → Possible
+test_possible Anything a s t = open_possible a s t
+test_possible Nothing a s t = decided (holds_of a s t)
+
+-- ---- conditions
+
+abbrev pub negated : Possible → Possible
+negated p = record { holds = p.fails; fails = p.holds }
+
+abbrev pub both : Possible → Possible → Possible
+both p q = record { holds = p.holds && q.holds; fails = p.fails || q.fails }
+
+abbrev pub either : Possible → Possible → Possible
+either p q = record { holds = p.holds || q.holds; fails = p.fails && q.fails }
+
+abbrev pub tree_possible : (Test → Possible) → Tree → Possible
+tree_possible of (Asked line t) = of t
+tree_possible of (Negated c) = negated (tree_possible of c)
+tree_possible of (Both b c) = both (tree_possible of b) (tree_possible of c)
+tree_possible of (Either b c) = either (tree_possible of b) (tree_possible of c)
+
+-- the steps of a condition make one tree
+abbrev pub one_possible : (Test → Possible) → Option (List Tree) → Possible
+one_possible of (Some (c ∷ [])) = tree_possible of c
+one_possible of trees = decided false
+
+abbrev pub steps_possible : (Test → Possible) → List Step → Possible
+steps_possible of steps = one_possible of (trees_from [] steps)

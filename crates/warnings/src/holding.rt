@@ -1,0 +1,192 @@
+//! Tests of a rule, for an app that says this and no more, and for one that says what else it will.
+
+ghost use Rattle.std.specs.Prelude.{◌≡◌, ◌<◌, option_copied};
+ghost use Rattle.std.specs.Ordering.{nat_cmp};
+ghost use Rattle.rule_diagnosis.specs.rule_lang.Meaning as meaning;
+ghost use Rattle.rule_diagnosis.specs.rule_lang.Shapes as shapes;
+ghost use Rattle.warnings.specs.Possible as specs;
+
+use crate::possible::{Possible, Rest};
+use attrs::{Attrs, Context, helper_attr_is, helper_bucket};
+use rule_diagnosis::array_named;
+use rule_diagnosis::cells::{CellArray, Shape};
+use rule_diagnosis::rule_lang::{Attribute, Comparison, Flag, Test};
+use std::cmp::Ordering;
+
+/// The last day that there is.
+const LAST_DAY: u64 = 4294967295;
+
+fn compare(left: u64, right: u64) -> Ordering
+    ensures { result ≡ nat_cmp left right }
+{
+    left.cmp(&right)
+}
+
+fn allows(comparison: Comparison, ordering: Ordering) -> bool
+    ensures { result ≡ meaning.allows comparison ordering }
+{
+    match (comparison, ordering) {
+        (Comparison::Lt, Ordering::Less) => true,
+        (Comparison::Le, Ordering::Less) => true,
+        (Comparison::Le, Ordering::Equal) => true,
+        (Comparison::Eq, Ordering::Equal) => true,
+        (Comparison::Ne, Ordering::Less) => true,
+        (Comparison::Ne, Ordering::Greater) => true,
+        (Comparison::Ge, Ordering::Equal) => true,
+        (Comparison::Ge, Ordering::Greater) => true,
+        (Comparison::Gt, Ordering::Greater) => true,
+        _ => false,
+    }
+}
+
+fn compare_place(v: [u32; 4], w: [u32; 4], place: usize) -> Ordering
+    requires { place < 4 }
+    ensures { result ≡ meaning.place_cmp v w place }
+{
+    compare(v[place] as u64, w[place] as u64)
+}
+
+/// How two versions compare, by their four numbers in their order.
+pub(crate) fn compare_versions(v: [u32; 4], w: [u32; 4]) -> Ordering
+    ensures { result ≡ meaning.version_cmp v w }
+{
+    let behind = compare_place(v, w, 2).then(compare_place(v, w, 3));
+    compare_place(v, w, 0).then(compare_place(v, w, 1).then(behind))
+}
+
+/// Whether the one version isn't higher than the other.
+pub(crate) fn is_at_most(v: [u32; 4], w: [u32; 4]) -> bool
+    ensures { result ≡ meaning.allows Comparison.Le (meaning.version_cmp v w) }
+{
+    allows(Comparison::Le, compare_versions(v, w))
+}
+
+fn flag_bit(flag: Flag) -> u8
+    ensures { result ≡ meaning.flag_bit flag }
+{
+    match flag {
+        Flag::VersionKnown => Context::VERSION_KNOWN,
+        Flag::Updatecheck => Context::UPDATECHECK,
+        Flag::Ping => Context::PING,
+        Flag::Event => Context::EVENT,
+        Flag::CohortKnown => Context::COHORT_KNOWN,
+        Flag::InstalldateKnown => Context::INSTALLDATE_KNOWN,
+    }
+}
+
+fn attribute_number(attribute: Attribute) -> u64
+    ensures { result ≡ meaning.attribute_number attribute }
+{
+    match attribute {
+        Attribute::Appid => 0,
+        Attribute::Version => 1,
+        Attribute::Brand => 2,
+        Attribute::Ap => 3,
+        Attribute::Lang => 4,
+        Attribute::Cohort => 5,
+        Attribute::Platform => 6,
+    }
+}
+
+fn bucket_by(attrs: &Attrs, salt: Option<u64>) -> u64
+    ensures { result ≡ meaning.bucket_by attrs.now salt }
+{
+    match salt {
+        None => attrs.context().bucket as u64,
+        Some(salt) => helper_bucket(attrs, salt),
+    }
+}
+
+fn remainder(modulus: Option<u32>, number: u64) -> u64
+    ensures { result ≡ meaning.remainder modulus number }
+{
+    match modulus {
+        None => number,
+        Some(0) => number,
+        Some(modulus) => number % modulus as u64,
+    }
+}
+
+fn quota_of(array: Option<&CellArray>) -> u64
+    ensures { result ≡ shapes.quota_of (option_copied array.entry) }
+{
+    match array {
+        Some(array) => array.quota.unwrap_or(0),
+        None => 0,
+    }
+}
+
+// Of a day from 0 to the last one, how it may compare with a number.
+fn day_possible(comparison: Comparison, number: u32) -> Possible
+    ensures { result ≡ specs.day_possible comparison number }
+{
+    let number = number as u64;
+    let first = allows(comparison, compare(0, number));
+    let same = allows(comparison, compare(number, number));
+    let last = allows(comparison, compare(LAST_DAY, number));
+    Possible {
+        holds: first || same || last,
+        fails: !first || !same || !last,
+    }
+}
+
+/// Whether a test holds for an app that says this, where all counters are at 0.
+fn holds(attrs: &Attrs, shape: &Shape, test: &Test) -> bool
+    ensures { result ≡ specs.holds_of attrs.now shape.now test.now }
+{
+    match test {
+        Test::Version {
+            comparison,
+            version,
+        } => allows(
+            *comparison,
+            compare_versions(attrs.context().version, *version),
+        ),
+        Test::Bucket {
+            salt,
+            modulus,
+            comparison,
+            number,
+        } => {
+            let bucket = remainder(*modulus, bucket_by(attrs, *salt));
+            allows(*comparison, compare(bucket, *number as u64))
+        }
+        Test::Today { comparison, number } => {
+            let today = attrs.context().today as u64;
+            allows(*comparison, compare(today, *number as u64))
+        }
+        Test::Installed { comparison, number } => {
+            let day = attrs.context().install_day as u64;
+            allows(*comparison, compare(day, *number as u64))
+        }
+        Test::Flag(flag) => attrs.context().flags & flag_bit(*flag) != 0,
+        Test::Attr { attribute, text } => {
+            let number = attribute_number(*attribute);
+            helper_attr_is(attrs, number, text.as_str().as_bytes()) == 1
+        }
+        Test::Take { array, .. } => { 0 < quota_of(array_named(shape.arrays(), array.as_str())) }
+    }
+}
+
+// The app says what else it will.
+fn open_possible(attrs: &Attrs, shape: &Shape, test: &Test) -> Possible
+    ensures { result ≡ specs.open_possible attrs.now shape.now test.now }
+{
+    match test {
+        Test::Version { .. } => Possible::decided(holds(attrs, shape, test)),
+        Test::Bucket { .. } => Possible::decided(holds(attrs, shape, test)),
+        Test::Today { comparison, number } => day_possible(*comparison, *number),
+        Test::Installed { comparison, number } => day_possible(*comparison, *number),
+        _ => Possible::undecided(),
+    }
+}
+
+/// What a test may come to.
+pub(crate) fn test_possible(rest: Rest, attrs: &Attrs, shape: &Shape, test: &Test) -> Possible
+    ensures { result ≡ specs.test_possible rest attrs.now shape.now test.now }
+{
+    match rest {
+        Rest::Anything => open_possible(attrs, shape, test),
+        Rest::Nothing => Possible::decided(holds(attrs, shape, test)),
+    }
+}

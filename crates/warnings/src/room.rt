@@ -1,0 +1,40 @@
+//! How much is asked of the rules of a manifest.
+
+ghost use Rattle.std.specs.Prelude.{◌≡◌};
+ghost use Rattle.warnings.specs.Asked as specs;
+
+use rule_diagnosis::rule_lang::Statement;
+
+fn steps_of(statement: &Statement) -> u64
+    ensures { result ≡ specs.steps_of statement.now }
+{
+    match statement {
+        Statement::Count { .. } => 0,
+        Statement::When { condition, .. } => condition.steps().len() as u64,
+    }
+}
+
+fn room_behind_one(versions: u64, room: u64, statement: &Statement) -> Option<u64>
+    ensures { result ≡ specs.room_behind_one versions room statement.now }
+{
+    let Some(taken) = versions.checked_mul(steps_of(statement)) else {
+        return None;
+    };
+    room.checked_sub(taken)
+}
+
+/// The room that is left behind a rule that is asked at so many versions, if there is enough.
+pub(crate) fn room_behind(versions: u64, room: u64, statements: &[Statement]) -> Option<u64>
+    ensures { result ≡ specs.room_behind versions room statements.now }
+{
+    let mut room = room;
+    let mut left = statements;
+    while let [statement, others @ ..] = left {
+        let Some(behind) = room_behind_one(versions, room, statement) else {
+            return None;
+        };
+        room = behind;
+        left = others;
+    }
+    Some(room)
+}
