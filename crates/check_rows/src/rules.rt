@@ -174,7 +174,7 @@ fn directory(alloc: Global) -> Result<Directory, CellsFault> {
     Ok(directory)
 }
 
-fn shape(alloc: Global) -> Result<Shape, CellsFault> {
+pub(crate) fn shape(alloc: Global) -> Result<Shape, CellsFault> {
     let directory = directory(alloc)?;
     let numbers = [ArrayNo { number: 0 }, ArrayNo { number: 1 }];
     if directory.arrays().len() < numbers.len() {

@@ -33,7 +33,7 @@ required = true
 
 /// A manifest with an app of these releases. It has no clauses, so that no proof reads the texts of
 /// a test.
-fn manifest_of(alloc: Global, releases: &str) -> Result<Option<Manifest>, AllocError> {
+pub(crate) fn manifest_of(alloc: Global, releases: &str) -> Result<Option<Manifest>, AllocError> {
     let mut text = String::new(alloc);
     text.push_str("server = \"\"\n[[app]]\nappid = \"x\"\nrule = \"x.rule\"\n")?;
     for release in releases.split(", ") {
@@ -48,7 +48,7 @@ fn manifest_of(alloc: Global, releases: &str) -> Result<Option<Manifest>, AllocE
     Ok(read_manifest(alloc, text.as_bytes()).ok())
 }
 
-fn releases_of(manifest: &Manifest) -> Option<&[Release]> {
+pub(crate) fn releases_of(manifest: &Manifest) -> Option<&[Release]> {
     let app = manifest.apps().first()?;
     Some(app.releases())
 }

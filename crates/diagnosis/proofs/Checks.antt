@@ -3,6 +3,9 @@ use Rattle.std.proofs.Common.{◌≡◌, ◌≢◌, ℕ, List, [], Option, Some,
 use Rattle.std.proofs.Common.{refl, sym, ◌∙◌, ap, arith}
 use Rattle.std.proofs.lemmas.List.Elements.{All-nil}
 use Rattle.std.proofs.lemmas.Option.{none-some}
+use Rattle.load.specs.acceptance.rule_lang.Tokens.{Text}
+use Rattle.load.specs.acceptance.rule_lang.Verdicts.{RuleHasOneVerdict}
+use Rattle.load.specs.manifest.cells.Arrays.{AppShape}
 use Rattle.load.specs.manifest.cells.Directory.{IsDirectory}
 use Rattle.load.specs.manifest.Manifest.{Manifest}
 use Rattle.load.specs.manifest.OneReading.{HasOneManifest}
@@ -15,7 +18,7 @@ use Rattle.load.specs.rulesets.Rules.{Rules}
 use Rattle.diagnosis.specs.Check.{FailsCheck, PassesCheck}
 use Rattle.diagnosis.specs.OneCheck.{HasOneCheck}
 use Rattle.diagnosis.specs.Texts.{accepted_text}
-use Rattle.diagnosis.specs.Warned.{warnings_of}
+use Rattle.diagnosis.proofs.OneTold.{warned_once}
 
 empty : IsDirectory []
 empty = record {
@@ -42,6 +45,7 @@ is_memory Memory h = refl
 is_memory e h = absurd (h (λ x. absurd cc))
 
 module _ (load : HasOneLoad) (reading : (bytes : List ℕ) → HasOneManifest bytes)
+    (verdict : (s : AppShape) (text : Text) → RuleHasOneVerdict s text)
     (files : List ℕ → Option KnownFile) (bytes : List ℕ) where
   same_text : (text other warnings others : List ℕ) → PassesCheck (Some files) bytes text warnings
       → PassesCheck (Some files) bytes other others → (text ≡ other) × (warnings ≡ others)
@@ -57,7 +61,8 @@ module _ (load : HasOneLoad) (reading : (bytes : List ℕ) → HasOneManifest by
         p.text_is ∙ ap (λ (m : Manifest). accepted_text m.arrays p.rules.apps) read
             ∙ ap (λ (r : Rules). accepted_text q.loaded.manifest.arrays r.apps) same
             ∙ sym q.text_is,
-        p.warnings_are ∙ ap (λ (r : Rules). warnings_of r.apps) same ∙ sym q.warnings_are,
+        warned_once verdict files bytes (reading bytes) p.arrays q.arrays p.rules.apps q.rules.apps
+            warnings others loads.1 (ap (λ (r : Rules). r.apps) same) p.warned q.warned,
       )
 
   same_fault : (e f : LoadFault) (reason other : List ℕ) → FailsCheck (Some files) bytes e reason

@@ -1,5 +1,5 @@
 -- From what was loaded, and from what was read again, to what is told.
-use Rattle.std.proofs.Common.{◌≡◌, ℕ, List, [], Some, true, ◌∙◌, ap, subst}
+use Rattle.std.proofs.Common.{◌≡◌, ℕ, List, [], Some, true, ◌∙◌, subst}
 use Rattle.load.specs.manifest.cells.Arrays.{AppShape}
 use Rattle.load.specs.manifest.cells.declared.array.CellArray.{CellArray}
 use Rattle.diagnosis.specs.Check.{PassesCheck}
@@ -7,20 +7,20 @@ use Rattle.diagnosis.specs.Inside.{is_inside}
 use Rattle.diagnosis.specs.Shown.{IsShown, ShowsPlace}
 use Rattle.diagnosis.specs.Shown.ShowsPlace.{shown}
 use Rattle.diagnosis.specs.Texts.{loaded_text}
-use Rattle.diagnosis.specs.Warned.{warnings_of}
+use Rattle.diagnosis.specs.Warned.{WarnsOf}
 use Rattle.diagnosis.specs.declared.shown.Place.{Place}
 use Rattle.diagnosis.proofs.Once.{told_as_declared}
 use Rattle.load.specs.bounded_files.Files.{KnownFiles, Gives}
 use Rattle.load.specs.Load.{IsRulesetOf}
 use Rattle.load.specs.rulesets.Rules.{AppRule, Rules}
 
-pub passes : (known : KnownFiles) (old : List CellArray) (bytes text warnings : List ℕ)
+pub passes : (known then_known : KnownFiles) (old : List CellArray) (bytes text warnings : List ℕ)
     (rules : Rules) (arrays lent : List CellArray) (apps : List AppRule) → old ≡ []
-    → IsRulesetOf known old bytes rules arrays → lent ≡ arrays → apps ≡ rules.apps
-    → text ≡ loaded_text lent apps → warnings ≡ warnings_of apps
-    → PassesCheck known bytes text warnings
-passes known old bytes text warnings rules arrays lent apps is loaded same_arrays same_apps told
-    warned =
+    → then_known ≡ known → IsRulesetOf known old bytes rules arrays → lent ≡ arrays
+    → apps ≡ rules.apps → text ≡ loaded_text lent apps
+    → WarnsOf then_known bytes lent apps warnings → PassesCheck known bytes text warnings
+passes known then_known old bytes text warnings rules arrays lent apps is same_known loaded
+    same_arrays same_apps told warned =
     let over_none = rw is at loaded in
     let told_of_them = rw (same_arrays, same_apps) at told in
     record {
@@ -29,7 +29,9 @@ passes known old bytes text warnings rules arrays lent apps is loaded same_array
       loaded = over_none;
       text_is = told_of_them ∙ told_as_declared over_none.manifest arrays over_none.numbers
           rules.apps over_none.read.1 over_none.declared;
-      warnings_are = warned ∙ ap warnings_of same_apps;
+      warned = subst (λ (k : KnownFiles). WarnsOf k bytes arrays rules.apps warnings) same_known
+          (subst (λ (a : List CellArray). WarnsOf then_known bytes a rules.apps warnings) same_arrays
+          (subst (λ (a : List AppRule). WarnsOf then_known bytes lent a warnings) same_apps warned));
     }
 
 pub is_shown : (known : KnownFiles) (file lent bytes slice text : List ℕ) (s : AppShape)

@@ -3,7 +3,7 @@ use Rattle.std.specs.Prelude.{◌≡◌, ◌⊎◌, ◌<◌, ℕ, List, [], leng
 use Rattle.load.specs.manifest.cells.declared.array.CellArray.{CellArray}
 use Rattle.diagnosis.specs.Reason.{IsReason}
 use Rattle.diagnosis.specs.Texts.{accepted_text}
-use Rattle.diagnosis.specs.Warned.{warnings_of}
+use Rattle.diagnosis.specs.Warned.{WarnsOf}
 use Rattle.load.specs.bounded_files.Files.{KnownFiles}
 use Rattle.load.specs.Load.{IsRulesetOf, IsLoadFault}
 use Rattle.load.specs.declared.fault.LoadFault.{LoadFault}
@@ -16,7 +16,7 @@ module _ (known : KnownFiles) (bytes : List ℕ) where
     pub arrays : List CellArray
     pub loaded : IsRulesetOf known [] bytes rules arrays
     pub text_is : text ≡ accepted_text loaded.manifest.arrays rules.apps
-    pub warnings_are : warnings ≡ warnings_of rules.apps
+    pub warned : WarnsOf known bytes arrays rules.apps warnings
 
   -- it has this fault, and this is told of where and why, if not for want of memory nothing
   pub record FailsCheck (fault : LoadFault) (reason : List ℕ) : Type 0 where

@@ -2,7 +2,9 @@ pub mod Texts
 pub mod Advice
 pub mod Inside
 pub mod Shown
+pub mod Unused
 pub mod Warned
+pub mod Asked
 pub mod Reason
 pub mod Check
 pub mod OneCheck

@@ -1,14 +1,77 @@
--- What is told of a manifest that is accepted and hardly means what it says: the warnings on the
--- releases of each app, in their order.
-use Rattle.std.specs.Prelude.{ℕ, ◌+◌, List, [], ◌∷◌, ◌++◌}
+-- What is told of a manifest that is accepted and hardly means what it says: of its arrays, and of
+-- each app in their order.
+use Rattle.std.specs.Prelude.{◌≡◌, ℕ, ◌+◌, List, [], ◌∷◌, ◌++◌, Option, Some, None, Ok}
+use Rattle.load.specs.Source.{file_of}
+use Rattle.load.specs.acceptance.Rule.{IsTextOf}
+use Rattle.load.specs.acceptance.rule_lang.declared.rule.Statement.{Statement}
+use Rattle.load.specs.bounded_files.Files.{KnownFiles, Gives}
+use Rattle.load.specs.manifest.App.{AppEntry}
+use Rattle.load.specs.manifest.Manifest.{Manifest, ReadsManifest}
+use Rattle.load.specs.manifest.cells.declared.array.CellArray.{CellArray}
+use Rattle.load.specs.manifest.declared.app.ProgramSource.{ProgramSource}
+use Rattle.load.specs.manifest.declared.app.ProgramSource.TheVariants.{Program, Rule}
 use Rattle.load.specs.rulesets.Rules.{AppRule}
+use Rattle.diagnosis.specs.Unused.{unused_from}
+use Rattle.warnings.specs.Asked.{all_room, room_left, rule_text}
+use Rattle.warnings.specs.Asking.{RuleOfApp}
 use Rattle.warnings.specs.Releases.{releases_from}
 
--- of these apps, the first of which has this number
-abbrev pub apps_from : ℕ → List AppRule → List ℕ
-apps_from number [] = []
-apps_from number (app ∷ others) =
-    releases_from number 1 app.releases ++ apps_from (number + 1) others
+-- ---- the rule of an app, which is read once more
 
-abbrev pub warnings_of : List AppRule → List ℕ
-warnings_of apps = apps_from 1 apps
+abbrev pub app_rule : AppRule → List Statement → RuleOfApp
+app_rule app rule = record {
+  appid = app.appid;
+  shape = app.program.shape;
+  releases = app.releases;
+  rule = rule;
+}
+
+-- how much room is left for what is asked of rules; None behind a file that wasn't to be read again
+abbrev pub Room : Type 0
+Room = Option ℕ
+
+module _ (known : KnownFiles) where
+  -- what is told of the rule that the file spells: of bytes that a device gives otherwise than
+  -- before, and that spell none, nothing
+  pub data AsksFile (number room : ℕ) (file : List ℕ) (app : AppRule) : List ℕ → Room → Type 0 where
+    unread : Gives known file None → AsksFile number room file app [] None
+    no_rule : (bytes : List ℕ) → Gives known file (Some bytes)
+        → ((rule : List Statement) → IsTextOf bytes app.program.shape rule → ⊥)
+        → AsksFile number room file app [] (Some room)
+    a_rule : (bytes : List ℕ) (rule : List Statement) → Gives known file (Some bytes)
+        → IsTextOf bytes app.program.shape rule
+        → AsksFile number room file app (rule_text number room (app_rule app rule))
+        (Some (room_left room (app_rule app rule)))
+
+  abbrev pub AsksApp : (number : ℕ) → Room → ProgramSource → AppRule → List ℕ → Room → Type 0
+  AsksApp number None source app asked left = (asked ≡ []) × (left ≡ None)
+  AsksApp number (Some room) (Program file) app asked left = (asked ≡ []) × (left ≡ Some room)
+  AsksApp number (Some room) (Rule file) app asked left = AsksFile number room file app asked left
+
+  -- of an app: its releases, and then its rule
+  pub record WarnsOfApp (number : ℕ) (room : Room) (entry : AppEntry) (app : AppRule)
+      (told : List ℕ) (left : Room) : Type 0 where
+    pub asked : List ℕ
+    pub asks : AsksApp number room entry.source app asked left
+    pub told_is : told ≡ releases_from number 1 app.releases ++ asked
+
+  -- of these apps, the first of which has this number, and their entries
+  pub data WarnsOfApps : ℕ → Room → List AppEntry → List AppRule → List ℕ → Type 0 where
+    no_entry : {number : ℕ} {room : Room} {apps : List AppRule}
+        → WarnsOfApps number room [] apps []
+    no_app : {number : ℕ} {room : Room} {entry : AppEntry} {entries : List AppEntry}
+        → WarnsOfApps number room (entry ∷ entries) [] []
+    next : {number : ℕ} {room left : Room} {entry : AppEntry} {entries : List AppEntry}
+        {app : AppRule} {apps : List AppRule} {told rest : List ℕ}
+        → WarnsOfApp number room entry app told left
+        → WarnsOfApps (number + 1) left entries apps rest
+        → WarnsOfApps number room (entry ∷ entries) (app ∷ apps) (told ++ rest)
+
+  -- of the arrays, and of the apps
+  pub record WarnsOf (bytes : List ℕ) (arrays : List CellArray) (apps : List AppRule)
+      (warnings : List ℕ) : Type 0 where
+    pub manifest : Manifest
+    pub read : ReadsManifest bytes (Ok manifest)
+    pub told : List ℕ
+    pub of_apps : WarnsOfApps 1 (Some all_room) manifest.apps apps told
+    pub warnings_are : warnings ≡ unused_from 0 arrays apps ++ told

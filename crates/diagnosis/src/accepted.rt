@@ -1,11 +1,13 @@
 //! What is told of a manifest that is accepted.
 
-ghost use Rattle.std.specs.Prelude.{◌≡◌, ◌++◌, flat_map, IfOk, OnOk, string_bytes};
+ghost use Rattle.std.specs.Prelude.{◌≡◌, ◌^◌, ◌-◌, ◌<◌, ◌++◌, flat_map};
+ghost use Rattle.std.specs.Prelude.{IfOk, OnOk, string_bytes};
 ghost use Rattle.load.specs.manifest.declarations.Texts as declarations;
 ghost use Rattle.diagnosis.specs.Texts.{declared_line, loaded_text};
-ghost use Rattle.diagnosis.specs.Warned.{warnings_of};
+ghost use Rattle.diagnosis.specs.Warned.{WarnsOf};
 
 use crate::warned::tell_warnings;
+use load::Files;
 use load::manifest::cells::{CellArray, CellWidth};
 use load::ruleset::{App, tell_apps};
 use std::alloc::{AllocError, Global};
@@ -21,20 +23,24 @@ pub struct CheckedManifest {
 }
 
 /// A line an array, and then a line an app; and the warnings.
-pub(crate) fn tell_accepted(
+pub(crate) fn tell_accepted<F: Files>(
     alloc: Global,
+    manifest: &[u8],
+    files: &mut F,
     arrays: &[CellArray],
     apps: &[App],
 ) -> Result<CheckedManifest, AllocError>
+    requires { F.failed files.old < 2 ^ 64 - 1 }
+    ensures known { F.known files.new ≡ F.known files.old }
     ensures text { IfOk result (λ told.
         string_bytes told.text ≡ loaded_text arrays.now apps.now) }
-    ensures warnings { IfOk result (λ told. string_bytes told.warnings ≡ warnings_of apps.now) }
+    ensures warnings { IfOk result (λ told. WarnsOf (F.known files.old) manifest.now arrays.now
+        apps.now (string_bytes told.warnings)) }
 {
     let mut text = String::new(alloc);
     tell_arrays(&mut text, arrays)?;
     tell_apps(&mut text, apps)?;
-    let mut warnings = String::new(alloc);
-    tell_warnings(&mut warnings, apps)?;
+    let warnings = tell_warnings(alloc, manifest, files, arrays, apps)?;
     Ok(CheckedManifest { text, warnings })
 }
 

@@ -23,10 +23,14 @@ pub struct Refused {
 ///
 /// Of one that is accepted the text has a line an array, in its order, as `array q:64:1:2` (a quota
 /// comes last, where there is one), and then a line an app: `app APPID releases R slots S`. Lines
-/// are ended by a line feed. The warnings have a line for each release whose version a later one of
-/// its app has, too, by its four numbers, whose codebase doesn't end in `/`, or begins with neither
+/// are ended by a line feed.
+///
+/// The warnings have a line for each array that no program uses, as `warning: array[2]: no program
+/// uses it, and no rule`. Then app by app they have one for each release whose version a later one
+/// has, too, by its four numbers, whose codebase doesn't end in `/`, or begins with neither
 /// `https://` nor `http://`: `warning: app[1].release[2].codebase: no / ends it, and a client joins
-/// it with a package's name`.
+/// it with a package's name`. Last come those of the app's rule (`tell_rule` of `warnings`). Its
+/// file is read once more for them; behind one that can't be read again no rule is asked.
 ///
 /// Of one that is refused the reason begins with the path of a member and what is wanted there, in
 /// which tables of a list are numbered from 1:
@@ -64,7 +68,7 @@ pub fn check<F: Files>(
             return Err(Refused { fault, reason });
         }
     };
-    match tell_accepted(alloc, directory.arrays(), rules.apps()) {
+    match tell_accepted(alloc, manifest, files, directory.arrays(), rules.apps()) {
         Ok(told) => Ok(told),
         Err(_) => Err(Refused {
             fault: LoadFault::Memory,

@@ -2,6 +2,7 @@
 
 ghost use Rattle.diagnosis.specs.OneCheck.{ChecksOneWay};
 
+use load::acceptance::rule_lang::one_verdict;
 use load::manifest::one_reading;
 use load::one_load;
 
@@ -12,4 +13,5 @@ pub fn one_check()
 {
     one_load();
     one_reading();
+    one_verdict();
 }

@@ -13,6 +13,7 @@
 
 mod accepted;
 mod advice;
+mod asked;
 mod checking;
 mod file;
 mod inside;
@@ -20,6 +21,7 @@ mod law;
 mod reason;
 mod shape;
 mod shown;
+mod unused;
 mod warned;
 
 pub use accepted::CheckedManifest;

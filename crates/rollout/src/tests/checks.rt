@@ -12,7 +12,7 @@ array = [{ name = \"q\", width = 64, length = 1, quota = 2 },
     { name = \"n\", width = 32, length = 9 }]
 app = [{ appid = \"x\", program = \"k_take.bin\" }, { appid = \"y\", program = \"k_none.bin\" }]",
         "array q:64:1:2\narray n:32:9\napp x releases 0 slots 6\napp y releases 0 slots 2\n",
-        "",
+        "warning: array[2]: no program uses it, and no rule\n",
     ),
     (
         "server = \"\"\napp = [{ appid = 3, rule = \"k.rule\" }]",

@@ -5,9 +5,9 @@ use Rattle.diagnosis.proofs.checking.check.Goals as goal
 
 pub returns-in-Ok-tell_accepted-clause-passes : goal.returns-in-Ok-tell_accepted-clause-passes
 returns-in-Ok-tell_accepted-clause-passes g c =
-    passes _ _ _ _ _ _ _ _ _ c.new-directory.ensures c.in-Ok.ensures.loads
-    c.arrays.ensures.arrays c.apps.ensures c.in-Ok-tell_accepted.ensures.text
-    c.in-Ok-tell_accepted.ensures.warnings
+    passes _ _ _ _ _ _ _ _ _ _ c.new-directory.ensures c.load_ruleset.ensures.known
+    c.in-Ok.ensures.loads c.arrays.ensures.arrays c.apps.ensures
+    c.in-Ok-tell_accepted.ensures.text c.in-Ok-tell_accepted.ensures.warnings
 
 pub returns-clause-fails : goal.returns-clause-fails
 returns-clause-fails g c = record { refused = of_bytes tt; told = inl c.new.ensures.bytes }

@@ -1,0 +1,116 @@
+//! What is told of a rule that is asked, for an app `x` of two releases, 2.0.4 and 3.0.0, and the
+//! arrays `q`, of one cell with a quota, and `n`, of ten cells without.
+
+use crate::rules::{must, shape};
+use crate::warned::{manifest_of, releases_of};
+use releases::Release;
+use rule_diagnosis::cells::Shape;
+use rule_diagnosis::rule_lang::{Rule, parse};
+use std::alloc::Global;
+use std::test::Fail;
+use warnings::{AskedRule, tell_rule};
+
+/// The releases of the app.
+const RELEASES: &str = "2.0.4 https://dl.example/, 3.0.0 https://dl.example/";
+
+/// Each row: a rule, in which ` / ` ends a line, and the warnings on it.
+const ROWS: &str = r#"
+- when version < 2.0.4 offer 1; / when version < 3.0.0 and bucket < 500 offer 2; / otherwise none;
+- when version < 2.0.4 offer 1; / otherwise none;
+warning: app[1].release[2]: no bucket gets it, at a release's version or at none
+- when bucket < 500 offer 1; / when version < 3.0.0 offer 2; / otherwise none;
+warning: app[1].release[1].version: in some bucket who has it gets it again, or a lower one, with no other attributes
+warning: app[1].release[2].version: in some bucket who has it gets it again, or a lower one, with no other attributes
+- when version < 2.0.4 offer 2; / when version == 2.0.4 and bucket == 9999 offer 1; / otherwise none;
+warning: app[1].release[1].version: in some bucket who has it gets it again, or a lower one, with no other attributes
+- when version < 4 offer 2; / # never so far / when version < 2.0.4 offer 1; / otherwise none;
+warning: app[1].rule: line 3: this when is never reached, in any bucket, at a release's version or at none
+warning: app[1].release[1]: no bucket gets it, at a release's version or at none
+warning: app[1].release[2].version: in some bucket who has it gets it again, or a lower one, with no other attributes
+- when bucket >= 10000 offer 1; / when version < 3.0.0 offer 2; / otherwise none;
+warning: app[1].rule: line 1: this when never holds where it is reached, in any bucket, at a release's version or at none
+warning: app[1].release[1]: no bucket gets it, at a release's version or at none
+- when version < 2.0.4 and bucket mod 4 == 3 offer 1; / when version < 3.0.0 and bucket mod 4 == 4 offer 2; / otherwise none;
+warning: app[1].rule: line 2: this when never holds where it is reached, in any bucket, at a release's version or at none
+warning: app[1].release[2]: no bucket gets it, at a release's version or at none
+- when today < 0 offer 1; / when installed > 4294967295 offer 2; / otherwise none;
+warning: app[1].rule: line 1: this when never holds where it is reached, in any bucket, at a release's version or at none
+warning: app[1].rule: line 2: this when never holds where it is reached, in any bucket, at a release's version or at none
+warning: app[1].release[1]: no bucket gets it, at a release's version or at none
+warning: app[1].release[2]: no bucket gets it, at a release's version or at none
+- when version < 2.0.4 and today >= 7273 offer 1; / when version < 3.0.0 and attr ap is "canary" and not flag ping offer 2; / otherwise none;
+- when version < 2.0.4 or not today >= 0 offer 1; / when not version >= 3 and installed != 7 offer 2; / otherwise none;
+- when version == 3.0.0 or version < 2.0.4 offer 1; / otherwise none;
+warning: app[1].release[2]: no bucket gets it, at a release's version or at none
+warning: app[1].release[2].version: in some bucket who has it gets it again, or a lower one, with no other attributes
+- count n[0]; / when version < 3.0.0 and take(q, 0) offer 2; / when version < 2.0.4 offer 1; / otherwise none;
+- when take(q, 0) offer 2; / when version < 2.0.4 offer 1; / otherwise none;
+warning: app[1].release[2].version: in some bucket who has it gets it again, or a lower one, with no other attributes
+- when flag ping offer 1; / when version < 3.0.0 and flag updatecheck offer 2; / otherwise none;
+- otherwise none;
+warning: app[1].release[1]: no bucket gets it, at a release's version or at none
+warning: app[1].release[2]: no bucket gets it, at a release's version or at none
+"#;
+
+/// The rule of a text. It has no clauses, so that no proof reads the texts of a test.
+fn rule_of(alloc: Global, text: &str, shape: &Shape) -> Option<Rule> {
+    parse(alloc, text, shape).ok()
+}
+
+/// What is told of a rule in so much room, and the room that is left.
+fn told_of_rule(
+    alloc: Global,
+    rule: &Rule,
+    shape: &Shape,
+    releases: &[Release],
+    room: u64,
+) -> Option<(String, u64)> {
+    let asked = AskedRule::of("x", shape, releases, rule.statements());
+    let mut told = String::new(alloc);
+    match tell_rule(alloc, &mut told, 1, &asked, room) {
+        Ok(left) => Some((told, left)),
+        Err(_) => None,
+    }
+}
+
+fn told(alloc: Global, text: &str, room: u64) -> Result<(String, u64), Fail> {
+    let shape = shape(alloc)?;
+    let rule = rule_of(alloc, text, &shape).ok_or("no rule")?;
+    let manifest = manifest_of(alloc, RELEASES)?.ok_or("no manifest")?;
+    let releases = releases_of(&manifest).ok_or("no app")?;
+    Ok(told_of_rule(alloc, &rule, &shape, releases, room).ok_or("no memory")?)
+}
+
+fn check_row(alloc: Global, row: &str) -> Result<(), Fail> {
+    let (rule, want) = row.split_once("\n").unwrap_or((row, ""));
+    let rule = rule.replace(alloc, " / ", "\n")?;
+    let (told, _) = told(alloc, rule.as_str(), 10000)?;
+    must(rule.as_str(), told.as_str(), want)
+}
+
+#[test]
+fn each(rt: HostRuntime) -> Result<(), Fail> {
+    for row in ROWS.split("\n- ").skip(1) {
+        check_row(rt.alloc(), row)?;
+    }
+    Ok(())
+}
+
+fn room_of(alloc: Global, room: u64) -> Result<(), Fail> {
+    let rule = "when version < 2.0.4 and bucket < 500 offer 1;\notherwise none;\n";
+    let (told, left) = told(alloc, rule, room)?;
+    let told = format!(in alloc; "{left}: {told}")?;
+    let want = if room < 9 {
+        "8: warning: app[1].rule: not asked which releases it gives, since that would take long"
+    } else {
+        "1: warning: app[1].release[2]: no bucket gets it, at a release's version or at none"
+    };
+    must(rule, told.as_str(), want)
+}
+
+/// Three steps are asked at three versions, so they take room for 9.
+#[test]
+fn room(rt: HostRuntime) -> Result<(), Fail> {
+    room_of(rt.alloc(), 8)?;
+    room_of(rt.alloc(), 10)
+}
