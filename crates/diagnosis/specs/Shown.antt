@@ -8,8 +8,8 @@ use Rattle.diagnosis.specs.declared.shown.Place.{Place}
 use Rattle.diagnosis.specs.declared.shown.Place.TheVariants.{Whole, Slot, Rule as InRule}
 use Rattle.load.specs.manifest.cells.Arrays.{AppShape}
 use Rattle.load.specs.rulesets.Texts.{line}
-use Rattle.rule_diagnosis.specs.Places.{line_text}
-use Rattle.rule_diagnosis.specs.Told.{IsRuleTold}
+use Rattle.warnings.specs.rule_diagnosis.Places.{line_text}
+use Rattle.warnings.specs.rule_diagnosis.Told.{IsRuleTold}
 use Rattle.load.specs.bounded_files.Files.{KnownFiles, Gives}
 
 -- a line by its number, from 1

@@ -8,9 +8,9 @@ use bpf_insn::decode_at;
 use bpf_text::line_of;
 use load::acceptance::rule_lang::RuleFaultKind;
 use load::manifest::cells::Shape;
-use rule_diagnosis::{line_text, tell_rule_fault};
 use std::alloc::Global;
 use std::str;
+use warnings::rule_diagnosis::{line_text, tell_rule_fault};
 
 /// A place in the file of an app.
 #[derive(Clone, Copy, Debug, PartialEq, Eq)]
