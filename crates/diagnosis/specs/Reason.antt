@@ -70,7 +70,7 @@ rule_place (Text (rule.At line kind)) = InRule line kind
 rule_place fault = Whole
 
 -- the shape of an app, with these arrays declared over none
-pub record HasShape (arrays : List Declaration) (app : AppEntry) (shape : AppShape) : Type 0 where
+pub record IsShapeOfEntry (arrays : List Declaration) (app : AppEntry) (shape : AppShape) : Type 0 where
   pub numbers : List ArrayNo
   pub directory : List CellArray
   pub declared : AreDeclared [] arrays numbers directory
@@ -91,7 +91,7 @@ module _ (known : KnownFiles) (bytes : List ℕ) where
     pub app : AppEntry
     pub stands : slice_get manifest.apps (number - 1) ≡ Some app
     pub shape : AppShape
-    pub shape_is : HasShape manifest.arrays app shape
+    pub shape_is : IsShapeOfEntry manifest.arrays app shape
     pub told : IsTold known number shape place app text
 
   -- the lines beside a refusal

@@ -1,7 +1,7 @@
 //! The shape of an app, as its load has it.
 
 ghost use Rattle.std.specs.Prelude.{IfSome};
-ghost use Rattle.diagnosis.specs.Reason.{HasShape};
+ghost use Rattle.diagnosis.specs.Reason.{IsShapeOfEntry};
 
 use load::manifest::AppEntry;
 use load::manifest::cells::{Directory, Shape};
@@ -15,7 +15,7 @@ pub(crate) fn shape_of(
     arrays: &[ArrayDeclaration],
     entry: &AppEntry,
 ) -> Option<Shape>
-    ensures { IfSome result (HasShape arrays.now entry.now) }
+    ensures { IfSome result (IsShapeOfEntry arrays.now entry.now) }
 {
     let mut directory = Directory::new(alloc);
     let Ok(numbers) = declare_all(alloc, &mut directory, arrays) else {
