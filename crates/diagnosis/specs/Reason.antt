@@ -70,7 +70,8 @@ rule_place (Text (rule.At line kind)) = InRule line kind
 rule_place fault = Whole
 
 -- the shape of an app, with these arrays declared over none
-pub record IsShapeOfEntry (arrays : List Declaration) (app : AppEntry) (shape : AppShape) : Type 0 where
+pub record IsShapeOfEntry (arrays : List Declaration) (app : AppEntry) (shape : AppShape)
+    : Type 0 where
   pub numbers : List ArrayNo
   pub directory : List CellArray
   pub declared : AreDeclared [] arrays numbers directory

@@ -10,7 +10,8 @@ use Rattle.bpf_verify.specs.bpf_rules.bpf_insn.declared.operand.AtomicSize.{Atom
 use Rattle.bpf_verify.specs.bpf_rules.bpf_insn.declared.operand.Condition.{Condition}
 use Rattle.bpf_verify.specs.bpf_rules.bpf_insn.declared.operand.Condition.TheVariants.{Eq, Ne, Set}
 use Rattle.bpf_verify.specs.bpf_rules.bpf_insn.declared.operand.LoadKind.{LoadKind}
-use Rattle.bpf_verify.specs.bpf_rules.bpf_insn.declared.operand.LoadKind.TheVariants.{Byte, Half, Word}
+use Rattle.bpf_verify.specs.bpf_rules.bpf_insn.declared.operand.LoadKind.TheVariants.{Byte, Half}
+use Rattle.bpf_verify.specs.bpf_rules.bpf_insn.declared.operand.LoadKind.TheVariants.{Word}
 use Rattle.bpf_verify.specs.bpf_rules.bpf_insn.declared.insn.Insn.{Insn}
 use Rattle.bpf_verify.specs.bpf_rules.bpf_insn.Program.{Program}
 use Rattle.bpf_verify.specs.bpf_rules.bpf_insn.Words.{little_endian}

@@ -4,7 +4,8 @@ use Rattle.std.specs.Prelude.{Bool, true, false, not, if◌then◌else◌}
 use Rattle.std.specs.Str.{bytes_eq}
 use Rattle.attrs.specs.Context.{install_day_offset, today_offset}
 use Rattle.bpf_verify.specs.bpf_rules.bpf_insn.declared.operand.AtomicSize.{AtomicSize}
-use Rattle.bpf_verify.specs.bpf_rules.bpf_insn.declared.operand.AtomicSize.TheVariants.{Word, Double}
+use Rattle.bpf_verify.specs.bpf_rules.bpf_insn.declared.operand.AtomicSize.TheVariants.{Word}
+use Rattle.bpf_verify.specs.bpf_rules.bpf_insn.declared.operand.AtomicSize.TheVariants.{Double}
 use Rattle.bpf_verify.specs.bpf_rules.bpf_insn.declared.operand.Condition.{Condition}
 use Rattle.bpf_verify.specs.bpf_rules.bpf_insn.declared.operand.Condition.TheVariants as jump
 use Rattle.bpf_verify.specs.bpf_rules.bpf_insn.declared.operand.LoadKind.TheVariants as load
