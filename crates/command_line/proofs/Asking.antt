@@ -72,5 +72,6 @@ counts_nothing rows lacks asked asks = asks
 
 pub stops_nothing : (rows : List Row) → ((port : ℕ) → HasShort (codes "operator") rows port → ⊥)
     → VerbAsksNothing (Some verb.Stop) rows
-stops_nothing rows lacks (request.Ask sent.Stop port) asks = lacks port asks
+stops_nothing rows lacks (request.Ask sent.Stop port) asks = lacks port asks.0
+stops_nothing rows lacks (request.StopAndWait port) asks = lacks port asks.0
 stops_nothing rows lacks asked asks = asks

@@ -123,6 +123,9 @@ load_command = command (codes "load") (file (codes "PATH") ∷ operator ∷ [])
 abbrev pub operator_command : Text → Shape
 operator_command name = command name (operator ∷ [])
 
+abbrev pub stop_command : Shape
+stop_command = command (codes "stop") (operator ∷ flag (codes "wait") ∷ [])
+
 abbrev pub verb_command : Verb → Shape
 verb_command Assemble = assemble_command
 verb_command Cells = operator_command (codes "cells")
@@ -136,7 +139,7 @@ verb_command Replay = replay_command
 verb_command Run = run_command
 verb_command Serve = serve_command
 verb_command Show = operator_command (codes "show")
-verb_command Stop = operator_command (codes "stop")
+verb_command Stop = stop_command
 verb_command Verify = verify_command
 
 abbrev pub verbs : List Verb

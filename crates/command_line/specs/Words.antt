@@ -70,7 +70,9 @@ VerbAsks (Some verb.Show) rows (request.Ask sent.Show port) =
 VerbAsks (Some verb.Cells) rows (request.Ask sent.Cells port) =
     HasShort (codes "operator") rows port
 VerbAsks (Some verb.Stop) rows (request.Ask sent.Stop port) =
-    HasShort (codes "operator") rows port
+    HasShort (codes "operator") rows port × HasFlag (codes "wait") rows false
+VerbAsks (Some verb.Stop) rows (request.StopAndWait port) =
+    HasShort (codes "operator") rows port × HasFlag (codes "wait") rows true
 VerbAsks verb rows request = ⊥
 
 -- they ask for no request at all

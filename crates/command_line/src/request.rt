@@ -78,6 +78,10 @@ pub enum CommandRequest<'a> {
         request: OperatorRequest<'a>,
         port: u16,
     },
+    /// Ask a server to end, and wait until it has ended.
+    StopAndWait {
+        port: u16,
+    },
     /// Verify a file's program, and run it.
     Run(AskedRun<'a>),
     /// The same, and tell each step of the run.

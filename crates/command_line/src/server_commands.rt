@@ -6,8 +6,8 @@ ghost use Rattle.clap.specs.declared.builder.command.Command.TheViews.{out-Comma
 ghost use Rattle.command_line.specs.Grammar as grammar;
 
 use crate::arguments::{
-    command_of, file_argument, log_option, operator_option, port_option, timeout_option,
-    workers_option,
+    command_of, file_argument, flag_option, log_option, operator_option, port_option,
+    timeout_option, workers_option,
 };
 use clap::Command;
 use std::alloc::{AllocError, Global};
@@ -125,8 +125,12 @@ pub fn cells_command<'a>(alloc: Global) -> Result<Command<'a>, AllocError>
 
 /// The command `stop`.
 pub fn stop_command<'a>(alloc: Global) -> Result<Command<'a>, AllocError>
-    ensures shape { IfOk result (λ c. shape_of c ≡ grammar.operator_command (codes "stop")) }
+    ensures shape { IfOk result (λ c. shape_of c ≡ grammar.stop_command) }
     ensures local { IfOk result (λ c. (fields_of c).has_globals ≡ false) }
 {
-    operator_command(alloc, "stop", "End a server; prints `stopping`")
+    let arguments = vec![in alloc;
+        operator_option(alloc),
+        flag_option(alloc, "wait", "Wait until the server has ended"),
+    ]?;
+    command_of(alloc, "stop", "End a server; prints `stopping`", arguments)
 }

@@ -1,10 +1,11 @@
 //! What the commands on manifests, and those to a server, ask for.
 
-ghost use Rattle.std.specs.Prelude.{◌≡◌, IfOk, Err, Some};
-ghost use Rattle.clap.specs.Words.{found_of, rows_of};
+ghost use Rattle.std.specs.Prelude.{◌≡◌, List, IfOk, Err, Some, codes};
+ghost use Rattle.clap.specs.Words.{Row, found_of, rows_of};
+ghost use Rattle.command_line.specs.Values.{HasFlag, HasShort};
 ghost use Rattle.command_line.specs.Words.{VerbAsks, VerbAsksNothing};
 
-use crate::options::{number_of, plan_of, text_of};
+use crate::options::{flag_of, number_of, plan_of, text_of};
 use crate::request::{CommandRequest, NoRequest};
 use crate::verb::Verb;
 use clap::ArgMatches;
@@ -87,8 +88,21 @@ pub fn stop_asked<'a>(found: &ArgMatches<'a>) -> Result<CommandRequest<'a>, NoRe
         → VerbAsksNothing (Some Verb.Stop) (rows_of (found_of found.now)) }
 {
     let port = number_of(found, "operator")?;
-    Ok(CommandRequest::Ask {
-        request: OperatorRequest::Stop,
-        port,
-    })
+    let wait = flag_of(found, "wait");
+    Ok(stop_or_wait(wait, port))
+}
+
+// A call to end, with the wait for the end or without it.
+fn stop_or_wait<'a>(wait: bool, port: u16) -> CommandRequest<'a>
+    ensures { (rows : List Row) → HasShort (codes "operator") rows port
+        → HasFlag (codes "wait") rows wait → VerbAsks (Some Verb.Stop) rows result }
+{
+    if wait {
+        CommandRequest::StopAndWait { port }
+    } else {
+        CommandRequest::Ask {
+            request: OperatorRequest::Stop,
+            port,
+        }
+    }
 }
