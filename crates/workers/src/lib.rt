@@ -3,7 +3,7 @@
 //! One thread accepts the clients' connections and puts them into a queue, from which the workers
 //! take them, each in a thread of its own. Another serves the operator's port, whose connections
 //! come one after another. The operator's `stop` ends both: the clients' port is told by a flag and
-//! woken by one more connection.
+//! woken by one more connection, and the operator's stays open until all are answered.
 //!
 //! The lines of the log go into another queue, from which a thread of its own writes them on
 //! standard error. None of the others waits for it but the operator's, behind a load, for a while.
@@ -38,6 +38,7 @@ mod ready;
 mod returned;
 mod running;
 mod seen;
+mod stopping;
 mod worker;
 
 pub use clients::{serve, serve_returning};

@@ -114,8 +114,8 @@ where
     matches!(reply, OperatorReply::Stopping)
 }
 
-// Sends a reply, and reads what the client goes on to send.
-fn send<H: Clock, F: Display>(
+/// Sends a reply, and reads what the client goes on to send.
+pub(crate) fn send<H: Clock, F: Display>(
     rt: &H,
     stream: &TcpStream,
     reply: &OperatorReply<F>,

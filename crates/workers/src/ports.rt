@@ -7,7 +7,10 @@ use crate::clock::pause;
 use std::io::{self, ErrorKind};
 use std::net::{Ipv4Addr, Net, SocketAddr, TcpListener, TcpStream};
 use std::sync::Wait;
-use std::time::Clock;
+use std::time::{Clock, Duration};
+
+/// How long a port may take a connection.
+const WAKE_SECONDS: u64 = 1;
 
 /// The two ports, which listen, and their addresses.
 #[derive(Drop)]
@@ -31,6 +34,13 @@ impl Ports {
         ensures { result ≡ self.now.operator_address }
     {
         self.operator_address
+    }
+
+    /// One more handle of the operator's port, which stays open as long as there is one. What
+    /// connects after the server has given up its own isn't answered, and is reset once the last
+    /// handle is let go.
+    pub fn operator_handle(&self) -> io::Result<TcpListener> {
+        self.operator.try_clone()
     }
 }
 
@@ -58,18 +68,23 @@ where
     Ok((listener, address))
 }
 
+// Whether nobody waits at the port, or others wake who does.
+fn is_woken(kind: ErrorKind) -> bool {
+    matches!(kind, ErrorKind::ConnectionRefused | ErrorKind::TimedOut)
+}
+
 /// Connects to a port, whose thread then sees the flag that was set. One that refuses is closed,
-/// and nobody waits there any more. Anything else, as that file descriptors have run out, may pass,
-/// and the thread that is to be woken can't end before: so it is tried until one of the two comes,
-/// or until another connection has woken the thread and the port is closed.
+/// and nobody waits there any more; at one that has no room for a second others wait, who wake the
+/// thread. Anything else, as that file descriptors have run out, may pass, and the thread that is
+/// to be woken can't end before: so it is tried until one of the three comes.
 pub(crate) fn wake<H>(rt: &H, address: SocketAddr)
 where
     H: Wait + Clock + Net<Stream = TcpStream>,
 {
     for _ in 0..u64::MAX {
-        match TcpStream::connect(rt, address) {
+        match TcpStream::connect_timeout(rt, &address, Duration::from_secs(WAKE_SECONDS)) {
             Ok(_) => return,
-            Err(error) if error.kind() == ErrorKind::ConnectionRefused => return,
+            Err(error) if is_woken(error.kind()) => return,
             Err(_) => pause(rt),
         }
     }

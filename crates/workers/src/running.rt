@@ -2,7 +2,8 @@
 //! and the operator's port, which is answered beside them. All threads are there before the server
 //! says that it serves. Once the operator has asked to stop, a flag is set, and a connection wakes
 //! the thread that accepts: it closes the clients' port and the queue, and the workers end. The
-//! threads give back what they were given (`promise`), so all is given back at the end.
+//! operator's port stays open until they have (`stopping`). The threads give back what they were
+//! given (`promise`), so all is given back at the end.
 
 ghost use Rattle.std.specs.Io.KnownBytes.{Appends};
 ghost use Rattle.std.specs.Prelude.{◌≡◌, ◌≤◌, All, IfOk, OnOk, length};
@@ -20,6 +21,7 @@ use crate::ports::{Ports, wake};
 use crate::queue::{WAITING, fill};
 use crate::ready::{Ready, ReadyLine, take_back};
 use crate::returned::Returned;
+use crate::stopping::start_telling;
 use crate::worker::Service;
 use crossbeam_channel::Sender;
 use one_world::cells::CellSteps;
@@ -53,13 +55,13 @@ where
     }
 }
 
-// Ends the clients' side, which listens at this address.
-fn end_clients<H>(rt: &H, stop: &AtomicBool, clients: SocketAddr)
+// Ends the thread that accepts connections at this address until the flag is set.
+fn end_port<H>(rt: &H, stop: &AtomicBool, address: SocketAddr)
 where
     H: Wait + Clock + Net<Stream = TcpStream>,
 {
     stop.store(true, Ordering::SeqCst);
-    wake(rt, clients);
+    wake(rt, address);
 }
 
 // Answers the operator until one has asked to stop, ends the clients' side, which listens at this
@@ -84,7 +86,7 @@ where
     ensures onwards { GoesOnwards control.old.publishing.known control.new.publishing.known }
 {
     operate(rt, listener, &mut seat, control, stop, service);
-    end_clients(rt, stop, clients);
+    end_port(rt, stop, clients);
     let OperatorSeat {
         loader: _loader,
         cells: _cells,
@@ -139,6 +141,7 @@ where
         return Err(ResourceFault::Memory);
     };
     let stop = AtomicBool::new(false);
+    let ended = AtomicBool::new(false);
     let gate = Open;
     let OperatorSeat {
         loader,
@@ -149,7 +152,7 @@ where
         service: listener,
         operator,
         service_address: clients,
-        operator_address: _operator_address,
+        operator_address,
     } = ports;
     thread::scope(
         thread::scope_env(),
@@ -172,7 +175,7 @@ where
                 return Err(ResourceFault::Memory);
             };
             let Ok(said) = ready.say(control.generation()) else {
-                end_clients(rt, &stop, clients);
+                end_port(rt, &stop, clients);
                 return Err(ResourceFault::File);
             };
             let seat = OperatorSeat {
@@ -181,7 +184,12 @@ where
                 pass,
             };
             let pass = operate_beside(rt, &operator, seat, control, &stop, clients, service);
-            Ok((returned(pass, joined(rt, threads, room), control), said))
+            let is_told = start_telling(rt, scope, &operator, &ended);
+            let back = returned(pass, joined(rt, threads, room), control);
+            if is_told {
+                end_port(rt, &ended, operator_address);
+            }
+            Ok((back, said))
         },
     )
 }

@@ -30,14 +30,14 @@ returns g c =
     record {
       back = record {
         operator = subst (λ (pass : P). OperatorBack (belongs cells) grew c.captures.pass pass)
-            (sym c.returned.ensures.operator) c.operate_beside-pass.ensures.back;
+            (sym c.returned-back.ensures.operator) c.operate_beside-pass.ensures.back;
         workers = subst (WorkersBack (belongs cells) grew old)
-            (sym (ap (λ (v : Vec (P × Beginning) Global). v.items) c.returned.ensures.workers))
+            (sym (ap (λ (v : Vec (P × Beginning) Global). v.items) c.returned-back.ensures.workers))
             (all_back belongs grew cells old c.in-Ok-start_workers.threads.items
             c.joined.result.items c.in-Ok-start_workers.ensures c.joined.ensures);
         onwards = subst (GoesOnwards c.captures.control.now.publishing.known)
-            (sym c.returned.ensures.known) c.operate_beside-pass.ensures.onwards;
-        published = c.returned.ensures.published;
+            (sym c.returned-back.ensures.known) c.operate_beside-pass.ensures.onwards;
+        published = c.returned-back.ensures.published;
       };
       said = subst (λ (n : ℕ). g.S.Ready.says c.captures.ready n c.in-Ok-say.said)
           c.generation.ensures c.in-Ok-say.ensures;
