@@ -5,6 +5,7 @@ use Rattle.std.specs.Prelude.{◌≡◌, []}
 use Rattle.std.specs.String.{string_bytes}
 use Rattle.program_tools.specs.command_line.declared.request.CommandRequest.{CommandRequest}
 use Rattle.program_tools.specs.command_line.declared.request.CommandRequest.TheVariants as request
+use Rattle.program_tools.specs.operator_request.declared.request.OperatorRequest.TheVariants as sent
 use Rattle.commands.specs.Asked.{IsAskRefusal, IsDoneAs}
 use Rattle.commands.specs.declared.answer.Answer.{Answer}
 use Rattle.commands.specs.declared.answer.Answer.TheVariants.{Assembled, Checked, Compiled}
@@ -47,6 +48,7 @@ module _ (known : KnownFiles) where
   IsAnswer (request.Replay manifest script) (Replayed text) =
       HasReplayed known manifest.now script.now (string_bytes text)
   IsAnswer (request.Ask asked port) (Told text) = IsDoneAs asked (string_bytes text)
+  IsAnswer (request.StopAndWait port) (Told text) = IsDoneAs sent.Stop (string_bytes text)
   IsAnswer (request.Serve manifest plan) (Ready server kept) =
       IsLoadedFrom known manifest.now [] server.rules server.directory × (kept ≡ plan)
   IsAnswer asked answer = ⊥
@@ -69,6 +71,7 @@ module _ (known : KnownFiles) where
   IsRefused (request.Replay manifest script) (Manifest fault) =
       IsReplayRefusal known manifest.now script.now fault
   IsRefused (request.Ask asked port) fault = IsAskRefusal asked fault
+  IsRefused (request.StopAndWait port) fault = IsAskRefusal sent.Stop fault
   IsRefused (request.Serve manifest plan) (Serving fault) =
       RefusesToServe known manifest.now fault
   IsRefused asked fault = ⊥

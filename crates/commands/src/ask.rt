@@ -1,4 +1,5 @@
-//! `load`, `show`, `cells` and `stop`: a request to a server's operator's port, and its reply.
+//! `load`, `show`, `cells` and `stop`: a request to a server's operator's port, and its reply. The
+//! end of a server that stops may be waited for, when nobody listens at the port any more.
 
 ghost use Rattle.std.specs.Prelude.{IfOk, IfErr};
 ghost use Rattle.std.specs.String.{string_bytes};
@@ -10,8 +11,16 @@ use crate::fault::Fault;
 use program_tools::command_line::operator_request::OperatorRequest;
 use serving::operator::{AskFault, ask};
 use std::alloc::Global;
-use std::net::{Net, TcpStream};
-use std::str;
+use std::io::ErrorKind;
+use std::net::{IpAddr, Ipv4Addr, Net, SocketAddr, TcpStream};
+use std::time::{Clock, Duration};
+use std::{str, thread};
+
+/// How long it is between two looks whether a server has ended.
+const LOOK_MILLIS: u64 = 100;
+
+/// How long a look may last.
+const LOOK_SECONDS: u64 = 1;
 
 /// The lines of a server's reply, where it did what it was asked. A reply that begins with
 /// `refused ` is the server's refusal.
@@ -30,6 +39,39 @@ where
     match read_reply(rt.alloc(), reply.as_slice()) {
         Ok(text) => Ok(text),
         Err(fault) => Err(fault),
+    }
+}
+
+/// The reply to a stop, once the server has ended: a connection to its operator's port is refused.
+/// It looks ten times a second, and goes on as long as anybody listens at the port, also another
+/// server.
+pub fn stop_and_wait<R>(rt: &R, port: u16) -> Result<String, Fault>
+where
+    R: Net<Stream = TcpStream> + AllocGlobal + Clock,
+    ensures told { IfOk result (λ t. IsDoneAs OperatorRequest.Stop (string_bytes t)) }
+    ensures fault { IfErr result (IsAskRefusal OperatorRequest.Stop) }
+{
+    match ask_server(rt, OperatorRequest::Stop, port) {
+        Ok(text) => {
+            wait_for_end(rt, port);
+            Ok(text)
+        }
+        Err(fault) => Err(fault),
+    }
+}
+
+// Waits until a connection to the port is refused. Any other failure, as that file descriptors have
+// run out, says nothing of the server.
+fn wait_for_end<R>(rt: &R, port: u16)
+where
+    R: Net<Stream = TcpStream> + Clock,
+{
+    let place = SocketAddr::new(IpAddr::V4(Ipv4Addr::LOCALHOST), port);
+    for _ in 0..u64::MAX {
+        match TcpStream::connect_timeout(rt, &place, Duration::from_secs(LOOK_SECONDS)) {
+            Err(error) if error.kind() == ErrorKind::ConnectionRefused => return,
+            _ => thread::sleep(rt, Duration::from_millis(LOOK_MILLIS)),
+        }
     }
 }
 

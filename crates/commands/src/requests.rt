@@ -4,7 +4,7 @@ ghost use Rattle.std.specs.Prelude.{IfOk, IfErr};
 ghost use Rattle.commands.specs.Answers.{IsAnswer, IsRefused};
 
 use crate::answer::Answer;
-use crate::ask::ask_server;
+use crate::ask::{ask_server, stop_and_wait};
 use crate::fault::Fault;
 use crate::runs::{chosen, traced};
 use manifest_tools::load::Disk;
@@ -16,12 +16,13 @@ use program_tools::{
 use serving::prepare;
 use std::net::{Net, TcpListener, TcpStream};
 use std::rt::Files;
+use std::time::Clock;
 
 /// Does what is asked, with files of the disk; what is made is written as a file of the runtime. A
 /// server of a manifest is made ready, and doesn't serve yet.
 pub fn answer<R, D>(rt: &R, disk: &D, request: &CommandRequest<'_>) -> Result<Answer, Fault>
 where
-    R: Files + AllocGlobal + Net<Listener = TcpListener, Stream = TcpStream>,
+    R: Files + AllocGlobal + Clock + Net<Listener = TcpListener, Stream = TcpStream>,
     D: Disk,
     ensures answer { IfOk result (IsAnswer (D.known disk.now) request.now) }
     ensures fault { IfErr result (IsRefused (D.known disk.now) request.now) }
@@ -61,6 +62,9 @@ where
         }),
         CommandRequest::Ask { request, port } => Ok(Answer::Told {
             text: ask_server(rt, *request, *port)?,
+        }),
+        CommandRequest::StopAndWait { port } => Ok(Answer::Told {
+            text: stop_and_wait(rt, *port)?,
         }),
     }
 }

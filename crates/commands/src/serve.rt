@@ -38,6 +38,8 @@ where
         (Appends (O.contents out.old) (O.contents out.new) (serving_line 1)) }
     ensures fault { IfErr result (λ e. IsStaffFault e ⊎ IsEndFault e) }
 {
+    // Whoever waits for the server's end is to see it behind the last line of the log.
+    let _open = server.ports().operator_handle();
     if plan.log {
         serve_logged(rt, disk, server, manifest, plan, out)
     } else {
