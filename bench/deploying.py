@@ -85,8 +85,8 @@ class Host:
         return path
 
     def commands(self, unit, name):
-        """The words of a unit's commands, as systemd reads them."""
-        lines = re.findall(rf"^{name}=(.*)$", unit.read_text(), re.M)
+        """The words of a unit's commands, as systemd reads them, behind a `-` too."""
+        lines = re.findall(rf"^{name}=-?(.*)$", unit.read_text(), re.M)
         return [[it.replace("$$", "$") for it in shlex.split(line)] for line in lines]
 
     def command(self, unit, name, **environment):
@@ -171,22 +171,20 @@ def unit_commands(folder):
             return "the halt is undone by a start"
         slow.sendall(HEAD.encode())
         time.sleep(0.5)
-        pid = str(server.pid)
         words = [sys.executable, "-c", "import time; time.sleep(1.5)"]
         with subprocess.Popen(words) as later:
             begun = time.monotonic()
             [stop] = host.commands(unit, "ExecStop")
-            stopping = subprocess.Popen(stop, env={"MAINPID": pid}, stdout=subprocess.DEVNULL)
+            stopping = subprocess.Popen(stop, stdout=subprocess.DEVNULL)
             later.wait()
             if stopping.poll() is not None:
                 return f"the stop has ended after {time.monotonic() - begun:.1f} s"
             slow.sendall(ASK.encode())
             if NOTHING not in rest(slow):
                 return "who was being answered isn't"
-        # It goes on as long as the process is there, so its end is heard meanwhile.
-        if server.wait(PATIENCE) != 0 or stopping.wait(PATIENCE) != 0:
+        if stopping.wait(PATIENCE) != 0 or server.wait(1) != 0:
             return f"{server.returncode} {stopping.returncode}"
-    if host.command(unit, "ExecStop")[0] != 0:
+    if host.command(unit, "ExecStop") != (1, "refused B5 Connect\n"):
         return "a stop of what has ended by itself"
 
 
