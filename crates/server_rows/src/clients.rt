@@ -18,7 +18,7 @@ where
 }
 
 /// Whether what the server sends until it ends is the reply of the server `prod`.
-fn is_replied<H: AllocGlobal>(rt: &H, stream: &TcpStream) -> io::Result<bool> {
+pub(crate) fn is_replied<H: AllocGlobal>(rt: &H, stream: &TcpStream) -> io::Result<bool> {
     let bytes = reply(rt.alloc(), stream)?;
     Ok(bytes.starts_with(b"HTTP/1.1 200 OK\r\n") && bytes.ends_with(b"\"server\":\"prod\"}}"))
 }

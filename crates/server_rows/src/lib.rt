@@ -8,6 +8,8 @@ mod both_ends;
 #[cfg(test)]
 mod clients;
 #[cfg(test)]
+mod clocks;
+#[cfg(test)]
 mod counters;
 #[cfg(test)]
 mod crew;
@@ -43,6 +45,8 @@ mod shelf;
 mod short;
 #[cfg(test)]
 mod staffed;
+#[cfg(test)]
+mod stops;
 #[cfg(test)]
 mod swaps;
 #[cfg(test)]

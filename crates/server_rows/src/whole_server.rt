@@ -6,6 +6,7 @@ use crate::clients::at_once;
 use crate::session::{first_wrong, is_asked, ports_of};
 use crate::shelf::{Shelf, ruleset};
 use crate::staffed::is_given_up;
+use crate::stops::wrong_at_end;
 use crate::swaps_under_load::{are_whole, is_shared};
 use cells::Directory;
 use operator::bounded_files::ResourceFault;
@@ -32,6 +33,8 @@ pub(crate) enum Work {
     Swaps,
     /// Rulesets that share a quota are swapped while clients take of it.
     Quota,
+    /// The server is stopped while a client is heard, and asked meanwhile.
+    Ending,
 }
 
 /// Each connection may last so many seconds, and there is no log.
@@ -105,6 +108,7 @@ where
     let port = operator.port();
     let is_done = match work {
         Work::Rows(rows) => return first_wrong(rt, rows, clients, operator),
+        Work::Ending => return wrong_at_end(rt, clients, port),
         Work::AtOnce => at_once(rt, clients),
         Work::Silent => is_given_up(rt, clients),
         Work::Swaps => Ok(are_whole(rt, clients, port)),

@@ -45,7 +45,8 @@ post|next
 cells|a[0] 2;
 stop|stopping;";
 
-const REQUEST: &[u8] = b"POST /service/update2/json HTTP/1.1\r\nContent-Length: 162\r\n\r\n\
+pub(super) const REQUEST: &[u8] =
+    b"POST /service/update2/json HTTP/1.1\r\nContent-Length: 162\r\n\r\n\
 {\"request\":{\"protocol\":\"3.1\",\"requestid\":\"\",\"sessionid\":\"\",\"app\":[\
 {\"appid\":\"x\",\"version\":\"1.0\",\"updatecheck\":{}},\
 {\"appid\":\"y\",\"version\":\"1.0\",\"updatecheck\":{}}]}}";
@@ -57,15 +58,25 @@ const APPS: &str = ")]}'\n{\"response\":{\"app\":[\
 {\"appid\":\"y\",\"status\":\"error-unknownApplication\"}],\"daystart\":{\"elapsed_days\":";
 
 /// Whether the service's reply is that of a server of this name.
-fn is_reply_of<R>(rt: &R, service: u16, server: &str) -> io::Result<bool>
+pub(super) fn is_reply_of<R>(rt: &R, service: u16, server: &str) -> io::Result<bool>
 where
     R: Net<Stream = TcpStream> + AllocGlobal,
 {
     let stream = TcpStream::connect(rt, (Ipv4Addr::LOCALHOST, service))?;
-    let mut both = &stream;
-    both.write_all(REQUEST)?;
+    let mut to = &stream;
+    to.write_all(REQUEST)?;
+    is_replied(rt, &stream, server)
+}
+
+/// Whether a stream brings the reply of a server of this name.
+pub(super) fn is_replied<R: AllocGlobal>(
+    rt: &R,
+    stream: &TcpStream,
+    server: &str,
+) -> io::Result<bool> {
+    let mut from = stream;
     let mut bytes = Vec::new(rt.alloc());
-    let _count = both.read_to_end(&mut bytes)?;
+    let _count = from.read_to_end(&mut bytes)?;
     let reply = text_of(bytes)?;
     let end = format!(in rt.alloc(); "}},\"protocol\":\"3.1\",\"server\":\"{server}\"}}}}")?;
     Ok(
@@ -76,7 +87,7 @@ where
 }
 
 /// What an operator's words are answered.
-fn told_operator<R>(rt: &R, operator: u16, words: &str) -> io::Result<Printed>
+pub(super) fn told_operator<R>(rt: &R, operator: u16, words: &str) -> io::Result<Printed>
 where
     R: Files + Threads + Wait + AllocGlobal + Clock + Eprint + Copy + Drop + Send + Sync + 'static,
     R: Net<Listener = TcpListener, Stream = TcpStream>,
@@ -108,6 +119,16 @@ where
     Ok(printed.as_str() == wanted.as_str() && silent.is_empty())
 }
 
+/// Waits until somebody listens at a port, for five seconds at most.
+pub(super) fn await_port<R: Clock + Net<Stream = TcpStream>>(rt: &R, port: u16) {
+    for _ in 0..500 {
+        if TcpStream::connect(rt, (Ipv4Addr::LOCALHOST, port)).is_ok() {
+            break;
+        }
+        thread::sleep(rt, Duration::from_millis(10));
+    }
+}
+
 /// The first row whose answer is another one, once the operator's port answers.
 fn first_wrong<R>(rt: &R, service: u16, operator: u16) -> Option<&'static str>
 where
@@ -116,12 +137,7 @@ where
     R::File: Send,
     R::Dir: Send,
 {
-    for _ in 0..500 {
-        if TcpStream::connect(rt, (Ipv4Addr::LOCALHOST, operator)).is_ok() {
-            break;
-        }
-        thread::sleep(rt, Duration::from_millis(10));
-    }
+    await_port(rt, operator);
     for row in SESSION.split('\n') {
         if !is_right(rt, service, operator, row).unwrap_or(false) {
             let _stopped = told_operator(rt, operator, "stop");
@@ -132,7 +148,7 @@ where
 }
 
 /// Two ports of loopback that are free.
-fn free_ports<R>(rt: &R) -> io::Result<(u16, u16)>
+pub(super) fn free_ports<R>(rt: &R) -> io::Result<(u16, u16)>
 where
     R: Net<Listener = TcpListener, Stream = TcpStream>,
 {
@@ -141,7 +157,7 @@ where
     Ok((first.local_addr()?.port(), second.local_addr()?.port()))
 }
 
-fn write_files<R: Files + AllocGlobal>(rt: &R) -> Result<(), Fail> {
+pub(super) fn write_files<R: Files + AllocGlobal>(rt: &R) -> Result<(), Fail> {
     fs::write(rt, "s_first.toml", FIRST)?;
     fs::write(rt, "s_unset.toml", UNSET)?;
     fs::write(rt, "s_next.toml", NEXT)?;

@@ -1,0 +1,59 @@
+//! A server that ends while a client is being heard: what its operator's port is told meanwhile.
+
+use crate::clients::is_replied;
+use crate::exchange::post;
+use crate::loopback::{send, sent};
+use crate::replies::TWO_APPS;
+use crate::session::is_asked;
+use crate::whole_server::{Work, wrong};
+use std::io;
+use std::net::{Net, SocketAddr, TcpStream};
+use std::test::Fail;
+
+/// What is asked at the operator's port from the first stop on, and what comes of it. A server that
+/// stops tells everybody so, which is no reply to anything but a stop.
+const ASKED: &[(&str, &str)] = &[
+    ("stop", "stopping\n"),
+    ("stop", "stopping\n"),
+    ("show", "B5 Connect"),
+    ("load yes", "B5 Connect"),
+    ("stop", "stopping\n"),
+];
+
+/// The first line whose reply is another one, if there is one, while a client that was taken is
+/// still to send its body; or that the client isn't answered.
+fn wrong_meanwhile<H>(rt: &H, clients: SocketAddr, port: u16) -> io::Result<Option<&'static str>>
+where
+    H: Net<Stream = TcpStream> + AllocGlobal,
+{
+    let whole = post(rt.alloc(), TWO_APPS)?;
+    let (head, body) = whole.split_at(whole.len().saturating_sub(TWO_APPS.len()));
+    let first = sent(rt, clients, head)?;
+    let behind = sent(rt, clients, &whole)?;
+    let mut is_heard = is_replied(rt, &behind)?;
+    let mut wrong = None;
+    for (line, want) in ASKED {
+        if !is_asked(rt, port, *line, *want)? {
+            wrong = Some(*line);
+        }
+    }
+    send(&first, body)?;
+    if !is_replied(rt, &first)? {
+        is_heard = false;
+    }
+    Ok(if is_heard { wrong } else { Some("the client") })
+}
+
+/// The same, and that it failed where it did.
+pub(crate) fn wrong_at_end<H>(rt: &H, clients: SocketAddr, port: u16) -> Option<&'static str>
+where
+    H: Net<Stream = TcpStream> + AllocGlobal,
+{
+    wrong_meanwhile(rt, clients, port).unwrap_or(Some("a connection"))
+}
+
+#[test]
+fn a_port_says_that_it_ends(rt: HostRuntime) -> Result<(), Fail> {
+    assert_eq!(rt; wrong(&rt, "nothing", 2, 30, Work::Ending)?, None);
+    Ok(())
+}
