@@ -51,21 +51,29 @@ impl<R: Clock> Clock for Clockless<'_, R> {
     }
 }
 
+/// What a client hears that asks, and its address.
+fn heard<H>(rt: &H, place: SocketAddr) -> io::Result<(Vec<u8>, SocketAddr)>
+where
+    H: Net<Stream = TcpStream> + AllocGlobal,
+{
+    let stream = sent(rt, place, &post(rt.alloc(), TWO_APPS)?)?;
+    let client = stream.local_addr()?;
+    let bytes = reply(rt.alloc(), &stream).unwrap_or(Vec::new(rt.alloc()));
+    Ok((bytes, client))
+}
+
 /// The address of a client that asks and hears nothing. Then the server is told to stop.
 fn unheard<H>(rt: &H, place: SocketAddr, stop: &AtomicBool) -> Result<SocketAddr, Fail>
 where
     H: Net<Stream = TcpStream> + AllocGlobal,
 {
-    let asked = post(rt.alloc(), TWO_APPS).and_then(|bytes| sent(rt, place, &bytes));
-    let heard = match &asked {
-        Ok(stream) => reply(rt.alloc(), stream).unwrap_or(Vec::new(rt.alloc())),
-        Err(_) => Vec::new(rt.alloc()),
-    };
+    let asked = heard(rt, place);
     halt(rt, place, stop);
-    if !heard.is_empty() {
+    let (bytes, client) = asked?;
+    if !bytes.is_empty() {
         return Err(Fail::from("a client is answered"));
     }
-    Ok(asked?.local_addr()?)
+    Ok(client)
 }
 
 /// Whether the log of a server with this worker has a line of that connection, and no other.
