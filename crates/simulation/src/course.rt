@@ -11,12 +11,19 @@ use cells::{PlainCells, PlainPass};
 use ruleset::{App, Ruleset};
 use std::alloc::{AllocError, Global};
 
+/// Who is told how far a simulation is.
+pub trait Onlooker {
+    /// So many of all apps have been asked.
+    fn asked(&mut self, done: usize, all: usize);
+}
+
 /// What the clients of all buckets choose of each app, in the ruleset's order. All counters are 0
-/// as it begins, and each run leaves them to the next.
-pub fn simulate(
+/// as it begins, and each run leaves them to the next. The onlooker is told after each app.
+pub fn simulate<O: Onlooker>(
     alloc: Global,
     rules: &Ruleset,
     client: &mut Client,
+    onlooker: &mut O,
 ) -> Result<Vec<Choices>, AllocError>
     ensures choices { IfOk result (λ chosen. IsSimulated client.old rules.now.apps chosen.items) }
     ensures all { IfOk result (λ chosen. length chosen.items ≡ length rules.now.apps) }
@@ -30,6 +37,7 @@ pub fn simulate(
     for app in apps {
         let choices = ask_for_app(alloc, app, client, &cells, &mut pass)?;
         chosen.push(choices)?;
+        onlooker.asked(chosen.len(), apps.len());
     }
     Ok(chosen)
 }

@@ -15,7 +15,7 @@ mod course;
 pub use choices::Choices;
 pub use client::Client;
 pub use counts::{count_buckets, count_moves};
-pub use course::simulate;
+pub use course::{Onlooker, simulate};
 
 // The words of the contracts here come with them.
 pub use bpf_machine;

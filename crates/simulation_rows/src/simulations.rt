@@ -3,7 +3,7 @@
 use crate::given::{client, rules_over, shape_of_quota};
 use cells::Shape;
 use simulation::ruleset::Ruleset;
-use simulation::{Choices, count_buckets, count_moves, simulate};
+use simulation::{Choices, Onlooker, count_buckets, count_moves, simulate};
 use std::alloc::{AllocError, Global};
 use std::test::Fail;
 
@@ -41,9 +41,15 @@ mov r0, 1\nexit\nmov r0, 0\nexit\n",
     ),
 ];
 
+struct NobodyLooks;
+
+impl Onlooker for NobodyLooks {
+    fn asked(&mut self, _done: usize, _all: usize) {}
+}
+
 fn chosen(alloc: Global, rules: &Ruleset) -> Result<Vec<Choices>, AllocError> {
     let mut client = client(alloc)?;
-    simulate(alloc, rules, &mut client)
+    simulate(alloc, rules, &mut client, &mut NobodyLooks)
 }
 
 // How many buckets get none, and how many the release, of the app x.
