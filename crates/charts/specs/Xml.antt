@@ -1,0 +1,23 @@
+-- A text as character data of XML 1.0: markup is escaped, and what is no character there is a
+-- question mark.
+use Rattle.std.specs.Prelude.{ℕ, List, [], ◌∷◌, codes, nat_lt, encode_utf8}
+use Rattle.std.specs.Prelude.{Bool, ◌==◌, ◌||◌, if◌then◌else◌}
+use Rattle.std.specs.List.{flat_map}
+use Rattle.std.specs.Str.{chars}
+
+-- controls, and the two that are no characters
+abbrev pub is_unprintable : ℕ → Bool
+is_unprintable c = nat_lt c 32 || (c == 127) || (c == 65534) || (c == 65535)
+
+-- & < > "
+abbrev pub xml_char : ℕ → List ℕ
+xml_char c =
+    if c == 38 then codes "&amp;"
+    else if c == 60 then codes "&lt;"
+    else if c == 62 then codes "&gt;"
+    else if c == 34 then codes "&quot;"
+    else if is_unprintable c then codes "?"
+    else encode_utf8 c
+
+abbrev pub xml_text : List ℕ → List ℕ
+xml_text text = flat_map xml_char (chars text)
