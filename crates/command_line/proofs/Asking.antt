@@ -2,17 +2,18 @@
 use Rattle.std.proofs.Common.{ℕ, List, codes}
 use Rattle.clap.specs.Words.{Text, Row}
 use Rattle.std.proofs.Common.{◌∙◌, sym, subst}
-use Rattle.std.specs.Prelude.{Option, Some, option_copied}
+use Rattle.std.specs.Prelude.{IsNone, Option, Some, option_copied}
 use Rattle.command_line.specs.AppOptions.{HasTold, IsPlace}
 use Rattle.command_line.specs.declared.told.ToldApp.{ToldApp}
 use Rattle.command_line.specs.declared.request.AskedRun.{AskedRun}
+use Rattle.command_line.specs.declared.request.AskedSimulation.{AskedSimulation}
 use Rattle.command_line.specs.declared.request.DeclaredShape.{DeclaredShape}
 use Rattle.command_line.specs.declared.request.CommandRequest.TheVariants as request
 use Rattle.command_line.specs.declared.verb.Verb.TheVariants as verb
 use Rattle.operator_request.specs.declared.request.OperatorRequest.TheVariants as sent
 use Rattle.command_line.specs.declared.request.Plan.{Plan}
 use Rattle.command_line.specs.Values.{HasPlan}
-use Rattle.command_line.specs.Words.{AsksToRun, VerbAsksNothing}
+use Rattle.command_line.specs.Words.{AsksToRun, AsksToSimulate, VerbAsksNothing}
 use Rattle.command_line.specs.Values.{HasShape, HasShort, HasText}
 
 pub assembles_nothing : (rows : List Row)
@@ -39,6 +40,17 @@ runs_nothing rows lacks (request.Run run) asks = lacks run asks.0
 runs_nothing rows lacks (request.Trace run) asks = lacks run asks.0
 runs_nothing rows lacks asked asks = asks
 
+-- of words that tell of an app, in another way of it too
+pub not_anyones : (rows : List Row) (app other : ToldApp) → HasTold rows app → HasTold rows other
+    → (IsNone (option_copied app.appid) → IsNone (option_copied app.cohort) → ⊥)
+    → IsNone (option_copied other.appid) → IsNone (option_copied other.cohort) → ⊥
+not_anyones rows app other told has named no_appid no_cohort =
+    named
+    (subst (λ (text : Option Text). IsNone text)
+    (has.attributes.appid ∙ sym told.attributes.appid) no_appid)
+    (subst (λ (text : Option Text). IsNone text)
+    (has.attributes.cohort ∙ sym told.attributes.cohort) no_cohort)
+
 -- the cohort that the words tell has no place for any bucket
 pub no_place : (rows : List Row) (app : ToldApp) → HasTold rows app
     → ((bucket : Option ℕ) → IsPlace rows (option_copied app.cohort) bucket → ⊥)
@@ -46,6 +58,12 @@ pub no_place : (rows : List Row) (app : ToldApp) → HasTold rows app
 no_place rows app told lacks = runs_nothing rows (λ run asks.
     lacks run.bucket (subst (λ (cohort : Option Text). IsPlace rows cohort run.bucket)
     (asks.told.attributes.cohort ∙ sym told.attributes.cohort) asks.place))
+
+pub simulates_nothing : (rows : List Row)
+    → ((asked : AskedSimulation) → AsksToSimulate rows asked → ⊥)
+    → VerbAsksNothing (Some verb.Simulate) rows
+simulates_nothing rows lacks (request.Simulate asked) asks = lacks asked asks
+simulates_nothing rows lacks asked asks = asks
 
 pub serves_nothing : (rows : List Row)
     → ((manifest : Text) (plan : Plan) → HasText (codes "MANIFEST") rows manifest

@@ -1,6 +1,6 @@
 -- What the options say of the app that asks.
 use Rattle.std.specs.Prelude.{◌≡◌, ℕ, ◌+◌, List, [], ◌∷◌, Option, Some, None, is_some, length, drop}
-use Rattle.std.specs.Prelude.{codes, nat_eq, IsSomeAnd, if◌then◌else◌}
+use Rattle.std.specs.Prelude.{codes, nat_eq, IsNone, IsSomeAnd, if◌then◌else◌}
 use Rattle.std.specs.Option.{option_and_then, option_copied, option_or, unwrap_or}
 use Rattle.std.specs.List.{starts_with}
 use Rattle.attrs.specs.Bucket.{cohort_bucket}
@@ -77,6 +77,17 @@ pub record HasTold (rows : List Row) (told : ToldApp) : Type 0 where
 
 abbrev pub LacksTold : List Row → Type 0
 LacksTold rows = (told : ToldApp) → ¬ HasTold rows told
+
+-- ---- anyone's
+
+-- an app of which neither the appid nor the cohort is told
+pub record IsAnyones (rows : List Row) (app : ToldApp) : Type 0 where
+  pub told : HasTold rows app
+  pub no_appid : IsNone (option_copied app.appid)
+  pub no_cohort : IsNone (option_copied app.cohort)
+
+abbrev pub LacksAnyone : List Row → Type 0
+LacksAnyone rows = (app : ToldApp) → ¬ IsAnyones rows app
 
 -- ---- its bucket
 

@@ -9,6 +9,7 @@ use Rattle.command_line.specs.declared.verb.Verb.TheVariants as verb
 use Rattle.command_line.specs.declared.verb.Verb.TheVariants.{Assemble, Check, Compile, Verify, Run}
 use Rattle.command_line.specs.declared.verb.Verb.TheVariants.{Replay, Serve, Load}
 use Rattle.command_line.specs.declared.verb.Verb.TheVariants.{Explain, Order, Show, Cells, Stop}
+use Rattle.command_line.specs.declared.verb.Verb.TheVariants.{Simulate}
 
 -- a word by its place, which has to be there
 abbrev pub file : Text → Rule
@@ -111,6 +112,11 @@ abbrev pub replay_command : Shape
 replay_command =
     command (codes "replay") (file (codes "MANIFEST") ∷ file (codes "SCRIPT") ∷ [])
 
+abbrev pub simulate_command : Shape
+simulate_command =
+    command (codes "simulate")
+    (file (codes "MANIFEST") ∷ option (codes "against") ∷ option (codes "svg") ∷ told)
+
 abbrev pub serve_command : Shape
 serve_command = command (codes "serve")
     (file (codes "MANIFEST") ∷ number (codes "port") 65535 ∷ operator
@@ -139,12 +145,13 @@ verb_command Replay = replay_command
 verb_command Run = run_command
 verb_command Serve = serve_command
 verb_command Show = operator_command (codes "show")
+verb_command Simulate = simulate_command
 verb_command Stop = stop_command
 verb_command Verify = verify_command
 
 abbrev pub verbs : List Verb
 verbs = Assemble ∷ Cells ∷ Check ∷ Compile ∷ Explain ∷ verb.List ∷ Load ∷ Order ∷ Replay ∷ Run
-    ∷ Serve ∷ Show ∷ Stop ∷ Verify ∷ []
+    ∷ Serve ∷ Show ∷ Simulate ∷ Stop ∷ Verify ∷ []
 
 -- all of them, in the order of their names
 abbrev pub commands : App

@@ -2,7 +2,7 @@
 -- be the bucket's; of it no claim is made.
 use Rattle.std.specs.Prelude.{List, Option, Some, None, codes}
 use Rattle.clap.specs.Words.{Row, Text, first_of}
-use Rattle.command_line.specs.AppOptions.{LacksInstalled, LacksToday, LacksTold}
+use Rattle.command_line.specs.AppOptions.{LacksAnyone, LacksInstalled, LacksToday, LacksTold}
 use Rattle.command_line.specs.Values.{LacksArrays}
 use Rattle.command_line.specs.declared.option_misfit.OptionMisfit.{OptionMisfit}
 use Rattle.command_line.specs.declared.option_misfit.OptionMisfit.TheVariants as misfit
@@ -12,6 +12,7 @@ IsMisfit rows misfit.Arrays = LacksArrays rows
 IsMisfit rows misfit.Today = LacksToday (first_of (codes "today") rows)
 IsMisfit rows misfit.Installed = LacksInstalled (first_of (codes "installed") rows)
 IsMisfit rows misfit.Attributes = LacksTold rows
+IsMisfit rows misfit.Anyone = LacksAnyone rows
 IsMisfit rows misfit.Bucket = Unit {0}
 
 abbrev pub IsMisfitOf : Option (Text × List Row) → OptionMisfit → Type 0

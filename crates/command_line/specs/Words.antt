@@ -1,11 +1,12 @@
 -- What the words of a command line ask for.
-use Rattle.std.specs.Prelude.{List, Option, Some, None, if◌then◌else◌, true, false}
+use Rattle.std.specs.Prelude.{◌≡◌, List, Option, Some, None, if◌then◌else◌, true, false}
 use Rattle.std.specs.Prelude.{codes, option_copied}
 use Rattle.std.specs.Str.{bytes_eq}
-use Rattle.clap.specs.Words.{Row, Text}
-use Rattle.command_line.specs.AppOptions.{HasTold, IsPlace}
+use Rattle.clap.specs.Words.{Row, Text, first_of}
+use Rattle.command_line.specs.AppOptions.{HasTold, IsAnyones, IsPlace}
 use Rattle.command_line.specs.Values.{HasFlag, HasPlan, HasShape, HasShort, HasText}
 use Rattle.command_line.specs.declared.request.AskedRun.{AskedRun}
+use Rattle.command_line.specs.declared.request.AskedSimulation.{AskedSimulation}
 use Rattle.operator_request.specs.declared.request.OperatorRequest.TheVariants as sent
 use Rattle.command_line.specs.declared.request.CommandRequest.{CommandRequest}
 use Rattle.command_line.specs.declared.request.CommandRequest.TheVariants as request
@@ -26,6 +27,7 @@ verb_named name =
     else if bytes_eq name (codes "verify") then Some verb.Verify
     else if bytes_eq name (codes "run") then Some verb.Run
     else if bytes_eq name (codes "replay") then Some verb.Replay
+    else if bytes_eq name (codes "simulate") then Some verb.Simulate
     else if bytes_eq name (codes "serve") then Some verb.Serve
     else if bytes_eq name (codes "load") then Some verb.Load
     else if bytes_eq name (codes "show") then Some verb.Show
@@ -39,6 +41,13 @@ pub record AsksToRun (rows : List Row) (run : AskedRun) : Type 0 where
   pub declared : HasShape rows run.shape
   pub told : HasTold rows run.app
   pub place : IsPlace rows (option_copied run.app.cohort) run.bucket
+
+-- a simulation of a manifest's ruleset, and of one that serves now
+pub record AsksToSimulate (rows : List Row) (asked : AskedSimulation) : Type 0 where
+  pub file : HasText (codes "MANIFEST") rows asked.manifest.now
+  pub against : option_copied asked.against ≡ first_of (codes "against") rows
+  pub picture : option_copied asked.picture ≡ first_of (codes "svg") rows
+  pub clients : IsAnyones rows asked.app
 
 -- the command, with these arguments, asks for this
 abbrev pub VerbAsks : Option Verb → List Row → CommandRequest → Type 0
@@ -61,6 +70,7 @@ VerbAsks (Some verb.Run) rows (request.Trace run) =
     AsksToRun rows run × HasFlag (codes "trace") rows true
 VerbAsks (Some verb.Replay) rows (request.Replay manifest script) =
     HasText (codes "MANIFEST") rows manifest.now × HasText (codes "SCRIPT") rows script.now
+VerbAsks (Some verb.Simulate) rows (request.Simulate asked) = AsksToSimulate rows asked
 VerbAsks (Some verb.Serve) rows (request.Serve manifest plan) =
     HasText (codes "MANIFEST") rows manifest.now × HasPlan rows plan
 VerbAsks (Some verb.Load) rows (request.Ask (sent.Load path) port) =

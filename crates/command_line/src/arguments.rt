@@ -178,14 +178,14 @@ pub fn attr_option<'a>(alloc: Global) -> Arg<'a>
         .help("Attribute of the app: appid, brand, ap, lang, cohort or platform, each once at most")
 }
 
-/// `--NAME DAY`.
-pub fn day_option<'a>(alloc: Global, name: &'a str, help: &'a str) -> Arg<'a>
+/// `--NAME VALUE`.
+pub fn text_option<'a>(alloc: Global, name: &'a str, value: &'a str, help: &'a str) -> Arg<'a>
     ensures rule { rule_of result ≡ grammar.option name.now }
     ensures local { result.global ≡ false }
 {
     Arg::new(alloc, name)
         .long(name)
-        .value_name("DAY")
+        .value_name(value)
         .action(ArgAction::Set)
         .help(help)
 }
@@ -196,7 +196,7 @@ pub fn today_option<'a>(alloc: Global) -> Arg<'a>
     ensures local { result.global ≡ false }
 {
     let help = "Day from 2007-01-01 on, 0 to 2919382, or its date, as 2026-12-01; 0 by default";
-    day_option(alloc, "today", help)
+    text_option(alloc, "today", "DAY", help)
 }
 
 /// `--installed DAY`.
@@ -205,7 +205,7 @@ pub fn installed_option<'a>(alloc: Global) -> Arg<'a>
     ensures local { result.global ≡ false }
 {
     let help = "Day of the installation, 0 to 4294967294, or its date; unknown by default";
-    day_option(alloc, "installed", help)
+    text_option(alloc, "installed", "DAY", help)
 }
 
 /// `--NAME`.

@@ -8,7 +8,7 @@ ghost use Rattle.command_line.specs.Grammar as grammar;
 
 use crate::program_commands::{
     assemble_command, compile_command, explain_command, list_command, order_command, run_command,
-    verify_command,
+    simulate_command, verify_command,
 };
 use crate::server_commands::{
     cells_command, check_command, load_command, replay_command, serve_command, show_command,
@@ -36,6 +36,7 @@ fn verb_command<'a>(alloc: Global, verb: Verb) -> Result<Command<'a>, AllocError
         Verb::Run => run_command(alloc),
         Verb::Serve => serve_command(alloc),
         Verb::Show => show_command(alloc),
+        Verb::Simulate => simulate_command(alloc),
         Verb::Stop => stop_command(alloc),
         Verb::Verify => verify_command(alloc),
     }

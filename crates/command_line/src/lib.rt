@@ -17,13 +17,14 @@ mod program_words;
 mod request;
 mod server_commands;
 mod server_words;
+mod simulate_words;
 mod told;
 mod verb;
 mod words;
 
 pub use fault::WordsFault;
 pub use option_misfit::OptionMisfit;
-pub use request::{AskedRun, CommandRequest, DeclaredShape, Plan};
+pub use request::{AskedRun, AskedSimulation, CommandRequest, DeclaredShape, Plan};
 pub use told::ToldApp;
 pub use words::read_words;
 

@@ -6,6 +6,8 @@ ghost use Rattle.command_line.specs.Misfits.{IsMisfit, IsMisfitOf};
 use crate::app_options::{installed_of, today_of, told_of};
 use crate::options::arrays_of;
 use crate::request::NoRequest;
+use crate::simulate_words::anyone_told;
+use crate::verb::{Verb, verb_named};
 use clap::ArgMatches;
 use std::alloc::Global;
 use thiserror::Error;
@@ -21,6 +23,8 @@ pub enum OptionMisfit {
     Installed,
     #[error("'--attr' wants NAME=TEXT: appid, brand, ap, lang, cohort or platform, each once")]
     Attributes,
+    #[error("'--attr' of a simulation is no appid and no cohort: each app is asked in each bucket")]
+    Anyone,
     #[error("'--bucket' can't stand beside a cohort that names a bucket")]
     Bucket,
 }
@@ -30,12 +34,12 @@ pub fn misfit_of(alloc: Global, matches: &ArgMatches<'_>) -> OptionMisfit
     ensures { IsMisfitOf (subcommand_rows_of matches.now) result }
 {
     match matches.subcommand() {
-        Some((_, found)) => misfit_among(alloc, found),
+        Some((name, found)) => misfit_among(alloc, verb_named(name), found),
         None => OptionMisfit::Bucket,
     }
 }
 
-fn misfit_among(alloc: Global, found: &ArgMatches<'_>) -> OptionMisfit
+fn misfit_among(alloc: Global, verb: Option<Verb>, found: &ArgMatches<'_>) -> OptionMisfit
     ensures { IsMisfit (rows_of (found_of found.now)) result }
 {
     if let Err(NoRequest::Wrong) = arrays_of(alloc, found) {
@@ -50,5 +54,17 @@ fn misfit_among(alloc: Global, found: &ArgMatches<'_>) -> OptionMisfit
     if let Err(NoRequest::Wrong) = told_of(found) {
         return OptionMisfit::Attributes;
     }
-    OptionMisfit::Bucket
+    match verb {
+        Some(Verb::Simulate) => misfit_of_clients(found),
+        _ => OptionMisfit::Bucket,
+    }
+}
+
+fn misfit_of_clients(found: &ArgMatches<'_>) -> OptionMisfit
+    ensures { IsMisfit (rows_of (found_of found.now)) result }
+{
+    match anyone_told(found) {
+        Err(NoRequest::Wrong) => OptionMisfit::Anyone,
+        _ => OptionMisfit::Bucket,
+    }
 }

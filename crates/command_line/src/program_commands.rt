@@ -7,7 +7,7 @@ ghost use Rattle.command_line.specs.Grammar as grammar;
 
 use crate::arguments::{
     arrays_option, attr_option, bucket_option, command_of, file_argument, flag_option,
-    installed_option, program_argument, releases_option, today_option, version_option,
+    installed_option, program_argument, releases_option, text_option, today_option, version_option,
 };
 use clap::Command;
 use std::alloc::{AllocError, Global};
@@ -117,4 +117,29 @@ pub fn run_command<'a>(alloc: Global) -> Result<Command<'a>, AllocError>
     ]?;
     let about = "Verify a program and run it for one app; prints `choice K after N instructions`";
     command_of(alloc, "run", about, arguments)
+}
+
+/// The command `simulate`.
+pub fn simulate_command<'a>(alloc: Global) -> Result<Command<'a>, AllocError>
+    ensures shape { IfOk result (λ c. shape_of c ≡ grammar.simulate_command) }
+    ensures local { IfOk result (λ c. (fields_of c).has_globals ≡ false) }
+{
+    let arguments = vec![in alloc;
+        file_argument(alloc, "MANIFEST", "File of the manifest"),
+        text_option(
+            alloc,
+            "against",
+            "MANIFEST",
+            "File of the manifest that serves now"
+        ),
+        text_option(alloc, "svg", "FILE", "File that gets a picture, in SVG"),
+        version_option(alloc),
+        attr_option(alloc),
+        flag_option(alloc, "ping", "The clients send a ping"),
+        flag_option(alloc, "event", "The clients send an event"),
+        today_option(alloc),
+        installed_option(alloc),
+    ]?;
+    let about = "Tell how many of the 10000 buckets get which release by a manifest";
+    command_of(alloc, "simulate", about, arguments)
 }

@@ -26,6 +26,16 @@ pub struct AskedRun<'a> {
     pub bucket: Option<Bucket>,
 }
 
+/// A simulation that is asked for: of a manifest's ruleset, against that of one that serves now, for
+/// clients of which this is told. A picture is written into the file that is named.
+#[derive(Clone, Copy)]
+pub struct AskedSimulation<'a> {
+    pub manifest: &'a str,
+    pub against: Option<&'a str>,
+    pub picture: Option<&'a str>,
+    pub app: ToldApp<'a>,
+}
+
 /// One request of the command line.
 #[derive(Drop)]
 pub enum CommandRequest<'a> {
@@ -68,6 +78,8 @@ pub enum CommandRequest<'a> {
         manifest: &'a str,
         script: &'a str,
     },
+    /// Tell what the clients in all buckets get by a manifest.
+    Simulate(AskedSimulation<'a>),
     /// Serve the ruleset of a manifest.
     Serve {
         manifest: &'a str,

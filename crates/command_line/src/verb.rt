@@ -15,6 +15,7 @@ pub enum Verb {
     Verify,
     Run,
     Replay,
+    Simulate,
     Serve,
     Load,
     Show,
@@ -23,7 +24,7 @@ pub enum Verb {
 }
 
 /// All commands, by their names' order.
-pub const VERBS: [Verb; 14] = [
+pub const VERBS: [Verb; 15] = [
     Verb::Assemble,
     Verb::Cells,
     Verb::Check,
@@ -36,6 +37,7 @@ pub const VERBS: [Verb; 14] = [
     Verb::Run,
     Verb::Serve,
     Verb::Show,
+    Verb::Simulate,
     Verb::Stop,
     Verb::Verify,
 ];
@@ -54,6 +56,7 @@ pub fn verb_named(name: &str) -> Option<Verb>
         "verify" => Some(Verb::Verify),
         "run" => Some(Verb::Run),
         "replay" => Some(Verb::Replay),
+        "simulate" => Some(Verb::Simulate),
         "serve" => Some(Verb::Serve),
         "load" => Some(Verb::Load),
         "show" => Some(Verb::Show),

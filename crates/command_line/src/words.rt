@@ -18,6 +18,7 @@ use crate::request::{CommandRequest, NoRequest};
 use crate::server_words::{
     cells_asked, check_asked, load_asked, replay_asked, serve_asked, show_asked, stop_asked,
 };
+use crate::simulate_words::simulate_asked;
 use crate::verb::{Verb, verb_named};
 use clap::error::ErrorKind;
 use clap::{ArgMatches, Error};
@@ -101,6 +102,7 @@ fn request_named<'a>(
         Some(Verb::Verify) => verify_asked(alloc, found),
         Some(Verb::Run) => run_asked(alloc, found),
         Some(Verb::Replay) => replay_asked(found),
+        Some(Verb::Simulate) => simulate_asked(found),
         Some(Verb::Serve) => serve_asked(found),
         Some(Verb::Load) => load_asked(found),
         Some(Verb::Show) => show_asked(found),
