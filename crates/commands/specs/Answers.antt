@@ -1,15 +1,16 @@
 -- What each request is answered, and why it is refused: by what the files give, as far as that is
 -- known. Of a device's files nothing is known, so of these it is what some bytes come to. What a
 -- server replies no contract can say; of memory that was refused no claim is made.
-use Rattle.std.specs.Prelude.{◌≡◌, []}
+use Rattle.std.specs.Prelude.{◌≡◌, [], option_copied}
 use Rattle.std.specs.String.{string_bytes}
 use Rattle.program_tools.specs.command_line.declared.request.CommandRequest.{CommandRequest}
 use Rattle.program_tools.specs.command_line.declared.request.CommandRequest.TheVariants as request
 use Rattle.program_tools.specs.operator_request.declared.request.OperatorRequest.TheVariants as sent
 use Rattle.commands.specs.Asked.{IsAskRefusal, IsDoneAs}
+use Rattle.commands.specs.Clients.{client_told}
 use Rattle.commands.specs.declared.answer.Answer.{Answer}
 use Rattle.commands.specs.declared.answer.Answer.TheVariants.{Assembled, Checked, Compiled}
-use Rattle.commands.specs.declared.answer.Answer.TheVariants.{Explained}
+use Rattle.commands.specs.declared.answer.Answer.TheVariants.{Explained, Simulated}
 use Rattle.commands.specs.declared.answer.Answer.TheVariants.{Listed, Accepted, Chosen, Told}
 use Rattle.commands.specs.declared.answer.Answer.TheVariants.{Ordered, Replayed, Ready, Traced}
 use Rattle.commands.specs.declared.fault.Fault.{Fault}
@@ -18,6 +19,7 @@ use Rattle.manifest_tools.specs.load.Loaded.{IsLoadedFrom}
 use Rattle.program_tools.specs.Programs.{IsProgramRefusal, IsRunRefusal}
 use Rattle.manifest_tools.specs.Manifests.{HasReplayed, IsChecked, IsCheckRefusal}
 use Rattle.manifest_tools.specs.Manifests.{IsReplayRefusal}
+use Rattle.manifest_tools.specs.Simulations.{HasSimulated, IsSimulationRefusal}
 use Rattle.program_tools.specs.bounded_files.Files.{KnownFiles}
 use Rattle.program_tools.specs.Assembly.{IsAssembledFrom, IsAssemblyRefusal}
 use Rattle.program_tools.specs.Assembly.{IsListedFrom, IsListingRefusal}
@@ -47,6 +49,9 @@ module _ (known : KnownFiles) where
       HasTraced known run choice instructions (string_bytes lines)
   IsAnswer (request.Replay manifest script) (Replayed text) =
       HasReplayed known manifest.now script.now (string_bytes text)
+  IsAnswer (request.Simulate asked) (Simulated text) =
+      HasSimulated known (client_told asked.app) asked.manifest.now (option_copied asked.against)
+      (string_bytes text)
   IsAnswer (request.Ask asked port) (Told text) = IsDoneAs asked (string_bytes text)
   IsAnswer (request.StopAndWait port) (Told text) = IsDoneAs sent.Stop (string_bytes text)
   IsAnswer (request.Serve manifest plan) (Ready server kept) =
@@ -70,6 +75,9 @@ module _ (known : KnownFiles) where
       IsRunRefusal known run.path.now run.shape fault
   IsRefused (request.Replay manifest script) (Manifest fault) =
       IsReplayRefusal known manifest.now script.now fault
+  IsRefused (request.Simulate asked) (Manifest fault) =
+      IsSimulationRefusal known (client_told asked.app) asked.manifest.now
+      (option_copied asked.against) fault
   IsRefused (request.Ask asked port) fault = IsAskRefusal asked fault
   IsRefused (request.StopAndWait port) fault = IsAskRefusal sent.Stop fault
   IsRefused (request.Serve manifest plan) (Serving fault) =

@@ -1,4 +1,5 @@
 pub mod Texts
 pub mod Asked
+pub mod Clients
 pub mod Answers
 pub mod Commands

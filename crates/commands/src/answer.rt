@@ -53,6 +53,10 @@ pub enum Answer {
     Replayed {
         text: String,
     },
+    /// The lines of a simulation.
+    Simulated {
+        text: String,
+    },
     /// The lines of a server's reply.
     Told {
         text: String,
@@ -107,6 +111,7 @@ impl fmt::Display for Answer {
                 "{lines}choice {choice} after {instructions} instructions"
             ),
             Answer::Replayed { text } => f.write_str(text),
+            Answer::Simulated { text } => f.write_str(text),
             Answer::Told { text } => f.write_str(text),
             Answer::Ready { .. } => {
                 let first: Generation = 1;

@@ -14,6 +14,7 @@ mod logged;
 mod requests;
 mod runs;
 mod serve;
+mod simulations;
 mod status;
 
 pub use manifest_tools::load::{Device, Disk};

@@ -7,6 +7,7 @@ use crate::answer::Answer;
 use crate::ask::{ask_server, stop_and_wait};
 use crate::fault::Fault;
 use crate::runs::{chosen, traced};
+use crate::simulations::simulated;
 use manifest_tools::load::Disk;
 use manifest_tools::{check_file, replay_script};
 use program_tools::command_line::CommandRequest;
@@ -22,7 +23,8 @@ use std::time::Clock;
 /// server of a manifest is made ready, and doesn't serve yet.
 pub fn answer<R, D>(rt: &R, disk: &D, request: &CommandRequest<'_>) -> Result<Answer, Fault>
 where
-    R: Files + AllocGlobal + Clock + Net<Listener = TcpListener, Stream = TcpStream>,
+    R: Files + AllocGlobal + Clock + Eprint,
+    R: Net<Listener = TcpListener, Stream = TcpStream>,
     D: Disk,
     ensures answer { IfOk result (IsAnswer (D.known disk.now) request.now) }
     ensures fault { IfErr result (IsRefused (D.known disk.now) request.now) }
@@ -56,6 +58,7 @@ where
         CommandRequest::Replay { manifest, script } => Ok(Answer::Replayed {
             text: replay_script(alloc, disk, manifest, script).map_err(Fault::Manifest)?,
         }),
+        CommandRequest::Simulate(asked) => simulated(rt, disk, asked),
         CommandRequest::Serve { manifest, plan } => Ok(Answer::Ready {
             server: prepare(rt, disk, manifest, plan.port, plan.operator).map_err(Fault::Serving)?,
             plan: *plan,

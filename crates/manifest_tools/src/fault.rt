@@ -3,6 +3,7 @@
 ghost use Rattle.manifest_tools.specs.Manifests.{fault_text};
 
 use diagnosis::Refused;
+use diagnosis::load::PathFault;
 use diagnosis::load::bounded_files::ResourceFault;
 use replaying::ReplayFault;
 use std::fmt;
@@ -14,6 +15,10 @@ pub enum ManifestToolFault {
     Resource(ResourceFault),
     /// M1 to M8: a manifest comes to no ruleset, and where and why.
     Diagnosed(Refused),
+    /// B3, B4, M1 to M8: a manifest comes to no ruleset.
+    Load(PathFault),
+    /// The same of the manifest that serves now.
+    Against(PathFault),
     /// B2 to B4, M1 to M8: a script, or a manifest of it, isn't taken.
     Replay(ReplayFault),
 }
@@ -25,6 +30,8 @@ impl fmt::Display for ManifestToolFault {
         match self {
             ManifestToolFault::Resource(fault) => write!(f, "{fault}"),
             ManifestToolFault::Diagnosed(refused) => write!(f, "{}", refused.fault),
+            ManifestToolFault::Load(fault) => write!(f, "{fault}"),
+            ManifestToolFault::Against(fault) => write!(f, "{fault} in --against"),
             ManifestToolFault::Replay(fault) => write!(f, "{fault}"),
         }
     }

@@ -13,6 +13,7 @@ mod refusals;
 mod replays;
 mod rules;
 mod server;
+mod simulations;
 mod stops;
 mod texts;
 mod usage;

@@ -71,7 +71,9 @@ rollout explain --help -> --arrays
 rollout run --help -> --bucket
 rollout verify --help -> name:width:length
 rollout check --help -> MANIFEST
-rollout replay --help -> start 0 agent 4998 -";
+rollout replay --help -> start 0 agent 4998 -
+rollout simulate --help -> --against <MANIFEST>
+rollout stop --help -> --wait";
 
 /// Help is status 0 and names what there is.
 #[test]

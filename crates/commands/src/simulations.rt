@@ -1,0 +1,47 @@
+//! `simulate`: the answer to a simulation.
+
+ghost use Rattle.std.specs.Prelude.{◌≡◌, IfOk, IfErr};
+ghost use Rattle.commands.specs.Answers.{IsAnswer, IsRefused};
+ghost use Rattle.commands.specs.Clients.{client_told};
+
+use crate::answer::Answer;
+use crate::fault::Fault;
+use manifest_tools::charts::simulation::Client;
+use manifest_tools::load::Disk;
+use manifest_tools::load::bounded_files::ResourceFault;
+use manifest_tools::{ManifestToolFault, simulate_files};
+use program_tools::command_line::{AskedSimulation, CommandRequest, ToldApp};
+use std::alloc::{AllocError, Global};
+use std::rt::Files;
+use std::time::Clock;
+
+/// The lines of what the clients in all buckets get.
+pub fn simulated<R, D>(rt: &R, disk: &D, asked: &AskedSimulation<'_>) -> Result<Answer, Fault>
+where
+    R: Files + AllocGlobal + Clock + Eprint,
+    D: Disk,
+    ensures answer { IfOk result (IsAnswer (D.known disk.now) (CommandRequest.Simulate asked.now)) }
+    ensures fault { IfErr result
+        (IsRefused (D.known disk.now) (CommandRequest.Simulate asked.now)) }
+{
+    let Ok(mut client) = client_told(rt.alloc(), &asked.app) else {
+        let fault = ManifestToolFault::Resource(ResourceFault::Memory);
+        return Err(Fault::Manifest(fault));
+    };
+    let (manifest, against) = (asked.manifest, asked.against);
+    match simulate_files(rt, disk, manifest, against, asked.picture, &mut client) {
+        Ok(text) => Ok(Answer::Simulated { text }),
+        Err(fault) => Err(Fault::Manifest(fault)),
+    }
+}
+
+// The client of which the words tell.
+fn client_told(alloc: Global, told: &ToldApp<'_>) -> Result<Client, AllocError>
+    ensures { IfOk result (λ client. client ≡ client_told told.now) }
+{
+    Ok(Client {
+        app: told.app(alloc)?,
+        request: told.request(alloc)?,
+        moment: told.moment(),
+    })
+}

@@ -1,0 +1,34 @@
+//! How far a simulation is, on standard error.
+
+use charts::simulation::Onlooker;
+use std::time::{Clock, Instant};
+
+/// Says at most once a second how far a simulation is. It says nothing where the clock can't be
+/// read.
+#[derive(Drop)]
+pub(crate) struct Progress<'a, R> {
+    rt: &'a R,
+    said: Option<Instant>,
+}
+
+impl<'a, R: Clock + Eprint> Progress<'a, R> {
+    /// Of a simulation that begins now.
+    pub(crate) fn new(rt: &'a R) -> Progress<'a, R> {
+        Progress {
+            rt,
+            said: Instant::now(rt).ok(),
+        }
+    }
+}
+
+impl<'a, R: Clock + Eprint> Onlooker for Progress<'a, R> {
+    fn asked(&mut self, done: usize, all: usize) {
+        let (Some(said), Ok(now)) = (self.said, Instant::now(self.rt)) else {
+            return;
+        };
+        if now.saturating_duration_since(said).as_secs() > 0 {
+            self.said = Some(now);
+            let _told = eprintln!(self.rt; "simulated {done} of {all} apps");
+        }
+    }
+}
