@@ -149,11 +149,11 @@ height_from top [] = top
 height_from top (app ∷ apps) = height_from (top + panel_height app) apps
 
 unfoldable pub picture_opens : List ℕ
-picture_opens = codes "<svg xmlns=\"http://www.w3.org/2000/svg\" width=\"860\" height=\""
+picture_opens = codes "<svg xmlns=\"http://www.w3.org/2000/svg\" width=\"880\" height=\""
 
 unfoldable pub ground_opens : List ℕ
 ground_opens =
-    codes "\" font-family=\"sans-serif\" font-size=\"14\">\n<rect width=\"860\" height=\""
+    codes "\" font-family=\"sans-serif\" font-size=\"14\">\n<rect width=\"880\" height=\""
 
 unfoldable pub ground_closes : List ℕ
 ground_closes = codes "\" fill=\"rgb(255,255,255)\"/>\n"

@@ -18,14 +18,14 @@ use std::fmt::Write;
 fn picture_opens() -> &'static str
     ensures { result.now ≡ specs.picture_opens }
 {
-    "<svg xmlns=\"http://www.w3.org/2000/svg\" width=\"860\" height=\""
+    "<svg xmlns=\"http://www.w3.org/2000/svg\" width=\"880\" height=\""
 }
 
 #[tactic(auto, unfolding(crate::specs::Pictures::ground_opens))]
 fn ground_opens() -> &'static str
     ensures { result.now ≡ specs.ground_opens }
 {
-    "\" font-family=\"sans-serif\" font-size=\"14\">\n<rect width=\"860\" height=\""
+    "\" font-family=\"sans-serif\" font-size=\"14\">\n<rect width=\"880\" height=\""
 }
 
 #[tactic(auto, unfolding(crate::specs::Pictures::ground_closes))]
