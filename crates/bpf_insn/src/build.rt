@@ -16,6 +16,7 @@ use crate::insn::Insn;
 pub use wide::wide_in;
 
 /// The instruction of a row of one slot, whose registers and unused fields are in order.
+#[inline(always)]
 fn parts_in(form: Form, fields: Fields) -> Result<Insn, InsnFault>
     requires one_slot { form ≢ Form.Wide }
     requires fields { IsInOrder form fields }
@@ -43,6 +44,7 @@ fn parts_in(form: Form, fields: Fields) -> Result<Insn, InsnFault>
 }
 
 /// The fault of a row's registers or unused fields, if there is one.
+#[inline(always)]
 pub fn common_fault(form: Form, fields: Fields) -> Option<InsnFault>
     requires { IsOfRow form fields }
     ensures fault { IfSome result (λ e. IsRowFault form fields e) }
@@ -59,6 +61,7 @@ pub fn common_fault(form: Form, fields: Fields) -> Option<InsnFault>
 }
 
 /// The instruction of a row of one slot, or the least fault of its fields.
+#[inline(always)]
 pub fn insn_in(form: Form, fields: Fields) -> Result<Insn, InsnFault>
     requires one_slot { form ≢ Form.Wide }
     requires fields { IsOfRow form fields }

@@ -49,6 +49,7 @@ fn wide_at(bytes: &[u8], slot: usize, first: Fields) -> Result<Insn, InsnFault>
 }
 
 /// The instruction of a row, whose first half stands in this slot.
+#[inline(always)]
 fn row_at(bytes: &[u8], slot: usize, form: Form, first: Fields) -> Result<Insn, InsnFault>
     requires room { 8 * slot + 8 ≤ length bytes.now }
     requires first { HasFields bytes.now slot first }
@@ -64,6 +65,7 @@ fn row_at(bytes: &[u8], slot: usize, form: Form, first: Fields) -> Result<Insn, 
 }
 
 /// The instruction that the bytes from this slot on spell.
+#[inline(always)]
 fn insn_at(bytes: &[u8], slot: usize) -> Result<Insn, InsnFault>
     ensures insn { IfOk result (λ i. IsOnlySpelling bytes.now slot i) }
     ensures fault { IfErr result (λ e. IsLeastFault bytes.now slot e) }
@@ -81,6 +83,7 @@ fn insn_at(bytes: &[u8], slot: usize) -> Result<Insn, InsnFault>
 /// The instruction that the bytes from this slot on spell, and how many slots it takes; or the
 /// least fault of the bytes (RFC 9669, "Instruction Encoding"). Any slot may be asked: past the
 /// end the bytes are truncated.
+#[inline(always)]
 pub fn decode_at(bytes: &[u8], slot: usize) -> Result<(Insn, Width), InsnFault>
     ensures spelled { IfOk result (λ d. Spells bytes.now slot d.0 × (d.1 ≡ width_of d.0)) }
     ensures only { (i : Insn) → Spells bytes.now slot i → result ≡ Ok (i, width_of i) }

@@ -202,6 +202,7 @@ impl Form {
     }
 
     /// Its row of the table: whether it uses dst, and what it allows in src, offset and imm.
+    #[inline(always)]
     pub fn row(self) -> Row
         ensures { result ≡ row_of self }
     {
