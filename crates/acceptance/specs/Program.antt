@@ -5,7 +5,7 @@ use Rattle.rule_compile.specs.bpf_semantics.Program.{ShapedProgram}
 use Rattle.rule_compile.specs.bpf_verify.Accepted.{IsAccepted, IsRefusal}
 use Rattle.rule_compile.specs.bpf_verify.bpf_rules.declared.refusal.Refusal.{Refusal}
 use Rattle.rule_compile.specs.bpf_verify.bpf_rules.declared.refusal.Refusal.TheVariants as refusal
-use Rattle.cells.specs.Arrays.{AppShape}
+use Rattle.rule_compile.specs.bpf_verify.bpf_rules.cells.Arrays.{AppShape}
 use Rattle.rule_compile.specs.flow_check.Fault.{HasOneVerdict, IsFlowFault}
 use Rattle.rule_compile.specs.flow_check.Flow.{IsAcceptedAs}
 use Rattle.rule_compile.specs.flow_check.declared.fault.FlowFault.TheVariants as flow

@@ -3,7 +3,7 @@ use Rattle.std.specs.Prelude.{◌≡◌, ◌<◌, ℕ, List, length, Ok, Err, Is
 use Rattle.rule_compile.specs.bpf_verify.bpf_rules.attrs.Attributes.{Attributes}
 use Rattle.rule_compile.specs.bpf_semantics.Program.{ShapedProgram}
 use Rattle.rule_compile.specs.bpf_verify.Accepted.{IsAccepted}
-use Rattle.cells.specs.Arrays.{AppShape}
+use Rattle.rule_compile.specs.bpf_verify.bpf_rules.cells.Arrays.{AppShape}
 use Rattle.rule_compile.specs.flow_check.Flow.{IsFlow}
 use Rattle.rule_compile.specs.Code.{rule_code}
 use Rattle.rule_compile.specs.Means.{Means}

@@ -4,8 +4,7 @@ ghost use Rattle.std.specs.Prelude.{◌≡◌, IfOk, IfErr};
 ghost use Rattle.acceptance.specs.Program.{IsProgramOf, RefusesProgram};
 
 use crate::fault::ProgramFault;
-use cells::Shape;
-use rule_compile::bpf_verify::{Verified, verify};
+use rule_compile::bpf_verify::{Shape, Verified, verify};
 use rule_compile::flow_check::{Flow, one_verdict};
 use std::alloc::Global;
 

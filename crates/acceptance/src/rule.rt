@@ -4,8 +4,7 @@ ghost use Rattle.std.specs.Prelude.{◌≡◌, IfOk, IfErr};
 ghost use Rattle.acceptance.specs.Rule.{IsProgramOfRule, RefusesRule};
 
 use crate::fault::RuleTextFault;
-use cells::Shape;
-use rule_compile::bpf_verify::Verified;
+use rule_compile::bpf_verify::{Shape, Verified};
 use rule_compile::compile;
 use rule_compile::rule_lang::{RuleFault, RuleFaultKind, parse};
 use std::alloc::Global;

@@ -41,7 +41,7 @@ fn store(address: u64, size: Size, value: u64) -> Next
     ensures { result ≡ stored address size value }
 {
     if address < CELL_START {
-        Next::Step {
+        Next::On {
             change: Change::Store {
                 size,
                 place: stack_place(address, size),

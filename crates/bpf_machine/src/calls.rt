@@ -46,7 +46,7 @@ pub fn call(words: &Words, helper: i32, shape: &Shape, attrs: &Attrs) -> Next
     } else {
         helper_bucket(attrs, words.registers[1])
     };
-    Next::Step {
+    Next::On {
         change: Change::Answer { value },
     }
 }

@@ -12,14 +12,14 @@ abbrev pub entry_here : Walk → Option AbsState
 entry_here w = at_hand w.entries
 
 -- no rule fails before place k, which is next
-abbrev pub StandsBefore : Program → AppShape → ℕ → Walk → Type 0
-StandsBefore code shape k w = AreSwept code shape k w.entries
+abbrev pub IsWalkBefore : Program → AppShape → ℕ → Walk → Type 0
+IsWalkBefore code shape k w = AreSwept code shape k w.entries
 
 -- no rule fails before place k, and its entry is at hand
-abbrev pub StandsAt : Program → AppShape → ℕ → Walk → Type 0
-StandsAt code shape k w = HaveArrived code shape k w.entries
+abbrev pub IsWalkAt : Program → AppShape → ℕ → Walk → Type 0
+IsWalkAt code shape k w = HaveArrived code shape k w.entries
 
 -- one that has come to the end has found that the program is accepted
 abbrev pub EndIsAccepted : Program → AppShape → Type 0
 EndIsAccepted code shape =
-    (k : ℕ) (w : Walk) → length code ≤ k → StandsBefore code shape k w → IsAccepted code shape
+    (k : ℕ) (w : Walk) → length code ≤ k → IsWalkBefore code shape k w → IsAccepted code shape

@@ -7,7 +7,7 @@ ghost use Rattle.bpf_rules.specs.bpf_semantics.Program.{shaped};
 ghost use Rattle.bpf_rules.specs.flow_check.Edges.{next_of};
 ghost use Rattle.bpf_rules.specs.cells.Arrays.{AppShape};
 ghost use Rattle.bpf_verify.specs.Accepted.{IsFine, IsRefusal, FailsAt};
-ghost use Rattle.bpf_verify.specs.Walk.{entry_here, StandsBefore, StandsAt, EndIsAccepted};
+ghost use Rattle.bpf_verify.specs.Walk.{entry_here, IsWalkBefore, IsWalkAt, EndIsAccepted};
 
 use crate::entries::Entries;
 use crate::sweep;
@@ -28,7 +28,7 @@ pub struct Walk {
 impl Walk {
     /// A walk that stands before the first place, under whatever shape.
     pub fn start(alloc: Global, flow: &Flow) -> Result<Walk, AllocError>
-        ensures { IfOk result (λ w. (shape : AppShape) → StandsBefore flow.now shape 0 w) }
+        ensures { IfOk result (λ w. (shape : AppShape) → IsWalkBefore flow.now shape 0 w) }
     {
         flow.keeps();
         let Ok(entries) = Entries::opening(alloc, flow.len()) else {
@@ -41,7 +41,7 @@ impl Walk {
     /// `carry_on`, the walk is of no use.
     pub fn arrive(&mut self, slot: usize) -> Result<(), AllocError>
         ensures { OnOk result ((code : Program) (shape : AppShape) → slot < length code
-            → StandsBefore code shape slot self.old → StandsAt code shape slot self.new) }
+            → IsWalkBefore code shape slot self.old → IsWalkAt code shape slot self.new) }
     {
         self.entries.arrive(slot)?;
         Ok(())
@@ -61,7 +61,7 @@ impl Walk {
     /// Judges the place as `verify` does: a refusal is the program's.
     pub fn judge(&self, flow: &Flow, shape: &Shape, slot: usize, insn: &Insn) -> Result<(), Refusal>
         requires place { at flow.now slot ≡ Some insn.now }
-        requires here { StandsAt flow.now shape.now slot self.now }
+        requires here { IsWalkAt flow.now shape.now slot self.now }
         ensures fine { OnOk result (IsFine (shaped flow.now shape.now) slot) }
         ensures refused { IfErr result (λ r. IsRefusal flow.now shape.now r) }
         ensures here { IfErr result (λ r. FailsAt slot r) }
@@ -78,10 +78,10 @@ impl Walk {
         insn: &Insn,
     ) -> Result<(), AllocError>
         requires place { at flow.now slot ≡ Some insn.now }
-        requires here { StandsAt flow.now shape.now slot self.old }
+        requires here { IsWalkAt flow.now shape.now slot self.old }
         requires fine { IsFine (shaped flow.now shape.now) slot }
         ensures { OnOk result
-            (StandsBefore flow.now shape.now (next_of slot insn.now) self.new) }
+            (IsWalkBefore flow.now shape.now (next_of slot insn.now) self.new) }
     {
         sweep::carry_on(&mut self.entries, flow, shape, slot, insn)
     }

@@ -8,9 +8,9 @@ use Rattle.acceptance.specs.bpf_semantics.Program.{shaped}
 use Rattle.acceptance.specs.bpf_verify.Accepted as verify
 use Rattle.acceptance.specs.rule_lang.Verdicts as rules
 use Rattle.bounded_files.specs.Files.{KnownFile, bytes_of}
-use Rattle.cells.specs.Arrays.{AppShape}
-use Rattle.cells.specs.declared.array.ArrayNo.{ArrayNo}
-use Rattle.cells.specs.declared.array.CellArray.{CellArray}
+use Rattle.manifest.specs.cells.Arrays.{AppShape}
+use Rattle.manifest.specs.cells.declared.array.ArrayNo.{ArrayNo}
+use Rattle.manifest.specs.cells.declared.array.CellArray.{CellArray}
 use Rattle.manifest.specs.App.{AppEntry}
 use Rattle.ruleset.specs.Rules.{AppRule}
 use Rattle.load.specs.declared.fault.AppFault.{AppFault}

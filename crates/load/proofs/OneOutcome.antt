@@ -5,12 +5,12 @@ use Rattle.acceptance.specs.bpf_insn.Program.{Program}
 use Rattle.acceptance.specs.bpf_verify.Accepted as verify
 use Rattle.acceptance.specs.rule_lang.Verdicts as rules
 use Rattle.bounded_files.specs.Files.{KnownFile}
-use Rattle.cells.specs.Arrays.{AppShape}
-use Rattle.cells.specs.Directory.{IsDirectory}
-use Rattle.cells.specs.declared.array.ArrayNo.{ArrayNo}
-use Rattle.cells.specs.declared.array.CellArray.{CellArray}
-use Rattle.cells.specs.declared.fault.CellsFault.{CellsFault}
-use Rattle.cells.specs.declared.fault.CellsFault.TheVariants as cells
+use Rattle.manifest.specs.cells.Arrays.{AppShape}
+use Rattle.manifest.specs.cells.Directory.{IsDirectory}
+use Rattle.manifest.specs.cells.declared.array.ArrayNo.{ArrayNo}
+use Rattle.manifest.specs.cells.declared.array.CellArray.{CellArray}
+use Rattle.manifest.specs.cells.declared.fault.CellsFault.{CellsFault}
+use Rattle.manifest.specs.cells.declared.fault.CellsFault.TheVariants as cells
 use Rattle.manifest.specs.declarations.Order.{AreDeclared, IsRefusedArray}
 use Rattle.manifest.specs.declarations.OneWay.{ListsDeclareOneWay}
 use Rattle.manifest.specs.Manifest.{Manifest, ReadsManifest}

@@ -11,7 +11,7 @@ use Rattle.acceptance.specs.bpf_verify.bpf_rules.declared.refusal.Refusal.TheVar
 use Rattle.acceptance.specs.bpf_verify.bpf_rules.declared.refusal.VerifierRule.{VerifierRule}
 use Rattle.acceptance.specs.declared.fault.ProgramFault.TheVariants.{Flow, Verify}
 use Rattle.acceptance.specs.declared.fault.RuleTextFault.TheVariants.{Text, Compile}
-use Rattle.cells.specs.Arrays.{AppShape}
+use Rattle.manifest.specs.cells.Arrays.{AppShape}
 use Rattle.acceptance.specs.flow_check.Fault.{HasOneVerdict, IsFlowFault}
 use Rattle.acceptance.specs.flow_check.declared.fault.FlowFault.TheVariants as flow
 use Rattle.acceptance.specs.flow_check.declared.fault.FlowRule.{FlowRule}

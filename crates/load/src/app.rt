@@ -12,7 +12,7 @@ use crate::files::Files;
 use acceptance::bpf_verify::Verified;
 use acceptance::{accept, rule_program};
 use bounded_files::ResourceFault;
-use cells::{ArrayNo, Directory, Shape};
+use manifest::cells::{ArrayNo, Directory, Shape};
 use manifest::{AppEntry, AppParts, ProgramSource};
 use ruleset::App;
 use std::alloc::Global;

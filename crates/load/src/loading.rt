@@ -9,7 +9,7 @@ ghost use Rattle.manifest.specs.Manifest.{ReadsManifest};
 use crate::apps::load_apps;
 use crate::fault::LoadFault;
 use crate::files::Files;
-use cells::{ArrayNo, CellsFault, Directory};
+use manifest::cells::{ArrayNo, CellsFault, Directory};
 use manifest::declarations::{ArrayDeclaration, RefusedArray, declare_all};
 use manifest::{Manifest, ManifestFault, ManifestParts, read_manifest};
 use ruleset::Ruleset;

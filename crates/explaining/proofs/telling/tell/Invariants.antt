@@ -1,5 +1,5 @@
 use Rattle.std.proofs.Common.{◌-◌, Some, length, string_bytes}
-use Rattle.bpf_verify.specs.Walk.{StandsBefore}
+use Rattle.bpf_verify.specs.Walk.{IsWalkBefore}
 use Rattle.bpf_verify.specs.bpf_semantics.Program.{shaped}
 use Rattle.explaining.specs.Lines.{TellsOn}
 use Rattle.explaining.proofs.telling.tell.Given as goal
@@ -7,7 +7,7 @@ use Rattle.explaining.proofs.telling.tell.Given as goal
 abbrev pub invariant-loop-slot : goal.invariant-loop-slot
 invariant-loop-slot l =
     TellsOn (shaped l.flow l.shape) (Some l.way) l.slot (string_bytes l.text)
-    × StandsBefore l.flow l.shape l.slot l.walk
+    × IsWalkBefore l.flow l.shape l.slot l.walk
 
 abbrev pub decreases-loop-slot : goal.decreases-loop-slot
 decreases-loop-slot l = length l.flow - l.slot
