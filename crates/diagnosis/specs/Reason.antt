@@ -8,7 +8,8 @@ use Rattle.load.specs.manifest.cells.declared.array.CellArray.{CellArray}
 use Rattle.load.specs.manifest.declarations.Order.{AreDeclared}
 use Rattle.diagnosis.specs.Advice.{advice}
 use Rattle.diagnosis.specs.declared.shown.Place.{Place}
-use Rattle.diagnosis.specs.declared.shown.Place.TheVariants.{Whole, Slot, Rule as InRule}
+use Rattle.diagnosis.specs.declared.shown.Place.TheVariants.{Whole, Slot, Refused}
+use Rattle.diagnosis.specs.declared.shown.Place.TheVariants.{Rule as InRule}
 use Rattle.diagnosis.specs.Shown.{ShowsPlace}
 use Rattle.diagnosis.specs.Texts.{file_line, cells_line}
 use Rattle.load.specs.rulesets.Texts.{line}
@@ -62,7 +63,7 @@ IsCellsReason bytes number text =
 -- has no place
 abbrev pub slot_of : ProgramFault → Place
 slot_of (Flow (flow.Rule slot rule)) = Slot slot
-slot_of (Verify (verify.Rule slot rule)) = Slot slot
+slot_of (Verify (verify.Rule slot rule)) = Refused slot
 slot_of fault = Whole
 
 abbrev pub rule_place : RuleTextFault → Place

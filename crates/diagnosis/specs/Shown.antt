@@ -1,11 +1,16 @@
 -- What is shown of an app's file: the place at which its fault lies.
 use Rattle.std.specs.Prelude.{◌≡◌, ◌⊎◌, ℕ, List, [], ◌++◌, codes, decimal, Some, true, IsUtf8}
-use Rattle.bpf_insn.specs.Spelling.{Spells}
-use Rattle.bpf_insn.specs.declared.insn.Insn.{Insn}
-use Rattle.bpf_text.specs.Listing.{line_of}
+use Rattle.explaining.specs.bpf_insn.Spelling.{Spells}
+use Rattle.explaining.specs.bpf_insn.declared.insn.Insn.{Insn}
+use Rattle.explaining.specs.bpf_text.Listing.{line_of}
 use Rattle.diagnosis.specs.Inside.{is_inside}
 use Rattle.diagnosis.specs.declared.shown.Place.{Place}
-use Rattle.diagnosis.specs.declared.shown.Place.TheVariants.{Whole, Slot, Rule as InRule}
+use Rattle.diagnosis.specs.declared.shown.Place.TheVariants.{Whole, Slot, Refused}
+use Rattle.diagnosis.specs.declared.shown.Place.TheVariants.{Rule as InRule}
+use Rattle.explaining.specs.bpf_insn.Program.{Program}
+use Rattle.explaining.specs.bpf_semantics.Program.{shaped}
+use Rattle.explaining.specs.RefusedPlace.{IsRefusedPlace}
+use Rattle.load.specs.acceptance.flow_check.Flow.{IsFlow, program_bytes}
 use Rattle.load.specs.manifest.cells.Arrays.{AppShape}
 use Rattle.load.specs.rulesets.Texts.{line}
 use Rattle.warnings.specs.rule_diagnosis.Places.{line_text}
@@ -23,10 +28,24 @@ IsInsnShown slot bytes text =
     (i : Insn) × Spells bytes slot i
     × (text ≡ codes "slot " ++ decimal slot ++ codes ": " ++ line_of i)
 
--- that instruction; or what is told of a rule's fault, or at least its line
+-- that instruction, and in a line behind it why the program is refused there
+pub record IsRefusedInsnShown (s : AppShape) (slot : ℕ) (bytes text : List ℕ) : Type 0 where
+  pub code : Program
+  pub flow : IsFlow code
+  pub bytes_are : program_bytes code ≡ bytes
+  pub insn_text : List ℕ
+  pub insn : IsInsnShown slot bytes insn_text
+  pub sentence : List ℕ
+  pub place : IsRefusedPlace (shaped code s) slot sentence
+  pub text_is : text ≡ insn_text ++ line sentence
+
+-- an instruction, if the verifier refuses it with its sentence; or what is told of a rule's fault,
+-- or at least its line
 abbrev pub IsShown : AppShape → Place → List ℕ → List ℕ → Type 0
 IsShown s Whole bytes text = ⊥
 IsShown s (Slot slot) bytes text = IsInsnShown slot bytes text
+IsShown s (Refused slot) bytes text =
+    IsRefusedInsnShown s slot bytes text ⊎ IsInsnShown slot bytes text
 IsShown s (InRule number kind) bytes text =
     IsUtf8 bytes
     × (IsRuleTold s bytes number kind text ⊎ (text ≡ numbered_line number bytes))

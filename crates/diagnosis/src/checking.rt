@@ -41,9 +41,10 @@ pub struct Refused {
 /// - M4 to M6: `app[1].rule: x.rule`, the name of the file as the manifest has it. Where M6 has a
 ///   line, the line follows with its text, as `line 2: count q[0];`, which is empty at the text's
 ///   end. Where M5 has a slot at which an instruction begins, it follows as it is listed:
-///   `slot 1: exit`. The file is read once more for that line, which is left out where it can't be
-///   read again; and a device may give other bytes than before. It is left out, too, where the file
-///   lies outside the manifest's folder, by a name that is absolute or has a part `..`.
+///   `slot 1: exit`; and behind it, where the verifier refuses it, the sentence of
+///   `refused_place`. The file is read once more for these lines. They are left out where it can't
+///   be read again; and a device may give other bytes than before. They are left out, too, where
+///   the file lies outside the manifest's folder, by a name that is absolute or has a part `..`.
 /// - M7: `array[2].length: r passes the 4096 cells that all arrays of a width have`.
 ///
 /// M8 comes where memory for the load or for what is told of an accepted manifest is refused. Where

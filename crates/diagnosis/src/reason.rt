@@ -126,7 +126,7 @@ fn slot_of(fault: &ProgramFault) -> Place
 {
     match fault {
         ProgramFault::Flow(FlowFault::Rule { slot, .. }) => Place::Slot(*slot),
-        ProgramFault::Verify(Refusal::Rule { slot, .. }) => Place::Slot(*slot),
+        ProgramFault::Verify(Refusal::Rule { slot, .. }) => Place::Refused(*slot),
         ProgramFault::Flow(FlowFault::Memory) => Place::Whole,
         ProgramFault::Verify(Refusal::Memory) => Place::Whole,
     }

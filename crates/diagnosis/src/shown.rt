@@ -1,11 +1,13 @@
 //! What is shown of an app's file: the place at which its fault lies.
 
 ghost use Rattle.std.specs.Prelude.{◌≡◌, IfSome, string_bytes};
-ghost use Rattle.diagnosis.specs.Shown.{IsInsnShown, IsShown};
+ghost use Rattle.diagnosis.specs.Shown.{IsInsnShown, IsRefusedInsnShown, IsShown};
 ghost use Rattle.diagnosis.specs.Shown as specs;
 
-use bpf_insn::decode_at;
-use bpf_text::line_of;
+use explaining::bpf_insn::decode_at;
+use explaining::bpf_text::line_of;
+use explaining::refused_place;
+use load::acceptance::flow_check::Flow;
 use load::acceptance::rule_lang::RuleFaultKind;
 use load::manifest::cells::Shape;
 use std::alloc::Global;
@@ -19,6 +21,8 @@ pub(crate) enum Place {
     Whole,
     /// The instruction that begins at a slot.
     Slot(usize),
+    /// The instruction that begins at a slot, which the verifier refuses.
+    Refused(usize),
     /// A line of a rule's text, from 1, in which there is a fault of this kind.
     Rule(usize, RuleFaultKind),
 }
@@ -31,6 +35,7 @@ pub(crate) fn show(alloc: Global, place: Place, shape: &Shape, bytes: &[u8]) -> 
     match place {
         Place::Whole => None,
         Place::Slot(slot) => show_insn(alloc, slot, bytes),
+        Place::Refused(slot) => show_refused(alloc, shape, slot, bytes),
         Place::Rule(line, kind) => show_rule(alloc, shape, line, kind, bytes),
     }
 }
@@ -48,6 +53,45 @@ fn show_insn(alloc: Global, slot: usize, bytes: &[u8]) -> Option<String>
         Ok(text) => Some(text),
         Err(_) => None,
     }
+}
+
+// The instruction and why it is refused, or at least the instruction.
+fn show_refused(alloc: Global, shape: &Shape, slot: usize, bytes: &[u8]) -> Option<String>
+    ensures { IfSome result (λ text.
+        IsShown shape.now (Place.Refused slot) bytes.now (string_bytes text)) }
+{
+    let Some(insn) = show_insn(alloc, slot, bytes) else {
+        return None;
+    };
+    match with_sentence(alloc, shape, slot, bytes, insn.as_str()) {
+        Some(text) => Some(text),
+        None => Some(insn),
+    }
+}
+
+// The bytes may be other ones than those that were refused, so they are judged again.
+fn with_sentence(
+    alloc: Global,
+    shape: &Shape,
+    slot: usize,
+    bytes: &[u8],
+    insn: &str,
+) -> Option<String>
+    ensures { IfSome result (λ text. IsInsnShown slot bytes.now insn.now
+        → IsRefusedInsnShown shape.now slot bytes.now (string_bytes text)) }
+{
+    let Ok(flow) = Flow::check(alloc, bytes) else {
+        return None;
+    };
+    flow.keeps();
+    let Ok(Some(place)) = refused_place(alloc, &flow, shape) else {
+        return None;
+    };
+    if place.slot != slot {
+        return None;
+    }
+    let sentence = place.sentence.as_str();
+    format!(in alloc; "{insn}{sentence}\n").ok()
 }
 
 // What is told of the fault of a rule, or at least its line.

@@ -4,7 +4,7 @@ ghost use Rattle.std.specs.Prelude.{◌≡◌, ◌^◌, ◌<◌, ◌++◌, OnOk,
 ghost use Rattle.std.specs.List.{list_any};
 ghost use Rattle.diagnosis.specs.Unused as specs;
 
-use bpf_insn::{Insn, WideValue};
+use explaining::bpf_insn::{Insn, WideValue};
 use load::acceptance::bpf_verify::Verified;
 use load::manifest::cells::CellArray;
 use load::ruleset::App;

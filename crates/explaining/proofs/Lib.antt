@@ -1,6 +1,7 @@
 mod Texts
 mod Top
 mod Walking
+mod Reasons
 mod Registers
 mod Plain
 mod PlainSentences

@@ -5,6 +5,7 @@ pub mod Known
 pub mod Asked
 pub mod Sentences
 pub mod Lines
+pub mod RefusedPlace
 pub use Rattle.bpf_verify.specs as bpf_verify
 pub use Rattle.bpf_verify.specs.bpf_rules.bpf_insn
 pub use Rattle.bpf_verify.specs.bpf_rules.cells

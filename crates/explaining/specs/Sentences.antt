@@ -1,4 +1,4 @@
--- Why a rule of the verifier refuses an instruction: what the rule asks, and what is known instead.
+-- RefusedPlace a rule of the verifier refuses an instruction: what the rule asks, and what is known instead.
 use Rattle.std.specs.Prelude.{ℕ, ◌==◌, ℤ, pos, negsuc, List, [], ◌++◌, codes}
 use Rattle.std.specs.Prelude.{Bool, true, false, ◌||◌, if◌then◌else◌, Option, Some, None, slice_get}
 use Rattle.std.specs.Fmt.{decimal, signed_decimal}
@@ -222,6 +222,11 @@ verifier_rule_number rule.Kind = 12
 verifier_rule_number rule.Result = 13
 verifier_rule_number rule.QuotaCell = 14
 
+-- the rule and its sentence
+abbrev pub cited_rule : AppShape → AbsState → Insn → VerifierRule → List ℕ
+cited_rule shape e i r =
+    codes "V" ++ decimal (verifier_rule_number r) ++ codes ": " ++ rule_sentence shape e i r
+
+-- behind the slot, in a listing
 abbrev pub refusal_text : AppShape → AbsState → Insn → VerifierRule → List ℕ
-refusal_text shape e i r =
-    codes " V" ++ decimal (verifier_rule_number r) ++ codes ": " ++ rule_sentence shape e i r
+refusal_text shape e i r = codes " " ++ cited_rule shape e i r

@@ -16,6 +16,7 @@ mod law;
 mod line;
 mod operands;
 mod reads;
+mod refused;
 mod sentence;
 mod telling;
 mod values;
@@ -24,6 +25,7 @@ mod wrong;
 
 pub use arrays::push_counter;
 pub use law::registers_are_read;
+pub use refused::{RefusedPlace, refused_place};
 pub use telling::{Explained, explain};
 
 // The words of the contracts here come with them.

@@ -1,4 +1,4 @@
-//! Why a rule refuses an instruction: what the rule asks, and what is known instead.
+//! RefusedPlace a rule refuses an instruction: what the rule asks, and what is known instead.
 
 ghost use Rattle.std.specs.Prelude.{◌≡◌, OnOk};
 ghost use Rattle.bpf_text.specs.Listing.{Appends};
@@ -70,6 +70,22 @@ fn push_sentence(
 }
 
 /// Writes the rule that refuses an instruction, and its sentence.
+pub fn push_cited_rule(
+    text: &mut String,
+    shape: &Shape,
+    e: &AbsState,
+    insn: Insn,
+    rule: VerifierRule,
+) -> Result<(), AllocError>
+    ensures { OnOk result (Appends text.old text.new
+        (specs.cited_rule shape.now e.now insn rule)) }
+{
+    let number = verifier_rule_number(rule);
+    write!(text, "V{number}: ")?;
+    push_sentence(text, shape, e, insn, rule)
+}
+
+/// Writes that behind a blank, as it stands behind a slot.
 pub fn push_refusal(
     text: &mut String,
     shape: &Shape,
@@ -80,7 +96,6 @@ pub fn push_refusal(
     ensures { OnOk result (Appends text.old text.new
         (specs.refusal_text shape.now e.now insn rule)) }
 {
-    let number = verifier_rule_number(rule);
-    write!(text, " V{number}: ")?;
-    push_sentence(text, shape, e, insn, rule)
+    text.push_str(" ")?;
+    push_cited_rule(text, shape, e, insn, rule)
 }

@@ -41,10 +41,13 @@ array[2].length: n passes the 4096 cells that all arrays of a width have /
  | M5 Program F5 Unreached at slot 2 in app 1 / app[1].program: unreached.bpf / slot 2: exit /
 - "x.bpf" => "unset.bpf"
  | M5 Program V1 Unusable at slot 0 in app 1 / app[1].program: unset.bpf / slot 0: exit /
+V1: r0 may be unset, or paths disagree on it /
 - "x.bpf" => "second.bpf"
  | M5 Program V13 Result at slot 1 in app 1 / app[1].program: second.bpf / slot 1: exit /
+V13: r0 is 2, and there is 1 release /
 - "x.bpf" => "wide.bpf"
  | M5 Program V11 MapIndex at slot 2 in app 1 / app[1].program: wide.bpf / slot 2: ldcell r7, 2, 8 /
+V11: there is no array 2 /
 - "y.rule" => "no_text.rule" | M6 Rule L1 Token at line 1 in app 2 / app[2].rule: no_text.rule /
 - "y.rule" => "token.rule"
  | M6 Rule L1 Token at line 2 in app 2 / app[2].rule: token.rule /

@@ -35,7 +35,7 @@ app = [{ appid = \"x\", program = \"k_none.bin\" }, { appid = \"x\", program = \
 app = [{ appid = \"x\", program = \"k_none.bin\" }, { appid = \"y\", program = \"k_unset.bin\" }]",
         "",
         "refused M5 Program V1 Unusable at slot 1 in app 2\napp[2].program: k_unset.bin
-slot 1: exit\n",
+slot 1: exit\nV1: r0 may be unset, or paths disagree on it\n",
     ),
     (
         "server = \"\"\napp = [{ appid = \"x\", rule = \"k_wrong.rule\" }]",
