@@ -48,8 +48,9 @@ pub(crate) fn load_app<F: Files>(
     Ok(App::new(appid.into_string(), program, releases))
 }
 
-/// The program of an app's file, under the app's shape.
-fn load_program<F: Files>(
+/// The program of an app's file, under the app's shape: M4 where the file can't be read, M5
+/// where its bytes are no program, M6 where its text is no rule, and M8 where memory is refused.
+pub fn load_program<F: Files>(
     alloc: Global,
     files: &mut F,
     source: &ProgramSource,

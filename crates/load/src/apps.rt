@@ -41,7 +41,8 @@ pub(crate) fn load_apps<F: Files>(
     Ok(apps)
 }
 
-fn in_app(app: usize, fault: AppFault) -> LoadFault
+/// The fault of the app of this number.
+pub fn in_app(app: usize, fault: AppFault) -> LoadFault
     ensures { result ≡ specs.in_app app fault }
 {
     match fault {

@@ -43,9 +43,13 @@ pub enum PathFault {
 
 /// Why an app has no program.
 #[derive(Debug, Drop)]
-pub(crate) enum AppFault {
+pub enum AppFault {
+    /// Its file can't be read.
     File,
+    /// The bytes of its file are no program.
     Program(ProgramFault),
+    /// The text of its file is no rule.
     Rule(RuleTextFault),
+    /// Memory was refused.
     Memory,
 }

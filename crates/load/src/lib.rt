@@ -20,8 +20,10 @@ mod law;
 mod loading;
 mod path;
 
+pub use app::load_program;
+pub use apps::in_app;
 pub use bounded_files::{Device, Disk};
-pub use fault::{LoadFault, PathFault};
+pub use fault::{AppFault, LoadFault, PathFault};
 pub use files::Files;
 pub use folder::FolderFiles;
 pub use law::one_load;
