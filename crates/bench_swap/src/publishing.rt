@@ -1,6 +1,6 @@
 //! A publisher and its watchers at work.
 
-use crate::work::{Work, WorkKind};
+use crate::work::{WorkKind, Workload};
 use anyhow::Result;
 use hot_swap::ruleset::Ruleset;
 use hot_swap::{Publisher, Watcher};
@@ -93,7 +93,7 @@ pub(crate) fn done<H: Threads + Wait + Sync>(
     rt: &H,
     alloc: Global,
     publisher: &mut Publisher,
-    work: Work,
+    work: Workload,
 ) -> Result<u64> {
     let looking = watchers(alloc, publisher, work.looking)?;
     let _still = watchers(alloc, publisher, work.still)?;

@@ -13,7 +13,7 @@ pub(crate) enum WorkKind {
 
 /// What is done, how often, and with how many watchers that look and that stand still.
 #[derive(Clone, Copy, Debug, PartialEq, Eq)]
-pub(crate) struct Work {
+pub(crate) struct Workload {
     pub(crate) kind: WorkKind,
     pub(crate) times: u32,
     pub(crate) looking: usize,
@@ -21,14 +21,14 @@ pub(crate) struct Work {
 }
 
 /// The work that four words name.
-pub(crate) fn work_of(words: &[String]) -> Result<Work> {
+pub(crate) fn work_of(words: &[String]) -> Result<Workload> {
     let mut words = words.iter();
     let usage = "bench_swap looks|installs TIMES LOOKING STILL";
     let kind = words.next().context(usage)?;
     let times = words.next().context(usage)?;
     let looking = words.next().context(usage)?;
     let still = words.next().context(usage)?;
-    Ok(Work {
+    Ok(Workload {
         kind: kind_of(kind.as_str())?,
         times: times.parse().ok().context("a number of times")?,
         looking: looking
