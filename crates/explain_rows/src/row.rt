@@ -5,7 +5,7 @@
 use bpf_text::assemble;
 use cells::{ArrayNo, CellWidth, CellsFault, Directory, Shape};
 use explaining::bpf_verify::flow_check::Flow;
-use explaining::explain;
+use explaining::{RefusedPlace, explain, refused_place};
 use std::alloc::{AllocError, Global};
 use std::test::Fail;
 
@@ -53,26 +53,50 @@ fn shape_of(alloc: Global, releases: u8) -> Result<Shape, CellsFault> {
     shape_over(alloc, releases, &all)
 }
 
-fn told(alloc: Global, flow: &Flow, shape: &Shape) -> Result<String, AllocError> {
-    Ok(explain(alloc, flow, shape)?.text)
+/// The listing, and the place that is refused.
+#[derive(Drop)]
+struct Told {
+    text: String,
+    place: Option<RefusedPlace>,
 }
 
-fn explained(alloc: Global, releases: u8, text: &str) -> Result<String, Fail> {
+fn told(alloc: Global, flow: &Flow, shape: &Shape) -> Result<Told, AllocError> {
+    let text = explain(alloc, flow, shape)?.text;
+    let place = refused_place(alloc, flow, shape)?;
+    Ok(Told { text, place })
+}
+
+fn explained(alloc: Global, releases: u8, text: &str) -> Result<Told, Fail> {
     let bytes = assemble(alloc, text)?;
     let flow = Flow::check(alloc, &bytes)?;
     let shape = shape_of(alloc, releases)?;
     Ok(told(alloc, &flow, &shape)?)
 }
 
+/// Whether the sentence of a refused place stands behind its slot in a listing; in that of an
+/// accepted program none does.
+fn is_cited(alloc: Global, place: Option<&RefusedPlace>, text: &str) -> Result<bool, AllocError> {
+    let Some(place) = place else {
+        return Ok(!text.contains(": V"));
+    };
+    let slot = place.slot;
+    let sentence = place.sentence.as_str();
+    let comment = format!(in alloc; "; {slot}: {sentence}\n")?;
+    Ok(text.contains(comment.as_str()))
+}
+
 fn comes_back(alloc: Global, row: &str) -> Result<(), Fail> {
     let case = case_of(row).ok_or("a row of another form")?;
     let found = explained(alloc, case.releases, case.text)?;
     let name = case.name;
-    let lines = found.as_str();
-    if lines.trim_end() == case.text.trim_end() {
+    let lines = found.text.as_str();
+    if lines.trim_end() != case.text.trim_end() {
+        return Err(Fail::new(format_args!("{name}:\n{lines}")));
+    }
+    if is_cited(alloc, found.place.as_ref(), lines)? {
         return Ok(());
     }
-    Err(Fail::new(format_args!("{name}:\n{lines}")))
+    Err(Fail::new(format_args!("{name}: the sentence alone is another")))
 }
 
 /// Fails unless each text of the table comes back as it is.
