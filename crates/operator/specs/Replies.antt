@@ -3,7 +3,7 @@
 use Rattle.std.specs.Prelude.{ℕ, List, length, Bool, ◌==◌, ◌&&◌, ◌||◌, IsTrue, codes}
 use Rattle.std.specs.Prelude.{nat_eq}
 use Rattle.std.specs.Str.{bytes_eq}
-use Rattle.std.specs.List.{starts_with, ends_with, list_all}
+use Rattle.std.specs.List.{starts_with, ends_with, list_all, list_any}
 use Rattle.lexing.specs.Letter.{is_word_byte}
 use Rattle.operator_request.specs.Requests.{IsSendable}
 use Rattle.operator_request.specs.declared.request.OperatorRequest.{OperatorRequest}
@@ -22,13 +22,15 @@ is_counter_byte c = is_word_byte c || (c == 91) || (c == 93) || (c == 32) || (c 
 abbrev pub are_counter_bytes : List ℕ → Bool
 are_counter_bytes bytes = list_all is_counter_byte bytes
 
--- each is ended, if there is one
-abbrev pub are_lines : List ℕ → Bool
-are_lines bytes = (length bytes == 0) || ends_with nat_eq bytes (codes "\n")
+-- where there is a line, the last is ended, and a cell is named: the one word `stopping` names none
+abbrev pub are_cell_lines : List ℕ → Bool
+are_cell_lines bytes =
+    (length bytes == 0)
+    || (list_any (λ c. c == 91) bytes && ends_with nat_eq bytes (codes "\n"))
 
 -- where all counters are 0 there is no line
 abbrev pub are_counters : List ℕ → Bool
-are_counters bytes = are_counter_bytes bytes && are_lines bytes
+are_counters bytes = are_counter_bytes bytes && are_cell_lines bytes
 
 -- what is done as asked is told so
 abbrev pub is_answer : OperatorRequest → List ℕ → Bool

@@ -110,14 +110,15 @@ fn begins_lines(word: &[u8], bytes: &[u8]) -> bool
 fn are_counters(bytes: &[u8]) -> bool
     ensures { result ≡ specs.are_counters bytes.now }
 {
-    are_counter_bytes(bytes) && are_lines(bytes)
+    are_counter_bytes(bytes) && are_cell_lines(bytes)
 }
 
-// Whether the last line, if there is one, is ended. There is none where all counters are 0.
-fn are_lines(bytes: &[u8]) -> bool
-    ensures { result ≡ specs.are_lines bytes.now }
+// Whether the last line, if there is one, is ended, and a cell is named. There is no line where all
+// counters are 0.
+fn are_cell_lines(bytes: &[u8]) -> bool
+    ensures { result ≡ specs.are_cell_lines bytes.now }
 {
-    bytes.is_empty() || bytes.ends_with(b"\n")
+    bytes.is_empty() || (bytes.contains(&b'[') && bytes.ends_with(b"\n"))
 }
 
 fn are_counter_bytes(bytes: &[u8]) -> bool

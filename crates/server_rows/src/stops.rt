@@ -16,6 +16,7 @@ const ASKED: &[(&str, &str)] = &[
     ("stop", "stopping\n"),
     ("stop", "stopping\n"),
     ("show", "B5 Connect"),
+    ("cells", "B5 Connect"),
     ("load yes", "B5 Connect"),
     ("stop", "stopping\n"),
 ];
