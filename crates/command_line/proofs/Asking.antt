@@ -40,17 +40,6 @@ runs_nothing rows lacks (request.Run run) asks = lacks run asks.0
 runs_nothing rows lacks (request.Trace run) asks = lacks run asks.0
 runs_nothing rows lacks asked asks = asks
 
--- of words that tell of an app, in another way of it too
-pub not_anyones : (rows : List Row) (app other : ToldApp) → HasTold rows app → HasTold rows other
-    → (IsNone (option_copied app.appid) → IsNone (option_copied app.cohort) → ⊥)
-    → IsNone (option_copied other.appid) → IsNone (option_copied other.cohort) → ⊥
-not_anyones rows app other told has named no_appid no_cohort =
-    named
-    (subst (λ (text : Option Text). IsNone text)
-    (has.attributes.appid ∙ sym told.attributes.appid) no_appid)
-    (subst (λ (text : Option Text). IsNone text)
-    (has.attributes.cohort ∙ sym told.attributes.cohort) no_cohort)
-
 -- the cohort that the words tell has no place for any bucket
 pub no_place : (rows : List Row) (app : ToldApp) → HasTold rows app
     → ((bucket : Option ℕ) → IsPlace rows (option_copied app.cohort) bucket → ⊥)

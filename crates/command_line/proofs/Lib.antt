@@ -4,3 +4,4 @@ mod Asking
 mod Parsed
 mod Attributes
 mod Lacking
+mod SimulationMisfits

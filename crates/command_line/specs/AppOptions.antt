@@ -1,6 +1,7 @@
 -- What the options say of the app that asks.
-use Rattle.std.specs.Prelude.{◌≡◌, ℕ, ◌+◌, List, [], ◌∷◌, Option, Some, None, is_some, length, drop}
-use Rattle.std.specs.Prelude.{codes, nat_eq, IsNone, IsSomeAnd, if◌then◌else◌}
+use Rattle.std.specs.Prelude.{◌≡◌, ◌≢◌, ◌⊎◌, ℕ, ◌+◌, List, [], ◌∷◌, Option, Some, None, is_some}
+use Rattle.std.specs.Prelude.{length, drop, codes, nat_eq, IsNone, IsSome, IsSomeAnd}
+use Rattle.std.specs.Prelude.{if◌then◌else◌}
 use Rattle.std.specs.Option.{option_and_then, option_copied, option_or, unwrap_or}
 use Rattle.std.specs.List.{starts_with}
 use Rattle.attrs.specs.Bucket.{cohort_bucket}
@@ -44,6 +45,11 @@ pub record HasAttributes (rows : List Row) (told : ToldApp) : Type 0 where
   pub cohort : option_copied told.cohort ≡ value_in (given rows) (codes "cohort=")
   pub platform : option_copied told.platform ≡ value_in (given rows) (codes "platform=")
 
+-- not each text gives one of them, or one is given twice
+abbrev pub LacksAttributes : List Row → Type 0
+LacksAttributes rows =
+    (told : ToldApp) → HasAttributes rows told → length (given rows) ≢ count_attributes told
+
 -- ---- days
 
 -- day 0 where none is given
@@ -86,8 +92,11 @@ pub record IsAnyones (rows : List Row) (app : ToldApp) : Type 0 where
   pub no_appid : IsNone (option_copied app.appid)
   pub no_cohort : IsNone (option_copied app.cohort)
 
-abbrev pub LacksAnyone : List Row → Type 0
-LacksAnyone rows = (app : ToldApp) → ¬ IsAnyones rows app
+-- the words tell of one client, by its appid or its cohort
+abbrev pub TellsOneClient : List Row → Type 0
+TellsOneClient rows =
+    IsSome (value_in (given rows) (codes "appid="))
+    ⊎ IsSome (value_in (given rows) (codes "cohort="))
 
 -- ---- its bucket
 

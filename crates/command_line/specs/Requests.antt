@@ -9,7 +9,9 @@ use Rattle.clap.specs.Words.{Text, fault_of, subcommand_of}
 use Rattle.command_line.specs.declared.fault.WordsFault.{WordsFault}
 use Rattle.command_line.specs.declared.fault.WordsFault.TheVariants.{Help, Usage, Nothing, Memory}
 use Rattle.command_line.specs.declared.request.CommandRequest.{CommandRequest}
+use Rattle.command_line.specs.declared.option_misfit.OptionMisfit.{OptionMisfit}
 use Rattle.command_line.specs.Grammar.{commands}
+use Rattle.command_line.specs.Misfits.{IsMisfitOf}
 use Rattle.command_line.specs.Words.{IsAsked, IsNothingAsked}
 
 -- the words ask for this request
@@ -38,9 +40,14 @@ pub record TellsFault (words : List Text) (error : Error) : Type 0 where
   pub kind_is : fault.kind ≡ kind_of error
   pub no_memory : kind_of error ≢ OutOfMemory
 
+-- they ask for nothing, and this option is ill-written
+pub record TellsMisfit (words : List Text) (misfit : OptionMisfit) : Type 0 where
+  pub nothing : AskForNothing words
+  pub misfit_is : IsMisfitOf (subcommand_of commands words) misfit
+
 -- of memory no claim is made
 abbrev pub IsWordsFault : List Text → WordsFault → Type 0
 IsWordsFault words (Help page) = AskForHelp words × (kind_of page ≡ DisplayHelp)
 IsWordsFault words (Usage error) = TellsFault words error
-IsWordsFault words (Nothing misfit) = AskForNothing words
+IsWordsFault words (Nothing misfit) = TellsMisfit words misfit
 IsWordsFault words Memory = Unit {0}

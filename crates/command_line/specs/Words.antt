@@ -1,5 +1,5 @@
 -- What the words of a command line ask for.
-use Rattle.std.specs.Prelude.{◌≡◌, List, Option, Some, None, if◌then◌else◌, true, false}
+use Rattle.std.specs.Prelude.{◌≡◌, ◌⊎◌, List, Option, Some, None, if◌then◌else◌, true, false}
 use Rattle.std.specs.Prelude.{codes, option_copied}
 use Rattle.std.specs.Str.{bytes_eq}
 use Rattle.clap.specs.Words.{Row, Text, first_of}
@@ -42,11 +42,18 @@ pub record AsksToRun (rows : List Row) (run : AskedRun) : Type 0 where
   pub told : HasTold rows run.app
   pub place : IsPlace rows (option_copied run.app.cohort) run.bucket
 
+-- the file of the picture is one of the manifests, by the same words
+abbrev pub WritesOver : List Row → Type 0
+WritesOver rows =
+    (file : Text) × HasText (codes "svg") rows file
+    × (HasText (codes "MANIFEST") rows file ⊎ HasText (codes "against") rows file)
+
 -- a simulation of a manifest's ruleset, and of one that serves now
 pub record AsksToSimulate (rows : List Row) (asked : AskedSimulation) : Type 0 where
   pub file : HasText (codes "MANIFEST") rows asked.manifest.now
   pub against : option_copied asked.against ≡ first_of (codes "against") rows
   pub picture : option_copied asked.picture ≡ first_of (codes "svg") rows
+  pub kept : ¬ WritesOver rows
   pub clients : IsAnyones rows asked.app
 
 -- the command, with these arguments, asks for this

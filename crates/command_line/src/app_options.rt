@@ -1,6 +1,7 @@
 //! What the options say of the app that asks: its attributes, its bucket and its days.
 
-ghost use Rattle.std.specs.Prelude.{◌≡◌, ◌≤◌, Err, IfOk, None, Some, codes, length, map};
+ghost use Rattle.std.specs.Prelude.{◌≡◌, ◌≤◌, Err, IfNone, IfOk, IfSome, None, OnErr, Some};
+ghost use Rattle.std.specs.Prelude.{codes, length, map};
 ghost use Rattle.std.specs.Option.{option_and_then, option_copied};
 ghost use Rattle.attrs.specs.Bucket.{cohort_bucket};
 ghost use Rattle.clap.specs.Words.{first_of, found_of, rows_of};
@@ -24,20 +25,33 @@ const LAST_INSTALLED: u32 = 4294967294;
 /// The app of which the options tell.
 pub fn told_of<'a>(found: &ArgMatches<'a>) -> Result<ToldApp<'a>, NoRequest>
     ensures given { IfOk result (specs.HasTold (rows_of (found_of found.now))) }
-    ensures lacking { result ≡ Err NoRequest.Wrong
-        → specs.LacksTold (rows_of (found_of found.now)) }
+    ensures lacking { OnErr result (specs.LacksTold (rows_of (found_of found.now))) }
 {
     let today = today_of(found)?;
     let installed = installed_of(found)?;
+    match told_on(found, today, installed) {
+        Some(told) => Ok(told),
+        None => Err(NoRequest::Wrong),
+    }
+}
+
+/// The app of these days, where each text gives one of the attributes, and none is given twice.
+pub fn told_on<'a>(
+    found: &ArgMatches<'a>,
+    today: u32,
+    installed: Option<u32>,
+) -> Option<ToldApp<'a>>
+    requires { today ≤ 2919382 }
+    ensures given { IfSome result (λ told.
+        specs.IsToday (first_of (codes "today") (rows_of (found_of found.now))) today
+        → specs.IsInstallDay (first_of (codes "installed") (rows_of (found_of found.now))) installed
+        → specs.HasTold (rows_of (found_of found.now)) told) }
+    ensures lacking { IfNone result (specs.LacksAttributes (rows_of (found_of found.now))) }
+{
     let told = described(found, today, installed);
     let given = count_given(found);
     let counted = count_attributes(&told);
-    // Each text gives one of the attributes, and none is given twice.
-    if given == counted {
-        Ok(told)
-    } else {
-        Err(NoRequest::Wrong)
-    }
+    if given == counted { Some(told) } else { None }
 }
 
 // The app of these days, with the first text of each attribute.
@@ -131,8 +145,8 @@ pub fn today_of(found: &ArgMatches<'_>) -> Result<u32, NoRequest>
     ensures given { IfOk result
         (specs.IsToday (first_of (codes "today") (rows_of (found_of found.now)))) }
     ensures limit { IfOk result (λ day. day ≤ 2919382) }
-    ensures lacking { result ≡ Err NoRequest.Wrong
-        → specs.LacksToday (first_of (codes "today") (rows_of (found_of found.now))) }
+    ensures lacking { OnErr result
+        (specs.LacksToday (first_of (codes "today") (rows_of (found_of found.now)))) }
 {
     today_told(optional_text(found, "today"))
 }
@@ -140,7 +154,7 @@ pub fn today_of(found: &ArgMatches<'_>) -> Result<u32, NoRequest>
 fn today_told(text: Option<&str>) -> Result<u32, NoRequest>
     ensures given { IfOk result (specs.IsToday (option_copied text.entry)) }
     ensures limit { IfOk result (λ day. day ≤ 2919382) }
-    ensures lacking { result ≡ Err NoRequest.Wrong → specs.LacksToday (option_copied text.entry) }
+    ensures lacking { OnErr result (specs.LacksToday (option_copied text.entry)) }
 {
     match text {
         Some(text) => day_told(LAST_DAY, text),
@@ -152,16 +166,15 @@ fn today_told(text: Option<&str>) -> Result<u32, NoRequest>
 pub fn installed_of(found: &ArgMatches<'_>) -> Result<Option<u32>, NoRequest>
     ensures given { IfOk result
         (specs.IsInstallDay (first_of (codes "installed") (rows_of (found_of found.now)))) }
-    ensures lacking { result ≡ Err NoRequest.Wrong
-        → specs.LacksInstalled (first_of (codes "installed") (rows_of (found_of found.now))) }
+    ensures lacking { OnErr result
+        (specs.LacksInstalled (first_of (codes "installed") (rows_of (found_of found.now)))) }
 {
     installed_told(optional_text(found, "installed"))
 }
 
 fn installed_told(text: Option<&str>) -> Result<Option<u32>, NoRequest>
     ensures given { IfOk result (specs.IsInstallDay (option_copied text.entry)) }
-    ensures lacking { result ≡ Err NoRequest.Wrong
-        → specs.LacksInstalled (option_copied text.entry) }
+    ensures lacking { OnErr result (specs.LacksInstalled (option_copied text.entry)) }
 {
     match text {
         Some(text) => Ok(Some(day_told(LAST_INSTALLED, text)?)),
@@ -172,7 +185,7 @@ fn installed_told(text: Option<&str>) -> Result<Option<u32>, NoRequest>
 fn day_told(most: u32, text: &str) -> Result<u32, NoRequest>
     ensures given { IfOk result (λ day. day_in most text.now ≡ Some day) }
     ensures limit { IfOk result (λ day. day ≤ most) }
-    ensures lacking { result ≡ Err NoRequest.Wrong → day_in most text.now ≡ None }
+    ensures lacking { OnErr result (day_in most text.now ≡ None) }
 {
     match day_in(most, text) {
         Some(day) => Ok(day),

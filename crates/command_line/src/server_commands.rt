@@ -28,14 +28,14 @@ A script has a line an event. Empty lines and those that begin with # are passed
 
   # Worker 0 (of 0 to 63) starts a run for the app agent: bucket 4998, and no version.
   start 0 agent 4998 -
-  # It does one instruction, then five (1 to 4097 at once), and gives its choice.
+  # It does one instruction, then eight (1 to 4097 at once), and gives its choice.
   step 0
-  step 0 5
+  step 0 8
   finish 0
   # The rest of the line is a manifest's path. A run that has started keeps its ruleset.
   swap examples/staged/next.toml
   start 0 agent 4999 1.2.0
-  step 0 5
+  step 0 11
   finish 0
 
 Each event prints `started`, `stepped N`, `finished K after N under R`, `swapped R`, or

@@ -1,12 +1,16 @@
 //! What `simulate` asks for.
 
-ghost use Rattle.std.specs.Prelude.{◌≡◌, ◌↔◌, IfOk, IsNone, IsTrue, Err, Some, option_copied};
+ghost use Rattle.std.specs.Prelude.{◌≡◌, ◌↔◌, IfErr, IfOk, IsNone, IsTrue, Err, Some, codes};
+ghost use Rattle.std.specs.Option.{option_copied};
 ghost use Rattle.clap.specs.Words.{found_of, rows_of};
-ghost use Rattle.command_line.specs.AppOptions.{IsAnyones, LacksAnyone};
-ghost use Rattle.command_line.specs.Words.{VerbAsks, VerbAsksNothing};
+ghost use Rattle.command_line.specs.AppOptions.{IsAnyones};
+ghost use Rattle.command_line.specs.Misfits.{IsSimulationMisfit};
+ghost use Rattle.command_line.specs.Values.{HasText};
+ghost use Rattle.command_line.specs.Words.{AsksToSimulate, VerbAsks, VerbAsksNothing, WritesOver};
 
-use crate::app_options::told_of;
-use crate::options::{optional_text, text_of};
+use crate::app_options::{installed_of, today_of, told_on};
+use crate::option_misfit::OptionMisfit;
+use crate::options::optional_text;
 use crate::request::{AskedSimulation, CommandRequest, NoRequest};
 use crate::told::ToldApp;
 use crate::verb::Verb;
@@ -18,30 +22,59 @@ pub fn simulate_asked<'a>(found: &ArgMatches<'a>) -> Result<CommandRequest<'a>, 
     ensures nothing { result ≡ Err NoRequest.Wrong
         → VerbAsksNothing (Some Verb.Simulate) (rows_of (found_of found.now)) }
 {
-    let manifest = text_of(found, "MANIFEST")?;
-    let app = anyone_told(found)?;
-    let against = optional_text(found, "against");
-    let picture = optional_text(found, "svg");
-    Ok(CommandRequest::Simulate(AskedSimulation {
-        manifest,
-        against,
-        picture,
-        app,
-    }))
+    match simulation_of(found) {
+        Ok(asked) => Ok(CommandRequest::Simulate(asked)),
+        Err(_) => Err(NoRequest::Wrong),
+    }
 }
 
-/// The app of which the options tell, without an appid and a cohort: each app is asked for, in each
-/// bucket.
-pub fn anyone_told<'a>(found: &ArgMatches<'a>) -> Result<ToldApp<'a>, NoRequest>
-    ensures given { IfOk result (IsAnyones (rows_of (found_of found.now))) }
-    ensures lacking { result ≡ Err NoRequest.Wrong
-        → LacksAnyone (rows_of (found_of found.now)) }
+/// The simulation that the words ask for, or the first of their options that is ill-written.
+pub fn simulation_of<'a>(found: &ArgMatches<'a>) -> Result<AskedSimulation<'a>, OptionMisfit>
+    ensures asked { IfOk result (AsksToSimulate (rows_of (found_of found.now))) }
+    ensures misfit { IfErr result (IsSimulationMisfit (rows_of (found_of found.now))) }
 {
-    let app = told_of(found)?;
-    if is_untold(app.appid) && is_untold(app.cohort) {
-        Ok(app)
-    } else {
-        Err(NoRequest::Wrong)
+    match optional_text(found, "MANIFEST") {
+        Some(manifest) => simulation_of_manifest(found, manifest),
+        None => Err(OptionMisfit::Manifest),
+    }
+}
+
+fn simulation_of_manifest<'a>(
+    found: &ArgMatches<'a>,
+    manifest: &'a str,
+) -> Result<AskedSimulation<'a>, OptionMisfit>
+    requires { HasText (codes "MANIFEST") (rows_of (found_of found.now)) manifest.now }
+    ensures asked { IfOk result (AsksToSimulate (rows_of (found_of found.now))) }
+    ensures misfit { IfErr result (IsSimulationMisfit (rows_of (found_of found.now))) }
+{
+    let app = anyone_told(found)?;
+    if writes_over(found) {
+        return Err(OptionMisfit::Overwritten);
+    }
+    Ok(AskedSimulation {
+        manifest,
+        against: optional_text(found, "against"),
+        picture: optional_text(found, "svg"),
+        app,
+    })
+}
+
+// The app of which the options tell, without an appid and a cohort: each app is asked for, in each
+// bucket.
+fn anyone_told<'a>(found: &ArgMatches<'a>) -> Result<ToldApp<'a>, OptionMisfit>
+    ensures given { IfOk result (IsAnyones (rows_of (found_of found.now))) }
+    ensures misfit { IfErr result (IsSimulationMisfit (rows_of (found_of found.now))) }
+{
+    let Ok(today) = today_of(found) else {
+        return Err(OptionMisfit::Today);
+    };
+    let Ok(installed) = installed_of(found) else {
+        return Err(OptionMisfit::Installed);
+    };
+    match told_on(found, today, installed) {
+        Some(app) if is_untold(app.appid) && is_untold(app.cohort) => Ok(app),
+        Some(_) => Err(OptionMisfit::OneClient),
+        None => Err(OptionMisfit::Attributes),
     }
 }
 
@@ -49,4 +82,24 @@ fn is_untold(text: Option<&str>) -> bool
     ensures { IsTrue result ↔ IsNone (option_copied text.entry) }
 {
     text.is_none()
+}
+
+// Whether the file of the picture is one of the manifests.
+fn writes_over(found: &ArgMatches<'_>) -> bool
+    ensures { IsTrue result ↔ WritesOver (rows_of (found_of found.now)) }
+{
+    match optional_text(found, "svg") {
+        Some(file) => is_text(found, "MANIFEST", file) || is_text(found, "against", file),
+        None => false,
+    }
+}
+
+// Whether an argument was given this text.
+fn is_text(found: &ArgMatches<'_>, id: &str, text: &str) -> bool
+    ensures { IsTrue result ↔ HasText id.now (rows_of (found_of found.now)) text.now }
+{
+    match optional_text(found, id) {
+        Some(given) => given == text,
+        None => false,
+    }
 }

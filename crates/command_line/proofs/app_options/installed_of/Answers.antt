@@ -1,5 +1,5 @@
 use Rattle.std.proofs.Common.{Option, subst}
-use Rattle.std.specs.Prelude.{IfOk}
+use Rattle.std.specs.Prelude.{IfOk, OnErr}
 use Rattle.clap.specs.Words.{Text}
 use Rattle.command_line.specs.AppOptions.{IsInstallDay, LacksInstalled}
 use Rattle.command_line.proofs.app_options.installed_of.Goals as goal
@@ -10,5 +10,6 @@ returns-clause-given c =
     c.optional_text.ensures c.installed_told.ensures.given
 
 pub returns-clause-lacking : goal.returns-clause-lacking
-returns-clause-lacking c = λ wrong.
-    subst LacksInstalled c.optional_text.ensures (c.installed_told.ensures.lacking wrong)
+returns-clause-lacking c =
+    subst (λ (text : Option Text). OnErr c.installed_told.result (LacksInstalled text))
+    c.optional_text.ensures c.installed_told.ensures.lacking

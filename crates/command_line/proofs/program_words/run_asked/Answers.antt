@@ -11,7 +11,7 @@ returns-in_err-path-clause-nothing c = λ wrong.
 pub returns-in_err-app-clause-nothing : goal.returns-in_err-app-clause-nothing
 returns-in_err-app-clause-nothing c = λ wrong.
     runs_nothing (rows_of (found_of c.args.found.now))
-    (λ run asks. c.in_err-app.ensures.lacking (search rules) run.app asks.told)
+    (λ run asks. c.in_err-app.ensures.lacking run.app asks.told)
 
 pub returns-in_err-bucket-clause-nothing : goal.returns-in_err-bucket-clause-nothing
 returns-in_err-bucket-clause-nothing c = λ wrong.
