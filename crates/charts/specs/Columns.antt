@@ -1,5 +1,6 @@
--- The columns of a table: texts that blanks fill up to a width, counts of 10000 buckets in percent,
--- and bars. A width is counted in characters.
+-- The columns of a table: texts that blanks fill up to a width, counts of buckets in percent, and
+-- bars. A text is UTF-8, a width is counted in characters, and a count is one of 10000 buckets: 0 to
+-- 10000.
 use Rattle.std.specs.Prelude.{◌≡◌, ℕ, ◌+◌, ◌-◌, ◌/◌, ◌%◌, List, [], ◌∷◌, ◌++◌, codes, decimal}
 use Rattle.std.specs.Prelude.{String, length, max, replicate, string_bytes}
 use Rattle.std.specs.Str.{chars}
@@ -9,29 +10,31 @@ use Rattle.std.specs.declared.alloc.Global.{Global}
 abbrev pub Puts : (old new : String Global) → List ℕ → Type 0
 Puts old new more = string_bytes new ≡ string_bytes old ++ more
 
+-- so many blanks
 abbrev pub blanks : ℕ → List ℕ
 blanks n = replicate n 32
 
+-- how many characters a text has
 abbrev pub width_of : List ℕ → ℕ
 width_of text = length (chars text)
 
--- at the left of a column, and at its right
+-- at the left of a column of this width, and at its right; a wider text stands as it is
 abbrev pub at_left : ℕ → List ℕ → List ℕ
 at_left width text = text ++ blanks (width - width_of text)
 
 abbrev pub at_right : ℕ → List ℕ → List ℕ
 at_right width text = blanks (width - width_of text) ++ text
 
--- the width of the widest text, and at least this
+-- the width of the widest of these texts, and at least this
 abbrev pub widest : ℕ → List (List ℕ) → ℕ
 widest least [] = least
 widest least (text ∷ texts) = widest (max least (width_of text)) texts
 
--- a count of 10000 in percent, with two places
+-- a count in percent, with two places: 0.00 to 100.00, without a sign
 abbrev pub percent : ℕ → List ℕ
 percent count =
     decimal (count / 100) ++ codes "." ++ decimal (count / 10 % 10) ++ decimal (count % 10)
 
--- a mark for each 250 buckets, to the nearest, and one at least
+-- a mark for each 250 buckets, to the nearest, and one at least: 1 to 40
 abbrev pub bar : ℕ → List ℕ
 bar count = replicate (max ((count + 125) / 250) 1) 35

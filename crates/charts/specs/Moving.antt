@@ -1,5 +1,6 @@
 -- How many buckets move from which release to which between two rulesets: a table an app, with a
--- row for each move that some bucket makes, and a mark at those that lose a release.
+-- row for each move that some bucket makes, and a mark at those that lose a release. Choices are 0
+-- to 64; a width is counted in characters, a count in buckets: 0 to 10000.
 use Rattle.std.specs.Prelude.{ℕ, ◌+◌, List, [], ◌∷◌, ◌++◌, codes, decimal}
 use Rattle.std.specs.Prelude.{slice_index, max, nat_lt, ◌==◌, ◌&&◌, ◌||◌, if◌then◌else◌}
 use Rattle.std.specs.Prelude.{Bool, true, false, Option, Some, None}
@@ -15,7 +16,7 @@ use Rattle.simulation.specs.rulesets.Rules.{AppRule}
 
 -- ---- what is lost
 
--- by its four numbers the first version is below the second
+-- by its four numbers, each below 2^32, the first version is below the second
 abbrev pub lower_numbers : List ℕ → List ℕ → Bool
 lower_numbers v w =
     nat_lt (slice_index v 0) (slice_index w 0)
@@ -26,11 +27,13 @@ lower_numbers v w =
     || ((slice_index v 2 == slice_index w 2)
     && nat_lt (slice_index v 3) (slice_index w 3))))))
 
+-- a version that isn't read as numbers is neither lower nor higher
 abbrev pub lower_if_read : Option (List ℕ) → Option (List ℕ) → Bool
 lower_if_read (Some v) (Some w) = lower_numbers v w
 lower_if_read (Some v) None = false
 lower_if_read None w = false
 
+-- the text of a version tells a lower one than the other text
 abbrev pub is_lower : List ℕ → List ℕ → Bool
 is_lower version other = lower_if_read (version_of version) (version_of other)
 
@@ -43,6 +46,8 @@ loses now next from to =
 
 -- ---- the table of an app
 
+-- the first column is as wide as the title, and 15 at least, the others as the widest version, and 9
+-- at least
 abbrev pub move_widths : (appid : List ℕ) → (now next : List (List ℕ)) → MoveWidths
 move_widths appid now next = record {
   app = max (width_of appid + 4) 15;
@@ -50,6 +55,7 @@ move_widths appid now next = record {
   next = widest 9 next;
 }
 
+-- a column with two blanks behind it, and three of them
 abbrev pub move_column : ℕ → List ℕ → List ℕ
 move_column width text = at_left width text ++ codes "  "
 
@@ -57,27 +63,33 @@ abbrev pub move_columns : MoveWidths → (app now next : List ℕ) → List ℕ
 move_columns widths app now next =
     move_column widths.app app ++ move_column widths.now now ++ move_column widths.next next
 
+-- the line above the rows
 abbrev pub moves_head : MoveWidths → (appid : List ℕ) → List ℕ
 moves_head widths appid =
     move_columns widths (app_title appid) (codes "now") (codes "next") ++ codes "buckets\n"
 
+-- the end of a row
 abbrev pub mark_if : Bool → List ℕ
 mark_if true = codes "  lost\n"
 mark_if false = codes "\n"
 
+-- the row of a move that so many buckets make: 1 to 10000, at the right of 7 characters
 abbrev pub move_row : MoveWidths → (from to : List ℕ) → (count : ℕ) → (lost : Bool) → List ℕ
 move_row widths from to count lost =
     move_columns widths [] from to ++ at_right 7 (decimal count) ++ mark_if lost
 
+-- the same of a count that may be 0, which has no row
 unfoldable pub move_if_any : MoveWidths → (from to : List ℕ) → (count : ℕ) → (lost : Bool) → List ℕ
 move_if_any widths from to count lost =
     if count == 0 then [] else move_row widths from to count lost
 
+-- the row of a move from one choice to another
 abbrev pub moves_between : MoveWidths → (now next : Offer) → (from to : ℕ) → List ℕ
 moves_between widths now next from to =
     move_if_any widths (choice_name now.versions from) (choice_name next.versions to)
     (buckets_moving now.choices next.choices from to) (loses now.versions next.versions from to)
 
+-- the rows of all moves from a choice, and of all moves
 abbrev pub moves_from : MoveWidths → (now next : Offer) → (from : ℕ) → List ℕ
 moves_from widths now next from =
     flat_map (moves_between widths now next from) (choices_among next.versions)
@@ -86,6 +98,7 @@ abbrev pub moves_rows : MoveWidths → (now next : Offer) → List ℕ
 moves_rows widths now next =
     flat_map (moves_from widths now next) (choices_among now.versions)
 
+-- the table of an app
 abbrev pub moves_table : (appid : List ℕ) → (now next : Offer) → List ℕ
 moves_table appid now next =
     let widths = move_widths appid now.versions next.versions in
@@ -93,9 +106,11 @@ moves_table appid now next =
 
 -- ---- all apps
 
+-- the table of the app of an appid, which either ruleset may not have
 abbrev pub moves_of : (now next : Simulation) → (appid : List ℕ) → List ℕ
 moves_of now next appid = moves_table appid (offer_of now appid) (offer_of next appid)
 
+-- the tables of these apps
 abbrev pub moves_of_apps : (now next : Simulation) → List AppRule → List ℕ
 moves_of_apps now next apps = flat_map (λ app. moves_of now next app.appid) apps
 

@@ -1,6 +1,6 @@
 use Rattle.std.proofs.Common.{◌≡◌, ◌+◌, ◌-◌, ◌++◌, ◌≤◌, string_bytes}
 use Rattle.std.specs.List.{flat_map, range_with_len}
-use Rattle.charts.specs.Shares.{own_row, rows_of}
+use Rattle.charts.specs.Shares.{row_of_choice, rows_of}
 use Rattle.charts.specs.Shown.{versions_of}
 use Rattle.charts.proofs.shares.push_rows.Given as goal
 
@@ -8,7 +8,7 @@ use Rattle.charts.proofs.shares.push_rows.Given as goal
 abbrev pub invariant-loop-choice : goal.invariant-loop-choice
 invariant-loop-choice l = record {
   within : l.choice ≤ l.count + 1;
-  text : string_bytes l.text ++ flat_map (own_row (versions_of l.app) l.choices)
+  text : string_bytes l.text ++ flat_map (row_of_choice (versions_of l.app) l.choices)
       (range_with_len l.choice (l.count + 1 - l.choice))
       ≡ string_bytes l.initial.text ++ rows_of (versions_of l.app) l.choices;
 }
