@@ -49,9 +49,9 @@ module _ (known : KnownFiles) where
       HasTraced known run choice instructions (string_bytes lines)
   IsAnswer (request.Replay manifest script) (Replayed text) =
       HasReplayed known manifest.now script.now (string_bytes text)
-  IsAnswer (request.Simulate asked) (Simulated text) =
+  IsAnswer (request.Simulate asked) (Simulated told) =
       HasSimulated known (client_told asked.app) asked.manifest.now (option_copied asked.against)
-      (string_bytes text)
+      (option_copied asked.picture) told
   IsAnswer (request.Ask asked port) (Told text) = IsDoneAs asked (string_bytes text)
   IsAnswer (request.StopAndWait port) (Told text) = IsDoneAs sent.Stop (string_bytes text)
   IsAnswer (request.Serve manifest plan) (Ready server kept) =
@@ -77,7 +77,7 @@ module _ (known : KnownFiles) where
       IsReplayRefusal known manifest.now script.now fault
   IsRefused (request.Simulate asked) (Manifest fault) =
       IsSimulationRefusal known (client_told asked.app) asked.manifest.now
-      (option_copied asked.against) fault
+      (option_copied asked.against) (option_copied asked.picture) fault
   IsRefused (request.Ask asked port) fault = IsAskRefusal asked fault
   IsRefused (request.StopAndWait port) fault = IsAskRefusal sent.Stop fault
   IsRefused (request.Serve manifest plan) (Serving fault) =

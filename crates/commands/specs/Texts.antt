@@ -36,7 +36,7 @@ answer_text (Traced lines choice instructions) =
     line (string_bytes lines ++ codes "choice " ++ decimal choice
     ++ codes " after " ++ decimal instructions ++ codes " instructions")
 answer_text (Replayed text) = string_bytes text
-answer_text (answer.Simulated text) = string_bytes text
+answer_text (answer.Simulated told) = string_bytes told.text
 answer_text (answer.Told text) = string_bytes text
 -- the first generation
 answer_text (Ready server plan) = serving_line 1

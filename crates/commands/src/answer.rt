@@ -3,7 +3,7 @@
 ghost use Rattle.std.specs.Prelude.{◌≡◌, Some};
 ghost use Rattle.commands.specs.Texts.{answer_text, warnings_of};
 
-use manifest_tools::CheckedManifest;
+use manifest_tools::{CheckedManifest, ToldSimulation};
 use program_tools::command_line::Plan;
 use serving::Server;
 use serving::operator::hot_swap::Generation;
@@ -53,10 +53,8 @@ pub enum Answer {
     Replayed {
         text: String,
     },
-    /// The lines of a simulation.
-    Simulated {
-        text: String,
-    },
+    /// What is told of a simulation, of which the lines are printed.
+    Simulated(ToldSimulation),
     /// The lines of a server's reply.
     Told {
         text: String,
@@ -111,7 +109,7 @@ impl fmt::Display for Answer {
                 "{lines}choice {choice} after {instructions} instructions"
             ),
             Answer::Replayed { text } => f.write_str(text),
-            Answer::Simulated { text } => f.write_str(text),
+            Answer::Simulated(told) => f.write_str(told.text.as_str()),
             Answer::Told { text } => f.write_str(text),
             Answer::Ready { .. } => {
                 let first: Generation = 1;

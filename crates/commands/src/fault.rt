@@ -17,7 +17,7 @@ pub enum Fault {
     Resource(ResourceFault),
     /// `asm`, `list`, `compile`, `order`, `verify`, `explain` or `run` is refused.
     Program(ProgramToolFault),
-    /// `check` or `replay` is refused.
+    /// `check`, `replay` or `simulate` is refused.
     Manifest(ManifestToolFault),
     /// There is no server, or none that serves.
     Serving(ServingFault),

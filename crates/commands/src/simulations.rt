@@ -15,7 +15,7 @@ use std::alloc::{AllocError, Global};
 use std::rt::Files;
 use std::time::Clock;
 
-/// The lines of what the clients in all buckets get.
+/// What the clients in all buckets get.
 pub fn simulated<R, D>(rt: &R, disk: &D, asked: &AskedSimulation<'_>) -> Result<Answer, Fault>
 where
     R: Files + AllocGlobal + Clock + Eprint,
@@ -24,13 +24,13 @@ where
     ensures fault { IfErr result
         (IsRefused (D.known disk.now) (CommandRequest.Simulate asked.now)) }
 {
-    let Ok(mut client) = client_told(rt.alloc(), &asked.app) else {
+    let Ok(client) = client_told(rt.alloc(), &asked.app) else {
         let fault = ManifestToolFault::Resource(ResourceFault::Memory);
         return Err(Fault::Manifest(fault));
     };
     let (manifest, against) = (asked.manifest, asked.against);
-    match simulate_files(rt, disk, manifest, against, asked.picture, &mut client) {
-        Ok(text) => Ok(Answer::Simulated { text }),
+    match simulate_files(rt, disk, manifest, against, asked.picture, client) {
+        Ok(told) => Ok(Answer::Simulated(told)),
         Err(fault) => Err(Fault::Manifest(fault)),
     }
 }

@@ -1,7 +1,10 @@
 -- Manifests that are simulated: each is loaded over no arrays, and asked for the clients in all
 -- buckets. Of want of memory nothing is said.
-use Rattle.std.specs.Prelude.{◌≡◌, ◌++◌, ℕ, List, [], Option, Some, None}
+use Rattle.std.specs.Prelude.{◌≡◌, ◌++◌, ℕ, List, [], Option, Some, None, IsSome}
+use Rattle.std.specs.Option.{option_map}
+use Rattle.std.specs.String.{string_bytes}
 use Rattle.charts.specs.Moving.{moves_text}
+use Rattle.charts.specs.Pictures.{picture}
 use Rattle.charts.specs.Shares.{shares_text}
 use Rattle.charts.specs.Shown.{Simulation}
 use Rattle.charts.specs.simulation.Course.{IsSimulated}
@@ -14,6 +17,7 @@ use Rattle.diagnosis.specs.load.manifest.cells.declared.array.CellArray.{CellArr
 use Rattle.diagnosis.specs.rulesets.Rules.{Rules}
 use Rattle.manifest_tools.specs.declared.fault.ManifestToolFault.{ManifestToolFault}
 use Rattle.manifest_tools.specs.declared.fault.ManifestToolFault.TheVariants as fault
+use Rattle.manifest_tools.specs.declared.simulating.ToldSimulation.{ToldSimulation}
 
 -- ---- what is told of rulesets
 
@@ -22,20 +26,28 @@ pub record IsSimulationBy (client : Client) (rules : Rules) (s : Simulation) : T
   pub apps_are : s.apps ≡ rules.apps
   pub asked : IsSimulated client rules.apps s.chosen
 
--- how many get which release of each app
-pub record ShowsAlone (client : Client) (rules : Rules) (text : List ℕ) : Type 0 where
+-- its picture, where a file is named for one
+abbrev pub picture_if : (file : Option (List ℕ)) → Simulation → Option (List ℕ)
+picture_if None simulation = None
+picture_if (Some file) simulation = Some (picture simulation)
+
+-- how many get which release of each app, and the picture of the same simulation
+pub record ShowsAlone (client : Client) (rules : Rules) (file : Option (List ℕ))
+    (told : ToldSimulation) : Type 0 where
   pub next : Simulation
   pub simulated : IsSimulationBy client rules next
-  pub text_is : text ≡ shares_text next
+  pub text_is : string_bytes told.text ≡ shares_text next
+  pub picture_is : option_map string_bytes told.picture ≡ picture_if file next
 
 -- the same, and how many move from which release to which
-pub record ShowsAgainst (client : Client) (rules serving : Rules) (text : List ℕ)
-    : Type 0 where
+pub record ShowsAgainst (client : Client) (rules serving : Rules) (file : Option (List ℕ))
+    (told : ToldSimulation) : Type 0 where
   pub next : Simulation
   pub simulated : IsSimulationBy client rules next
   pub now : Simulation
   pub served : IsSimulationBy client serving now
-  pub text_is : text ≡ shares_text next ++ moves_text now next
+  pub text_is : string_bytes told.text ≡ shares_text next ++ moves_text now next
+  pub picture_is : option_map string_bytes told.picture ≡ picture_if file next
 
 -- ---- and of manifests
 
@@ -44,15 +56,15 @@ module _ (known : KnownFiles) where
   abbrev pub IsLoadedAlone : (path : List ℕ) → Rules → Type 0
   IsLoadedAlone path rules = (arrays : List CellArray) × IsLoadedFrom known path [] rules arrays
 
-  -- the lines of a simulation
-  abbrev pub HasSimulated : Client → (manifest : List ℕ) → (against : Option (List ℕ))
-      → (text : List ℕ) → Type 0
-  HasSimulated client manifest None text =
-      (rules : Rules) × IsLoadedAlone manifest rules × ShowsAlone client rules text
-  HasSimulated client manifest (Some path) text =
+  -- the lines of a simulation, and its picture
+  abbrev pub HasSimulated : Client → (manifest : List ℕ) → (against file : Option (List ℕ))
+      → ToldSimulation → Type 0
+  HasSimulated client manifest None file told =
+      (rules : Rules) × IsLoadedAlone manifest rules × ShowsAlone client rules file told
+  HasSimulated client manifest (Some path) file told =
       (rules : Rules) × IsLoadedAlone manifest rules
       × (serving : Rules) × IsLoadedAlone path serving
-      × ShowsAgainst client rules serving text
+      × ShowsAgainst client rules serving file told
 
   -- the other manifest isn't loaded, and the first one is
   abbrev pub RefusesAgainst : (manifest : List ℕ) → (against : Option (List ℕ))
@@ -69,9 +81,17 @@ module _ (known : KnownFiles) where
   IsLoadRefusal manifest against (fault.Resource resource.Memory) = Unit {0}
   IsLoadRefusal manifest against refused = ⊥
 
-  -- or both are, and the picture can't be written
-  abbrev pub IsSimulationRefusal : Client → (manifest : List ℕ) → (against : Option (List ℕ))
+  -- a file is named for the picture, which can't be written; the manifests are loaded
+  pub record IsPictureRefusal (client : Client) (manifest : List ℕ)
+      (against file : Option (List ℕ)) : Type 0 where
+    pub named : IsSome file
+    pub told : ToldSimulation
+    pub simulated : HasSimulated client manifest against file told
+
+  -- a manifest isn't loaded, or else the picture can't be written
+  abbrev pub IsSimulationRefusal : Client → (manifest : List ℕ) → (against file : Option (List ℕ))
       → ManifestToolFault → Type 0
-  IsSimulationRefusal client manifest against (fault.Resource resource.File) =
-      (text : List ℕ) × HasSimulated client manifest against text
-  IsSimulationRefusal client manifest against refused = IsLoadRefusal manifest against refused
+  IsSimulationRefusal client manifest against file (fault.Resource resource.File) =
+      IsPictureRefusal client manifest against file
+  IsSimulationRefusal client manifest against file refused =
+      IsLoadRefusal manifest against refused

@@ -9,13 +9,13 @@
 mod check;
 mod fault;
 mod playing;
-mod progress;
+mod progress_lines;
 mod simulating;
 
 pub use check::check_file;
 pub use fault::ManifestToolFault;
 pub use playing::replay_script;
-pub use simulating::simulate_files;
+pub use simulating::{ToldSimulation, simulate_files};
 
 // The words of the contracts here come with them.
 pub use charts;

@@ -6,22 +6,22 @@ use std::time::{Clock, Instant};
 /// Says at most once a second how far a simulation is. It says nothing where the clock can't be
 /// read.
 #[derive(Drop)]
-pub(crate) struct Progress<'a, R> {
+pub(crate) struct ProgressLines<'a, R> {
     rt: &'a R,
     said: Option<Instant>,
 }
 
-impl<'a, R: Clock + Eprint> Progress<'a, R> {
+impl<'a, R: Clock + Eprint> ProgressLines<'a, R> {
     /// Of a simulation that begins now.
-    pub(crate) fn new(rt: &'a R) -> Progress<'a, R> {
-        Progress {
+    pub(crate) fn new(rt: &'a R) -> ProgressLines<'a, R> {
+        ProgressLines {
             rt,
             said: Instant::now(rt).ok(),
         }
     }
 }
 
-impl<'a, R: Clock + Eprint> Onlooker for Progress<'a, R> {
+impl<'a, R: Clock + Eprint> Onlooker for ProgressLines<'a, R> {
     fn asked(&mut self, done: usize, all: usize) {
         let (Some(said), Ok(now)) = (self.said, Instant::now(self.rt)) else {
             return;

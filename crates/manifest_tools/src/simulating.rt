@@ -1,13 +1,14 @@
 //! `simulate`: what the clients in all buckets get by a manifest, and what changes for them against
 //! one that serves now.
 
-ghost use Rattle.std.specs.Prelude.{[], IfOk, IfErr, option_copied};
+ghost use Rattle.std.specs.Prelude.{◌≡◌, [], IfOk, IfErr, IsSome, OnErr, option_copied};
+ghost use Rattle.std.specs.Option.{option_map};
 ghost use Rattle.std.specs.String.{string_bytes};
 ghost use Rattle.diagnosis.specs.load.Loaded.{RefusesPath};
 ghost use Rattle.manifest_tools.specs.Simulations as specs;
 
 use crate::fault::ManifestToolFault;
-use crate::progress::Progress;
+use crate::progress_lines::ProgressLines;
 use charts::simulation::Client;
 use charts::{Simulated, draw, push_moves, push_shares};
 use diagnosis::load::bounded_files::{Disk, ResourceFault, write_file};
@@ -18,17 +19,18 @@ use std::alloc::{AllocError, Global};
 use std::rt::Files;
 use std::time::Clock;
 
-/// What is told of a simulation, and the simulation itself, of which a picture may be made.
+/// What is told of a simulation: its lines, each ended by LF, and its picture as the text of an SVG
+/// file, where a file is named for it.
 #[derive(Drop)]
-struct Told {
-    lines: String,
-    next: Simulated,
+pub struct ToldSimulation {
+    pub text: String,
+    pub picture: Option<String>,
 }
 
-/// The lines of what the clients in all buckets get by a manifest, and with another one of what
-/// changes for them against it. Each is loaded over no arrays, as a server's first manifest is. The
-/// picture is written last, into the file that is named. Where it takes over a second, standard
-/// error is told how far it is.
+/// What the clients in all buckets get by a manifest, and with another one what changes for them
+/// against it. Each is loaded over no arrays, as a server's first manifest is. The picture is
+/// written last, into the file that is named. Where it takes over a second, standard error is told
+/// how far it is.
 ///
 /// The faults come in this order: B3 of the manifest, or M1 to M7 of its load; those of the other
 /// one; B3 where the picture can't be written. B4, or M8 in a load, comes where memory is refused.
@@ -37,36 +39,35 @@ pub fn simulate_files<R, D>(
     disk: &D,
     manifest: &str,
     against: Option<&str>,
-    picture: Option<&str>,
-    client: &mut Client,
-) -> Result<String, ManifestToolFault>
+    file: Option<&str>,
+    client: Client,
+) -> Result<ToldSimulation, ManifestToolFault>
 where
     R: Files + AllocGlobal + Clock + Eprint,
     D: Disk,
-    ensures text { IfOk result (λ text. specs.HasSimulated (D.known disk.now) client.old
-        manifest.now (option_copied against.entry) (string_bytes text)) }
-    ensures fault { IfErr result (specs.IsSimulationRefusal (D.known disk.now) client.old
-        manifest.now (option_copied against.entry)) }
+    ensures told { IfOk result (specs.HasSimulated (D.known disk.now) client manifest.now
+        (option_copied against.entry) (option_copied file.entry)) }
+    ensures fault { IfErr result (specs.IsSimulationRefusal (D.known disk.now) client manifest.now
+        (option_copied against.entry) (option_copied file.entry)) }
 {
-    let told = told_of_files(rt, disk, manifest, against, client)?;
-    let Some(path) = picture else {
-        return Ok(told.lines);
-    };
-    match write_picture(rt, path, &told.next) {
-        Ok(()) => Ok(told.lines),
-        Err(fault) => Err(ManifestToolFault::Resource(fault)),
+    let told = told_of_files(rt, disk, manifest, against, file, client)?;
+    match write_picture(rt, file, &told) {
+        Ok(()) => Ok(told),
+        Err(ResourceFault::File) => Err(ManifestToolFault::Resource(ResourceFault::File)),
+        Err(ResourceFault::Memory) => Err(ManifestToolFault::Resource(ResourceFault::Memory)),
     }
 }
 
-// Writes the picture of a simulation into a file.
-fn write_picture<R>(rt: &R, path: &str, simulated: &Simulated) -> Result<(), ResourceFault>
+// Writes the picture of a simulation into the file that is named.
+fn write_picture<R>(rt: &R, file: Option<&str>, told: &ToldSimulation) -> Result<(), ResourceFault>
 where
-    R: Files + AllocGlobal,
+    R: Files,
+    ensures { OnErr result (IsSome (option_copied file.entry)) }
 {
-    let Ok(picture) = draw(rt.alloc(), simulated) else {
-        return Err(ResourceFault::Memory);
-    };
-    write_file(rt, path, picture.as_bytes())
+    match (file, &told.picture) {
+        (Some(path), Some(picture)) => write_file(rt, path, picture.as_bytes()),
+        _ => Ok(()),
+    }
 }
 
 // What is told of the files, of which none is written yet.
@@ -75,13 +76,14 @@ fn told_of_files<R, D>(
     disk: &D,
     manifest: &str,
     against: Option<&str>,
-    client: &mut Client,
-) -> Result<Told, ManifestToolFault>
+    file: Option<&str>,
+    client: Client,
+) -> Result<ToldSimulation, ManifestToolFault>
 where
     R: AllocGlobal + Clock + Eprint,
     D: Disk,
-    ensures text { IfOk result (λ told. specs.HasSimulated (D.known disk.now) client.old
-        manifest.now (option_copied against.entry) (string_bytes told.lines)) }
+    ensures told { IfOk result (specs.HasSimulated (D.known disk.now) client manifest.now
+        (option_copied against.entry) (option_copied file.entry)) }
     ensures fault { IfErr result (specs.IsLoadRefusal (D.known disk.now)
         manifest.now (option_copied against.entry)) }
 {
@@ -90,12 +92,12 @@ where
         Err(fault) => return Err(ManifestToolFault::Load(fault)),
     };
     match against {
-        None => match told_alone(rt, rules, client) {
+        None => match told_alone(rt, rules, file, client) {
             Ok(told) => Ok(told),
             Err(_) => Err(ManifestToolFault::Resource(ResourceFault::Memory)),
         },
         Some(path) => match load_alone(rt.alloc(), disk, path) {
-            Ok(serving) => match told_against(rt, rules, serving, client) {
+            Ok(serving) => match told_against(rt, rules, serving, file, client) {
                 Ok(told) => Ok(told),
                 Err(_) => Err(ManifestToolFault::Resource(ResourceFault::Memory)),
             },
@@ -117,15 +119,21 @@ fn load_alone<D: Disk>(alloc: Global, disk: &D, path: &str) -> Result<Ruleset, P
 }
 
 // What is told of a ruleset alone.
-fn told_alone<R>(rt: &R, rules: Ruleset, client: &mut Client) -> Result<Told, AllocError>
+fn told_alone<R>(
+    rt: &R,
+    rules: Ruleset,
+    file: Option<&str>,
+    mut client: Client,
+) -> Result<ToldSimulation, AllocError>
 where
     R: AllocGlobal + Clock + Eprint,
-    ensures { IfOk result (λ told. specs.ShowsAlone client.old rules (string_bytes told.lines)) }
+    ensures { IfOk result (specs.ShowsAlone client rules (option_copied file.entry)) }
 {
-    let next = Simulated::of(rt.alloc(), rules, client, &mut Progress::new(rt))?;
-    let mut lines = String::new(rt.alloc());
-    push_shares(&mut lines, &next)?;
-    Ok(Told { lines, next })
+    let next = Simulated::of(rt.alloc(), rules, &mut client, &mut ProgressLines::new(rt))?;
+    let mut text = String::new(rt.alloc());
+    push_shares(&mut text, &next)?;
+    let picture = picture_if(rt.alloc(), file, &next)?;
+    Ok(ToldSimulation { text, picture })
 }
 
 // What is told of a ruleset against another, which serves now.
@@ -133,18 +141,34 @@ fn told_against<R>(
     rt: &R,
     rules: Ruleset,
     serving: Ruleset,
-    client: &mut Client,
-) -> Result<Told, AllocError>
+    file: Option<&str>,
+    mut client: Client,
+) -> Result<ToldSimulation, AllocError>
 where
     R: AllocGlobal + Clock + Eprint,
-    ensures { IfOk result (λ told.
-        specs.ShowsAgainst client.old rules serving (string_bytes told.lines)) }
+    ensures { IfOk result (specs.ShowsAgainst client rules serving (option_copied file.entry)) }
 {
-    let mut progress = Progress::new(rt);
-    let next = Simulated::of(rt.alloc(), rules, client, &mut progress)?;
-    let now = Simulated::of(rt.alloc(), serving, client, &mut progress)?;
-    let mut lines = String::new(rt.alloc());
-    push_shares(&mut lines, &next)?;
-    push_moves(rt.alloc(), &mut lines, &now, &next)?;
-    Ok(Told { lines, next })
+    let mut progress = ProgressLines::new(rt);
+    let next = Simulated::of(rt.alloc(), rules, &mut client, &mut progress)?;
+    let now = Simulated::of(rt.alloc(), serving, &mut client, &mut progress)?;
+    let mut text = String::new(rt.alloc());
+    push_shares(&mut text, &next)?;
+    push_moves(rt.alloc(), &mut text, &now, &next)?;
+    let picture = picture_if(rt.alloc(), file, &next)?;
+    Ok(ToldSimulation { text, picture })
+}
+
+// The picture of a simulation, where a file is named for one.
+fn picture_if(
+    alloc: Global,
+    file: Option<&str>,
+    simulated: &Simulated,
+) -> Result<Option<String>, AllocError>
+    ensures { IfOk result (λ picture. option_map string_bytes picture
+        ≡ specs.picture_if (option_copied file.entry) simulated.now) }
+{
+    match file {
+        Some(_) => Ok(Some(draw(alloc, simulated)?)),
+        None => Ok(None),
+    }
 }

@@ -12,9 +12,10 @@ returns g c = record {
   now = c.in_ok-now.now;
   served = record {
     apps_are = c.in_ok-now.ensures.apps;
-    asked = simulated_alike c.args.client.now c.of.new.client c.args.serving.apps
+    asked = simulated_alike c.args.client c.of.new.client c.args.serving.apps
         c.in_ok-now.now.chosen c.of.ensures.client c.in_ok-now.ensures.chosen;
   };
-  text_is = rw (c.in_ok-push_moves.ensures, c.in_ok-push_shares.ensures, c.new-lines.ensures.bytes)
+  text_is = rw (c.in_ok-push_moves.ensures, c.in_ok-push_shares.ensures, c.new-text.ensures.bytes)
       refl;
+  picture_is = c.in_ok-picture.ensures;
 }
