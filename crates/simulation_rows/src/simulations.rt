@@ -1,32 +1,31 @@
 //! Simulations: how many buckets get the release, and how many move when the program changes.
 
-use crate::given::{client, rules_over, shape_of_quota};
-use cells::Shape;
-use simulation::ruleset::Ruleset;
-use simulation::{Choices, Onlooker, count_buckets, count_moves, simulate};
+use crate::given::{NobodyLooks, client, rules_of, rules_over};
+use charts::ruleset::Ruleset;
+use charts::simulation::{Choices, count_buckets, count_moves, simulate};
 use std::alloc::{AllocError, Global};
 use std::test::Fail;
 
-const SALT_7: &str =
-    "lddw r1, 7\ncall 4\nmov r6, r0\nmov r0, 0\njge r6, 2500, +1\nmov r0, 1\nexit\n";
+const SALT_7: &str = "x | 1 | lddw r1, 7 / call 4 / mov r6, r0 / mov r0, 0 / \
+jge r6, 2500, +1 / mov r0, 1 / exit";
 
-const SALT_8: &str =
-    "lddw r1, 8\ncall 4\nmov r6, r0\nmov r0, 0\njge r6, 2500, +1\nmov r0, 1\nexit\n";
+const SALT_8: &str = "x | 1 | lddw r1, 8 / call 4 / mov r6, r0 / mov r0, 0 / \
+jge r6, 2500, +1 / mov r0, 1 / exit";
 
-/// A program, the quota of q[0], and how many buckets get none and how many the release. Of a quota
+/// A ruleset, the quota of q[0], and how many buckets get none and how many the release. Of a quota
 /// it is those that ask first; of a salt those whose hash with it is below 2500; and each client
 /// has a cohort that names its bucket.
 const SHARES: &[(&str, u32, u32, u32)] = &[
     (
-        "ldcell r6, 0, 0\nmov r2, 1\nfadddw [r6+0], r2\njge r2, 2, +2
-mov r0, 1\nexit\nmov r0, 0\nexit\n",
+        "x | 1 | ldcell r6, 0, 0 / mov r2, 1 / fadddw [r6+0], r2 / jge r2, 2, +2 / \
+mov r0, 1 / exit / mov r0, 0 / exit",
         2,
         9998,
         2,
     ),
     (
-        "ldcell r6, 0, 0\nmov r2, 1\nfadddw [r6+0], r2\njge r2, 126, +2
-mov r0, 1\nexit\nmov r0, 0\nexit\n",
+        "x | 1 | ldcell r6, 0, 0 / mov r2, 1 / fadddw [r6+0], r2 / jge r2, 126, +2 / \
+mov r0, 1 / exit / mov r0, 0 / exit",
         126,
         9874,
         126,
@@ -34,18 +33,13 @@ mov r0, 1\nexit\nmov r0, 0\nexit\n",
     (SALT_7, 1, 7556, 2444),
     (SALT_8, 1, 7514, 2486),
     (
-        "ldxb r2, [r1+18]\nand r2, 16\nmov r0, 0\njeq r2, 0, +1\nmov r0, 1\nexit\n",
+        "x | 1 | ldxb r2, [r1+18] / and r2, 16 / mov r0, 0 / jeq r2, 0, +1 / \
+mov r0, 1 / exit",
         1,
         0,
         10000,
     ),
 ];
-
-struct NobodyLooks;
-
-impl Onlooker for NobodyLooks {
-    fn asked(&mut self, _done: usize, _all: usize) {}
-}
 
 fn chosen(alloc: Global, rules: &Ruleset) -> Result<Vec<Choices>, AllocError> {
     let mut client = client(alloc)?;
@@ -54,7 +48,7 @@ fn chosen(alloc: Global, rules: &Ruleset) -> Result<Vec<Choices>, AllocError> {
 
 // How many buckets get none, and how many the release, of the app x.
 fn shares(alloc: Global, text: &str, quota: u32) -> Result<(u32, u32), Fail> {
-    let rules = rules_over(alloc, text, &shape_of_quota(alloc, quota)?)?;
+    let rules = rules_over(alloc, text, quota)?;
     match chosen(alloc, &rules)?.first() {
         Some(choices) => {
             let counts = count_buckets(choices);
@@ -84,7 +78,7 @@ fn moves(alloc: Global, now: &[Choices], next: &[Choices]) -> Result<[u32; 4], F
 }
 
 fn chosen_by(alloc: Global, text: &str) -> Result<Vec<Choices>, Fail> {
-    let rules = rules_over(alloc, text, &Shape::plain(alloc, 1))?;
+    let rules = rules_of(alloc, text)?;
     Ok(chosen(alloc, &rules)?)
 }
 

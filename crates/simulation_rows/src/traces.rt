@@ -1,6 +1,6 @@
 //! Traces of programs.
 
-use crate::given::{attributes, program_of, shape_of_quota};
+use crate::given::{attributes, program_of, shape_of};
 use std::alloc::Global;
 use std::test::Fail;
 use tracing::{TracedRun, trace};
@@ -59,7 +59,7 @@ choice 0 after 4
 ];
 
 fn traced(alloc: Global, text: &str) -> Result<TracedRun, Fail> {
-    let program = program_of(alloc, text, &shape_of_quota(alloc, 2)?)?;
+    let program = program_of(alloc, text, &shape_of(alloc, 1, 2)?)?;
     Ok(trace(alloc, &program, attributes(alloc)?)?)
 }
 
