@@ -54,17 +54,34 @@ app x            now        next       buckets
     ),
 ];
 
-/// Words, and why they are refused.
+/// Words, and why they are refused: wrong words first, then the manifest, that of `--against`, and
+/// at last a file that can't be written.
 const REFUSALS: &str = "rollout simulate -> usage
 rollout simulate z_7.toml z_8.toml -> usage
 rollout simulate z_7.toml --bucket 1 -> usage
-rollout simulate z_7.toml --attr appid=x -> usage
-rollout simulate z_7.toml --attr cohort=b:0042 -> usage
 rollout simulate z_7.toml --against -> usage
-rollout simulate z_no.toml --against z_no.toml -> refused B3 File
+rollout simulate z_no.toml --svg z_no.toml -> usage
+rollout simulate z_no.toml --against z_8.toml --svg z_8.toml -> usage
+rollout simulate z_no.toml -> refused B3 File
+rollout simulate z_gone.bin --against z_no.toml -> refused M1 Toml
+rollout simulate z_gone.bin --svg z_no/z.svg -> refused M1 Toml
 rollout simulate z_7.toml --against z_no.toml -> refused B3 File in --against
 rollout simulate z_7.toml --against z_gone.bin -> refused M1 Toml in --against
-rollout simulate z_7.toml --svg z_no/z.svg -> refused B3 File";
+rollout simulate z_7.toml --against z_gone.bin --svg z_no/z.svg -> refused M1 Toml in --against
+rollout simulate z_none.toml -> refused M4 File in app 1
+rollout simulate z_7.toml --svg z_no/z.svg -> refused B3 File
+rollout simulate z_7.toml --against z_7.toml --svg z_no/z.svg -> refused B3 File";
+
+/// Words that the grammar takes and that ask for nothing, and a part of what they are told.
+const MISFITS: &str = "rollout simulate z_7.toml --attr appid=x -> no appid and no cohort
+rollout simulate z_7.toml --attr cohort=b:0042 -> no appid and no cohort
+rollout simulate z_7.toml --attr cohort=x --svg z_7.toml -> no appid and no cohort
+rollout simulate z_7.toml --attr colour=red -> '--attr' wants NAME=TEXT
+rollout simulate z_7.toml --attr appid=x --attr appid=y -> '--attr' wants NAME=TEXT
+rollout simulate z_7.toml --today 2919383 --attr appid=x -> '--today' wants a day
+rollout simulate z_7.toml --installed x --svg z_7.toml -> '--installed' wants a day
+rollout simulate z_7.toml --svg z_7.toml -> '--svg' names a manifest
+rollout simulate z_7.toml --against z_8.toml --svg z_8.toml -> '--svg' names a manifest";
 
 const RELEASE: &str = "
 [[app.release]]
@@ -97,6 +114,8 @@ fn write_all<R: Files + AllocGlobal>(rt: &R) -> Result<(), Fail> {
     write_program(rt, "z_gone.bin", "mov r0, 0 / exit")?;
     let gone = "server = \"\"\napp = [{ appid = \"y\", program = \"z_gone.bin\" }]\n";
     fs::write(rt, "z_gone.toml", gone.as_bytes())?;
+    let none = "server = \"\"\napp = [{ appid = \"y\", program = \"z_none.bin\" }]\n";
+    fs::write(rt, "z_none.toml", none.as_bytes())?;
     Ok(())
 }
 
@@ -111,6 +130,18 @@ fn simulations(rt: HostRuntime) -> Result<(), Fail> {
     for row in REFUSALS.lines() {
         let (words, line) = row.split_once(" -> ").unwrap_or((row, ""));
         prints(&rt, words, line)?;
+    }
+    Ok(())
+}
+
+/// What is wrong with words is named.
+#[test]
+fn misfits(rt: HostRuntime) -> Result<(), Fail> {
+    for row in MISFITS.lines() {
+        let (words, named) = row.split_once(" -> ").unwrap_or((row, ""));
+        let told = told(&rt, words)?;
+        let right = told.status == 2 && told.out.is_empty() && told.err.contains(named);
+        assert!(rt; right, "{words}: {}", told.err);
     }
     Ok(())
 }

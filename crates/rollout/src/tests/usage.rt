@@ -66,13 +66,22 @@ fn words(rt: HostRuntime) -> Result<(), Fail> {
 /// Pages of help, and what they name.
 const PAGES: &str = "rollout --help -> verify
 rollout --help -> base32, base64, divmul32, divmul64, atomic32
-rollout order --help -> <IN> <OUT>
+rollout asm --help -> <IN> <OUT>
+rollout compile --help -> --releases <N>
 rollout explain --help -> --arrays
-rollout run --help -> --bucket
+rollout list --help -> <IN>
+rollout order --help -> <IN> <OUT>
 rollout verify --help -> name:width:length
+rollout run --help -> --bucket
 rollout check --help -> MANIFEST
 rollout replay --help -> start 0 agent 4998 -
+rollout replay --help -> step 0 8
 rollout simulate --help -> --against <MANIFEST>
+rollout simulate --help -> --svg <FILE>
+rollout serve --help -> --workers <N>
+rollout load --help -> <PATH>
+rollout show --help -> --operator <P>
+rollout cells --help -> --operator <P>
 rollout stop --help -> --wait";
 
 /// Help is status 0 and names what there is.
