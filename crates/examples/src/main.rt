@@ -1,10 +1,12 @@
 //! The programs under `examples/`, each assembled, verified and run for the apps of a table, one of
-//! them explained, the rules, and the server's example. What is printed is compared with the file
-//! `stdout`, whose choices and counts were worked out by hand.
+//! them explained, the rules, the server's example, and simulations. What is printed is compared with
+//! the file `stdout`, whose choices and counts were worked out by hand, and those of simulations by
+//! another program, which hashes the buckets.
 #![tactic(auto)]
 
 mod explained;
 mod rules;
+mod simulated;
 mod staged;
 
 ghost use Rattle.std.specs.Prelude.{◌<◌};
@@ -88,5 +90,6 @@ fn main(rt: HostRuntime) -> Result<()> {
     }
     explained::tell_known(&rt)?;
     rules::ask_all(&rt)?;
-    staged::tell_all(&rt)
+    staged::tell_all(&rt)?;
+    simulated::simulate_all(&rt)
 }
