@@ -7,7 +7,7 @@ from asking import Server, app, array, manifest, post, request, whole, without_m
 from refusing import Wrong, told
 
 PATIENCE = 60
-LINE = re.compile(r"refused ([A-Z]\d+ Memory)\n")
+LINE = re.compile(r"refused ([A-Z]\d+ Memory(?: in --against)?)\n")
 # Bytes that stand in an OUT before a command.
 BEFORE = b"as it was"
 
@@ -36,8 +36,11 @@ COMMANDS = {
     "verify, with arrays": ["verify", "take.bin", "--releases", "1", "--arrays", "q:64:1:9,n:64:2"],
     "compile": ["compile", "take.rule", "OUT", "--releases", "1", "--arrays", "q:64:1:9,n:64:2"],
     "run": ["run", "take.bin", "--releases", "1", "--arrays", "q:64:1:9,n:64:2", "--version", "1"],
+    "order": ["order", "a.bin", "OUT"],
+    "explain": ["explain", "a.bin", "--releases", "1"],
     "check": ["check", "next.toml"],
     "replay": ["replay", "first.toml", "script.txt"],
+    "simulate": ["simulate", "next.toml", "--against", "first.toml", "--svg", "OUT"],
 }
 
 
