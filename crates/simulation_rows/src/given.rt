@@ -16,6 +16,7 @@ use std::test::Fail;
 const HASH: &str = "ba7816bf8f01cfea414140de5dae2223b00361a396177a9cb410ff61f20015ad";
 
 /// An onlooker that nothing is seen of.
+#[derive(Drop)]
 pub(crate) struct NobodyLooks;
 
 impl Onlooker for NobodyLooks {
