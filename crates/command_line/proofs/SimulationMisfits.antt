@@ -1,16 +1,15 @@
--- Words of `simulate` that have a misfit ask for nothing, and those that have none ask for no other.
-use Rattle.std.proofs.Common.{◌∙◌, refl, sym, ap, inl, inr, true, false, List, codes}
-use Rattle.std.specs.Prelude.{◌≡◌, ◌≢◌, IsNone, IsSome, Option, Some, None}
+-- Words of `simulate` that have a misfit ask for nothing.
+use Rattle.std.proofs.Common.{◌∙◌, sym, ap, inl, inr, true, false, List, codes}
+use Rattle.std.specs.Prelude.{◌≡◌, IsNone, IsSome, Option, Some, None}
 use Rattle.std.specs.Prelude.{is_some, option_copied}
 use Rattle.clap.specs.Words.{Row, Text, first_of}
 use Rattle.command_line.specs.AppOptions.{IsAnyones, TellsOneClient, given, value_in}
-use Rattle.command_line.specs.Misfits.{IsAnyMisfit, IsMisfit, IsSimulationMisfit}
+use Rattle.command_line.specs.Misfits.{IsSimulationMisfit}
 use Rattle.command_line.specs.Words.{AsksToSimulate, VerbAsksNothing}
 use Rattle.command_line.specs.declared.option_misfit.OptionMisfit.{OptionMisfit}
 use Rattle.command_line.specs.declared.option_misfit.OptionMisfit.TheVariants as misfit
 use Rattle.command_line.specs.declared.request.AskedSimulation.{AskedSimulation}
 use Rattle.command_line.specs.declared.told.ToldApp.{ToldApp}
-use Rattle.command_line.specs.declared.verb.Verb.{Verb}
 use Rattle.command_line.specs.declared.verb.Verb.TheVariants as verb
 use Rattle.command_line.proofs.Asking.{simulates_nothing}
 use Rattle.command_line.proofs.Lacking.{no_today, not_installed}
@@ -46,8 +45,3 @@ pub misfit_asks_nothing : (rows : List Row) (m : OptionMisfit) → IsSimulationM
     → VerbAsksNothing (Some verb.Simulate) rows
 misfit_asks_nothing rows m lacks =
     simulates_nothing rows (λ asked asks. not_simulated rows m asked lacks asks)
-
-pub of_another : (v : Option Verb) (rows : List Row) (m : OptionMisfit)
-    → v ≢ Some verb.Simulate → IsAnyMisfit rows m → IsMisfit v rows m
-of_another (Some verb.Simulate) rows m other is = absurd (other refl)
-of_another v rows m other is = is

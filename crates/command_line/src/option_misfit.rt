@@ -62,7 +62,7 @@ fn simulation_misfit(found: &ArgMatches<'_>) -> OptionMisfit
     ensures { IsSimulationMisfit (rows_of (found_of found.now)) result }
 {
     match simulation_of(found) {
-        Ok(_) => unreachable!(),
+        Ok(_asked) => unreachable!(),
         Err(misfit) => misfit,
     }
 }
