@@ -87,7 +87,7 @@ def wrong_stages(day):
     raising, moves = blocks("OPERATING.md", "Raising a stage")
     [placing] = blocks("OPERATING.md", "Putting a manifest in place")
     [halting] = blocks("OPERATING.md", "Halting a release")
-    ask = blocks("OPERATING.md", "What is being served")[0]
+    ask, buckets, _ = blocks("OPERATING.md", "What is being served")
     if NOTHING not in (said := day.run(ask)):
         return f"before: {said}"
     if not (said := day.run(raising)).startswith(CHECKED) or not said.endswith(moves):
@@ -100,6 +100,8 @@ def wrong_stages(day):
         return f"halting: {said}"
     if NOTHING not in (said := day.run(ask)):
         return f"after a halt: {said}"
+    if (said := day.run(buckets)).split()[:4] != ["0", "1", "2", "6"]:
+        return f"buckets: {said}"
 
 
 def wrong_events(day):
