@@ -2,11 +2,16 @@
 use Rattle.std.proofs.Common.{◌≡◌, ◌∙◌, sym, subst, ℕ, List, Option, Some, None}
 use Rattle.std.specs.Borrow.{Bor}
 use Rattle.std.specs.Option.{option_copied}
-use Rattle.std.specs.Prelude.{IsSomeAnd}
+use Rattle.std.specs.Prelude.{IsSomeAnd, OnErr, Result, Ok, Err}
 use Rattle.clap.specs.Words.{Row, Text}
 use Rattle.command_line.specs.AppOptions.{IsInstallDay, IsPlaceBeside, IsToday}
 use Rattle.command_line.specs.AppOptions.{LacksInstalled, LacksToday}
 use Rattle.command_line.specs.Values.{HasBucket, LacksBucket}
+
+-- what holds of a refusal, holds of it however it is answered
+pub on_any_error : {T E : Type 0} (P : Type 0) (r : Result T E) → P → OnErr r P
+on_any_error P (Ok x) p = tt
+on_any_error P (Err e) p = p
 
 pub no_today : (text : Option Text) (day : ℕ) → LacksToday text → IsToday text day → ⊥
 no_today None day lacks is = lacks

@@ -1,14 +1,17 @@
 -- What clap's clauses of a parse say of the words.
-use Rattle.std.proofs.Common.{◌≡◌, ◌∙◌, sym, subst, ap, refl, inl, inr, List, Option}
+use Rattle.std.proofs.Common.{◌≡◌, ◌∙◌, sym, subst, ap, refl, inl, inr, List, Option, Some, None}
 use Rattle.std.proofs.Common.{true}
-use Rattle.std.specs.Prelude.{◌≢◌}
+use Rattle.std.specs.Box.{box_value}
+use Rattle.std.specs.Prelude.{◌≢◌, option_map}
 use Rattle.clap.specs.declared.error.Error.{Error}
 use Rattle.clap.specs.declared.error.kind.ErrorKind.{ErrorKind}
 use Rattle.clap.specs.declared.error.kind.ErrorKind.TheVariants.{DisplayHelp, OutOfMemory}
 use Rattle.clap.specs.declared.parser.matches.ArgMatches.{ArgMatches}
+use Rattle.clap.specs.declared.parser.matches.ArgMatches.TheViews.{out-ArgMatches, out-SubCommand}
 use Rattle.clap.specs.Kinds.{HasKind, IsAmong}
+use Rattle.clap.specs.Matches.{subcommand_name_of}
 use Rattle.clap.specs.Words.{Text, App, Row, HasMatchesOf, fault_of, is_simple, is_simple_and_free}
-use Rattle.clap.specs.Words.{kind_of, subcommand_of, subcommand_rows_of}
+use Rattle.clap.specs.Words.{found_of, kind_of, rows_of, subcommand_of, subcommand_rows_of}
 use Rattle.command_line.specs.declared.request.CommandRequest.{CommandRequest}
 use Rattle.command_line.specs.Grammar.{commands}
 use Rattle.command_line.specs.Requests.{AskFor, AskForHelp, AskForNothing, TellsFault}
@@ -62,3 +65,19 @@ pub asks_for_nothing : (words : List Text) (m : ArgMatches)
 asks_for_nothing words m is nothing = record {
   nothing = subst (λ (r : Option (Text × List Row)). IsNothingAsked r) is nothing;
 }
+
+-- an option of which both halves are known
+both_are : {B X Y : Type 0} (sub : Option B) (f : B → X) (g : B → Y) (x : X) (y : Y)
+    → Some x ≡ option_map f sub
+    → Some y ≡ option_map (λ (p : X × Y). p.1) (option_map {U = X × Y} (λ b. (f b, g b)) sub)
+    → option_map {U = X × Y} (λ b. (f b, g b)) sub ≡ Some (x, y)
+both_are None f g x y first second = cc
+both_are (Some b) f g x y first second = cc
+
+pub subcommand_is : (m : ArgMatches) (name : Text) (rows : List Row)
+    → Some name ≡ subcommand_name_of m
+    → Some rows ≡ option_map (λ (p : Text × List Row). p.1) (subcommand_rows_of m)
+    → subcommand_rows_of m ≡ Some (name, rows)
+subcommand_is m name rows named has =
+    both_are (out-ArgMatches m).subcommand (λ b. (out-SubCommand (box_value b)).name.now)
+    (λ b. rows_of (found_of (out-SubCommand (box_value b)).matches)) name rows named has

@@ -1,0 +1,13 @@
+use Rattle.std.proofs.Common.{◌≡◌, ◌∙◌, ap, subst, Option, Some}
+use Rattle.clap.specs.Words.{found_of, rows_of}
+use Rattle.command_line.specs.Words.{VerbAsksNothing}
+use Rattle.command_line.specs.declared.verb.Verb.{Verb}
+use Rattle.command_line.specs.declared.verb.Verb.TheVariants.{Simulate}
+use Rattle.command_line.proofs.option_misfit.misfit_among.Goals as goal
+
+pub simulation_misfit-requires : goal.simulation_misfit-requires
+simulation_misfit-requires c =
+    let own : c.in-Some-Simulate.field-0 ≡ Simulate =
+    rw c.in-Some-Simulate.is at c.in-Some-Simulate.field-0-is in
+    subst (λ (v : Option Verb). VerbAsksNothing v (rows_of (found_of c.args.found.now)))
+    (c.in-Some-Simulate.is ∙ ap (λ (v : Verb). Some v) own) c.requires
