@@ -17,39 +17,65 @@ const RELEASES: &str = "2.0.4 https://dl.example/, 3.0.0 https://dl.example/";
 const ROWS: &str = r#"
 - when version < 2.0.4 offer 1; / when version < 3.0.0 and bucket < 500 offer 2; / otherwise none;
 - when version < 2.0.4 offer 1; / otherwise none;
-warning: app[1].release[2]: no bucket gets it, at a release's version or at none
+warning: app[1].release[2]: no bucket gets it
+- when version < 3.0.0 offer 2; / otherwise none;
 - when bucket < 500 offer 1; / when version < 3.0.0 offer 2; / otherwise none;
-warning: app[1].release[1].version: in some bucket who has it gets it again, or a lower one, with no other attributes
-warning: app[1].release[2].version: in some bucket who has it gets it again, or a lower one, with no other attributes
+warning: app[1].release[1].version: in some bucket who has it may get it again
+warning: app[1].release[2].version: in some bucket who has it may get a lower one
+- when bucket < 5 offer 1; / when bucket < 10 offer 2; / otherwise none;
+warning: app[1].release[1].version: in some bucket who has it may get it again
+warning: app[1].release[2].version: in some bucket who has it may get it again
+warning: app[1].release[2].version: in some bucket who has it may get a lower one
 - when version < 2.0.4 offer 2; / when version == 2.0.4 and bucket == 9999 offer 1; / otherwise none;
-warning: app[1].release[1].version: in some bucket who has it gets it again, or a lower one, with no other attributes
+warning: app[1].release[1].version: in some bucket who has it may get it again
 - when version < 4 offer 2; / # never so far / when version < 2.0.4 offer 1; / otherwise none;
-warning: app[1].rule: line 3: this when is never reached, in any bucket, at a release's version or at none
-warning: app[1].release[1]: no bucket gets it, at a release's version or at none
-warning: app[1].release[2].version: in some bucket who has it gets it again, or a lower one, with no other attributes
+warning: app[1].rule: line 3: this when never holds
+warning: app[1].release[2].version: in some bucket who has it may get it again
+- when version < 2 or version >= 2 offer 1; / when bucket < 5 offer 2; / otherwise none;
+warning: app[1].rule: line 2: this when is never reached
+warning: app[1].release[1].version: in some bucket who has it may get it again
+warning: app[1].release[2]: no bucket gets it
+warning: app[1].release[2].version: in some bucket who has it may get a lower one
+- when version < 2 offer 1; / when version < 1 offer 2; / otherwise none;
+warning: app[1].rule: line 2: this when never holds
+warning: app[1].release[2]: no bucket gets it
+- when version >= 1 and version < 2 offer 2; / otherwise none;
+- when version > 1 and version < 2 offer 2; / otherwise none;
+- when version == 1.2.3 offer 2; / otherwise none;
+- when version < 1 and version != 0 offer 2; / otherwise none;
+- when version > 3.0.0 offer 2; / otherwise none;
+- when version < 0 offer 2; / otherwise none;
+warning: app[1].rule: line 1: this when never holds
+warning: app[1].release[1]: no bucket gets it
+warning: app[1].release[2]: no bucket gets it
 - when bucket >= 10000 offer 1; / when version < 3.0.0 offer 2; / otherwise none;
-warning: app[1].rule: line 1: this when never holds where it is reached, in any bucket, at a release's version or at none
-warning: app[1].release[1]: no bucket gets it, at a release's version or at none
+warning: app[1].rule: line 1: this when never holds
 - when version < 2.0.4 and bucket mod 4 == 3 offer 1; / when version < 3.0.0 and bucket mod 4 == 4 offer 2; / otherwise none;
-warning: app[1].rule: line 2: this when never holds where it is reached, in any bucket, at a release's version or at none
-warning: app[1].release[2]: no bucket gets it, at a release's version or at none
+warning: app[1].rule: line 2: this when never holds
+warning: app[1].release[2]: no bucket gets it
 - when today < 0 offer 1; / when installed > 4294967295 offer 2; / otherwise none;
-warning: app[1].rule: line 1: this when never holds where it is reached, in any bucket, at a release's version or at none
-warning: app[1].rule: line 2: this when never holds where it is reached, in any bucket, at a release's version or at none
-warning: app[1].release[1]: no bucket gets it, at a release's version or at none
-warning: app[1].release[2]: no bucket gets it, at a release's version or at none
+warning: app[1].rule: line 1: this when never holds
+warning: app[1].rule: line 2: this when never holds
+warning: app[1].release[1]: no bucket gets it
+warning: app[1].release[2]: no bucket gets it
+- when today > 2919382 offer 1; / when today == 2919383 offer 2; / otherwise none;
+warning: app[1].rule: line 1: this when never holds
+warning: app[1].rule: line 2: this when never holds
+warning: app[1].release[1]: no bucket gets it
+warning: app[1].release[2]: no bucket gets it
+- when version < 2.0.4 and today == 2919382 offer 1; / when version < 3.0.0 and installed == 4294967295 offer 2; / otherwise none;
 - when version < 2.0.4 and today >= 7273 offer 1; / when version < 3.0.0 and attr ap is "canary" and not flag ping offer 2; / otherwise none;
 - when version < 2.0.4 or not today >= 0 offer 1; / when not version >= 3 and installed != 7 offer 2; / otherwise none;
 - when version == 3.0.0 or version < 2.0.4 offer 1; / otherwise none;
-warning: app[1].release[2]: no bucket gets it, at a release's version or at none
-warning: app[1].release[2].version: in some bucket who has it gets it again, or a lower one, with no other attributes
+warning: app[1].release[2]: no bucket gets it
+warning: app[1].release[2].version: in some bucket who has it may get a lower one
 - count n[0]; / when version < 3.0.0 and take(q, 0) offer 2; / when version < 2.0.4 offer 1; / otherwise none;
 - when take(q, 0) offer 2; / when version < 2.0.4 offer 1; / otherwise none;
-warning: app[1].release[2].version: in some bucket who has it gets it again, or a lower one, with no other attributes
+warning: app[1].release[2].version: in some bucket who has it may get it again
 - when flag ping offer 1; / when version < 3.0.0 and flag updatecheck offer 2; / otherwise none;
 - otherwise none;
-warning: app[1].release[1]: no bucket gets it, at a release's version or at none
-warning: app[1].release[2]: no bucket gets it, at a release's version or at none
+warning: app[1].release[1]: no bucket gets it
+warning: app[1].release[2]: no bucket gets it
 "#;
 
 /// The rule of a text. It has no clauses, so that no proof reads the texts of a test.
@@ -100,17 +126,18 @@ fn room_of(alloc: Global, room: u64) -> Result<(), Fail> {
     let rule = "when version < 2.0.4 and bucket < 500 offer 1;\notherwise none;\n";
     let (told, left) = told(alloc, rule, room)?;
     let told = format!(in alloc; "{left}: {told}")?;
-    let want = if room < 9 {
-        "8: warning: app[1].rule: not asked which releases it gives, since that would take long"
+    let want = if room < 15 {
+        "14: warning: app[1].rule: not asked which releases it gives, since that would take long"
     } else {
-        "1: warning: app[1].release[2]: no bucket gets it, at a release's version or at none"
+        "1: warning: app[1].release[2]: no bucket gets it"
     };
     must(rule, told.as_str(), want)
 }
 
-/// Three steps are asked at three versions, so they take room for 9.
+/// Three steps are asked at 0, at 2.0.4 and just above, and for who has each of two releases: that
+/// takes room for 15.
 #[test]
 fn room(rt: HostRuntime) -> Result<(), Fail> {
-    room_of(rt.alloc(), 8)?;
-    room_of(rt.alloc(), 10)
+    room_of(rt.alloc(), 14)?;
+    room_of(rt.alloc(), 16)
 }

@@ -18,7 +18,7 @@ use Rattle.load.specs.manifest.App.{AppEntry}
 use Rattle.load.specs.manifest.declared.app.ProgramSource.{ProgramSource}
 use Rattle.load.specs.manifest.declared.app.ProgramSource.TheVariants.{Program, Rule}
 use Rattle.load.specs.rulesets.Rules.{AppRule}
-use Rattle.diagnosis.specs.Asked.{AddsApp, AddsFile, AddsSource, IsCounted}
+use Rattle.diagnosis.specs.Asked.{AddsApp, AddsFile, AddsSource, CountsUnread}
 use Rattle.diagnosis.specs.Warned.{AsksApp, AsksFile, Room, WarnsOfApp, WarnsOfApps, app_rule}
 use Rattle.diagnosis.specs.Asked.AddsFile.{no_rule as adds_none, a_rule as adds_rule}
 use Rattle.diagnosis.specs.Warned.AsksFile.{unread, no_rule, a_rule}
@@ -176,12 +176,12 @@ more_told was known number room left all_entries entries entry all_apps apps app
 
 pub counted_on : (known : KnownFiles) (number : ℕ) (room left : Room) (entry : AppEntry)
     (app : AppRule) (old new : List ℕ) (first now later : ℕ) → ForSome room (λ _. now ≡ first)
-    → IsCounted now later left → AddsApp known number room entry app old new left
+    → CountsUnread now later left → AddsApp known number room entry app old new left
     → ForSome left (λ _. later ≡ first)
 counted_on known number None left entry app old new first now later before count added = λ x is.
     let none = added.warns.asks.1 in absurd cc
 counted_on known number (Some room) left entry app old new first now later before count added =
-    λ x is. subst (IsCounted now later) is count ∙ before room refl
+    λ x is. subst (CountsUnread now later) is count ∙ before room refl
 
 -- ---- all
 

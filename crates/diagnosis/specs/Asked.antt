@@ -10,9 +10,9 @@ use Rattle.diagnosis.specs.Warned.{AsksApp, Room, WarnsOfApp, app_rule}
 use Rattle.warnings.specs.Asked.{room_left, rule_text}
 
 -- a file that wasn't to be read is counted
-abbrev pub IsCounted : (old new : ℕ) → Room → Type 0
-IsCounted old new (Some left) = new ≡ old
-IsCounted old new None = Unit {0}
+abbrev pub CountsUnread : (old new : ℕ) → Room → Type 0
+CountsUnread old new (Some left) = new ≡ old
+CountsUnread old new None = Unit {0}
 
 pub record AddsApp (known : KnownFiles) (number : ℕ) (room : Room) (entry : AppEntry)
     (app : AppRule) (old new : List ℕ) (left : Room) : Type 0 where

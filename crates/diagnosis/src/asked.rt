@@ -2,7 +2,7 @@
 
 ghost use Rattle.std.specs.Prelude.{◌≡◌, ◌^◌, ◌-◌, ◌<◌, ◌++◌, Some, IfOk, string_bytes};
 ghost use Rattle.std.specs.Option.{ForSome};
-ghost use Rattle.diagnosis.specs.Asked.{AddsApp, AddsFile, AddsSource, IsCounted};
+ghost use Rattle.diagnosis.specs.Asked.{AddsApp, AddsFile, AddsSource, CountsUnread};
 
 use load::Files;
 use load::acceptance::bpf_verify::Verified;
@@ -27,7 +27,7 @@ pub(crate) fn tell_app<F: Files>(
 ) -> Result<Option<u64>, AllocError>
     requires { ForSome room (λ _. F.failed files.old < 2 ^ 64 - 1) }
     ensures known { F.known files.new ≡ F.known files.old }
-    ensures count { IfOk result (IsCounted (F.failed files.old) (F.failed files.new)) }
+    ensures count { IfOk result (CountsUnread (F.failed files.old) (F.failed files.new)) }
     ensures adds { IfOk result (AddsApp (F.known files.old) number room entry.now app.now
         (string_bytes text.old) (string_bytes text.new)) }
 {
@@ -52,7 +52,7 @@ fn tell_source<F: Files>(
 ) -> Result<Option<u64>, AllocError>
     requires { F.failed files.old < 2 ^ 64 - 1 }
     ensures known { F.known files.new ≡ F.known files.old }
-    ensures count { IfOk result (IsCounted (F.failed files.old) (F.failed files.new)) }
+    ensures count { IfOk result (CountsUnread (F.failed files.old) (F.failed files.new)) }
     ensures adds { IfOk result (AddsSource (F.known files.old) number room source.now app.now
         (string_bytes text.old) (string_bytes text.new)) }
 {

@@ -1,13 +1,9 @@
 -- Whether something holds of some number below another, and of the app of some bucket.
 use Rattle.std.proofs.Common.{◌≡◌, ℕ, zero, suc, ◌+◌, ◌<◌, List, Bool, true, false, ◌||◌}
 use Rattle.std.proofs.Common.{Option, refl, sym, ap, ◌∙◌, subst, arith, inl, inr, add-one}
-use Rattle.std.proofs.lemmas.Bool.{cases_lt}
+use Rattle.std.proofs.lemmas.Bool.{cases_Bool, cases_lt, or_right}
 use Rattle.releases.specs.attrs.Attributes.{Attributes, plain}
 use Rattle.warnings.specs.Asking.{RuleOfApp, any_below, in_some_bucket}
-
-or_true : (b c : Bool) → c ≡ true → (b || c) ≡ true
-or_true true c e = refl
-or_true false c e = e
 
 -- ---- numbers
 
@@ -33,8 +29,34 @@ any_found p m (suc n) within here =
     elim (cases_lt m n) [
       | inl before ↦ ap (λ b. b || p n) (any_found p m n before here)
       | inr behind ↦ let same : m ≡ n = omega (arith, within, behind) in
-          or_true (any_below p n) (p n) (subst (λ k. p k ≡ true) same here)
+          or_right (any_below p n) (p n) (subst (λ k. p k ≡ true) same here)
     ]
+
+-- none holds
+pub none_at : (p : ℕ → Bool) (n m : ℕ) → m < n → any_below p n ≡ false → p m ≡ false
+none_at p n m within none = elim (cases_Bool (p m)) [
+  | inl holds ↦ absurd (let both = sym (any_found p m n within holds) ∙ none in cc)
+  | inr fails ↦ fails
+]
+
+-- one that holds
+pub record Witness (p : ℕ → Bool) (n : ℕ) : Type 0 where
+  pub number : ℕ
+  pub below : number < n
+  pub holds : p number ≡ true
+
+pub some_at : (p : ℕ → Bool) (n : ℕ) → any_below p n ≡ true → Witness p n
+unfolding any_below
+some_at p zero some = absurd cc
+some_at p (suc n) some = elim (cases_Bool (any_below p n)) [
+  | inl before ↦ let w = some_at p n before in
+      record { number = w.number; below = let b = w.below in omega arith; holds = w.holds }
+  | inr none ↦ record {
+    number = n;
+    below = omega arith;
+    holds = ap (λ b. b || p n) (sym none) ∙ some;
+  }
+]
 
 -- ---- buckets
 

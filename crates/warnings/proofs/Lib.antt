@@ -2,3 +2,11 @@ pub mod Found
 pub mod Stacks
 pub mod Buckets
 pub mod Told
+pub mod Later
+pub mod Versions
+pub mod Comes
+pub mod Conditions
+pub mod Courses
+pub mod Named
+pub mod Fresh
+pub mod So

@@ -7,22 +7,24 @@ use Rattle.rule_diagnosis.specs.rule_lang.declared.condition.Step.{Step}
 use Rattle.rule_diagnosis.specs.rule_lang.declared.condition.Step.TheVariants as step
 use Rattle.rule_diagnosis.specs.rule_lang.declared.rule.Statement.{Statement}
 use Rattle.rule_diagnosis.specs.rule_lang.declared.rule.Statement.TheVariants.{Count, When}
-use Rattle.warnings.specs.Asking.{RuleOfApp, in_some_bucket, someone}
-use Rattle.warnings.specs.Asking.{arrives, gives_again, may_end, may_give}
+use Rattle.rule_diagnosis.specs.rule_lang.declared.test.Comparison.{Comparison}
+use Rattle.rule_diagnosis.specs.rule_lang.declared.test.Comparison.TheVariants.{Eq, Lt}
+use Rattle.warnings.specs.declared.possible.Asker.TheVariants.{One}
+use Rattle.warnings.specs.declared.spot.Spot.{Spot}
+use Rattle.warnings.specs.Asking.{RuleOfApp, arrives, gets, in_some_bucket, may_end, may_give}
+use Rattle.warnings.specs.Asking.{someone}
 use Rattle.warnings.specs.Releases.{line_where, warned_app}
+use Rattle.warnings.specs.Spots.{spots_of}
 
 -- ---- a `when`, by the line of its first test
 
 -- no app gets to it
 unfoldable pub unreached_said : List ℕ
-unreached_said =
-    codes "this when is never reached, in any bucket, at a release's version or at none\n"
+unreached_said = codes "this when is never reached\n"
 
 -- those that get to it go on behind it
 unfoldable pub unheld_said : List ℕ
-unheld_said =
-    codes "this when never holds where it is reached, "
-    ++ codes "in any bucket, at a release's version or at none\n"
+unheld_said = codes "this when never holds\n"
 
 abbrev pub first_line : List Step → ℕ
 first_line (step.Test line t ∷ steps) = line
@@ -39,22 +41,25 @@ when_line app true reached steps = []
 when_line app false true steps = rule_line app (first_line steps) unheld_said
 when_line app false false steps = rule_line app (first_line steps) unreached_said
 
-abbrev pub statement_line : (app : ℕ) → RuleOfApp → (before : List Statement) → Statement → List ℕ
-statement_line app r before (Count name index) = []
-statement_line app r before (When steps release) =
-    when_line app (someone r (may_end r before (When steps release)))
-    (someone r (arrives r before)) steps
+abbrev pub statement_line : (app : ℕ) → RuleOfApp → List Spot → (before : List Statement)
+    → Statement → List ℕ
+statement_line app r spots before (Count name index) = []
+statement_line app r spots before (When steps release) =
+    when_line app (someone r spots (may_end r before (When steps release)))
+    (someone r spots (arrives r before)) steps
 
 -- of the statements behind these
-abbrev pub statements_from : (app : ℕ) → RuleOfApp → (before rest : List Statement) → List ℕ
-statements_from app r before [] = []
-statements_from app r before (st ∷ rest) =
-    statement_line app r before st ++ statements_from app r (before ++ st ∷ []) rest
+abbrev pub statements_from : (app : ℕ) → RuleOfApp → List Spot → (before rest : List Statement)
+    → List ℕ
+statements_from app r spots before [] = []
+statements_from app r spots before (st ∷ rest) =
+    statement_line app r spots before st ++ statements_from app r spots (before ++ st ∷ []) rest
 
 -- ---- a release
 
+-- neither it nor a later one is given
 unfoldable pub ungiven_said : List ℕ
-ungiven_said = codes "no bucket gets it, at a release's version or at none\n"
+ungiven_said = codes "no bucket gets it\n"
 
 abbrev pub of_release : ℕ → List ℕ
 of_release number = codes "release[" ++ decimal number ++ codes "]: "
@@ -63,25 +68,34 @@ abbrev pub ungiven_line : Bool → (app number : ℕ) → List ℕ
 ungiven_line true app number = []
 ungiven_line false app number = warned_app app ++ of_release number ++ ungiven_said
 
-unfoldable pub repeated_said : List ℕ
-repeated_said =
-    codes "version: in some bucket who has it gets it again, "
-    ++ codes "or a lower one, with no other attributes\n"
+unfoldable pub again_said : List ℕ
+again_said = codes "version: in some bucket who has it may get it again\n"
 
-abbrev pub release_lines : (app number : ℕ) → RuleOfApp → Release → List ℕ
-release_lines app number r release =
-    ungiven_line (someone r (may_give r number)) app number
-    ++ line_where (in_some_bucket r (gives_again r release.version) (Some release.version)) app
-    number repeated_said
+unfoldable pub lower_said : List ℕ
+lower_said = codes "version: in some bucket who has it may get a lower one\n"
 
-abbrev pub asked_from : (app number : ℕ) → RuleOfApp → List Release → List ℕ
-asked_from app number r [] = []
-asked_from app number r (release ∷ later) =
-    release_lines app number r release ++ asked_from app (number + 1) r later
+-- who has this version and says no more gets a release whose version compares so with it
+abbrev pub got_line : (app number : ℕ) → RuleOfApp → Comparison → (version : List ℕ)
+    → (said : List ℕ) → List ℕ
+got_line app number r by version said =
+    line_where (in_some_bucket r (gets r by version One) (Some version)) app number said
+
+abbrev pub release_lines : (app number : ℕ) → RuleOfApp → (given : Bool) → Release → List ℕ
+release_lines app number r given release =
+    ungiven_line given app number
+    ++ got_line app number r Eq release.version again_said
+    ++ got_line app number r Lt release.version lower_said
+
+abbrev pub asked_from : (app number : ℕ) → RuleOfApp → List Spot → List Release → List ℕ
+asked_from app number r spots [] = []
+asked_from app number r spots (release ∷ later) =
+    release_lines app number r (someone r spots (may_give r number)) release
+    ++ asked_from app (number + 1) r spots later
 
 -- ---- how much is asked
 
--- a rule takes room for each step of its conditions at each version; None where there is too little
+-- a rule takes room for each step of its conditions, wherever a version may lie and for who has
+-- each release; None where there is too little
 abbrev pub steps_of : Statement → ℕ
 steps_of (Count name index) = 0
 steps_of (When steps release) = length steps
@@ -96,7 +110,7 @@ room_behind versions room (st ∷ rest) =
     option_and_then (λ left. room_behind versions left rest) (room_behind_one versions room st)
 
 abbrev pub room_after : RuleOfApp → (room : ℕ) → Option ℕ
-room_after r room = room_behind (length r.releases + 1) room r.rule
+room_after r room = room_behind (length (spots_of r.rule) + length r.releases) room r.rule
 
 -- what all rules of a manifest have
 abbrev pub all_room : ℕ
@@ -105,7 +119,9 @@ all_room = 10000
 -- ---- the whole
 
 abbrev pub asked_text : (app : ℕ) → RuleOfApp → List ℕ
-asked_text app r = statements_from app r [] r.rule ++ asked_from app 1 r r.releases
+asked_text app r =
+    statements_from app r (spots_of r.rule) [] r.rule
+    ++ asked_from app 1 r (spots_of r.rule) r.releases
 
 -- there is too little room for it
 unfoldable pub unasked_said : List ℕ

@@ -1,5 +1,5 @@
 -- How a rule may go, statement by statement, by what its conditions may come to.
-use Rattle.std.specs.Prelude.{ℕ, List, [], ◌∷◌, Bool, false, ◌==◌, ◌&&◌, ◌||◌}
+use Rattle.std.specs.Prelude.{ℕ, List, [], ◌∷◌, Bool, false, nat_le, ◌&&◌, ◌||◌}
 use Rattle.std.specs.Prelude.{if◌then◌else◌}
 use Rattle.std.specs.List.{list_all}
 use Rattle.rule_diagnosis.specs.rule_lang.declared.rule.Statement.{Statement}
@@ -22,11 +22,11 @@ offered (When steps release) = release
 abbrev pub goes_past : (Test → Possible) → List Statement → Bool
 goes_past of before = list_all (λ st. (statement_possible of st).fails) before
 
--- one of these may end it with the release
+-- one of these may end it with this release or a later one
 abbrev pub may_offer : (Test → Possible) → List Statement → (release : ℕ) → Bool
 may_offer of [] release = false
 may_offer of (st ∷ rest) release =
-    ((statement_possible of st).holds && (offered st == release))
+    ((statement_possible of st).holds && nat_le release (offered st))
     || ((statement_possible of st).fails && may_offer of rest release)
 
 -- the release of the first that may end it, or 0

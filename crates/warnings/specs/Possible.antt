@@ -1,6 +1,6 @@
--- What a condition may come to for an app of which version and bucket are known. What else it says
--- is open, or it says nothing else and all counters are at 0.
-use Rattle.std.specs.Prelude.{ℕ, List, [], ◌∷◌, Option, Some, None, nat_lt}
+-- What a condition may come to, for all apps in a bucket whose version lies somewhere, or for one
+-- app where each counter replies 0.
+use Rattle.std.specs.Prelude.{ℕ, List, [], ◌∷◌, Option, Some, None, nat_lt, min}
 use Rattle.std.specs.Prelude.{Bool, true, false, not, ◌==◌, ◌&&◌, ◌||◌, bit_and}
 use Rattle.std.specs.Ordering.{nat_cmp}
 use Rattle.releases.specs.attrs.Attributes.{Attributes}
@@ -15,8 +15,10 @@ use Rattle.rule_diagnosis.specs.rule_lang.Meaning.{flag_bit, remainder, version_
 use Rattle.rule_diagnosis.specs.rule_lang.Shapes.{array_named, quota_of}
 use Rattle.rule_diagnosis.specs.rule_lang.Trees.{Tree, Asked, Negated, Both, Either, trees_from}
 use Rattle.warnings.specs.declared.possible.Possible.{Possible}
-use Rattle.warnings.specs.declared.possible.Rest.{Rest}
-use Rattle.warnings.specs.declared.possible.Rest.TheVariants.{Anything, Nothing}
+use Rattle.warnings.specs.declared.possible.Asker.{Asker}
+use Rattle.warnings.specs.declared.possible.Asker.TheVariants.{AllAt, One}
+use Rattle.warnings.specs.declared.spot.Spot.{Spot}
+use Rattle.warnings.specs.Spots.{spot_at, spot_cmp}
 
 -- it comes to this alone, or to either
 abbrev pub decided : Bool → Possible
@@ -27,7 +29,7 @@ undecided = record { holds = true; fails = true }
 
 -- ---- tests
 
--- whether a test holds for an app that says this, where all counters are at 0
+-- whether a test holds for an app that says this, where each counter replies 0
 abbrev pub holds_of : Attributes → AppShape → Test → Bool
 holds_of a s (test.Version r w) = allows r (version_cmp a.context.version w)
 holds_of a s (test.Bucket salt modulus r n) =
@@ -38,31 +40,38 @@ holds_of a s (test.Flag f) = not (bit_and a.context.flags (flag_bit f) == 0)
 holds_of a s (test.Attr n text) = attr_is a (attribute_number n) text == 1
 holds_of a s (test.Take name index) = nat_lt 0 (quota_of (array_named name s.arrays))
 
--- the last day that there is; one that isn't known is told as this, too
-abbrev pub last_day : ℕ
-last_day = 4294967295
+-- the last day on which a server is asked, that of 9999-12-31
+abbrev pub last_today : ℕ
+last_today = 2919382
 
--- of a day from 0 to the last one: whether it may compare so with a number, as the first day does,
--- or the number itself, or the last day
-abbrev pub day_possible : Comparison → ℕ → Possible
-day_possible r n =
-    let first = allows r (nat_cmp 0 n) in
-    let same = allows r (nat_cmp n n) in
-    let last = allows r (nat_cmp last_day n) in
-    record { holds = first || same || last; fails = not first || not same || not last }
+-- the last day of installation; one that isn't known is told as this, too
+abbrev pub last_install_day : ℕ
+last_install_day = 4294967295
 
--- the app says what else it will
-abbrev pub open_possible : Attributes → AppShape → Test → Possible
-open_possible a s (test.Version r w) = decided (holds_of a s (test.Version r w))
-open_possible a s (test.Bucket salt modulus r n) =
+-- how a day from 0 to the last one may compare with a number: as the first one does, the last one,
+-- or the number itself, if it is such a day
+abbrev pub day_possible : (last : ℕ) → Comparison → ℕ → Possible
+day_possible last r n =
+    let at_first = allows r (nat_cmp 0 n) in
+    let at_nearest = allows r (nat_cmp (min n last) n) in
+    let at_last = allows r (nat_cmp last n) in
+    record {
+      holds = at_first || at_nearest || at_last;
+      fails = not at_first || not at_nearest || not at_last;
+    }
+
+-- the version lies there, the bucket is known, and all else is open
+abbrev pub open_possible : Spot → Attributes → AppShape → Test → Possible
+open_possible spot a s (test.Version r w) = decided (allows r (spot_cmp spot (spot_at w)))
+open_possible spot a s (test.Bucket salt modulus r n) =
     decided (holds_of a s (test.Bucket salt modulus r n))
-open_possible a s (test.Today r n) = day_possible r n
-open_possible a s (test.Installed r n) = day_possible r n
-open_possible a s t = undecided
+open_possible spot a s (test.Today r n) = day_possible last_today r n
+open_possible spot a s (test.Installed r n) = day_possible last_install_day r n
+open_possible spot a s t = undecided
 
-abbrev pub test_possible : Rest → Attributes → AppShape → Test → Possible
-test_possible Anything a s t = open_possible a s t
-test_possible Nothing a s t = decided (holds_of a s t)
+abbrev pub test_possible : Asker → Attributes → AppShape → Test → Possible
+test_possible (AllAt spot) a s t = open_possible spot a s t
+test_possible One a s t = decided (holds_of a s t)
 
 -- ---- conditions
 

@@ -1,15 +1,17 @@
-//! What is asked of an app's rule: for each bucket, at the version of each release and at none.
+//! What is asked of an app's rule: for each bucket, wherever a version may lie, or for who has a
+//! release.
 
 ghost use Rattle.std.specs.Prelude.{◌≡◌, IfOk, option_copied};
 ghost use Rattle.warnings.specs.Asking as specs;
 
 use crate::course::{first_offer, goes_past, may_offer, statement_possible};
-use crate::holding::is_at_most;
-use crate::possible::{Possible, Rest};
+use crate::holding::{allows, compare_versions};
+use crate::possible::{Asker, Possible};
+use crate::spot::Spot;
 use attrs::{Attrs, read_version};
 use releases::Release;
 use rule_diagnosis::cells::Shape;
-use rule_diagnosis::rule_lang::Statement;
+use rule_diagnosis::rule_lang::{Comparison, Statement};
 use std::alloc::{AllocError, Global};
 
 /// How many buckets there are.
@@ -58,38 +60,38 @@ pub(crate) enum Question<'a> {
         before: &'a [Statement],
         statement: &'a Statement,
     },
-    /// Whether it may end with the release.
+    /// Whether it may end with this release or a later one.
     Gives {
         release: usize,
     },
-    /// Whether it ends with a release that isn't higher than the version, where the app says no
-    /// more and all counters are at 0.
-    Repeats {
+    /// Whether it ends with a release whose version compares so with this one.
+    Gets {
+        by: Comparison,
         version: &'a str,
     },
 }
 
-fn not_higher(release: Option<&Release>, version: &str) -> bool
-    ensures { result ≡ specs.not_higher (option_copied release.entry) version.now }
+fn release_compares(by: Comparison, release: Option<&Release>, version: &str) -> bool
+    ensures { result ≡ specs.release_compares by (option_copied release.entry) version.now }
 {
     let Some(release) = release else {
         return false;
     };
     match (read_version(release.version()), read_version(version)) {
-        (Some(v), Some(w)) => is_at_most(v, w),
+        (Some(v), Some(w)) => allows(by, compare_versions(v, w)),
         _ => false,
     }
 }
 
-// The choice is a release, which isn't higher than the version.
+// The choice is a release whose version compares so with this one.
 #[tactic(auto, using(crate::proofs::Found::got_at))]
-fn repeats(releases: &[Release], version: &str, choice: u8) -> bool
-    ensures { result ≡ specs.repeats releases.now version.now choice }
+fn choice_compares(by: Comparison, releases: &[Release], version: &str, choice: u8) -> bool
+    ensures { result ≡ specs.choice_compares by releases.now version.now choice }
 {
     if choice == 0 {
         return false;
     }
-    not_higher(releases.get(choice as usize - 1), version)
+    release_compares(by, releases.get(choice as usize - 1), version)
 }
 
 fn may_end(
@@ -97,65 +99,72 @@ fn may_end(
     asked: &AskedRule<'_>,
     before: &[Statement],
     statement: &Statement,
+    asker: Asker,
     attrs: &Attrs,
 ) -> Result<bool, AllocError>
-    ensures { IfOk result (λ yes.
-        yes ≡ specs.may_end (specs.rule_of asked.now) before.now statement.now attrs.now) }
+    ensures { IfOk result (λ yes. yes
+        ≡ specs.may_end (specs.rule_of asked.now) before.now statement.now asker attrs.now) }
 {
-    if !goes_past(stack, Rest::Anything, attrs, asked.shape, before)? {
+    if !goes_past(stack, asker, attrs, asked.shape, before)? {
         return Ok(false);
     }
-    let possible = statement_possible(stack, Rest::Anything, attrs, asked.shape, statement)?;
+    let possible = statement_possible(stack, asker, attrs, asked.shape, statement)?;
     Ok(possible.holds)
 }
 
-fn gives_again(
+fn gets(
     stack: &mut Vec<Possible>,
     asked: &AskedRule<'_>,
+    by: Comparison,
     version: &str,
+    asker: Asker,
     attrs: &Attrs,
 ) -> Result<bool, AllocError>
     ensures { IfOk result (λ yes.
-        yes ≡ specs.gives_again (specs.rule_of asked.now) version.now attrs.now) }
+        yes ≡ specs.gets (specs.rule_of asked.now) by version.now asker attrs.now) }
 {
-    let choice = first_offer(stack, Rest::Nothing, attrs, asked.shape, asked.statements)?;
-    Ok(repeats(asked.releases, version, choice))
+    let choice = first_offer(stack, asker, attrs, asked.shape, asked.statements)?;
+    Ok(choice_compares(by, asked.releases, version, choice))
 }
 
 fn answer(
     stack: &mut Vec<Possible>,
     asked: &AskedRule<'_>,
     question: &Question<'_>,
+    asker: Asker,
     attrs: &Attrs,
 ) -> Result<bool, AllocError>
     ensures { IfOk result (λ yes.
-        yes ≡ specs.answer (specs.rule_of asked.now) question.now attrs.now) }
+        yes ≡ specs.answer (specs.rule_of asked.now) question.now asker attrs.now) }
 {
-    let rest = Rest::Anything;
     match question {
-        Question::Reaches { before } => goes_past(stack, rest, attrs, asked.shape, before),
-        Question::Ends { before, statement } => may_end(stack, asked, before, statement, attrs),
+        Question::Reaches { before } => goes_past(stack, asker, attrs, asked.shape, before),
+        Question::Ends { before, statement } => {
+            may_end(stack, asked, before, statement, asker, attrs)
+        }
         Question::Gives { release } => may_offer(
             stack,
-            rest,
+            asker,
             attrs,
             asked.shape,
             asked.statements,
             *release,
         ),
-        Question::Repeats { version } => gives_again(stack, asked, version, attrs),
+        Question::Gets { by, version } => gets(stack, asked, *by, version, asker, attrs),
     }
 }
 
-/// Whether it is so in some bucket, at this version or at none.
+/// Whether it is so in some bucket, of an app that says of itself no more than this version.
 pub(crate) fn in_some_bucket(
     alloc: Global,
     asked: &AskedRule<'_>,
     question: &Question<'_>,
+    asker: Asker,
     version: Option<&str>,
 ) -> Result<bool, AllocError>
     ensures { IfOk result (λ yes. yes ≡ specs.in_some_bucket (specs.rule_of asked.now)
-        (specs.answer (specs.rule_of asked.now) question.now) (option_copied version.entry)) }
+        (specs.answer (specs.rule_of asked.now) question.now asker)
+        (option_copied version.entry)) }
 {
     let Ok(mut attrs) = Attrs::plain(alloc, asked.appid, version, 0) else {
         return Err(AllocError);
@@ -164,7 +173,7 @@ pub(crate) fn in_some_bucket(
     let mut bucket = 0;
     while bucket < BUCKETS {
         attrs = attrs.in_bucket(bucket);
-        if answer(&mut stack, asked, question, &attrs)? {
+        if answer(&mut stack, asked, question, asker, &attrs)? {
             return Ok(true);
         }
         bucket += 1;
@@ -172,24 +181,22 @@ pub(crate) fn in_some_bucket(
     Ok(false)
 }
 
-/// Whether it is so in some bucket, at the version of some release or at none.
+/// Whether it is so in some bucket, for the versions that lie at some of these.
 pub(crate) fn someone(
     alloc: Global,
     asked: &AskedRule<'_>,
     question: &Question<'_>,
+    spots: &[Spot],
 ) -> Result<bool, AllocError>
-    ensures { IfOk result (λ yes. yes ≡ specs.someone (specs.rule_of asked.now)
+    ensures { IfOk result (λ yes. yes ≡ specs.someone (specs.rule_of asked.now) spots.now
         (specs.answer (specs.rule_of asked.now) question.now)) }
 {
-    if in_some_bucket(alloc, asked, question, None)? {
-        return Ok(true);
-    }
-    let mut left = asked.releases;
-    while let [release, later @ ..] = left {
-        if in_some_bucket(alloc, asked, question, Some(release.version()))? {
+    let mut left = spots;
+    while let [spot, others @ ..] = left {
+        if in_some_bucket(alloc, asked, question, Asker::AllAt(*spot), None)? {
             return Ok(true);
         }
-        left = later;
+        left = others;
     }
     Ok(false)
 }

@@ -5,7 +5,7 @@ ghost use Rattle.warnings.specs.Course as specs;
 ghost use Rattle.warnings.specs.Possible.{test_possible};
 
 use crate::condition::condition_possible;
-use crate::possible::{Possible, Rest};
+use crate::possible::{Asker, Possible};
 use attrs::Attrs;
 use rule_diagnosis::cells::Shape;
 use rule_diagnosis::rule_lang::Statement;
@@ -14,18 +14,18 @@ use std::alloc::AllocError;
 /// Whether a statement may end the rule, and whether the rule may go on behind it.
 pub(crate) fn statement_possible(
     stack: &mut Vec<Possible>,
-    rest: Rest,
+    asker: Asker,
     attrs: &Attrs,
     shape: &Shape,
     statement: &Statement,
 ) -> Result<Possible, AllocError>
     ensures { IfOk result (λ p.
-        p ≡ specs.statement_possible (test_possible rest attrs.now shape.now) statement.now) }
+        p ≡ specs.statement_possible (test_possible asker attrs.now shape.now) statement.now) }
 {
     match statement {
         Statement::Count { .. } => Ok(Possible::decided(false)),
         Statement::When { condition, .. } => {
-            condition_possible(stack, rest, attrs, shape, condition.steps())
+            condition_possible(stack, asker, attrs, shape, condition.steps())
         }
     }
 }
@@ -42,17 +42,17 @@ fn offered(statement: &Statement) -> u8
 /// Whether the rule may go on behind all of these.
 pub(crate) fn goes_past(
     stack: &mut Vec<Possible>,
-    rest: Rest,
+    asker: Asker,
     attrs: &Attrs,
     shape: &Shape,
     before: &[Statement],
 ) -> Result<bool, AllocError>
     ensures { IfOk result (λ past.
-        past ≡ specs.goes_past (test_possible rest attrs.now shape.now) before.now) }
+        past ≡ specs.goes_past (test_possible asker attrs.now shape.now) before.now) }
 {
     let mut left = before;
     while let [statement, others @ ..] = left {
-        let possible = statement_possible(stack, rest, attrs, shape, statement)?;
+        let possible = statement_possible(stack, asker, attrs, shape, statement)?;
         if !possible.fails {
             return Ok(false);
         }
@@ -61,22 +61,22 @@ pub(crate) fn goes_past(
     Ok(true)
 }
 
-/// Whether one of these may end it with the release, where the app says what else it will.
+/// Whether one of these may end it with this release or a later one.
 pub(crate) fn may_offer(
     stack: &mut Vec<Possible>,
-    rest: Rest,
+    asker: Asker,
     attrs: &Attrs,
     shape: &Shape,
     statements: &[Statement],
     release: usize,
 ) -> Result<bool, AllocError>
     ensures { IfOk result (λ may. may
-        ≡ specs.may_offer (test_possible rest attrs.now shape.now) statements.now release) }
+        ≡ specs.may_offer (test_possible asker attrs.now shape.now) statements.now release) }
 {
     let mut left = statements;
     while let [statement, others @ ..] = left {
-        let possible = statement_possible(stack, rest, attrs, shape, statement)?;
-        if possible.holds && offered(statement) as usize == release {
+        let possible = statement_possible(stack, asker, attrs, shape, statement)?;
+        if possible.holds && release <= offered(statement) as usize {
             return Ok(true);
         }
         if !possible.fails {
@@ -90,17 +90,17 @@ pub(crate) fn may_offer(
 /// The release of the first that may end it, or 0.
 pub(crate) fn first_offer(
     stack: &mut Vec<Possible>,
-    rest: Rest,
+    asker: Asker,
     attrs: &Attrs,
     shape: &Shape,
     statements: &[Statement],
 ) -> Result<u8, AllocError>
     ensures { IfOk result (λ release.
-        release ≡ specs.first_offer (test_possible rest attrs.now shape.now) statements.now) }
+        release ≡ specs.first_offer (test_possible asker attrs.now shape.now) statements.now) }
 {
     let mut left = statements;
     while let [statement, others @ ..] = left {
-        let possible = statement_possible(stack, rest, attrs, shape, statement)?;
+        let possible = statement_possible(stack, asker, attrs, shape, statement)?;
         if possible.holds {
             return Ok(offered(statement));
         }

@@ -1,4 +1,5 @@
-//! Tests of a rule, for an app that says this and no more, and for one that says what else it will.
+//! Tests of a rule, for one app that says this and no more, and for all whose version lies
+//! somewhere.
 
 ghost use Rattle.std.specs.Prelude.{◌≡◌, ◌<◌, option_copied};
 ghost use Rattle.std.specs.Ordering.{nat_cmp};
@@ -6,15 +7,18 @@ ghost use Rattle.rule_diagnosis.specs.rule_lang.Meaning as meaning;
 ghost use Rattle.rule_diagnosis.specs.rule_lang.Shapes as shapes;
 ghost use Rattle.warnings.specs.Possible as specs;
 
-use crate::possible::{Possible, Rest};
+use crate::possible::{Asker, Possible};
+use crate::spot::Spot;
 use attrs::{Attrs, Context, helper_attr_is, helper_bucket};
 use rule_diagnosis::array_named;
 use rule_diagnosis::cells::{CellArray, Shape};
 use rule_diagnosis::rule_lang::{Attribute, Comparison, Flag, Test};
 use std::cmp::Ordering;
 
-/// The last day that there is.
-const LAST_DAY: u64 = 4294967295;
+/// The last day on which a server is asked, that of 9999-12-31.
+const LAST_TODAY: u64 = 2919382;
+/// The last day of installation. One that isn't known is told as this, too.
+const LAST_INSTALL_DAY: u64 = 4294967295;
 
 fn compare(left: u64, right: u64) -> Ordering
     ensures { result ≡ nat_cmp left right }
@@ -22,7 +26,7 @@ fn compare(left: u64, right: u64) -> Ordering
     left.cmp(&right)
 }
 
-fn allows(comparison: Comparison, ordering: Ordering) -> bool
+pub(crate) fn allows(comparison: Comparison, ordering: Ordering) -> bool
     ensures { result ≡ meaning.allows comparison ordering }
 {
     match (comparison, ordering) {
@@ -52,13 +56,6 @@ pub(crate) fn compare_versions(v: [u32; 4], w: [u32; 4]) -> Ordering
 {
     let behind = compare_place(v, w, 2).then(compare_place(v, w, 3));
     compare_place(v, w, 0).then(compare_place(v, w, 1).then(behind))
-}
-
-/// Whether the one version isn't higher than the other.
-pub(crate) fn is_at_most(v: [u32; 4], w: [u32; 4]) -> bool
-    ensures { result ≡ meaning.allows Comparison.Le (meaning.version_cmp v w) }
-{
-    allows(Comparison::Le, compare_versions(v, w))
 }
 
 fn flag_bit(flag: Flag) -> u8
@@ -116,21 +113,22 @@ fn quota_of(array: Option<&CellArray>) -> u64
     }
 }
 
-// Of a day from 0 to the last one, how it may compare with a number.
-fn day_possible(comparison: Comparison, number: u32) -> Possible
-    ensures { result ≡ specs.day_possible comparison number }
+// How a day from 0 to the last one may compare with a number: as the first one does, the last one,
+// or the number itself.
+fn day_possible(last: u64, comparison: Comparison, number: u32) -> Possible
+    ensures { result ≡ specs.day_possible last comparison number }
 {
     let number = number as u64;
-    let first = allows(comparison, compare(0, number));
-    let same = allows(comparison, compare(number, number));
-    let last = allows(comparison, compare(LAST_DAY, number));
+    let at_first = allows(comparison, compare(0, number));
+    let at_nearest = allows(comparison, compare(number.min(last), number));
+    let at_last = allows(comparison, compare(last, number));
     Possible {
-        holds: first || same || last,
-        fails: !first || !same || !last,
+        holds: at_first || at_nearest || at_last,
+        fails: !at_first || !at_nearest || !at_last,
     }
 }
 
-/// Whether a test holds for an app that says this, where all counters are at 0.
+// Whether a test holds for an app that says this, where each counter replies 0.
 fn holds(attrs: &Attrs, shape: &Shape, test: &Test) -> bool
     ensures { result ≡ specs.holds_of attrs.now shape.now test.now }
 {
@@ -168,25 +166,33 @@ fn holds(attrs: &Attrs, shape: &Shape, test: &Test) -> bool
     }
 }
 
-// The app says what else it will.
-fn open_possible(attrs: &Attrs, shape: &Shape, test: &Test) -> Possible
-    ensures { result ≡ specs.open_possible attrs.now shape.now test.now }
+// Of these attributes the bucket counts, and no more.
+fn open_possible(spot: Spot, attrs: &Attrs, shape: &Shape, test: &Test) -> Possible
+    ensures { result ≡ specs.open_possible spot attrs.now shape.now test.now }
 {
     match test {
-        Test::Version { .. } => Possible::decided(holds(attrs, shape, test)),
+        Test::Version {
+            comparison,
+            version,
+        } => {
+            let ordering = spot.compare(Spot::at(*version));
+            Possible::decided(allows(*comparison, ordering))
+        }
         Test::Bucket { .. } => Possible::decided(holds(attrs, shape, test)),
-        Test::Today { comparison, number } => day_possible(*comparison, *number),
-        Test::Installed { comparison, number } => day_possible(*comparison, *number),
+        Test::Today { comparison, number } => day_possible(LAST_TODAY, *comparison, *number),
+        Test::Installed { comparison, number } => {
+            day_possible(LAST_INSTALL_DAY, *comparison, *number)
+        }
         _ => Possible::undecided(),
     }
 }
 
 /// What a test may come to.
-pub(crate) fn test_possible(rest: Rest, attrs: &Attrs, shape: &Shape, test: &Test) -> Possible
-    ensures { result ≡ specs.test_possible rest attrs.now shape.now test.now }
+pub(crate) fn test_possible(asker: Asker, attrs: &Attrs, shape: &Shape, test: &Test) -> Possible
+    ensures { result ≡ specs.test_possible asker attrs.now shape.now test.now }
 {
-    match rest {
-        Rest::Anything => open_possible(attrs, shape, test),
-        Rest::Nothing => Possible::decided(holds(attrs, shape, test)),
+    match asker {
+        Asker::AllAt(spot) => open_possible(spot, attrs, shape, test),
+        Asker::One => Possible::decided(holds(attrs, shape, test)),
     }
 }

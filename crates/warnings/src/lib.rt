@@ -1,26 +1,37 @@
 //! Warnings: what a manifest may say, and hardly means.
 #![tactic(auto)]
 
-// How a rule is asked. Of an app version and bucket are known: a bucket of the 10,000, and the
-// version of a release or none. Each test comes to something that is known, or may come to either:
-// a test of version or bucket is decided, one of a day by the range of days, and what else an app
-// says, and whether a counter grants, is open (`holding.rt`). So a condition may hold, or fail, or
-// both (`condition.rt`), and a rule may go on behind a statement, or end with it (`course.rt`). What
-// is never so, for no bucket at no version asked, is told (`asking.rt`, `telling.rt`).
+// How a rule is asked. Of an app version and bucket are known: a bucket of the 10,000, and where the
+// version lies. Between two neighbours of the versions that a rule names all versions answer its
+// tests alike, so it is asked at each of them, just above each, and at the lowest one (`spot.rt`).
 //
-// That a release is offered again is asked otherwise: of an app that says no more, where all
-// counters are at 0, since then each test is decided.
+// Each test comes to something that is known, or may come to either: a test of version or bucket is
+// decided, one of a day by the range of days, and what else an app says, and whether a counter
+// grants, is open (`holding.rt`). So a condition may hold, or fail, or both (`condition.rt`), and a
+// rule may go on behind a statement, or end with it (`course.rt`). What is never so, in no bucket at
+// no version, is told (`asking.rt`, `whens.rt`, `given.rt`).
+//
+// That who has a release may get it again, or a lower one, is asked otherwise: of an app that says
+// no more, where each counter replies 0, since then each test is decided.
+//
+// That a line is so, whoever asks, is a law (`law.rt`): what is denied is done by no run, and what
+// is said to be is done by some.
 
 mod asking;
 mod condition;
 mod course;
+mod given;
 mod holding;
+mod law;
 mod possible;
 mod release;
 mod room;
+mod spot;
 mod telling;
+mod whens;
 
 pub use asking::AskedRule;
+pub use law::warnings_are_so;
 pub use release::tell_releases;
 pub use telling::tell_rule;
 

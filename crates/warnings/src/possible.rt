@@ -1,7 +1,9 @@
-//! What a condition may come to, for an app of which version and bucket are known.
+//! What a condition may come to, for apps of which version and bucket are known.
 
 ghost use Rattle.std.specs.Prelude.{◌≡◌};
 ghost use Rattle.warnings.specs.Possible as specs;
+
+use crate::spot::Spot;
 
 /// Whether a condition may hold, and whether it may fail; one of them at least.
 #[derive(Clone, Copy, Debug)]
@@ -10,11 +12,13 @@ pub(crate) struct Possible {
     pub fails: bool,
 }
 
-/// What else an app says: what it will, or nothing, and then all counters are at 0.
+/// For whom a rule is asked.
 #[derive(Clone, Copy, Debug)]
-pub(crate) enum Rest {
-    Anything,
-    Nothing,
+pub(crate) enum Asker {
+    /// All apps whose version lies there, whatever else they say and whatever counters reply.
+    AllAt(Spot),
+    /// The one app that says this and no more, where each counter replies 0.
+    One,
 }
 
 impl Possible {

@@ -15,8 +15,8 @@ loop-bucket-init c = record {
 pub returns-then-branch : goal.returns-then-branch
 returns-then-branch c =
     let r = rule_of c.args.asked.now in
-    found r (answer r c.args.question.now) (option_copied c.args.version) c.loop-bucket.attrs
-    c.in_bucket-attrs.result c.loop-bucket.bucket c.in_ok-answer.field-0
+    found r (answer r c.args.question.now c.args.asker) (option_copied c.args.version)
+    c.loop-bucket.attrs c.in_bucket-attrs.result c.loop-bucket.bucket c.in_ok-answer.field-0
     c.loop-bucket.invariant.asker c.in_bucket-attrs.ensures c.loop-bucket-test.true
     c.in_ok-answer.ensures c.if-branch.true
 
@@ -28,7 +28,8 @@ loop-bucket-preserved c =
       asker = moves r.appid (option_copied c.args.version) c.loop-bucket.attrs
           c.in_bucket-attrs.result c.loop-bucket.bucket c.loop-bucket.invariant.asker
           c.in_bucket-attrs.ensures;
-      none = not_found (answer r c.args.question.now) r.appid (option_copied c.args.version)
+      none = not_found (answer r c.args.question.now c.args.asker) r.appid
+          (option_copied c.args.version)
           c.loop-bucket.attrs c.in_bucket-attrs.result c.loop-bucket.bucket
           c.in_ok-answer.field-0 c.loop-bucket.invariant.asker c.in_bucket-attrs.ensures
           c.in_ok-answer.ensures c.if-branch.false c.loop-bucket.invariant.none;

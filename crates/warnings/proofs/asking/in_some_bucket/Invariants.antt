@@ -11,7 +11,7 @@ invariant-loop-bucket l = record {
   asker : (bucket : ℕ)
       → record l.attrs { context = record l.attrs.context { bucket = bucket } }
       ≡ plain l.asked.appid.now (option_copied l.version) bucket;
-  none : any_below (λ bucket. answer (rule_of l.asked) l.question
+  none : any_below (λ bucket. answer (rule_of l.asked) l.question l.asker
       (plain l.asked.appid.now (option_copied l.version) bucket)) l.bucket ≡ false;
 }
 

@@ -6,8 +6,8 @@ use Rattle.warnings.proofs.course.may_offer.Given as goal
 -- those that are left decide
 abbrev pub invariant-loop-left : goal.invariant-loop-left
 invariant-loop-left l =
-    may_offer (test_possible l.rest l.attrs l.shape) l.left l.release
-    ≡ may_offer (test_possible l.rest l.attrs l.shape) l.statements l.release
+    may_offer (test_possible l.asker l.attrs l.shape) l.left l.release
+    ≡ may_offer (test_possible l.asker l.attrs l.shape) l.statements l.release
 
 abbrev pub decreases-loop-left : goal.decreases-loop-left
 decreases-loop-left l = length l.left

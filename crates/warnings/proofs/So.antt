@@ -1,0 +1,173 @@
+-- What is told of a rule is so.
+use Rattle.std.proofs.Common.{◌≡◌, ℕ, ◌<◌, ◌≤◌, ◌/◌, ℤ, pos, negsuc, List, ◌∷◌, ◌++◌, Some, None}
+use Rattle.std.proofs.Common.{Bool, true, false, refl, sym, subst, arith}
+use Rattle.std.specs.List.{list_any}
+use Rattle.std.specs.Prelude.{min, max}
+use Rattle.releases.specs.attrs.Attributes.{Attributes, plain}
+use Rattle.releases.specs.attrs.Moment.{elapsed, elapsed_days}
+use Rattle.rule_diagnosis.specs.cells.declared.event.CellEvent.{CellEvent}
+use Rattle.rule_diagnosis.specs.rule_lang.declared.condition.Step.{Step}
+use Rattle.rule_diagnosis.specs.rule_lang.declared.rule.Statement.{Statement}
+use Rattle.rule_diagnosis.specs.rule_lang.declared.rule.Statement.TheVariants.{When}
+use Rattle.rule_diagnosis.specs.rule_lang.declared.test.Comparison.{Comparison}
+use Rattle.rule_diagnosis.specs.rule_lang.declared.test.Test.{Test}
+use Rattle.rule_diagnosis.specs.rule_lang.Meaning.{HasTrace, behaviour}
+use Rattle.warnings.specs.declared.possible.Asker.{Asker}
+use Rattle.warnings.specs.declared.possible.Asker.TheVariants.{AllAt, One}
+use Rattle.warnings.specs.declared.possible.Possible.{Possible}
+use Rattle.warnings.specs.Asked.{first_line, got_line, statement_line, ungiven_line, when_line}
+use Rattle.warnings.specs.Asking.{RuleOfApp, arrives, gets, in_some_bucket, may_end, may_give}
+use Rattle.warnings.specs.Asking.{someone, tests_for}
+use Rattle.warnings.specs.Course.{first_offer}
+use Rattle.warnings.specs.Releases.{line_where}
+use Rattle.warnings.specs.Runs.{IsNeverChosen, IsNeverPassed, IsSoOfRelease, IsSoOfVersion}
+use Rattle.warnings.specs.Runs.{IsSoOfWhen, MayAsk, MayGet, NeverHolds, ReleasesAreSo}
+use Rattle.warnings.specs.Runs.{VersionsAreSo, WhensAreSo}
+use Rattle.warnings.specs.Runs as so
+use Rattle.warnings.specs.Spots.{spots_of}
+use Rattle.warnings.proofs.Buckets.{Witness, none_at, some_at}
+use Rattle.warnings.proofs.Comes.{AnswersAlike, IsOneOf, test_comes}
+use Rattle.warnings.proofs.Conditions.{TestComes}
+use Rattle.warnings.proofs.Courses.{RuleTests, StepsTests, never_chosen, never_held, never_past}
+use Rattle.warnings.proofs.Fresh.{LeadsFresh, first_chosen}
+use Rattle.warnings.proofs.Named.{all_alike, has_lowest, of_before, of_next, of_rule}
+use Rattle.warnings.proofs.Versions.{Highest, highest}
+
+-- a moment's day is one that was asked for
+within_days : (n : ℕ) → n ≤ 252234691199 → n / 86400 ≤ 2919382
+within_days n h = omega arith
+
+elapsed_within : (moment : ℤ) → elapsed moment ≤ 252234691199
+elapsed_within (pos second) = omega arith
+elapsed_within (negsuc second) = omega arith
+
+day_within : (moment : ℤ) → elapsed_days moment ≤ 2919382
+day_within moment = within_days (elapsed moment) (elapsed_within moment)
+
+-- ---- of an app that may ask
+
+module _ (r : RuleOfApp) (a : Attributes) (may : MayAsk a) where
+  -- the spot that stands for its version, and the app that was asked for in its place
+  place : Highest (spots_of r.rule) a.context.version
+  place = highest (spots_of r.rule) a.context.version (has_lowest r.rule)
+
+  abbrev asked : Attributes
+  asked = plain r.appid None a.context.bucket
+
+  one_of : IsOneOf place.spot asked a
+  one_of = record {
+    bucket = refl;
+    today = subst (λ n. n ≤ 2919382) (sym may.today) (day_within may.moment);
+    install_day = let bound = may.ranges.install_day in omega arith;
+  }
+
+  abbrev of_tests : Test → Possible
+  of_tests = tests_for r (AllAt place.spot) asked
+
+  all_come : RuleTests (TestComes of_tests a r.shape) r.rule
+  all_come =
+      of_rule (AnswersAlike place.spot a.context.version) (TestComes of_tests a r.shape)
+      (test_comes place.spot asked a one_of r.shape) r.rule
+      (all_alike r.rule a.context.version place)
+
+  -- what nobody does it doesn't do
+  nor_it : (asks : Asker → Attributes → Bool) → someone r (spots_of r.rule) asks ≡ false
+      → asks (AllAt place.spot) asked ≡ false
+  nor_it asks nobody =
+      none_at (λ bucket. asks (AllAt place.spot) (plain r.appid None bucket)) 10000
+      a.context.bucket may.ranges.bucket
+      (place.among (λ spot. in_some_bucket r (asks (AllAt spot)) None) nobody)
+
+-- ---- a `when`
+
+module _ (r : RuleOfApp) (before rest : List Statement) (steps : List Step) (release : ℕ)
+    (is : r.rule ≡ before ++ When steps release ∷ rest) where
+  tests_before : (a : Attributes) (may : MayAsk a)
+      → RuleTests (TestComes (of_tests r a may) a r.shape) before
+  tests_before a may =
+      let P = TestComes (of_tests r a may) a r.shape in
+      of_before P steps release rest before (subst (RuleTests P) is (all_come r a may))
+
+  tests_here : (a : Attributes) (may : MayAsk a)
+      → StepsTests (TestComes (of_tests r a may) a r.shape) steps
+  tests_here a may =
+      let P = TestComes (of_tests r a may) a r.shape in
+      of_next P steps release rest before (subst (RuleTests P) is (all_come r a may))
+
+  passed_never : someone r (spots_of r.rule) (arrives r before) ≡ false
+      → IsNeverPassed r.shape before
+  passed_never nobody a may others other =
+      never_past (of_tests r a may) a r.shape before (tests_before a may)
+      (nor_it r a may (arrives r before) nobody) others other
+
+  held_never : someone r (spots_of r.rule) (may_end r before (When steps release)) ≡ false
+      → NeverHolds r.shape before steps
+  held_never nobody a may others k other =
+      never_held (of_tests r a may) a r.shape before steps (tests_before a may)
+      (tests_here a may) (nor_it r a may (may_end r before (When steps release)) nobody) others k
+      other
+
+  when_so : (app : ℕ) (ends reached : Bool)
+      → someone r (spots_of r.rule) (may_end r before (When steps release)) ≡ ends
+      → someone r (spots_of r.rule) (arrives r before) ≡ reached
+      → IsSoOfWhen app r before steps (when_line app ends reached steps)
+  when_so app true reached ends-is reached-is = so.IsSoOfWhen.nothing
+  when_so app false true ends-is reached-is = so.IsSoOfWhen.unheld (held_never ends-is)
+  when_so app false false ends-is reached-is = so.IsSoOfWhen.unreached (passed_never reached-is)
+
+pub whens_so : WhensAreSo
+whens_so app r before rest steps release is =
+    when_so r before rest steps release is app
+    (someone r (spots_of r.rule) (may_end r before (When steps release)))
+    (someone r (spots_of r.rule) (arrives r before)) refl refl
+
+-- ---- a release
+
+given_never : (r : RuleOfApp) (number : ℕ) → 0 < number
+    → someone r (spots_of r.rule) (may_give r number) ≡ false → (release : ℕ) → number ≤ release
+    → IsNeverChosen r.shape r.rule release
+given_never r number some nobody release from a may events run =
+    never_chosen (of_tests r a may) a r.shape r.rule number release (all_come r a may)
+    (nor_it r a may (may_give r number) nobody) from some (events, run)
+
+release_so : (app number : ℕ) (r : RuleOfApp) → 0 < number → (given : Bool)
+    → someone r (spots_of r.rule) (may_give r number) ≡ given
+    → IsSoOfRelease app number r (ungiven_line given app number)
+release_so app number r some true is = so.IsSoOfRelease.nothing
+release_so app number r some false is =
+    so.IsSoOfRelease.ungiven (given_never r number some is)
+
+pub releases_so : ReleasesAreSo
+releases_so app number r some =
+    release_so app number r some (someone r (spots_of r.rule) (may_give r number)) refl
+
+-- ---- who has a version
+
+got_so : (r : RuleOfApp) (by : Comparison) (version : List ℕ)
+    → in_some_bucket r (gets r by version One) (Some version) ≡ true → MayGet r by version
+got_so r by version some =
+    let w = some_at (λ bucket. gets r by version One (plain r.appid (Some version) bucket)) 10000
+    some in
+    let a = plain r.appid (Some version) w.number in
+    let run = first_chosen a r.shape r.rule in
+    record {
+      bucket = w.number;
+      within = w.below;
+      events = run.events;
+      fresh = run.fresh;
+      choice = first_offer (tests_for r One a) r.rule;
+      chooses = run.run;
+      compares = w.holds;
+    }
+
+version_so : (app number : ℕ) (r : RuleOfApp) (by : Comparison) (version said : List ℕ)
+    (got : Bool) → in_some_bucket r (gets r by version One) (Some version) ≡ got
+    → IsSoOfVersion app number r by version said (line_where got app number said)
+version_so app number r by version said false is = so.IsSoOfVersion.nothing
+version_so app number r by version said true is =
+    so.IsSoOfVersion.got (got_so r by version is)
+
+pub versions_so : VersionsAreSo
+versions_so app number r by version said =
+    version_so app number r by version said
+    (in_some_bucket r (gets r by version One) (Some version)) refl

@@ -1,0 +1,100 @@
+-- What the warnings on a rule say of its runs, by what rules mean.
+use Rattle.std.specs.Prelude.{◌≡◌, ℕ, ◌<◌, ◌≤◌, ℤ, List, [], ◌∷◌, ◌++◌, Some, true, All}
+use Rattle.releases.specs.attrs.Attributes.{Attributes, plain}
+use Rattle.releases.specs.attrs.Context.{HasContextRanges}
+use Rattle.releases.specs.attrs.Moment.{elapsed_days}
+use Rattle.rule_diagnosis.specs.cells.Arrays.{AppShape}
+use Rattle.rule_diagnosis.specs.cells.declared.event.CellEvent.{CellEvent}
+use Rattle.rule_diagnosis.specs.rule_lang.declared.condition.Step.{Step}
+use Rattle.rule_diagnosis.specs.rule_lang.declared.rule.Statement.{Statement}
+use Rattle.rule_diagnosis.specs.rule_lang.declared.rule.Statement.TheVariants.{When}
+use Rattle.rule_diagnosis.specs.rule_lang.declared.test.Comparison.{Comparison}
+use Rattle.rule_diagnosis.specs.rule_lang.Meaning.{HasTrace, behaviour}
+use Rattle.warnings.specs.Asked.{first_line, got_line, of_release, rule_line, statement_line}
+use Rattle.warnings.specs.Asked.{ungiven_line, ungiven_said, unheld_said, unreached_said}
+use Rattle.warnings.specs.Asking.{RuleOfApp, choice_compares, may_give, someone}
+use Rattle.warnings.specs.Releases.{warned_app, warned_member}
+use Rattle.warnings.specs.Spots.{spots_of}
+
+-- an app that a server may be asked for: its context is in the ranges of that type, and its day is
+-- that of a moment
+pub record MayAsk (a : Attributes) : Type 0 where
+  pub ranges : HasContextRanges a.context
+  pub moment : ℤ
+  pub today : a.context.today ≡ elapsed_days moment
+
+-- ---- what is denied of all runs
+
+-- whatever stood behind these statements, it would be the same
+abbrev pub IsNeverPassed : AppShape → List Statement → Type 0
+IsNeverPassed s before =
+    (a : Attributes) → MayAsk a → (rest other : List Statement)
+    → behaviour a s (before ++ rest) ≡ behaviour a s (before ++ other)
+
+-- whatever the `when` of this condition behind them offered, it would be the same
+abbrev pub NeverHolds : AppShape → (before : List Statement) → List Step → Type 0
+NeverHolds s before steps =
+    (a : Attributes) → MayAsk a → (rest : List Statement) (release other : ℕ)
+    → behaviour a s (before ++ When steps release ∷ rest)
+    ≡ behaviour a s (before ++ When steps other ∷ rest)
+
+-- no run chooses it, whatever counters reply
+abbrev pub IsNeverChosen : AppShape → List Statement → (release : ℕ) → Type 0
+IsNeverChosen s rule release =
+    (a : Attributes) → MayAsk a → (events : List CellEvent)
+    → HasTrace (behaviour a s rule) events release → ⊥
+
+-- ---- what is said of a run
+
+-- there is a run of an app that says no more than this version, in which each counter replies 0,
+-- and it gets a release whose version compares so with its own
+pub record MayGet (r : RuleOfApp) (by : Comparison) (version : List ℕ) : Type 0 where
+  pub bucket : ℕ
+  pub within : bucket < 10000
+  pub events : List CellEvent
+  pub fresh : All (λ e. e.reply ≡ 0) events
+  pub choice : ℕ
+  pub chooses : HasTrace (behaviour (plain r.appid (Some version) bucket) r.shape r.rule) events
+      choice
+  pub compares : choice_compares by r.releases version choice ≡ true
+
+-- ---- lines that are so
+
+pub data IsSoOfWhen (app : ℕ) (r : RuleOfApp) (before : List Statement) (steps : List Step)
+    : List ℕ → Type 0 where
+  nothing : IsSoOfWhen app r before steps []
+  unreached : IsNeverPassed r.shape before
+      → IsSoOfWhen app r before steps (rule_line app (first_line steps) unreached_said)
+  unheld : NeverHolds r.shape before steps
+      → IsSoOfWhen app r before steps (rule_line app (first_line steps) unheld_said)
+
+pub data IsSoOfRelease (app number : ℕ) (r : RuleOfApp) : List ℕ → Type 0 where
+  nothing : IsSoOfRelease app number r []
+  ungiven : ((release : ℕ) → number ≤ release → IsNeverChosen r.shape r.rule release)
+      → IsSoOfRelease app number r (warned_app app ++ of_release number ++ ungiven_said)
+
+pub data IsSoOfVersion (app number : ℕ) (r : RuleOfApp) (by : Comparison) (version said : List ℕ)
+    : List ℕ → Type 0 where
+  nothing : IsSoOfVersion app number r by version said []
+  got : MayGet r by version
+      → IsSoOfVersion app number r by version said (warned_member app number ++ said)
+
+-- ---- the laws
+
+-- what is told of a `when` of a rule is so
+abbrev pub WhensAreSo : Type 0
+WhensAreSo = (app : ℕ) (r : RuleOfApp) (before rest : List Statement) (steps : List Step)
+    (release : ℕ) → r.rule ≡ before ++ When steps release ∷ rest
+    → IsSoOfWhen app r before steps
+    (statement_line app r (spots_of r.rule) before (When steps release))
+
+-- what is told of a release that no bucket gets is so
+abbrev pub ReleasesAreSo : Type 0
+ReleasesAreSo = (app number : ℕ) (r : RuleOfApp) → 0 < number
+    → IsSoOfRelease app number r
+    (ungiven_line (someone r (spots_of r.rule) (may_give r number)) app number)
+
+-- what is told of who has a version is so
+abbrev pub VersionsAreSo : Type 0
+VersionsAreSo = (app number : ℕ) (r : RuleOfApp) (by : Comparison) (version said : List ℕ)
+    → IsSoOfVersion app number r by version said (got_line app number r by version said)

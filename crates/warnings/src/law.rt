@@ -1,0 +1,11 @@
+//! Laws of the definitions: what is told of a rule is so. They are called by nothing.
+
+ghost use Rattle.warnings.specs.Runs.{ReleasesAreSo, VersionsAreSo, WhensAreSo};
+
+/// A law: no run of a rule does what a line on a `when` or on a release denies, whoever asks and
+/// whatever counters reply; and there is a run that does what a line on a version says.
+pub fn warnings_are_so()
+    ensures whens { WhensAreSo }
+    ensures releases { ReleasesAreSo }
+    ensures versions { VersionsAreSo }
+{}
