@@ -1,5 +1,5 @@
 pub mod Added
-pub mod Ascii
+pub mod Escaped
 pub mod Plain
 pub mod Rooms
 pub mod Said

@@ -27,10 +27,13 @@ abbrev pub event_members : Option Excerpt → List Token
 event_members (Some e) = excerpt_members (codes "event") (codes "event_left_out") e
 event_members None = []
 
+-- an app's object begins with its id
+abbrev pub head_of : List ℕ → List Token
+head_of appid = (begin_object ∷ []) ++ text_member (codes "appid") appid
+
 abbrev pub app_object : AskedApp → List Token
 app_object app =
-    (begin_object ∷ [])
-    ++ text_member (codes "appid") app.appid.now
+    head_of app.appid.now
     ++ optional_member (codes "version") (option_copied app.version)
     ++ number_member (codes "bucket") app.bucket
     ++ flag_member (codes "named") app.named
@@ -38,11 +41,14 @@ app_object app =
     ++ event_members app.event
     ++ (end_object ∷ [])
 
+abbrev pub list_of : List AskedApp → List Token
+list_of apps =
+    (key (codes "apps") ∷ []) ++ (begin_array ∷ []) ++ flat_map app_object apps ++ (end_array ∷ [])
+
 -- the first apps, and how many more there are
 abbrev pub first_apps : ℕ → List AskedApp → List Token
 first_apps n apps =
-    (key (codes "apps") ∷ []) ++ (begin_array ∷ []) ++ flat_map app_object (take n apps)
-    ++ (end_array ∷ []) ++ count_member (codes "left_out") (length apps - n)
+    list_of (take n apps) ++ count_member (codes "left_out") (length apps - n)
 
 -- nothing of what asks of no app
 abbrev pub apps_members : List AskedApp → List Token

@@ -1,4 +1,5 @@
 pub mod Members
+pub mod Plain
 pub mod Tokens
 pub mod Utc
 pub mod Excerpt

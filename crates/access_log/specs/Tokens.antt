@@ -1,9 +1,17 @@
--- What a writer of JSON has written.
-use Rattle.std.specs.Prelude.{◌≡◌, List, ◌++◌}
+-- What is written behind what stands in a line.
+use Rattle.std.specs.Prelude.{◌≡◌, ℕ, List, ◌++◌, Bool, true, fold}
+use Rattle.json.specs.Print.{print_from, ends}
 use Rattle.json.specs.Token.{Token}
-use Rattle.json.specs.Written.{Written}
 
--- the writer stands behind these tokens more
-pub record AddsTokens (old new : Written) (more : List Token) : Type 0 where
-  pub before : new.before ≡ old.before
-  pub tokens : new.tokens ≡ old.tokens ++ more
+-- whether a value has ended behind these tokens, where one had or hadn't before them
+abbrev pub ends_behind : Bool → List Token → Bool
+ends_behind before tokens = fold (λ _ t. ends t) before tokens
+
+-- These tokens are added. A value has ended before them or hasn't, and so behind them.
+pub record AddsTokens (before behind : Bool) (old new : List ℕ) (more : List Token) : Type 0 where
+  pub text : new ≡ old ++ print_from before more
+  pub ended : ends_behind before more ≡ behind
+
+-- members are added behind a member, or none is
+abbrev pub AddsMembers : List ℕ → List ℕ → List Token → Type 0
+AddsMembers old new more = AddsTokens true true old new more

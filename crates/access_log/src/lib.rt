@@ -12,12 +12,15 @@ mod event;
 mod events;
 mod excerpt;
 mod line;
+mod line_room;
 mod member;
 mod room;
+mod text;
 mod utc;
 
 pub use asked::{AskedApp, Outcome};
 pub use event::{Connection, Counter, Load, LogEvent, Start};
 pub use excerpt::Excerpt;
-pub use line::log_line;
+pub use line::{log_line, log_line_in};
+pub use line_room::LineRoom;
 pub use utc::Utc;

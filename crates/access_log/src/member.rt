@@ -1,79 +1,110 @@
-//! Members of an object of JSON, and single tokens, written one after another.
+//! Members of an object of JSON behind other members, written one after another.
 
-ghost use Rattle.std.specs.Prelude.{◌≡◌, [], ◌∷◌, OnOk, option_copied};
-ghost use Rattle.json.specs.Print.{IsPrintable};
-ghost use Rattle.json.specs.Reads.{token_of};
-ghost use Rattle.access_log.specs.Tokens.{AddsTokens};
+ghost use Rattle.std.specs.Prelude.{◌≡◌, ◌++◌, true, OnOk, option_copied};
+ghost use Rattle.json.specs.Print.{token_text};
+ghost use Rattle.json.specs.Token.{boolean};
+ghost use Rattle.access_log.specs.Tokens.{AddsMembers};
 ghost use Rattle.access_log.specs.Members as specs;
+ghost use Rattle.access_log.specs.Plain.{is_plain_text};
 
 use crate::excerpt::Excerpt;
-use json::{Token, Writer};
+use crate::line_room::LineRoom;
+use crate::text::{write_digits, write_name, write_quoted};
 use std::alloc::AllocError;
 
-/// A token.
-pub fn write_token(writer: &mut Writer, token: Token<'_>) -> Result<(), AllocError>
-    requires { IsPrintable (token_of token) }
-    ensures { OnOk result (AddsTokens writer.old writer.new (token_of token.entry ∷ [])) }
-{
-    writer.token(token)
-}
-
 /// A member that is a text.
-pub fn write_text(writer: &mut Writer, name: &str, text: &str) -> Result<(), AllocError>
-    ensures { OnOk result (AddsTokens writer.old writer.new (specs.text_member name.now text.now)) }
+#[inline(always)]
+#[tactic(auto, using(crate::proofs::Added::adds_text))]
+pub fn write_text(line: &mut LineRoom, name: &str, text: &str) -> Result<(), AllocError>
+    requires { is_plain_text name.now ≡ true }
+    ensures { OnOk result (AddsMembers line.old line.new
+        (specs.text_member name.now text.now)) }
 {
-    writer.key(name)?;
-    writer.string(text)
+    write_name(line, name)?;
+    write_quoted(line, text.as_bytes())?;
+    Ok(())
 }
 
 /// One that is a number.
-pub fn write_number(writer: &mut Writer, name: &str, n: u64) -> Result<(), AllocError>
-    ensures { OnOk result (AddsTokens writer.old writer.new (specs.number_member name.now n)) }
+#[inline(always)]
+#[tactic(auto, using(crate::proofs::Added::adds_number))]
+pub fn write_number(line: &mut LineRoom, name: &str, n: u64) -> Result<(), AllocError>
+    requires { is_plain_text name.now ≡ true }
+    ensures { OnOk result (AddsMembers line.old line.new
+        (specs.number_member name.now n)) }
 {
-    writer.key(name)?;
-    writer.u64(n)
+    write_name(line, name)?;
+    write_digits(line, n)?;
+    Ok(())
 }
 
 /// One that is true or false.
-pub fn write_flag(writer: &mut Writer, name: &str, holds: bool) -> Result<(), AllocError>
-    ensures { OnOk result (AddsTokens writer.old writer.new (specs.flag_member name.now holds)) }
+#[inline(always)]
+#[tactic(auto, using(crate::proofs::Added::adds_flag))]
+pub fn write_flag(line: &mut LineRoom, name: &str, holds: bool) -> Result<(), AllocError>
+    requires { is_plain_text name.now ≡ true }
+    ensures { OnOk result (AddsMembers line.old line.new
+        (specs.flag_member name.now holds)) }
 {
-    writer.key(name)?;
-    writer.boolean(holds)
+    write_name(line, name)?;
+    write_bool(line, holds)?;
+    Ok(())
+}
+
+// true or false
+#[inline(always)]
+fn write_bool(line: &mut LineRoom, holds: bool) -> Result<(), AllocError>
+    ensures { OnOk result (line.new ≡ line.old ++ token_text (boolean holds)) }
+{
+    if holds {
+        line.put(b"true")
+    } else {
+        line.put(b"false")
+    }
 }
 
 /// One that is a text, where there is one.
-pub fn write_optional(writer: &mut Writer, name: &str, text: Option<&str>) -> Result<(), AllocError>
-    ensures { OnOk result (AddsTokens writer.old writer.new
+#[inline(always)]
+#[tactic(auto, using(crate::proofs::Added::adds_nothing))]
+pub fn write_optional(line: &mut LineRoom, name: &str, text: Option<&str>) -> Result<(), AllocError>
+    requires { is_plain_text name.now ≡ true }
+    ensures { OnOk result (AddsMembers line.old line.new
         (specs.optional_member name.now (option_copied text.entry))) }
 {
     match text {
-        Some(text) => write_text(writer, name, text),
+        Some(text) => write_text(line, name, text),
         None => Ok(()),
     }
 }
 
 /// One that is a number, unless it is 0.
-pub fn write_count(writer: &mut Writer, name: &str, n: u64) -> Result<(), AllocError>
-    ensures { OnOk result (AddsTokens writer.old writer.new (specs.count_member name.now n)) }
+#[inline(always)]
+#[tactic(auto, using(crate::proofs::Added::adds_nothing))]
+pub fn write_count(line: &mut LineRoom, name: &str, n: u64) -> Result<(), AllocError>
+    requires { is_plain_text name.now ≡ true }
+    ensures { OnOk result (AddsMembers line.old line.new
+        (specs.count_member name.now n)) }
 {
     if n == 0 {
         return Ok(());
     }
-    write_number(writer, name, n)
+    write_number(line, name, n)
 }
 
 /// One that is a text which may be cut, and behind it how many bytes are left out, if any are.
+
 pub fn write_excerpt(
-    writer: &mut Writer,
+    line: &mut LineRoom,
     name: &str,
     left_out: &str,
     excerpt: &Excerpt<'_>,
 ) -> Result<(), AllocError>
-    ensures { OnOk result (AddsTokens writer.old writer.new
+    requires name { is_plain_text name.now ≡ true }
+    requires left_out { is_plain_text left_out.now ≡ true }
+    ensures { OnOk result (AddsMembers line.old line.new
         (specs.excerpt_members name.now left_out.now excerpt.now)) }
 {
-    write_text(writer, name, excerpt.text)?;
-    write_count(writer, left_out, excerpt.left_out)?;
+    write_text(line, name, excerpt.text)?;
+    write_count(line, left_out, excerpt.left_out)?;
     Ok(())
 }

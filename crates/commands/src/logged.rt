@@ -10,7 +10,7 @@ use crate::serve::serve_by;
 use manifest_tools::load::Disk;
 use program_tools::command_line::{CommandRequest, Plan};
 use serving::workers::access_log::{Excerpt, LogEvent, Start};
-use serving::workers::{LogQueue, note_at_once, start_log};
+use serving::workers::{LogOutput, LogQueue, note_at_once, start_log};
 use serving::{Server, ServingFault};
 use std::fmt::Display;
 use std::io::Write;
@@ -29,7 +29,7 @@ pub fn serve_logged<R, D, O>(
     out: &mut O,
 ) -> Result<(), ServingFault>
 where
-    R: Threads + Wait + AllocGlobal + Clock + Eprint + Copy + Drop + Send + Sync + 'static,
+    R: Threads + Wait + AllocGlobal + Clock + LogOutput + Copy + Drop + Send + Sync + 'static,
     R: Net<Listener = TcpListener, Stream = TcpStream>,
     D: Disk + Sync,
     O: Write,
@@ -75,7 +75,7 @@ where
 /// refused.
 pub fn note_refusal<R, F>(rt: &R, request: &CommandRequest<'_>, fault: &F)
 where
-    R: AllocGlobal + Clock + Eprint,
+    R: AllocGlobal + Clock + LogOutput,
     F: Display,
 {
     let CommandRequest::Serve { manifest, plan } = request else {

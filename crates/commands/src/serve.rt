@@ -9,7 +9,7 @@ ghost use Rattle.serving.specs.workers.Texts.{serving_line};
 use crate::logged::serve_logged;
 use manifest_tools::load::Disk;
 use program_tools::command_line::Plan;
-use serving::workers::{LogQueue, Service};
+use serving::workers::{LogOutput, LogQueue, Service};
 use serving::{Manifests, Server, ServingFault};
 use std::io::Write;
 use std::net::{Net, TcpListener, TcpStream};
@@ -30,7 +30,7 @@ pub fn serve_until_stopped<R, D, O>(
     out: &mut O,
 ) -> Result<(), ServingFault>
 where
-    R: Threads + Wait + AllocGlobal + Clock + Eprint + Copy + Drop + Send + Sync + 'static,
+    R: Threads + Wait + AllocGlobal + Clock + LogOutput + Copy + Drop + Send + Sync + 'static,
     R: Net<Listener = TcpListener, Stream = TcpStream>,
     D: Disk + Sync,
     O: Write,

@@ -19,6 +19,7 @@ use manifest_tools::load::bounded_files::ResourceFault;
 use program_tools::ProgramToolFault;
 use program_tools::command_line::{CommandRequest, Plan, WordsFault, read_words};
 use serving::Server;
+use serving::workers::LogOutput;
 use std::convert::AsStr;
 use std::io::{self, ErrorKind, Write};
 use std::net::{Net, TcpListener, TcpStream};
@@ -41,7 +42,8 @@ const USAGE: u8 = 2;
 /// usage. A server has served once the status is there.
 pub fn command<R, D, S, O, E>(rt: &R, disk: &D, words: &[S], out: &mut O, err: &mut E) -> u8
 where
-    R: Files + Threads + Wait + AllocGlobal + Clock + Eprint + Copy + Drop + Send + Sync + 'static,
+    R: Files + Threads + Wait + AllocGlobal + Clock + LogOutput,
+    R: Copy + Drop + Send + Sync + 'static,
     R: Net<Listener = TcpListener, Stream = TcpStream>,
     R::File: Send,
     R::Dir: Send,
@@ -70,7 +72,8 @@ fn perform<R, D, O, E>(
     err: &mut E,
 ) -> u8
 where
-    R: Files + Threads + Wait + AllocGlobal + Clock + Eprint + Copy + Drop + Send + Sync + 'static,
+    R: Files + Threads + Wait + AllocGlobal + Clock + LogOutput,
+    R: Copy + Drop + Send + Sync + 'static,
     R: Net<Listener = TcpListener, Stream = TcpStream>,
     R::File: Send,
     R::Dir: Send,
@@ -139,7 +142,8 @@ fn serve<R, D, O, E>(
     err: &mut E,
 ) -> u8
 where
-    R: Files + Threads + Wait + AllocGlobal + Clock + Eprint + Copy + Drop + Send + Sync + 'static,
+    R: Files + Threads + Wait + AllocGlobal + Clock + LogOutput,
+    R: Copy + Drop + Send + Sync + 'static,
     R: Net<Listener = TcpListener, Stream = TcpStream>,
     R::File: Send,
     R::Dir: Send,

@@ -19,7 +19,7 @@ mod texts;
 mod usage;
 
 use bpf_text::assemble;
-use commands::{Device, command};
+use commands::{Device, LogOutput, command};
 use std::io::ErrorKind;
 use std::net::{Net, TcpListener, TcpStream};
 use std::process::Abort;
@@ -41,7 +41,8 @@ struct Printed {
 /// Does the command of a line of words, of which `''` is the empty one.
 fn told<R>(rt: &R, line: &str) -> io::Result<Printed>
 where
-    R: Files + Threads + Wait + AllocGlobal + Clock + Eprint + Copy + Drop + Send + Sync + 'static,
+    R: Files + Threads + Wait + AllocGlobal + Clock + LogOutput,
+    R: Copy + Drop + Send + Sync + 'static,
     R: Net<Listener = TcpListener, Stream = TcpStream>,
     R::File: Send,
     R::Dir: Send,
@@ -68,18 +69,8 @@ fn text_of(bytes: Vec<u8>) -> io::Result<String> {
 /// standard output with status 0. The line `usage` stands for an error of the words, with status 2.
 fn prints<R>(rt: &R, words: &str, line: &str) -> Result<(), Fail>
 where
-    R: Files
-        + Threads
-        + Wait
-        + AllocGlobal
-        + Clock
-        + Eprint
-        + Copy
-        + Drop
-        + Send
-        + Sync
-        + 'static
-        + Abort,
+    R: Files + Threads + Wait + AllocGlobal + Clock + LogOutput,
+    R: Copy + Drop + Send + Sync + 'static + Abort,
     R: Net<Listener = TcpListener, Stream = TcpStream>,
     R::File: Send,
     R::Dir: Send,
@@ -108,18 +99,8 @@ fn write_program<R: Files + AllocGlobal>(rt: &R, path: &str, text: &str) -> Resu
 /// before it are the text of the program in the file.
 fn does<R>(rt: &R, path: &str, table: &str) -> Result<(), Fail>
 where
-    R: Files
-        + Threads
-        + Wait
-        + AllocGlobal
-        + Clock
-        + Eprint
-        + Copy
-        + Drop
-        + Send
-        + Sync
-        + 'static
-        + Abort,
+    R: Files + Threads + Wait + AllocGlobal + Clock + LogOutput,
+    R: Copy + Drop + Send + Sync + 'static + Abort,
     R: Net<Listener = TcpListener, Stream = TcpStream>,
     R::File: Send,
     R::Dir: Send,

@@ -7,11 +7,11 @@ use crate::seen::Seen;
 use access_log::{AskedApp, Connection, LogEvent};
 use answering::http_front::PostFault;
 use answering::{AnswerFault, Sent};
-use std::alloc::{AllocError, Global};
-use std::net::{IpAddr, SocketAddr};
+use std::alloc::AllocError;
+use std::net::SocketAddr;
 use std::sync::Wait;
 use std::time::Clock;
-use std::{io, str};
+use std::{io, slice, str};
 
 /// Puts the line of a connection into a worker's log, where it is kept: how long it took, what came
 /// of it, and what was seen. It is lost where memory is refused.
@@ -21,7 +21,7 @@ pub(crate) fn note_connection<H>(
     peer: SocketAddr,
     limits: Option<Limits>,
     outcome: &Result<Sent, AnswerFault>,
-    seen: &Seen,
+    seen: &mut Seen,
 )
 where
     H: Wait + AllocGlobal + Clock,
@@ -41,14 +41,12 @@ fn note_kept<H>(
     peer: SocketAddr,
     micros: u64,
     outcome: &Result<Sent, AnswerFault>,
-    seen: &Seen,
+    seen: &mut Seen,
 ) -> Result<(), AllocError>
 where
     H: Wait + AllocGlobal + Clock,
 {
-    let peer = peer.to_string(rt.alloc())?;
-    let forwarded = forwarded_text(rt.alloc(), seen.forwarded)?;
-    let apps = seen.asked()?;
+    let addresses = seen.keep_addresses(peer)?;
     let connection = Connection {
         status: status_of(outcome),
         generation: seen.generation,
@@ -56,10 +54,15 @@ where
         micros,
         ..without_texts(refusal_of(outcome), cause_of(outcome, seen))
     };
-    log.note(
-        rt,
-        &connection_event(&peer, forwarded.as_str(), &apps, connection),
-    );
+    let (peer, forwarded) = (seen.peer(addresses), seen.forwarded_text(addresses));
+    // The apps of most requests are one, of which a list takes no memory.
+    if let Some(app) = seen.only_app() {
+        let apps = slice::from_ref(&app);
+        log.note(rt, &connection_event(peer, forwarded, apps, connection));
+    } else {
+        let apps = seen.asked()?;
+        log.note(rt, &connection_event(peer, forwarded, &apps, connection));
+    }
     Ok(())
 }
 
@@ -81,29 +84,16 @@ fn without_texts<'x>(refusal: Option<&'x str>, cause: Option<&'x str>) -> Connec
 // The event of a connection with these texts and apps.
 fn connection_event<'x>(
     peer: &'x str,
-    forwarded: &'x str,
+    forwarded: Option<&'x str>,
     apps: &'x [AskedApp<'x>],
     connection: Connection<'x>,
 ) -> LogEvent<'x> {
-    let forwarded = if forwarded.is_empty() {
-        None
-    } else {
-        Some(forwarded)
-    };
     LogEvent::Connection(Connection {
         peer,
         forwarded,
         apps,
         ..connection
     })
-}
-
-// Empty where no address is named.
-fn forwarded_text(alloc: Global, address: Option<IpAddr>) -> Result<String, AllocError> {
-    match address {
-        Some(address) => Ok(address.to_string(alloc)?),
-        None => Ok(String::new(alloc)),
-    }
 }
 
 fn status_of(outcome: &Result<Sent, AnswerFault>) -> u16 {

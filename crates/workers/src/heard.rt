@@ -2,17 +2,17 @@
 
 ghost use Rattle.std.specs.Prelude.{◌≡◌};
 
+use memchr::memchr;
 use operator::operator_request::OperatorRequest;
 use std::alloc::Global;
 use std::io::{self, ErrorKind, Read, Write};
 use std::net::IpAddr;
-use std::str;
 
 /// The most bytes that are kept: those of a head, and more than those of an operator's line.
 const KEPT_LIMIT: usize = 16384;
 
 /// The header that names the client's address (`Forwarded`, RFC 7239, isn't looked at).
-const FORWARDED: &str = "x-forwarded-for";
+const FORWARDED: &[u8] = b"x-forwarded-for";
 
 /// A reader or a writer, with the bytes that were read, where they are to be kept.
 #[derive(Drop)]
@@ -26,10 +26,16 @@ pub(crate) struct Heard<T> {
 impl<T> Heard<T> {
     /// A device of which nothing is read yet.
     pub(crate) fn new(alloc: Global, inner: T, is_kept: bool) -> Heard<T> {
+        Heard::in_room(Vec::new(alloc), inner, is_kept)
+    }
+
+    /// The same, where there is room for what is read.
+    pub(crate) fn in_room(mut room: Vec<u8>, inner: T, is_kept: bool) -> Heard<T> {
+        room.clear();
         Heard {
             inner,
             is_kept,
-            bytes: Vec::new(alloc),
+            bytes: room,
             failure: None,
         }
     }
@@ -55,15 +61,16 @@ impl<T> Heard<T> {
     /// The address that `X-Forwarded-For` names, where it is one and no list.
     pub(crate) fn forwarded(&self) -> Option<IpAddr> {
         // Empty lines may stand before a request (RFC 9112, section 2.2).
-        for line in beginning_text(&self.bytes).trim_start().lines() {
+        let mut rest = self.bytes.trim_ascii_start();
+        for _ in 0..KEPT_LIMIT {
+            let (line, behind) = split_line(rest)?;
             if line.is_empty() {
                 return None;
             }
-            if let Some((name, value)) = line.split_once(':') {
-                if name.eq_ignore_ascii_case(FORWARDED) {
-                    return IpAddr::parse_ascii(value.trim().as_bytes()).ok();
-                }
+            if let Some(value) = forwarded_value(line) {
+                return IpAddr::parse_ascii(value.trim_ascii()).ok();
             }
+            rest = behind;
         }
         None
     }
@@ -71,6 +78,14 @@ impl<T> Heard<T> {
     /// The device itself.
     pub(crate) fn into_inner(self) -> T {
         self.inner
+    }
+
+    /// The room in which what was read stands.
+    pub(crate) fn into_room(self) -> Vec<u8>
+    where
+        T: Drop,
+    {
+        self.bytes
     }
 
     // Bytes whose memory is refused aren't kept.
@@ -97,14 +112,25 @@ fn first_line(bytes: &[u8]) -> &[u8] {
     }
 }
 
-// The bytes before the first that isn't UTF-8.
-fn beginning_text(bytes: &[u8]) -> &str {
-    match str::from_utf8(bytes) {
-        Ok(text) => text,
-        Err(error) => match bytes.get(..error.valid_up_to()) {
-            Some(front) => str::from_utf8(front).unwrap_or(""),
-            None => "",
-        },
+// The first line without its end, and what stands behind it; none where no line ends.
+fn split_line(bytes: &[u8]) -> Option<(&[u8], &[u8])> {
+    let end = memchr(b'\n', bytes)?;
+    let (_, behind) = bytes.get(end..)?.split_first()?;
+    match bytes.get(..end)? {
+        [line @ .., b'\r'] => Some((line, behind)),
+        line => Some((line, behind)),
+    }
+}
+
+// What stands behind the colon of the header that names the client's address.
+fn forwarded_value(line: &[u8]) -> Option<&[u8]> {
+    let [b'x' | b'X', ..] = line else {
+        return None;
+    };
+    let (name, value) = line.split_at_checked(FORWARDED.len())?;
+    match value {
+        [b':', value @ ..] if name.eq_ignore_ascii_case(FORWARDED) => Some(value),
+        _ => None,
     }
 }
 

@@ -3,21 +3,30 @@
 
 use crate::clock::utc_now;
 use crate::log_queue::{LogPiece, LogQueue};
-use access_log::{LogEvent, log_line};
+use access_log::{LineRoom, LogEvent, log_line_in};
 use std::alloc::Global;
 use std::mem;
 use std::sync::Wait;
-use std::time::Clock;
+use std::time::{Clock, Duration};
 
 /// How many bytes of lines are enough to be handed on.
 const ENOUGH: usize = 4096;
 
-/// The lines of a worker that aren't in the queue yet. They are put there before the worker waits
-/// for a connection, where there are enough of them, and before it attends to a connection of a
-/// later second. So a line is late by a second, and by the time of the next connection, at most.
+/// Room for lines that aren't enough and for the longest behind them.
+const PIECE_ROOM: usize = 8192;
+
+/// How long lines wait for more before they are handed on.
+const LINGER_MILLIS: u64 = 10;
+
+/// The lines of a worker that aren't in the queue yet. They are put there where there are enough of
+/// them, where the worker has waited for a connection for a hundredth of a second, and before it
+/// attends to a connection of a later second. So a line is late by a second, and by the time of the
+/// next connection, at most.
 #[derive(Drop)]
 pub(crate) struct Log<'a> {
     queue: Option<&'a LogQueue>,
+    /// Room for a line.
+    line: LineRoom,
     text: Vec<u8>,
     lines: u64,
     /// The second of these lines.
@@ -29,6 +38,7 @@ impl<'a> Log<'a> {
     pub fn new(alloc: Global, queue: Option<&'a LogQueue>) -> Log<'a> {
         Log {
             queue,
+            line: LineRoom::new(alloc),
             text: Vec::new(alloc),
             lines: 0,
             moment: 0,
@@ -45,8 +55,8 @@ impl<'a> Log<'a> {
     where
         H: Wait + AllocGlobal + Clock,
     {
-        match log_line(rt.alloc(), &utc_now(rt), event) {
-            Ok(line) => self.add(&line),
+        match log_line_in(&mut self.line, &utc_now(rt), event) {
+            Ok(()) => self.add(),
             Err(_) => self.lose(),
         }
         if self.text.len() >= ENOUGH {
@@ -61,12 +71,20 @@ impl<'a> Log<'a> {
         }
     }
 
-    fn add(&mut self, line: &[u8]) {
-        if self.text.extend_from_slice(line).is_ok() {
+    fn add(&mut self) {
+        if self.text.extend_from_slice(self.line.bytes()).is_ok() {
             self.lines = self.lines.saturating_add(1);
         } else {
             self.lose();
         }
+    }
+
+    /// How long the worker waits for a connection before it hands lines on; none without a line.
+    pub fn linger(&self) -> Option<Duration> {
+        if self.lines == 0 {
+            return None;
+        }
+        Some(Duration::from_millis(LINGER_MILLIS))
     }
 
     /// Hands on the lines of an earlier second than this, which is now the log's.
@@ -91,9 +109,20 @@ impl<'a> Log<'a> {
         if self.lines == 0 {
             return;
         }
-        let text = mem::replace(&mut self.text, Vec::new(rt.alloc()));
+        let room = room_behind(rt.alloc(), self.text.len());
+        let text = mem::replace(&mut self.text, room);
         let lines = self.lines;
         self.lines = 0;
         queue.put(rt, LogPiece { text, lines });
+    }
+}
+
+// Room for the lines behind a piece of so many bytes: for as many where these were enough, and else
+// none before there is a line.
+fn room_behind(alloc: Global, bytes: usize) -> Vec<u8> {
+    let room = if bytes < ENOUGH { 0 } else { PIECE_ROOM };
+    match Vec::with_capacity(alloc, room) {
+        Ok(room) => room,
+        Err(_) => Vec::new(alloc),
     }
 }

@@ -3,11 +3,11 @@
 //! the program at the latest.
 
 use crate::clock::utc_now;
+use crate::log_output::LogOutput;
 use crate::log_queue::{LogPiece, LogQueue};
 use access_log::{LogEvent, log_line};
 use crossbeam_channel::{Receiver, Sender, bounded};
 use operator::bounded_files::ResourceFault;
-use std::str;
 use std::sync::Wait;
 use std::thread::{self, Threads};
 use std::time::{Clock, Duration};
@@ -25,7 +25,7 @@ pub struct LogEnd {
 /// of and empty. B4 where memory or the thread is refused.
 pub fn start_log<H>(rt: &H) -> Result<(LogQueue, LogEnd), ResourceFault>
 where
-    H: Threads + Wait + AllocGlobal + Clock + Eprint + Copy + Drop + Send + 'static,
+    H: Threads + Wait + AllocGlobal + Clock + LogOutput + Copy + Drop + Send + 'static,
 {
     let Ok((queue, from)) = LogQueue::new(rt.alloc()) else {
         return Err(ResourceFault::Memory);
@@ -43,7 +43,7 @@ where
 // Writes each piece, and at the end how many lines couldn't be written.
 fn write_pieces<H>(rt: H, pieces: Receiver<LogPiece>, ending: Sender<()>)
 where
-    H: Wait + AllocGlobal + Clock + Eprint + Drop,
+    H: Wait + AllocGlobal + Clock + LogOutput + Drop,
 {
     let mut unwritten = 0;
     for _ in rt.forever() {
@@ -62,15 +62,14 @@ where
 // couldn't be. A piece of which a part was written counts as a whole.
 fn write_piece<H>(rt: &H, piece: &LogPiece, unwritten: u64) -> u64
 where
-    H: AllocGlobal + Clock + Eprint,
+    H: AllocGlobal + Clock + LogOutput,
 {
     if unwritten != 0 && !tell_unwritten(rt, unwritten) {
         return unwritten.saturating_add(piece.lines);
     }
-    if write_text(rt, &piece.text) {
-        0
-    } else {
-        piece.lines
+    match rt.write_lines(&piece.text) {
+        Ok(()) => 0,
+        Err(_) => piece.lines,
     }
 }
 
@@ -78,29 +77,22 @@ where
 // told.
 fn tell_unwritten<H>(rt: &H, lines: u64) -> bool
 where
-    H: AllocGlobal + Clock + Eprint,
+    H: AllocGlobal + Clock + LogOutput,
 {
     let Ok(line) = log_line(rt.alloc(), &utc_now(rt), &LogEvent::Lost(lines)) else {
         return false;
     };
-    rt.eprint("\n").is_ok() && write_text(rt, &line)
-}
-
-fn write_text<H: Eprint>(rt: &H, text: &[u8]) -> bool {
-    match str::from_utf8(text) {
-        Ok(text) => rt.eprint(text).is_ok(),
-        Err(_) => false,
-    }
+    rt.write_lines(b"\n").is_ok() && rt.write_lines(&line).is_ok()
 }
 
 /// Writes the line of an event at once, as of a start that is refused, when there is no thread. It
 /// is lost where memory is refused or standard error fails.
 pub fn note_at_once<H>(rt: &H, event: &LogEvent<'_>)
 where
-    H: AllocGlobal + Clock + Eprint,
+    H: AllocGlobal + Clock + LogOutput,
 {
     if let Ok(line) = log_line(rt.alloc(), &utc_now(rt), event) {
-        let _written = write_text(rt, &line);
+        let _written = rt.write_lines(&line);
     }
 }
 

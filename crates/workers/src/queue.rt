@@ -35,8 +35,8 @@ where
     }
 }
 
-/// The next connection, or none where the queue is closed. Before the worker waits for one it
-/// hands its log's lines on, so that none is left at the end.
+/// The next connection, or none where the queue is closed. Where none comes for a moment the worker
+/// hands its log's lines on before it waits for one, so that none is left at the end.
 pub(crate) fn next<H>(rt: &H, queue: &Receiver<Call>, log: &mut Log<'_>) -> Option<Call>
 where
     H: Wait + AllocGlobal + Clock,
@@ -44,6 +44,11 @@ where
     if let Ok(call) = queue.try_recv(rt) {
         return Some(call);
     }
-    log.hand_on(rt);
+    if let Some(linger) = log.linger() {
+        if let Ok(call) = queue.recv_timeout(rt, linger) {
+            return Some(call);
+        }
+        log.hand_on(rt);
+    }
     queue.recv(rt).ok()
 }

@@ -1,34 +1,18 @@
 //! What the log has seen of a connection: what each app was answered, and under which generation.
-//! The texts are copied, since the line is written once the reply was sent.
+//! The texts are copied, since the line is written once the reply was sent. A worker keeps the room
+//! for all of it from one connection to the next.
 
 use crate::event_texts::event_texts;
-use access_log::{AskedApp, Excerpt, Outcome};
+use crate::kept_texts::{KeptTexts, TextPlace};
+use crate::seen_app::{KeptEvent, SeenApp};
+use access_log::AskedApp;
 use answering::Witness;
-use answering::omaha_json::{FoundApp, Request, release_at};
-use one_world::attrs::{AppFacts, Bucket, Text, cohort_bucket, hashed_bucket, named_or_hashed};
+use answering::omaha_json::{FoundApp, Request};
+use one_world::attrs::{AppFacts, Bucket, hashed_bucket};
 use operator::hot_swap::Generation;
 use std::alloc::{AllocError, Global};
-use std::net::IpAddr;
-
-/// An app of a request, as the log keeps it.
-#[derive(Drop)]
-struct SeenApp {
-    appid: String,
-    version: Option<String>,
-    bucket: u16,
-    named: bool,
-    is_known: bool,
-    choice: Option<u8>,
-    release: Option<String>,
-    event: Option<KeptEvent>,
-}
-
-/// The beginning of a member `event`, and how many bytes are left out.
-#[derive(Drop)]
-struct KeptEvent {
-    text: String,
-    left_out: u64,
-}
+use std::mem;
+use std::net::{IpAddr, SocketAddr};
 
 /// What was seen, where it is to be kept.
 #[derive(Drop)]
@@ -43,10 +27,20 @@ pub(crate) struct Seen {
     pub(crate) cause: Option<&'static str>,
     /// How many bytes were written.
     pub(crate) bytes: u64,
+    /// Room for what is read.
+    room: Vec<u8>,
+    texts: KeptTexts,
     events: Vec<Option<KeptEvent>>,
     apps: Vec<SeenApp>,
     /// Whether memory was refused to some of it.
     is_cut: bool,
+}
+
+/// The client's address and port, and the address that a proxy names, as texts.
+#[derive(Clone, Copy)]
+pub(crate) struct Addresses {
+    peer: TextPlace,
+    forwarded: Option<TextPlace>,
 }
 
 impl Seen {
@@ -59,15 +53,67 @@ impl Seen {
             forwarded: None,
             cause: None,
             bytes: 0,
+            room: Vec::new(alloc),
+            texts: KeptTexts::new(alloc),
             events: Vec::new(alloc),
             apps: Vec::new(alloc),
             is_cut: false,
         }
     }
 
+    /// Nothing yet, of the next connection.
+    pub(crate) fn begin(&mut self) {
+        self.generation = 0;
+        self.forwarded = None;
+        self.cause = None;
+        self.bytes = 0;
+        self.texts.clear();
+        self.events.clear();
+        self.apps.clear();
+        self.is_cut = false;
+    }
+
     /// Whether it is to be kept.
     pub(crate) fn is_kept(&self) -> bool {
         self.is_kept
+    }
+
+    /// The room for what is read, which is out until `keep_room` gives it back.
+    pub(crate) fn take_room(&mut self) -> Vec<u8> {
+        mem::replace(&mut self.room, Vec::new(self.alloc))
+    }
+
+    /// Keeps the room of what was read.
+    pub(crate) fn keep_room(&mut self, room: Vec<u8>) {
+        self.room = room;
+    }
+
+    /// Keeps the texts of the addresses.
+    pub(crate) fn keep_addresses(&mut self, peer: SocketAddr) -> Result<Addresses, AllocError> {
+        let peer = self.texts.keep_socket(peer)?;
+        let forwarded = match self.forwarded {
+            Some(address) => Some(self.texts.keep_address(address)?),
+            None => None,
+        };
+        Ok(Addresses { peer, forwarded })
+    }
+
+    /// The text of the client's address and port.
+    pub(crate) fn peer(&self, addresses: Addresses) -> &str {
+        self.texts.at(addresses.peer)
+    }
+
+    /// The text of the address that a proxy names.
+    pub(crate) fn forwarded_text(&self, addresses: Addresses) -> Option<&str> {
+        self.texts.at_some(addresses.forwarded)
+    }
+
+    /// The app, as a line tells it, where there is one alone and it was kept.
+    pub(crate) fn only_app(&self) -> Option<AskedApp<'_>> {
+        match self.apps.as_slice() {
+            [app] if !self.is_cut => Some(app.asked(&self.texts)),
+            _ => None,
+        }
     }
 
     /// The apps, as a line tells them; none where memory was refused to some of them.
@@ -77,7 +123,7 @@ impl Seen {
         }
         let mut asked = Vec::with_capacity(self.alloc, self.apps.len())?;
         for app in self.apps.iter() {
-            asked.push(asked_app(app))?;
+            asked.push(app.asked(&self.texts))?;
         }
         Ok(asked)
     }
@@ -88,21 +134,21 @@ impl Seen {
         request: &Request,
         found: &[Option<FoundApp<'_>>],
     ) -> Result<(), AllocError> {
-        let hashed = Bucket::new(hashed_bucket(request.facts()));
+        let hashed = bucket_of_unknown(request, found);
         for (place, app) in request.apps().iter().enumerate() {
             let Some(found) = found.get(place) else {
                 return Ok(());
             };
-            let event = self.take_event(place);
-            let seen = seen_app(self.alloc, app, found, hashed, event)?;
+            let event = self.event(place);
+            let seen = SeenApp::of(&mut self.texts, app, found, hashed, event)?;
             self.apps.push(seen)?;
         }
         Ok(())
     }
 
-    fn take_event(&mut self, place: usize) -> Option<KeptEvent> {
-        match self.events.get_mut(place) {
-            Some(event) => event.take(),
+    fn event(&self, place: usize) -> Option<KeptEvent> {
+        match self.events.get(place) {
+            Some(event) => *event,
             None => None,
         }
     }
@@ -111,7 +157,7 @@ impl Seen {
     fn keep_events(&mut self, body: &[u8]) -> Result<(), AllocError> {
         for text in event_texts(self.alloc, body)? {
             let kept = match text {
-                Some(text) => Some(kept_event(self.alloc, &text)?),
+                Some(text) => Some(KeptEvent::of(&mut self.texts, &text)?),
                 None => None,
             };
             self.events.push(kept)?;
@@ -136,6 +182,16 @@ impl Witness for Seen {
     }
 }
 
+// The bucket of an app that nothing was found for; 0 where there is none, since a hash takes time.
+fn bucket_of_unknown(request: &Request, found: &[Option<FoundApp<'_>>]) -> Bucket {
+    for app in found {
+        if app.is_none() {
+            return Bucket::new(hashed_bucket(request.facts()));
+        }
+    }
+    Bucket::new(0)
+}
+
 fn has_event(apps: &[AppFacts]) -> bool {
     for app in apps {
         if app.event {
@@ -143,100 +199,4 @@ fn has_event(apps: &[AppFacts]) -> bool {
         }
     }
     false
-}
-
-fn kept_event(alloc: Global, text: &str) -> Result<KeptEvent, AllocError> {
-    let excerpt = Excerpt::of(text);
-    Ok(KeptEvent {
-        text: String::from_str(alloc, excerpt.text)?,
-        left_out: excerpt.left_out,
-    })
-}
-
-fn seen_app(
-    alloc: Global,
-    app: &AppFacts,
-    found: &Option<FoundApp<'_>>,
-    hashed: Bucket,
-    event: Option<KeptEvent>,
-) -> Result<SeenApp, AllocError> {
-    let (bucket, choice, release) = match found {
-        Some(found) => (found.bucket(), found.choice(), release_of(alloc, found)?),
-        None => (named_or_hashed(app, hashed.number()), None, None),
-    };
-    Ok(SeenApp {
-        appid: String::from_str(alloc, app.appid.as_str())?,
-        version: copied(alloc, &app.version)?,
-        bucket,
-        named: is_named(&app.cohort),
-        is_known: found.is_some(),
-        choice,
-        release,
-        event,
-    })
-}
-
-// The version of the release that was chosen, if one was.
-fn release_of(alloc: Global, found: &FoundApp<'_>) -> Result<Option<String>, AllocError> {
-    let Some(choice) = found.choice() else {
-        return Ok(None);
-    };
-    match release_at(found.releases(), choice) {
-        Some(release) => Ok(Some(String::from_str(alloc, release.version())?)),
-        None => Ok(None),
-    }
-}
-
-fn copied(alloc: Global, text: &Option<Text>) -> Result<Option<String>, AllocError> {
-    match text {
-        Some(text) => Ok(Some(String::from_str(alloc, text.as_str())?)),
-        None => Ok(None),
-    }
-}
-
-// Whether a cohort names a bucket.
-fn is_named(cohort: &Option<Text>) -> bool {
-    match cohort {
-        Some(cohort) => cohort_bucket(cohort.as_str()).is_some(),
-        None => false,
-    }
-}
-
-fn asked_app<'x>(app: &'x SeenApp) -> AskedApp<'x> {
-    AskedApp {
-        appid: app.appid.as_str(),
-        version: lent(&app.version),
-        bucket: app.bucket,
-        named: app.named,
-        outcome: outcome_of(app),
-        event: excerpt_of(&app.event),
-    }
-}
-
-fn outcome_of<'x>(app: &'x SeenApp) -> Outcome<'x> {
-    if !app.is_known {
-        return Outcome::Unknown;
-    }
-    match (app.choice, &app.release) {
-        (None, _) => Outcome::Unasked,
-        (Some(choice), Some(release)) => Outcome::Offered(choice, release.as_str()),
-        (Some(_), None) => Outcome::NoUpdate,
-    }
-}
-
-fn lent<'x>(text: &'x Option<String>) -> Option<&'x str> {
-    match text {
-        Some(text) => Some(text.as_str()),
-        None => None,
-    }
-}
-
-fn excerpt_of<'x>(event: &'x Option<KeptEvent>) -> Option<Excerpt<'x>> {
-    match event {
-        Some(event) => Some(Excerpt {
-            text: event.text.as_str(),
-            left_out: event.left_out,
-        }),
-        None => None,
-    }
 }

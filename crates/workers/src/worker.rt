@@ -74,12 +74,13 @@ where
         room: AnswerRoom::new(rt.alloc()),
     };
     let mut log = Log::new(rt.alloc(), service.log);
+    let mut seen = Seen::new(rt.alloc(), log.is_kept());
     for _ in rt.forever() {
         let Some(call) = next(rt, &queue, &mut log) else {
             break;
         };
         gate.before(call.number);
-        let _attended = attend(rt, &call, &mut seat, service, &mut log);
+        let _attended = attend(rt, &call, &mut seat, service, &mut log, &mut seen);
         gate.after(call.number);
     }
     let WorkerSeat {
@@ -98,6 +99,7 @@ fn attend<H, C>(
     seat: &mut WorkerSeat<'_, C>,
     service: Service<'_>,
     log: &mut Log<'_>,
+    seen: &mut Seen,
 ) -> io::Result<()>
 where
     H: Wait + AllocGlobal + Clock,
@@ -111,9 +113,9 @@ where
     let moment = unix_second(rt);
     log.hand_on_earlier(rt, moment);
     let limits = Limits::begin(rt, service.timeout);
-    let mut seen = Seen::new(rt.alloc(), log.is_kept());
-    let outcome = answer_within(rt, &call.stream, seat, moment, limits, &mut seen);
-    note_connection(rt, log, call.peer, limits, &outcome, &seen);
+    seen.begin();
+    let outcome = answer_within(rt, &call.stream, seat, moment, limits, seen);
+    note_connection(rt, log, call.peer, limits, &outcome, seen);
     finish(rt, &call.stream, &outcome)
 }
 
@@ -145,7 +147,7 @@ where
     let alloc = rt.alloc();
     let from = Timed::new(stream, rt, limits.until());
     let into = Timed::new(stream, rt, limits.until());
-    let mut reader = Counted::new(Heard::new(alloc, from, seen.is_kept()));
+    let mut reader = Counted::new(Heard::in_room(seen.take_room(), from, seen.is_kept()));
     let mut writer = Counted::new(Heard::new(alloc, into, false));
     let turn = Turn {
         alloc,
@@ -177,6 +179,7 @@ fn remember<'x, H: Clock>(
         None => writer.cause(),
     };
     seen.bytes = writer.into_inner().bytes();
+    seen.keep_room(reader.into_room());
 }
 
 // Takes what a client sent beyond its request, since a socket that is closed with bytes unread is

@@ -2,7 +2,7 @@
 //! And a write that fails.
 
 use commands::command_line::WordsFault;
-use commands::{Device, command, unreadable_words, usage};
+use commands::{Device, LogOutput, command, unreadable_words, usage};
 use std::io::ErrorKind;
 use std::net::{Net, TcpListener, TcpStream};
 use std::rt::Files;
@@ -42,7 +42,8 @@ const WORDS: [&str; 7] = [
 /// The status of a run, which prints into room that stands ready.
 fn run_none<R>(rt: &R, room: &mut [u8], said: &mut [u8]) -> u8
 where
-    R: Files + Threads + Wait + AllocGlobal + Clock + Eprint + Copy + Drop + Send + Sync + 'static,
+    R: Files + Threads + Wait + AllocGlobal + Clock + LogOutput,
+    R: Copy + Drop + Send + Sync + 'static,
     R: Net<Listener = TcpListener, Stream = TcpStream>,
     R::File: Send,
     R::Dir: Send,

@@ -1,6 +1,7 @@
 //! A server, from its words to its operator's stop: both ends in one process.
 
 use super::{Printed, prints, text_of, told, write_program};
+use commands::LogOutput;
 use std::io::{self, Read, Write};
 use std::net::{Ipv4Addr, Net, TcpListener, TcpStream};
 use std::rt::Files;
@@ -89,7 +90,8 @@ pub(super) fn is_replied<R: AllocGlobal>(
 /// What an operator's words are answered.
 pub(super) fn told_operator<R>(rt: &R, operator: u16, words: &str) -> io::Result<Printed>
 where
-    R: Files + Threads + Wait + AllocGlobal + Clock + Eprint + Copy + Drop + Send + Sync + 'static,
+    R: Files + Threads + Wait + AllocGlobal + Clock + LogOutput,
+    R: Copy + Drop + Send + Sync + 'static,
     R: Net<Listener = TcpListener, Stream = TcpStream>,
     R::File: Send,
     R::Dir: Send,
@@ -100,7 +102,8 @@ where
 
 fn is_right<R>(rt: &R, service: u16, operator: u16, row: &str) -> io::Result<bool>
 where
-    R: Files + Threads + Wait + AllocGlobal + Clock + Eprint + Copy + Drop + Send + Sync + 'static,
+    R: Files + Threads + Wait + AllocGlobal + Clock + LogOutput,
+    R: Copy + Drop + Send + Sync + 'static,
     R: Net<Listener = TcpListener, Stream = TcpStream>,
     R::File: Send,
     R::Dir: Send,
@@ -132,7 +135,8 @@ pub(super) fn await_port<R: Clock + Net<Stream = TcpStream>>(rt: &R, port: u16) 
 /// The first row whose answer is another one, once the operator's port answers.
 fn first_wrong<R>(rt: &R, service: u16, operator: u16) -> Option<&'static str>
 where
-    R: Files + Threads + Wait + AllocGlobal + Clock + Eprint + Copy + Drop + Send + Sync + 'static,
+    R: Files + Threads + Wait + AllocGlobal + Clock + LogOutput,
+    R: Copy + Drop + Send + Sync + 'static,
     R: Net<Listener = TcpListener, Stream = TcpStream>,
     R::File: Send,
     R::Dir: Send,

@@ -4,6 +4,7 @@ use super::server::{
     REQUEST, await_port, free_ports, is_replied, is_reply_of, told_operator, write_files,
 };
 use super::told;
+use commands::LogOutput;
 use std::io::{self, Write};
 use std::net::{Ipv4Addr, Net, TcpListener, TcpStream};
 use std::rt::Files;
@@ -48,7 +49,8 @@ where
 /// Whether a stop that waits says that the server stops, once nobody listens at the port.
 fn is_stopped<R>(rt: &R, operator: u16, is_over: &AtomicBool) -> io::Result<bool>
 where
-    R: Files + Threads + Wait + AllocGlobal + Clock + Eprint + Copy + Drop + Send + Sync + 'static,
+    R: Files + Threads + Wait + AllocGlobal + Clock + LogOutput,
+    R: Copy + Drop + Send + Sync + 'static,
     R: Net<Listener = TcpListener, Stream = TcpStream>,
     R::File: Send,
     R::Dir: Send,
@@ -63,7 +65,8 @@ where
 /// Whether a client is heard out before a stop that waits returns.
 fn is_waited_for<R>(rt: &R, service: u16, operator: u16) -> io::Result<bool>
 where
-    R: Files + Threads + Wait + AllocGlobal + Clock + Eprint + Copy + Drop + Send + Sync + 'static,
+    R: Files + Threads + Wait + AllocGlobal + Clock + LogOutput,
+    R: Copy + Drop + Send + Sync + 'static,
     R: Net<Listener = TcpListener, Stream = TcpStream>,
     R::File: Send,
     R::Dir: Send,

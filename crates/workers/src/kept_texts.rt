@@ -1,0 +1,111 @@
+//! The texts that a worker keeps of a request, one behind another in one room, which it keeps for
+//! the next request.
+
+use itoa::Buffer;
+use std::alloc::{AllocError, Global};
+use std::fmt::Write;
+use std::net::{IpAddr, Ipv4Addr, SocketAddr};
+
+/// The most room that is kept for the next request.
+const KEPT_ROOM: usize = 65536;
+
+/// Where a text stands.
+#[derive(Clone, Copy)]
+pub(crate) struct TextPlace {
+    begin: usize,
+    end: usize,
+}
+
+/// Texts, one behind another.
+#[derive(Drop)]
+pub(crate) struct KeptTexts {
+    alloc: Global,
+    all: String,
+}
+
+impl KeptTexts {
+    /// No text yet.
+    pub(crate) fn new(alloc: Global) -> KeptTexts {
+        KeptTexts {
+            alloc,
+            all: String::new(alloc),
+        }
+    }
+
+    /// Lets all texts go, and keeps their room.
+    pub(crate) fn clear(&mut self) {
+        if self.all.capacity() > KEPT_ROOM {
+            self.all = String::new(self.alloc);
+        }
+        self.all.clear();
+    }
+
+    /// Keeps a text.
+    pub(crate) fn keep(&mut self, text: &str) -> Result<TextPlace, AllocError> {
+        let begin = self.all.len();
+        self.all.push_str(text)?;
+        Ok(self.since(begin))
+    }
+
+    /// Keeps the text of an address and a port.
+    pub(crate) fn keep_socket(&mut self, socket: SocketAddr) -> Result<TextPlace, AllocError> {
+        let begin = self.all.len();
+        match socket {
+            SocketAddr::V4(v4) => {
+                push_v4(&mut self.all, *v4.ip())?;
+                self.all.push_str(":")?;
+                push_number(&mut self.all, v4.port())?;
+            }
+            SocketAddr::V6(v6) => write!(self.all, "{v6}")?,
+        }
+        Ok(self.since(begin))
+    }
+
+    /// Keeps the text of an address.
+    pub(crate) fn keep_address(&mut self, address: IpAddr) -> Result<TextPlace, AllocError> {
+        let begin = self.all.len();
+        match address {
+            IpAddr::V4(v4) => push_v4(&mut self.all, v4)?,
+            IpAddr::V6(v6) => write!(self.all, "{v6}")?,
+        }
+        Ok(self.since(begin))
+    }
+
+    // The texts from there on, as one.
+    fn since(&self, begin: usize) -> TextPlace {
+        TextPlace {
+            begin,
+            end: self.all.len(),
+        }
+    }
+
+    /// The text at a place that was given since all were let go.
+    pub(crate) fn at(&self, place: TextPlace) -> &str {
+        self.all.as_str().get(place.begin..place.end).unwrap_or("")
+    }
+
+    /// The same, where there is a place.
+    pub(crate) fn at_some(&self, place: Option<TextPlace>) -> Option<&str> {
+        match place {
+            Some(place) => Some(self.at(place)),
+            None => None,
+        }
+    }
+}
+
+// An address in its four numbers.
+fn push_v4(text: &mut String, address: Ipv4Addr) -> Result<(), AllocError> {
+    let [first, second, third, fourth] = address.octets();
+    push_number(text, u16::from(first))?;
+    text.push_str(".")?;
+    push_number(text, u16::from(second))?;
+    text.push_str(".")?;
+    push_number(text, u16::from(third))?;
+    text.push_str(".")?;
+    push_number(text, u16::from(fourth))
+}
+
+fn push_number(text: &mut String, number: u16) -> Result<(), AllocError> {
+    let mut digits = Buffer::new();
+    text.push_str(digits.format(number))
+}
