@@ -2,7 +2,7 @@
 use Rattle.std.proofs.Common.{ℕ, List, codes}
 use Rattle.clap.specs.Words.{Text, Row}
 use Rattle.std.proofs.Common.{◌∙◌, sym, subst}
-use Rattle.std.specs.Prelude.{IsNone, Option, Some, option_copied}
+use Rattle.std.specs.Prelude.{Option, Some, option_copied}
 use Rattle.command_line.specs.AppOptions.{HasTold, IsPlace}
 use Rattle.command_line.specs.declared.told.ToldApp.{ToldApp}
 use Rattle.command_line.specs.declared.request.AskedRun.{AskedRun}

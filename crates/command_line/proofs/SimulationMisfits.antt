@@ -1,6 +1,6 @@
 -- Words of `simulate` that have a misfit ask for nothing.
 use Rattle.std.proofs.Common.{◌∙◌, sym, ap, inl, inr, true, false, List, codes}
-use Rattle.std.specs.Prelude.{◌≡◌, IsNone, IsSome, Option, Some, None}
+use Rattle.std.specs.Prelude.{◌≡◌, IsNone, IsSome, Option, Some}
 use Rattle.std.specs.Prelude.{is_some, option_copied}
 use Rattle.clap.specs.Words.{Row, Text, first_of}
 use Rattle.command_line.specs.AppOptions.{IsAnyones, TellsOneClient, given, value_in}

@@ -1,5 +1,5 @@
-use Rattle.std.proofs.Common.{◌≡◌, sym, subst, List, Option, Some}
-use Rattle.clap.specs.Words.{Row, Text, found_of, rows_of, subcommand_rows_of}
+use Rattle.std.proofs.Common.{sym, subst, List, Option}
+use Rattle.clap.specs.Words.{Row, Text, found_of, rows_of}
 use Rattle.command_line.specs.Misfits.{IsMisfit, IsMisfitOf}
 use Rattle.command_line.specs.Words.{IsNothingAsked, VerbAsksNothing}
 use Rattle.command_line.specs.declared.verb.Verb.{Verb}
