@@ -55,18 +55,18 @@ fn shape_of(alloc: Global, releases: u8) -> Result<Shape, CellsFault> {
 
 /// The listing, and the place that is refused.
 #[derive(Drop)]
-struct Told {
+struct Listed {
     text: String,
     place: Option<RefusedPlace>,
 }
 
-fn told(alloc: Global, flow: &Flow, shape: &Shape) -> Result<Told, AllocError> {
+fn told(alloc: Global, flow: &Flow, shape: &Shape) -> Result<Listed, AllocError> {
     let text = explain(alloc, flow, shape)?.text;
     let place = refused_place(alloc, flow, shape)?;
-    Ok(Told { text, place })
+    Ok(Listed { text, place })
 }
 
-fn explained(alloc: Global, releases: u8, text: &str) -> Result<Told, Fail> {
+fn explained(alloc: Global, releases: u8, text: &str) -> Result<Listed, Fail> {
     let bytes = assemble(alloc, text)?;
     let flow = Flow::check(alloc, &bytes)?;
     let shape = shape_of(alloc, releases)?;
