@@ -1,8 +1,9 @@
 -- A text in which nothing is to be escaped stands in JSON as it is, and the text of a time is one.
 use Rattle.std.proofs.Common.{◌≡◌, ℕ, ◌/◌, List, [], ◌∷◌, ◌++◌, Bool, true, false, cond, refl, ap}
-use Rattle.std.proofs.Common.{◌∙◌, arith}
+use Rattle.std.proofs.Common.{◌∙◌, sym, append_assoc, arith}
+use Rattle.std.specs.Bool.{OnTrue}
 use Rattle.std.proofs.lemmas.Bool.Decides.{nat_tests}
-use Rattle.json.specs.Print.{escape_byte, escape}
+use Rattle.json.specs.Print.{escape_byte, escape, quoted}
 use Rattle.access_log.specs.Plain.{is_escaped, is_plain_text}
 use Rattle.access_log.specs.Utc.{digit, two_digits, date_text, clock_text, utc_text}
 use Rattle.access_log.specs.declared.utc.Utc.{Utc}
@@ -17,6 +18,10 @@ as_it_is : (b : ℕ) → is_escaped b ≡ false → escape_byte b ≡ b ∷ []
 unfolding escape_byte
 as_it_is b is = grind (arith, nat_tests)
 
+pub told : {P : Type 0} (b : Bool) → OnTrue b P → b ≡ true → P
+told true is holds = is
+told false is holds = absurd cc
+
 parts : (escaped plain : Bool) → cond escaped false plain ≡ true
     → (escaped ≡ false) × (plain ≡ true)
 parts true plain is = absurd cc
@@ -28,6 +33,15 @@ plain_stands (b ∷ text) is =
     let both = parts (is_escaped b) (is_plain_text text) is in
     ap (λ l. l ++ escape text) (as_it_is b both.0)
     ∙ ap (λ l. b ∷ l) (plain_stands text both.1)
+
+-- such a text between quotes, written in three pieces
+pub quoted_plain : (a text : List ℕ) {b c d : List ℕ} → is_plain_text text ≡ true
+    → b ≡ a ++ 34 ∷ []
+    → c ≡ b ++ text → d ≡ c ++ 34 ∷ [] → d ≡ a ++ quoted text
+quoted_plain a text {b} {c} {d} plain first next last =
+    last ∙ ap (λ l. l ++ 34 ∷ []) (next ∙ ap (λ l. l ++ text) first)
+    ∙ append_assoc (a ++ 34 ∷ []) text (34 ∷ []) ∙ append_assoc a (34 ∷ []) (text ++ 34 ∷ [])
+    ∙ ap (λ l. a ++ (34 ∷ (l ++ 34 ∷ []))) (sym (plain_stands text plain))
 
 -- ---- the text of a time
 

@@ -1,15 +1,18 @@
 //! The members of each event, in their order.
 
-ghost use Rattle.std.specs.Prelude.{◌≡◌, codes, OnOk};
+ghost use Rattle.std.specs.Prelude.{◌≡◌, true, codes, OnOk};
 ghost use Rattle.access_log.specs.Tokens.{AddsMembers};
 ghost use Rattle.access_log.specs.Line as specs;
 ghost use Rattle.access_log.specs.Members.{text_member, number_member};
+ghost use Rattle.access_log.specs.Plain.{is_plain_text};
 
 use crate::apps::write_apps;
 use crate::event::{Connection, Counter, Load, LogEvent, Start};
 use crate::excerpt::Excerpt;
 use crate::line_room::LineRoom;
-use crate::member::{write_count, write_excerpt, write_number, write_optional, write_text};
+use crate::member::{
+    write_count, write_excerpt, write_number, write_optional, write_text, write_word,
+};
 use std::alloc::AllocError;
 
 /// What an event says.
@@ -101,9 +104,10 @@ fn write_counter(line: &mut LineRoom, counter: &Counter<'_>) -> Result<(), Alloc
 
 /// The member that says what kind of event it is.
 pub fn write_kind(line: &mut LineRoom, kind: &str) -> Result<(), AllocError>
+    requires { is_plain_text kind.now ≡ true }
     ensures { OnOk result (AddsMembers line.old line.new (specs.kind_member kind.now)) }
 {
-    write_text(line, "kind", kind)
+    write_word(line, "kind", kind)
 }
 
 fn write_path(line: &mut LineRoom, path: &Excerpt<'_>) -> Result<(), AllocError>

@@ -16,6 +16,7 @@ mod line_room;
 mod member;
 mod room;
 mod text;
+mod unescaped;
 mod utc;
 
 pub use asked::{AskedApp, Outcome};

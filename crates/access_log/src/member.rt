@@ -9,7 +9,7 @@ ghost use Rattle.access_log.specs.Plain.{is_plain_text};
 
 use crate::excerpt::Excerpt;
 use crate::line_room::LineRoom;
-use crate::text::{write_digits, write_name, write_quoted};
+use crate::text::{write_digits, write_name, write_plain, write_quoted};
 use std::alloc::AllocError;
 
 /// A member that is a text.
@@ -22,6 +22,19 @@ pub fn write_text(line: &mut LineRoom, name: &str, text: &str) -> Result<(), All
 {
     write_name(line, name)?;
     write_quoted(line, text.as_bytes())?;
+    Ok(())
+}
+
+/// A member that is a text in which nothing is to be escaped.
+#[inline(always)]
+#[tactic(auto, using(crate::proofs::Added::adds_text))]
+pub fn write_word(line: &mut LineRoom, name: &str, word: &str) -> Result<(), AllocError>
+    requires name { is_plain_text name.now ≡ true }
+    requires word { is_plain_text word.now ≡ true }
+    ensures { OnOk result (AddsMembers line.old line.new (specs.text_member name.now word.now)) }
+{
+    write_name(line, name)?;
+    write_plain(line, word.as_bytes())?;
     Ok(())
 }
 

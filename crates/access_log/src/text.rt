@@ -1,11 +1,12 @@
 //! The text of JSON's tokens (RFC 8259), written as bytes behind what stands in a line.
 
-ghost use Rattle.std.specs.Prelude.{◌≡◌, ◌++◌, ◌<◌, [], ◌∷◌, decimal, OnOk};
+ghost use Rattle.std.specs.Prelude.{◌≡◌, ◌++◌, ◌<◌, [], ◌∷◌, true, decimal, OnOk};
 ghost use Rattle.std.specs.Char.{digit_char};
 ghost use Rattle.json.specs.Print.{escape_letter, escape_byte, escape, quoted};
 ghost use Rattle.access_log.specs.Plain as specs;
 
 use crate::line_room::LineRoom;
+use crate::unescaped::is_plain;
 use itoa::Buffer;
 use std::alloc::AllocError;
 
@@ -39,6 +40,18 @@ pub fn write_quoted(line: &mut LineRoom, text: &[u8]) -> Result<(), AllocError>
     Ok(())
 }
 
+/// A text in which nothing is to be escaped, between quotes.
+#[inline(always)]
+pub fn write_plain(line: &mut LineRoom, text: &[u8]) -> Result<(), AllocError>
+    requires { specs.is_plain_text text.now ≡ true }
+    ensures { OnOk result (line.new ≡ line.old ++ quoted text.now) }
+{
+    line.put(b"\"")?;
+    line.put(text)?;
+    line.put(b"\"")?;
+    Ok(())
+}
+
 // A text with its escapes, of which most texts have none.
 fn write_escaped(line: &mut LineRoom, text: &[u8]) -> Result<(), AllocError>
     ensures { OnOk result (line.new ≡ line.old ++ escape text.now) }
@@ -48,20 +61,6 @@ fn write_escaped(line: &mut LineRoom, text: &[u8]) -> Result<(), AllocError>
         return Ok(());
     }
     write_each_escape(line, text)
-}
-
-// Whether nothing is to be escaped in a text.
-fn is_plain(text: &[u8]) -> bool
-    ensures { result ≡ specs.is_plain_text text.now }
-{
-    let mut rest = text;
-    while let [byte, behind @ ..] = rest {
-        if *byte < 32 || *byte == b'"' || *byte == b'\\' {
-            return false;
-        }
-        rest = behind;
-    }
-    true
 }
 
 #[inline(never)]

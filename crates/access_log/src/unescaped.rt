@@ -1,0 +1,82 @@
+//! Whether nothing is to be escaped in a text (RFC 8259, section 7), eight or sixteen bytes at a
+//! time. Two loads that overlap cover the end of a text.
+
+ghost use Rattle.std.specs.Prelude.{◌≡◌, ◌+◌, ◌≤◌, ◌<◌, length};
+ghost use Rattle.std.specs.Bool.{OnTrue};
+ghost use Rattle.json.specs.Print.{escape};
+ghost use Rattle.json.specs.Written.{PlainBetween};
+
+use std::simd::prelude::*;
+
+/// That nothing is. Where it is unknown, something may be.
+#[inline(always)]
+pub fn is_plain(text: &[u8]) -> bool
+    ensures { OnTrue result (escape text.now ≡ text.now) }
+{
+    all_plain(text)
+}
+
+#[inline(always)]
+fn all_plain(text: &[u8]) -> bool
+    ensures { OnTrue result (PlainBetween text.now 0 (length text.now)) }
+{
+    let len = text.len();
+    if len >= 16 {
+        long_plain(text)
+    } else if len >= 8 {
+        plain_8(text, 0) && plain_8(text, len - 8)
+    } else {
+        few_plain(text)
+    }
+}
+
+#[inline(always)]
+fn long_plain(text: &[u8]) -> bool
+    requires { 16 ≤ length text.now }
+    ensures { OnTrue result (PlainBetween text.now 0 (length text.now)) }
+{
+    let mut at = 0;
+    while text.len() - at > 16 {
+        if !plain_16(text, at) {
+            return false;
+        }
+        at += 16;
+    }
+    plain_16(text, text.len() - 16)
+}
+
+#[inline(always)]
+fn plain_16(text: &[u8], at: usize) -> bool
+    requires { at + 16 ≤ length text.now }
+    ensures { OnTrue result (PlainBetween text.now at (at + 16)) }
+{
+    let v = u8x16::from_slice(&text[at..]);
+    (v.simd_eq(u8x16::splat(b'"'))
+        | v.simd_eq(u8x16::splat(b'\\'))
+        | v.simd_lt(u8x16::splat(0x20))).to_bitmask()
+        == 0
+}
+
+#[inline(always)]
+fn plain_8(text: &[u8], at: usize) -> bool
+    requires { at + 8 ≤ length text.now }
+    ensures { OnTrue result (PlainBetween text.now at (at + 8)) }
+{
+    let v = u8x8::from_slice(&text[at..]);
+    (v.simd_eq(u8x8::splat(b'"'))
+        | v.simd_eq(u8x8::splat(b'\\'))
+        | v.simd_lt(u8x8::splat(0x20))).to_bitmask()
+        == 0
+}
+
+#[inline(always)]
+fn few_plain(text: &[u8]) -> bool
+    ensures { OnTrue result (PlainBetween text.now 0 (length text.now)) }
+{
+    for &byte in text {
+        if byte == b'"' || byte == b'\\' || byte < 0x20 {
+            return false;
+        }
+    }
+    true
+}
