@@ -5,4 +5,6 @@ mod AppsTold
 mod OneTold
 mod Passing
 mod Checks
+mod Judged
+mod FaultsTold
 mod Long

@@ -6,7 +6,11 @@ use Rattle.load.specs.manifest.declared.fault.ManifestFault.TheVariants.{Toml}
 use Rattle.load.specs.manifest.declared.fault.TomlFault.TheVariants.{TooLong}
 use Rattle.diagnosis.specs.Check.{FailsIfLong}
 use Rattle.diagnosis.specs.Reason.{IsTomlReason}
+use Rattle.diagnosis.proofs.FaultsTold.{told_alone}
 
 pub fails_if_long : (text : List ℕ) → (text ≡ []) ⊎ IsTomlReason TooLong text
     → FailsIfLong (Manifest (Toml TooLong)) text
-fails_if_long text told known bytes long = record { refused = of_bytes long; told = told }
+fails_if_long text why known bytes long = record {
+  refused = of_bytes long;
+  told = told_alone known bytes (Manifest (Toml TooLong)) text why;
+}

@@ -1,8 +1,8 @@
 -- What comes of the check of a manifest, which is loaded over no arrays.
-use Rattle.std.specs.Prelude.{◌≡◌, ◌⊎◌, ◌<◌, ℕ, List, [], length}
+use Rattle.std.specs.Prelude.{◌≡◌, ◌<◌, ℕ, List, [], length}
 use Rattle.load.specs.manifest.cells.declared.array.CellArray.{CellArray}
-use Rattle.diagnosis.specs.Reason.{IsReason}
 use Rattle.diagnosis.specs.Texts.{accepted_text}
+use Rattle.diagnosis.specs.Told.{TellsRefused}
 use Rattle.diagnosis.specs.Warned.{WarnsOf}
 use Rattle.load.specs.bounded_files.Files.{KnownFiles}
 use Rattle.load.specs.Load.{IsRulesetOf, IsLoadFault}
@@ -18,10 +18,10 @@ module _ (known : KnownFiles) (bytes : List ℕ) where
     pub text_is : text ≡ accepted_text loaded.manifest.arrays rules.apps
     pub warned : WarnsOf known bytes arrays rules.apps warnings
 
-  -- it has this fault, and this is told of where and why, if not for want of memory nothing
+  -- it has this fault, and this is told of where and why, and of the further faults
   pub record FailsCheck (fault : LoadFault) (reason : List ℕ) : Type 0 where
     pub refused : IsLoadFault known [] bytes fault
-    pub told : (reason ≡ []) ⊎ IsReason known bytes fault reason
+    pub told : TellsRefused known bytes fault reason
 
 -- every manifest of more than 1048576 bytes comes to this fault, whatever its files give
 abbrev pub FailsIfLong : LoadFault → List ℕ → Type 0

@@ -6,6 +6,10 @@ pub mod Unused
 pub mod Warned
 pub mod Asked
 pub mod Reason
+pub mod Named
+pub mod Refusal
+pub mod Further
+pub mod Told
 pub mod Check
 pub mod OneCheck
 pub use Rattle.load.specs.rulesets

@@ -4,7 +4,8 @@ ghost use Rattle.std.specs.Prelude.{◌≡◌, ◌^◌, ◌-◌, ◌<◌, IfOk, 
 ghost use Rattle.diagnosis.specs.Check.{FailsCheck, FailsIfLong, PassesCheck};
 
 use crate::accepted::{CheckedManifest, tell_accepted};
-use crate::reason::{reason_of, tell_toml};
+use crate::reason::tell_toml;
+use crate::telling::tell_refused;
 use load::manifest::cells::Directory;
 use load::manifest::{ManifestFault, TomlFault};
 use load::{Files, LoadFault, load_ruleset};
@@ -47,8 +48,13 @@ pub struct Refused {
 ///   the file lies outside the manifest's folder, by a name that is absolute or has a part `..`.
 /// - M7: `array[2].length: r passes the 4096 cells that all arrays of a width have`.
 ///
+/// Behind the reason of M4 to M6 the apps behind the first refused one are judged, each by itself.
+/// Nine of those that are refused are told as the first is, by the line of the refusal and its own
+/// reason, and a last line says how many there are more: `and 3 more`.
+///
 /// M8 comes where memory for the load or for what is told of an accepted manifest is refused. Where
-/// it is refused for the reason, the reason is left out, in whole or but for the file's name.
+/// it is refused for the reason, the reason is left out, in whole or but for the file's name; and
+/// so are the further faults, in whole or but for their own reasons.
 pub fn check<F: Files>(
     alloc: Global,
     manifest: &[u8],
@@ -65,7 +71,7 @@ pub fn check<F: Files>(
     let rules = match load_ruleset(alloc, manifest, files, &mut directory) {
         Ok(rules) => rules,
         Err(fault) => {
-            let reason = reason_of(alloc, manifest, files, &fault);
+            let reason = tell_refused(alloc, manifest, files, &fault);
             return Err(Refused { fault, reason });
         }
     };

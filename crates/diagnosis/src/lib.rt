@@ -9,24 +9,30 @@
 // find the entry of that number, and where the fault lies in an app's file, that file is read once
 // more to show the line of the rule, or the instruction of the program, at which it lies. Manifests
 // of others are checked, too, so of a file that lies outside the manifest's folder nothing is
-// shown.
+// shown. Behind an app that has no program the apps behind it are judged, too, and each that has
+// none is told as the first.
 
 mod accepted;
 mod advice;
 mod asked;
+mod behind;
 mod checking;
 mod file;
 mod inside;
 mod law;
+mod named;
 mod reason;
+mod refusal;
 mod shape;
 mod shown;
+mod telling;
 mod unused;
 mod warned;
 
 pub use accepted::CheckedManifest;
 pub use checking::{Refused, check, too_long};
 pub use law::one_check;
+pub use refusal::refusal_line;
 
 // The words of the contracts here come with them.
 pub use load;

@@ -1,6 +1,8 @@
 //! Checks: a manifest of two apps with its files, and what is told of a manifest.
 
 mod accepted;
+mod further;
+mod lines;
 mod refused;
 
 use crate::files::MemFiles;

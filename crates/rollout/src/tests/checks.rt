@@ -5,7 +5,7 @@ use std::fs;
 use std::test::Fail;
 
 /// A manifest, what is printed of it on standard output, and on standard error.
-const ROWS: [(&str, &str, &str); 8] = [
+const ROWS: [(&str, &str, &str); 9] = [
     (
         "server = \"prod\"
 array = [{ name = \"q\", width = 64, length = 1, quota = 2 },
@@ -42,6 +42,19 @@ slot 1: exit\nV1: r0 may be unset, or paths disagree on it\n",
         "",
         "refused M6 Rule L3 Name at line 2 in app 1
 app[1].rule: k_wrong.rule
+line 2, column 7: \"q\" is no array; there are: none
+  count q[0];
+        ^
+",
+    ),
+    (
+        "server = \"\"
+app = [{ appid = \"x\", program = \"k_no_file.bin\" },
+    { appid = \"y\", program = \"k_none.bin\" }, { appid = \"z\", rule = \"k_wrong.rule\" }]",
+        "",
+        "refused M4 File in app 1\napp[1].program: k_no_file.bin
+refused M6 Rule L3 Name at line 2 in app 3
+app[3].rule: k_wrong.rule
 line 2, column 7: \"q\" is no array; there are: none
   count q[0];
         ^

@@ -1,4 +1,4 @@
-use Rattle.std.proofs.Common.{inl}
+use Rattle.std.proofs.Common.{[], inl, refl}
 use Rattle.load.specs.Load.IsLoadFault.{of_bytes}
 use Rattle.diagnosis.proofs.Passing.{passes}
 use Rattle.diagnosis.proofs.checking.check.Goals as goal
@@ -10,4 +10,13 @@ returns-in-Ok-tell_accepted-clause-passes g c =
     c.in-Ok-tell_accepted.ensures.text c.in-Ok-tell_accepted.ensures.warnings
 
 pub returns-clause-fails : goal.returns-clause-fails
-returns-clause-fails g c = record { refused = of_bytes tt; told = inl c.new.ensures.bytes }
+returns-clause-fails g c = record {
+  refused = of_bytes tt;
+  told = record {
+    reason = [];
+    why = inl refl;
+    behind = [];
+    further = inl refl;
+    text_is = c.new.ensures.bytes;
+  };
+}

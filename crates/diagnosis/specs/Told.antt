@@ -1,0 +1,46 @@
+-- What is told of a manifest that is refused, behind the line of its refusal: where and why, and
+-- then the further faults.
+use Rattle.std.specs.Prelude.{◌≡◌, ◌⊎◌, ℕ, ◌-◌, zero, suc, List, [], ◌∷◌, ◌++◌, codes, decimal}
+use Rattle.std.specs.Prelude.{length, take}
+use Rattle.diagnosis.specs.Further.{AreFurther}
+use Rattle.diagnosis.specs.Reason.{IsReason}
+use Rattle.diagnosis.specs.Refusal.{refusal_line}
+use Rattle.load.specs.bounded_files.Files.{KnownFiles}
+use Rattle.load.specs.declared.fault.LoadFault.{LoadFault}
+use Rattle.load.specs.rulesets.Texts.{line}
+
+-- so many faults more
+abbrev pub more_line : ℕ → List ℕ
+more_line zero = []
+more_line (suc n) = line (codes "and " ++ decimal (suc n) ++ codes " more")
+
+module _ (known : KnownFiles) (bytes : List ℕ) where
+  -- a fault's lines: that of its refusal, and where and why, if not for want of memory nothing
+  pub record IsFaultTold (fault : LoadFault) (text : List ℕ) : Type 0 where
+    pub reason : List ℕ
+    pub why : (reason ≡ []) ⊎ IsReason known bytes fault reason
+    pub text_is : text ≡ refusal_line fault ++ reason
+
+  -- those of these faults, one after the other
+  pub data AreFaultsTold : List LoadFault → List ℕ → Type 0 where
+    none : AreFaultsTold [] []
+    next : {fault : LoadFault} {faults : List LoadFault} {told rest : List ℕ}
+        → IsFaultTold fault told → AreFaultsTold faults rest
+        → AreFaultsTold (fault ∷ faults) (told ++ rest)
+
+  -- nine of the further faults, and how many there are more
+  pub record TellsFurther (fault : LoadFault) (text : List ℕ) : Type 0 where
+    pub faults : List LoadFault
+    pub further : AreFurther known bytes fault faults
+    pub told : List ℕ
+    pub first : AreFaultsTold (take 9 faults) told
+    pub text_is : text ≡ told ++ more_line (length faults - 9)
+
+  -- where and why, and then the further faults; for want of memory either is nothing, and the
+  -- further faults are nothing, too, where as many files couldn't be read as can be counted
+  pub record TellsRefused (fault : LoadFault) (text : List ℕ) : Type 0 where
+    pub reason : List ℕ
+    pub why : (reason ≡ []) ⊎ IsReason known bytes fault reason
+    pub behind : List ℕ
+    pub further : (behind ≡ []) ⊎ TellsFurther fault behind
+    pub text_is : text ≡ reason ++ behind

@@ -1,0 +1,129 @@
+//! What is told of a manifest that is refused, behind the line of its refusal.
+
+ghost use Rattle.std.specs.Prelude.{◌≡◌, ◌^◌, ◌-◌, ◌<◌, ◌++◌, ◌⊎◌, [], length};
+ghost use Rattle.std.specs.Prelude.{IfOk, IfSome, OnOk, string_bytes};
+ghost use Rattle.diagnosis.specs.Further.{AreFurther};
+ghost use Rattle.diagnosis.specs.Told.{AreFaultsTold, IsFaultTold, TellsFurther, TellsRefused};
+ghost use Rattle.diagnosis.specs.Told.{more_line};
+
+use crate::behind::{can_count, faults_behind};
+use crate::reason::reason_of;
+use crate::refusal::refusal_line;
+use load::{Files, LoadFault};
+use std::alloc::{AllocError, Global};
+use std::fmt::Write;
+
+/// The most faults that are told behind the first.
+const MOST_FURTHER: usize = 9;
+
+/// Where and why a manifest is refused, and its further faults; for want of memory either is left
+/// out.
+pub(crate) fn tell_refused<F: Files>(
+    alloc: Global,
+    manifest: &[u8],
+    files: &mut F,
+    fault: &LoadFault,
+) -> String
+    requires { F.failed files.old < 2 ^ 64 - 1 }
+    ensures known { F.known files.new ≡ F.known files.old }
+    ensures told { TellsRefused (F.known files.old) manifest.now fault.now (string_bytes result) }
+{
+    let mut text = reason_of(alloc, manifest, files, fault);
+    match tell_further(alloc, manifest, files, fault) {
+        Ok(further) => {
+            let _left_out = text.push_str(further.as_str());
+            text
+        }
+        Err(_) => text,
+    }
+}
+
+fn tell_further<F: Files>(
+    alloc: Global,
+    manifest: &[u8],
+    files: &mut F,
+    fault: &LoadFault,
+) -> Result<String, AllocError>
+    ensures known { F.known files.new ≡ F.known files.old }
+    ensures told { IfOk result (λ text. TellsFurther (F.known files.old) manifest.now fault.now
+        (string_bytes text)) }
+{
+    let Some(found) = further_faults(alloc, manifest, files, fault) else {
+        return Err(AllocError);
+    };
+    let faults = found.as_slice();
+    let (first, others) = faults.split_at(MOST_FURTHER.min(faults.len()));
+    let mut text = tell_faults(alloc, manifest, files, first)?;
+    tell_more(&mut text, others.len())?;
+    Ok(text)
+}
+
+// The faults of the stage of this one, but for the first.
+fn further_faults<F: Files>(
+    alloc: Global,
+    manifest: &[u8],
+    files: &mut F,
+    fault: &LoadFault,
+) -> Option<Vec<LoadFault>>
+    ensures known { F.known files.new ≡ F.known files.old }
+    ensures further { IfSome result (λ v.
+        AreFurther (F.known files.old) manifest.now fault.now v.items) }
+{
+    match fault {
+        LoadFault::File { app } => faults_behind(alloc, manifest, files, *app),
+        LoadFault::Program { app, .. } => faults_behind(alloc, manifest, files, *app),
+        LoadFault::Rule { app, .. } => faults_behind(alloc, manifest, files, *app),
+        LoadFault::Manifest(_) => Some(Vec::new(alloc)),
+        LoadFault::Cells { .. } => Some(Vec::new(alloc)),
+        LoadFault::Memory => Some(Vec::new(alloc)),
+    }
+}
+
+fn tell_faults<F: Files>(
+    alloc: Global,
+    manifest: &[u8],
+    files: &mut F,
+    faults: &[LoadFault],
+) -> Result<String, AllocError>
+    ensures known { F.known files.new ≡ F.known files.old }
+    ensures told { IfOk result (λ text.
+        AreFaultsTold (F.known files.old) manifest.now faults.now (string_bytes text)) }
+{
+    let mut text = String::new(alloc);
+    let mut left = faults;
+    while let [fault, others @ ..] = left {
+        let told = tell_fault(alloc, manifest, files, fault)?;
+        text.push_str(told.as_str())?;
+        left = others;
+    }
+    Ok(text)
+}
+
+fn tell_fault<F: Files>(
+    alloc: Global,
+    manifest: &[u8],
+    files: &mut F,
+    fault: &LoadFault,
+) -> Result<String, AllocError>
+    ensures known { F.known files.new ≡ F.known files.old }
+    ensures told { IfOk result (λ text. IsFaultTold (F.known files.old) manifest.now fault.now
+        (string_bytes text)) }
+{
+    if !can_count(files) {
+        return Err(AllocError);
+    }
+    let mut text = refusal_line(alloc, fault)?;
+    let reason = reason_of(alloc, manifest, files, fault);
+    text.push_str(reason.as_str())?;
+    Ok(text)
+}
+
+// How many faults there are more, if there are any.
+fn tell_more(text: &mut String, count: usize) -> Result<(), AllocError>
+    ensures { OnOk result (string_bytes text.new ≡ string_bytes text.old ++ more_line count) }
+{
+    if count == 0 {
+        return Ok(());
+    }
+    writeln!(text, "and {count} more")
+}
