@@ -30,13 +30,12 @@ line 2, column 9: "q" has a quota: take adds to it, and count doesn't /     coun
 - "x.bpf" => "../back.bpf" & "y.rule" => "../token.rule"
  | M5 Program F1 BackJump at slot 1 in app 1 / app[1].program: ../back.bpf /
 refused M6 Rule L1 Token at line 2 in app 2 / app[2].rule: ../token.rule /
-- "x.bpf" => "empty.bpf" & rule = "y.rule" => rule = "y.rule" / [[app]] / appid = "z" /
-program = "second.bpf" | M5 Program F6 Empty at slot 0 in app 1 / app[1].program: empty.bpf /
+- "x.bpf" => "empty.bpf" & "y.rule" => "y.rule" / [[app]] / appid = "z" / program = "second.bpf"
+ | M5 Program F6 Empty at slot 0 in app 1 / app[1].program: empty.bpf /
 refused M5 Program V13 Result at slot 1 in app 3 / app[3].program: second.bpf / slot 1: exit /
 V13: r0 is 2, and there are 0 releases /
-- "y.rule" => "z.rule" / [[app]] / appid = "z" / program = "none.bpf" / [[app]] / appid = "w" /
-program = "unreadable.bpf" | M4 File in app 2 / app[2].rule: z.rule /
-refused M4 File in app 4 / app[4].program: unreadable.bpf /
+- "y.rule" => "w" / [[app]] / appid = "z" / rule = "y.rule" / [[app]] / appid = "w" / rule = "w"
+ | M4 File in app 2 / app[2].rule: w / refused M4 File in app 4 / app[4].rule: w /
 - "x.bpf" => "z.bpf" & name = "n" => name = "q" | M3 Duplicate / array q stands twice /
 - "x.bpf" => "z.bpf" & length = 10 => length = 0
  | M2 Field / array[2].length: a whole number from 1 to 4096 /
