@@ -96,11 +96,11 @@ def wrong_stages(day):
         return f"placing: {said}"
     if OFFERED not in (said := day.run(ask)):
         return f"after it: {said}"
-    if (said := day.run(halting)) != CHECKED.replace("21", "2") + "generation 3\n":
+    if not (said := day.run(halting)).endswith("\ngeneration 3\n"):
         return f"halting: {said}"
     if NOTHING not in (said := day.run(ask)):
         return f"after a halt: {said}"
-    if (said := day.run(buckets)).split()[:4] != ["0", "1", "2", "6"]:
+    if (said := day.run(buckets)).splitlines()[1:5] != ["0", "1", "2", "6"]:
         return f"buckets: {said}"
 
 

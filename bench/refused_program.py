@@ -1,4 +1,5 @@
 """Memory that is refused to the built program: to its commands, and to servers at both ports."""
+import itertools
 import re
 import subprocess
 import time
@@ -8,6 +9,10 @@ from refusing import Wrong, told
 
 PATIENCE = 60
 LINE = re.compile(r"refused ([A-Z]\d+ Memory(?: in --against)?)\n")
+# What `check` writes of a manifest that is accepted.
+WARNINGS = re.compile(r"(warning: .*\n)*")
+# How far `simulate` is.
+PROGRESS = re.compile(r"^simulated .*\n", re.M)
 # Bytes that stand in an OUT before a command.
 BEFORE = b"as it was"
 
@@ -25,6 +30,7 @@ MANIFESTS = {
     "next.toml": manifest("next", array("more", 64, 3), TAKING, app("z", "none.rule", "3.0")),
     # The array `more` in another shape: this one is loaded where no array of next.toml stands.
     "other.toml": manifest("other", array("more", 32, 5), TAKING),
+    "one.toml": manifest("one", app("z", "none.rule", "3.0")),
     "script.txt": "start 0 x 99 1.0\nstep 0 4097\nswap next.toml\nstart 1 z 7 -\nstep 1 4097\n"
     "finish 0\nfinish 1\n",
 }
@@ -40,10 +46,16 @@ COMMANDS = {
     "explain": ["explain", "a.bin", "--releases", "1"],
     "check": ["check", "next.toml"],
     "replay": ["replay", "first.toml", "script.txt"],
-    "simulate": ["simulate", "next.toml", "--against", "first.toml", "--svg", "OUT"],
+    "simulate": ["simulate", "one.toml", "--against", "one.toml", "--svg", "OUT"],
 }
 
 
+# A simulation takes growths for each client: after the first 600 each 997th is enough.
+def some(first):
+    return itertools.chain(range(first, 600), itertools.count(600, 997))
+
+
+CALLS = {"simulate": some}
 
 
 def write_files(folder, program):
@@ -71,7 +83,8 @@ class Commands:
         """Status, output, errors, and the bytes of OUT."""
         how = {"env": self.refusal.env(), "cwd": self.folder, "timeout": PATIENCE}
         done = subprocess.run([self.program, *words], capture_output=True, text=True, **how)
-        return done.returncode, done.stdout, done.stderr, (self.folder / "OUT").read_bytes()
+        errors = PROGRESS.sub("", done.stderr)
+        return done.returncode, done.stdout, errors, (self.folder / "OUT").read_bytes()
 
     def told(self, name, words):
         def answer(call):
@@ -82,13 +95,14 @@ class Commands:
                 return None
             return kind(found, self.once(words))
 
-        print(told(f"rollout {name}", self.refusal.in_turn(answer)))
+        calls = CALLS.get(name, itertools.count)
+        print(told(f"rollout {name}", self.refusal.in_turn(answer, calls)))
 
 
 def kind(found, untroubled):
     """How a command answered that was refused memory, of which the second answer is untroubled."""
     refused = LINE.fullmatch(found[2])
-    if untroubled[0] != 0 or untroubled[2]:
+    if untroubled[0] != 0 or not WARNINGS.fullmatch(untroubled[2]):
         raise Wrong(f"again: {untroubled}")
     if refused and found == (1, "", found[2], BEFORE):
         return refused[1]

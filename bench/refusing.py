@@ -39,10 +39,10 @@ class Refusal:
         self.ask(0)
         return 0 < refused <= calls
 
-    def in_turn(self, once):
-        """What `once` gives of each call in turn, up to the first of which it gives None."""
+    def in_turn(self, once, calls=itertools.count):
+        """What `once` gives of each of these calls, up to the first of which it gives None."""
         found = []
-        for call in itertools.count(1):
+        for call in calls(1):
             try:
                 answer = once(call)
             except Wrong as wrong:
