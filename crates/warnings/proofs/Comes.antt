@@ -1,13 +1,13 @@
 -- What a test comes to, for an app of those for which it was asked, is what it may come to.
 use Rattle.std.proofs.Common.{◌≡◌, ℕ, ◌<◌, ◌≤◌, ◌%◌, List, [], ◌∷◌, ◌++◌, ◌⊎◌, inl, inr, Option}
-use Rattle.std.proofs.Common.{Some, None, Bool, true, false, not, ◌&&◌, ◌||◌, ◌==◌, cond}
-use Rattle.std.proofs.Common.{refl, sym, ap, ◌∙◌, All, arith}
+use Rattle.std.proofs.Common.{Some, None, Bool, true, false, not, ◌||◌, ◌==◌, cond}
+use Rattle.std.proofs.Common.{refl, sym, ap, ◌∙◌, arith}
 use Rattle.std.specs.Prelude.{nat_lt, bit_and, min}
 use Rattle.std.specs.Cmp.{nat_cmp_is}
 use Rattle.std.specs.Int.{w64, to_le_bytes}
 use Rattle.std.specs.Ordering.{nat_cmp}
 use Rattle.std.specs.declared.cmp.Ordering.TheVariants.{Less, Greater}
-use Rattle.std.proofs.lemmas.Bool.{and_cases, cases_order, or_left, or_parts, or_right}
+use Rattle.std.proofs.lemmas.Bool.{cases_order, or_left, or_right}
 use Rattle.releases.specs.attrs.Attributes.{Attributes}
 use Rattle.releases.specs.attrs.Bucket.{four_digits}
 use Rattle.releases.specs.attrs.Hash.{fnv1a}
@@ -18,14 +18,13 @@ use Rattle.rule_diagnosis.specs.rule_lang.declared.test.Comparison.{Comparison}
 use Rattle.rule_diagnosis.specs.rule_lang.declared.test.Test.{Test}
 use Rattle.rule_diagnosis.specs.rule_lang.declared.test.Test.TheVariants as test
 use Rattle.rule_diagnosis.specs.rule_lang.Meaning.{Behaviour, HasTrace, allows, attribute_number}
-use Rattle.rule_diagnosis.specs.rule_lang.Meaning.{bucket_by, decide, decide_one, flag_bit}
+use Rattle.rule_diagnosis.specs.rule_lang.Meaning.{bucket_by, flag_bit}
 use Rattle.rule_diagnosis.specs.rule_lang.Meaning.{remainder, take_then, test_then, version_cmp}
 use Rattle.rule_diagnosis.specs.rule_lang.Shapes.{array_named, cell_of, quota_of}
-use Rattle.rule_diagnosis.specs.rule_lang.Trees.{Tree, Asked, Negated, Both, Either}
 use Rattle.warnings.specs.declared.possible.Possible.{Possible}
 use Rattle.warnings.specs.declared.spot.Spot.{Spot}
-use Rattle.warnings.specs.Possible.{both, day_possible, decided, either, negated, one_possible}
-use Rattle.warnings.specs.Possible.{open_possible, tree_possible, undecided}
+use Rattle.warnings.specs.Possible.{day_possible, decided}
+use Rattle.warnings.specs.Possible.{open_possible, undecided}
 use Rattle.warnings.specs.Spots.{spot_at, spot_cmp}
 
 -- ---- what comes where a condition holds, or where it doesn't

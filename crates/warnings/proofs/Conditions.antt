@@ -1,5 +1,5 @@
 -- What a condition comes to, where each of its tests comes to what it may.
-use Rattle.std.proofs.Common.{◌≡◌, List, [], ◌∷◌, ◌⊎◌, inl, inr, Option, Some, None}
+use Rattle.std.proofs.Common.{List, [], ◌∷◌, inl, inr, Option, Some, None}
 use Rattle.std.proofs.Common.{false, ◌&&◌, refl, ap, ◌∙◌}
 use Rattle.std.proofs.lemmas.Bool.{and_cases, or_left, or_parts, or_right}
 use Rattle.releases.specs.attrs.Attributes.{Attributes}

@@ -1,24 +1,23 @@
 -- What a rule does, for an app of those for which it was asked, is what it may do.
-use Rattle.std.proofs.Common.{◌≡◌, ℕ, ◌<◌, ◌≤◌, ◌+◌, List, [], ◌∷◌, ◌++◌, ◌⊎◌, inl, inr}
-use Rattle.std.proofs.Common.{Option, Some, None, Bool, true, false, ◌&&◌, ◌||◌, refl, sym, ap, ◌∙◌}
+use Rattle.std.proofs.Common.{◌≡◌, ℕ, ◌<◌, ◌≤◌, List, [], ◌∷◌, ◌++◌, inl, inr}
+use Rattle.std.proofs.Common.{Option, Some, None, false, ◌&&◌, sym, ap, ◌∙◌}
 use Rattle.std.proofs.Common.{arith}
 use Rattle.std.specs.Prelude.{nat_le}
 use Rattle.std.proofs.lemmas.Bool.{and_cases, leb-false, or_parts}
 use Rattle.releases.specs.attrs.Attributes.{Attributes}
 use Rattle.rule_diagnosis.specs.cells.Arrays.{AppShape}
-use Rattle.rule_diagnosis.specs.cells.declared.event.CellEvent.{CellEvent}
 use Rattle.rule_diagnosis.specs.cells.declared.event.CellOp.TheVariants.{Add}
 use Rattle.rule_diagnosis.specs.rule_lang.declared.condition.Step.{Step}
 use Rattle.rule_diagnosis.specs.rule_lang.declared.condition.Step.TheVariants as step
 use Rattle.rule_diagnosis.specs.rule_lang.declared.rule.Statement.{Statement}
 use Rattle.rule_diagnosis.specs.rule_lang.declared.rule.Statement.TheVariants.{Count, When}
 use Rattle.rule_diagnosis.specs.rule_lang.declared.test.Test.{Test}
-use Rattle.rule_diagnosis.specs.rule_lang.Meaning.{Asks, Behaviour, Chooses, HasTrace, behaviour}
+use Rattle.rule_diagnosis.specs.rule_lang.Meaning.{Asks, Chooses, behaviour}
 use Rattle.rule_diagnosis.specs.rule_lang.Meaning.{decide_steps}
 use Rattle.rule_diagnosis.specs.rule_lang.Shapes.{array_named, cell_of}
 use Rattle.rule_diagnosis.specs.rule_lang.Trees.{Tree, Asked, Negated, Both, Either, trees_from}
 use Rattle.warnings.specs.declared.possible.Possible.{Possible}
-use Rattle.warnings.specs.Course.{goes_past, may_offer, offered, statement_possible}
+use Rattle.warnings.specs.Course.{goes_past, may_offer}
 use Rattle.warnings.specs.Possible.{steps_possible}
 use Rattle.warnings.proofs.Comes.{Comes, Leads}
 use Rattle.warnings.proofs.Conditions.{AllTests, OneTree, TestComes, trees_come}

@@ -1,21 +1,17 @@
 -- What is told of a rule is so.
 use Rattle.std.proofs.Common.{◌≡◌, ℕ, ◌<◌, ◌≤◌, ◌/◌, ℤ, pos, negsuc, List, ◌∷◌, ◌++◌, Some, None}
 use Rattle.std.proofs.Common.{Bool, true, false, refl, sym, subst, arith}
-use Rattle.std.specs.List.{list_any}
-use Rattle.std.specs.Prelude.{min, max}
 use Rattle.releases.specs.attrs.Attributes.{Attributes, plain}
 use Rattle.releases.specs.attrs.Moment.{elapsed, elapsed_days}
-use Rattle.rule_diagnosis.specs.cells.declared.event.CellEvent.{CellEvent}
 use Rattle.rule_diagnosis.specs.rule_lang.declared.condition.Step.{Step}
 use Rattle.rule_diagnosis.specs.rule_lang.declared.rule.Statement.{Statement}
 use Rattle.rule_diagnosis.specs.rule_lang.declared.rule.Statement.TheVariants.{When}
 use Rattle.rule_diagnosis.specs.rule_lang.declared.test.Comparison.{Comparison}
 use Rattle.rule_diagnosis.specs.rule_lang.declared.test.Test.{Test}
-use Rattle.rule_diagnosis.specs.rule_lang.Meaning.{HasTrace, behaviour}
 use Rattle.warnings.specs.declared.possible.Asker.{Asker}
 use Rattle.warnings.specs.declared.possible.Asker.TheVariants.{AllAt, One}
 use Rattle.warnings.specs.declared.possible.Possible.{Possible}
-use Rattle.warnings.specs.Asked.{first_line, got_line, statement_line, ungiven_line, when_line}
+use Rattle.warnings.specs.Asked.{ungiven_line, when_line}
 use Rattle.warnings.specs.Asking.{RuleOfApp, arrives, gets, in_some_bucket, may_end, may_give}
 use Rattle.warnings.specs.Asking.{someone, tests_for}
 use Rattle.warnings.specs.Course.{first_offer}
@@ -25,11 +21,11 @@ use Rattle.warnings.specs.Runs.{IsSoOfWhen, MayAsk, MayGet, NeverHolds, Releases
 use Rattle.warnings.specs.Runs.{VersionsAreSo, WhensAreSo}
 use Rattle.warnings.specs.Runs as so
 use Rattle.warnings.specs.Spots.{spots_of}
-use Rattle.warnings.proofs.Buckets.{Witness, none_at, some_at}
+use Rattle.warnings.proofs.Buckets.{none_at, some_at}
 use Rattle.warnings.proofs.Comes.{AnswersAlike, IsOneOf, test_comes}
 use Rattle.warnings.proofs.Conditions.{TestComes}
 use Rattle.warnings.proofs.Courses.{RuleTests, StepsTests, never_chosen, never_held, never_past}
-use Rattle.warnings.proofs.Fresh.{LeadsFresh, first_chosen}
+use Rattle.warnings.proofs.Fresh.{first_chosen}
 use Rattle.warnings.proofs.Named.{all_alike, has_lowest, of_before, of_next, of_rule}
 use Rattle.warnings.proofs.Versions.{Highest, highest}
 

@@ -5,7 +5,7 @@ use Rattle.std.specs.Prelude.{slice_index, if◌then◌else◌}
 use Rattle.std.specs.Cmp.{Equal-is, IsTotalOrder, alike_right, bool_cmp_total, nat_cmp_is}
 use Rattle.std.specs.Cmp.{on_total, then_total, tied_back, tied_itself, upto}
 use Rattle.std.specs.List.{list_any}
-use Rattle.std.specs.Ordering.{bool_cmp, is_eq, is_gt, nat_cmp, ordering_reverse, ordering_then}
+use Rattle.std.specs.Ordering.{is_eq, is_gt, nat_cmp, ordering_reverse, ordering_then}
 use Rattle.std.specs.declared.cmp.Ordering.{Ordering}
 use Rattle.std.specs.declared.cmp.Ordering.TheVariants.{Less, Equal, Greater}
 use Rattle.std.proofs.lemmas.Cmp.{nat_cmp_total}

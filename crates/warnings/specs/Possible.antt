@@ -1,6 +1,6 @@
 -- What a condition may come to, for all apps in a bucket whose version lies somewhere, or for one
 -- app where each counter replies 0.
-use Rattle.std.specs.Prelude.{ℕ, List, [], ◌∷◌, Option, Some, None, nat_lt, min}
+use Rattle.std.specs.Prelude.{ℕ, List, [], ◌∷◌, Option, Some, nat_lt, min}
 use Rattle.std.specs.Prelude.{Bool, true, false, not, ◌==◌, ◌&&◌, ◌||◌, bit_and}
 use Rattle.std.specs.Ordering.{nat_cmp}
 use Rattle.releases.specs.attrs.Attributes.{Attributes}

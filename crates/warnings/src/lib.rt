@@ -1,15 +1,16 @@
 //! Warnings: what a manifest may say, and hardly means.
 #![tactic(auto)]
 
-// How a rule is asked. Of an app version and bucket are known: a bucket of the 10,000, and where the
-// version lies. Between two neighbours of the versions that a rule names all versions answer its
-// tests alike, so it is asked at each of them, just above each, and at the lowest one (`spot.rt`).
+// How a rule is asked. Of an app version and bucket are known: a bucket of the 10,000, and where
+// the version lies. Between two neighbours of the versions that a rule names all versions answer
+// its tests alike, so it is asked at each of them, just above each, and at the lowest one
+// (`spot.rt`).
 //
 // Each test comes to something that is known, or may come to either: a test of version or bucket is
 // decided, one of a day by the range of days, and what else an app says, and whether a counter
-// grants, is open (`holding.rt`). So a condition may hold, or fail, or both (`condition.rt`), and a
-// rule may go on behind a statement, or end with it (`course.rt`). What is never so, in no bucket at
-// no version, is told (`asking.rt`, `whens.rt`, `given.rt`).
+// grants, is open (`holding.rt`). So a condition may hold, or fail, or both (`condition.rt`), and
+// a rule may go on behind a statement, or end with it (`course.rt`). What is never so, in no bucket
+// at no version, is told (`asking.rt`, `whens.rt`, `given.rt`).
 //
 // That who has a release may get it again, or a lower one, is asked otherwise: of an app that says
 // no more, where each counter replies 0, since then each test is decided.

@@ -1,6 +1,6 @@
 use Rattle.std.proofs.Common.{◌≡◌, [], length, reverse}
 use Rattle.warnings.specs.Possible.{test_possible}
-use Rattle.warnings.specs.Stack.{after_steps, one_left}
+use Rattle.warnings.specs.Stack.{after_steps}
 use Rattle.warnings.proofs.condition.run_steps.Given as goal
 
 -- the steps that are left bring the stack to what all steps bring none to
