@@ -1,6 +1,6 @@
 -- The columns of a table: texts that blanks fill up to a width, counts of buckets in percent, and
--- bars. A text is UTF-8, a width is counted in characters, and a count is one of 10000 buckets: 0 to
--- 10000.
+-- bars. A text is UTF-8, a width is counted in characters, and a count is one of 10000 buckets: 0
+-- to 10000.
 use Rattle.std.specs.Prelude.{◌≡◌, ℕ, ◌+◌, ◌-◌, ◌/◌, ◌%◌, List, [], ◌∷◌, ◌++◌, codes, decimal}
 use Rattle.std.specs.Prelude.{String, length, max, replicate, string_bytes}
 use Rattle.std.specs.Str.{chars}

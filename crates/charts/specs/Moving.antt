@@ -46,8 +46,8 @@ loses now next from to =
 
 -- ---- the table of an app
 
--- the first column is as wide as the title, and 15 at least, the others as the widest version, and 9
--- at least
+-- the first column is as wide as the title, and 15 at least, the others as the widest version, and
+-- 9 at least
 abbrev pub move_widths : (appid : List ℕ) → (now next : List (List ℕ)) → MoveWidths
 move_widths appid now next = record {
   app = max (width_of appid + 4) 15;

@@ -2,7 +2,8 @@
 -- from the first, with a colour a release, and a legend with counts. Lengths and places are in
 -- pixels, of which a bucket has 4 by 4, and heights grow downwards; those of a legend are measured
 -- from its app's top. Choices are 0 to 64, buckets 0 to 9999, and counts 0 to 10000.
-use Rattle.std.specs.Prelude.{ℕ, ◌+◌, ◌*◌, ◌/◌, ◌%◌, List, [], ◌∷◌, ◌++◌, codes, decimal, length, max}
+use Rattle.std.specs.Prelude.{ℕ, ◌+◌, ◌*◌, ◌/◌, ◌%◌, List, [], ◌∷◌, ◌++◌, codes, decimal, length}
+use Rattle.std.specs.Prelude.{max}
 use Rattle.std.specs.Prelude.{◌==◌, ◌||◌, if◌then◌else◌}
 use Rattle.std.specs.List.{flat_map, range_with_len}
 use Rattle.charts.specs.Columns.{percent}

@@ -1,6 +1,6 @@
--- Which option of the words is ill-written. Words of `simulate` that ask for nothing have one of its
--- misfits, and words that have one ask for nothing. Of other commands what is left is said to be the
--- bucket's; of it no claim is made.
+-- Which option of the words is ill-written. Words of `simulate` that ask for nothing have one of
+-- its misfits, and words that have one ask for nothing. Of other commands what is left is said to
+-- be the bucket's; of it no claim is made.
 use Rattle.std.specs.Prelude.{List, Option, Some, None, codes}
 use Rattle.clap.specs.Words.{Row, Text, first_of}
 use Rattle.command_line.specs.AppOptions.{LacksAttributes, LacksInstalled, LacksToday, LacksTold}

@@ -1,5 +1,5 @@
--- How what a program, a rule or an array breaks is named: its code, a name of one word, and where it
--- is.
+-- How what a program, a rule or an array breaks is named: its code, a name of one word, and where
+-- it is.
 use Rattle.std.specs.Prelude.{ℕ, List, ◌++◌, codes, decimal}
 use Rattle.explaining.specs.bpf_insn.Faults.{fault_text}
 use Rattle.load.specs.acceptance.bpf_verify.bpf_rules.declared.refusal.Refusal.{Refusal}

@@ -1,4 +1,4 @@
--- RefusedPlace a rule of the verifier refuses an instruction: what the rule asks, and what is known instead.
+-- Why a rule of the verifier refuses an instruction: what the rule asks, and what is known instead.
 use Rattle.std.specs.Prelude.{ℕ, ◌==◌, ℤ, pos, negsuc, List, [], ◌++◌, codes}
 use Rattle.std.specs.Prelude.{Bool, true, false, ◌||◌, if◌then◌else◌, Option, Some, None, slice_get}
 use Rattle.std.specs.Fmt.{decimal, signed_decimal}

@@ -1,4 +1,4 @@
-//! RefusedPlace a rule refuses an instruction: what the rule asks, and what is known instead.
+//! Why a rule refuses an instruction: what the rule asks, and what is known instead.
 
 ghost use Rattle.std.specs.Prelude.{◌≡◌, OnOk};
 ghost use Rattle.bpf_text.specs.Listing.{Appends};
