@@ -79,7 +79,8 @@ move_row widths from to count lost =
     move_columns widths [] from to ++ at_right 7 (decimal count) ++ mark_if lost
 
 -- the same of a count that may be 0, which has no row
-unfoldable pub move_if_any : MoveWidths → (from to : List ℕ) → (count : ℕ) → (lost : Bool) → List ℕ
+unfoldable pub move_if_any : MoveWidths → (from to : List ℕ) → (count : ℕ) → (lost : Bool)
+    → List ℕ
 move_if_any widths from to count lost =
     if count == 0 then [] else move_row widths from to count lost
 

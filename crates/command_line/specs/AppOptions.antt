@@ -1,5 +1,6 @@
 -- What the options say of the app that asks.
-use Rattle.std.specs.Prelude.{◌≡◌, ◌≢◌, ◌⊎◌, ℕ, ◌+◌, List, [], ◌∷◌, Option, Some, None, is_some}
+use Rattle.std.specs.Prelude.{◌≡◌, ◌≢◌, ◌⊎◌, ℕ, ◌+◌, List, [], ◌∷◌, Option, Some, None}
+use Rattle.std.specs.Prelude.{is_some}
 use Rattle.std.specs.Prelude.{length, drop, codes, nat_eq, IsNone, IsSome, IsSomeAnd}
 use Rattle.std.specs.Prelude.{if◌then◌else◌}
 use Rattle.std.specs.Option.{option_and_then, option_copied, option_or, unwrap_or}
@@ -102,7 +103,8 @@ TellsOneClient rows =
 
 -- none of its own where the cohort names one, beside which the option may not stand; else the
 -- option's, or 0 without it
-abbrev pub IsPlaceBeside : List Row → (named : Option ℕ) → (text : Option Text) → Option ℕ → Type 0
+abbrev pub IsPlaceBeside : List Row → (named : Option ℕ) → (text : Option Text) → Option ℕ
+    → Type 0
 IsPlaceBeside rows (Some bucket) (Some text) place = ⊥
 IsPlaceBeside rows (Some bucket) None place = place ≡ None
 IsPlaceBeside rows None (Some text) place = IsSomeAnd place (HasBucket rows)

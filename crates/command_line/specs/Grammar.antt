@@ -150,8 +150,8 @@ verb_command Stop = stop_command
 verb_command Verify = verify_command
 
 abbrev pub verbs : List Verb
-verbs = Assemble ∷ Cells ∷ Check ∷ Compile ∷ Explain ∷ verb.List ∷ Load ∷ Order ∷ Replay ∷ Run
-    ∷ Serve ∷ Show ∷ Simulate ∷ Stop ∷ Verify ∷ []
+verbs = Assemble ∷ Cells ∷ Check ∷ Compile ∷ Explain ∷ verb.List ∷ Load ∷ Order ∷ Replay
+    ∷ Run ∷ Serve ∷ Show ∷ Simulate ∷ Stop ∷ Verify ∷ []
 
 -- all of them, in the order of their names
 abbrev pub commands : App
