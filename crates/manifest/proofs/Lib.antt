@@ -1,3 +1,6 @@
 pub mod Prefix
 pub mod Items
+pub mod Walks
+pub mod NewNames
+mod First
 mod Readings

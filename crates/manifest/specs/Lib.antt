@@ -8,6 +8,9 @@ pub mod Array
 pub mod App
 pub mod Twice
 pub mod Manifest
+pub mod Misfits
+pub mod AllTwice
+pub mod FirstFault
 pub mod OneReading
 pub mod Texts
 pub use Rattle.attrs.specs as attrs

@@ -38,21 +38,25 @@ mod law;
 mod manifest;
 mod member;
 mod misfit;
+mod misfits;
 mod package;
 mod quote;
 mod read;
 mod release;
+mod repeats;
 mod rows;
 mod twice;
 mod unread;
 
 pub use app::{AppEntry, AppParts, ProgramSource};
 pub use fault::{ManifestFault, TomlFault, Twice};
-pub use law::one_reading;
+pub use law::{first_misfit, first_twice, one_reading};
 pub use manifest::{Manifest, ManifestParts};
 pub use misfit::{AppMisfit, ArrayMisfit, InList, Misfit, PackageMisfit, ReleaseMisfit};
+pub use misfits::all_misfits;
 pub use quote::Quote;
 pub use read::read_manifest;
+pub use repeats::all_twice;
 
 // The words of the contracts here come with them.
 pub use cells;

@@ -20,10 +20,10 @@ use std::marker::Model;
 use toml::Table;
 
 /// The most arrays.
-const MAX_ARRAYS: usize = 64;
+pub(crate) const MAX_ARRAYS: usize = 64;
 
 /// The most apps.
-const MAX_APPS: usize = 256;
+pub(crate) const MAX_APPS: usize = 256;
 
 /// What an operator tells a server: its name, its arrays of counters, and its apps.
 #[derive(Drop)]

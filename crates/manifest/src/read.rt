@@ -33,7 +33,8 @@ pub fn read_manifest(alloc: Global, bytes: &[u8]) -> Result<Manifest, ManifestFa
     }
 }
 
-fn read_tree(alloc: Global, bytes: &[u8]) -> Result<Table, ManifestFault>
+/// The document of the bytes.
+pub(crate) fn read_tree(alloc: Global, bytes: &[u8]) -> Result<Table, ManifestFault>
     ensures ok { IfOk result (λ table. IsTree bytes.now (table_view table)) }
     ensures err { IfErr result (RefusesTree bytes.now) }
 {

@@ -47,8 +47,8 @@ pub(crate) fn read_rows<R: TableRow>(
     }
 }
 
-// The items of a list.
-fn items_of(list: &Value) -> Option<&[Value]>
+/// The items of a list.
+pub(crate) fn items_of(list: &Value) -> Option<&[Value]>
     ensures { option_map (λ v. map view v.now) result ≡ items_in (view list.now) }
 {
     match list.as_array() {
@@ -57,7 +57,8 @@ fn items_of(list: &Value) -> Option<&[Value]>
     }
 }
 
-fn has_count(items: &[Value], from: usize, to: usize) -> bool
+/// Whether they are so many.
+pub(crate) fn has_count(items: &[Value], from: usize, to: usize) -> bool
     ensures value { result ≡ are_between from to (map view items.now) }
     ensures count { IsTrue result → (from ≤ length items.now) × (length items.now ≤ to) }
 {
@@ -85,7 +86,8 @@ fn read_items<R: TableRow>(
     Ok(rows)
 }
 
-fn read_item<R: TableRow>(
+/// The row of the item of this number.
+pub(crate) fn read_item<R: TableRow>(
     alloc: Global,
     number: usize,
     item: &Value,

@@ -1,34 +1,57 @@
 //! Names that stand twice in a list.
 
-ghost use Rattle.std.specs.Prelude.{◌≡◌, List, ℕ, map, option_copied};
+ghost use Rattle.std.specs.Prelude.{◌≡◌, ◌++◌, List, [], ◌∷◌, ℕ, map, option_copied, OnOk};
+ghost use Rattle.std.specs.Prelude.{if◌then◌else◌, not, ◌&&◌};
 ghost use Rattle.std.specs.List.{list_any};
 ghost use Rattle.std.specs.Str.{bytes_eq};
-ghost use Rattle.manifest.specs.Twice.{repeated};
+ghost use Rattle.manifest.specs.Twice.{names_twice, repeated};
+ghost use Rattle.manifest.specs.declared.fault.Twice.{Twice};
+ghost use Rattle.manifest.specs.declared.fault.Twice.TheVariants as twice;
 
 use crate::app::AppEntry;
+use crate::fault::Twice;
+use crate::quote::Quote;
 use declarations::ArrayDeclaration;
+use std::alloc::{AllocError, Global};
 
 /// What has a name that stands once in its list.
 pub(crate) trait Named {
     ghost name_of: { Self → List ℕ };
 
+    ghost told_as: { List ℕ → Twice };
+
     fn name(&self) -> &str
         ensures { result.now ≡ name_of self.now };
+
+    fn told(name: Quote) -> Twice
+        ensures { result ≡ told_as name };
 }
 
 impl Named for ArrayDeclaration {
     ghost name_of = { λ a. a.name };
 
+    ghost told_as = { λ name. twice.Array name };
+
     fn name(&self) -> &str {
         ArrayDeclaration::name(self)
+    }
+
+    fn told(name: Quote) -> Twice {
+        Twice::Array(name)
     }
 }
 
 impl Named for AppEntry {
     ghost name_of = { λ a. a.appid };
 
+    ghost told_as = { λ appid. twice.App appid };
+
     fn name(&self) -> &str {
         self.appid()
+    }
+
+    fn told(appid: Quote) -> Twice {
+        Twice::App(appid)
     }
 }
 
@@ -44,6 +67,52 @@ pub(crate) fn repeated_name<N: Named>(list: &[N]) -> Option<&str>
         rest = after;
     }
     None
+}
+
+/// Adds each name that stands twice, in the order of their first places.
+pub(crate) fn push_names_twice<N: Named>(
+    alloc: Global,
+    twices: &mut Vec<Twice>,
+    list: &[N],
+) -> Result<(), AllocError>
+    ensures { OnOk result (twices.new.items ≡ twices.old.items
+        ++ map N.told_as (names_twice (map N.name_of list.now))) }
+{
+    let mut place = 0;
+    let mut left = list;
+    while let [item, after @ ..] = left {
+        let (before, _) = list.split_at(place);
+        push_twice(alloc, twices, before, item, after)?;
+        place += 1;
+        left = after;
+    }
+    Ok(())
+}
+
+// Adds the name of an item, if it stands again behind it, and hasn't stood before.
+fn push_twice<N: Named>(
+    alloc: Global,
+    twices: &mut Vec<Twice>,
+    before: &[N],
+    item: &N,
+    after: &[N],
+) -> Result<(), AllocError>
+    ensures { OnOk result (twices.new.items ≡ twices.old.items
+        ++ map N.told_as
+        (if not (list_any (bytes_eq (N.name_of item.now)) (map N.name_of before.now))
+        && list_any (bytes_eq (N.name_of item.now)) (map N.name_of after.now)
+        then N.name_of item.now ∷ [] else [])) }
+{
+    let name = item.name();
+    if has_name(before, name) {
+        return Ok(());
+    }
+    if !has_name(after, name) {
+        return Ok(());
+    }
+    let name = Quote::new(String::from_str(alloc, name)?);
+    twices.push(N::told(name))?;
+    Ok(())
 }
 
 fn has_name<N: Named>(list: &[N], name: &str) -> bool

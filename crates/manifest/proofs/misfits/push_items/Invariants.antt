@@ -1,0 +1,18 @@
+use Rattle.std.proofs.Common.{◌≡◌, ◌+◌, ◌++◌, length, map}
+use Rattle.toml.specs.View.{view}
+use Rattle.manifest.specs.Misfits.{misfits_from}
+use Rattle.manifest.proofs.misfits.push_items.Given as goal
+
+-- those so far, and those of the items that are left, are all
+abbrev pub invariant-loop-rest : goal.invariant-loop-rest
+invariant-loop-rest g l = record {
+  so_far : l.misfits.items
+      ++ map g.R.ManifestRow.told_as
+      (misfits_from g.R.TableRow.row_of l.number (map view l.rest))
+      ≡ l.initial.misfits.items
+      ++ map g.R.ManifestRow.told_as (misfits_from g.R.TableRow.row_of 1 (map view l.items));
+  within : l.number + length l.rest ≡ 1 + length l.items;
+}
+
+abbrev pub decreases-loop-rest : goal.decreases-loop-rest
+decreases-loop-rest g l = length l.rest

@@ -1,0 +1,66 @@
+-- All that doesn't fit in a manifest: of each table of its two lists what doesn't fit first.
+use Rattle.std.specs.Prelude.{◌≡◌, ℕ, ◌+◌, ◌==◌, if◌then◌else◌, List, [], ◌∷◌, ◌++◌, map, codes}
+use Rattle.std.specs.Prelude.{Option, Some, None, option_to_list, Result, Ok, Err}
+use Rattle.toml.specs.Data.{Data, Members, get_member, as_str}
+use Rattle.manifest.specs.declared.kind.Kind.TheVariants as kind
+use Rattle.manifest.specs.declared.misfit.InList.{InList}
+use Rattle.manifest.specs.declared.misfit.InList.TheVariants.{Count}
+use Rattle.manifest.specs.declared.misfit.AppMisfit.{AppMisfit}
+use Rattle.manifest.specs.declared.misfit.ArrayMisfit.{ArrayMisfit}
+use Rattle.manifest.specs.declared.misfit.Misfit.{Misfit}
+use Rattle.manifest.specs.declared.misfit.Misfit.TheVariants as misfit
+use Rattle.manifest.specs.App.{app_of}
+use Rattle.manifest.specs.Array.{array_of}
+use Rattle.manifest.specs.Kind.{unknown_member}
+use Rattle.manifest.specs.Manifest.{IsTree}
+use Rattle.manifest.specs.Member.{required}
+use Rattle.manifest.specs.Rows.{are_between, item_of, items_in}
+
+-- what doesn't fit, if it is that
+abbrev pub misfit_in : {X M : Type 0} → Result X M → List M
+misfit_in (Ok x) = []
+misfit_in (Err misfit) = misfit ∷ []
+
+module _ {X M : Type 0} (row_of : Members → Result X M) where
+  -- of the items, numbered from this number on, each that doesn't fit
+  abbrev pub misfits_from : ℕ → List Data → List (InList M)
+  misfits_from n [] = []
+  misfits_from n (d ∷ ds) = misfit_in (item_of row_of n d) ++ misfits_from (n + 1) ds
+
+  abbrev pub misfits_between : ℕ → ℕ → Option (List Data) → List (InList M)
+  misfits_between from to None = Count ∷ []
+  misfits_between from to (Some ds) =
+      if are_between from to ds then misfits_from 1 ds else Count ∷ []
+
+  -- of a list of so many tables; one that may be empty may be absent
+  abbrev pub misfits_of_rows : ℕ → ℕ → Option Data → List (InList M)
+  misfits_of_rows from to None = if from == 0 then [] else Count ∷ []
+  misfits_of_rows from to (Some value) = misfits_between from to (items_in value)
+
+abbrev pub server_of : Option (List ℕ) → List Misfit
+server_of None = misfit.Server ∷ []
+server_of (Some server) = []
+
+-- the first member that a manifest doesn't have, and a server that is no text
+abbrev pub own_misfits : Members → List Misfit
+own_misfits table =
+    map misfit.Unknown (option_to_list (unknown_member kind.Manifest table))
+    ++ server_of (required as_str (codes "server") table)
+
+abbrev pub array_misfits : Members → List (InList ArrayMisfit)
+array_misfits table = misfits_of_rows array_of 0 64 (get_member (codes "array") table)
+
+abbrev pub app_misfits : Members → List (InList AppMisfit)
+app_misfits table = misfits_of_rows app_of 1 256 (get_member (codes "app") table)
+
+-- in the order in which a manifest is read
+abbrev pub misfits_of : Members → List Misfit
+misfits_of table =
+    own_misfits table
+    ++ map misfit.Arrays (array_misfits table) ++ map misfit.Apps (app_misfits table)
+
+-- those of the bytes' tree
+pub record HasMisfits (bytes : List ℕ) (misfits : List Misfit) : Type 0 where
+  pub tree : Members
+  pub spelled : IsTree bytes tree
+  pub misfits_are : misfits ≡ misfits_of tree

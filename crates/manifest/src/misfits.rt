@@ -1,0 +1,156 @@
+//! All that doesn't fit in a manifest: of each table of its two lists what doesn't fit first.
+
+ghost use Rattle.std.specs.Prelude.{◌≡◌, ◌++◌, map, IfOk, IfSome, OnOk};
+ghost use Rattle.toml.specs.Data.{get_member};
+ghost use Rattle.toml.specs.View.{view, table_view};
+ghost use Rattle.manifest.specs.Misfits.{HasMisfits, misfit_in, misfits_from, misfits_of_rows};
+ghost use Rattle.manifest.specs.Misfits.{own_misfits};
+ghost use Rattle.manifest.specs.Misfits as specs;
+ghost use Rattle.manifest.specs.Rows.{item_of};
+ghost use Rattle.manifest.specs.declared.misfit.InList.{InList};
+ghost use Rattle.manifest.specs.declared.misfit.Misfit.{Misfit};
+ghost use Rattle.manifest.specs.declared.misfit.Misfit.TheVariants as misfit;
+
+use crate::app::AppEntry;
+use crate::kind::{Kind, unknown_member};
+use crate::manifest::{MAX_APPS, MAX_ARRAYS};
+use crate::member::{member, text};
+use crate::misfit::{AppMisfit, ArrayMisfit, InList, Misfit};
+use crate::quote::Quote;
+use crate::read::read_tree;
+use crate::rows::{TableRow, has_count, items_of, read_item};
+use crate::unread::Unread;
+use declarations::ArrayDeclaration;
+use std::alloc::{AllocError, Global};
+use toml::{Table, Value};
+
+/// All that doesn't fit in a manifest: the first member that it doesn't have, its server, and then
+/// of each array and each app the first that doesn't fit; so the first is that of `read_manifest`.
+/// None where memory is refused, and of bytes that are no document.
+pub fn all_misfits(alloc: Global, bytes: &[u8]) -> Option<Vec<Misfit>>
+    ensures { IfSome result (λ v. HasMisfits bytes.now v.items) }
+{
+    let Ok(table) = read_tree(alloc, bytes) else {
+        return None;
+    };
+    match misfits_of(alloc, &table) {
+        Ok(misfits) => Some(misfits),
+        Err(_) => None,
+    }
+}
+
+fn misfits_of(alloc: Global, table: &Table) -> Result<Vec<Misfit>, AllocError>
+    ensures { IfOk result (λ v. v.items ≡ specs.misfits_of (table_view table.now)) }
+{
+    let mut misfits = own(alloc, table)?;
+    push_rows::<ArrayDeclaration>(alloc, &mut misfits, table, "array", 0, MAX_ARRAYS)?;
+    push_rows::<AppEntry>(alloc, &mut misfits, table, "app", 1, MAX_APPS)?;
+    Ok(misfits)
+}
+
+fn own(alloc: Global, table: &Table) -> Result<Vec<Misfit>, AllocError>
+    ensures { IfOk result (λ v. v.items ≡ own_misfits (table_view table.now)) }
+{
+    let mut misfits = Vec::new(alloc);
+    if let Some(key) = unknown_member(Kind::Manifest, table) {
+        let key = Quote::new(String::from_str(alloc, key)?);
+        misfits.push(Misfit::Unknown(key))?;
+    }
+    if text(table, "server").is_none() {
+        misfits.push(Misfit::Server)?;
+    }
+    Ok(misfits)
+}
+
+/// A table of one of a manifest's two lists.
+trait ManifestRow: TableRow {
+    ghost told_as: { InList Self.Misfit → Misfit };
+
+    fn told(in_list: InList<Self::Misfit>) -> Misfit
+        ensures { result ≡ told_as in_list };
+}
+
+impl ManifestRow for ArrayDeclaration {
+    ghost told_as = { λ in_list. misfit.Arrays in_list };
+
+    fn told(in_list: InList<ArrayMisfit>) -> Misfit
+        ensures { result ≡ misfit.Arrays in_list }
+    {
+        Misfit::Arrays(in_list)
+    }
+}
+
+impl ManifestRow for AppEntry {
+    ghost told_as = { λ in_list. misfit.Apps in_list };
+
+    fn told(in_list: InList<AppMisfit>) -> Misfit
+        ensures { result ≡ misfit.Apps in_list }
+    {
+        Misfit::Apps(in_list)
+    }
+}
+
+// Adds the misfits of a member that is a list of so many tables.
+fn push_rows<R: ManifestRow>(
+    alloc: Global,
+    misfits: &mut Vec<Misfit>,
+    table: &Table,
+    key: &str,
+    from: usize,
+    to: usize,
+) -> Result<(), AllocError>
+    ensures { OnOk result (misfits.new.items ≡ misfits.old.items ++ map R.told_as
+        (misfits_of_rows R.row_of from to (get_member key.now (table_view table.now)))) }
+{
+    let Some(list) = member(table, key) else {
+        if from == 0 {
+            return Ok(());
+        }
+        misfits.push(R::told(InList::Count))?;
+        return Ok(());
+    };
+    match items_of(list) {
+        Some(items) if has_count(items, from, to) => push_items::<R>(alloc, misfits, items),
+        _ => {
+            misfits.push(R::told(InList::Count))?;
+            Ok(())
+        }
+    }
+}
+
+fn push_items<R: ManifestRow>(
+    alloc: Global,
+    misfits: &mut Vec<Misfit>,
+    items: &[Value],
+) -> Result<(), AllocError>
+    ensures { OnOk result (misfits.new.items ≡ misfits.old.items
+        ++ map R.told_as (misfits_from R.row_of 1 (map view items.now))) }
+{
+    let mut number = 1;
+    let mut rest = items;
+    while let [item, after @ ..] = rest {
+        push_item::<R>(alloc, misfits, number, item)?;
+        number += 1;
+        rest = after;
+    }
+    Ok(())
+}
+
+fn push_item<R: ManifestRow>(
+    alloc: Global,
+    misfits: &mut Vec<Misfit>,
+    number: usize,
+    item: &Value,
+) -> Result<(), AllocError>
+    ensures { OnOk result (misfits.new.items ≡ misfits.old.items
+        ++ map R.told_as (misfit_in (item_of R.row_of number (view item.now)))) }
+{
+    match read_item::<R>(alloc, number, item) {
+        Ok(_) => Ok(()),
+        Err(Unread::Memory) => Err(AllocError),
+        Err(Unread::Misfit(misfit)) => {
+            misfits.push(R::told(misfit))?;
+            Ok(())
+        }
+    }
+}

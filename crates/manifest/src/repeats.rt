@@ -1,0 +1,38 @@
+//! All names that stand twice in a manifest: of its arrays, and its appids.
+
+ghost use Rattle.std.specs.Prelude.{◌≡◌, IfOk, IfSome};
+ghost use Rattle.manifest.specs.AllTwice.{HasAllTwice};
+ghost use Rattle.manifest.specs.AllTwice as specs;
+
+use crate::fault::Twice;
+use crate::manifest::{Manifest, read_tables};
+use crate::read::read_tree;
+use crate::twice::push_names_twice;
+use std::alloc::{AllocError, Global};
+
+/// Each name that stands twice in a manifest that fits but for such names: of its arrays, and then
+/// the appids; so the first is that of `read_manifest`. None where memory is refused, and of bytes
+/// that don't fit.
+pub fn all_twice(alloc: Global, bytes: &[u8]) -> Option<Vec<Twice>>
+    ensures { IfSome result (λ v. HasAllTwice bytes.now v.items) }
+{
+    let Ok(table) = read_tree(alloc, bytes) else {
+        return None;
+    };
+    let Ok(manifest) = read_tables(alloc, &table) else {
+        return None;
+    };
+    match twices_of(alloc, &manifest) {
+        Ok(twices) => Some(twices),
+        Err(_) => None,
+    }
+}
+
+fn twices_of(alloc: Global, manifest: &Manifest) -> Result<Vec<Twice>, AllocError>
+    ensures { IfOk result (λ v. v.items ≡ specs.all_twice manifest.now) }
+{
+    let mut twices = Vec::new(alloc);
+    push_names_twice(alloc, &mut twices, manifest.arrays())?;
+    push_names_twice(alloc, &mut twices, manifest.apps())?;
+    Ok(twices)
+}
