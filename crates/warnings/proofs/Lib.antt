@@ -10,3 +10,4 @@ pub mod Courses
 pub mod Named
 pub mod Fresh
 pub mod So
+pub mod Counted

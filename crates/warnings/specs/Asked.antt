@@ -1,6 +1,7 @@
--- What is told of an app's rule that was asked: lines, each ended by a line feed.
-use Rattle.std.specs.Prelude.{ℕ, ◌+◌, ◌-◌, ◌*◌, List, [], ◌∷◌, ◌++◌, codes, decimal, length}
-use Rattle.std.specs.Prelude.{Bool, true, false, nat_le, if◌then◌else◌}
+-- What is told of an app's rule: of its tests, which are read, and of its `when`s and releases, for
+-- which it is asked. Lines, each ended by a line feed.
+use Rattle.std.specs.Prelude.{ℕ, ◌+◌, ◌-◌, ◌*◌, ◌/◌, ◌%◌, List, [], ◌∷◌, ◌++◌, codes, decimal}
+use Rattle.std.specs.Prelude.{length, Bool, true, false, ◌&&◌, nat_le, nat_lt, if◌then◌else◌}
 use Rattle.std.specs.Prelude.{Option, Some, None, option_and_then, unwrap_or}
 use Rattle.releases.specs.Release.{Release}
 use Rattle.rule_diagnosis.specs.rule_lang.declared.condition.Step.{Step}
@@ -8,13 +9,63 @@ use Rattle.rule_diagnosis.specs.rule_lang.declared.condition.Step.TheVariants as
 use Rattle.rule_diagnosis.specs.rule_lang.declared.rule.Statement.{Statement}
 use Rattle.rule_diagnosis.specs.rule_lang.declared.rule.Statement.TheVariants.{Count, When}
 use Rattle.rule_diagnosis.specs.rule_lang.declared.test.Comparison.{Comparison}
-use Rattle.rule_diagnosis.specs.rule_lang.declared.test.Comparison.TheVariants.{Eq, Lt}
+use Rattle.rule_diagnosis.specs.rule_lang.declared.test.Comparison.TheVariants.{Eq, Le, Lt}
+use Rattle.rule_diagnosis.specs.rule_lang.declared.test.Test.{Test}
+use Rattle.rule_diagnosis.specs.rule_lang.declared.test.Test.TheVariants as test
 use Rattle.warnings.specs.declared.possible.Asker.TheVariants.{One}
 use Rattle.warnings.specs.declared.spot.Spot.{Spot}
 use Rattle.warnings.specs.Asking.{RuleOfApp, arrives, gets, in_some_bucket, may_end, may_give}
 use Rattle.warnings.specs.Asking.{someone}
 use Rattle.warnings.specs.Releases.{line_where, warned_app}
 use Rattle.warnings.specs.Spots.{spots_of}
+
+-- ---- a line of a rule's text
+
+abbrev pub in_line : ℕ → List ℕ
+in_line line = codes "rule: line " ++ decimal line ++ codes ": "
+
+abbrev pub rule_line : (app line : ℕ) → (said : List ℕ) → List ℕ
+rule_line app line said = warned_app app ++ in_line line ++ said
+
+-- ---- a test that holds for few of the 10000 buckets, or of those under a salt: who means 5
+-- percent writes 500, and not 5
+
+-- fewer than one percent, and not none
+abbrev pub is_few : (buckets : ℕ) → Bool
+is_few buckets = nat_lt 0 buckets && nat_lt buckets 100
+
+unfoldable pub few_said : List ℕ
+few_said = codes " percent of the bucket numbers: one percent is 100 of them\n"
+
+-- the test by this sign and number holds for so many, in percent with two places
+abbrev pub few_words : (sign : List ℕ) → (number buckets : ℕ) → List ℕ
+few_words sign number buckets =
+    codes "bucket " ++ sign ++ codes " " ++ decimal number ++ codes " is 0."
+    ++ decimal (buckets / 10) ++ decimal (buckets % 10) ++ few_said
+
+abbrev pub few_line : (app line : ℕ) → (sign : List ℕ) → (number buckets : ℕ) → List ℕ
+few_line app line sign number buckets =
+    if is_few buckets then rule_line app line (few_words sign number buckets) else []
+
+-- `< n` holds for the n buckets from 0 to n - 1, and `<= n` for those and n
+abbrev pub test_line : (app line : ℕ) → Test → List ℕ
+test_line app line (test.Bucket salt None Lt n) = few_line app line (codes "<") n n
+test_line app line (test.Bucket salt None Le n) = few_line app line (codes "<=") n (n + 1)
+test_line app line t = []
+
+-- whatever stands around it: `not`, or what never holds
+abbrev pub few_of_step : (app : ℕ) → Step → List ℕ
+few_of_step app (step.Test line t) = test_line app line t
+few_of_step app s = []
+
+abbrev pub few_of_steps : (app : ℕ) → List Step → List ℕ
+few_of_steps app [] = []
+few_of_steps app (s ∷ ss) = few_of_step app s ++ few_of_steps app ss
+
+abbrev pub few_of_rule : (app : ℕ) → List Statement → List ℕ
+few_of_rule app [] = []
+few_of_rule app (Count name index ∷ rest) = few_of_rule app rest
+few_of_rule app (When steps release ∷ rest) = few_of_steps app steps ++ few_of_rule app rest
 
 -- ---- a `when`, by the line of its first test
 
@@ -29,12 +80,6 @@ unheld_said = codes "this when never holds\n"
 abbrev pub first_line : List Step → ℕ
 first_line (step.Test line t ∷ steps) = line
 first_line steps = 0
-
-abbrev pub in_line : ℕ → List ℕ
-in_line line = codes "rule: line " ++ decimal line ++ codes ": "
-
-abbrev pub rule_line : (app line : ℕ) → (said : List ℕ) → List ℕ
-rule_line app line said = warned_app app ++ in_line line ++ said
 
 abbrev pub when_line : (app : ℕ) → (ends reached : Bool) → List Step → List ℕ
 when_line app true reached steps = []
@@ -131,8 +176,9 @@ abbrev pub told_in : Option ℕ → (app : ℕ) → RuleOfApp → List ℕ
 told_in (Some left) app r = asked_text app r
 told_in None app r = warned_app app ++ unasked_said
 
+-- of its tests in any case
 abbrev pub rule_text : (app room : ℕ) → RuleOfApp → List ℕ
-rule_text app room r = told_in (room_after r room) app r
+rule_text app room r = few_of_rule app r.rule ++ told_in (room_after r room) app r
 
 -- a rule that isn't asked takes no room
 abbrev pub room_left : (room : ℕ) → RuleOfApp → ℕ

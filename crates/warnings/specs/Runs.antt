@@ -1,5 +1,8 @@
 -- What the warnings on a rule say of its runs, by what rules mean.
-use Rattle.std.specs.Prelude.{◌≡◌, ℕ, ◌<◌, ◌≤◌, ℤ, List, [], ◌∷◌, ◌++◌, Some, true, All}
+use Rattle.std.specs.Prelude.{◌≡◌, ℕ, ◌<◌, ◌≤◌, ℤ, List, [], ◌∷◌, ◌++◌, Option, Some, None, true}
+use Rattle.std.specs.Prelude.{All, codes}
+use Rattle.std.specs.List.{count_by, range_with_len}
+use Rattle.std.specs.Ordering.{nat_cmp}
 use Rattle.releases.specs.attrs.Attributes.{Attributes, plain}
 use Rattle.releases.specs.attrs.Context.{HasContextRanges}
 use Rattle.releases.specs.attrs.Moment.{elapsed_days}
@@ -9,10 +12,14 @@ use Rattle.rule_diagnosis.specs.rule_lang.declared.condition.Step.{Step}
 use Rattle.rule_diagnosis.specs.rule_lang.declared.rule.Statement.{Statement}
 use Rattle.rule_diagnosis.specs.rule_lang.declared.rule.Statement.TheVariants.{When}
 use Rattle.rule_diagnosis.specs.rule_lang.declared.test.Comparison.{Comparison}
-use Rattle.rule_diagnosis.specs.rule_lang.Meaning.{HasTrace, behaviour}
-use Rattle.warnings.specs.Asked.{first_line, got_line, of_release, rule_line, statement_line}
-use Rattle.warnings.specs.Asked.{ungiven_line, ungiven_said, unheld_said, unreached_said}
-use Rattle.warnings.specs.Asking.{RuleOfApp, choice_compares, may_give, someone}
+use Rattle.rule_diagnosis.specs.rule_lang.declared.test.Comparison.TheVariants.{Le, Lt}
+use Rattle.rule_diagnosis.specs.rule_lang.declared.test.Test.{Test}
+use Rattle.rule_diagnosis.specs.rule_lang.declared.test.Test.TheVariants as test
+use Rattle.rule_diagnosis.specs.rule_lang.Meaning.{HasTrace, allows, behaviour}
+use Rattle.warnings.specs.Asked.{few_words, first_line, got_line, of_release, rule_line}
+use Rattle.warnings.specs.Asked.{statement_line, test_line, ungiven_line, ungiven_said, unheld_said}
+use Rattle.warnings.specs.Asked.{unreached_said}
+use Rattle.warnings.specs.Asking.{RuleOfApp, all_buckets, choice_compares, may_give, someone}
 use Rattle.warnings.specs.Releases.{warned_app, warned_member}
 use Rattle.warnings.specs.Spots.{spots_of}
 
@@ -22,6 +29,12 @@ pub record MayAsk (a : Attributes) : Type 0 where
   pub ranges : HasContextRanges a.context
   pub moment : ℤ
   pub today : a.context.today ≡ elapsed_days moment
+
+-- ---- of a test
+
+-- how many of the bucket numbers, 0 to 9999, compare so with this number
+abbrev pub buckets_that : Comparison → ℕ → ℕ
+buckets_that r n = count_by (λ bucket. allows r (nat_cmp bucket n)) (range_with_len 0 all_buckets)
 
 -- ---- what is denied of all runs
 
@@ -60,6 +73,17 @@ pub record MayGet (r : RuleOfApp) (by : Comparison) (version : List ℕ) : Type 
 
 -- ---- lines that are so
 
+-- each has the number of buckets, or of those under a salt, for which the test holds; there are
+-- some, and fewer than one percent
+pub data IsSoOfTest (app line : ℕ) : Test → List ℕ → Type 0 where
+  nothing : (t : Test) → IsSoOfTest app line t []
+  of_lt : (salt : Option ℕ) (n : ℕ) → 0 < buckets_that Lt n → buckets_that Lt n < 100
+      → IsSoOfTest app line (test.Bucket salt None Lt n)
+      (rule_line app line (few_words (codes "<") n (buckets_that Lt n)))
+  of_le : (salt : Option ℕ) (n : ℕ) → 0 < buckets_that Le n → buckets_that Le n < 100
+      → IsSoOfTest app line (test.Bucket salt None Le n)
+      (rule_line app line (few_words (codes "<=") n (buckets_that Le n)))
+
 pub data IsSoOfWhen (app : ℕ) (r : RuleOfApp) (before : List Statement) (steps : List Step)
     : List ℕ → Type 0 where
   nothing : IsSoOfWhen app r before steps []
@@ -80,6 +104,10 @@ pub data IsSoOfVersion (app number : ℕ) (r : RuleOfApp) (by : Comparison) (ver
       → IsSoOfVersion app number r by version said (warned_member app number ++ said)
 
 -- ---- the laws
+
+-- what is told of a test of a rule is so
+abbrev pub TestsAreSo : Type 0
+TestsAreSo = (app line : ℕ) (t : Test) → IsSoOfTest app line t (test_line app line t)
 
 -- what is told of a `when` of a rule is so
 abbrev pub WhensAreSo : Type 0

@@ -1,11 +1,14 @@
 //! Laws of the definitions: what is told of a rule is so. They are called by nothing.
 
-ghost use Rattle.warnings.specs.Runs.{ReleasesAreSo, VersionsAreSo, WhensAreSo};
+ghost use Rattle.warnings.specs.Runs.{ReleasesAreSo, TestsAreSo, VersionsAreSo};
+ghost use Rattle.warnings.specs.Runs.{WhensAreSo};
 
 /// A law: no run of a rule does what a line on a `when` or on a release denies, whoever asks and
-/// whatever counters reply; and there is a run that does what a line on a version says.
+/// whatever counters reply; there is a run that does what a line on a version says; and a line on a
+/// test has the number of buckets for which it holds.
 pub fn warnings_are_so()
     ensures whens { WhensAreSo }
     ensures releases { ReleasesAreSo }
     ensures versions { VersionsAreSo }
+    ensures tests { TestsAreSo }
 {}

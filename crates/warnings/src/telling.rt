@@ -1,4 +1,4 @@
-//! What is told of an app's rule that was asked.
+//! What is told of an app's rule.
 
 ghost use Rattle.std.specs.Prelude.{◌≡◌, ◌++◌, OnOk, IfOk, string_bytes};
 ghost use Rattle.warnings.specs.Asked as specs;
@@ -6,6 +6,7 @@ ghost use Rattle.warnings.specs.Asking.{rule_of};
 ghost use Rattle.warnings.specs.Spots as places;
 
 use crate::asking::AskedRule;
+use crate::few::tell_few_of_rule;
 use crate::given::tell_all_releases;
 use crate::release::tell_app;
 use crate::room::room_behind;
@@ -35,26 +36,16 @@ fn tell_answers(
     tell_all_releases(alloc, text, app, asked, spots)
 }
 
-/// Warnings on the rule of an app, which is asked for each bucket; and the room that is left for
-/// other rules. A line tells
-///
-/// - of a `when` that it is never reached, or never holds, and of a release that no bucket gets it,
-///   nor a later one: at any version, whatever else an app says, and whatever counters reply;
-/// - of a release that in some bucket who has it may get it again, or a lower one: where the app
-///   says no more than its version and bucket, and each counter replies 0.
-///
-/// A rule takes room for each step of its conditions: once for the lowest version, for each that it
-/// names, for what lies just above each of these, and for each release. One for which there is too
-/// little is told of, isn't asked, and takes none.
-pub fn tell_rule(
+// Of its answers, where there is room to ask it.
+fn tell_asked(
     alloc: Global,
     text: &mut String,
     app: usize,
     asked: &AskedRule<'_>,
     room: u64,
 ) -> Result<u64, AllocError>
-    ensures text { OnOk result (string_bytes text.new
-        ≡ string_bytes text.old ++ specs.rule_text app room (rule_of asked.now)) }
+    ensures text { OnOk result (string_bytes text.new ≡ string_bytes text.old
+        ++ specs.told_in (specs.room_after (rule_of asked.now) room) app (rule_of asked.now)) }
     ensures room { IfOk result (λ left. left ≡ specs.room_left room (rule_of asked.now)) }
 {
     let spots = spots_of(alloc, asked.statements)?;
@@ -70,4 +61,32 @@ pub fn tell_rule(
             Ok(room)
         }
     }
+}
+
+/// Warnings on the rule of an app, which is read, and asked for each bucket; and the room that is
+/// left for other rules. A line tells
+///
+/// - of a test `bucket < n` or `bucket <= n`, also under a salt, without a modulus, that it holds
+///   for few buckets: 1 to 99 of the 10,000, whatever stands around it;
+/// - of a `when` that it is never reached, or never holds, and of a release that no bucket gets it,
+///   nor a later one: at any version, whatever else an app says, and whatever counters reply;
+/// - of a release that in some bucket who has it may get it again, or a lower one: where the app
+///   says no more than its version and bucket, and each counter replies 0.
+///
+/// A rule takes room for each step of its conditions: once for the lowest version, for each that it
+/// names, for what lies just above each of these, and for each release. One for which there is too
+/// little is told of, isn't asked, and takes none; its tests are read all the same.
+pub fn tell_rule(
+    alloc: Global,
+    text: &mut String,
+    app: usize,
+    asked: &AskedRule<'_>,
+    room: u64,
+) -> Result<u64, AllocError>
+    ensures text { OnOk result (string_bytes text.new
+        ≡ string_bytes text.old ++ specs.rule_text app room (rule_of asked.now)) }
+    ensures room { IfOk result (λ left. left ≡ specs.room_left room (rule_of asked.now)) }
+{
+    tell_few_of_rule(text, app, asked.statements)?;
+    tell_asked(alloc, text, app, asked, room)
 }

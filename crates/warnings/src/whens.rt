@@ -34,7 +34,7 @@ fn first_line(steps: &[Step]) -> usize
     }
 }
 
-fn tell_line(text: &mut String, line: usize) -> Result<(), AllocError>
+pub(crate) fn tell_line(text: &mut String, line: usize) -> Result<(), AllocError>
     ensures { OnOk result
         (string_bytes text.new ≡ string_bytes text.old ++ specs.in_line line) }
 {
