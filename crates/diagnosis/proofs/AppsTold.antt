@@ -1,12 +1,11 @@
 -- What is told of apps, one after the other.
 use Rattle.std.proofs.Common.{◌≡◌, ℕ, ◌+◌, ◌-◌, ◌<◌, List, [], ◌∷◌, ◌++◌, length, get_or, take, drop}
-use Rattle.std.proofs.Common.{Option, Some, None, Ok, Err, inl, inr, arith}
+use Rattle.std.proofs.Common.{Some, None, Ok, Err, inl, inr, arith}
 use Rattle.std.proofs.Common.{refl, sym, ap, ◌∙◌, subst, append_assoc, append-nil}
 use Rattle.std.proofs.Math.Seq.{take-length}
 use Rattle.std.specs.Prelude.{IsUtf8}
 use Rattle.std.specs.Option.{ForSome}
 use Rattle.load.specs.bounded_files.Files.{KnownFiles, Gives}
-use Rattle.load.specs.acceptance.Rule.{IsTextOf}
 use Rattle.load.specs.acceptance.rule_lang.Tokens.{Text}
 use Rattle.load.specs.acceptance.rule_lang.Verdicts.{IsRuleFault, IsVerdict, RuleHasOneVerdict}
 use Rattle.load.specs.acceptance.rule_lang.declared.fault.RuleFault.{RuleFault}
@@ -19,10 +18,10 @@ use Rattle.load.specs.manifest.declared.app.ProgramSource.{ProgramSource}
 use Rattle.load.specs.manifest.declared.app.ProgramSource.TheVariants.{Program, Rule}
 use Rattle.load.specs.rulesets.Rules.{AppRule}
 use Rattle.diagnosis.specs.Asked.{AddsApp, AddsFile, AddsSource, CountsUnread}
-use Rattle.diagnosis.specs.Warned.{AsksApp, AsksFile, Room, WarnsOfApp, WarnsOfApps, app_rule}
+use Rattle.diagnosis.specs.Warned.{AsksApp, Room, WarnsOfApps, app_rule}
 use Rattle.diagnosis.specs.Asked.AddsFile.{no_rule as adds_none, a_rule as adds_rule}
 use Rattle.diagnosis.specs.Warned.AsksFile.{unread, no_rule, a_rule}
-use Rattle.diagnosis.specs.Warned.WarnsOfApps.{no_app, no_entry, next}
+use Rattle.diagnosis.specs.Warned.WarnsOfApps.{no_app, next}
 use Rattle.warnings.specs.Asked.{room_left, rule_text}
 use Rattle.warnings.specs.Asking.{RuleOfApp}
 use Rattle.warnings.specs.Releases.{releases_from}
@@ -188,16 +187,7 @@ counted_on known number (Some room) left entry app old new first now later befor
 pub ended : (known : KnownFiles) (number : ℕ) (room : Room) (entries : List AppEntry)
     (apps : List AppRule) (text : List ℕ) (all : List ℕ → Type 0)
     → ((more : List ℕ) → WarnsOfApps known number room entries apps more → all (text ++ more))
-    → entries ≡ [] → all text
-ended known number room entries apps text all so_far is =
-    let told : WarnsOfApps known number room entries apps [] = rw is no_entry in
-    subst all (append-nil text) (so_far [] told)
-
-pub ended_early : (known : KnownFiles) (number : ℕ) (room : Room)
-    (all_entries entries : List AppEntry) (entry : AppEntry) (apps : List AppRule)
-    (text : List ℕ) (all : List ℕ → Type 0)
-    → ((more : List ℕ) → WarnsOfApps known number room all_entries apps more → all (text ++ more))
-    → all_entries ≡ entry ∷ entries → apps ≡ [] → all text
-ended_early known number room all_entries entries entry apps text all so_far entries_are is =
-    let told : WarnsOfApps known number room all_entries apps [] = rw (entries_are, is) no_app in
+    → entries ≡ [] → apps ≡ [] → all text
+ended known number room entries apps text all so_far no_entries no_apps =
+    let told : WarnsOfApps known number room entries apps [] = rw (no_entries, no_apps) no_app in
     subst all (append-nil text) (so_far [] told)

@@ -1,11 +1,10 @@
 -- The lines of faults, one after the other.
-use Rattle.std.proofs.Common.{◌≡◌, ◌⊎◌, ℕ, ◌-◌, List, [], ◌∷◌, ◌++◌, length, take, drop}
-use Rattle.std.proofs.Common.{◌+◌, Bool, true, false, if◌then◌else◌, min, inl, inr, arith}
+use Rattle.std.proofs.Common.{◌≡◌, ◌⊎◌, ℕ, ◌-◌, List, [], ◌∷◌, ◌++◌, length, take}
+use Rattle.std.proofs.Common.{◌+◌, min, inl, arith}
 use Rattle.std.proofs.Common.{refl, sym, ap, ◌∙◌, subst, append_assoc, append-nil}
 use Rattle.std.proofs.lemmas.List.{take_min}
 use Rattle.diagnosis.specs.Further.{AreFurther}
 use Rattle.diagnosis.specs.Reason.{IsReason}
-use Rattle.diagnosis.specs.Refusal.{refusal_line}
 use Rattle.diagnosis.specs.Told.{AreFaultsTold, IsFaultTold, TellsFurther, TellsRefused, more_line}
 use Rattle.diagnosis.specs.Told.AreFaultsTold.{none, next}
 use Rattle.load.specs.bounded_files.Files.{KnownFiles}
@@ -66,24 +65,4 @@ module _ (known : KnownFiles) (bytes : List ℕ) where
     behind = [];
     further = inl refl;
     text_is = sym (append-nil reason);
-  }
-
-  -- and behind it the further faults, if there is memory for both
-  pub told_with : (was : KnownFiles) (fault : LoadFault) (reason behind text : List ℕ) (fits : Bool)
-      → was ≡ known → (reason ≡ []) ⊎ IsReason known bytes fault reason
-      → TellsFurther was bytes fault behind
-      → text ≡ (if fits then (reason ++ behind) else reason) → TellsRefused known bytes fault text
-  told_with was fault reason behind text true same why further is = record {
-    reason = reason;
-    why = why;
-    behind = behind;
-    further = inr (subst (λ (k : KnownFiles). TellsFurther k bytes fault behind) same further);
-    text_is = is;
-  }
-  told_with was fault reason behind text false same why further is = record {
-    reason = reason;
-    why = why;
-    behind = [];
-    further = inl refl;
-    text_is = is ∙ sym (append-nil reason);
   }

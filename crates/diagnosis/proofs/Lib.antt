@@ -6,5 +6,6 @@ mod OneTold
 mod Passing
 mod Checks
 mod Judged
+mod Declared
 mod FaultsTold
 mod Long

@@ -21,7 +21,7 @@ use Rattle.diagnosis.specs.Unused.{unused_from}
 use Rattle.diagnosis.specs.Warned.{AsksApp, AsksFile, Room, WarnsOf, WarnsOfApp, WarnsOfApps}
 use Rattle.diagnosis.specs.Warned.{app_rule}
 use Rattle.diagnosis.specs.Warned.AsksFile.{unread, no_rule, a_rule}
-use Rattle.diagnosis.specs.Warned.WarnsOfApps.{no_app, no_entry, next}
+use Rattle.diagnosis.specs.Warned.WarnsOfApps.{no_app, next}
 use Rattle.warnings.specs.Asked.{room_left, rule_text}
 use Rattle.warnings.specs.Releases.{releases_from}
 
@@ -96,8 +96,9 @@ module _ (verdict : (s : AppShape) (text : Text) → RuleHasOneVerdict s text)
   pub told_once : (number : ℕ) (room : Room) (entries : List AppEntry) (apps : List AppRule)
       (told other : List ℕ) → WarnsOfApps (Some files) number room entries apps told
       → WarnsOfApps (Some files) number room entries apps other → told ≡ other
-  told_once number room [] apps told other no_entry no_entry = refl
-  told_once number room (entry ∷ entries) [] told other no_app no_app = refl
+  told_once number room [] [] told other no_app no_app = refl
+  told_once number room [] (app ∷ apps) told other h k = elim h [ ]
+  told_once number room (entry ∷ entries) [] told other h k = elim h [ ]
   told_once number room (entry ∷ entries) (app ∷ apps) told other
       (next {left = left} {told = first} {rest = rest} h later)
       (next {left = also} {told = second} {rest = behind} k after) =

@@ -1,5 +1,5 @@
 -- The instruction of a slot, and the places from it on.
-use Rattle.std.proofs.Common.{◌≡◌, ℕ, zero, suc, ◌+◌, ◌<◌, List, [], ◌∷◌, length, drop}
+use Rattle.std.proofs.Common.{◌≡◌, ℕ, zero, suc, ◌+◌, ◌<◌, [], ◌∷◌, length, drop}
 use Rattle.std.proofs.Common.{Bool, true, false, ◌||◌, Option, refl, sym, ap, ◌∙◌, arith, add-one}
 use Rattle.std.specs.List.{list_any}
 use Rattle.explaining.specs.bpf_insn.Program.{Program, at}

@@ -1,5 +1,5 @@
 -- What is added to a text that is told of apps.
-use Rattle.std.specs.Prelude.{◌≡◌, ℕ, List, [], ◌++◌, Option, Some, None}
+use Rattle.std.specs.Prelude.{◌≡◌, ℕ, List, ◌++◌, Some, None}
 use Rattle.load.specs.acceptance.Rule.{IsTextOf}
 use Rattle.load.specs.acceptance.rule_lang.declared.rule.Statement.{Statement}
 use Rattle.load.specs.bounded_files.Files.{KnownFiles}

@@ -1,8 +1,11 @@
--- Which faults of a manifest are told behind the first: those of the same stage. Behind an app that
--- has no program these are the faults of the apps behind it, each of which is judged by itself,
--- under the manifest's arrays.
+-- Which faults of a manifest are told behind the first. Behind a member that doesn't fit: all else
+-- that doesn't. Behind a name that stands twice: all others that do. Behind an array's fault: those
+-- of the arrays behind it, each declared beside those before it that can be. Behind an app's: those
+-- of the apps behind it, each judged by itself under the manifest's arrays. Behind any other: none.
 use Rattle.std.specs.Prelude.{◌≡◌, ◌≢◌, ℕ, ◌+◌, List, [], ◌∷◌, ◌++◌, drop, Ok}
 use Rattle.std.specs.Prelude.{Option, Some, None}
+use Rattle.diagnosis.specs.Others.{AreOtherMisfits, AreOtherTwice}
+use Rattle.diagnosis.specs.Undeclared.{AreUndeclared}
 use Rattle.load.specs.App.{IsAppOf, RefusesApp}
 use Rattle.load.specs.Apps.{in_app}
 use Rattle.load.specs.bounded_files.Files.{KnownFiles}
@@ -16,6 +19,7 @@ use Rattle.load.specs.manifest.Manifest.{Manifest, ReadsManifest}
 use Rattle.load.specs.manifest.cells.declared.array.ArrayNo.{ArrayNo}
 use Rattle.load.specs.manifest.cells.declared.array.CellArray.{CellArray}
 use Rattle.load.specs.manifest.declarations.Order.{AreDeclared}
+use Rattle.load.specs.manifest.declared.fault.ManifestFault.TheVariants as unread
 use Rattle.load.specs.rulesets.Rules.{AppRule}
 
 -- the fault of the app of this number, if it has one
@@ -49,11 +53,13 @@ module _ (known : KnownFiles) where
     pub declared : AreDeclared [] manifest.arrays numbers directory
     pub faults_are : AreFaultsOf directory numbers (number + 1) (drop number manifest.apps) faults
 
-  -- those behind this fault of a manifest; of the other stages none is told
+  -- those behind this fault of a manifest
   abbrev pub AreFurther : (bytes : List ℕ) → LoadFault → List LoadFault → Type 0
   AreFurther bytes (File number) faults = AreBehind bytes number faults
   AreFurther bytes (Program number fault) faults = AreBehind bytes number faults
   AreFurther bytes (Rule number fault) faults = AreBehind bytes number faults
+  AreFurther bytes (NoManifest (unread.Field misfit)) faults = AreOtherMisfits bytes faults
+  AreFurther bytes (NoManifest (unread.Duplicate twice)) faults = AreOtherTwice bytes faults
   AreFurther bytes (NoManifest fault) faults = faults ≡ []
-  AreFurther bytes (Cells number fault) faults = faults ≡ []
+  AreFurther bytes (Cells number fault) faults = AreUndeclared bytes number faults
   AreFurther bytes Memory faults = faults ≡ []

@@ -8,6 +8,8 @@ pub mod Asked
 pub mod Reason
 pub mod Named
 pub mod Refusal
+pub mod Undeclared
+pub mod Others
 pub mod Further
 pub mod Told
 pub mod Check

@@ -2,7 +2,6 @@
 -- it is.
 use Rattle.std.specs.Prelude.{ℕ, List, ◌++◌, codes, decimal}
 use Rattle.explaining.specs.bpf_insn.Faults.{fault_text}
-use Rattle.load.specs.acceptance.bpf_verify.bpf_rules.declared.refusal.Refusal.{Refusal}
 use Rattle.load.specs.acceptance.bpf_verify.bpf_rules.declared.refusal.Refusal.TheVariants as verify
 use Rattle.load.specs.acceptance.bpf_verify.bpf_rules.declared.refusal.VerifierRule.{VerifierRule}
 use Rattle.load.specs.acceptance.bpf_verify.bpf_rules.declared.refusal.VerifierRule.TheVariants as verifier
@@ -10,13 +9,10 @@ use Rattle.load.specs.acceptance.declared.fault.ProgramFault.{ProgramFault}
 use Rattle.load.specs.acceptance.declared.fault.ProgramFault.TheVariants.{Flow, Verify}
 use Rattle.load.specs.acceptance.declared.fault.RuleTextFault.{RuleTextFault}
 use Rattle.load.specs.acceptance.declared.fault.RuleTextFault.TheVariants.{Text, Compile}
-use Rattle.load.specs.acceptance.flow_check.declared.fault.FlowFault.{FlowFault}
 use Rattle.load.specs.acceptance.flow_check.declared.fault.FlowFault.TheVariants as check
 use Rattle.load.specs.acceptance.flow_check.declared.fault.FlowRule.{FlowRule}
 use Rattle.load.specs.acceptance.flow_check.declared.fault.FlowRule.TheVariants as flow
-use Rattle.load.specs.acceptance.rule_compile.declared.fault.CompileFault.{CompileFault}
 use Rattle.load.specs.acceptance.rule_compile.declared.fault.CompileFault.TheVariants as compile
-use Rattle.load.specs.acceptance.rule_lang.declared.fault.RuleFault.{RuleFault}
 use Rattle.load.specs.acceptance.rule_lang.declared.fault.RuleFault.TheVariants as rule
 use Rattle.load.specs.acceptance.rule_lang.declared.fault.RuleFaultKind.{RuleFaultKind}
 use Rattle.load.specs.acceptance.rule_lang.declared.fault.RuleFaultKind.TheVariants as kind

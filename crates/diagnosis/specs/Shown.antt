@@ -11,6 +11,7 @@ use Rattle.explaining.specs.bpf_insn.Program.{Program}
 use Rattle.explaining.specs.bpf_semantics.Program.{shaped}
 use Rattle.explaining.specs.RefusedPlace.{IsRefusedPlace}
 use Rattle.load.specs.acceptance.flow_check.Flow.{IsFlow, program_bytes}
+use Rattle.load.specs.acceptance.rule_lang.declared.fault.RuleFaultKind.{RuleFaultKind}
 use Rattle.load.specs.manifest.cells.Arrays.{AppShape}
 use Rattle.load.specs.rulesets.Texts.{line}
 use Rattle.warnings.specs.rule_diagnosis.Places.{line_text}
@@ -39,16 +40,24 @@ pub record IsRefusedInsnShown (s : AppShape) (slot : ℕ) (bytes text : List ℕ
   pub place : IsRefusedPlace (shaped code s) slot sentence
   pub text_is : text ≡ insn_text ++ line sentence
 
--- an instruction, if the verifier refuses it with its sentence; or what is told of a rule's fault,
--- or at least its line
+-- what is told of a rule's fault, or at least its line
+abbrev pub IsTextShown : AppShape → ℕ → RuleFaultKind → List ℕ → List ℕ → Type 0
+IsTextShown s number kind bytes text =
+    IsRuleTold s bytes number kind text ⊎ (text ≡ numbered_line number bytes)
+
+-- of a file that is no text
+abbrev pub no_text_line : List ℕ
+no_text_line = line (codes "a rule is a text in UTF-8")
+
+-- an instruction, if the verifier refuses it with its sentence; or the fault of a rule
 abbrev pub IsShown : AppShape → Place → List ℕ → List ℕ → Type 0
 IsShown s Whole bytes text = ⊥
 IsShown s (Slot slot) bytes text = IsInsnShown slot bytes text
 IsShown s (Refused slot) bytes text =
     IsRefusedInsnShown s slot bytes text ⊎ IsInsnShown slot bytes text
 IsShown s (InRule number kind) bytes text =
-    IsUtf8 bytes
-    × (IsRuleTold s bytes number kind text ⊎ (text ≡ numbered_line number bytes))
+    (IsUtf8 bytes × IsTextShown s number kind bytes text)
+    ⊎ (¬ (IsUtf8 bytes) × (text ≡ no_text_line))
 
 -- the file is one of the manifest's folder, is read again, and its place is shown; or nothing is:
 -- of a file from outside, for want of memory or of the file, or because there is no such place

@@ -9,13 +9,17 @@ use Rattle.load.specs.bounded_files.Files.{KnownFiles}
 use Rattle.load.specs.declared.fault.LoadFault.{LoadFault}
 use Rattle.load.specs.rulesets.Texts.{line}
 
+-- how many further faults are told at most
+abbrev pub most_further : ℕ
+most_further = 9
+
 -- so many faults more
 abbrev pub more_line : ℕ → List ℕ
 more_line zero = []
 more_line (suc n) = line (codes "and " ++ decimal (suc n) ++ codes " more")
 
 module _ (known : KnownFiles) (bytes : List ℕ) where
-  -- a fault's lines: that of its refusal, and where and why, if not for want of memory nothing
+  -- a fault's lines: that of its refusal, and then where and why, or nothing for want of memory
   pub record IsFaultTold (fault : LoadFault) (text : List ℕ) : Type 0 where
     pub reason : List ℕ
     pub why : (reason ≡ []) ⊎ IsReason known bytes fault reason
@@ -28,13 +32,13 @@ module _ (known : KnownFiles) (bytes : List ℕ) where
         → IsFaultTold fault told → AreFaultsTold faults rest
         → AreFaultsTold (fault ∷ faults) (told ++ rest)
 
-  -- nine of the further faults, and how many there are more
+  -- the first nine of the further faults, and how many more there are
   pub record TellsFurther (fault : LoadFault) (text : List ℕ) : Type 0 where
     pub faults : List LoadFault
     pub further : AreFurther known bytes fault faults
     pub told : List ℕ
-    pub first : AreFaultsTold (take 9 faults) told
-    pub text_is : text ≡ told ++ more_line (length faults - 9)
+    pub first : AreFaultsTold (take most_further faults) told
+    pub text_is : text ≡ told ++ more_line (length faults - most_further)
 
   -- where and why, and then the further faults; for want of memory either is nothing, and the
   -- further faults are nothing, too, where as many files couldn't be read as can be counted

@@ -1,7 +1,6 @@
 -- What is told of a manifest that is accepted and hardly means what it says: of its arrays, and of
 -- each app in their order.
 use Rattle.std.specs.Prelude.{◌≡◌, ℕ, ◌+◌, List, [], ◌∷◌, ◌++◌, Option, Some, None, Ok}
-use Rattle.load.specs.Source.{file_of}
 use Rattle.load.specs.acceptance.Rule.{IsTextOf}
 use Rattle.load.specs.acceptance.rule_lang.declared.rule.Statement.{Statement}
 use Rattle.load.specs.bounded_files.Files.{KnownFiles, Gives}
@@ -57,10 +56,7 @@ module _ (known : KnownFiles) where
 
   -- of these apps, the first of which has this number, and their entries
   pub data WarnsOfApps : ℕ → Room → List AppEntry → List AppRule → List ℕ → Type 0 where
-    no_entry : {number : ℕ} {room : Room} {apps : List AppRule}
-        → WarnsOfApps number room [] apps []
-    no_app : {number : ℕ} {room : Room} {entry : AppEntry} {entries : List AppEntry}
-        → WarnsOfApps number room (entry ∷ entries) [] []
+    no_app : {number : ℕ} {room : Room} → WarnsOfApps number room [] [] []
     next : {number : ℕ} {room left : Room} {entry : AppEntry} {entries : List AppEntry}
         {app : AppRule} {apps : List AppRule} {told rest : List ℕ}
         → WarnsOfApp number room entry app told left

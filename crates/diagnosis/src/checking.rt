@@ -36,21 +36,27 @@ pub struct Refused {
 /// Of one that is refused the reason begins with the path of a member and what is wanted there, in
 /// which tables of a list are numbered from 1:
 ///
-/// - M1: that the bytes are too many, or what the crate `toml` says, of which nothing is promised.
+/// - M1: that the bytes are too many, or what the crate `toml` says, of which nothing is promised,
+///   and how tables begin.
 /// - M2: `app[2].release[1].size: a whole number from 0 to 9007199254740991`.
 /// - M3: `array q stands twice` or `app x stands twice`.
 /// - M4 to M6: `app[1].rule: x.rule`, the name of the file as the manifest has it. Where M6 has a
-///   line, the line follows with its text, as `line 2: count q[0];`, which is empty at the text's
-///   end. Where M5 has a slot at which an instruction begins, it follows as it is listed:
-///   `slot 1: exit`; and behind it, where the verifier refuses it, the sentence of
-///   `refused_place`. The file is read once more for these lines. They are left out where it can't
-///   be read again; and a device may give other bytes than before. They are left out, too, where
-///   the file lies outside the manifest's folder, by a name that is absolute or has a part `..`.
+///   line, what stands there and what is expected follows, as `line 2, column 9: ..`, and below it
+///   the line and a caret (`tell_rule_fault` of `rule_diagnosis`); or, where that can't be told,
+///   the line alone, as `line 2: count q[0];`; or that the file is no text in UTF-8. Where M5 has a
+///   slot at which an instruction begins, it follows as it is listed: `slot 1: exit`; and behind
+///   it, where the verifier refuses it, the sentence of `refused_place`. The file is read once more
+///   for these lines. They are left out where it can't be read again; and a device may give other
+///   bytes than before. They are left out, too, where the file lies outside the manifest's folder,
+///   by a name that is absolute or has a part `..`.
 /// - M7: `array[2].length: r passes the 4096 cells that all arrays of a width have`.
 ///
-/// Behind the reason of M4 to M6 the apps behind the first refused one are judged, each by itself.
-/// Nine of those that are refused are told as the first is, by the line of the refusal and its own
-/// reason, and a last line says how many there are more: `and 3 more`.
+/// Behind the reason of M4 to M6 the apps behind the first refused one are judged, each by itself;
+/// behind that of M7 the arrays behind it are, each beside those before it that can be declared.
+/// Behind that of M2 follows all else that doesn't fit: the first member that there isn't, the
+/// server, and of each array and each app the first misfit; behind that of M3 each other name that
+/// stands twice. The first nine of these faults are told as the first is, by the line of the
+/// refusal and its own reason, and a last line says how many there are more: `and 3 more`.
 ///
 /// M8 comes where memory for the load or for what is told of an accepted manifest is refused. Where
 /// it is refused for the reason, the reason is left out, in whole or but for the file's name; and

@@ -10,7 +10,8 @@
 // more to show the line of the rule, or the instruction of the program, at which it lies. Manifests
 // of others are checked, too, so of a file that lies outside the manifest's folder nothing is
 // shown. Behind an app that has no program the apps behind it are judged, too, and each that has
-// none is told as the first.
+// none is told as the first; and so are the arrays behind one that can't be declared, all else that
+// doesn't fit, and all other names that stand twice.
 
 mod accepted;
 mod advice;
@@ -21,11 +22,13 @@ mod file;
 mod inside;
 mod law;
 mod named;
+mod others;
 mod reason;
 mod refusal;
 mod shape;
 mod shown;
 mod telling;
+mod undeclared;
 mod unused;
 mod warned;
 

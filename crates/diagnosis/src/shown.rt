@@ -2,6 +2,7 @@
 
 ghost use Rattle.std.specs.Prelude.{◌≡◌, IfSome, string_bytes};
 ghost use Rattle.diagnosis.specs.Shown.{IsInsnShown, IsRefusedInsnShown, IsShown};
+ghost use Rattle.diagnosis.specs.Shown.{IsTextShown};
 ghost use Rattle.diagnosis.specs.Shown as specs;
 
 use explaining::bpf_insn::decode_at;
@@ -94,7 +95,7 @@ fn with_sentence(
     format!(in alloc; "{insn}{sentence}\n").ok()
 }
 
-// What is told of the fault of a rule, or at least its line.
+// The fault of a rule, unless the file is no text.
 fn show_rule(
     alloc: Global,
     shape: &Shape,
@@ -105,9 +106,42 @@ fn show_rule(
     ensures { IfSome result (λ text.
         IsShown shape.now (Place.Rule line kind) bytes.now (string_bytes text)) }
 {
-    let Ok(text) = str::from_utf8(bytes) else {
-        return None;
-    };
+    match str::from_utf8(bytes) {
+        Ok(text) => {
+            let Some(shown) = show_text(alloc, shape, line, kind, text) else {
+                return None;
+            };
+            Some(shown)
+        }
+        Err(_) => {
+            let Some(shown) = show_no_text(alloc) else {
+                return None;
+            };
+            Some(shown)
+        }
+    }
+}
+
+fn show_no_text(alloc: Global) -> Option<String>
+    ensures { IfSome result (λ shown. string_bytes shown ≡ specs.no_text_line) }
+{
+    match format!(in alloc; "a rule is a text in UTF-8\n") {
+        Ok(shown) => Some(shown),
+        Err(_) => None,
+    }
+}
+
+// What is told of the fault of a rule, or at least its line.
+fn show_text(
+    alloc: Global,
+    shape: &Shape,
+    line: usize,
+    kind: RuleFaultKind,
+    text: &str,
+) -> Option<String>
+    ensures { IfSome result (λ shown.
+        IsTextShown shape.now line kind text.now (string_bytes shown)) }
+{
     match tell_rule_fault(alloc, text, shape, line, kind) {
         Some(told) => Some(told),
         None => show_line(alloc, line, text),

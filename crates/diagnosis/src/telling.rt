@@ -7,8 +7,11 @@ ghost use Rattle.diagnosis.specs.Told.{AreFaultsTold, IsFaultTold, TellsFurther,
 ghost use Rattle.diagnosis.specs.Told.{more_line};
 
 use crate::behind::{can_count, faults_behind};
+use crate::others::{other_misfits, other_twice};
 use crate::reason::reason_of;
 use crate::refusal::refusal_line;
+use crate::undeclared::faults_behind_array;
+use load::manifest::ManifestFault;
 use load::{Files, LoadFault};
 use std::alloc::{AllocError, Global};
 use std::fmt::Write;
@@ -58,7 +61,7 @@ fn tell_further<F: Files>(
     Ok(text)
 }
 
-// The faults of the stage of this one, but for the first.
+// The faults that are told behind this one.
 fn further_faults<F: Files>(
     alloc: Global,
     manifest: &[u8],
@@ -73,8 +76,11 @@ fn further_faults<F: Files>(
         LoadFault::File { app } => faults_behind(alloc, manifest, files, *app),
         LoadFault::Program { app, .. } => faults_behind(alloc, manifest, files, *app),
         LoadFault::Rule { app, .. } => faults_behind(alloc, manifest, files, *app),
-        LoadFault::Manifest(_) => Some(Vec::new(alloc)),
-        LoadFault::Cells { .. } => Some(Vec::new(alloc)),
+        LoadFault::Manifest(ManifestFault::Field(_)) => other_misfits(alloc, manifest),
+        LoadFault::Manifest(ManifestFault::Duplicate(_)) => other_twice(alloc, manifest),
+        LoadFault::Manifest(ManifestFault::Toml(_)) => Some(Vec::new(alloc)),
+        LoadFault::Manifest(ManifestFault::Memory) => Some(Vec::new(alloc)),
+        LoadFault::Cells { array, .. } => faults_behind_array(alloc, manifest, *array),
         LoadFault::Memory => Some(Vec::new(alloc)),
     }
 }

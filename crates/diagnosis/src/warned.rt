@@ -40,6 +40,7 @@ pub(crate) fn tell_warnings<F: Files>(
     Ok(text)
 }
 
+// Each entry has its app: were there more of either, nothing would be told.
 fn told_of_apps<F: Files>(
     alloc: Global,
     files: &mut F,
@@ -58,12 +59,15 @@ fn told_of_apps<F: Files>(
     let mut apps = apps;
     while let [entry, others @ ..] = left {
         let [app, behind @ ..] = apps else {
-            return Ok(text);
+            return Err(AllocError);
         };
         room = tell_app(alloc, &mut text, files, number, room, entry, app)?;
         number += 1;
         left = others;
         apps = behind;
+    }
+    if let [_, ..] = apps {
+        return Err(AllocError);
     }
     Ok(text)
 }

@@ -1,4 +1,4 @@
-use Rattle.std.proofs.Common.{refl, ap, ◌∙◌, sym}
+use Rattle.std.proofs.Common.{refl, ap, ◌∙◌}
 use Rattle.load.specs.acceptance.bpf_semantics.Program.{ShapedProgram}
 use Rattle.warnings.specs.Asking.{rule_of}
 use Rattle.diagnosis.specs.Asked.AddsFile.{no_rule}

@@ -1,18 +1,10 @@
-use Rattle.std.proofs.Common.{List, ℕ, Some, ◌∙◌, arith, rules}
+use Rattle.std.proofs.Common.{List, ℕ, Some, ◌∙◌, arith}
 use Rattle.std.proofs.lemmas.Grind.{common_steps}
 use Rattle.diagnosis.specs.Warned.{WarnsOfApps}
 use Rattle.warnings.specs.Asked.{all_room}
-use Rattle.diagnosis.proofs.AppsTold.{counted_on, ended, ended_early, first_rest, more_told}
+use Rattle.diagnosis.proofs.AppsTold.{counted_on, ended, first_rest, more_told}
 use Rattle.diagnosis.proofs.AppsTold.{none_left}
 use Rattle.diagnosis.proofs.warned.told_of_apps.Goals as goal
-
-pub returns-in_default-apps-clause-warns : goal.returns-in_default-apps-clause-warns
-returns-in_default-apps-clause-warns g c =
-    ended_early _ _ _ _ _ _ _ _
-    (λ (t : List ℕ). WarnsOfApps (g.F.Files.known c.args.files.now) 1 (Some all_room)
-    c.args.entries.now c.args.apps.now t) c.loop-left.invariant.so_far
-    (first_rest c.loop-left.left.now c.entry-item.result (omega arith) c.entry-item.is)
-    (none_left c.loop-left.apps.now (omega arith))
 
 pub loop-left-preserved : goal.loop-left-preserved
 loop-left-preserved g c = record {
@@ -35,3 +27,4 @@ returns-clause-warns g c =
     (λ (t : List ℕ). WarnsOfApps (g.F.Files.known c.args.files.now) 1 (Some all_room)
     c.args.entries.now c.args.apps.now t) c.loop-left.invariant.so_far
     (none_left c.loop-left.left.now (omega arith))
+    (none_left c.loop-left.apps.now (omega arith))
