@@ -3,16 +3,14 @@ use Rattle.std.proofs.Common.{◌≡◌, ℕ, ◌+◌, ◌-◌, ◌<◌, ◌≤�
 use Rattle.std.proofs.Common.{Bool, Option, Some, None, ap, ◌∙◌, sym, subst, arith, take-take}
 use Rattle.std.proofs.Common.{append_assoc, length-take, length-drop, length-append, take_all}
 use Rattle.std.proofs.Common.{length-take-le}
-use Rattle.std.proofs.lemmas.Bool.Decides.{nat_tests}
 use Rattle.std.proofs.lemmas.List.{take-append-le}
 use Rattle.std.proofs.lemmas.List.Folds.{prefix_len-append}
-use Rattle.std.proofs.lemmas.List.Quantifiers.{position-Some}
-use Rattle.std.proofs.lemmas.List.Sums.{position_or_len_is, prefix_len-le-length}
 use Rattle.std.proofs.Math.Seq.{take-append-add}
-use Rattle.std.specs.Prelude.{IfSome, IfNone, cond, not, nat_lt}
+use Rattle.std.specs.Prelude.{IfSome, IfNone, not}
 use Rattle.std.specs.List.{position, position_or_len, prefix_len}
 use Rattle.std.specs.Io.KnownBytes.{Consumes}
 use borrow.Rule.Slice.PartMut.{put_mid, post_of}
+use Rattle.operator.proofs.Positions.{found, not_found}
 use Rattle.operator.specs.Line.{IsFirstRequest, LineGoesOn, IsPiece, IsWhole, line_of}
 use Rattle.operator_request.specs.Requests.{is_line_feed, line_limit}
 use Rattle.operator_request.specs.Requests.{SpellsRequest, SpellsNoRequest}
@@ -39,16 +37,6 @@ ends xs ys h =
     let size : prefix_len test (xs ++ ys) ≡ n = grind (arith, prefix_len-append test xs ys, h) in
     ap (λ (n : ℕ). take n (xs ++ ys)) size ∙ take-append-le n xs ys (omega (arith, h))
 
--- it is the first that passes
-found : (xs : List ℕ) (i : ℕ) → position is_line_feed xs ≡ Some i
-    → (position_or_len is_line_feed xs ≡ i) × (i < length xs)
-found xs i e =
-    let at = position-Some is_line_feed xs i 0 e in
-    (position_or_len_is is_line_feed xs i 0 (omega (arith, at.0)) at.2 (λ h. at.1), at.0)
-
-nowhere : (n size : ℕ) → n ≤ size → cond (nat_lt n size) (Some n) None ≡ None → n ≡ size
-nowhere n size h e = grind (arith, nat_tests, e)
-
 pub last_piece : (a b : Option (List ℕ)) (room : List ℕ) (n i : ℕ) → n ≤ length room
     → Consumes a b (take n room) → position is_line_feed (take n room) ≡ Some i
     → IsPiece a b room (Last i)
@@ -58,7 +46,7 @@ last_piece a b room n i fits bytes e = (omega (arith, fits, below), within a b b
     piece = take n room
 
     at : (position_or_len is_line_feed piece ≡ i) × (i < length piece)
-    at = found piece i e
+    at = found is_line_feed piece i e
 
     below : i < n
     below = omega (arith, at.1, length-take {A = ℕ} n room)
@@ -81,9 +69,7 @@ further_piece a b room n some fits bytes e = (some, fits, within a b bytes)
     piece = take n room
 
     all : position_or_len is_line_feed piece ≡ length piece
-    all =
-        nowhere (position_or_len is_line_feed piece) (length piece)
-        (prefix_len-le-length (λ c. not (is_line_feed c)) piece) e
+    all = not_found is_line_feed piece e
 
     within : (a b : Option (List ℕ)) → Consumes a b piece → LineGoesOn a b piece
     within None b c = tt

@@ -1,11 +1,15 @@
--- By what a reply of an operator's port is known: its first word and its last byte, or the bytes of
--- which it is made. What another port sends, as that of the server's clients, is none.
-use Rattle.std.specs.Prelude.{ℕ, List, length, Bool, ◌==◌, ◌&&◌, ◌||◌, IsTrue, codes}
-use Rattle.std.specs.Prelude.{nat_eq}
+-- By what a reply of an operator's port is known: the lines of which it is made. What another port
+-- sends, as that of the server's clients, is none. An empty reply to `cells` says that all counters
+-- are 0. So a port that closes without a word is taken for that of such a server, and a reply to
+-- `cells` or `show` that is cut at the end of a line for a whole one.
+use Rattle.std.specs.Prelude.{ℕ, ◌-◌, List, [], ◌∷◌, length, take, drop, codes}
+use Rattle.std.specs.Prelude.{Bool, false, ◌==◌, ◌&&◌, ◌||◌, IsTrue, nat_eq, nat_lt, nat_le}
+use Rattle.std.specs.Char.{is_ascii_digit}
 use Rattle.std.specs.Str.{bytes_eq}
-use Rattle.std.specs.List.{starts_with, ends_with, list_all, list_any}
-use Rattle.lexing.specs.Letter.{is_word_byte}
-use Rattle.operator_request.specs.Requests.{IsSendable}
+use Rattle.std.specs.List.{starts_with, ends_with, list_all, before_first, after_first, slice_split}
+use Rattle.cells.specs.Names.{is_spelled}
+use Rattle.operator.specs.Line.{line_of}
+use Rattle.operator_request.specs.Requests.{IsSendable, is_line_feed}
 use Rattle.operator_request.specs.declared.request.OperatorRequest.{OperatorRequest}
 use Rattle.operator_request.specs.declared.request.OperatorRequest.TheVariants.{Load, Show}
 use Rattle.operator_request.specs.declared.request.OperatorRequest.TheVariants.{Cells, Stop}
@@ -15,28 +19,59 @@ use Rattle.hot_swap.specs.rulesets.Texts.{line}
 abbrev pub begins_lines : List ℕ → List ℕ → Bool
 begins_lines word bytes = starts_with nat_eq bytes word && ends_with nat_eq bytes (codes "\n")
 
--- the bytes of lines like `name[0] 1`
-abbrev pub is_counter_byte : ℕ → Bool
-is_counter_byte c = is_word_byte c || (c == 91) || (c == 93) || (c == 32) || (c == 10)
+-- one digit or more
+abbrev pub is_decimal : List ℕ → Bool
+is_decimal text = nat_lt 0 (length text) && list_all is_ascii_digit text
 
-abbrev pub are_counter_bytes : List ℕ → Bool
-are_counter_bytes bytes = list_all is_counter_byte bytes
+-- the name of an array
+abbrev pub is_array_name : List ℕ → Bool
+is_array_name text = is_spelled text && nat_le (length text) 32
 
--- where there is a line, the last is ended, and a cell is named: the one word `stopping` names none
+-- a blank, and a number
+abbrev pub is_blank_and_decimal : List ℕ → Bool
+is_blank_and_decimal [] = false
+is_blank_and_decimal (c ∷ rest) = (c == 32) && is_decimal rest
+
+-- INDEX] VALUE
+abbrev pub is_index_and_value : List ℕ → Bool
+is_index_and_value text =
+    is_decimal (before_first (λ c. c == 93) text)
+    && is_blank_and_decimal (after_first (λ c. c == 93) text)
+
+-- NAME[INDEX] VALUE
+abbrev pub is_cell_line : List ℕ → Bool
+is_cell_line text =
+    is_array_name (before_first (λ c. c == 91) text)
+    && is_index_and_value (after_first (λ c. c == 91) text)
+
+-- generation NUMBER
+abbrev pub is_generation_line : List ℕ → Bool
+is_generation_line text =
+    starts_with nat_eq text (codes "generation ") && is_decimal (drop 11 text)
+
+-- a line feed ends the bytes, and what stands before it is of this form
+abbrev pub is_ended : (List ℕ → Bool) → List ℕ → Bool
+is_ended has_form bytes =
+    ends_with nat_eq bytes (codes "\n") && has_form (take (length bytes - 1) bytes)
+
+-- lines, of which the first tells a generation
+abbrev pub begins_with_generation : List ℕ → Bool
+begins_with_generation bytes =
+    ends_with nat_eq bytes (codes "\n") && is_generation_line (line_of bytes)
+
+-- each line between line feeds is of a cell
 abbrev pub are_cell_lines : List ℕ → Bool
-are_cell_lines bytes =
-    (length bytes == 0)
-    || (list_any (λ c. c == 91) bytes && ends_with nat_eq bytes (codes "\n"))
+are_cell_lines text = list_all is_cell_line (slice_split is_line_feed text)
 
 -- where all counters are 0 there is no line
-abbrev pub are_counters : List ℕ → Bool
-are_counters bytes = are_counter_bytes bytes && are_cell_lines bytes
+abbrev pub are_cells : List ℕ → Bool
+are_cells bytes = (length bytes == 0) || is_ended are_cell_lines bytes
 
 -- what is done as asked is told so
 abbrev pub is_answer : OperatorRequest → List ℕ → Bool
-is_answer (Load path) bytes = begins_lines (codes "generation ") bytes
-is_answer Show bytes = begins_lines (codes "generation ") bytes
-is_answer Cells bytes = are_counters bytes
+is_answer (Load path) bytes = is_ended is_generation_line bytes
+is_answer Show bytes = begins_with_generation bytes
+is_answer Cells bytes = are_cells bytes
 is_answer Stop bytes = bytes_eq bytes (line (codes "stopping"))
 
 -- and any request may be refused

@@ -6,8 +6,8 @@ ghost use Rattle.operator.specs.Replies as specs;
 ghost use Rattle.operator.specs.Texts.{ask_text};
 ghost use Rattle.operator_request.specs.Requests.{IsSendable};
 
+use crate::told::{are_cells, begins_with_generation, is_loaded};
 use bounded_files::ResourceFault;
-use lexing::is_word_byte;
 use operator_request::OperatorRequest;
 use std::alloc::Global;
 use std::fmt;
@@ -29,8 +29,8 @@ pub enum AskFault {
     Word,
     /// B4: memory was refused.
     Memory,
-    /// B5: nobody answers at the port, or not to the end, or nothing came for ten minutes, or it is
-    /// no operator's port.
+    /// B5: nobody answers at the port, or not to the end of a line, or nothing came for ten minutes,
+    /// or what came has not the form of a reply.
     Connect,
 }
 
@@ -58,9 +58,9 @@ impl fmt::Display for AskFault {
 impl std::error::Error for AskFault {}
 
 /// Asks the server whose operator's port this is, on this machine, and gives the lines of its
-/// reply, of at most 1 MiB: those of a refusal begin with `refused `. What another port sends is no
-/// reply. It waits ten minutes for each piece of the reply; after B5 a load or a stop may still
-/// have been done.
+/// reply, of at most 1 MiB: those of a refusal begin with `refused `. What has not the form of a
+/// reply is none. But no byte is one to `cells`, as of a server whose counters are all 0. It waits
+/// ten minutes for each piece of the reply; after B5 a load or a stop may still have been done.
 pub fn ask<H>(rt: &H, port: u16, request: OperatorRequest<'_>) -> Result<Vec<u8>, AskFault>
 where
     H: Net<Stream = TcpStream> + AllocGlobal,
@@ -93,8 +93,9 @@ fn is_answer(request: OperatorRequest<'_>, bytes: &[u8]) -> bool
     ensures { result ≡ specs.is_answer request.entry bytes.now }
 {
     match request {
-        OperatorRequest::Load(_) | OperatorRequest::Show => begins_lines(b"generation ", bytes),
-        OperatorRequest::Cells => are_counters(bytes),
+        OperatorRequest::Load(_) => is_loaded(bytes),
+        OperatorRequest::Show => begins_with_generation(bytes),
+        OperatorRequest::Cells => are_cells(bytes),
         OperatorRequest::Stop => bytes == b"stopping\n".as_slice(),
     }
 }
@@ -104,33 +105,6 @@ fn begins_lines(word: &[u8], bytes: &[u8]) -> bool
     ensures { result ≡ specs.begins_lines word.now bytes.now }
 {
     bytes.starts_with(word) && bytes.ends_with(b"\n")
-}
-
-// Whether these are lines of counters.
-fn are_counters(bytes: &[u8]) -> bool
-    ensures { result ≡ specs.are_counters bytes.now }
-{
-    are_counter_bytes(bytes) && are_cell_lines(bytes)
-}
-
-// Whether the last line, if there is one, is ended, and a cell is named. There is no line where all
-// counters are 0.
-fn are_cell_lines(bytes: &[u8]) -> bool
-    ensures { result ≡ specs.are_cell_lines bytes.now }
-{
-    bytes.is_empty() || (bytes.contains(&b'[') && bytes.ends_with(b"\n"))
-}
-
-fn are_counter_bytes(bytes: &[u8]) -> bool
-    ensures { result ≡ specs.are_counter_bytes bytes.now }
-{
-    bytes.iter().all(|byte| is_counter_byte(*byte))
-}
-
-fn is_counter_byte(byte: u8) -> bool
-    ensures { result ≡ specs.is_counter_byte byte }
-{
-    is_word_byte(byte) || byte == b'[' || byte == b']' || byte == b' ' || byte == b'\n'
 }
 
 // Sends the line of a request, and reads all that is sent back, unless it is more than a reply may

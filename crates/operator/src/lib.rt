@@ -17,6 +17,7 @@ mod loader;
 mod performing;
 mod reply;
 mod telling;
+mod told;
 
 pub use answering::{answer, write_reply};
 pub use asking::{AskFault, ask};
