@@ -4,3 +4,4 @@ pub mod Plain
 pub mod Rooms
 pub mod Said
 pub mod Short
+pub mod Years

@@ -1,7 +1,7 @@
 //! Coordinated Universal Time, and its text by RFC 3339.
 
-ghost use Rattle.std.specs.Prelude.{◌≡◌, ◌+◌, ◌*◌, ◌/◌, ◌%◌, pos, IfSome};
-ghost use Rattle.jiff_core.specs.Calendar.{days_from_civil};
+ghost use Rattle.std.specs.Prelude.{◌≡◌, ◌+◌, ◌*◌, ◌/◌, ◌%◌, ◌<◌, ◌↔◌, pos, IfSome, IsSome};
+ghost use Rattle.jiff_core.specs.Calendar.{IsCivilDate, days_from_civil};
 ghost use Rattle.access_log.specs.Utc as specs;
 
 use jiff_core::civil::{Date, Time};
@@ -23,10 +23,14 @@ pub struct Utc {
 
 impl Utc {
     /// The moment so many seconds, and milliseconds of the next second, after 1970 began. None
-    /// after the year 9999.
+    /// after the year 9999, which ends with the second 253402300799.
     pub fn of_unix(seconds: u64, millis: u16) -> Option<Utc>
+        ensures moment { IsSome result ↔ seconds < 253402300800 }
+        ensures civil { IfSome result (λ t. IsCivilDate (pos t.year) t.month t.day) }
         ensures date { IfSome result
             (λ t. days_from_civil (pos t.year) t.month t.day ≡ pos (seconds / 86400)) }
+        ensures ranges { IfSome result
+            (λ t. (t.hour < 24) × (t.minute < 60) × (t.second < 60)) }
         ensures time { IfSome result
             (λ t. t.hour * 3600 + t.minute * 60 + t.second ≡ seconds % 86400) }
         ensures millis { IfSome result (λ t. t.millis ≡ millis) }
@@ -34,9 +38,6 @@ impl Utc {
         let Ok(date) = Date::from_unix_epoch_day((seconds / DAY_SECONDS) as i64) else {
             return None;
         };
-        if date.year < 0 {
-            return None;
-        }
         let time = Time::from_second((seconds % DAY_SECONDS) as u32, 0);
         Some(Utc {
             year: date.year as u16,
