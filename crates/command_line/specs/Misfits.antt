@@ -1,10 +1,10 @@
--- Which option of the words is ill-written. Words of `simulate` that ask for nothing have one of
--- its misfits, and words that have one ask for nothing. Of other commands what is left is said to
--- be the bucket's; of it no claim is made.
+-- Which option is ill-written, of words that ask for nothing: one of those that are. Where none is,
+-- a value is missing that the command requires. Words of `simulate` that have a misfit ask for
+-- nothing.
 use Rattle.std.specs.Prelude.{List, Option, Some, None, codes}
 use Rattle.clap.specs.Words.{Row, Text, first_of}
-use Rattle.command_line.specs.AppOptions.{LacksAttributes, LacksInstalled, LacksToday, LacksTold}
-use Rattle.command_line.specs.AppOptions.{TellsOneClient}
+use Rattle.command_line.specs.AppOptions.{LacksAttributes, LacksInstalled, LacksPlace, LacksToday}
+use Rattle.command_line.specs.AppOptions.{LacksTold, TellsOneClient, given, value_in}
 use Rattle.command_line.specs.Values.{LacksArrays, LacksText}
 use Rattle.command_line.specs.Words.{WritesOver, verb_named}
 use Rattle.command_line.specs.declared.option_misfit.OptionMisfit.{OptionMisfit}
@@ -22,19 +22,34 @@ IsSimulationMisfit rows misfit.OneClient = TellsOneClient rows
 IsSimulationMisfit rows misfit.Overwritten = WritesOver rows
 IsSimulationMisfit rows misfit = ⊥
 
--- of any other command
+-- the cohort that the words tell
+abbrev pub cohort_in : List Row → Option Text
+cohort_in rows = value_in (given rows) (codes "cohort=")
+
+-- of `run`; nothing but a value is missing where each option is well written
+abbrev pub IsRunMisfit : List Row → OptionMisfit → Type 0
+IsRunMisfit rows misfit.Arrays = LacksArrays rows
+IsRunMisfit rows misfit.Today = LacksToday (first_of (codes "today") rows)
+IsRunMisfit rows misfit.Installed = LacksInstalled (first_of (codes "installed") rows)
+IsRunMisfit rows misfit.Attributes = LacksAttributes rows
+IsRunMisfit rows misfit.Bucket = LacksPlace rows (cohort_in rows)
+IsRunMisfit rows misfit.Missing =
+    (¬ LacksArrays rows) × (¬ LacksTold rows) × (¬ LacksPlace rows (cohort_in rows))
+IsRunMisfit rows misfit = ⊥
+
+-- of any other command, which has no other option that can be ill-written
 abbrev pub IsAnyMisfit : List Row → OptionMisfit → Type 0
 IsAnyMisfit rows misfit.Arrays = LacksArrays rows
-IsAnyMisfit rows misfit.Today = LacksToday (first_of (codes "today") rows)
-IsAnyMisfit rows misfit.Installed = LacksInstalled (first_of (codes "installed") rows)
-IsAnyMisfit rows misfit.Attributes = LacksTold rows
-IsAnyMisfit rows misfit.Bucket = Unit {0}
+IsAnyMisfit rows misfit.Missing = ¬ LacksArrays rows
 IsAnyMisfit rows misfit = ⊥
 
 abbrev pub IsMisfit : Option Verb → List Row → OptionMisfit → Type 0
 IsMisfit (Some verb.Simulate) rows misfit = IsSimulationMisfit rows misfit
+IsMisfit (Some verb.Run) rows misfit = IsRunMisfit rows misfit
 IsMisfit verb rows misfit = IsAnyMisfit rows misfit
 
+-- without a command it is the command that is missing
 abbrev pub IsMisfitOf : Option (Text × List Row) → OptionMisfit → Type 0
-IsMisfitOf None misfit = Unit {0}
+IsMisfitOf None misfit.Missing = Unit {0}
+IsMisfitOf None misfit = ⊥
 IsMisfitOf (Some named) misfit = IsMisfit (verb_named named.0) named.1 misfit

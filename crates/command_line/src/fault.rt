@@ -14,7 +14,8 @@ pub enum WordsFault {
     /// The grammar doesn't take the words: what is wrong, and the usage.
     #[error("{0}")]
     Usage(ClapError),
-    /// The grammar takes them, and they ask for nothing: this option isn't well written.
+    /// The grammar takes them, and they ask for nothing: this option isn't well written, or a value
+    /// is missing.
     #[error("error: {0}\n")]
     Nothing(OptionMisfit),
     /// Memory was refused.

@@ -1,12 +1,13 @@
-//! Which option of a command is ill-written, where the grammar takes the words.
+//! Which option of a command is ill-written, where the grammar takes the words; of several one.
 
-ghost use Rattle.std.specs.Prelude.{Some};
+ghost use Rattle.std.specs.Prelude.{IfSome, Some};
 ghost use Rattle.clap.specs.Words.{subcommand_rows_of, found_of, rows_of};
-ghost use Rattle.command_line.specs.Misfits.{IsAnyMisfit, IsMisfit, IsMisfitOf};
+ghost use Rattle.command_line.specs.Misfits.{IsAnyMisfit, IsMisfit, IsMisfitOf, IsRunMisfit};
 ghost use Rattle.command_line.specs.Misfits.{IsSimulationMisfit};
+ghost use Rattle.command_line.specs.Values.{LacksArrays};
 ghost use Rattle.command_line.specs.Words.{IsNothingAsked, VerbAsksNothing};
 
-use crate::app_options::{installed_of, today_of, told_of};
+use crate::app_options::{installed_of, place_of, today_of, told_on};
 use crate::options::arrays_of;
 use crate::request::NoRequest;
 use crate::simulate_words::simulation_of;
@@ -34,25 +35,29 @@ pub enum OptionMisfit {
     Manifest,
     #[error("'--bucket' can't stand beside a cohort that names a bucket")]
     Bucket,
+    #[error("a value that the command requires is missing, or out of its range")]
+    Missing,
 }
 
-/// The first option of the command that is ill-written, of words that ask for nothing.
-pub fn misfit_of(alloc: Global, matches: &ArgMatches<'_>) -> OptionMisfit
+/// An option of the command that is ill-written, of words that ask for nothing: one of those that
+/// are, and `Missing` where none is. None where memory was refused.
+pub fn misfit_of(alloc: Global, matches: &ArgMatches<'_>) -> Option<OptionMisfit>
     requires { IsNothingAsked (subcommand_rows_of matches.now) }
-    ensures { IsMisfitOf (subcommand_rows_of matches.now) result }
+    ensures { IfSome result (IsMisfitOf (subcommand_rows_of matches.now)) }
 {
     match matches.subcommand() {
         Some((name, found)) => misfit_among(alloc, verb_named(name), found),
-        None => OptionMisfit::Bucket,
+        None => Some(OptionMisfit::Missing),
     }
 }
 
-fn misfit_among(alloc: Global, verb: Option<Verb>, found: &ArgMatches<'_>) -> OptionMisfit
+fn misfit_among(alloc: Global, verb: Option<Verb>, found: &ArgMatches<'_>) -> Option<OptionMisfit>
     requires { VerbAsksNothing verb (rows_of (found_of found.now)) }
-    ensures { IsMisfit verb (rows_of (found_of found.now)) result }
+    ensures { IfSome result (IsMisfit verb (rows_of (found_of found.now))) }
 {
     match verb {
-        Some(Verb::Simulate) => simulation_misfit(found),
+        Some(Verb::Simulate) => Some(simulation_misfit(found)),
+        Some(Verb::Run) => run_misfit(alloc, found),
         _ => any_misfit(alloc, found),
     }
 }
@@ -67,20 +72,43 @@ fn simulation_misfit(found: &ArgMatches<'_>) -> OptionMisfit
     }
 }
 
-fn any_misfit(alloc: Global, found: &ArgMatches<'_>) -> OptionMisfit
-    ensures { IsAnyMisfit (rows_of (found_of found.now)) result }
+fn run_misfit(alloc: Global, found: &ArgMatches<'_>) -> Option<OptionMisfit>
+    ensures { IfSome result (IsRunMisfit (rows_of (found_of found.now))) }
 {
-    if let Err(NoRequest::Wrong) = arrays_of(alloc, found) {
-        return OptionMisfit::Arrays;
+    match arrays_of(alloc, found) {
+        Ok(_arrays) => told_misfit(found),
+        Err(NoRequest::Wrong) => Some(OptionMisfit::Arrays),
+        Err(NoRequest::Memory) => None,
     }
-    if let Err(NoRequest::Wrong) = today_of(found) {
-        return OptionMisfit::Today;
+}
+
+// Of a run whose arrays are well written.
+fn told_misfit(found: &ArgMatches<'_>) -> Option<OptionMisfit>
+    requires { ¬ LacksArrays (rows_of (found_of found.now)) }
+    ensures { IfSome result (IsRunMisfit (rows_of (found_of found.now))) }
+{
+    let Ok(today) = today_of(found) else {
+        return Some(OptionMisfit::Today);
+    };
+    let Ok(installed) = installed_of(found) else {
+        return Some(OptionMisfit::Installed);
+    };
+    let Some(told) = told_on(found, today, installed) else {
+        return Some(OptionMisfit::Attributes);
+    };
+    match place_of(found, told.cohort) {
+        Ok(_place) => Some(OptionMisfit::Missing),
+        Err(NoRequest::Wrong) => Some(OptionMisfit::Bucket),
+        Err(NoRequest::Memory) => None,
     }
-    if let Err(NoRequest::Wrong) = installed_of(found) {
-        return OptionMisfit::Installed;
+}
+
+fn any_misfit(alloc: Global, found: &ArgMatches<'_>) -> Option<OptionMisfit>
+    ensures { IfSome result (IsAnyMisfit (rows_of (found_of found.now))) }
+{
+    match arrays_of(alloc, found) {
+        Ok(_arrays) => Some(OptionMisfit::Missing),
+        Err(NoRequest::Wrong) => Some(OptionMisfit::Arrays),
+        Err(NoRequest::Memory) => None,
     }
-    if let Err(NoRequest::Wrong) = told_of(found) {
-        return OptionMisfit::Attributes;
-    }
-    OptionMisfit::Bucket
 }

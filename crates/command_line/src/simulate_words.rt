@@ -28,7 +28,7 @@ pub fn simulate_asked<'a>(found: &ArgMatches<'a>) -> Result<CommandRequest<'a>, 
     }
 }
 
-/// The simulation that the words ask for, or the first of their options that is ill-written.
+/// The simulation that the words ask for, or one of their options that are ill-written.
 pub fn simulation_of<'a>(found: &ArgMatches<'a>) -> Result<AskedSimulation<'a>, OptionMisfit>
     ensures asked { IfOk result (AsksToSimulate (rows_of (found_of found.now))) }
     ensures misfit { IfErr result (IsSimulationMisfit (rows_of (found_of found.now))) }

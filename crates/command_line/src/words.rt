@@ -36,7 +36,10 @@ pub fn read_words<'a, S: AsStr>(
     let matches = matches_of(alloc, words)?;
     match request_of(alloc, &matches) {
         Ok(request) => Ok(request),
-        Err(NoRequest::Wrong) => Err(WordsFault::Nothing(misfit_of(alloc, &matches))),
+        Err(NoRequest::Wrong) => match misfit_of(alloc, &matches) {
+            Some(misfit) => Err(WordsFault::Nothing(misfit)),
+            None => Err(WordsFault::Memory),
+        },
         Err(NoRequest::Memory) => Err(WordsFault::Memory),
     }
 }

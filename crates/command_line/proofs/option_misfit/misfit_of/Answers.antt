@@ -1,4 +1,5 @@
 use Rattle.std.proofs.Common.{sym, subst, List, Option}
+use Rattle.std.specs.Prelude.{IfSome}
 use Rattle.clap.specs.Words.{Row, Text, found_of, rows_of}
 use Rattle.command_line.specs.Misfits.{IsMisfit, IsMisfitOf}
 use Rattle.command_line.specs.Words.{IsNothingAsked, VerbAsksNothing}
@@ -19,6 +20,6 @@ returns-in-Some c =
     let rows : List Row = rows_of (found_of c.in-Some.found.now) in
     let named = subcommand_is c.args.matches.now c.in-Some.name.now rows c.in-Some.ensures.name
     c.in-Some.ensures.rows in
-    subst (λ (n : Option (Text × List Row)). IsMisfitOf n c.misfit_among.result) (sym named)
-    (subst (λ (v : Option Verb). IsMisfit v rows c.misfit_among.result) c.verb_named.ensures
-    c.misfit_among.ensures)
+    subst (λ (n : Option (Text × List Row)). IfSome c.misfit_among.result (IsMisfitOf n))
+    (sym named) (subst (λ (v : Option Verb). IfSome c.misfit_among.result (IsMisfit v rows))
+    c.verb_named.ensures c.misfit_among.ensures)
