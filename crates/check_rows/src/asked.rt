@@ -13,7 +13,8 @@ use warnings::{AskedRule, tell_rule};
 /// The releases of the app.
 const RELEASES: &str = "2.0.4 https://dl.example/, 3.0.0 https://dl.example/";
 
-/// Each row: a rule, in which ` / ` ends a line, and the warnings on it.
+/// Each row: a rule, in which ` / ` ends a line, and the warnings on it. A line that two blanks begin
+/// goes on with the rule.
 const ROWS: &str = r#"
 - when version < 2.0.4 offer 1; / when version < 3.0.0 and bucket < 500 offer 2; / otherwise none;
 - when version < 2.0.4 offer 1; / otherwise none;
@@ -23,6 +24,8 @@ warning: app[1].release[2]: no bucket gets it
 warning: app[1].release[1].version: in some bucket who has it may get it again
 warning: app[1].release[2].version: in some bucket who has it may get a lower one
 - when bucket < 5 offer 1; / when bucket < 10 offer 2; / otherwise none;
+warning: app[1].rule: line 1: bucket < 5 is 0.05 percent of the bucket numbers: one percent is 100 of them
+warning: app[1].rule: line 2: bucket < 10 is 0.10 percent of the bucket numbers: one percent is 100 of them
 warning: app[1].release[1].version: in some bucket who has it may get it again
 warning: app[1].release[2].version: in some bucket who has it may get it again
 warning: app[1].release[2].version: in some bucket who has it may get a lower one
@@ -32,6 +35,7 @@ warning: app[1].release[1].version: in some bucket who has it may get it again
 warning: app[1].rule: line 3: this when never holds
 warning: app[1].release[2].version: in some bucket who has it may get it again
 - when version < 2 or version >= 2 offer 1; / when bucket < 5 offer 2; / otherwise none;
+warning: app[1].rule: line 2: bucket < 5 is 0.05 percent of the bucket numbers: one percent is 100 of them
 warning: app[1].rule: line 2: this when is never reached
 warning: app[1].release[1].version: in some bucket who has it may get it again
 warning: app[1].release[2]: no bucket gets it
@@ -50,7 +54,8 @@ warning: app[1].release[1]: no bucket gets it
 warning: app[1].release[2]: no bucket gets it
 - when bucket >= 10000 offer 1; / when version < 3.0.0 offer 2; / otherwise none;
 warning: app[1].rule: line 1: this when never holds
-- when version < 2.0.4 and bucket mod 4 == 3 offer 1; / when version < 3.0.0 and bucket mod 4 == 4 offer 2; / otherwise none;
+- when version < 2.0.4 and bucket mod 4 == 3 offer 1; /
+  when version < 3.0.0 and bucket mod 4 == 4 offer 2; / otherwise none;
 warning: app[1].rule: line 2: this when never holds
 warning: app[1].release[2]: no bucket gets it
 - when today < 0 offer 1; / when installed > 4294967295 offer 2; / otherwise none;
@@ -63,9 +68,12 @@ warning: app[1].rule: line 1: this when never holds
 warning: app[1].rule: line 2: this when never holds
 warning: app[1].release[1]: no bucket gets it
 warning: app[1].release[2]: no bucket gets it
-- when version < 2.0.4 and today == 2919382 offer 1; / when version < 3.0.0 and installed == 4294967295 offer 2; / otherwise none;
-- when version < 2.0.4 and today >= 7273 offer 1; / when version < 3.0.0 and attr ap is "canary" and not flag ping offer 2; / otherwise none;
-- when version < 2.0.4 or not today >= 0 offer 1; / when not version >= 3 and installed != 7 offer 2; / otherwise none;
+- when version < 2.0.4 and today == 2919382 offer 1; /
+  when version < 3.0.0 and installed == 4294967295 offer 2; / otherwise none;
+- when version < 2.0.4 and today >= 7273 offer 1; /
+  when version < 3.0.0 and attr ap is "canary" and not flag ping offer 2; / otherwise none;
+- when version < 2.0.4 or not today >= 0 offer 1; /
+  when not version >= 3 and installed != 7 offer 2; / otherwise none;
 - when version == 3.0.0 or version < 2.0.4 offer 1; / otherwise none;
 warning: app[1].release[2]: no bucket gets it
 warning: app[1].release[2].version: in some bucket who has it may get a lower one
@@ -99,7 +107,7 @@ fn told_of_rule(
     }
 }
 
-fn told(alloc: Global, text: &str, room: u64) -> Result<(String, u64), Fail> {
+pub(crate) fn told(alloc: Global, text: &str, room: u64) -> Result<(String, u64), Fail> {
     let shape = shape(alloc)?;
     let rule = rule_of(alloc, text, &shape).ok_or("no rule")?;
     let manifest = manifest_of(alloc, RELEASES)?.ok_or("no manifest")?;
@@ -108,7 +116,8 @@ fn told(alloc: Global, text: &str, room: u64) -> Result<(String, u64), Fail> {
 }
 
 fn check_row(alloc: Global, row: &str) -> Result<(), Fail> {
-    let (rule, want) = row.split_once("\n").unwrap_or((row, ""));
+    let row = row.replace(alloc, " /\n  ", " / ")?;
+    let (rule, want) = row.split_once("\n").unwrap_or((row.as_str(), ""));
     let rule = rule.replace(alloc, " / ", "\n")?;
     let (told, _) = told(alloc, rule.as_str(), 10000)?;
     must(rule.as_str(), told.as_str(), want)

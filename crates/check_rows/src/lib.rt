@@ -5,6 +5,8 @@
 #[cfg(test)]
 mod asked;
 #[cfg(test)]
+mod few;
+#[cfg(test)]
 mod rules;
 #[cfg(test)]
 mod warned;

@@ -1,5 +1,6 @@
 //! Manifests: one with each table and each member, and what is told of a manifest.
 
+mod all;
 mod counts;
 mod fields;
 mod names;

@@ -1,6 +1,6 @@
 //! What ends an operator's port beside a request to stop, and what ends a reply that has no end.
 
-use crate::loopback::{reply, sent};
+use crate::loopback::{reply, send, sent};
 use crate::session::is_asked;
 use crate::shelf::{Shelf, publisher_of};
 use crate::whole_server::service_of;
@@ -8,7 +8,7 @@ use cells::Directory;
 use operator::Control;
 use shared_cells::SharedCells;
 use std::alloc::Global;
-use std::io::{self, Write};
+use std::io::{self, Read};
 use std::net::{Net, SocketAddr, TcpListener, TcpStream};
 use std::sync::Wait;
 use std::sync::atomic::AtomicBool;
@@ -98,31 +98,71 @@ where
     Ok(operated && heard.is_empty())
 }
 
-/// Sends seven million bytes of counters to who connects, or as many as are taken.
-fn floods(alloc: Global, listener: &TcpListener) -> io::Result<()> {
+/// Reads the line of who connects, and sends these bytes, or as many as are taken.
+fn sends(alloc: Global, listener: &TcpListener, line: &str, bytes: &[u8]) -> io::Result<()> {
     let (stream, _client) = listener.accept()?;
-    let mut to = &stream;
-    let lines = "q[0] 1\n".repeat(alloc, 1000)?;
-    for _ in 0..1000 {
-        to.write_all(lines.as_bytes())?;
-    }
-    Ok(())
+    let mut asked = Vec::new(alloc);
+    let mut from = (&stream).take(line.len() as u64 + 1);
+    let _size = from.read_to_end(&mut asked)?;
+    send(&stream, bytes)
 }
 
-/// Whether a port that sends more than a reply may have gives none.
-fn is_flood_refused<H>(rt: &H) -> Result<bool, Fail>
+/// Whether the operator's side tells this of a line where these bytes are sent.
+fn is_taken<H>(rt: &H, line: &str, bytes: &[u8], want: &str) -> Result<bool, Fail>
 where
     H: Threads + AllocGlobal + Net<Listener = TcpListener, Stream = TcpStream> + Sync,
 {
     let alloc = rt.alloc();
     let listener = TcpListener::bind(rt, "127.0.0.1:0")?;
     let port = listener.local_addr()?.port();
-    let (_flooded, is_refused) = thread::join(
+    let (_sent, is_taken) = thread::join(
         rt,
-        || floods(alloc, &listener),
-        || is_asked(rt, port, "cells", "B5 Connect"),
+        || sends(alloc, &listener, line, bytes),
+        || is_asked(rt, port, line, want),
     );
-    Ok(is_refused?)
+    Ok(is_taken?)
+}
+
+/// Whether a port that sends seven million bytes, more than a reply may have, gives none.
+fn is_flood_refused<H>(rt: &H) -> Result<bool, Fail>
+where
+    H: Threads + AllocGlobal + Net<Listener = TcpListener, Stream = TcpStream> + Sync,
+{
+    let lines = "q[0] 1\n".repeat(rt.alloc(), 1_000_000)?;
+    is_taken(rt, "cells", lines.as_bytes(), "B5 Connect")
+}
+
+/// A line, what a port sends, and what the operator's side tells. `;` stands for the line feed.
+const SENT: &str = "cells|a[0] 1;b_2[4095] 18446744073709551615;\
+    |a[0] 1;b_2[4095] 18446744073709551615;
+cells||
+cells|x[;|B5 Connect
+cells|a[0] 1 2;|B5 Connect
+cells|a[0] 1|B5 Connect
+cells|stopping;|B5 Connect
+load m|generation 2;|generation 2;
+load m|generation 2;generation 3;|B5 Connect
+show|generation 1;app x releases 1 slots 2;|generation 1;app x releases 1 slots 2;
+show|generations;|B5 Connect
+show|refused no;|refused no;";
+
+/// Whether the operator's side tells of a row what the row says.
+fn is_row_taken<H>(rt: &H, row: &str) -> Result<bool, Fail>
+where
+    H: Threads + AllocGlobal + Net<Listener = TcpListener, Stream = TcpStream> + Sync,
+{
+    let row = row.replace(rt.alloc(), ";", "\n")?;
+    let (line, rest) = row.split_once('|').ok_or("a line")?;
+    let (sent, want) = rest.split_once('|').ok_or("what is sent")?;
+    is_taken(rt, line, sent.as_bytes(), want)
+}
+
+#[test]
+fn forms_of_replies(rt: HostRuntime) -> Result<(), Fail> {
+    for row in SENT.split('\n') {
+        assert!(rt; is_row_taken(&rt, row)?, "{row}");
+    }
+    Ok(())
 }
 
 #[test]

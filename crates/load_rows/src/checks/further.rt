@@ -36,6 +36,18 @@ refused M5 Program V13 Result at slot 1 in app 3 / app[3].program: second.bpf / 
 V13: r0 is 2, and there are 0 releases /
 - "y.rule" => "w" / [[app]] / appid = "z" / rule = "y.rule" / [[app]] / appid = "w" / rule = "w"
  | M4 File in app 2 / app[2].rule: w / refused M4 File in app 4 / app[4].rule: w /
+- length = 10 => length = 0 & version = "2.0.0.0" => version = "two"
+ | M2 Field / array[2].length: a whole number from 1 to 4096 /
+refused M2 Field / app[1].release[1].version: one to four numbers below 4294967296, joined by dots /
+- name = "n" => name = "q" & appid = "y" => appid = "x" | M3 Duplicate / array q stands twice /
+refused M3 Duplicate / app x stands twice /
+- quota = 2 => limit = 2 & width = 32 / length = 10 => width = 16 / length = 0
+ | M2 Field / array[1].limit: no member of an array /
+the members of an array: name, width, length, quota / refused M2 Field / array[2].width: 32 or 64 /
+- name = "n" => name = "q" / width = 64 / length = 1 / [[array]] / name = "q"
+ | M3 Duplicate / array q stands twice /
+- length = 10 => length = 0 & appid = "y" => appid = "x"
+ | M2 Field / array[2].length: a whole number from 1 to 4096 /
 - "x.bpf" => "z.bpf" & name = "n" => name = "q" | M3 Duplicate / array q stands twice /
 - "x.bpf" => "z.bpf" & length = 10 => length = 0
  | M2 Field / array[2].length: a whole number from 1 to 4096 /
@@ -83,4 +95,27 @@ fn ten_at_most(rt: HostRuntime) -> Result<(), Fail> {
     tells_ten(rt.alloc(), 10, "")?;
     tells_ten(rt.alloc(), 11, "and 1 more / ")?;
     tells_ten(rt.alloc(), 256, "and 246 more / ")
+}
+
+/// Of 4096 cells of a width `a` leaves 96, which are too few for `b`, and `c` takes them; `e` takes
+/// those of the other width.
+const ARRAYS: &str = r#"
+server = ""
+array = [{ name = "a", width = 64, length = 4000 }, { name = "b", width = 64, length = 97 },
+    { name = "c", width = 64, length = 96 }, { name = "d", width = 64, length = 1 },
+    { name = "e", width = 32, length = 4096 }, { name = "f", width = 32, length = 1 }]
+app = [{ appid = "x", program = "z.bpf" }]
+"#;
+
+const UNDECLARED: &str = "M7 Cells N1 CellsFull in array 2 / \
+array[2].length: b passes the 4096 cells that all arrays of a width have / \
+refused M7 Cells N1 CellsFull in array 4 / \
+array[4].length: d passes the 4096 cells that all arrays of a width have / \
+refused M7 Cells N1 CellsFull in array 6 / \
+array[6].length: f passes the 4096 cells that all arrays of a width have / ";
+
+#[test]
+fn arrays(rt: HostRuntime) -> Result<(), Fail> {
+    let told = told_alone(rt.alloc(), ARRAYS)?;
+    must(ARRAYS, told.as_str(), told.as_str() == UNDECLARED)
 }

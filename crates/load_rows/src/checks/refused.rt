@@ -11,6 +11,7 @@ const ROWS: &str = r#"
 - name = "q" => name = "q | M1 Toml / TOML parse error at line 4, column
 - server = => sever = | M2 Field / sever: no member of a manifest /
 the members of a manifest: server, array, app /
+refused M2 Field / server: a text /
 - server = "prod" => server = 1 | M2 Field / server: a text /
 - length = 10 => length = 4097 | M2 Field / array[2].length: a whole number from 1 to 4096 /
 - quota = 2 => limit = 2 | M2 Field / array[1].limit: no member of an array /
@@ -49,6 +50,7 @@ V13: r0 is 2, and there is 1 release /
  | M5 Program V11 MapIndex at slot 2 in app 1 / app[1].program: wide.bpf / slot 2: ldcell r7, 2, 8 /
 V11: there is no array 2 /
 - "y.rule" => "no_text.rule" | M6 Rule L1 Token at line 1 in app 2 / app[2].rule: no_text.rule /
+a rule is a text in UTF-8 /
 - "y.rule" => "token.rule"
  | M6 Rule L1 Token at line 2 in app 2 / app[2].rule: token.rule /
 line 2, column 17: "$" is no word of a rule /   otherwise none; $ /                   ^ /

@@ -1,0 +1,60 @@
+//! What is told of the tests of a rule that hold for few buckets, where there is no room to ask it.
+
+use crate::asked::told;
+use crate::rules::must;
+use std::alloc::Global;
+use std::test::Fail;
+
+/// Each row: a rule, in which ` / ` ends a line, and the warnings on its tests.
+const ROWS: &str = r#"
+- when bucket < 5 offer 1; / otherwise none;
+warning: app[1].rule: line 1: bucket < 5 is 0.05 percent of the bucket numbers: one percent is 100 of them
+- when bucket <= 4 offer 1; / otherwise none;
+warning: app[1].rule: line 1: bucket <= 4 is 0.05 percent of the bucket numbers: one percent is 100 of them
+- when bucket(7) < 50 offer 1; / when bucket(18446744073709551615) <= 49 offer 2; / otherwise none;
+warning: app[1].rule: line 1: bucket < 50 is 0.50 percent of the bucket numbers: one percent is 100 of them
+warning: app[1].rule: line 2: bucket <= 49 is 0.50 percent of the bucket numbers: one percent is 100 of them
+- when flag ping / and (bucket < 1 / or bucket <= 0 or bucket < 99) or bucket <= 98 offer 2; / otherwise none;
+warning: app[1].rule: line 2: bucket < 1 is 0.01 percent of the bucket numbers: one percent is 100 of them
+warning: app[1].rule: line 3: bucket <= 0 is 0.01 percent of the bucket numbers: one percent is 100 of them
+warning: app[1].rule: line 3: bucket < 99 is 0.99 percent of the bucket numbers: one percent is 100 of them
+warning: app[1].rule: line 3: bucket <= 98 is 0.99 percent of the bucket numbers: one percent is 100 of them
+- when not bucket < 10 offer 1; / otherwise none;
+warning: app[1].rule: line 1: bucket < 10 is 0.10 percent of the bucket numbers: one percent is 100 of them
+- when bucket >= 30 and bucket < 30 offer 1; / otherwise none;
+warning: app[1].rule: line 1: bucket < 30 is 0.30 percent of the bucket numbers: one percent is 100 of them
+- count n[0]; / when version < 2 offer 1; / # Two. / when bucket < 9 offer 2; / otherwise none;
+warning: app[1].rule: line 4: bucket < 9 is 0.09 percent of the bucket numbers: one percent is 100 of them
+- when bucket < 100 offer 1; / when bucket(7) < 100 offer 2; / otherwise none;
+- when bucket <= 99 offer 1; / when bucket(7) <= 99 offer 2; / otherwise none;
+- when bucket < 500 offer 1; / when bucket <= 10000 offer 2; / otherwise none;
+- when bucket < 0 offer 1; / when bucket <= 4294967295 offer 2; / otherwise none;
+- when bucket mod 10000 < 5 offer 1; / when bucket(7) mod 100 <= 4 offer 2; / otherwise none;
+- when bucket >= 9995 offer 1; / when bucket > 9994 offer 2; / otherwise none;
+- when bucket == 5 offer 1; / when bucket != 5 offer 2; / otherwise none;
+- when bucket >= 5 offer 1; / when bucket > 5 offer 2; / otherwise none;
+- when version < 5 and today < 5 and installed <= 5 offer 2; / otherwise none;
+"#;
+
+/// What is told behind these, since there is no room.
+const UNASKED: &str =
+    "warning: app[1].rule: not asked which releases it gives, since that would take long\n";
+
+fn check_row(alloc: Global, row: &str) -> Result<(), Fail> {
+    let (rule, want) = row.split_once("\n").unwrap_or((row, ""));
+    let rule = rule.replace(alloc, " / ", "\n")?;
+    let (told, left) = told(alloc, rule.as_str(), 0)?;
+    let of_tests = told.strip_suffix(UNASKED).ok_or("it is asked")?;
+    if left != 0 {
+        return Err(Fail::from("room is left"));
+    }
+    must(rule.as_str(), of_tests, want)
+}
+
+#[test]
+fn each(rt: HostRuntime) -> Result<(), Fail> {
+    for row in ROWS.split("\n- ").skip(1) {
+        check_row(rt.alloc(), row)?;
+    }
+    Ok(())
+}
