@@ -17,7 +17,10 @@ ASKED = "curl -s http://127.0.0.1:8080/service/update2/json --data-binary @-"
 SERVING = "--port 8080 --operator 8081 --workers 1 --log"
 OFFERED, NOTHING = '"version":"2.1"', '"status":"noupdate"'
 CHECKED = "app editor releases 1 slots 21\n"
-# What each recipe of the log counts, in the page's order: in the day below one machine is offered
+HALTED = "app editor releases 1 slots 5\n"
+# What the last recipe tells behind the moment and the address.
+OFFERS = ["editor b:2 1.9 2.1"]
+# What each recipe before it counts, in the page's order: in the day below one machine is offered
 # 2.1, one has no cohort, two installs end, and a third one's event is cut.
 COUNTS = [
     ["1 editor 2.1"],
@@ -86,7 +89,7 @@ def wrong_stages(day):
     """Of a stage that is raised, and then halted."""
     raising, moves = blocks("OPERATING.md", "Raising a stage")
     [placing] = blocks("OPERATING.md", "Putting a manifest in place")
-    [halting] = blocks("OPERATING.md", "Halting a release")
+    halting, lost, putting = blocks("OPERATING.md", "Halting a release")
     ask, buckets, _ = blocks("OPERATING.md", "What is being served")
     if NOTHING not in (said := day.run(ask)):
         return f"before: {said}"
@@ -96,8 +99,10 @@ def wrong_stages(day):
         return f"placing: {said}"
     if OFFERED not in (said := day.run(ask)):
         return f"after it: {said}"
-    if not (said := day.run(halting)).endswith("\ngeneration 3\n"):
+    if not (said := day.run(halting)).startswith(HALTED) or not said.endswith(lost):
         return f"halting: {said}"
+    if (said := day.run(putting)) != HALTED + "generation 3\n":
+        return f"putting: {said}"
     if NOTHING not in (said := day.run(ask)):
         return f"after a halt: {said}"
     if (said := day.run(buckets)).splitlines()[1:5] != ["0", "1", "2", "6"]:
@@ -118,10 +123,14 @@ def wrong_events(day):
 
 def wrong_counts(day):
     recipes = [it for it in blocks("OPERATING.md", "The log") if it.startswith("jq ")]
-    for recipe, counts in zip(recipes, COUNTS, strict=True):
+    *counting, offers = recipes
+    for recipe, counts in zip(counting, COUNTS, strict=True):
         found = [" ".join(line.split()) for line in day.run(recipe).splitlines()]
         if found != counts:
             return f"{found} by {recipe}"
+    found = [" ".join(line.split()[2:]) for line in day.run(offers).splitlines()]
+    if found != OFFERS:
+        return f"{found} by {offers}"
 
 
 def day_of_the_page(folder, program=ROOT / "rollout"):
