@@ -29,6 +29,12 @@ warning: app[1].rule: line 2: bucket < 10 is 0.10 percent of the bucket numbers:
 warning: app[1].release[1].version: in some bucket who has it may get it again
 warning: app[1].release[2].version: in some bucket who has it may get it again
 warning: app[1].release[2].version: in some bucket who has it may get a lower one
+- when bucket < 25000 offer 1; / when version < 3.0.0 offer 2; / otherwise none;
+warning: app[1].rule: line 1: bucket < 25000 is all of the bucket numbers: one percent is 100 of them
+warning: app[1].rule: line 2: this when is never reached
+warning: app[1].release[1].version: in some bucket who has it may get it again
+warning: app[1].release[2]: no bucket gets it
+warning: app[1].release[2].version: in some bucket who has it may get a lower one
 - when version < 2.0.4 offer 2; / when version == 2.0.4 and bucket == 9999 offer 1; / otherwise none;
 warning: app[1].release[1].version: in some bucket who has it may get it again
 - when version < 4 offer 2; / # never so far / when version < 2.0.4 offer 1; / otherwise none;

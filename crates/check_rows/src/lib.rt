@@ -5,7 +5,7 @@
 #[cfg(test)]
 mod asked;
 #[cfg(test)]
-mod few;
+mod parts;
 #[cfg(test)]
 mod rules;
 #[cfg(test)]

@@ -1,5 +1,5 @@
 -- How many buckets a test holds for.
-use Rattle.std.proofs.Common.{◌≡◌, ℕ, zero, suc, ◌+◌, ◌-◌, ◌<◌, ◌≤◌, [], Option, None}
+use Rattle.std.proofs.Common.{◌≡◌, ℕ, zero, suc, ◌+◌, ◌-◌, ◌<◌, ◌≤◌, ◌%◌, [], Option, None, Some}
 use Rattle.std.proofs.Common.{Bool, true, false, cond, refl, sym, ap, subst, arith, inl, inr}
 use Rattle.std.specs.Prelude.{codes, if◌then◌else◌, min}
 use Rattle.std.specs.Cmp.{nat_cmp_is}
@@ -8,11 +8,13 @@ use Rattle.std.specs.Ordering.{nat_cmp}
 use Rattle.std.specs.declared.cmp.Ordering.TheVariants.{Less, Equal, Greater}
 use Rattle.std.proofs.lemmas.Bool.{cases_lt, cases_order}
 use Rattle.std.proofs.lemmas.List.Sums.{sum_by-cons}
+use Rattle.releases.specs.attrs.Attributes.{Attributes}
 use Rattle.rule_diagnosis.specs.rule_lang.declared.test.Comparison.TheVariants.{Le, Lt}
 use Rattle.rule_diagnosis.specs.rule_lang.declared.test.Test.TheVariants as test
-use Rattle.rule_diagnosis.specs.rule_lang.Meaning.{allows}
-use Rattle.warnings.specs.Asked.{few_words, is_few, rule_line, test_line}
-use Rattle.warnings.specs.Runs.{IsSoOfTest, TestsAreSo, buckets_that}
+use Rattle.rule_diagnosis.specs.rule_lang.Meaning.{allows, bucket_by}
+use Rattle.warnings.specs.Asked.{few_percent, is_above_all, is_few, part_words}
+use Rattle.warnings.specs.Asked.{rule_line}
+use Rattle.warnings.specs.Runs.{AlwaysHolds, IsSoOfTest, MayAsk, TestsAreSo, buckets_that}
 use Rattle.warnings.specs.Runs as so
 
 -- ---- numbers
@@ -70,38 +72,75 @@ up_to n = record {
       let over : n < m = omega (arith, h) in ap (allows Le) (sym (nat_cmp_is m n Greater over));
 }
 
+-- ---- buckets
+
+remainder_within : (n : ℕ) → n % 10000 < 10000
+remainder_within n = omega arith
+
+bucket_within : (a : Attributes) → MayAsk a → (salt : Option ℕ) → bucket_by a salt < 10000
+bucket_within a may None = may.ranges.bucket
+bucket_within a may (Some salt) = remainder_within _
+
 -- ---- what is told of a test
 
 module _ (app line n : ℕ) (salt : Option ℕ) where
-  below_so : (b : Bool) → is_few n ≡ b
-      → IsSoOfTest app line (test.Bucket salt None Lt n)
-      (if b then rule_line app line (few_words (codes "<") n n) else [])
-  below_so false is = so.IsSoOfTest.nothing (test.Bucket salt None Lt n)
-  below_so true is =
+  below_few : is_few n ≡ true → IsSoOfTest app line (test.Bucket salt None Lt n)
+      (rule_line app line (part_words (codes "<") n (few_percent n)))
+  below_few is =
       let some : 0 < n = grind arith in
       let few : n < 100 = grind arith in
       let all : n ≤ 10000 = omega arith in
       let same : buckets_that Lt n ≡ n = counted _ n 10000 (below n) all in
       subst (λ k. IsSoOfTest app line (test.Bucket salt None Lt n)
-      (rule_line app line (few_words (codes "<") n k))) same
-      (so.IsSoOfTest.of_lt salt n (subst (λ k. 0 < k) (sym same) some)
+      (rule_line app line (part_words (codes "<") n (few_percent k)))) same
+      (so.IsSoOfTest.few_below salt n (subst (λ k. 0 < k) (sym same) some)
       (subst (λ k. k < 100) (sym same) few))
 
-  up_to_so : (b : Bool) → is_few (n + 1) ≡ b
-      → IsSoOfTest app line (test.Bucket salt None Le n)
-      (if b then rule_line app line (few_words (codes "<=") n (n + 1)) else [])
-  up_to_so false is = so.IsSoOfTest.nothing (test.Bucket salt None Le n)
-  up_to_so true is =
+  up_to_few : is_few (n + 1) ≡ true → IsSoOfTest app line (test.Bucket salt None Le n)
+      (rule_line app line (part_words (codes "<=") n (few_percent (n + 1))))
+  up_to_few is =
       let some : 0 < n + 1 = grind arith in
       let few : n + 1 < 100 = grind arith in
       let all : n + 1 ≤ 10000 = omega arith in
       let same : buckets_that Le n ≡ n + 1 = counted _ (n + 1) 10000 (up_to n) all in
       subst (λ k. IsSoOfTest app line (test.Bucket salt None Le n)
-      (rule_line app line (few_words (codes "<=") n k))) same
-      (so.IsSoOfTest.of_le salt n (subst (λ k. 0 < k) (sym same) some)
+      (rule_line app line (part_words (codes "<=") n (few_percent k)))) same
+      (so.IsSoOfTest.few_up_to salt n (subst (λ k. 0 < k) (sym same) some)
       (subst (λ k. k < 100) (sym same) few))
 
+  below_all : is_above_all n ≡ true → AlwaysHolds (test.Bucket salt None Lt n)
+  below_all is a may s met unmet =
+      let past : 10000 < n = grind arith in
+      let bound = bucket_within a may salt in
+      let within : bucket_by a salt < n = omega (arith, bound, past) in
+      ap (λ x. if x then met else unmet) ((below n).passes (bucket_by a salt) within)
+
+  up_to_all : is_above_all n ≡ true → AlwaysHolds (test.Bucket salt None Le n)
+  up_to_all is a may s met unmet =
+      let past : 10000 < n = grind arith in
+      let bound = bucket_within a may salt in
+      let within : bucket_by a salt < n + 1 = omega (arith, bound, past) in
+      ap (λ x. if x then met else unmet) ((up_to n).passes (bucket_by a salt) within)
+
+  below_so : (few all : Bool) → is_few n ≡ few → is_above_all n ≡ all
+      → IsSoOfTest app line (test.Bucket salt None Lt n)
+      (if few then rule_line app line (part_words (codes "<") n (few_percent n))
+      else if all then rule_line app line (part_words (codes "<") n (codes "all")) else [])
+  below_so true all is past = below_few is
+  below_so false true is past = so.IsSoOfTest.all_below salt n (below_all past)
+  below_so false false is past = so.IsSoOfTest.nothing (test.Bucket salt None Lt n)
+
+  up_to_so : (few all : Bool) → is_few (n + 1) ≡ few → is_above_all n ≡ all
+      → IsSoOfTest app line (test.Bucket salt None Le n)
+      (if few then rule_line app line (part_words (codes "<=") n (few_percent (n + 1)))
+      else if all then rule_line app line (part_words (codes "<=") n (codes "all")) else [])
+  up_to_so true all is past = up_to_few is
+  up_to_so false true is past = so.IsSoOfTest.all_up_to salt n (up_to_all past)
+  up_to_so false false is past = so.IsSoOfTest.nothing (test.Bucket salt None Le n)
+
 pub tests_so : TestsAreSo
-tests_so app line (test.Bucket salt None Lt n) = below_so app line n salt (is_few n) refl
-tests_so app line (test.Bucket salt None Le n) = up_to_so app line n salt (is_few (n + 1)) refl
+tests_so app line (test.Bucket salt None Lt n) =
+    below_so app line n salt (is_few n) (is_above_all n) refl refl
+tests_so app line (test.Bucket salt None Le n) =
+    up_to_so app line n salt (is_few (n + 1)) (is_above_all n) refl refl
 tests_so app line t = so.IsSoOfTest.nothing t

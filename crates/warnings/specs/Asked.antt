@@ -14,8 +14,8 @@ use Rattle.rule_diagnosis.specs.rule_lang.declared.test.Test.{Test}
 use Rattle.rule_diagnosis.specs.rule_lang.declared.test.Test.TheVariants as test
 use Rattle.warnings.specs.declared.possible.Asker.TheVariants.{One}
 use Rattle.warnings.specs.declared.spot.Spot.{Spot}
-use Rattle.warnings.specs.Asking.{RuleOfApp, arrives, gets, in_some_bucket, may_end, may_give}
-use Rattle.warnings.specs.Asking.{someone}
+use Rattle.warnings.specs.Asking.{RuleOfApp, all_buckets, arrives, gets, in_some_bucket}
+use Rattle.warnings.specs.Asking.{may_end, may_give, someone}
 use Rattle.warnings.specs.Releases.{line_where, warned_app}
 use Rattle.warnings.specs.Spots.{spots_of}
 
@@ -27,45 +27,56 @@ in_line line = codes "rule: line " ++ decimal line ++ codes ": "
 abbrev pub rule_line : (app line : ℕ) → (said : List ℕ) → List ℕ
 rule_line app line said = warned_app app ++ in_line line ++ said
 
--- ---- a test that holds for few of the 10000 buckets, or of those under a salt: who means 5
--- percent writes 500, and not 5
+-- ---- a test whose number is hardly meant, with a salt or without: who means 5 percent writes 500,
+-- and not 5; who means 25 percent 2500, and not 25000
 
 -- fewer than one percent, and not none
 abbrev pub is_few : (buckets : ℕ) → Bool
 is_few buckets = nat_lt 0 buckets && nat_lt buckets 100
 
-unfoldable pub few_said : List ℕ
-few_said = codes " percent of the bucket numbers: one percent is 100 of them\n"
+-- more than there are, so that the test holds for all
+abbrev pub is_above_all : (number : ℕ) → Bool
+is_above_all number = nat_lt all_buckets number
 
--- the test by this sign and number holds for so many, in percent with two places
-abbrev pub few_words : (sign : List ℕ) → (number buckets : ℕ) → List ℕ
-few_words sign number buckets =
-    codes "bucket " ++ sign ++ codes " " ++ decimal number ++ codes " is 0."
-    ++ decimal (buckets / 10) ++ decimal (buckets % 10) ++ few_said
+-- in percent with two places
+abbrev pub few_percent : (buckets : ℕ) → List ℕ
+few_percent buckets =
+    codes "0." ++ decimal (buckets / 10) ++ decimal (buckets % 10) ++ codes " percent"
 
-abbrev pub few_line : (app line : ℕ) → (sign : List ℕ) → (number buckets : ℕ) → List ℕ
-few_line app line sign number buckets =
-    if is_few buckets then rule_line app line (few_words sign number buckets) else []
+unfoldable pub part_said : List ℕ
+part_said = codes " of the bucket numbers: one percent is 100 of them\n"
+
+-- the test by this sign and number holds for this part
+abbrev pub part_words : (sign : List ℕ) → (number : ℕ) → (part : List ℕ) → List ℕ
+part_words sign number part =
+    codes "bucket " ++ sign ++ codes " " ++ decimal number ++ codes " is " ++ part ++ part_said
+
+-- the test by this sign and number holds for so many
+abbrev pub part_line : (app line : ℕ) → (sign : List ℕ) → (number buckets : ℕ) → List ℕ
+part_line app line sign number buckets =
+    if is_few buckets then rule_line app line (part_words sign number (few_percent buckets))
+    else if is_above_all number then rule_line app line (part_words sign number (codes "all"))
+    else []
 
 -- `< n` holds for the n buckets from 0 to n - 1, and `<= n` for those and n
 abbrev pub test_line : (app line : ℕ) → Test → List ℕ
-test_line app line (test.Bucket salt None Lt n) = few_line app line (codes "<") n n
-test_line app line (test.Bucket salt None Le n) = few_line app line (codes "<=") n (n + 1)
+test_line app line (test.Bucket salt None Lt n) = part_line app line (codes "<") n n
+test_line app line (test.Bucket salt None Le n) = part_line app line (codes "<=") n (n + 1)
 test_line app line t = []
 
 -- whatever stands around it: `not`, or what never holds
-abbrev pub few_of_step : (app : ℕ) → Step → List ℕ
-few_of_step app (step.Test line t) = test_line app line t
-few_of_step app s = []
+abbrev pub parts_of_step : (app : ℕ) → Step → List ℕ
+parts_of_step app (step.Test line t) = test_line app line t
+parts_of_step app s = []
 
-abbrev pub few_of_steps : (app : ℕ) → List Step → List ℕ
-few_of_steps app [] = []
-few_of_steps app (s ∷ ss) = few_of_step app s ++ few_of_steps app ss
+abbrev pub parts_of_steps : (app : ℕ) → List Step → List ℕ
+parts_of_steps app [] = []
+parts_of_steps app (s ∷ ss) = parts_of_step app s ++ parts_of_steps app ss
 
-abbrev pub few_of_rule : (app : ℕ) → List Statement → List ℕ
-few_of_rule app [] = []
-few_of_rule app (Count name index ∷ rest) = few_of_rule app rest
-few_of_rule app (When steps release ∷ rest) = few_of_steps app steps ++ few_of_rule app rest
+abbrev pub parts_of_rule : (app : ℕ) → List Statement → List ℕ
+parts_of_rule app [] = []
+parts_of_rule app (Count name index ∷ rest) = parts_of_rule app rest
+parts_of_rule app (When steps release ∷ rest) = parts_of_steps app steps ++ parts_of_rule app rest
 
 -- ---- a `when`, by the line of its first test
 
@@ -178,7 +189,7 @@ told_in None app r = warned_app app ++ unasked_said
 
 -- of its tests in any case
 abbrev pub rule_text : (app room : ℕ) → RuleOfApp → List ℕ
-rule_text app room r = few_of_rule app r.rule ++ told_in (room_after r room) app r
+rule_text app room r = parts_of_rule app r.rule ++ told_in (room_after r room) app r
 
 -- a rule that isn't asked takes no room
 abbrev pub room_left : (room : ℕ) → RuleOfApp → ℕ

@@ -15,10 +15,11 @@ use Rattle.rule_diagnosis.specs.rule_lang.declared.test.Comparison.{Comparison}
 use Rattle.rule_diagnosis.specs.rule_lang.declared.test.Comparison.TheVariants.{Le, Lt}
 use Rattle.rule_diagnosis.specs.rule_lang.declared.test.Test.{Test}
 use Rattle.rule_diagnosis.specs.rule_lang.declared.test.Test.TheVariants as test
-use Rattle.rule_diagnosis.specs.rule_lang.Meaning.{HasTrace, allows, behaviour}
-use Rattle.warnings.specs.Asked.{few_words, first_line, got_line, of_release, rule_line}
-use Rattle.warnings.specs.Asked.{statement_line, test_line, ungiven_line, ungiven_said, unheld_said}
-use Rattle.warnings.specs.Asked.{unreached_said}
+use Rattle.rule_diagnosis.specs.rule_lang.Meaning.{Behaviour, HasTrace, allows, behaviour}
+use Rattle.rule_diagnosis.specs.rule_lang.Meaning.{test_then}
+use Rattle.warnings.specs.Asked.{few_percent, first_line, got_line, of_release}
+use Rattle.warnings.specs.Asked.{part_words, rule_line, statement_line, test_line}
+use Rattle.warnings.specs.Asked.{ungiven_line, ungiven_said, unheld_said, unreached_said}
 use Rattle.warnings.specs.Asking.{RuleOfApp, all_buckets, choice_compares, may_give, someone}
 use Rattle.warnings.specs.Releases.{warned_app, warned_member}
 use Rattle.warnings.specs.Spots.{spots_of}
@@ -35,6 +36,12 @@ pub record MayAsk (a : Attributes) : Type 0 where
 -- how many of the bucket numbers, 0 to 9999, compare so with this number
 abbrev pub buckets_that : Comparison → ℕ → ℕ
 buckets_that r n = count_by (λ bucket. allows r (nat_cmp bucket n)) (range_with_len 0 all_buckets)
+
+-- whoever asks, it holds
+abbrev pub AlwaysHolds : Test → Type 0
+AlwaysHolds t =
+    (a : Attributes) → MayAsk a → (s : AppShape) (met unmet : Behaviour)
+    → test_then a s t met unmet ≡ met
 
 -- ---- what is denied of all runs
 
@@ -73,16 +80,22 @@ pub record MayGet (r : RuleOfApp) (by : Comparison) (version : List ℕ) : Type 
 
 -- ---- lines that are so
 
--- each has the number of buckets, or of those under a salt, for which the test holds; there are
--- some, and fewer than one percent
+-- the line says for how many buckets the test holds, or for how many of those under a salt, and
+-- these are some, and fewer than one percent; or that it holds for all, and it always does
 pub data IsSoOfTest (app line : ℕ) : Test → List ℕ → Type 0 where
   nothing : (t : Test) → IsSoOfTest app line t []
-  of_lt : (salt : Option ℕ) (n : ℕ) → 0 < buckets_that Lt n → buckets_that Lt n < 100
+  few_below : (salt : Option ℕ) (n : ℕ) → 0 < buckets_that Lt n → buckets_that Lt n < 100
       → IsSoOfTest app line (test.Bucket salt None Lt n)
-      (rule_line app line (few_words (codes "<") n (buckets_that Lt n)))
-  of_le : (salt : Option ℕ) (n : ℕ) → 0 < buckets_that Le n → buckets_that Le n < 100
+      (rule_line app line (part_words (codes "<") n (few_percent (buckets_that Lt n))))
+  few_up_to : (salt : Option ℕ) (n : ℕ) → 0 < buckets_that Le n → buckets_that Le n < 100
       → IsSoOfTest app line (test.Bucket salt None Le n)
-      (rule_line app line (few_words (codes "<=") n (buckets_that Le n)))
+      (rule_line app line (part_words (codes "<=") n (few_percent (buckets_that Le n))))
+  all_below : (salt : Option ℕ) (n : ℕ) → AlwaysHolds (test.Bucket salt None Lt n)
+      → IsSoOfTest app line (test.Bucket salt None Lt n)
+      (rule_line app line (part_words (codes "<") n (codes "all")))
+  all_up_to : (salt : Option ℕ) (n : ℕ) → AlwaysHolds (test.Bucket salt None Le n)
+      → IsSoOfTest app line (test.Bucket salt None Le n)
+      (rule_line app line (part_words (codes "<=") n (codes "all")))
 
 pub data IsSoOfWhen (app : ℕ) (r : RuleOfApp) (before : List Statement) (steps : List Step)
     : List ℕ → Type 0 where

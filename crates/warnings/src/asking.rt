@@ -15,7 +15,7 @@ use rule_diagnosis::rule_lang::{Comparison, Statement};
 use std::alloc::{AllocError, Global};
 
 /// How many buckets there are.
-const BUCKETS: u16 = 10000;
+pub(crate) const BUCKETS: u16 = 10000;
 
 /// An app, its shape, its releases and the statements of its rule.
 #[derive(Drop)]

@@ -4,8 +4,8 @@ ghost use Rattle.warnings.specs.Runs.{ReleasesAreSo, TestsAreSo, VersionsAreSo};
 ghost use Rattle.warnings.specs.Runs.{WhensAreSo};
 
 /// A law: no run of a rule does what a line on a `when` or on a release denies, whoever asks and
-/// whatever counters reply; there is a run that does what a line on a version says; and a line on a
-/// test has the number of buckets for which it holds.
+/// whatever counters reply; there is a run that does what a line on a version says; and a test
+/// holds for the part of the buckets that a line on it has.
 pub fn warnings_are_so()
     ensures whens { WhensAreSo }
     ensures releases { ReleasesAreSo }

@@ -15,7 +15,8 @@
 // That who has a release may get it again, or a lower one, is asked otherwise: of an app that says
 // no more, where each counter replies 0, since then each test is decided.
 //
-// A test that holds for few buckets is read alone, and asks nothing (`few.rt`).
+// A test of the bucket whose number is too small or too great to be meant so is read alone, and
+// asks nothing (`parts.rt`).
 //
 // That a line is so, whoever asks, is a law (`law.rt`): what is denied is done by no run, and what
 // is said to be is done by some.
@@ -23,10 +24,10 @@
 mod asking;
 mod condition;
 mod course;
-mod few;
 mod given;
 mod holding;
 mod law;
+mod parts;
 mod possible;
 mod release;
 mod room;

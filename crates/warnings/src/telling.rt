@@ -6,8 +6,8 @@ ghost use Rattle.warnings.specs.Asking.{rule_of};
 ghost use Rattle.warnings.specs.Spots as places;
 
 use crate::asking::AskedRule;
-use crate::few::tell_few_of_rule;
 use crate::given::tell_all_releases;
+use crate::parts::tell_parts_of_rule;
 use crate::release::tell_app;
 use crate::room::room_behind;
 use crate::spot::{Spot, spots_of};
@@ -67,7 +67,8 @@ fn tell_asked(
 /// left for other rules. A line tells
 ///
 /// - of a test `bucket < n` or `bucket <= n`, also under a salt, without a modulus, that it holds
-///   for few buckets: 1 to 99 of the 10,000, whatever stands around it;
+///   for few buckets, 1 to 99 of the 10,000, or, where its number is above 10,000, for all, whatever
+///   stands around it;
 /// - of a `when` that it is never reached, or never holds, and of a release that no bucket gets it,
 ///   nor a later one: at any version, whatever else an app says, and whatever counters reply;
 /// - of a release that in some bucket who has it may get it again, or a lower one: where the app
@@ -87,6 +88,6 @@ pub fn tell_rule(
         ≡ string_bytes text.old ++ specs.rule_text app room (rule_of asked.now)) }
     ensures room { IfOk result (λ left. left ≡ specs.room_left room (rule_of asked.now)) }
 {
-    tell_few_of_rule(text, app, asked.statements)?;
+    tell_parts_of_rule(text, app, asked.statements)?;
     tell_asked(alloc, text, app, asked, room)
 }

@@ -1,4 +1,5 @@
-//! What is told of the tests of a rule that hold for few buckets, where there is no room to ask it.
+//! What is told of the tests of a rule that hold for few buckets, or whose number is above 10,000,
+//! where there is no room to ask it.
 
 use crate::asked::told;
 use crate::rules::must;
@@ -28,7 +29,18 @@ warning: app[1].rule: line 4: bucket < 9 is 0.09 percent of the bucket numbers: 
 - when bucket < 100 offer 1; / when bucket(7) < 100 offer 2; / otherwise none;
 - when bucket <= 99 offer 1; / when bucket(7) <= 99 offer 2; / otherwise none;
 - when bucket < 500 offer 1; / when bucket <= 10000 offer 2; / otherwise none;
-- when bucket < 0 offer 1; / when bucket <= 4294967295 offer 2; / otherwise none;
+- when bucket < 0 offer 1; / otherwise none;
+- when bucket < 25000 offer 1; / otherwise none;
+warning: app[1].rule: line 1: bucket < 25000 is all of the bucket numbers: one percent is 100 of them
+- when bucket(7) < 10001 offer 1; / when bucket <= 10001 offer 2; / otherwise none;
+warning: app[1].rule: line 1: bucket < 10001 is all of the bucket numbers: one percent is 100 of them
+warning: app[1].rule: line 2: bucket <= 10001 is all of the bucket numbers: one percent is 100 of them
+- when not bucket < 4294967295 offer 1; / when bucket(7) <= 4294967295 offer 2; / otherwise none;
+warning: app[1].rule: line 1: bucket < 4294967295 is all of the bucket numbers: one percent is 100 of them
+warning: app[1].rule: line 2: bucket <= 4294967295 is all of the bucket numbers: one percent is 100 of them
+- when bucket < 10000 offer 1; / when bucket(7) < 10000 offer 2; / otherwise none;
+- when bucket <= 9999 offer 1; / when bucket(7) <= 10000 offer 2; / otherwise none;
+- when bucket mod 100 < 25000 offer 1; / when bucket >= 25000 offer 2; / otherwise none;
 - when bucket mod 10000 < 5 offer 1; / when bucket(7) mod 100 <= 4 offer 2; / otherwise none;
 - when bucket >= 9995 offer 1; / when bucket > 9994 offer 2; / otherwise none;
 - when bucket == 5 offer 1; / when bucket != 5 offer 2; / otherwise none;

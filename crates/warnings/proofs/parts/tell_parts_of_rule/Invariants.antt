@@ -1,11 +1,11 @@
 use Rattle.std.proofs.Common.{◌≡◌, ◌++◌, length, string_bytes}
-use Rattle.warnings.specs.Asked.{few_of_rule}
-use Rattle.warnings.proofs.few.tell_few_of_rule.Given as goal
+use Rattle.warnings.specs.Asked.{parts_of_rule}
+use Rattle.warnings.proofs.parts.tell_parts_of_rule.Given as goal
 
 abbrev pub invariant-loop-left : goal.invariant-loop-left
 invariant-loop-left l =
-    string_bytes l.text ++ few_of_rule l.app l.left
-    ≡ string_bytes l.initial.text ++ few_of_rule l.app l.statements
+    string_bytes l.text ++ parts_of_rule l.app l.left
+    ≡ string_bytes l.initial.text ++ parts_of_rule l.app l.statements
 
 abbrev pub decreases-loop-left : goal.decreases-loop-left
 decreases-loop-left l = length l.left
