@@ -11,3 +11,4 @@ pub mod Named
 pub mod Fresh
 pub mod So
 pub mod Counted
+pub mod Taken

@@ -41,7 +41,8 @@ line_told app r spots before st steps lent release old new ends reached is answe
 
 -- ---- releases
 
-first_rest : {X : Type 0} (xs : List X) (x : X) → 0 < length xs → x ≡ get_or xs 0 x
+-- the first, and the others
+pub first_rest : {X : Type 0} (xs : List X) (x : X) → 0 < length xs → x ≡ get_or xs 0 x
     → xs ≡ x ∷ take (length xs - 1) (drop 1 xs)
 first_rest [] x some is = absurd (omega (arith, some))
 first_rest (y ∷ ys) x some is =

@@ -2,7 +2,8 @@
 -- which it is asked. Lines, each ended by a line feed.
 use Rattle.std.specs.Prelude.{ℕ, ◌+◌, ◌-◌, ◌*◌, ◌/◌, ◌%◌, List, [], ◌∷◌, ◌++◌, codes, decimal}
 use Rattle.std.specs.Prelude.{length, Bool, true, false, ◌&&◌, nat_le, nat_lt, if◌then◌else◌}
-use Rattle.std.specs.Prelude.{Option, Some, None, option_and_then, unwrap_or}
+use Rattle.std.specs.Prelude.{Option, Some, None, unwrap_or}
+use Rattle.std.specs.List.{sum_by}
 use Rattle.releases.specs.Release.{Release}
 use Rattle.rule_diagnosis.specs.rule_lang.declared.condition.Step.{Step}
 use Rattle.rule_diagnosis.specs.rule_lang.declared.condition.Step.TheVariants as step
@@ -150,23 +151,22 @@ asked_from app number r spots (release ∷ later) =
 
 -- ---- how much is asked
 
+abbrev pub step_count : Statement → ℕ
+step_count (Count name index) = 0
+step_count (When steps release) = length steps
+
 -- a rule takes room for each step of its conditions, wherever a version may lie and for who has
--- each release; None where there is too little
-abbrev pub steps_of : Statement → ℕ
-steps_of (Count name index) = 0
-steps_of (When steps release) = length steps
+-- each release
+abbrev pub room_taken : (versions : ℕ) → List Statement → ℕ
+room_taken versions rule = versions * sum_by step_count rule
 
-abbrev pub room_behind_one : (versions room : ℕ) → Statement → Option ℕ
-room_behind_one versions room st =
-    let taken = versions * steps_of st in if nat_le taken room then Some (room - taken) else None
-
-abbrev pub room_behind : (versions room : ℕ) → List Statement → Option ℕ
-room_behind versions room [] = Some room
-room_behind versions room (st ∷ rest) =
-    option_and_then (λ left. room_behind versions left rest) (room_behind_one versions room st)
+-- None where there is too little
+abbrev pub room_less : (taken room : ℕ) → Option ℕ
+room_less taken room = if nat_le taken room then Some (room - taken) else None
 
 abbrev pub room_after : RuleOfApp → (room : ℕ) → Option ℕ
-room_after r room = room_behind (length (spots_of r.rule) + length r.releases) room r.rule
+room_after r room =
+    room_less (room_taken (length (spots_of r.rule) + length r.releases) r.rule) room
 
 -- what all rules of a manifest have
 abbrev pub all_room : ℕ

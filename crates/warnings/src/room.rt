@@ -1,12 +1,12 @@
 //! How much is asked of the rules of a manifest.
 
-ghost use Rattle.std.specs.Prelude.{◌≡◌};
+ghost use Rattle.std.specs.Prelude.{◌≡◌, ◌*◌};
 ghost use Rattle.warnings.specs.Asked as specs;
 
 use rule_diagnosis::rule_lang::Statement;
 
-fn steps_of(statement: &Statement) -> u64
-    ensures { result ≡ specs.steps_of statement.now }
+fn step_count(statement: &Statement) -> u64
+    ensures { result ≡ specs.step_count statement.now }
 {
     match statement {
         Statement::Count { .. } => 0,
@@ -15,9 +15,9 @@ fn steps_of(statement: &Statement) -> u64
 }
 
 fn room_behind_one(versions: u64, room: u64, statement: &Statement) -> Option<u64>
-    ensures { result ≡ specs.room_behind_one versions room statement.now }
+    ensures { result ≡ specs.room_less (versions * specs.step_count statement.now) room }
 {
-    let Some(taken) = versions.checked_mul(steps_of(statement)) else {
+    let Some(taken) = versions.checked_mul(step_count(statement)) else {
         return None;
     };
     room.checked_sub(taken)
@@ -25,7 +25,7 @@ fn room_behind_one(versions: u64, room: u64, statement: &Statement) -> Option<u6
 
 /// The room that is left behind a rule that is asked at so many versions, if there is enough.
 pub(crate) fn room_behind(versions: u64, room: u64, statements: &[Statement]) -> Option<u64>
-    ensures { result ≡ specs.room_behind versions room statements.now }
+    ensures { result ≡ specs.room_less (specs.room_taken versions statements.now) room }
 {
     let mut room = room;
     let mut left = statements;
