@@ -5,6 +5,8 @@ use Rattle.load.specs.manifest.cells.Arrays.{AppShape}
 use Rattle.load.specs.manifest.cells.Directory.{Declaration}
 use Rattle.load.specs.manifest.cells.declared.array.ArrayNo.{ArrayNo}
 use Rattle.load.specs.manifest.cells.declared.array.CellArray.{CellArray}
+use Rattle.load.specs.manifest.cells.declared.fault.CellsFault.{CellsFault}
+use Rattle.load.specs.manifest.cells.declared.fault.CellsFault.TheVariants as cells
 use Rattle.load.specs.manifest.declarations.Order.{AreDeclared}
 use Rattle.diagnosis.specs.Advice.{advice}
 use Rattle.diagnosis.specs.declared.shown.Place.{Place}
@@ -41,10 +43,14 @@ IsArrayAt bytes number array = (manifest : Manifest) × ReadsManifest bytes (Ok 
 
 -- ---- faults of the manifest's bytes, and of its arrays
 
--- of what the reader of TOML says nothing is promised
+unfoldable pub tables_line : List ℕ
+tables_line =
+    codes "tables begin with [[array]], [[app]], [[app.release]] or [[app.release.package]]\n"
+
+-- of what the reader of TOML says nothing is promised; behind it stands how tables begin
 abbrev pub IsTomlReason : TomlFault → List ℕ → Type 0
 IsTomlReason toml.TooLong text = text ≡ line (codes "more than 1048576 bytes")
-IsTomlReason toml.Text text = Unit {0}
+IsTomlReason toml.Text text = (said : List ℕ) × (text ≡ said ++ tables_line)
 
 abbrev pub IsManifestReason : ManifestFault → List ℕ → Type 0
 IsManifestReason (unread.Toml fault) text = IsTomlReason fault text
@@ -53,9 +59,11 @@ IsManifestReason (unread.Field misfit) text =
 IsManifestReason (unread.Duplicate twice) text = text ≡ twice_text twice ++ codes " stands twice\n"
 IsManifestReason unread.Memory text = text ≡ []
 
-abbrev pub IsCellsReason : List ℕ → ℕ → List ℕ → Type 0
-IsCellsReason bytes number text =
+-- of an array for which too few cells are left; over no arrays there is no other fault of one
+abbrev pub IsCellsReason : List ℕ → ℕ → CellsFault → List ℕ → Type 0
+IsCellsReason bytes number cells.CellsFull text =
     (array : Declaration) × IsArrayAt bytes number array × (text ≡ cells_line number array.name)
+IsCellsReason bytes number fault text = ⊥
 
 -- ---- faults of files
 
@@ -99,7 +107,7 @@ module _ (known : KnownFiles) (bytes : List ℕ) where
   -- the lines beside a refusal
   abbrev pub IsReason : LoadFault → List ℕ → Type 0
   IsReason (NoManifest fault) text = IsManifestReason fault text
-  IsReason (Cells number fault) text = IsCellsReason bytes number text
+  IsReason (Cells number fault) text = IsCellsReason bytes number fault text
   IsReason (File number) text = IsFileReason number Whole text
   IsReason (Program number fault) text = IsFileReason number (slot_of fault) text
   IsReason (Rule number fault) text = IsFileReason number (rule_place fault) text

@@ -18,16 +18,12 @@ use load::acceptance::flow_check::FlowFault;
 use load::acceptance::rule_compile::CompileFault;
 use load::acceptance::rule_lang::RuleFault;
 use load::acceptance::{ProgramFault, RuleTextFault};
+use load::manifest::cells::CellsFault;
 use load::manifest::{ManifestFault, Misfit, TomlFault, read_manifest};
 use load::{Files, LoadFault};
 use std::alloc::{AllocError, Global};
 use std::fmt::Write;
 use toml::table_from_slice;
-
-// How the tables of a manifest are begun, since of a list that is begun otherwise the reader of
-// TOML mostly names another line.
-const TABLES: &str =
-    "tables begin with [[array]], [[app]], [[app.release]] or [[app.release.package]]\n";
 
 /// The lines beside the refusal of a manifest; none where memory for them is refused.
 pub(crate) fn reason_of<F: Files>(
@@ -71,7 +67,7 @@ fn tell_reason<F: Files>(
             *app,
             rule_place(fault),
         ),
-        LoadFault::Cells { array, .. } => tell_array(alloc, manifest, *array),
+        LoadFault::Cells { array, fault } => tell_cells_fault(alloc, manifest, *array, *fault),
         LoadFault::Memory => None,
     }
 }
@@ -115,10 +111,34 @@ pub(crate) fn tell_toml(alloc: Global, manifest: &[u8], fault: TomlFault) -> Opt
     match fault {
         TomlFault::TooLong => format!(in alloc; "more than 1048576 bytes\n").ok(),
         TomlFault::Text => match table_from_slice(alloc, manifest) {
-            Err(error) if !error.is_memory() => format!(in alloc; "{error}{TABLES}").ok(),
+            Err(error) if !error.is_memory() => {
+                let Ok(said) = format!(in alloc; "{error}") else {
+                    return None;
+                };
+                with_tables(said)
+            }
             _ => None,
         },
     }
+}
+
+fn with_tables(said: String) -> Option<String>
+    ensures { IfSome result (λ text. IsTomlReason TomlFault.Text (string_bytes text)) }
+{
+    let mut text = said;
+    match text.push_str(tables()) {
+        Ok(()) => Some(text),
+        Err(_) => None,
+    }
+}
+
+// How the tables of a manifest are begun, since of a list that is begun otherwise the reader of
+// TOML mostly names another line.
+#[tactic(auto, unfolding(crate::specs::Reason::tables_line))]
+fn tables() -> &'static str
+    ensures { result.now ≡ specs.tables_line }
+{
+    "tables begin with [[array]], [[app]], [[app.release]] or [[app.release.package]]\n"
 }
 
 fn slot_of(fault: &ProgramFault) -> Place
@@ -143,9 +163,26 @@ fn rule_place(fault: &RuleTextFault) -> Place
     }
 }
 
+fn tell_cells_fault(
+    alloc: Global,
+    manifest: &[u8],
+    number: usize,
+    fault: CellsFault,
+) -> Option<String>
+    ensures { IfSome result (λ text.
+        IsCellsReason manifest.now number fault (string_bytes text)) }
+{
+    match fault {
+        CellsFault::CellsFull => tell_array(alloc, manifest, number),
+        CellsFault::Redefined => None,
+        CellsFault::Memory => None,
+    }
+}
+
 // The array of this number, for which too few cells are left.
 fn tell_array(alloc: Global, manifest: &[u8], number: usize) -> Option<String>
-    ensures { IfSome result (λ text. IsCellsReason manifest.now number (string_bytes text)) }
+    ensures { IfSome result (λ text.
+        IsCellsReason manifest.now number CellsFault.CellsFull (string_bytes text)) }
 {
     let Ok(manifest) = read_manifest(alloc, manifest) else {
         return None;
