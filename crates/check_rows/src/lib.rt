@@ -5,6 +5,8 @@
 #[cfg(test)]
 mod asked;
 #[cfg(test)]
+mod misplaced;
+#[cfg(test)]
 mod parts;
 #[cfg(test)]
 mod rules;
