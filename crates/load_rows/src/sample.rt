@@ -33,6 +33,10 @@ const BYTES: [(&str, &[u8]); 4] = [
 const COSTLY: &str = r#"
 when attr version is "vvvvvvvvvvvvvvvvvvvvvvvvvvvvvvvvvvvvvvvvvvvvvvvvvvvvvvvvvvvvvvvv" offer 1;"#;
 
+/// A statement of six lexemes: 5000 of them are a rule's text of 55000 bytes, and with a line end
+/// behind each lexeme they would be 80000.
+const DENSE: &str = "count n[0];";
+
 /// All files that the manifests of the tests name, but for those that aren't there. The rules are
 /// lines of a file's name and its text, of which ` / ` ends a line.
 pub(crate) fn files(alloc: Global, rules: &str) -> Result<MemFiles, Fail> {
@@ -45,7 +49,10 @@ fn add_files(alloc: Global, files: &mut MemFiles, rules: &str) -> Result<(), Fai
     add_programs(alloc, files)?;
     add_rules(alloc, files, rules)?;
     add_bytes(alloc, files)?;
-    add_costly(files, repeated(alloc, 300, COSTLY)?)?;
+    let costly = repeated(alloc, 300, COSTLY)?;
+    add_ended(files, "costly.rule", costly, "\notherwise none;")?;
+    let dense = repeated(alloc, 5000, DENSE)?;
+    add_ended(files, "dense.rule", dense, "\notherwise none; $")?;
     files.add("long.rule", Some(vec![in alloc; b' '; 65537]?))?;
     Ok(files.add("unreadable.bpf", None)?)
 }
@@ -73,10 +80,16 @@ fn add_bytes(alloc: Global, files: &mut MemFiles) -> Result<(), AllocError> {
     Ok(())
 }
 
-fn add_costly(files: &mut MemFiles, statements: String) -> Result<(), AllocError> {
+/// Adds a rule of these statements, and what stands behind them.
+fn add_ended(
+    files: &mut MemFiles,
+    name: &str,
+    statements: String,
+    end: &str,
+) -> Result<(), AllocError> {
     let mut text = statements;
-    text.push_str("\notherwise none;")?;
-    files.add("costly.rule", Some(text.into_bytes()))
+    text.push_str(end)?;
+    files.add(name, Some(text.into_bytes()))
 }
 
 /// Adds the program of a text in which the mark ends a line.

@@ -16,12 +16,27 @@ refused M2 Field / server: a text /
 - length = 10 => length = 4097 | M2 Field / array[2].length: a whole number from 1 to 4096 /
 - quota = 2 => limit = 2 | M2 Field / array[1].limit: no member of an array /
 the members of an array: name, width, length, quota /
+- [[array]] => [array] & [[array]] => [array.n]
+ | M2 Field / array: at most 64 tables / each array begins with [[array]] /
+- appid = "y" => appid = "y" / name = "y" | M2 Field / app[2].name: no member of an app /
+the members of an app: appid, program or rule, release /
+- [[app]] => [app] & [[app]] => [app.y]
+ | M2 Field / app: 1 to 256 tables / each app begins with [[app]] /
 - rule = "y.rule" => rule = "y.rule" / program = "x.bpf"
  | M2 Field / app[2].program or rule: one of the two, the name of a file /
 - version = "2.0.0.0" => version = "two"
  | M2 Field / app[1].release[1].version: one to four numbers below 4294967296, joined by dots /
+- version = "2.0.0.0" => version = "2.0.0.0" / notes = ""
+ | M2 Field / app[1].release[1].notes: no member of a release /
+the members of a release: version, codebase, package /
 - size = 3 => size = -1
  | M2 Field / app[1].release[1].package[1].size: a whole number from 0 to 9007199254740991 /
+- required = true => required = true / sha1 = ""
+ | M2 Field / app[1].release[1].package[1].sha1: no member of a package /
+the members of a package: name, hash_sha256, size, required /
+- [[app.release.package]] => [app.release.package]
+ | M2 Field / app[1].release[1].package: 1 to 16 tables /
+each package begins with [[app.release.package]] /
 - rule = "y.rule" => rule = "y.rule" / release = [1] | M2 Field / app[2].release[1]: a table /
 - rule = "y.rule" => rule = "y.rule" / release = 1 | M2 Field / app[2].release: at most 64 tables /
 each release begins with [[app.release]] /
@@ -74,6 +89,8 @@ line 1, column 12: the text's end stands where "when", "count" or "otherwise" is
  | M6 Rule L2 Shape at line 2 in app 2 / app[2].rule: ended.rule /
 line 2, column 1: the text's end stands where "when", "count" or "otherwise" is expected /
    /   ^ /
+- "y.rule" => "dense.rule" | M6 Rule L1 Token at line 2 in app 2 / app[2].rule: dense.rule /
+line 2: otherwise none; $ /
 - "y.rule" => "./sub//..token.rule"
  | M6 Rule L1 Token at line 2 in app 2 / app[2].rule: ./sub//..token.rule /
 line 2, column 17: "$" is no word of a rule /   otherwise none; $ /                   ^ /

@@ -95,6 +95,7 @@ const NO_TABLES: &str = r#"
 [[array]] => [array] => M2 array: at most 64 tables
 [[array]] => array = [1] / [[app]] => M2 array[1]: a table
 [[app.release]] => [app.release] => M2 app[1].release: at most 64 tables
+[[app.release.package]] => package = [1] / [[app]] => M2 app[1].release[1].package[1]: a table
 required = true => required = true / [[app]] => M2 app[2].appid: a text of 1 to 1024 bytes
 "#;
 

@@ -16,12 +16,16 @@ fn of_length(alloc: Global, length: usize) -> Result<Vec<u8>, AllocError> {
     Ok(bytes)
 }
 
-const DOCUMENTS: [(&[u8], &str); 5] = [
+/// A byte order mark is none of the document's text, where it begins it.
+const DOCUMENTS: [(&[u8], &str); 8] = [
     (b"", "M2 server: a text"),
     (b"server", "M1 Toml"),
     (b"server = \"a\"\nserver = \"b\"", "M1 Toml"),
     (b"server = \"\xff\"", "M1 Toml"),
     (b"[array]\n[[array]]", "M1 Toml"),
+    (b"server = \"a\"\napp = [1]", "M2 app[1]: a table"),
+    (b"\xef\xbb\xbfserver = \"a\"", "M2 app: 1 to 256 tables"),
+    (b"\n\xef\xbb\xbfserver = \"a\"", "M1 Toml"),
 ];
 
 #[test]
