@@ -12,9 +12,11 @@ const LINES: &str = r##"
 
 "kind":"start","path":"m.toml","port":80,"operator":8081,"refusal":"B6 Bind"}
 
+"kind":"start","path":"a\tb","path_left_out":9,"port":80,"operator":8081}
+
 "kind":"load","path":"next.toml","generation":2}
 
-"kind":"load","path":"a\tb","path_left_out":9,"refusal":"M2 Shape"}
+"kind":"load","path":"a\tb","path_left_out":9,"refusal":"M2 Field"}
 
 "kind":"unaccepted","reason":"Too many open files (os error 24)"}
 
@@ -28,6 +30,9 @@ const LINES: &str = r##"
 "micros":9}
 
 "kind":"connection","peer":"[fe80::1%2]:80","refusal":"P8 Device","cause":"time-out","bytes":0,
+"micros":0}
+
+"kind":"connection","peer":"[fe80::1%2]:80","refusal":"P8 Device","cause":"device","bytes":7,
 "micros":0}
 
 "kind":"connection","peer":"127.0.0.1:41248","forwarded":"203.0.113.7","status":200,
@@ -45,9 +50,13 @@ fn whole(text: &str) -> Excerpt<'_> {
     Excerpt { text, left_out: 0 }
 }
 
-fn start(refusal: Option<&'static str>, port: u16) -> LogEvent<'static> {
+fn start(
+    manifest: Excerpt<'static>,
+    refusal: Option<&'static str>,
+    port: u16,
+) -> LogEvent<'static> {
     LogEvent::Start(Start {
-        manifest: whole("m.toml"),
+        manifest,
         port,
         operator: 8081,
         refusal,
@@ -111,10 +120,11 @@ fn told(alloc: Global) -> Result<String, Fail> {
     };
     let mut lines = String::new(alloc);
     for event in [
-        start(None, 8080),
-        start(Some("B6 Bind"), 80),
+        start(whole("m.toml"), None, 8080),
+        start(whole("m.toml"), Some("B6 Bind"), 80),
+        start(cut, None, 80),
         load(whole("next.toml"), 2, None),
-        load(cut, 0, Some("M2 Shape")),
+        load(cut, 0, Some("M2 Field")),
         LogEvent::Unaccepted("Too many open files (os error 24)"),
         LogEvent::Lost(18446744073709551615),
         LogEvent::Stop,
@@ -125,6 +135,7 @@ fn told(alloc: Global) -> Result<String, Fail> {
         }),
         unanswered("[2001:db8::1]:443", 411, "P4 Length", None, 111),
         unanswered("[fe80::1%2]:80", 0, "P8 Device", Some("time-out"), 0),
+        unanswered("[fe80::1%2]:80", 0, "P8 Device", Some("device"), 7),
     ] {
         lines.push_str(line_at(alloc, &AT, &event)?.as_str())?;
     }

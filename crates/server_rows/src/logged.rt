@@ -63,12 +63,12 @@ Content-Length: 69;X-Forwarded-For: ::1
 "forwarded":"::1","status":200,"generation":1,
 ,"apps":[{"appid":"y","bucket":6037,"named":false,"unknown":true,"event":"[{ }]"}]
 
-Content-Length: 2
+Content-Length: 2;X-Forwarded-For: ::1, ::2
 []
 "status":400,"refusal":"O2 Shape",
 -
 
-Host: h
+Host: h;X-Forwarded-For: unknown
 -
 "status":411,"refusal":"P4 Length",
 -
