@@ -4,8 +4,22 @@ use super::{told, write_program};
 use std::fs;
 use std::test::Fail;
 
+/// A rule of forty tests and 39 `or`. It is asked at 81 places where a version may lie and for who
+/// has its release, 79 steps each: that takes 6478 of the room of 10,000.
+const FORTY: &[u8] =
+    b"when version == 1 or version == 2 or version == 3 or version == 4 or version == 5
+    or version == 6 or version == 7 or version == 8 or version == 9 or version == 10
+    or version == 11 or version == 12 or version == 13 or version == 14 or version == 15
+    or version == 16 or version == 17 or version == 18 or version == 19 or version == 20
+    or version == 21 or version == 22 or version == 23 or version == 24 or version == 25
+    or version == 26 or version == 27 or version == 28 or version == 29 or version == 30
+    or version == 31 or version == 32 or version == 33 or version == 34 or version == 35
+    or version == 36 or version == 37 or version == 38 or version == 39 or version == 40 offer 1;
+otherwise none;
+";
+
 /// A manifest, what is printed of it on standard output, and on standard error.
-const ROWS: [(&str, &str, &str); 9] = [
+const ROWS: [(&str, &str, &str); 10] = [
     (
         "server = \"prod\"
 array = [{ name = \"q\", width = 64, length = 1, quota = 2 },
@@ -84,6 +98,25 @@ required = true",
         "app x releases 1 slots 2\n",
         "warning: app[1].release[1].codebase: it begins with neither https:// nor http://\n",
     ),
+    // There is no room to ask the second app's rule, and enough for the third's.
+    (
+        "server = \"\"
+app = [{ appid = \"x\", rule = \"k_forty.rule\", release = [{ version = \"40\", \
+    codebase = \"https://a/\", package = [{ name = \"x\", size = 3, required = true, \
+    hash_sha256 = \"ba7816bf8f01cfea414140de5dae2223b00361a396177a9cb410ff61f20015ad\" }] }] },
+    { appid = \"y\", rule = \"k_forty.rule\", release = [{ version = \"40\", \
+    codebase = \"https://a/\", package = [{ name = \"x\", size = 3, required = true, \
+    hash_sha256 = \"ba7816bf8f01cfea414140de5dae2223b00361a396177a9cb410ff61f20015ad\" }] }] },
+    { appid = \"z\", rule = \"k_few.rule\", release = [{ version = \"1\", \
+    codebase = \"https://a/\", package = [{ name = \"x\", size = 3, required = true, \
+    hash_sha256 = \"ba7816bf8f01cfea414140de5dae2223b00361a396177a9cb410ff61f20015ad\" }] }] }]",
+        "app x releases 1 slots 326\napp y releases 1 slots 326\napp z releases 1 slots 8\n",
+        "warning: app[1].release[1].version: in some bucket who has it may get it again
+warning: app[2].rule: not asked which releases it gives, since that would take long
+warning: app[3].rule: line 1: bucket < 5 is 0.05 percent of the bucket numbers: one percent is 100 of them
+warning: app[3].release[1].version: in some bucket who has it may get it again
+",
+    ),
 ];
 
 /// A refusal stands on standard error, with where and why; so do warnings, with status 0.
@@ -97,6 +130,12 @@ fn checks(rt: HostRuntime) -> Result<(), Fail> {
         &rt,
         "k_wrong.rule",
         b"# No array.\ncount q[0];\notherwise none;\n",
+    )?;
+    fs::write(&rt, "k_forty.rule", FORTY)?;
+    fs::write(
+        &rt,
+        "k_few.rule",
+        b"when bucket < 5 offer 1;\notherwise none;\n",
     )?;
     for (manifest, out, err) in ROWS {
         fs::write(&rt, "k.toml", manifest.as_bytes())?;

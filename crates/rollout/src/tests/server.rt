@@ -27,6 +27,12 @@ const NEXT: &[u8] = br#"server = "next"
 app = [{ appid = "x", program = "s_none.bin" }]
 "#;
 
+/// The array of the first server, with another length.
+const LONGER: &[u8] = br#"server = "longer"
+array = [{ name = "a", width = 64, length = 2 }]
+app = [{ appid = "x", program = "s_none.bin" }]
+"#;
+
 /// What is asked and what it is answered, in turn: `post` is a request for the apps x and y, which
 /// is answered by a server of this name, and else it is the operator's words. In answers `;` stands
 /// for the line feed.
@@ -41,6 +47,7 @@ show|generation 1;app x releases 0 slots 6;
 cells|a[0] 1;
 post|prod
 load s_next.toml|generation 2;
+load s_longer.toml|refused M7 Cells N2 Redefined in array 1;
 show|generation 2;app x releases 0 slots 2;
 post|next
 cells|a[0] 2;
@@ -165,6 +172,7 @@ pub(super) fn write_files<R: Files + AllocGlobal>(rt: &R) -> Result<(), Fail> {
     fs::write(rt, "s_first.toml", FIRST)?;
     fs::write(rt, "s_unset.toml", UNSET)?;
     fs::write(rt, "s_next.toml", NEXT)?;
+    fs::write(rt, "s_longer.toml", LONGER)?;
     let count = "ldcell r6, 0, 0 / mov r2, 1 / fadddw [r6+0], r2 / mov r0, 0 / exit";
     write_program(rt, "s_count.bin", count)?;
     write_program(rt, "s_none.bin", "mov r0, 0 / exit")?;

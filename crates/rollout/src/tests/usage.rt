@@ -51,6 +51,7 @@ rollout show --operator 1 -> refused B5 Connect
 rollout cells --operator 1 -> refused B5 Connect
 rollout stop --operator 1 -> refused B5 Connect
 rollout load a.toml --operator 1 -> refused B5 Connect
+rollout load '' --operator 1 -> refused B1 Word
 rollout serve no.toml --port 1 --operator 1 --workers 1 -> refused B3 File
 rollout serve no.toml --port 1 --operator 1 --workers 64 --timeout 3600 --log -> refused B3 File";
 
