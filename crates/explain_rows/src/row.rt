@@ -99,8 +99,9 @@ fn comes_back(alloc: Global, row: &str) -> Result<(), Fail> {
     Err(Fail::new(format_args!("{name}: the sentence alone is another")))
 }
 
-/// Fails unless each text of the table comes back as it is.
+/// Fails unless each text of the table comes back as it is. `<MORE>` breaks a line of it.
 pub(crate) fn come_back(alloc: Global, rows: &str) -> Result<(), Fail> {
+    let rows = rows.replace(alloc, "<MORE>\n", "")?;
     for row in rows.split("\n- ").skip(1) {
         comes_back(alloc, row)?;
     }

@@ -27,7 +27,8 @@ mov r10, 0            ; 0: V2: r10 has the stack's top, and isn't written
 mov r0, 0
 exit
 - V3 | 1
-mul r1, 2             ; 0: V3: r1 is context+0: only a place in context or stack is moved, by a number and in 64 bits
+mul r1, 2             ; 0: V3: r1 is context+0: <MORE>
+only a place in context or stack is moved, by a number and in 64 bits
 mov r0, 0
 exit
 - V4: a single number | 1
@@ -46,7 +47,8 @@ add r3, r2            ; 2: V4: r3 is stack-0, and 0 to 255 isn't a single number
 mov r0, 0
 exit
 - V5 | 1
-jeq r1, 5, +0         ; 0: V5: r1 is context+0: only what a lookup gave or a cell's address is compared, with 0 by 64-bit jeq or jne
+jeq r1, 5, +0         ; 0: V5: r1 is context+0: <MORE>
+only what a lookup gave or a cell's address is compared, with 0 by 64-bit jeq or jne
 mov r0, 0
 exit
 - V7: a store | 1
@@ -67,7 +69,8 @@ ldxdw r0, [r1+60]     ; 0: V6: r1 is context+0, and 8 bytes at [r1+60] may lie o
 exit
 - V6: a part of a cell | 1
 ldcell r6, 0, 0       ; 0:
-ldxw r0, [r6+0]       ; 2: V6: r6 is a[0]: a cell is accessed as a whole, at its own address and without a sign
+ldxw r0, [r6+0]       ; 2: V6: r6 is a[0]: <MORE>
+a cell is accessed as a whole, at its own address and without a sign
 exit
 - V8 | 1
 stdw [r1+0], 1        ; 0: V8: r1 is context+0: the context isn't written
@@ -92,7 +95,8 @@ mov r0, 0
 exit
 - V14 | 1
 ldcell r6, 2, 0       ; 0:
-stdw [r6+0], 1        ; 2: V14: r6 is q[0], of an array with a quota: only a load or an atomic add of 1 with fetch touches it
+stdw [r6+0], 1        ; 2: V14: r6 is q[0], <MORE>
+of an array with a quota: only a load or an atomic add of 1 with fetch touches it
 mov r0, 0
 exit"#;
 
@@ -109,7 +113,8 @@ exit
 mov r1, 0             ; 0:
 mov r2, 0             ; 1: r1 0
 mov r3, 4             ; 2: r2 0
-call 2                ; 3: V10: helper 2 takes a number, and of the stack a place and a single length up to 64: r1 is 0, r2 is 0, r3 is 4
+call 2                ; 3: V10: helper 2 takes a number, and of the stack a place <MORE>
+and a single length up to 64: r1 is 0, r2 is 0, r3 is 4
 exit
 - V10: a length | 1
 call 3                ; 0: V10: helper 3 takes a number: r1 is context+0
