@@ -11,7 +11,8 @@ line 1, column 1: "offer" stands where "when", "count" or "otherwise" is expecte
   offer 1;
   ^
 - when offer 1; / otherwise none;
-line 1, column 6: "offer" stands where "not", "version", "bucket", "today", "installed", "flag", "attr", "take" or "(" is expected
+line 1, column 6: "offer" stands where "not", "version", "bucket", <MORE>
+"today", "installed", "flag", "attr", "take" or "(" is expected
   when offer 1;
        ^
 - when bucket < 500 version < 2 offer 1; / otherwise none;

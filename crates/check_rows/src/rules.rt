@@ -58,11 +58,13 @@ line 1, column 17: U+1F600 is no word of a rule
   when attr ap is 😀 offer 1;
                   ^
 - when attr ap is "ä" offer 1 $; / otherwise none;
-line 1, column 17: "ä" is no word of a rule: a text ends in its line, and has at most 64 characters of ASCII, without \
+line 1, column 17: "ä" is no word of a rule: a text ends in its line, <MORE>
+and has at most 64 characters of ASCII, without \
   when attr ap is "ä" offer 1 $;
                   ^
 - when attr ap is "x / otherwise none;
-line 1, column 17: "x is no word of a rule: a text ends in its line, and has at most 64 characters of ASCII, without \
+line 1, column 17: "x is no word of a rule: a text ends in its line, <MORE>
+and has at most 64 characters of ASCII, without \
   when attr ap is "x
                   ^
 - # ä # " / when bucket < 5 offer 1 $; / otherwise none;
@@ -74,7 +76,8 @@ line 1, column 16: U+000D is no word of a rule
   otherwise none;<CR>
                  ^
 - when flag beta offer 1; / otherwise none;
-line 1, column 11: "beta" is no flag; there are: version_known, updatecheck, ping, event, cohort_known, installdate_known
+line 1, column 11: "beta" is no flag; there are: version_known, <MORE>
+updatecheck, ping, event, cohort_known, installdate_known
   when flag beta offer 1;
             ^
 - when attr os is "x" offer 1; / otherwise none;
@@ -125,10 +128,10 @@ line 1, column 16: "4294967296.0" is out of range: each number of a version is a
 line 1, column 14: "4294967296" is out of range: 0 to 4294967295
   when today < 4294967296 offer 1;
                ^
-- when not not not not not not not not not not not not not not not not not not not not not not not not not not not not not not not not not flag ping offer 1; / otherwise none;
-line 1, column 134: "not" is out of range: at most 32 of not and ( stand in one another
-  when not not not not not not not not not not not not not not not not not not not not not not not not not not not not not not not not not flag ping offer 1;
-                                                                                                                                       ^
+- when ((((((((((((((((((((((((((((((((not today<5)))))))))))))))))))))))))))))))) offer 1; / otherwise none;
+line 1, column 38: "not" is out of range: at most 32 of not and ( stand in one another
+  when ((((((((((((((((((((((((((((((((not today<5)))))))))))))))))))))))))))))))) offer 1;
+                                       ^
 - when (((((((((((((((((((((((((((((((((flag ping))))))))))))))))))))))))))))))))) offer 1; / otherwise none;
 line 1, column 38: "(" is out of range: at most 32 of not and ( stand in one another
   when (((((((((((((((((((((((((((((((((flag ping))))))))))))))))))))))))))))))))) offer 1;
@@ -165,8 +168,9 @@ fn told(alloc: Global, text: &str, shape: &Shape) -> Option<String> {
     tell_rule_fault(alloc, text, shape, line, kind)
 }
 
-/// With the characters that a row can't show.
+/// With the characters that a row can't show, and a line that `<MORE>` breaks in one.
 fn with_characters(alloc: Global, text: &str) -> Result<String, AllocError> {
+    let text = text.replace(alloc, "<MORE>\n", "")?;
     let text = text.replace(alloc, "<BOM>", "\u{feff}")?;
     let text = text.replace(alloc, "<CR>", "\r")?;
     text.replace(alloc, "<TAB>", "\t")
