@@ -37,11 +37,19 @@ def remove(path):
         path.unlink(missing_ok=True)
 
 
+def open_to_all(path):
+    """Lets everybody read it, and call what can be called, whatever the caller's umask: a service has
+    a user of its own."""
+    for it in [path, *path.rglob("*")]:
+        it.chmod(0o755 if it.is_dir() or os.access(it, os.X_OK) else 0o644)
+
+
 def make_folder(folder, undo):
     if not folder.exists():
         make_folder(folder.parent, undo)
         folder.mkdir()
         undo.callback(folder.rmdir)
+        open_to_all(folder)
 
 
 def write_beside(source, place, undo):
@@ -53,6 +61,7 @@ def write_beside(source, place, undo):
         shutil.copytree(source, new, ignore=LEFT_OUT)
     else:
         shutil.copy(source, new)
+    open_to_all(new)
 
 
 def set_in_place(place, undo):

@@ -1,17 +1,22 @@
-"""Which program this is: the commit of its sources and the kit that proved them."""
+"""Which program stands: its sources, their commit, and the kit that proved them."""
+import os
 import subprocess
 
 from building.crates import OUT, ROOT
 
+# A sum of the sources, as they were when the build of the program that stands began.
+STAMP = OUT / "stamp"
 # Written by each build, for `./rollout --version` and for installs.
 VERSION = OUT / "VERSION"
-SOURCES = ["--", "crates", "crates.txt"]
+SOURCES = ["crates.txt", *(f":(glob)crates/*/{part}/**" for part in ("src", "specs", "proofs"))]
 
 
 def told(*words):
     """The first line that a command prints, or none where it fails or isn't there."""
+    # A repository that this one's folder lies in tells nothing of these sources.
+    within = {**os.environ, "GIT_CEILING_DIRECTORIES": str(ROOT.parent)}
     try:
-        done = subprocess.run(words, cwd=ROOT, capture_output=True, text=True)
+        done = subprocess.run(words, cwd=ROOT, env=within, capture_output=True, text=True)
     except OSError:
         return None
     return (done.stdout.splitlines() or [""])[0] if done.returncode == 0 else None
@@ -22,8 +27,26 @@ def commit_now():
     commit = told("git", "rev-parse", "--short=12", "HEAD")
     if not commit:
         return "of no known commit"
-    return f"{commit}, with changes" if told("git", "status", "--porcelain", *SOURCES) else commit
+    changed = told("git", "status", "--porcelain", "--", *SOURCES)
+    return f"{commit}, with changes" if changed else commit
 
 
 def version_now():
     return f"rollout {commit_now()}\n{told('rt', 'version') or 'of no known kit'}\n"
+
+
+def sources_now():
+    return subprocess.run([ROOT / "building" / "sources"], stdout=subprocess.PIPE, text=True).stdout
+
+
+def is_current():
+    """Whether the program stands, is of the sources as they are, and is known by its version."""
+    stands = subprocess.run([ROOT / "building" / "is_current"]).returncode == 0
+    return stands and VERSION.exists()
+
+
+def write(path, text):
+    """Writes it whole, or leaves what stood there."""
+    new = path.with_name(f".{path.name}.new")
+    new.write_text(text)
+    new.replace(path)

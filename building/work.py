@@ -35,9 +35,12 @@ class Work:
 
     def pause(self, is_paused):
         """Has it wait, or go on. `rt` hands that on to what it has started."""
-        if is_paused != self.is_paused:
-            self.is_paused = is_paused
-            self.rt.send_signal(signal.SIGTSTP if is_paused else signal.SIGCONT)
+        if not is_paused:
+            # At each call: one that comes while `rt` is about to stop itself is lost.
+            self.rt.send_signal(signal.SIGCONT)
+        elif not self.is_paused:
+            self.rt.send_signal(signal.SIGTSTP)
+        self.is_paused = is_paused
 
     def goes_on(self, seconds):
         """Counts the time, and tells whether it hasn't ended."""
