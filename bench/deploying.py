@@ -174,8 +174,11 @@ def unit_commands(folder):
         words = [sys.executable, "-c", "import time; time.sleep(1.5)"]
         with subprocess.Popen(words) as later:
             begun = time.monotonic()
+            if host.command(unit, "ExecStop") != (0, "") or NOTHING not in asked():
+                return "who has ended by himself stops another server"
             [stop] = host.commands(unit, "ExecStop")
-            stopping = subprocess.Popen(stop, stdout=subprocess.DEVNULL)
+            lives = {**os.environ, "MAINPID": str(server.pid)}
+            stopping = subprocess.Popen(stop, stdout=subprocess.DEVNULL, env=lives)
             later.wait()
             if stopping.poll() is not None:
                 return f"the stop has ended after {time.monotonic() - begun:.1f} s"
@@ -184,8 +187,8 @@ def unit_commands(folder):
                 return "who was being answered isn't"
         if stopping.wait(PATIENCE) != 0 or server.wait(1) != 0:
             return f"{server.returncode} {stopping.returncode}"
-    if host.command(unit, "ExecStop") != (1, "refused B5 Connect\n"):
-        return "a stop of what has ended by itself"
+    if host.command(unit, "ExecStop", MAINPID="1") != (1, "refused B5 Connect\n"):
+        return "a stop of what has ended meanwhile"
 
 
 def rotated_log(folder):
