@@ -4,6 +4,7 @@ stand on the page but for the folder and the ports, and the requests of docs/CLI
 Each gives nothing, or what was wrong. Where a command isn't installed it is skipped by that name.
 """
 import contextlib
+import json
 import os
 import re
 import shutil
@@ -23,10 +24,10 @@ OFFERS = ["editor b:2 1.9 2.1"]
 # What each recipe before it counts, in the page's order: in the day below one machine is offered
 # 2.1, one has no cohort, two installs end, and a third one's event is cut.
 COUNTS = [
-    ["1 editor 2.1"],
-    ["1 editor 2.0.4 to 2.0.4 result 0", "1 editor 2.0.4 to 2.0.4 result 1"],
-    ["1 editor"],
-    ["1 editor 1.9"],
+    ['1 "editor 2.1"'],
+    ['1 "editor 2.0.4 to 2.0.4 result 0"', '1 "editor 2.0.4 to 2.0.4 result 1"'],
+    ['1 "editor"'],
+    ['1 "editor 1.9"'],
 ]
 
 
@@ -128,7 +129,7 @@ def wrong_counts(day):
         found = [" ".join(line.split()) for line in day.run(recipe).splitlines()]
         if found != counts:
             return f"{found} by {recipe}"
-    found = [" ".join(line.split()[2:]) for line in day.run(offers).splitlines()]
+    found = [" ".join(json.loads(line).split()[2:]) for line in day.run(offers).splitlines()]
     if found != OFFERS:
         return f"{found} by {offers}"
 
