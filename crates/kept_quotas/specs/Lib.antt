@@ -1,0 +1,2 @@
+pub mod Quotas
+pub use Rattle.one_world.specs as one_world
