@@ -10,6 +10,7 @@ use Rattle.cells.specs.Grown.{Grows}
 use Rattle.cells.specs.declared.event.CellEvent.{CellEvent}
 use Rattle.shared_cells.specs.Passes.{CellsView, PassView, IsPassOf, IsNewPass, Gained}
 use Rattle.shared_cells.specs.Passes.{PassesGainLists, AreLeftBy, lists_of}
+use Rattle.shared_cells.specs.Quotas.{QuotasAreExact}
 use Rattle.workers.specs.Back.{OperatorBack, WorkerBack}
 use Rattle.workers.specs.one_world.InTurn.{AreOfRuns, NoneAreOfRuns, OfRunsStay}
 use Rattle.workers.specs.one_world.Passes.{AreLoads, PassesAreOneWorld}
@@ -164,11 +165,12 @@ pub is_one_world : PassesAreOneWorld → NoneAreOfRuns → (cells : CellsView)
     (values : List ℕ) → length passes ≡ cells.passes
     → HasLast published last → All IsRuleset published → HasLooked cells.table operator
     → AreGathered cells.table published operator passes → AreLeftBy passes values
-    → AreLeftByOneWorld cells published values
-is_one_world world none cells [] last operator passes values all is sound looked gathered left =
+    → QuotasAreExact passes values → AreLeftByOneWorld cells published values
+is_one_world world none cells [] last operator passes values all is sound looked gathered left
+    quotas =
     absurd cc
 is_one_world world none cells (first ∷ later) last operator passes values all is sound looked
-    gathered left =
+    gathered left quotas =
     let published = first ∷ later in
     let Ran : List PassView → Type 0 = λ ps.
     (p : ℕ) → p ≢ 0 → AreOfRuns published (get_or (lists_of ps) p []) in
@@ -180,6 +182,7 @@ is_one_world world none cells (first ∷ later) last operator passes values all 
       all = all;
       of = all_of cells published operator passes looked gathered;
       left = left;
+      quotas = quotas;
       world = world first later passes 0 values sound left
           (subst (λ (ps : List PassView). AreLoads (get_or (lists_of ps) 0 []))
           (sym gathered.passes_are) looked.looked)

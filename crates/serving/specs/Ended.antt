@@ -3,6 +3,7 @@ use Rattle.std.specs.Prelude.{◌≡◌, ℕ, List, ◌∷◌, All, length}
 use mathlib.Core.List.{IsPrefix}
 use Rattle.atomic_table.specs.Seated.{TableId}
 use Rattle.shared_cells.specs.Passes.{CellsView, PassView, IsPassOf, AreLeftBy}
+use Rattle.shared_cells.specs.Quotas.{QuotasAreExact}
 use Rattle.workers.specs.one_world.InTurn.{AreOfRuns}
 use Rattle.workers.specs.one_world.Passes.{AreLoads, DidOneWorld}
 use Rattle.workers.specs.operator.hot_swap.Published.{Beginning}
@@ -11,7 +12,7 @@ use Rattle.workers.specs.operator.hot_swap.rulesets.Rules.{Rules}
 -- The values are those after one legal history of all passes to these cells, in which the events of
 -- each pass are those that it made. The first pass, the operator's, only looked, and each other one
 -- did runs, one after the other, each under one of the published rulesets; and one world runs them
--- all.
+-- all. Of a counter among the cells each quota is granted exactly.
 pub record AreLeftByOneWorld (cells : CellsView) (published : List Rules) (values : List ℕ)
     : Type 0 where
   pub first : Rules
@@ -21,6 +22,7 @@ pub record AreLeftByOneWorld (cells : CellsView) (published : List Rules) (value
   pub all : length passes ≡ cells.passes
   pub of : All (IsPassOf cells) passes
   pub left : AreLeftBy passes values
+  pub quotas : QuotasAreExact passes values
   pub world : DidOneWorld first later passes 0 values
 
 -- so it is of all that was published in the end, which begins with what had been when the server

@@ -79,3 +79,4 @@ returns-clause-world c =
     c.args.back.published.rulesets published.rules c.args.back.operator c.loop-worker.room.items
     c.in-Ok-close.closed (omega (arith, before, none)) published.last.rules_are published.sound
     c.requires.operator c.loop-worker.invariant.gathered c.in-Ok-close.ensures.history
+    c.in-Ok-close.ensures.quotas
