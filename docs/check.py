@@ -2,22 +2,33 @@
 """Checks that the pages speak of what is there: each link leads to a file, each definition that a
 row of DEFINITIONS names stands in the file of its link, each clause that is cited behind a call
 stands in that call's contract, the index at the end of DEFINITIONS has every public definition, and
-README's picture and table of the crates have those of crates.txt.
+the picture and the table of CRATES have the crates of crates.txt. README is short, and names the
+logic of the toolchain that there is; VERSION, README and CHANGELOG name one version.
 
 usage: docs/check.py [--write]     --write writes that index and that picture anew
 """
 import re
+import shutil
+import subprocess
 import sys
 import textwrap
 from pathlib import Path
 
 ROOT = Path(__file__).resolve().parent.parent
 CRATES = ROOT / "crates"
+DOCS = ROOT / "docs"
 README = ROOT / "README.md"
-DEFINITIONS = ROOT / "docs" / "DEFINITIONS.md"
-PAGES = [README, *sorted((ROOT / "docs").glob("*.md")), ROOT / "bench" / "README.md"]
+CHANGELOG = ROOT / "CHANGELOG.md"
+VERSION = ROOT / "VERSION"
+CRATES_PAGE = DOCS / "CRATES.md"
+DEFINITIONS = DOCS / "DEFINITIONS.md"
+TOP = [README, CHANGELOG, ROOT / "CONTRIBUTING.md"]
+PAGES = [*TOP, *sorted(DOCS.glob("*.md")), ROOT / "bench" / "README.md"]
 # The pages that say what is so today. PROVING also tells of wrong bodies by names of their own.
-CITING = [README, DEFINITIONS, ROOT / "docs" / "CONTRACTS.md"]
+CITING = [README, DOCS / "PROMISE.md", CRATES_PAGE, DEFINITIONS, DOCS / "CONTRACTS.md"]
+# README is for a visitor.
+MOST_LINES, MOST_WORDS = 150, 1200
+LOGIC = re.compile(r"\blogic ([0-9a-f]+)")
 INDEX = "## All other definitions\n"
 HEAD = """By crate and file under `crates/CRATE/specs/`. What each says stands above it in its file.
 """
@@ -25,7 +36,7 @@ DEFINES = re.compile(r"^(?:abbrev pub|unfoldable pub|pub record|pub data|pub) ([
 LINK = re.compile(r"\]\(([^)#]+)(?:#[^)]*)?\)")
 SPEC = re.compile(r"\(\.\./crates/([^)]+\.antt)\)")
 STOREY = re.compile(r"^# (\w+): (.+)\n((?:\w.*\n)+)", re.M)
-PICTURE = re.compile(r"(?<=\n## The crates\n\n```\n).*?(?=```\n)", re.S)
+PICTURE = re.compile(r"(?<=\n## By storeys\n\n```\n).*?(?=```\n)", re.S)
 FUNCTION = re.compile(r"\bfn (\w+)\b(.*?)(?:\s\{\}?|;)\s*\n", re.S)
 
 
@@ -109,6 +120,34 @@ def indexed(text):
     return above + index(above)
 
 
+def too_long(text):
+    if (lines := len(text.splitlines())) > MOST_LINES:
+        yield f"{lines} lines, which are more than {MOST_LINES}"
+    if (words := len(text.split())) > MOST_WORDS:
+        yield f"{words} words, which are more than {MOST_WORDS}"
+
+
+def other_logic(text):
+    """Where there is an `rt`, its logic is README's. Its number differs between machines."""
+    if shutil.which("rt"):
+        printed = subprocess.run(["rt", "version"], stdout=subprocess.PIPE, text=True).stdout
+        if {*LOGIC.findall(text)} != {*LOGIC.findall(printed)}:
+            yield f"the logic isn't that of `rt version`: {printed.strip()}"
+
+
+def other_versions():
+    """VERSION is the number alone, which README and the newest entry of CHANGELOG name."""
+    number = VERSION.read_text() if VERSION.exists() else ""
+    if not re.fullmatch(r"\d+\.\d+\.\d+\n", number):
+        yield f"{VERSION.name}: no number of three parts alone"
+        return
+    first = re.search(r"^## (\S+)", CHANGELOG.read_text(), re.M)
+    if not first or first[1] != number.strip():
+        yield f"{CHANGELOG.name}: the first heading isn't of {number.strip()}"
+    if number.strip() not in re.findall(r"\d+(?:\.\d+)+", README.read_text()):
+        yield f"{README.name}: it doesn't name the version {number.strip()}"
+
+
 def picture():
     """The storeys of crates.txt with their crates, the highest first."""
     lines = []
@@ -120,7 +159,7 @@ def picture():
 
 
 def other_crates(text):
-    """Crates that README's table lacks, or has beside those of crates.txt."""
+    """Crates that the table lacks, or has beside those of crates.txt."""
     named = {name for names, _ in rows(text) for name in names}
     yield from (f"no row of the crate {it}" for it in crates() if it not in named)
     yield from (f"a row of {it}, which is no crate" for it in sorted(named - {*crates()}))
@@ -130,7 +169,7 @@ def drawn(text):
     return PICTURE.sub(lambda _: picture(), text)
 
 
-WRITTEN = {README: drawn, DEFINITIONS: indexed}
+WRITTEN = {CRATES_PAGE: drawn, DEFINITIONS: indexed}
 
 
 def main():
@@ -142,7 +181,10 @@ def main():
     faults = [f"{page.name}: {it}" for page in PAGES for it in dead_links(page)]
     text = DEFINITIONS.read_text()
     faults += [f"{DEFINITIONS.name}: {it}" for it in strangers(text[: text.index(INDEX)])]
-    faults += [f"{README.name}: {it}" for it in other_crates(README.read_text())]
+    faults += [f"{CRATES_PAGE.name}: {it}" for it in other_crates(CRATES_PAGE.read_text())]
+    text = README.read_text()
+    faults += [f"{README.name}: {it}" for check in (too_long, other_logic) for it in check(text)]
+    faults += other_versions()
     clauses = contracts()
     faults += [f"{page.name}: {it}" for page in CITING for it in false_clauses(page, clauses)]
     for page, written in WRITTEN.items():
