@@ -6,33 +6,57 @@ from pathlib import Path
 ROOT = Path(__file__).resolve().parent.parent
 CRATES = ROOT / "crates"
 PROGRAM = "rollout"
-OUT = CRATES / PROGRAM / "out"
+PARTS = ["src", "specs", "proofs"]
+# What `build` makes. `rt ci` gives a folder of this name back to a crate, and nothing else there.
+BUILT = CRATES / PROGRAM / "out" / "rlib"
 
 
 def say(text):
     print(f"rollout: {text}", file=sys.stderr, flush=True)
 
 
-def crates_txt():
-    """The lines of crates.txt by their crates' names, lowest first."""
-    lines = (ROOT / "crates.txt").read_text().splitlines()
-    return {re.split("[ :]", it)[0]: it for it in lines if it and it[0] != "#"}
+def write(path, data):
+    """Writes it whole, or leaves what stood there."""
+    new = path.with_name(f"{path.name}.new")
+    new.write_bytes(data)
+    new.replace(path)
 
 
-def crates_named(lines):
-    """Of each crate those that its line names; what is the kit's isn't among them."""
-    return {
-        name: [it for it in line.partition(":")[2].split() if it in lines]
-        for name, line in lines.items()
-    }
+class Crate:
+    """A crate by its line of crates.txt."""
+
+    def __init__(self, line, known):
+        head, _, named = line.partition(":")
+        name, named = head.split()[0], named.split()
+        self.name, self.line = name, line
+        self.folder = CRATES / name
+        self.is_program = name == PROGRAM
+        self.root = f"src/{'main' if self.is_program else 'lib'}.rt"
+        # The crates of the repository that its line names, and the libraries of the kit.
+        self.named = [known[it] for it in named if it in known]
+        self.of_kit = [it for it in named if it not in known]
+        self.below = {*self.named}.union(*(it.below for it in self.named))
+
+    def files(self):
+        """Its sources, in an order of their own."""
+        found = [it for part in PARTS for it in (self.folder / part).rglob("*")]
+        return sorted(it for it in found if it.is_file())
 
 
-def crates_below(lines):
-    """Each crate that the program stands on, and the program's own, with those below it."""
-    below = {}
-    for name, named in crates_named(lines).items():
-        below[name] = set(named).union(*(below[it] for it in named))
-    return {name: below[name] for name in lines if name in below[PROGRAM] | {PROGRAM}}
+def all_crates():
+    """The repository's crates by their names, lowest first."""
+    known = {}
+    for line in (ROOT / "crates.txt").read_text().splitlines():
+        if line and line[0] != "#":
+            crate = Crate(line, known)
+            known[crate.name] = crate
+    return known
+
+
+def crates_of_program():
+    """The crates that the program stands on and its own, lowest first."""
+    known = all_crates()
+    return [it for it in known.values() if it in known[PROGRAM].below or it.is_program]
 
 
 def seconds_recorded():

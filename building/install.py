@@ -8,19 +8,21 @@ import os
 import shutil
 import sys
 
-from building.crates import OUT, PROGRAM, ROOT, say
-from building.version import VERSION
+from building.crates import BUILT, PROGRAM, ROOT, say
+from building.version import BUILT_FROM
 
 SHARE = "share/rollout"
 # The program comes last: it is replaced in one step, with nothing behind it that could fail. A
 # server that runs goes on with the file that it has.
 PLACES = {
     f"{SHARE}/README.md": ROOT / "README.md",
-    f"{SHARE}/VERSION": VERSION,
+    f"{SHARE}/CHANGELOG.md": ROOT / "CHANGELOG.md",
+    f"{SHARE}/VERSION": ROOT / "VERSION",
+    f"{SHARE}/built-from": BUILT_FROM,
     f"{SHARE}/docs": ROOT / "docs",
     f"{SHARE}/examples": ROOT / "examples",
     "bin/rollout": ROOT / "building" / "installed",
-    "libexec/rollout": OUT / PROGRAM,
+    "libexec/rollout": BUILT / PROGRAM,
 }
 # What checks the pages stays with the sources.
 LEFT_OUT = shutil.ignore_patterns("*.py", "__pycache__")
@@ -61,6 +63,9 @@ def write_beside(source, place, undo):
         shutil.copytree(source, new, ignore=LEFT_OUT)
     else:
         shutil.copy(source, new)
+        with open(new) as it:
+            # It stands on the disk before it stands in the place of another.
+            os.fsync(it.fileno())
     open_to_all(new)
 
 
@@ -86,19 +91,23 @@ def cause(error):
     return error.args[0][0][2] if isinstance(error.args[0], list) else error
 
 
-def install(folder):
-    """Installs all or nothing, over what an earlier call installed there."""
+def copy_all(folder):
+    """Copies all or nothing, over what an earlier call copied there."""
     *shared, program = [folder / it for it in PLACES]
-    try:
-        with contextlib.ExitStack() as undo:
-            for place, source in PLACES.items():
-                write_beside(source, folder / place, undo)
-            for place in shared:
-                set_in_place(place, undo)
-            beside(program, "new").replace(program)
-            undo.pop_all()
-    except OSError as error:
-        sys.exit(f"rollout: nothing is installed: {cause(error)}")
+    with contextlib.ExitStack() as undo:
+        for place, source in PLACES.items():
+            write_beside(source, folder / place, undo)
+        for place in shared:
+            set_in_place(place, undo)
+        beside(program, "new").replace(program)
+        undo.pop_all()
     for place in shared:
         remove(beside(place, "old"))
+
+
+def install(folder):
+    try:
+        copy_all(folder)
+    except OSError as error:
+        sys.exit(f"rollout: nothing is installed: {cause(error)}")
     say(f"installed {folder / 'bin' / PROGRAM}; its pages and examples lie in {folder / SHARE}")

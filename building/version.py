@@ -1,13 +1,13 @@
-"""Which program stands: its sources, their commit, and the kit that proved them."""
+"""Which program stands: its number, its sources, their commit, and the kit that proved them."""
 import os
 import subprocess
 
-from building.crates import OUT, ROOT
+from building.crates import BUILT, ROOT
 
-# A sum of the sources, as they were when the build of the program that stands began.
-STAMP = OUT / "stamp"
+# Of what the build of the program that stands began with, as the script `stamp` here tells.
+STAMP = BUILT / "stamp"
 # Written by each build, for `./rollout --version` and for installs.
-VERSION = OUT / "VERSION"
+BUILT_FROM = BUILT / "built-from"
 SOURCES = ["crates.txt", *(f":(glob)crates/*/{part}/**" for part in ("src", "specs", "proofs"))]
 
 
@@ -22,6 +22,10 @@ def told(*words):
     return (done.stdout.splitlines() or [""])[0] if done.returncode == 0 else None
 
 
+def number():
+    return (ROOT / "VERSION").read_text().strip()
+
+
 def commit_now():
     """The commit, and whether a source is another one than the commit has."""
     commit = told("git", "rev-parse", "--short=12", "HEAD")
@@ -32,21 +36,14 @@ def commit_now():
 
 
 def version_now():
-    return f"rollout {commit_now()}\n{told('rt', 'version') or 'of no known kit'}\n"
+    return f"rollout {number()} {commit_now()}\n{told('rt', 'version') or 'of no known kit'}\n"
 
 
-def sources_now():
-    return subprocess.run([ROOT / "building" / "sources"], stdout=subprocess.PIPE, text=True).stdout
+def stamp_now():
+    return f"{told(ROOT / 'building' / 'stamp')}\n"
 
 
 def is_current():
     """Whether the program stands, is of the sources as they are, and is known by its version."""
     stands = subprocess.run([ROOT / "building" / "is_current"]).returncode == 0
-    return stands and VERSION.exists()
-
-
-def write(path, text):
-    """Writes it whole, or leaves what stood there."""
-    new = path.with_name(f".{path.name}.new")
-    new.write_text(text)
-    new.replace(path)
+    return stands and BUILT_FROM.exists()

@@ -1,0 +1,159 @@
+"""Checks of what ./build hands on: an install, an archive and a package for Debian, made of scratch
+repositories whose toolchain proves nothing; and the package of this repository on this host.
+
+Each gives nothing, or what was wrong. Where a command isn't installed it is skipped by that name.
+"""
+import os
+import shutil
+import socket
+import subprocess
+import sys
+import tarfile
+from pathlib import Path
+
+from deploying import DEPLOY, Skipped, awaited, called, needs
+from launching import BARE, BUILT_FROM, ROOT, Repository
+
+SHARED = ["README.md", "CHANGELOG.md", "VERSION", "built-from", "docs/PROVING.md"]
+SHARED += ["examples/one.rule", *(f"examples/deploy/{it.name}" for it in DEPLOY.iterdir())]
+INSTALLED = {"bin/rollout", "libexec/rollout", *(f"share/rollout/{it}" for it in SHARED)}
+PORTS = [18098, 18099]
+
+
+def tree(folder):
+    """All that lies in a folder, with the files' texts."""
+    return {
+        str(it.relative_to(folder)): it.read_text() if it.is_file() else None
+        for it in folder.rglob("*")
+    }
+
+
+def files(folder):
+    return {name for name, text in tree(folder).items() if text is not None}
+
+
+def installs(folder):
+    """./build --install: whole, over an earlier one, or not at all."""
+    one = Repository(folder / "install")
+    place = one.away / "place"
+    if one.build("--install", "place")[0] != 1 or place.exists():
+        return "installed without rt and without a program"
+    for path in (one.with_rt(), BARE):
+        status, _, lines = one.build("--install", "place", path=path)
+        wanted = INSTALLED | ({"share/rollout/own"} if path == BARE else set())
+        if status != 0 or files(place) != wanted:
+            return f"{status} {lines} {files(place)}"
+        if any(it.is_symlink() for it in place.rglob("*")):
+            return "a link into the repository"
+        (one.away / "short").unlink(missing_ok=True)
+        (one.away / "short").symlink_to("place/bin/rollout")
+        for words, printed in [(["stop", ""], "<stop><>"), (["--version"], BUILT_FROM)]:
+            if one.call(str(one.away / "short"), *words) != (0, printed, []):
+                return f"{words}: another program"
+        # An earlier install, with a page that there is no longer, and a file of the operator's own.
+        (place / "share" / "rollout" / "docs" / "gone.md").touch()
+        (place / "share" / "rollout" / "own").touch()
+    return not_installed(one, place)
+
+
+def not_installed(one, place):
+    (place / "libexec" / "rollout").unlink()
+    (place / "libexec" / "rollout").mkdir()
+    (one.away / "file").touch()
+    before = tree(one.away)
+    for words in ("place", "file", "file/place"):
+        status, _, lines = one.build("--install", words)
+        if status != 1 or len(lines) != 1 or "nothing is installed" not in lines[0]:
+            return f"where it can't be written: {status} {lines}"
+        if tree(one.away) != before:
+            return f"{words}: something is left"
+
+
+def archives(folder):
+    """./build --archive and --deb: the same bytes from two folders, and what is in them."""
+    needs("dpkg-deb")
+    made = []
+    for name in ("one", "another place"):
+        one = Repository(folder / name)
+        for kind in ("--archive", "--deb"):
+            status, _, lines = one.build(kind, "made", path=one.with_rt())
+            if status != 0:
+                return f"{kind}: {lines}"
+        made.append({it.name: it.read_bytes() for it in (one.away / "made").iterdir()})
+    if made[0] != made[1]:
+        return "two folders make two archives"
+    archive, package = "rollout-0.9.0-x86_64-linux.tar.gz", "rollout_0.9.0_amd64.deb"
+    if sorted(made[0]) != sorted(f"{it}{end}" for it in (archive, package) for end in ("", ".sha256")):
+        return f"{sorted(made[0])}"
+    place = one.away / "made"
+    for it in (archive, package):
+        if called("sha256sum", "-c", f"{it}.sha256", cwd=place)[0] != 0:
+            return f"{it}: another sum"
+    with tarfile.open(place / archive) as packed:
+        packed.extractall(place)
+    if files(place / archive[: -len(".tar.gz")]) != INSTALLED:
+        return f"{files(place)}"
+    called("dpkg-deb", "--extract", str(place / package), str(place / "deb"))
+    more = {"lib/systemd/system/rollout.service", "lib/sysusers.d/rollout.conf"}
+    more |= {"lib/tmpfiles.d/rollout.conf", "share/doc/rollout/copyright"}
+    if files(place / "deb" / "usr") != INSTALLED | more:
+        return f"{files(place / 'deb')}"
+
+
+def request(port):
+    body = '{"request":{"protocol":"3.1","app":[{"appid":"editor","version":"1.9","updatecheck":{}}]}}'
+    with socket.create_connection(("127.0.0.1", port), timeout=30) as stream:
+        head = f"POST /service/update2/json HTTP/1.1\r\nContent-Length: {len(body)}\r\n\r\n"
+        stream.sendall((head + body).encode())
+        return stream.makefile().read()
+
+
+def served(manifest):
+    """What the installed program answers, run as the package's user."""
+    words = ["setpriv", "--reuid=rollout", "--regid=rollout", "--clear-groups"]
+    words += ["rollout", "serve", manifest, "--port", str(PORTS[0]), "--operator", str(PORTS[1])]
+    server = subprocess.Popen([*words, "--workers", "2"], stdout=subprocess.PIPE, text=True)
+    try:
+        if server.stdout.readline() != "serving generation 1\n":
+            return "it doesn't serve"
+        found = request(PORTS[0])
+        stop = called("rollout", "stop", "--operator", str(PORTS[1]), "--wait")
+        if '"version":"2.0.4"' not in found or stop != (0, "stopping\n") or server.wait(30) != 0:
+            return f"{found} {stop}"
+    finally:
+        server.kill()
+        server.wait()
+
+
+def package(folder):
+    """The package of this repository: installed on this host, served from, and removed."""
+    needs("dpkg", "dpkg-deb", "systemd-sysusers", "systemd-tmpfiles", "setpriv")
+    if os.geteuid() != 0:
+        raise Skipped("not root")
+    if any(Path(it).exists() for it in ("/usr/bin/rollout", "/etc/rollout", "/var/log/rollout")):
+        raise Skipped("a rollout is installed here")
+    built = called(sys.executable, str(ROOT / "build"), "--deb", str(folder))
+    [file] = folder.glob("rollout_*_amd64.deb")
+    if built[0] != 0 or called("dpkg", "--install", str(file))[0] != 0:
+        return f"not installed: {built}"
+    try:
+        for it in (ROOT / "examples" / "staged").iterdir():
+            shutil.copy(it, "/etc/rollout")
+        unit = "/usr/lib/systemd/system/rollout.service"
+        found = called("systemd-analyze", "verify", "--man=no", unit)
+        wrong = served("/etc/rollout/manifest.toml") or (None if found == (0, "") else f"{found}")
+    finally:
+        removed = called("dpkg", "--purge", "rollout")
+        shutil.rmtree("/etc/rollout", ignore_errors=True)
+    if wrong or removed[0] != 0:
+        return wrong or f"not removed: {removed}"
+    left = [it for it in ("/usr/bin/rollout", "/usr/share/rollout", "/var/log/rollout", unit)]
+    left = [it for it in left if Path(it).exists()]
+    return f"left behind: {left}" if left else None
+
+
+PACKAGES = {
+    "./build --install": installs,
+    "./build --archive and --deb": archives,
+    "the package, on this host": package,
+}

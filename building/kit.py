@@ -1,0 +1,43 @@
+"""The toolchain's kit: where it stands, and how its compiler proves and builds a crate."""
+import os
+import shutil
+from pathlib import Path
+
+from building.crates import BUILT, PROGRAM
+
+TARGET = "x86_64-unknown-linux-gnu"
+
+
+class Kit:
+    """The folder of a kit."""
+
+    def __init__(self, folder):
+        self.folder = folder
+        # Sums of the kit's own files: another build of the compiler has others.
+        self.what = (folder / "WHAT").read_bytes()
+
+    def commands(self, crate, way, jobs):
+        """What proves and builds a crate over its libraries, one after the other, in its folder."""
+        words = [self.folder / "bin" / "rattle", "build", "--crate-name", crate.name, crate.root]
+        for name in ["std", *crate.of_kit]:
+            words += ["--extern", f"{name}={self.folder}/rlibs/{name}.rlib"]
+        for it in crate.named:
+            words += ["--extern", f"{it.name}={way.library(it)}"]
+        for place in (self.folder / "rlibs", way.folder):
+            words += ["-L", f"dependency={place}"]
+        words += ["--antt-project", self.folder / "rattle" / "logic" / "antt-project.json"]
+        words += ["--logic-built", self.folder / "logic_built"]
+        words += ["--links", f"{crate.name}=", "--jobs", str(jobs), *way.words(crate)]
+        if not crate.is_program:
+            return [[*words, "-o", way.library(crate)]]
+        compiled, toolchain = BUILT / f"{PROGRAM}.o", ["--toolchain", self.folder / "toolchain"]
+        link = [self.folder / "bin" / "rattle-link", "--target", TARGET, *toolchain]
+        link += ["-o", BUILT / f"{PROGRAM}.new", compiled]
+        link += [self.folder / "c" / it for it in ("libos_c.a", "liblibc_c.a")]
+        return [[*words, *toolchain, "--backend", "llvm", "-o", compiled], link]
+
+
+def find_kit():
+    """The kit of the `rt` on the caller's path, or none."""
+    rt = shutil.which("rt")
+    return Kit(Path(os.path.realpath(rt)).parent.parent) if rt else None

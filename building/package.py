@@ -1,0 +1,100 @@
+"""Archives of an install, which from one commit have the same bytes wherever they are made."""
+import gzip
+import hashlib
+import os
+import shutil
+import subprocess
+import sys
+import tarfile
+import tempfile
+from pathlib import Path
+
+from building.crates import ROOT, say
+from building.install import copy_all, open_to_all
+from building.version import number, told
+
+DEBIAN = ROOT / "packaging"
+DEPLOY = ROOT / "examples" / "deploy"
+
+
+def moment():
+    """The time of all files in an archive: the commit's, where there is one."""
+    given = os.environ.get("SOURCE_DATE_EPOCH") or told("git", "log", "-1", "--format=%ct")
+    return int(given or 0)
+
+
+def pack(folder, name, file):
+    def plain(it):
+        it.uid = it.gid = 0
+        it.uname = it.gname = "root"
+        it.mtime = moment()
+        return it
+
+    with open(file, "wb") as out, gzip.GzipFile("", "wb", fileobj=out, mtime=0) as zipped:
+        with tarfile.open(fileobj=zipped, mode="w") as tar:
+            for path in sorted(folder.rglob("*")):
+                tar.add(path, f"{name}/{path.relative_to(folder)}", recursive=False, filter=plain)
+
+
+def set_in_place(new, place):
+    """Writes a file and its SHA-256 into the folder that is asked for."""
+    place.parent.mkdir(parents=True, exist_ok=True)
+    beside = place.with_name(f".{place.name}.new")
+    shutil.copyfile(new, beside)
+    beside.replace(place)
+    found = hashlib.sha256(place.read_bytes()).hexdigest()
+    place.with_name(f"{place.name}.sha256").write_text(f"{found}  {place.name}\n")
+    say(f"wrote {place} and its SHA-256")
+
+
+def write_archive(folder):
+    name = f"rollout-{number()}-x86_64-linux"
+    with tempfile.TemporaryDirectory() as room:
+        tree, file = Path(room) / name, Path(room) / f"{name}.tar.gz"
+        copy_all(tree)
+        pack(tree, name, file)
+        set_in_place(file, folder / file.name)
+
+
+def unit():
+    """The unit, with the package's paths and its user, whom systemd makes when it is installed."""
+    text = (DEPLOY / "rollout.service").read_text()
+    lines = [it for it in text.splitlines() if not it.startswith(("#   install ", "#   cp rollout"))]
+    text = "\n".join(lines) + "\n"
+    text = text.replace("#   systemctl daemon-reload && ", "#   ")
+    return text.replace("/opt/rollout/", "/usr/").replace("DynamicUser=yes", "User=rollout")
+
+
+def lay_out(tree):
+    """The files of the package where they go to, and what dpkg reads of it."""
+    copy_all(tree / "usr")
+    texts = {it.name: it.read_text() for it in DEBIAN.iterdir()}
+    places = {
+        "usr/lib/systemd/system/rollout.service": unit(),
+        "usr/lib/sysusers.d/rollout.conf": texts.pop("sysusers"),
+        "usr/lib/tmpfiles.d/rollout.conf": texts.pop("tmpfiles"),
+        "usr/share/doc/rollout/copyright": texts.pop("copyright"),
+        "etc/logrotate.d/rollout": (DEPLOY / "rollout.logrotate").read_text(),
+        **{f"DEBIAN/{name}": text for name, text in texts.items()},
+    }
+    for name, text in places.items():
+        (tree / name).parent.mkdir(parents=True, exist_ok=True)
+        (tree / name).write_text(text.replace("@VERSION@", number()))
+        if text.startswith("#!"):
+            (tree / name).chmod(0o755)
+    open_to_all(tree)
+
+
+def write_deb(folder):
+    if not shutil.which("dpkg-deb"):
+        sys.exit("rollout: there is no command dpkg-deb, which makes a package for Debian")
+    with tempfile.TemporaryDirectory() as room:
+        tree, file = Path(room) / "tree", Path(room) / f"rollout_{number()}_amd64.deb"
+        lay_out(tree)
+        # One block of one thread: the bytes are the same on any machine.
+        words = ["dpkg-deb", "--root-owner-group", "-Zgzip", "--build", tree, file]
+        given = {**os.environ, "SOURCE_DATE_EPOCH": str(moment())}
+        done = subprocess.run(words, env=given, capture_output=True, text=True)
+        if done.returncode:
+            sys.exit(f"rollout: dpkg-deb: {done.stderr.strip()}")
+        set_in_place(file, folder / file.name)

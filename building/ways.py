@@ -1,0 +1,73 @@
+"""The two ways in which libraries are kept, each in a folder of its own.
+
+By statements a library holds what others can cite of it, and not its proofs: it is small, and is
+quickly proved and loaded. But a changed crate is proved as one that is new, and so is all that
+stands on it. By kept work it holds its proofs as well, and beside it lies what was checked of each
+of its modules, so that after a change mostly what changed is checked again.
+"""
+import hashlib
+import zlib
+
+from building.crates import BUILT, write
+
+# Smaller files stay as they are once the program stands.
+LEAST_PACKED = 1 << 20
+
+
+class Way:
+    def __init__(self, name, keeps_work):
+        self.folder = BUILT / name
+        self.keeps_work = keeps_work
+
+    def library(self, crate):
+        return self.folder / f"{crate.name}.rlib"
+
+    def stamp(self, crate):
+        """The file with the sum of what stands of a crate. There is one program."""
+        return (BUILT if crate.is_program else self.folder) / f"{crate.name}.stamp"
+
+    def words(self, crate):
+        if self.keeps_work:
+            return ["--incremental", self.folder / f"{crate.name}.work"]
+        return [] if crate.is_program else ["--statements"]
+
+    def sum(self, crate, kit):
+        """Of the crate's sources, the kit, and the very libraries that it is built over."""
+        found = hashlib.sha256(kit.what + repr((self.keeps_work, crate.of_kit)).encode())
+        for file in crate.files():
+            found.update(repr((str(file.relative_to(crate.folder)), file.read_bytes())).encode())
+        for it in sorted(crate.below, key=lambda it: it.name):
+            found.update((self.library(it) / "format").read_bytes())
+        return found.hexdigest()
+
+    def stands(self, crate, kit):
+        """Whether its stamp is of what it is to be built of now. All below it stands."""
+        is_there = (BUILT / crate.name).exists() if crate.is_program else True
+        stamp = self.stamp(crate)
+        return is_there and stamp.exists() and stamp.read_text() == self.sum(crate, kit)
+
+    def lacking(self, crates, kit):
+        """Of crates, lowest first, those to be built: what has changed, and what stands on that."""
+        changed = set()
+        for it in crates:
+            if it.below & changed or not self.stands(it, kit):
+                changed.add(it)
+        return changed
+
+    def pack(self, crate):
+        """Once nothing more is built over it; by statements alone."""
+        for file in [] if self.keeps_work else [*self.library(crate).rglob("*")]:
+            if file.is_file() and file.suffix != ".z" and file.stat().st_size >= LEAST_PACKED:
+                write(file.with_name(f"{file.name}.z"), zlib.compress(file.read_bytes(), 1))
+                file.unlink()
+
+    def unpack(self, crate):
+        for file in [*self.library(crate).rglob("*")]:
+            if file.suffix == ".z":
+                write(file.with_suffix(""), zlib.decompress(file.read_bytes()))
+            if file.suffix in (".z", ".new"):
+                file.unlink()
+
+
+STATEMENTS = Way("statements", keeps_work=False)
+KEPT_WORK = Way("kept", keeps_work=True)
