@@ -3,7 +3,8 @@
 row of DEFINITIONS names stands in the file of its link, each clause that is cited behind a call
 stands in that call's contract, the index at the end of DEFINITIONS has every public definition, and
 the picture and the table of CRATES have the crates of crates.txt. README is short, and names the
-logic of the toolchain that there is; VERSION, README and CHANGELOG name one version.
+logic of the toolchain that there is; VERSION, README and CHANGELOG name one version. Each wrong body
+can be put in place: what it replaces stands once in its file.
 
 usage: docs/check.py [--write]     --write writes that index and that picture anew
 """
@@ -37,6 +38,7 @@ LINK = re.compile(r"\]\(([^)#]+)(?:#[^)]*)?\)")
 SPEC = re.compile(r"\(\.\./crates/([^)]+\.antt)\)")
 STOREY = re.compile(r"^# (\w+): (.+)\n((?:\w.*\n)+)", re.M)
 PICTURE = re.compile(r"(?<=\n## By storeys\n\n```\n).*?(?=```\n)", re.S)
+EDIT = re.compile(r"^(file|old|new): ?(.*)$", re.M)
 FUNCTION = re.compile(r"\bfn (\w+)\b(.*?)(?:\s\{\}?|;)\s*\n", re.S)
 
 
@@ -169,6 +171,25 @@ def drawn(text):
     return PICTURE.sub(lambda _: picture(), text)
 
 
+def lost_edits():
+    """Wrong bodies of which an `old` text doesn't stand once in its file, or that have none."""
+    for edit in sorted([*CRATES.glob("*/must-fail/*.edit"), *CRATES.glob("*/wrong/*.edit")]):
+        name, texts, file, old = edit.relative_to(CRATES), {}, "", None
+        for word, rest in EDIT.findall(edit.read_text()):
+            if word == "file":
+                file = rest
+                path = edit.parent.parent / file
+                texts.setdefault(file, path.read_text() if path.is_file() else "")
+            elif word == "old":
+                old = rest
+                if texts.get(file, "").count(old) != 1:
+                    yield f"{name}: not once in {file}: {old}"
+            elif old is not None:
+                texts[file] = texts.get(file, "").replace(old, rest)
+        if old is None:
+            yield f"{name}: it has no old text"
+
+
 WRITTEN = {CRATES_PAGE: drawn, DEFINITIONS: indexed}
 
 
@@ -190,6 +211,7 @@ def main():
     for page, written in WRITTEN.items():
         if page.read_text() != written(page.read_text()):
             faults.append(f"{page.name}: not as the files have it (docs/check.py --write)")
+    faults += lost_edits()
     print("\n".join(faults) or "pages: all links, names and clauses are there")
     sys.exit(bool(faults))
 
