@@ -19,5 +19,5 @@ mod status;
 
 pub use manifest_tools::load::{Device, Disk};
 pub use program_tools::command_line;
-pub use serving::workers::LogOutput;
+pub use serving::workers::server_log::LogOutput;
 pub use status::{command, unreadable_words, usage};

@@ -19,7 +19,7 @@ use manifest_tools::load::bounded_files::ResourceFault;
 use program_tools::ProgramToolFault;
 use program_tools::command_line::{CommandRequest, Plan, WordsFault, read_words};
 use serving::Server;
-use serving::workers::LogOutput;
+use serving::workers::server_log::LogOutput;
 use std::convert::AsStr;
 use std::io::{self, ErrorKind, Write};
 use std::net::{Net, TcpListener, TcpStream};

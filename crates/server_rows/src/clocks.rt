@@ -17,7 +17,8 @@ use std::test::Fail;
 use std::thread;
 use std::thread::Threads;
 use std::time::{Clock, Duration};
-use workers::{LogQueue, Open};
+use workers::Open;
+use workers::server_log::LogQueue;
 
 /// A runtime whose clock tells nothing.
 #[derive(Drop)]

@@ -36,8 +36,6 @@ mod refusals;
 #[cfg(test)]
 mod replies;
 #[cfg(test)]
-mod server_log;
-#[cfg(test)]
 mod session;
 #[cfg(test)]
 mod shelf;
@@ -51,5 +49,7 @@ mod stops;
 mod swaps;
 #[cfg(test)]
 mod swaps_under_load;
+#[cfg(test)]
+mod whole_log;
 #[cfg(test)]
 mod whole_server;

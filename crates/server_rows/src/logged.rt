@@ -16,7 +16,8 @@ use std::test::Fail;
 use std::thread::Threads;
 use std::time::{Clock, Duration};
 use std::{io, str, thread};
-use workers::{LogPiece, LogQueue, Open, Service};
+use workers::server_log::{LogPiece, LogQueue};
+use workers::{Open, Service};
 
 /// A runtime at one moment.
 #[derive(Drop)]

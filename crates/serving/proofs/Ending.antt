@@ -6,8 +6,8 @@ use Rattle.std.proofs.lemmas.List.Elements.{All-nil, All-cons, All-rest, All-get
 use Rattle.std.proofs.lemmas.List.Elements.{All-push, All-weaker}
 use mathlib.Core.List.{IsPrefix}
 use Rattle.atomic_table.specs.Seated.{TableId}
-use Rattle.cells.specs.Grown.{Grows}
-use Rattle.cells.specs.declared.event.CellEvent.{CellEvent}
+use Rattle.workers.specs.one_world.cells.Grown.{Grows}
+use Rattle.workers.specs.one_world.cells.declared.event.CellEvent.{CellEvent}
 use Rattle.shared_cells.specs.Passes.{CellsView, PassView, IsPassOf, IsNewPass, Gained}
 use Rattle.shared_cells.specs.Passes.{PassesGainLists, AreLeftBy, lists_of}
 use Rattle.shared_cells.specs.Quotas.{QuotasAreExact}

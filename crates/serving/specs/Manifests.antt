@@ -1,6 +1,6 @@
 -- Why a server isn't ready.
 use Rattle.std.specs.Prelude.{ℕ, List, []}
-use Rattle.cells.specs.declared.array.CellArray.{CellArray}
+use Rattle.workers.specs.one_world.cells.declared.array.CellArray.{CellArray}
 use Rattle.load.specs.bounded_files.Files.{KnownFiles}
 use Rattle.load.specs.Loaded.{IsLoadedFrom, RefusesPath}
 use Rattle.load.specs.rulesets.Rules.{Rules}

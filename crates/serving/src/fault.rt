@@ -6,8 +6,8 @@ use load::PathFault;
 use shared_cells::SharedFault;
 use std::error::Error;
 use std::fmt::{self, Display};
-use workers::operator::bounded_files::ResourceFault;
-use workers::operator::hot_swap::SwapFault;
+use workers::server_log::operator::bounded_files::ResourceFault;
+use workers::server_log::operator::hot_swap::SwapFault;
 
 /// What is wrong; it is shown as it is printed.
 #[derive(Debug, Drop)]

@@ -21,4 +21,4 @@ pub use staffed::{StaffedServer, staff};
 
 // The words of the contracts here come with them.
 pub use workers;
-pub use workers::operator;
+pub use workers::server_log::operator;

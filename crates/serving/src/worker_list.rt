@@ -8,8 +8,8 @@ ghost use Rattle.serving.specs.Staffed.{IsStaffFault};
 use crate::fault::ServingFault;
 use shared_cells::SharedPass;
 use std::alloc::Global;
-use workers::operator::bounded_files::ResourceFault;
-use workers::operator::hot_swap::{Publisher, Watcher};
+use workers::server_log::operator::bounded_files::ResourceFault;
+use workers::server_log::operator::hot_swap::{Publisher, Watcher};
 
 /// A worker for each of these passes, which watches this publisher; it has a place for each. H1
 /// where a watcher is refused memory, and B4 where the list is.

@@ -7,14 +7,14 @@ use Rattle.one_world.specs.cells.Grown.{Grows, GrowsByAppend}
 use Rattle.one_world.specs.cells.declared.array.CellArray.{CellArray}
 use Rattle.one_world.specs.cells.declared.event.CellEvent.{CellEvent}
 use Rattle.one_world.specs.Passes.{AreLoads}
-use Rattle.operator.specs.Control.{Controlled, Loading}
-use Rattle.operator.specs.Counters.{IsLoad, ReadsCells, ReadsArrays}
-use Rattle.operator.specs.Counters.{no_cell, one_cell, no_array, one_array}
-use Rattle.operator.specs.Perform.{Performs, AnswersLine, wordless, loaded, not_loaded, shown}
-use Rattle.operator.specs.Perform.{counted, stopped, unshown, uncounted}
-use Rattle.operator.specs.declared.reply.OperatorReply.{OperatorReply}
-use Rattle.operator.specs.operator_request.declared.request.OperatorRequest.{OperatorRequest}
-use Rattle.operator.specs.hot_swap.Published.{GoesOnwards}
+use Rattle.server_log.specs.operator.Control.{Controlled, Loading}
+use Rattle.server_log.specs.operator.Counters.{IsLoad, ReadsCells, ReadsArrays}
+use Rattle.server_log.specs.operator.Counters.{no_cell, one_cell, no_array, one_array}
+use Rattle.server_log.specs.operator.Perform.{Performs, AnswersLine}
+use Rattle.server_log.specs.operator.Perform.{wordless, loaded, not_loaded, shown}
+use Rattle.server_log.specs.operator.Perform.{counted, stopped, unshown, uncounted}
+use Rattle.server_log.specs.operator.declared.reply.OperatorReply.{OperatorReply}
+use Rattle.server_log.specs.operator.hot_swap.Published.{GoesOnwards}
 use Rattle.workers.proofs.Onwards.{goes_nowhere}
 use Rattle.workers.specs.Back.{OperatorBack}
 
@@ -41,7 +41,7 @@ goes_nowhere_by old new same = rw same (goes_nowhere old.publishing.known)
 -- ---- one request
 
 module _ {F : Type 0} (loads : Loading F) where
-  performs_loads : (asked : Option OperatorRequest) (old new : Controlled) (events : List CellEvent)
+  performs_loads : (asked : _) (old new : Controlled) (events : List CellEvent)
       (replied : OperatorReply F) → Performs loads asked old events replied new → AreLoads events
   performs_loads asked old new events replied wordless = All-nil IsLoad
   performs_loads asked old new events replied (loaded path is) = All-nil IsLoad
@@ -52,7 +52,7 @@ module _ {F : Type 0} (loads : Loading F) where
   performs_loads asked old new events replied unshown = All-nil IsLoad
   performs_loads asked old new events replied (uncounted all) = all
 
-  performs_onwards : (asked : Option OperatorRequest) (old new : Controlled)
+  performs_onwards : (asked : _) (old new : Controlled)
       (events : List CellEvent) (replied : OperatorReply F)
       → Performs loads asked old events replied new
       → GoesOnwards old.publishing.known new.publishing.known

@@ -6,8 +6,8 @@ use Rattle.one_world.specs.InTurn.{AreOfRuns}
 use Rattle.one_world.specs.Passes.{AreLoads}
 use Rattle.one_world.specs.cells.Grown.{Grows}
 use Rattle.one_world.specs.cells.declared.event.CellEvent.{CellEvent}
-use Rattle.operator.specs.hot_swap.Published.{Beginning, GoesOnwards, IsLatest}
-use Rattle.operator.specs.hot_swap.rulesets.Rules.{Rules, IsRuleset}
+use Rattle.server_log.specs.operator.hot_swap.Published.{Beginning, GoesOnwards, IsLatest}
+use Rattle.server_log.specs.operator.hot_swap.rulesets.Rules.{Rules, IsRuleset}
 use Rattle.workers.specs.declared.returned.Returned.{Returned}
 
 -- of what was published each ruleset is sound, and the last one is of this generation

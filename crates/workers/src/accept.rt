@@ -1,8 +1,7 @@
 //! The connections of a port, one after another, until the server is told to stop.
 
 use crate::clock::pause;
-use crate::connection_line::note_unaccepted;
-use crate::log_queue::LogQueue;
+use server_log::{LogQueue, note_unaccepted};
 use std::io;
 use std::net::{SocketAddr, TcpListener, TcpStream};
 use std::sync::Wait;

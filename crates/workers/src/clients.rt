@@ -11,7 +11,7 @@ use crate::gate::Gate;
 use crate::queue::{WAITING, fill};
 use crate::worker::Service;
 use one_world::cells::CellSteps;
-use operator::hot_swap::Watcher;
+use server_log::operator::hot_swap::Watcher;
 use std::net::TcpListener;
 use std::sync::Wait;
 use std::sync::atomic::AtomicBool;

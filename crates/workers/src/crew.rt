@@ -12,7 +12,7 @@ use crate::promise::OfWorker;
 use crate::worker::{Service, work};
 use crossbeam_channel::Receiver;
 use one_world::cells::CellSteps;
-use operator::hot_swap::Watcher;
+use server_log::operator::hot_swap::Watcher;
 use std::snapshot::Snapshot;
 use std::sync::Wait;
 use std::thread::{Promise, PromisedHandle, Scope, Threads};

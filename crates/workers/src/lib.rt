@@ -5,8 +5,7 @@
 //! come one after another. The operator's `stop` ends both: the clients' port is told by a flag and
 //! woken by one more connection, and the operator's stays open until all are answered.
 //!
-//! The lines of the log go into another queue, from which a thread of its own writes them on
-//! standard error. None of the others waits for it but the operator's, behind a load, for a while.
+//! What they do is told to the log (`server_log`).
 //!
 //! What a connection is answered is proved of `answer` here and of `answer` in `operator`. All
 //! threads give back what they were given once the server ends: a worker's pass made the events of
@@ -19,19 +18,10 @@
 mod accept;
 mod clients;
 mod clock;
-mod connection_line;
 mod crew;
-mod event_texts;
 mod fault;
 mod gate;
-mod heard;
-mod kept_texts;
 mod laws;
-mod load_line;
-mod log;
-mod log_output;
-mod log_queue;
-mod log_thread;
 mod operating;
 mod ports;
 mod promise;
@@ -39,28 +29,20 @@ mod queue;
 mod ready;
 mod returned;
 mod running;
-mod seen;
-mod seen_app;
 mod stopping;
 mod worker;
 
 pub use clients::{serve, serve_returning};
-pub use clock::seconds_from_now;
 pub use fault::ServeFault;
 pub use gate::{Gate, Open};
 pub use laws::answers_are_runs;
-pub use log_output::LogOutput;
-pub use log_queue::{LogPiece, LogQueue};
-pub use log_thread::{LogEnd, note_at_once, start_log};
 pub use operating::{OperatorSeat, operate};
 pub use ports::{Ports, bind};
 pub use returned::Returned;
 pub use running::run;
 pub use worker::Service;
 
-// What the log tells, and the words of the contracts here, come with them.
-pub use access_log;
-pub use answering;
-pub use answering::{AnswerFault, Sent, answer};
+// The log, and the words of the contracts here, come with them.
 pub use one_world;
-pub use operator;
+pub use server_log;
+pub use server_log::answering::{AnswerFault, Sent, answer};

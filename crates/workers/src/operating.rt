@@ -2,17 +2,16 @@
 //! connection that asks to stop, or once it is told to.
 
 ghost use Rattle.std.specs.Prelude.{◌≡◌};
-ghost use Rattle.operator.specs.hot_swap.Published.{GoesOnwards};
+ghost use Rattle.server_log.specs.operator.hot_swap.Published.{GoesOnwards};
 ghost use Rattle.workers.specs.Back.{OperatorBack};
 
 use crate::accept::Port;
 use crate::clock::Limits;
-use crate::heard::Heard;
-use crate::load_line::note_load;
 use crate::worker::Service;
 use one_world::cells::{CellSteps, growth};
-use operator::devices::{Counted, Timed, drain};
-use operator::{Control, Loader, OperatorReply, answer, write_reply};
+use server_log::operator::devices::{Counted, Timed, drain};
+use server_log::operator::{Control, Loader, OperatorReply, answer, write_reply};
+use server_log::{Heard, note_load};
 use std::fmt::Display;
 use std::io;
 use std::net::{TcpListener, TcpStream};

@@ -2,9 +2,8 @@
 //! 64 places; who gets which connection is nobody's promise.
 
 use crate::accept::{Call, Port};
-use crate::log::Log;
-use crate::log_queue::LogQueue;
 use crossbeam_channel::{Receiver, Sender};
+use server_log::{Log, LogQueue};
 use std::net::TcpListener;
 use std::sync::Wait;
 use std::sync::atomic::AtomicBool;

@@ -7,7 +7,7 @@
 
 ghost use Rattle.std.specs.Io.KnownBytes.{Appends};
 ghost use Rattle.std.specs.Prelude.{◌≡◌, ◌≤◌, All, IfOk, OnOk, length};
-ghost use Rattle.operator.specs.hot_swap.Published.{GoesOnwards};
+ghost use Rattle.server_log.specs.operator.hot_swap.Published.{GoesOnwards};
 ghost use Rattle.workers.specs.Back.{IsPublished, OperatorBack, ServerBack};
 ghost use Rattle.workers.specs.Texts.{serving_line};
 
@@ -15,7 +15,6 @@ use crate::accept::Call;
 use crate::crew::{joined, start_workers};
 use crate::fault::ServeFault;
 use crate::gate::Open;
-use crate::log_queue::LogQueue;
 use crate::operating::{OperatorSeat, operate};
 use crate::ports::{Ports, wake};
 use crate::queue::{WAITING, fill};
@@ -25,9 +24,10 @@ use crate::stopping::start_telling;
 use crate::worker::Service;
 use crossbeam_channel::Sender;
 use one_world::cells::CellSteps;
-use operator::bounded_files::ResourceFault;
-use operator::hot_swap::Watcher;
-use operator::{Control, Loader};
+use server_log::LogQueue;
+use server_log::operator::bounded_files::ResourceFault;
+use server_log::operator::hot_swap::Watcher;
+use server_log::operator::{Control, Loader};
 use std::io::Write;
 use std::net::{Net, SocketAddr, TcpListener, TcpStream};
 use std::sync::Wait;

@@ -4,21 +4,17 @@ ghost use Rattle.std.specs.Prelude.{◌≡◌};
 ghost use Rattle.workers.specs.Back.{WorkerBack};
 
 use crate::accept::Call;
-use crate::clock::{Limits, unix_second};
-use crate::connection_line::note_connection;
+use crate::clock::{Limits, begun, unix_second};
 use crate::gate::Gate;
-use crate::heard::Heard;
 use crate::laws::answers_are_runs;
-use crate::log::Log;
-use crate::log_queue::LogQueue;
 use crate::queue::next;
-use crate::seen::Seen;
-use answering::{AnswerFault, AnswerRoom, Sent, Turn, answer_in};
 use crossbeam_channel::Receiver;
 use one_world::cells::{CellSteps, growth};
 use one_world::runs_add_up;
-use operator::devices::{Counted, Timed, drain, take_rest};
-use operator::hot_swap::Watcher;
+use server_log::answering::{AnswerFault, AnswerRoom, Sent, Turn, answer_in};
+use server_log::operator::devices::{Counted, Timed, drain, take_rest};
+use server_log::operator::hot_swap::Watcher;
+use server_log::{Heard, Log, LogQueue, Seen, note_connection};
 use std::io;
 use std::net::TcpStream;
 use std::sync::Wait;
@@ -115,7 +111,7 @@ where
     let limits = Limits::begin(rt, service.timeout);
     seen.begin();
     let outcome = answer_within(rt, &call.stream, seat, moment, limits, seen);
-    note_connection(rt, log, call.peer, limits, &outcome, seen);
+    note_connection(rt, log, call.peer, begun(limits), &outcome, seen);
     finish(rt, &call.stream, &outcome)
 }
 
@@ -141,13 +137,13 @@ where
     runs_add_up();
     answers_are_runs();
     let Some(limits) = limits else {
-        seen.cause = Some("clock");
+        seen.fail("clock");
         return Err(AnswerFault::Reading);
     };
     let alloc = rt.alloc();
     let from = Timed::new(stream, rt, limits.until());
     let into = Timed::new(stream, rt, limits.until());
-    let mut reader = Counted::new(Heard::in_room(seen.take_room(), from, seen.is_kept()));
+    let mut reader = Counted::new(seen.heard(from));
     let mut writer = Counted::new(Heard::new(alloc, into, false));
     let turn = Turn {
         alloc,
@@ -163,23 +159,8 @@ where
         &mut seat.watcher,
         seen,
     );
-    remember(seen, reader.into_inner(), writer.into_inner());
+    seen.remember(reader.into_inner(), writer.into_inner());
     outcome
-}
-
-// What the devices of a connection remember.
-fn remember<'x, H: Clock>(
-    seen: &mut Seen,
-    reader: Heard<Timed<'x, H>>,
-    writer: Heard<Timed<'x, H>>,
-) {
-    seen.forwarded = reader.forwarded();
-    seen.cause = match reader.cause() {
-        Some(cause) => Some(cause),
-        None => writer.cause(),
-    };
-    seen.bytes = writer.into_inner().bytes();
-    seen.keep_room(reader.into_room());
 }
 
 // Takes what a client sent beyond its request, since a socket that is closed with bytes unread is

@@ -3,7 +3,7 @@
 use crate::kept_texts::{KeptTexts, TextPlace};
 use access_log::{AskedApp, Excerpt, Outcome};
 use answering::omaha_json::{FoundApp, release_at};
-use one_world::attrs::{AppFacts, Bucket, Text, cohort_bucket, named_or_hashed};
+use attrs::{AppFacts, Bucket, Text, cohort_bucket, named_or_hashed};
 use std::alloc::AllocError;
 
 /// An app.

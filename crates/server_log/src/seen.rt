@@ -2,27 +2,33 @@
 //! The texts are copied, since the line is written once the reply was sent. A worker keeps the room
 //! for all of it from one connection to the next.
 
+ghost use Rattle.std.specs.Prelude.{◌≡◌, [], None, Some};
+ghost use Rattle.server_log.specs.Seen.{IsUnseen, IsSameRequest};
+
 use crate::event_texts::event_texts;
+use crate::heard::Heard;
 use crate::kept_texts::{KeptTexts, TextPlace};
 use crate::seen_app::{KeptEvent, SeenApp};
 use access_log::AskedApp;
 use answering::Witness;
 use answering::omaha_json::{FoundApp, Request};
-use one_world::attrs::{AppFacts, Bucket, hashed_bucket};
+use attrs::{AppFacts, Bucket, hashed_bucket};
+use operator::devices::Timed;
 use operator::hot_swap::Generation;
 use std::alloc::{AllocError, Global};
 use std::mem;
 use std::net::{IpAddr, SocketAddr};
+use std::time::Clock;
 
 /// What was seen, where it is to be kept.
 #[derive(Drop)]
-pub(crate) struct Seen {
+pub struct Seen {
     alloc: Global,
     is_kept: bool,
     /// 0 where nothing was answered.
     pub(crate) generation: Generation,
     /// The address that a proxy names.
-    pub(crate) forwarded: Option<IpAddr>,
+    forwarded: Option<IpAddr>,
     /// How the connection failed, if it did.
     pub(crate) cause: Option<&'static str>,
     /// How many bytes were written.
@@ -45,7 +51,10 @@ pub(crate) struct Addresses {
 
 impl Seen {
     /// Nothing yet.
-    pub(crate) fn new(alloc: Global, is_kept: bool) -> Seen {
+    pub fn new(alloc: Global, is_kept: bool) -> Seen
+        ensures unseen { IsUnseen result }
+        ensures kept { result.is_kept ≡ is_kept }
+    {
         Seen {
             alloc,
             is_kept,
@@ -62,7 +71,10 @@ impl Seen {
     }
 
     /// Nothing yet, of the next connection.
-    pub(crate) fn begin(&mut self) {
+    pub fn begin(&mut self)
+        ensures unseen { IsUnseen self.new }
+        ensures kept { self.new.is_kept ≡ self.old.is_kept }
+    {
         self.generation = 0;
         self.forwarded = None;
         self.cause = None;
@@ -73,19 +85,44 @@ impl Seen {
         self.is_cut = false;
     }
 
-    /// Whether it is to be kept.
-    pub(crate) fn is_kept(&self) -> bool {
-        self.is_kept
+    /// A reader that remembers what is read, in the room for it, where it is to be kept. The room
+    /// is out until `remember` gives it back.
+    pub fn heard<R>(&mut self, reader: R) -> Heard<R>
+        ensures reader { result.inner ≡ reader }
+        ensures kept { result.is_kept ≡ self.old.is_kept }
+        ensures bytes { result.bytes.items ≡ [] }
+        ensures failure { result.failure ≡ None }
+        ensures same { IsSameRequest self.old self.new }
+    {
+        let room = mem::replace(&mut self.room, Vec::new(self.alloc));
+        Heard::in_room(room, reader, self.is_kept)
     }
 
-    /// The room for what is read, which is out until `keep_room` gives it back.
-    pub(crate) fn take_room(&mut self) -> Vec<u8> {
-        mem::replace(&mut self.room, Vec::new(self.alloc))
+    /// Keeps what the devices of a connection remember: the address that a proxy names, how the
+    /// reader failed or else the writer, and how many bytes were written.
+    pub fn remember<'x, H: Clock>(
+        &mut self,
+        reader: Heard<Timed<'x, H>>,
+        writer: Heard<Timed<'x, H>>,
+    )
+        ensures bytes { self.new.bytes ≡ writer.entry.inner.bytes }
+        ensures same { IsSameRequest self.old self.new }
+    {
+        self.forwarded = reader.forwarded();
+        self.cause = match reader.cause() {
+            Some(cause) => Some(cause),
+            None => writer.cause(),
+        };
+        self.bytes = writer.into_inner().bytes();
+        self.room = reader.into_room();
     }
 
-    /// Keeps the room of what was read.
-    pub(crate) fn keep_room(&mut self, room: Vec<u8>) {
-        self.room = room;
+    /// Keeps why the connection failed, where its devices can't tell.
+    pub fn fail(&mut self, cause: &'static str)
+        ensures cause { self.new.cause ≡ Some cause.entry }
+        ensures same { IsSameRequest self.old self.new }
+    {
+        self.cause = Some(cause);
     }
 
     /// Keeps the texts of the addresses.

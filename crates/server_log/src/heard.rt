@@ -1,6 +1,6 @@
 //! A device that remembers, for the log: what was read, up to so many bytes, and how it failed.
 
-ghost use Rattle.std.specs.Prelude.{◌≡◌};
+ghost use Rattle.std.specs.Prelude.{◌≡◌, [], None};
 
 use memchr::memchr;
 use operator::operator_request::OperatorRequest;
@@ -16,7 +16,7 @@ const FORWARDED: &[u8] = b"x-forwarded-for";
 
 /// A reader or a writer, with the bytes that were read, where they are to be kept.
 #[derive(Drop)]
-pub(crate) struct Heard<T> {
+pub struct Heard<T> {
     inner: T,
     is_kept: bool,
     bytes: Vec<u8>,
@@ -25,12 +25,22 @@ pub(crate) struct Heard<T> {
 
 impl<T> Heard<T> {
     /// A device of which nothing is read yet.
-    pub(crate) fn new(alloc: Global, inner: T, is_kept: bool) -> Heard<T> {
+    pub fn new(alloc: Global, inner: T, is_kept: bool) -> Heard<T>
+        ensures inner { result.inner ≡ inner }
+        ensures kept { result.is_kept ≡ is_kept }
+        ensures bytes { result.bytes.items ≡ [] }
+        ensures failure { result.failure ≡ None }
+    {
         Heard::in_room(Vec::new(alloc), inner, is_kept)
     }
 
     /// The same, where there is room for what is read.
-    pub(crate) fn in_room(mut room: Vec<u8>, inner: T, is_kept: bool) -> Heard<T> {
+    pub(crate) fn in_room(mut room: Vec<u8>, inner: T, is_kept: bool) -> Heard<T>
+        ensures inner { result.inner ≡ inner }
+        ensures kept { result.is_kept ≡ is_kept }
+        ensures bytes { result.bytes.items ≡ [] }
+        ensures failure { result.failure ≡ None }
+    {
         room.clear();
         Heard {
             inner,
@@ -76,7 +86,9 @@ impl<T> Heard<T> {
     }
 
     /// The device itself.
-    pub(crate) fn into_inner(self) -> T {
+    pub(crate) fn into_inner(self) -> T
+        ensures { result ≡ self.inner }
+    {
         self.inner
     }
 

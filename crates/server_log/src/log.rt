@@ -1,6 +1,8 @@
 //! The lines of a worker's connections, which go to the log's queue in pieces: what a connection
 //! costs is then its line, and not a place in the queue, too.
 
+ghost use Rattle.std.specs.Prelude.{◌≡◌, ◌==◌, [], IfSome, is_none, is_some};
+
 use crate::clock::utc_now;
 use crate::log_queue::{LogPiece, LogQueue};
 use access_log::{LineRoom, LogEvent, log_line_in};
@@ -23,7 +25,7 @@ const LINGER_MILLIS: u64 = 10;
 /// attends to a connection of a later second. So a line is late by a second, and by the time of the
 /// next connection, at most.
 #[derive(Drop)]
-pub(crate) struct Log<'a> {
+pub struct Log<'a> {
     queue: Option<&'a LogQueue>,
     /// Room for a line.
     line: LineRoom,
@@ -35,7 +37,11 @@ pub(crate) struct Log<'a> {
 
 impl<'a> Log<'a> {
     /// A log without a line, which is kept where there is a queue for it.
-    pub fn new(alloc: Global, queue: Option<&'a LogQueue>) -> Log<'a> {
+    pub fn new(alloc: Global, queue: Option<&'a LogQueue>) -> Log<'a>
+        ensures queue { result.queue ≡ queue.entry }
+        ensures text { result.text.items ≡ [] }
+        ensures lines { result.lines ≡ 0 }
+    {
         Log {
             queue,
             line: LineRoom::new(alloc),
@@ -46,14 +52,17 @@ impl<'a> Log<'a> {
     }
 
     /// Whether it is kept.
-    pub fn is_kept(&self) -> bool {
+    pub fn is_kept(&self) -> bool
+        ensures { result ≡ is_some self.now.queue }
+    {
         self.queue.is_some()
     }
 
     /// Puts the line of an event behind the others. It is lost where memory is refused.
-    pub fn note<H>(&mut self, rt: &H, event: &LogEvent<'_>)
+    pub(crate) fn note<H>(&mut self, rt: &H, event: &LogEvent<'_>)
     where
         H: Wait + AllocGlobal + Clock,
+        ensures { self.new.queue ≡ self.old.queue }
     {
         match log_line_in(&mut self.line, &utc_now(rt), event) {
             Ok(()) => self.add(),
@@ -65,13 +74,15 @@ impl<'a> Log<'a> {
     }
 
     /// Counts a line that isn't noted.
-    pub fn lose(&self) {
+    pub(crate) fn lose(&self) {
         if let Some(queue) = self.queue {
             queue.lose(1);
         }
     }
 
-    fn add(&mut self) {
+    fn add(&mut self)
+        ensures { self.new.queue ≡ self.old.queue }
+    {
         if self.text.extend_from_slice(self.line.bytes()).is_ok() {
             self.lines = self.lines.saturating_add(1);
         } else {
@@ -80,7 +91,9 @@ impl<'a> Log<'a> {
     }
 
     /// How long the worker waits for a connection before it hands lines on; none without a line.
-    pub fn linger(&self) -> Option<Duration> {
+    pub fn linger(&self) -> Option<Duration>
+        ensures { is_none result ≡ (self.now.lines == 0) }
+    {
         if self.lines == 0 {
             return None;
         }
@@ -91,6 +104,8 @@ impl<'a> Log<'a> {
     pub fn hand_on_earlier<H>(&mut self, rt: &H, moment: i64)
     where
         H: Wait + AllocGlobal + Clock,
+        ensures queue { self.new.queue ≡ self.old.queue }
+        ensures moment { self.new.moment ≡ moment }
     {
         if self.moment != moment {
             self.hand_on(rt);
@@ -102,6 +117,8 @@ impl<'a> Log<'a> {
     pub fn hand_on<H>(&mut self, rt: &H)
     where
         H: Wait + AllocGlobal + Clock,
+        ensures queue { self.new.queue ≡ self.old.queue }
+        ensures none_left { IfSome self.old.queue (λ _. self.new.lines ≡ 0) }
     {
         let Some(queue) = self.queue else {
             return;

@@ -1,6 +1,6 @@
 //! The thread that writes a server's log, which nobody joins: a write to a reader that doesn't read
 //! has no end, and the server's end isn't to wait for it. It is let go by its handle, and ends with
-//! the program at the latest.
+//! the program at the latest. Of threads, and of what standard error takes, nothing is proved.
 
 use crate::clock::utc_now;
 use crate::log_output::LogOutput;

@@ -1,6 +1,8 @@
 //! What the log tells of a client's connection, and of one that couldn't be accepted.
 
-use crate::clock::{Limits, micros_since};
+ghost use Rattle.std.specs.Prelude.{◌≡◌, IfNone};
+
+use crate::clock::micros_since;
 use crate::log::Log;
 use crate::log_queue::LogQueue;
 use crate::seen::Seen;
@@ -10,26 +12,29 @@ use answering::{AnswerFault, Sent};
 use std::alloc::AllocError;
 use std::net::SocketAddr;
 use std::sync::Wait;
-use std::time::Clock;
+use std::time::{Clock, Instant};
 use std::{io, slice, str};
 
-/// Puts the line of a connection into a worker's log, where it is kept: how long it took, what came
-/// of it, and what was seen. It is lost where memory is refused.
-pub(crate) fn note_connection<H>(
+/// Puts the line of a connection into a worker's log, where it is kept: how long it took since it
+/// began, 0 where that isn't known, what came of it, and what was seen. It is lost where memory is
+/// refused.
+pub fn note_connection<H>(
     rt: &H,
     log: &mut Log<'_>,
     peer: SocketAddr,
-    limits: Option<Limits>,
+    begun: Option<Instant>,
     outcome: &Result<Sent, AnswerFault>,
     seen: &mut Seen,
 )
 where
     H: Wait + AllocGlobal + Clock,
+    ensures queue { log.new.queue ≡ log.old.queue }
+    ensures unkept { IfNone log.old.queue ((log.new ≡ log.old) × (seen.new ≡ seen.old)) }
 {
     if !log.is_kept() {
         return;
     }
-    let micros = micros_since(rt, limits);
+    let micros = micros_since(rt, begun);
     if note_kept(rt, log, peer, micros, outcome, seen).is_err() {
         log.lose();
     }
@@ -45,6 +50,7 @@ fn note_kept<H>(
 ) -> Result<(), AllocError>
 where
     H: Wait + AllocGlobal + Clock,
+    ensures { log.new.queue ≡ log.old.queue }
 {
     let addresses = seen.keep_addresses(peer)?;
     let connection = Connection {
@@ -129,7 +135,7 @@ fn sent_refusal(sent: &Sent) -> Option<&'static str> {
 
 /// Puts the line of a connection that couldn't be accepted into the queue. It is lost where memory
 /// is refused.
-pub(crate) fn note_unaccepted<H>(rt: &H, queue: &LogQueue, error: &io::Error)
+pub fn note_unaccepted<H>(rt: &H, queue: &LogQueue, error: &io::Error)
 where
     H: Wait + AllocGlobal + Clock,
 {

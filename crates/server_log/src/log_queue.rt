@@ -1,6 +1,7 @@
 //! The queue between the threads of a server and the one that writes its log. It has places for 256
 //! pieces, and no thread that answers waits for one: where the log's reader is too slow lines are
-//! lost, and how many is told before the next that goes through.
+//! lost, and how many is told before the next that goes through. What stands in a queue that
+//! threads share is known to no contract.
 
 use crate::clock::utc_now;
 use access_log::{LogEvent, log_line};

@@ -14,12 +14,7 @@ const LOAD_SECONDS: u64 = 2;
 
 /// Puts the line of a load into the queue, if there is one and a load was asked for. It is lost
 /// where memory is refused, or where it has waited for a place in vain.
-pub(crate) fn note_load<H, R, F>(
-    rt: &H,
-    log: Option<&LogQueue>,
-    heard: Heard<R>,
-    reply: &OperatorReply<F>,
-)
+pub fn note_load<H, R, F>(rt: &H, log: Option<&LogQueue>, heard: Heard<R>, reply: &OperatorReply<F>)
 where
     H: Wait + AllocGlobal + Clock,
     R: Drop,

@@ -5,8 +5,8 @@ use crate::whole_server::{Work, wrong_by};
 use crossbeam_channel::Receiver;
 use std::sync::Wait;
 use std::test::Fail;
-use workers::access_log::LogEvent;
-use workers::{LogPiece, LogQueue};
+use workers::server_log::access_log::LogEvent;
+use workers::server_log::{LogPiece, LogQueue};
 
 /// What a line tells behind its time: its kind, and what follows.
 fn told_of(line: &str) -> &str {

@@ -1,0 +1,21 @@
+-- What the log has seen of a connection.
+use Rattle.std.specs.Prelude.{◌≡◌, [], None}
+use Rattle.server_log.specs.declared.seen.Seen.{Seen}
+
+-- nothing yet
+pub record IsUnseen (seen : Seen) : Type 0 where
+  pub generation : seen.generation ≡ 0
+  pub forwarded : seen.forwarded ≡ None
+  pub cause : seen.cause ≡ None
+  pub bytes : seen.bytes ≡ 0
+  pub events : seen.events.items ≡ []
+  pub apps : seen.apps.items ≡ []
+
+-- the same of its request, what it was answered, and whether it is kept
+pub record IsSameRequest (old new : Seen) : Type 0 where
+  pub is_kept : new.is_kept ≡ old.is_kept
+  pub generation : new.generation ≡ old.generation
+  pub texts : new.texts ≡ old.texts
+  pub events : new.events ≡ old.events
+  pub apps : new.apps ≡ old.apps
+  pub is_cut : new.is_cut ≡ old.is_cut

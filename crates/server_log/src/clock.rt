@@ -1,0 +1,43 @@
+//! What the clock tells of a line: its time, how long a connection took, and until when a line
+//! waits for a place. Of clocks nothing is proved.
+
+use access_log::Utc;
+use std::time::{Clock, Duration, Instant, SystemTime, UNIX_EPOCH};
+
+/// When 1970 began.
+const FIRST: Utc = Utc {
+    year: 1970,
+    month: 1,
+    day: 1,
+    hour: 0,
+    minute: 0,
+    second: 0,
+    millis: 0,
+};
+
+/// The time so many seconds from now on. None where the clock can't tell.
+pub fn seconds_from_now<H: Clock>(rt: &H, seconds: u64) -> Option<Instant> {
+    Instant::now(rt)
+        .ok()?
+        .checked_add(Duration::from_secs(seconds))
+}
+
+/// How many microseconds it is since something began; 0 where that isn't known.
+pub(crate) fn micros_since<H: Clock>(rt: &H, begun: Option<Instant>) -> u64 {
+    let Some(begun) = begun else {
+        return 0;
+    };
+    match begun.elapsed(rt) {
+        Ok(elapsed) => u64::try_from(elapsed.as_micros()).unwrap_or(u64::MAX),
+        Err(_) => 0,
+    }
+}
+
+/// The time of a line of the log; 1970's first where the clock can't be read.
+pub(crate) fn utc_now<H: Clock>(rt: &H) -> Utc {
+    let since = match SystemTime::now(rt) {
+        Ok(now) => now.duration_since(UNIX_EPOCH).unwrap_or(Duration::ZERO),
+        Err(_) => Duration::ZERO,
+    };
+    Utc::of_unix(since.as_secs(), since.subsec_millis() as u16).unwrap_or(FIRST)
+}
