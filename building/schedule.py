@@ -65,14 +65,14 @@ class Build:
 
     def share_processors(self):
         """Gives each processor that is idle to a crate that nothing below holds up, and to the first
-        of these what nobody else can use. Who holds up the longest chain has two jobs at least."""
+        of these what nobody else can use. Who holds up the longest chain has two jobs, if it can."""
         waiting = {*self.left}
         ready = [it for it in self.left if it not in self.running and not it.below & waiting]
         idle = self.jobs - sum(it.jobs for it in self.running.values())
         while ready and idle > 0:
             crate = ready.pop(0)
             jobs = max(idle - len(ready), 2 if crate is self.left[0] else 1)
-            self.start(crate, min(jobs, MOST_JOBS))
+            self.start(crate, min(jobs, self.jobs, MOST_JOBS))
             idle -= jobs
 
     def start(self, crate, jobs):
