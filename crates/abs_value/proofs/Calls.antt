@@ -6,10 +6,9 @@ use Rattle.std.specs.Prelude.{IfSome, slice_get, bytes_eq, nat_le, nat_lt, ◌==
 use Rattle.std.proofs.lemmas.Bool.{cases_Bool}
 use Rattle.std.proofs.lemmas.List.{get_or-drop}
 use Rattle.std.proofs.lemmas.List.Elements.{All-head, All-tail}
-use Rattle.bpf_semantics.specs.attrs.Helpers.{attribute, is_text, attr_is}
-use Rattle.bpf_semantics.specs.attrs.Helpers.{text_length, attr_len, bucket_of}
-use Rattle.bpf_semantics.specs.cells.Arrays.{AppShape}
-use Rattle.bpf_semantics.specs.cells.declared.array.CellArray.{CellArray}
+use Rattle.attrs.specs.Helpers.{attribute, is_text, attr_is, text_length, attr_len, bucket_of}
+use Rattle.cells.specs.Arrays.{AppShape}
+use Rattle.cells.specs.declared.array.CellArray.{CellArray}
 use Rattle.bpf_insn.specs.Program.{◌>>=◌}
 use Rattle.bpf_semantics.specs.Memory.{cell_address, map_start}
 use Rattle.bpf_semantics.specs.State.{State, HasWords, stack_bytes, with_result}

@@ -19,7 +19,7 @@ use Rattle.bpf_insn.specs.Words.{immediate}
 use Rattle.bpf_semantics.specs.State.{State, with_register}
 use Rattle.bpf_semantics.specs.Reads.{operand}
 use Rattle.bpf_semantics.specs.State as start
-use Rattle.bpf_semantics.specs.attrs.Attributes.{Attributes}
+use Rattle.attrs.specs.Attributes.{Attributes}
 use Rattle.abs_value.specs.declared.value.Abs.{Abs}
 use Rattle.abs_value.specs.declared.value.Abs.TheVariants.{Unusable, Num, Ctx}
 use Rattle.abs_value.specs.declared.value.Abs.TheVariants.{Stk, Map, MayCell, Cell}

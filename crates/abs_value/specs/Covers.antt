@@ -6,8 +6,8 @@ use Rattle.std.specs.Prelude.{if◌then◌else◌}
 use Rattle.std.specs.Int.{w32, bit_at}
 use Rattle.bpf_insn.specs.declared.operand.Operand.{Operand}
 use Rattle.bpf_insn.specs.declared.operand.Operand.TheVariants.{Imm, Register}
-use Rattle.bpf_semantics.specs.cells.declared.array.CellArray.{CellArray}
-use Rattle.bpf_semantics.specs.cells.Arrays.{AppShape, HasCell}
+use Rattle.cells.specs.declared.array.CellArray.{CellArray}
+use Rattle.cells.specs.Arrays.{AppShape, HasCell}
 use Rattle.bpf_semantics.specs.Memory.{context_start, stack_start, cell_address, map_start}
 use Rattle.bpf_semantics.specs.State.{State}
 use Rattle.abs_value.specs.declared.interval.Interval.{Interval}

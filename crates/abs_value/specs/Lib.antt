@@ -11,5 +11,3 @@ pub mod Lookups
 pub mod Covers
 pub mod Laws
 pub mod Order
-pub use Rattle.bpf_semantics.specs as bpf_semantics
-pub use Rattle.bpf_semantics.specs.attrs

@@ -97,6 +97,3 @@ pub use slot::AbsSlot;
 pub use stack::Stack;
 pub use state::AbsState;
 pub use value::Abs;
-
-// The words of the contracts here come with them.
-pub use bpf_semantics;

@@ -1,9 +1,9 @@
 -- The fault of a text, as the reader of rules tells it.
 use Rattle.std.proofs.Common.{inl, inr, ℕ, List, IsUtf8}
-use Rattle.rule_compile.specs.bpf_verify.bpf_rules.cells.Arrays.{AppShape}
-use Rattle.rule_compile.specs.rule_lang.declared.fault.RuleFault.{RuleFault}
-use Rattle.rule_compile.specs.rule_lang.declared.fault.RuleFault.TheVariants as rule
-use Rattle.rule_compile.specs.rule_lang.Verdicts.{IsRuleFault}
+use Rattle.cells.specs.Arrays.{AppShape}
+use Rattle.rule_lang.specs.declared.fault.RuleFault.{RuleFault}
+use Rattle.rule_lang.specs.declared.fault.RuleFault.TheVariants as rule
+use Rattle.rule_lang.specs.Verdicts.{IsRuleFault}
 use Rattle.acceptance.specs.Rule.{RefusesRule, no_rule}
 use Rattle.acceptance.specs.declared.fault.RuleTextFault.TheVariants.{Text}
 

@@ -1,14 +1,14 @@
 -- The program that bytes are, once it is accepted, and why they are none.
 use Rattle.std.specs.Prelude.{◌≡◌, ℕ, List, Bool, true, false}
-use Rattle.rule_compile.specs.bpf_insn.Program.{Program}
-use Rattle.rule_compile.specs.bpf_semantics.Program.{ShapedProgram}
-use Rattle.rule_compile.specs.bpf_verify.Accepted.{IsAccepted, IsRefusal}
-use Rattle.rule_compile.specs.bpf_verify.bpf_rules.declared.refusal.Refusal.{Refusal}
-use Rattle.rule_compile.specs.bpf_verify.bpf_rules.declared.refusal.Refusal.TheVariants as refusal
-use Rattle.rule_compile.specs.bpf_verify.bpf_rules.cells.Arrays.{AppShape}
-use Rattle.rule_compile.specs.flow_check.Fault.{HasOneVerdict, IsFlowFault}
-use Rattle.rule_compile.specs.flow_check.Flow.{IsAcceptedAs}
-use Rattle.rule_compile.specs.flow_check.declared.fault.FlowFault.TheVariants as flow
+use Rattle.bpf_insn.specs.Program.{Program}
+use Rattle.bpf_semantics.specs.Program.{ShapedProgram}
+use Rattle.bpf_verify.specs.Accepted.{IsAccepted, IsRefusal}
+use Rattle.bpf_rules.specs.declared.refusal.Refusal.{Refusal}
+use Rattle.bpf_rules.specs.declared.refusal.Refusal.TheVariants as refusal
+use Rattle.cells.specs.Arrays.{AppShape}
+use Rattle.flow_check.specs.Fault.{HasOneVerdict, IsFlowFault}
+use Rattle.flow_check.specs.Flow.{IsAcceptedAs}
+use Rattle.flow_check.specs.declared.fault.FlowFault.TheVariants as flow
 use Rattle.acceptance.specs.declared.fault.ProgramFault.{ProgramFault}
 use Rattle.acceptance.specs.declared.fault.ProgramFault.TheVariants.{Flow, Verify}
 

@@ -1,19 +1,19 @@
 -- The program of the rule that bytes spell, and why they give none.
 use Rattle.std.specs.Prelude.{◌≡◌, ◌<◌, ℕ, List, length, Ok, Err, IsUtf8, Bool, true, false}
-use Rattle.rule_compile.specs.bpf_verify.bpf_rules.attrs.Attributes.{Attributes}
-use Rattle.rule_compile.specs.bpf_semantics.Program.{ShapedProgram}
-use Rattle.rule_compile.specs.bpf_verify.Accepted.{IsAccepted}
-use Rattle.rule_compile.specs.bpf_verify.bpf_rules.cells.Arrays.{AppShape}
-use Rattle.rule_compile.specs.flow_check.Flow.{IsFlow}
+use Rattle.attrs.specs.Attributes.{Attributes}
+use Rattle.bpf_semantics.specs.Program.{ShapedProgram}
+use Rattle.bpf_verify.specs.Accepted.{IsAccepted}
+use Rattle.cells.specs.Arrays.{AppShape}
+use Rattle.flow_check.specs.Flow.{IsFlow}
 use Rattle.rule_compile.specs.Code.{rule_code}
 use Rattle.rule_compile.specs.Means.{Means}
 use Rattle.rule_compile.specs.declared.fault.CompileFault.TheVariants as compile
-use Rattle.rule_compile.specs.rule_lang.declared.fault.RuleFault.TheVariants as rule
-use Rattle.rule_compile.specs.rule_lang.declared.fault.RuleFaultKind.{RuleFaultKind}
-use Rattle.rule_compile.specs.rule_lang.declared.fault.RuleFaultKind.TheVariants.{Token}
-use Rattle.rule_compile.specs.rule_lang.declared.rule.Statement.{Statement}
-use Rattle.rule_compile.specs.rule_lang.Cost.{cost}
-use Rattle.rule_compile.specs.rule_lang.Verdicts.{IsVerdict}
+use Rattle.rule_lang.specs.declared.fault.RuleFault.TheVariants as rule
+use Rattle.rule_lang.specs.declared.fault.RuleFaultKind.{RuleFaultKind}
+use Rattle.rule_lang.specs.declared.fault.RuleFaultKind.TheVariants.{Token}
+use Rattle.rule_lang.specs.declared.rule.Statement.{Statement}
+use Rattle.rule_lang.specs.Cost.{cost}
+use Rattle.rule_lang.specs.Verdicts.{IsVerdict}
 use Rattle.acceptance.specs.declared.fault.RuleTextFault.{RuleTextFault}
 use Rattle.acceptance.specs.declared.fault.RuleTextFault.TheVariants.{Text, Compile}
 

@@ -4,10 +4,10 @@ ghost use Rattle.std.specs.Prelude.{◌≡◌};
 ghost use Rattle.acceptance.specs.Program as programs;
 ghost use Rattle.acceptance.specs.Rule as rules;
 
+use bpf_verify::Refusal;
+use flow_check::FlowFault;
 use rule_compile::CompileFault;
-use rule_compile::bpf_verify::Refusal;
-use rule_compile::flow_check::FlowFault;
-use rule_compile::rule_lang::RuleFault;
+use rule_lang::RuleFault;
 use thiserror::Error;
 
 /// Why bytes are no program of a shape.

@@ -14,7 +14,3 @@ mod rule;
 pub use fault::{ProgramFault, RuleTextFault};
 pub use program::accept;
 pub use rule::rule_program;
-
-// The words of the contracts here come with them.
-pub use rule_compile;
-pub use rule_compile::{bpf_verify, flow_check, rule_lang};

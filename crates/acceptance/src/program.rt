@@ -4,8 +4,8 @@ ghost use Rattle.std.specs.Prelude.{◌≡◌, IfOk, IfErr};
 ghost use Rattle.acceptance.specs.Program.{IsProgramOf, RefusesProgram};
 
 use crate::fault::ProgramFault;
-use rule_compile::bpf_verify::{Shape, Verified, verify};
-use rule_compile::flow_check::{Flow, one_verdict};
+use bpf_verify::{Shape, Verified, verify};
+use flow_check::{Flow, one_verdict};
 use std::alloc::Global;
 
 /// The program that bytes are, accepted under a shape, or the fault that counts: F1 to F9 of

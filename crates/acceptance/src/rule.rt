@@ -4,9 +4,9 @@ ghost use Rattle.std.specs.Prelude.{◌≡◌, IfOk, IfErr};
 ghost use Rattle.acceptance.specs.Rule.{IsProgramOfRule, RefusesRule};
 
 use crate::fault::RuleTextFault;
-use rule_compile::bpf_verify::{Shape, Verified};
+use bpf_verify::{Shape, Verified};
 use rule_compile::compile;
-use rule_compile::rule_lang::{RuleFault, RuleFaultKind, parse};
+use rule_lang::{RuleFault, RuleFaultKind, parse};
 use std::alloc::Global;
 use std::str;
 

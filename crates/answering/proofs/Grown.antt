@@ -11,13 +11,13 @@ use Rattle.attrs.specs.Facts.{attributes_of}
 use Rattle.attrs.specs.declared.facts.AppFacts.{AppFacts}
 use Rattle.attrs.specs.declared.facts.RequestFacts.{RequestFacts}
 use Rattle.bpf_machine.specs.StandsFor.{Held, RunStandsFor, Runs}
-use Rattle.bpf_machine.specs.bpf_verify.Covers.{AreLawful}
-use Rattle.bpf_machine.specs.bpf_semantics.Program.{ShapedProgram}
-use Rattle.bpf_machine.specs.bpf_semantics.Run.{Ends}
-use Rattle.bpf_machine.specs.bpf_semantics.State.{opening}
+use Rattle.bpf_verify.specs.Covers.{AreLawful}
+use Rattle.bpf_semantics.specs.Program.{ShapedProgram}
+use Rattle.bpf_semantics.specs.Run.{Ends}
+use Rattle.bpf_semantics.specs.State.{opening}
 use Rattle.cells.specs.Grown.{Grows, GrowsByAppend}
 use Rattle.cells.specs.declared.event.CellEvent.{CellEvent}
-use Rattle.hot_swap.specs.rulesets.Rules.{AppRule, Rules, IsApp, ListsApp, app_of, appid_of}
+use Rattle.ruleset.specs.Rules.{AppRule, Rules, IsApp, ListsApp, app_of, appid_of}
 use Rattle.omaha_json.specs.Found.{FoundApp, found_app, found_apps, found_with, known_app}
 use Rattle.answering.specs.Apps.{RunsApp, RunsApps, RunsFew, FindsApp, FindsApps}
 use Rattle.answering.specs.Apps.{unasked, unknown, ran, none, then}

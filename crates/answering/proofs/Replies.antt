@@ -13,7 +13,7 @@ use Rattle.omaha_json.specs.Reply.{found_text}
 use Rattle.omaha_json.specs.declared.fault.OmahaFault.{OmahaFault}
 use Rattle.omaha_json.specs.declared.fault.OmahaFault.TheVariants.{Json, Shape, Protocol}
 use Rattle.omaha_json.specs.declared.fault.OmahaFault.TheVariants.{TooManyApps, Memory}
-use Rattle.hot_swap.specs.rulesets.Rules.{Rules}
+use Rattle.ruleset.specs.Rules.{Rules}
 use Rattle.answering.specs.Apps.{FindsApps, RunsFew}
 use Rattle.answering.specs.Answer.{RepliesToRequest, RepliesToBody, RepliesTo, RepliesByRuns}
 use Rattle.answering.specs.Answer.{IsHeard, IsHeardBody}

@@ -13,7 +13,7 @@ use Rattle.omaha_json.specs.Request.{Request, request_in}
 use Rattle.omaha_json.specs.Reply.{reply_text}
 use Rattle.omaha_json.specs.declared.fault.OmahaFault.{OmahaFault}
 use Rattle.omaha_json.specs.declared.fault.OmahaFault.TheVariants as omaha
-use Rattle.hot_swap.specs.rulesets.Rules.{Rules}
+use Rattle.ruleset.specs.Rules.{Rules}
 use Rattle.cells.specs.Grown.{Grows}
 use Rattle.answering.specs.Apps.{RunsApps, RunsFew}
 use Rattle.answering.specs.Reply.{HttpReply, success, rejection}

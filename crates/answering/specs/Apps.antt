@@ -5,11 +5,11 @@ use Rattle.std.specs.Prelude.{Option, Some, None}
 use Rattle.attrs.specs.Facts.{attributes_of}
 use Rattle.attrs.specs.declared.facts.AppFacts.{AppFacts}
 use Rattle.attrs.specs.declared.facts.RequestFacts.{RequestFacts}
-use Rattle.bpf_machine.specs.bpf_verify.Covers.{AreLawful, HasPossibleReply}
-use Rattle.bpf_machine.specs.bpf_semantics.Run.{Ends}
-use Rattle.bpf_machine.specs.bpf_semantics.State.{opening}
+use Rattle.bpf_verify.specs.Covers.{AreLawful, HasPossibleReply}
+use Rattle.bpf_semantics.specs.Run.{Ends}
+use Rattle.bpf_semantics.specs.State.{opening}
 use Rattle.cells.specs.declared.event.CellEvent.{CellEvent}
-use Rattle.hot_swap.specs.rulesets.Rules.{AppRule, Rules, ListsApp, app_of, appid_of}
+use Rattle.ruleset.specs.Rules.{AppRule, Rules, ListsApp, app_of, appid_of}
 use Rattle.omaha_json.specs.Found.{FoundApp, found_app, found_apps}
 
 module _ (rules : Rules) (facts : RequestFacts) (moment : ℤ) where

@@ -2,7 +2,7 @@
 use Rattle.std.specs.Prelude.{◌≢◌, ℕ, List, [], Result, Ok, Err, Vec}
 use Rattle.hot_swap.specs.Texts.{swap_text}
 use Rattle.hot_swap.specs.declared.fault.SwapFault.TheVariants as swap
-use Rattle.hot_swap.specs.rulesets.Texts.{line}
+use Rattle.ruleset.specs.Texts.{line}
 use Rattle.http_front.specs.Reply.{reply_bytes}
 use Rattle.http_front.specs.declared.status.Status.{Status}
 use Rattle.http_front.specs.declared.status.Status.TheVariants as status

@@ -4,7 +4,7 @@ ghost use Rattle.std.specs.Prelude.{◌≡◌, ◌≢◌, ◌+◌, ◌-◌, ◌^
 ghost use Rattle.std.specs.Prelude.{Ok, Err, length, take, IfOk, IfErr};
 ghost use Rattle.std.specs.Io.KnownBytes.{Appends};
 ghost use Rattle.hot_swap.specs.Published.{GoesOnwards};
-ghost use Rattle.http_front.specs.devices.Device.{CountsFailure, WritesBeginning};
+ghost use Rattle.devices.specs.Device.{CountsFailure, WritesBeginning};
 ghost use Rattle.http_front.specs.Post.{AnswersPost};
 ghost use Rattle.http_front.specs.Reply.{code_of};
 ghost use Rattle.http_front.specs.declared.fault.PostFault.TheVariants as fault;

@@ -4,7 +4,7 @@ ghost use Rattle.std.specs.Prelude.{◌≡◌, ◌<◌, false, IfOk, MatchResult
 ghost use Rattle.std.specs.Arc.{arc_value};
 ghost use Rattle.attrs.specs.Bucket.{app_bucket, hashed_bucket};
 ghost use Rattle.attrs.specs.Facts.{attributes_of};
-ghost use Rattle.bpf_machine.specs.bpf_semantics.State.{opening};
+ghost use Rattle.bpf_semantics.specs.State.{opening};
 ghost use Rattle.bpf_machine.specs.StandsFor.{RunStandsFor};
 ghost use Rattle.cells.specs.Grown.{Grows};
 ghost use Rattle.answering.specs.Apps.{FindsApp, FindsApps, RunsFew};
@@ -12,10 +12,10 @@ ghost use Rattle.answering.specs.Apps.{FindsApp, FindsApps, RunsFew};
 use crate::turn::Turn;
 use attrs::{AppFacts, Attrs, Moment, RequestFacts, hashed_bucket, named_or_hashed};
 use bpf_machine::Run;
-use bpf_machine::bpf_verify::Verified;
+use bpf_verify::Verified;
 use cells::{CellSteps, growth};
-use hot_swap::ruleset::Ruleset;
 use omaha_json::{FoundApp, Request};
+use ruleset::Ruleset;
 use std::alloc::{AllocError, Global};
 use std::sync::Arc;
 

@@ -28,8 +28,3 @@ pub use sent::Sent;
 pub use settling::answer_in;
 pub use turn::Turn;
 pub use witness::{Nobody, Witness};
-
-// The words of the contracts here come with them.
-pub use hot_swap;
-pub use http_front;
-pub use omaha_json;

@@ -11,8 +11,8 @@ use crate::turn::Turn;
 use crate::witness::Witness;
 use cells::CellSteps;
 use hot_swap::Watcher;
-use hot_swap::ruleset::Ruleset;
 use omaha_json::{OmahaFault, Request, found_text_in};
+use ruleset::Ruleset;
 
 /// The text of the reply to a request, in the room of an earlier text, or why there is none. The
 /// ruleset is asked for once. The witness sees what the apps were answered.

@@ -9,7 +9,7 @@ use Rattle.std.proofs.lemmas.Bool.{cases_lt}
 use Rattle.std.proofs.lemmas.Option.{slice_get_within, slice_get-get_or}
 use Rattle.std.proofs.lemmas.Option.{slice_get-map, get_or_from_slice_get}
 use Rattle.attrs.specs.Attributes.{Attributes}
-use Rattle.bpf_machine.specs.bpf_semantics.Program.{ShapedProgram}
+use Rattle.bpf_semantics.specs.Program.{ShapedProgram}
 use Rattle.bench.specs.declared.runs.RunTotals.{RunTotals}
 use Rattle.bench.specs.Runs.{IsBenchApp, RunsInTurn, RunsOnce, with_run}
 use Rattle.bench.specs.Runs as runs

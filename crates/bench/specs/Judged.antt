@@ -1,8 +1,8 @@
 -- What the benchmark's verifications promise of a program's bytes.
 use Rattle.std.specs.Prelude.{ℕ, List, []}
 use Rattle.acceptance.specs.Program.{IsProgramOf, RefusesProgram}
-use Rattle.acceptance.specs.bpf_insn.Program.{Program}
-use Rattle.acceptance.specs.bpf_semantics.Program.{shaped}
+use Rattle.bpf_insn.specs.Program.{Program}
+use Rattle.bpf_semantics.specs.Program.{shaped}
 use Rattle.cells.specs.Arrays.{AppShape}
 use Rattle.bench.specs.declared.fault.BenchFault.{BenchFault}
 use Rattle.bench.specs.declared.fault.BenchFault.TheVariants.{Memory, Output}

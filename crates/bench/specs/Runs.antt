@@ -5,9 +5,9 @@ use Rattle.attrs.specs.Hash.{fnv1a, with_byte}
 use Rattle.cells.specs.declared.event.CellEvent.{CellEvent}
 use Rattle.cells.specs.Events.{AreZeros, IsEvent}
 use Rattle.cells.specs.Grown.{GrewBy}
-use Rattle.bpf_machine.specs.bpf_semantics.Program.{ShapedProgram}
-use Rattle.bpf_machine.specs.bpf_semantics.State.{opening}
-use Rattle.bpf_machine.specs.bpf_semantics.Run.{Ends}
+use Rattle.bpf_semantics.specs.Program.{ShapedProgram}
+use Rattle.bpf_semantics.specs.State.{opening}
+use Rattle.bpf_semantics.specs.Run.{Ends}
 use Rattle.bench.specs.declared.runs.RunTotals.{RunTotals}
 
 abbrev pub bucket_of : ℕ → ℕ

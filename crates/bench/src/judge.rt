@@ -6,7 +6,7 @@ ghost use Rattle.bench.specs.Judged.{AreAccepted, IsBenchFault, bench_shape};
 
 use crate::fault::BenchFault;
 use acceptance::accept;
-use bpf_machine::bpf_verify::Verified;
+use bpf_verify::Verified;
 use cells::Shape;
 use std::alloc::Global;
 

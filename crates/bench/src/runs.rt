@@ -7,7 +7,7 @@ use crate::fault::BenchFault;
 use crate::fnv::hash_more;
 use attrs::{Attrs, fnv1a};
 use bpf_machine::Run;
-use bpf_machine::bpf_verify::Verified;
+use bpf_verify::Verified;
 use cells::{PlainCells, PlainPass};
 use std::alloc::Global;
 use std::sync::Arc;

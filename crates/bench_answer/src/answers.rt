@@ -7,9 +7,9 @@ use answering::{AnswerRoom, Nobody, Turn, answer_in};
 use anyhow::{Context, Error, Result};
 use attrs::fnv1a;
 use cells::{CellSteps, PlainCells};
-use hot_swap::ruleset::Ruleset;
 use hot_swap::{Publisher, Watcher};
 use http_front::Counted;
+use ruleset::Ruleset;
 use std::alloc::Global;
 use std::sync::{Arc, Wait};
 

@@ -6,10 +6,10 @@ use acceptance::accept;
 use anyhow::{Result, ensure};
 use attrs::Text;
 use bpf_text::assemble;
+use bpf_verify::Verified;
 use cells::{CellWidth, Directory, Shape};
-use hot_swap::bpf_verify::Verified;
-use hot_swap::ruleset::{App, Ruleset};
 use releases::{Package, Release, is_appid};
+use ruleset::{App, Ruleset};
 use std::alloc::{AllocError, Global};
 use std::sync::Arc;
 

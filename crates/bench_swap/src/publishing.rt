@@ -2,8 +2,8 @@
 
 use crate::work::{WorkKind, Workload};
 use anyhow::Result;
-use hot_swap::ruleset::Ruleset;
 use hot_swap::{Publisher, Watcher};
+use ruleset::Ruleset;
 use std::alloc::{AllocError, Global};
 use std::sync::atomic::{AtomicBool, Ordering};
 use std::sync::{Arc, Wait};

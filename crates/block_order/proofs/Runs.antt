@@ -11,10 +11,10 @@ use Rattle.bpf_insn.specs.Conditions.{holds}
 use Rattle.bpf_insn.specs.Arithmetic.{alu_result}
 use Rattle.bpf_insn.specs.Words.{word, immediate}
 use Rattle.bpf_insn.specs.Program.{Program, at}
-use Rattle.bpf_semantics.specs.cells.Arrays.{AppShape}
-use Rattle.bpf_semantics.specs.cells.declared.event.CellEvent.{CellEvent}
-use Rattle.bpf_semantics.specs.cells.declared.event.CellOp.{CellOp}
-use Rattle.bpf_semantics.specs.cells.declared.event.CellOp.TheVariants as cell
+use Rattle.cells.specs.Arrays.{AppShape}
+use Rattle.cells.specs.declared.event.CellEvent.{CellEvent}
+use Rattle.cells.specs.declared.event.CellOp.{CellOp}
+use Rattle.cells.specs.declared.event.CellOp.TheVariants as cell
 use Rattle.bpf_semantics.specs.Program.{ShapedProgram, shaped}
 use Rattle.bpf_semantics.specs.State.{State}
 use Rattle.bpf_semantics.specs.Reads.{register, operand, both, only, loaded}

@@ -3,9 +3,9 @@
 use Rattle.std.proofs.Common.{◌≡◌, ℕ, ◌+◌, ◌-◌, ℤ, pos, negsuc, Option, Some, None}
 use Rattle.std.proofs.Common.{Bool, true, false, refl, sym, subst, inl}
 use Rattle.std.specs.Prelude.{◌==◌, if◌then◌else◌}
-use Rattle.bpf_semantics.specs.cells.Arrays.{AppShape}
-use Rattle.bpf_semantics.specs.cells.declared.event.CellOp.{CellOp}
-use Rattle.bpf_semantics.specs.cells.declared.event.CellOp.TheVariants as cell
+use Rattle.cells.specs.Arrays.{AppShape}
+use Rattle.cells.specs.declared.event.CellOp.{CellOp}
+use Rattle.cells.specs.declared.event.CellOp.TheVariants as cell
 use Rattle.bpf_insn.specs.declared.reg.Reg.{Reg}
 use Rattle.bpf_insn.specs.declared.operand.Bits.{Bits}
 use Rattle.bpf_insn.specs.declared.operand.Operand.{Operand}

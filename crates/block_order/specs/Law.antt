@@ -2,10 +2,10 @@
 -- on counters and come to the same choice. It may count other instructions, since JAs come and go.
 -- And only what has no cycle has an order.
 use Rattle.std.specs.Prelude.{ℕ, List}
-use Rattle.bpf_semantics.specs.attrs.Attributes.{Attributes}
+use Rattle.attrs.specs.Attributes.{Attributes}
 use Rattle.bpf_insn.specs.Program.{Program}
-use Rattle.bpf_semantics.specs.cells.Arrays.{AppShape}
-use Rattle.bpf_semantics.specs.cells.declared.event.CellEvent.{CellEvent}
+use Rattle.cells.specs.Arrays.{AppShape}
+use Rattle.cells.specs.declared.event.CellEvent.{CellEvent}
 use Rattle.bpf_semantics.specs.Program.{shaped}
 use Rattle.bpf_semantics.specs.Run.{Ends, Traps}
 use Rattle.bpf_semantics.specs.State.{opening}

@@ -16,7 +16,3 @@ mod write;
 
 pub use law::{order_has_no_cycle, order_keeps_runs};
 pub use order::ordered;
-
-// The words of the contracts here come with them.
-pub use bpf_semantics;
-pub use flow_check;

@@ -3,18 +3,18 @@
 
 ghost use Rattle.std.specs.Prelude.{◌≡◌, IsSome, Some};
 ghost use Rattle.attrs.specs.Attributes.{Attributes};
-ghost use Rattle.bpf_verify.specs.bpf_rules.cells.Arrays.{AppShape};
-ghost use Rattle.bpf_verify.specs.bpf_semantics.Calls.{wide_value};
-ghost use Rattle.bpf_verify.specs.bpf_semantics.Reads.{byte_count};
+ghost use Rattle.cells.specs.Arrays.{AppShape};
+ghost use Rattle.bpf_semantics.specs.Calls.{wide_value};
+ghost use Rattle.bpf_semantics.specs.Reads.{byte_count};
 ghost use Rattle.bpf_machine.specs.Next.{CanAct, LeadsTo, IsStorable, stored};
 
 use crate::counters::{cell_number, low_number};
 use crate::memory::{load, stack_place};
 use crate::next::{Change, Next};
 use crate::words::Words;
-use bpf_verify::bpf_rules::bpf_insn::{Bits, Insn, LoadKind, Reg, Size, WideValue};
-use bpf_verify::bpf_rules::cells::{CellOp, Shape};
-use bpf_verify::bpf_semantics::{CELL_START, MAP_START, add_long_offset, add_offset, cell_address};
+use bpf_insn::{Bits, Insn, LoadKind, Reg, Size, WideValue};
+use bpf_semantics::{CELL_START, MAP_START, add_long_offset, add_offset, cell_address};
+use cells::{CellOp, Shape};
 
 #[inline]
 pub fn load_register(words: &Words, kind: LoadKind, dst: Reg, src: Reg, offset: i16) -> Next

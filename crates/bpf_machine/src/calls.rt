@@ -3,19 +3,19 @@
 ghost use Rattle.std.specs.Prelude.{◌≡◌, ◌≤◌, ◌<◌, ◌-◌, IsSome, IsTrue};
 ghost use Rattle.std.specs.Prelude.{Some, slice_index, take, drop};
 ghost use Rattle.attrs.specs.Helpers.{attr_is};
-ghost use Rattle.bpf_verify.specs.bpf_semantics.Calls.{array_of};
-ghost use Rattle.bpf_verify.specs.bpf_semantics.Calls as calls;
-ghost use Rattle.bpf_verify.specs.bpf_semantics.Memory.{is_in_stack, stack_start};
+ghost use Rattle.bpf_semantics.specs.Calls.{array_of};
+ghost use Rattle.bpf_semantics.specs.Calls as calls;
+ghost use Rattle.bpf_semantics.specs.Memory.{is_in_stack, stack_start};
 ghost use Rattle.bpf_machine.specs.Next.{IsReady, LeadsTo};
 
 use crate::memory::stack_bytes;
 use crate::next::{Change, Next};
 use crate::words::Words;
 use attrs::{Attrs, helper_attr_is, helper_attr_len, helper_bucket};
-use bpf_verify::bpf_rules::bpf_insn::Insn;
-use bpf_verify::bpf_rules::cells::Shape;
-use bpf_verify::bpf_semantics::helpers::{ATTR_IS, ATTR_LEN, LOOKUP};
-use bpf_verify::bpf_semantics::{MAP_START, cell_address};
+use bpf_insn::Insn;
+use bpf_semantics::helpers::{ATTR_IS, ATTR_LEN, LOOKUP};
+use bpf_semantics::{MAP_START, cell_address};
+use cells::Shape;
 
 /// `lookup`: the address of the array's counter at a key, or 0 where the array has no such key.
 #[inline]

@@ -2,19 +2,17 @@
 
 ghost use Rattle.std.specs.Prelude.{◌≡◌, ◌<◌, IsTrue};
 ghost use Rattle.attrs.specs.Attributes.{Attributes};
-ghost use Rattle.bpf_verify.specs.bpf_rules.cells.Arrays.{AppShape};
-ghost use Rattle.bpf_verify.specs.bpf_semantics.Memory as memory;
-ghost use Rattle.bpf_verify.specs.bpf_semantics.Memory.{is_cell_address};
-ghost use Rattle.bpf_verify.specs.bpf_semantics.Counters.{cut, atomic_count};
-ghost use Rattle.bpf_verify.specs.bpf_semantics.Reads.{byte_count};
+ghost use Rattle.cells.specs.Arrays.{AppShape};
+ghost use Rattle.bpf_semantics.specs.Memory as memory;
+ghost use Rattle.bpf_semantics.specs.Memory.{is_cell_address};
+ghost use Rattle.bpf_semantics.specs.Counters.{cut, atomic_count};
+ghost use Rattle.bpf_semantics.specs.Reads.{byte_count};
 ghost use Rattle.bpf_machine.specs.Next.{CanAct, LeadsTo};
 
 use crate::next::Next;
 use crate::words::Words;
-use bpf_verify::bpf_rules::bpf_insn::{
-    AtomicOp, AtomicSize, Insn, Reg, Size, low_byte, low_half, low_word,
-};
-use bpf_verify::bpf_semantics::{CELL_START, add_offset, cell_op, fetched};
+use bpf_insn::{AtomicOp, AtomicSize, Insn, Reg, Size, low_byte, low_half, low_word};
+use bpf_semantics::{CELL_START, add_offset, cell_op, fetched};
 
 /// The counter at an address.
 #[inline]

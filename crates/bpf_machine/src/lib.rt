@@ -23,7 +23,3 @@ mod words;
 
 pub use progress::{Choice, Progress};
 pub use run::Run;
-
-// The words of the contracts here come with them.
-pub use bpf_verify;
-pub use bpf_verify::{bpf_semantics, flow_check};

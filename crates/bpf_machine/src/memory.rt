@@ -3,14 +3,14 @@
 
 ghost use Rattle.std.specs.Prelude.{◌≡◌, ◌+◌, ◌≤◌, ◌<◌, ◌-◌, length, take, drop, IsTrue};
 ghost use Rattle.std.specs.List.{splice};
-ghost use Rattle.bpf_verify.specs.bpf_rules.bpf_insn.Words.{low_bytes};
-ghost use Rattle.bpf_verify.specs.bpf_semantics.Memory.{stack_start, is_in_stack};
-ghost use Rattle.bpf_verify.specs.bpf_semantics.Reads.{byte_count, load_count, filled};
+ghost use Rattle.bpf_insn.specs.Words.{low_bytes};
+ghost use Rattle.bpf_semantics.specs.Memory.{stack_start, is_in_stack};
+ghost use Rattle.bpf_semantics.specs.Reads.{byte_count, load_count, filled};
 ghost use Rattle.bpf_machine.specs.Words.{number_in, number_at, IsReadable};
 
 use crate::words::Words;
-use bpf_verify::bpf_rules::bpf_insn::{Extension, LoadKind, Size, low_byte, low_half, low_word};
-use bpf_verify::bpf_semantics::{CONTEXT_START, STACK_START};
+use bpf_insn::{Extension, LoadKind, Size, low_byte, low_half, low_word};
+use bpf_semantics::{CONTEXT_START, STACK_START};
 
 #[inline]
 fn read_half(bytes: &[u8], place: usize) -> u16

@@ -10,10 +10,10 @@ use Rattle.bpf_insn.specs.declared.insn.Insn.TheVariants.{Load, StoreImm, Store}
 use Rattle.bpf_insn.specs.Table.{number_of}
 use Rattle.bpf_insn.specs.Words.{immediate}
 use Rattle.cells.specs.Arrays.{AppShape, IsShape}
-use Rattle.abs_value.specs.bpf_semantics.Memory.{context_size, stack_size}
-use Rattle.abs_value.specs.bpf_semantics.Reads.{load_count, byte_count}
-use Rattle.abs_value.specs.bpf_semantics.State.{State, HasWords}
-use Rattle.abs_value.specs.bpf_semantics.Step.{load, store, act}
+use Rattle.bpf_semantics.specs.Memory.{context_size, stack_size}
+use Rattle.bpf_semantics.specs.Reads.{load_count, byte_count}
+use Rattle.bpf_semantics.specs.State.{State, HasWords}
+use Rattle.bpf_semantics.specs.Step.{load, store, act}
 use Rattle.abs_value.specs.declared.value.Abs.{Abs}
 use Rattle.abs_value.specs.declared.value.Abs.TheVariants.{Unusable, Num, Ctx}
 use Rattle.abs_value.specs.declared.value.Abs.TheVariants.{Stk, Map, MayCell, Cell}

@@ -14,11 +14,11 @@ use Rattle.bpf_insn.specs.declared.insn.Insn.TheVariants.{Atomic}
 use Rattle.cells.specs.declared.event.CellOp.{CellOp}
 use Rattle.cells.specs.Arrays.{AppShape, IsShape}
 use Rattle.cells.specs.Events.{width, CanReply}
-use Rattle.abs_value.specs.bpf_semantics.State.{State}
-use Rattle.abs_value.specs.bpf_semantics.Reads.{register}
-use Rattle.abs_value.specs.bpf_semantics.Outcome.{ask}
-use Rattle.abs_value.specs.bpf_semantics.Counters.{cut, atomic_count, cell_op, expected, fetched}
-use Rattle.abs_value.specs.bpf_semantics.Step.{act}
+use Rattle.bpf_semantics.specs.State.{State}
+use Rattle.bpf_semantics.specs.Reads.{register}
+use Rattle.bpf_semantics.specs.Outcome.{ask}
+use Rattle.bpf_semantics.specs.Counters.{cut, atomic_count, cell_op, expected, fetched}
+use Rattle.bpf_semantics.specs.Step.{act}
 use Rattle.abs_value.specs.declared.origin.Origin.{Origin}
 use Rattle.abs_value.specs.declared.value.Abs.{Abs}
 use Rattle.abs_value.specs.declared.value.Abs.TheVariants.{Unusable, Num, Ctx}

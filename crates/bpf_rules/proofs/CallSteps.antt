@@ -4,19 +4,19 @@ use Rattle.std.proofs.Common.{Option, Some, None, Bool, true, false, refl, ap, a
 use Rattle.std.specs.Prelude.{IsSome, slice_get, nat_lt, nat_le, ◌==◌, ◌&&◌, ◌||◌, if◌then◌else◌}
 use Rattle.std.specs.List.{list_any}
 use Rattle.std.proofs.lemmas.Bool.{leb-true}
-use Rattle.abs_value.specs.attrs.Helpers.{attr_is, attr_len, bucket_of}
+use Rattle.attrs.specs.Helpers.{attr_is, attr_len, bucket_of}
 use Rattle.bpf_insn.specs.declared.reg.Reg.TheVariants.{R1, R2, R3}
 use Rattle.bpf_insn.specs.declared.insn.Insn.TheVariants.{Call}
 use Rattle.bpf_insn.specs.Program.{◌>>=◌}
 use Rattle.cells.specs.declared.array.CellArray.{CellArray}
 use Rattle.cells.specs.Arrays.{AppShape}
-use Rattle.abs_value.specs.bpf_semantics.Memory.{cell_address, map_start, stack_size}
-use Rattle.abs_value.specs.bpf_semantics.Memory.{stack_start, is_in_stack, set_bytes}
-use Rattle.abs_value.specs.bpf_semantics.State.{State, HasWords, with_result}
-use Rattle.abs_value.specs.bpf_semantics.Reads.{only}
-use Rattle.abs_value.specs.bpf_semantics.Calls.{array_of, lookup, compared, helper_result}
-use Rattle.abs_value.specs.bpf_semantics.Outcome.{moved_to}
-use Rattle.abs_value.specs.bpf_semantics.Step.{act}
+use Rattle.bpf_semantics.specs.Memory.{cell_address, map_start, stack_size}
+use Rattle.bpf_semantics.specs.Memory.{stack_start, is_in_stack, set_bytes}
+use Rattle.bpf_semantics.specs.State.{State, HasWords, with_result}
+use Rattle.bpf_semantics.specs.Reads.{only}
+use Rattle.bpf_semantics.specs.Calls.{array_of, lookup, compared, helper_result}
+use Rattle.bpf_semantics.specs.Outcome.{moved_to}
+use Rattle.bpf_semantics.specs.Step.{act}
 use Rattle.abs_value.specs.declared.value.Abs.{Abs}
 use Rattle.abs_value.specs.declared.value.Abs.TheVariants.{Unusable, Num, Ctx}
 use Rattle.abs_value.specs.declared.value.Abs.TheVariants.{Stk, Map, MayCell, Cell}

@@ -11,7 +11,7 @@ use Rattle.cells.specs.declared.array.CellWidth.{CellWidth}
 use Rattle.cells.specs.declared.array.CellWidth.TheVariants.{Bits32, Bits64}
 use Rattle.cells.specs.Arrays.{AppShape, IsShape, IsArray, HasCell, first_cell}
 use Rattle.cells.specs.Events.{width}
-use Rattle.abs_value.specs.bpf_semantics.Memory.{address_of, cell_start, cell_address, cell_at}
+use Rattle.bpf_semantics.specs.Memory.{address_of, cell_start, cell_address, cell_at}
 use Rattle.abs_value.specs.declared.origin.Lookup.{Lookup}
 use Rattle.abs_value.specs.declared.origin.Origin.{Origin}
 use Rattle.abs_value.specs.declared.origin.Origin.TheVariants.{Found, Fixed}

@@ -11,11 +11,11 @@ use Rattle.cells.specs.declared.event.CellOp.{CellOp}
 use Rattle.cells.specs.declared.event.CellOp.TheVariants as cell
 use Rattle.cells.specs.Arrays.{AppShape, IsShape}
 use Rattle.cells.specs.Events.{width}
-use Rattle.abs_value.specs.bpf_semantics.Memory.{address_of, cell_at}
-use Rattle.abs_value.specs.bpf_semantics.State.{State}
-use Rattle.abs_value.specs.bpf_semantics.Reads.{register, load_count, byte_count}
-use Rattle.abs_value.specs.bpf_semantics.Counters.{cut, load_cell, store_cell}
-use Rattle.abs_value.specs.bpf_semantics.Step.{load, store}
+use Rattle.bpf_semantics.specs.Memory.{address_of, cell_at}
+use Rattle.bpf_semantics.specs.State.{State}
+use Rattle.bpf_semantics.specs.Reads.{register, load_count, byte_count}
+use Rattle.bpf_semantics.specs.Counters.{cut, load_cell, store_cell}
+use Rattle.bpf_semantics.specs.Step.{load, store}
 use Rattle.abs_value.specs.declared.origin.Origin.{Origin}
 use Rattle.abs_value.specs.declared.value.Abs.TheVariants.{Cell}
 use Rattle.abs_value.specs.declared.state.AbsState.{AbsState}

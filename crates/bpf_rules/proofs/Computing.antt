@@ -20,9 +20,9 @@ use Rattle.bpf_insn.specs.Table.{number_of}
 use Rattle.bpf_insn.specs.Words.{word, immediate}
 use Rattle.bpf_insn.specs.Arithmetic.{alu_result, negated, extended, reordered}
 use Rattle.cells.specs.Arrays.{AppShape}
-use Rattle.abs_value.specs.bpf_semantics.State.{State, HasWords}
-use Rattle.abs_value.specs.bpf_semantics.Reads.{register, operand, both, only}
-use Rattle.abs_value.specs.bpf_semantics.Step.{act}
+use Rattle.bpf_semantics.specs.State.{State, HasWords}
+use Rattle.bpf_semantics.specs.Reads.{register, operand, both, only}
+use Rattle.bpf_semantics.specs.Step.{act}
 use Rattle.abs_value.specs.declared.state.AbsState.{AbsState}
 use Rattle.abs_value.specs.Values.{is_unusable, alu_value, copied_value}
 use Rattle.abs_value.specs.Values.{negated_value, extended_value, reordered_value}

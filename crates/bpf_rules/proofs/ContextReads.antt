@@ -5,10 +5,10 @@ use Rattle.std.specs.Prelude.{slice_index, nat_le}
 use Rattle.std.specs.Int.{w16, w32, to_le_bytes, bytes_low_first, byte_at}
 use Rattle.std.proofs.Math.Nat.{pow-succ'}
 use Rattle.std.proofs.lemmas.List.{length-take, length-drop}
-use Rattle.abs_value.specs.attrs.Context.{Context, context_bytes}
+use Rattle.attrs.specs.Context.{Context, context_bytes}
 use Rattle.bpf_insn.specs.Words.{little_endian}
-use Rattle.abs_value.specs.bpf_semantics.Memory.{context_start, context_size}
-use Rattle.abs_value.specs.bpf_semantics.State.{State, read_at, context_part}
+use Rattle.bpf_semantics.specs.Memory.{context_start, context_size}
+use Rattle.bpf_semantics.specs.State.{State, read_at, context_part}
 
 -- ---- bytes
 

@@ -15,10 +15,10 @@ use Rattle.bpf_insn.specs.Table.{number_of}
 use Rattle.bpf_insn.specs.Conditions.{holds}
 use Rattle.bpf_insn.specs.Program.{landing, slots_moved}
 use Rattle.cells.specs.Arrays.{AppShape}
-use Rattle.abs_value.specs.bpf_semantics.State.{State}
-use Rattle.abs_value.specs.bpf_semantics.Outcome.{jump_to, branch, finish, moved_to}
-use Rattle.abs_value.specs.bpf_semantics.Reads.{register, operand}
-use Rattle.abs_value.specs.bpf_semantics.Step.{act}
+use Rattle.bpf_semantics.specs.State.{State}
+use Rattle.bpf_semantics.specs.Outcome.{jump_to, branch, finish, moved_to}
+use Rattle.bpf_semantics.specs.Reads.{register, operand}
+use Rattle.bpf_semantics.specs.Step.{act}
 use Rattle.abs_value.specs.declared.value.Abs.{Abs}
 use Rattle.abs_value.specs.declared.value.Abs.TheVariants.{Num}
 use Rattle.abs_value.specs.declared.state.AbsState.{AbsState}

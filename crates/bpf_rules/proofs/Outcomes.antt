@@ -6,8 +6,8 @@ use Rattle.bpf_insn.specs.Table.{number_of}
 use Rattle.cells.specs.declared.event.CellOp.{CellOp}
 use Rattle.cells.specs.Arrays.{AppShape}
 use Rattle.cells.specs.Events.{CanReply}
-use Rattle.abs_value.specs.bpf_semantics.State.{State, with_register}
-use Rattle.abs_value.specs.bpf_semantics.Outcome.{moved_to, write, ask}
+use Rattle.bpf_semantics.specs.State.{State, with_register}
+use Rattle.bpf_semantics.specs.Outcome.{moved_to, write, ask}
 use Rattle.abs_value.specs.declared.value.Abs.{Abs}
 use Rattle.abs_value.specs.declared.state.AbsState.{AbsState}
 use Rattle.abs_value.specs.States.{with_value}

@@ -12,8 +12,8 @@ use Rattle.bpf_insn.specs.declared.operand.Bits.TheVariants.{Bits64}
 use Rattle.bpf_insn.specs.Table.{number_of}
 use Rattle.bpf_insn.specs.Words.{immediate}
 use Rattle.bpf_insn.specs.Program.{◌>>=◌}
-use Rattle.abs_value.specs.bpf_semantics.Reads.{load_count, byte_count}
-use Rattle.abs_value.specs.bpf_semantics.Counters.{fetched}
+use Rattle.bpf_semantics.specs.Reads.{load_count, byte_count}
+use Rattle.bpf_semantics.specs.Counters.{fetched}
 use Rattle.cells.specs.declared.array.CellArray.{CellArray}
 use Rattle.cells.specs.Arrays.{AppShape}
 use Rattle.abs_value.specs.declared.value.Abs.{Abs}

@@ -12,14 +12,14 @@ use Rattle.bpf_insn.specs.declared.operand.Size.{Size}
 use Rattle.bpf_insn.specs.declared.reg.Reg.{Reg}
 use Rattle.bpf_insn.specs.Table.{number_of}
 use Rattle.cells.specs.Arrays.{AppShape}
-use Rattle.abs_value.specs.bpf_semantics.Memory.{context_start, context_size, stack_start}
-use Rattle.abs_value.specs.bpf_semantics.Memory.{stack_size, cell_start, cell_number}
-use Rattle.abs_value.specs.bpf_semantics.Memory.{is_cell_address, cell_at, address_of, is_in_stack}
-use Rattle.abs_value.specs.bpf_semantics.Counters.{load_cell}
-use Rattle.abs_value.specs.bpf_semantics.State.{State, HasWords, read_at, written_at, with_bytes}
-use Rattle.abs_value.specs.bpf_semantics.Outcome.{moved, moved_to}
-use Rattle.abs_value.specs.bpf_semantics.Reads.{load_count, byte_count, filled, loaded}
-use Rattle.abs_value.specs.bpf_semantics.Step as step
+use Rattle.bpf_semantics.specs.Memory.{context_start, context_size, stack_start}
+use Rattle.bpf_semantics.specs.Memory.{stack_size, cell_start, cell_number}
+use Rattle.bpf_semantics.specs.Memory.{is_cell_address, cell_at, address_of, is_in_stack}
+use Rattle.bpf_semantics.specs.Counters.{load_cell}
+use Rattle.bpf_semantics.specs.State.{State, HasWords, read_at, written_at, with_bytes}
+use Rattle.bpf_semantics.specs.Outcome.{moved, moved_to}
+use Rattle.bpf_semantics.specs.Reads.{load_count, byte_count, filled, loaded}
+use Rattle.bpf_semantics.specs.Step as step
 use Rattle.abs_value.specs.declared.places.Places.{Places}
 use Rattle.abs_value.specs.declared.value.Abs.{Abs}
 use Rattle.abs_value.specs.declared.value.Abs.TheVariants.{Stk}

@@ -9,8 +9,8 @@ use Rattle.bpf_insn.specs.declared.insn.Insn.TheVariants.{Jump, JumpIf, Call, Ex
 use Rattle.bpf_insn.specs.declared.insn.Insn.TheVariants.{StoreImm, Store, Atomic, Wide}
 use Rattle.bpf_insn.specs.Spelling.{IsEncodable, imm_field}
 use Rattle.cells.specs.Arrays.{AppShape, IsShape}
-use Rattle.abs_value.specs.bpf_semantics.State.{State, HasWords}
-use Rattle.abs_value.specs.bpf_semantics.Step.{act}
+use Rattle.bpf_semantics.specs.State.{State, HasWords}
+use Rattle.bpf_semantics.specs.Step.{act}
 use Rattle.abs_value.specs.declared.state.AbsState.{AbsState}
 use Rattle.abs_value.specs.Covers.{IsStoodFor}
 use Rattle.abs_value.specs.Laws.{CoversFirst, CoversSecond, CoversOpening}

@@ -12,10 +12,10 @@ use Rattle.cells.specs.declared.array.CellArray.{CellArray}
 use Rattle.cells.specs.declared.array.CellWidth.{CellWidth}
 use Rattle.cells.specs.declared.array.CellWidth.TheVariants.{Bits32, Bits64}
 use Rattle.cells.specs.Arrays.{AppShape, IsShape, IsArray, first_cell}
-use Rattle.abs_value.specs.bpf_semantics.Memory.{address_of, cell_address, map_start}
-use Rattle.abs_value.specs.bpf_semantics.State.{State}
-use Rattle.abs_value.specs.bpf_semantics.Calls.{wide_value}
-use Rattle.abs_value.specs.bpf_semantics.Step.{act}
+use Rattle.bpf_semantics.specs.Memory.{address_of, cell_address, map_start}
+use Rattle.bpf_semantics.specs.State.{State}
+use Rattle.bpf_semantics.specs.Calls.{wide_value}
+use Rattle.bpf_semantics.specs.Step.{act}
 use Rattle.abs_value.specs.declared.value.Abs.{Abs}
 use Rattle.abs_value.specs.declared.value.Abs.TheVariants.{Map}
 use Rattle.abs_value.specs.declared.state.AbsState.{AbsState}

@@ -2,7 +2,7 @@
 use Rattle.std.specs.Prelude.{ℕ, ◌+◌, ◌*◌, ℤ, pos, negsuc, ◌+ℤ◌, unsigned_abs, int_le, min}
 use Rattle.std.specs.Prelude.{Option, Some, None, Bool, true, false, ◌&&◌, not, ◌==◌, if◌then◌else◌}
 use Rattle.bpf_insn.specs.declared.insn.Insn.{Insn}
-use Rattle.abs_value.specs.bpf_semantics.Memory.{context_size, stack_size}
+use Rattle.bpf_semantics.specs.Memory.{context_size, stack_size}
 use Rattle.cells.specs.Arrays.{AppShape}
 use Rattle.abs_value.specs.declared.origin.Origin.{Origin}
 use Rattle.abs_value.specs.declared.value.Abs.{Abs}

@@ -16,10 +16,10 @@ use Rattle.bpf_insn.specs.declared.insn.Insn.{Insn}
 use Rattle.bpf_insn.specs.declared.insn.Insn.TheVariants.{Alu, Mov, MovSx, Neg, End, Jump, JumpIf}
 use Rattle.bpf_insn.specs.declared.insn.Insn.TheVariants.{Call, Exit, Load, StoreImm, Store}
 use Rattle.bpf_insn.specs.declared.insn.Insn.TheVariants.{Atomic, Wide}
-use Rattle.abs_value.specs.bpf_semantics.Helpers.{lookup_number, attr_is_number, attr_len_number}
-use Rattle.abs_value.specs.bpf_semantics.Helpers.{bucket_number}
-use Rattle.abs_value.specs.bpf_semantics.Reads.{byte_count, load_count}
-use Rattle.abs_value.specs.bpf_semantics.Counters.{atomic_count, fetched}
+use Rattle.bpf_semantics.specs.Helpers.{lookup_number, attr_is_number, attr_len_number}
+use Rattle.bpf_semantics.specs.Helpers.{bucket_number}
+use Rattle.bpf_semantics.specs.Reads.{byte_count, load_count}
+use Rattle.bpf_semantics.specs.Counters.{atomic_count, fetched}
 use Rattle.bpf_rules.specs.declared.access.Use.{Use}
 use Rattle.bpf_rules.specs.declared.access.Use.TheVariants.{Loads, Extends, Stores, Exchanges}
 use Rattle.bpf_rules.specs.declared.access.Access.{Access}

@@ -15,8 +15,8 @@ use Rattle.bpf_insn.specs.declared.insn.Insn.TheVariants.{Alu, Mov, MovSx, Neg, 
 use Rattle.bpf_insn.specs.declared.insn.Insn.TheVariants.{Call, Exit, Load, Store}
 use Rattle.bpf_insn.specs.declared.insn.Insn.TheVariants.{Atomic, Wide}
 use Rattle.bpf_insn.specs.Table.{number_of}
-use Rattle.abs_value.specs.bpf_semantics.Memory.{stack_size}
-use Rattle.abs_value.specs.bpf_semantics.Reads.{byte_count, load_count}
+use Rattle.bpf_semantics.specs.Memory.{stack_size}
+use Rattle.bpf_semantics.specs.Reads.{byte_count, load_count}
 use Rattle.cells.specs.Arrays.{AppShape}
 use Rattle.abs_value.specs.declared.value.Abs.{Abs}
 use Rattle.abs_value.specs.declared.value.Abs.TheVariants.{Num, Ctx, Stk, Map, MayCell, Cell}

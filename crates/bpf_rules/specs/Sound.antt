@@ -1,7 +1,7 @@
 -- What one step comes to where no rule fails: it is no trap, leads along an edge whose entry stands
 -- for the state that it makes, and asks of counters only what the shape allows.
 use Rattle.std.specs.Prelude.{◌≡◌, ℕ, ◌≤◌, List, Contains, None, IsSome, IfSome}
-use Rattle.abs_value.specs.attrs.Attributes.{Attributes}
+use Rattle.attrs.specs.Attributes.{Attributes}
 use Rattle.bpf_insn.specs.declared.insn.Insn.{Insn}
 use Rattle.bpf_insn.specs.Spelling.{IsEncodable}
 use Rattle.cells.specs.declared.array.CellArray.{CellArray}
@@ -9,9 +9,9 @@ use Rattle.cells.specs.declared.event.CellOp.{CellOp}
 use Rattle.cells.specs.declared.event.CellOp.TheVariants.{Load, Add}
 use Rattle.cells.specs.Arrays.{AppShape, IsShape, HasCell}
 use Rattle.cells.specs.Events.{CanReply}
-use Rattle.abs_value.specs.bpf_semantics.State.{State, HasWords, opening}
-use Rattle.abs_value.specs.bpf_semantics.Outcome.{Outcome, Going, Asks, Done, Trap}
-use Rattle.abs_value.specs.bpf_semantics.Step.{act}
+use Rattle.bpf_semantics.specs.State.{State, HasWords, opening}
+use Rattle.bpf_semantics.specs.Outcome.{Outcome, Going, Asks, Done, Trap}
+use Rattle.bpf_semantics.specs.Step.{act}
 use Rattle.flow_check.specs.Edges.{JumpsForward}
 use Rattle.abs_value.specs.declared.state.AbsState.{AbsState}
 use Rattle.abs_value.specs.States.{opening_state, join_states}

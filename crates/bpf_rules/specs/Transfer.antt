@@ -9,8 +9,8 @@ use Rattle.bpf_insn.specs.declared.insn.Insn.{Insn}
 use Rattle.bpf_insn.specs.declared.insn.Insn.TheVariants.{Alu, Mov, MovSx, Neg, End, JumpIf}
 use Rattle.bpf_insn.specs.declared.insn.Insn.TheVariants.{Call, Load, StoreImm, Store, Atomic, Wide}
 use Rattle.bpf_insn.specs.Words.{immediate}
-use Rattle.abs_value.specs.bpf_semantics.Reads.{byte_count, load_count}
-use Rattle.abs_value.specs.bpf_semantics.Counters.{atomic_count, fetched}
+use Rattle.bpf_semantics.specs.Reads.{byte_count, load_count}
+use Rattle.bpf_semantics.specs.Counters.{atomic_count, fetched}
 use Rattle.cells.specs.Arrays.{AppShape}
 use Rattle.flow_check.specs.Edges.{target_of, goes_on, next_of}
 use Rattle.abs_value.specs.declared.value.Abs.{Abs}

@@ -3,8 +3,8 @@
 ghost use Rattle.std.specs.Prelude.{◌≡◌, ◌≤◌};
 ghost use Rattle.bpf_rules.specs.Reads as reads;
 
-use abs_value::bpf_semantics::{atomic_count, byte_count, load_count};
 use bpf_insn::{AtomicSize, LoadKind, Reg, Size};
+use bpf_semantics::{atomic_count, byte_count, load_count};
 
 /// What is done to memory.
 #[derive(Clone, Copy, Debug, PartialEq, Eq)]

@@ -4,7 +4,7 @@
 ghost use Rattle.std.specs.Prelude.{◌≡◌, ◌&&◌, ◌||◌, ◌∷◌, ℤ};
 ghost use Rattle.std.specs.List.{list_any};
 ghost use Rattle.bpf_insn.specs.declared.reg.Reg.TheVariants.{R0};
-ghost use Rattle.abs_value.specs.bpf_semantics.Counters as counters;
+ghost use Rattle.bpf_semantics.specs.Counters as counters;
 ghost use Rattle.abs_value.specs.States.{value_of};
 ghost use Rattle.abs_value.specs.Values.{is_unusable, is_pointer};
 ghost use Rattle.bpf_rules.specs.Reads as reads;
@@ -14,9 +14,9 @@ ghost use Rattle.bpf_rules.specs.Transfer as transfer;
 use crate::access::Access;
 use crate::memory::{changes_context, exchanges_stack, is_no_address, is_outside, reaches_quota};
 use crate::refusal::VerifierRule;
-use abs_value::bpf_semantics::fetched;
 use abs_value::{Abs, AbsState, Number};
 use bpf_insn::{AtomicOp, AtomicSize, Insn, Reg};
+use bpf_semantics::fetched;
 use cells::Shape;
 
 /// Whether R10 would take the old value.

@@ -11,9 +11,9 @@ ghost use Rattle.bpf_rules.specs.Rules as rules;
 use crate::helper::Helper;
 use crate::memory::text_unset;
 use crate::refusal::VerifierRule;
-use abs_value::bpf_semantics::STACK_SIZE;
 use abs_value::{Abs, AbsState};
 use bpf_insn::{Insn, Reg};
+use bpf_semantics::STACK_SIZE;
 use cells::Shape;
 
 /// The most bytes of a text that attr_is compares.

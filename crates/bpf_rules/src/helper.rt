@@ -3,7 +3,7 @@
 ghost use Rattle.std.specs.Prelude.{◌≡◌};
 ghost use Rattle.bpf_rules.specs.Reads as reads;
 
-use abs_value::bpf_semantics::helpers::{ATTR_IS, ATTR_LEN, BUCKET, LOOKUP};
+use bpf_semantics::helpers::{ATTR_IS, ATTR_LEN, BUCKET, LOOKUP};
 
 /// A helper: a function that a program calls.
 #[derive(Clone, Copy, Debug, PartialEq, Eq)]

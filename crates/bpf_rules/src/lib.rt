@@ -46,10 +46,3 @@ pub use laws::{edges_stay_in_order, states_are_stood_for, steps_are_safe};
 pub use refusal::{Refusal, VerifierRule};
 pub use rules::first_rule;
 pub use transfer::{go_on_in, jump_in, step_in};
-
-// The words of the contracts here come with them.
-pub use abs_value;
-pub use abs_value::bpf_semantics;
-pub use bpf_insn;
-pub use cells;
-pub use flow_check;

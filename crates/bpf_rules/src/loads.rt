@@ -3,7 +3,7 @@
 
 ghost use Rattle.std.specs.Prelude.{◌≡◌};
 ghost use Rattle.cells.specs.Arrays.{AppShape};
-ghost use Rattle.abs_value.specs.bpf_semantics.Reads as counts;
+ghost use Rattle.bpf_semantics.specs.Reads as counts;
 ghost use Rattle.bpf_rules.specs.Memory as memory;
 ghost use Rattle.bpf_rules.specs.Rules as rules;
 ghost use Rattle.bpf_rules.specs.Transfer.{loaded_at};
@@ -12,9 +12,9 @@ use crate::access::Access;
 use crate::arrays::wide;
 use crate::memory::{is_no_address, is_outside, meets_unset, stack_place};
 use crate::refusal::VerifierRule;
-use abs_value::bpf_semantics::load_count;
 use abs_value::{Abs, AbsState};
 use bpf_insn::{Insn, LoadKind, Reg, WideValue};
+use bpf_semantics::load_count;
 use cells::Shape;
 
 /// The first rule that a load breaks.

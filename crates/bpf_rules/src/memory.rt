@@ -2,13 +2,13 @@
 
 ghost use Rattle.std.specs.Prelude.{◌≡◌, ◌≤◌, ◌+◌};
 ghost use Rattle.std.specs.Prelude.{IfSome};
-ghost use Rattle.abs_value.specs.bpf_semantics.Memory.{stack_size};
+ghost use Rattle.bpf_semantics.specs.Memory.{stack_size};
 ghost use Rattle.bpf_rules.specs.Memory as memory;
 
 use crate::access::{Access, Use};
 use crate::arrays::{has_quota, origin_bits};
-use abs_value::bpf_semantics::{CONTEXT_SIZE, STACK_SIZE};
 use abs_value::{Abs, AbsState, Origin, Places};
+use bpf_semantics::{CONTEXT_SIZE, STACK_SIZE};
 use cells::Shape;
 
 /// Whether so many bytes from each of the places on, moved by the offset, lie in a region.

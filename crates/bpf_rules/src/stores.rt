@@ -2,7 +2,7 @@
 //! leave.
 
 ghost use Rattle.std.specs.Prelude.{◌≡◌, ℤ};
-ghost use Rattle.abs_value.specs.bpf_semantics.Reads as counts;
+ghost use Rattle.bpf_semantics.specs.Reads as counts;
 ghost use Rattle.bpf_rules.specs.Memory as memory;
 ghost use Rattle.bpf_rules.specs.Rules as rules;
 ghost use Rattle.bpf_rules.specs.Transfer.{stored_at};
@@ -12,9 +12,9 @@ use crate::memory::{
     changes_context, is_no_address, is_outside, is_slot, reaches_quota, stack_place,
 };
 use crate::refusal::VerifierRule;
-use abs_value::bpf_semantics::byte_count;
 use abs_value::{Abs, AbsState};
 use bpf_insn::{Insn, Reg, Size};
+use bpf_semantics::byte_count;
 use cells::Shape;
 
 /// The first rule that a store of an imm breaks.

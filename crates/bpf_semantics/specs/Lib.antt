@@ -9,5 +9,3 @@ pub mod Calls
 pub mod Step
 pub mod Run
 pub mod Laws
-pub use Rattle.attrs.specs as attrs
-pub use Rattle.cells.specs as cells

@@ -6,13 +6,13 @@ use Rattle.std.proofs.Math.Seq.{append_snoc}
 use Rattle.std.proofs.lemmas.Bool.{cases_Bool}
 use Rattle.std.proofs.lemmas.List.{append-nil}
 use Rattle.std.proofs.lemmas.Option.{none-some}
-use Rattle.bpf_rules.specs.bpf_insn.declared.insn.Insn.{Insn}
-use Rattle.bpf_rules.specs.bpf_insn.Program.{at}
-use Rattle.bpf_rules.specs.bpf_semantics.Program.{ShapedProgram}
-use Rattle.bpf_rules.specs.flow_check.Edges.{next_of}
-use Rattle.bpf_rules.specs.flow_check.Flow.{IsLayout}
-use Rattle.bpf_rules.specs.abs_value.declared.state.AbsState.{AbsState}
-use Rattle.bpf_rules.specs.abs_value.States.{join_states}
+use Rattle.bpf_insn.specs.declared.insn.Insn.{Insn}
+use Rattle.bpf_insn.specs.Program.{at}
+use Rattle.bpf_semantics.specs.Program.{ShapedProgram}
+use Rattle.flow_check.specs.Edges.{next_of}
+use Rattle.flow_check.specs.Flow.{IsLayout}
+use Rattle.abs_value.specs.declared.state.AbsState.{AbsState}
+use Rattle.abs_value.specs.States.{join_states}
 use Rattle.bpf_rules.specs.Transfer.{Edge, edge}
 use Rattle.bpf_verify.specs.Pool.{Waiting, waits_at, held, joined_with}
 use Rattle.bpf_verify.specs.Accepted.{to_place, joined, join_all, edges_of, incoming}

@@ -6,7 +6,7 @@ use Rattle.std.proofs.lemmas.Bool.{cases_lt}
 use Rattle.std.proofs.lemmas.Grind.{common_steps}
 use Rattle.std.proofs.lemmas.List.{get_or_past}
 use Rattle.std.proofs.lemmas.Option.{same_Some, none-some, slice_get_read}
-use Rattle.bpf_rules.specs.abs_value.declared.state.AbsState.{AbsState}
+use Rattle.abs_value.specs.declared.state.AbsState.{AbsState}
 use Rattle.bpf_verify.specs.Pool.{index_at}
 
 -- ---- elements

@@ -3,14 +3,14 @@ use Rattle.std.proofs.Common.{◌≡◌, ℕ, zero, suc, List, [], ◌∷◌, �
 use Rattle.std.proofs.Common.{Option, Some, None, IfSome, Bool, true, false, subst}
 use Rattle.std.specs.Prelude.{if◌then◌else◌, ◌==◌}
 use Rattle.std.proofs.lemmas.Option.{same_Some, none-some}
-use Rattle.bpf_rules.specs.bpf_insn.declared.insn.Insn.{Insn}
-use Rattle.bpf_rules.specs.bpf_insn.Program.{at}
-use Rattle.bpf_rules.specs.bpf_semantics.Program.{ShapedProgram}
-use Rattle.bpf_rules.specs.cells.Arrays.{AppShape}
-use Rattle.bpf_rules.specs.flow_check.Edges.{target_of}
-use Rattle.bpf_rules.specs.abs_value.declared.state.AbsState.{AbsState}
-use Rattle.bpf_rules.specs.abs_value.States.{join_states, opening_state}
-use Rattle.bpf_rules.specs.abs_value.Order.{IsStateInOrder, OpeningInOrder, StateJoinsInOrder}
+use Rattle.bpf_insn.specs.declared.insn.Insn.{Insn}
+use Rattle.bpf_insn.specs.Program.{at}
+use Rattle.bpf_semantics.specs.Program.{ShapedProgram}
+use Rattle.cells.specs.Arrays.{AppShape}
+use Rattle.flow_check.specs.Edges.{target_of}
+use Rattle.abs_value.specs.declared.state.AbsState.{AbsState}
+use Rattle.abs_value.specs.States.{join_states, opening_state}
+use Rattle.abs_value.specs.Order.{IsStateInOrder, OpeningInOrder, StateJoinsInOrder}
 use Rattle.bpf_rules.specs.Transfer.{Edge, edge, edges, jumping, going_on, next_target}
 use Rattle.bpf_rules.specs.Sound.{JumpingInOrder, GoingOnInOrder}
 use Rattle.bpf_verify.specs.Accepted.{to_place, joined, join_all, edges_of}

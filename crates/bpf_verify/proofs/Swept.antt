@@ -5,12 +5,12 @@ use Rattle.std.proofs.Common.{Bool, true, false, refl, sym, ap, subst, ◌∙◌
 use Rattle.std.specs.Prelude.{◌⊎◌, IsSome, is_some, ◌==◌, ◌&&◌, nat_lt, max, if◌then◌else◌}
 use Rattle.std.proofs.lemmas.Bool.{cases_Bool, cases_lt}
 use Rattle.std.proofs.lemmas.Option.{none-some}
-use Rattle.bpf_rules.specs.bpf_insn.declared.insn.Insn.{Insn}
-use Rattle.bpf_rules.specs.bpf_insn.Program.{Program, at}
-use Rattle.bpf_rules.specs.bpf_semantics.Program.{ShapedProgram}
-use Rattle.bpf_rules.specs.flow_check.Edges.{next_of}
-use Rattle.bpf_rules.specs.flow_check.Flow.{IsLayout}
-use Rattle.bpf_rules.specs.abs_value.declared.state.AbsState.{AbsState}
+use Rattle.bpf_insn.specs.declared.insn.Insn.{Insn}
+use Rattle.bpf_insn.specs.Program.{Program, at}
+use Rattle.bpf_semantics.specs.Program.{ShapedProgram}
+use Rattle.flow_check.specs.Edges.{next_of}
+use Rattle.flow_check.specs.Flow.{IsLayout}
+use Rattle.abs_value.specs.declared.state.AbsState.{AbsState}
 use Rattle.bpf_rules.specs.Transfer.{Edge, edge}
 use Rattle.bpf_verify.specs.Count.{count}
 use Rattle.bpf_verify.specs.Pool.{Waiting, waits_at, held, IsChanged}

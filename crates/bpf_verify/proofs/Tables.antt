@@ -9,31 +9,30 @@ use Rattle.std.proofs.lemmas.Bool.{cases_lt, cases_Bool}
 use Rattle.std.proofs.lemmas.List.{get_or_past}
 use Rattle.std.proofs.lemmas.List.FromFn.{get_or-map-range_with_len, length-map-range_with_len}
 use Rattle.std.proofs.lemmas.Nat.Bits.{bit_at_and, bit_at_ones}
-use Rattle.bpf_rules.specs.bpf_insn.declared.insn.Insn.{Insn}
-use Rattle.bpf_rules.specs.bpf_insn.Program.{Program, at}
-use Rattle.bpf_rules.specs.bpf_semantics.Memory.{stack_size}
-use Rattle.bpf_rules.specs.bpf_semantics.Program.{ShapedProgram, shaped}
-use Rattle.bpf_rules.specs.cells.Arrays.{AppShape}
-use Rattle.bpf_rules.specs.abs_value.declared.interval.Interval.{Interval}
-use Rattle.bpf_rules.specs.abs_value.declared.known_bits.KnownBits.{KnownBits}
-use Rattle.bpf_rules.specs.abs_value.declared.number.Number.{Number}
-use Rattle.bpf_rules.specs.abs_value.declared.origin.Lookup.{Lookup}
-use Rattle.bpf_rules.specs.abs_value.declared.origin.Origin.{Origin}
-use Rattle.bpf_rules.specs.abs_value.declared.origin.Origin.TheVariants.{Found, Fixed}
-use Rattle.bpf_rules.specs.abs_value.declared.value.Abs.{Abs}
-use Rattle.bpf_rules.specs.abs_value.declared.value.Abs.TheVariants.{Unusable, Num, Ctx}
-use Rattle.bpf_rules.specs.abs_value.declared.value.Abs.TheVariants.{Stk, Map, MayCell, Cell}
-use Rattle.bpf_rules.specs.abs_value.declared.slot.AbsSlot.{AbsSlot}
-use Rattle.bpf_rules.specs.abs_value.declared.slot.AbsSlot.TheVariants.{Kept, Bytes}
-use Rattle.bpf_rules.specs.abs_value.declared.state.AbsState.{AbsState}
-use Rattle.bpf_rules.specs.abs_value.Intervals.{hull}
-use Rattle.bpf_rules.specs.abs_value.Known.{common}
-use Rattle.bpf_rules.specs.abs_value.Numbers.{least, most, tidy, is_empty, tidied}
-use Rattle.bpf_rules.specs.abs_value.Values.{same_lookup, same_origin, is_unusable, join_values}
-use Rattle.bpf_rules.specs.abs_value.Stack.{mask_of, slot_at, is_set}
-use Rattle.bpf_rules.specs.abs_value.Stack.{kept_slot, join_slots, join_stacks}
-use Rattle.bpf_rules.specs.abs_value.States.{register_at, value_at, join_registers}
-use Rattle.bpf_rules.specs.abs_value.States.{join_states, opening_state}
+use Rattle.bpf_insn.specs.declared.insn.Insn.{Insn}
+use Rattle.bpf_insn.specs.Program.{Program, at}
+use Rattle.bpf_semantics.specs.Memory.{stack_size}
+use Rattle.bpf_semantics.specs.Program.{ShapedProgram, shaped}
+use Rattle.cells.specs.Arrays.{AppShape}
+use Rattle.abs_value.specs.declared.interval.Interval.{Interval}
+use Rattle.abs_value.specs.declared.known_bits.KnownBits.{KnownBits}
+use Rattle.abs_value.specs.declared.number.Number.{Number}
+use Rattle.abs_value.specs.declared.origin.Lookup.{Lookup}
+use Rattle.abs_value.specs.declared.origin.Origin.{Origin}
+use Rattle.abs_value.specs.declared.origin.Origin.TheVariants.{Found, Fixed}
+use Rattle.abs_value.specs.declared.value.Abs.{Abs}
+use Rattle.abs_value.specs.declared.value.Abs.TheVariants.{Unusable, Num, Ctx}
+use Rattle.abs_value.specs.declared.value.Abs.TheVariants.{Stk, Map, MayCell, Cell}
+use Rattle.abs_value.specs.declared.slot.AbsSlot.{AbsSlot}
+use Rattle.abs_value.specs.declared.slot.AbsSlot.TheVariants.{Kept, Bytes}
+use Rattle.abs_value.specs.declared.state.AbsState.{AbsState}
+use Rattle.abs_value.specs.Intervals.{hull}
+use Rattle.abs_value.specs.Known.{common}
+use Rattle.abs_value.specs.Numbers.{least, most, tidy, is_empty, tidied}
+use Rattle.abs_value.specs.Values.{same_lookup, same_origin, is_unusable, join_values}
+use Rattle.abs_value.specs.Stack.{mask_of, slot_at, is_set, kept_slot, join_slots, join_stacks}
+use Rattle.abs_value.specs.States.{register_at, value_at, join_registers}
+use Rattle.abs_value.specs.States.{join_states, opening_state}
 use Rattle.bpf_rules.specs.Transfer.{Edge}
 use Rattle.bpf_verify.specs.Accepted.{to_place, joined, join_all, edges_of, incoming, IsAccepted}
 use Rattle.bpf_verify.specs.Table.{Known, LiesIn, IsWider, Knows, IsTable}

@@ -6,13 +6,13 @@ use Rattle.std.specs.Prelude.{IfSome, is_some, ◌==◌, ◌||◌, if◌then◌e
 use Rattle.std.specs.List.{AllByRecursion}
 use Rattle.std.proofs.lemmas.List.{length-replicate}
 use Rattle.std.proofs.lemmas.Option.{same_Some, none-some}
-use Rattle.bpf_rules.specs.bpf_insn.declared.insn.Insn.{Insn}
-use Rattle.bpf_rules.specs.bpf_insn.Program.{Program, at, ◌>>=◌}
-use Rattle.bpf_rules.specs.bpf_semantics.Program.{ShapedProgram}
-use Rattle.bpf_rules.specs.flow_check.Edges.{target_of, goes_on, next_of}
-use Rattle.bpf_rules.specs.flow_check.Flow.{IsLayout, IsForward, IsAhead}
-use Rattle.bpf_rules.specs.abs_value.declared.state.AbsState.{AbsState}
-use Rattle.bpf_rules.specs.abs_value.States.{opening_state}
+use Rattle.bpf_insn.specs.declared.insn.Insn.{Insn}
+use Rattle.bpf_insn.specs.Program.{Program, at, ◌>>=◌}
+use Rattle.bpf_semantics.specs.Program.{ShapedProgram}
+use Rattle.flow_check.specs.Edges.{target_of, goes_on, next_of}
+use Rattle.flow_check.specs.Flow.{IsLayout, IsForward, IsAhead}
+use Rattle.abs_value.specs.declared.state.AbsState.{AbsState}
+use Rattle.abs_value.specs.States.{opening_state}
 use Rattle.bpf_rules.specs.declared.refusal.VerifierRule.{VerifierRule}
 use Rattle.bpf_rules.specs.Rules.{first_rule}
 use Rattle.bpf_rules.specs.Transfer.{edges, next_edge, jumping, going_on}

@@ -3,7 +3,7 @@ use Rattle.std.proofs.Common.{◌≡◌, ◌≢◌, ℕ, zero, suc, ◌+◌, ◌
 use Rattle.std.proofs.Common.{length, replicate, Option, Some, None, refl, sym, ap, ◌∙◌, arith}
 use Rattle.std.specs.Prelude.{map, max, slice_set}
 use Rattle.std.proofs.lemmas.List.{length-map, length-set}
-use Rattle.bpf_rules.specs.abs_value.declared.state.AbsState.{AbsState}
+use Rattle.abs_value.specs.declared.state.AbsState.{AbsState}
 use Rattle.bpf_verify.specs.Pool.{held, IsChanged, entry_in, waiting, index_at, IsPool}
 use Rattle.bpf_verify.proofs.Lists.{get-end, get-before, get-set_same}
 use Rattle.bpf_verify.proofs.Lists.{get-set_other, index-set_same, index-set_other}

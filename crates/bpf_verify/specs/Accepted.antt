@@ -1,13 +1,13 @@
 -- The entry of each place, and which programs are accepted.
 use Rattle.std.specs.Prelude.{◌≡◌, ℕ, zero, suc, ◌<◌, List, [], ◌∷◌, ◌++◌, Option, Some, None}
 use Rattle.std.specs.Prelude.{◌==◌, if◌then◌else◌}
-use Rattle.bpf_rules.specs.bpf_insn.declared.insn.Insn.{Insn}
-use Rattle.bpf_rules.specs.bpf_insn.Program.{Program, at}
-use Rattle.bpf_rules.specs.bpf_semantics.Program.{ShapedProgram, shaped}
-use Rattle.bpf_rules.specs.cells.Arrays.{AppShape}
-use Rattle.bpf_rules.specs.abs_value.declared.state.AbsState.{AbsState}
-use Rattle.bpf_rules.specs.abs_value.States.{join_states, opening_state}
-use Rattle.bpf_rules.specs.abs_value.Order.{IsStateInOrder}
+use Rattle.bpf_insn.specs.declared.insn.Insn.{Insn}
+use Rattle.bpf_insn.specs.Program.{Program, at}
+use Rattle.bpf_semantics.specs.Program.{ShapedProgram, shaped}
+use Rattle.cells.specs.Arrays.{AppShape}
+use Rattle.abs_value.specs.declared.state.AbsState.{AbsState}
+use Rattle.abs_value.specs.States.{join_states, opening_state}
+use Rattle.abs_value.specs.Order.{IsStateInOrder}
 use Rattle.bpf_rules.specs.declared.refusal.VerifierRule.{VerifierRule}
 use Rattle.bpf_rules.specs.declared.refusal.Refusal.{Refusal}
 use Rattle.bpf_rules.specs.declared.refusal.Refusal.TheVariants as refusal

@@ -1,17 +1,17 @@
 -- What is promised of the runs of a program that is accepted.
 use Rattle.std.specs.Prelude.{◌≡◌, ℕ, ◌+◌, ◌<◌, ◌≤◌, List, All, length, Some, IsSome}
-use Rattle.bpf_rules.specs.bpf_insn.Program.{at}
-use Rattle.bpf_rules.specs.bpf_semantics.State.{State, HasWords}
-use Rattle.bpf_rules.specs.bpf_semantics.Outcome.{Outcome, Going, Asks, Done, Trap}
-use Rattle.bpf_rules.specs.bpf_semantics.Step.{step}
-use Rattle.bpf_rules.specs.bpf_semantics.Program.{ShapedProgram}
-use Rattle.bpf_rules.specs.bpf_semantics.Run.{Ends}
-use Rattle.bpf_rules.specs.cells.Arrays.{AppShape}
-use Rattle.bpf_rules.specs.cells.Events.{CanReply}
-use Rattle.bpf_rules.specs.cells.declared.event.CellEvent.{CellEvent}
-use Rattle.bpf_rules.specs.cells.declared.event.CellOp.{CellOp}
-use Rattle.bpf_rules.specs.abs_value.declared.state.AbsState.{AbsState}
-use Rattle.bpf_rules.specs.abs_value.Covers.{IsStoodFor}
+use Rattle.bpf_insn.specs.Program.{at}
+use Rattle.bpf_semantics.specs.State.{State, HasWords}
+use Rattle.bpf_semantics.specs.Outcome.{Outcome, Going, Asks, Done, Trap}
+use Rattle.bpf_semantics.specs.Step.{step}
+use Rattle.bpf_semantics.specs.Program.{ShapedProgram}
+use Rattle.bpf_semantics.specs.Run.{Ends}
+use Rattle.cells.specs.Arrays.{AppShape}
+use Rattle.cells.specs.Events.{CanReply}
+use Rattle.cells.specs.declared.event.CellEvent.{CellEvent}
+use Rattle.cells.specs.declared.event.CellOp.{CellOp}
+use Rattle.abs_value.specs.declared.state.AbsState.{AbsState}
+use Rattle.abs_value.specs.Covers.{IsStoodFor}
 use Rattle.bpf_rules.specs.Sound.{IsLawful}
 use Rattle.bpf_verify.specs.Accepted.{entry_of}
 

@@ -1,10 +1,10 @@
 -- The entry at hand, and what the entries are before a place is judged.
 use Rattle.std.specs.Prelude.{ℕ, Option, Some, None, if◌then◌else◌}
-use Rattle.bpf_rules.specs.abs_value.declared.state.AbsState.{AbsState}
-use Rattle.bpf_rules.specs.bpf_insn.Program.{Program}
-use Rattle.bpf_rules.specs.cells.Arrays.{AppShape}
+use Rattle.abs_value.specs.declared.state.AbsState.{AbsState}
+use Rattle.bpf_insn.specs.Program.{Program}
+use Rattle.cells.specs.Arrays.{AppShape}
 use Rattle.bpf_verify.specs.Pool.{waits_at}
-use Rattle.bpf_rules.specs.bpf_semantics.Program.{shaped}
+use Rattle.bpf_semantics.specs.Program.{shaped}
 use Rattle.bpf_verify.specs.Sweep.{arrived, IsSwept, HasArrived}
 use Rattle.bpf_verify.specs.declared.entries.Entries.{Entries}
 

@@ -2,8 +2,8 @@
 use Rattle.std.specs.Prelude.{◌≡◌, ◌≢◌, ℕ, ◌+◌, ◌<◌, ◌≤◌}
 use Rattle.std.specs.Prelude.{List, length, map, slice_index_or, slice_get}
 use Rattle.std.specs.Prelude.{Option, Some, None, is_some}
-use Rattle.bpf_rules.specs.abs_value.declared.state.AbsState.{AbsState}
-use Rattle.bpf_rules.specs.abs_value.States.{join_states}
+use Rattle.abs_value.specs.declared.state.AbsState.{AbsState}
+use Rattle.abs_value.specs.States.{join_states}
 use Rattle.bpf_verify.specs.Count.{count}
 
 -- for each place the entry that waits for it, and how many waited at most at once

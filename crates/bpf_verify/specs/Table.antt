@@ -2,16 +2,16 @@
 -- and each edge leads within it, the program is accepted. What the sweep finds may be narrower.
 use Rattle.std.specs.Prelude.{◌≡◌, ℕ, ◌<◌, ◌≤◌, List, length, Some, None, Bool, true}
 use Rattle.std.specs.List.{AllByRecursion}
-use Rattle.bpf_rules.specs.bpf_insn.declared.insn.Insn.{Insn}
-use Rattle.bpf_rules.specs.bpf_insn.Program.{Program, at}
-use Rattle.bpf_rules.specs.bpf_semantics.Memory.{stack_size}
-use Rattle.bpf_rules.specs.cells.Arrays.{AppShape}
-use Rattle.bpf_rules.specs.abs_value.declared.value.Abs.{Abs}
-use Rattle.bpf_rules.specs.abs_value.declared.value.Abs.TheVariants.{Unusable, Num, Ctx}
-use Rattle.bpf_rules.specs.abs_value.declared.state.AbsState.{AbsState}
-use Rattle.bpf_rules.specs.abs_value.Numbers.{least, most}
-use Rattle.bpf_rules.specs.abs_value.Stack.{is_set}
-use Rattle.bpf_rules.specs.abs_value.States.{register_at, value_at, opening_state}
+use Rattle.bpf_insn.specs.declared.insn.Insn.{Insn}
+use Rattle.bpf_insn.specs.Program.{Program, at}
+use Rattle.bpf_semantics.specs.Memory.{stack_size}
+use Rattle.cells.specs.Arrays.{AppShape}
+use Rattle.abs_value.specs.declared.value.Abs.{Abs}
+use Rattle.abs_value.specs.declared.value.Abs.TheVariants.{Unusable, Num, Ctx}
+use Rattle.abs_value.specs.declared.state.AbsState.{AbsState}
+use Rattle.abs_value.specs.Numbers.{least, most}
+use Rattle.abs_value.specs.Stack.{is_set}
+use Rattle.abs_value.specs.States.{register_at, value_at, opening_state}
 use Rattle.bpf_rules.specs.Rules.{first_rule}
 use Rattle.bpf_rules.specs.Transfer.{Edge, edges}
 

@@ -1,8 +1,8 @@
 -- A walk over the places of a program, by the entries that the sweep judges by.
 use Rattle.std.specs.Prelude.{ℕ, ◌≤◌, length, Option}
-use Rattle.bpf_rules.specs.bpf_insn.Program.{Program}
-use Rattle.bpf_rules.specs.cells.Arrays.{AppShape}
-use Rattle.bpf_rules.specs.abs_value.declared.state.AbsState.{AbsState}
+use Rattle.bpf_insn.specs.Program.{Program}
+use Rattle.cells.specs.Arrays.{AppShape}
+use Rattle.abs_value.specs.declared.state.AbsState.{AbsState}
 use Rattle.bpf_verify.specs.Accepted.{IsAccepted}
 use Rattle.bpf_verify.specs.Entries.{at_hand, AreSwept, HaveArrived}
 use Rattle.bpf_verify.specs.declared.walk.Walk.{Walk}

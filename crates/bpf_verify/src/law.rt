@@ -1,12 +1,12 @@
 //! Laws about all programs: none has two verdicts, and of all that is known of a register, or of a
 //! slot of the stack, the ends are in order.
 
-ghost use Rattle.bpf_rules.specs.bpf_insn.Program.{Program};
-ghost use Rattle.bpf_rules.specs.bpf_semantics.Program.{ShapedProgram};
-ghost use Rattle.bpf_rules.specs.cells.Arrays.{AppShape};
+ghost use Rattle.bpf_insn.specs.Program.{Program};
+ghost use Rattle.bpf_semantics.specs.Program.{ShapedProgram};
+ghost use Rattle.cells.specs.Arrays.{AppShape};
 ghost use Rattle.bpf_verify.specs.Accepted.{ProgramHasOneVerdict, HasEndsInOrder};
 
-use bpf_rules::abs_value::states_stay_in_order;
+use abs_value::states_stay_in_order;
 use bpf_rules::edges_stay_in_order;
 
 /// A law: a program under a shape is accepted, or refused at one place by one rule.

@@ -31,13 +31,9 @@ mod table;
 mod verified;
 mod walk;
 
-pub use bpf_rules::cells::Shape;
 pub use bpf_rules::{Refusal, VerifierRule};
+pub use cells::Shape;
 pub use law::{ends_are_in_order, one_verdict};
 pub use table::table_is_enough;
 pub use verified::{Verified, verify, verify_counted};
 pub use walk::{Walk, end_is_accepted};
-
-// The words of the contracts here come with them.
-pub use bpf_rules;
-pub use bpf_rules::{bpf_semantics, flow_check};

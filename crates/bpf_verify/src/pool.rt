@@ -6,7 +6,7 @@ ghost use Rattle.std.specs.Prelude.{◌≡◌, ◌<◌, ◌≤◌, length, repli
 ghost use Rattle.std.specs.Prelude.{IfOk, OnOk, OnErr, Some, None, option_copied};
 ghost use Rattle.bpf_verify.specs.Pool.{waits_at, held, joined_with, IsChanged};
 
-use bpf_rules::abs_value::AbsState;
+use abs_value::AbsState;
 use std::alloc::{AllocError, Global};
 use std::marker::Model;
 

@@ -3,18 +3,18 @@
 //! targets that lie ahead alone.
 
 ghost use Rattle.std.specs.Prelude.{◌≡◌, ◌<◌, ◌≤◌, ◌+◌, length, OnOk, IfErr, OnErr, Some};
-ghost use Rattle.bpf_rules.specs.bpf_insn.Program.{at};
-ghost use Rattle.bpf_rules.specs.flow_check.Edges.{next_of};
-ghost use Rattle.bpf_rules.specs.bpf_semantics.Program.{shaped};
+ghost use Rattle.bpf_insn.specs.Program.{at};
+ghost use Rattle.flow_check.specs.Edges.{next_of};
+ghost use Rattle.bpf_semantics.specs.Program.{shaped};
 ghost use Rattle.bpf_verify.specs.Accepted.{IsFine, IsRefusal, FailsAt, IsAccepted};
 ghost use Rattle.bpf_verify.specs.Entries.{AreSwept, HaveArrived};
 ghost use Rattle.bpf_verify.specs.Kept.{IsPeak, IsPeakBefore, greatest_ahead};
 
 use crate::entries::Entries;
-use bpf_rules::bpf_insn::Insn;
-use bpf_rules::cells::Shape;
-use bpf_rules::flow_check::Flow;
+use bpf_insn::Insn;
 use bpf_rules::{Refusal, first_rule};
+use cells::Shape;
+use flow_check::Flow;
 use std::alloc::AllocError;
 
 /// Judges the instruction at the slot by the entry at hand; where there is none, nothing is judged.

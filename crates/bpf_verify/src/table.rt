@@ -1,8 +1,8 @@
 //! What shows that a program is accepted, for those who make programs.
 
 ghost use Rattle.std.specs.Prelude.{ℕ};
-ghost use Rattle.bpf_rules.specs.bpf_insn.Program.{Program};
-ghost use Rattle.bpf_rules.specs.cells.Arrays.{AppShape};
+ghost use Rattle.bpf_insn.specs.Program.{Program};
+ghost use Rattle.cells.specs.Arrays.{AppShape};
 ghost use Rattle.bpf_verify.specs.Accepted.{IsAccepted};
 ghost use Rattle.bpf_verify.specs.Table.{Known, IsTable};
 

@@ -2,20 +2,20 @@
 //! sweep does, and its user drives it: arrive, look at the entry, judge, carry on.
 
 ghost use Rattle.std.specs.Prelude.{◌≡◌, ◌<◌, length, option_copied, IfOk, IfErr, OnOk, Some};
-ghost use Rattle.bpf_rules.specs.bpf_insn.Program.{Program, at};
-ghost use Rattle.bpf_rules.specs.bpf_semantics.Program.{shaped};
-ghost use Rattle.bpf_rules.specs.flow_check.Edges.{next_of};
-ghost use Rattle.bpf_rules.specs.cells.Arrays.{AppShape};
+ghost use Rattle.bpf_insn.specs.Program.{Program, at};
+ghost use Rattle.bpf_semantics.specs.Program.{shaped};
+ghost use Rattle.flow_check.specs.Edges.{next_of};
+ghost use Rattle.cells.specs.Arrays.{AppShape};
 ghost use Rattle.bpf_verify.specs.Accepted.{IsFine, IsRefusal, FailsAt};
 ghost use Rattle.bpf_verify.specs.Walk.{entry_here, IsWalkBefore, IsWalkAt, EndIsAccepted};
 
 use crate::entries::Entries;
 use crate::sweep;
+use abs_value::AbsState;
+use bpf_insn::Insn;
 use bpf_rules::Refusal;
-use bpf_rules::abs_value::AbsState;
-use bpf_rules::bpf_insn::Insn;
-use bpf_rules::cells::Shape;
-use bpf_rules::flow_check::Flow;
+use cells::Shape;
+use flow_check::Flow;
 use std::alloc::{AllocError, Global};
 
 /// The entries of a program's places, one after the other, upwards. It keeps what `verify` keeps:

@@ -13,7 +13,7 @@ use Rattle.charts.specs.Shares.{choice_label, row_if_any}
 use Rattle.charts.specs.Shown.{no_offer, offer_in, offered}
 use Rattle.charts.specs.declared.moves.MoveWidths.{MoveWidths}
 use Rattle.simulation.specs.Counts.{buckets_with, choices_or_none}
-use Rattle.simulation.specs.rulesets.Rules.{AppRule}
+use Rattle.ruleset.specs.Rules.{AppRule}
 use native.Mathlib.Numerals.{unary_clauses}
 
 -- one part further, and at the end

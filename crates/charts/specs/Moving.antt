@@ -12,7 +12,7 @@ use Rattle.charts.specs.Shown.{Offer, Simulation, apps_gone, choice_name, choice
 use Rattle.charts.specs.Shown.{offer_of, version_at}
 use Rattle.charts.specs.declared.moves.MoveWidths.{MoveWidths}
 use Rattle.simulation.specs.Counts.{buckets_moving}
-use Rattle.simulation.specs.rulesets.Rules.{AppRule}
+use Rattle.ruleset.specs.Rules.{AppRule}
 
 -- ---- what is lost
 

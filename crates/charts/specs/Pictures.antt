@@ -11,7 +11,7 @@ use Rattle.charts.specs.Shares.{choice_label}
 use Rattle.charts.specs.Shown.{Simulation, choices_among, versions_of}
 use Rattle.charts.specs.Xml.{xml_text}
 use Rattle.simulation.specs.Counts.{buckets_with}
-use Rattle.simulation.specs.rulesets.Rules.{AppRule}
+use Rattle.ruleset.specs.Rules.{AppRule}
 
 -- ---- colours
 

@@ -7,8 +7,8 @@ use Rattle.std.specs.List.{flat_map}
 use Rattle.charts.specs.Columns.{at_left, at_right, bar, percent, widest}
 use Rattle.charts.specs.Shown.{Simulation, choices_among, version_at, versions_of}
 use Rattle.simulation.specs.Counts.{buckets_with}
-use Rattle.simulation.specs.rulesets.Rules.{AppRule}
-use Rattle.simulation.specs.rulesets.Texts.{line}
+use Rattle.ruleset.specs.Rules.{AppRule}
+use Rattle.ruleset.specs.Texts.{line}
 
 -- what a choice is called in a table: none, or a release's number in two places and its version
 abbrev pub choice_label : List (List ℕ) → ℕ → List ℕ

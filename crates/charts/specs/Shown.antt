@@ -6,7 +6,7 @@ use Rattle.std.specs.Prelude.{◌==◌, if◌then◌else◌, Option, Some, None,
 use Rattle.std.specs.List.{filter, range_with_len}
 use Rattle.std.specs.Str.{bytes_eq}
 use Rattle.simulation.specs.Counts.{choices_or_none}
-use Rattle.simulation.specs.rulesets.Rules.{AppRule, app_in}
+use Rattle.ruleset.specs.Rules.{AppRule, app_in}
 
 -- the apps of a ruleset, in their order, and what the buckets choose of each
 pub record Simulation : Type 0 where

@@ -7,7 +7,7 @@ ghost use Rattle.charts.specs.Shown.{versions_of};
 
 use crate::colours::push_colour;
 use crate::labels::release_count;
-use simulation::ruleset::App;
+use ruleset::App;
 use simulation::{Choices, count_buckets};
 use std::alloc::AllocError;
 use std::fmt::Write;

@@ -6,8 +6,8 @@ ghost use Rattle.charts.specs.Shares.{choice_label};
 ghost use Rattle.charts.specs.Shown as specs;
 
 use crate::columns::{push_number_left, width_of};
-use simulation::bpf_machine::bpf_verify::Verified;
-use simulation::ruleset::App;
+use bpf_verify::Verified;
+use ruleset::App;
 use std::alloc::AllocError;
 
 /// The number of an app's releases, at most 64.

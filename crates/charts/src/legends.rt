@@ -11,7 +11,7 @@ use crate::colours::push_colour;
 use crate::columns::push_percent;
 use crate::labels::{push_choice_label, release_count};
 use crate::xml::push_xml;
-use simulation::ruleset::App;
+use ruleset::App;
 use simulation::{Choices, count_buckets};
 use std::alloc::AllocError;
 use std::fmt::Write;

@@ -21,7 +21,3 @@ pub use moves::push_moves;
 pub use picturing::draw;
 pub use shares::push_shares;
 pub use simulated::Simulated;
-
-// The words of the contracts here come with them.
-pub use simulation;
-pub use simulation::ruleset;

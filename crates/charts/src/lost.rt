@@ -6,7 +6,7 @@ ghost use Rattle.charts.specs.Shown.{versions_or_none};
 
 use crate::labels::version_at;
 use attrs::read_version;
-use simulation::ruleset::App;
+use ruleset::App;
 
 /// Whether a bucket loses its release where it moves from the one choice to the other: it gets
 /// none, or a release of a lower version.

@@ -11,7 +11,7 @@ use crate::labels::{choice_name, release_count, widest_version};
 use crate::lost::loses;
 use crate::shares::push_title;
 use crate::simulated::{Offered, Simulated};
-use simulation::ruleset::App;
+use ruleset::App;
 use simulation::{Choices, count_moves};
 use std::alloc::{AllocError, Global};
 

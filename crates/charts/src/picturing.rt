@@ -9,8 +9,8 @@ use crate::labels::release_count;
 use crate::legends::push_legend;
 use crate::simulated::Simulated;
 use crate::xml::push_xml;
+use ruleset::App;
 use simulation::Choices;
-use simulation::ruleset::App;
 use std::alloc::{AllocError, Global};
 use std::fmt::Write;
 

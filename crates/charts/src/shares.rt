@@ -8,7 +8,7 @@ ghost use Rattle.charts.specs.Shown.{versions_of};
 use crate::columns::{push_bar, push_left, push_number_right, push_percent_right};
 use crate::labels::{push_choice_label, release_count, widest_version};
 use crate::simulated::Simulated;
-use simulation::ruleset::App;
+use ruleset::App;
 use simulation::{Choices, count_buckets};
 use std::alloc::AllocError;
 use std::fmt::Write;

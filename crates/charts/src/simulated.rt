@@ -5,9 +5,9 @@ ghost use Rattle.charts.specs.Shown as specs;
 ghost use Rattle.simulation.specs.Clients.{IsSameButApp};
 ghost use Rattle.simulation.specs.Counts.{choices_or_none};
 ghost use Rattle.simulation.specs.Course.{IsSimulated};
-ghost use Rattle.simulation.specs.rulesets.Rules.{app_in};
+ghost use Rattle.ruleset.specs.Rules.{app_in};
 
-use simulation::ruleset::{App, Ruleset};
+use ruleset::{App, Ruleset};
 use simulation::{Choices, Client, Onlooker, simulate};
 use std::alloc::{AllocError, Global};
 use std::marker::Model;

@@ -3,9 +3,9 @@
 
 use crate::rules::{must, shape};
 use crate::warned::{manifest_of, releases_of};
+use cells::Shape;
 use releases::Release;
-use rule_diagnosis::cells::Shape;
-use rule_diagnosis::rule_lang::{Rule, parse};
+use rule_lang::{Rule, parse};
 use std::alloc::Global;
 use std::test::Fail;
 use warnings::{AskedRule, tell_rule};

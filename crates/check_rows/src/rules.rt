@@ -2,8 +2,8 @@
 //! cell with a quota, and `n`, of ten cells without: of what is no word, no name, or out of range.
 
 use cells::{ArrayNo, CellWidth, CellsFault, Directory, Shape};
-use rule_diagnosis::rule_lang::{RuleFault, RuleFaultKind, parse};
 use rule_diagnosis::tell_rule_fault;
+use rule_lang::{RuleFault, RuleFaultKind, parse};
 use std::alloc::{AllocError, Global};
 use std::test::Fail;
 

@@ -27,9 +27,3 @@ pub use option_misfit::OptionMisfit;
 pub use request::{AskedRun, AskedSimulation, CommandRequest, DeclaredShape, Plan};
 pub use told::ToldApp;
 pub use words::read_words;
-
-// The words of the contracts here come with them.
-pub use attrs;
-pub use cells;
-pub use declarations;
-pub use operator_request;

@@ -6,8 +6,8 @@ use Rattle.std.specs.Prelude.{IsTrue, codes, nat_eq}
 use Rattle.std.specs.List.{starts_with, ends_with}
 use Rattle.std.specs.Str.Pattern.{LacksTextAt}
 use Rattle.std.specs.Cmp.Lexicographic.{same_text}
-use Rattle.serving.specs.operator.Replies.{IsReplyTo, is_answer}
-use Rattle.program_tools.specs.operator_request.declared.request.OperatorRequest.{OperatorRequest}
+use Rattle.operator.specs.Replies.{IsReplyTo, is_answer}
+use Rattle.operator_request.specs.declared.request.OperatorRequest.{OperatorRequest}
 use Rattle.commands.specs.Asked.{IsDoneAs}
 
 lacks_word : (word bytes : List ℕ) (r : Bool) → r ≡ starts_with nat_eq bytes word

@@ -3,9 +3,9 @@
 -- server replies no contract can say; of memory that was refused no claim is made.
 use Rattle.std.specs.Prelude.{◌≡◌, [], option_copied}
 use Rattle.std.specs.String.{string_bytes}
-use Rattle.program_tools.specs.command_line.declared.request.CommandRequest.{CommandRequest}
-use Rattle.program_tools.specs.command_line.declared.request.CommandRequest.TheVariants as request
-use Rattle.program_tools.specs.operator_request.declared.request.OperatorRequest.TheVariants as sent
+use Rattle.command_line.specs.declared.request.CommandRequest.{CommandRequest}
+use Rattle.command_line.specs.declared.request.CommandRequest.TheVariants as request
+use Rattle.operator_request.specs.declared.request.OperatorRequest.TheVariants as sent
 use Rattle.commands.specs.Asked.{IsAskRefusal, IsDoneAs}
 use Rattle.commands.specs.Clients.{client_told}
 use Rattle.commands.specs.declared.answer.Answer.{Answer}
@@ -15,12 +15,12 @@ use Rattle.commands.specs.declared.answer.Answer.TheVariants.{Listed, Accepted, 
 use Rattle.commands.specs.declared.answer.Answer.TheVariants.{Ordered, Replayed, Ready, Traced}
 use Rattle.commands.specs.declared.fault.Fault.{Fault}
 use Rattle.commands.specs.declared.fault.Fault.TheVariants.{Manifest, Program, Serving}
-use Rattle.manifest_tools.specs.load.Loaded.{IsLoadedFrom}
+use Rattle.load.specs.Loaded.{IsLoadedFrom}
 use Rattle.program_tools.specs.Programs.{IsProgramRefusal, IsRunRefusal}
 use Rattle.manifest_tools.specs.Manifests.{HasReplayed, IsChecked, IsCheckRefusal}
 use Rattle.manifest_tools.specs.Manifests.{IsReplayRefusal}
 use Rattle.manifest_tools.specs.Simulations.{HasSimulated, IsSimulationRefusal}
-use Rattle.program_tools.specs.bounded_files.Files.{KnownFiles}
+use Rattle.bounded_files.specs.Files.{KnownFiles}
 use Rattle.program_tools.specs.Assembly.{IsAssembledFrom, IsAssemblyRefusal}
 use Rattle.program_tools.specs.Assembly.{IsListedFrom, IsListingRefusal}
 use Rattle.program_tools.specs.Explanations.{HasExplained, IsExplainRefusal}

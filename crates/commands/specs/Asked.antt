@@ -2,10 +2,10 @@
 use Rattle.std.specs.Prelude.{ℕ, List, IsTrue}
 use Rattle.commands.specs.declared.fault.Fault.{Fault}
 use Rattle.commands.specs.declared.fault.Fault.TheVariants.{Ask, Told}
-use Rattle.serving.specs.operator.Replies.{is_answer}
-use Rattle.serving.specs.operator.declared.asking.AskFault.TheVariants.{Word}
-use Rattle.program_tools.specs.operator_request.Requests.{IsSendable}
-use Rattle.program_tools.specs.operator_request.declared.request.OperatorRequest.{OperatorRequest}
+use Rattle.operator.specs.Replies.{is_answer}
+use Rattle.operator.specs.declared.asking.AskFault.TheVariants.{Word}
+use Rattle.operator_request.specs.Requests.{IsSendable}
+use Rattle.operator_request.specs.declared.request.OperatorRequest.{OperatorRequest}
 
 -- the bytes say that what a line asked was done: they are a reply to it, and no refusal
 pub record IsDoneAs (request : OperatorRequest) (bytes : List ℕ) : Type 0 where

@@ -1,12 +1,12 @@
 -- What a command has done where its status is 0, and what its words are where it is 2.
 use Rattle.std.specs.Prelude.{◌≡◌, ◌⊎◌, ℕ, List, [], ◌∷◌, Option, IfSome}
 use Rattle.std.specs.Io.KnownBytes.{Appends}
-use Rattle.program_tools.specs.command_line.declared.request.CommandRequest.{CommandRequest}
-use Rattle.program_tools.specs.command_line.Requests.{AreFaulty, AskFor, AskForHelp, AskForNothing}
+use Rattle.command_line.specs.declared.request.CommandRequest.{CommandRequest}
+use Rattle.command_line.specs.Requests.{AreFaulty, AskFor, AskForHelp, AskForNothing}
 use Rattle.commands.specs.declared.answer.Answer.{Answer}
 use Rattle.commands.specs.declared.fault.Fault.{Fault}
 use Rattle.commands.specs.Answers.{IsAnswer}
-use Rattle.program_tools.specs.bounded_files.Files.{KnownFiles}
+use Rattle.bounded_files.specs.Files.{KnownFiles}
 use Rattle.commands.specs.Texts.{answer_text, fault_text, refusal_reason, refused_line, warnings_of}
 
 -- the lines are what a writer was given; where there are none, nothing was done to it

@@ -15,11 +15,11 @@ use Rattle.commands.specs.declared.fault.Fault.TheVariants as fault
 use Rattle.manifest_tools.specs.Manifests as manifest
 use Rattle.manifest_tools.specs.declared.fault.ManifestToolFault.TheVariants as tool
 use Rattle.program_tools.specs.Texts as program
-use Rattle.program_tools.specs.bounded_files.Texts.{resource_text}
-use Rattle.manifest_tools.specs.rulesets.Texts.{line}
-use Rattle.serving.specs.operator.Texts.{ask_text}
+use Rattle.bounded_files.specs.Texts.{resource_text}
+use Rattle.ruleset.specs.Texts.{line}
+use Rattle.operator.specs.Texts.{ask_text}
 use Rattle.serving.specs.Texts.{serving_text}
-use Rattle.serving.specs.workers.Texts.{serving_line}
+use Rattle.workers.specs.Texts.{serving_line}
 
 abbrev pub answer_text : Answer → List ℕ
 answer_text (Assembled program) = line (decimal (length program.items / 8) ++ codes " slots")

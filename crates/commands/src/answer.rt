@@ -3,10 +3,10 @@
 ghost use Rattle.std.specs.Prelude.{◌≡◌, Some};
 ghost use Rattle.commands.specs.Texts.{answer_text, warnings_of};
 
+use command_line::Plan;
+use hot_swap::Generation;
 use manifest_tools::{CheckedManifest, ToldSimulation};
-use program_tools::command_line::Plan;
 use serving::Server;
-use serving::operator::hot_swap::Generation;
 use std::fmt;
 
 /// What a request is answered, by lines that are each ended by LF.

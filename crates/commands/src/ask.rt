@@ -4,12 +4,12 @@
 ghost use Rattle.std.specs.Prelude.{IfOk, IfErr};
 ghost use Rattle.std.specs.String.{string_bytes};
 ghost use Rattle.commands.specs.Asked.{IsAskRefusal, IsDoneAs};
-ghost use Rattle.serving.specs.operator.Replies.{IsReplyTo};
-ghost use Rattle.program_tools.specs.operator_request.declared.request.OperatorRequest as asked;
+ghost use Rattle.operator.specs.Replies.{IsReplyTo};
+ghost use Rattle.operator_request.specs.declared.request.OperatorRequest as asked;
 
 use crate::fault::Fault;
-use program_tools::command_line::operator_request::OperatorRequest;
-use serving::operator::{AskFault, ask};
+use operator::{AskFault, ask};
+use operator_request::OperatorRequest;
 use std::alloc::Global;
 use std::io::ErrorKind;
 use std::net::{IpAddr, Ipv4Addr, Net, SocketAddr, TcpStream};

@@ -3,11 +3,11 @@
 ghost use Rattle.std.specs.Prelude.{◌≡◌};
 ghost use Rattle.commands.specs.Texts.{fault_text, refusal_reason};
 
+use bounded_files::ResourceFault;
 use manifest_tools::ManifestToolFault;
-use manifest_tools::load::bounded_files::ResourceFault;
+use operator::AskFault;
 use program_tools::ProgramToolFault;
 use serving::ServingFault;
-use serving::operator::AskFault;
 use std::fmt;
 
 /// What is wrong; it is shown as it is printed, behind `refused `.

@@ -17,7 +17,6 @@ mod serve;
 mod simulations;
 mod status;
 
-pub use manifest_tools::load::{Device, Disk};
-pub use program_tools::command_line;
-pub use serving::workers::server_log::LogOutput;
+pub use load::{Device, Disk};
+pub use server_log::LogOutput;
 pub use status::{command, unreadable_words, usage};

@@ -4,13 +4,13 @@
 ghost use Rattle.std.specs.Io.KnownBytes.{Appends};
 ghost use Rattle.std.specs.Prelude.{◌⊎◌, OnOk, IfErr};
 ghost use Rattle.serving.specs.Staffed.{IsStaffFault, IsEndFault};
-ghost use Rattle.serving.specs.workers.Texts.{serving_line};
+ghost use Rattle.workers.specs.Texts.{serving_line};
 
 use crate::serve::serve_by;
-use manifest_tools::load::Disk;
-use program_tools::command_line::{CommandRequest, Plan};
-use serving::workers::server_log::access_log::{Excerpt, LogEvent, Start};
-use serving::workers::server_log::{LogOutput, LogQueue, note_at_once, start_log};
+use access_log::{Excerpt, LogEvent, Start};
+use command_line::{CommandRequest, Plan};
+use load::Disk;
+use server_log::{LogOutput, LogQueue, note_at_once, start_log};
 use serving::{Server, ServingFault};
 use std::fmt::Display;
 use std::io::Write;

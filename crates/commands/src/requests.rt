@@ -8,9 +8,9 @@ use crate::ask::{ask_server, stop_and_wait};
 use crate::fault::Fault;
 use crate::runs::{chosen, traced};
 use crate::simulations::simulated;
-use manifest_tools::load::Disk;
+use command_line::CommandRequest;
+use load::Disk;
 use manifest_tools::{check_file, replay_script};
-use program_tools::command_line::CommandRequest;
 use program_tools::{
     assemble_file, compile_file, explain_file, list_file, order_file, verify_file,
 };

@@ -5,8 +5,8 @@ ghost use Rattle.commands.specs.Answers.{IsAnswer, IsRefused};
 
 use crate::answer::Answer;
 use crate::fault::Fault;
-use manifest_tools::load::Disk;
-use program_tools::command_line::{AskedRun, CommandRequest};
+use command_line::{AskedRun, CommandRequest};
+use load::Disk;
 use program_tools::{run_file, trace_file};
 use std::alloc::Global;
 

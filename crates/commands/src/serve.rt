@@ -4,19 +4,19 @@ ghost use Rattle.std.specs.Duration.{as_nanos};
 ghost use Rattle.std.specs.Io.KnownBytes.{Appends};
 ghost use Rattle.std.specs.Prelude.{◌≡◌, ◌*◌, ◌⊎◌, OnOk, IfErr};
 ghost use Rattle.serving.specs.Staffed.{IsStaffFault, IsEndFault};
-ghost use Rattle.serving.specs.workers.Texts.{serving_line};
+ghost use Rattle.workers.specs.Texts.{serving_line};
 
 use crate::logged::serve_logged;
-use manifest_tools::load::Disk;
-use program_tools::command_line::Plan;
-use serving::workers::Service;
-use serving::workers::server_log::{LogOutput, LogQueue};
+use command_line::Plan;
+use load::Disk;
+use server_log::{LogOutput, LogQueue};
 use serving::{Manifests, Server, ServingFault};
 use std::io::Write;
 use std::net::{Net, TcpListener, TcpStream};
 use std::sync::Wait;
 use std::thread::Threads;
 use std::time::{Clock, Duration};
+use workers::Service;
 
 /// Makes all that a server serves by, and serves by the plan until the operator stops it, with its
 /// log or without one. Once all is made, `out` is told that the first generation is served. S1, H1

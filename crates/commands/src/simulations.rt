@@ -6,11 +6,11 @@ ghost use Rattle.commands.specs.Clients.{client_told};
 
 use crate::answer::Answer;
 use crate::fault::Fault;
-use manifest_tools::charts::simulation::Client;
-use manifest_tools::load::Disk;
-use manifest_tools::load::bounded_files::ResourceFault;
+use bounded_files::ResourceFault;
+use command_line::{AskedSimulation, CommandRequest, ToldApp};
+use load::Disk;
 use manifest_tools::{ManifestToolFault, simulate_files};
-use program_tools::command_line::{AskedSimulation, CommandRequest, ToldApp};
+use simulation::Client;
 use std::alloc::{AllocError, Global};
 use std::rt::Files;
 use std::time::Clock;

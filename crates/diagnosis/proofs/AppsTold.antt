@@ -5,18 +5,18 @@ use Rattle.std.proofs.Common.{refl, sym, ap, ◌∙◌, subst, append_assoc, app
 use Rattle.std.proofs.Math.Seq.{take-length}
 use Rattle.std.specs.Prelude.{IsUtf8}
 use Rattle.std.specs.Option.{ForSome}
-use Rattle.load.specs.bounded_files.Files.{KnownFiles, Gives}
-use Rattle.load.specs.acceptance.rule_lang.Tokens.{Text}
-use Rattle.load.specs.acceptance.rule_lang.Verdicts.{IsRuleFault, IsVerdict, RuleHasOneVerdict}
-use Rattle.load.specs.acceptance.rule_lang.declared.fault.RuleFault.{RuleFault}
-use Rattle.load.specs.acceptance.rule_lang.declared.fault.RuleFault.TheVariants.{At}
-use Rattle.load.specs.acceptance.rule_lang.declared.fault.RuleFaultKind.{RuleFaultKind}
-use Rattle.load.specs.acceptance.rule_lang.declared.rule.Statement.{Statement}
-use Rattle.load.specs.manifest.cells.Arrays.{AppShape}
-use Rattle.load.specs.manifest.App.{AppEntry}
-use Rattle.load.specs.manifest.declared.app.ProgramSource.{ProgramSource}
-use Rattle.load.specs.manifest.declared.app.ProgramSource.TheVariants.{Program, Rule}
-use Rattle.load.specs.rulesets.Rules.{AppRule}
+use Rattle.bounded_files.specs.Files.{KnownFiles, Gives}
+use Rattle.rule_lang.specs.Tokens.{Text}
+use Rattle.rule_lang.specs.Verdicts.{IsRuleFault, IsVerdict, RuleHasOneVerdict}
+use Rattle.rule_lang.specs.declared.fault.RuleFault.{RuleFault}
+use Rattle.rule_lang.specs.declared.fault.RuleFault.TheVariants.{At}
+use Rattle.rule_lang.specs.declared.fault.RuleFaultKind.{RuleFaultKind}
+use Rattle.rule_lang.specs.declared.rule.Statement.{Statement}
+use Rattle.cells.specs.Arrays.{AppShape}
+use Rattle.manifest.specs.App.{AppEntry}
+use Rattle.manifest.specs.declared.app.ProgramSource.{ProgramSource}
+use Rattle.manifest.specs.declared.app.ProgramSource.TheVariants.{Program, Rule}
+use Rattle.ruleset.specs.Rules.{AppRule}
 use Rattle.diagnosis.specs.Asked.{AddsApp, AddsFile, AddsSource, CountsUnread}
 use Rattle.diagnosis.specs.Warned.{AsksApp, Room, WarnsOfApps, app_rule}
 use Rattle.diagnosis.specs.Asked.AddsFile.{no_rule as adds_none, a_rule as adds_rule}

@@ -3,18 +3,18 @@ use Rattle.std.proofs.Common.{◌≡◌, ◌≢◌, ℕ, List, [], Option, Some,
 use Rattle.std.proofs.Common.{refl, sym, ◌∙◌, ap, arith}
 use Rattle.std.proofs.lemmas.List.Elements.{All-nil}
 use Rattle.std.proofs.lemmas.Option.{none-some}
-use Rattle.load.specs.acceptance.rule_lang.Tokens.{Text}
-use Rattle.load.specs.acceptance.rule_lang.Verdicts.{RuleHasOneVerdict}
-use Rattle.load.specs.manifest.cells.Arrays.{AppShape}
-use Rattle.load.specs.manifest.cells.Directory.{IsDirectory}
-use Rattle.load.specs.manifest.Manifest.{Manifest}
-use Rattle.load.specs.manifest.OneReading.{HasOneManifest}
-use Rattle.load.specs.manifest.declared.fault.ManifestFault.{ManifestFault}
-use Rattle.load.specs.bounded_files.Files.{KnownFile}
+use Rattle.rule_lang.specs.Tokens.{Text}
+use Rattle.rule_lang.specs.Verdicts.{RuleHasOneVerdict}
+use Rattle.cells.specs.Arrays.{AppShape}
+use Rattle.cells.specs.Directory.{IsDirectory}
+use Rattle.manifest.specs.Manifest.{Manifest}
+use Rattle.manifest.specs.OneReading.{HasOneManifest}
+use Rattle.manifest.specs.declared.fault.ManifestFault.{ManifestFault}
+use Rattle.bounded_files.specs.Files.{KnownFile}
 use Rattle.load.specs.declared.fault.LoadFault.{LoadFault}
 use Rattle.load.specs.declared.fault.LoadFault.TheVariants.{Memory}
 use Rattle.load.specs.OneLoad.{HasOneLoad}
-use Rattle.load.specs.rulesets.Rules.{Rules}
+use Rattle.ruleset.specs.Rules.{Rules}
 use Rattle.diagnosis.specs.Check.{FailsCheck, PassesCheck}
 use Rattle.diagnosis.specs.OneCheck.{HasOneCheck}
 use Rattle.diagnosis.specs.Texts.{accepted_text}

@@ -5,12 +5,11 @@ use Rattle.diagnosis.specs.Undeclared.{AreFaultsOfArrays, JudgesArray, fault_of_
 use Rattle.diagnosis.specs.Undeclared.AreFaultsOfArrays.{none, next}
 use Rattle.diagnosis.specs.Undeclared.JudgesArray.{declared, refused}
 use Rattle.load.specs.declared.fault.LoadFault.{LoadFault}
-use Rattle.load.specs.manifest.cells.Directory.{Declaration, Declares, IsRefusedDeclaration}
-use Rattle.load.specs.manifest.cells.Directory.{declaration}
-use Rattle.load.specs.manifest.cells.declared.array.CellArray.{CellArray}
-use Rattle.load.specs.manifest.cells.declared.array.CellWidth.{CellWidth}
-use Rattle.load.specs.manifest.cells.declared.fault.CellsFault.{CellsFault}
-use Rattle.load.specs.manifest.cells.declared.fault.CellsFault.TheVariants.{Memory}
+use Rattle.cells.specs.Directory.{Declaration, Declares, IsRefusedDeclaration, declaration}
+use Rattle.cells.specs.declared.array.CellArray.{CellArray}
+use Rattle.cells.specs.declared.array.CellWidth.{CellWidth}
+use Rattle.cells.specs.declared.fault.CellsFault.{CellsFault}
+use Rattle.cells.specs.declared.fault.CellsFault.TheVariants.{Memory}
 
 -- an array of these values is declared
 pub declared_by : {d : Declaration} {name : List ℕ} {width : CellWidth} {length : ℕ}

@@ -7,7 +7,7 @@ use Rattle.diagnosis.specs.Further.{AreFurther}
 use Rattle.diagnosis.specs.Reason.{IsReason}
 use Rattle.diagnosis.specs.Told.{AreFaultsTold, IsFaultTold, TellsFurther, TellsRefused, more_line}
 use Rattle.diagnosis.specs.Told.AreFaultsTold.{none, next}
-use Rattle.load.specs.bounded_files.Files.{KnownFiles}
+use Rattle.bounded_files.specs.Files.{KnownFiles}
 use Rattle.load.specs.declared.fault.LoadFault.{LoadFault}
 
 module _ (known : KnownFiles) (bytes : List ℕ) where

@@ -6,16 +6,16 @@ use Rattle.diagnosis.specs.Further.AreFaultsOf.{none, next}
 use Rattle.diagnosis.specs.Further.JudgesApp.{supplied, refused}
 use Rattle.load.specs.App.{IsShapeOf}
 use Rattle.load.specs.Source.{IsProgramIn, RefusesSource}
-use Rattle.load.specs.acceptance.bpf_semantics.Program.{ShapedProgram}
-use Rattle.load.specs.bounded_files.Files.{KnownFiles}
+use Rattle.bpf_semantics.specs.Program.{ShapedProgram}
+use Rattle.bounded_files.specs.Files.{KnownFiles}
 use Rattle.load.specs.declared.fault.AppFault.{AppFault}
 use Rattle.load.specs.declared.fault.AppFault.TheVariants.{File, Program, Rule, Memory}
 use Rattle.load.specs.declared.fault.LoadFault.{LoadFault}
-use Rattle.load.specs.manifest.App.{AppEntry}
-use Rattle.load.specs.manifest.declared.app.ProgramSource.{ProgramSource}
-use Rattle.load.specs.manifest.cells.Arrays.{AppShape}
-use Rattle.load.specs.manifest.cells.declared.array.ArrayNo.{ArrayNo}
-use Rattle.load.specs.manifest.cells.declared.array.CellArray.{CellArray}
+use Rattle.manifest.specs.App.{AppEntry}
+use Rattle.manifest.specs.declared.app.ProgramSource.{ProgramSource}
+use Rattle.cells.specs.Arrays.{AppShape}
+use Rattle.cells.specs.declared.array.ArrayNo.{ArrayNo}
+use Rattle.cells.specs.declared.array.CellArray.{CellArray}
 
 module _ (known : KnownFiles) (directory : List CellArray) (numbers : List ArrayNo) where
   -- the file of the entry gives a program of its shape

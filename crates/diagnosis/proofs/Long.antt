@@ -2,8 +2,8 @@
 use Rattle.std.proofs.Common.{◌≡◌, ◌⊎◌, List, ℕ, []}
 use Rattle.load.specs.Load.{of_bytes}
 use Rattle.load.specs.declared.fault.LoadFault.TheVariants.{Manifest}
-use Rattle.load.specs.manifest.declared.fault.ManifestFault.TheVariants.{Toml}
-use Rattle.load.specs.manifest.declared.fault.TomlFault.TheVariants.{TooLong}
+use Rattle.manifest.specs.declared.fault.ManifestFault.TheVariants.{Toml}
+use Rattle.manifest.specs.declared.fault.TomlFault.TheVariants.{TooLong}
 use Rattle.diagnosis.specs.Check.{FailsIfLong}
 use Rattle.diagnosis.specs.Reason.{IsTomlReason}
 use Rattle.diagnosis.proofs.FaultsTold.{told_alone}

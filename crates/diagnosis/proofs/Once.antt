@@ -5,18 +5,18 @@ use Rattle.std.proofs.Common.{Result, Ok, slice_get, if◌then◌else◌, refl, 
 use Rattle.std.proofs.lemmas.Slice.Eq.{bytes_eq-Decides}
 use Rattle.std.specs.List.{AllByRecursion, list_any}
 use Rattle.std.specs.Str.{bytes_eq}
-use Rattle.load.specs.manifest.cells.Directory.{Declaration, Declares, next_array}
-use Rattle.load.specs.manifest.cells.Directory.Declares.{again, anew}
-use Rattle.load.specs.manifest.cells.declared.array.ArrayNo.{ArrayNo}
-use Rattle.load.specs.manifest.cells.declared.array.CellArray.{CellArray}
-use Rattle.load.specs.manifest.declarations.Order.{AreDeclared}
-use Rattle.load.specs.manifest.declarations.Order.AreDeclared.{none, next}
-use Rattle.load.specs.rulesets.Texts.{app_line}
+use Rattle.cells.specs.Directory.{Declaration, Declares, next_array}
+use Rattle.cells.specs.Directory.Declares.{again, anew}
+use Rattle.cells.specs.declared.array.ArrayNo.{ArrayNo}
+use Rattle.cells.specs.declared.array.CellArray.{CellArray}
+use Rattle.declarations.specs.Order.{AreDeclared}
+use Rattle.declarations.specs.Order.AreDeclared.{none, next}
+use Rattle.ruleset.specs.Texts.{app_line}
 use Rattle.diagnosis.specs.Texts.{as_declared, array_line, declared_line}
 use Rattle.diagnosis.specs.Texts.{accepted_text, loaded_text}
-use Rattle.load.specs.manifest.Manifest.{Manifest, none_of, once}
-use Rattle.load.specs.manifest.Twice.{repeated}
-use Rattle.load.specs.rulesets.Rules.{AppRule}
+use Rattle.manifest.specs.Manifest.{Manifest, none_of, once}
+use Rattle.manifest.specs.Twice.{repeated}
+use Rattle.ruleset.specs.Rules.{AppRule}
 
 abbrev pub names : List Declaration → List (List ℕ)
 names ds = map (λ (d : Declaration). d.name) ds

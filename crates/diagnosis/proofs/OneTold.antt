@@ -2,21 +2,21 @@
 use Rattle.std.proofs.Common.{◌≡◌, ℕ, ◌+◌, List, [], ◌∷◌, ◌++◌, Option, Some, None}
 use Rattle.std.proofs.Common.{Result, Ok, Err}
 use Rattle.std.proofs.Common.{refl, sym, ap, ◌∙◌, subst}
-use Rattle.load.specs.bounded_files.Files.{KnownFile}
-use Rattle.load.specs.acceptance.Rule.{IsTextOf}
-use Rattle.load.specs.acceptance.rule_lang.Tokens.{Text}
-use Rattle.load.specs.acceptance.rule_lang.Verdicts.{RuleHasOneVerdict}
-use Rattle.load.specs.acceptance.rule_lang.declared.rule.Statement.{Statement}
-use Rattle.load.specs.manifest.App.{AppEntry}
-use Rattle.load.specs.manifest.Manifest.{Manifest}
-use Rattle.load.specs.manifest.OneReading.{HasOneManifest}
-use Rattle.load.specs.manifest.declared.fault.ManifestFault.{ManifestFault}
-use Rattle.load.specs.manifest.cells.declared.array.CellArray.{CellArray}
+use Rattle.bounded_files.specs.Files.{KnownFile}
+use Rattle.acceptance.specs.Rule.{IsTextOf}
+use Rattle.rule_lang.specs.Tokens.{Text}
+use Rattle.rule_lang.specs.Verdicts.{RuleHasOneVerdict}
+use Rattle.rule_lang.specs.declared.rule.Statement.{Statement}
+use Rattle.manifest.specs.App.{AppEntry}
+use Rattle.manifest.specs.Manifest.{Manifest}
+use Rattle.manifest.specs.OneReading.{HasOneManifest}
+use Rattle.manifest.specs.declared.fault.ManifestFault.{ManifestFault}
+use Rattle.cells.specs.declared.array.CellArray.{CellArray}
 use Rattle.warnings.specs.Asked.{all_room}
-use Rattle.load.specs.manifest.cells.Arrays.{AppShape}
-use Rattle.load.specs.manifest.declared.app.ProgramSource.{ProgramSource}
-use Rattle.load.specs.manifest.declared.app.ProgramSource.TheVariants.{Program, Rule}
-use Rattle.load.specs.rulesets.Rules.{AppRule}
+use Rattle.cells.specs.Arrays.{AppShape}
+use Rattle.manifest.specs.declared.app.ProgramSource.{ProgramSource}
+use Rattle.manifest.specs.declared.app.ProgramSource.TheVariants.{Program, Rule}
+use Rattle.ruleset.specs.Rules.{AppRule}
 use Rattle.diagnosis.specs.Unused.{unused_from}
 use Rattle.diagnosis.specs.Warned.{AsksApp, AsksFile, Room, WarnsOf, WarnsOfApp, WarnsOfApps}
 use Rattle.diagnosis.specs.Warned.{app_rule}

@@ -1,7 +1,7 @@
 -- From what was loaded, and from what was read again, to what is told.
 use Rattle.std.proofs.Common.{◌≡◌, ℕ, List, [], Some, true, ◌∙◌, subst}
-use Rattle.load.specs.manifest.cells.Arrays.{AppShape}
-use Rattle.load.specs.manifest.cells.declared.array.CellArray.{CellArray}
+use Rattle.cells.specs.Arrays.{AppShape}
+use Rattle.cells.specs.declared.array.CellArray.{CellArray}
 use Rattle.diagnosis.specs.Check.{PassesCheck}
 use Rattle.diagnosis.specs.Inside.{is_inside}
 use Rattle.diagnosis.specs.Shown.{IsShown, ShowsPlace}
@@ -10,9 +10,9 @@ use Rattle.diagnosis.specs.Texts.{loaded_text}
 use Rattle.diagnosis.specs.Warned.{WarnsOf}
 use Rattle.diagnosis.specs.declared.shown.Place.{Place}
 use Rattle.diagnosis.proofs.Once.{told_as_declared}
-use Rattle.load.specs.bounded_files.Files.{KnownFiles, Gives}
+use Rattle.bounded_files.specs.Files.{KnownFiles, Gives}
 use Rattle.load.specs.Load.{IsRulesetOf}
-use Rattle.load.specs.rulesets.Rules.{AppRule, Rules}
+use Rattle.ruleset.specs.Rules.{AppRule, Rules}
 
 pub passes : (known then_known : KnownFiles) (old : List CellArray) (bytes text warnings : List ℕ)
     (rules : Rules) (arrays lent : List CellArray) (apps : List AppRule) → old ≡ []

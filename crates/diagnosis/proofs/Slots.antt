@@ -2,8 +2,8 @@
 use Rattle.std.proofs.Common.{◌≡◌, ℕ, zero, suc, ◌+◌, ◌<◌, [], ◌∷◌, length, drop}
 use Rattle.std.proofs.Common.{Bool, true, false, ◌||◌, Option, refl, sym, ap, ◌∙◌, arith, add-one}
 use Rattle.std.specs.List.{list_any}
-use Rattle.explaining.specs.bpf_insn.Program.{Program, at}
-use Rattle.explaining.specs.bpf_insn.declared.insn.Insn.{Insn}
+use Rattle.bpf_insn.specs.Program.{Program, at}
+use Rattle.bpf_insn.specs.declared.insn.Insn.{Insn}
 
 at_slot : (code : Program) (slot : ℕ) → slot < length code
     → drop slot code ≡ at code slot ∷ drop (suc slot) code

@@ -1,17 +1,17 @@
 -- What is said beside a member that doesn't fit: of one that there isn't, which there are, and of a
 -- list of tables how they are begun.
 use Rattle.std.specs.Prelude.{ℕ, List, [], codes}
-use Rattle.load.specs.manifest.declared.misfit.AppMisfit.{AppMisfit}
-use Rattle.load.specs.manifest.declared.misfit.AppMisfit.TheVariants as app
-use Rattle.load.specs.manifest.declared.misfit.ArrayMisfit.{ArrayMisfit}
-use Rattle.load.specs.manifest.declared.misfit.ArrayMisfit.TheVariants as array
-use Rattle.load.specs.manifest.declared.misfit.InList.TheVariants.{Count, At}
-use Rattle.load.specs.manifest.declared.misfit.Misfit.{Misfit}
-use Rattle.load.specs.manifest.declared.misfit.Misfit.TheVariants as misfit
-use Rattle.load.specs.manifest.declared.misfit.PackageMisfit.{PackageMisfit}
-use Rattle.load.specs.manifest.declared.misfit.PackageMisfit.TheVariants as the_package
-use Rattle.load.specs.manifest.declared.misfit.ReleaseMisfit.{ReleaseMisfit}
-use Rattle.load.specs.manifest.declared.misfit.ReleaseMisfit.TheVariants as release
+use Rattle.manifest.specs.declared.misfit.AppMisfit.{AppMisfit}
+use Rattle.manifest.specs.declared.misfit.AppMisfit.TheVariants as app
+use Rattle.manifest.specs.declared.misfit.ArrayMisfit.{ArrayMisfit}
+use Rattle.manifest.specs.declared.misfit.ArrayMisfit.TheVariants as array
+use Rattle.manifest.specs.declared.misfit.InList.TheVariants.{Count, At}
+use Rattle.manifest.specs.declared.misfit.Misfit.{Misfit}
+use Rattle.manifest.specs.declared.misfit.Misfit.TheVariants as misfit
+use Rattle.manifest.specs.declared.misfit.PackageMisfit.{PackageMisfit}
+use Rattle.manifest.specs.declared.misfit.PackageMisfit.TheVariants as the_package
+use Rattle.manifest.specs.declared.misfit.ReleaseMisfit.{ReleaseMisfit}
+use Rattle.manifest.specs.declared.misfit.ReleaseMisfit.TheVariants as release
 
 abbrev pub package_advice : PackageMisfit → List ℕ
 package_advice (the_package.Unknown key) =

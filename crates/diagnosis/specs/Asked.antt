@@ -1,11 +1,11 @@
 -- What is added to a text that is told of apps.
 use Rattle.std.specs.Prelude.{◌≡◌, ℕ, List, ◌++◌, Some, None}
-use Rattle.load.specs.acceptance.Rule.{IsTextOf}
-use Rattle.load.specs.acceptance.rule_lang.declared.rule.Statement.{Statement}
-use Rattle.load.specs.bounded_files.Files.{KnownFiles}
-use Rattle.load.specs.manifest.App.{AppEntry}
-use Rattle.load.specs.manifest.declared.app.ProgramSource.{ProgramSource}
-use Rattle.load.specs.rulesets.Rules.{AppRule}
+use Rattle.acceptance.specs.Rule.{IsTextOf}
+use Rattle.rule_lang.specs.declared.rule.Statement.{Statement}
+use Rattle.bounded_files.specs.Files.{KnownFiles}
+use Rattle.manifest.specs.App.{AppEntry}
+use Rattle.manifest.specs.declared.app.ProgramSource.{ProgramSource}
+use Rattle.ruleset.specs.Rules.{AppRule}
 use Rattle.diagnosis.specs.Warned.{AsksApp, Room, WarnsOfApp, app_rule}
 use Rattle.warnings.specs.Asked.{room_left, rule_text}
 

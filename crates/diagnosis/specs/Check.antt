@@ -1,13 +1,13 @@
 -- What comes of the check of a manifest, which is loaded over no arrays.
 use Rattle.std.specs.Prelude.{◌≡◌, ◌<◌, ℕ, List, [], length}
-use Rattle.load.specs.manifest.cells.declared.array.CellArray.{CellArray}
+use Rattle.cells.specs.declared.array.CellArray.{CellArray}
 use Rattle.diagnosis.specs.Texts.{accepted_text}
 use Rattle.diagnosis.specs.Told.{TellsRefused}
 use Rattle.diagnosis.specs.Warned.{WarnsOf}
-use Rattle.load.specs.bounded_files.Files.{KnownFiles}
+use Rattle.bounded_files.specs.Files.{KnownFiles}
 use Rattle.load.specs.Load.{IsRulesetOf, IsLoadFault}
 use Rattle.load.specs.declared.fault.LoadFault.{LoadFault}
-use Rattle.load.specs.rulesets.Rules.{Rules}
+use Rattle.ruleset.specs.Rules.{Rules}
 
 module _ (known : KnownFiles) (bytes : List ℕ) where
   -- it comes to a ruleset, this is told of its arrays and its apps, and these are the warnings

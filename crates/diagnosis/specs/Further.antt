@@ -8,19 +8,19 @@ use Rattle.diagnosis.specs.Others.{AreOtherMisfits, AreOtherTwice}
 use Rattle.diagnosis.specs.Undeclared.{AreUndeclared}
 use Rattle.load.specs.App.{IsAppOf, RefusesApp}
 use Rattle.load.specs.Apps.{in_app}
-use Rattle.load.specs.bounded_files.Files.{KnownFiles}
+use Rattle.bounded_files.specs.Files.{KnownFiles}
 use Rattle.load.specs.declared.fault.AppFault.{AppFault}
 use Rattle.load.specs.declared.fault.AppFault.TheVariants as app
 use Rattle.load.specs.declared.fault.LoadFault.{LoadFault}
 use Rattle.load.specs.declared.fault.LoadFault.TheVariants.{Manifest as NoManifest, File, Program}
 use Rattle.load.specs.declared.fault.LoadFault.TheVariants.{Rule, Cells, Memory}
-use Rattle.load.specs.manifest.App.{AppEntry}
-use Rattle.load.specs.manifest.Manifest.{Manifest, ReadsManifest}
-use Rattle.load.specs.manifest.cells.declared.array.ArrayNo.{ArrayNo}
-use Rattle.load.specs.manifest.cells.declared.array.CellArray.{CellArray}
-use Rattle.load.specs.manifest.declarations.Order.{AreDeclared}
-use Rattle.load.specs.manifest.declared.fault.ManifestFault.TheVariants as unread
-use Rattle.load.specs.rulesets.Rules.{AppRule}
+use Rattle.manifest.specs.App.{AppEntry}
+use Rattle.manifest.specs.Manifest.{Manifest, ReadsManifest}
+use Rattle.cells.specs.declared.array.ArrayNo.{ArrayNo}
+use Rattle.cells.specs.declared.array.CellArray.{CellArray}
+use Rattle.declarations.specs.Order.{AreDeclared}
+use Rattle.manifest.specs.declared.fault.ManifestFault.TheVariants as unread
+use Rattle.ruleset.specs.Rules.{AppRule}
 
 -- the fault of the app of this number, if it has one
 abbrev pub fault_of_app : ℕ → Option AppFault → List LoadFault

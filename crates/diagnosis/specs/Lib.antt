@@ -14,5 +14,3 @@ pub mod Further
 pub mod Told
 pub mod Check
 pub mod OneCheck
-pub use Rattle.load.specs.rulesets
-pub use Rattle.load.specs as load

@@ -1,23 +1,23 @@
 -- How what a program, a rule or an array breaks is named: its code, a name of one word, and where
 -- it is.
 use Rattle.std.specs.Prelude.{ℕ, List, ◌++◌, codes, decimal}
-use Rattle.explaining.specs.bpf_insn.Faults.{fault_text}
-use Rattle.load.specs.acceptance.bpf_verify.bpf_rules.declared.refusal.Refusal.TheVariants as verify
-use Rattle.load.specs.acceptance.bpf_verify.bpf_rules.declared.refusal.VerifierRule.{VerifierRule}
-use Rattle.load.specs.acceptance.bpf_verify.bpf_rules.declared.refusal.VerifierRule.TheVariants as verifier
-use Rattle.load.specs.acceptance.declared.fault.ProgramFault.{ProgramFault}
-use Rattle.load.specs.acceptance.declared.fault.ProgramFault.TheVariants.{Flow, Verify}
-use Rattle.load.specs.acceptance.declared.fault.RuleTextFault.{RuleTextFault}
-use Rattle.load.specs.acceptance.declared.fault.RuleTextFault.TheVariants.{Text, Compile}
-use Rattle.load.specs.acceptance.flow_check.declared.fault.FlowFault.TheVariants as check
-use Rattle.load.specs.acceptance.flow_check.declared.fault.FlowRule.{FlowRule}
-use Rattle.load.specs.acceptance.flow_check.declared.fault.FlowRule.TheVariants as flow
-use Rattle.load.specs.acceptance.rule_compile.declared.fault.CompileFault.TheVariants as compile
-use Rattle.load.specs.acceptance.rule_lang.declared.fault.RuleFault.TheVariants as rule
-use Rattle.load.specs.acceptance.rule_lang.declared.fault.RuleFaultKind.{RuleFaultKind}
-use Rattle.load.specs.acceptance.rule_lang.declared.fault.RuleFaultKind.TheVariants as kind
-use Rattle.load.specs.manifest.cells.declared.fault.CellsFault.{CellsFault}
-use Rattle.load.specs.manifest.cells.declared.fault.CellsFault.TheVariants as cells
+use Rattle.bpf_insn.specs.Faults.{fault_text}
+use Rattle.bpf_rules.specs.declared.refusal.Refusal.TheVariants as verify
+use Rattle.bpf_rules.specs.declared.refusal.VerifierRule.{VerifierRule}
+use Rattle.bpf_rules.specs.declared.refusal.VerifierRule.TheVariants as verifier
+use Rattle.acceptance.specs.declared.fault.ProgramFault.{ProgramFault}
+use Rattle.acceptance.specs.declared.fault.ProgramFault.TheVariants.{Flow, Verify}
+use Rattle.acceptance.specs.declared.fault.RuleTextFault.{RuleTextFault}
+use Rattle.acceptance.specs.declared.fault.RuleTextFault.TheVariants.{Text, Compile}
+use Rattle.flow_check.specs.declared.fault.FlowFault.TheVariants as check
+use Rattle.flow_check.specs.declared.fault.FlowRule.{FlowRule}
+use Rattle.flow_check.specs.declared.fault.FlowRule.TheVariants as flow
+use Rattle.rule_compile.specs.declared.fault.CompileFault.TheVariants as compile
+use Rattle.rule_lang.specs.declared.fault.RuleFault.TheVariants as rule
+use Rattle.rule_lang.specs.declared.fault.RuleFaultKind.{RuleFaultKind}
+use Rattle.rule_lang.specs.declared.fault.RuleFaultKind.TheVariants as kind
+use Rattle.cells.specs.declared.fault.CellsFault.{CellsFault}
+use Rattle.cells.specs.declared.fault.CellsFault.TheVariants as cells
 
 -- ---- a program
 

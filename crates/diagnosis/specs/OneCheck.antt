@@ -1,6 +1,6 @@
 -- A manifest has one check.
 use Rattle.std.specs.Prelude.{◌≡◌, ◌≢◌, ℕ, List, Option, Some}
-use Rattle.load.specs.bounded_files.Files.{KnownFile}
+use Rattle.bounded_files.specs.Files.{KnownFile}
 use Rattle.load.specs.declared.fault.LoadFault.{LoadFault}
 use Rattle.load.specs.declared.fault.LoadFault.TheVariants.{Memory}
 use Rattle.diagnosis.specs.Check.{FailsCheck, PassesCheck}

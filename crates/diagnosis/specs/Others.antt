@@ -2,11 +2,11 @@
 use Rattle.std.specs.Prelude.{◌≡◌, ℕ, List, map, drop}
 use Rattle.load.specs.declared.fault.LoadFault.{LoadFault}
 use Rattle.load.specs.declared.fault.LoadFault.TheVariants.{Manifest}
-use Rattle.load.specs.manifest.AllTwice.{HasAllTwice}
-use Rattle.load.specs.manifest.Misfits.{HasMisfits}
-use Rattle.load.specs.manifest.declared.fault.ManifestFault.TheVariants.{Field, Duplicate}
-use Rattle.load.specs.manifest.declared.fault.Twice.{Twice}
-use Rattle.load.specs.manifest.declared.misfit.Misfit.{Misfit}
+use Rattle.manifest.specs.AllTwice.{HasAllTwice}
+use Rattle.manifest.specs.Misfits.{HasMisfits}
+use Rattle.manifest.specs.declared.fault.ManifestFault.TheVariants.{Field, Duplicate}
+use Rattle.manifest.specs.declared.fault.Twice.{Twice}
+use Rattle.manifest.specs.declared.misfit.Misfit.{Misfit}
 
 abbrev pub fault_of_misfit : Misfit → LoadFault
 fault_of_misfit misfit = Manifest (Field misfit)

@@ -1,39 +1,39 @@
 -- Where and why a manifest is refused.
 use Rattle.std.specs.Prelude.{◌≡◌, ℕ, ◌-◌, List, [], ◌++◌, codes, slice_get, Some, Ok}
 use Rattle.load.specs.App.{IsShapeOf}
-use Rattle.load.specs.manifest.cells.Arrays.{AppShape}
-use Rattle.load.specs.manifest.cells.Directory.{Declaration}
-use Rattle.load.specs.manifest.cells.declared.array.ArrayNo.{ArrayNo}
-use Rattle.load.specs.manifest.cells.declared.array.CellArray.{CellArray}
-use Rattle.load.specs.manifest.cells.declared.fault.CellsFault.{CellsFault}
-use Rattle.load.specs.manifest.cells.declared.fault.CellsFault.TheVariants as cells
-use Rattle.load.specs.manifest.declarations.Order.{AreDeclared}
+use Rattle.cells.specs.Arrays.{AppShape}
+use Rattle.cells.specs.Directory.{Declaration}
+use Rattle.cells.specs.declared.array.ArrayNo.{ArrayNo}
+use Rattle.cells.specs.declared.array.CellArray.{CellArray}
+use Rattle.cells.specs.declared.fault.CellsFault.{CellsFault}
+use Rattle.cells.specs.declared.fault.CellsFault.TheVariants as cells
+use Rattle.declarations.specs.Order.{AreDeclared}
 use Rattle.diagnosis.specs.Advice.{advice}
 use Rattle.diagnosis.specs.declared.shown.Place.{Place}
 use Rattle.diagnosis.specs.declared.shown.Place.TheVariants.{Whole, Slot, Refused}
 use Rattle.diagnosis.specs.declared.shown.Place.TheVariants.{Rule as InRule}
 use Rattle.diagnosis.specs.Shown.{ShowsPlace}
 use Rattle.diagnosis.specs.Texts.{file_line, cells_line}
-use Rattle.load.specs.rulesets.Texts.{line}
-use Rattle.load.specs.bounded_files.Files.{KnownFiles}
+use Rattle.ruleset.specs.Texts.{line}
+use Rattle.bounded_files.specs.Files.{KnownFiles}
 use Rattle.load.specs.Source.{file_of}
 use Rattle.load.specs.declared.fault.LoadFault.{LoadFault}
 use Rattle.load.specs.declared.fault.LoadFault.TheVariants.{Manifest as NoManifest, Cells, File}
 use Rattle.load.specs.declared.fault.LoadFault.TheVariants.{Program, Rule, Memory}
-use Rattle.load.specs.acceptance.bpf_verify.bpf_rules.declared.refusal.Refusal.TheVariants as verify
-use Rattle.load.specs.acceptance.declared.fault.ProgramFault.{ProgramFault}
-use Rattle.load.specs.acceptance.declared.fault.ProgramFault.TheVariants.{Flow, Verify}
-use Rattle.load.specs.acceptance.declared.fault.RuleTextFault.{RuleTextFault}
-use Rattle.load.specs.acceptance.declared.fault.RuleTextFault.TheVariants.{Text}
-use Rattle.load.specs.acceptance.flow_check.declared.fault.FlowFault.TheVariants as flow
-use Rattle.load.specs.acceptance.rule_lang.declared.fault.RuleFault.TheVariants as rule
-use Rattle.load.specs.manifest.App.{AppEntry}
-use Rattle.load.specs.manifest.Manifest.{Manifest, ReadsManifest}
-use Rattle.load.specs.manifest.Texts.{misfit_text, twice_text}
-use Rattle.load.specs.manifest.declared.fault.ManifestFault.{ManifestFault}
-use Rattle.load.specs.manifest.declared.fault.ManifestFault.TheVariants as unread
-use Rattle.load.specs.manifest.declared.fault.TomlFault.{TomlFault}
-use Rattle.load.specs.manifest.declared.fault.TomlFault.TheVariants as toml
+use Rattle.bpf_rules.specs.declared.refusal.Refusal.TheVariants as verify
+use Rattle.acceptance.specs.declared.fault.ProgramFault.{ProgramFault}
+use Rattle.acceptance.specs.declared.fault.ProgramFault.TheVariants.{Flow, Verify}
+use Rattle.acceptance.specs.declared.fault.RuleTextFault.{RuleTextFault}
+use Rattle.acceptance.specs.declared.fault.RuleTextFault.TheVariants.{Text}
+use Rattle.flow_check.specs.declared.fault.FlowFault.TheVariants as flow
+use Rattle.rule_lang.specs.declared.fault.RuleFault.TheVariants as rule
+use Rattle.manifest.specs.App.{AppEntry}
+use Rattle.manifest.specs.Manifest.{Manifest, ReadsManifest}
+use Rattle.manifest.specs.Texts.{misfit_text, twice_text}
+use Rattle.manifest.specs.declared.fault.ManifestFault.{ManifestFault}
+use Rattle.manifest.specs.declared.fault.ManifestFault.TheVariants as unread
+use Rattle.manifest.specs.declared.fault.TomlFault.{TomlFault}
+use Rattle.manifest.specs.declared.fault.TomlFault.TheVariants as toml
 
 -- ---- an entry by its number, from 1
 

@@ -4,9 +4,9 @@ use Rattle.diagnosis.specs.Named.{cells_fault_text, program_fault_text, rule_fau
 use Rattle.load.specs.declared.fault.LoadFault.{LoadFault}
 use Rattle.load.specs.declared.fault.LoadFault.TheVariants.{Manifest, File, Program, Rule}
 use Rattle.load.specs.declared.fault.LoadFault.TheVariants.{Cells, Memory}
-use Rattle.load.specs.manifest.declared.fault.ManifestFault.{ManifestFault}
-use Rattle.load.specs.manifest.declared.fault.ManifestFault.TheVariants as unread
-use Rattle.load.specs.rulesets.Texts.{line}
+use Rattle.manifest.specs.declared.fault.ManifestFault.{ManifestFault}
+use Rattle.manifest.specs.declared.fault.ManifestFault.TheVariants as unread
+use Rattle.ruleset.specs.Texts.{line}
 
 abbrev pub manifest_fault_text : ManifestFault → List ℕ
 manifest_fault_text (unread.Toml fault) = codes "M1 Toml"

@@ -1,22 +1,22 @@
 -- What is shown of an app's file: the place at which its fault lies.
 use Rattle.std.specs.Prelude.{◌≡◌, ◌⊎◌, ℕ, List, [], ◌++◌, codes, decimal, Some, true, IsUtf8}
-use Rattle.explaining.specs.bpf_insn.Spelling.{Spells}
-use Rattle.explaining.specs.bpf_insn.declared.insn.Insn.{Insn}
-use Rattle.explaining.specs.bpf_text.Listing.{line_of}
+use Rattle.bpf_insn.specs.Spelling.{Spells}
+use Rattle.bpf_insn.specs.declared.insn.Insn.{Insn}
+use Rattle.bpf_text.specs.Listing.{line_of}
 use Rattle.diagnosis.specs.Inside.{is_inside}
 use Rattle.diagnosis.specs.declared.shown.Place.{Place}
 use Rattle.diagnosis.specs.declared.shown.Place.TheVariants.{Whole, Slot, Refused}
 use Rattle.diagnosis.specs.declared.shown.Place.TheVariants.{Rule as InRule}
-use Rattle.explaining.specs.bpf_insn.Program.{Program}
-use Rattle.explaining.specs.bpf_semantics.Program.{shaped}
+use Rattle.bpf_insn.specs.Program.{Program}
+use Rattle.bpf_semantics.specs.Program.{shaped}
 use Rattle.explaining.specs.RefusedPlace.{IsRefusedPlace}
-use Rattle.load.specs.acceptance.flow_check.Flow.{IsFlow, program_bytes}
-use Rattle.load.specs.acceptance.rule_lang.declared.fault.RuleFaultKind.{RuleFaultKind}
-use Rattle.load.specs.manifest.cells.Arrays.{AppShape}
-use Rattle.load.specs.rulesets.Texts.{line}
-use Rattle.warnings.specs.rule_diagnosis.Places.{line_text}
-use Rattle.warnings.specs.rule_diagnosis.Told.{IsRuleTold}
-use Rattle.load.specs.bounded_files.Files.{KnownFiles, Gives}
+use Rattle.flow_check.specs.Flow.{IsFlow, program_bytes}
+use Rattle.rule_lang.specs.declared.fault.RuleFaultKind.{RuleFaultKind}
+use Rattle.cells.specs.Arrays.{AppShape}
+use Rattle.ruleset.specs.Texts.{line}
+use Rattle.rule_diagnosis.specs.Places.{line_text}
+use Rattle.rule_diagnosis.specs.Told.{IsRuleTold}
+use Rattle.bounded_files.specs.Files.{KnownFiles, Gives}
 
 -- a line by its number, from 1
 abbrev pub numbered_line : ℕ → List ℕ → List ℕ

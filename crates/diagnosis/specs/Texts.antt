@@ -1,13 +1,13 @@
 -- The lines that are told of a manifest, each ended by a line feed.
 use Rattle.std.specs.Prelude.{ℕ, List, ◌++◌, codes, decimal, flat_map}
-use Rattle.load.specs.manifest.cells.Directory.{Declaration, declaration}
-use Rattle.load.specs.manifest.cells.declared.array.CellArray.{CellArray}
-use Rattle.load.specs.manifest.declarations.Texts.{declaration_text}
+use Rattle.cells.specs.Directory.{Declaration, declaration}
+use Rattle.cells.specs.declared.array.CellArray.{CellArray}
+use Rattle.declarations.specs.Texts.{declaration_text}
 use Rattle.load.specs.Source.{file_of}
-use Rattle.load.specs.manifest.declared.app.ProgramSource.{ProgramSource}
-use Rattle.load.specs.manifest.declared.app.ProgramSource.TheVariants.{Program, Rule}
-use Rattle.load.specs.rulesets.Rules.{AppRule}
-use Rattle.load.specs.rulesets.Texts.{line, app_line}
+use Rattle.manifest.specs.declared.app.ProgramSource.{ProgramSource}
+use Rattle.manifest.specs.declared.app.ProgramSource.TheVariants.{Program, Rule}
+use Rattle.ruleset.specs.Rules.{AppRule}
+use Rattle.ruleset.specs.Texts.{line, app_line}
 
 -- ---- of a manifest that is accepted
 

@@ -5,9 +5,9 @@ use Rattle.std.specs.Prelude.{length, take}
 use Rattle.diagnosis.specs.Further.{AreFurther}
 use Rattle.diagnosis.specs.Reason.{IsReason}
 use Rattle.diagnosis.specs.Refusal.{refusal_line}
-use Rattle.load.specs.bounded_files.Files.{KnownFiles}
+use Rattle.bounded_files.specs.Files.{KnownFiles}
 use Rattle.load.specs.declared.fault.LoadFault.{LoadFault}
-use Rattle.load.specs.rulesets.Texts.{line}
+use Rattle.ruleset.specs.Texts.{line}
 
 -- how many further faults are told at most
 abbrev pub most_further : ℕ

@@ -3,13 +3,13 @@ use Rattle.std.specs.Prelude.{◌≢◌, ℕ, ◌+◌, ◌-◌, List, [], ◌∷
 use Rattle.std.specs.Prelude.{Option, Some, None}
 use Rattle.load.specs.declared.fault.LoadFault.{LoadFault}
 use Rattle.load.specs.declared.fault.LoadFault.TheVariants.{Cells}
-use Rattle.load.specs.manifest.Manifest.{Manifest, ReadsManifest}
-use Rattle.load.specs.manifest.cells.Directory.{Declaration, Declares, IsRefusedDeclaration}
-use Rattle.load.specs.manifest.cells.declared.array.ArrayNo.{ArrayNo}
-use Rattle.load.specs.manifest.cells.declared.array.CellArray.{CellArray}
-use Rattle.load.specs.manifest.cells.declared.fault.CellsFault.{CellsFault}
-use Rattle.load.specs.manifest.cells.declared.fault.CellsFault.TheVariants as cells
-use Rattle.load.specs.manifest.declarations.Order.{AreDeclared}
+use Rattle.manifest.specs.Manifest.{Manifest, ReadsManifest}
+use Rattle.cells.specs.Directory.{Declaration, Declares, IsRefusedDeclaration}
+use Rattle.cells.specs.declared.array.ArrayNo.{ArrayNo}
+use Rattle.cells.specs.declared.array.CellArray.{CellArray}
+use Rattle.cells.specs.declared.fault.CellsFault.{CellsFault}
+use Rattle.cells.specs.declared.fault.CellsFault.TheVariants as cells
+use Rattle.declarations.specs.Order.{AreDeclared}
 
 -- the fault of the array of this number, if it has one
 abbrev pub fault_of_array : ℕ → Option CellsFault → List LoadFault

@@ -3,11 +3,11 @@
 use Rattle.std.specs.Prelude.{ℕ, ◌+◌, ℤ, pos, negsuc, List, [], ◌∷◌, ◌++◌, codes, decimal}
 use Rattle.std.specs.Prelude.{Bool, true, false, ◌==◌, Option, Some, None}
 use Rattle.std.specs.List.{list_any}
-use Rattle.explaining.specs.bpf_insn.declared.insn.Insn.{Insn}
-use Rattle.explaining.specs.bpf_insn.declared.insn.Insn.TheVariants.{Wide}
-use Rattle.explaining.specs.bpf_insn.declared.operand.WideValue.TheVariants as wide
-use Rattle.load.specs.manifest.cells.declared.array.CellArray.{CellArray}
-use Rattle.load.specs.rulesets.Rules.{AppRule}
+use Rattle.bpf_insn.specs.declared.insn.Insn.{Insn}
+use Rattle.bpf_insn.specs.declared.insn.Insn.TheVariants.{Wide}
+use Rattle.bpf_insn.specs.declared.operand.WideValue.TheVariants as wide
+use Rattle.cells.specs.declared.array.CellArray.{CellArray}
+use Rattle.ruleset.specs.Rules.{AppRule}
 
 abbrev pub is_number : ℤ → ℕ → Bool
 is_number (pos i) number = i == number

@@ -1,15 +1,15 @@
 -- What is told of a manifest that is accepted and hardly means what it says: of its arrays, and of
 -- each app in their order.
 use Rattle.std.specs.Prelude.{◌≡◌, ℕ, ◌+◌, List, [], ◌∷◌, ◌++◌, Option, Some, None, Ok}
-use Rattle.load.specs.acceptance.Rule.{IsTextOf}
-use Rattle.load.specs.acceptance.rule_lang.declared.rule.Statement.{Statement}
-use Rattle.load.specs.bounded_files.Files.{KnownFiles, Gives}
-use Rattle.load.specs.manifest.App.{AppEntry}
-use Rattle.load.specs.manifest.Manifest.{Manifest, ReadsManifest}
-use Rattle.load.specs.manifest.cells.declared.array.CellArray.{CellArray}
-use Rattle.load.specs.manifest.declared.app.ProgramSource.{ProgramSource}
-use Rattle.load.specs.manifest.declared.app.ProgramSource.TheVariants.{Program, Rule}
-use Rattle.load.specs.rulesets.Rules.{AppRule}
+use Rattle.acceptance.specs.Rule.{IsTextOf}
+use Rattle.rule_lang.specs.declared.rule.Statement.{Statement}
+use Rattle.bounded_files.specs.Files.{KnownFiles, Gives}
+use Rattle.manifest.specs.App.{AppEntry}
+use Rattle.manifest.specs.Manifest.{Manifest, ReadsManifest}
+use Rattle.cells.specs.declared.array.CellArray.{CellArray}
+use Rattle.manifest.specs.declared.app.ProgramSource.{ProgramSource}
+use Rattle.manifest.specs.declared.app.ProgramSource.TheVariants.{Program, Rule}
+use Rattle.ruleset.specs.Rules.{AppRule}
 use Rattle.diagnosis.specs.Unused.{unused_from}
 use Rattle.warnings.specs.Asked.{all_room, room_left, rule_text}
 use Rattle.warnings.specs.Asking.{RuleOfApp}

@@ -2,14 +2,14 @@
 
 ghost use Rattle.std.specs.Prelude.{◌≡◌, ◌^◌, ◌-◌, ◌<◌, ◌++◌, flat_map};
 ghost use Rattle.std.specs.Prelude.{IfOk, OnOk, string_bytes};
-ghost use Rattle.load.specs.manifest.declarations.Texts as declarations;
+ghost use Rattle.declarations.specs.Texts as declarations;
 ghost use Rattle.diagnosis.specs.Texts.{declared_line, loaded_text};
 ghost use Rattle.diagnosis.specs.Warned.{WarnsOf};
 
 use crate::warned::tell_warnings;
+use cells::{CellArray, CellWidth};
 use load::Files;
-use load::manifest::cells::{CellArray, CellWidth};
-use load::ruleset::{App, tell_apps};
+use ruleset::{App, tell_apps};
 use std::alloc::{AllocError, Global};
 use std::fmt::Write;
 

@@ -4,7 +4,7 @@
 ghost use Rattle.std.specs.Prelude.{◌≡◌};
 ghost use Rattle.diagnosis.specs.Advice as specs;
 
-use load::manifest::{AppMisfit, ArrayMisfit, InList, Misfit, PackageMisfit, ReleaseMisfit};
+use manifest::{AppMisfit, ArrayMisfit, InList, Misfit, PackageMisfit, ReleaseMisfit};
 
 fn package_advice(misfit: &PackageMisfit) -> &'static str
     ensures { result.now ≡ specs.package_advice misfit.now }

@@ -4,12 +4,12 @@ ghost use Rattle.std.specs.Prelude.{◌≡◌, ◌^◌, ◌-◌, ◌<◌, ◌++�
 ghost use Rattle.std.specs.Option.{ForSome};
 ghost use Rattle.diagnosis.specs.Asked.{AddsApp, AddsFile, AddsSource, CountsUnread};
 
+use bounded_files::ResourceFault;
+use bpf_verify::Verified;
 use load::Files;
-use load::acceptance::bpf_verify::Verified;
-use load::acceptance::rule_lang::{RuleFault, one_verdict, parse};
-use load::bounded_files::ResourceFault;
-use load::manifest::{AppEntry, ProgramSource};
-use load::ruleset::App;
+use manifest::{AppEntry, ProgramSource};
+use rule_lang::{RuleFault, one_verdict, parse};
+use ruleset::App;
 use std::alloc::{AllocError, Global};
 use std::str;
 use warnings::{AskedRule, tell_releases, tell_rule};

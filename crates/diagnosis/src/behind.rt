@@ -5,10 +5,10 @@ ghost use Rattle.std.specs.Prelude.{IsTrue, IfOk, IfSome, OnOk, Some, None};
 ghost use Rattle.diagnosis.specs.Further.{AreBehind, AreFaultsOf, JudgesApp, fault_of_app};
 
 use crate::shape::shape_in;
-use load::manifest::cells::{ArrayNo, Directory};
-use load::manifest::declarations::declare_all;
-use load::manifest::{AppEntry, read_manifest};
+use cells::{ArrayNo, Directory};
+use declarations::declare_all;
 use load::{AppFault, Files, LoadFault, in_app, load_program};
+use manifest::{AppEntry, read_manifest};
 use std::alloc::{AllocError, Global};
 
 /// The faults of the apps behind the one of this number; None where memory is refused, or where no

@@ -6,9 +6,9 @@ ghost use Rattle.diagnosis.specs.Check.{FailsCheck, FailsIfLong, PassesCheck};
 use crate::accepted::{CheckedManifest, tell_accepted};
 use crate::reason::tell_toml;
 use crate::telling::tell_refused;
-use load::manifest::cells::Directory;
-use load::manifest::{ManifestFault, TomlFault};
+use cells::Directory;
 use load::{Files, LoadFault, load_ruleset};
+use manifest::{ManifestFault, TomlFault};
 use std::alloc::Global;
 
 /// Why a manifest is refused, and where.

@@ -9,9 +9,9 @@ ghost use Rattle.load.specs.Source as specs;
 use crate::inside::is_inside;
 use crate::shape::shape_of;
 use crate::shown::{Place, show};
+use cells::Shape;
 use load::Files;
-use load::manifest::cells::Shape;
-use load::manifest::{AppEntry, ProgramSource, read_manifest};
+use manifest::{AppEntry, ProgramSource, read_manifest};
 use std::alloc::{AllocError, Global};
 use std::fmt::Write;
 

@@ -2,9 +2,9 @@
 
 ghost use Rattle.diagnosis.specs.OneCheck.{ChecksOneWay};
 
-use load::acceptance::rule_lang::one_verdict;
-use load::manifest::one_reading;
 use load::one_load;
+use manifest::one_reading;
+use rule_lang::one_verdict;
 
 /// A law: of files that tell their bytes, a manifest passes with one text, or has one fault, want
 /// of memory aside. It is called by nothing that runs.

@@ -36,6 +36,3 @@ pub use accepted::CheckedManifest;
 pub use checking::{Refused, check, too_long};
 pub use law::one_check;
 pub use refusal::refusal_line;
-
-// The words of the contracts here come with them.
-pub use load;

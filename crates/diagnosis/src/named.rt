@@ -5,12 +5,12 @@ ghost use Rattle.std.specs.Prelude.{◌≡◌, ◌++◌, OnOk, string_bytes};
 ghost use Rattle.diagnosis.specs.Named.{flow_rule_text, verifier_rule_text, rule_kind_text};
 ghost use Rattle.diagnosis.specs.Named.{cells_fault_text, program_fault_text, rule_fault_text};
 
-use load::acceptance::bpf_verify::{Refusal, VerifierRule};
-use load::acceptance::flow_check::{FlowFault, FlowRule};
-use load::acceptance::rule_compile::CompileFault;
-use load::acceptance::rule_lang::{RuleFault, RuleFaultKind};
-use load::acceptance::{ProgramFault, RuleTextFault};
-use load::manifest::cells::CellsFault;
+use acceptance::{ProgramFault, RuleTextFault};
+use bpf_verify::{Refusal, VerifierRule};
+use cells::CellsFault;
+use flow_check::{FlowFault, FlowRule};
+use rule_compile::CompileFault;
+use rule_lang::{RuleFault, RuleFaultKind};
 use std::alloc::AllocError;
 use std::fmt::Write;
 

@@ -6,7 +6,7 @@ ghost use Rattle.diagnosis.specs.Others as specs;
 ghost use Rattle.load.specs.declared.fault.LoadFault.{LoadFault};
 
 use load::LoadFault;
-use load::manifest::{ManifestFault, Misfit, Twice, all_misfits, all_twice};
+use manifest::{ManifestFault, Misfit, Twice, all_misfits, all_twice};
 use std::alloc::{AllocError, Global};
 
 /// What of a manifest makes it none.

@@ -7,7 +7,7 @@ ghost use Rattle.diagnosis.specs.Refusal as specs;
 
 use crate::named::{cells_fault_name, push_program_fault, push_rule_fault};
 use load::LoadFault;
-use load::manifest::ManifestFault;
+use manifest::ManifestFault;
 use std::alloc::{AllocError, Global};
 use std::fmt::Write;
 

@@ -4,9 +4,9 @@ ghost use Rattle.std.specs.Prelude.{◌<◌, length, All, IfSome};
 ghost use Rattle.diagnosis.specs.Reason.{IsShapeOfEntry};
 ghost use Rattle.load.specs.App.{IsShapeOf};
 
-use load::manifest::AppEntry;
-use load::manifest::cells::{ArrayNo, Directory, Shape};
-use load::manifest::declarations::{ArrayDeclaration, declare_all};
+use cells::{ArrayNo, Directory, Shape};
+use declarations::{ArrayDeclaration, declare_all};
+use manifest::AppEntry;
 use std::alloc::Global;
 
 /// The shape of an app of a manifest with these arrays; None where memory is refused, or where the

@@ -5,15 +5,15 @@ ghost use Rattle.diagnosis.specs.Shown.{IsInsnShown, IsRefusedInsnShown, IsShown
 ghost use Rattle.diagnosis.specs.Shown.{IsTextShown};
 ghost use Rattle.diagnosis.specs.Shown as specs;
 
-use explaining::bpf_insn::decode_at;
-use explaining::bpf_text::line_of;
+use bpf_insn::decode_at;
+use bpf_text::line_of;
+use cells::Shape;
 use explaining::refused_place;
-use load::acceptance::flow_check::Flow;
-use load::acceptance::rule_lang::RuleFaultKind;
-use load::manifest::cells::Shape;
+use flow_check::Flow;
+use rule_diagnosis::{line_text, tell_rule_fault};
+use rule_lang::RuleFaultKind;
 use std::alloc::Global;
 use std::str;
-use warnings::rule_diagnosis::{line_text, tell_rule_fault};
 
 /// A place in the file of an app.
 #[derive(Clone, Copy, Debug, PartialEq, Eq)]

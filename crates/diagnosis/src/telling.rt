@@ -11,8 +11,8 @@ use crate::others::{other_misfits, other_twice};
 use crate::reason::reason_of;
 use crate::refusal::refusal_line;
 use crate::undeclared::faults_behind_array;
-use load::manifest::ManifestFault;
 use load::{Files, LoadFault};
+use manifest::ManifestFault;
 use std::alloc::{AllocError, Global};
 use std::fmt::Write;
 

@@ -5,10 +5,10 @@ ghost use Rattle.std.specs.Prelude.{◌≡◌, ◌≢◌, ◌+◌, ◌^◌, ◌<
 ghost use Rattle.diagnosis.specs.Undeclared.{AreFaultsOfArrays, AreUndeclared, JudgesArray};
 ghost use Rattle.diagnosis.specs.Undeclared.{fault_of_array};
 
+use cells::{CellsFault, Directory};
+use declarations::{ArrayDeclaration, declare_all};
 use load::LoadFault;
-use load::manifest::cells::{CellsFault, Directory};
-use load::manifest::declarations::{ArrayDeclaration, declare_all};
-use load::manifest::read_manifest;
+use manifest::read_manifest;
 use std::alloc::{AllocError, Global};
 
 /// The faults of the arrays behind the one of this number; None where memory is refused, or where

@@ -4,10 +4,10 @@ ghost use Rattle.std.specs.Prelude.{◌≡◌, ◌^◌, ◌<◌, ◌++◌, OnOk,
 ghost use Rattle.std.specs.List.{list_any};
 ghost use Rattle.diagnosis.specs.Unused as specs;
 
-use explaining::bpf_insn::{Insn, WideValue};
-use load::acceptance::bpf_verify::Verified;
-use load::manifest::cells::CellArray;
-use load::ruleset::App;
+use bpf_insn::{Insn, WideValue};
+use bpf_verify::Verified;
+use cells::CellArray;
+use ruleset::App;
 use std::alloc::AllocError;
 use std::fmt::Write;
 

@@ -7,10 +7,10 @@ ghost use Rattle.warnings.specs.Asked.{all_room};
 
 use crate::asked::tell_app;
 use crate::unused::tell_unused;
+use cells::CellArray;
 use load::Files;
-use load::manifest::cells::CellArray;
-use load::manifest::{AppEntry, read_manifest};
-use load::ruleset::App;
+use manifest::{AppEntry, read_manifest};
+use ruleset::App;
 use std::alloc::{AllocError, Global};
 
 /// How many steps of conditions the rules of a manifest are asked in all, each at one version: each

@@ -1,10 +1,10 @@
 //! The program of `bucket.bpf` as `rollout explain` tells it.
 
 use anyhow::Result;
-use bpf_machine::flow_check::Flow;
+use bpf_text::assemble;
 use cells::Shape;
-use explaining::bpf_text::assemble;
 use explaining::explain;
+use flow_check::Flow;
 use std::rt::Files;
 use std::{fs, str};
 

@@ -11,13 +11,13 @@ mod staged;
 
 ghost use Rattle.std.specs.Prelude.{◌<◌};
 
+use acceptance::accept;
 use anyhow::Result;
 use attrs::Attrs;
 use bpf_machine::Run;
-use bpf_machine::bpf_verify::Verified;
+use bpf_text::assemble;
+use bpf_verify::Verified;
 use cells::{PlainCells, Shape};
-use explaining::bpf_text::assemble;
-use load::acceptance::accept;
 use std::rt::Files;
 use std::sync::Arc;
 use std::{fs, str};

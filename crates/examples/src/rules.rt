@@ -1,13 +1,13 @@
 //! The rules under `examples/rules/`, each compiled and asked by a few apps in turn, over counters
 //! that begin at 0.
 
+use acceptance::rule_program;
 use anyhow::{Context, Result};
 use attrs::{AppFacts, Attrs, RequestFacts, Text};
 use bpf_machine::Run;
-use bpf_machine::bpf_verify::Verified;
+use bpf_verify::Verified;
 use cells::{Directory, PlainCells, PlainPass, Shape};
 use declarations::{declare_all, read_spec};
-use load::acceptance::rule_program;
 use std::alloc::Global;
 use std::fs;
 use std::rt::Files;

@@ -3,9 +3,9 @@
 
 use anyhow::{Context, Result};
 use attrs::{AppFacts, RequestFacts, Text};
-use manifest_tools::charts::simulation::Client;
-use manifest_tools::load::Device;
+use load::Device;
 use manifest_tools::simulate_files;
+use simulation::Client;
 use std::alloc::{AllocError, Global};
 use std::rt::Files;
 use std::time::Clock;

@@ -5,10 +5,10 @@
 ghost use Rattle.std.specs.Prelude.{None};
 
 use anyhow::{Context, Result, ensure};
+use bounded_files::{Device, Disk, ResourceFault};
+use bpf_text::assemble;
 use diagnosis::check;
-use explaining::bpf_text::assemble;
 use load::FolderFiles;
-use load::bounded_files::{Device, Disk, ResourceFault};
 use replaying::replay_files;
 use std::rt::Files;
 use std::{fs, str};

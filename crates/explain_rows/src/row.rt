@@ -4,8 +4,8 @@
 
 use bpf_text::assemble;
 use cells::{ArrayNo, CellWidth, CellsFault, Directory, Shape};
-use explaining::bpf_verify::flow_check::Flow;
 use explaining::{RefusedPlace, explain, refused_place};
+use flow_check::Flow;
 use std::alloc::{AllocError, Global};
 use std::test::Fail;
 

@@ -1,8 +1,8 @@
 -- The names of arrays have no control character.
 use Rattle.std.proofs.Common.{◌≡◌, ℕ, List, [], ◌∷◌, Bool, true, false, ◌&&◌, nat_le, refl, arith}
 use Rattle.std.specs.List.{list_all}
-use Rattle.bpf_verify.specs.bpf_rules.cells.Names.{IsName, is_letter, is_word_byte, is_spelled}
-use Rattle.bpf_verify.specs.bpf_rules.cells.declared.array.CellArray.{CellArray}
+use Rattle.cells.specs.Names.{IsName, is_letter, is_word_byte, is_spelled}
+use Rattle.cells.specs.declared.array.CellArray.{CellArray}
 use Rattle.explaining.specs.Values.{HaveNames}
 use Rattle.explaining.proofs.Plain.{IsPlain, word, put, AreNamedPlainly}
 

@@ -8,26 +8,26 @@ use Rattle.std.proofs.lemmas.List.Folds.{list_all-append}
 use Rattle.std.specs.Int.{bit_at}
 use Rattle.std.specs.Fmt.{decimal, signed_decimal, digits, digits_onto, digit_glyph}
 use Rattle.std.specs.List.{AllByRecursion, list_all, find}
-use Rattle.bpf_verify.specs.bpf_rules.bpf_insn.declared.insn.Insn.{Insn}
-use Rattle.bpf_verify.specs.bpf_rules.bpf_insn.declared.insn.Insn.TheVariants.{Load}
-use Rattle.bpf_verify.specs.bpf_rules.bpf_insn.declared.operand.LoadKind.{LoadKind}
-use Rattle.bpf_verify.specs.bpf_rules.bpf_insn.declared.reg.Reg.{Reg}
-use Rattle.bpf_verify.specs.bpf_rules.bpf_insn.Table.{number_of}
+use Rattle.bpf_insn.specs.declared.insn.Insn.{Insn}
+use Rattle.bpf_insn.specs.declared.insn.Insn.TheVariants.{Load}
+use Rattle.bpf_insn.specs.declared.operand.LoadKind.{LoadKind}
+use Rattle.bpf_insn.specs.declared.reg.Reg.{Reg}
+use Rattle.bpf_insn.specs.Table.{number_of}
 use Rattle.bpf_text.specs.Listing.{with_sign}
-use Rattle.bpf_verify.specs.bpf_rules.cells.Arrays.{AppShape}
-use Rattle.bpf_verify.specs.bpf_rules.cells.declared.array.CellArray.{CellArray}
-use Rattle.bpf_verify.specs.abs_value.declared.number.Number.{Number}
-use Rattle.bpf_verify.specs.abs_value.declared.origin.Lookup.{Lookup}
-use Rattle.bpf_verify.specs.abs_value.declared.origin.Origin.TheVariants.{Found, Fixed}
-use Rattle.bpf_verify.specs.abs_value.declared.state.AbsState.{AbsState}
-use Rattle.bpf_verify.specs.abs_value.declared.value.Abs.{Abs}
-use Rattle.bpf_verify.specs.abs_value.declared.value.Abs.TheVariants.{Unusable, Num, Ctx, Stk}
-use Rattle.bpf_verify.specs.abs_value.declared.value.Abs.TheVariants.{Map, MayCell, Cell}
-use Rattle.bpf_verify.specs.abs_value.States.{value_of}
-use Rattle.bpf_verify.specs.abs_value.Stack.{loaded_from}
-use Rattle.bpf_verify.specs.bpf_rules.Memory.{stack_place}
-use Rattle.bpf_verify.specs.bpf_semantics.Memory.{stack_size}
-use Rattle.bpf_verify.specs.bpf_semantics.Reads.{load_count}
+use Rattle.cells.specs.Arrays.{AppShape}
+use Rattle.cells.specs.declared.array.CellArray.{CellArray}
+use Rattle.abs_value.specs.declared.number.Number.{Number}
+use Rattle.abs_value.specs.declared.origin.Lookup.{Lookup}
+use Rattle.abs_value.specs.declared.origin.Origin.TheVariants.{Found, Fixed}
+use Rattle.abs_value.specs.declared.state.AbsState.{AbsState}
+use Rattle.abs_value.specs.declared.value.Abs.{Abs}
+use Rattle.abs_value.specs.declared.value.Abs.TheVariants.{Unusable, Num, Ctx, Stk}
+use Rattle.abs_value.specs.declared.value.Abs.TheVariants.{Map, MayCell, Cell}
+use Rattle.abs_value.specs.States.{value_of}
+use Rattle.abs_value.specs.Stack.{loaded_from}
+use Rattle.bpf_rules.specs.Memory.{stack_place}
+use Rattle.bpf_semantics.specs.Memory.{stack_size}
+use Rattle.bpf_semantics.specs.Reads.{load_count}
 use Rattle.explaining.specs.declared.reads.ReadRegisters.{ReadRegisters}
 use Rattle.explaining.specs.declared.way.Way.{Way}
 use Rattle.explaining.specs.Values as values

@@ -4,26 +4,24 @@ use Rattle.std.proofs.Common.{List, [], ◌∷◌}
 use Rattle.std.proofs.Common.{codes, ◌||◌, ◌==◌}
 use Rattle.std.proofs.Common.{Option, Some, None, refl, slice_get}
 use Rattle.std.specs.Int.{w64, cast_signed}
-use Rattle.bpf_verify.specs.bpf_rules.bpf_insn.declared.insn.Insn.{Insn}
-use Rattle.bpf_verify.specs.bpf_rules.bpf_insn.declared.insn.Insn.TheVariants.{Alu, Load}
-use Rattle.bpf_verify.specs.bpf_rules.bpf_insn.declared.insn.Insn.TheVariants.{Call, Wide}
-use Rattle.bpf_verify.specs.bpf_rules.bpf_insn.declared.operand.AluOp.{AluOp}
-use Rattle.bpf_verify.specs.bpf_rules.bpf_insn.declared.operand.WideValue.TheVariants as wide
-use Rattle.bpf_verify.specs.bpf_rules.bpf_insn.declared.reg.Reg.{Reg}
-use Rattle.bpf_verify.specs.bpf_rules.bpf_insn.declared.reg.Reg.TheVariants.{R0, R1, R2, R3}
-use Rattle.bpf_verify.specs.bpf_rules.cells.Arrays.{AppShape}
-use Rattle.bpf_verify.specs.bpf_rules.cells.declared.array.CellArray.{CellArray}
-use Rattle.bpf_verify.specs.abs_value.declared.state.AbsState.{AbsState}
-use Rattle.bpf_verify.specs.abs_value.declared.value.Abs.{Abs}
-use Rattle.bpf_verify.specs.abs_value.declared.value.Abs.TheVariants.{Num}
-use Rattle.bpf_verify.specs.abs_value.declared.value.Abs.TheVariants.{MayCell, Cell}
-use Rattle.bpf_verify.specs.abs_value.Numbers.{is_single, least}
-use Rattle.bpf_verify.specs.abs_value.States.{value_of, operand_value}
-use Rattle.bpf_verify.specs.bpf_rules.Reads.{helper_of}
-use Rattle.bpf_verify.specs.bpf_rules.declared.helper.Helper.{Helper}
-use Rattle.bpf_verify.specs.bpf_rules.declared.helper.Helper.TheVariants as helper
-use Rattle.bpf_verify.specs.bpf_rules.declared.refusal.VerifierRule.{VerifierRule}
-use Rattle.bpf_verify.specs.bpf_rules.declared.refusal.VerifierRule.TheVariants as rule
+use Rattle.bpf_insn.specs.declared.insn.Insn.{Insn}
+use Rattle.bpf_insn.specs.declared.insn.Insn.TheVariants.{Alu, Load, Call, Wide}
+use Rattle.bpf_insn.specs.declared.operand.AluOp.{AluOp}
+use Rattle.bpf_insn.specs.declared.operand.WideValue.TheVariants as wide
+use Rattle.bpf_insn.specs.declared.reg.Reg.{Reg}
+use Rattle.bpf_insn.specs.declared.reg.Reg.TheVariants.{R0, R1, R2, R3}
+use Rattle.cells.specs.Arrays.{AppShape}
+use Rattle.cells.specs.declared.array.CellArray.{CellArray}
+use Rattle.abs_value.specs.declared.state.AbsState.{AbsState}
+use Rattle.abs_value.specs.declared.value.Abs.{Abs}
+use Rattle.abs_value.specs.declared.value.Abs.TheVariants.{Num, MayCell, Cell}
+use Rattle.abs_value.specs.Numbers.{is_single, least}
+use Rattle.abs_value.specs.States.{value_of, operand_value}
+use Rattle.bpf_rules.specs.Reads.{helper_of}
+use Rattle.bpf_rules.specs.declared.helper.Helper.{Helper}
+use Rattle.bpf_rules.specs.declared.helper.Helper.TheVariants as helper
+use Rattle.bpf_rules.specs.declared.refusal.VerifierRule.{VerifierRule}
+use Rattle.bpf_rules.specs.declared.refusal.VerifierRule.TheVariants as rule
 use Rattle.explaining.specs.declared.reads.TouchedMemory.{TouchedMemory}
 use Rattle.explaining.specs.Asked as asked
 use Rattle.explaining.specs.Sentences as sentences

@@ -1,12 +1,12 @@
 -- The entry and the instruction of a refused place are those that the walk has there.
 use Rattle.std.proofs.Common.{◌≡◌, ℕ, List, Some, sym, ap, ◌∙◌}
 use Rattle.std.proofs.lemmas.Option.{same_Some}
-use Rattle.bpf_verify.specs.bpf_rules.bpf_insn.declared.insn.Insn.{Insn}
-use Rattle.bpf_verify.specs.bpf_rules.bpf_insn.Program.{at}
-use Rattle.bpf_verify.specs.bpf_rules.declared.refusal.VerifierRule.{VerifierRule}
-use Rattle.bpf_verify.specs.bpf_semantics.Program.{ShapedProgram}
+use Rattle.bpf_insn.specs.declared.insn.Insn.{Insn}
+use Rattle.bpf_insn.specs.Program.{at}
+use Rattle.bpf_rules.specs.declared.refusal.VerifierRule.{VerifierRule}
+use Rattle.bpf_semantics.specs.Program.{ShapedProgram}
 use Rattle.bpf_verify.specs.Accepted.{entry_of, IsRefusedAt}
-use Rattle.bpf_verify.specs.abs_value.declared.state.AbsState.{AbsState}
+use Rattle.abs_value.specs.declared.state.AbsState.{AbsState}
 use Rattle.explaining.specs.Sentences.{cited_rule}
 use Rattle.explaining.specs.RefusedPlace.{IsRefusedPlace}
 

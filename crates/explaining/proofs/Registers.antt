@@ -1,14 +1,12 @@
 -- The registers that are told of an instruction are those that the rules say it reads.
 use Rattle.std.proofs.Common.{◌≡◌, Option, Some, None, refl}
-use Rattle.bpf_verify.specs.bpf_rules.bpf_insn.declared.insn.Insn.{Insn}
-use Rattle.bpf_verify.specs.bpf_rules.bpf_insn.declared.insn.Insn.TheVariants.{Alu, Mov, JumpIf}
-use Rattle.bpf_verify.specs.bpf_rules.bpf_insn.declared.insn.Insn.TheVariants.{Call, Atomic}
-use Rattle.bpf_verify.specs.bpf_rules.bpf_insn.declared.operand.AtomicOp.TheVariants.{CompareExchange}
-use Rattle.bpf_verify.specs.bpf_rules.bpf_insn.declared.operand.Operand.TheVariants.{Imm, Register}
-use Rattle.bpf_verify.specs.bpf_rules.Reads.{helper_of, arguments}
-use Rattle.bpf_verify.specs.bpf_rules.declared.helper.Helper.{Helper}
-use Rattle.bpf_verify.specs.bpf_rules.declared.helper.Helper.TheVariants.{Lookup, AttrIs, AttrLen}
-use Rattle.bpf_verify.specs.bpf_rules.declared.helper.Helper.TheVariants.{Bucket}
+use Rattle.bpf_insn.specs.declared.insn.Insn.{Insn}
+use Rattle.bpf_insn.specs.declared.insn.Insn.TheVariants.{Alu, Mov, JumpIf, Call, Atomic}
+use Rattle.bpf_insn.specs.declared.operand.AtomicOp.TheVariants.{CompareExchange}
+use Rattle.bpf_insn.specs.declared.operand.Operand.TheVariants.{Imm, Register}
+use Rattle.bpf_rules.specs.Reads.{helper_of, arguments}
+use Rattle.bpf_rules.specs.declared.helper.Helper.{Helper}
+use Rattle.bpf_rules.specs.declared.helper.Helper.TheVariants.{Lookup, AttrIs, AttrLen, Bucket}
 use Rattle.explaining.specs.Reads.{AreRead, registers_of, argument_registers}
 
 of_helper : (h : Option Helper) → registers_of (argument_registers h) ≡ arguments h

@@ -3,20 +3,20 @@ use Rattle.std.proofs.Common.{◌≡◌, ℕ, zero, suc, ◌≤◌, List, [], �
 use Rattle.std.proofs.Common.{true, Option, Some, None, Ok, max, ◌-◌}
 use Rattle.std.proofs.Common.{refl, sym, ap, ◌∙◌, subst, replicate, append_assoc}
 use Rattle.std.specs.List.{AllByRecursion}
-use Rattle.bpf_verify.specs.bpf_rules.bpf_insn.declared.insn.Insn.{Insn}
-use Rattle.bpf_verify.specs.bpf_rules.bpf_insn.declared.insn.Insn.TheVariants.{Wide}
-use Rattle.bpf_verify.specs.bpf_rules.bpf_insn.Program.{Program, at, layout, encodings}
-use Rattle.bpf_verify.specs.bpf_rules.bpf_insn.Spelling.{IsEncodable, encoding}
+use Rattle.bpf_insn.specs.declared.insn.Insn.{Insn}
+use Rattle.bpf_insn.specs.declared.insn.Insn.TheVariants.{Wide}
+use Rattle.bpf_insn.specs.Program.{Program, at, layout, encodings}
+use Rattle.bpf_insn.specs.Spelling.{IsEncodable, encoding}
 use Rattle.bpf_text.specs.Assembly.{Assembles}
 use Rattle.bpf_text.specs.Remarks.{is_blank_or_comment, IsRemark, RemarkedInsn, bare_line}
 use Rattle.bpf_text.specs.Remarks.{remarked_listing, insns_of, RemarksAreSkipped}
 use Rattle.bpf_verify.specs.Accepted.{entry_of}
-use Rattle.bpf_verify.specs.abs_value.declared.state.AbsState.{AbsState}
-use Rattle.bpf_verify.specs.bpf_rules.Rules.{first_rule}
-use Rattle.bpf_verify.specs.bpf_rules.declared.refusal.VerifierRule.{VerifierRule}
-use Rattle.bpf_verify.specs.bpf_semantics.Program.{ShapedProgram}
-use Rattle.bpf_verify.specs.flow_check.Edges.{next_of}
-use Rattle.bpf_verify.specs.flow_check.Flow.{program_bytes}
+use Rattle.abs_value.specs.declared.state.AbsState.{AbsState}
+use Rattle.bpf_rules.specs.Rules.{first_rule}
+use Rattle.bpf_rules.specs.declared.refusal.VerifierRule.{VerifierRule}
+use Rattle.bpf_semantics.specs.Program.{ShapedProgram}
+use Rattle.flow_check.specs.Edges.{next_of}
+use Rattle.flow_check.specs.Flow.{program_bytes}
 use Rattle.explaining.specs.declared.way.Way.{Way}
 use Rattle.explaining.specs.Known.{all_registers}
 use Rattle.explaining.specs.Lines as specs

@@ -1,7 +1,7 @@
 -- The highest bit that says more than the range, from the top down.
 use Rattle.std.proofs.Common.{◌≡◌, ℕ, zero, suc, ◌-◌, ◌<◌, ◌≤◌, List, ◌++◌}
 use Rattle.std.proofs.Common.{true, false, refl, ap, ◌∙◌, append_assoc, arith}
-use Rattle.bpf_verify.specs.abs_value.declared.number.Number.{Number}
+use Rattle.abs_value.specs.declared.number.Number.{Number}
 use Rattle.explaining.specs.Values.{says_more, telling_bits, bit_text, lowest_bits}
 use native.Mathlib.Numerals.{unary_clauses}
 

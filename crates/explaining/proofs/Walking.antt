@@ -6,21 +6,21 @@ use Rattle.std.specs.Prelude.{IsSome, is_some}
 use Rattle.std.proofs.Math.Seq.{append_snoc}
 use Rattle.std.proofs.lemmas.List.{append-nil}
 use Rattle.std.proofs.lemmas.Option.{same_Some, none-some}
-use Rattle.bpf_verify.specs.bpf_rules.bpf_insn.declared.insn.Insn.{Insn}
-use Rattle.bpf_verify.specs.bpf_rules.bpf_insn.declared.insn.Insn.TheVariants.{Wide}
-use Rattle.bpf_verify.specs.bpf_rules.bpf_insn.Program.{Program, at, layout, slots}
-use Rattle.bpf_verify.specs.bpf_rules.bpf_insn.Spelling.{width_of, slots_of}
+use Rattle.bpf_insn.specs.declared.insn.Insn.{Insn}
+use Rattle.bpf_insn.specs.declared.insn.Insn.TheVariants.{Wide}
+use Rattle.bpf_insn.specs.Program.{Program, at, layout, slots}
+use Rattle.bpf_insn.specs.Spelling.{width_of, slots_of}
 use Rattle.bpf_text.specs.Remarks.{bare_line, remarked_listing}
-use Rattle.bpf_verify.specs.flow_check.Edges.{next_of}
-use Rattle.bpf_verify.specs.flow_check.Flow.{IsLayout}
-use Rattle.bpf_verify.specs.bpf_semantics.Program.{ShapedProgram, shaped}
+use Rattle.flow_check.specs.Edges.{next_of}
+use Rattle.flow_check.specs.Flow.{IsLayout}
+use Rattle.bpf_semantics.specs.Program.{ShapedProgram, shaped}
 use Rattle.bpf_verify.specs.Accepted.{entry_of, IsFine, Fails, IsRefusal, FailsAt}
-use Rattle.bpf_verify.specs.abs_value.declared.state.AbsState.{AbsState}
-use Rattle.bpf_verify.specs.bpf_rules.Rules.{first_rule}
-use Rattle.bpf_verify.specs.bpf_rules.declared.refusal.Refusal.{Refusal}
-use Rattle.bpf_verify.specs.bpf_rules.declared.refusal.Refusal.TheVariants as refusal
-use Rattle.bpf_verify.specs.bpf_rules.declared.refusal.VerifierRule.{VerifierRule}
-use Rattle.bpf_verify.specs.bpf_rules.cells.Arrays.{AppShape}
+use Rattle.abs_value.specs.declared.state.AbsState.{AbsState}
+use Rattle.bpf_rules.specs.Rules.{first_rule}
+use Rattle.bpf_rules.specs.declared.refusal.Refusal.{Refusal}
+use Rattle.bpf_rules.specs.declared.refusal.Refusal.TheVariants as refusal
+use Rattle.bpf_rules.specs.declared.refusal.VerifierRule.{VerifierRule}
+use Rattle.cells.specs.Arrays.{AppShape}
 use Rattle.explaining.specs.declared.way.Way.{Way}
 use Rattle.explaining.specs.Lines.{remark_at, way_on, way_from, way_unless, way_past_entry}
 use Rattle.explaining.specs.Lines.{comment, line_with, lines_from, IsExplained, WalkParts, TellsOn}

@@ -1,8 +1,8 @@
 -- The words of the rules: what each asks, or what is wrong with what it finds. The sentences are
 -- made of them.
 use Rattle.std.specs.Prelude.{ℕ, List, codes}
-use Rattle.bpf_verify.specs.bpf_rules.declared.refusal.VerifierRule.{VerifierRule}
-use Rattle.bpf_verify.specs.bpf_rules.declared.refusal.VerifierRule.TheVariants as rule
+use Rattle.bpf_rules.specs.declared.refusal.VerifierRule.{VerifierRule}
+use Rattle.bpf_rules.specs.declared.refusal.VerifierRule.TheVariants as rule
 
 unfoldable pub asked_of : VerifierRule → List ℕ
 asked_of rule.Unusable = codes " may be unset, or paths disagree on it"

@@ -3,21 +3,20 @@ use Rattle.std.specs.Prelude.{ℕ, ℤ, List, [], ◌∷◌, ◌++◌, codes, Bo
 use Rattle.std.specs.Prelude.{◌&&◌, ◌||◌, not, if◌then◌else◌}
 use Rattle.std.specs.Prelude.{Option, Some, None}
 use Rattle.std.specs.Fmt.{decimal}
-use Rattle.bpf_verify.specs.bpf_rules.bpf_insn.declared.insn.Insn.{Insn}
-use Rattle.bpf_verify.specs.bpf_rules.bpf_insn.declared.insn.Insn.TheVariants.{Load}
-use Rattle.bpf_verify.specs.bpf_rules.bpf_insn.declared.operand.LoadKind.{LoadKind}
-use Rattle.bpf_verify.specs.bpf_rules.bpf_insn.declared.reg.Reg.{Reg}
-use Rattle.bpf_verify.specs.bpf_rules.bpf_insn.declared.reg.Reg.TheVariants.{R0, R1, R2, R3, R4, R5}
-use Rattle.bpf_verify.specs.bpf_rules.bpf_insn.declared.reg.Reg.TheVariants.{R6, R7, R8, R9, R10}
-use Rattle.bpf_verify.specs.bpf_rules.bpf_insn.Table.{number_of}
+use Rattle.bpf_insn.specs.declared.insn.Insn.{Insn}
+use Rattle.bpf_insn.specs.declared.insn.Insn.TheVariants.{Load}
+use Rattle.bpf_insn.specs.declared.operand.LoadKind.{LoadKind}
+use Rattle.bpf_insn.specs.declared.reg.Reg.{Reg}
+use Rattle.bpf_insn.specs.declared.reg.Reg.TheVariants.{R0, R1, R2, R3, R4, R5, R6, R7, R8, R9, R10}
+use Rattle.bpf_insn.specs.Table.{number_of}
 use Rattle.bpf_text.specs.Listing.{with_sign}
-use Rattle.bpf_verify.specs.bpf_semantics.Reads.{load_count}
-use Rattle.bpf_verify.specs.bpf_rules.cells.Arrays.{AppShape}
-use Rattle.bpf_verify.specs.abs_value.declared.state.AbsState.{AbsState}
-use Rattle.bpf_verify.specs.abs_value.declared.value.Abs.{Abs}
-use Rattle.bpf_verify.specs.abs_value.Stack.{loaded_from}
-use Rattle.bpf_verify.specs.abs_value.States.{value_of}
-use Rattle.bpf_verify.specs.bpf_rules.Memory.{stack_place}
+use Rattle.bpf_semantics.specs.Reads.{load_count}
+use Rattle.cells.specs.Arrays.{AppShape}
+use Rattle.abs_value.specs.declared.state.AbsState.{AbsState}
+use Rattle.abs_value.specs.declared.value.Abs.{Abs}
+use Rattle.abs_value.specs.Stack.{loaded_from}
+use Rattle.abs_value.specs.States.{value_of}
+use Rattle.bpf_rules.specs.Memory.{stack_place}
 use Rattle.explaining.specs.declared.reads.ReadRegisters.{ReadRegisters}
 use Rattle.explaining.specs.declared.way.Way.{Way}
 use Rattle.explaining.specs.Reads.{is_among}

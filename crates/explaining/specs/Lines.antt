@@ -3,18 +3,18 @@
 use Rattle.std.specs.Prelude.{◌≡◌, ℕ, ◌-◌, max, List, [], ◌∷◌, ◌++◌, codes, length, replicate}
 use Rattle.std.specs.Prelude.{Option, Some, None, true}
 use Rattle.std.specs.Fmt.{decimal}
-use Rattle.bpf_verify.specs.bpf_rules.bpf_insn.declared.insn.Insn.{Insn}
-use Rattle.bpf_verify.specs.bpf_rules.bpf_insn.Program.{Program, layout}
+use Rattle.bpf_insn.specs.declared.insn.Insn.{Insn}
+use Rattle.bpf_insn.specs.Program.{Program, layout}
 use Rattle.bpf_text.specs.Remarks.{RemarkedInsn, bare_line, remarked_listing}
-use Rattle.bpf_verify.specs.bpf_rules.cells.Arrays.{AppShape}
-use Rattle.bpf_verify.specs.flow_check.Edges.{next_of}
-use Rattle.bpf_verify.specs.bpf_semantics.Program.{ShapedProgram, shaped}
+use Rattle.cells.specs.Arrays.{AppShape}
+use Rattle.flow_check.specs.Edges.{next_of}
+use Rattle.bpf_semantics.specs.Program.{ShapedProgram, shaped}
 use Rattle.bpf_verify.specs.Accepted.{entry_of, IsAccepted, IsRefusedAt}
-use Rattle.bpf_verify.specs.abs_value.declared.state.AbsState.{AbsState}
-use Rattle.bpf_verify.specs.bpf_rules.Rules.{first_rule}
-use Rattle.bpf_verify.specs.bpf_rules.declared.refusal.VerifierRule.{VerifierRule}
-use Rattle.bpf_verify.specs.bpf_rules.declared.refusal.Refusal.{Refusal}
-use Rattle.bpf_verify.specs.bpf_rules.declared.refusal.Refusal.TheVariants as refusal
+use Rattle.abs_value.specs.declared.state.AbsState.{AbsState}
+use Rattle.bpf_rules.specs.Rules.{first_rule}
+use Rattle.bpf_rules.specs.declared.refusal.VerifierRule.{VerifierRule}
+use Rattle.bpf_rules.specs.declared.refusal.Refusal.{Refusal}
+use Rattle.bpf_rules.specs.declared.refusal.Refusal.TheVariants as refusal
 use Rattle.explaining.specs.declared.way.Way.{Way}
 use Rattle.explaining.specs.Known.{registers_text, all_registers, stack_text}
 use Rattle.explaining.specs.Reads.{read_registers}

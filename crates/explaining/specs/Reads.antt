@@ -1,23 +1,22 @@
 -- The registers that an instruction reads, and the memory that it accesses, each as one value.
 use Rattle.std.specs.Prelude.{◌≡◌, ℕ, ℤ, Bool, false, ◌||◌, ◌==◌, if◌then◌else◌}
 use Rattle.std.specs.Prelude.{Option, Some, None, ◌++◌, option_to_list, List}
-use Rattle.bpf_verify.specs.bpf_rules.bpf_insn.declared.insn.Insn.{Insn}
-use Rattle.bpf_verify.specs.bpf_rules.bpf_insn.declared.insn.Insn.TheVariants.{Alu, Mov, MovSx, Neg}
-use Rattle.bpf_verify.specs.bpf_rules.bpf_insn.declared.insn.Insn.TheVariants.{End, Jump, JumpIf}
-use Rattle.bpf_verify.specs.bpf_rules.bpf_insn.declared.insn.Insn.TheVariants.{Call, Exit, Load}
-use Rattle.bpf_verify.specs.bpf_rules.bpf_insn.declared.insn.Insn.TheVariants.{StoreImm, Store}
-use Rattle.bpf_verify.specs.bpf_rules.bpf_insn.declared.insn.Insn.TheVariants.{Atomic, Wide}
-use Rattle.bpf_verify.specs.bpf_rules.bpf_insn.declared.operand.AtomicOp.{AtomicOp}
-use Rattle.bpf_verify.specs.bpf_rules.bpf_insn.declared.operand.AtomicOp.TheVariants as atomic
-use Rattle.bpf_verify.specs.bpf_rules.bpf_insn.declared.operand.Operand.{Operand}
-use Rattle.bpf_verify.specs.bpf_rules.bpf_insn.declared.operand.Operand.TheVariants.{Imm, Register}
-use Rattle.bpf_verify.specs.bpf_rules.bpf_insn.declared.reg.Reg.{Reg}
-use Rattle.bpf_verify.specs.bpf_rules.bpf_insn.declared.reg.Reg.TheVariants.{R0, R1, R2, R3}
-use Rattle.bpf_verify.specs.bpf_rules.bpf_insn.Table.{number_of}
-use Rattle.bpf_verify.specs.bpf_rules.declared.access.Access.{Access}
-use Rattle.bpf_verify.specs.bpf_rules.declared.helper.Helper.{Helper}
-use Rattle.bpf_verify.specs.bpf_rules.declared.helper.Helper.TheVariants.{Lookup, AttrIs}
-use Rattle.bpf_verify.specs.bpf_rules.Reads.{reads, access, helper_of}
+use Rattle.bpf_insn.specs.declared.insn.Insn.{Insn}
+use Rattle.bpf_insn.specs.declared.insn.Insn.TheVariants.{Alu, Mov, MovSx, Neg, Atomic, Wide}
+use Rattle.bpf_insn.specs.declared.insn.Insn.TheVariants.{End, Jump, JumpIf}
+use Rattle.bpf_insn.specs.declared.insn.Insn.TheVariants.{Call, Exit, Load}
+use Rattle.bpf_insn.specs.declared.insn.Insn.TheVariants.{StoreImm, Store}
+use Rattle.bpf_insn.specs.declared.operand.AtomicOp.{AtomicOp}
+use Rattle.bpf_insn.specs.declared.operand.AtomicOp.TheVariants as atomic
+use Rattle.bpf_insn.specs.declared.operand.Operand.{Operand}
+use Rattle.bpf_insn.specs.declared.operand.Operand.TheVariants.{Imm, Register}
+use Rattle.bpf_insn.specs.declared.reg.Reg.{Reg}
+use Rattle.bpf_insn.specs.declared.reg.Reg.TheVariants.{R0, R1, R2, R3}
+use Rattle.bpf_insn.specs.Table.{number_of}
+use Rattle.bpf_rules.specs.declared.access.Access.{Access}
+use Rattle.bpf_rules.specs.declared.helper.Helper.{Helper}
+use Rattle.bpf_rules.specs.declared.helper.Helper.TheVariants.{Lookup, AttrIs}
+use Rattle.bpf_rules.specs.Reads.{reads, access, helper_of}
 use Rattle.explaining.specs.declared.reads.ReadRegisters.{ReadRegisters}
 use Rattle.explaining.specs.declared.reads.TouchedMemory.{TouchedMemory}
 

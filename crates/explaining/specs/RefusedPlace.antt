@@ -1,7 +1,7 @@
 -- Where and why a program is refused, in a sentence.
 use Rattle.std.specs.Prelude.{◌≡◌, ℕ, List}
-use Rattle.bpf_verify.specs.bpf_rules.declared.refusal.VerifierRule.{VerifierRule}
-use Rattle.bpf_verify.specs.bpf_semantics.Program.{ShapedProgram}
+use Rattle.bpf_rules.specs.declared.refusal.VerifierRule.{VerifierRule}
+use Rattle.bpf_semantics.specs.Program.{ShapedProgram}
 use Rattle.bpf_verify.specs.Accepted.{IsRefusedAt}
 use Rattle.explaining.specs.Sentences.{cited_rule}
 

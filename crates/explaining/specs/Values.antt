@@ -5,16 +5,16 @@ use Rattle.std.specs.Prelude.{Option, Some, None, slice_get}
 use Rattle.std.specs.Fmt.{decimal}
 use Rattle.std.specs.Int.{bit_at}
 use Rattle.std.specs.List.{AllByRecursion, find}
-use Rattle.bpf_verify.specs.bpf_semantics.Memory.{stack_size}
-use Rattle.bpf_verify.specs.bpf_rules.cells.Arrays.{AppShape}
-use Rattle.bpf_verify.specs.bpf_rules.cells.Names.{IsName}
-use Rattle.bpf_verify.specs.bpf_rules.cells.declared.array.CellArray.{CellArray}
-use Rattle.bpf_verify.specs.abs_value.declared.number.Number.{Number}
-use Rattle.bpf_verify.specs.abs_value.declared.origin.Lookup.{Lookup}
-use Rattle.bpf_verify.specs.abs_value.declared.origin.Origin.TheVariants.{Found, Fixed}
-use Rattle.bpf_verify.specs.abs_value.declared.value.Abs.{Abs}
-use Rattle.bpf_verify.specs.abs_value.declared.value.Abs.TheVariants.{Unusable, Num, Ctx, Stk}
-use Rattle.bpf_verify.specs.abs_value.declared.value.Abs.TheVariants.{Map, MayCell, Cell}
+use Rattle.bpf_semantics.specs.Memory.{stack_size}
+use Rattle.cells.specs.Arrays.{AppShape}
+use Rattle.cells.specs.Names.{IsName}
+use Rattle.cells.specs.declared.array.CellArray.{CellArray}
+use Rattle.abs_value.specs.declared.number.Number.{Number}
+use Rattle.abs_value.specs.declared.origin.Lookup.{Lookup}
+use Rattle.abs_value.specs.declared.origin.Origin.TheVariants.{Found, Fixed}
+use Rattle.abs_value.specs.declared.value.Abs.{Abs}
+use Rattle.abs_value.specs.declared.value.Abs.TheVariants.{Unusable, Num, Ctx, Stk}
+use Rattle.abs_value.specs.declared.value.Abs.TheVariants.{Map, MayCell, Cell}
 
 -- ---- numbers
 

@@ -1,16 +1,16 @@
 -- What changed on the way to a place: on the edge by which the instruction before goes on to it.
 use Rattle.std.specs.Prelude.{ℕ, Bool, true, false, ◌&&◌, not, ◌==◌, Option, Some, None, replicate}
-use Rattle.bpf_verify.specs.bpf_rules.bpf_insn.declared.insn.Insn.{Insn}
-use Rattle.bpf_verify.specs.bpf_rules.bpf_insn.declared.reg.Reg.{Reg}
-use Rattle.bpf_verify.specs.bpf_rules.bpf_insn.Table.{number_of}
-use Rattle.bpf_verify.specs.bpf_rules.cells.Arrays.{AppShape}
-use Rattle.bpf_verify.specs.abs_value.declared.number.Number.{Number}
-use Rattle.bpf_verify.specs.abs_value.declared.state.AbsState.{AbsState}
-use Rattle.bpf_verify.specs.abs_value.declared.value.Abs.{Abs}
-use Rattle.bpf_verify.specs.abs_value.declared.value.Abs.TheVariants.{Unusable, Num, Ctx, Stk}
-use Rattle.bpf_verify.specs.abs_value.declared.value.Abs.TheVariants.{Map, MayCell, Cell}
-use Rattle.bpf_verify.specs.abs_value.States.{register_at}
-use Rattle.bpf_verify.specs.abs_value.Values.{same_lookup, same_origin}
+use Rattle.bpf_insn.specs.declared.insn.Insn.{Insn}
+use Rattle.bpf_insn.specs.declared.reg.Reg.{Reg}
+use Rattle.bpf_insn.specs.Table.{number_of}
+use Rattle.cells.specs.Arrays.{AppShape}
+use Rattle.abs_value.specs.declared.number.Number.{Number}
+use Rattle.abs_value.specs.declared.state.AbsState.{AbsState}
+use Rattle.abs_value.specs.declared.value.Abs.{Abs}
+use Rattle.abs_value.specs.declared.value.Abs.TheVariants.{Unusable, Num, Ctx, Stk}
+use Rattle.abs_value.specs.declared.value.Abs.TheVariants.{Map, MayCell, Cell}
+use Rattle.abs_value.specs.States.{register_at}
+use Rattle.abs_value.specs.Values.{same_lookup, same_origin}
 use Rattle.bpf_verify.specs.Sweep.{falling}
 use Rattle.explaining.specs.declared.way.Way.{Way}
 

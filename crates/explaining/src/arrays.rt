@@ -5,8 +5,8 @@ ghost use Rattle.std.specs.List.{find};
 ghost use Rattle.bpf_text.specs.Listing.{Appends};
 ghost use Rattle.explaining.specs.Values as specs;
 
-use bpf_verify::bpf_rules::abs_value::Lookup;
-use bpf_verify::bpf_rules::cells::{CellArray, Shape};
+use abs_value::Lookup;
+use cells::{CellArray, Shape};
 use std::alloc::AllocError;
 use std::fmt::Write;
 

@@ -4,7 +4,7 @@ ghost use Rattle.std.specs.Prelude.{◌≡◌, ◌<◌, ◌≤◌, OnOk};
 ghost use Rattle.bpf_text.specs.Listing.{Appends};
 ghost use Rattle.explaining.specs.Values as specs;
 
-use bpf_verify::bpf_rules::abs_value::Number;
+use abs_value::Number;
 use std::alloc::AllocError;
 
 // Whether the bit is known, and the range doesn't tell it.

@@ -2,17 +2,17 @@
 
 ghost use Rattle.std.specs.Prelude.{◌≡◌, ◌≤◌, ◌+◌, OnOk, IfSome, true};
 ghost use Rattle.bpf_text.specs.Listing.{Appends, with_sign};
-ghost use Rattle.bpf_verify.specs.bpf_semantics.Memory.{stack_size};
-ghost use Rattle.bpf_verify.specs.bpf_rules.Memory as memory;
+ghost use Rattle.bpf_semantics.specs.Memory.{stack_size};
+ghost use Rattle.bpf_rules.specs.Memory as memory;
 ghost use Rattle.explaining.specs.Known as specs;
 
 use crate::reads::ReadRegisters;
 use crate::values::push_value;
 use crate::way::Way;
-use bpf_verify::bpf_rules::abs_value::{Abs, AbsState};
-use bpf_verify::bpf_rules::bpf_insn::{Insn, LoadKind, Reg};
-use bpf_verify::bpf_rules::cells::Shape;
-use bpf_verify::bpf_semantics::{STACK_SIZE, load_count};
+use abs_value::{Abs, AbsState};
+use bpf_insn::{Insn, LoadKind, Reg};
+use bpf_semantics::{STACK_SIZE, load_count};
+use cells::Shape;
 use std::alloc::AllocError;
 use std::fmt::Write;
 

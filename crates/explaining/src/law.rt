@@ -1,6 +1,6 @@
 //! Laws of the definitions. They are called by nothing.
 
-ghost use Rattle.bpf_verify.specs.bpf_rules.bpf_insn.declared.insn.Insn.{Insn as SomeInsn};
+ghost use Rattle.bpf_insn.specs.declared.insn.Insn.{Insn as SomeInsn};
 ghost use Rattle.explaining.specs.Reads.{AreRead};
 
 /// A law: the registers that are told of an instruction are those that the rules say it reads.

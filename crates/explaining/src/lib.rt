@@ -27,9 +27,3 @@ pub use arrays::push_counter;
 pub use law::registers_are_read;
 pub use refused::{RefusedPlace, refused_place};
 pub use telling::{Explained, explain};
-
-// The words of the contracts here come with them.
-pub use bpf_text;
-pub use bpf_verify;
-pub use bpf_verify::bpf_rules::{bpf_insn, cells};
-pub use bpf_verify::bpf_semantics;

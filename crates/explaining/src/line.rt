@@ -10,11 +10,11 @@ use crate::known::{push_registers, push_stack};
 use crate::reads::ReadRegisters;
 use crate::sentence::push_refusal;
 use crate::way::Way;
+use abs_value::AbsState;
+use bpf_insn::Insn;
+use bpf_rules::first_rule;
 use bpf_text::push_bare_line;
-use bpf_verify::bpf_rules::abs_value::AbsState;
-use bpf_verify::bpf_rules::bpf_insn::Insn;
-use bpf_verify::bpf_rules::cells::Shape;
-use bpf_verify::bpf_rules::first_rule;
+use cells::Shape;
 use std::alloc::AllocError;
 use std::fmt::Write;
 

@@ -9,10 +9,10 @@ ghost use Rattle.explaining.specs.Sentences as specs;
 use crate::asks::{asked_by, unset_byte};
 use crate::known::{push_memory, push_register};
 use crate::values::push_value;
+use abs_value::{Abs, AbsState};
+use bpf_insn::{AluOp, Insn, Reg};
 use bpf_verify::VerifierRule;
-use bpf_verify::bpf_rules::abs_value::{Abs, AbsState};
-use bpf_verify::bpf_rules::bpf_insn::{AluOp, Insn, Reg};
-use bpf_verify::bpf_rules::cells::Shape;
+use cells::Shape;
 use std::alloc::AllocError;
 use std::fmt::Write;
 

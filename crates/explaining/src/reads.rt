@@ -1,14 +1,14 @@
 //! The registers that an instruction reads, and the memory that it accesses.
 
 ghost use Rattle.std.specs.Prelude.{◌≡◌};
-ghost use Rattle.bpf_verify.specs.bpf_rules.Reads.{helper_of};
+ghost use Rattle.bpf_rules.specs.Reads.{helper_of};
 ghost use Rattle.explaining.specs.Reads as specs;
 ghost use Rattle.explaining.specs.Sentences as sentences;
 
-use bpf_verify::bpf_rules::abs_value::AbsState;
-use bpf_verify::bpf_rules::bpf_insn::{AtomicOp, Insn, Operand, Reg};
-use bpf_verify::bpf_semantics::helpers::{ATTR_IS, ATTR_LEN, BUCKET, LOOKUP};
-use bpf_verify::bpf_semantics::{atomic_count, byte_count, load_count};
+use abs_value::AbsState;
+use bpf_insn::{AtomicOp, Insn, Operand, Reg};
+use bpf_semantics::helpers::{ATTR_IS, ATTR_LEN, BUCKET, LOOKUP};
+use bpf_semantics::{atomic_count, byte_count, load_count};
 
 /// The registers that an instruction reads, in their order; at most three.
 #[derive(Clone, Copy)]

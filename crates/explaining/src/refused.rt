@@ -3,17 +3,17 @@
 
 ghost use Rattle.std.specs.Prelude.{◌≡◌, IfOk, IfSome, Ok, None, Some};
 ghost use Rattle.std.specs.Prelude.{option_copied, string_bytes};
-ghost use Rattle.bpf_verify.specs.bpf_rules.bpf_insn.Program.{at};
-ghost use Rattle.bpf_verify.specs.bpf_semantics.Program.{shaped};
+ghost use Rattle.bpf_insn.specs.Program.{at};
+ghost use Rattle.bpf_semantics.specs.Program.{shaped};
 ghost use Rattle.bpf_verify.specs.Accepted.{FailsAt, IsAccepted, IsRefusal, entry_of};
 ghost use Rattle.explaining.specs.RefusedPlace.{IsRefusedPlace};
 
 use crate::sentence::push_cited_rule;
-use bpf_verify::bpf_rules::abs_value::AbsState;
-use bpf_verify::bpf_rules::bpf_insn::Insn;
-use bpf_verify::bpf_rules::cells::Shape;
-use bpf_verify::flow_check::Flow;
+use abs_value::AbsState;
+use bpf_insn::Insn;
 use bpf_verify::{Refusal, Walk, end_is_accepted};
+use cells::Shape;
+use flow_check::Flow;
 use std::alloc::{AllocError, Global};
 
 /// The slot of the first instruction that breaks a rule, and the sentence of the first such rule,

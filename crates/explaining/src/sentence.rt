@@ -8,10 +8,10 @@ use crate::asks::{asked_by, verifier_rule_number};
 use crate::operands::{push_moved, push_pointer, push_register_is, push_unusable, stored_register};
 use crate::reads::{ReadRegisters, touched};
 use crate::wrong::{push_access, push_array_fault, push_helper};
+use abs_value::{Abs, AbsState};
+use bpf_insn::{Insn, Reg};
 use bpf_verify::VerifierRule;
-use bpf_verify::bpf_rules::abs_value::{Abs, AbsState};
-use bpf_verify::bpf_rules::bpf_insn::{Insn, Reg};
-use bpf_verify::bpf_rules::cells::Shape;
+use cells::Shape;
 use std::alloc::AllocError;
 use std::fmt::Write;
 

@@ -4,21 +4,21 @@ ghost use Rattle.std.specs.Prelude.{◌≡◌, ◌<◌, ◌≤◌, ◌++◌, ◌
 ghost use Rattle.std.specs.Prelude.{string_bytes, option_copied};
 ghost use Rattle.std.specs.Prelude.{Ok};
 ghost use Rattle.bpf_text.specs.Assembly.{Assembles};
-ghost use Rattle.bpf_verify.specs.bpf_semantics.Program.{shaped};
-ghost use Rattle.bpf_verify.specs.flow_check.Flow.{program_bytes};
-ghost use Rattle.bpf_verify.specs.bpf_rules.cells.Arrays.{AppShape};
+ghost use Rattle.bpf_semantics.specs.Program.{shaped};
+ghost use Rattle.flow_check.specs.Flow.{program_bytes};
+ghost use Rattle.cells.specs.Arrays.{AppShape};
 ghost use Rattle.explaining.specs.Lines.{IsExplained, IsFinding, WalkParts, TellsOn};
 ghost use Rattle.explaining.specs.Lines as specs;
 
 use crate::arrays::keep_names;
 use crate::line::push_line;
 use crate::way::Way;
+use abs_value::AbsState;
+use bpf_insn::Insn;
 use bpf_text::{push_bare_line, remarks_are_skipped};
-use bpf_verify::bpf_rules::abs_value::AbsState;
-use bpf_verify::bpf_rules::bpf_insn::Insn;
-use bpf_verify::bpf_rules::cells::Shape;
-use bpf_verify::flow_check::Flow;
 use bpf_verify::{Refusal, Walk, end_is_accepted};
+use cells::Shape;
+use flow_check::Flow;
 use std::alloc::{AllocError, Global};
 
 /// What is told of a program: its listing with comments, and why it is refused, if it is.

@@ -6,9 +6,9 @@ ghost use Rattle.explaining.specs.Values as specs;
 
 use crate::arrays::{push_array, push_counter, push_found};
 use crate::bits::push_bits;
-use bpf_verify::bpf_rules::abs_value::{Abs, Number, Origin, Places};
-use bpf_verify::bpf_rules::cells::Shape;
-use bpf_verify::bpf_semantics::STACK_SIZE;
+use abs_value::{Abs, Number, Origin, Places};
+use bpf_semantics::STACK_SIZE;
+use cells::Shape;
 use std::alloc::AllocError;
 use std::fmt::Write;
 

@@ -1,14 +1,14 @@
 //! What changed on the way to a place.
 
 ghost use Rattle.std.specs.Prelude.{◌≡◌, ◌<◌};
-ghost use Rattle.bpf_verify.specs.abs_value.Values as values;
+ghost use Rattle.abs_value.specs.Values as values;
 ghost use Rattle.explaining.specs.Way as specs;
 
-use bpf_verify::bpf_rules::abs_value::{Abs, AbsState, Number, Origin};
-use bpf_verify::bpf_rules::bpf_insn::{Insn, Reg};
-use bpf_verify::bpf_rules::cells::Shape;
-use bpf_verify::bpf_rules::go_on_in;
-use bpf_verify::flow_check::next_place;
+use abs_value::{Abs, AbsState, Number, Origin};
+use bpf_insn::{Insn, Reg};
+use bpf_rules::go_on_in;
+use cells::Shape;
+use flow_check::next_place;
 
 /// What was known of the registers before an instruction, and on the edge by which it goes on.
 #[derive(Clone, Copy)]

@@ -2,18 +2,18 @@
 
 ghost use Rattle.std.specs.Prelude.{◌≡◌, OnOk, option_copied};
 ghost use Rattle.bpf_text.specs.Listing.{Appends};
-ghost use Rattle.bpf_verify.specs.bpf_rules.Reads.{helper_of};
+ghost use Rattle.bpf_rules.specs.Reads.{helper_of};
 ghost use Rattle.explaining.specs.Sentences as specs;
 
 use crate::asks::{asked_by, attr_is_takes, cells_ask, lookup_takes, no_cell_at};
 use crate::known::{push_memory, push_register};
 use crate::operands::push_register_is;
 use crate::reads::TouchedMemory;
+use abs_value::{Abs, AbsState};
+use bpf_insn::{Insn, Reg, WideValue};
+use bpf_semantics::helpers::{ATTR_IS, ATTR_LEN, BUCKET, LOOKUP};
 use bpf_verify::VerifierRule;
-use bpf_verify::bpf_rules::abs_value::{Abs, AbsState};
-use bpf_verify::bpf_rules::bpf_insn::{Insn, Reg, WideValue};
-use bpf_verify::bpf_rules::cells::{CellArray, Shape};
-use bpf_verify::bpf_semantics::helpers::{ATTR_IS, ATTR_LEN, BUCKET, LOOKUP};
+use cells::{CellArray, Shape};
 use std::alloc::AllocError;
 use std::fmt::Write;
 

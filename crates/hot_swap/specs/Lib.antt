@@ -3,4 +3,3 @@ pub mod Book
 pub mod Seats
 pub mod Latest
 pub mod Texts
-pub use Rattle.ruleset.specs as rulesets

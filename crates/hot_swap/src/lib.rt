@@ -33,9 +33,5 @@ pub use notice::Notice;
 pub use publisher::Publisher;
 pub use watcher::Watcher;
 
-// The words of the contracts here come with them.
-pub use ruleset;
-pub use ruleset::{bpf_verify, flow_check};
-
 #[cfg(test)]
 mod tests;

@@ -4,4 +4,3 @@ pub mod Head
 pub mod Faults
 pub mod Post
 pub mod Reading
-pub use Rattle.devices.specs as devices

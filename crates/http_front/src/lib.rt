@@ -25,7 +25,6 @@ pub use room::PostRoom;
 pub use status::Status;
 
 // The words of the contracts here come with them.
-pub use devices;
 pub use devices::{Counted, FailAt, Failed, WriteFault};
 
 #[cfg(test)]

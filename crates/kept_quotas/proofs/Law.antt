@@ -15,13 +15,13 @@ use Rattle.one_world.specs.InTurn.{events_in_turn}
 use Rattle.one_world.specs.OneWorld.{IsSharedBy}
 use Rattle.one_world.specs.Passes.{DidRuns, all_runs}
 use Rattle.one_world.specs.Runs.{AppRun, IsRunUnder, lists_of_runs}
-use Rattle.one_world.specs.shared_cells.History.{Entry, all_events}
-use Rattle.one_world.specs.shared_cells.Passes.{lists_of}
-use Rattle.one_world.specs.shared_cells.Quotas.{OnlyCounts}
-use Rattle.one_world.specs.world.World.{HasProgram}
-use Rattle.one_world.specs.world.bpf_machine.bpf_semantics.Program.{ShapedProgram}
-use Rattle.one_world.specs.world.bpf_machine.bpf_verify.Covers.{HasPossibleReply}
-use Rattle.one_world.specs.world.rulesets.Rules.{AppRule, Rules}
+use Rattle.shared_cells.specs.History.{Entry, all_events}
+use Rattle.shared_cells.specs.Passes.{lists_of}
+use Rattle.shared_cells.specs.Quotas.{OnlyCounts}
+use Rattle.world.specs.World.{HasProgram}
+use Rattle.bpf_semantics.specs.Program.{ShapedProgram}
+use Rattle.bpf_verify.specs.Covers.{HasPossibleReply}
+use Rattle.ruleset.specs.Rules.{AppRule, Rules}
 use Rattle.kept_quotas.specs.Quotas.{HasOnlyQuotasAt, AllHaveOnlyQuotasAt, OnlyCountsAt}
 use Rattle.kept_quotas.specs.Quotas.{ThreadsKeepQuotas}
 use Rattle.kept_quotas.proofs.Lists.{all_of_list, all_by, all_made}

@@ -6,8 +6,8 @@ use Rattle.std.proofs.lemmas.List.Elements.{All-nil, All-cons, All-append, All-h
 use Rattle.std.proofs.lemmas.List.Elements.{All-contains, Contains-get_or}
 use Rattle.std.proofs.lemmas.List.Elements.{Contains-append_left, Contains-append_right}
 use Rattle.cells.specs.declared.event.CellEvent.{CellEvent}
-use Rattle.one_world.specs.shared_cells.History.{Entry, all_events, events_by}
-use Rattle.one_world.specs.shared_cells.Passes.{PassView, lists_of, events_made}
+use Rattle.shared_cells.specs.History.{Entry, all_events, events_by}
+use Rattle.shared_cells.specs.Passes.{PassView, lists_of, events_made}
 
 module _ {X : Type 0} (P : X → Type 0) where
   pub all_first : (xs ys : List X) → All P (xs ++ ys) → All P xs

@@ -9,16 +9,15 @@ use Rattle.cells.specs.declared.event.CellOp.TheVariants.{Load, Store, Add, Or, 
 use Rattle.cells.specs.declared.event.CellOp.TheVariants.{Swap, CompareExchange}
 use Rattle.one_world.specs.Runs.{Reaches, stays, goes, asks, Stage, UnderWay, AtEnd}
 use Rattle.one_world.specs.Runs.{ComesAsFar, AppRun}
-use Rattle.one_world.specs.attrs.Attributes.{AreShort}
-use Rattle.one_world.specs.shared_cells.Quotas.{OnlyCounts}
-use Rattle.one_world.specs.world.bpf_machine.bpf_semantics.Program.{ShapedProgram}
-use Rattle.one_world.specs.world.bpf_machine.bpf_semantics.Run.{Ends, last, more}
-use Rattle.one_world.specs.world.bpf_machine.bpf_semantics.Run as whole
-use Rattle.one_world.specs.world.bpf_machine.bpf_semantics.State.{State, opening}
-use Rattle.one_world.specs.world.bpf_machine.bpf_verify.Covers.{IsCovered, IsSafeOutcome}
-use Rattle.one_world.specs.world.bpf_machine.bpf_verify.Covers.{StepsAreSafe, AreLawful}
-use Rattle.one_world.specs.world.bpf_machine.bpf_verify.Covers.{HasPossibleReply}
-use Rattle.one_world.specs.world.bpf_machine.bpf_verify.bpf_rules.Sound.{IsLawful, KeepsQuota}
+use Rattle.attrs.specs.Attributes.{AreShort}
+use Rattle.shared_cells.specs.Quotas.{OnlyCounts}
+use Rattle.bpf_semantics.specs.Program.{ShapedProgram}
+use Rattle.bpf_semantics.specs.Run.{Ends, last, more}
+use Rattle.bpf_semantics.specs.Run as whole
+use Rattle.bpf_semantics.specs.State.{State, opening}
+use Rattle.bpf_verify.specs.Covers.{IsCovered, IsSafeOutcome, HasPossibleReply}
+use Rattle.bpf_verify.specs.Covers.{StepsAreSafe, AreLawful}
+use Rattle.bpf_rules.specs.Sound.{IsLawful, KeepsQuota}
 use Rattle.kept_quotas.specs.Quotas.{HasOnlyQuotasAt, OnlyCountsAt}
 
 -- ---- a run asks what its shape allows

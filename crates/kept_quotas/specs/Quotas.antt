@@ -5,13 +5,13 @@ use Rattle.cells.specs.Arrays.{HasCell}
 use Rattle.cells.specs.declared.array.CellArray.{CellArray}
 use Rattle.cells.specs.declared.event.CellEvent.{CellEvent}
 use Rattle.one_world.specs.Passes.{DidOneWorld}
-use Rattle.one_world.specs.attrs.Attributes.{Attributes, AreShort}
-use Rattle.one_world.specs.shared_cells.Passes.{PassView, events_made}
-use Rattle.one_world.specs.shared_cells.Quotas.{OnlyCounts}
-use Rattle.one_world.specs.world.bpf_machine.bpf_semantics.Program.{ShapedProgram}
-use Rattle.one_world.specs.world.bpf_machine.bpf_semantics.State.{opening}
-use Rattle.one_world.specs.world.bpf_machine.bpf_verify.Covers.{IsCovered, StepsAreSafe}
-use Rattle.one_world.specs.world.rulesets.Rules.{Rules}
+use Rattle.attrs.specs.Attributes.{Attributes, AreShort}
+use Rattle.shared_cells.specs.Passes.{PassView, events_made}
+use Rattle.shared_cells.specs.Quotas.{OnlyCounts}
+use Rattle.bpf_semantics.specs.Program.{ShapedProgram}
+use Rattle.bpf_semantics.specs.State.{opening}
+use Rattle.bpf_verify.specs.Covers.{IsCovered, StepsAreSafe}
+use Rattle.ruleset.specs.Rules.{Rules}
 
 -- of the program holds what `Verified` keeps of one that was accepted, and each of its arrays that
 -- has the cell has a quota

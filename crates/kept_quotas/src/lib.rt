@@ -20,6 +20,3 @@
 mod laws;
 
 pub use laws::threads_keep_quotas;
-
-// The words of the law here come with it.
-pub use one_world;

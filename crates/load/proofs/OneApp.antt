@@ -3,14 +3,14 @@
 use Rattle.std.proofs.Common.{◌≡◌, ◌≢◌, ℕ, suc, List, [], ◌∷◌, ◌++◌, length, map}
 use Rattle.std.proofs.Common.{Option, Some, None, Result, Ok, Err, refl, sym, ◌∙◌, ap, subst}
 use Rattle.std.proofs.lemmas.Option.{same_Some, none-some}
-use Rattle.acceptance.specs.bpf_insn.Program.{Program}
-use Rattle.acceptance.specs.bpf_semantics.Program.{shaped}
-use Rattle.acceptance.specs.bpf_verify.Accepted as verify
-use Rattle.acceptance.specs.rule_lang.Verdicts as rules
+use Rattle.bpf_insn.specs.Program.{Program}
+use Rattle.bpf_semantics.specs.Program.{shaped}
+use Rattle.bpf_verify.specs.Accepted as verify
+use Rattle.rule_lang.specs.Verdicts as rules
 use Rattle.bounded_files.specs.Files.{KnownFile, bytes_of}
-use Rattle.manifest.specs.cells.Arrays.{AppShape}
-use Rattle.manifest.specs.cells.declared.array.ArrayNo.{ArrayNo}
-use Rattle.manifest.specs.cells.declared.array.CellArray.{CellArray}
+use Rattle.cells.specs.Arrays.{AppShape}
+use Rattle.cells.specs.declared.array.ArrayNo.{ArrayNo}
+use Rattle.cells.specs.declared.array.CellArray.{CellArray}
 use Rattle.manifest.specs.App.{AppEntry}
 use Rattle.ruleset.specs.Rules.{AppRule}
 use Rattle.load.specs.declared.fault.AppFault.{AppFault}

@@ -1,18 +1,18 @@
 -- A manifest has one load: its bytes, its arrays and its apps have one outcome each.
 use Rattle.std.proofs.Common.{◌≡◌, ◌≢◌, ℕ, ◌+◌, List, length, Option, Some, Result, Ok, Err}
 use Rattle.std.proofs.Common.{refl, sym, ap, subst}
-use Rattle.acceptance.specs.bpf_insn.Program.{Program}
-use Rattle.acceptance.specs.bpf_verify.Accepted as verify
-use Rattle.acceptance.specs.rule_lang.Verdicts as rules
+use Rattle.bpf_insn.specs.Program.{Program}
+use Rattle.bpf_verify.specs.Accepted as verify
+use Rattle.rule_lang.specs.Verdicts as rules
 use Rattle.bounded_files.specs.Files.{KnownFile}
-use Rattle.manifest.specs.cells.Arrays.{AppShape}
-use Rattle.manifest.specs.cells.Directory.{IsDirectory}
-use Rattle.manifest.specs.cells.declared.array.ArrayNo.{ArrayNo}
-use Rattle.manifest.specs.cells.declared.array.CellArray.{CellArray}
-use Rattle.manifest.specs.cells.declared.fault.CellsFault.{CellsFault}
-use Rattle.manifest.specs.cells.declared.fault.CellsFault.TheVariants as cells
-use Rattle.manifest.specs.declarations.Order.{AreDeclared, IsRefusedArray}
-use Rattle.manifest.specs.declarations.OneWay.{ListsDeclareOneWay}
+use Rattle.cells.specs.Arrays.{AppShape}
+use Rattle.cells.specs.Directory.{IsDirectory}
+use Rattle.cells.specs.declared.array.ArrayNo.{ArrayNo}
+use Rattle.cells.specs.declared.array.CellArray.{CellArray}
+use Rattle.cells.specs.declared.fault.CellsFault.{CellsFault}
+use Rattle.cells.specs.declared.fault.CellsFault.TheVariants as cells
+use Rattle.declarations.specs.Order.{AreDeclared, IsRefusedArray}
+use Rattle.declarations.specs.OneWay.{ListsDeclareOneWay}
 use Rattle.manifest.specs.Manifest.{Manifest, ReadsManifest}
 use Rattle.manifest.specs.OneReading.{HasOneManifest}
 use Rattle.manifest.specs.declared.fault.ManifestFault.{ManifestFault}

@@ -3,27 +3,27 @@ use Rattle.std.proofs.Common.{◌≡◌, ◌≢◌, ℕ, ◌≤◌, List, length
 use Rattle.std.proofs.Common.{refl, sym, ◌∙◌, ap, subst, arith}
 use Rattle.acceptance.specs.Program.{IsProgramOf, IsRefusedProgram}
 use Rattle.acceptance.specs.Rule.{IsTextOf, IsRuleTextFault, IsTooLong, no_text, no_rule}
-use Rattle.acceptance.specs.bpf_insn.Program.{Program}
-use Rattle.acceptance.specs.bpf_semantics.Program.{shaped}
-use Rattle.acceptance.specs.bpf_verify.Accepted as verify
-use Rattle.acceptance.specs.bpf_verify.Accepted.{IsRefusedAt}
-use Rattle.acceptance.specs.bpf_verify.bpf_rules.declared.refusal.Refusal.TheVariants as refusal
-use Rattle.acceptance.specs.bpf_verify.bpf_rules.declared.refusal.VerifierRule.{VerifierRule}
+use Rattle.bpf_insn.specs.Program.{Program}
+use Rattle.bpf_semantics.specs.Program.{shaped}
+use Rattle.bpf_verify.specs.Accepted as verify
+use Rattle.bpf_verify.specs.Accepted.{IsRefusedAt}
+use Rattle.bpf_rules.specs.declared.refusal.Refusal.TheVariants as refusal
+use Rattle.bpf_rules.specs.declared.refusal.VerifierRule.{VerifierRule}
 use Rattle.acceptance.specs.declared.fault.ProgramFault.TheVariants.{Flow, Verify}
 use Rattle.acceptance.specs.declared.fault.RuleTextFault.TheVariants.{Text, Compile}
-use Rattle.manifest.specs.cells.Arrays.{AppShape}
-use Rattle.acceptance.specs.flow_check.Fault.{HasOneVerdict, IsFlowFault}
-use Rattle.acceptance.specs.flow_check.declared.fault.FlowFault.TheVariants as flow
-use Rattle.acceptance.specs.flow_check.declared.fault.FlowRule.{FlowRule}
-use Rattle.acceptance.specs.rule_compile.Code.{rule_code}
-use Rattle.acceptance.specs.rule_compile.declared.fault.CompileFault.TheVariants as compile
-use Rattle.acceptance.specs.rule_lang.Parts.{OrFault}
-use Rattle.acceptance.specs.rule_lang.Verdicts as rules
-use Rattle.acceptance.specs.rule_lang.declared.fault.RuleFault.TheVariants as rule
-use Rattle.acceptance.specs.rule_lang.declared.fault.RuleFault.TheVariants.{At}
-use Rattle.acceptance.specs.rule_lang.declared.fault.RuleFaultKind.{RuleFaultKind}
-use Rattle.acceptance.specs.rule_lang.declared.fault.RuleFaultKind.TheVariants.{Token}
-use Rattle.acceptance.specs.rule_lang.declared.rule.Statement.{Statement}
+use Rattle.cells.specs.Arrays.{AppShape}
+use Rattle.flow_check.specs.Fault.{HasOneVerdict, IsFlowFault}
+use Rattle.flow_check.specs.declared.fault.FlowFault.TheVariants as flow
+use Rattle.flow_check.specs.declared.fault.FlowRule.{FlowRule}
+use Rattle.rule_compile.specs.Code.{rule_code}
+use Rattle.rule_compile.specs.declared.fault.CompileFault.TheVariants as compile
+use Rattle.rule_lang.specs.Parts.{OrFault}
+use Rattle.rule_lang.specs.Verdicts as rules
+use Rattle.rule_lang.specs.declared.fault.RuleFault.TheVariants as rule
+use Rattle.rule_lang.specs.declared.fault.RuleFault.TheVariants.{At}
+use Rattle.rule_lang.specs.declared.fault.RuleFaultKind.{RuleFaultKind}
+use Rattle.rule_lang.specs.declared.fault.RuleFaultKind.TheVariants.{Token}
+use Rattle.rule_lang.specs.declared.rule.Statement.{Statement}
 use Rattle.manifest.specs.declared.app.ProgramSource.{ProgramSource}
 use Rattle.manifest.specs.declared.app.ProgramSource.TheVariants as source
 use Rattle.load.specs.declared.fault.AppFault.{AppFault}

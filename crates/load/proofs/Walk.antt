@@ -1,8 +1,8 @@
 -- The apps of the entries so far, and one more.
 use Rattle.std.proofs.Common.{◌≡◌, ℕ, suc, ◌+◌, List, [], ◌∷◌, ◌++◌}
 use Rattle.std.proofs.Common.{length, Err, refl, ap, ◌∙◌, append-nil, arith}
-use Rattle.manifest.specs.cells.declared.array.ArrayNo.{ArrayNo}
-use Rattle.manifest.specs.cells.declared.array.CellArray.{CellArray}
+use Rattle.cells.specs.declared.array.ArrayNo.{ArrayNo}
+use Rattle.cells.specs.declared.array.CellArray.{CellArray}
 use Rattle.manifest.specs.App.{AppEntry}
 use Rattle.ruleset.specs.Rules.{AppRule}
 use Rattle.load.specs.declared.fault.AppFault.{AppFault}

@@ -1,7 +1,7 @@
 -- The apps of a manifest, one after another.
 use Rattle.std.specs.Prelude.{◌≡◌, ℕ, ◌+◌, List, [], ◌∷◌, ◌++◌, length, Result, Err}
-use Rattle.manifest.specs.cells.declared.array.ArrayNo.{ArrayNo}
-use Rattle.manifest.specs.cells.declared.array.CellArray.{CellArray}
+use Rattle.cells.specs.declared.array.ArrayNo.{ArrayNo}
+use Rattle.cells.specs.declared.array.CellArray.{CellArray}
 use Rattle.manifest.specs.App.{AppEntry}
 use Rattle.ruleset.specs.Rules.{AppRule}
 use Rattle.load.specs.declared.fault.AppFault.{AppFault}

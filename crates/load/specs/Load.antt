@@ -2,11 +2,11 @@
 -- arrays are declared; or the first fault, in the order M1, M2, M3, M7, and then app by app M4, M5
 -- or M6.
 use Rattle.std.specs.Prelude.{◌≡◌, ◌≢◌, ℕ, List, Result, Ok, Err}
-use Rattle.manifest.specs.cells.Directory.{Declaration}
-use Rattle.manifest.specs.cells.declared.array.ArrayNo.{ArrayNo}
-use Rattle.manifest.specs.cells.declared.array.CellArray.{CellArray}
-use Rattle.manifest.specs.cells.declared.fault.CellsFault.TheVariants as cells
-use Rattle.manifest.specs.declarations.Order.{AreDeclared, IsRefusedArray}
+use Rattle.cells.specs.Directory.{Declaration}
+use Rattle.cells.specs.declared.array.ArrayNo.{ArrayNo}
+use Rattle.cells.specs.declared.array.CellArray.{CellArray}
+use Rattle.cells.specs.declared.fault.CellsFault.TheVariants as cells
+use Rattle.declarations.specs.Order.{AreDeclared, IsRefusedArray}
 use Rattle.manifest.specs.Manifest.{Manifest, ReadsManifest}
 use Rattle.manifest.specs.declared.fault.ManifestFault.TheVariants as manifest
 use Rattle.ruleset.specs.Rules.{Rules}

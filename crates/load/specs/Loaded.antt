@@ -2,7 +2,7 @@
 -- counts as one that can't be read. Where nothing is known of the files, as of a device's, it is
 -- what a manifest and files of some bytes come to.
 use Rattle.std.specs.Prelude.{ℕ, List, Some, None, Result, Ok, Err}
-use Rattle.manifest.specs.cells.declared.array.CellArray.{CellArray}
+use Rattle.cells.specs.declared.array.CellArray.{CellArray}
 use Rattle.bounded_files.specs.Files.{KnownFiles, Gives, regular_files}
 use Rattle.bounded_files.specs.declared.fault.ResourceFault.TheVariants.{File, Memory}
 use Rattle.load.specs.Folder.{known_beside}

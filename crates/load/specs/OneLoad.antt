@@ -1,8 +1,8 @@
 -- A manifest has one load.
 use Rattle.std.specs.Prelude.{◌≡◌, ◌≢◌, ℕ, List, Option, Some, Result, Err}
 use Rattle.bounded_files.specs.Files.{KnownFile}
-use Rattle.manifest.specs.cells.Directory.{IsDirectory}
-use Rattle.manifest.specs.cells.declared.array.CellArray.{CellArray}
+use Rattle.cells.specs.Directory.{IsDirectory}
+use Rattle.cells.specs.declared.array.CellArray.{CellArray}
 use Rattle.ruleset.specs.Rules.{Rules}
 use Rattle.load.specs.declared.fault.LoadFault.{LoadFault}
 use Rattle.load.specs.declared.fault.LoadFault.TheVariants.{Memory}

@@ -4,8 +4,8 @@ use Rattle.acceptance.specs.Program as program
 use Rattle.acceptance.specs.Program.{IsProgramOf, RefusesProgram}
 use Rattle.acceptance.specs.Rule as rule
 use Rattle.acceptance.specs.Rule.{IsProgramOfRule, RefusesRule}
-use Rattle.acceptance.specs.bpf_semantics.Program.{ShapedProgram}
-use Rattle.manifest.specs.cells.Arrays.{AppShape}
+use Rattle.bpf_semantics.specs.Program.{ShapedProgram}
+use Rattle.cells.specs.Arrays.{AppShape}
 use Rattle.manifest.specs.declared.app.ProgramSource.{ProgramSource}
 use Rattle.manifest.specs.declared.app.ProgramSource.TheVariants as source
 use Rattle.load.specs.declared.fault.AppFault.{AppFault}

@@ -9,10 +9,10 @@ ghost use Rattle.load.specs.App.{IsAppOf, RefusesApp, CountsApp};
 
 use crate::fault::AppFault;
 use crate::files::Files;
-use acceptance::bpf_verify::Verified;
 use acceptance::{accept, rule_program};
 use bounded_files::ResourceFault;
-use manifest::cells::{ArrayNo, Directory, Shape};
+use bpf_verify::Verified;
+use cells::{ArrayNo, Directory, Shape};
 use manifest::{AppEntry, AppParts, ProgramSource};
 use ruleset::App;
 use std::alloc::Global;

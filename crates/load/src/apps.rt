@@ -6,8 +6,8 @@ ghost use Rattle.load.specs.Apps as specs;
 use crate::app::load_app;
 use crate::fault::{AppFault, LoadFault};
 use crate::files::Files;
+use cells::{ArrayNo, Directory};
 use manifest::AppEntry;
-use manifest::cells::{ArrayNo, Directory};
 use ruleset::App;
 use std::alloc::Global;
 

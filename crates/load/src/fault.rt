@@ -2,8 +2,8 @@
 
 use acceptance::{ProgramFault, RuleTextFault};
 use bounded_files::ResourceFault;
+use cells::CellsFault;
 use manifest::ManifestFault;
-use manifest::cells::CellsFault;
 use thiserror::Error;
 
 /// What is wrong, with the numbers M1 to M8 that are printed. Arrays and apps are numbered from 1

@@ -2,8 +2,7 @@
 
 ghost use Rattle.load.specs.OneLoad.{HasOneLoad, HasOneLoadFrom};
 
-use acceptance::{bpf_verify, rule_lang};
-use manifest::declarations::lists_declare_one_way;
+use declarations::lists_declare_one_way;
 use manifest::one_reading;
 
 /// A law: of files that tell their bytes, one directory and one manifest have one load, want of

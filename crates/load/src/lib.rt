@@ -29,9 +29,3 @@ pub use folder::FolderFiles;
 pub use law::one_load;
 pub use loading::{load_over, load_ruleset};
 pub use path::{MOST_MANIFEST, load_path};
-
-// The words of the contracts here come with them.
-pub use acceptance;
-pub use bounded_files;
-pub use manifest;
-pub use ruleset;

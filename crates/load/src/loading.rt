@@ -1,7 +1,7 @@
 //! From the bytes of a manifest to a ruleset.
 
 ghost use Rattle.std.specs.Prelude.{◌≡◌, ◌^◌, ◌-◌, ◌<◌, length, All, IfOk, IfErr};
-ghost use Rattle.manifest.specs.declarations.Order.{AreDeclared};
+ghost use Rattle.declarations.specs.Order.{AreDeclared};
 ghost use Rattle.load.specs.Apps.{CountsLoad};
 ghost use Rattle.load.specs.Load.{Loads, LoadsOver, RefusesArrays, RefusesManifest};
 ghost use Rattle.manifest.specs.Manifest.{ReadsManifest};
@@ -9,8 +9,8 @@ ghost use Rattle.manifest.specs.Manifest.{ReadsManifest};
 use crate::apps::load_apps;
 use crate::fault::LoadFault;
 use crate::files::Files;
-use manifest::cells::{ArrayNo, CellsFault, Directory};
-use manifest::declarations::{ArrayDeclaration, RefusedArray, declare_all};
+use cells::{ArrayNo, CellsFault, Directory};
+use declarations::{ArrayDeclaration, RefusedArray, declare_all};
 use manifest::{Manifest, ManifestFault, ManifestParts, read_manifest};
 use ruleset::Ruleset;
 use std::alloc::Global;

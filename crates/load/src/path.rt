@@ -6,7 +6,7 @@ use crate::fault::{LoadFault, PathFault};
 use crate::folder::FolderFiles;
 use crate::loading::load_over;
 use bounded_files::Disk;
-use manifest::cells::Directory;
+use cells::Directory;
 use manifest::{ManifestFault, TomlFault};
 use ruleset::Ruleset;
 use std::alloc::Global;

@@ -1,7 +1,7 @@
 -- What files in memory give by their names.
 use Rattle.std.specs.Prelude.{ℕ, List, [], ◌∷◌, Bool, Option, Some, None, if◌then◌else◌}
 use Rattle.std.specs.Str.{bytes_eq}
-use Rattle.load.specs.bounded_files.Files.{KnownFile}
+use Rattle.bounded_files.specs.Files.{KnownFile}
 
 pub record MemFile : Type 0 where
   pub name : List ℕ

@@ -1,7 +1,7 @@
 //! Files of a device, of each kind that a test can find.
 
 use crate::sample::must;
-use load::bounded_files::{Device, Disk, ResourceFault, write_file};
+use bounded_files::{Device, Disk, ResourceFault, write_file};
 use std::alloc::{AllocError, Global};
 use std::rt::Files;
 use std::test::Fail;

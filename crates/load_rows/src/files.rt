@@ -1,12 +1,11 @@
 //! Files in memory, some of which can't be read, or are no regular ones.
 
 ghost use Rattle.std.specs.Prelude.{◌≡◌, List, ℕ, option_copied};
-ghost use Rattle.load.specs.bounded_files.Files.{Gives, KnownFiles, ReadsAtMost};
-ghost use Rattle.load.specs.bounded_files.Files.{bytes_of, if_regular};
+ghost use Rattle.bounded_files.specs.Files.{Gives, KnownFiles, ReadsAtMost, bytes_of, if_regular};
 ghost use Rattle.load_rows.specs.Files as specs;
 
+use bounded_files::{Disk, ResourceFault};
 use load::Files;
-use load::bounded_files::{Disk, ResourceFault};
 use std::alloc::{AllocError, Global};
 use std::marker::Model;
 

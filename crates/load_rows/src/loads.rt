@@ -8,8 +8,8 @@ mod refusals;
 use crate::files::MemFiles;
 use crate::sample::{files, must};
 use cells::Directory;
-use load::ruleset::Ruleset;
 use load::{Files, LoadFault, load_ruleset};
+use ruleset::Ruleset;
 use std::alloc::{AllocError, Global};
 use std::test::Fail;
 

@@ -3,7 +3,7 @@
 
 use attrs::Attrs;
 use bpf_insn::Insn;
-use bpf_machine::bpf_verify::Verified;
+use bpf_verify::Verified;
 use cells::{Directory, Shape};
 use declarations::{declare_all, read_spec};
 use std::alloc::Global;

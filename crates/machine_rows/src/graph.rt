@@ -2,8 +2,8 @@
 
 use crate::row::row_of;
 use bpf_insn::{AluOp, Bits, Insn, Operand, Reg};
-use bpf_machine::flow_check::{Flow, FlowFault};
 use bpf_text::assemble;
+use flow_check::{Flow, FlowFault};
 use std::alloc::Global;
 use std::test::Fail;
 

@@ -7,7 +7,7 @@ use crate::replies::{Events, Replies};
 use attrs::Attrs;
 use bpf_insn::Insn;
 use bpf_machine::Run;
-use bpf_machine::bpf_verify::Verified;
+use bpf_verify::Verified;
 use cells::Shape;
 use reference::{Interpreter, RunEnd};
 use std::alloc::Global;

@@ -13,6 +13,3 @@ pub mod AllTwice
 pub mod FirstFault
 pub mod OneReading
 pub mod Texts
-pub use Rattle.attrs.specs as attrs
-pub use Rattle.cells.specs as cells
-pub use Rattle.declarations.specs as declarations

@@ -57,7 +57,3 @@ pub use misfits::all_misfits;
 pub use quote::Quote;
 pub use read::read_manifest;
 pub use repeats::all_twice;
-
-// The words of the contracts here come with them.
-pub use cells;
-pub use declarations;

@@ -1,11 +1,11 @@
 -- Clients that say the same, but for appid and cohort, are asked alike.
 use Rattle.std.proofs.Common.{◌≡◌, ap, subst, ℕ, List, [], ◌∷◌, ◌++◌}
-use Rattle.charts.specs.simulation.Clients.{IsSameButApp, asking_for, attributes, clients}
-use Rattle.charts.specs.simulation.Course.{AppByApp, AsksForApp, InTurn, IsSimulated}
-use Rattle.charts.specs.simulation.Course.AppByApp.{none as no_app, next as next_app}
-use Rattle.charts.specs.simulation.bpf_machine.bpf_semantics.attrs.Attributes.{Attributes}
-use Rattle.charts.specs.simulation.declared.client.Client.{Client}
-use Rattle.charts.specs.rulesets.Rules.{AppRule}
+use Rattle.simulation.specs.Clients.{IsSameButApp, asking_for, attributes, clients}
+use Rattle.simulation.specs.Course.{AppByApp, AsksForApp, InTurn, IsSimulated}
+use Rattle.simulation.specs.Course.AppByApp.{none as no_app, next as next_app}
+use Rattle.attrs.specs.Attributes.{Attributes}
+use Rattle.simulation.specs.declared.client.Client.{Client}
+use Rattle.ruleset.specs.Rules.{AppRule}
 
 asks_alike : (c d : Client) (app : AppRule) (old choices new : List ℕ) → IsSameButApp c d
     → AsksForApp d app old choices new → AsksForApp c app old choices new

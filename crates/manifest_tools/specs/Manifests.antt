@@ -3,16 +3,16 @@ use Rattle.std.specs.Prelude.{◌≡◌, ℕ, List, Option, None, Some}
 use Rattle.std.specs.List.{flat_map}
 use Rattle.std.specs.String.{string_bytes}
 use Rattle.diagnosis.specs.Check.{PassesCheck, FailsCheck}
-use Rattle.diagnosis.specs.load.Folder.{known_beside}
-use Rattle.diagnosis.specs.load.bounded_files.Files.{KnownFiles, Gives, OfFile, regular_files}
-use Rattle.diagnosis.specs.load.bounded_files.Texts.{resource_text}
-use Rattle.diagnosis.specs.load.bounded_files.declared.fault.ResourceFault.TheVariants as resource
+use Rattle.load.specs.Folder.{known_beside}
+use Rattle.bounded_files.specs.Files.{KnownFiles, Gives, OfFile, regular_files}
+use Rattle.bounded_files.specs.Texts.{resource_text}
+use Rattle.bounded_files.specs.declared.fault.ResourceFault.TheVariants as resource
 use Rattle.manifest_tools.specs.declared.fault.ManifestToolFault.{ManifestToolFault}
 use Rattle.manifest_tools.specs.declared.fault.ManifestToolFault.TheVariants as fault
-use Rattle.replaying.specs.replay.Replies.{reply_text}
-use Rattle.replaying.specs.replay.declared.reply.Reply.{Reply}
+use Rattle.replay.specs.Replies.{reply_text}
+use Rattle.replay.specs.declared.reply.Reply.{Reply}
 use Rattle.replaying.specs.Replays.{IsReplay, IsReplayFault}
-use Rattle.diagnosis.specs.rulesets.Texts.{line}
+use Rattle.ruleset.specs.Texts.{line}
 
 abbrev pub reply_line : Reply → List ℕ
 reply_line reply = line (reply_text reply)

@@ -7,14 +7,14 @@ use Rattle.charts.specs.Moving.{moves_text}
 use Rattle.charts.specs.Pictures.{picture}
 use Rattle.charts.specs.Shares.{shares_text}
 use Rattle.charts.specs.Shown.{Simulation}
-use Rattle.charts.specs.simulation.Course.{IsSimulated}
-use Rattle.charts.specs.simulation.declared.client.Client.{Client}
-use Rattle.diagnosis.specs.load.Loaded.{IsLoadedFrom, RefusesPath}
-use Rattle.diagnosis.specs.load.bounded_files.Files.{KnownFiles}
-use Rattle.diagnosis.specs.load.bounded_files.declared.fault.ResourceFault.TheVariants as resource
-use Rattle.diagnosis.specs.load.declared.fault.PathFault.{PathFault}
-use Rattle.diagnosis.specs.load.manifest.cells.declared.array.CellArray.{CellArray}
-use Rattle.diagnosis.specs.rulesets.Rules.{Rules}
+use Rattle.simulation.specs.Course.{IsSimulated}
+use Rattle.simulation.specs.declared.client.Client.{Client}
+use Rattle.load.specs.Loaded.{IsLoadedFrom, RefusesPath}
+use Rattle.bounded_files.specs.Files.{KnownFiles}
+use Rattle.bounded_files.specs.declared.fault.ResourceFault.TheVariants as resource
+use Rattle.load.specs.declared.fault.PathFault.{PathFault}
+use Rattle.cells.specs.declared.array.CellArray.{CellArray}
+use Rattle.ruleset.specs.Rules.{Rules}
 use Rattle.manifest_tools.specs.declared.fault.ManifestToolFault.{ManifestToolFault}
 use Rattle.manifest_tools.specs.declared.fault.ManifestToolFault.TheVariants as fault
 use Rattle.manifest_tools.specs.declared.simulating.ToldSimulation.{ToldSimulation}

@@ -5,9 +5,9 @@ ghost use Rattle.std.specs.String.{string_bytes};
 ghost use Rattle.manifest_tools.specs.Manifests.{IsChecked, IsCheckRefusal};
 
 use crate::fault::ManifestToolFault;
-use diagnosis::load::bounded_files::Disk;
-use diagnosis::load::{FolderFiles, MOST_MANIFEST};
+use bounded_files::Disk;
 use diagnosis::{CheckedManifest, check, too_long};
+use load::{FolderFiles, MOST_MANIFEST};
 use std::alloc::Global;
 
 /// The lines of the arrays and apps of a file's manifest, and its warnings. The files that it names

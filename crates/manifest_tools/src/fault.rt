@@ -2,9 +2,9 @@
 
 ghost use Rattle.manifest_tools.specs.Manifests.{fault_text};
 
+use bounded_files::ResourceFault;
 use diagnosis::Refused;
-use diagnosis::load::PathFault;
-use diagnosis::load::bounded_files::ResourceFault;
+use load::PathFault;
 use replaying::ReplayFault;
 use std::fmt;
 

@@ -18,5 +18,4 @@ pub use playing::replay_script;
 pub use simulating::{ToldSimulation, simulate_files};
 
 // The words of the contracts here come with them.
-pub use charts;
-pub use diagnosis::{CheckedManifest, load};
+pub use diagnosis::CheckedManifest;

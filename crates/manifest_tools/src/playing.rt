@@ -6,8 +6,8 @@ ghost use Rattle.std.specs.String.{string_bytes};
 ghost use Rattle.manifest_tools.specs.Manifests.{HasReplayed, IsReplayRefusal, reply_line};
 
 use crate::fault::ManifestToolFault;
-use diagnosis::load::bounded_files::{Disk, ResourceFault};
-use replaying::replay::Reply;
+use bounded_files::{Disk, ResourceFault};
+use replay::Reply;
 use replaying::replay_files;
 use std::alloc::{AllocError, Global};
 use std::fmt::Write;

@@ -4,17 +4,17 @@
 ghost use Rattle.std.specs.Prelude.{◌≡◌, [], IfOk, IfErr, IsSome, OnErr, option_copied};
 ghost use Rattle.std.specs.Option.{option_map};
 ghost use Rattle.std.specs.String.{string_bytes};
-ghost use Rattle.diagnosis.specs.load.Loaded.{RefusesPath};
+ghost use Rattle.load.specs.Loaded.{RefusesPath};
 ghost use Rattle.manifest_tools.specs.Simulations as specs;
 
 use crate::fault::ManifestToolFault;
 use crate::progress_lines::ProgressLines;
-use charts::simulation::Client;
+use bounded_files::{Disk, ResourceFault, write_file};
+use cells::Directory;
 use charts::{Simulated, draw, push_moves, push_shares};
-use diagnosis::load::bounded_files::{Disk, ResourceFault, write_file};
-use diagnosis::load::manifest::cells::Directory;
-use diagnosis::load::ruleset::Ruleset;
-use diagnosis::load::{PathFault, load_path};
+use load::{PathFault, load_path};
+use ruleset::Ruleset;
+use simulation::Client;
 use std::alloc::{AllocError, Global};
 use std::rt::Files;
 use std::time::Clock;

@@ -6,7 +6,7 @@ use Rattle.std.proofs.Common.{get_or-set_same, get_or-set_other}
 use Rattle.std.proofs.lemmas.Bool.{cases_eq}
 use Rattle.std.proofs.lemmas.List.{map-append}
 use Rattle.std.proofs.lemmas.List.Folds.{flat_map-map}
-use Rattle.world.specs.cells.declared.event.CellEvent.{CellEvent}
+use Rattle.cells.specs.declared.event.CellEvent.{CellEvent}
 use Rattle.shared_cells.specs.History.{Entry, all_events, events_by}
 use Rattle.one_world.specs.Entries.{entry_by}
 use Rattle.one_world.specs.InTurn.{events_in_turn}

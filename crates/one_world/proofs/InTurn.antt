@@ -3,8 +3,8 @@ use Rattle.std.proofs.Common.{◌≡◌, ℕ, zero, suc, List, [], ◌∷◌, �
 use Rattle.std.specs.Prelude.{slice_get}
 use Rattle.std.proofs.lemmas.Grind.{flat_map-append}
 use Rattle.std.proofs.lemmas.List.Elements.{All-nil, All-append, All-weaker}
-use Rattle.world.specs.cells.declared.event.CellEvent.{CellEvent}
-use Rattle.world.specs.rulesets.Rules.{Rules}
+use Rattle.cells.specs.declared.event.CellEvent.{CellEvent}
+use Rattle.ruleset.specs.Rules.{Rules}
 use Rattle.world.specs.World.{ruleset_at}
 use Rattle.one_world.specs.InTurn.{events_in_turn, NoneAreOfRuns, OfRunsAppend, OfRunsStay}
 use Rattle.one_world.specs.Runs.{AppRun, IsRunUnder}

@@ -2,10 +2,10 @@
 use Rattle.std.proofs.Common.{ℕ, List, ◌∷◌, get_or, map, sym, subst, ◌∙◌}
 use Rattle.std.proofs.lemmas.List.{length-map}
 use Rattle.std.proofs.lemmas.List.Elements.{All-from_recursion, recursion_from_All}
-use Rattle.world.specs.cells.declared.event.CellEvent.{CellEvent}
-use Rattle.world.specs.cells.Events.{IsEvent}
-use Rattle.world.specs.cells.Grown.{GrewBy}
-use Rattle.world.specs.rulesets.Rules.{IsRuleset}
+use Rattle.cells.specs.declared.event.CellEvent.{CellEvent}
+use Rattle.cells.specs.Events.{IsEvent}
+use Rattle.cells.specs.Grown.{GrewBy}
+use Rattle.ruleset.specs.Rules.{IsRuleset}
 use Rattle.shared_cells.specs.History.{all_events}
 use Rattle.world.specs.World.{Idle, zeros}
 use Rattle.one_world.specs.OneWorld.{OneWorld, OpensRuns, IsStepEvent}

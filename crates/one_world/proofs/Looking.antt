@@ -4,9 +4,9 @@ use Rattle.std.proofs.Common.{ap, subst, ◌∙◌}
 use Rattle.std.specs.Prelude.{◌==◌, if◌then◌else◌}
 use Rattle.std.specs.List.{AllByRecursion}
 use Rattle.std.proofs.lemmas.List.Elements.{recursion_from_All}
-use Rattle.world.specs.cells.declared.event.CellEvent.{CellEvent}
-use Rattle.world.specs.cells.declared.event.CellOp.{CellOp}
-use Rattle.world.specs.cells.declared.event.CellOp.TheVariants.{Load}
+use Rattle.cells.specs.declared.event.CellEvent.{CellEvent}
+use Rattle.cells.specs.declared.event.CellOp.{CellOp}
+use Rattle.cells.specs.declared.event.CellOp.TheVariants.{Load}
 use Rattle.shared_cells.specs.History.{Entry, events_by}
 use Rattle.shared_cells.specs.Loads.{is_load, without_loads}
 use Rattle.one_world.specs.Passes.{NothingIsLeft}

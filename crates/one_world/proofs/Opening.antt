@@ -10,9 +10,9 @@ use Rattle.std.proofs.lemmas.Bool.{cases_eq}
 use Rattle.std.proofs.lemmas.Bool.Decides.{nat_tests}
 use Rattle.std.proofs.lemmas.List.{set_at, length_push}
 use Rattle.std.proofs.lemmas.Option.{slice_get_within}
-use Rattle.world.specs.bpf_machine.bpf_semantics.Program.{ShapedProgram}
-use Rattle.world.specs.bpf_machine.bpf_semantics.State.{opening}
-use Rattle.world.specs.rulesets.Rules.{Rules, IsRuleset, appid_of}
+use Rattle.bpf_semantics.specs.Program.{ShapedProgram}
+use Rattle.bpf_semantics.specs.State.{opening}
+use Rattle.ruleset.specs.Rules.{Rules, IsRuleset, appid_of}
 use Rattle.world.specs.Happens.{Answer, Happens, Plays}
 use Rattle.world.specs.World.{WorldState, Worker, Idle, Running, HasProgram, opening_world, zeros}
 use Rattle.world.specs.World.{ruleset_at, newest, with_worker}

@@ -6,10 +6,10 @@ use Rattle.std.specs.Prelude.{slice_set}
 use Rattle.std.proofs.lemmas.Bool.{cases_eq, cases_lt}
 use Rattle.std.proofs.lemmas.List.{set_at, get_or_past}
 use Rattle.std.proofs.lemmas.Option.{slice_get-get_or}
-use Rattle.world.specs.cells.declared.event.CellEvent.{CellEvent}
-use Rattle.world.specs.cells.Events.{IsEvent}
-use Rattle.world.specs.cells.Grown.{GrewBy}
-use Rattle.world.specs.rulesets.Rules.{Rules}
+use Rattle.cells.specs.declared.event.CellEvent.{CellEvent}
+use Rattle.cells.specs.Events.{IsEvent}
+use Rattle.cells.specs.Grown.{GrewBy}
+use Rattle.ruleset.specs.Rules.{Rules}
 use Rattle.shared_cells.specs.History.{Entry, all_events, events_by}
 use Rattle.world.specs.World.{Worker, Idle}
 use Rattle.one_world.proofs.Lists.{got_at, own_first, others_first}

@@ -5,11 +5,11 @@ use Rattle.std.specs.Prelude.{slice_get, slice_index}
 use Rattle.std.proofs.lemmas.List.{length-replicate}
 use Rattle.std.proofs.lemmas.List.Elements.{All-nil, All-cons}
 use Rattle.std.proofs.lemmas.Nat.{pow_pos}
-use Rattle.world.specs.attrs.Attributes.{Attributes}
-use Rattle.world.specs.bpf_machine.bpf_semantics.Program.{ShapedProgram}
-use Rattle.world.specs.bpf_machine.bpf_semantics.State.{State}
-use Rattle.world.specs.cells.Events.{AreCells, width, limit}
-use Rattle.world.specs.rulesets.Rules.{IsRuleset}
+use Rattle.attrs.specs.Attributes.{Attributes}
+use Rattle.bpf_semantics.specs.Program.{ShapedProgram}
+use Rattle.bpf_semantics.specs.State.{State}
+use Rattle.cells.specs.Events.{AreCells, width, limit}
+use Rattle.ruleset.specs.Rules.{IsRuleset}
 use Rattle.world.specs.World.{Worker, Idle, Running, Ended, zeros}
 use Rattle.one_world.specs.OneWorld.{OpensSafely}
 

@@ -3,13 +3,13 @@ use Rattle.std.proofs.Common.{◌≡◌, ℕ, ◌+◌, List, [], ◌∷◌, ◌+
 use Rattle.std.proofs.Common.{ap, subst, ◌∙◌, set-set}
 use Rattle.std.specs.Prelude.{slice_get, slice_set}
 use Rattle.std.specs.List.{AllByRecursion}
-use Rattle.world.specs.bpf_machine.bpf_semantics.Outcome.{Outcome, Going, Asks, Done}
-use Rattle.world.specs.bpf_machine.bpf_semantics.Program.{ShapedProgram}
-use Rattle.world.specs.bpf_machine.bpf_semantics.State.{State}
-use Rattle.world.specs.bpf_machine.bpf_semantics.Step.{step}
-use Rattle.world.specs.cells.declared.event.CellEvent.{CellEvent}
-use Rattle.world.specs.cells.Events.{IsEvent}
-use Rattle.world.specs.rulesets.Rules.{Rules}
+use Rattle.bpf_semantics.specs.Outcome.{Outcome, Going, Asks, Done}
+use Rattle.bpf_semantics.specs.Program.{ShapedProgram}
+use Rattle.bpf_semantics.specs.State.{State}
+use Rattle.bpf_semantics.specs.Step.{step}
+use Rattle.cells.specs.declared.event.CellEvent.{CellEvent}
+use Rattle.cells.specs.Events.{IsEvent}
+use Rattle.ruleset.specs.Rules.{Rules}
 use Rattle.shared_cells.specs.History.{Entry}
 use Rattle.world.specs.Counters.{asked, answered}
 use Rattle.world.specs.Happens.{Answer, Happens, Plays, with_step}

@@ -5,7 +5,7 @@ use Rattle.std.proofs.Common.{get_or, set, refl, sym, ap, ◌∙◌, arith, get_
 use Rattle.std.specs.Prelude.{flat_map}
 use Rattle.std.proofs.lemmas.List.{length-append, get_or_append_left, set-append_left}
 use Rattle.std.proofs.lemmas.List.{set-append_right}
-use Rattle.world.specs.cells.declared.event.CellEvent.{CellEvent}
+use Rattle.cells.specs.declared.event.CellEvent.{CellEvent}
 
 -- lists of one run each, one behind the other
 abbrev pub joined : {A : Type 0} → List (List A) → List A

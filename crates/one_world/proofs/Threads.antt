@@ -5,8 +5,8 @@ use Rattle.std.specs.Prelude.{All}
 use Rattle.std.proofs.lemmas.Bool.{cases_eq, cases_lt}
 use Rattle.std.proofs.lemmas.List.{get_or_past}
 use Rattle.std.proofs.lemmas.List.Elements.{All-nil, All-append}
-use Rattle.world.specs.cells.declared.event.CellEvent.{CellEvent}
-use Rattle.world.specs.rulesets.Rules.{Rules}
+use Rattle.cells.specs.declared.event.CellEvent.{CellEvent}
+use Rattle.ruleset.specs.Rules.{Rules}
 use Rattle.shared_cells.specs.History.{events_by, IsLegal}
 use Rattle.shared_cells.specs.Loads.{without_loads, LoadsCanGo, OthersAreKept}
 use Rattle.shared_cells.specs.Passes.{PassView, lists_of, AreLeftBy}

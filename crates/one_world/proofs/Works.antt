@@ -2,16 +2,16 @@
 use Rattle.std.proofs.Common.{◌≡◌, ℕ, zero, suc, ◌+◌, List, [], ◌∷◌, get_or, map, refl, sym, subst}
 use Rattle.std.proofs.Common.{◌∙◌}
 use Rattle.std.specs.List.{AllByRecursion}
-use Rattle.world.specs.attrs.Attributes.{Attributes}
-use Rattle.world.specs.bpf_machine.bpf_semantics.Laws.{Follows, IsNext}
-use Rattle.world.specs.bpf_machine.bpf_semantics.Outcome.{Going, Asks, Done}
-use Rattle.world.specs.bpf_machine.bpf_semantics.Program.{ShapedProgram}
-use Rattle.world.specs.bpf_machine.bpf_semantics.Run.{Ends, last, more}
-use Rattle.world.specs.bpf_machine.bpf_semantics.Run as whole
-use Rattle.world.specs.bpf_machine.bpf_semantics.State.{State, opening}
-use Rattle.world.specs.bpf_machine.bpf_semantics.Step.{step}
-use Rattle.world.specs.cells.declared.event.CellEvent.{CellEvent}
-use Rattle.world.specs.rulesets.Rules.{Rules}
+use Rattle.attrs.specs.Attributes.{Attributes}
+use Rattle.bpf_semantics.specs.Laws.{Follows, IsNext}
+use Rattle.bpf_semantics.specs.Outcome.{Going, Asks, Done}
+use Rattle.bpf_semantics.specs.Program.{ShapedProgram}
+use Rattle.bpf_semantics.specs.Run.{Ends, last, more}
+use Rattle.bpf_semantics.specs.Run as whole
+use Rattle.bpf_semantics.specs.State.{State, opening}
+use Rattle.bpf_semantics.specs.Step.{step}
+use Rattle.cells.specs.declared.event.CellEvent.{CellEvent}
+use Rattle.ruleset.specs.Rules.{Rules}
 use Rattle.world.specs.World.{Worker, Idle, Running, Ended}
 use Rattle.one_world.specs.Runs.{Reaches, stays, goes, asks, Stage, UnderWay, AtEnd, ComesAsFar}
 use Rattle.one_world.specs.Runs.{AppRun, IsRunUnder, at_start, at_stage, as_far}

@@ -1,6 +1,6 @@
 -- What a run of the world does to the counters, each event with the number of its worker.
 use Rattle.std.specs.Prelude.{◌≡◌, ℕ, List, [], ◌∷◌, ◌++◌, map, slice_get}
-use Rattle.world.specs.cells.declared.event.CellEvent.{CellEvent}
+use Rattle.cells.specs.declared.event.CellEvent.{CellEvent}
 use Rattle.shared_cells.specs.History.{Entry, events_by}
 use Rattle.world.specs.Happens.{Answer, Plays}
 use Rattle.world.specs.History.{asked_by, made_by}

@@ -1,8 +1,8 @@
 -- Events of runs, one run after the other: what a thread has made that does one run at a time, each
 -- to its end or not.
 use Rattle.std.specs.Prelude.{◌≡◌, List, [], ◌++◌, All, flat_map}
-use Rattle.world.specs.cells.declared.event.CellEvent.{CellEvent}
-use Rattle.world.specs.rulesets.Rules.{Rules}
+use Rattle.cells.specs.declared.event.CellEvent.{CellEvent}
+use Rattle.ruleset.specs.Rules.{Rules}
 use Rattle.one_world.specs.Runs.{AppRun, IsRunUnder}
 
 -- the events of runs, one run after the other

@@ -1,7 +1,7 @@
 -- Runs that shared the counters are runs of one world, which changes the counters in the order of
 -- their history.
 use Rattle.std.specs.Prelude.{◌≡◌, ℕ, List, [], ◌∷◌, All, length, map, get_or}
-use Rattle.world.specs.rulesets.Rules.{Rules, IsRuleset}
+use Rattle.ruleset.specs.Rules.{Rules, IsRuleset}
 use Rattle.shared_cells.specs.History.{Entry, all_events, events_by, IsLegal}
 use Rattle.world.specs.Happens.{Answer, Plays}
 use Rattle.world.specs.Safe.{IsSafeWorld}

@@ -1,9 +1,9 @@
 -- Passes of threads: each made the events of runs, one run after the other, or has only looked. So
 -- their history is one of these runs, and one world runs them all.
 use Rattle.std.specs.Prelude.{◌≡◌, ◌≢◌, ℕ, List, [], ◌∷◌, All, get_or, flat_map}
-use Rattle.world.specs.cells.declared.event.CellEvent.{CellEvent}
-use Rattle.world.specs.cells.declared.event.CellOp.TheVariants.{Load}
-use Rattle.world.specs.rulesets.Rules.{Rules, IsRuleset}
+use Rattle.cells.specs.declared.event.CellEvent.{CellEvent}
+use Rattle.cells.specs.declared.event.CellOp.TheVariants.{Load}
+use Rattle.ruleset.specs.Rules.{Rules, IsRuleset}
 use Rattle.shared_cells.specs.History.{Entry, all_events, events_by}
 use Rattle.shared_cells.specs.Loads.{without_loads}
 use Rattle.shared_cells.specs.Passes.{PassView, lists_of, AreLeftBy}

@@ -1,13 +1,13 @@
 -- Runs of the machine, done or not, each of a program that a ruleset of a published list has.
 use Rattle.std.specs.Prelude.{◌≡◌, ℕ, List, [], ◌∷◌, map}
-use Rattle.world.specs.attrs.Attributes.{Attributes, AreShort}
-use Rattle.world.specs.bpf_machine.bpf_semantics.Outcome.{Going, Asks}
-use Rattle.world.specs.bpf_machine.bpf_semantics.Program.{ShapedProgram}
-use Rattle.world.specs.bpf_machine.bpf_semantics.Run.{Ends}
-use Rattle.world.specs.bpf_machine.bpf_semantics.State.{State, opening}
-use Rattle.world.specs.bpf_machine.bpf_semantics.Step.{step}
-use Rattle.world.specs.cells.declared.event.CellEvent.{CellEvent}
-use Rattle.world.specs.rulesets.Rules.{Rules, appid_of}
+use Rattle.attrs.specs.Attributes.{Attributes, AreShort}
+use Rattle.bpf_semantics.specs.Outcome.{Going, Asks}
+use Rattle.bpf_semantics.specs.Program.{ShapedProgram}
+use Rattle.bpf_semantics.specs.Run.{Ends}
+use Rattle.bpf_semantics.specs.State.{State, opening}
+use Rattle.bpf_semantics.specs.Step.{step}
+use Rattle.cells.specs.declared.event.CellEvent.{CellEvent}
+use Rattle.ruleset.specs.Rules.{Rules, appid_of}
 use Rattle.world.specs.World.{Worker, Running, Ended, HasProgram}
 
 -- from one state the run comes to another, and makes the events on the way. A step that asks goes

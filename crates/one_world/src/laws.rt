@@ -7,8 +7,8 @@ ghost use Rattle.one_world.specs.InTurn.{NoneAreOfRuns, OfRunsAppend, OfRunsStay
 ghost use Rattle.one_world.specs.OneWorld.{OneWorld, OpensSafely};
 ghost use Rattle.one_world.specs.Passes.{NothingIsLeft, PassesAreOneWorld, PassesAreRuns};
 
+use bpf_semantics::counts_instructions;
 use shared_cells::loads_can_go;
-use world::bpf_machine::bpf_semantics::counts_instructions;
 
 /// Runs that shared the counters are runs of one world, done or not. The number of an event in
 /// their history is the place of its run in the list of runs, and that of its worker.

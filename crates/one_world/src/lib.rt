@@ -31,8 +31,3 @@
 mod laws;
 
 pub use laws::{one_world, runs_add_up, threads_are_one_world};
-
-// The words of the laws here come with them.
-pub use shared_cells;
-pub use world;
-pub use world::{attrs, cells};

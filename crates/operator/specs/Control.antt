@@ -6,7 +6,7 @@ use Rattle.hot_swap.specs.declared.fault.SwapFault.{SwapFault}
 use Rattle.hot_swap.specs.declared.fault.SwapFault.TheVariants as swap
 use Rattle.operator.specs.declared.reply.OperatorRefusal.{OperatorRefusal}
 use Rattle.operator.specs.declared.reply.OperatorRefusal.TheVariants as refusal
-use Rattle.hot_swap.specs.rulesets.Rules.{Rules}
+use Rattle.ruleset.specs.Rules.{Rules}
 
 pub record Controlled : Type 0 where
   pub publishing : Publishing

@@ -13,7 +13,7 @@ use Rattle.operator_request.specs.Requests.{IsSendable, is_line_feed}
 use Rattle.operator_request.specs.declared.request.OperatorRequest.{OperatorRequest}
 use Rattle.operator_request.specs.declared.request.OperatorRequest.TheVariants.{Load, Show}
 use Rattle.operator_request.specs.declared.request.OperatorRequest.TheVariants.{Cells, Stop}
-use Rattle.hot_swap.specs.rulesets.Texts.{line}
+use Rattle.ruleset.specs.Texts.{line}
 
 -- lines, of which the first begins with this word
 abbrev pub begins_lines : List ℕ → List ℕ → Bool

@@ -15,7 +15,7 @@ use Rattle.operator.specs.declared.reply.OperatorRefusal.{OperatorRefusal}
 use Rattle.operator.specs.declared.reply.OperatorRefusal.TheVariants as refusal
 use Rattle.operator.specs.declared.reply.OperatorReply.{OperatorReply}
 use Rattle.operator.specs.declared.reply.OperatorReply.TheVariants as reply
-use Rattle.hot_swap.specs.rulesets.Texts.{line, app_line}
+use Rattle.ruleset.specs.Texts.{line, app_line}
 
 -- ---- what is told of a ruleset and of the counters
 

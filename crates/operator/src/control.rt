@@ -7,8 +7,8 @@ ghost use Rattle.operator.specs.Control.{IsInstalled, IsRefusedLoad};
 use crate::loader::Loader;
 use crate::reply::OperatorRefusal;
 use cells::{CellArray, Directory};
-use hot_swap::ruleset::Ruleset;
 use hot_swap::{Generation, Notice, Publisher};
+use ruleset::Ruleset;
 use std::alloc::Global;
 use std::marker::Model;
 use std::sync::{Arc, Wait};
@@ -31,7 +31,7 @@ impl Model for Control {
 impl Control {
     ghost use Rattle.cells.specs.Directory.{IsDirectory};
     ghost use Rattle.hot_swap.specs.Published.{IsLatest};
-    ghost use Rattle.hot_swap.specs.rulesets.Rules.{IsRuleset};
+    ghost use Rattle.ruleset.specs.Rules.{IsRuleset};
 
     /// The control of a server that serves what this publisher shows, over these arrays.
     pub fn new(publisher: Publisher, directory: Directory) -> Control

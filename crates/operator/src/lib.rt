@@ -24,9 +24,3 @@ pub use asking::{AskFault, ask};
 pub use control::Control;
 pub use loader::Loader;
 pub use reply::{OperatorRefusal, OperatorReply};
-
-// The words of the contracts here come with them.
-pub use bounded_files;
-pub use devices;
-pub use hot_swap;
-pub use operator_request;

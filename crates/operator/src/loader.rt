@@ -2,7 +2,7 @@
 //! tests load from memory.
 
 use cells::Directory;
-use hot_swap::ruleset::Ruleset;
+use ruleset::Ruleset;
 use std::alloc::Global;
 use std::fmt::Display;
 

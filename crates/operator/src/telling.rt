@@ -11,7 +11,7 @@ ghost use Rattle.cells.specs.Grown.{Grows};
 
 use cells::{CellArray, CellNo, CellOp, CellSteps, growth};
 use hot_swap::Generation;
-use hot_swap::ruleset::{Ruleset, tell_apps};
+use ruleset::{Ruleset, tell_apps};
 use std::alloc::{AllocError, Global};
 use std::fmt::Write;
 

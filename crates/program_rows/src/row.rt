@@ -3,9 +3,9 @@
 //! ` / `, which is no text of the assembler.
 
 use bpf_text::assemble;
-use bpf_verify::flow_check::Flow;
 use bpf_verify::{Refusal, Shape, Verified, verify_counted};
 use cells::{ArrayNo, CellWidth, CellsFault, Directory};
+use flow_check::Flow;
 use std::alloc::{AllocError, Global};
 use std::test::Fail;
 

@@ -2,11 +2,11 @@
 use Rattle.std.proofs.Common.{List, ℕ, [], ◌∷◌}
 use Rattle.std.specs.Prelude.{All}
 use Rattle.std.proofs.lemmas.List.Elements.{All-cons, All-nil}
-use Rattle.command_line.specs.cells.declared.event.CellEvent.{CellEvent}
-use Rattle.command_line.specs.cells.Events.{AreCells, IsEvent}
-use Rattle.command_line.specs.cells.Grown.{GrewBy}
-use Rattle.command_line.specs.cells.Widths.{EventsFit}
-use Rattle.bpf_machine.specs.bpf_verify.Covers.{HasPossibleReply}
+use Rattle.cells.specs.declared.event.CellEvent.{CellEvent}
+use Rattle.cells.specs.Events.{AreCells, IsEvent}
+use Rattle.cells.specs.Grown.{GrewBy}
+use Rattle.cells.specs.Widths.{EventsFit}
+use Rattle.bpf_verify.specs.Covers.{HasPossibleReply}
 
 pub all_fit : EventsFit → (old : List ℕ) (events : List CellEvent) (new : List ℕ) → AreCells old
     → GrewBy IsEvent old events new → All HasPossibleReply events

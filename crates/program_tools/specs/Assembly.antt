@@ -2,11 +2,11 @@
 -- file that can't be read.
 use Rattle.std.specs.Prelude.{◌≡◌, ◌⊎◌, ℕ, List, Ok}
 use Rattle.std.specs.Str.{IsUtf8}
-use Rattle.tracing.specs.explaining.bpf_text.declared.fault.AsmFault.{AsmFault}
-use Rattle.tracing.specs.explaining.bpf_text.declared.fault.AsmFaultKind.TheVariants.{Token}
-use Rattle.tracing.specs.explaining.bpf_text.declared.fault.ListFault.TheVariants.{Insn}
-use Rattle.tracing.specs.explaining.bpf_text.Assembly.{Assembles, at_line, IsAsmFault}
-use Rattle.tracing.specs.explaining.bpf_text.Listing.{Lists, IsFirstFault}
+use Rattle.bpf_text.specs.declared.fault.AsmFault.{AsmFault}
+use Rattle.bpf_text.specs.declared.fault.AsmFaultKind.TheVariants.{Token}
+use Rattle.bpf_text.specs.declared.fault.ListFault.TheVariants.{Insn}
+use Rattle.bpf_text.specs.Assembly.{Assembles, at_line, IsAsmFault}
+use Rattle.bpf_text.specs.Listing.{Lists, IsFirstFault}
 use Rattle.bounded_files.specs.Files.{KnownFiles, most_bytes, within, OfFileWithin}
 use Rattle.program_tools.specs.Resources.{IsNoFile}
 use Rattle.program_tools.specs.declared.fault.ProgramToolFault.{ProgramToolFault}

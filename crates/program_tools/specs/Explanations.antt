@@ -2,19 +2,19 @@
 use Rattle.std.specs.Prelude.{ℕ, List, Option, Some, None, Ok}
 use Rattle.std.specs.String.{string_bytes}
 use Rattle.acceptance.specs.Program.{AreOnly}
-use Rattle.acceptance.specs.bpf_insn.Program.{Program as Code}
-use Rattle.acceptance.specs.bpf_semantics.Program.{shaped}
-use Rattle.acceptance.specs.bpf_verify.bpf_rules.declared.refusal.Refusal.{Refusal}
-use Rattle.acceptance.specs.bpf_verify.bpf_rules.declared.refusal.Refusal.TheVariants as refusal
+use Rattle.bpf_insn.specs.Program.{Program as Code}
+use Rattle.bpf_semantics.specs.Program.{shaped}
+use Rattle.bpf_rules.specs.declared.refusal.Refusal.{Refusal}
+use Rattle.bpf_rules.specs.declared.refusal.Refusal.TheVariants as refusal
 use Rattle.acceptance.specs.declared.fault.ProgramFault.TheVariants.{Verify}
 use Rattle.bounded_files.specs.Files.{KnownFiles, OfFile}
-use Rattle.command_line.specs.cells.Arrays.{AppShape}
+use Rattle.cells.specs.Arrays.{AppShape}
 use Rattle.command_line.specs.declared.request.DeclaredShape.{DeclaredShape}
 use Rattle.program_tools.specs.Programs.{IsProgramFault, IsRefusedUnder, IsShapeFor}
 use Rattle.program_tools.specs.declared.fault.ProgramToolFault.{ProgramToolFault}
 use Rattle.program_tools.specs.declared.fault.ProgramToolFault.TheVariants.{Explained, Program}
-use Rattle.tracing.specs.explaining.Lines.{IsExplained, IsFinding}
-use Rattle.tracing.specs.explaining.bpf_text.Assembly.{Assembles}
+use Rattle.explaining.specs.Lines.{IsExplained, IsFinding}
+use Rattle.bpf_text.specs.Assembly.{Assembles}
 
 -- the bytes are a program that is accepted under the shape, or refused so; the text tells what is
 -- known of it, and stands for the same bytes

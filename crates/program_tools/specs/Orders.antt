@@ -2,10 +2,10 @@
 use Rattle.std.specs.Prelude.{◌≡◌, ◌⊎◌, ℕ, ◌<◌, List, length}
 use Rattle.block_order.specs.Order.{IsOrdered}
 use Rattle.block_order.specs.Refusal.{IsOrderFault}
-use Rattle.block_order.specs.flow_check.Flow.{IsAcceptedAs}
-use Rattle.block_order.specs.flow_check.declared.fault.FlowFault.{FlowFault}
-use Rattle.block_order.specs.flow_check.declared.fault.FlowFault.TheVariants as flow
-use Rattle.acceptance.specs.bpf_insn.Program.{Program}
+use Rattle.flow_check.specs.Flow.{IsAcceptedAs}
+use Rattle.flow_check.specs.declared.fault.FlowFault.{FlowFault}
+use Rattle.flow_check.specs.declared.fault.FlowFault.TheVariants as flow
+use Rattle.bpf_insn.specs.Program.{Program}
 use Rattle.acceptance.specs.declared.fault.ProgramFault.TheVariants.{Flow}
 use Rattle.bounded_files.specs.Files.{KnownFiles, OfFile}
 use Rattle.program_tools.specs.Programs.{most_program, too_long}

@@ -1,19 +1,19 @@
 -- Programs of files, under the shape that the words declare: which are accepted, and what their
 -- runs are.
 use Rattle.std.specs.Prelude.{◌≡◌, ◌⊎◌, ℕ, ◌^◌, ◌<◌, List, [], length}
-use Rattle.command_line.specs.attrs.Attributes.{Attributes}
-use Rattle.bpf_machine.specs.bpf_semantics.Program.{ShapedProgram}
-use Rattle.bpf_machine.specs.bpf_semantics.State.{opening}
-use Rattle.bpf_machine.specs.bpf_semantics.Run.{Ends}
-use Rattle.bpf_machine.specs.bpf_verify.Covers.{AreLawful}
-use Rattle.command_line.specs.cells.Arrays.{AppShape, AreNumbered}
-use Rattle.command_line.specs.cells.Events.{AreZeros, IsEvent}
-use Rattle.command_line.specs.cells.Grown.{GrewBy}
-use Rattle.command_line.specs.cells.declared.array.ArrayNo.{ArrayNo}
-use Rattle.command_line.specs.cells.declared.array.CellArray.{CellArray}
-use Rattle.command_line.specs.cells.declared.event.CellEvent.{CellEvent}
-use Rattle.command_line.specs.cells.declared.fault.CellsFault.TheVariants as cells
-use Rattle.command_line.specs.declarations.Order.{AreDeclared, IsRefusedArray}
+use Rattle.attrs.specs.Attributes.{Attributes}
+use Rattle.bpf_semantics.specs.Program.{ShapedProgram}
+use Rattle.bpf_semantics.specs.State.{opening}
+use Rattle.bpf_semantics.specs.Run.{Ends}
+use Rattle.bpf_verify.specs.Covers.{AreLawful}
+use Rattle.cells.specs.Arrays.{AppShape, AreNumbered}
+use Rattle.cells.specs.Events.{AreZeros, IsEvent}
+use Rattle.cells.specs.Grown.{GrewBy}
+use Rattle.cells.specs.declared.array.ArrayNo.{ArrayNo}
+use Rattle.cells.specs.declared.array.CellArray.{CellArray}
+use Rattle.cells.specs.declared.event.CellEvent.{CellEvent}
+use Rattle.cells.specs.declared.fault.CellsFault.TheVariants as cells
+use Rattle.declarations.specs.Order.{AreDeclared, IsRefusedArray}
 use Rattle.program_tools.specs.declared.fault.ProgramToolFault.{ProgramToolFault}
 use Rattle.program_tools.specs.declared.fault.ProgramToolFault.TheVariants.{Arrays, Program}
 use Rattle.program_tools.specs.declared.fault.ProgramToolFault.TheVariants.{Resource}
@@ -22,8 +22,8 @@ use Rattle.command_line.specs.declared.request.AskedRun.{AskedRun}
 use Rattle.command_line.specs.declared.request.DeclaredShape.{DeclaredShape}
 use Rattle.acceptance.specs.Program.{IsProgramOf, RefusesProgram}
 use Rattle.acceptance.specs.declared.fault.ProgramFault.TheVariants.{Flow}
-use Rattle.acceptance.specs.flow_check.declared.fault.FlowFault.TheVariants as flow
-use Rattle.acceptance.specs.flow_check.declared.fault.FlowRule.TheVariants.{TooLong}
+use Rattle.flow_check.specs.declared.fault.FlowFault.TheVariants as flow
+use Rattle.flow_check.specs.declared.fault.FlowRule.TheVariants.{TooLong}
 use Rattle.bounded_files.specs.Files.{KnownFiles, OfFile}
 use Rattle.bounded_files.specs.declared.fault.ResourceFault.TheVariants.{Memory}
 use Rattle.program_tools.specs.Resources.{IsNoFile}

@@ -1,8 +1,8 @@
 -- Programs of rules, under the shape that the words declare. A file of more than 16 MiB counts as
 -- one that can't be read.
 use Rattle.std.specs.Prelude.{◌≡◌, ◌⊎◌, ◌≤◌, ℕ, List, length}
-use Rattle.bpf_machine.specs.bpf_semantics.Program.{ShapedProgram}
-use Rattle.command_line.specs.cells.Arrays.{AppShape}
+use Rattle.bpf_semantics.specs.Program.{ShapedProgram}
+use Rattle.cells.specs.Arrays.{AppShape}
 use Rattle.acceptance.specs.Rule.{IsProgramOfRule, RefusesRule}
 use Rattle.bounded_files.specs.Files.{KnownFiles, most_bytes, within, OfFileWithin}
 use Rattle.command_line.specs.declared.request.DeclaredShape.{DeclaredShape}

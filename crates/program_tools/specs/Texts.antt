@@ -1,7 +1,7 @@
 -- The texts of refusals.
 use Rattle.std.specs.Prelude.{ℕ, List, Option, Some, None}
 use Rattle.bounded_files.specs.Texts.{resource_text}
-use Rattle.tracing.specs.explaining.bpf_text.Faults.{asm_fault_text, list_fault_text}
+use Rattle.bpf_text.specs.Faults.{asm_fault_text, list_fault_text}
 use Rattle.program_tools.specs.declared.fault.ProgramToolFault.{ProgramToolFault}
 use Rattle.program_tools.specs.declared.fault.ProgramToolFault.TheVariants.{Resource, Text, Bytes}
 

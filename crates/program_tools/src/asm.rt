@@ -6,10 +6,10 @@ ghost use Rattle.program_tools.specs.Assembly.{IsAssemblyRefusal, IsTextRefusal}
 
 use crate::fault::ProgramToolFault;
 use bounded_files::{Disk, MOST_BYTES, read_within, write_file};
+use bpf_text::{AsmFault, AsmFaultKind, assemble};
 use std::alloc::Global;
 use std::rt::Files;
 use std::str;
-use tracing::explaining::bpf_text::{AsmFault, AsmFaultKind, assemble};
 
 /// The program that a file's text stands for. It is written only where the whole text has bytes.
 pub fn assemble_file<R: Files + AllocGlobal, D: Disk>(

@@ -8,7 +8,7 @@ use crate::fault::ProgramToolFault;
 use crate::program::declared_shape;
 use acceptance::rule_program;
 use bounded_files::{Disk, MOST_BYTES, read_within, write_file};
-use bpf_machine::bpf_verify::Verified;
+use bpf_verify::Verified;
 use command_line::DeclaredShape;
 use std::alloc::Global;
 use std::rt::Files;

@@ -8,12 +8,12 @@ ghost use Rattle.program_tools.specs.Explanations.{IsExplainRefusal, IsExplanati
 use crate::fault::ProgramToolFault;
 use crate::program::{MOST_PROGRAM, declared_shape, too_long};
 use acceptance::ProgramFault;
-use acceptance::bpf_verify::{Refusal, Shape};
-use acceptance::flow_check::{Flow, one_verdict};
 use bounded_files::Disk;
+use bpf_verify::{Refusal, Shape};
 use command_line::DeclaredShape;
+use explaining::explain;
+use flow_check::{Flow, one_verdict};
 use std::alloc::Global;
-use tracing::explaining::explain;
 
 /// The listing of a file's program, with what is known before each instruction, once it is
 /// accepted; what refuses it comes with the same, up to the slot that is refused. It is refused as

@@ -2,12 +2,12 @@
 
 ghost use Rattle.program_tools.specs.Texts.{fault_text};
 
-use acceptance::bpf_verify::Refusal;
 use acceptance::{ProgramFault, RuleTextFault};
 use bounded_files::ResourceFault;
-use command_line::cells::CellsFault;
+use bpf_text::{AsmFault, ListFault};
+use bpf_verify::Refusal;
+use cells::CellsFault;
 use std::fmt;
-use tracing::explaining::bpf_text::{AsmFault, ListFault};
 
 /// What is wrong; it is shown as it is printed.
 #[derive(Debug, Drop)]

@@ -23,9 +23,3 @@ pub use list::list_file;
 pub use order::order_file;
 pub use run::{run_file, trace_file};
 pub use verify::verify_file;
-
-// The words of the contracts here come with them.
-pub use acceptance;
-pub use bounded_files;
-pub use command_line;
-pub use tracing;

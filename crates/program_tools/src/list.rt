@@ -6,8 +6,8 @@ ghost use Rattle.program_tools.specs.Assembly.{IsListedFrom, IsListingRefusal};
 
 use crate::fault::ProgramToolFault;
 use bounded_files::{Disk, MOST_BYTES, ResourceFault, read_within};
+use bpf_text::{ListFault, listing};
 use std::alloc::Global;
-use tracing::explaining::bpf_text::{ListFault, listing};
 
 /// The listing of a file's bytes.
 pub fn list_file<D: Disk>(alloc: Global, disk: &D, path: &str) -> Result<String, ProgramToolFault>

@@ -7,9 +7,9 @@ ghost use Rattle.program_tools.specs.Orders.{IsOrderRefusal, IsUnordered};
 use crate::fault::ProgramToolFault;
 use crate::program::{MOST_PROGRAM, too_long};
 use acceptance::ProgramFault;
-use block_order::flow_check::FlowFault;
 use block_order::ordered;
 use bounded_files::{Disk, write_file};
+use flow_check::FlowFault;
 use std::alloc::Global;
 use std::rt::Files;
 

@@ -8,11 +8,11 @@ ghost use Rattle.program_tools.specs.Programs as specs;
 use crate::fault::ProgramToolFault;
 use acceptance::{ProgramFault, accept};
 use bounded_files::Disk;
-use bpf_machine::bpf_verify::Verified;
-use bpf_machine::flow_check::{FlowFault, FlowRule};
+use bpf_verify::Verified;
+use cells::{Directory, Shape};
 use command_line::DeclaredShape;
-use command_line::cells::{Directory, Shape};
-use command_line::declarations::declare_all;
+use declarations::declare_all;
+use flow_check::{FlowFault, FlowRule};
 use std::alloc::Global;
 
 /// The most bytes that a program can have.

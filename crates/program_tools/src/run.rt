@@ -8,11 +8,11 @@ ghost use Rattle.tracing.specs.Trace.{IsTrace};
 
 use crate::fault::ProgramToolFault;
 use crate::program::program_of_file;
+use attrs::{Attrs, Bucket};
 use bounded_files::{Disk, ResourceFault};
 use bpf_machine::Run;
-use bpf_machine::bpf_verify::Verified;
-use command_line::attrs::{Attrs, Bucket};
-use command_line::cells::{PlainCells, events_fit};
+use bpf_verify::Verified;
+use cells::{PlainCells, events_fit};
 use command_line::{AskedRun, ToldApp};
 use std::alloc::{AllocError, Global};
 use std::sync::Arc;

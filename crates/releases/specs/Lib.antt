@@ -1,3 +1,2 @@
 pub mod Appid
 pub mod Release
-pub use Rattle.attrs.specs as attrs

@@ -13,6 +13,3 @@ mod reply;
 pub use act::Act;
 pub use played::replay;
 pub use reply::Reply;
-
-// The words of the contracts here come with them.
-pub use world;

@@ -4,11 +4,11 @@ use Rattle.replay.specs.Acts.{events_of}
 use Rattle.replay.specs.Replayed.{AreReplayed}
 use Rattle.replay.specs.declared.act.Act.{Act}
 use Rattle.replay.specs.declared.reply.Reply.{Reply}
-use Rattle.replay.specs.world.Batches.{BatchesJoin}
-use Rattle.replay.specs.world.Happens.{Answer, Plays}
-use Rattle.replay.specs.world.StandsFor.{Parts, WorldStandsFor}
-use Rattle.replay.specs.world.World.{WorldState}
-use Rattle.replay.specs.world.declared.event.Event.{Event}
+use Rattle.world.specs.Batches.{BatchesJoin}
+use Rattle.world.specs.Happens.{Answer, Plays}
+use Rattle.world.specs.StandsFor.{Parts, WorldStandsFor}
+use Rattle.world.specs.World.{WorldState}
+use Rattle.world.specs.declared.event.Event.{Event}
 use Rattle.replaying.specs.Replayed.{AreRepliesTo}
 
 -- each event has an answer

@@ -3,7 +3,7 @@ use Rattle.std.proofs.Common.{◌≡◌, ℕ, ◌+◌, ◌<◌, ◌≤◌, List,
 use Rattle.std.proofs.Common.{append_assoc, append-nil, refl, sym, ap, ◌∙◌}
 use Rattle.std.proofs.lemmas.List.{drop_more, drop_all}
 use Rattle.cells.specs.declared.array.CellArray.{CellArray}
-use Rattle.load.specs.bounded_files.Files.{KnownFiles}
+use Rattle.bounded_files.specs.Files.{KnownFiles}
 use Rattle.replay.specs.declared.act.Act.{Act}
 use Rattle.script.specs.declared.line.EventLine.{EventLine}
 use Rattle.replaying.specs.Asked.{IsActOf, AreActsOf, RefusesLine, RefusesLines, this, later}

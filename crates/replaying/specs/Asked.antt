@@ -4,14 +4,14 @@ use Rattle.std.specs.Prelude.{◌≡◌, ℕ, List, [], ◌∷◌, Option, Some,
 use Rattle.std.specs.Arc.{arc_value}
 use Rattle.attrs.specs.Attributes as attrs
 use Rattle.cells.specs.declared.array.CellArray.{CellArray}
-use Rattle.load.specs.bounded_files.Files.{KnownFiles}
-use Rattle.load.specs.bounded_files.declared.fault.ResourceFault.TheVariants.{Memory}
+use Rattle.bounded_files.specs.Files.{KnownFiles}
+use Rattle.bounded_files.specs.declared.fault.ResourceFault.TheVariants.{Memory}
 use Rattle.load.specs.Loaded.{IsLoadedFrom}
 use Rattle.replay.specs.declared.act.Act.{Act}
 use Rattle.script.specs.declared.line.EventLine.{EventLine}
 use Rattle.script.specs.declared.line.EventLine.TheVariants as line
-use Rattle.replay.specs.world.declared.event.Event.{Event}
-use Rattle.replay.specs.world.declared.event.Event.TheVariants as event
+use Rattle.world.specs.declared.event.Event.{Event}
+use Rattle.world.specs.declared.event.Event.TheVariants as event
 use Rattle.replaying.specs.Loaded.{GivesNoRuleset}
 use Rattle.replaying.specs.declared.fault.ReplayFault.{ReplayFault}
 use Rattle.replaying.specs.declared.fault.ReplayFault.TheVariants.{Resource}

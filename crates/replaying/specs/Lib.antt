@@ -2,4 +2,3 @@ pub mod Loaded
 pub mod Asked
 pub mod Replayed
 pub mod Replays
-pub use Rattle.replay.specs as replay

@@ -1,8 +1,8 @@
 -- Why a manifest at a path gives no ruleset to a replay.
 use Rattle.std.specs.Prelude.{ℕ, List}
 use Rattle.cells.specs.declared.array.CellArray.{CellArray}
-use Rattle.load.specs.bounded_files.Files.{KnownFiles}
-use Rattle.load.specs.bounded_files.declared.fault.ResourceFault.TheVariants.{Memory}
+use Rattle.bounded_files.specs.Files.{KnownFiles}
+use Rattle.bounded_files.specs.declared.fault.ResourceFault.TheVariants.{Memory}
 use Rattle.load.specs.Loaded.{RefusesPath}
 use Rattle.replaying.specs.declared.fault.ReplayFault.{ReplayFault}
 use Rattle.replaying.specs.declared.fault.ReplayFault.TheVariants.{Resource, Manifest}

@@ -5,8 +5,8 @@ use Rattle.replay.specs.Acts.{events_of}
 use Rattle.replay.specs.Replies.{reply_to}
 use Rattle.replay.specs.declared.act.Act.{Act}
 use Rattle.replay.specs.declared.reply.Reply.{Reply}
-use Rattle.replay.specs.world.Happens.{Answer, Plays}
-use Rattle.replay.specs.world.World.{WorldState}
+use Rattle.world.specs.Happens.{Answer, Plays}
+use Rattle.world.specs.World.{WorldState}
 
 -- each act has an answer to each of its events, and the reply to these
 abbrev pub AreTold : List Act → List (List Answer) → List Reply → Type 0

@@ -1,16 +1,16 @@
 -- What a manifest and a script, by their paths, come to.
 use Rattle.std.specs.Prelude.{ℕ, List, [], Some, None}
 use Rattle.cells.specs.declared.array.CellArray.{CellArray}
-use Rattle.load.specs.bounded_files.Files.{KnownFiles, Gives, most_bytes, within}
-use Rattle.load.specs.bounded_files.declared.fault.ResourceFault.TheVariants.{File, Memory}
+use Rattle.bounded_files.specs.Files.{KnownFiles, Gives, most_bytes, within}
+use Rattle.bounded_files.specs.declared.fault.ResourceFault.TheVariants.{File, Memory}
 use Rattle.load.specs.Loaded.{IsLoadedFrom}
 use Rattle.replay.specs.declared.act.Act.{Act}
 use Rattle.replay.specs.declared.reply.Reply.{Reply}
-use Rattle.load.specs.rulesets.Rules.{Rules}
+use Rattle.ruleset.specs.Rules.{Rules}
 use Rattle.script.specs.Script.{IsScript, IsScriptFault}
 use Rattle.script.specs.declared.fault.ScriptFault.TheVariants.{Malformed}
 use Rattle.script.specs.declared.line.EventLine.{EventLine}
-use Rattle.replay.specs.world.World.{opening_world}
+use Rattle.world.specs.World.{opening_world}
 use Rattle.replaying.specs.Asked.{AreActsOf, RefusesLines}
 use Rattle.replaying.specs.Loaded.{GivesNoRuleset}
 use Rattle.replaying.specs.Replayed.{AreRepliesTo}

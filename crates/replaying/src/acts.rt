@@ -5,9 +5,9 @@ ghost use Rattle.replaying.specs.Asked.{IsActOf, AreActsOf, RefusesLine, Refuses
 
 use crate::event::event_of;
 use crate::fault::ReplayFault;
+use bounded_files::ResourceFault;
 use cells::Directory;
 use load::Disk;
-use load::bounded_files::ResourceFault;
 use replay::Act;
 use script::EventLine;
 use std::alloc::Global;

@@ -8,13 +8,13 @@ ghost use Rattle.replaying.specs.Asked.{IsEventOf, RefusesLine};
 use crate::fault::ReplayFault;
 use crate::loaded::load_rules;
 use attrs::{Attrs, Text};
+use bounded_files::ResourceFault;
 use cells::Directory;
 use load::Disk;
-use load::bounded_files::ResourceFault;
-use replay::world::Event;
 use script::EventLine;
 use std::alloc::{AllocError, Global};
 use std::sync::Arc;
+use world::Event;
 
 /// The event of a line. An app has its appid, bucket and version, and no other attribute; a swap
 /// has the ruleset of its manifest, whose arrays are declared in the directory.

@@ -1,7 +1,7 @@
 //! Why a script isn't played.
 
+use bounded_files::ResourceFault;
 use load::PathFault;
-use load::bounded_files::ResourceFault;
 use script::ScriptFault;
 use thiserror::Error;
 

@@ -19,6 +19,3 @@ mod played;
 pub use fault::ReplayFault;
 pub use load::{Device, Disk};
 pub use played::replay_files;
-
-// The words of the contracts here come with them.
-pub use replay;

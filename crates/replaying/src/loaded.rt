@@ -6,10 +6,10 @@ ghost use Rattle.load.specs.Loaded.{IsLoadedFrom};
 ghost use Rattle.replaying.specs.Loaded.{GivesNoRuleset};
 
 use crate::fault::ReplayFault;
+use bounded_files::ResourceFault;
 use cells::Directory;
-use load::bounded_files::ResourceFault;
-use load::ruleset::Ruleset;
 use load::{Disk, load_path};
+use ruleset::Ruleset;
 use std::alloc::Global;
 use std::sync::Arc;
 

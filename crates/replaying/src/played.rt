@@ -4,19 +4,19 @@ ghost use Rattle.std.specs.Prelude.{IfOk, IfErr};
 ghost use Rattle.std.specs.Arc.{arc_value};
 ghost use Rattle.replaying.specs.Replayed.{AreRepliesTo};
 ghost use Rattle.replaying.specs.Replays.{AreLinesOf, RefusesScript, IsReplay, IsReplayFault};
-ghost use Rattle.replay.specs.world.World.{opening_world};
+ghost use Rattle.world.specs.World.{opening_world};
 
 use crate::acts::acts_of;
 use crate::fault::ReplayFault;
 use crate::loaded::load_rules;
+use bounded_files::{Disk, MOST_BYTES, ResourceFault, read_within};
 use cells::Directory;
-use load::bounded_files::{Disk, MOST_BYTES, ResourceFault, read_within};
-use load::ruleset::Ruleset;
-use replay::world::{World, batches_compose};
 use replay::{Act, Reply, replay};
+use ruleset::Ruleset;
 use script::{EventLine, ScriptFault, read_script};
 use std::alloc::{AllocError, Global};
 use std::sync::Arc;
+use world::{World, batches_compose};
 
 /// What the lines of a script come to, each in turn, on a world of 64 workers whose first ruleset
 /// is that of the manifest. Both are paths, and so is the manifest of a swap line; where they

@@ -4,10 +4,10 @@ use Rattle.std.proofs.Common.{Some, None, Bool, true, false, refl, sym, ap, subs
 use Rattle.std.specs.Prelude.{slice_get, nat_lt, ◌&&◌, not, is_some, if◌then◌else◌}
 use Rattle.std.specs.Str.{bytes_eq}
 use Rattle.std.proofs.lemmas.List.Elements.{All-head, All-tail}
-use Rattle.bpf_verify.specs.bpf_rules.cells.Arrays.{IsArray, first_cell}
-use Rattle.bpf_verify.specs.bpf_rules.cells.declared.array.CellArray.{CellArray}
-use Rattle.bpf_verify.specs.bpf_rules.cells.declared.array.CellWidth.{CellWidth}
-use Rattle.bpf_verify.specs.bpf_rules.cells.declared.array.CellWidth.TheVariants.{Bits32, Bits64}
+use Rattle.cells.specs.Arrays.{IsArray, first_cell}
+use Rattle.cells.specs.declared.array.CellArray.{CellArray}
+use Rattle.cells.specs.declared.array.CellWidth.{CellWidth}
+use Rattle.cells.specs.declared.array.CellWidth.TheVariants.{Bits32, Bits64}
 use Rattle.rule_lang.specs.Fits.{can_take, can_count}
 use Rattle.rule_lang.specs.Shapes.{array_named, cell_of, quota_of, granted}
 use Rattle.rule_compile.specs.Code.{place_named, array_size, size_of}

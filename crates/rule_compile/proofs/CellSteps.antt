@@ -4,24 +4,24 @@ use Rattle.std.proofs.Common.{Some, None, Bool, true, false, refl, sym, ap, ◌�
 use Rattle.std.specs.Prelude.{◌==◌, ◌&&◌, ◌⊎◌, nat_le, nat_lt, is_some, slice_get, Contains}
 use Rattle.std.specs.List.{list_any}
 use Rattle.std.proofs.lemmas.Bool.{cases_Bool, lt-ltb}
-use Rattle.bpf_verify.specs.bpf_rules.bpf_insn.declared.operand.AtomicSize.{AtomicSize}
-use Rattle.bpf_verify.specs.bpf_rules.bpf_insn.declared.operand.AtomicSize.TheVariants.{Word, Double}
-use Rattle.bpf_verify.specs.bpf_rules.bpf_insn.declared.operand.WideValue.TheVariants as wide
-use Rattle.bpf_verify.specs.bpf_rules.bpf_insn.declared.reg.Reg.TheVariants.{R2, R3}
-use Rattle.bpf_verify.specs.bpf_rules.bpf_insn.Program.{Program}
-use Rattle.bpf_verify.specs.bpf_semantics.Counters.{atomic_count}
-use Rattle.bpf_verify.specs.bpf_rules.cells.declared.array.CellArray.{CellArray}
-use Rattle.bpf_verify.specs.bpf_rules.cells.Arrays.{AppShape, IsShape, HasCell, SharesNoCell}
-use Rattle.bpf_verify.specs.bpf_rules.cells.Events.{width}
-use Rattle.bpf_verify.specs.abs_value.declared.number.Number.{Number}
-use Rattle.bpf_verify.specs.abs_value.declared.origin.Origin.TheVariants.{Fixed}
-use Rattle.bpf_verify.specs.abs_value.declared.value.Abs.TheVariants.{Num, Cell}
-use Rattle.bpf_verify.specs.abs_value.declared.state.AbsState.{AbsState}
-use Rattle.bpf_verify.specs.abs_value.Numbers.{single, least, most}
-use Rattle.bpf_verify.specs.abs_value.States.{register_at, value_at, with_value}
-use Rattle.bpf_verify.specs.bpf_rules.Arrays.{wide_abs, has_quota_cell, has_quota}
-use Rattle.bpf_verify.specs.bpf_rules.Rules.{first_rule}
-use Rattle.bpf_verify.specs.bpf_rules.Transfer.{after, fetched_value}
+use Rattle.bpf_insn.specs.declared.operand.AtomicSize.{AtomicSize}
+use Rattle.bpf_insn.specs.declared.operand.AtomicSize.TheVariants.{Word, Double}
+use Rattle.bpf_insn.specs.declared.operand.WideValue.TheVariants as wide
+use Rattle.bpf_insn.specs.declared.reg.Reg.TheVariants.{R2, R3}
+use Rattle.bpf_insn.specs.Program.{Program}
+use Rattle.bpf_semantics.specs.Counters.{atomic_count}
+use Rattle.cells.specs.declared.array.CellArray.{CellArray}
+use Rattle.cells.specs.Arrays.{AppShape, IsShape, HasCell, SharesNoCell}
+use Rattle.cells.specs.Events.{width}
+use Rattle.abs_value.specs.declared.number.Number.{Number}
+use Rattle.abs_value.specs.declared.origin.Origin.TheVariants.{Fixed}
+use Rattle.abs_value.specs.declared.value.Abs.TheVariants.{Num, Cell}
+use Rattle.abs_value.specs.declared.state.AbsState.{AbsState}
+use Rattle.abs_value.specs.Numbers.{single, least, most}
+use Rattle.abs_value.specs.States.{register_at, value_at, with_value}
+use Rattle.bpf_rules.specs.Arrays.{wide_abs, has_quota_cell, has_quota}
+use Rattle.bpf_rules.specs.Rules.{first_rule}
+use Rattle.bpf_rules.specs.Transfer.{after, fetched_value}
 use Rattle.bpf_verify.specs.Table.{Known, Knows}
 use Rattle.rule_compile.specs.Instructions as insn
 use Rattle.rule_compile.proofs.Counters.{IsCellOf}

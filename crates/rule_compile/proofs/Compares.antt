@@ -10,24 +10,24 @@ use Rattle.std.proofs.lemmas.Int.{of_z-to_z}
 use Rattle.std.proofs.lemmas.Bool.{cases_lt}
 use Rattle.std.proofs.lemmas.Nat.{and_le_l}
 use Rattle.attrs.specs.Attributes.{Attributes}
-use Rattle.bpf_verify.specs.bpf_rules.bpf_insn.declared.reg.Reg.{Reg}
-use Rattle.bpf_verify.specs.bpf_rules.bpf_insn.declared.reg.Reg.TheVariants.{R0, R2}
-use Rattle.bpf_verify.specs.bpf_rules.bpf_insn.declared.operand.AluOp.TheVariants.{Mod}
-use Rattle.bpf_verify.specs.bpf_rules.bpf_insn.declared.operand.Bits.TheVariants.{Bits32}
-use Rattle.bpf_verify.specs.bpf_rules.bpf_insn.Arithmetic.{alu_result}
-use Rattle.bpf_verify.specs.bpf_rules.bpf_insn.Table.{number_of}
-use Rattle.bpf_verify.specs.bpf_rules.bpf_insn.declared.operand.Condition.{Condition}
-use Rattle.bpf_verify.specs.bpf_rules.bpf_insn.declared.operand.Condition.TheVariants.{Eq, Ne, Lt, Le, Gt, Ge, Set}
-use Rattle.bpf_verify.specs.bpf_rules.bpf_insn.declared.operand.LoadKind.{LoadKind}
-use Rattle.bpf_verify.specs.bpf_rules.bpf_insn.declared.operand.LoadKind.TheVariants.{Byte, Half}
-use Rattle.bpf_verify.specs.bpf_rules.bpf_insn.Conditions.{compares}
-use Rattle.bpf_verify.specs.bpf_rules.bpf_insn.Program.{Program, ◌>>=◌}
+use Rattle.bpf_insn.specs.declared.reg.Reg.{Reg}
+use Rattle.bpf_insn.specs.declared.reg.Reg.TheVariants.{R0, R2}
+use Rattle.bpf_insn.specs.declared.operand.AluOp.TheVariants.{Mod}
+use Rattle.bpf_insn.specs.declared.operand.Bits.TheVariants.{Bits32}
+use Rattle.bpf_insn.specs.Arithmetic.{alu_result}
+use Rattle.bpf_insn.specs.Table.{number_of}
+use Rattle.bpf_insn.specs.declared.operand.Condition.{Condition}
+use Rattle.bpf_insn.specs.declared.operand.Condition.TheVariants.{Eq, Ne, Lt, Le, Gt, Ge, Set}
+use Rattle.bpf_insn.specs.declared.operand.LoadKind.{LoadKind}
+use Rattle.bpf_insn.specs.declared.operand.LoadKind.TheVariants.{Byte, Half}
+use Rattle.bpf_insn.specs.Conditions.{compares}
+use Rattle.bpf_insn.specs.Program.{Program, ◌>>=◌}
 use Rattle.attrs.specs.Helpers.{bucket_of}
-use Rattle.bpf_verify.specs.bpf_semantics.Program.{ShapedProgram}
-use Rattle.bpf_verify.specs.bpf_semantics.State.{State, with_register, with_result}
-use Rattle.bpf_verify.specs.bpf_semantics.Outcome.{write, answer}
-use Rattle.bpf_verify.specs.bpf_semantics.Reads.{both, only}
-use Rattle.bpf_verify.specs.bpf_semantics.Step.{act}
+use Rattle.bpf_semantics.specs.Program.{ShapedProgram}
+use Rattle.bpf_semantics.specs.State.{State, with_register, with_result}
+use Rattle.bpf_semantics.specs.Outcome.{write, answer}
+use Rattle.bpf_semantics.specs.Reads.{both, only}
+use Rattle.bpf_semantics.specs.Step.{act}
 use Rattle.rule_lang.specs.Meaning.{Behaviour, bucket_by, remainder}
 use Rattle.rule_compile.specs.Instructions.{opposite, turned}
 use Rattle.rule_compile.specs.Instructions as insn

@@ -2,10 +2,10 @@
 use Rattle.std.proofs.Common.{◌≡◌, ℕ, ◌≤◌, List, length, true, sym, ap, subst, ◌∙◌}
 use Rattle.std.specs.List.{AllByRecursion}
 use Rattle.attrs.specs.Attributes.{Attributes}
-use Rattle.bpf_verify.specs.bpf_rules.bpf_insn.Program.{Program}
-use Rattle.bpf_verify.specs.bpf_semantics.Program.{ShapedProgram}
-use Rattle.bpf_verify.specs.bpf_rules.cells.Arrays.{AppShape, IsShape}
-use Rattle.bpf_verify.specs.flow_check.Flow.{IsFlow}
+use Rattle.bpf_insn.specs.Program.{Program}
+use Rattle.bpf_semantics.specs.Program.{ShapedProgram}
+use Rattle.cells.specs.Arrays.{AppShape, IsShape}
+use Rattle.flow_check.specs.Flow.{IsFlow}
 use Rattle.bpf_verify.specs.Accepted.{IsAccepted}
 use Rattle.bpf_verify.specs.Table.{Known, IsTable}
 use Rattle.rule_lang.specs.declared.rule.Statement.{Statement}

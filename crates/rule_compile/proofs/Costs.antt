@@ -2,9 +2,9 @@
 use Rattle.std.proofs.Common.{◌≡◌, ℕ, zero, suc, ◌<◌, ◌+◌, ◌-◌, ◌*◌, ◌≤◌, List, [], ◌∷◌, drop}
 use Rattle.std.proofs.Common.{length, Option, Some, None, Bool, true, false, arith, refl, ap, subst}
 use Rattle.std.specs.Prelude.{not, option_and_then, if◌then◌else◌}
-use Rattle.bpf_verify.specs.bpf_rules.bpf_insn.declared.operand.Condition.TheVariants as jump
-use Rattle.bpf_verify.specs.bpf_rules.bpf_insn.Program.{Program}
-use Rattle.bpf_verify.specs.bpf_rules.cells.Arrays.{AppShape}
+use Rattle.bpf_insn.specs.declared.operand.Condition.TheVariants as jump
+use Rattle.bpf_insn.specs.Program.{Program}
+use Rattle.cells.specs.Arrays.{AppShape}
 use Rattle.rule_lang.specs.declared.condition.Step.{Step}
 use Rattle.rule_lang.specs.declared.condition.Step.TheVariants as step
 use Rattle.rule_lang.specs.declared.rule.Statement.{Statement}
@@ -17,7 +17,7 @@ use Rattle.rule_lang.specs.Cost.{tests_in, tests_of, cost}
 use Rattle.rule_lang.specs.Meaning.{flag_bit, attribute_number}
 use Rattle.rule_lang.specs.Trees.{Tree, Asked, Negated, Both, Either, with_step, trees_from}
 use Rattle.rule_compile.specs.declared.goals.Goal.{Goal}
-use Rattle.bpf_verify.specs.bpf_rules.bpf_insn.declared.reg.Reg.TheVariants.{R0}
+use Rattle.bpf_insn.specs.declared.reg.Reg.TheVariants.{R0}
 use Rattle.rule_compile.specs.Instructions as insn
 use Rattle.rule_compile.specs.Blocks as code
 use Rattle.rule_compile.specs.Code.{version_code, four_of, test_code, tree_code, made_code}

@@ -3,18 +3,18 @@ use Rattle.std.proofs.Common.{◌≡◌, ℕ, ◌+◌, ◌-◌, ◌<◌, pos, �
 use Rattle.std.proofs.Common.{Bool, true, false, refl, ap, subst, ◌∙◌, arith}
 use Rattle.std.specs.Prelude.{nat_lt, slice_get, if◌then◌else◌}
 use Rattle.attrs.specs.Attributes.{Attributes}
-use Rattle.bpf_verify.specs.bpf_rules.cells.declared.array.CellArray.{CellArray}
-use Rattle.bpf_verify.specs.bpf_rules.cells.declared.event.CellOp.TheVariants.{Add}
-use Rattle.bpf_verify.specs.bpf_rules.bpf_insn.declared.operand.AtomicSize.{AtomicSize}
-use Rattle.bpf_verify.specs.bpf_rules.bpf_insn.declared.operand.Bits.TheVariants.{Bits64}
-use Rattle.bpf_verify.specs.bpf_rules.bpf_insn.declared.reg.Reg.TheVariants.{R2}
-use Rattle.bpf_verify.specs.bpf_rules.bpf_insn.Conditions.{holds}
-use Rattle.bpf_verify.specs.bpf_rules.bpf_insn.Program.{Program}
-use Rattle.bpf_verify.specs.bpf_semantics.Program.{ShapedProgram}
-use Rattle.bpf_verify.specs.bpf_semantics.State.{State, with_register}
-use Rattle.bpf_verify.specs.bpf_semantics.Outcome.{branch}
-use Rattle.bpf_verify.specs.bpf_semantics.Reads.{both}
-use Rattle.bpf_verify.specs.bpf_semantics.Step.{act}
+use Rattle.cells.specs.declared.array.CellArray.{CellArray}
+use Rattle.cells.specs.declared.event.CellOp.TheVariants.{Add}
+use Rattle.bpf_insn.specs.declared.operand.AtomicSize.{AtomicSize}
+use Rattle.bpf_insn.specs.declared.operand.Bits.TheVariants.{Bits64}
+use Rattle.bpf_insn.specs.declared.reg.Reg.TheVariants.{R2}
+use Rattle.bpf_insn.specs.Conditions.{holds}
+use Rattle.bpf_insn.specs.Program.{Program}
+use Rattle.bpf_semantics.specs.Program.{ShapedProgram}
+use Rattle.bpf_semantics.specs.State.{State, with_register}
+use Rattle.bpf_semantics.specs.Outcome.{branch}
+use Rattle.bpf_semantics.specs.Reads.{both}
+use Rattle.bpf_semantics.specs.Step.{act}
 use Rattle.rule_lang.specs.Meaning.{Behaviour, Asks}
 use Rattle.rule_compile.specs.Instructions as insn
 use Rattle.rule_compile.specs.Blocks as code

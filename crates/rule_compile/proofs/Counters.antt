@@ -4,22 +4,22 @@ use Rattle.std.proofs.Common.{Bool, true, false, refl, ap, subst, ◌∙◌, ari
 use Rattle.std.specs.Prelude.{nat_le, nat_lt, slice_get, if◌then◌else◌}
 use Rattle.std.proofs.lemmas.Bool.{lt-ltb}
 use Rattle.attrs.specs.Attributes.{Attributes}
-use Rattle.bpf_verify.specs.bpf_rules.cells.declared.array.CellArray.{CellArray}
-use Rattle.bpf_verify.specs.bpf_rules.cells.declared.event.CellOp.TheVariants.{Add}
-use Rattle.bpf_verify.specs.bpf_rules.bpf_insn.declared.operand.AtomicSize.{AtomicSize}
-use Rattle.bpf_verify.specs.bpf_rules.bpf_insn.declared.operand.AtomicSize.TheVariants.{Word, Double}
-use Rattle.bpf_verify.specs.bpf_rules.bpf_insn.declared.operand.Bits.TheVariants.{Bits64}
-use Rattle.bpf_verify.specs.bpf_rules.bpf_insn.declared.reg.Reg.TheVariants.{R2, R3}
-use Rattle.bpf_verify.specs.bpf_rules.bpf_insn.Conditions.{holds}
-use Rattle.bpf_verify.specs.bpf_rules.bpf_insn.Program.{Program, ◌>>=◌}
-use Rattle.bpf_verify.specs.bpf_semantics.Memory.{address_of, cell_address}
-use Rattle.bpf_verify.specs.bpf_semantics.Memory.{cell_number, is_cell_address, cell_at}
-use Rattle.bpf_verify.specs.bpf_semantics.Program.{ShapedProgram}
-use Rattle.bpf_verify.specs.bpf_semantics.State.{State, with_register}
-use Rattle.bpf_verify.specs.bpf_semantics.Outcome.{write}
-use Rattle.bpf_verify.specs.bpf_semantics.Outcome as outcome
-use Rattle.bpf_verify.specs.bpf_semantics.Counters.{atomic_count}
-use Rattle.bpf_verify.specs.bpf_semantics.Step.{act}
+use Rattle.cells.specs.declared.array.CellArray.{CellArray}
+use Rattle.cells.specs.declared.event.CellOp.TheVariants.{Add}
+use Rattle.bpf_insn.specs.declared.operand.AtomicSize.{AtomicSize}
+use Rattle.bpf_insn.specs.declared.operand.AtomicSize.TheVariants.{Word, Double}
+use Rattle.bpf_insn.specs.declared.operand.Bits.TheVariants.{Bits64}
+use Rattle.bpf_insn.specs.declared.reg.Reg.TheVariants.{R2, R3}
+use Rattle.bpf_insn.specs.Conditions.{holds}
+use Rattle.bpf_insn.specs.Program.{Program, ◌>>=◌}
+use Rattle.bpf_semantics.specs.Memory.{address_of, cell_address}
+use Rattle.bpf_semantics.specs.Memory.{cell_number, is_cell_address, cell_at}
+use Rattle.bpf_semantics.specs.Program.{ShapedProgram}
+use Rattle.bpf_semantics.specs.State.{State, with_register}
+use Rattle.bpf_semantics.specs.Outcome.{write}
+use Rattle.bpf_semantics.specs.Outcome as outcome
+use Rattle.bpf_semantics.specs.Counters.{atomic_count}
+use Rattle.bpf_semantics.specs.Step.{act}
 use Rattle.rule_lang.specs.Meaning.{Behaviour, Asks}
 use Rattle.rule_compile.specs.Instructions as insn
 use Rattle.rule_compile.proofs.Labels.{next_here, next_wide}

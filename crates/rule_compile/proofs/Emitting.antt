@@ -1,8 +1,8 @@
 -- The loop over the statements of a rule, from the last to the first.
 use Rattle.std.proofs.Common.{◌≡◌, ℕ, zero, suc, ◌+◌, ◌-◌, ◌*◌, ◌<◌, ◌≤◌, List, [], ◌∷◌, drop}
 use Rattle.std.proofs.Common.{length, get_or, refl, sym, ap, subst, ◌∙◌, arith, add-one, drop-cons}
-use Rattle.bpf_verify.specs.bpf_rules.bpf_insn.Program.{Program}
-use Rattle.bpf_verify.specs.bpf_rules.cells.Arrays.{AppShape}
+use Rattle.bpf_insn.specs.Program.{Program}
+use Rattle.cells.specs.Arrays.{AppShape}
 use Rattle.rule_lang.specs.declared.rule.Statement.{Statement}
 use Rattle.rule_compile.specs.declared.goals.Goal.{Goal}
 use Rattle.rule_compile.specs.Code.{statement_code, statements_code, rule_code}

@@ -5,35 +5,35 @@ use Rattle.std.specs.Prelude.{min, nat_le, ◌==◌, if◌then◌else◌}
 use Rattle.std.proofs.Math.Nat.{mod-le, min-le_left}
 use Rattle.std.proofs.lemmas.Bool.{cases_Bool, le-leb}
 use Rattle.std.proofs.lemmas.Nat.{and_le_l}
-use Rattle.bpf_verify.specs.bpf_rules.bpf_insn.declared.operand.AluOp.TheVariants.{And, Mod}
-use Rattle.bpf_verify.specs.bpf_rules.bpf_insn.declared.operand.Bits.TheVariants.{Bits32, Bits64}
-use Rattle.bpf_verify.specs.bpf_rules.bpf_insn.Arithmetic.{alu_result}
-use Rattle.bpf_verify.specs.bpf_rules.bpf_insn.Table.{number_of}
-use Rattle.bpf_verify.specs.bpf_rules.bpf_insn.Words.{immediate}
-use Rattle.bpf_verify.specs.bpf_rules.bpf_insn.declared.operand.LoadKind.{LoadKind}
-use Rattle.bpf_verify.specs.bpf_rules.bpf_insn.declared.operand.LoadKind.TheVariants as load
-use Rattle.bpf_verify.specs.bpf_rules.bpf_insn.declared.reg.Reg.{Reg}
-use Rattle.bpf_verify.specs.bpf_rules.bpf_insn.declared.reg.Reg.TheVariants.{R2}
-use Rattle.bpf_verify.specs.bpf_rules.bpf_insn.Program.{Program}
-use Rattle.bpf_verify.specs.bpf_semantics.Reads.{load_count}
-use Rattle.bpf_verify.specs.bpf_rules.cells.Arrays.{AppShape}
-use Rattle.bpf_verify.specs.abs_value.declared.interval.Interval.{Interval}
-use Rattle.bpf_verify.specs.abs_value.declared.known_bits.KnownBits.{KnownBits}
-use Rattle.bpf_verify.specs.abs_value.declared.number.Number.{Number}
-use Rattle.bpf_verify.specs.abs_value.declared.places.Places.{Places}
-use Rattle.bpf_verify.specs.abs_value.declared.value.Abs.TheVariants.{Num, Ctx}
-use Rattle.bpf_verify.specs.abs_value.declared.state.AbsState.{AbsState}
-use Rattle.bpf_verify.specs.abs_value.Bounds.{is_above_zero, remainder, conjunction}
-use Rattle.bpf_verify.specs.abs_value.Intervals.{just, is_just, greatest, all_of, cut_interval}
-use Rattle.bpf_verify.specs.abs_value.Known.{exactly, any_of, and_bits}
-use Rattle.bpf_verify.specs.abs_value.Numbers.{single, least, most, are_single, cut, tidied}
-use Rattle.bpf_verify.specs.abs_value.Results.{result, alu_number}
-use Rattle.bpf_verify.specs.abs_value.Values.{places, loaded_value}
-use Rattle.bpf_verify.specs.abs_value.States.{register_at, value_at, value_of, with_value}
-use Rattle.bpf_verify.specs.bpf_rules.Memory.{changes, lies_in, stack_place}
-use Rattle.bpf_verify.specs.bpf_rules.Reads.{load_use}
-use Rattle.bpf_verify.specs.bpf_rules.Rules.{first_rule}
-use Rattle.bpf_verify.specs.bpf_rules.Transfer.{after, loaded_at}
+use Rattle.bpf_insn.specs.declared.operand.AluOp.TheVariants.{And, Mod}
+use Rattle.bpf_insn.specs.declared.operand.Bits.TheVariants.{Bits32, Bits64}
+use Rattle.bpf_insn.specs.Arithmetic.{alu_result}
+use Rattle.bpf_insn.specs.Table.{number_of}
+use Rattle.bpf_insn.specs.Words.{immediate}
+use Rattle.bpf_insn.specs.declared.operand.LoadKind.{LoadKind}
+use Rattle.bpf_insn.specs.declared.operand.LoadKind.TheVariants as load
+use Rattle.bpf_insn.specs.declared.reg.Reg.{Reg}
+use Rattle.bpf_insn.specs.declared.reg.Reg.TheVariants.{R2}
+use Rattle.bpf_insn.specs.Program.{Program}
+use Rattle.bpf_semantics.specs.Reads.{load_count}
+use Rattle.cells.specs.Arrays.{AppShape}
+use Rattle.abs_value.specs.declared.interval.Interval.{Interval}
+use Rattle.abs_value.specs.declared.known_bits.KnownBits.{KnownBits}
+use Rattle.abs_value.specs.declared.number.Number.{Number}
+use Rattle.abs_value.specs.declared.places.Places.{Places}
+use Rattle.abs_value.specs.declared.value.Abs.TheVariants.{Num, Ctx}
+use Rattle.abs_value.specs.declared.state.AbsState.{AbsState}
+use Rattle.abs_value.specs.Bounds.{is_above_zero, remainder, conjunction}
+use Rattle.abs_value.specs.Intervals.{just, is_just, greatest, all_of, cut_interval}
+use Rattle.abs_value.specs.Known.{exactly, any_of, and_bits}
+use Rattle.abs_value.specs.Numbers.{single, least, most, are_single, cut, tidied}
+use Rattle.abs_value.specs.Results.{result, alu_number}
+use Rattle.abs_value.specs.Values.{places, loaded_value}
+use Rattle.abs_value.specs.States.{register_at, value_at, value_of, with_value}
+use Rattle.bpf_rules.specs.Memory.{changes, lies_in, stack_place}
+use Rattle.bpf_rules.specs.Reads.{load_use}
+use Rattle.bpf_rules.specs.Rules.{first_rule}
+use Rattle.bpf_rules.specs.Transfer.{after, loaded_at}
 use Rattle.bpf_verify.specs.Table.{Known, LiesIn, IsWider, Knows}
 use Rattle.rule_compile.specs.Instructions as insn
 use Rattle.rule_compile.proofs.Typed.{IsStep}

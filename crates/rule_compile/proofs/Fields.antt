@@ -5,12 +5,12 @@ use Rattle.std.specs.Prelude.{All, slice_index}
 use Rattle.std.proofs.lemmas.List.Elements.{All-head, All-tail}
 use Rattle.attrs.specs.Attributes.{Attributes}
 use Rattle.attrs.specs.Context.{context_bytes, HasContextRanges}
-use Rattle.bpf_verify.specs.bpf_rules.bpf_insn.declared.reg.Reg.TheVariants.{R2}
-use Rattle.bpf_verify.specs.bpf_rules.bpf_insn.declared.operand.LoadKind.TheVariants.{Byte, Half, Word}
-use Rattle.bpf_verify.specs.bpf_rules.bpf_insn.Words.{little_endian}
-use Rattle.bpf_verify.specs.bpf_semantics.Program.{ShapedProgram}
-use Rattle.bpf_verify.specs.bpf_semantics.State.{State}
-use Rattle.bpf_verify.specs.bpf_semantics.Outcome.{write}
+use Rattle.bpf_insn.specs.declared.reg.Reg.TheVariants.{R2}
+use Rattle.bpf_insn.specs.declared.operand.LoadKind.TheVariants.{Byte, Half, Word}
+use Rattle.bpf_insn.specs.Words.{little_endian}
+use Rattle.bpf_semantics.specs.Program.{ShapedProgram}
+use Rattle.bpf_semantics.specs.State.{State}
+use Rattle.bpf_semantics.specs.Outcome.{write}
 use Rattle.rule_compile.proofs.Runs.{Reads}
 
 -- each number of the context fits its field

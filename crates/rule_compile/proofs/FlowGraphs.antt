@@ -6,18 +6,18 @@ use Rattle.std.specs.Prelude.{IsSome, is_some, Contains, option_to_list, slice_g
 use Rattle.std.specs.List.{AllByRecursion}
 use Rattle.std.proofs.lemmas.Option.{slice_get_past}
 use Rattle.std.proofs.lemmas.List.Elements.{Contains-append_right}
-use Rattle.bpf_verify.specs.bpf_rules.bpf_insn.declared.insn.Insn.{Insn}
-use Rattle.bpf_verify.specs.bpf_rules.bpf_insn.declared.insn.Width.{Width}
-use Rattle.bpf_verify.specs.bpf_rules.bpf_insn.declared.insn.Width.TheVariants.{One, Two}
-use Rattle.bpf_verify.specs.bpf_rules.bpf_insn.declared.operand.Distance.{Distance}
-use Rattle.bpf_verify.specs.bpf_rules.bpf_insn.Spelling.{width_of}
-use Rattle.bpf_verify.specs.bpf_rules.bpf_insn.Program.{Program, ◌>>=◌, at, landing, slots_moved}
-use Rattle.bpf_verify.specs.flow_check.Edges.{Reached, start, along, jump_of, target_of}
-use Rattle.bpf_verify.specs.flow_check.Edges.{goes_on, next_of, successors, KeepsEdges}
-use Rattle.bpf_verify.specs.flow_check.declared.fault.FlowRule.TheVariants.{BackJump, Outside}
-use Rattle.bpf_verify.specs.flow_check.declared.fault.FlowRule.TheVariants.{InsideWide, FallsOff}
-use Rattle.bpf_verify.specs.flow_check.Flow.{IsFlow}
-use Rattle.bpf_verify.specs.bpf_rules.cells.Arrays.{AppShape}
+use Rattle.bpf_insn.specs.declared.insn.Insn.{Insn}
+use Rattle.bpf_insn.specs.declared.insn.Width.{Width}
+use Rattle.bpf_insn.specs.declared.insn.Width.TheVariants.{One, Two}
+use Rattle.bpf_insn.specs.declared.operand.Distance.{Distance}
+use Rattle.bpf_insn.specs.Spelling.{width_of}
+use Rattle.bpf_insn.specs.Program.{Program, ◌>>=◌, at, landing, slots_moved}
+use Rattle.flow_check.specs.Edges.{Reached, start, along, jump_of, target_of}
+use Rattle.flow_check.specs.Edges.{goes_on, next_of, successors, KeepsEdges}
+use Rattle.flow_check.specs.declared.fault.FlowRule.TheVariants.{BackJump, Outside}
+use Rattle.flow_check.specs.declared.fault.FlowRule.TheVariants.{InsideWide, FallsOff}
+use Rattle.flow_check.specs.Flow.{IsFlow}
+use Rattle.cells.specs.Arrays.{AppShape}
 use Rattle.bpf_verify.specs.Table.{Known}
 use Rattle.rule_compile.specs.Writing.{CanEncode}
 use Rattle.rule_compile.proofs.Typed.{GoesOn, JumpsTo, HasHalf, halves, IsTyped}

@@ -5,15 +5,15 @@ use Rattle.std.proofs.Common.{Bool, true, false, refl, sym, ap, subst, ◌∙◌
 use Rattle.std.specs.Prelude.{IsSome, slice_get, ◌⊎◌}
 use Rattle.std.specs.List.{AllByRecursion}
 use Rattle.std.proofs.lemmas.List.Elements.{All-nil, All-cons}
-use Rattle.bpf_verify.specs.bpf_rules.bpf_insn.declared.insn.Insn.{Insn}
-use Rattle.bpf_verify.specs.bpf_rules.bpf_insn.declared.insn.Insn.TheVariants.{Wide}
-use Rattle.bpf_verify.specs.bpf_rules.bpf_insn.declared.insn.Width.{Width}
-use Rattle.bpf_verify.specs.bpf_rules.bpf_insn.declared.insn.Width.TheVariants.{One, Two}
-use Rattle.bpf_verify.specs.bpf_rules.bpf_insn.Spelling.{width_of, IsEncodable}
-use Rattle.bpf_verify.specs.bpf_rules.bpf_insn.Program.{Program, at, layout, slots}
-use Rattle.bpf_verify.specs.flow_check.Edges.{goes_on}
-use Rattle.bpf_verify.specs.flow_check.Flow.{IsLayout}
-use Rattle.bpf_verify.specs.bpf_rules.cells.Arrays.{AppShape}
+use Rattle.bpf_insn.specs.declared.insn.Insn.{Insn}
+use Rattle.bpf_insn.specs.declared.insn.Insn.TheVariants.{Wide}
+use Rattle.bpf_insn.specs.declared.insn.Width.{Width}
+use Rattle.bpf_insn.specs.declared.insn.Width.TheVariants.{One, Two}
+use Rattle.bpf_insn.specs.Spelling.{width_of, IsEncodable}
+use Rattle.bpf_insn.specs.Program.{Program, at, layout, slots}
+use Rattle.flow_check.specs.Edges.{goes_on}
+use Rattle.flow_check.specs.Flow.{IsLayout}
+use Rattle.cells.specs.Arrays.{AppShape}
 use Rattle.bpf_verify.specs.Table.{Known}
 use Rattle.rule_compile.specs.Writing.{CanEncode}
 use Rattle.rule_compile.proofs.Typed.{GoesOn, HasHalf, halves, IsTyped, at_drop}

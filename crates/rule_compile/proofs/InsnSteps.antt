@@ -4,24 +4,24 @@ use Rattle.std.proofs.Common.{◌≡◌, ℕ, zero, suc, ◌+◌, ◌≤◌, ℤ
 use Rattle.std.proofs.Common.{false, refl, sym, ap, subst, arith, length-drop, get_or-drop}
 use Rattle.std.specs.Prelude.{◌==◌}
 use Rattle.std.proofs.lemmas.Bool.{le-leb}
-use Rattle.bpf_verify.specs.bpf_rules.bpf_insn.declared.insn.Insn.TheVariants.{Mov, Exit, Wide}
-use Rattle.bpf_verify.specs.bpf_rules.bpf_insn.declared.operand.Bits.TheVariants.{Bits64}
-use Rattle.bpf_verify.specs.bpf_rules.bpf_insn.declared.operand.Operand.TheVariants.{Imm, Register}
-use Rattle.bpf_verify.specs.bpf_rules.bpf_insn.declared.operand.WideValue.TheVariants.{Number as WideNumber}
-use Rattle.bpf_verify.specs.bpf_rules.bpf_insn.declared.reg.Reg.{Reg}
-use Rattle.bpf_verify.specs.bpf_rules.bpf_insn.Program.{Program}
-use Rattle.bpf_verify.specs.bpf_rules.bpf_insn.Table.{number_of}
-use Rattle.bpf_verify.specs.bpf_rules.cells.Arrays.{AppShape}
-use Rattle.bpf_verify.specs.abs_value.declared.number.Number.{Number}
-use Rattle.bpf_verify.specs.abs_value.declared.value.Abs.{Abs}
-use Rattle.bpf_verify.specs.abs_value.declared.value.Abs.TheVariants.{Unusable, Num, Ctx}
-use Rattle.bpf_verify.specs.abs_value.declared.value.Abs.TheVariants.{Stk, Map, MayCell, Cell}
-use Rattle.bpf_verify.specs.abs_value.declared.state.AbsState.{AbsState}
-use Rattle.bpf_verify.specs.abs_value.Numbers.{single, up_to, least, most}
-use Rattle.bpf_verify.specs.abs_value.Values.{is_unusable, copied_value}
-use Rattle.bpf_verify.specs.abs_value.Lookups.{called_registers, called}
-use Rattle.bpf_verify.specs.abs_value.States.{register_at, value_at, value_of, with_value}
-use Rattle.bpf_verify.specs.bpf_rules.Rules.{first_rule}
+use Rattle.bpf_insn.specs.declared.insn.Insn.TheVariants.{Mov, Exit, Wide}
+use Rattle.bpf_insn.specs.declared.operand.Bits.TheVariants.{Bits64}
+use Rattle.bpf_insn.specs.declared.operand.Operand.TheVariants.{Imm, Register}
+use Rattle.bpf_insn.specs.declared.operand.WideValue.TheVariants.{Number as WideNumber}
+use Rattle.bpf_insn.specs.declared.reg.Reg.{Reg}
+use Rattle.bpf_insn.specs.Program.{Program}
+use Rattle.bpf_insn.specs.Table.{number_of}
+use Rattle.cells.specs.Arrays.{AppShape}
+use Rattle.abs_value.specs.declared.number.Number.{Number}
+use Rattle.abs_value.specs.declared.value.Abs.{Abs}
+use Rattle.abs_value.specs.declared.value.Abs.TheVariants.{Unusable, Num, Ctx}
+use Rattle.abs_value.specs.declared.value.Abs.TheVariants.{Stk, Map, MayCell, Cell}
+use Rattle.abs_value.specs.declared.state.AbsState.{AbsState}
+use Rattle.abs_value.specs.Numbers.{single, up_to, least, most}
+use Rattle.abs_value.specs.Values.{is_unusable, copied_value}
+use Rattle.abs_value.specs.Lookups.{called_registers, called}
+use Rattle.abs_value.specs.States.{register_at, value_at, value_of, with_value}
+use Rattle.bpf_rules.specs.Rules.{first_rule}
 use Rattle.bpf_verify.specs.Table.{Known, IsWider, Knows}
 use Rattle.rule_compile.specs.Instructions as insn
 use Rattle.rule_compile.proofs.Typed.{IsStep, Leads, entry_at}

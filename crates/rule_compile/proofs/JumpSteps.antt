@@ -2,26 +2,26 @@
 use Rattle.std.proofs.Common.{◌≡◌, ℕ, ◌≤◌, ℤ, pos, List, Option, Some, None}
 use Rattle.std.proofs.Common.{Bool, true, false, refl, sym, subst, arith}
 use Rattle.std.specs.Prelude.{option_map}
-use Rattle.bpf_verify.specs.bpf_rules.bpf_insn.declared.insn.Insn.TheVariants.{JumpIf}
-use Rattle.bpf_verify.specs.bpf_rules.bpf_insn.declared.operand.Bits.TheVariants.{Bits32, Bits64}
-use Rattle.bpf_verify.specs.bpf_rules.bpf_insn.declared.operand.Condition.{Condition}
-use Rattle.bpf_verify.specs.bpf_rules.bpf_insn.declared.operand.Operand.TheVariants.{Imm, Register}
-use Rattle.bpf_verify.specs.bpf_rules.bpf_insn.declared.reg.Reg.{Reg}
-use Rattle.bpf_verify.specs.bpf_rules.bpf_insn.declared.reg.Reg.TheVariants.{R2, R4}
-use Rattle.bpf_verify.specs.bpf_rules.bpf_insn.Program.{Program}
-use Rattle.bpf_verify.specs.bpf_rules.bpf_insn.Table.{number_of}
-use Rattle.bpf_verify.specs.bpf_rules.bpf_insn.Words.{immediate}
-use Rattle.bpf_verify.specs.bpf_rules.cells.Arrays.{AppShape}
-use Rattle.bpf_verify.specs.abs_value.declared.number.Number.{Number}
-use Rattle.bpf_verify.specs.abs_value.declared.value.Abs.{Abs}
-use Rattle.bpf_verify.specs.abs_value.declared.value.Abs.TheVariants.{Num}
-use Rattle.bpf_verify.specs.abs_value.declared.state.AbsState.{AbsState}
-use Rattle.bpf_verify.specs.abs_value.Numbers.{single, most}
-use Rattle.bpf_verify.specs.abs_value.Narrowing.{NumberPair, narrowed}
-use Rattle.bpf_verify.specs.abs_value.Values.{numbers}
-use Rattle.bpf_verify.specs.abs_value.Lookups.{compares_with_zero, with_both, refined_state}
-use Rattle.bpf_verify.specs.abs_value.States.{register_at, value_at, value_of, with_value}
-use Rattle.bpf_verify.specs.bpf_rules.Rules.{first_rule}
+use Rattle.bpf_insn.specs.declared.insn.Insn.TheVariants.{JumpIf}
+use Rattle.bpf_insn.specs.declared.operand.Bits.TheVariants.{Bits32, Bits64}
+use Rattle.bpf_insn.specs.declared.operand.Condition.{Condition}
+use Rattle.bpf_insn.specs.declared.operand.Operand.TheVariants.{Imm, Register}
+use Rattle.bpf_insn.specs.declared.reg.Reg.{Reg}
+use Rattle.bpf_insn.specs.declared.reg.Reg.TheVariants.{R2, R4}
+use Rattle.bpf_insn.specs.Program.{Program}
+use Rattle.bpf_insn.specs.Table.{number_of}
+use Rattle.bpf_insn.specs.Words.{immediate}
+use Rattle.cells.specs.Arrays.{AppShape}
+use Rattle.abs_value.specs.declared.number.Number.{Number}
+use Rattle.abs_value.specs.declared.value.Abs.{Abs}
+use Rattle.abs_value.specs.declared.value.Abs.TheVariants.{Num}
+use Rattle.abs_value.specs.declared.state.AbsState.{AbsState}
+use Rattle.abs_value.specs.Numbers.{single, most}
+use Rattle.abs_value.specs.Narrowing.{NumberPair, narrowed}
+use Rattle.abs_value.specs.Values.{numbers}
+use Rattle.abs_value.specs.Lookups.{compares_with_zero, with_both, refined_state}
+use Rattle.abs_value.specs.States.{register_at, value_at, value_of, with_value}
+use Rattle.bpf_rules.specs.Rules.{first_rule}
 use Rattle.bpf_verify.specs.Table.{Known, IsWider, Knows}
 use Rattle.rule_compile.specs.Instructions as insn
 use Rattle.rule_compile.proofs.Typed.{IsStep}

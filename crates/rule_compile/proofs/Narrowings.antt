@@ -4,28 +4,27 @@ use Rattle.std.proofs.Common.{◌≡◌, ℕ, ◌≤◌, Option, Some, None}
 use Rattle.std.proofs.Common.{Bool, true, false, refl, subst, arith, inl, inr}
 use Rattle.std.specs.Prelude.{◌==◌, ◌||◌, nat_le, nat_lt, option_map, if◌then◌else◌, bit_and}
 use Rattle.std.proofs.lemmas.Bool.{cases_Bool, or_parts}
-use Rattle.bpf_verify.specs.bpf_rules.bpf_insn.declared.operand.Bits.{Bits}
-use Rattle.bpf_verify.specs.bpf_rules.bpf_insn.declared.operand.Condition.{Condition}
-use Rattle.bpf_verify.specs.bpf_rules.bpf_insn.Conditions.{holds}
-use Rattle.bpf_verify.specs.abs_value.declared.interval.Interval.{Interval}
-use Rattle.bpf_verify.specs.abs_value.declared.known_bits.KnownBits.{KnownBits}
-use Rattle.bpf_verify.specs.abs_value.declared.number.Number.{Number}
-use Rattle.bpf_verify.specs.abs_value.declared.places.Places.{Places}
-use Rattle.bpf_verify.specs.abs_value.declared.relation.Relation.{Relation}
-use Rattle.bpf_verify.specs.abs_value.declared.relation.Relation.TheVariants.{Equal, Unequal, Less}
-use Rattle.bpf_verify.specs.abs_value.declared.relation.Relation.TheVariants.{AtMost, More, AtLeast}
-use Rattle.bpf_verify.specs.abs_value.declared.relation.Relation.TheVariants.{Meets, Misses}
-use Rattle.bpf_verify.specs.abs_value.declared.value.Abs.{Abs}
-use Rattle.bpf_verify.specs.abs_value.declared.value.Abs.TheVariants.{Num, Ctx}
-use Rattle.bpf_verify.specs.abs_value.declared.state.AbsState.{AbsState}
-use Rattle.bpf_verify.specs.abs_value.Known.{combined}
-use Rattle.bpf_verify.specs.abs_value.Numbers.{least, most, is_single}
-use Rattle.bpf_verify.specs.abs_value.Numbers.{are_single, tidy, is_empty, tidied}
-use Rattle.bpf_verify.specs.abs_value.Narrowing.{IntervalPair, NumberPair, learnt, below, at_most}
-use Rattle.bpf_verify.specs.abs_value.Narrowing.{overlap, apart_from, swapped, kept, kept_in, equal}
-use Rattle.bpf_verify.specs.abs_value.Narrowing.{kept_with, with_one_of, without_bits, meeting}
-use Rattle.bpf_verify.specs.abs_value.Narrowing.{left_by, is_comparable, is_taken, narrowed}
-use Rattle.bpf_verify.specs.abs_value.States.{register_at, value_at}
+use Rattle.bpf_insn.specs.declared.operand.Bits.{Bits}
+use Rattle.bpf_insn.specs.declared.operand.Condition.{Condition}
+use Rattle.bpf_insn.specs.Conditions.{holds}
+use Rattle.abs_value.specs.declared.interval.Interval.{Interval}
+use Rattle.abs_value.specs.declared.known_bits.KnownBits.{KnownBits}
+use Rattle.abs_value.specs.declared.number.Number.{Number}
+use Rattle.abs_value.specs.declared.places.Places.{Places}
+use Rattle.abs_value.specs.declared.relation.Relation.{Relation}
+use Rattle.abs_value.specs.declared.relation.Relation.TheVariants.{Equal, Unequal, Less}
+use Rattle.abs_value.specs.declared.relation.Relation.TheVariants.{AtMost, More, AtLeast}
+use Rattle.abs_value.specs.declared.relation.Relation.TheVariants.{Meets, Misses}
+use Rattle.abs_value.specs.declared.value.Abs.{Abs}
+use Rattle.abs_value.specs.declared.value.Abs.TheVariants.{Num, Ctx}
+use Rattle.abs_value.specs.declared.state.AbsState.{AbsState}
+use Rattle.abs_value.specs.Known.{combined}
+use Rattle.abs_value.specs.Numbers.{least, most, is_single, are_single, tidy, is_empty, tidied}
+use Rattle.abs_value.specs.Narrowing.{IntervalPair, NumberPair, learnt, below, at_most}
+use Rattle.abs_value.specs.Narrowing.{overlap, apart_from, swapped, kept, kept_in, equal}
+use Rattle.abs_value.specs.Narrowing.{kept_with, with_one_of, without_bits, meeting}
+use Rattle.abs_value.specs.Narrowing.{left_by, is_comparable, is_taken, narrowed}
+use Rattle.abs_value.specs.States.{register_at, value_at}
 use Rattle.bpf_verify.specs.Table.{Known, LiesIn, IsWider, Knows}
 
 -- ---- what is known of a register

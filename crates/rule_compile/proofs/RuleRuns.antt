@@ -5,15 +5,15 @@ use Rattle.std.proofs.Common.{Bool, true, false, refl, sym, ap, subst, arith}
 use Rattle.std.specs.Prelude.{option_and_then, if◌then◌else◌}
 use Rattle.std.specs.List.{list_all}
 use Rattle.attrs.specs.Attributes.{Attributes}
-use Rattle.bpf_verify.specs.bpf_rules.bpf_insn.Program.{Program, at}
-use Rattle.bpf_verify.specs.bpf_semantics.Program.{ShapedProgram, shaped}
-use Rattle.bpf_verify.specs.bpf_semantics.State.{State, opening, with_register}
-use Rattle.bpf_verify.specs.bpf_semantics.Memory.{context_start}
-use Rattle.bpf_verify.specs.bpf_semantics.Run.{Ends, more}
-use Rattle.bpf_verify.specs.bpf_semantics.Outcome.{Going}
-use Rattle.bpf_verify.specs.bpf_semantics.Step.{step, act_at}
-use Rattle.bpf_verify.specs.bpf_rules.cells.Arrays.{AppShape, IsShape}
-use Rattle.bpf_verify.specs.bpf_rules.cells.declared.event.CellEvent.{CellEvent}
+use Rattle.bpf_insn.specs.Program.{Program, at}
+use Rattle.bpf_semantics.specs.Program.{ShapedProgram, shaped}
+use Rattle.bpf_semantics.specs.State.{State, opening, with_register}
+use Rattle.bpf_semantics.specs.Memory.{context_start}
+use Rattle.bpf_semantics.specs.Run.{Ends, more}
+use Rattle.bpf_semantics.specs.Outcome.{Going}
+use Rattle.bpf_semantics.specs.Step.{step, act_at}
+use Rattle.cells.specs.Arrays.{AppShape, IsShape}
+use Rattle.cells.specs.declared.event.CellEvent.{CellEvent}
 use Rattle.rule_lang.specs.declared.condition.Step.{Step}
 use Rattle.rule_lang.specs.declared.condition.Step.TheVariants as step
 use Rattle.rule_lang.specs.declared.rule.Statement.{Statement}

@@ -7,25 +7,25 @@ use Rattle.std.specs.Prelude.{if◌then◌else◌}
 use Rattle.std.specs.Int.{w32, cast_unsigned}
 use Rattle.std.proofs.lemmas.Int.{of_z-to_z}
 use Rattle.attrs.specs.Attributes.{Attributes}
-use Rattle.bpf_verify.specs.bpf_rules.cells.declared.event.CellOp.{CellOp}
-use Rattle.bpf_verify.specs.bpf_rules.cells.declared.event.CellEvent.{CellEvent}
-use Rattle.bpf_verify.specs.bpf_rules.bpf_insn.declared.insn.Insn.{Insn}
-use Rattle.bpf_verify.specs.bpf_rules.bpf_insn.declared.insn.Insn.TheVariants.{Exit}
-use Rattle.bpf_verify.specs.bpf_rules.bpf_insn.declared.reg.Reg.{Reg}
-use Rattle.bpf_verify.specs.bpf_rules.bpf_insn.declared.reg.Reg.TheVariants.{R0, R2}
-use Rattle.bpf_verify.specs.bpf_rules.bpf_insn.declared.operand.Bits.TheVariants.{Bits32}
-use Rattle.bpf_verify.specs.bpf_rules.bpf_insn.declared.operand.Condition.{Condition}
-use Rattle.bpf_verify.specs.bpf_rules.bpf_insn.declared.operand.LoadKind.{LoadKind}
-use Rattle.bpf_verify.specs.bpf_rules.bpf_insn.Table.{number_of}
-use Rattle.bpf_verify.specs.bpf_rules.bpf_insn.Conditions.{compares, holds}
-use Rattle.bpf_verify.specs.bpf_rules.bpf_insn.Program.{Program, ◌>>=◌}
-use Rattle.bpf_verify.specs.bpf_semantics.Memory.{context_start, stack_top}
-use Rattle.bpf_verify.specs.bpf_semantics.Program.{ShapedProgram}
-use Rattle.bpf_verify.specs.bpf_semantics.State.{State, with_register}
-use Rattle.bpf_verify.specs.bpf_semantics.Reads.{both}
-use Rattle.bpf_verify.specs.bpf_semantics.Outcome.{Going, Asks, write, branch, finish}
-use Rattle.bpf_verify.specs.bpf_semantics.Step.{step, act, act_at, load}
-use Rattle.bpf_verify.specs.bpf_semantics.Run.{Ends, last, more, asked}
+use Rattle.cells.specs.declared.event.CellOp.{CellOp}
+use Rattle.cells.specs.declared.event.CellEvent.{CellEvent}
+use Rattle.bpf_insn.specs.declared.insn.Insn.{Insn}
+use Rattle.bpf_insn.specs.declared.insn.Insn.TheVariants.{Exit}
+use Rattle.bpf_insn.specs.declared.reg.Reg.{Reg}
+use Rattle.bpf_insn.specs.declared.reg.Reg.TheVariants.{R0, R2}
+use Rattle.bpf_insn.specs.declared.operand.Bits.TheVariants.{Bits32}
+use Rattle.bpf_insn.specs.declared.operand.Condition.{Condition}
+use Rattle.bpf_insn.specs.declared.operand.LoadKind.{LoadKind}
+use Rattle.bpf_insn.specs.Table.{number_of}
+use Rattle.bpf_insn.specs.Conditions.{compares, holds}
+use Rattle.bpf_insn.specs.Program.{Program, ◌>>=◌}
+use Rattle.bpf_semantics.specs.Memory.{context_start, stack_top}
+use Rattle.bpf_semantics.specs.Program.{ShapedProgram}
+use Rattle.bpf_semantics.specs.State.{State, with_register}
+use Rattle.bpf_semantics.specs.Reads.{both}
+use Rattle.bpf_semantics.specs.Outcome.{Going, Asks, write, branch, finish}
+use Rattle.bpf_semantics.specs.Step.{step, act, act_at, load}
+use Rattle.bpf_semantics.specs.Run.{Ends, last, more, asked}
 use Rattle.rule_lang.specs.Meaning.{Behaviour, Chooses, HasTrace}
 use Rattle.rule_lang.specs.Meaning as does
 use Rattle.rule_compile.specs.Instructions as insn

@@ -6,9 +6,9 @@ use Rattle.std.specs.Int.{bit_at}
 use Rattle.std.proofs.lemmas.Bool.{cases_lt, cases_eq, le-leb, lt-ltb}
 use Rattle.std.proofs.lemmas.List.{get_or-set_same, get_or-set_other}
 use Rattle.std.proofs.lemmas.Nat.Bits.{bit_at_or, bit_at-lt, bit_at_mask_inside}
-use Rattle.bpf_verify.specs.abs_value.declared.slot.AbsSlot.{AbsSlot}
-use Rattle.bpf_verify.specs.abs_value.declared.slot.AbsSlot.TheVariants.{Bytes}
-use Rattle.bpf_verify.specs.abs_value.Stack.{mask_of, slot_at, is_set, first_bits, with_set}
+use Rattle.abs_value.specs.declared.slot.AbsSlot.{AbsSlot}
+use Rattle.abs_value.specs.declared.slot.AbsSlot.TheVariants.{Bytes}
+use Rattle.abs_value.specs.Stack.{mask_of, slot_at, is_set, first_bits, with_set}
 use Rattle.bpf_verify.specs.Table.{Known}
 
 -- ---- the bytes that a store sets

@@ -6,20 +6,20 @@ use Rattle.std.proofs.Common.{refl, sym, ap, ◌∙◌, arith, inl, inr}
 use Rattle.std.specs.Prelude.{◌==◌, nat_le, nat_lt, min, unsigned_abs}
 use Rattle.std.proofs.lemmas.Bool.{cases_Bool, le-leb}
 use Rattle.std.proofs.lemmas.Int.{ints}
-use Rattle.bpf_verify.specs.bpf_rules.bpf_insn.declared.reg.Reg.TheVariants.{R2}
-use Rattle.bpf_verify.specs.bpf_rules.bpf_insn.Program.{Program}
-use Rattle.bpf_verify.specs.bpf_rules.cells.Arrays.{AppShape}
-use Rattle.bpf_verify.specs.abs_value.declared.number.Number.{Number}
-use Rattle.bpf_verify.specs.abs_value.declared.slot.AbsSlot.{AbsSlot}
-use Rattle.bpf_verify.specs.abs_value.declared.value.Abs.TheVariants.{Num, Stk}
-use Rattle.bpf_verify.specs.abs_value.declared.state.AbsState.{AbsState}
-use Rattle.bpf_verify.specs.abs_value.Numbers.{single, up_to, least, most}
-use Rattle.bpf_verify.specs.abs_value.Stack.{is_set, is_unset, has_unset}
-use Rattle.bpf_verify.specs.abs_value.Lookups.{called}
-use Rattle.bpf_verify.specs.abs_value.States.{register_at, value_at}
-use Rattle.bpf_verify.specs.bpf_rules.Memory.{lies_in, stack_place}
-use Rattle.bpf_verify.specs.bpf_rules.Rules.{first_rule}
-use Rattle.bpf_verify.specs.bpf_rules.Transfer.{after}
+use Rattle.bpf_insn.specs.declared.reg.Reg.TheVariants.{R2}
+use Rattle.bpf_insn.specs.Program.{Program}
+use Rattle.cells.specs.Arrays.{AppShape}
+use Rattle.abs_value.specs.declared.number.Number.{Number}
+use Rattle.abs_value.specs.declared.slot.AbsSlot.{AbsSlot}
+use Rattle.abs_value.specs.declared.value.Abs.TheVariants.{Num, Stk}
+use Rattle.abs_value.specs.declared.state.AbsState.{AbsState}
+use Rattle.abs_value.specs.Numbers.{single, up_to, least, most}
+use Rattle.abs_value.specs.Stack.{is_set, is_unset, has_unset}
+use Rattle.abs_value.specs.Lookups.{called}
+use Rattle.abs_value.specs.States.{register_at, value_at}
+use Rattle.bpf_rules.specs.Memory.{lies_in, stack_place}
+use Rattle.bpf_rules.specs.Rules.{first_rule}
+use Rattle.bpf_rules.specs.Transfer.{after}
 use Rattle.bpf_verify.specs.Table.{Known, Knows}
 use Rattle.rule_compile.specs.Instructions as insn
 use Rattle.rule_compile.proofs.Typed.{IsStep}

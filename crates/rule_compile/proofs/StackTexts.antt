@@ -11,16 +11,16 @@ use Prim.Native.Nat.{compare}
 use Rattle.std.proofs.lemmas.Bool.{le-leb, lt-leb, lt-ltb}
 use Rattle.std.proofs.Math.Nat.{pow-succ', div-div-eq-div-mul}
 use Rattle.attrs.specs.Attributes.{Attributes}
-use Rattle.bpf_verify.specs.bpf_rules.bpf_insn.declared.operand.Size.TheVariants as size
-use Rattle.bpf_verify.specs.bpf_rules.bpf_insn.Words.{little_endian}
-use Rattle.bpf_verify.specs.bpf_rules.bpf_insn.Program.{Program}
-use Rattle.bpf_verify.specs.bpf_semantics.Memory.{address_of, cell_start, stack_top}
-use Rattle.bpf_verify.specs.bpf_semantics.Memory.{stack_start, cell_at, is_in_stack, set_bytes}
-use Rattle.bpf_verify.specs.bpf_semantics.Program.{ShapedProgram}
-use Rattle.bpf_verify.specs.bpf_semantics.State.{State, with_bytes, written_at}
-use Rattle.bpf_verify.specs.bpf_semantics.Step.{store}
-use Rattle.bpf_verify.specs.bpf_semantics.Outcome.{Going, moved}
-use Rattle.bpf_verify.specs.bpf_semantics.Counters.{reach, store_asks}
+use Rattle.bpf_insn.specs.declared.operand.Size.TheVariants as size
+use Rattle.bpf_insn.specs.Words.{little_endian}
+use Rattle.bpf_insn.specs.Program.{Program}
+use Rattle.bpf_semantics.specs.Memory.{address_of, cell_start, stack_top}
+use Rattle.bpf_semantics.specs.Memory.{stack_start, cell_at, is_in_stack, set_bytes}
+use Rattle.bpf_semantics.specs.Program.{ShapedProgram}
+use Rattle.bpf_semantics.specs.State.{State, with_bytes, written_at}
+use Rattle.bpf_semantics.specs.Step.{store}
+use Rattle.bpf_semantics.specs.Outcome.{Going, moved}
+use Rattle.bpf_semantics.specs.Counters.{reach, store_asks}
 use Rattle.rule_lang.specs.Meaning.{Behaviour}
 use Rattle.rule_compile.specs.Instructions as insn
 use Rattle.rule_compile.specs.Blocks as code

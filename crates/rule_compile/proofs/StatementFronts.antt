@@ -3,14 +3,14 @@ use Rattle.std.proofs.Common.{◌≡◌, ℕ, zero, suc, ◌≤◌, List, [], �
 use Rattle.std.proofs.Common.{Option, Some, true, refl, sym, subst, arith}
 use Rattle.std.specs.Prelude.{nat_le}
 use Rattle.std.specs.List.{list_all, AllByRecursion}
-use Rattle.bpf_verify.specs.bpf_rules.bpf_insn.declared.insn.Insn.TheVariants.{Exit}
-use Rattle.bpf_verify.specs.bpf_rules.bpf_insn.declared.reg.Reg.TheVariants.{R0, R1, R6, R7}
-use Rattle.bpf_verify.specs.bpf_rules.bpf_insn.Program.{Program}
-use Rattle.bpf_verify.specs.flow_check.Flow.{IsFlow}
-use Rattle.bpf_verify.specs.bpf_rules.cells.Arrays.{AppShape, IsShape}
-use Rattle.bpf_verify.specs.abs_value.declared.value.Abs.TheVariants.{Unusable, Ctx, Stk}
-use Rattle.bpf_verify.specs.abs_value.Values.{places}
-use Rattle.bpf_verify.specs.abs_value.States.{register_at, value_at, opening_state}
+use Rattle.bpf_insn.specs.declared.insn.Insn.TheVariants.{Exit}
+use Rattle.bpf_insn.specs.declared.reg.Reg.TheVariants.{R0, R1, R6, R7}
+use Rattle.bpf_insn.specs.Program.{Program}
+use Rattle.flow_check.specs.Flow.{IsFlow}
+use Rattle.cells.specs.Arrays.{AppShape, IsShape}
+use Rattle.abs_value.specs.declared.value.Abs.TheVariants.{Unusable, Ctx, Stk}
+use Rattle.abs_value.specs.Values.{places}
+use Rattle.abs_value.specs.States.{register_at, value_at, opening_state}
 use Rattle.bpf_verify.specs.Table.{Known, IsWider, Knows, IsTable}
 use Rattle.rule_lang.specs.declared.rule.Statement.{Statement}
 use Rattle.rule_lang.specs.declared.rule.Statement.TheVariants.{Count, When}

@@ -7,13 +7,13 @@ use Rattle.std.specs.List.{list_all}
 use Rattle.std.specs.Ordering.{nat_cmp}
 use Rattle.attrs.specs.Attributes.{Attributes}
 use Rattle.attrs.specs.Helpers.{attribute, is_text}
-use Rattle.bpf_verify.specs.bpf_rules.bpf_insn.declared.operand.Condition.TheVariants as jump
-use Rattle.bpf_verify.specs.bpf_rules.bpf_insn.declared.operand.LoadKind.{LoadKind}
-use Rattle.bpf_verify.specs.bpf_rules.bpf_insn.declared.operand.LoadKind.TheVariants.{Word}
-use Rattle.bpf_verify.specs.bpf_rules.bpf_insn.Conditions.{compares}
-use Rattle.bpf_verify.specs.bpf_rules.bpf_insn.Program.{Program}
-use Rattle.bpf_verify.specs.bpf_semantics.Program.{ShapedProgram}
-use Rattle.bpf_verify.specs.bpf_rules.cells.Arrays.{IsShape}
+use Rattle.bpf_insn.specs.declared.operand.Condition.TheVariants as jump
+use Rattle.bpf_insn.specs.declared.operand.LoadKind.{LoadKind}
+use Rattle.bpf_insn.specs.declared.operand.LoadKind.TheVariants.{Word}
+use Rattle.bpf_insn.specs.Conditions.{compares}
+use Rattle.bpf_insn.specs.Program.{Program}
+use Rattle.bpf_semantics.specs.Program.{ShapedProgram}
+use Rattle.cells.specs.Arrays.{IsShape}
 use Rattle.rule_lang.specs.declared.test.Flag as the_flag
 use Rattle.rule_lang.specs.declared.test.Flag.TheVariants.{VersionKnown, Updatecheck, Ping}
 use Rattle.rule_lang.specs.declared.test.Flag.TheVariants.{Event, CohortKnown, InstalldateKnown}

@@ -6,15 +6,15 @@ use Rattle.std.specs.Int.{w32}
 use Rattle.std.proofs.lemmas.Bool.{le-leb}
 use Rattle.attrs.specs.Attributes.{Attributes}
 use Rattle.attrs.specs.Helpers.{attribute, is_text, attr_is}
-use Rattle.bpf_verify.specs.bpf_rules.bpf_insn.Program.{Program, ◌>>=◌}
-use Rattle.bpf_verify.specs.bpf_semantics.Memory.{stack_top, stack_start, set_bytes}
-use Rattle.bpf_verify.specs.bpf_semantics.Program.{ShapedProgram}
-use Rattle.bpf_verify.specs.bpf_semantics.State.{State, with_register, with_result, stack_bytes}
-use Rattle.bpf_verify.specs.bpf_semantics.Outcome.{write, answer}
-use Rattle.bpf_verify.specs.bpf_semantics.Calls.{compared}
-use Rattle.bpf_verify.specs.bpf_rules.bpf_insn.declared.reg.Reg.TheVariants.{R0, R1, R2, R3}
-use Rattle.bpf_verify.specs.bpf_rules.bpf_insn.declared.operand.Condition.TheVariants.{Ne}
-use Rattle.bpf_verify.specs.bpf_rules.bpf_insn.Conditions.{compares}
+use Rattle.bpf_insn.specs.Program.{Program, ◌>>=◌}
+use Rattle.bpf_semantics.specs.Memory.{stack_top, stack_start, set_bytes}
+use Rattle.bpf_semantics.specs.Program.{ShapedProgram}
+use Rattle.bpf_semantics.specs.State.{State, with_register, with_result, stack_bytes}
+use Rattle.bpf_semantics.specs.Outcome.{write, answer}
+use Rattle.bpf_semantics.specs.Calls.{compared}
+use Rattle.bpf_insn.specs.declared.reg.Reg.TheVariants.{R0, R1, R2, R3}
+use Rattle.bpf_insn.specs.declared.operand.Condition.TheVariants.{Ne}
+use Rattle.bpf_insn.specs.Conditions.{compares}
 use Rattle.rule_lang.specs.Meaning.{Behaviour}
 use Rattle.rule_compile.specs.Instructions as insn
 use Rattle.rule_compile.specs.Blocks as code

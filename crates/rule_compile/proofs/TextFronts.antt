@@ -2,19 +2,19 @@
 use Rattle.std.proofs.Common.{◌≡◌, ℕ, ◌+◌, ◌-◌, ◌%◌, ◌<◌, ◌≤◌, ◌^◌}
 use Rattle.std.proofs.Common.{List, [], ◌∷◌, length, Some, None, Bool, false, refl, subst, arith}
 use Rattle.std.specs.Prelude.{slice_get}
-use Rattle.bpf_verify.specs.bpf_rules.bpf_insn.declared.insn.Insn.{Insn}
-use Rattle.bpf_verify.specs.bpf_rules.bpf_insn.declared.operand.AtomicSize.{AtomicSize}
-use Rattle.bpf_verify.specs.bpf_rules.bpf_insn.declared.operand.Condition.TheVariants as jump
-use Rattle.bpf_verify.specs.bpf_rules.bpf_insn.declared.reg.Reg.TheVariants.{R0, R1, R2, R3, R4, R10}
-use Rattle.bpf_verify.specs.bpf_rules.bpf_insn.Program.{Program}
-use Rattle.bpf_verify.specs.bpf_rules.bpf_insn.Words.{little_endian}
-use Rattle.bpf_verify.specs.bpf_rules.cells.declared.array.CellArray.{CellArray}
-use Rattle.bpf_verify.specs.bpf_rules.cells.Arrays.{AppShape}
-use Rattle.bpf_verify.specs.abs_value.declared.origin.Origin.TheVariants.{Fixed}
-use Rattle.bpf_verify.specs.abs_value.declared.value.Abs.{Abs}
-use Rattle.bpf_verify.specs.abs_value.declared.value.Abs.TheVariants.{Unusable, Num, Stk, Cell}
-use Rattle.bpf_verify.specs.abs_value.Numbers.{single}
-use Rattle.bpf_verify.specs.bpf_rules.Arrays.{has_quota}
+use Rattle.bpf_insn.specs.declared.insn.Insn.{Insn}
+use Rattle.bpf_insn.specs.declared.operand.AtomicSize.{AtomicSize}
+use Rattle.bpf_insn.specs.declared.operand.Condition.TheVariants as jump
+use Rattle.bpf_insn.specs.declared.reg.Reg.TheVariants.{R0, R1, R2, R3, R4, R10}
+use Rattle.bpf_insn.specs.Program.{Program}
+use Rattle.bpf_insn.specs.Words.{little_endian}
+use Rattle.cells.specs.declared.array.CellArray.{CellArray}
+use Rattle.cells.specs.Arrays.{AppShape}
+use Rattle.abs_value.specs.declared.origin.Origin.TheVariants.{Fixed}
+use Rattle.abs_value.specs.declared.value.Abs.{Abs}
+use Rattle.abs_value.specs.declared.value.Abs.TheVariants.{Unusable, Num, Stk, Cell}
+use Rattle.abs_value.specs.Numbers.{single}
+use Rattle.bpf_rules.specs.Arrays.{has_quota}
 use Rattle.bpf_verify.specs.Table.{Known}
 use Rattle.rule_compile.specs.Instructions as insn
 use Rattle.rule_compile.specs.Blocks as code

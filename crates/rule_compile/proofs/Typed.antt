@@ -5,19 +5,19 @@ use Rattle.std.proofs.Common.{◌≡◌, ℕ, zero, suc, ◌+◌, pos, List, [],
 use Rattle.std.proofs.Common.{None, Bool, true, false, refl, sym, ap, subst, ◌∙◌, arith, zero-add}
 use Rattle.std.specs.Prelude.{IsSome, slice_index_or, slice_get, if◌then◌else◌}
 use Rattle.std.specs.List.{AllByRecursion}
-use Rattle.bpf_verify.specs.bpf_rules.bpf_insn.declared.insn.Insn.{Insn}
-use Rattle.bpf_verify.specs.bpf_rules.bpf_insn.declared.insn.Width.{Width}
-use Rattle.bpf_verify.specs.bpf_rules.bpf_insn.declared.insn.Width.TheVariants.{One, Two}
-use Rattle.bpf_verify.specs.bpf_rules.bpf_insn.declared.operand.Distance.{Distance}
-use Rattle.bpf_verify.specs.bpf_rules.bpf_insn.Spelling.{width_of, slots_of}
-use Rattle.bpf_verify.specs.bpf_rules.bpf_insn.Program.{Program, ◌>>=◌, at, landing, slots_moved}
-use Rattle.bpf_verify.specs.flow_check.Edges.{jump_of, target_of, goes_on, next_of}
-use Rattle.bpf_verify.specs.bpf_rules.cells.Arrays.{AppShape}
-use Rattle.bpf_verify.specs.abs_value.declared.state.AbsState.{AbsState}
-use Rattle.bpf_verify.specs.abs_value.States.{opening_state}
-use Rattle.bpf_verify.specs.bpf_rules.Rules.{first_rule}
-use Rattle.bpf_verify.specs.bpf_rules.Transfer.{Edge, edge, edges, jumping, going_on}
-use Rattle.bpf_verify.specs.bpf_rules.Transfer.{jump_edge, next_edge, next_target}
+use Rattle.bpf_insn.specs.declared.insn.Insn.{Insn}
+use Rattle.bpf_insn.specs.declared.insn.Width.{Width}
+use Rattle.bpf_insn.specs.declared.insn.Width.TheVariants.{One, Two}
+use Rattle.bpf_insn.specs.declared.operand.Distance.{Distance}
+use Rattle.bpf_insn.specs.Spelling.{width_of, slots_of}
+use Rattle.bpf_insn.specs.Program.{Program, ◌>>=◌, at, landing, slots_moved}
+use Rattle.flow_check.specs.Edges.{jump_of, target_of, goes_on, next_of}
+use Rattle.cells.specs.Arrays.{AppShape}
+use Rattle.abs_value.specs.declared.state.AbsState.{AbsState}
+use Rattle.abs_value.specs.States.{opening_state}
+use Rattle.bpf_rules.specs.Rules.{first_rule}
+use Rattle.bpf_rules.specs.Transfer.{Edge, edge, edges, jumping, going_on}
+use Rattle.bpf_rules.specs.Transfer.{jump_edge, next_edge, next_target}
 use Rattle.bpf_verify.specs.Table.{Known, Knows, IsTable}
 
 -- past the list nothing is known

@@ -4,13 +4,13 @@ use Rattle.std.proofs.Common.{Bool, true, false, sym, subst, arith}
 use Rattle.std.specs.Prelude.{if◌then◌else◌}
 use Rattle.std.specs.Int.{w32}
 use Rattle.attrs.specs.Attributes.{Attributes}
-use Rattle.bpf_verify.specs.bpf_rules.bpf_insn.declared.reg.Reg.TheVariants.{R2}
-use Rattle.bpf_verify.specs.bpf_rules.bpf_insn.declared.operand.Condition.{Condition}
-use Rattle.bpf_verify.specs.bpf_rules.bpf_insn.declared.operand.Condition.TheVariants.{Eq, Ne}
-use Rattle.bpf_verify.specs.bpf_rules.bpf_insn.declared.operand.LoadKind.TheVariants.{Word}
-use Rattle.bpf_verify.specs.bpf_rules.bpf_insn.Conditions.{compares}
-use Rattle.bpf_verify.specs.bpf_rules.bpf_insn.Program.{Program}
-use Rattle.bpf_verify.specs.bpf_semantics.Program.{ShapedProgram}
+use Rattle.bpf_insn.specs.declared.reg.Reg.TheVariants.{R2}
+use Rattle.bpf_insn.specs.declared.operand.Condition.{Condition}
+use Rattle.bpf_insn.specs.declared.operand.Condition.TheVariants.{Eq, Ne}
+use Rattle.bpf_insn.specs.declared.operand.LoadKind.TheVariants.{Word}
+use Rattle.bpf_insn.specs.Conditions.{compares}
+use Rattle.bpf_insn.specs.Program.{Program}
+use Rattle.bpf_semantics.specs.Program.{ShapedProgram}
 use Rattle.rule_lang.specs.Meaning.{Behaviour}
 use Rattle.rule_compile.specs.Instructions as insn
 use Rattle.rule_compile.specs.Blocks as code

@@ -2,26 +2,22 @@
 -- both over calls; R1 to R4 and R0 are of one test.
 use Rattle.std.specs.Prelude.{ℕ, ◌*◌, ℤ, pos, negsuc, Bool, true, false}
 use Rattle.std.specs.Int.{w32, cast_signed}
-use Rattle.bpf_verify.specs.bpf_rules.bpf_insn.declared.reg.Reg.{Reg}
-use Rattle.bpf_verify.specs.bpf_rules.bpf_insn.declared.reg.Reg.TheVariants.{R0, R1, R2, R3}
-use Rattle.bpf_verify.specs.bpf_rules.bpf_insn.declared.reg.Reg.TheVariants.{R4, R6, R7, R10}
-use Rattle.bpf_verify.specs.bpf_rules.bpf_insn.declared.operand.AluOp.TheVariants.{And, Add, Mod}
-use Rattle.bpf_verify.specs.bpf_rules.bpf_insn.declared.operand.AtomicOp.TheVariants as atomic
-use Rattle.bpf_verify.specs.bpf_rules.bpf_insn.declared.operand.AtomicSize.{AtomicSize}
-use Rattle.bpf_verify.specs.bpf_rules.bpf_insn.declared.operand.AtomicSize.TheVariants.{Double}
-use Rattle.bpf_verify.specs.bpf_rules.bpf_insn.declared.operand.Bits.TheVariants.{Bits32, Bits64}
-use Rattle.bpf_verify.specs.bpf_rules.bpf_insn.declared.operand.Condition.{Condition}
-use Rattle.bpf_verify.specs.bpf_rules.bpf_insn.declared.operand.Condition.TheVariants.{Eq, Ne, Lt}
-use Rattle.bpf_verify.specs.bpf_rules.bpf_insn.declared.operand.Condition.TheVariants.{Le, Gt, Ge}
-use Rattle.bpf_verify.specs.bpf_rules.bpf_insn.declared.operand.LoadKind.{LoadKind}
-use Rattle.bpf_verify.specs.bpf_rules.bpf_insn.declared.operand.Operand.TheVariants.{Imm, Register}
-use Rattle.bpf_verify.specs.bpf_rules.bpf_insn.declared.operand.Size.TheVariants as size
-use Rattle.bpf_verify.specs.bpf_rules.bpf_insn.declared.operand.WideValue.TheVariants.{Number, Cell}
-use Rattle.bpf_verify.specs.bpf_rules.bpf_insn.declared.insn.Insn.{Insn}
-use Rattle.bpf_verify.specs.bpf_rules.bpf_insn.declared.insn.Insn.TheVariants.{Alu, Mov}
-use Rattle.bpf_verify.specs.bpf_rules.bpf_insn.declared.insn.Insn.TheVariants.{JumpIf, Call}
-use Rattle.bpf_verify.specs.bpf_rules.bpf_insn.declared.insn.Insn.TheVariants.{Load, StoreImm}
-use Rattle.bpf_verify.specs.bpf_rules.bpf_insn.declared.insn.Insn.TheVariants.{Atomic, Wide}
+use Rattle.bpf_insn.specs.declared.reg.Reg.{Reg}
+use Rattle.bpf_insn.specs.declared.reg.Reg.TheVariants.{R0, R1, R2, R3, R4, R6, R7, R10}
+use Rattle.bpf_insn.specs.declared.operand.AluOp.TheVariants.{And, Add, Mod}
+use Rattle.bpf_insn.specs.declared.operand.AtomicOp.TheVariants as atomic
+use Rattle.bpf_insn.specs.declared.operand.AtomicSize.{AtomicSize}
+use Rattle.bpf_insn.specs.declared.operand.AtomicSize.TheVariants.{Double}
+use Rattle.bpf_insn.specs.declared.operand.Bits.TheVariants.{Bits32, Bits64}
+use Rattle.bpf_insn.specs.declared.operand.Condition.{Condition}
+use Rattle.bpf_insn.specs.declared.operand.Condition.TheVariants.{Eq, Ne, Lt, Le, Gt, Ge}
+use Rattle.bpf_insn.specs.declared.operand.LoadKind.{LoadKind}
+use Rattle.bpf_insn.specs.declared.operand.Operand.TheVariants.{Imm, Register}
+use Rattle.bpf_insn.specs.declared.operand.Size.TheVariants as size
+use Rattle.bpf_insn.specs.declared.operand.WideValue.TheVariants.{Number, Cell}
+use Rattle.bpf_insn.specs.declared.insn.Insn.{Insn}
+use Rattle.bpf_insn.specs.declared.insn.Insn.TheVariants.{Alu, Mov, Atomic, Wide, Load, StoreImm}
+use Rattle.bpf_insn.specs.declared.insn.Insn.TheVariants.{JumpIf, Call}
 
 -- ---- the frame of a rule
 

@@ -2,10 +2,10 @@
 use Rattle.std.specs.Prelude.{ℕ, List}
 use Rattle.attrs.specs.Attributes.{Attributes}
 use Rattle.attrs.specs.Context.{HasContextRanges}
-use Rattle.bpf_verify.specs.bpf_semantics.Program.{ShapedProgram}
-use Rattle.bpf_verify.specs.bpf_semantics.Run.{Ends}
-use Rattle.bpf_verify.specs.bpf_semantics.State.{opening}
-use Rattle.bpf_verify.specs.bpf_rules.cells.declared.event.CellEvent.{CellEvent}
+use Rattle.bpf_semantics.specs.Program.{ShapedProgram}
+use Rattle.bpf_semantics.specs.Run.{Ends}
+use Rattle.bpf_semantics.specs.State.{opening}
+use Rattle.cells.specs.declared.event.CellEvent.{CellEvent}
 use Rattle.rule_lang.specs.declared.rule.Statement.{Statement}
 use Rattle.rule_lang.specs.Meaning.{behaviour, HasTrace}
 

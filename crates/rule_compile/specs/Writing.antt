@@ -1,10 +1,10 @@
 -- How far the writing of a condition has come.
 use Rattle.std.specs.Prelude.{◌≡◌, ℕ, ◌+◌, ◌*◌, ◌≤◌, List, [], length, take, drop, All}
 use Rattle.std.specs.Prelude.{Option, Some, None, true}
-use Rattle.bpf_verify.specs.bpf_rules.bpf_insn.declared.insn.Insn.{Insn}
-use Rattle.bpf_verify.specs.bpf_rules.bpf_insn.Program.{Program}
-use Rattle.bpf_verify.specs.bpf_rules.bpf_insn.Spelling.{IsEncodable}
-use Rattle.bpf_verify.specs.bpf_rules.cells.Arrays.{AppShape}
+use Rattle.bpf_insn.specs.declared.insn.Insn.{Insn}
+use Rattle.bpf_insn.specs.Program.{Program}
+use Rattle.bpf_insn.specs.Spelling.{IsEncodable}
+use Rattle.cells.specs.Arrays.{AppShape}
 use Rattle.rule_lang.specs.declared.condition.Step.{Step}
 use Rattle.rule_lang.specs.Cost.{tests_in}
 use Rattle.rule_lang.specs.Trees.{Tree, trees_from}

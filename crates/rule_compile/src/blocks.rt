@@ -11,8 +11,8 @@ use crate::code::Code;
 use crate::fault::CompileFault;
 use crate::instructions as insn;
 use attrs::Context;
-use bpf_verify::bpf_rules::bpf_insn::{AtomicSize, Condition, LoadKind, Reg};
-use bpf_verify::bpf_semantics::helpers::BUCKET;
+use bpf_insn::{AtomicSize, Condition, LoadKind, Reg};
+use bpf_semantics::helpers::BUCKET;
 
 /// One of two labels.
 pub fn label_if(sense: bool, there: usize, here: usize) -> usize

@@ -3,9 +3,9 @@
 ghost use Rattle.std.specs.Prelude.{◌≡◌, IfOk, OnOk};
 ghost use Rattle.std.specs.List.{AllByRecursion};
 ghost use Rattle.rule_compile.specs.Writing.{CanEncode};
-ghost use Rattle.bpf_verify.specs.flow_check.Flow as flow;
+ghost use Rattle.flow_check.specs.Flow as flow;
 
-use bpf_verify::bpf_rules::bpf_insn::{Insn, encode};
+use bpf_insn::{Insn, encode};
 use std::alloc::{AllocError, Global};
 
 /// The bytes of the slots of a program (RFC 9669, "Instruction Encoding").

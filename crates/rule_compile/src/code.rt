@@ -3,7 +3,7 @@
 ghost use Rattle.std.specs.Prelude.{◌≡◌, ◌<◌, ◌≤◌, ◌+◌, ◌-◌, [], ◌∷◌, Some, None, length, OnOk};
 
 use crate::fault::CompileFault;
-use bpf_verify::bpf_rules::bpf_insn::Insn;
+use bpf_insn::Insn;
 use std::alloc::Global;
 use std::marker::Model;
 
@@ -17,7 +17,7 @@ pub struct Code {
 
 impl Model for Code {
     ghost use Rattle.std.specs.Prelude.{◌≤◌, length, reverse};
-    ghost use Rattle.bpf_verify.specs.bpf_rules.bpf_insn.Program.{Program};
+    ghost use Rattle.bpf_insn.specs.Program.{Program};
 
     ghost Value = { Program };
 

@@ -11,7 +11,7 @@ use crate::code::Code;
 use crate::fault::CompileFault;
 use crate::goals::{Goal, Goals};
 use crate::test::put_test;
-use bpf_verify::bpf_rules::cells::Shape;
+use cells::Shape;
 use rule_lang::{RuleCondition, Step};
 
 /// The goals of the two conditions of a chain: the first one leaves the chain where it is of this

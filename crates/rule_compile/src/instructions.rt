@@ -3,7 +3,7 @@
 ghost use Rattle.std.specs.Prelude.{◌≡◌, ◌<◌, ◌≤◌, ◌^◌};
 ghost use Rattle.rule_compile.specs.Instructions as insn;
 
-use bpf_verify::bpf_rules::bpf_insn::{
+use bpf_insn::{
     AluOp, AtomicOp, AtomicSize, Bits, Condition, Insn, LoadKind, Operand, Reg, Size, WideValue,
 };
 

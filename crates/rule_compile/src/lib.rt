@@ -31,8 +31,3 @@ mod versions;
 
 pub use fault::CompileFault;
 pub use rule::compile;
-
-// The words of the contracts here come with them.
-pub use bpf_verify;
-pub use bpf_verify::flow_check;
-pub use rule_lang;

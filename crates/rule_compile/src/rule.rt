@@ -3,7 +3,7 @@
 ghost use Rattle.std.specs.Prelude.{◌≡◌, ◌<◌, length, IfOk, true};
 ghost use Rattle.std.specs.List.{AllByRecursion};
 ghost use Rattle.attrs.specs.Attributes.{Attributes};
-ghost use Rattle.bpf_verify.specs.flow_check.Flow.{IsFlow};
+ghost use Rattle.flow_check.specs.Flow.{IsFlow};
 ghost use Rattle.rule_lang.specs.Fits.{fits};
 ghost use Rattle.rule_lang.specs.Cost.{cost};
 ghost use Rattle.rule_compile.specs.Code as code;
@@ -13,10 +13,10 @@ ghost use Rattle.rule_compile.specs.Writing.{CanEncode};
 use crate::bytes::program_bytes;
 use crate::fault::CompileFault;
 use crate::statements::emit;
-use bpf_verify::bpf_rules::bpf_insn::Insn;
-use bpf_verify::bpf_rules::cells::Shape;
-use bpf_verify::flow_check::Flow;
+use bpf_insn::Insn;
 use bpf_verify::{Verified, table_is_enough};
+use cells::Shape;
+use flow_check::Flow;
 use rule_lang::Rule;
 use std::alloc::{AllocError, Global};
 

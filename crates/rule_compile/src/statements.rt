@@ -15,8 +15,8 @@ use crate::fault::CompileFault;
 use crate::goals::Goals;
 use crate::instructions as insn;
 use crate::test::{array_number, place_named};
-use bpf_verify::bpf_rules::bpf_insn::{AtomicSize, Insn};
-use bpf_verify::bpf_rules::cells::{CellArray, CellWidth, Shape};
+use bpf_insn::{AtomicSize, Insn};
+use cells::{CellArray, CellWidth, Shape};
 use rule_lang::{RuleCondition, Statement, Step};
 use std::alloc::Global;
 

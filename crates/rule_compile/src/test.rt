@@ -15,8 +15,8 @@ use crate::instructions::turned;
 use crate::texts::put_attribute;
 use crate::versions::{put_equal, put_order};
 use attrs::Context;
-use bpf_verify::bpf_rules::bpf_insn::{Condition, LoadKind};
-use bpf_verify::bpf_rules::cells::{CellArray, Shape};
+use bpf_insn::{Condition, LoadKind};
+use cells::{CellArray, Shape};
 use rule_lang::{Attribute, Comparison, Flag, Test};
 
 /// Where the days begin in the context.

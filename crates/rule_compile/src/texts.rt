@@ -2,15 +2,15 @@
 //! of the stack, four bytes at a time, and a helper compares.
 
 ghost use Rattle.std.specs.Prelude.{◌≡◌, ◌<◌, ◌≤◌, ◌+◌, ◌-◌, [], ◌∷◌, length, OnOk};
-ghost use Rattle.bpf_verify.specs.bpf_rules.bpf_insn.Words.{little_endian};
+ghost use Rattle.bpf_insn.specs.Words.{little_endian};
 ghost use Rattle.rule_compile.specs.Blocks as code;
 
 use crate::blocks::put_jump;
 use crate::code::Code;
 use crate::fault::CompileFault;
 use crate::instructions as insn;
-use bpf_verify::bpf_rules::bpf_insn::{Condition, Reg};
-use bpf_verify::bpf_semantics::helpers::ATTR_IS;
+use bpf_insn::{Condition, Reg};
+use bpf_semantics::helpers::ATTR_IS;
 
 /// The last byte of the first word, below the top of the stack: this many bytes are above it.
 const FIRST: u8 = 63;

@@ -7,7 +7,7 @@ use crate::blocks::{label_if, put_field, put_jump};
 use crate::code::Code;
 use crate::fault::CompileFault;
 use crate::instructions::turned;
-use bpf_verify::bpf_rules::bpf_insn::{Condition, LoadKind, Reg};
+use bpf_insn::{Condition, LoadKind, Reg};
 
 /// The k-th word of the version against a number.
 fn put_word(

@@ -29,7 +29,3 @@ mod trial;
 pub use place::line_text;
 pub use sentence::array_named;
 pub use telling::tell_rule_fault;
-
-// The words of the contracts here come with them.
-pub use cells;
-pub use rule_lang;

@@ -3,8 +3,8 @@
 use crate::given::{halves, must};
 use crate::told::program;
 use bpf_insn::Insn;
-use bpf_machine::bpf_verify::Verified;
-use bpf_machine::flow_check::jump_target;
+use bpf_verify::Verified;
+use flow_check::jump_target;
 use std::alloc::Global;
 use std::test::Fail;
 

@@ -4,10 +4,10 @@
 use crate::given::{must, shape};
 use attrs::Attrs;
 use bpf_machine::Run;
-use bpf_machine::bpf_verify::Verified;
+use bpf_verify::Verified;
 use cells::{PlainCells, PlainPass, Shape};
-use rule_compile::rule_lang::{Rule, RuleFault, parse};
 use rule_compile::{CompileFault, compile};
+use rule_lang::{Rule, RuleFault, parse};
 use std::alloc::{AllocError, Global};
 use std::sync::Arc;
 use std::test::Fail;

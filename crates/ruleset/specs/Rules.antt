@@ -3,9 +3,9 @@ use Rattle.std.specs.Prelude.{◌≡◌, ℕ, ◌<◌, List, [], length, map, sl
 use Rattle.std.specs.Prelude.{Option, IsTrue}
 use Rattle.std.specs.List.{find, position}
 use Rattle.std.specs.Str.{bytes_eq}
-use Rattle.releases.specs.attrs.Attributes.{Attributes, AreShort}
-use Rattle.bpf_verify.specs.bpf_semantics.State.{opening}
-use Rattle.bpf_verify.specs.bpf_semantics.Program.{ShapedProgram}
+use Rattle.attrs.specs.Attributes.{Attributes, AreShort}
+use Rattle.bpf_semantics.specs.State.{opening}
+use Rattle.bpf_semantics.specs.Program.{ShapedProgram}
 use Rattle.bpf_verify.specs.Covers.{EndsWell}
 use Rattle.releases.specs.Appid.{is_appid}
 use Rattle.releases.specs.Release.{Release}

@@ -10,7 +10,3 @@ mod twice;
 pub use app::App;
 pub use ruleset::{Ruleset, RulesetFault};
 pub use telling::tell_apps;
-
-// The words of the contracts here come with them.
-pub use bpf_verify;
-pub use bpf_verify::flow_check;

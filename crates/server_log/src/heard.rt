@@ -3,7 +3,7 @@
 ghost use Rattle.std.specs.Prelude.{◌≡◌, [], None};
 
 use memchr::memchr;
-use operator::operator_request::OperatorRequest;
+use operator_request::OperatorRequest;
 use std::alloc::Global;
 use std::io::{self, ErrorKind, Read, Write};
 use std::net::IpAddr;

@@ -33,8 +33,3 @@ pub use log_output::LogOutput;
 pub use log_queue::{LogPiece, LogQueue};
 pub use log_thread::{LogEnd, note_at_once, start_log};
 pub use seen::Seen;
-
-// The words of the calls here come with them.
-pub use access_log;
-pub use answering;
-pub use operator;

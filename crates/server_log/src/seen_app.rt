@@ -2,8 +2,8 @@
 
 use crate::kept_texts::{KeptTexts, TextPlace};
 use access_log::{AskedApp, Excerpt, Outcome};
-use answering::omaha_json::{FoundApp, release_at};
 use attrs::{AppFacts, Bucket, Text, cohort_bucket, named_or_hashed};
+use omaha_json::{FoundApp, release_at};
 use std::alloc::AllocError;
 
 /// An app.

@@ -8,17 +8,16 @@ use crate::logged::{logging_to, take};
 use crate::loopback::{reply, sent};
 use crate::replies::TWO_APPS;
 use crate::shelf::publisher_of;
+use server_log::LogQueue;
 use std::alloc::Global;
 use std::io::{self, ErrorKind};
 use std::net::{Net, SocketAddr, TcpListener, TcpStream};
 use std::sync::Wait;
 use std::sync::atomic::AtomicBool;
 use std::test::Fail;
-use std::thread;
-use std::thread::Threads;
+use std::thread::{self, Threads};
 use std::time::{Clock, Duration};
 use workers::Open;
-use workers::server_log::LogQueue;
 
 /// A runtime whose clock tells nothing.
 #[derive(Drop)]

@@ -8,15 +8,15 @@ use crate::exchange::{MOMENT, times};
 use crate::loopback::{reply, sent};
 use crate::shelf::publisher_of;
 use crossbeam_channel::Receiver;
+use server_log::{LogPiece, LogQueue};
 use std::alloc::{AllocError, Global};
 use std::net::{Net, Shutdown, SocketAddr, TcpListener, TcpStream};
 use std::sync::Wait;
 use std::sync::atomic::AtomicBool;
 use std::test::Fail;
-use std::thread::Threads;
+use std::thread::{self, Threads};
 use std::time::{Clock, Duration};
-use std::{io, str, thread};
-use workers::server_log::{LogPiece, LogQueue};
+use std::{io, str};
 use workers::{Open, Service};
 
 /// A runtime at one moment.

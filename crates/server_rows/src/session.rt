@@ -4,7 +4,7 @@ use crate::exchange::{post, times};
 use crate::loopback::told;
 use crate::whole_server::{Work, wrong};
 use operator::ask;
-use operator::operator_request::OperatorRequest;
+use operator_request::OperatorRequest;
 use std::io;
 use std::net::{Net, SocketAddr, TcpListener, TcpStream};
 use std::test::Fail;

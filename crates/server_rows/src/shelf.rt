@@ -2,16 +2,16 @@
 
 ghost use Rattle.std.specs.Prelude.{◌≡◌};
 
+use acceptance::accept;
 use attrs::Text;
 use bpf_text::assemble;
+use bpf_verify::Verified;
 use cells::{Directory, Shape};
 use declarations::{declare_all, read_spec};
 use hot_swap::Publisher;
-use hot_swap::bpf_verify::Verified;
-use hot_swap::ruleset::{App, Ruleset};
-use load::acceptance::accept;
 use operator::Loader;
 use releases::{Package, Release};
+use ruleset::{App, Ruleset};
 use std::alloc::{AllocError, Global};
 use std::sync::{Arc, Wait};
 

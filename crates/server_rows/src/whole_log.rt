@@ -2,11 +2,11 @@
 
 use crate::logged::{logging_to, take};
 use crate::whole_server::{Work, wrong_by};
+use access_log::LogEvent;
 use crossbeam_channel::Receiver;
+use server_log::{LogPiece, LogQueue};
 use std::sync::Wait;
 use std::test::Fail;
-use workers::server_log::access_log::LogEvent;
-use workers::server_log::{LogPiece, LogQueue};
 
 /// What a line tells behind its time: its kind, and what follows.
 fn told_of(line: &str) -> &str {

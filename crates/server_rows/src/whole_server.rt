@@ -8,15 +8,14 @@ use crate::shelf::{Shelf, ruleset};
 use crate::staffed::is_given_up;
 use crate::stops::wrong_at_end;
 use crate::swaps_under_load::{are_whole, is_shared};
+use bounded_files::ResourceFault;
 use cells::Directory;
-use operator::bounded_files::ResourceFault;
 use serving::{ServingFault, staff};
 use std::io::Write;
 use std::net::{Net, SocketAddr, TcpListener, TcpStream};
 use std::sync::Wait;
 use std::test::Fail;
-use std::thread;
-use std::thread::Threads;
+use std::thread::{self, Threads};
 use std::time::{Clock, Duration};
 use workers::{Ports, Service};
 

@@ -6,17 +6,16 @@ use Rattle.std.proofs.lemmas.List.Elements.{All-nil, All-cons, All-rest, All-get
 use Rattle.std.proofs.lemmas.List.Elements.{All-push, All-weaker}
 use mathlib.Core.List.{IsPrefix}
 use Rattle.atomic_table.specs.Seated.{TableId}
-use Rattle.workers.specs.one_world.cells.Grown.{Grows}
-use Rattle.workers.specs.one_world.cells.declared.event.CellEvent.{CellEvent}
+use Rattle.cells.specs.Grown.{Grows}
+use Rattle.cells.specs.declared.event.CellEvent.{CellEvent}
 use Rattle.shared_cells.specs.Passes.{CellsView, PassView, IsPassOf, IsNewPass, Gained}
 use Rattle.shared_cells.specs.Passes.{PassesGainLists, AreLeftBy, lists_of}
 use Rattle.shared_cells.specs.Quotas.{QuotasAreExact}
 use Rattle.workers.specs.Back.{OperatorBack, WorkerBack}
-use Rattle.workers.specs.one_world.InTurn.{AreOfRuns, NoneAreOfRuns, OfRunsStay}
-use Rattle.workers.specs.one_world.Passes.{AreLoads, PassesAreOneWorld}
-use Rattle.workers.specs.operator.hot_swap.Published.{Beginning, GoesOnwards, HasLast, IsLatest}
-use Rattle.workers.specs.operator.hot_swap.Published.{ShorterBegins}
-use Rattle.workers.specs.operator.hot_swap.rulesets.Rules.{Rules, IsRuleset}
+use Rattle.one_world.specs.InTurn.{AreOfRuns, NoneAreOfRuns, OfRunsStay}
+use Rattle.one_world.specs.Passes.{AreLoads, PassesAreOneWorld}
+use Rattle.hot_swap.specs.Published.{Beginning, GoesOnwards, HasLast, IsLatest, ShorterBegins}
+use Rattle.ruleset.specs.Rules.{Rules, IsRuleset}
 use Rattle.serving.specs.Ended.{AreLeftByOneWorld, HasLooked, HasRun, HasServed}
 use Rattle.serving.specs.Staff.{IsNewWorker}
 

@@ -4,7 +4,7 @@ use Rattle.std.proofs.lemmas.List.{length_push}
 use Rattle.std.proofs.lemmas.List.Elements.{All-same, All-push, All-pop}
 use Rattle.atomic_table.specs.Seated.{TableId}
 use Rattle.shared_cells.specs.Passes.{CellsView, PassView, IsNewPass}
-use Rattle.workers.specs.operator.hot_swap.Published.{Beginning}
+use Rattle.hot_swap.specs.Published.{Beginning}
 use Rattle.serving.specs.Staff.{IsNewWorker, IsStaff}
 
 pub one_less : {A B : Type 0} (old rest : List A) (a : A) (xs more : List B) (b : B)

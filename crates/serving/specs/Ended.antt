@@ -4,10 +4,10 @@ use mathlib.Core.List.{IsPrefix}
 use Rattle.atomic_table.specs.Seated.{TableId}
 use Rattle.shared_cells.specs.Passes.{CellsView, PassView, IsPassOf, AreLeftBy}
 use Rattle.shared_cells.specs.Quotas.{QuotasAreExact}
-use Rattle.workers.specs.one_world.InTurn.{AreOfRuns}
-use Rattle.workers.specs.one_world.Passes.{AreLoads, DidOneWorld}
-use Rattle.workers.specs.operator.hot_swap.Published.{Beginning}
-use Rattle.workers.specs.operator.hot_swap.rulesets.Rules.{Rules}
+use Rattle.one_world.specs.InTurn.{AreOfRuns}
+use Rattle.one_world.specs.Passes.{AreLoads, DidOneWorld}
+use Rattle.hot_swap.specs.Published.{Beginning}
+use Rattle.ruleset.specs.Rules.{Rules}
 
 -- The values are those after one legal history of all passes to these cells, in which the events of
 -- each pass are those that it made. The first pass, the operator's, only looked, and each other one

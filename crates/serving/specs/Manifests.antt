@@ -1,9 +1,9 @@
 -- Why a server isn't ready.
 use Rattle.std.specs.Prelude.{ℕ, List, []}
-use Rattle.workers.specs.one_world.cells.declared.array.CellArray.{CellArray}
-use Rattle.load.specs.bounded_files.Files.{KnownFiles}
+use Rattle.cells.specs.declared.array.CellArray.{CellArray}
+use Rattle.bounded_files.specs.Files.{KnownFiles}
 use Rattle.load.specs.Loaded.{IsLoadedFrom, RefusesPath}
-use Rattle.load.specs.rulesets.Rules.{Rules}
+use Rattle.ruleset.specs.Rules.{Rules}
 use Rattle.serving.specs.declared.fault.ServingFault.{ServingFault}
 use Rattle.serving.specs.declared.fault.ServingFault.TheVariants as serving
 

@@ -2,7 +2,7 @@
 use Rattle.std.specs.Prelude.{◌≡◌, ◌+◌, List, All, length}
 use Rattle.atomic_table.specs.Seated.{TableId}
 use Rattle.shared_cells.specs.Passes.{CellsView, PassView, IsNewPass}
-use Rattle.workers.specs.operator.hot_swap.Published.{Beginning}
+use Rattle.hot_swap.specs.Published.{Beginning}
 
 -- a worker before it has served: it has a pass to the cells of this table, which has made no event,
 -- and watches the publisher that has installed this

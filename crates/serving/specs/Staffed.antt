@@ -1,8 +1,8 @@
 -- Why a server that is ready has no workers, and why one that has served gives no counters.
 use Rattle.std.specs.Prelude.{◌≡◌}
-use Rattle.workers.specs.operator.bounded_files.declared.fault.ResourceFault.TheVariants as resource
+use Rattle.bounded_files.specs.declared.fault.ResourceFault.TheVariants as resource
 use Rattle.shared_cells.specs.declared.fault.SharedFault.TheVariants as shared
-use Rattle.workers.specs.operator.hot_swap.declared.fault.SwapFault.TheVariants as swap
+use Rattle.hot_swap.specs.declared.fault.SwapFault.TheVariants as swap
 use Rattle.serving.specs.declared.fault.ServingFault.{ServingFault}
 use Rattle.serving.specs.declared.fault.ServingFault.TheVariants as serving
 

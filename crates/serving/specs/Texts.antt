@@ -1,8 +1,8 @@
 -- The texts of a server's faults, as they are printed.
 use Rattle.std.specs.Prelude.{ℕ, List, Option, Some, None, codes}
 use Rattle.shared_cells.specs.Texts.{shared_text}
-use Rattle.workers.specs.operator.bounded_files.Texts.{resource_text}
-use Rattle.workers.specs.operator.hot_swap.Texts.{swap_text}
+use Rattle.bounded_files.specs.Texts.{resource_text}
+use Rattle.hot_swap.specs.Texts.{swap_text}
 use Rattle.serving.specs.declared.fault.ServingFault.{ServingFault}
 use Rattle.serving.specs.declared.fault.ServingFault.TheVariants as serving
 

@@ -6,12 +6,10 @@ ghost use mathlib.Core.List.{IsPrefix};
 ghost use Rattle.workers.specs.Back.{IsPublished};
 ghost use Rattle.serving.specs.Ended.{AreLeftByOneWorld, HasLooked, HasServed};
 
+use hot_swap::{Generation, Notice, SwapFault, Watcher, generations_go_onwards};
+use one_world::{runs_add_up, threads_are_one_world};
 use shared_cells::{Closed, SharedCells, SharedPass, passes_gain_lists};
 use workers::Returned;
-use workers::one_world::{runs_add_up, threads_are_one_world};
-use workers::server_log::operator::hot_swap::{
-    Generation, Notice, SwapFault, Watcher, generations_go_onwards,
-};
 
 /// Closes the cells by all passes to them, for which there is room, once what was published is more
 /// than any worker has seen. H2 where a worker can't be asked what it has seen.

@@ -2,12 +2,12 @@
 
 ghost use Rattle.serving.specs.Texts.{serving_text};
 
+use bounded_files::ResourceFault;
+use hot_swap::SwapFault;
 use load::PathFault;
 use shared_cells::SharedFault;
 use std::error::Error;
 use std::fmt::{self, Display};
-use workers::server_log::operator::bounded_files::ResourceFault;
-use workers::server_log::operator::hot_swap::SwapFault;
 
 /// What is wrong; it is shown as it is printed.
 #[derive(Debug, Drop)]

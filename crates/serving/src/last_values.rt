@@ -1,12 +1,12 @@
 //! What the log tells when a server has ended: that it has, and a line for each counter that isn't
 //! 0. They wait for places in the log's queue, so that none is lost where the log is read in time.
 
+use access_log::{Counter, LogEvent};
+use cells::{CellArray, CellNo};
+use server_log::{LogQueue, seconds_from_now};
 use shared_cells::Closed;
 use std::sync::Wait;
 use std::time::{Clock, Instant};
-use workers::one_world::cells::{CellArray, CellNo};
-use workers::server_log::access_log::{Counter, LogEvent};
-use workers::server_log::{LogQueue, seconds_from_now};
 
 const CELLS: u16 = 8192;
 

@@ -18,7 +18,3 @@ pub use fault::ServingFault;
 pub use manifests::Manifests;
 pub use server::{Server, prepare};
 pub use staffed::{StaffedServer, staff};
-
-// The words of the contracts here come with them.
-pub use workers;
-pub use workers::server_log::operator;

@@ -2,11 +2,11 @@
 
 ghost use Rattle.std.specs.Prelude.{◌≡◌};
 
-use load::ruleset::Ruleset;
+use cells::Directory;
 use load::{Disk, PathFault, load_path};
+use operator::Loader;
+use ruleset::Ruleset;
 use std::alloc::Global;
-use workers::one_world::cells::Directory;
-use workers::server_log::operator::Loader;
 
 /// Loads manifests by their paths. The files that a manifest names lie in its folder.
 #[derive(Drop)]

@@ -8,11 +8,11 @@ ghost use Rattle.serving.specs.Staffed.{IsStaffFault};
 
 use crate::fault::ServingFault;
 use crate::staffed::{StaffedServer, staff};
-use load::ruleset::Ruleset;
+use cells::Directory;
 use load::{Disk, load_path};
+use ruleset::Ruleset;
 use std::net::{Net, TcpListener, TcpStream};
 use std::sync::Wait;
-use workers::one_world::cells::Directory;
 use workers::{Ports, bind};
 
 /// A server whose ruleset is loaded, and both of whose ports listen.

@@ -12,17 +12,17 @@ use crate::ended::close_cells;
 use crate::fault::ServingFault;
 use crate::last_values::note_end;
 use crate::worker_list::worker_list;
-use load::ruleset::Ruleset;
+use bounded_files::ResourceFault;
+use cells::Directory;
+use hot_swap::{Publisher, Watcher};
+use operator::{Control, Loader};
+use ruleset::Ruleset;
 use shared_cells::{Closed, SharedCells, SharedPass, passes_gain_lists};
 use std::io::Write;
 use std::net::{Net, TcpListener, TcpStream};
 use std::sync::{Arc, Wait};
 use std::thread::Threads;
 use std::time::Clock;
-use workers::one_world::cells::Directory;
-use workers::server_log::operator::bounded_files::ResourceFault;
-use workers::server_log::operator::hot_swap::{Publisher, Watcher};
-use workers::server_log::operator::{Control, Loader};
 use workers::{OperatorSeat, Ports, Service, run};
 
 /// A server that has its counters, its publisher and its workers. It is ended by `serve` or by

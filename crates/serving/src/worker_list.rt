@@ -6,10 +6,10 @@ ghost use Rattle.serving.specs.Staff.{IsNewWorker};
 ghost use Rattle.serving.specs.Staffed.{IsStaffFault};
 
 use crate::fault::ServingFault;
+use bounded_files::ResourceFault;
+use hot_swap::{Publisher, Watcher};
 use shared_cells::SharedPass;
 use std::alloc::Global;
-use workers::server_log::operator::bounded_files::ResourceFault;
-use workers::server_log::operator::hot_swap::{Publisher, Watcher};
 
 /// A worker for each of these passes, which watches this publisher; it has a place for each. H1
 /// where a watcher is refused memory, and B4 where the list is.

@@ -7,7 +7,7 @@ use Rattle.std.proofs.lemmas.List.Elements.{All-nil, All-cons, All-append}
 use Rattle.std.proofs.lemmas.Fmt.{decimal_digit}
 use Rattle.std.specs.Fmt.{decimal}
 use Rattle.attrs.specs.Attributes.{Attributes}
-use Rattle.bpf_machine.specs.bpf_semantics.Program.{ShapedProgram}
+use Rattle.bpf_semantics.specs.Program.{ShapedProgram}
 use Rattle.ruleset.specs.Rules.{AppRule}
 use Rattle.simulation.specs.Clients.{IsSameButCohort, IsSameButApp, attributes, clients}
 use Rattle.simulation.specs.Clients.{in_bucket, asking_for}

@@ -4,9 +4,9 @@ use Rattle.attrs.specs.Attributes.{Attributes}
 use Rattle.cells.specs.Events.{AreZeros, IsEvent}
 use Rattle.cells.specs.Grown.{GrewBy}
 use Rattle.cells.specs.declared.event.CellEvent.{CellEvent}
-use Rattle.bpf_machine.specs.bpf_semantics.Program.{ShapedProgram}
-use Rattle.bpf_machine.specs.bpf_semantics.Run.{Ends}
-use Rattle.bpf_machine.specs.bpf_semantics.State.{opening}
+use Rattle.bpf_semantics.specs.Program.{ShapedProgram}
+use Rattle.bpf_semantics.specs.Run.{Ends}
+use Rattle.bpf_semantics.specs.State.{opening}
 use Rattle.ruleset.specs.Rules.{AppRule}
 use Rattle.simulation.specs.Clients.{clients, asking_for}
 use Rattle.simulation.specs.declared.client.Client.{Client}

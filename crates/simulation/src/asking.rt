@@ -8,7 +8,7 @@ ghost use Rattle.simulation.specs.Course.{Chooses, InTurn, bucket_count};
 use crate::choices::Choices;
 use crate::client::Client;
 use bpf_machine::Run;
-use bpf_machine::bpf_verify::Verified;
+use bpf_verify::Verified;
 use cells::{PlainCells, PlainPass};
 use std::alloc::{AllocError, Global};
 use std::sync::Arc;

@@ -16,7 +16,3 @@ pub use choices::Choices;
 pub use client::Client;
 pub use counts::{count_buckets, count_moves};
 pub use course::{Onlooker, simulate};
-
-// The words of the contracts here come with them.
-pub use bpf_machine;
-pub use ruleset;

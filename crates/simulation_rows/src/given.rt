@@ -3,12 +3,12 @@
 
 use attrs::{AppFacts, Attrs, RequestFacts, Text, read_version};
 use bpf_text::assemble;
+use bpf_verify::{Verified, verify};
 use cells::{ArrayNo, CellWidth, Directory, Shape};
-use charts::ruleset::{App, Ruleset};
-use charts::simulation::bpf_machine::bpf_verify::{Verified, verify};
-use charts::simulation::bpf_machine::flow_check::Flow;
-use charts::simulation::{Client, Onlooker};
+use flow_check::Flow;
 use releases::{Package, Release, is_appid};
+use ruleset::{App, Ruleset};
+use simulation::{Client, Onlooker};
 use std::alloc::{AllocError, Global};
 use std::sync::Arc;
 use std::test::Fail;

@@ -1,8 +1,8 @@
 //! Simulations: how many buckets get the release, and how many move when the program changes.
 
 use crate::given::{NobodyLooks, client, rules_of, rules_over};
-use charts::ruleset::Ruleset;
-use charts::simulation::{Choices, count_buckets, count_moves, simulate};
+use ruleset::Ruleset;
+use simulation::{Choices, count_buckets, count_moves, simulate};
 use std::alloc::{AllocError, Global};
 use std::test::Fail;
 

@@ -2,17 +2,17 @@
 -- far it is a run from the first state, told by the text so far and then by its own lines.
 use Rattle.std.proofs.Common.{◌≡◌, ℕ, ◌+◌, ◌<◌, ◌≤◌, List, [], ◌∷◌, ◌++◌, subst, sym}
 use Rattle.std.proofs.Common.{refl, append_assoc, arith, Some, None}
-use Rattle.explaining.specs.cells.Events.{IsEvent}
-use Rattle.explaining.specs.cells.Grown.{GrewBy}
-use Rattle.explaining.specs.cells.declared.event.CellEvent.{CellEvent}
-use Rattle.explaining.specs.bpf_semantics.Laws.{IsNext}
-use Rattle.explaining.specs.bpf_semantics.Outcome.{Going, Done, Trap}
-use Rattle.explaining.specs.bpf_semantics.Program.{ShapedProgram}
-use Rattle.explaining.specs.bpf_semantics.Run.{Ends}
-use Rattle.explaining.specs.bpf_semantics.Run.Ends.{last, more, asked}
-use Rattle.explaining.specs.bpf_semantics.State.{State}
-use Rattle.explaining.specs.bpf_semantics.Step.{step}
-use Rattle.explaining.specs.bpf_verify.Covers.{IsCovered, IsSafeOutcome, StepsAreSafe}
+use Rattle.cells.specs.Events.{IsEvent}
+use Rattle.cells.specs.Grown.{GrewBy}
+use Rattle.cells.specs.declared.event.CellEvent.{CellEvent}
+use Rattle.bpf_semantics.specs.Laws.{IsNext}
+use Rattle.bpf_semantics.specs.Outcome.{Going, Done, Trap}
+use Rattle.bpf_semantics.specs.Program.{ShapedProgram}
+use Rattle.bpf_semantics.specs.Run.{Ends}
+use Rattle.bpf_semantics.specs.Run.Ends.{last, more, asked}
+use Rattle.bpf_semantics.specs.State.{State}
+use Rattle.bpf_semantics.specs.Step.{step}
+use Rattle.bpf_verify.specs.Covers.{IsCovered, IsSafeOutcome, StepsAreSafe}
 use Rattle.reference.specs.Observed.{IsEventStep}
 use Rattle.tracing.specs.Lines.{line_between}
 use Rattle.tracing.specs.Trace.{trace_of, IsTraced}

@@ -3,12 +3,12 @@ use Rattle.std.proofs.Common.{◌≡◌, ℕ, zero, suc, ◌+◌, ◌<◌, List,
 use Rattle.std.proofs.Common.{ap, ◌∙◌, refl, arith, add-one, append_assoc}
 use Rattle.std.proofs.Common.{Option, Some, IsSome}
 use Rattle.std.proofs.lemmas.Bool.{false≢true}
-use Rattle.explaining.specs.bpf_insn.declared.insn.Insn.{Insn}
-use Rattle.explaining.specs.bpf_insn.Program.{Program, at}
-use Rattle.explaining.specs.bpf_semantics.Program.{ShapedProgram, shaped}
-use Rattle.explaining.specs.cells.Arrays.{AppShape}
-use Rattle.explaining.specs.bpf_semantics.State.{State}
-use Rattle.explaining.specs.cells.declared.event.CellEvent.{CellEvent}
+use Rattle.bpf_insn.specs.declared.insn.Insn.{Insn}
+use Rattle.bpf_insn.specs.Program.{Program, at}
+use Rattle.bpf_semantics.specs.Program.{ShapedProgram, shaped}
+use Rattle.cells.specs.Arrays.{AppShape}
+use Rattle.bpf_semantics.specs.State.{State}
+use Rattle.cells.specs.declared.event.CellEvent.{CellEvent}
 use Rattle.tracing.specs.Lines.{step_line, line_between}
 
 next_slot : (p : Program) (s : ℕ) → s < length p → take (suc s) p ≡ take s p ++ at p s ∷ []

@@ -3,22 +3,22 @@
 -- were, as a number.
 use Rattle.std.specs.Prelude.{ℕ, ◌-◌, ℤ, List, [], ◌++◌, codes, Option, Some, None}
 use Rattle.std.specs.Fmt.{decimal}
-use Rattle.explaining.specs.bpf_insn.declared.insn.Insn.{Insn}
-use Rattle.explaining.specs.bpf_insn.declared.insn.Insn.TheVariants.{StoreImm, Store}
-use Rattle.explaining.specs.bpf_insn.declared.reg.Reg.{Reg}
-use Rattle.explaining.specs.bpf_insn.Program.{at, ◌>>=◌}
-use Rattle.explaining.specs.bpf_insn.Table.{number_of}
-use Rattle.explaining.specs.bpf_text.Remarks.{bare_line}
-use Rattle.explaining.specs.bpf_verify.bpf_rules.Reads.{writes}
-use Rattle.explaining.specs.bpf_semantics.Memory.{address_of, stack_top}
-use Rattle.explaining.specs.bpf_semantics.Program.{ShapedProgram}
-use Rattle.explaining.specs.bpf_semantics.Reads.{register, byte_count}
-use Rattle.explaining.specs.bpf_semantics.State.{State, read_at}
+use Rattle.bpf_insn.specs.declared.insn.Insn.{Insn}
+use Rattle.bpf_insn.specs.declared.insn.Insn.TheVariants.{StoreImm, Store}
+use Rattle.bpf_insn.specs.declared.reg.Reg.{Reg}
+use Rattle.bpf_insn.specs.Program.{at, ◌>>=◌}
+use Rattle.bpf_insn.specs.Table.{number_of}
+use Rattle.bpf_text.specs.Remarks.{bare_line}
+use Rattle.bpf_rules.specs.Reads.{writes}
+use Rattle.bpf_semantics.specs.Memory.{address_of, stack_top}
+use Rattle.bpf_semantics.specs.Program.{ShapedProgram}
+use Rattle.bpf_semantics.specs.Reads.{register, byte_count}
+use Rattle.bpf_semantics.specs.State.{State, read_at}
 use Rattle.explaining.specs.Values.{counter_text}
-use Rattle.explaining.specs.cells.Arrays.{AppShape}
-use Rattle.explaining.specs.cells.declared.event.CellEvent.{CellEvent}
-use Rattle.explaining.specs.cells.declared.event.CellOp.{CellOp}
-use Rattle.explaining.specs.cells.declared.event.CellOp.TheVariants as op
+use Rattle.cells.specs.Arrays.{AppShape}
+use Rattle.cells.specs.declared.event.CellEvent.{CellEvent}
+use Rattle.cells.specs.declared.event.CellOp.{CellOp}
+use Rattle.cells.specs.declared.event.CellOp.TheVariants as op
 
 -- ---- counters
 

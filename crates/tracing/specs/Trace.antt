@@ -1,13 +1,13 @@
 -- The trace of a run: a line a step, in their order.
 use Rattle.std.specs.Prelude.{◌≡◌, ℕ, List, ◌++◌, Some, None}
 use Rattle.attrs.specs.Attributes.{Attributes}
-use Rattle.explaining.specs.bpf_semantics.Program.{ShapedProgram}
-use Rattle.explaining.specs.bpf_semantics.Run.{Ends}
-use Rattle.explaining.specs.bpf_semantics.Run.Ends.{last, more, asked}
-use Rattle.explaining.specs.bpf_semantics.State.{State, opening}
-use Rattle.explaining.specs.cells.Events.{AreZeros, IsEvent}
-use Rattle.explaining.specs.cells.Grown.{GrewBy}
-use Rattle.explaining.specs.cells.declared.event.CellEvent.{CellEvent}
+use Rattle.bpf_semantics.specs.Program.{ShapedProgram}
+use Rattle.bpf_semantics.specs.Run.{Ends}
+use Rattle.bpf_semantics.specs.Run.Ends.{last, more, asked}
+use Rattle.bpf_semantics.specs.State.{State, opening}
+use Rattle.cells.specs.Events.{AreZeros, IsEvent}
+use Rattle.cells.specs.Grown.{GrewBy}
+use Rattle.cells.specs.declared.event.CellEvent.{CellEvent}
 use Rattle.tracing.specs.Lines.{line_between}
 
 -- the lines of a run that ends: of each step from the state before it to the one after it, and of

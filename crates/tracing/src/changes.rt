@@ -1,14 +1,14 @@
 //! What an instruction wrote: a register, or bytes of the stack.
 
 ghost use Rattle.std.specs.Prelude.{◌≡◌, ◌++◌, OnOk, codes, string_bytes};
-ghost use Rattle.explaining.specs.bpf_semantics.Reads as reads;
-ghost use Rattle.explaining.specs.bpf_semantics.State.{read_at};
-ghost use Rattle.explaining.specs.bpf_verify.bpf_rules.Reads.{writes};
+ghost use Rattle.bpf_semantics.specs.Reads as reads;
+ghost use Rattle.bpf_semantics.specs.State.{read_at};
+ghost use Rattle.bpf_rules.specs.Reads.{writes};
 ghost use Rattle.reference.specs.Marks.{state_of};
 ghost use Rattle.tracing.specs.Lines as specs;
 
-use explaining::bpf_insn::{Insn, Reg, Size};
-use explaining::bpf_semantics::{STACK_TOP, add_offset, byte_count, fetched};
+use bpf_insn::{Insn, Reg, Size};
+use bpf_semantics::{STACK_TOP, add_offset, byte_count, fetched};
 use reference::Interpreter;
 use std::alloc::AllocError;
 use std::fmt::Write;

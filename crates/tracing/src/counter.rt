@@ -3,7 +3,7 @@
 ghost use Rattle.std.specs.Prelude.{◌≡◌, ◌++◌, OnOk, string_bytes};
 ghost use Rattle.tracing.specs.Lines as specs;
 
-use explaining::cells::{CellEvent, CellOp, Shape};
+use cells::{CellEvent, CellOp, Shape};
 use explaining::push_counter;
 use std::alloc::AllocError;
 use std::fmt::Write;

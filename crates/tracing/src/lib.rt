@@ -12,6 +12,3 @@ mod line;
 mod traced;
 
 pub use traced::{TracedRun, trace};
-
-// The words of the contracts here come with them.
-pub use explaining;

@@ -6,9 +6,9 @@ ghost use Rattle.tracing.specs.Lines as specs;
 
 use crate::changes::{push_stored, push_written};
 use crate::counter::push_event;
-use explaining::bpf_insn::Insn;
-use explaining::bpf_text::push_bare_line;
-use explaining::cells::{CellEvent, Shape};
+use bpf_insn::Insn;
+use bpf_text::push_bare_line;
+use cells::{CellEvent, Shape};
 use reference::Interpreter;
 use std::alloc::AllocError;
 use std::fmt::Write;

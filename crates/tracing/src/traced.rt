@@ -6,10 +6,10 @@ ghost use Rattle.tracing.specs.Trace.{IsTrace};
 
 use crate::line::push_step;
 use attrs::Attrs;
-use explaining::bpf_insn::Insn;
-use explaining::bpf_semantics::counts_instructions;
-use explaining::bpf_verify::Verified;
-use explaining::cells::PlainCells;
+use bpf_insn::Insn;
+use bpf_semantics::counts_instructions;
+use bpf_verify::Verified;
+use cells::PlainCells;
 use reference::{Interpreter, Observed};
 use std::alloc::{AllocError, Global};
 use std::sync::Arc;

@@ -8,19 +8,19 @@ use Rattle.std.specs.Int.{w64, to_le_bytes}
 use Rattle.std.specs.Ordering.{nat_cmp}
 use Rattle.std.specs.declared.cmp.Ordering.TheVariants.{Less, Greater}
 use Rattle.std.proofs.lemmas.Bool.{cases_order, or_left, or_right}
-use Rattle.releases.specs.attrs.Attributes.{Attributes}
-use Rattle.releases.specs.attrs.Bucket.{four_digits}
-use Rattle.releases.specs.attrs.Hash.{fnv1a}
-use Rattle.releases.specs.attrs.Helpers.{attr_is}
-use Rattle.rule_diagnosis.specs.cells.Arrays.{AppShape}
-use Rattle.rule_diagnosis.specs.cells.declared.event.CellEvent.{CellEvent}
-use Rattle.rule_diagnosis.specs.rule_lang.declared.test.Comparison.{Comparison}
-use Rattle.rule_diagnosis.specs.rule_lang.declared.test.Test.{Test}
-use Rattle.rule_diagnosis.specs.rule_lang.declared.test.Test.TheVariants as test
-use Rattle.rule_diagnosis.specs.rule_lang.Meaning.{Behaviour, HasTrace, allows, attribute_number}
-use Rattle.rule_diagnosis.specs.rule_lang.Meaning.{bucket_by, flag_bit}
-use Rattle.rule_diagnosis.specs.rule_lang.Meaning.{remainder, take_then, test_then, version_cmp}
-use Rattle.rule_diagnosis.specs.rule_lang.Shapes.{array_named, cell_of, quota_of}
+use Rattle.attrs.specs.Attributes.{Attributes}
+use Rattle.attrs.specs.Bucket.{four_digits}
+use Rattle.attrs.specs.Hash.{fnv1a}
+use Rattle.attrs.specs.Helpers.{attr_is}
+use Rattle.cells.specs.Arrays.{AppShape}
+use Rattle.cells.specs.declared.event.CellEvent.{CellEvent}
+use Rattle.rule_lang.specs.declared.test.Comparison.{Comparison}
+use Rattle.rule_lang.specs.declared.test.Test.{Test}
+use Rattle.rule_lang.specs.declared.test.Test.TheVariants as test
+use Rattle.rule_lang.specs.Meaning.{Behaviour, HasTrace, allows, attribute_number}
+use Rattle.rule_lang.specs.Meaning.{bucket_by, flag_bit}
+use Rattle.rule_lang.specs.Meaning.{remainder, take_then, test_then, version_cmp}
+use Rattle.rule_lang.specs.Shapes.{array_named, cell_of, quota_of}
 use Rattle.warnings.specs.declared.possible.Possible.{Possible}
 use Rattle.warnings.specs.declared.spot.Spot.{Spot}
 use Rattle.warnings.specs.Possible.{day_possible, decided}

@@ -2,11 +2,11 @@
 use Rattle.std.proofs.Common.{List, [], ◌∷◌, inl, inr, Option, Some, None}
 use Rattle.std.proofs.Common.{false, ◌&&◌, refl, ap, ◌∙◌}
 use Rattle.std.proofs.lemmas.Bool.{and_cases, or_left, or_parts, or_right}
-use Rattle.releases.specs.attrs.Attributes.{Attributes}
-use Rattle.rule_diagnosis.specs.cells.Arrays.{AppShape}
-use Rattle.rule_diagnosis.specs.rule_lang.declared.test.Test.{Test}
-use Rattle.rule_diagnosis.specs.rule_lang.Meaning.{Behaviour, decide, decide_one, test_then}
-use Rattle.rule_diagnosis.specs.rule_lang.Trees.{Tree, Asked, Negated, Both, Either}
+use Rattle.attrs.specs.Attributes.{Attributes}
+use Rattle.cells.specs.Arrays.{AppShape}
+use Rattle.rule_lang.specs.declared.test.Test.{Test}
+use Rattle.rule_lang.specs.Meaning.{Behaviour, decide, decide_one, test_then}
+use Rattle.rule_lang.specs.Trees.{Tree, Asked, Negated, Both, Either}
 use Rattle.warnings.specs.declared.possible.Possible.{Possible}
 use Rattle.warnings.specs.Possible.{both, decided, either, negated, one_possible, tree_possible}
 use Rattle.warnings.proofs.Comes.{Comes}

@@ -8,10 +8,10 @@ use Rattle.std.specs.Ordering.{nat_cmp}
 use Rattle.std.specs.declared.cmp.Ordering.TheVariants.{Less, Equal, Greater}
 use Rattle.std.proofs.lemmas.Bool.{cases_lt, cases_order}
 use Rattle.std.proofs.lemmas.List.Sums.{sum_by-cons}
-use Rattle.releases.specs.attrs.Attributes.{Attributes}
-use Rattle.rule_diagnosis.specs.rule_lang.declared.test.Comparison.TheVariants.{Le, Lt}
-use Rattle.rule_diagnosis.specs.rule_lang.declared.test.Test.TheVariants as test
-use Rattle.rule_diagnosis.specs.rule_lang.Meaning.{allows, bucket_by}
+use Rattle.attrs.specs.Attributes.{Attributes}
+use Rattle.rule_lang.specs.declared.test.Comparison.TheVariants.{Le, Lt}
+use Rattle.rule_lang.specs.declared.test.Test.TheVariants as test
+use Rattle.rule_lang.specs.Meaning.{allows, bucket_by}
 use Rattle.warnings.specs.Asked.{few_percent, is_above_all, is_few, part_words}
 use Rattle.warnings.specs.Asked.{rule_line}
 use Rattle.warnings.specs.Runs.{AlwaysHolds, IsSoOfTest, MayAsk, TestsAreSo, buckets_that}

@@ -4,18 +4,17 @@ use Rattle.std.proofs.Common.{Option, Some, None, false, ◌&&◌, sym, ap, ◌�
 use Rattle.std.proofs.Common.{arith}
 use Rattle.std.specs.Prelude.{nat_le}
 use Rattle.std.proofs.lemmas.Bool.{and_cases, leb-false, or_parts}
-use Rattle.releases.specs.attrs.Attributes.{Attributes}
-use Rattle.rule_diagnosis.specs.cells.Arrays.{AppShape}
-use Rattle.rule_diagnosis.specs.cells.declared.event.CellOp.TheVariants.{Add}
-use Rattle.rule_diagnosis.specs.rule_lang.declared.condition.Step.{Step}
-use Rattle.rule_diagnosis.specs.rule_lang.declared.condition.Step.TheVariants as step
-use Rattle.rule_diagnosis.specs.rule_lang.declared.rule.Statement.{Statement}
-use Rattle.rule_diagnosis.specs.rule_lang.declared.rule.Statement.TheVariants.{Count, When}
-use Rattle.rule_diagnosis.specs.rule_lang.declared.test.Test.{Test}
-use Rattle.rule_diagnosis.specs.rule_lang.Meaning.{Asks, Chooses, behaviour}
-use Rattle.rule_diagnosis.specs.rule_lang.Meaning.{decide_steps}
-use Rattle.rule_diagnosis.specs.rule_lang.Shapes.{array_named, cell_of}
-use Rattle.rule_diagnosis.specs.rule_lang.Trees.{Tree, Asked, Negated, Both, Either, trees_from}
+use Rattle.attrs.specs.Attributes.{Attributes}
+use Rattle.cells.specs.Arrays.{AppShape}
+use Rattle.cells.specs.declared.event.CellOp.TheVariants.{Add}
+use Rattle.rule_lang.specs.declared.condition.Step.{Step}
+use Rattle.rule_lang.specs.declared.condition.Step.TheVariants as step
+use Rattle.rule_lang.specs.declared.rule.Statement.{Statement}
+use Rattle.rule_lang.specs.declared.rule.Statement.TheVariants.{Count, When}
+use Rattle.rule_lang.specs.declared.test.Test.{Test}
+use Rattle.rule_lang.specs.Meaning.{Asks, Chooses, behaviour, decide_steps}
+use Rattle.rule_lang.specs.Shapes.{array_named, cell_of}
+use Rattle.rule_lang.specs.Trees.{Tree, Asked, Negated, Both, Either, trees_from}
 use Rattle.warnings.specs.declared.possible.Possible.{Possible}
 use Rattle.warnings.specs.Course.{goes_past, may_offer}
 use Rattle.warnings.specs.Possible.{steps_possible}

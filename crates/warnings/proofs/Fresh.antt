@@ -6,21 +6,21 @@ use Rattle.std.specs.Prelude.{nat_lt, bit_and}
 use Rattle.std.specs.Ordering.{nat_cmp}
 use Rattle.std.proofs.lemmas.List.Elements.{All-cons, All-nil}
 use Rattle.std.proofs.lemmas.Bool.{and_parts, cases_Bool}
-use Rattle.releases.specs.attrs.Attributes.{Attributes}
-use Rattle.releases.specs.attrs.Helpers.{attr_is}
-use Rattle.rule_diagnosis.specs.cells.Arrays.{AppShape}
-use Rattle.rule_diagnosis.specs.cells.declared.event.CellEvent.{CellEvent}
-use Rattle.rule_diagnosis.specs.cells.declared.event.CellOp.TheVariants.{Add}
-use Rattle.rule_diagnosis.specs.rule_lang.declared.rule.Statement.{Statement}
-use Rattle.rule_diagnosis.specs.rule_lang.declared.rule.Statement.TheVariants.{Count, When}
-use Rattle.rule_diagnosis.specs.rule_lang.declared.test.Test.{Test}
-use Rattle.rule_diagnosis.specs.rule_lang.declared.test.Test.TheVariants as test
-use Rattle.rule_diagnosis.specs.rule_lang.Meaning.{Asks, Behaviour, Chooses, HasTrace, allows}
-use Rattle.rule_diagnosis.specs.rule_lang.Meaning.{attribute_number, behaviour, bucket_by, decide}
-use Rattle.rule_diagnosis.specs.rule_lang.Meaning.{decide_one, flag_bit, remainder, take_then}
-use Rattle.rule_diagnosis.specs.rule_lang.Meaning.{test_then, version_cmp}
-use Rattle.rule_diagnosis.specs.rule_lang.Shapes.{array_named, cell_of, quota_of}
-use Rattle.rule_diagnosis.specs.rule_lang.Trees.{Tree, Asked, Negated, Both, Either, trees_from}
+use Rattle.attrs.specs.Attributes.{Attributes}
+use Rattle.attrs.specs.Helpers.{attr_is}
+use Rattle.cells.specs.Arrays.{AppShape}
+use Rattle.cells.specs.declared.event.CellEvent.{CellEvent}
+use Rattle.cells.specs.declared.event.CellOp.TheVariants.{Add}
+use Rattle.rule_lang.specs.declared.rule.Statement.{Statement}
+use Rattle.rule_lang.specs.declared.rule.Statement.TheVariants.{Count, When}
+use Rattle.rule_lang.specs.declared.test.Test.{Test}
+use Rattle.rule_lang.specs.declared.test.Test.TheVariants as test
+use Rattle.rule_lang.specs.Meaning.{Asks, Behaviour, Chooses, HasTrace, allows}
+use Rattle.rule_lang.specs.Meaning.{attribute_number, behaviour, bucket_by, decide}
+use Rattle.rule_lang.specs.Meaning.{decide_one, flag_bit, remainder, take_then}
+use Rattle.rule_lang.specs.Meaning.{test_then, version_cmp}
+use Rattle.rule_lang.specs.Shapes.{array_named, cell_of, quota_of}
+use Rattle.rule_lang.specs.Trees.{Tree, Asked, Negated, Both, Either, trees_from}
 use Rattle.warnings.specs.declared.possible.Possible.{Possible}
 use Rattle.warnings.specs.Course.{first_offer}
 use Rattle.warnings.specs.Possible.{both, decided, either, holds_of, negated, one_possible}

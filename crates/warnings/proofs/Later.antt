@@ -4,9 +4,9 @@ use Rattle.std.proofs.Common.{None, Bool, true, false, ◌&&◌, ◌||◌, refl,
 use Rattle.std.specs.List.{list_any}
 use Rattle.std.specs.Prelude.{nat_le}
 use Rattle.std.proofs.lemmas.Bool.{leb-false, lt-leb, or_parts}
-use Rattle.releases.specs.attrs.Attributes.{plain}
-use Rattle.rule_diagnosis.specs.rule_lang.declared.rule.Statement.{Statement}
-use Rattle.rule_diagnosis.specs.rule_lang.declared.test.Test.{Test}
+use Rattle.attrs.specs.Attributes.{plain}
+use Rattle.rule_lang.specs.declared.rule.Statement.{Statement}
+use Rattle.rule_lang.specs.declared.test.Test.{Test}
 use Rattle.warnings.specs.declared.possible.Asker.TheVariants.{AllAt}
 use Rattle.warnings.specs.declared.possible.Possible.{Possible}
 use Rattle.warnings.specs.declared.spot.Spot.{Spot}

@@ -3,12 +3,12 @@ use Rattle.std.proofs.Common.{◌≡◌, ℕ, List, [], ◌∷◌, ◌++◌, tru
 use Rattle.std.proofs.Common.{◌||◌, false}
 use Rattle.std.specs.Ordering.{is_eq}
 use Rattle.std.specs.Cmp.{tied_itself}
-use Rattle.rule_diagnosis.specs.rule_lang.declared.condition.Step.{Step}
-use Rattle.rule_diagnosis.specs.rule_lang.declared.condition.Step.TheVariants as step
-use Rattle.rule_diagnosis.specs.rule_lang.declared.rule.Statement.{Statement}
-use Rattle.rule_diagnosis.specs.rule_lang.declared.rule.Statement.TheVariants.{Count, When}
-use Rattle.rule_diagnosis.specs.rule_lang.declared.test.Test.{Test}
-use Rattle.rule_diagnosis.specs.rule_lang.declared.test.Test.TheVariants as test
+use Rattle.rule_lang.specs.declared.condition.Step.{Step}
+use Rattle.rule_lang.specs.declared.condition.Step.TheVariants as step
+use Rattle.rule_lang.specs.declared.rule.Statement.{Statement}
+use Rattle.rule_lang.specs.declared.rule.Statement.TheVariants.{Count, When}
+use Rattle.rule_lang.specs.declared.test.Test.{Test}
+use Rattle.rule_lang.specs.declared.test.Test.TheVariants as test
 use Rattle.warnings.specs.declared.spot.Spot.{Spot}
 use Rattle.warnings.specs.Spots.{add_spot, add_statements, add_step, add_steps, add_version}
 use Rattle.warnings.specs.Spots.{has_spot, just_above, lowest_spot, spot_at, spots_of}

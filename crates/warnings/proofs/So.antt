@@ -1,13 +1,13 @@
 -- What is told of a rule is so.
 use Rattle.std.proofs.Common.{◌≡◌, ℕ, ◌<◌, ◌≤◌, ◌/◌, ℤ, pos, negsuc, List, ◌∷◌, ◌++◌, Some, None}
 use Rattle.std.proofs.Common.{Bool, true, false, refl, sym, subst, arith}
-use Rattle.releases.specs.attrs.Attributes.{Attributes, plain}
-use Rattle.releases.specs.attrs.Moment.{elapsed, elapsed_days}
-use Rattle.rule_diagnosis.specs.rule_lang.declared.condition.Step.{Step}
-use Rattle.rule_diagnosis.specs.rule_lang.declared.rule.Statement.{Statement}
-use Rattle.rule_diagnosis.specs.rule_lang.declared.rule.Statement.TheVariants.{When}
-use Rattle.rule_diagnosis.specs.rule_lang.declared.test.Comparison.{Comparison}
-use Rattle.rule_diagnosis.specs.rule_lang.declared.test.Test.{Test}
+use Rattle.attrs.specs.Attributes.{Attributes, plain}
+use Rattle.attrs.specs.Moment.{elapsed, elapsed_days}
+use Rattle.rule_lang.specs.declared.condition.Step.{Step}
+use Rattle.rule_lang.specs.declared.rule.Statement.{Statement}
+use Rattle.rule_lang.specs.declared.rule.Statement.TheVariants.{When}
+use Rattle.rule_lang.specs.declared.test.Comparison.{Comparison}
+use Rattle.rule_lang.specs.declared.test.Test.{Test}
 use Rattle.warnings.specs.declared.possible.Asker.{Asker}
 use Rattle.warnings.specs.declared.possible.Asker.TheVariants.{AllAt, One}
 use Rattle.warnings.specs.declared.possible.Possible.{Possible}

@@ -3,7 +3,7 @@ use Rattle.std.proofs.Common.{◌≡◌, ℕ, ◌+◌, ◌*◌, ◌-◌, ◌<◌
 use Rattle.std.proofs.Common.{length, take, drop, get_or, sym, ap, arith}
 use Rattle.std.specs.Prelude.{option_and_then}
 use Rattle.std.proofs.lemmas.List.Sums.{sum_by-cons}
-use Rattle.rule_diagnosis.specs.rule_lang.declared.rule.Statement.{Statement}
+use Rattle.rule_lang.specs.declared.rule.Statement.{Statement}
 use Rattle.warnings.specs.Asked.{room_less, room_taken, step_count}
 use Rattle.warnings.proofs.Told.{first_rest}
 

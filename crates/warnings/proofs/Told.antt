@@ -4,9 +4,9 @@ use Rattle.std.proofs.Common.{get_or, Bool, true, false, sym, ap, ◌∙◌, ari
 use Rattle.std.proofs.Common.{append-nil}
 use Rattle.std.proofs.Math.Seq.{take-length}
 use Rattle.releases.specs.Release.{Release}
-use Rattle.rule_diagnosis.specs.rule_lang.declared.condition.Step.{Step}
-use Rattle.rule_diagnosis.specs.rule_lang.declared.rule.Statement.{Statement}
-use Rattle.rule_diagnosis.specs.rule_lang.declared.rule.Statement.TheVariants.{When}
+use Rattle.rule_lang.specs.declared.condition.Step.{Step}
+use Rattle.rule_lang.specs.declared.rule.Statement.{Statement}
+use Rattle.rule_lang.specs.declared.rule.Statement.TheVariants.{When}
 use Rattle.warnings.specs.declared.spot.Spot.{Spot}
 use Rattle.warnings.specs.Asked.{asked_from, release_lines, statement_line, when_line}
 use Rattle.warnings.specs.Asking.{RuleOfApp, arrives, may_end, may_give, someone}

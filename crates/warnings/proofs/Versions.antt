@@ -11,7 +11,7 @@ use Rattle.std.specs.declared.cmp.Ordering.TheVariants.{Less, Equal, Greater}
 use Rattle.std.proofs.lemmas.Cmp.{nat_cmp_total}
 use Rattle.std.proofs.lemmas.List.Folds.{list_any-append}
 use Rattle.std.proofs.lemmas.Bool.{cases_Bool, or_cases, or_left, or_parts, or_right}
-use Rattle.rule_diagnosis.specs.rule_lang.Meaning.{place_cmp, version_cmp}
+use Rattle.rule_lang.specs.Meaning.{place_cmp, version_cmp}
 use Rattle.warnings.specs.declared.spot.Spot.{Spot}
 use Rattle.warnings.specs.Spots.{add_spot, spot_at, has_spot, just_above, lowest_spot, spot_cmp}
 

@@ -5,14 +5,14 @@ use Rattle.std.specs.Prelude.{length, Bool, true, false, ◌&&◌, nat_le, nat_l
 use Rattle.std.specs.Prelude.{Option, Some, None, unwrap_or}
 use Rattle.std.specs.List.{sum_by}
 use Rattle.releases.specs.Release.{Release}
-use Rattle.rule_diagnosis.specs.rule_lang.declared.condition.Step.{Step}
-use Rattle.rule_diagnosis.specs.rule_lang.declared.condition.Step.TheVariants as step
-use Rattle.rule_diagnosis.specs.rule_lang.declared.rule.Statement.{Statement}
-use Rattle.rule_diagnosis.specs.rule_lang.declared.rule.Statement.TheVariants.{Count, When}
-use Rattle.rule_diagnosis.specs.rule_lang.declared.test.Comparison.{Comparison}
-use Rattle.rule_diagnosis.specs.rule_lang.declared.test.Comparison.TheVariants.{Eq, Le, Lt}
-use Rattle.rule_diagnosis.specs.rule_lang.declared.test.Test.{Test}
-use Rattle.rule_diagnosis.specs.rule_lang.declared.test.Test.TheVariants as test
+use Rattle.rule_lang.specs.declared.condition.Step.{Step}
+use Rattle.rule_lang.specs.declared.condition.Step.TheVariants as step
+use Rattle.rule_lang.specs.declared.rule.Statement.{Statement}
+use Rattle.rule_lang.specs.declared.rule.Statement.TheVariants.{Count, When}
+use Rattle.rule_lang.specs.declared.test.Comparison.{Comparison}
+use Rattle.rule_lang.specs.declared.test.Comparison.TheVariants.{Eq, Le, Lt}
+use Rattle.rule_lang.specs.declared.test.Test.{Test}
+use Rattle.rule_lang.specs.declared.test.Test.TheVariants as test
 use Rattle.warnings.specs.declared.possible.Asker.TheVariants.{One}
 use Rattle.warnings.specs.declared.spot.Spot.{Spot}
 use Rattle.warnings.specs.Asking.{RuleOfApp, all_buckets, arrives, gets, in_some_bucket}

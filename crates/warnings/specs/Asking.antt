@@ -3,14 +3,14 @@
 use Rattle.std.specs.Prelude.{ℕ, zero, suc, ◌-◌, List, Option, Some, None, slice_get}
 use Rattle.std.specs.Prelude.{Bool, false, ◌==◌, ◌&&◌, ◌||◌, if◌then◌else◌}
 use Rattle.std.specs.List.{list_any}
-use Rattle.releases.specs.attrs.Attributes.{Attributes, plain}
-use Rattle.releases.specs.attrs.Version.{version_of}
+use Rattle.attrs.specs.Attributes.{Attributes, plain}
+use Rattle.attrs.specs.Version.{version_of}
 use Rattle.releases.specs.Release.{Release}
-use Rattle.rule_diagnosis.specs.cells.Arrays.{AppShape}
-use Rattle.rule_diagnosis.specs.rule_lang.declared.rule.Statement.{Statement}
-use Rattle.rule_diagnosis.specs.rule_lang.declared.test.Comparison.{Comparison}
-use Rattle.rule_diagnosis.specs.rule_lang.declared.test.Test.{Test}
-use Rattle.rule_diagnosis.specs.rule_lang.Meaning.{allows, version_cmp}
+use Rattle.cells.specs.Arrays.{AppShape}
+use Rattle.rule_lang.specs.declared.rule.Statement.{Statement}
+use Rattle.rule_lang.specs.declared.test.Comparison.{Comparison}
+use Rattle.rule_lang.specs.declared.test.Test.{Test}
+use Rattle.rule_lang.specs.Meaning.{allows, version_cmp}
 use Rattle.warnings.specs.declared.asking.AskedRule.{AskedRule}
 use Rattle.warnings.specs.declared.asking.Question.{Question}
 use Rattle.warnings.specs.declared.asking.Question.TheVariants.{Reaches, Ends, Gives, Gets}

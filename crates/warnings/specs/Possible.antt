@@ -3,17 +3,17 @@
 use Rattle.std.specs.Prelude.{ℕ, List, [], ◌∷◌, Option, Some, nat_lt, min}
 use Rattle.std.specs.Prelude.{Bool, true, false, not, ◌==◌, ◌&&◌, ◌||◌, bit_and}
 use Rattle.std.specs.Ordering.{nat_cmp}
-use Rattle.releases.specs.attrs.Attributes.{Attributes}
-use Rattle.releases.specs.attrs.Helpers.{attr_is}
-use Rattle.rule_diagnosis.specs.cells.Arrays.{AppShape}
-use Rattle.rule_diagnosis.specs.rule_lang.declared.condition.Step.{Step}
-use Rattle.rule_diagnosis.specs.rule_lang.declared.test.Comparison.{Comparison}
-use Rattle.rule_diagnosis.specs.rule_lang.declared.test.Test.{Test}
-use Rattle.rule_diagnosis.specs.rule_lang.declared.test.Test.TheVariants as test
-use Rattle.rule_diagnosis.specs.rule_lang.Meaning.{allows, attribute_number, bucket_by}
-use Rattle.rule_diagnosis.specs.rule_lang.Meaning.{flag_bit, remainder, version_cmp}
-use Rattle.rule_diagnosis.specs.rule_lang.Shapes.{array_named, quota_of}
-use Rattle.rule_diagnosis.specs.rule_lang.Trees.{Tree, Asked, Negated, Both, Either, trees_from}
+use Rattle.attrs.specs.Attributes.{Attributes}
+use Rattle.attrs.specs.Helpers.{attr_is}
+use Rattle.cells.specs.Arrays.{AppShape}
+use Rattle.rule_lang.specs.declared.condition.Step.{Step}
+use Rattle.rule_lang.specs.declared.test.Comparison.{Comparison}
+use Rattle.rule_lang.specs.declared.test.Test.{Test}
+use Rattle.rule_lang.specs.declared.test.Test.TheVariants as test
+use Rattle.rule_lang.specs.Meaning.{allows, attribute_number, bucket_by}
+use Rattle.rule_lang.specs.Meaning.{flag_bit, remainder, version_cmp}
+use Rattle.rule_lang.specs.Shapes.{array_named, quota_of}
+use Rattle.rule_lang.specs.Trees.{Tree, Asked, Negated, Both, Either, trees_from}
 use Rattle.warnings.specs.declared.possible.Possible.{Possible}
 use Rattle.warnings.specs.declared.possible.Asker.{Asker}
 use Rattle.warnings.specs.declared.possible.Asker.TheVariants.{AllAt, One}

@@ -3,20 +3,19 @@ use Rattle.std.specs.Prelude.{◌≡◌, ℕ, ◌<◌, ◌≤◌, ℤ, List, [],
 use Rattle.std.specs.Prelude.{All, codes}
 use Rattle.std.specs.List.{count_by, range_with_len}
 use Rattle.std.specs.Ordering.{nat_cmp}
-use Rattle.releases.specs.attrs.Attributes.{Attributes, plain}
-use Rattle.releases.specs.attrs.Context.{HasContextRanges}
-use Rattle.releases.specs.attrs.Moment.{elapsed_days}
-use Rattle.rule_diagnosis.specs.cells.Arrays.{AppShape}
-use Rattle.rule_diagnosis.specs.cells.declared.event.CellEvent.{CellEvent}
-use Rattle.rule_diagnosis.specs.rule_lang.declared.condition.Step.{Step}
-use Rattle.rule_diagnosis.specs.rule_lang.declared.rule.Statement.{Statement}
-use Rattle.rule_diagnosis.specs.rule_lang.declared.rule.Statement.TheVariants.{When}
-use Rattle.rule_diagnosis.specs.rule_lang.declared.test.Comparison.{Comparison}
-use Rattle.rule_diagnosis.specs.rule_lang.declared.test.Comparison.TheVariants.{Le, Lt}
-use Rattle.rule_diagnosis.specs.rule_lang.declared.test.Test.{Test}
-use Rattle.rule_diagnosis.specs.rule_lang.declared.test.Test.TheVariants as test
-use Rattle.rule_diagnosis.specs.rule_lang.Meaning.{Behaviour, HasTrace, allows, behaviour}
-use Rattle.rule_diagnosis.specs.rule_lang.Meaning.{test_then}
+use Rattle.attrs.specs.Attributes.{Attributes, plain}
+use Rattle.attrs.specs.Context.{HasContextRanges}
+use Rattle.attrs.specs.Moment.{elapsed_days}
+use Rattle.cells.specs.Arrays.{AppShape}
+use Rattle.cells.specs.declared.event.CellEvent.{CellEvent}
+use Rattle.rule_lang.specs.declared.condition.Step.{Step}
+use Rattle.rule_lang.specs.declared.rule.Statement.{Statement}
+use Rattle.rule_lang.specs.declared.rule.Statement.TheVariants.{When}
+use Rattle.rule_lang.specs.declared.test.Comparison.{Comparison}
+use Rattle.rule_lang.specs.declared.test.Comparison.TheVariants.{Le, Lt}
+use Rattle.rule_lang.specs.declared.test.Test.{Test}
+use Rattle.rule_lang.specs.declared.test.Test.TheVariants as test
+use Rattle.rule_lang.specs.Meaning.{Behaviour, HasTrace, allows, behaviour, test_then}
 use Rattle.warnings.specs.Asked.{few_percent, first_line, got_line, of_release}
 use Rattle.warnings.specs.Asked.{part_words, rule_line, statement_line, test_line}
 use Rattle.warnings.specs.Asked.{ungiven_line, ungiven_said, unheld_said, unreached_said}

@@ -4,12 +4,12 @@ use Rattle.std.specs.Prelude.{List, [], ◌∷◌, ◌++◌, ℕ, Bool, true, fa
 use Rattle.std.specs.List.{list_any}
 use Rattle.std.specs.Ordering.{bool_cmp, is_eq, ordering_then}
 use Rattle.std.specs.declared.cmp.Ordering.{Ordering}
-use Rattle.rule_diagnosis.specs.rule_lang.declared.condition.Step.{Step}
-use Rattle.rule_diagnosis.specs.rule_lang.declared.condition.Step.TheVariants as step
-use Rattle.rule_diagnosis.specs.rule_lang.declared.rule.Statement.{Statement}
-use Rattle.rule_diagnosis.specs.rule_lang.declared.rule.Statement.TheVariants.{Count, When}
-use Rattle.rule_diagnosis.specs.rule_lang.declared.test.Test.TheVariants as test
-use Rattle.rule_diagnosis.specs.rule_lang.Meaning.{version_cmp}
+use Rattle.rule_lang.specs.declared.condition.Step.{Step}
+use Rattle.rule_lang.specs.declared.condition.Step.TheVariants as step
+use Rattle.rule_lang.specs.declared.rule.Statement.{Statement}
+use Rattle.rule_lang.specs.declared.rule.Statement.TheVariants.{Count, When}
+use Rattle.rule_lang.specs.declared.test.Test.TheVariants as test
+use Rattle.rule_lang.specs.Meaning.{version_cmp}
 use Rattle.warnings.specs.declared.spot.Spot.{Spot}
 
 -- a version itself, and what lies above it and below each higher one that is named

@@ -9,9 +9,9 @@ use crate::holding::{allows, compare_versions};
 use crate::possible::{Asker, Possible};
 use crate::spot::Spot;
 use attrs::{Attrs, read_version};
+use cells::Shape;
 use releases::Release;
-use rule_diagnosis::cells::Shape;
-use rule_diagnosis::rule_lang::{Comparison, Statement};
+use rule_lang::{Comparison, Statement};
 use std::alloc::{AllocError, Global};
 
 /// How many buckets there are.

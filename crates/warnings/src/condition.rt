@@ -8,8 +8,8 @@ ghost use Rattle.warnings.specs.Stack as specs;
 use crate::holding::test_possible;
 use crate::possible::{Asker, Possible};
 use attrs::Attrs;
-use rule_diagnosis::cells::Shape;
-use rule_diagnosis::rule_lang::Step;
+use cells::Shape;
+use rule_lang::Step;
 use std::alloc::AllocError;
 
 // The newest is negated, if there is one.

@@ -7,8 +7,8 @@ ghost use Rattle.warnings.specs.Possible.{test_possible};
 use crate::condition::condition_possible;
 use crate::possible::{Asker, Possible};
 use attrs::Attrs;
-use rule_diagnosis::cells::Shape;
-use rule_diagnosis::rule_lang::Statement;
+use cells::Shape;
+use rule_lang::Statement;
 use std::alloc::AllocError;
 
 /// Whether a statement may end the rule, and whether the rule may go on behind it.

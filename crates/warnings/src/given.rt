@@ -10,7 +10,7 @@ use crate::possible::Asker;
 use crate::release::{tell_app, tell_if};
 use crate::spot::Spot;
 use releases::Release;
-use rule_diagnosis::rule_lang::Comparison;
+use rule_lang::Comparison;
 use std::alloc::{AllocError, Global};
 use std::fmt::Write;
 

@@ -3,16 +3,16 @@
 
 ghost use Rattle.std.specs.Prelude.{◌≡◌, ◌<◌, option_copied};
 ghost use Rattle.std.specs.Ordering.{nat_cmp};
-ghost use Rattle.rule_diagnosis.specs.rule_lang.Meaning as meaning;
-ghost use Rattle.rule_diagnosis.specs.rule_lang.Shapes as shapes;
+ghost use Rattle.rule_lang.specs.Meaning as meaning;
+ghost use Rattle.rule_lang.specs.Shapes as shapes;
 ghost use Rattle.warnings.specs.Possible as specs;
 
 use crate::possible::{Asker, Possible};
 use crate::spot::Spot;
 use attrs::{Attrs, Context, helper_attr_is, helper_bucket};
+use cells::{CellArray, Shape};
 use rule_diagnosis::array_named;
-use rule_diagnosis::cells::{CellArray, Shape};
-use rule_diagnosis::rule_lang::{Attribute, Comparison, Flag, Test};
+use rule_lang::{Attribute, Comparison, Flag, Test};
 use std::cmp::Ordering;
 
 /// The last day on which a server is asked, that of 9999-12-31.

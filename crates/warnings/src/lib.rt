@@ -39,6 +39,3 @@ pub use asking::AskedRule;
 pub use law::warnings_are_so;
 pub use release::tell_releases;
 pub use telling::tell_rule;
-
-// The words of the contracts here come with them.
-pub use rule_diagnosis;

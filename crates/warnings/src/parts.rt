@@ -7,7 +7,7 @@ ghost use Rattle.warnings.specs.Asked as specs;
 use crate::asking::BUCKETS;
 use crate::release::tell_app;
 use crate::whens::tell_line;
-use rule_diagnosis::rule_lang::{Comparison, Statement, Step, Test};
+use rule_lang::{Comparison, Statement, Step, Test};
 use std::alloc::AllocError;
 use std::fmt::Write;
 

@@ -3,7 +3,7 @@
 ghost use Rattle.std.specs.Prelude.{◌≡◌, ◌*◌};
 ghost use Rattle.warnings.specs.Asked as specs;
 
-use rule_diagnosis::rule_lang::Statement;
+use rule_lang::Statement;
 
 fn step_count(statement: &Statement) -> u64
     ensures { result ≡ specs.step_count statement.now }

@@ -5,7 +5,7 @@ ghost use Rattle.std.specs.Ordering.{bool_cmp, is_eq};
 ghost use Rattle.warnings.specs.Spots as specs;
 
 use crate::holding::compare_versions;
-use rule_diagnosis::rule_lang::{Statement, Step, Test};
+use rule_lang::{Statement, Step, Test};
 use std::alloc::{AllocError, Global};
 use std::cmp::Ordering;
 

@@ -7,7 +7,7 @@ ghost use Rattle.warnings.specs.Asking.{rule_of};
 use crate::asking::{AskedRule, Question, someone};
 use crate::release::tell_app;
 use crate::spot::Spot;
-use rule_diagnosis::rule_lang::{Statement, Step};
+use rule_lang::{Statement, Step};
 use std::alloc::{AllocError, Global};
 use std::fmt::Write;
 

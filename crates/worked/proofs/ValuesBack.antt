@@ -32,7 +32,7 @@ use Rattle.abs_value.specs.Values.{alu_value, copied_value, negated_value, exten
 use Rattle.abs_value.specs.Values.{reordered_value, loaded_value, refined, numbers}
 use Rattle.abs_value.specs.Values.{same_lookup, is_found_by, same_origin, join_values}
 use Rattle.abs_value.specs.Lookups.{answer_of, with_answer, lookup_value, call_value}
-use Rattle.bpf_verify.specs.bpf_rules.Arrays.{cell_behind, fixed_cell, wide_abs}
+use Rattle.bpf_rules.specs.Arrays.{cell_behind, fixed_cell, wide_abs}
 use Rattle.worked.specs.LooksBack.{LooksBack, NamesNone}
 
 pub later : (s t : ℕ) (v : Abs) → s ≤ t → LooksBack s v → LooksBack t v

@@ -27,8 +27,8 @@ use Rattle.abs_value.specs.States.{value_at, operand_value, with_value, with_sto
 use Rattle.abs_value.specs.States.{opening_state, join_states}
 use Rattle.abs_value.specs.Lookups.{refined_state, called}
 use Rattle.abs_value.specs.Covers.{Covers, IsStoodFor}
-use Rattle.bpf_verify.specs.bpf_rules.Arrays.{wide_abs}
-use Rattle.bpf_verify.specs.bpf_rules.Transfer.{jumping, going_on}
+use Rattle.bpf_rules.specs.Arrays.{wide_abs}
+use Rattle.bpf_rules.specs.Transfer.{jumping, going_on}
 use Rattle.bpf_verify.specs.Accepted.{entry_of}
 
 -- ---- what is known

@@ -3,18 +3,17 @@ use Rattle.std.proofs.Common.{◌≡◌, List, [], ◌∷◌, ◌++◌}
 use Rattle.std.proofs.Common.{Option, refl, sym, subst}
 use Rattle.std.specs.Prelude.{ℕ}
 use Rattle.std.proofs.lemmas.List.Elements.{All-nil, All-append, All-push}
-use Rattle.one_world.specs.cells.Grown.{Grows, GrowsByAppend}
-use Rattle.one_world.specs.cells.declared.array.CellArray.{CellArray}
-use Rattle.one_world.specs.cells.declared.event.CellEvent.{CellEvent}
+use Rattle.cells.specs.Grown.{Grows, GrowsByAppend}
+use Rattle.cells.specs.declared.array.CellArray.{CellArray}
+use Rattle.cells.specs.declared.event.CellEvent.{CellEvent}
 use Rattle.one_world.specs.Passes.{AreLoads}
-use Rattle.server_log.specs.operator.Control.{Controlled, Loading}
-use Rattle.server_log.specs.operator.Counters.{IsLoad, ReadsCells, ReadsArrays}
-use Rattle.server_log.specs.operator.Counters.{no_cell, one_cell, no_array, one_array}
-use Rattle.server_log.specs.operator.Perform.{Performs, AnswersLine}
-use Rattle.server_log.specs.operator.Perform.{wordless, loaded, not_loaded, shown}
-use Rattle.server_log.specs.operator.Perform.{counted, stopped, unshown, uncounted}
-use Rattle.server_log.specs.operator.declared.reply.OperatorReply.{OperatorReply}
-use Rattle.server_log.specs.operator.hot_swap.Published.{GoesOnwards}
+use Rattle.operator.specs.Control.{Controlled, Loading}
+use Rattle.operator.specs.Counters.{IsLoad, ReadsCells, ReadsArrays}
+use Rattle.operator.specs.Counters.{no_cell, one_cell, no_array, one_array}
+use Rattle.operator.specs.Perform.{Performs, AnswersLine, counted, stopped, unshown, uncounted}
+use Rattle.operator.specs.Perform.{wordless, loaded, not_loaded, shown}
+use Rattle.operator.specs.declared.reply.OperatorReply.{OperatorReply}
+use Rattle.hot_swap.specs.Published.{GoesOnwards}
 use Rattle.workers.proofs.Onwards.{goes_nowhere}
 use Rattle.workers.specs.Back.{OperatorBack}
 

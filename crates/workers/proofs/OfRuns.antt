@@ -6,22 +6,21 @@ use Rattle.std.specs.Prelude.{ℤ, nat_le, if◌then◌else◌, slice_get}
 use Rattle.std.specs.List.{last_or}
 use Rattle.std.proofs.lemmas.Bool.Decides.{nat_tests}
 use Rattle.std.proofs.lemmas.List.Elements.{All-cons, All-nil, All-from_recursion}
-use Rattle.server_log.specs.answering.Answer.{RepliesToBody, RepliesToRequest}
-use Rattle.server_log.specs.answering.Answer.{replied, unowned, broken_off, asked, refused, unread}
-use Rattle.server_log.specs.answering.Answer.{taken, rejected}
-use Rattle.server_log.specs.answering.Apps.{RunsApp, RunsApps, unasked, unknown, ran, none}
-use Rattle.server_log.specs.answering.Apps as runs
-use Rattle.server_log.specs.answering.Reply.{HttpReply}
-use Rattle.one_world.specs.attrs.Attributes.{AreShort, kept_text}
-use Rattle.one_world.specs.attrs.Facts.{attributes_of, texts_of}
-use Rattle.one_world.specs.attrs.declared.facts.AppFacts.{AppFacts}
-use Rattle.one_world.specs.attrs.declared.facts.RequestFacts.{RequestFacts}
-use Rattle.one_world.specs.cells.declared.event.CellEvent.{CellEvent}
+use Rattle.answering.specs.Answer.{RepliesToBody, RepliesToRequest, taken, rejected}
+use Rattle.answering.specs.Answer.{replied, unowned, broken_off, asked, refused, unread}
+use Rattle.answering.specs.Apps.{RunsApp, RunsApps, unasked, unknown, ran, none}
+use Rattle.answering.specs.Apps as runs
+use Rattle.answering.specs.Reply.{HttpReply}
+use Rattle.attrs.specs.Attributes.{AreShort, kept_text}
+use Rattle.attrs.specs.Facts.{attributes_of, texts_of}
+use Rattle.attrs.specs.declared.facts.AppFacts.{AppFacts}
+use Rattle.attrs.specs.declared.facts.RequestFacts.{RequestFacts}
+use Rattle.cells.specs.declared.event.CellEvent.{CellEvent}
 use Rattle.one_world.specs.InTurn.{AreOfRuns, NoneAreOfRuns, OfRunsAppend}
 use Rattle.one_world.specs.Runs.{AppRun, IsRunUnder, AtEnd}
-use Rattle.one_world.specs.world.World.{ruleset_at}
-use Rattle.server_log.specs.operator.hot_swap.Published.{Beginning, IsLatest, HasLast}
-use Rattle.server_log.specs.operator.hot_swap.rulesets.Rules.{Rules}
+use Rattle.world.specs.World.{ruleset_at}
+use Rattle.hot_swap.specs.Published.{Beginning, IsLatest, HasLast}
+use Rattle.ruleset.specs.Rules.{Rules}
 use Rattle.workers.specs.Runs.{AnswersAreOfRuns}
 
 -- what the crate below promises of runs one after the other

@@ -1,8 +1,8 @@
 -- What is known of a published list goes on.
 use Rattle.std.proofs.Common.{◌≡◌, ℕ, List, [], ◌++◌, length, All, refl, sym, ap, subst, ◌∙◌}
 use Rattle.std.proofs.Common.{append_assoc, append-nil}
-use Rattle.server_log.specs.operator.hot_swap.Published.{Beginning, GoesOnwards, HasLast, IsLatest}
-use Rattle.server_log.specs.operator.hot_swap.rulesets.Rules.{Rules, IsRuleset}
+use Rattle.hot_swap.specs.Published.{Beginning, GoesOnwards, HasLast, IsLatest}
+use Rattle.ruleset.specs.Rules.{Rules, IsRuleset}
 use Rattle.workers.specs.Back.{IsPublished}
 
 pub goes_nowhere : (known : Beginning) → GoesOnwards known known

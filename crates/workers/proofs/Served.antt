@@ -4,16 +4,15 @@ use Rattle.std.proofs.Common.{◌≡◌, ℕ, List, [], ◌++◌, refl, subst}
 use Rattle.std.specs.List.{AllZip}
 use Rattle.std.specs.Prelude.{ℤ, Option, Result, Ok, Err, IfOk, IfErr}
 use Rattle.std.specs.declared.thread.PromisedHandle.{PromisedHandle}
-use Rattle.server_log.specs.answering.Answer.{RepliesByRuns, WritesNothing}
-use Rattle.server_log.specs.answering.Reply.{HttpReply}
-use Rattle.server_log.specs.answering.declared.answering.AnswerFault.{AnswerFault}
-use Rattle.server_log.specs.answering.declared.answering.AnswerFault.TheVariants.{Ended, Reading}
-use Rattle.server_log.specs.answering.declared.answering.AnswerFault.TheVariants.{Writing}
-use Rattle.one_world.specs.cells.Grown.{Grows, GrowsByAppend}
-use Rattle.one_world.specs.cells.declared.event.CellEvent.{CellEvent}
+use Rattle.answering.specs.Answer.{RepliesByRuns, WritesNothing}
+use Rattle.answering.specs.Reply.{HttpReply}
+use Rattle.answering.specs.declared.answering.AnswerFault.{AnswerFault}
+use Rattle.answering.specs.declared.answering.AnswerFault.TheVariants.{Ended, Reading, Writing}
+use Rattle.cells.specs.Grown.{Grows, GrowsByAppend}
+use Rattle.cells.specs.declared.event.CellEvent.{CellEvent}
 use Rattle.one_world.specs.InTurn.{AreOfRuns, NoneAreOfRuns, OfRunsAppend, OfRunsStay}
-use Rattle.server_log.specs.operator.hot_swap.Published.{Beginning, GoesOnwards}
-use Rattle.server_log.specs.operator.hot_swap.rulesets.Rules.{Rules}
+use Rattle.hot_swap.specs.Published.{Beginning, GoesOnwards}
+use Rattle.ruleset.specs.Rules.{Rules}
 use Rattle.workers.proofs.InPlace.{zip_through}
 use Rattle.workers.proofs.Onwards.{goes_nowhere, goes_further}
 use Rattle.workers.specs.Back.{WorkerBack, WorkersBack}

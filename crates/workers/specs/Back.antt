@@ -4,10 +4,10 @@ use Rattle.std.specs.Prelude.{ℕ, List, All}
 use Rattle.std.specs.List.{AllZip}
 use Rattle.one_world.specs.InTurn.{AreOfRuns}
 use Rattle.one_world.specs.Passes.{AreLoads}
-use Rattle.one_world.specs.cells.Grown.{Grows}
-use Rattle.one_world.specs.cells.declared.event.CellEvent.{CellEvent}
-use Rattle.server_log.specs.operator.hot_swap.Published.{Beginning, GoesOnwards, IsLatest}
-use Rattle.server_log.specs.operator.hot_swap.rulesets.Rules.{Rules, IsRuleset}
+use Rattle.cells.specs.Grown.{Grows}
+use Rattle.cells.specs.declared.event.CellEvent.{CellEvent}
+use Rattle.hot_swap.specs.Published.{Beginning, GoesOnwards, IsLatest}
+use Rattle.ruleset.specs.Rules.{Rules, IsRuleset}
 use Rattle.workers.specs.declared.returned.Returned.{Returned}
 
 -- of what was published each ruleset is sound, and the last one is of this generation

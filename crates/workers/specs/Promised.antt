@@ -1,6 +1,6 @@
 -- What a worker's thread has promised.
 use Rattle.std.specs.Prelude.{◌≡◌}
-use Rattle.server_log.specs.operator.hot_swap.Published.{Beginning}
+use Rattle.hot_swap.specs.Published.{Beginning}
 use Rattle.workers.specs.declared.promise.OfWorker.{OfWorker}
 
 -- it is to give back this worker, over these cells

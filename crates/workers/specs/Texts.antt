@@ -1,6 +1,6 @@
 -- What a server says of itself.
 use Rattle.std.specs.Prelude.{ℕ, List, ◌++◌, codes, decimal}
-use Rattle.server_log.specs.operator.hot_swap.rulesets.Texts.{line}
+use Rattle.ruleset.specs.Texts.{line}
 
 -- that it serves the ruleset of this generation
 abbrev pub serving_line : ℕ → List ℕ

@@ -10,13 +10,12 @@ use crate::fault::ServeFault;
 use crate::gate::Gate;
 use crate::queue::{WAITING, fill};
 use crate::worker::Service;
-use one_world::cells::CellSteps;
-use server_log::operator::hot_swap::Watcher;
+use cells::CellSteps;
+use hot_swap::Watcher;
 use std::net::TcpListener;
 use std::sync::Wait;
 use std::sync::atomic::AtomicBool;
-use std::thread;
-use std::thread::Threads;
+use std::thread::{self, Threads};
 use std::time::Clock;
 
 /// Answers each connection within the limit of time, until `stop` is set and one more connection

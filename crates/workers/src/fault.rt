@@ -1,6 +1,6 @@
 //! Why a server doesn't serve.
 
-use server_log::operator::bounded_files::ResourceFault;
+use bounded_files::ResourceFault;
 use std::error::Error;
 use std::fmt::{self, Display};
 

@@ -42,7 +42,5 @@ pub use returned::Returned;
 pub use running::run;
 pub use worker::Service;
 
-// The log, and the words of the contracts here, come with them.
-pub use one_world;
-pub use server_log;
-pub use server_log::answering::{AnswerFault, Sent, answer};
+// The words of the contracts here come with them.
+pub use answering::{AnswerFault, Sent, answer};

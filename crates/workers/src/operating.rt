@@ -2,15 +2,15 @@
 //! connection that asks to stop, or once it is told to.
 
 ghost use Rattle.std.specs.Prelude.{◌≡◌};
-ghost use Rattle.server_log.specs.operator.hot_swap.Published.{GoesOnwards};
+ghost use Rattle.hot_swap.specs.Published.{GoesOnwards};
 ghost use Rattle.workers.specs.Back.{OperatorBack};
 
 use crate::accept::Port;
 use crate::clock::Limits;
 use crate::worker::Service;
-use one_world::cells::{CellSteps, growth};
-use server_log::operator::devices::{Counted, Timed, drain};
-use server_log::operator::{Control, Loader, OperatorReply, answer, write_reply};
+use cells::{CellSteps, growth};
+use devices::{Counted, Timed, drain};
+use operator::{Control, Loader, OperatorReply, answer, write_reply};
 use server_log::{Heard, note_load};
 use std::fmt::Display;
 use std::io;

@@ -1,7 +1,7 @@
 //! What a worker's thread promises: to give back the worker that it was given, with what it did.
 
-use one_world::cells::CellSteps;
-use server_log::operator::hot_swap::Watcher;
+use cells::CellSteps;
+use hot_swap::Watcher;
 use std::snapshot::Snapshot;
 use std::thread::Promise;
 

@@ -6,7 +6,7 @@ ghost use Rattle.std.specs.Io.KnownBytes.{Appends};
 ghost use Rattle.std.specs.Prelude.{◌≡◌, ℕ, IfOk, OnOk};
 ghost use Rattle.workers.specs.Texts.{serving_line};
 
-use server_log::operator::hot_swap::Generation;
+use hot_swap::Generation;
 use std::io::{self, Write};
 
 /// What says that a server serves the ruleset of a generation.

@@ -1,6 +1,6 @@
 //! What a server gives back once it has ended.
 
-use server_log::operator::hot_swap::{Generation, Notice, Watcher};
+use hot_swap::{Generation, Notice, Watcher};
 
 /// The passes and the watchers, with what was installed.
 #[derive(Drop)]

@@ -7,7 +7,7 @@
 
 ghost use Rattle.std.specs.Io.KnownBytes.{Appends};
 ghost use Rattle.std.specs.Prelude.{◌≡◌, ◌≤◌, All, IfOk, OnOk, length};
-ghost use Rattle.server_log.specs.operator.hot_swap.Published.{GoesOnwards};
+ghost use Rattle.hot_swap.specs.Published.{GoesOnwards};
 ghost use Rattle.workers.specs.Back.{IsPublished, OperatorBack, ServerBack};
 ghost use Rattle.workers.specs.Texts.{serving_line};
 
@@ -22,18 +22,17 @@ use crate::ready::{Ready, ReadyLine, take_back};
 use crate::returned::Returned;
 use crate::stopping::start_telling;
 use crate::worker::Service;
+use bounded_files::ResourceFault;
+use cells::CellSteps;
 use crossbeam_channel::Sender;
-use one_world::cells::CellSteps;
+use hot_swap::Watcher;
+use operator::{Control, Loader};
 use server_log::LogQueue;
-use server_log::operator::bounded_files::ResourceFault;
-use server_log::operator::hot_swap::Watcher;
-use server_log::operator::{Control, Loader};
 use std::io::Write;
 use std::net::{Net, SocketAddr, TcpListener, TcpStream};
 use std::sync::Wait;
 use std::sync::atomic::{AtomicBool, Ordering};
-use std::thread;
-use std::thread::{Scope, Threads};
+use std::thread::{self, Scope, Threads};
 use std::time::Clock;
 
 // Starts the thread that puts connections into the queue, until the flag is set; it closes the port

@@ -3,7 +3,7 @@
 
 use crate::accept::Port;
 use crate::operating::send;
-use server_log::operator::{AskFault, OperatorReply};
+use operator::{AskFault, OperatorReply};
 use std::net::TcpListener;
 use std::sync::Wait;
 use std::sync::atomic::AtomicBool;

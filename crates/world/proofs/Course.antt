@@ -2,10 +2,10 @@
 use Rattle.std.proofs.Common.{◌≡◌, ℕ, List, [], ◌∷◌, Ok, Err, refl, sym, ap, subst, ◌∙◌}
 use Rattle.std.specs.Arc.{arc_value}
 use Rattle.attrs.specs.Attributes.{Attributes}
-use Rattle.bpf_machine.specs.bpf_semantics.Program.{ShapedProgram}
-use Rattle.bpf_machine.specs.bpf_semantics.State.{opening}
-use Rattle.bpf_machine.specs.bpf_semantics.Outcome.{Outcome}
-use Rattle.bpf_machine.specs.bpf_semantics.Step.{step}
+use Rattle.bpf_semantics.specs.Program.{ShapedProgram}
+use Rattle.bpf_semantics.specs.State.{opening}
+use Rattle.bpf_semantics.specs.Outcome.{Outcome}
+use Rattle.bpf_semantics.specs.Step.{step}
 use Rattle.ruleset.specs.Rules.{appid_of}
 use Rattle.world.specs.World.{WorldState, Running, with_worker}
 use Rattle.world.specs.World.{newest}

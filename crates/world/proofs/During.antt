@@ -2,11 +2,11 @@
 use Rattle.std.proofs.Common.{◌≡◌, ◌≢◌, ℕ, ◌+◌, List, [], ◌∷◌, ◌++◌, Option, Some, None, Bool, true}
 use Rattle.std.proofs.Common.{false, refl, sym, ap, subst, ◌∙◌, arith}
 use Rattle.std.specs.Prelude.{slice_get, ◌==◌, if◌then◌else◌}
-use Rattle.bpf_machine.specs.bpf_semantics.Program.{ShapedProgram}
-use Rattle.bpf_machine.specs.bpf_semantics.State.{State}
-use Rattle.bpf_machine.specs.bpf_semantics.Outcome.{Going, Done}
-use Rattle.bpf_machine.specs.bpf_semantics.Step.{step}
-use Rattle.bpf_machine.specs.bpf_semantics.Run.{Ends}
+use Rattle.bpf_semantics.specs.Program.{ShapedProgram}
+use Rattle.bpf_semantics.specs.State.{State}
+use Rattle.bpf_semantics.specs.Outcome.{Going, Done}
+use Rattle.bpf_semantics.specs.Step.{step}
+use Rattle.bpf_semantics.specs.Run.{Ends}
 use Rattle.cells.specs.declared.event.CellEvent.{CellEvent}
 use Rattle.cells.specs.Events.{AreCells}
 use Rattle.world.specs.World.{WorldState, Worker, Idle, Running, Ended, IsWorker, IsRunning}

@@ -3,8 +3,8 @@ use Rattle.std.proofs.Common.{◌≡◌, ℕ, zero, suc, ◌+◌, ◌≤◌, Lis
 use Rattle.std.proofs.Common.{Some, None, All, refl, sym, ap, subst}
 use Rattle.std.proofs.lemmas.Option.{get_or_from_slice_get}
 use Rattle.attrs.specs.Attributes.{Attributes}
-use Rattle.bpf_machine.specs.bpf_semantics.Program.{ShapedProgram}
-use Rattle.bpf_machine.specs.bpf_verify.Covers.{EndsWell}
+use Rattle.bpf_semantics.specs.Program.{ShapedProgram}
+use Rattle.bpf_verify.specs.Covers.{EndsWell}
 use Rattle.cells.specs.Events.{AreCells}
 use Rattle.ruleset.specs.Rules.{Rules, IsRuleset, appid_of}
 use Rattle.world.specs.World.{WorldState, Worker, Idle, Running, Ended, HasProgram}

@@ -2,10 +2,10 @@
 use Rattle.std.proofs.Common.{◌≡◌, ◌≢◌, ℕ, suc, ◌+◌, ◌≤◌, List, [], ◌∷◌, length, take}
 use Rattle.std.proofs.Common.{Ok, Err, Bool, true, false, refl, subst, arith}
 use Rattle.std.specs.Prelude.{◌==◌, if◌then◌else◌}
-use Rattle.bpf_machine.specs.bpf_semantics.Program.{ShapedProgram}
-use Rattle.bpf_machine.specs.bpf_semantics.State.{State}
-use Rattle.bpf_machine.specs.bpf_semantics.Outcome.{Going, Done}
-use Rattle.bpf_machine.specs.bpf_semantics.Step.{step}
+use Rattle.bpf_semantics.specs.Program.{ShapedProgram}
+use Rattle.bpf_semantics.specs.State.{State}
+use Rattle.bpf_semantics.specs.Outcome.{Going, Done}
+use Rattle.bpf_semantics.specs.Step.{step}
 use Rattle.world.specs.World.{WorldState, Running, IsWorker}
 use Rattle.world.specs.Counters.{answered}
 use Rattle.world.specs.Happens.{Answer, StepsRun, EndsRun, Happens, Plays, with_step}

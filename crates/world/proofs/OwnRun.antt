@@ -5,9 +5,9 @@ use Rattle.std.specs.Prelude.{slice_get}
 use Rattle.std.specs.Arc.{arc_value}
 use Rattle.std.specs.declared.sync.Arc.{Arc}
 use Rattle.attrs.specs.Attributes.{Attributes, AreShort}
-use Rattle.bpf_machine.specs.bpf_semantics.Program.{ShapedProgram}
-use Rattle.bpf_machine.specs.bpf_semantics.State.{opening}
-use Rattle.bpf_machine.specs.bpf_verify.Covers.{EndsWell}
+use Rattle.bpf_semantics.specs.Program.{ShapedProgram}
+use Rattle.bpf_semantics.specs.State.{opening}
+use Rattle.bpf_verify.specs.Covers.{EndsWell}
 use Rattle.ruleset.specs.Rules.{AlwaysEndsWell, appid_of}
 use Rattle.world.specs.World.{WorldState, Worker, Idle, Ended, IsWorker, HasProgram}
 use Rattle.world.specs.Happens.{Answer, Happens, Plays}

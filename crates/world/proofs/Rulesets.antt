@@ -4,7 +4,7 @@ use Rattle.std.proofs.Common.{lit<, All, sym, ap, subst, ◌∙◌, arith}
 use Rattle.std.proofs.lemmas.List.Elements.{All-append, All-cons, All-contains, All-nil}
 use Rattle.std.proofs.lemmas.Option.{get_or_from_slice_get, slice_get_within}
 use Rattle.std.specs.Prelude.{slice_get}
-use Rattle.bpf_machine.specs.bpf_semantics.Program.{ShapedProgram}
+use Rattle.bpf_semantics.specs.Program.{ShapedProgram}
 use Rattle.ruleset.specs.Rules.{Rules, AppRule, ListsApp, Offers, IsApp, IsRuleset, AlwaysEndsWell}
 use Rattle.world.specs.World.{ruleset_at, HasApp, HasProgram}
 

@@ -3,14 +3,14 @@ use Rattle.std.proofs.Common.{◌≡◌, ◌≢◌, ℕ, ◌+◌, ◌<◌, ◌�
 use Rattle.std.proofs.Common.{ap, subst, ◌∙◌, arith}
 use Rattle.std.specs.Prelude.{slice_index, slice_set}
 use Rattle.std.proofs.lemmas.Nat.{pow_pos}
-use Rattle.bpf_machine.specs.bpf_semantics.Program.{ShapedProgram}
-use Rattle.bpf_machine.specs.bpf_semantics.State.{State}
-use Rattle.bpf_machine.specs.bpf_semantics.Outcome.{Outcome, Going, Asks, Done, Trap}
-use Rattle.bpf_machine.specs.bpf_semantics.Step.{step}
-use Rattle.bpf_machine.specs.bpf_semantics.Run.{Ends, last, more}
-use Rattle.bpf_machine.specs.bpf_semantics.Run as run
-use Rattle.bpf_machine.specs.bpf_semantics.Laws.{Follows, IsNext}
-use Rattle.bpf_machine.specs.bpf_verify.Covers.{EndsWell, ends, goes, asks}
+use Rattle.bpf_semantics.specs.Program.{ShapedProgram}
+use Rattle.bpf_semantics.specs.State.{State}
+use Rattle.bpf_semantics.specs.Outcome.{Outcome, Going, Asks, Done, Trap}
+use Rattle.bpf_semantics.specs.Step.{step}
+use Rattle.bpf_semantics.specs.Run.{Ends, last, more}
+use Rattle.bpf_semantics.specs.Run as run
+use Rattle.bpf_semantics.specs.Laws.{Follows, IsNext}
+use Rattle.bpf_verify.specs.Covers.{EndsWell, ends, goes, asks}
 use Rattle.cells.specs.declared.event.CellOp.{CellOp}
 use Rattle.cells.specs.declared.event.CellOp.TheVariants.{Load, Store, Add, Or, And, Xor, Swap}
 use Rattle.cells.specs.declared.event.CellOp.TheVariants.{CompareExchange}

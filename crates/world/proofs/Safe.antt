@@ -4,10 +4,10 @@ use Rattle.std.proofs.Common.{Err, ◌⊎◌, inl, inr, All, sym, subst}
 use Rattle.std.specs.Prelude.{slice_get, slice_set}
 use Rattle.std.specs.Arc.{arc_value}
 use Rattle.attrs.specs.Attributes.{Attributes, AreShort}
-use Rattle.bpf_machine.specs.bpf_semantics.Program.{ShapedProgram}
-use Rattle.bpf_machine.specs.bpf_semantics.State.{opening}
-use Rattle.bpf_machine.specs.bpf_semantics.Step.{step}
-use Rattle.bpf_machine.specs.bpf_verify.Covers.{EndsWell}
+use Rattle.bpf_semantics.specs.Program.{ShapedProgram}
+use Rattle.bpf_semantics.specs.State.{opening}
+use Rattle.bpf_semantics.specs.Step.{step}
+use Rattle.bpf_verify.specs.Covers.{EndsWell}
 use Rattle.cells.specs.Events.{AreCells}
 use Rattle.ruleset.specs.Rules.{Rules, IsRuleset, AlwaysEndsWell, appid_of}
 use Rattle.world.specs.World.{WorldState, Worker, Idle, Running, Ended, IsWorker, HasProgram}

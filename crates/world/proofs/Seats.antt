@@ -2,10 +2,10 @@
 use Rattle.std.proofs.Common.{◌≡◌, ℕ, ◌+◌, List, [], ◌∷◌, Option, Some, None, Ok, refl, sym, ap}
 use Rattle.std.proofs.Common.{subst, ◌∙◌}
 use Rattle.std.specs.Prelude.{slice_index}
-use Rattle.bpf_machine.specs.bpf_semantics.Program.{ShapedProgram}
-use Rattle.bpf_machine.specs.bpf_semantics.State.{State}
-use Rattle.bpf_machine.specs.bpf_semantics.Outcome.{Outcome, Going, Asks, Done, Trap}
-use Rattle.bpf_machine.specs.bpf_semantics.Step.{step}
+use Rattle.bpf_semantics.specs.Program.{ShapedProgram}
+use Rattle.bpf_semantics.specs.State.{State}
+use Rattle.bpf_semantics.specs.Outcome.{Outcome, Going, Asks, Done, Trap}
+use Rattle.bpf_semantics.specs.Step.{step}
 use Rattle.bpf_machine.specs.StandsFor.{Held, RunStandsFor, Agrees, Steps}
 use Rattle.bpf_machine.specs.declared.progress.Progress.TheVariants as progress
 use Rattle.cells.specs.Events.{IsEvent, reply_of, after}

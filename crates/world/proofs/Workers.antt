@@ -6,8 +6,8 @@ use Rattle.std.proofs.lemmas.Bool.{cases_eq}
 use Rattle.std.proofs.lemmas.Option.{slice_get_within}
 use Rattle.std.specs.declared.sync.Arc.{Arc}
 use Rattle.attrs.specs.Attributes.{Attributes}
-use Rattle.bpf_machine.specs.bpf_semantics.State.{State}
-use Rattle.bpf_machine.specs.bpf_semantics.Program.{ShapedProgram}
+use Rattle.bpf_semantics.specs.State.{State}
+use Rattle.bpf_semantics.specs.Program.{ShapedProgram}
 use Rattle.world.specs.World.{WorldState, Worker, Idle, Running, Ended, IsWorker, IsRunning}
 use Rattle.world.specs.Happens.{Answer, Happens}
 use Rattle.world.specs.InTime.{TakesItsStep}

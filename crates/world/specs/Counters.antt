@@ -1,7 +1,7 @@
 -- A step of the machine on shared counters: what it asks of them, how it goes on with the reply,
 -- and what it leaves.
 use Rattle.std.specs.Prelude.{ℕ, List, [], ◌∷◌, slice_index, slice_set}
-use Rattle.bpf_machine.specs.bpf_semantics.Outcome.{Outcome, Going, Asks, Done, Trap}
+use Rattle.bpf_semantics.specs.Outcome.{Outcome, Going, Asks, Done, Trap}
 use Rattle.cells.specs.declared.event.CellEvent.{CellEvent}
 use Rattle.cells.specs.Events.{limit, after, reply_of}
 

@@ -2,10 +2,10 @@
 use Rattle.std.specs.Prelude.{◌≡◌, ℕ, ◌+◌, ◌≤◌, List, [], ◌∷◌, length, Result, Ok, Err}
 use Rattle.std.specs.Arc.{arc_value}
 use Rattle.attrs.specs.Attributes.{Attributes, AreShort}
-use Rattle.bpf_machine.specs.bpf_semantics.State.{State, opening}
-use Rattle.bpf_machine.specs.bpf_semantics.Step.{step}
-use Rattle.bpf_machine.specs.bpf_semantics.Outcome.{Outcome, Going, Done}
-use Rattle.bpf_machine.specs.bpf_semantics.Program.{ShapedProgram}
+use Rattle.bpf_semantics.specs.State.{State, opening}
+use Rattle.bpf_semantics.specs.Step.{step}
+use Rattle.bpf_semantics.specs.Outcome.{Outcome, Going, Done}
+use Rattle.bpf_semantics.specs.Program.{ShapedProgram}
 use Rattle.ruleset.specs.Rules.{Rules, IsRuleset, appid_of}
 use Rattle.world.specs.World.{WorldState, Worker, Idle, Running, Ended, IsWorker, IsIdle, IsRunning}
 use Rattle.world.specs.World.{with_worker, with_ruleset, HasProgram, newest}

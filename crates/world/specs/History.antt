@@ -1,10 +1,10 @@
 -- What a worker's Steps do to the counters in a run of the world, and how its own run ends by them.
 use Rattle.std.specs.Prelude.{ℕ, List, [], ◌∷◌, ◌++◌, Option, Some, None, slice_get, ◌==◌}
 use Rattle.std.specs.Prelude.{if◌then◌else◌}
-use Rattle.bpf_machine.specs.bpf_semantics.Program.{ShapedProgram}
-use Rattle.bpf_machine.specs.bpf_semantics.State.{State}
-use Rattle.bpf_machine.specs.bpf_semantics.Step.{step}
-use Rattle.bpf_machine.specs.bpf_semantics.Run.{Ends}
+use Rattle.bpf_semantics.specs.Program.{ShapedProgram}
+use Rattle.bpf_semantics.specs.State.{State}
+use Rattle.bpf_semantics.specs.Step.{step}
+use Rattle.bpf_semantics.specs.Run.{Ends}
 use Rattle.cells.specs.declared.event.CellEvent.{CellEvent}
 use Rattle.world.specs.World.{WorldState, Worker, Idle, Running, Ended}
 use Rattle.world.specs.Counters.{asked}

@@ -1,8 +1,8 @@
 -- How long a run takes: it goes on by each Step, and ends within as many as its program has slots.
 use Rattle.std.specs.Prelude.{◌≡◌, ℕ, ◌+◌, suc, ◌≤◌, List, [], ◌∷◌, length, Some, Ok, IsOk, take}
 use Rattle.std.specs.Prelude.{slice_get, ◌==◌, if◌then◌else◌}
-use Rattle.bpf_machine.specs.bpf_semantics.State.{State}
-use Rattle.bpf_machine.specs.bpf_semantics.Program.{ShapedProgram}
+use Rattle.bpf_semantics.specs.State.{State}
+use Rattle.bpf_semantics.specs.Program.{ShapedProgram}
 use Rattle.world.specs.World.{WorldState, Worker, Running, IsWorker, IsRunning}
 use Rattle.world.specs.Happens.{Answer, Happens, Plays}
 use Rattle.world.specs.History.{EndsDuring}

@@ -2,11 +2,11 @@
 -- ruleset.
 use Rattle.std.specs.Prelude.{◌≢◌, ℕ, ◌<◌, ◌≤◌, All, length, Ok}
 use Rattle.attrs.specs.Attributes.{Attributes}
-use Rattle.bpf_machine.specs.bpf_semantics.State.{State}
-use Rattle.bpf_machine.specs.bpf_semantics.Step.{step}
-use Rattle.bpf_machine.specs.bpf_semantics.Outcome.{Trap}
-use Rattle.bpf_machine.specs.bpf_semantics.Program.{ShapedProgram}
-use Rattle.bpf_machine.specs.bpf_verify.Covers.{EndsWell}
+use Rattle.bpf_semantics.specs.State.{State}
+use Rattle.bpf_semantics.specs.Step.{step}
+use Rattle.bpf_semantics.specs.Outcome.{Trap}
+use Rattle.bpf_semantics.specs.Program.{ShapedProgram}
+use Rattle.bpf_verify.specs.Covers.{EndsWell}
 use Rattle.cells.specs.Events.{AreCells}
 use Rattle.ruleset.specs.Rules.{IsRuleset, appid_of}
 use Rattle.world.specs.World.{WorldState, Running, Ended, IsWorker, HasProgram}

@@ -1,11 +1,11 @@
 -- What a seat stands for, what it keeps, and what a step and a finish make of it.
 use Rattle.std.specs.Prelude.{◌≡◌, ℕ, ◌+◌, ◌≤◌, List, length, Some, None, false, Result, Ok, Err}
 use Rattle.attrs.specs.Attributes.{Attributes, AreShort}
-use Rattle.bpf_machine.specs.bpf_semantics.State.{State, opening}
-use Rattle.bpf_machine.specs.bpf_semantics.Step.{step}
-use Rattle.bpf_machine.specs.bpf_semantics.Outcome.{Going, Done}
-use Rattle.bpf_machine.specs.bpf_semantics.Program.{ShapedProgram}
-use Rattle.bpf_machine.specs.bpf_verify.Covers.{EndsWell}
+use Rattle.bpf_semantics.specs.State.{State, opening}
+use Rattle.bpf_semantics.specs.Step.{step}
+use Rattle.bpf_semantics.specs.Outcome.{Going, Done}
+use Rattle.bpf_semantics.specs.Program.{ShapedProgram}
+use Rattle.bpf_verify.specs.Covers.{EndsWell}
 use Rattle.bpf_machine.specs.StandsFor.{Held}
 use Rattle.bpf_machine.specs.StandsFor as machine
 use Rattle.ruleset.specs.Rules.{Rules, Offers, OffersNone, appid_of}

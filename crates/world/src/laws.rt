@@ -6,7 +6,7 @@ ghost use Rattle.world.specs.OwnRun.{FinishesItsRun, FinishesStartedRun, Chooses
 ghost use Rattle.world.specs.Batches.{BatchesJoin, BatchesPart};
 ghost use Rattle.world.specs.Course.{HasOneCourse, RulesetsStay};
 
-use bpf_machine::bpf_semantics::counts_instructions;
+use bpf_semantics::counts_instructions;
 use cells::events_fit;
 
 /// A run that isn't done takes its next Step: a Step of its worker isn't refused.

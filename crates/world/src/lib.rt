@@ -40,10 +40,3 @@ pub use laws::{
 };
 pub use run::play;
 pub use world::World;
-
-// The words of the contracts here come with them.
-pub use attrs;
-pub use bpf_machine;
-pub use bpf_machine::{bpf_verify, flow_check};
-pub use cells;
-pub use ruleset;

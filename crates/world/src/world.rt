@@ -12,7 +12,7 @@ use crate::event::{Effect, Event, WorldFault};
 use crate::seat::Seat;
 use attrs::Attrs;
 use bpf_machine::Run;
-use bpf_machine::bpf_semantics::counts_instructions;
+use bpf_semantics::counts_instructions;
 use cells::{CellNo, PlainCells, PlainPass, events_fit};
 use ruleset::Ruleset;
 use std::alloc::Global;

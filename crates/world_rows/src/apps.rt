@@ -6,13 +6,13 @@ ghost use Rattle.std.specs.Prelude.{◌≡◌, ◌≤◌, IfOk, length};
 use acceptance::accept;
 use attrs::{Attrs, Text};
 use bpf_text::assemble;
+use bpf_verify::Verified;
 use cells::Shape;
 use releases::{Package, Release, is_appid};
+use ruleset::{App, Ruleset};
 use std::alloc::{AllocError, Global};
 use std::sync::Arc;
 use std::test::Fail;
-use world::bpf_verify::Verified;
-use world::ruleset::{App, Ruleset};
 use world::{Effect, Event, World, WorldFault, play};
 
 /// Chooses the first release for buckets below 100.

@@ -7,11 +7,11 @@ use crate::apps::TAKE;
 use attrs::{AttrFault, Attrs};
 use bpf_insn::InsnFault;
 use bpf_text::{AsmFault, AsmFaultKind, ListFault, assemble, listing};
+use bpf_verify::{Refusal, VerifierRule, verify};
 use cells::{ArrayNo, CellWidth, CellsFault, Directory, Shape};
+use flow_check::{Flow, FlowFault, FlowRule};
 use std::alloc::Global;
 use std::test::Fail;
-use world::bpf_verify::{Refusal, VerifierRule, verify};
-use world::flow_check::{Flow, FlowFault, FlowRule};
 
 /// The answer of a call, or of a second one where the first is this refusal of memory. With a
 /// runtime and a line, that is printed in between.

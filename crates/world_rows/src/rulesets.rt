@@ -5,9 +5,9 @@ use crate::apps::{NONE, app_over};
 use crate::table::must;
 use cells::Shape;
 use releases::is_appid;
+use ruleset::{App, Ruleset, RulesetFault};
 use std::alloc::Global;
 use std::test::Fail;
-use world::ruleset::{App, Ruleset, RulesetFault};
 
 /// Adds apps of a program that chooses none, each with so many releases.
 fn push_apps(alloc: Global, apps: &mut Vec<App>, given: &[(&str, u8)]) -> Result<(), Fail> {

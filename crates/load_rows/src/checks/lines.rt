@@ -2,16 +2,16 @@
 //! what a check prints of the further ones, is the same.
 
 use crate::sample::must;
+use acceptance::{ProgramFault, RuleTextFault};
+use bpf_insn::InsnFault;
+use bpf_verify::{Refusal, VerifierRule};
 use cells::CellsFault;
 use diagnosis::refusal_line;
+use flow_check::{FlowFault, FlowRule};
 use load::LoadFault;
-use load::acceptance::bpf_verify::bpf_rules::bpf_insn::InsnFault;
-use load::acceptance::bpf_verify::{Refusal, VerifierRule};
-use load::acceptance::flow_check::{FlowFault, FlowRule};
-use load::acceptance::rule_compile::CompileFault;
-use load::acceptance::rule_lang::{RuleFault, RuleFaultKind};
-use load::acceptance::{ProgramFault, RuleTextFault};
-use load::manifest::{ManifestFault, Misfit, TomlFault};
+use manifest::{ManifestFault, Misfit, TomlFault};
+use rule_compile::CompileFault;
+use rule_lang::{RuleFault, RuleFaultKind};
 use std::alloc::Global;
 use std::test::Fail;
 

@@ -3,7 +3,7 @@
 use super::Loader;
 use crate::sample::repeated;
 use cells::Directory;
-use load::ruleset::App;
+use ruleset::App;
 use std::alloc::{AllocError, Global};
 use std::fmt::Write;
 use std::test::Fail;

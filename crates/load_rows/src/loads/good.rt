@@ -4,7 +4,7 @@ use super::{Loader, SAMPLE};
 use crate::sample::must;
 use bpf_text::{ListFault, listing};
 use cells::Directory;
-use load::ruleset::{App, Ruleset};
+use ruleset::{App, Ruleset};
 use std::alloc::Global;
 use std::test::Fail;
 

@@ -6,7 +6,7 @@ use super::{SAMPLE, ruleset_from};
 use crate::files::MemFiles;
 use cells::{CellArray, CellWidth, CellsFault, Directory};
 use load::LoadFault;
-use load::ruleset::Ruleset;
+use ruleset::Ruleset;
 use std::alloc::{AllocError, Global};
 use std::test::Fail;
 

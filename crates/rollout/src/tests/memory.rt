@@ -1,16 +1,16 @@
 //! Memory that is refused to the command: a refusal of its own, status 1, and nothing printed else.
 //! And a write that fails.
 
-use commands::command_line::WordsFault;
+use command_line::WordsFault;
 use commands::{Device, LogOutput, command, unreadable_words, usage};
-use std::io::ErrorKind;
+use std::fs;
+use std::io::{self, ErrorKind};
 use std::net::{Net, TcpListener, TcpStream};
 use std::rt::Files;
 use std::sync::Wait;
 use std::test::Fail;
 use std::thread::Threads;
 use std::time::Clock;
-use std::{fs, io};
 
 /// The memory that the words want is the command's own: B4, and no fault of the words.
 #[test]

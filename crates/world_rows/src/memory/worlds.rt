@@ -4,13 +4,13 @@ use super::{print_line, quota_of_two};
 use crate::apps::{TAKE, app_of, applied, played};
 use attrs::Attrs;
 use bpf_text::assemble;
+use bpf_verify::{Refusal, Verified, verify};
 use cells::CellNo;
+use flow_check::Flow;
+use ruleset::{Ruleset, RulesetFault};
 use std::alloc::{AllocError, Global};
 use std::sync::Arc;
 use std::test::Fail;
-use world::bpf_verify::{Refusal, Verified, verify};
-use world::flow_check::Flow;
-use world::ruleset::{Ruleset, RulesetFault};
 use world::{Effect, Event, World, WorldFault};
 
 /// The program that takes of a quota of two.

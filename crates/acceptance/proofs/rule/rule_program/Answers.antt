@@ -1,5 +1,5 @@
 use Rattle.std.proofs.Common.{subst, List, ℕ}
-use Rattle.rule_compile.specs.rule_lang.Verdicts.{IsRuleFault}
+use Rattle.rule_lang.specs.Verdicts.{IsRuleFault}
 use Rattle.acceptance.specs.Rule.{no_text}
 use Rattle.acceptance.proofs.Texts.{text_fault}
 use Rattle.acceptance.proofs.rule.rule_program.Goals as goal

@@ -1,7 +1,7 @@
 use Rattle.std.proofs.Common.{◌≡◌, ◌∙◌, None, Some, List, ℕ, true, false, ap, sym, rules}
 use Rattle.std.specs.Prelude.{unwrap_or}
 use Rattle.attrs.specs.Bucket.{named_bucket}
-use Rattle.hot_swap.specs.rulesets.Rules.{app_of}
+use Rattle.ruleset.specs.Rules.{app_of}
 use Rattle.answering.proofs.Grown.{grows_none, grows_ran, grows_found, not_true, not_false}
 use Rattle.answering.proofs.Grown.{finds_none, finds_unasked, found_is}
 use Rattle.answering.proofs.apps.run_app.Goals as goal

@@ -1,9 +1,9 @@
 use Rattle.std.proofs.Common.{rules, ◌≡◌}
 use Rattle.std.proofs.lemmas.Int.{to_z-of_z}
-use Rattle.bpf_verify.specs.bpf_semantics.Memory.{address_of}
+use Rattle.bpf_semantics.specs.Memory.{address_of}
 use Rattle.bpf_machine.specs.Words.{register_word}
 use Rattle.bpf_machine.specs.Next.{IsLoadable}
-use Rattle.bpf_verify.specs.bpf_semantics.Reads.{load_count}
+use Rattle.bpf_semantics.specs.Reads.{load_count}
 use Rattle.bpf_machine.proofs.Loads.{load_ready, load_agrees, load_asks}
 use Rattle.bpf_machine.proofs.access.load_register.Goals as goal
 use Rattle.bpf_machine.proofs.access.load_register.Goals.{After-add_offset-address}

@@ -1,6 +1,6 @@
 use Rattle.std.proofs.Common.{◌≡◌}
 use Rattle.std.proofs.lemmas.Int.{to_z-of_z}
-use Rattle.bpf_verify.specs.bpf_semantics.Memory.{address_of}
+use Rattle.bpf_semantics.specs.Memory.{address_of}
 use Rattle.bpf_machine.specs.Words.{register_word}
 use Rattle.bpf_machine.proofs.Asking.{atomic_ready, atomic_agrees}
 use Rattle.bpf_machine.proofs.counters.ask_counter.Goals as goal

@@ -1,5 +1,5 @@
 use Rattle.std.proofs.Common.{◌∙◌, ◌+◌, ap, sym, refl}
-use Rattle.bpf_rules.specs.bpf_semantics.Program.{shaped}
+use Rattle.bpf_semantics.specs.Program.{shaped}
 use Rattle.bpf_verify.specs.Entries.{at_hand}
 use Rattle.bpf_verify.proofs.Visits.{none_fine, refused, passes}
 use Rattle.bpf_verify.proofs.sweep.judge.Goals as goal

@@ -1,5 +1,5 @@
 use Rattle.std.proofs.Common.{◌∙◌, ap, arith}
-use Rattle.bpf_rules.specs.bpf_semantics.Program.{shaped}
+use Rattle.bpf_semantics.specs.Program.{shaped}
 use Rattle.bpf_verify.specs.Entries.{at_hand}
 use Rattle.bpf_verify.specs.Kept.{greatest_kept}
 use Rattle.bpf_verify.proofs.Visits.{swept_most, at_end, end_accepted}

@@ -1,4 +1,4 @@
-use Rattle.bpf_rules.specs.bpf_semantics.Program.{shaped}
+use Rattle.bpf_semantics.specs.Program.{shaped}
 use Rattle.bpf_verify.specs.Entries.{at_hand}
 use Rattle.bpf_verify.proofs.Visits.{end_accepted}
 use Rattle.bpf_verify.proofs.walk.end_is_accepted.Goals as goal

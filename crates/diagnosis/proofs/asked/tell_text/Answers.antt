@@ -1,5 +1,5 @@
 use Rattle.std.proofs.Common.{refl, ap, ◌∙◌}
-use Rattle.load.specs.acceptance.bpf_semantics.Program.{ShapedProgram}
+use Rattle.bpf_semantics.specs.Program.{ShapedProgram}
 use Rattle.warnings.specs.Asking.{rule_of}
 use Rattle.diagnosis.specs.Asked.AddsFile.{no_rule}
 use Rattle.diagnosis.proofs.AppsTold.{added_rule, refused_rule}

@@ -1,6 +1,6 @@
 use Rattle.std.proofs.Common.{◌≡◌, ℕ, sym, ap, ◌∙◌, string_bytes}
-use Rattle.bpf_verify.specs.bpf_rules.bpf_insn.Program.{at}
-use Rattle.bpf_verify.specs.bpf_semantics.Program.{shaped}
+use Rattle.bpf_insn.specs.Program.{at}
+use Rattle.bpf_semantics.specs.Program.{shaped}
 use Rattle.bpf_verify.specs.Accepted.{entry_of}
 use Rattle.explaining.proofs.Reasons.{is_refused_place}
 use Rattle.explaining.proofs.refused.tell_place.Goals as goal

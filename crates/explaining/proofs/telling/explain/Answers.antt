@@ -1,6 +1,6 @@
 use Rattle.std.proofs.Common.{List, string_bytes, subst}
-use Rattle.bpf_verify.specs.bpf_semantics.Program.{shaped}
-use Rattle.bpf_verify.specs.bpf_rules.cells.declared.array.CellArray.{CellArray}
+use Rattle.bpf_semantics.specs.Program.{shaped}
+use Rattle.cells.specs.declared.array.CellArray.{CellArray}
 use Rattle.explaining.specs.Values.{HaveNames}
 use Rattle.explaining.proofs.Naming.{named_plainly}
 use Rattle.explaining.proofs.Skipped.{assembles}

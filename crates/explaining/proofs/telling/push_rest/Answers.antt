@@ -1,6 +1,6 @@
 use Rattle.std.proofs.Common.{None, List, ℕ, ◌++◌, ◌∙◌, ap, arith, codes, string_bytes}
 use Rattle.bpf_text.specs.Remarks.{bare_line}
-use Rattle.bpf_verify.specs.bpf_semantics.Program.{shaped}
+use Rattle.bpf_semantics.specs.Program.{shaped}
 use Rattle.explaining.proofs.Texts.{bare_gathered}
 use Rattle.explaining.proofs.Walking.{place_there, parts_next, tells_next, tells_whole}
 use Rattle.explaining.proofs.telling.push_rest.Goals as goal

@@ -1,6 +1,6 @@
 use Rattle.std.proofs.Common.{◌-◌, None, length, string_bytes}
-use Rattle.bpf_verify.specs.bpf_semantics.Program.{shaped}
-use Rattle.bpf_verify.specs.bpf_rules.cells.Arrays.{AppShape}
+use Rattle.bpf_semantics.specs.Program.{shaped}
+use Rattle.cells.specs.Arrays.{AppShape}
 use Rattle.explaining.specs.Lines.{WalkParts, TellsOn}
 use Rattle.explaining.proofs.telling.push_rest.Given as goal
 

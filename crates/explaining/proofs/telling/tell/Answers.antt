@@ -1,8 +1,8 @@
 use Rattle.std.proofs.Common.{Some, Option, ◌∙◌, arith, string_bytes}
 use Rattle.std.proofs.Common.{subst}
 use Rattle.std.specs.Option.{option_copied}
-use Rattle.bpf_verify.specs.bpf_semantics.Program.{shaped}
-use Rattle.bpf_verify.specs.flow_check.Edges.{next_of}
+use Rattle.bpf_semantics.specs.Program.{shaped}
+use Rattle.flow_check.specs.Edges.{next_of}
 use Rattle.explaining.specs.declared.way.Way.{Way}
 use Rattle.explaining.specs.Lines.{TellsOn}
 use Rattle.explaining.proofs.Walking.{parts_next, tells_first, tells_next, tells_whole}

@@ -1,6 +1,6 @@
 use Rattle.std.proofs.Common.{◌-◌, Some, length, string_bytes}
 use Rattle.bpf_verify.specs.Walk.{IsWalkBefore}
-use Rattle.bpf_verify.specs.bpf_semantics.Program.{shaped}
+use Rattle.bpf_semantics.specs.Program.{shaped}
 use Rattle.explaining.specs.Lines.{TellsOn}
 use Rattle.explaining.proofs.telling.tell.Given as goal
 

@@ -1,5 +1,5 @@
 use Rattle.std.proofs.Common.{rules, ◌≡◌, Err}
-use Rattle.manifest.specs.declarations.Order.{AreDeclared}
+use Rattle.declarations.specs.Order.{AreDeclared}
 use Rattle.load.specs.Apps.{AreAppsOf, RefusesApps}
 use Rattle.load.specs.Load.{RefusesArrays, of_bytes, of_arrays, of_apps}
 use Rattle.load.proofs.Names.{never_twice}

@@ -1,10 +1,10 @@
 use Rattle.std.proofs.Common.{◌≡◌, ◌∙◌, List, subst}
 use Rattle.std.specs.Arc.{arc_value}
-use Rattle.command_line.specs.attrs.Attributes.{Attributes}
-use Rattle.command_line.specs.cells.declared.event.CellEvent.{CellEvent}
-use Rattle.bpf_machine.specs.bpf_semantics.Program.{ShapedProgram}
-use Rattle.bpf_machine.specs.bpf_semantics.Run.{Ends}
-use Rattle.bpf_machine.specs.bpf_semantics.State.{opening}
+use Rattle.attrs.specs.Attributes.{Attributes}
+use Rattle.cells.specs.declared.event.CellEvent.{CellEvent}
+use Rattle.bpf_semantics.specs.Program.{ShapedProgram}
+use Rattle.bpf_semantics.specs.Run.{Ends}
+use Rattle.bpf_semantics.specs.State.{opening}
 use Rattle.program_tools.proofs.Events.{all_fit}
 use Rattle.program_tools.proofs.run.choose.Goals as goal
 

@@ -1,6 +1,6 @@
 use Rattle.std.proofs.Common.{subst, string_bytes}
 use Rattle.std.specs.Prelude.{IfOk}
-use Rattle.command_line.specs.attrs.Attributes.{Attributes}
+use Rattle.attrs.specs.Attributes.{Attributes}
 use Rattle.tracing.specs.Trace.{IsTrace}
 use Rattle.program_tools.proofs.run.traced.Goals as goal
 

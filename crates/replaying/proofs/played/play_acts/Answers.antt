@@ -1,5 +1,5 @@
 use Rattle.std.specs.Arc.{arc_value}
-use Rattle.replay.specs.world.World.{opening_world}
+use Rattle.world.specs.World.{opening_world}
 use Rattle.replaying.proofs.OneRun.{one_run}
 use Rattle.replaying.proofs.played.play_acts.Goals as goal
 

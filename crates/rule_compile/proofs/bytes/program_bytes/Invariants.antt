@@ -1,6 +1,6 @@
 use Rattle.std.proofs.Common.{◌≡◌, ◌++◌, length}
 use Rattle.std.specs.List.{AllByRecursion}
-use Rattle.bpf_verify.specs.flow_check.Flow as flow
+use Rattle.flow_check.specs.Flow as flow
 use Rattle.rule_compile.specs.Writing.{CanEncode}
 use Rattle.rule_compile.proofs.bytes.program_bytes.Given as goal
 

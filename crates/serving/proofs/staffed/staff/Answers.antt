@@ -1,6 +1,6 @@
 use Rattle.std.proofs.Common.{All, sym, ap, subst, ◌∙◌, arith}
-use Rattle.workers.specs.operator.hot_swap.Latest.{Publishing}
-use Rattle.workers.specs.operator.hot_swap.Published.{Beginning}
+use Rattle.hot_swap.specs.Latest.{Publishing}
+use Rattle.hot_swap.specs.Published.{Beginning}
 use Rattle.serving.specs.Staff.{IsNewWorker}
 use Rattle.serving.proofs.Staffing.{is_staff}
 use Rattle.serving.proofs.staffed.staff.Goals as goal

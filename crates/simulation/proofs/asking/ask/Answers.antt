@@ -2,9 +2,9 @@ use Rattle.std.proofs.Common.{◌≡◌, ◌∙◌, List, subst}
 use Rattle.std.specs.Arc.{arc_value}
 use Rattle.attrs.specs.Attributes.{Attributes}
 use Rattle.cells.specs.declared.event.CellEvent.{CellEvent}
-use Rattle.bpf_machine.specs.bpf_semantics.Program.{ShapedProgram}
-use Rattle.bpf_machine.specs.bpf_semantics.State.{opening}
-use Rattle.bpf_machine.specs.bpf_semantics.Run.{Ends}
+use Rattle.bpf_semantics.specs.Program.{ShapedProgram}
+use Rattle.bpf_semantics.specs.State.{opening}
+use Rattle.bpf_semantics.specs.Run.{Ends}
 use Rattle.simulation.specs.Clients.{attributes}
 use Rattle.simulation.proofs.asking.ask.Goals as goal
 

@@ -1,7 +1,7 @@
 use Rattle.std.proofs.Common.{◌++◌, codes, string_bytes}
 use Rattle.std.specs.Fmt.{decimal}
 use Rattle.reference.specs.Marks.{state_of}
-use Rattle.explaining.specs.bpf_text.Remarks.{bare_line}
+use Rattle.bpf_text.specs.Remarks.{bare_line}
 use Rattle.tracing.specs.Lines as specs
 use Rattle.tracing.proofs.Texts.{gathered}
 use Rattle.tracing.proofs.line.push_step.Goals as goal

@@ -1,9 +1,9 @@
 use Rattle.std.proofs.Common.{◌≡◌, ◌∙◌, ap, subst, string_bytes, Some, None, arith}
 use Rattle.std.specs.Arc.{arc_value}
-use Rattle.explaining.specs.bpf_semantics.Outcome.{Going, Done}
-use Rattle.explaining.specs.bpf_semantics.Program.{ShapedProgram}
-use Rattle.explaining.specs.bpf_semantics.State.{State, opening}
-use Rattle.explaining.specs.bpf_semantics.Step.{step}
+use Rattle.bpf_semantics.specs.Outcome.{Going, Done}
+use Rattle.bpf_semantics.specs.Program.{ShapedProgram}
+use Rattle.bpf_semantics.specs.State.{State, opening}
+use Rattle.bpf_semantics.specs.Step.{step}
 use Rattle.reference.specs.Observed.{IsEventStep}
 use Rattle.reference.specs.Marks.{state_of}
 use Rattle.tracing.proofs.Steps.{told_nothing, went, replied, ended, ahead, ahead_asked}

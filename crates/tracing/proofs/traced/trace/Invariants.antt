@@ -1,6 +1,6 @@
 use Rattle.std.proofs.Common.{◌-◌, length, string_bytes}
 use Rattle.std.specs.Arc.{arc_value}
-use Rattle.explaining.specs.bpf_semantics.State.{opening}
+use Rattle.bpf_semantics.specs.State.{opening}
 use Rattle.reference.specs.Marks.{state_of}
 use Rattle.tracing.proofs.Steps.{IsTold}
 use Rattle.tracing.proofs.traced.trace.Given as goal

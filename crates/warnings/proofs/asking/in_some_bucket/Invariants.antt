@@ -1,6 +1,6 @@
 use Rattle.std.proofs.Common.{◌≡◌, ◌≤◌, ◌-◌, ℕ, false}
 use Rattle.std.specs.Prelude.{option_copied}
-use Rattle.releases.specs.attrs.Attributes.{plain}
+use Rattle.attrs.specs.Attributes.{plain}
 use Rattle.warnings.specs.Asking.{answer, any_below, rule_of}
 use Rattle.warnings.proofs.asking.in_some_bucket.Given as goal
 

@@ -2,7 +2,7 @@ use Rattle.std.proofs.Common.{List, length, sym, ap, subst, ◌∙◌, arith}
 use Rattle.std.specs.List.{AllZip}
 use Rattle.std.specs.declared.thread.PromisedHandle.{PromisedHandle}
 use Rattle.std.proofs.lemmas.List.Elements.{All-rest}
-use Rattle.server_log.specs.operator.hot_swap.Published.{Beginning}
+use Rattle.hot_swap.specs.Published.{Beginning}
 use Rattle.workers.specs.Promised.{IsPromiseOf}
 use Rattle.workers.specs.declared.promise.OfWorker.{OfWorker}
 use Rattle.workers.proofs.InPlace.{all_have, one_more}

@@ -1,5 +1,5 @@
 use Rattle.std.specs.Prelude.{◌≡◌}
-use Rattle.server_log.specs.operator.hot_swap.Published.{GoesOnwards}
+use Rattle.hot_swap.specs.Published.{GoesOnwards}
 use Rattle.workers.specs.Back.{OperatorBack}
 use Rattle.workers.proofs.operating.operate.Given as goal
 

@@ -1,4 +1,4 @@
-use Rattle.bpf_rules.specs.bpf_semantics.Program.{shaped}
+use Rattle.bpf_semantics.specs.Program.{shaped}
 use Rattle.bpf_verify.specs.Entries.{at_hand}
 use Rattle.bpf_verify.proofs.Visits.{arrives}
 use Rattle.bpf_verify.proofs.walk.Walk.arrive.Goals as goal

@@ -1,5 +1,5 @@
 use Rattle.std.proofs.Common.{sym, Some}
-use Rattle.load.specs.bounded_files.Files.{regular_files}
+use Rattle.bounded_files.specs.Files.{regular_files}
 use Rattle.load_rows.specs.Files.{given}
 use Rattle.load_rows.proofs.files.MemFilesDisk.read_regular.Goals as goal
 

@@ -1,5 +1,5 @@
 use Rattle.std.proofs.Common.{arith}
-use Rattle.bpf_verify.specs.bpf_semantics.State.{opening}
+use Rattle.bpf_semantics.specs.State.{opening}
 use Rattle.ruleset.specs.Rules.{AlwaysEndsWell}
 use Rattle.ruleset.proofs.app.App.new.Goals as goal
 

@@ -1,7 +1,7 @@
 use Rattle.std.proofs.Common.{◌≡◌, ℕ, length, sym, ap, subst, arith}
 use Rattle.std.specs.Prelude.{Vec}
 use Rattle.std.specs.declared.alloc.Global.{Global}
-use Rattle.server_log.specs.operator.hot_swap.Published.{Beginning, GoesOnwards}
+use Rattle.hot_swap.specs.Published.{Beginning, GoesOnwards}
 use Rattle.workers.specs.Back.{OperatorBack, WorkersBack}
 use Rattle.workers.proofs.InPlace.{as_many}
 use Rattle.workers.proofs.Served.{all_back}
