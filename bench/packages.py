@@ -94,8 +94,9 @@ def archives(folder):
     if files(place / archive[: -len(".tar.gz")]) != INSTALLED:
         return f"{files(place)}"
     called("dpkg-deb", "--extract", str(place / package), str(place / "deb"))
-    more = {"lib/systemd/system/rollout.service", "lib/sysusers.d/rollout.conf"}
-    more |= {"lib/tmpfiles.d/rollout.conf", "share/doc/rollout/copyright"}
+    more = {f"lib/systemd/system/{it.name}" for it in DEPLOY.glob("*.service")}
+    more |= {f"lib/{it}.d/rollout.conf" for it in ("sysusers", "tmpfiles")}
+    more |= {"share/doc/rollout/copyright"}
     if files(place / "deb" / "usr") != INSTALLED | more:
         return f"{files(place / 'deb')}"
 
@@ -139,15 +140,17 @@ def package(folder):
     try:
         for it in (ROOT / "examples" / "staged").iterdir():
             shutil.copy(it, "/etc/rollout")
-        unit = "/usr/lib/systemd/system/rollout.service"
-        found = called("systemd-analyze", "verify", "--man=no", unit)
+        names = ["rollout.service", "rollout@.service", "rollout-nft.service"]
+        units = [f"/usr/lib/systemd/system/{it}" for it in names]
+        # The third one's command may not be installed here.
+        found = called("systemd-analyze", "verify", "--man=no", *units[:2])
         wrong = served("/etc/rollout/manifest.toml") or (None if found == (0, "") else f"{found}")
     finally:
         removed = called("dpkg", "--purge", "rollout")
         shutil.rmtree("/etc/rollout", ignore_errors=True)
     if wrong or removed[0] != 0:
         return wrong or f"not removed: {removed}"
-    left = [it for it in ("/usr/bin/rollout", "/usr/share/rollout", "/var/log/rollout", unit)]
+    left = ["/usr/bin/rollout", "/usr/share/rollout", "/var/log/rollout", *units]
     left = [it for it in left if Path(it).exists()]
     return f"left behind: {left}" if left else None
 

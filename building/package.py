@@ -15,6 +15,7 @@ from building.version import number, told
 
 DEBIAN = ROOT / "packaging"
 DEPLOY = ROOT / "examples" / "deploy"
+UNITS = ["rollout.service", "rollout@.service", "rollout-nft.service"]
 
 
 def moment():
@@ -56,13 +57,13 @@ def write_archive(folder):
         set_in_place(file, folder / file.name)
 
 
-def unit():
-    """The unit, with the package's paths and its user, whom systemd makes when it is installed."""
-    text = (DEPLOY / "rollout.service").read_text()
+def unit(name):
+    """A unit with the package's paths, and without what the package itself does at its install."""
+    text = (DEPLOY / name).read_text()
     lines = [it for it in text.splitlines() if not it.startswith(("#   install ", "#   cp rollout"))]
     text = "\n".join(lines) + "\n"
     text = text.replace("#   systemctl daemon-reload && ", "#   ")
-    return text.replace("/opt/rollout/", "/usr/").replace("DynamicUser=yes", "User=rollout")
+    return text.replace("/opt/rollout/", "/usr/")
 
 
 def lay_out(tree):
@@ -70,8 +71,8 @@ def lay_out(tree):
     copy_all(tree / "usr")
     texts = {it.name: it.read_text() for it in DEBIAN.iterdir()}
     places = {
-        "usr/lib/systemd/system/rollout.service": unit(),
-        "usr/lib/sysusers.d/rollout.conf": texts.pop("sysusers"),
+        **{f"usr/lib/systemd/system/{name}": unit(name) for name in UNITS},
+        "usr/lib/sysusers.d/rollout.conf": (DEPLOY / "rollout.sysusers").read_text(),
         "usr/lib/tmpfiles.d/rollout.conf": texts.pop("tmpfiles"),
         "usr/share/doc/rollout/copyright": texts.pop("copyright"),
         "etc/logrotate.d/rollout": (DEPLOY / "rollout.logrotate").read_text(),
