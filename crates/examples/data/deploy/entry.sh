@@ -1,0 +1,29 @@
+#!/bin/sh
+# Runs `rollout serve` with the words that it is given, as the first process of a container. Linux
+# gives such a process no default action for a signal, so by itself the server would pass over
+# SIGTERM, by which a container is stopped. Here SIGTERM and SIGINT do what `rollout stop --wait`
+# does: all that was accepted is answered, and then the container ends.
+set -u
+operator= before=
+for word; do
+    [ "$before" = --operator ] && operator=$word
+    case $word in --operator=*) operator=${word#*=} ;; esac
+    before=$word
+done
+
+rollout serve "$@" &
+server=$!
+
+# Where nobody is answered yet SIGTERM ends the server, which isn't the first process.
+stop() {
+    asked=yes
+    rollout stop --operator "$operator" --wait || kill "$server" 2>/dev/null
+}
+trap stop TERM INT
+
+# A signal ends a wait before the server has ended.
+while asked=; do
+    wait "$server"
+    status=$?
+    [ "$asked" ] && [ "$status" -gt 128 ] || exit "$status"
+done
