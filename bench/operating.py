@@ -9,10 +9,12 @@ import os
 import re
 import shutil
 import subprocess
-from pathlib import Path
 
-from deploying import PATIENCE, ROOT, awaited, needs
+from hosts import PATIENCE, ROOT, awaited, needs, section
+from upgrading import UPGRADES
 
+# Not the launcher, which looks at all sources each time: the page has a loop of a hundred calls.
+BUILT = ROOT / "crates" / "rollout" / "out" / "rlib" / "rollout"
 PORTS = {"8080": "18097", "8081": "18098"}
 ASKED = "curl -s http://127.0.0.1:8080/service/update2/json --data-binary @-"
 SERVING = "--port 8080 --operator 8081 --workers 1 --log"
@@ -31,13 +33,6 @@ COUNTS = [
 ]
 
 
-def blocks(page, title):
-    """The blocks of a section of a page."""
-    text = (ROOT / "docs" / page).read_text()
-    section = re.search(rf"^## {title}\n(.*?)(?=^## |\Z)", text, re.M | re.S)[1]
-    return re.findall(r"^```\w*\n(.*?)^```", section, re.M | re.S)
-
-
 class Day:
     """A folder in the place of /etc/rollout, in which blocks of the page are run."""
 
@@ -47,7 +42,7 @@ class Day:
         launcher = folder / "bin" / "rollout"
         launcher.write_text(f'#!/bin/sh\nexec {program} "$@"\n')
         launcher.chmod(0o755)
-        manifest, rule, *_ = blocks("OPERATING.md", "Writing a manifest")
+        manifest, rule, *_ = section("OPERATING.md", "Writing a manifest")
         (folder / "editor-5.toml").write_text(manifest)
         (folder / "editor-5.rule").write_text(rule)
         shutil.copy(folder / "editor-5.toml", folder / "current.toml")
@@ -88,10 +83,10 @@ class Day:
 
 def wrong_stages(day):
     """Of a stage that is raised, and then halted."""
-    raising, moves = blocks("OPERATING.md", "Raising a stage")
-    [placing] = blocks("OPERATING.md", "Putting a manifest in place")
-    halting, lost, putting = blocks("OPERATING.md", "Halting a release")
-    ask, buckets, _ = blocks("OPERATING.md", "What is being served")
+    raising, moves = section("OPERATING.md", "Raising a stage")
+    [placing] = section("OPERATING.md", "Putting a manifest in place")
+    halting, lost, putting = section("OPERATING.md", "Halting a release")
+    ask, buckets, _ = section("OPERATING.md", "What is being served")
     if NOTHING not in (said := day.run(ask)):
         return f"before: {said}"
     if not (said := day.run(raising)).startswith(CHECKED) or not said.endswith(moves):
@@ -112,7 +107,7 @@ def wrong_stages(day):
 
 def wrong_events(day):
     """Of requests with an event, and of one without a cohort."""
-    asked, told = blocks("CLIENTS.md", "The request")
+    asked, told = section("CLIENTS.md", "The request")
     answer = '{"app":[{"appid":"editor","cohort":"b:9449","status":"ok"}],'
     long = told.replace('"eventtype"', f'"text":"{"x" * 600}","eventtype"')
     for body in (told, told.replace('"eventresult":1', '"eventresult":0'), long):
@@ -123,7 +118,7 @@ def wrong_events(day):
 
 
 def wrong_counts(day):
-    recipes = [it for it in blocks("OPERATING.md", "The log") if it.startswith("jq ")]
+    recipes = [it for it in section("OPERATING.md", "The log") if it.startswith("jq ")]
     *counting, offers = recipes
     for recipe, counts in zip(counting, COUNTS, strict=True):
         found = [" ".join(line.split()) for line in day.run(recipe).splitlines()]
@@ -134,7 +129,7 @@ def wrong_counts(day):
         return f"{found} by {offers}"
 
 
-def day_of_the_page(folder, program=ROOT / "rollout"):
+def day_of_the_page(folder, program=BUILT):
     """A stage, the next one, and a halt that stays over a restart; and what its log tells."""
     needs("jq", "curl")
     day = Day(folder / "day", program)
@@ -144,8 +139,8 @@ def day_of_the_page(folder, program=ROOT / "rollout"):
     if wrong := wrong_counts(day):
         return wrong
     with day.served():
-        if NOTHING not in (said := day.run(blocks("OPERATING.md", "What is being served")[0])):
+        if NOTHING not in (said := day.run(section("OPERATING.md", "What is being served")[0])):
             return f"after a restart: {said}"
 
 
-PAGES = {"the commands of docs/OPERATING.md": day_of_the_page}
+PAGES = {"the commands of docs/OPERATING.md": day_of_the_page, **UPGRADES}

@@ -11,7 +11,7 @@ import sys
 import tarfile
 from pathlib import Path
 
-from deploying import DEPLOY, Skipped, awaited, called, needs
+from hosts import DEPLOY, Skipped, called, needs
 from launching import BARE, BUILT_FROM, ROOT, Repository
 
 SHARED = ["README.md", "CHANGELOG.md", "VERSION", "built-from", "docs/PROVING.md"]

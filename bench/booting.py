@@ -1,0 +1,200 @@
+"""A check of the unit of examples/deploy as it stands there, run by a systemd of its own: one that
+is the first process of namespaces, over files that are copied when they are written, and knows no
+other units of this host. So all is tried that confines the server, but for its memory.
+
+It gives nothing, or what was wrong. Where that can't be made, as without root, it is skipped.
+"""
+import contextlib
+import os
+import re
+import shutil
+import subprocess
+from pathlib import Path
+
+from hosts import ASK, DEPLOY, OFFERED, STAGED
+from hosts import Host, Skipped, awaited, called, child_of, needs, needs_root
+
+AS_ANOTHER = ["setpriv", "--reuid=65534", "--regid=65534", "--clear-groups"]
+PROGRAM, AT = "/opt/rollout/bin/rollout", ["--operator", "8081"]
+POST = "http://127.0.0.1:8080/service/update2/json"
+CONFINED = ["CapBnd:\t0000000000000000", "NoNewPrivs:\t1", "Seccomp:\t2"]
+FIRST = "/usr/lib/systemd/systemd"
+# $1 is an empty folder, and $2 has a folder for each of the host's that is to be another one.
+BOOT = """
+mount -t tmpfs tmpfs "$1" && mkdir "$1/up" "$1/work" "$1/new"
+mount -t overlay -o lowerdir=/,upperdir="$1/up",workdir="$1/work" overlay "$1/new"
+cd "$1/new"
+for it in etc usr/lib usr/local/lib; do
+    for its in $it/systemd/system $it/systemd/system-generators; do
+        [ ! -d $its ] || mount -t tmpfs tmpfs $its
+    done
+done
+cp -a "$2/." .
+mount -t proc proc proc
+mount --bind proc/sys proc/sys && mount -o remount,ro,bind proc/sys
+mount -t sysfs -o ro sysfs sys && mount -t cgroup2 cgroup2 sys/fs/cgroup
+mount -t tmpfs -o mode=755 tmpfs run && mkdir -m 1777 run/lock
+mount -t tmpfs -o mode=1777 tmpfs tmp
+mount -t tmpfs -o mode=755 tmpfs dev && mkdir dev/pts dev/mqueue && mkdir -m 1777 dev/shm
+mount -t devpts -o newinstance,ptmxmode=0666 devpts dev/pts
+for it in null:3 zero:5 full:7 random:8 urandom:9; do mknod -m 666 dev/${it%:*} c 1 ${it#*:}; done
+mknod -m 666 dev/tty c 5 0 && ln -s pts/ptmx dev/ptmx
+mkdir -p old && pivot_root . old && umount -l /old
+ip link set lo up
+exec env -i container=bench PATH=/usr/sbin:/usr/bin:/sbin:/bin "$3" --system --unit=basic.target
+"""
+TARGETS = ["basic", "sysinit", "shutdown", "multi-user"]
+# Folders of this host in which others may write, or may find room for one of theirs.
+PLACES = ["/dev/shm", "/dev/mqueue", "/run/lock", "/tmp", "/var/tmp", "/var/lib", "/srv", "/home"]
+
+def prepared(folder):
+    """What the booted one has beside this host's files."""
+    host, root = Host(folder / "host"), folder / "its"
+    for name in ("etc/systemd/system", "etc/sysusers.d", "etc/rollout", "opt", "var/log/rollout"):
+        (root / name).mkdir(parents=True)
+    shutil.copytree(host.top / "opt" / "rollout", root / "opt" / "rollout")
+    shutil.copytree(STAGED, root / "etc" / "rollout", dirs_exist_ok=True)
+    shutil.copy(STAGED / "manifest.toml", root / "etc" / "rollout" / "current.toml")
+    for it in DEPLOY.glob("*.service"):
+        shutil.copy(it, root / "etc" / "systemd" / "system")
+    shutil.copy(DEPLOY / "rollout.sysusers", root / "etc" / "sysusers.d" / "rollout.conf")
+    for it in TARGETS:
+        (root / "etc" / "systemd" / "system" / f"{it}.target").write_text("[Unit]\n")
+    return root
+
+
+@contextlib.contextmanager
+def own_group():
+    """A control group of its own, in which processes begin."""
+    mounts = re.findall(r"^\S+ (\S+) cgroup2 ", Path("/proc/self/mounts").read_text(), re.M)
+    within = re.search(r"^0::/(.*)$", Path("/proc/self/cgroup").read_text(), re.M)
+    if not mounts or not within:
+        raise Skipped("no control groups of the second version")
+    group = Path(mounts[0]) / within[1] / f"rollout-bench-{os.getpid()}"
+    try:
+        group.mkdir()
+    except OSError as error:
+        raise Skipped(f"no control group of its own: {error}") from None
+    try:
+        yield group
+    finally:
+        within = sorted((it for it in group.rglob("*") if it.is_dir()), reverse=True)
+        for it in [*within, group]:
+            awaited(lambda: not it.exists() or removed(it), 10)
+
+
+def removed(group):
+    with contextlib.suppress(OSError):
+        group.rmdir()
+        return True
+
+
+@contextlib.contextmanager
+def booted(folder):
+    """The words by which a command is called beside the systemd that has booted."""
+    root = prepared(folder)
+    (folder / "top").mkdir()
+    apart = ["unshare", "--mount", "--pid", "--fork", "--kill-child", "--net", "--uts", "--ipc"]
+    boot = ["sh", "-ec", BOOT, "boot", str(folder / "top"), str(root), FIRST]
+    with own_group() as group, open(folder / "boot", "wb") as told:
+
+        def enter():
+            (group / "cgroup.procs").write_text(str(os.getpid()))
+
+        how = {"stdin": subprocess.DEVNULL, "stdout": told, "stderr": told, "preexec_fn": enter}
+        process = subprocess.Popen([*apart, "--cgroup", *boot], **how)
+        try:
+            into = ["nsenter", "-t", str(child_of(process)), *"-m -p -n -u -i -C -r -w".split()]
+            into += ["env", "-i", "PATH=/usr/sbin:/usr/bin:/sbin:/bin"]
+            ready = [*into, "systemctl", "is-active", "basic.target"]
+            awaited(lambda: process.poll() is not None or called(*ready) == (0, "active\n"), 20)
+            if called(*ready) != (0, "active\n"):
+                raise Skipped(f"no systemd boots: {(folder / 'boot').read_text()[-200:]}")
+            yield into
+        finally:
+            process.kill()
+            process.wait()
+
+
+class Booted:
+    """Commands beside the systemd that has booted."""
+
+    def __init__(self, into):
+        self.into = into
+
+    def call(self, *words):
+        return called(*self.into, *words)
+
+    def told(self, name, unit="rollout"):
+        """A property of a unit."""
+        return self.call("systemctl", "show", "--value", "-p", name, unit)[1].strip()
+
+    def is_asked(self):
+        return OFFERED in self.call("curl", "-s", POST, "-d", ASK)[1]
+
+    def started(self):
+        """What is wrong with a start, which is to end when clients are answered."""
+        words = 'systemctl start rollout && curl -s "$0" -d "$1"'
+        found = self.call("sh", "-c", words, POST, ASK)
+        if found[0] != 0 or OFFERED not in found[1]:
+            status = self.call("systemctl", "status", "--no-pager", "rollout")[1]
+            return f"no start: {found} {status} {self.call('cat', '/var/log/rollout/log')[1]}"
+
+
+def wrong_start(it):
+    if (found := it.call("systemd-sysusers"))[0] != 0:
+        return f"{found}"
+    if wrong := it.started():
+        return wrong
+    status = it.call("cat", f"/proc/{it.told('MainPID')}/status")[1]
+    if lacking := [line for line in CONFINED if line not in status]:
+        return f"not confined: {lacking}"
+
+
+def wrong_places(it):
+    """A manifest is loaded from no folder in which others may write, and from the right one."""
+    copies = 'mkdir -p "$0" && cp /etc/rollout/* "$0" && chmod -R a+rX "$0"'
+    load = [*AS_ANOTHER, PROGRAM, "load"]
+    for place in PLACES:
+        folder = f"{place}/of_another"
+        if (found := it.call("sh", "-c", copies, folder))[0] != 0:
+            return f"{found}"
+        found = it.call(*load, f"{folder}/manifest.toml", *AT)
+        if found != (1, "refused B3 File\n"):
+            return f"from {place}: {found}"
+    if (found := it.call(*load, "/etc/rollout/manifest.toml", *AT)) != (0, "generation 2\n"):
+        return f"from /etc/rollout: {found}"
+    if (found := it.call("systemctl", "reload", "rollout"))[0] != 0:
+        return f"no reload: {found}"
+
+
+def wrong_ends(it):
+    """A second server of the ports, a crash, a signal, two stops."""
+    if it.call("systemctl", "start", "rollout@8")[0] == 0 or not it.is_asked():
+        return "a second server of the same ports is started, or ends the first"
+    it.call("systemctl", "stop", "rollout@8")
+    it.call("kill", "-s", "KILL", it.told("MainPID"))
+    again = ("running", "1")
+    if not awaited(lambda: (it.told("SubState"), it.told("NRestarts")) == again and it.is_asked()):
+        return "it isn't started anew after a crash"
+    it.call("kill", it.told("MainPID"))
+    if not awaited(lambda: it.told("ActiveState") == "inactive"):
+        return f"after SIGTERM it is {it.told('ActiveState')}"
+    for words in ([PROGRAM, "stop", *AT, "--wait"], ["systemctl", "stop", "rollout"]):
+        if wrong := it.started():
+            return wrong
+        found = it.call(*words)[0], it.told("Result")
+        if found != (0, "success") or not awaited(lambda: it.told("ActiveState") == "inactive"):
+            return f"{words}: {found}"
+
+
+def booted_unit(folder):
+    """The unit as it stands, by systemd."""
+    needs("unshare", "nsenter", "ip", "setpriv", "curl", "systemctl", "systemd-sysusers", FIRST)
+    needs_root()
+    with booted(folder) as into:
+        it = Booted(into)
+        return wrong_start(it) or wrong_places(it) or wrong_ends(it)
+
+
+BOOTED = {"examples/deploy: the unit, run by a systemd of its own": booted_unit}
