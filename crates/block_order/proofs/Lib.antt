@@ -1,3 +1,4 @@
+pub mod Lockstep
 pub mod Steps
 pub mod Runs
 pub mod Layouts

@@ -19,13 +19,14 @@ use Rattle.bpf_insn.specs.Program.{◌>>=◌, Program, landing}
 use Rattle.bpf_semantics.specs.Memory.{address_of, is_in_stack, stack_start, cell_at}
 use Rattle.bpf_semantics.specs.State.{State, with_bytes, with_register}
 use Rattle.bpf_semantics.specs.Reads.{byte_count, register, operand}
-use Rattle.bpf_semantics.specs.Outcome.{Outcome, Going, Asks, Done, Trap, needed, write, branch}
+use Rattle.bpf_semantics.specs.Outcome.{Outcome, Asks, Trap, needed, write, branch}
 use Rattle.bpf_semantics.specs.Outcome.{finish, jump_to, go_to, moved, moved_to, ask, answer}
 use Rattle.bpf_semantics.specs.Counters.{reach, store_cell, store_asks, atomic_asks}
 use Rattle.bpf_semantics.specs.Counters.{atomic_count, cell_op, fetched, expected, cut}
 use Rattle.bpf_semantics.specs.Calls.{helper_result}
 use Rattle.bpf_semantics.specs.Step.{store}
 use Rattle.block_order.specs.Order.{Places, GoesOnAt}
+use Rattle.block_order.proofs.Lockstep.{Matches}
 
 -- the state at another slot, and with another count
 abbrev pub set : State → ℕ → ℕ → State
@@ -53,12 +54,7 @@ module _ (places : Places) (q : Program) where
 
   -- the new step comes to the same as the old one
   abbrev pub Follows : Outcome → Outcome → Type 0
-  Follows (Going t) (Going t') = Tracks t t'
-  Follows (Asks c op next) (Asks c' op' next') =
-      (c ≡ c') × (op ≡ op') × ((r : ℕ) → Tracks (next r) (next' r))
-  Follows (Done n) (Done n') = n ≡ n'
-  Follows Trap Trap = Unit {0}
-  Follows o o' = ⊥
+  Follows = Matches Tracks
 
   pub either : (b : Bool) (o o' k k' : Outcome) → Follows o o' → Follows k k'
       → Follows (if b then o else k) (if b then o' else k')

@@ -1,7 +1,7 @@
--- A program in order does what the program did: on the same replies its runs make the same events
--- on counters and come to the same choice. It may count other instructions, since JAs come and go.
--- And only what has no cycle has an order.
-use Rattle.std.specs.Prelude.{ℕ, List}
+-- A program in order does just what the program did: on the same replies runs of both make the same
+-- events on counters and come to the same choice. It may count other instructions, since JAs come
+-- and go. And only what has no cycle has an order.
+use Rattle.std.specs.Prelude.{◌↔◌, ℕ, List}
 use Rattle.attrs.specs.Attributes.{Attributes}
 use Rattle.bpf_insn.specs.Program.{Program}
 use Rattle.cells.specs.Arrays.{AppShape}
@@ -12,19 +12,19 @@ use Rattle.bpf_semantics.specs.State.{opening}
 use Rattle.block_order.specs.Order.{IsOrdered}
 use Rattle.block_order.specs.Refusal.{IsOrderable}
 
--- whatever run of the old program ends, the new one's ends with its events and its choice
+-- a run of the one ends with these events and this choice just where one of the other does
 abbrev pub EndAlike : Program → Program → Type 0
 EndAlike p q =
-    (shape : AppShape) (a : Attributes) (es : List CellEvent) (choice count : ℕ)
-    → Ends (shaped p shape) (opening a) es choice count
-    → (other : ℕ) × Ends (shaped q shape) (opening a) es choice other
+    (shape : AppShape) (a : Attributes) (es : List CellEvent) (choice : ℕ)
+    → ((count : ℕ) × Ends (shaped p shape) (opening a) es choice count)
+    ↔ ((count : ℕ) × Ends (shaped q shape) (opening a) es choice count)
 
--- and whatever run traps, the new one's traps after its events
+-- and it traps after these events just where one of the other does
 abbrev pub TrapAlike : Program → Program → Type 0
 TrapAlike p q =
-    (shape : AppShape) (a : Attributes) (es : List CellEvent) (count : ℕ)
-    → Traps (shaped p shape) (opening a) es count
-    → (other : ℕ) × Traps (shaped q shape) (opening a) es other
+    (shape : AppShape) (a : Attributes) (es : List CellEvent)
+    → ((count : ℕ) × Traps (shaped p shape) (opening a) es count)
+    ↔ ((count : ℕ) × Traps (shaped q shape) (opening a) es count)
 
 pub record DoAlike (p q : Program) : Type 0 where
   pub end : EndAlike p q

@@ -6,8 +6,8 @@ ghost use Rattle.bpf_insn.specs.Program.{Program};
 ghost use Rattle.block_order.specs.Law.{DoAlike, HasNoCycle};
 ghost use Rattle.block_order.specs.Order.{IsOrderOf, Places};
 
-/// A law: from every opening state and on all replies a program in order has the events on counters
-/// and the choice of the program that it was made of.
+/// A law: from every opening state and on all replies a program in order does just what the program
+/// that it was made of does: the same events on counters, and the same choice or a trap.
 pub fn order_keeps_runs()
     ensures { (places : Places) (p : Program) (q : Program) → IsOrderOf places p q → DoAlike p q }
 {}
