@@ -1,5 +1,5 @@
 -- Clients that say the same, but for appid and cohort, are asked alike.
-use Rattle.std.proofs.Common.{◌≡◌, ap, subst, ℕ, List, [], ◌∷◌, ◌++◌}
+use Rattle.std.proofs.Common.{◌≡◌, ap, subst, ℕ, List}
 use Rattle.simulation.specs.Clients.{IsSameButApp, asking_for, attributes, clients}
 use Rattle.simulation.specs.Course.{AppByApp, AsksForApp, InTurn, IsSimulated}
 use Rattle.simulation.specs.Course.AppByApp.{none as no_app, next as next_app}

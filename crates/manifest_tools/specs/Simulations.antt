@@ -32,22 +32,32 @@ picture_if None simulation = None
 picture_if (Some file) simulation = Some (picture simulation)
 
 -- how many get which release of each app, and the picture of the same simulation
-pub record ShowsAlone (client : Client) (rules : Rules) (file : Option (List ℕ))
-    (told : ToldSimulation) : Type 0 where
-  pub next : Simulation
-  pub simulated : IsSimulationBy client rules next
+pub record TellsAlone (next : Simulation) (file : Option (List ℕ)) (told : ToldSimulation)
+    : Type 0 where
   pub text_is : string_bytes told.text ≡ shares_text next
   pub picture_is : option_map string_bytes told.picture ≡ picture_if file next
 
 -- the same, and how many move from which release to which
+pub record TellsAgainst (next now : Simulation) (file : Option (List ℕ)) (told : ToldSimulation)
+    : Type 0 where
+  pub text_is : string_bytes told.text ≡ shares_text next ++ moves_text now next
+  pub picture_is : option_map string_bytes told.picture ≡ picture_if file next
+
+-- of a ruleset alone
+pub record ShowsAlone (client : Client) (rules : Rules) (file : Option (List ℕ))
+    (told : ToldSimulation) : Type 0 where
+  pub next : Simulation
+  pub simulated : IsSimulationBy client rules next
+  pub tells : TellsAlone next file told
+
+-- of a ruleset, against another one
 pub record ShowsAgainst (client : Client) (rules serving : Rules) (file : Option (List ℕ))
     (told : ToldSimulation) : Type 0 where
   pub next : Simulation
   pub simulated : IsSimulationBy client rules next
   pub now : Simulation
   pub served : IsSimulationBy client serving now
-  pub text_is : string_bytes told.text ≡ shares_text next ++ moves_text now next
-  pub picture_is : option_map string_bytes told.picture ≡ picture_if file next
+  pub tells : TellsAgainst next now file told
 
 -- ---- and of manifests
 

@@ -130,9 +130,21 @@ where
     ensures { IfOk result (specs.ShowsAlone client rules (option_copied file.entry)) }
 {
     let next = Simulated::of(rt.alloc(), rules, &mut client, &mut ProgressLines::new(rt))?;
-    let mut text = String::new(rt.alloc());
-    push_shares(&mut text, &next)?;
-    let picture = picture_if(rt.alloc(), file, &next)?;
+    let told = tell_alone(rt.alloc(), &next, file)?;
+    Ok(told)
+}
+
+// The lines of a simulation, and its picture.
+fn tell_alone(
+    alloc: Global,
+    next: &Simulated,
+    file: Option<&str>,
+) -> Result<ToldSimulation, AllocError>
+    ensures { IfOk result (specs.TellsAlone next.now (option_copied file.entry)) }
+{
+    let mut text = String::new(alloc);
+    push_shares(&mut text, next)?;
+    let picture = picture_if(alloc, file, next)?;
     Ok(ToldSimulation { text, picture })
 }
 
@@ -151,10 +163,23 @@ where
     let mut progress = ProgressLines::new(rt);
     let next = Simulated::of(rt.alloc(), rules, &mut client, &mut progress)?;
     let now = Simulated::of(rt.alloc(), serving, &mut client, &mut progress)?;
-    let mut text = String::new(rt.alloc());
-    push_shares(&mut text, &next)?;
-    push_moves(rt.alloc(), &mut text, &now, &next)?;
-    let picture = picture_if(rt.alloc(), file, &next)?;
+    let told = tell_against(rt.alloc(), &now, &next, file)?;
+    Ok(told)
+}
+
+// The same, and who moves behind what serves now.
+fn tell_against(
+    alloc: Global,
+    now: &Simulated,
+    next: &Simulated,
+    file: Option<&str>,
+) -> Result<ToldSimulation, AllocError>
+    ensures { IfOk result (specs.TellsAgainst next.now now.now (option_copied file.entry)) }
+{
+    let mut text = String::new(alloc);
+    push_shares(&mut text, next)?;
+    push_moves(alloc, &mut text, now, next)?;
+    let picture = picture_if(alloc, file, next)?;
     Ok(ToldSimulation { text, picture })
 }
 

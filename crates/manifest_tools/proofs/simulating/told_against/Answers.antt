@@ -1,4 +1,3 @@
-use Rattle.std.proofs.Common.{refl}
 use Rattle.manifest_tools.proofs.Alike.{simulated_alike}
 use Rattle.manifest_tools.proofs.simulating.told_against.Goals as goal
 
@@ -15,7 +14,5 @@ returns g c = record {
     asked = simulated_alike c.args.client c.of.new.client c.args.serving.apps
         c.in_ok-now.now.chosen c.of.ensures.client c.in_ok-now.ensures.chosen;
   };
-  text_is = rw (c.in_ok-push_moves.ensures, c.in_ok-push_shares.ensures, c.new-text.ensures.bytes)
-      refl;
-  picture_is = c.in_ok-picture.ensures;
+  tells = c.in_ok-told.ensures;
 }
