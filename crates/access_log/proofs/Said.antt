@@ -2,6 +2,7 @@
 use Rattle.std.proofs.Common.{◌≡◌, ℕ, List, [], ◌∷◌, ◌++◌, length, take, codes}
 use Rattle.std.proofs.Common.{Bool, true, false, cond, Option, Some, None, ◌==◌}
 use Rattle.std.specs.Prelude.{◌-◌, option_copied}
+use Rattle.std.specs.Borrow.{Bor}
 use Rattle.std.specs.List.{flat_map}
 use Rattle.json.specs.Print.{print}
 use Rattle.json.specs.Token.{Token, begin_object, end_object, begin_array, end_array, key}
@@ -9,7 +10,8 @@ use Rattle.access_log.specs.Apps.{outcome_members, event_members, app_object, fi
 use Rattle.access_log.specs.Apps.{apps_members}
 use Rattle.access_log.specs.Line.{IsOneLine, begun_at, object_at, line_with, said}
 use Rattle.access_log.specs.Line.{connection_members, counter_members, load_members}
-use Rattle.access_log.specs.Line.{path_members, reply_members, start_members, too_long_members}
+use Rattle.access_log.specs.Line.{path_members, reply_members, start_members, stop_members}
+use Rattle.access_log.specs.Line.{too_long_members}
 use Rattle.access_log.specs.Members.{text_member, number_member, flag_member, optional_member}
 use Rattle.access_log.specs.Members.{count_member, excerpt_members}
 use Rattle.access_log.specs.Room.{told_apps}
@@ -166,6 +168,12 @@ connection a =
     (text (codes "peer") a.peer.now)) (maybe (codes "forwarded") (option_copied a.forwarded)))
     (reply a)) (asked a.apps.now)
 
+stop : (refusal : Option (Bor (List ℕ))) → HavePlainNumbers (stop_members refusal)
+stop refusal =
+    all_plain (text_member (codes "kind") (codes "stop"))
+    (optional_member (codes "refusal") (option_copied refusal))
+    (text (codes "kind") (codes "stop")) (maybe (codes "refusal") (option_copied refusal))
+
 counter : (a : Counter) → HavePlainNumbers (counter_members a)
 counter a = (
   tt,
@@ -184,7 +192,7 @@ says (log.Load l) = load l
 says (log.Connection a) = connection a
 says (log.Unaccepted reason) = (tt, (tt, (tt, (tt, tt))))
 says (log.Lost lines) = (tt, (tt, (tt, (decimal_is_plain lines, tt))))
-says log.Stop = (tt, (tt, tt))
+says (log.Stop refusal) = stop refusal
 says (log.Counter a) = counter a
 
 -- ---- lines

@@ -1,6 +1,7 @@
 -- What a line of the log says of an event, and its text: a JSON object, and a line feed.
 use Rattle.std.specs.Prelude.{◌≡◌, ℕ, ◌≤◌, List, [], ◌∷◌, ◌++◌, codes, length, All}
-use Rattle.std.specs.Prelude.{nat_lt, if◌then◌else◌, option_copied}
+use Rattle.std.specs.Prelude.{nat_lt, if◌then◌else◌, Option, option_copied}
+use Rattle.std.specs.Borrow.{Bor}
 use Rattle.json.specs.Print.{print}
 use Rattle.json.specs.Token.{Token, begin_object, end_object}
 use Rattle.access_log.specs.Apps.{apps_members}
@@ -62,6 +63,10 @@ unaccepted_members reason =
 abbrev pub lost_members : ℕ → List Token
 lost_members lines = kind_member (codes "lost") ++ number_member (codes "lines") lines
 
+abbrev pub stop_members : Option (Bor (List ℕ)) → List Token
+stop_members refusal =
+    kind_member (codes "stop") ++ optional_member (codes "refusal") (option_copied refusal)
+
 abbrev pub counter_members : Counter → List Token
 counter_members counter =
     kind_member (codes "counter")
@@ -75,7 +80,7 @@ said (log.Load load) = load_members load
 said (log.Connection connection) = connection_members connection
 said (log.Unaccepted reason) = unaccepted_members reason.now
 said (log.Lost lines) = lost_members lines
-said log.Stop = kind_member (codes "stop")
+said (log.Stop refusal) = stop_members refusal
 said (log.Counter counter) = counter_members counter
 
 -- ---- the line

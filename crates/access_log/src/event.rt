@@ -64,7 +64,7 @@ pub enum LogEvent<'a> {
     Unaccepted(&'a str),
     /// So many lines before this one were lost, since they weren't read in time.
     Lost(u64),
-    /// The operator has stopped the server.
-    Stop,
+    /// The operator has stopped the server; and what was refused at its end, if anything was.
+    Stop(Option<&'a str>),
     Counter(Counter<'a>),
 }

@@ -25,7 +25,7 @@ pub fn write_said(line: &mut LineRoom, event: &LogEvent<'_>) -> Result<(), Alloc
         LogEvent::Connection(connection) => write_connection(line, connection),
         LogEvent::Unaccepted(reason) => write_unaccepted(line, reason),
         LogEvent::Lost(lines) => write_lost(line, *lines),
-        LogEvent::Stop => write_kind(line, "stop"),
+        LogEvent::Stop(refusal) => write_stop(line, *refusal),
         LogEvent::Counter(counter) => write_counter(line, counter),
     }
 }
@@ -89,6 +89,14 @@ fn write_lost(line: &mut LineRoom, lines: u64) -> Result<(), AllocError>
 {
     write_kind(line, "lost")?;
     write_number(line, "lines", lines)?;
+    Ok(())
+}
+
+fn write_stop(line: &mut LineRoom, refusal: Option<&str>) -> Result<(), AllocError>
+    ensures { OnOk result (AddsMembers line.old line.new (specs.stop_members refusal.entry)) }
+{
+    write_kind(line, "stop")?;
+    write_optional(line, "refusal", refusal)?;
     Ok(())
 }
 

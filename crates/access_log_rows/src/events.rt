@@ -24,6 +24,8 @@ const LINES: &str = r##"
 
 "kind":"stop"}
 
+"kind":"stop","refusal":"H2 NoPlace"}
+
 "kind":"counter","array":"canary","index":3,"value":18446744073709551615}
 
 "kind":"connection","peer":"[2001:db8::1]:443","status":411,"refusal":"P4 Length","bytes":111,
@@ -127,7 +129,8 @@ fn told(alloc: Global) -> Result<String, Fail> {
         load(cut, 0, Some("M2 Field")),
         LogEvent::Unaccepted("Too many open files (os error 24)"),
         LogEvent::Lost(18446744073709551615),
-        LogEvent::Stop,
+        LogEvent::Stop(None),
+        LogEvent::Stop(Some("H2 NoPlace")),
         LogEvent::Counter(Counter {
             array: "canary",
             index: 3,

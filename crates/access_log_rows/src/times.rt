@@ -23,7 +23,7 @@ const ROWS: &[(u64, u16, &str)] = &[
 fn times_are_those_of_the_calendar(rt: HostRuntime) -> Result<(), Fail> {
     for (seconds, millis, text) in ROWS {
         let at = Utc::of_unix(*seconds, *millis).ok_or("a year up to 9999")?;
-        let line = line_at(rt.alloc(), &at, &LogEvent::Stop)?;
+        let line = line_at(rt.alloc(), &at, &LogEvent::Stop(None))?;
         let wanted = format!(in rt.alloc(); "{{\"time\":\"{text}\",\"kind\":\"stop\"}}\n")?;
         assert!(rt; line == wanted, "{seconds}: {line}");
     }

@@ -1,6 +1,6 @@
 -- A pass that grew by the runs of some apps, and then by that of one more; and what was found of
 -- the apps.
-use Rattle.std.proofs.Common.{Bool, true, false, not, ◌≡◌, ℕ, suc, ◌+◌, ◌<◌, get_or, arith}
+use Rattle.std.proofs.Common.{Bool, true, false, not, ◌≡◌, ℕ, suc, ◌+◌, ◌<◌, ◌≤◌, get_or, arith}
 use Rattle.std.proofs.Common.{List, [], ◌∷◌, ◌++◌, length, take, length-append}
 use Rattle.std.proofs.Common.{Option, None, Some, option_map, refl, ap, sym, subst, ◌∙◌}
 use Rattle.std.proofs.lemmas.List.{take_all, take_more}
@@ -119,19 +119,23 @@ module _ {P : Type 0} (grew : P → CellEvent → P → Type 0) where
         → IsApp known → ListsApp rules app.appid known
         → run.program ≡ known.program
         → RunStandsFor run (opening (attributes_of app facts moment))
-        → Runs grew run p q choice count
+        → Runs grew run p q choice count → count ≤ length run.program.code
+        → choice ≤ run.program.shape.releases
         → Grows grew p q (RunsApp rules facts moment app (Some choice))
-    grows_ran p q app known run choice count asks found kept is same stands runs =
+    grows_ran p q app known run choice count asks found kept is same stands runs short few =
         let start = opening (attributes_of app facts moment) in
         let E : ShapedProgram → Type 0 = λ z. Ends z start runs.events choice count in
         let L : ShapedProgram → Type 0 = λ z. AreLawful z.shape runs.events in
         let end = subst E same (runs.ends start stands) in
+        let brief = subst (λ (z : ShapedProgram). count ≤ length z.code) same short in
+        let among = subst (λ (z : ShapedProgram). choice ≤ z.shape.releases) same few in
         record {
           events = runs.events;
           grown = runs.grown;
           of =
               ran known count asks found (known_by rules app facts moment known kept is) end
-              runs.fits (subst L same runs.lawful);
+              brief (subst (λ (n : ℕ). choice ≤ n) (sym kept.all) among) runs.fits
+              (subst L same runs.lawful);
         }
 
     -- what was found of an app, with the choice of its run

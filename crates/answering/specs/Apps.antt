@@ -1,6 +1,6 @@
 -- The runs of a request: which of its apps have one, what it gives, and all of them one after the
 -- other.
-use Rattle.std.specs.Prelude.{◌≡◌, ℕ, ℤ, false, true, List, [], ◌∷◌, ◌++◌, take, All}
+use Rattle.std.specs.Prelude.{◌≡◌, ℕ, ℤ, ◌≤◌, false, true, List, [], ◌∷◌, ◌++◌, length, take, All}
 use Rattle.std.specs.Prelude.{Option, Some, None}
 use Rattle.attrs.specs.Facts.{attributes_of}
 use Rattle.attrs.specs.declared.facts.AppFacts.{AppFacts}
@@ -20,12 +20,14 @@ module _ (rules : Rules) (facts : RequestFacts) (moment : ℤ) where
     -- nor where the ruleset doesn't know it
     unknown : app_of rules app.appid ≡ None → RunsApp app None []
     -- else one run on its attributes at the moment, to its end, of the program that the ruleset has
-    -- for attribute 0, which is its appid; each reply fits its counter, and each event is one that
-    -- the app's arrays allow
+    -- for attribute 0, which is its appid. It takes at most as many instructions as the program has
+    -- slots, and chooses 0 or one of the app's releases. Each reply fits its counter, and each
+    -- event is one that the app's arrays allow
     ran : {choice : ℕ} {events : List CellEvent} (known : AppRule) (count : ℕ)
         → app.updatecheck ≡ true → app_of rules app.appid ≡ Some known
         → ListsApp rules (appid_of (attributes_of app facts moment)) known
         → Ends known.program (opening (attributes_of app facts moment)) events choice count
+        → count ≤ length known.program.code → choice ≤ length known.releases
         → All HasPossibleReply events → AreLawful known.program.shape events
         → RunsApp app (Some choice) events
 

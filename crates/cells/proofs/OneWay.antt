@@ -17,7 +17,7 @@ not_new : (d : Declaration) (old : List CellArray) (n : ℕ) (a : CellArray)
     → slice_get old n ≡ Some a → a.name ≡ d.name → ¬ IsNew d old
 not_new d old n a at name new = all_at (λ x. x.name ≢ d.name) old n a new at name
 
-place_of : (old : List CellArray) (a : CellArray) → Contains old a
+pub place_of : (old : List CellArray) (a : CellArray) → Contains old a
     → (n : ℕ) × (slice_get old n ≡ Some a)
 place_of old a there =
     (there.0, slice_get-get_or old there.0 a there.1 ∙ ap (λ x. Some x) there.2)

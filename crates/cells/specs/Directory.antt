@@ -1,7 +1,8 @@
 -- Directories of arrays, and what a declaration does to one.
 use Rattle.std.specs.Prelude.{◌≡◌, ◌≢◌, ℕ, ◌+◌, ◌<◌, ◌≤◌, Bool, true, false, if◌then◌else◌}
 use Rattle.std.specs.Prelude.{List, [], ◌∷◌, ◌++◌, length, take, slice_get, sum_by, All, Contains}
-use Rattle.std.specs.Prelude.{Option, Some}
+use Rattle.std.specs.Prelude.{Option, Some, None}
+use Rattle.std.specs.Str.{bytes_eq}
 use Rattle.cells.specs.declared.array.CellWidth.{CellWidth}
 use Rattle.cells.specs.declared.array.CellWidth.TheVariants.{Bits32, Bits64}
 use Rattle.cells.specs.declared.array.CellArray.{CellArray}
@@ -37,6 +38,15 @@ pub record IsDirectory (arrays : List CellArray) : Type 0 where
       → slice_get arrays i ≡ Some a → a.base ≡ next_cell a.width (take i arrays)
   pub room : (w : CellWidth) → taken w arrays ≤ 4096
   pub ranges : All (λ a. HasRanges a.width a.length a.quota) arrays
+
+-- the array of a name: of two the first
+abbrev pub array_named : List ℕ → List CellArray → Option CellArray
+array_named name [] = None
+array_named name (a ∷ rest) = if bytes_eq a.name name then Some a else array_named name rest
+
+-- among these arrays is this one, as that of its name
+abbrev pub HasArray : List CellArray → CellArray → Type 0
+HasArray arrays a = array_named a.name arrays ≡ Some a
 
 -- what a `Directory` keeps beside its arrays: how many cells of each width they have
 pub record IsKept (arrays : List CellArray) (taken_64 taken_32 : ℕ) : Type 0 where

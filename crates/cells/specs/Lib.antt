@@ -4,4 +4,5 @@ pub mod Names
 pub mod Arrays
 pub mod Directory
 pub mod OneWay
+pub mod Apart
 pub mod Widths

@@ -16,7 +16,7 @@ pub use array::{ArrayName, ArrayNo, CellArray, CellWidth};
 pub use directory::Directory;
 pub use event::{CellEvent, CellNo, CellOp};
 pub use fault::CellsFault;
-pub use law::declares_one_way;
+pub use law::{arrays_lie_apart, arrays_stay, declares_one_way};
 pub use plain::{PlainCells, PlainPass};
 pub use shape::Shape;
 pub use steps::{CellSteps, growth};

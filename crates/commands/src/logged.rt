@@ -51,7 +51,7 @@ where
     outcome
 }
 
-// Why it doesn't serve, if it doesn't.
+// Why it doesn't serve, if it doesn't. Of a server that has served the log tells the end already.
 fn note_outcome<R>(
     rt: &R,
     queue: &LogQueue,
@@ -66,6 +66,9 @@ where
     let Err(fault) = outcome else {
         return;
     };
+    if fault.is_of_end() {
+        return;
+    }
     if let Ok(refusal) = fault.to_string(rt.alloc()) {
         queue.note(rt, &start_event(manifest, port, operator, Some(&refusal)));
     }

@@ -1,6 +1,8 @@
 -- One declaration after others.
 use Rattle.std.proofs.Common.{◌≡◌, ℕ, suc, ◌+◌, ◌<◌, List, [], ◌∷◌, ◌++◌}
-use Rattle.std.proofs.Common.{length, take, get_or, Option, arith, ◌≤◌}
+use Rattle.std.proofs.Common.{length, take, get_or, Option, arith, ◌≤◌, refl, sym, ap, ◌∙◌}
+use Rattle.std.proofs.Common.{append_assoc, append-nil}
+use mathlib.Core.List.{IsPrefix}
 use Rattle.std.specs.Prelude.{All}
 use Rattle.std.proofs.Math.Seq.{take-suc}
 use Rattle.std.proofs.lemmas.List.{length-append}
@@ -37,6 +39,25 @@ grown {d} {old} (again {n} {a} stands declared) = (slice_get_within old n a stan
 grown {d} {old} (anew is_new room) =
     let longer = length-append old (next_array d old ∷ []) in
     (omega (arith, longer), omega (arith, longer))
+
+begins : {d : Declaration} {old new : List CellArray} {n : ℕ} → Declares d old n new
+    → IsPrefix old new
+begins {old = old} (again stands declared) = ([], append-nil old)
+begins {d = d} {old = old} (anew is_new room) = (next_array d old ∷ [], refl)
+
+begins_on : (u v w : List CellArray) → IsPrefix u v → IsPrefix v w → IsPrefix u w
+begins_on u v w first later = (
+  first.0 ++ later.0,
+  sym (append_assoc u first.0 later.0)
+      ∙ ap (λ (l : List CellArray). l ++ later.0) first.1 ∙ later.1,
+)
+
+-- what stands before them begins what stands after them
+pub all_begin : {old new : List CellArray} {ds : List Declaration} {numbers : List ArrayNo}
+    → AreDeclared old ds numbers new → IsPrefix old new
+all_begin {old = old} none = ([], append-nil old)
+all_begin {old = old} {new = new} (next {between = between} first others) =
+    begins_on old between new (begins first) (all_begin others)
 
 -- the numbers are those of arrays
 pub all_within : {old new : List CellArray} {ds : List Declaration} {numbers : List ArrayNo}

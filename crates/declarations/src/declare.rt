@@ -2,6 +2,7 @@
 
 ghost use Rattle.std.specs.Prelude.{◌≡◌, ◌<◌, length, All};
 ghost use Rattle.std.specs.Prelude.{IfOk, IfErr, OnOk, OnErr};
+ghost use mathlib.Core.List.{IsPrefix};
 ghost use Rattle.cells.specs.Directory.{IsRefusedDeclaration};
 ghost use Rattle.declarations.specs.Order.{AreDeclared, DeclaresNext, IsRefusedArray};
 
@@ -26,6 +27,7 @@ pub fn declare_all(
     ensures declared { IfOk result (λ v.
         AreDeclared directory.old declarations.now v.items directory.new) }
     ensures within { IfOk result (λ v. All (λ no. no.number < length directory.new) v.items) }
+    ensures grown { IsPrefix directory.old directory.new }
     ensures refused { IfErr result (λ e.
         IsRefusedArray directory.old declarations.now e.number e.fault directory.new) }
 {

@@ -107,10 +107,8 @@ module _ (cell : ℕ) (published : List Rules) (all : AllHaveOnlyQuotasAt cell p
 -- ---- the law
 
 pub quotas_are_kept : EventsFit → ThreadsKeepQuotas
-quotas_are_kept law first later passes looker values cell world all =
-    let published = first ∷ later in
-    let runs = all_runs world.runs in
-    let each = runs_count cell published all runs world.each
-    (fit_shared law runs world.history values world.shared) in
+quotas_are_kept law published passes looker history values runs cell world all =
+    let each = runs_count cell published all (all_runs runs) world.each
+    (fit_shared law (all_runs runs) world.by_runs values world.shared) in
     all_made (OnlyCountsAt cell) passes
-    (pass_counts cell published all (lists_of passes) looker world.runs world.did each)
+    (pass_counts cell published all (lists_of passes) looker runs world.did each)

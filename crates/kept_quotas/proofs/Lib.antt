@@ -1,3 +1,4 @@
 pub mod Lists
 pub mod Runs
 pub mod Law
+pub mod Granted

@@ -1,4 +1,5 @@
 mod Walk
+mod Knowing
 mod Names
 mod OneProgram
 mod OneApp

@@ -1,6 +1,9 @@
 //! From the path of a manifest to a ruleset.
 
+ghost use Rattle.std.specs.Prelude.{IfOk};
 ghost use Rattle.load.specs.Loaded.{LoadsFrom};
+ghost use Rattle.ruleset.specs.Rules.{KnowsOnly};
+ghost use mathlib.Core.List.{IsPrefix};
 
 use crate::fault::{LoadFault, PathFault};
 use crate::folder::FolderFiles;
@@ -23,7 +26,9 @@ pub fn load_path<D: Disk>(
     path: &str,
     directory: &Directory,
 ) -> Result<(Ruleset, Directory), PathFault>
-    ensures { LoadsFrom (D.known disk.now) path.now directory.now result }
+    ensures loads { LoadsFrom (D.known disk.now) path.now directory.now result }
+    ensures only { IfOk result (λ loaded. KnowsOnly loaded.1 loaded.0) }
+    ensures grown { IfOk result (λ loaded. IsPrefix directory.now loaded.1) }
 {
     let bytes = match disk.read_regular(path, MOST_MANIFEST) {
         Ok(Some(bytes)) => bytes,

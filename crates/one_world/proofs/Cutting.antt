@@ -4,21 +4,22 @@ use Rattle.std.proofs.Common.{◌≡◌, ℕ, zero, suc, ◌<◌, List, [], ◌�
 use Rattle.std.proofs.Common.{map, refl, sym, ap, subst, ◌∙◌, inl, inr}
 use Rattle.std.proofs.Common.{get_or-set_same, get_or-set_other}
 use Rattle.std.proofs.lemmas.Bool.{cases_eq}
-use Rattle.std.proofs.lemmas.List.{map-append}
+use Rattle.std.specs.Prelude.{◌-◌, nat_lt, if◌then◌else◌}
+use Rattle.std.proofs.lemmas.List.{length-map, map-append}
 use Rattle.std.proofs.lemmas.List.Folds.{flat_map-map}
 use Rattle.cells.specs.declared.event.CellEvent.{CellEvent}
-use Rattle.shared_cells.specs.History.{Entry, all_events, events_by}
+use Rattle.shared_cells.specs.History.{Entry, events_by}
 use Rattle.one_world.specs.Entries.{entry_by}
 use Rattle.one_world.specs.InTurn.{events_in_turn}
-use Rattle.one_world.specs.Passes.{PassesAreRuns, all_runs}
+use Rattle.one_world.specs.Passes.{PassesAreRuns, all_runs, pass_of_run, by_passes}
 use Rattle.one_world.specs.Runs.{AppRun, lists_of_runs}
 use Rattle.one_world.proofs.Lists.{own_first, others_first}
 use Rattle.one_world.proofs.Taking.{joined, Taken, taken}
 
--- a history of the runs, of the same events
+-- the history, with each event by its run
 record Cut (history : List Entry) (cuts : List (List (List CellEvent))) : Type 0 where
   again : List Entry
-  same : all_events again ≡ all_events history
+  same : by_passes cuts again ≡ history
   own : (k : ℕ) → events_by k again ≡ get_or (joined cuts) k []
 
 left_empty : (xs ys : List CellEvent) → xs ++ ys ≡ [] → [] ≡ xs
@@ -72,6 +73,16 @@ runs_more e k rest all again less is own j = elim (cases_eq j k) [
       others_first j (entry_by k e) again other ∙ own j ∙ get_or-set_other all k j rest [] other
 ]
 
+-- the same passes did the runs of both
+pub by_alike : {A B : Type 0} (xs : List (List A)) (ys : List (List B))
+    → ((k : ℕ) → pass_of_run xs k ≡ pass_of_run ys k) → (history : List Entry)
+    → by_passes xs history ≡ by_passes ys history
+by_alike xs ys same [] = refl
+by_alike xs ys same (x ∷ history) =
+    ap (λ (p : ℕ). entry_by p x.event ∷ by_passes xs history) (same x.pass)
+    ∙ ap (λ (l : List Entry). entry_by (pass_of_run ys x.pass) x.event ∷ l)
+    (by_alike xs ys same history)
+
 cut : (history : List Entry) (cuts : List (List (List CellEvent)))
     → ((p : ℕ) → events_by p history ≡ joined (get_or cuts p [])) → Cut history cuts
 cut [] cuts own = record { again = []; same = refl; own = all_empty cuts own }
@@ -81,7 +92,10 @@ cut (x ∷ history) cuts own =
     let rest = cut history t.after (passes_left x history cuts t own) in
     record {
       again = entry_by t.place x.event ∷ rest.again;
-      same = ap (λ (es : List CellEvent). x.event ∷ es) rest.same;
+      same =
+          ap (λ (p : ℕ). entry_by p x.event ∷ by_passes cuts rest.again) t.by_pass
+          ∙ ap (λ (l : List Entry). x ∷ l)
+          (by_alike cuts t.after (λ k. sym (t.alike k)) rest.again ∙ rest.same);
       own = runs_more x.event t.place t.rest (joined cuts) rest.again t.inside t.found
           (λ j. rest.own j ∙ ap (λ (l : List (List CellEvent)). get_or l j []) t.joined_are);
     }
@@ -105,11 +119,22 @@ joined_runs (c ∷ runs) =
     ap (λ (l : List (List CellEvent)). lists_of_runs c ++ l) (joined_runs runs)
     ∙ sym (map-append (λ (run : AppRun). run.events) c (all_runs runs))
 
+passes_of_lists : (runs : List (List AppRun)) (k : ℕ)
+    → pass_of_run (map lists_of_runs runs) k ≡ pass_of_run runs k
+passes_of_lists [] k = refl
+passes_of_lists (c ∷ runs) k =
+    ap (λ (n : ℕ). if nat_lt k n then 0 else suc (pass_of_run (map lists_of_runs runs) (k - n)))
+    (length-map c (λ (run : AppRun). run.events))
+    ∙ ap (λ (p : ℕ). if nat_lt k (length c) then 0 else suc p)
+    (passes_of_lists runs (k - length c))
+
 pub passes_are_runs : PassesAreRuns
 passes_are_runs history runs own =
     let c = cut history (map lists_of_runs runs) (λ p. own p ∙ sym (pass_in_turn runs p)) in
     record {
       by_runs = c.again;
-      same = c.same;
+      same =
+          by_alike runs (map lists_of_runs runs) (λ k. sym (passes_of_lists runs k)) c.again
+          ∙ c.same;
       own = λ k. c.own k ∙ ap (λ (l : List (List CellEvent)). get_or l k []) (joined_runs runs);
     }

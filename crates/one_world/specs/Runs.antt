@@ -8,6 +8,7 @@ use Rattle.bpf_semantics.specs.State.{State, opening}
 use Rattle.bpf_semantics.specs.Step.{step}
 use Rattle.cells.specs.declared.event.CellEvent.{CellEvent}
 use Rattle.ruleset.specs.Rules.{Rules, appid_of}
+use Rattle.world.specs.Safe.{IsSafeEnd}
 use Rattle.world.specs.World.{Worker, Running, Ended, HasProgram}
 
 -- from one state the run comes to another, and makes the events on the way. A step that asks goes
@@ -45,6 +46,15 @@ pub record IsRunUnder (published : List Rules) (run : AppRun) : Type 0 where
   pub offered : HasProgram published run.number (appid_of run.attributes) run.program
   pub texts_are_short : AreShort run.attributes.texts
   pub comes : ComesAsFar run.program (opening run.attributes) run.events run.stage
+
+-- such a run to its end, which is as safe as that of a run of a world: in time, and with 0 or a
+-- release of its app
+pub record IsWholeRun (published : List Rules) (run : AppRun) : Type 0 where
+  pub under : IsRunUnder published run
+  pub choice : ℕ
+  pub instructions : ℕ
+  pub ended : run.stage ≡ AtEnd choice instructions
+  pub safe : IsSafeEnd published run.number run.program run.attributes choice instructions
 
 abbrev pub lists_of_runs : List AppRun → List (List CellEvent)
 lists_of_runs = map (λ run. run.events)

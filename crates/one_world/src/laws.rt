@@ -29,24 +29,25 @@ pub fn one_world()
     ensures others { OthersAreKept }
     // and of a pass that made Loads alone nothing is left.
     ensures nothing { NothingIsLeft }
-    // A history of passes, each of which did its runs one after the other, is one of these runs.
+    // A history of passes, each of which did its runs one after the other, is one of these runs,
+    // with each event by a run of its pass.
     ensures passes { PassesAreRuns }
 {
     counts_instructions();
     loads_can_go();
 }
 
-/// What threads did is what one world does: of passes each of which made the events of runs, but
-/// for one that only looked, what the closing of shared cells gives (`SharedCells::close`,
-/// `history`) is one world for all.
+/// What threads did is what one world does. Of passes each of which made the events of runs, but
+/// for one that only looked, the history that the closing of shared cells gives
+/// (`SharedCells::close`, `history`) is, without these looks, that of a world that does these runs.
 pub fn threads_are_one_world()
     ensures { PassesAreOneWorld }
 {
     one_world();
 }
 
-/// What a thread did, one thing after the other, are runs: none, runs after runs, and runs under a
-/// longer list of rulesets.
+/// What a thread did, one thing after the other, are whole runs: none, runs after runs, and runs
+/// under a longer list of rulesets.
 pub fn runs_add_up()
     ensures none { NoneAreOfRuns }
     ensures append { OfRunsAppend }

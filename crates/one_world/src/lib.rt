@@ -26,7 +26,9 @@
 //   events of a run stand in it in the run's order, since its worker makes them in no other.
 //
 // A thread that only looks at the counters does no run, and no worker of a world can do what it
-// does. So its Loads are taken out of the history, which stays as legal as it was.
+// does. So its Loads are taken out of the history, which stays as legal as it was. What is left of
+// the history is that of the world: each event has the number of its run there and not of its pass,
+// and nothing else is changed.
 
 mod laws;
 

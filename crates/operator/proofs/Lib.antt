@@ -1,3 +1,4 @@
 pub mod Counted
+pub mod Leading
 pub mod Lines
 pub mod Positions

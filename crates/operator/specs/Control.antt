@@ -1,16 +1,21 @@
 -- What an operator rules: which ruleset was installed last, and the server's arrays.
-use Rattle.std.specs.Prelude.{◌≡◌, ◌^◌, ◌-◌, ℕ, List, Result, Ok, Err}
+use Rattle.std.specs.Prelude.{◌≡◌, ◌^◌, ◌-◌, ℕ, List, All, Result, Ok, Err}
+use mathlib.Core.List.{IsPrefix}
 use Rattle.cells.specs.declared.array.CellArray.{CellArray}
 use Rattle.hot_swap.specs.Latest.{Publishing, Installs}
 use Rattle.hot_swap.specs.declared.fault.SwapFault.{SwapFault}
 use Rattle.hot_swap.specs.declared.fault.SwapFault.TheVariants as swap
 use Rattle.operator.specs.declared.reply.OperatorRefusal.{OperatorRefusal}
 use Rattle.operator.specs.declared.reply.OperatorRefusal.TheVariants as refusal
-use Rattle.ruleset.specs.Rules.{Rules}
+use Rattle.ruleset.specs.Rules.{Rules, KnowsOnly}
 
 pub record Controlled : Type 0 where
   pub publishing : Publishing
   pub arrays : List CellArray
+
+-- the programs of all that was published know no arrays but the server's
+abbrev pub KnowOnlyItsArrays : Controlled → Type 0
+KnowOnlyItsArrays c = All (KnowsOnly c.arrays) c.publishing.known.rulesets
 
 -- the last generation has been installed; of want of memory nothing is said
 abbrev pub IsUninstallable : Publishing → SwapFault → Type 0
@@ -24,12 +29,15 @@ abbrev pub Loading : Type 0 → Type 1
 Loading F = List ℕ → List CellArray → Result (Rules × List CellArray) F → Type 0
 
 module _ {F : Type 0} (loads : Loading F) where
-  -- the ruleset that was loaded is installed, and its arrays are declared, under this generation
+  -- The ruleset that was loaded is installed, and its arrays are declared, under this generation.
+  -- Its programs know no others than the arrays after it, which begin with those before.
   pub record IsInstalled (path : List ℕ) (old : Controlled) (generation : ℕ) (new : Controlled)
       : Type 0 where
     pub rules : Rules
     pub loaded : loads path old.arrays (Ok (rules, new.arrays))
     pub installed : Installs old.publishing rules generation new.publishing
+    pub only : KnowsOnly new.arrays rules
+    pub grown : IsPrefix old.arrays new.arrays
 
   -- why nothing is
   abbrev pub IsRefusedLoad : List ℕ → Controlled → OperatorRefusal F → Type 0

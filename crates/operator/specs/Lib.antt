@@ -2,5 +2,6 @@ pub mod Line
 pub mod Texts
 pub mod Replies
 pub mod Control
+pub mod Leading
 pub mod Counters
 pub mod Perform

@@ -44,13 +44,15 @@ impl Control {
         }
     }
 
-    /// What its publisher keeps. It does nothing: a proof calls it for its clauses.
+    /// What publisher and directory keep. It does nothing: a proof calls it for its clauses.
     pub fn keeps(&self)
         ensures last { IsLatest self.now.publishing.known
             self.now.publishing.latest.generation self.now.publishing.latest.rules }
         ensures sound { All IsRuleset self.now.publishing.known.rulesets }
+        ensures directory { IsDirectory self.now.arrays }
     {
         self.publisher.keeps();
+        let _arrays = self.directory.arrays();
     }
 
     /// The generation that was installed last.

@@ -12,6 +12,7 @@
 mod answering;
 mod asking;
 mod control;
+mod law;
 mod line;
 mod loader;
 mod performing;
@@ -22,5 +23,6 @@ mod told;
 pub use answering::{answer, write_reply};
 pub use asking::{AskFault, ask};
 pub use control::Control;
+pub use law::loads_go_on;
 pub use loader::Loader;
 pub use reply::{OperatorRefusal, OperatorReply};

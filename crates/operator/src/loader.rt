@@ -8,6 +8,9 @@ use std::fmt::Display;
 
 /// What makes a ruleset of the manifest at a path.
 pub trait Loader {
+    ghost use Rattle.std.specs.Prelude.{IfOk};
+    ghost use mathlib.Core.List.{IsPrefix};
+    ghost use Rattle.ruleset.specs.Rules.{KnowsOnly};
     ghost use Rattle.operator.specs.Control.{Loading};
 
     /// Why there is none: its text is printed behind `refused `.
@@ -17,12 +20,15 @@ pub trait Loader {
     /// after it, or the fault.
     ghost loads: { Self → Loading Self.Fault };
 
-    /// The ruleset of a manifest, and a directory of the arrays before it and of its own.
+    /// The ruleset of a manifest, and a directory of the arrays before it and of its own, which are
+    /// all that its programs know.
     fn load(
         &self,
         alloc: Global,
         path: &str,
         directory: &Directory,
     ) -> Result<(Ruleset, Directory), Self::Fault>
-        ensures { loads self.now path.now directory.now result };
+        ensures outcome { loads self.now path.now directory.now result }
+        ensures only { IfOk result (λ loaded. KnowsOnly loaded.1 loaded.0) }
+        ensures grown { IfOk result (λ loaded. IsPrefix directory.now loaded.1) };
 }

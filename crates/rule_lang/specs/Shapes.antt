@@ -1,11 +1,7 @@
 -- The arrays of a shape by their names: of two with one name the first.
-use Rattle.std.specs.Prelude.{ℕ, ◌+◌, List, [], ◌∷◌, Option, Some, None, if◌then◌else◌}
-use Rattle.std.specs.Str.{bytes_eq}
+use Rattle.std.specs.Prelude.{ℕ, ◌+◌, Option, Some, None}
 use Rattle.cells.specs.declared.array.CellArray.{CellArray}
-
-abbrev pub array_named : List ℕ → List CellArray → Option CellArray
-array_named name [] = None
-array_named name (a ∷ rest) = if bytes_eq a.name name then Some a else array_named name rest
+pub use Rattle.cells.specs.Directory.{array_named}
 
 -- the number of an array's cell; 0 stands for an array that isn't there
 abbrev pub cell_of : Option CellArray → (index : ℕ) → ℕ

@@ -6,7 +6,9 @@ use Rattle.std.specs.Str.{bytes_eq}
 use Rattle.attrs.specs.Attributes.{Attributes, AreShort}
 use Rattle.bpf_semantics.specs.State.{opening}
 use Rattle.bpf_semantics.specs.Program.{ShapedProgram}
-use Rattle.bpf_verify.specs.Covers.{EndsWell}
+use Rattle.bpf_verify.specs.Covers.{EndsWell, IsCovered, StepsAreSafe}
+use Rattle.cells.specs.Directory.{HasArray}
+use Rattle.cells.specs.declared.array.CellArray.{CellArray}
 use Rattle.releases.specs.Appid.{is_appid}
 use Rattle.releases.specs.Release.{Release}
 
@@ -80,9 +82,13 @@ AlwaysEndsWell program = (a : Attributes) → AreShort a.texts → EndsWell prog
 abbrev pub ChoosesAmong : ShapedProgram → List Release → Type 0
 ChoosesAmong program releases = length releases ≡ program.shape.releases
 
--- what an app keeps
+-- what an app keeps: its appid is one; each run of its program opens in a state that is covered,
+-- from such a state each step is safe, and the whole run ends well; and its releases are those that
+-- it chooses among
 pub record IsApp (app : AppRule) : Type 0 where
   pub named : IsTrue (is_appid app.appid)
+  pub opens : (a : Attributes) → AreShort a.texts → IsCovered app.program (opening a)
+  pub sound : StepsAreSafe app.program
   pub ends : AlwaysEndsWell app.program
   pub all : ChoosesAmong app.program app.releases
 
@@ -97,3 +103,7 @@ pub record AppsAreKept (appids : List (List ℕ)) (apps : List AppRule) : Type 0
 pub record IsRuleset (rules : Rules) : Type 0 where
   pub one : HasOneApp rules
   pub each : All IsApp rules.apps
+
+-- the ruleset's programs know no arrays but these
+abbrev pub KnowsOnly : List CellArray → Rules → Type 0
+KnowsOnly arrays rules = All (λ app. All (HasArray arrays) app.program.shape.arrays) rules.apps

@@ -62,7 +62,8 @@ impl App {
 
     /// What the type keeps. It does nothing: a proof calls it for its clauses.
     pub fn keeps(&self)
-        // The appid is one, every run of its program ends, and chooses 0 or one of its releases.
+        // The appid is one. Every run of its program asks of counters only what its arrays allow,
+        // ends, and chooses 0 or one of its releases.
         ensures { IsApp self.now }
     {
         let _releases = &self.releases;

@@ -79,7 +79,8 @@ impl Ruleset {
     /// What the type keeps. It does nothing: a proof calls it for its clauses.
     pub fn keeps(&self)
         ensures once { ¬ HasTwice (appids_of self.now.apps) }
-        // So an appid has one app. A run of its program ends, with 0 or a release of the app.
+        // So an appid has one app. A run of its program asks of counters only what the program's
+        // arrays allow, and ends with 0 or a release of the app.
         ensures sound { IsRuleset self.now }
     {
         let _apps = &self.apps;

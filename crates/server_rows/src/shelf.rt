@@ -1,12 +1,15 @@
 //! The manifests of the tests, by their paths. Each has one app, `x`, with one release.
 
-ghost use Rattle.std.specs.Prelude.{◌≡◌};
+ghost use Rattle.std.specs.Prelude.{◌≡◌, All, IfOk, IfSome, OnOk};
+ghost use mathlib.Core.List.{IsPrefix};
+ghost use Rattle.cells.specs.Directory.{HasArray};
+ghost use Rattle.ruleset.specs.Rules.{KnowsOnly};
 
 use acceptance::accept;
 use attrs::Text;
 use bpf_text::assemble;
 use bpf_verify::Verified;
-use cells::{Directory, Shape};
+use cells::{Directory, Shape, arrays_stay};
 use declarations::{declare_all, read_spec};
 use hot_swap::Publisher;
 use operator::Loader;
@@ -83,7 +86,10 @@ pub(crate) fn ruleset(
     alloc: Global,
     path: &str,
     directory: &mut Directory,
-) -> Result<Ruleset, &'static str> {
+) -> Result<Ruleset, &'static str>
+    ensures only { IfOk result (KnowsOnly directory.new) }
+    ensures grown { OnOk result (IsPrefix directory.old directory.new) }
+{
     let Some(row) = row_of(path) else {
         return Err("no such manifest");
     };
@@ -109,7 +115,11 @@ fn row_of(path: &str) -> Option<&'static str> {
     None
 }
 
-fn shape(alloc: Global, arrays: &str, directory: &mut Directory) -> Result<Shape, &'static str> {
+fn shape(alloc: Global, arrays: &str, directory: &mut Directory) -> Result<Shape, &'static str>
+    ensures known { IfOk result (λ shape. All (HasArray directory.new) shape.arrays) }
+    ensures grown { OnOk result (IsPrefix directory.old directory.new) }
+{
+    arrays_stay();
     if arrays.is_empty() {
         return Ok(Shape::plain(alloc, 1));
     }
@@ -119,13 +129,16 @@ fn shape(alloc: Global, arrays: &str, directory: &mut Directory) -> Result<Shape
     let Ok(numbers) = declare_all(alloc, directory, &declared) else {
         return Err("an array");
     };
+    let _arrays = directory.arrays();
     match Shape::of(alloc, 1, directory, &numbers) {
         Ok(shape) => Ok(shape),
         Err(_) => Err("memory"),
     }
 }
 
-fn program(alloc: Global, text: &str, shape: &Shape) -> Result<Verified, &'static str> {
+fn program(alloc: Global, text: &str, shape: &Shape) -> Result<Verified, &'static str>
+    ensures { IfOk result (λ program. program.shape ≡ shape.now) }
+{
     let Ok(lines) = text.replace(alloc, ";", "\n") else {
         return Err("memory");
     };
@@ -141,17 +154,17 @@ fn program(alloc: Global, text: &str, shape: &Shape) -> Result<Verified, &'stati
 /// The app `x` of a program that chooses among one release.
 fn app_of(alloc: Global, program: Verified) -> Result<App, AllocError>
     requires { program.shape.releases ≡ 1 }
+    ensures { IfOk result (λ app. app.program ≡ program) }
 {
     let appid = String::from_str(alloc, "x")?;
     let releases = vec![in alloc; release(alloc)?]?;
     Ok(App::new(appid, Arc::new(alloc, program)?, releases))
 }
 
-fn ruleset_of(
-    alloc: Global,
-    server: &str,
-    program: Verified,
-) -> Result<Option<Ruleset>, AllocError> {
+fn ruleset_of(alloc: Global, server: &str, program: Verified) -> Result<Option<Ruleset>, AllocError>
+    ensures { (arrays : _) → All (HasArray arrays) program.shape.arrays
+        → IfOk result (λ found. IfSome found (KnowsOnly arrays)) }
+{
     if program.shape().releases() != 1 {
         return Ok(None);
     }

@@ -78,7 +78,7 @@ const UNREAD_TOLD: &str = "lost\",\"lines\":4}\nunaccepted\",\"reason\":\"read\"
 fn lines_that_nobody_reads_are_lost(rt: HostRuntime) -> Result<(), Fail> {
     let (queue, pieces) = LogQueue::new(rt.alloc())?;
     for _ in 0..256 {
-        queue.note(&rt, &LogEvent::Stop);
+        queue.note(&rt, &LogEvent::Stop(None));
     }
     let wrong = wrong_by(&rt, "quota", 2, logging_to(&queue), Work::Rows(UNREAD))?;
     assert_eq!(rt; wrong, None);

@@ -1,2 +1,5 @@
 mod Staffing
 mod Ending
+mod Turns
+mod Closing
+mod Leaving

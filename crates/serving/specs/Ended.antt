@@ -1,52 +1,69 @@
 -- What a server leaves once it has ended: one history of all that its threads did to its counters.
-use Rattle.std.specs.Prelude.{◌≡◌, ℕ, List, ◌∷◌, All, length}
-use mathlib.Core.List.{IsPrefix}
-use Rattle.atomic_table.specs.Seated.{TableId}
-use Rattle.shared_cells.specs.Passes.{CellsView, PassView, IsPassOf, AreLeftBy}
+use Rattle.std.specs.Prelude.{◌≡◌, List, [], ◌∷◌, All, map, reverse}
+use Rattle.kept_quotas.specs.Quotas.{QuotasAreGranted}
+use Rattle.shared_cells.specs.Passes.{CellsView, PassView, ClosedView, IsPassOf, AreClosed}
+use Rattle.shared_cells.specs.Passes.{AreLeftBy}
 use Rattle.shared_cells.specs.Quotas.{QuotasAreExact}
-use Rattle.one_world.specs.InTurn.{AreOfRuns}
-use Rattle.one_world.specs.Passes.{AreLoads, DidOneWorld}
+use Rattle.one_world.specs.Passes.{DidOneWorld, all_runs}
+use Rattle.one_world.specs.Runs.{AppRun, IsWholeRun}
+use Rattle.cells.specs.Directory.{IsDirectory}
+use Rattle.operator.specs.Control.{Controlled, Loading, KnowOnlyItsArrays}
+use Rattle.operator.specs.Leading.{LoadsLead}
 use Rattle.hot_swap.specs.Published.{Beginning}
-use Rattle.ruleset.specs.Rules.{Rules}
+use Rattle.hot_swap.specs.declared.publisher_id.PublisherId.{PublisherId}
+use Rattle.ruleset.specs.Rules.{Rules, IsRuleset}
+use Rattle.workers.specs.Answers.{WorkerAnswer, AreInTurn}
+use Rattle.workers.specs.Runs.{runs_in_turn}
 
--- The values are those after one legal history of all passes to these cells, in which the events of
--- each pass are those that it made. The first pass, the operator's, only looked, and each other one
--- did runs, one after the other, each under one of the published rulesets; and one world runs them
--- all. Of a counter among the cells each quota is granted exactly.
-pub record AreLeftByOneWorld (cells : CellsView) (published : List Rules) (values : List ℕ)
-    : Type 0 where
-  pub first : Rules
-  pub later : List Rules
-  pub published_are : published ≡ first ∷ later
-  pub passes : List PassView
-  pub all : length passes ≡ cells.passes
-  pub of : All (IsPassOf cells) passes
-  pub left : AreLeftBy passes values
-  pub quotas : QuotasAreExact passes values
-  pub world : DidOneWorld first later passes 0 values
+-- What threads did to counters that are closed, by these runs of each pass. There is one legal
+-- history of all passes, which leaves these values, and in which the events of each pass are those
+-- that it made. The first pass only looked, and each other one did its runs, one after the other,
+-- each under one of the rulesets and to its end, in time and with 0 or a release. And that history,
+-- without the looks, is that of one world, which does these runs. Of each counter a quota is
+-- granted exactly.
+pub record AreLeftByOneWorld (published : List Rules) (runs : List (List AppRun))
+    (closed : ClosedView) : Type 0 where
+  pub left : AreLeftBy closed.passes closed.values
+  pub whole : All (IsWholeRun published) (all_runs runs)
+  pub world : DidOneWorld published closed.passes 0 left.history closed.values runs
+  pub counters : QuotasAreExact closed.passes closed.values
 
--- so it is of all that was published in the end, which begins with what had been when the server
--- began to serve
-pub record LeavesOneWorld (cells : CellsView) (known : List Rules) (values : List ℕ)
-    : Type 0 where
-  pub published : List Rules
-  pub onwards : IsPrefix known published
-  pub left : AreLeftByOneWorld cells published values
+-- the runs of each pass of a server: the operator's, which is the first, did none, and a worker's
+-- did those of the worker's answers
+abbrev pub runs_by_pass : List (List WorkerAnswer) → List (List AppRun)
+runs_by_pass by_worker = [] ∷ map runs_in_turn by_worker
+
+-- What a server leaves that began to serve with these cells and this control. The counters are its
+-- own, closed with all passes to them. Loads, and nothing else, led from that control to the one at
+-- its end. There are answers of each worker, one after the other: none under an older ruleset than
+-- the one before, and each under one that was published, or a refusal. What the worker did to the
+-- counters is what the runs of these answers did, and the operator only looked. What was published
+-- is sound and knows no arrays but those that the server has then; and of these each quota is
+-- granted.
+pub record LeavesOneWorld {F : Type 0} (loads : Loading F) (cells : CellsView)
+    (control : Controlled) (closed : ClosedView) : Type 0 where
+  pub own : AreClosed cells closed
+  pub end : Controlled
+  pub led : LoadsLead loads control end
+  pub by_worker : List (List WorkerAnswer)
+  pub in_turn :
+      All (λ answers. AreInTurn control.publishing.known answers end.publishing.known) by_worker
+  pub did : AreLeftByOneWorld end.publishing.known.rulesets (runs_by_pass by_worker) closed
+  pub sound : All IsRuleset end.publishing.known.rulesets
+  pub directory : IsDirectory end.arrays
+  pub only : KnowOnlyItsArrays end
+  pub granted : QuotasAreGranted end.arrays closed.passes closed.values
 
 -- ---- what is known on the way there
 
--- the operator's pass, when its thread has ended
-pub record HasLooked (table : TableId) (pass : PassView) : Type 0 where
-  pub of : pass.table ≡ table
-  pub looked : AreLoads pass.events
+-- a worker, when its thread has ended: its pass is to these cells, and its watcher is of this
+-- publisher
+pub record IsOfServer (cells : CellsView) (publisher : PublisherId)
+    (worker : PassView × Beginning) : Type 0 where
+  pub pass : IsPassOf cells worker.0
+  pub watcher : publisher ≡ worker.1.publisher
 
--- a worker's pass, when its watcher was found to know nothing but what was published
-pub record HasRun (table : TableId) (published : List Rules) (pass : PassView) : Type 0 where
-  pub of : pass.table ≡ table
-  pub ran : AreOfRuns published pass.events
-
--- a worker, when its thread has ended: it ran under what its watcher knows
-pub record HasServed (table : TableId) (published : Beginning) (worker : PassView × Beginning)
-    : Type 0 where
-  pub pass : HasRun table worker.1.rulesets worker.0
-  pub publisher : published.publisher ≡ worker.1.publisher
+-- the passes as they are closed: the operator's, and those of the workers, from the last one on
+abbrev pub passes_of : PassView → List (PassView × Beginning) → List PassView
+passes_of operator workers =
+    operator ∷ reverse (map (λ (worker : PassView × Beginning). worker.0) workers)

@@ -1,34 +1,36 @@
 //! The end of a server: its threads have given back all that they were given, and its counters are
 //! closed.
 
-ghost use Rattle.std.specs.Prelude.{◌≡◌, ◌+◌, ◌≤◌, [], All, IfOk, IfErr, length, vec_capacity};
+ghost use Rattle.std.specs.Prelude.{◌≡◌, ◌+◌, ◌≤◌, [], All, IsTrue, length, vec_capacity};
 ghost use mathlib.Core.List.{IsPrefix};
-ghost use Rattle.workers.specs.Back.{IsPublished};
-ghost use Rattle.serving.specs.Ended.{AreLeftByOneWorld, HasLooked, HasServed};
+ghost use Rattle.shared_cells.specs.Passes.{AreClosed, AreLeftBy, IsPassOf};
+ghost use Rattle.shared_cells.specs.Quotas.{QuotasAreExact};
+ghost use Rattle.serving.specs.Ended.{IsOfServer, passes_of};
 
-use hot_swap::{Generation, Notice, SwapFault, Watcher, generations_go_onwards};
-use one_world::{runs_add_up, threads_are_one_world};
-use shared_cells::{Closed, SharedCells, SharedPass, passes_gain_lists};
+use hot_swap::{Generation, Notice, Watcher, generations_go_onwards};
+use shared_cells::{Closed, SharedCells, SharedPass};
 use workers::Returned;
 
-/// Closes the cells by all passes to them, for which there is room, once what was published is more
-/// than any worker has seen. H2 where a worker can't be asked what it has seen.
+/// Closes the cells by all passes to them, for which there is room, and tells whether each worker
+/// could be asked what it has seen, and has seen nothing but what was published.
 pub(crate) fn close_cells(
     cells: SharedCells,
     back: Returned<SharedPass>,
     mut room: Vec<SharedPass>,
-) -> Result<Closed, SwapFault>
+) -> (Closed, bool)
     requires all { cells.passes ≡ length back.workers.items + 1 }
-    requires operator { HasLooked cells.table back.operator }
-    requires workers { All (HasServed cells.table back.published) back.workers.items }
-    requires published { IsPublished back.published back.generation }
+    requires operator { IsPassOf cells back.operator }
+    requires workers { All (IsOfServer cells back.published.publisher) back.workers.items }
+    requires generation { back.generation ≡ length back.published.rulesets }
     requires empty { room.items ≡ [] }
     requires enough { length back.workers.items + 1 ≤ vec_capacity room }
-    ensures world { IfOk result (AreLeftByOneWorld cells back.published.rulesets) }
-    ensures fault { IfErr result (λ e. e ≡ SwapFault.NoPlace) }
+    ensures own { AreClosed cells result.0 }
+    ensures passes { result.0.passes ≡ passes_of back.operator back.workers.items }
+    ensures history { AreLeftBy result.0.passes result.0.values }
+    ensures quotas { QuotasAreExact result.0.passes result.0.values }
+    ensures seen { IsTrue result.1
+        → All (λ worker. IsPrefix worker.1.rulesets back.published.rulesets) back.workers.items }
 {
-    threads_are_one_world();
-    runs_add_up();
     let Returned {
         operator,
         mut workers,
@@ -36,40 +38,42 @@ pub(crate) fn close_cells(
         generation,
     } = back;
     room.push_reserved(operator);
+    let mut is_known = true;
     while let Some(worker) = workers.pop() {
-        let pass = match pass_of(worker, &published, generation) {
-            Ok(pass) => pass,
-            Err(fault) => return Err(fault),
-        };
+        let (pass, has_seen) = pass_of(worker, &published, generation);
         room.push_reserved(pass);
+        is_known = both(is_known, has_seen);
     }
     let Ok(closed) = cells.close(room) else {
         unreachable!()
     };
-    Ok(closed)
+    (closed, is_known)
 }
 
-// The pass of a worker that has seen nothing but what was published, up to this generation. H2
-// where it has seen more, which can't be, or can't be asked.
+// The pass of a worker, and whether it has seen nothing but what was published, up to this
+// generation. It hasn't where it has seen more, which can't be, or can't be asked.
 fn pass_of(
     worker: (SharedPass, Watcher),
     published: &Notice,
     generation: Generation,
-) -> Result<SharedPass, SwapFault>
+) -> (SharedPass, bool)
     requires publisher { published.now.publisher ≡ worker.1.publisher }
     requires generation { generation ≡ length published.now.rulesets }
-    ensures same { IfOk result (λ pass. pass ≡ worker.0) }
-    ensures seen { IfOk result (λ _. IsPrefix worker.1.rulesets published.now.rulesets) }
-    ensures fault { IfErr result (λ e. e ≡ SwapFault.NoPlace) }
+    ensures same { result.0 ≡ worker.0 }
+    ensures seen { IsTrue result.1 → IsPrefix worker.1.rulesets published.now.rulesets }
 {
     generations_go_onwards();
     let (pass, mut watcher) = worker;
     watcher.learn(published);
-    let Ok((seen, _)) = watcher.current() else {
-        return Err(SwapFault::NoPlace);
-    };
-    if generation < seen {
-        return Err(SwapFault::NoPlace);
+    match watcher.current() {
+        Ok((seen, _)) => (pass, seen <= generation),
+        Err(_) => (pass, false),
     }
-    Ok(pass)
+}
+
+fn both(first: bool, second: bool) -> bool
+    ensures first { IsTrue result → IsTrue first }
+    ensures second { IsTrue result → IsTrue second }
+{
+    first && second
 }

@@ -1,5 +1,6 @@
 //! Why there is no server, or none that serves.
 
+ghost use Rattle.std.specs.Prelude.{◌≡◌, ◌↔◌, IsTrue};
 ghost use Rattle.serving.specs.Texts.{serving_text};
 
 use bounded_files::ResourceFault;
@@ -23,6 +24,15 @@ pub enum ServingFault {
     /// B4: memory that the server itself wants, or a thread, is refused. B3: that it serves can't
     /// be written.
     Resource(ResourceFault),
+}
+
+impl ServingFault {
+    /// Whether it is that of a server that has served: its log has told it with the counters.
+    pub fn is_of_end(&self) -> bool
+        ensures { IsTrue result ↔ (self.now ≡ ServingFault.Publisher SwapFault.NoPlace) }
+    {
+        matches!(self, ServingFault::Publisher(SwapFault::NoPlace))
+    }
 }
 
 impl Display for ServingFault {

@@ -13,9 +13,15 @@ const CELLS: u16 = 8192;
 /// How long all these lines wait for places.
 const END_SECONDS: u64 = 4;
 
-/// Tells the log, if there is one, that a server has ended, and what is left of its counters, array
-/// after array, up to the first line that has no place in time.
-pub(crate) fn note_end<H>(rt: &H, log: Option<&LogQueue>, arrays: &[CellArray], closed: &Closed)
+/// Tells the log, if there is one, that a server has ended, with what is refused then, and what is
+/// left of its counters, array after array, up to the first line that has no place in time.
+pub(crate) fn note_end<H>(
+    rt: &H,
+    log: Option<&LogQueue>,
+    refusal: Option<&str>,
+    arrays: &[CellArray],
+    closed: &Closed,
+)
 where
     H: Wait + AllocGlobal + Clock,
 {
@@ -23,7 +29,7 @@ where
         return;
     };
     let until = seconds_from_now(rt, END_SECONDS);
-    if !queue.note_until(rt, &LogEvent::Stop, until) {
+    if !queue.note_until(rt, &LogEvent::Stop(refusal), until) {
         return;
     }
     for array in arrays {

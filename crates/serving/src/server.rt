@@ -1,8 +1,9 @@
 //! From a manifest's path to a server that has all to serve but its threads: what can be wrong with
 //! either is found before these are made.
 
-ghost use Rattle.std.specs.Prelude.{◌≡◌, ◌≤◌, [], IfOk, IfErr, length};
+ghost use Rattle.std.specs.Prelude.{◌≡◌, ◌≤◌, [], ◌∷◌, IfOk, IfErr, length};
 ghost use Rattle.load.specs.Loaded.{IsLoadedFrom};
+ghost use Rattle.ruleset.specs.Rules.{KnowsOnly};
 ghost use Rattle.serving.specs.Manifests.{RefusesToServe};
 ghost use Rattle.serving.specs.Staffed.{IsStaffFault};
 
@@ -21,6 +22,7 @@ pub struct Server {
     ports: Ports,
     rules: Ruleset,
     directory: Directory,
+    ghost only: { KnowsOnly directory rules },
 }
 
 /// Loads the manifest at a path, and binds both ports of loopback, of which 0 is any that is free.
@@ -73,6 +75,8 @@ impl Server {
         ensures ports { IfOk result (λ s. s.ports ≡ self.ports) }
         ensures first { IfOk result (λ s. s.control.publishing.latest.generation ≡ 1) }
         ensures rules { IfOk result (λ s. s.control.publishing.latest.rules ≡ self.rules) }
+        ensures known { IfOk result
+            (λ s. s.control.publishing.known.rulesets ≡ self.rules ∷ []) }
         ensures arrays { IfOk result (λ s. s.control.arrays ≡ self.directory) }
         ensures workers { IfOk result (λ s. length s.workers.items ≡ workers) }
         ensures fault { IfErr result IsStaffFault }

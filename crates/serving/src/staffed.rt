@@ -1,9 +1,12 @@
 //! A server with all that it serves by, which is made before anything is served: its counters, the
 //! publisher of its rulesets with the directory of its arrays, and its workers.
 
-ghost use Rattle.std.specs.Prelude.{◌≡◌, ◌+◌, ◌≤◌, [], IfOk, IfErr, OnOk, length, vec_capacity};
+ghost use Rattle.std.specs.Prelude.{◌≡◌, ◌+◌, ◌≤◌, [], ◌∷◌, IfOk, IfErr, OnOk, length};
+ghost use Rattle.std.specs.Prelude.{vec_capacity};
 ghost use Rattle.std.specs.Io.KnownBytes.{Appends};
+ghost use Rattle.ruleset.specs.Rules.{KnowsOnly};
 ghost use Rattle.workers.specs.Texts.{serving_line};
+ghost use Rattle.operator.specs.Control.{KnowOnlyItsArrays};
 ghost use Rattle.serving.specs.Ended.{LeavesOneWorld};
 ghost use Rattle.serving.specs.Staff.{IsStaff};
 ghost use Rattle.serving.specs.Staffed.{IsEndFault, IsStaffFault};
@@ -14,8 +17,10 @@ use crate::last_values::note_end;
 use crate::worker_list::worker_list;
 use bounded_files::ResourceFault;
 use cells::Directory;
-use hot_swap::{Publisher, Watcher};
-use operator::{Control, Loader};
+use hot_swap::{Publisher, SwapFault, Watcher};
+use kept_quotas::threads_grant_quotas;
+use one_world::threads_are_one_world;
+use operator::{Control, Loader, loads_go_on};
 use ruleset::Ruleset;
 use shared_cells::{Closed, SharedCells, SharedPass, passes_gain_lists};
 use std::io::Write;
@@ -23,7 +28,7 @@ use std::net::{Net, TcpListener, TcpStream};
 use std::sync::{Arc, Wait};
 use std::thread::Threads;
 use std::time::Clock;
-use workers::{OperatorSeat, Ports, Service, run};
+use workers::{OperatorSeat, Ports, Service, answers_are_runs, run};
 
 /// A server that has its counters, its publisher and its workers. It is ended by `serve` or by
 /// `close`, and isn't let go otherwise.
@@ -37,13 +42,15 @@ pub struct StaffedServer {
     /// For all passes, when they come back.
     room: Vec<SharedPass>,
     ghost staff: { IsStaff cells pass control.publishing.known workers.items },
+    ghost only: { KnowOnlyItsArrays control },
     ghost empty: { room.items ≡ [] },
     ghost enough: { length workers.items + 1 ≤ vec_capacity room },
 }
 
 /// A server at these ports of this ruleset, which is installed as generation 1 and whose arrays are
-/// those of the directory, with so many workers. S1 where the counters are refused memory, H1 where
-/// the publisher or one of its watchers is, and B4 where the program itself is.
+/// those of the directory, with so many workers. Nothing else is installed. S1 where the counters
+/// are refused memory, H1 where the publisher or one of its watchers is, and B4 where the program
+/// itself is.
 pub fn staff<H>(
     rt: &H,
     ports: Ports,
@@ -55,9 +62,11 @@ where
     H: Wait + AllocGlobal,
     requires some { 1 ≤ workers }
     requires few { workers ≤ 64 }
+    requires only { KnowsOnly directory rules }
     ensures ports { IfOk result (λ s. s.ports ≡ ports) }
     ensures first { IfOk result (λ s. s.control.publishing.latest.generation ≡ 1) }
     ensures rules { IfOk result (λ s. s.control.publishing.latest.rules ≡ rules) }
+    ensures known { IfOk result (λ s. s.control.publishing.known.rulesets ≡ rules ∷ []) }
     ensures arrays { IfOk result (λ s. s.control.arrays ≡ directory) }
     ensures workers { IfOk result (λ s. length s.workers.items ≡ workers) }
     ensures fault { IfErr result IsStaffFault }
@@ -108,7 +117,8 @@ impl StaffedServer {
     /// that aren't 0 have a line of the log. Once all threads are there, `out` is told that the
     /// server serves. Later rulesets come from the loader. B4 where memory or a thread was refused,
     /// which is before any client is answered and before anything is written; B3 where `out` can't
-    /// be written; and H2 where a worker can't be asked at the end what it has seen.
+    /// be written; and H2 where a worker can't be asked at the end what it has seen, which the log
+    /// tells with the counters.
     pub fn serve<H, L, O>(
         self,
         rt: &H,
@@ -123,14 +133,21 @@ impl StaffedServer {
         O: Write,
         requires some { 1 ≤ length self.workers.items }
         requires few { length self.workers.items ≤ 64 }
-        // What all threads did to the counters is one legal history, and that of one world.
+        // The counters are this server's, and what all threads did to them is one legal history,
+        // that of one world, under rulesets that loads installed one after the other. Its runs are
+        // those of answers, one list a worker, in turn, under rulesets that never went back. Each
+        // run came to its end in time, with 0 or a release, and each quota is granted.
         ensures world { IfOk result
-            (LeavesOneWorld self.cells self.control.publishing.known.rulesets) }
+            (LeavesOneWorld (L.loads loader.now) self.cells self.control) }
         ensures said { OnOk result (Appends (O.contents out.old) (O.contents out.new)
             (serving_line self.control.publishing.latest.generation)) }
         ensures fault { IfErr result IsEndFault }
     {
         passes_gain_lists();
+        answers_are_runs();
+        threads_are_one_world();
+        threads_grant_quotas();
+        loads_go_on(loader);
         let StaffedServer {
             ports,
             cells,
@@ -151,16 +168,19 @@ impl StaffedServer {
                 return Err(ServingFault::Resource(fault));
             }
         };
-        match close_cells(cells, back, room) {
-            Ok(closed) => {
-                note_end(rt, service.log, control.arrays(), &closed);
-                control.close(rt);
-                Ok(closed)
-            }
-            Err(fault) => {
-                control.close(rt);
-                Err(ServingFault::Publisher(fault))
-            }
+        let (closed, is_known) = close_cells(cells, back, room);
+        note_end(
+            rt,
+            service.log,
+            refusal_if(!is_known),
+            control.arrays(),
+            &closed,
+        );
+        control.close(rt);
+        if is_known {
+            Ok(closed)
+        } else {
+            Err(ServingFault::Publisher(SwapFault::NoPlace))
         }
     }
 
@@ -175,5 +195,14 @@ impl StaffedServer {
             room: _room,
         } = self;
         control.close(rt);
+    }
+}
+
+// What the log tells where a worker couldn't be asked what it has seen.
+fn refusal_if(is_refused: bool) -> Option<&'static str> {
+    if is_refused {
+        Some(SwapFault::NoPlace.name())
+    } else {
+        None
     }
 }

@@ -1,5 +1,5 @@
 -- What contracts see of the cells and of a pass, and what is known once the cells are closed.
-use Rattle.std.specs.Prelude.{◌≡◌, ℕ, List, [], ◌∷◌, ◌++◌, map, flat_map, get_or}
+use Rattle.std.specs.Prelude.{◌≡◌, ℕ, List, [], ◌∷◌, ◌++◌, All, length, map, flat_map, get_or}
 use Rattle.atomic_table.specs.Seated.{TableId}
 use Rattle.cells.specs.declared.event.CellEvent.{CellEvent}
 use Rattle.cells.specs.Grown.{GrewBy}
@@ -18,6 +18,19 @@ pub record PassView : Type 0 where
 -- the pass is to these cells
 abbrev pub IsPassOf : CellsView → PassView → Type 0
 IsPassOf cells pass = pass.table ≡ cells.table
+
+-- cells on which nobody acts any more: which they were, the passes that they were closed with, and
+-- the last value of each cell
+pub record ClosedView : Type 0 where
+  pub cells : CellsView
+  pub passes : List PassView
+  pub values : List ℕ
+
+-- they are these cells, closed with all passes that were made to them
+pub record AreClosed (cells : CellsView) (closed : ClosedView) : Type 0 where
+  pub same : closed.cells ≡ cells
+  pub all : length closed.passes ≡ cells.passes
+  pub own : All (IsPassOf cells) closed.passes
 
 -- the pass is to the cells of this table, and has made no event
 pub record IsNewPass (table : TableId) (pass : PassView) : Type 0 where

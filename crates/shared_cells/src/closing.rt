@@ -2,7 +2,7 @@
 //! with it.
 
 ghost use Rattle.std.specs.Prelude.{◌≡◌, All, length, slice_index, IfOk, IsOk};
-ghost use Rattle.shared_cells.specs.Passes.{IsPassOf, AreLeftBy};
+ghost use Rattle.shared_cells.specs.Passes.{AreClosed, AreLeftBy, IsPassOf};
 ghost use Rattle.shared_cells.specs.Quotas.{QuotasAreExact};
 
 use crate::fault::SharedFault;
@@ -13,20 +13,29 @@ use crate::word::to_value;
 use cells::CellNo;
 use std::alloc::Global;
 use std::marker::Model;
+use std::snapshot::Snapshot;
 
-/// Cells on which nobody acts any more. Contracts see the list of their values.
+/// Cells on which nobody acts any more. Contracts see which they were, the passes that they were
+/// closed with, and the list of their values.
 pub struct Closed {
     table: atomic_table::Closed<(), Global>,
+    cells: Snapshot<SharedCells>,
+    passes: Snapshot<Vec<SharedPass>>,
 }
 
 impl Model for Closed {
-    ghost use Rattle.std.specs.Prelude.{◌≡◌, ℕ, List};
+    ghost use Rattle.std.specs.Prelude.{◌≡◌};
     ghost use Rattle.std.specs.Slots.{slots_items, slots_len, IsFull};
+    ghost use Rattle.shared_cells.specs.Passes.{ClosedView};
     ghost use Rattle.shared_cells.specs.Words.{stored_values};
 
-    ghost Value = { List ℕ };
+    ghost Value = { ClosedView };
 
-    ghost view = { λ c. stored_values 0 (slots_items c.table.words) };
+    ghost view = { λ c. record {
+      cells = c.cells.value;
+      passes = c.passes.value.items;
+      values = stored_values 0 (slots_items c.table.words);
+    } };
 
     ghost invariant = { λ c. IsFull c.table.words × (slots_len c.table.words ≡ 8192)
         × (slots_len c.table.slots ≡ 0) };
@@ -38,10 +47,14 @@ impl SharedCells {
     pub fn close(self, mut passes: Vec<SharedPass>) -> Result<Closed, SharedFault>
         requires all { length passes.items ≡ self.passes }
         requires own { All (IsPassOf self) passes.items }
-        ensures history { IfOk result (AreLeftBy passes.items) }
-        ensures quotas { IfOk result (QuotasAreExact passes.items) }
+        ensures closed { IfOk result (AreClosed self) }
+        ensures passes { IfOk result (λ c. c.passes ≡ passes.items) }
+        ensures history { IfOk result (λ c. AreLeftBy c.passes c.values) }
+        ensures quotas { IfOk result (λ c. QuotasAreExact c.passes c.values) }
         ensures always { IsOk result }
     {
+        let cells = Snapshot::of(&self);
+        let all = Snapshot::of(&passes);
         let SharedCells { table } = self;
         let Some(last) = passes.pop() else {
             unreachable!()
@@ -53,14 +66,18 @@ impl SharedCells {
                 .join_seat::<TakeIn>(&mut seat, pass.into_seat());
         }
         let table = table.close_with(seat);
-        Ok(Closed { table })
+        Ok(Closed {
+            table,
+            cells,
+            passes: all,
+        })
     }
 }
 
 impl Closed {
     /// The last value of a cell.
     pub fn value(&self, cell: CellNo) -> u64
-        ensures { result ≡ slice_index self.now cell.number }
+        ensures { result ≡ slice_index self.now.values cell.number }
     {
         let at = cell.index();
         to_value(at, self.table.word(at))
@@ -69,7 +86,11 @@ impl Closed {
 
 impl Drop for Closed {
     fn drop(self) {
-        let Self { table } = self;
+        let Self {
+            table,
+            cells: _cells,
+            passes: _passes,
+        } = self;
         table.free();
     }
 }

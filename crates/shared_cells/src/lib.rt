@@ -27,7 +27,8 @@
 // takes in the accounts of all others (`closing.rt`). It then knows as many accounts as there are
 // passes, so no other seat knows any, no pass is missing and none is there twice: the history of
 // the rule has the events of these passes, each once and in their order, and no others. Its last
-// values are what is in the words.
+// values are what is in the words. What is closed goes on telling, to proofs alone, which cells
+// these were and which passes; nothing else makes a `Closed`.
 //
 // From this the law of quotas follows (`specs/Quotas.antt`). Who wants one of a limited number of
 // places adds 1 to a cell, and has it where the reply is below the quota. If nothing but Load and

@@ -1,4 +1,5 @@
 mod Onwards
+mod Turns
 mod OfRuns
 mod Served
 mod InPlace

@@ -1,5 +1,5 @@
 -- What one request of the operator did, and one more after others.
-use Rattle.std.proofs.Common.{◌≡◌, List, [], ◌∷◌, ◌++◌}
+use Rattle.std.proofs.Common.{◌≡◌, List, [], ◌++◌}
 use Rattle.std.proofs.Common.{Option, refl, sym, subst}
 use Rattle.std.specs.Prelude.{ℕ}
 use Rattle.std.proofs.lemmas.List.Elements.{All-nil, All-append, All-push}
@@ -10,11 +10,11 @@ use Rattle.one_world.specs.Passes.{AreLoads}
 use Rattle.operator.specs.Control.{Controlled, Loading}
 use Rattle.operator.specs.Counters.{IsLoad, ReadsCells, ReadsArrays}
 use Rattle.operator.specs.Counters.{no_cell, one_cell, no_array, one_array}
-use Rattle.operator.specs.Perform.{Performs, AnswersLine, counted, stopped, unshown, uncounted}
-use Rattle.operator.specs.Perform.{wordless, loaded, not_loaded, shown}
+use Rattle.operator.specs.Leading.{LoadsLead, stays, goes}
+use Rattle.operator.specs.Perform.{Performs, AnswersLine, wordless, loaded, not_loaded, shown}
+use Rattle.operator.specs.Perform.{counted, stopped, unshown, uncounted}
 use Rattle.operator.specs.declared.reply.OperatorReply.{OperatorReply}
-use Rattle.hot_swap.specs.Published.{GoesOnwards}
-use Rattle.workers.proofs.Onwards.{goes_nowhere}
+use Rattle.operator_request.specs.declared.request.OperatorRequest.{OperatorRequest}
 use Rattle.workers.specs.Back.{OperatorBack}
 
 -- ---- what reads the counters makes Loads alone
@@ -31,12 +31,6 @@ of_arrays no_array = All-nil IsLoad
 of_arrays (one_array {arrays} {before} {events} first next) =
     All-append IsLoad before events (of_arrays first) (of_cells next)
 
--- ---- what is installed goes on
-
-pub goes_nowhere_by : (old new : Controlled) → new ≡ old
-    → GoesOnwards old.publishing.known new.publishing.known
-goes_nowhere_by old new same = rw same (goes_nowhere old.publishing.known)
-
 -- ---- one request
 
 module _ {F : Type 0} (loads : Loading F) where
@@ -51,23 +45,28 @@ module _ {F : Type 0} (loads : Loading F) where
   performs_loads asked old new events replied unshown = All-nil IsLoad
   performs_loads asked old new events replied (uncounted all) = all
 
-  performs_onwards : (asked : _) (old new : Controlled)
+  -- a load leads on, and nothing else changes what is installed
+  performs_leads : (asked : Option OperatorRequest) (old new : Controlled)
       (events : List CellEvent) (replied : OperatorReply F)
-      → Performs loads asked old events replied new
-      → GoesOnwards old.publishing.known new.publishing.known
-  performs_onwards asked old new events replied wordless = goes_nowhere old.publishing.known
-  performs_onwards asked old new events replied (loaded path is) = record {
-    publisher = is.installed.publisher;
-    onwards = (is.rules ∷ [], sym is.installed.listed);
-  }
-  performs_onwards asked old new events replied (not_loaded path is) =
-      goes_nowhere old.publishing.known
-  performs_onwards asked old new events replied (shown lines is) = goes_nowhere old.publishing.known
-  performs_onwards asked old new events replied (counted lines reads) =
-      goes_nowhere old.publishing.known
-  performs_onwards asked old new events replied stopped = goes_nowhere old.publishing.known
-  performs_onwards asked old new events replied unshown = goes_nowhere old.publishing.known
-  performs_onwards asked old new events replied (uncounted all) = goes_nowhere old.publishing.known
+      → Performs loads asked old events replied new → LoadsLead loads old new
+  performs_leads asked old new events replied wordless = stays
+  performs_leads asked old new events replied (loaded path is) = goes stays is
+  performs_leads asked old new events replied (not_loaded path is) = stays
+  performs_leads asked old new events replied (shown lines is) = stays
+  performs_leads asked old new events replied (counted lines reads) = stays
+  performs_leads asked old new events replied stopped = stays
+  performs_leads asked old new events replied unshown = stays
+  performs_leads asked old new events replied (uncounted all) = stays
+
+  -- where nothing has changed there was no load
+  pub led_nowhere : (old new : Controlled) → new ≡ old → LoadsLead loads old new
+  led_nowhere old new same = subst (λ (c : Controlled). LoadsLead loads old c) (sym same) stays
+
+  -- from one control to a second, and from there to a third
+  pub leads_on : (c d e : Controlled) → LoadsLead loads c d → LoadsLead loads d e
+      → LoadsLead loads c e
+  leads_on c d e led stays = led
+  leads_on c d e led (goes {d = m} on is) = goes (leads_on c d m led on) is
 
   module _ {P : Type 0} (grew : P → CellEvent → P → Type 0) where
     pub has_looked : (told : Option (List ℕ)) (old new : Controlled) (replied : OperatorReply F)
@@ -80,12 +79,12 @@ module _ {F : Type 0} (loads : Loading F) where
       of = performs_loads did.of.asked old new did.events replied did.of.performs;
     }
 
-    pub has_gone_on : (told : Option (List ℕ)) (old new : Controlled) (replied : OperatorReply F)
+    pub has_led : (told : Option (List ℕ)) (old new : Controlled) (replied : OperatorReply F)
         (p q : P)
         → Grows grew p q (λ events. AnswersLine loads told old events replied new)
-        → GoesOnwards old.publishing.known new.publishing.known
-    has_gone_on told old new replied p q did =
-        performs_onwards did.of.asked old new did.events replied did.of.performs
+        → LoadsLead loads old new
+    has_led told old new replied p q did =
+        performs_leads did.of.asked old new did.events replied did.of.performs
 
 module _ {P : Type 0} (belongs : P → Type 0) (grew : P → CellEvent → P → Type 0) where
   pub looked_at_nothing : (p q : P) → q ≡ p → Grows grew p q AreLoads
@@ -113,3 +112,10 @@ pub back_on : {X P : Type 0} (belongs : X → P → Type 0) (grew : P → CellEv
 back_on belongs grew append first later same p m q so_far last =
     back_later (belongs first) grew append p m q so_far
     (subst (λ x. OperatorBack (belongs x) grew m q) same last)
+
+-- and the loader is
+pub led_on : {X F : Type 0} (loads : X → Loading F) (first later : X) → later ≡ first
+    → (c d e : Controlled) → LoadsLead (loads first) c d → LoadsLead (loads later) d e
+    → LoadsLead (loads first) c e
+led_on loads first later same c d e led on =
+    leads_on (loads first) c d e led (subst (λ x. LoadsLead (loads x) d e) same on)

@@ -1,32 +1,38 @@
--- The events of an answer are those of runs: of one app, of all its apps, and of a whole request.
+-- The events of answers are those of their runs: of an app, of all apps of a request, of an answer,
+-- and of one answer after the other.
 use Rattle.std.proofs.Common.{◌≡◌, ℕ, ◌≤◌, List, [], ◌∷◌, length}
 use Rattle.std.proofs.Common.{Bool, true, false, Option, Some, None}
-use Rattle.std.proofs.Common.{refl, sym, ap, ◌∙◌, arith, append-nil}
+use Rattle.std.proofs.Common.{refl, sym, ap, subst, ◌∙◌, arith, append-nil}
 use Rattle.std.specs.Prelude.{ℤ, nat_le, if◌then◌else◌, slice_get}
 use Rattle.std.specs.List.{last_or}
 use Rattle.std.proofs.lemmas.Bool.Decides.{nat_tests}
 use Rattle.std.proofs.lemmas.List.Elements.{All-cons, All-nil, All-from_recursion}
-use Rattle.answering.specs.Answer.{RepliesToBody, RepliesToRequest, taken, rejected}
+use Rattle.answering.specs.Answer.{RepliesTo, RepliesToBody, RepliesToRequest, taken, rejected}
 use Rattle.answering.specs.Answer.{replied, unowned, broken_off, asked, refused, unread}
 use Rattle.answering.specs.Apps.{RunsApp, RunsApps, unasked, unknown, ran, none}
-use Rattle.answering.specs.Apps as runs
+use Rattle.answering.specs.Apps as apps
 use Rattle.answering.specs.Reply.{HttpReply}
 use Rattle.attrs.specs.Attributes.{AreShort, kept_text}
 use Rattle.attrs.specs.Facts.{attributes_of, texts_of}
 use Rattle.attrs.specs.declared.facts.AppFacts.{AppFacts}
 use Rattle.attrs.specs.declared.facts.RequestFacts.{RequestFacts}
 use Rattle.cells.specs.declared.event.CellEvent.{CellEvent}
-use Rattle.one_world.specs.InTurn.{AreOfRuns, NoneAreOfRuns, OfRunsAppend}
-use Rattle.one_world.specs.Runs.{AppRun, IsRunUnder, AtEnd}
-use Rattle.world.specs.World.{ruleset_at}
-use Rattle.hot_swap.specs.Published.{Beginning, IsLatest, HasLast}
-use Rattle.ruleset.specs.Rules.{Rules}
-use Rattle.workers.specs.Runs.{AnswersAreOfRuns}
+use Rattle.one_world.specs.InTurn.{AreOfRuns, NoneAreOfRuns, OfRunsAppend, OfRunsStay}
+use Rattle.one_world.specs.Runs.{AppRun, IsWholeRun, AtEnd}
+use Rattle.world.specs.World.{ruleset_at, HasProgram}
+use Rattle.hot_swap.specs.Published.{Beginning, GoesOnwards, IsLatest, HasLast}
+use Rattle.omaha_json.specs.Request.{Request}
+use Rattle.ruleset.specs.Rules.{Rules, appid_of}
+use Rattle.workers.proofs.Turns.{turns_go_onwards}
+use Rattle.workers.specs.Answers.{made_in_turn}
+use Rattle.workers.specs.Runs.{AnswersAreOfRuns, runs_in_turn, runs_of_app, runs_of_apps}
+use Rattle.workers.specs.Runs.{runs_of_body, runs_of_reply, runs_of_request}
 
 -- what the crate below promises of runs one after the other
 pub record Laws : Type 0 where
   pub nothing : NoneAreOfRuns
   pub append : OfRunsAppend
+  pub stay : OfRunsStay
 
 -- ---- the last ruleset of a list has its length as its number
 
@@ -75,10 +81,12 @@ texts_are_short app facts =
 module _ (law : Laws) (published : List Rules) (number : ℕ) (rules : Rules)
     (listed : ruleset_at published number ≡ Some rules) (facts : RequestFacts) (moment : ℤ) where
   of_app : (app : AppFacts) (choice : Option ℕ) (events : List CellEvent)
-      → RunsApp rules facts moment app choice events → AreOfRuns published events
+      (one : RunsApp rules facts moment app choice events)
+      → AreOfRuns published (runs_of_app number facts moment app one) events
   of_app app choice events (unasked is) = law.nothing published
   of_app app choice events (unknown is) = law.nothing published
-  of_app app choice events (ran {choice = chosen} known count asks found knows ends fits lawful) =
+  of_app app choice events (ran {choice = chosen} known count
+      asks found knows ends short few fits lawful) =
       let run : AppRun = record {
         number = number;
         program = known.program;
@@ -86,28 +94,39 @@ module _ (law : Laws) (published : List Rules) (number : ℕ) (rules : Rules)
         events = events;
         stage = AtEnd chosen count;
       } in
-      record {
-        runs = run ∷ [];
-        each = All-cons (IsRunUnder published) run [] (record {
-          offered = record {
-            app = known;
-            has = record { rules = rules; ruleset_is = listed; known = knows };
-            program_is = refl;
-          };
+      let offered : HasProgram published number (appid_of run.attributes) run.program = record {
+        app = known;
+        has = record { rules = rules; ruleset_is = listed; known = knows };
+        program_is = refl;
+      } in
+      let whole : IsWholeRun published run = record {
+        under = record {
+          offered = offered;
           texts_are_short = texts_are_short app facts;
           comes = ends;
-        }) (All-nil (IsRunUnder published));
+        };
+        choice = chosen;
+        instructions = count;
+        ended = refl;
+        safe = record { offered = offered; release = few; short = short };
+      } in
+      record {
+        each = All-cons (IsWholeRun published) run [] whole (All-nil (IsWholeRun published));
         events_are = sym (append-nil events);
       }
 
-  of_apps : (apps : List AppFacts) (choices : List (Option ℕ)) (events : List CellEvent)
-      → RunsApps rules facts moment apps choices events → AreOfRuns published events
-  of_apps apps choices events none = law.nothing published
-  of_apps apps choices events
-      (runs.then {apps = earlier} {choices = chosen} {before = before} {app = app}
-      {choice = choice} {events = made} few run) =
-      law.append published before made (of_apps earlier chosen before few)
-      (of_app app choice made run)
+  of_apps : (asking : List AppFacts) (choices : List (Option ℕ)) (events : List CellEvent)
+      (all : RunsApps rules facts moment asking choices events)
+      → AreOfRuns published (runs_of_apps number facts moment all) events
+  of_apps asking choices events none = law.nothing published
+  of_apps asking choices events
+      (apps.then {apps = earlier} {choices = chosen} {before = before} {app = app}
+      {choice = choice} {events = made} few one) =
+      law.append published (runs_of_apps number facts moment few)
+      (runs_of_app number facts moment app one) before made
+      (of_apps earlier chosen before few) (of_app app choice made one)
+
+-- ---- one answer
 
 module _ (law : Laws) (watcher : Beginning) (moment : ℤ) where
   listed_as : (generation : ℕ) (rules : Rules) → IsLatest watcher generation rules
@@ -116,8 +135,9 @@ module _ (law : Laws) (watcher : Beginning) (moment : ℤ) where
       ap (ruleset_at watcher.rulesets) is.generation_is
       ∙ last_at watcher.rulesets rules is.rules_are
 
-  of_request : (request : _) (events : List CellEvent) (reply : HttpReply)
-      → RepliesToRequest request watcher moment events reply → AreOfRuns watcher.rulesets events
+  of_request : (request : Request) (events : List CellEvent) (reply : HttpReply)
+      (replies : RepliesToRequest request watcher moment events reply)
+      → AreOfRuns watcher.rulesets (runs_of_request replies) events
   of_request request events reply
       (replied {generation = g} {rules = rules} {choices = cs} is made) =
       of_apps law watcher.rulesets g rules (listed_as g rules is) request.facts moment
@@ -128,14 +148,33 @@ module _ (law : Laws) (watcher : Beginning) (moment : ℤ) where
       events few.2
 
   of_body : (body : List ℕ) (events : List CellEvent) (reply : HttpReply)
-      → RepliesToBody body watcher moment events reply → AreOfRuns watcher.rulesets events
+      (replies : RepliesToBody body watcher moment events reply)
+      → AreOfRuns watcher.rulesets (runs_of_body replies) events
   of_body body events reply (asked {request = request} is replies) =
       of_request request events reply replies
   of_body body events reply (refused fault is) = law.nothing watcher.rulesets
   of_body body events reply unread = law.nothing watcher.rulesets
 
-pub of_answer : Laws → AnswersAreOfRuns
-of_answer law told watcher moment events reply (taken body is replies) =
-    of_body law watcher moment body events reply replies
-of_answer law told watcher moment events reply (rejected fault status is code) =
-    law.nothing watcher.rulesets
+  of_reply : (told : Option (List ℕ)) (events : List CellEvent) (reply : HttpReply)
+      (replies : RepliesTo told watcher moment events reply)
+      → AreOfRuns watcher.rulesets (runs_of_reply replies) events
+  of_reply told events reply (taken body is replies) = of_body body events reply replies
+  of_reply told events reply (rejected fault status is code) = law.nothing watcher.rulesets
+
+-- ---- one answer after the other
+
+runs_stay : OfRunsStay → (v w : Beginning) (runs : List AppRun) (events : List CellEvent)
+    → GoesOnwards v w → AreOfRuns v.rulesets runs events → AreOfRuns w.rulesets runs events
+runs_stay stay v w runs events goes of =
+    subst (λ (l : List Rules). AreOfRuns l runs events) goes.onwards.1
+    (stay v.rulesets goes.onwards.0 runs events of)
+
+pub answers_are_of_runs : Laws → AnswersAreOfRuns
+answers_are_of_runs law from to [] turn = law.nothing to.rulesets
+answers_are_of_runs law from to (a ∷ later) turn =
+    let runs = runs_of_reply a.replies in
+    let goes = turns_go_onwards a.known to later turn.1 in
+    law.append to.rulesets runs (runs_in_turn later) a.events (made_in_turn later)
+    (runs_stay law.stay a.known to runs a.events goes
+    (of_reply law a.known a.moment None a.events a.reply a.replies))
+    (answers_are_of_runs law a.known to later turn.1)

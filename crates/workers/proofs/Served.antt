@@ -1,48 +1,63 @@
--- What one answer did, and one more after others; and a worker whose thread has promised to give it
--- back.
-use Rattle.std.proofs.Common.{◌≡◌, ℕ, List, [], ◌++◌, refl, subst}
+-- What one connection did, and one more after others; and a worker whose thread has promised to
+-- give it back.
+use Rattle.std.proofs.Common.{◌≡◌, ℕ, List, [], ◌∷◌, ◌++◌, refl, sym, subst, append-nil, arith}
 use Rattle.std.specs.List.{AllZip}
-use Rattle.std.specs.Prelude.{ℤ, Option, Result, Ok, Err, IfOk, IfErr}
+use Rattle.std.specs.Prelude.{ℤ, Option, None, Result, Ok, Err, IfOk, IfErr}
 use Rattle.std.specs.declared.thread.PromisedHandle.{PromisedHandle}
-use Rattle.answering.specs.Answer.{RepliesByRuns, WritesNothing}
+use Rattle.std.proofs.lemmas.Grind.{flat_map-append}
+use Rattle.answering.specs.Answer.{RepliesByRuns, RepliesTo, WritesNothing, taken, rejected}
 use Rattle.answering.specs.Reply.{HttpReply}
 use Rattle.answering.specs.declared.answering.AnswerFault.{AnswerFault}
 use Rattle.answering.specs.declared.answering.AnswerFault.TheVariants.{Ended, Reading, Writing}
-use Rattle.cells.specs.Grown.{Grows, GrowsByAppend}
+use Rattle.cells.specs.Grown.{GrewBy, GrowsByAppend}
 use Rattle.cells.specs.declared.event.CellEvent.{CellEvent}
-use Rattle.one_world.specs.InTurn.{AreOfRuns, NoneAreOfRuns, OfRunsAppend, OfRunsStay}
 use Rattle.hot_swap.specs.Published.{Beginning, GoesOnwards}
-use Rattle.ruleset.specs.Rules.{Rules}
 use Rattle.workers.proofs.InPlace.{zip_through}
-use Rattle.workers.proofs.Onwards.{goes_nowhere, goes_further}
-use Rattle.workers.specs.Back.{WorkerBack, WorkersBack}
+use Rattle.workers.proofs.Onwards.{goes_nowhere}
+use Rattle.workers.proofs.Turns.{turns_join}
+use Rattle.workers.specs.Answers.{WorkerAnswer, made_in_turn}
+use Rattle.workers.specs.Back.{WorkerBack, ConnectionBack, WorkersBack}
 use Rattle.workers.specs.Promised.{IsPromiseOf}
-use Rattle.workers.specs.Runs.{AnswersAreOfRuns}
 use Rattle.workers.specs.declared.promise.OfWorker.{OfWorker}
 
--- ---- what a watcher knows
+-- ---- one connection
 
-runs_stay : OfRunsStay → (v w : Beginning) (events : List CellEvent) → GoesOnwards v w
-    → AreOfRuns v.rulesets events → AreOfRuns w.rulesets events
-runs_stay stay v w events goes of =
-    subst (λ (l : List Rules). AreOfRuns l events) goes.onwards.1
-    (stay v.rulesets goes.onwards.0 events of)
+-- whatever the bytes were
+untold : (told : Option (List ℕ)) (w : Beginning) (moment : ℤ) (events : List CellEvent)
+    (reply : HttpReply) → RepliesTo told w moment events reply
+    → RepliesTo None w moment events reply
+untold told w moment events reply (taken body is replies) = taken body tt replies
+untold told w moment events reply (rejected fault status is code) = rejected fault status tt code
 
--- ---- one answer
-
-module _ {P : Type 0} (grew : P → CellEvent → P → Type 0) (none : NoneAreOfRuns)
-    (answers : AnswersAreOfRuns) (told : Option (List ℕ)) (w : Beginning) (moment : ℤ)
-    (p q : P) where
+module _ {P : Type 0} (belongs : P → Type 0) (grew : P → CellEvent → P → Type 0)
+    (told : Option (List ℕ)) (v w : Beginning) (moment : ℤ) (p q : P) (here : belongs q)
+    (goes : GoesOnwards v w) where
   by_reply : (reply : HttpReply) → RepliesByRuns grew told w moment p q reply
-      → Grows grew p q (AreOfRuns w.rulesets)
-  by_reply reply is = record {
-    events = is.events;
-    grown = is.grown;
-    of = answers told w moment is.events reply is.of;
-  }
+      → ConnectionBack belongs grew (p, v) (q, w)
+  by_reply reply is =
+      let answer : WorkerAnswer = record {
+        known = w;
+        moment = moment;
+        events = is.events;
+        reply = reply;
+        replies = untold told w moment is.events reply is.of;
+      } in
+      record {
+        back = record {
+          belongs_yet = here;
+          answers = answer ∷ [];
+          in_turn = (goes, goes_nowhere w);
+          grown = subst (λ (es : List CellEvent). GrewBy grew p es q) (sym (append-nil is.events))
+              is.grown;
+        };
+        once = omega arith;
+      }
 
-  did_nothing : q ≡ p → Grows grew p q (AreOfRuns w.rulesets)
-  did_nothing same = record { events = []; grown = same; of = none w.rulesets }
+  did_nothing : q ≡ p → ConnectionBack belongs grew (p, v) (q, w)
+  did_nothing same = record {
+    back = record { belongs_yet = here; answers = []; in_turn = goes; grown = same };
+    once = omega arith;
+  }
 
   -- whatever comes of it, as `answer` has it
   pub by_answer : {S : Type 0} (outcome : Result S AnswerFault) (X Y Z : S → HttpReply → Type 0)
@@ -52,7 +67,7 @@ module _ {P : Type 0} (grew : P → CellEvent → P → Type 0) (none : NoneAreO
       → ((n : ℕ) → outcome ≡ Err (Writing n)
       → (reply : HttpReply) × U n reply × RepliesByRuns grew told w moment p q reply × V n reply)
       → IfErr outcome (λ e. WritesNothing e → (q ≡ p) × T)
-      → Grows grew p q (AreOfRuns w.rulesets)
+      → ConnectionBack belongs grew (p, v) (q, w)
   by_answer (Ok sent) X Y Z U V T replied begun unread = by_reply replied.0 replied.3
   by_answer (Err (Writing n)) X Y Z U V T replied begun unread =
       let some = begun n refl in by_reply some.0 some.2
@@ -62,34 +77,39 @@ module _ {P : Type 0} (grew : P → CellEvent → P → Type 0) (none : NoneAreO
 -- ---- one after the other
 
 module _ {P : Type 0} (belongs : P → Type 0) (grew : P → CellEvent → P → Type 0) where
-  pub back_at_once : NoneAreOfRuns → (p : P) (w : Beginning) → belongs p
-      → WorkerBack belongs grew (p, w) (p, w)
-  back_at_once none p w here = record {
+  pub back_at_once : (p : P) (w : Beginning) → belongs p → WorkerBack belongs grew (p, w) (p, w)
+  back_at_once p w here = record {
     belongs_yet = here;
-    onwards = goes_nowhere w;
-    ran = record { events = []; grown = refl; of = none w.rulesets };
+    answers = [];
+    in_turn = goes_nowhere w;
+    grown = refl;
   }
 
-  pub back_later : GrowsByAppend grew → OfRunsAppend → OfRunsStay → (a b c : P × Beginning)
-      → WorkerBack belongs grew a b → WorkerBack belongs grew b c → WorkerBack belongs grew a c
-  back_later join append stay a b c first last = record {
-    belongs_yet = last.belongs_yet;
-    onwards = goes_further a.1 b.1 c.1 first.onwards last.onwards;
-    ran = record {
-      events = first.ran.events ++ last.ran.events;
-      grown = join a.0 first.ran.events b.0 last.ran.events c.0 first.ran.grown last.ran.grown;
-      of = append c.1.rulesets first.ran.events last.ran.events
-          (runs_stay stay b.1 c.1 first.ran.events last.onwards first.ran.of) last.ran.of;
-    };
-  }
+  pub unread : (p : P) (w : Beginning) → belongs p → ConnectionBack belongs grew (p, w) (p, w)
+  unfolding back_at_once
+  unread p w here = record { back = back_at_once p w here; once = omega arith }
+
+  pub back_later : GrowsByAppend grew → (a b c : P × Beginning) → WorkerBack belongs grew a b
+      → WorkerBack belongs grew b c → WorkerBack belongs grew a c
+  back_later join a b c first last =
+      let early = first.answers in
+      let late = last.answers in
+      record {
+        belongs_yet = last.belongs_yet;
+        answers = early ++ late;
+        in_turn = turns_join a.1 b.1 c.1 early late first.in_turn last.in_turn;
+        grown = subst (λ (es : List CellEvent). GrewBy grew a.0 es c.0)
+            (sym (flat_map-append (λ (x : WorkerAnswer). x.events) early late))
+            (join a.0 (made_in_turn early) b.0 (made_in_turn late) c.0 first.grown last.grown);
+      }
 
 -- the cells are the same
 pub back_on : {X P : Type 0} (belongs : X → P → Type 0) (grew : P → CellEvent → P → Type 0)
-    → GrowsByAppend grew → OfRunsAppend → OfRunsStay → (first later : X) → later ≡ first
-    → (a b c : P × Beginning) → WorkerBack (belongs first) grew a b
-    → WorkerBack (belongs later) grew b c → WorkerBack (belongs first) grew a c
-back_on belongs grew join append stay first later same a b c so_far last =
-    back_later (belongs first) grew join append stay a b c so_far
+    → GrowsByAppend grew → (first later : X) → later ≡ first → (a b c : P × Beginning)
+    → WorkerBack (belongs first) grew a b → WorkerBack (belongs later) grew b c
+    → WorkerBack (belongs first) grew a c
+back_on belongs grew join first later same a b c so_far last =
+    back_later (belongs first) grew join a b c so_far
     (subst (λ x. WorkerBack (belongs x) grew b c) same last)
 
 -- ---- workers whose threads have promised to give them back

@@ -1,13 +1,16 @@
 -- What the threads of a server give back once they have ended: their passes, with what was done by
 -- them, and their watchers, with what they know.
-use Rattle.std.specs.Prelude.{ℕ, List, All}
+use Rattle.std.specs.Prelude.{◌≡◌, ◌≤◌, ℕ, List, All, length}
 use Rattle.std.specs.List.{AllZip}
-use Rattle.one_world.specs.InTurn.{AreOfRuns}
 use Rattle.one_world.specs.Passes.{AreLoads}
-use Rattle.cells.specs.Grown.{Grows}
+use Rattle.cells.specs.Directory.{IsDirectory}
+use Rattle.cells.specs.Grown.{GrewBy, Grows}
 use Rattle.cells.specs.declared.event.CellEvent.{CellEvent}
-use Rattle.hot_swap.specs.Published.{Beginning, GoesOnwards, IsLatest}
+use Rattle.operator.specs.Control.{Controlled, Loading}
+use Rattle.operator.specs.Leading.{LoadsLead}
+use Rattle.hot_swap.specs.Published.{Beginning, IsLatest}
 use Rattle.ruleset.specs.Rules.{Rules, IsRuleset}
+use Rattle.workers.specs.Answers.{WorkerAnswer, AreInTurn, made_in_turn}
 use Rattle.workers.specs.declared.returned.Returned.{Returned}
 
 -- of what was published each ruleset is sound, and the last one is of this generation
@@ -17,13 +20,18 @@ pub record IsPublished (published : Beginning) (generation : ℕ) : Type 0 where
   pub last : IsLatest published generation rules
 
 module _ {P : Type 0} (belongs : P → Type 0) (grew : P → CellEvent → P → Type 0) where
-  -- A worker, its pass and its watcher. The pass belongs to the cells, and grew by the events of
-  -- runs, one run after the other, and by nothing else. Each run is under one of the rulesets that
-  -- the watcher knows, and these begin with those that it knew.
+  -- A worker, its pass and its watcher, which gave these answers, one after the other. The pass
+  -- belongs to the cells, and grew by what the answers did and by nothing else.
   pub record WorkerBack (old new : P × Beginning) : Type 0 where
     pub belongs_yet : belongs new.0
-    pub onwards : GoesOnwards old.1 new.1
-    pub ran : Grows grew old.0 new.0 (AreOfRuns new.1.rulesets)
+    pub answers : List WorkerAnswer
+    pub in_turn : AreInTurn old.1 answers new.1
+    pub grown : GrewBy grew old.0 (made_in_turn answers) new.0
+
+  -- the same of one connection, which has one answer, or none where it couldn't be read
+  pub record ConnectionBack (old new : P × Beginning) : Type 0 where
+    pub back : WorkerBack old new
+    pub once : length back.answers ≤ 1
 
   -- all workers, each in its place
   abbrev pub WorkersBack : (old new : List (P × Beginning)) → Type 0
@@ -34,11 +42,15 @@ module _ {P : Type 0} (belongs : P → Type 0) (grew : P → CellEvent → P →
     pub belongs_yet : belongs new
     pub looked : Grows grew old new AreLoads
 
-  -- all of a server, which began with this pass of its operator and these workers, when this was
-  -- published
-  pub record ServerBack (pass : P) (staff : List (P × Beginning)) (known : Beginning)
-      (back : Returned P) : Type 0 where
+  -- All of a server, which began with this pass of its operator, these workers and this control.
+  -- Loads, and nothing else, led from there to the control at its end, and what was published then
+  -- is given back.
+  pub record ServerBack {F : Type 0} (loads : Loading F) (pass : P) (staff : List (P × Beginning))
+      (control : Controlled) (back : Returned P) : Type 0 where
     pub operator : OperatorBack pass back.operator
     pub workers : WorkersBack staff back.workers.items
-    pub onwards : GoesOnwards known back.published
+    pub end : Controlled
+    pub led : LoadsLead loads control end
+    pub directory : IsDirectory end.arrays
+    pub published_are : back.published ≡ end.publishing.known
     pub published : IsPublished back.published back.generation

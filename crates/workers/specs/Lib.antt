@@ -1,4 +1,5 @@
 pub mod Texts
+pub mod Answers
 pub mod Runs
 pub mod Back
 pub mod Promised

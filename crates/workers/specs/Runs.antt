@@ -1,13 +1,78 @@
--- What an answer does to the counters is what runs do, one after the other.
-use Rattle.std.specs.Prelude.{ℤ, ℕ, List, Option}
-use Rattle.answering.specs.Answer.{RepliesTo}
+-- The runs of a worker's answers: those of each request, app after app, each to its end.
+use Rattle.std.specs.Prelude.{ℕ, ℤ, List, [], ◌∷◌, ◌++◌, Option, flat_map}
+use Rattle.answering.specs.Answer.{RepliesTo, taken, rejected}
+use Rattle.answering.specs.Answer.{RepliesToBody, asked, refused, unread}
+use Rattle.answering.specs.Answer.{RepliesToRequest, replied, unowned, broken_off}
+use Rattle.answering.specs.Apps.{RunsApp, RunsApps, unasked, unknown, ran, none}
+use Rattle.answering.specs.Apps as apps
 use Rattle.answering.specs.Reply.{HttpReply}
-use Rattle.one_world.specs.InTurn.{AreOfRuns}
+use Rattle.attrs.specs.Facts.{attributes_of}
+use Rattle.attrs.specs.declared.facts.AppFacts.{AppFacts}
+use Rattle.attrs.specs.declared.facts.RequestFacts.{RequestFacts}
 use Rattle.cells.specs.declared.event.CellEvent.{CellEvent}
 use Rattle.hot_swap.specs.Published.{Beginning}
+use Rattle.omaha_json.specs.Request.{Request}
+use Rattle.one_world.specs.InTurn.{AreOfRuns}
+use Rattle.one_world.specs.Runs.{AppRun, AtEnd}
+use Rattle.ruleset.specs.Rules.{Rules}
+use Rattle.workers.specs.Answers.{WorkerAnswer, AreInTurn, made_in_turn}
 
--- whatever is replied, the events are those of runs under the rulesets that the watcher knows
+module _ (number : ℕ) (facts : RequestFacts) (moment : ℤ) where
+  -- of an app: none, or one, under the ruleset of this number and on the app's attributes then
+  abbrev pub runs_of_app : {rules : Rules} (app : AppFacts) {choice : Option ℕ}
+      {events : List CellEvent} → RunsApp rules facts moment app choice events → List AppRun
+  runs_of_app app (unasked is) = []
+  runs_of_app app (unknown is) = []
+  runs_of_app app (ran {choice = chosen} {events = made} known count
+      asks found knows ends short below fits lawful) =
+      let run : AppRun = record {
+        number = number;
+        program = known.program;
+        attributes = attributes_of app facts moment;
+        events = made;
+        stage = AtEnd chosen count;
+      } in
+      run ∷ []
+
+  -- of the apps of a request, app after app
+  abbrev pub runs_of_apps : {rules : Rules} {asking : List AppFacts} {choices : List (Option ℕ)}
+      {events : List CellEvent} → RunsApps rules facts moment asking choices events → List AppRun
+  runs_of_apps none = []
+  runs_of_apps (apps.then {app = app} earlier one) = runs_of_apps earlier ++ runs_of_app app one
+
+-- of a request: the number of its ruleset is the generation
+abbrev pub runs_of_request : {request : Request} {known : Beginning} {moment : ℤ}
+    {events : List CellEvent} {reply : HttpReply}
+    → RepliesToRequest request known moment events reply → List AppRun
+runs_of_request {request = request} {moment = moment} (replied {generation = generation} is runs) =
+    runs_of_apps generation request.facts moment runs
+runs_of_request unowned = []
+runs_of_request {request = request} {moment = moment} (broken_off {generation = generation} is few) =
+    runs_of_apps generation request.facts moment few.2
+
+-- of a body: where it is no request there is none
+abbrev pub runs_of_body : {body : List ℕ} {known : Beginning} {moment : ℤ}
+    {events : List CellEvent} {reply : HttpReply}
+    → RepliesToBody body known moment events reply → List AppRun
+runs_of_body (asked is replies) = runs_of_request replies
+runs_of_body (refused fault is) = []
+runs_of_body unread = []
+
+-- of a reply, and none where no body came
+abbrev pub runs_of_reply : {told : Option (List ℕ)} {known : Beginning} {moment : ℤ}
+    {events : List CellEvent} {reply : HttpReply}
+    → RepliesTo told known moment events reply → List AppRun
+runs_of_reply (taken body is replies) = runs_of_body replies
+runs_of_reply (rejected fault status is code) = []
+
+-- of answers, one after the other
+abbrev pub runs_in_turn : List WorkerAnswer → List AppRun
+runs_in_turn = flat_map (λ answer. runs_of_reply answer.replies)
+
+-- ---- the law
+
+-- what answers in turn did to the counters is what their runs did, each of which is under a ruleset
+-- that the watcher knows after them and came to its end
 abbrev pub AnswersAreOfRuns : Type 0
-AnswersAreOfRuns = (told : Option (List ℕ)) (watcher : Beginning) (moment : ℤ)
-    (events : List CellEvent) (reply : HttpReply)
-    → RepliesTo told watcher moment events reply → AreOfRuns watcher.rulesets events
+AnswersAreOfRuns = (from to : Beginning) (answers : List WorkerAnswer) → AreInTurn from answers to
+    → AreOfRuns to.rulesets (runs_in_turn answers) (made_in_turn answers)

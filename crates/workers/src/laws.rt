@@ -1,14 +1,19 @@
-//! What answers are to the counters, by the definitions alone.
+//! What a worker's answers are to the counters, by the definitions alone.
 
+ghost use Rattle.workers.specs.Answers.{AnswersGoOnwards, AnswersStayInTurn};
 ghost use Rattle.workers.specs.Runs.{AnswersAreOfRuns};
 
 use one_world::runs_add_up;
 
-/// What an answer did to the counters is what runs did, one after the other, each of the program
-/// that the last ruleset of its watcher has for its app. It does nothing: a proof calls it for its
-/// clause.
+/// What a worker's answers did to the counters is what their runs did, one after the other, each of
+/// the program that the last ruleset that the watcher knew then has for its app. It does nothing: a
+/// proof calls it for its clauses.
 pub fn answers_are_runs()
-    ensures { AnswersAreOfRuns }
+    ensures runs { AnswersAreOfRuns }
+    // What is known after answers begins with what was known before,
+    ensures onwards { AnswersGoOnwards }
+    // and they stay in turn when more is known.
+    ensures stay { AnswersStayInTurn }
 {
     runs_add_up();
 }

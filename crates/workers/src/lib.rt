@@ -8,11 +8,12 @@
 //! What they do is told to the log (`server_log`).
 //!
 //! What a connection is answered is proved of `answer` here and of `answer` in `operator`. All
-//! threads give back what they were given once the server ends: a worker's pass made the events of
-//! runs, one run after the other, and nothing else, and the operator's made Loads alone. A server
-//! says that it serves once its threads are there. Of sockets and clocks nothing is proved, and of
-//! a server that gives up that it does so for want of memory or of a thread, or since it can't say
-//! that it serves.
+//! threads give back what they were given once the server ends: a worker gave its answers one after
+//! the other, under rulesets that never went back, and its pass made the events of their runs and
+//! nothing else; the operator's made Loads alone. A server says that it serves once its threads are
+//! there. Which bytes a socket carried nothing tells. Of clocks nothing is proved, and of a server
+//! that gives up that it does so for want of memory or of a thread, or since it can't say that it
+//! serves.
 #![tactic(auto)]
 
 mod accept;

@@ -2,7 +2,7 @@
 //! connection that asks to stop, or once it is told to.
 
 ghost use Rattle.std.specs.Prelude.{◌≡◌};
-ghost use Rattle.hot_swap.specs.Published.{GoesOnwards};
+ghost use Rattle.operator.specs.Leading.{LoadsLead};
 ghost use Rattle.workers.specs.Back.{OperatorBack};
 
 use crate::accept::Port;
@@ -55,7 +55,7 @@ where
     C::Pass: Drop,
     requires { C.belongs seat.old.cells.now seat.old.pass }
     ensures back { OperatorBack (C.belongs seat.old.cells.now) C.grew seat.old.pass seat.new.pass }
-    ensures onwards { GoesOnwards control.old.publishing.known control.new.publishing.known }
+    ensures led { LoadsLead (L.loads seat.old.loader.now) control.old control.new }
 {
     growth::<C>();
     let limit = service.timeout.min(Duration::from_secs(OPERATOR_SECONDS));
@@ -88,9 +88,10 @@ where
     C: CellSteps,
     C::Pass: Drop,
     requires { C.belongs seat.old.cells.now seat.old.pass }
+    ensures loader { seat.new.loader ≡ seat.old.loader }
     ensures cells { seat.new.cells ≡ seat.old.cells }
     ensures back { OperatorBack (C.belongs seat.old.cells.now) C.grew seat.old.pass seat.new.pass }
-    ensures onwards { GoesOnwards control.old.publishing.known control.new.publishing.known }
+    ensures led { LoadsLead (L.loads seat.old.loader.now) control.old control.new }
 {
     let Some(limits) = Limits::begin(rt, service.timeout) else {
         return false;

@@ -7,7 +7,8 @@
 
 ghost use Rattle.std.specs.Io.KnownBytes.{Appends};
 ghost use Rattle.std.specs.Prelude.{◌≡◌, ◌≤◌, All, IfOk, OnOk, length};
-ghost use Rattle.hot_swap.specs.Published.{GoesOnwards};
+ghost use Rattle.cells.specs.Directory.{IsDirectory};
+ghost use Rattle.operator.specs.Leading.{LoadsLead};
 ghost use Rattle.workers.specs.Back.{IsPublished, OperatorBack, ServerBack};
 ghost use Rattle.workers.specs.Texts.{serving_line};
 
@@ -82,7 +83,7 @@ where
     C::Pass: Drop,
     requires { C.belongs seat.cells.now seat.pass }
     ensures back { OperatorBack (C.belongs seat.entry.cells.now) C.grew seat.entry.pass result }
-    ensures onwards { GoesOnwards control.old.publishing.known control.new.publishing.known }
+    ensures led { LoadsLead (L.loads seat.entry.loader.now) control.old control.new }
 {
     operate(rt, listener, &mut seat, control, stop, service);
     end_port(rt, stop, clients);
@@ -100,6 +101,7 @@ fn returned<P: Drop>(operator: P, workers: Vec<(P, Watcher)>, control: &Control)
     ensures workers { result.workers ≡ workers }
     ensures known { result.published ≡ control.now.publishing.known }
     ensures published { IsPublished result.published result.generation }
+    ensures directory { IsDirectory control.now.arrays }
 {
     control.keeps();
     Returned {
@@ -132,7 +134,7 @@ where
     requires some { 1 ≤ length workers.items }
     requires few { length workers.items ≤ 64 }
     ensures back { IfOk result (λ r. ServerBack (C.belongs seat.entry.cells.now) C.grew
-        seat.entry.pass workers.items control.old.publishing.known r.0) }
+        (L.loads seat.entry.loader.now) seat.entry.pass workers.items control.old r.0) }
     ensures said { IfOk result
         (λ r. S.says ready control.old.publishing.latest.generation r.1) }
 {
@@ -160,7 +162,7 @@ where
             requires pass { C.belongs cells.now pass }
             requires workers { All (λ worker. C.belongs cells.now worker.0) workers.items }
             ensures back { IfOk result (λ r. ServerBack (C.belongs cells.entry.now) C.grew
-                pass workers.items control.entry.now.publishing.known r.0) }
+                (L.loads loader.entry.now) pass workers.items control.entry.now r.0) }
             ensures said { IfOk result
                 (λ r. S.says ready control.entry.now.publishing.latest.generation r.1) }
         {
@@ -219,7 +221,7 @@ where
     requires some { 1 ≤ length workers.items }
     requires few { length workers.items ≤ 64 }
     ensures back { IfOk result (ServerBack (C.belongs seat.entry.cells.now) C.grew
-        seat.entry.pass workers.items control.old.publishing.known) }
+        (L.loads seat.entry.loader.now) seat.entry.pass workers.items control.old) }
     ensures said { OnOk result (Appends (O.contents out.old) (O.contents out.new)
         (serving_line control.old.publishing.latest.generation)) }
 {

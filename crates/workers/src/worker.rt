@@ -1,19 +1,17 @@
 //! A worker: it takes connections from the queue and answers them, one after another.
 
 ghost use Rattle.std.specs.Prelude.{◌≡◌};
-ghost use Rattle.workers.specs.Back.{WorkerBack};
+ghost use Rattle.workers.specs.Back.{ConnectionBack, WorkerBack};
 
 use crate::accept::Call;
 use crate::clock::{Limits, begun, unix_second};
 use crate::gate::Gate;
-use crate::laws::answers_are_runs;
 use crate::queue::next;
 use answering::{AnswerFault, AnswerRoom, Sent, Turn, answer_in};
 use cells::{CellSteps, growth};
 use crossbeam_channel::Receiver;
 use devices::{Counted, Timed, drain, take_rest};
 use hot_swap::Watcher;
-use one_world::runs_add_up;
 use server_log::{Heard, Log, LogQueue, Seen, note_connection};
 use std::io;
 use std::net::TcpStream;
@@ -61,7 +59,6 @@ where
     ensures { WorkerBack (C.belongs cells.now) C.grew worker result }
 {
     growth::<C>();
-    runs_add_up();
     let (pass, watcher) = worker;
     let mut seat = WorkerSeat {
         cells,
@@ -103,7 +100,7 @@ where
     C::Pass: Drop,
     requires { C.belongs seat.old.cells.now seat.old.pass }
     ensures cells { seat.new.cells ≡ seat.old.cells }
-    ensures back { WorkerBack (C.belongs seat.old.cells.now) C.grew
+    ensures back { ConnectionBack (C.belongs seat.old.cells.now) C.grew
         (seat.old.pass, seat.old.watcher) (seat.new.pass, seat.new.watcher) }
 {
     let moment = unix_second(rt);
@@ -131,11 +128,9 @@ where
     C::Pass: Drop,
     requires { C.belongs seat.old.cells.now seat.old.pass }
     ensures cells { seat.new.cells ≡ seat.old.cells }
-    ensures back { WorkerBack (C.belongs seat.old.cells.now) C.grew
+    ensures back { ConnectionBack (C.belongs seat.old.cells.now) C.grew
         (seat.old.pass, seat.old.watcher) (seat.new.pass, seat.new.watcher) }
 {
-    runs_add_up();
-    answers_are_runs();
     let Some(limits) = limits else {
         seen.fail("clock");
         return Err(AnswerFault::Reading);

@@ -1,6 +1,6 @@
 -- Safety of a world: no run traps, each ends in time, and each chooses a release of its own
 -- ruleset.
-use Rattle.std.specs.Prelude.{◌≢◌, ℕ, ◌<◌, ◌≤◌, All, length, Ok}
+use Rattle.std.specs.Prelude.{◌≢◌, ℕ, ◌<◌, ◌≤◌, List, All, length, Ok}
 use Rattle.attrs.specs.Attributes.{Attributes}
 use Rattle.bpf_semantics.specs.State.{State}
 use Rattle.bpf_semantics.specs.Step.{step}
@@ -8,7 +8,7 @@ use Rattle.bpf_semantics.specs.Outcome.{Trap}
 use Rattle.bpf_semantics.specs.Program.{ShapedProgram}
 use Rattle.bpf_verify.specs.Covers.{EndsWell}
 use Rattle.cells.specs.Events.{AreCells}
-use Rattle.ruleset.specs.Rules.{IsRuleset, appid_of}
+use Rattle.ruleset.specs.Rules.{Rules, IsRuleset, appid_of}
 use Rattle.world.specs.World.{WorldState, Running, Ended, IsWorker, HasProgram}
 use Rattle.world.specs.Happens.{Answer}
 use Rattle.world.specs.declared.event.Event.{Event}
@@ -26,9 +26,9 @@ pub record IsSafeRun (w : WorldState) (number : ℕ) (program : ShapedProgram)
 
 -- so was one that has ended: its choice is 0, or a number up to the releases of the app that its
 -- ruleset has, after at most as many instructions as the program has slots
-pub record IsSafeEnd (w : WorldState) (number : ℕ) (program : ShapedProgram) (a : Attributes)
-    (choice instructions : ℕ) : Type 0 where
-  pub offered : HasProgram w.rulesets number (appid_of a) program
+pub record IsSafeEnd (rulesets : List Rules) (number : ℕ) (program : ShapedProgram)
+    (a : Attributes) (choice instructions : ℕ) : Type 0 where
+  pub offered : HasProgram rulesets number (appid_of a) program
   pub release : choice ≤ length offered.app.releases
   pub short : instructions ≤ length program.code
 
@@ -41,14 +41,14 @@ pub record IsSafeWorld (w : WorldState) : Type 0 where
       → IsWorker w k (Running number program s) → IsSafeRun w number program s
   pub ended : (k number : ℕ) (program : ShapedProgram) (a : Attributes) (choice instructions : ℕ)
       → IsWorker w k (Ended number program a choice instructions)
-      → IsSafeEnd w number program a choice instructions
+      → IsSafeEnd w.rulesets number program a choice instructions
 
 -- the worker's run has ended so, and was safe
 pub record HasSafeEnd (w : WorldState) (k number choice instructions : ℕ) : Type 0 where
   pub program : ShapedProgram
   pub attributes : Attributes
   pub ended : IsWorker w k (Ended number program attributes choice instructions)
-  pub safe : IsSafeEnd w number program attributes choice instructions
+  pub safe : IsSafeEnd w.rulesets number program attributes choice instructions
 
 -- what a Finish answers is of the worker's own run, which has ended: none or a release of its app,
 -- in the ruleset of the number that is answered

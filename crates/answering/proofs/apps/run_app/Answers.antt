@@ -49,4 +49,5 @@ returns-clause-finds g c =
     knows c.keeps.ensures
     (rw c.as_str.ensures at c.in-Some.ensures.known)
     (c.in-Ok.ensures.program ∙ c.program.ensures)
-    c.in-Ok.ensures.stands c.run-choice.ensures.runs)
+    c.in-Ok.ensures.stands c.run-choice.ensures.runs c.run-choice.ensures.short
+    c.run-choice.ensures.choice)

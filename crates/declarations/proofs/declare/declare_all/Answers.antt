@@ -1,7 +1,7 @@
 use Rattle.std.proofs.Common.{refl}
 use Rattle.std.proofs.lemmas.Option.{slice_get_read}
 use Rattle.declarations.specs.Order.AreDeclared.{none}
-use Rattle.declarations.proofs.Orders.{all_within, one_more}
+use Rattle.declarations.proofs.Orders.{all_begin, all_within, one_more}
 use Rattle.declarations.proofs.declare.declare_all.Goals as goal
 
 pub loop-before-init : goal.loop-before-init
@@ -10,6 +10,12 @@ loop-before-init c = rw c.new-numbers.ensures.items none
 pub returns-clause-within : goal.returns-clause-within
 returns-clause-within c =
     (all_within c.loop-before.invariant).0
+
+pub returns-clause-grown : goal.returns-clause-grown
+returns-clause-grown c = all_begin c.loop-before.invariant
+
+pub returns-in-Err-clause-grown : goal.returns-in-Err-clause-grown
+returns-in-Err-clause-grown c = rw c.in-Err.ensures.same (all_begin c.loop-before.invariant)
 
 pub returns-in-Err-clause-refused : goal.returns-in-Err-clause-refused
 returns-in-Err-clause-refused c = record {

@@ -1,7 +1,9 @@
 use Rattle.std.proofs.Common.{rules, ◌≡◌, Err}
 use Rattle.declarations.specs.Order.{AreDeclared}
+use Rattle.cells.specs.Directory.{IsDirectory}
 use Rattle.load.specs.Apps.{AreAppsOf, RefusesApps}
 use Rattle.load.specs.Load.{RefusesArrays, of_bytes, of_arrays, of_apps}
+use Rattle.load.proofs.Knowing.{apps_know}
 use Rattle.load.proofs.Names.{never_twice}
 use Rattle.load.proofs.loading.load_over.Goals as goal
 
@@ -42,3 +44,13 @@ known-requires g c =
     c.in_ok-numbers.numbers.items c.in_ok-manifest.manifest.apps c.in_ok-apps.apps.items
     = search rules in
     never_twice _ _ _ c.in_ok-manifest.manifest _ c.in_ok-manifest.ensures.manifest.1 are
+
+pub returns-clause-only : goal.returns-clause-only
+returns-clause-only g c =
+    let between = c.declare_arrays.new.directory in
+    let numbers = c.in_ok-numbers.numbers.items in
+    let are : AreAppsOf (g.F.Files.known c.args.files.now) between numbers
+    c.in_ok-manifest.manifest.apps c.in_ok-apps.apps.items = search rules in
+    let directory : IsDirectory between = search rules in
+    rw c.in-Ok-known.ensures.apps
+    (apps_know c.arrays_stay.ensures.numbered _ between numbers directory.names _ _ are)

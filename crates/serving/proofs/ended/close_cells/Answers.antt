@@ -1,9 +1,9 @@
 use Rattle.std.proofs.Common.{◌≡◌, List, [], ◌∷◌, ◌++◌, Some, length, vec_len, sym, ap, ◌∙◌, arith}
 use Rattle.std.proofs.lemmas.List.{length_push}
-use Rattle.std.proofs.lemmas.List.Elements.{All-pop}
-use Rattle.shared_cells.specs.Passes.{PassView}
-use Rattle.serving.specs.Ended.{HasServed}
-use Rattle.serving.proofs.Ending.{is_one_world, none_gathered, one_gathered}
+use Rattle.std.proofs.lemmas.List.Elements.{All-nil, All-pop, All-push, All-same}
+use Rattle.shared_cells.specs.Passes.{PassView, IsPassOf}
+use Rattle.serving.specs.Ended.{IsOfServer}
+use Rattle.serving.proofs.Closing.{all_gathered, all_have_seen, one_gathered, one_more_has, turned}
 use Rattle.serving.proofs.Staffing.{one_less}
 use Rattle.serving.proofs.ended.close_cells.Goals as goal
 
@@ -31,15 +31,19 @@ loop-worker-init c =
       all = omega (arith, one, all);
       enough = omega (arith, none, enough, more, same);
       each = c.requires.workers;
-      gathered = none_gathered c.args.cells.table c.args.back.published.rulesets
-          c.args.back.operator c.push_reserved.new.self.items first;
+      own = All-same (IsPassOf c.args.cells) c.push_reserved.new.self.items
+          (c.args.back.operator ∷ []) first
+          (All-push (IsPassOf c.args.cells) [] c.args.back.operator
+          (All-nil (IsPassOf c.args.cells)) c.requires.operator);
+      gathered = ap (λ (ps : List PassView). ps ++ turned c.args.back.workers.items) first;
+      seen = λ known all. all;
     }
 
-pub pass_of-requires-clause-publisher : goal.pass_of-requires-clause-publisher
-pass_of-requires-clause-publisher c =
-    (All-pop (HasServed c.args.cells.table c.args.back.published) c.loop-worker.workers.items
+pub pass_of-pass-requires-clause-publisher : goal.pass_of-pass-requires-clause-publisher
+pass_of-pass-requires-clause-publisher c =
+    (All-pop (IsOfServer c.args.cells c.args.back.published.publisher) c.loop-worker.workers.items
     c.pop.new.self.items (Some c.in-Some.worker) c.in-Some.ensures.items
-    c.loop-worker.invariant.each).1.publisher
+    c.loop-worker.invariant.each).1.watcher
 
 pub push_reserved-requires-in-Some : goal.push_reserved-requires-in-Some
 push_reserved-requires-in-Some c =
@@ -58,25 +62,44 @@ loop-worker-preserved c =
     let same = pushed.capacity in
     let less = ap (λ l. length l) split ∙ length_push c.pop.new.self.items c.in-Some.worker in
     let enough = before.enough in
-    let popped = All-pop (HasServed c.args.cells.table c.args.back.published)
+    let popped = All-pop (IsOfServer c.args.cells c.args.back.published.publisher)
     c.loop-worker.workers.items c.pop.new.self.items (Some c.in-Some.worker) split before.each in
-    let told = c.in-Ok.ensures in
+    let told = c.pass_of-pass.ensures in
+    let P = IsPassOf c.args.cells in
     record {
       all = one_less _ _ _ _ _ _ split grown ∙ before.all;
       enough = omega (arith, enough, less, more, same);
       each = popped.0;
-      gathered = one_gathered c.runs_add_up.ensures.stay c.args.cells.table c.args.back.published
-          c.args.back.operator c.loop-worker.room.items c.push_reserved-in-Some.new.self.items
-          c.in-Some.worker c.in-Ok.pass before.gathered grown popped.1 told.same told.seen;
+      own = All-same P c.push_reserved-in-Some.new.self.items
+          (c.loop-worker.room.items ++ c.pass_of-pass.result.0 ∷ []) grown
+          (All-push P c.loop-worker.room.items c.pass_of-pass.result.0 before.own
+          (ap (λ (pass : PassView). pass.table) told.same ∙ popped.1.pass));
+      gathered = one_gathered c.loop-worker.room.items c.push_reserved-in-Some.new.self.items
+          c.loop-worker.workers.items c.pop.new.self.items c.in-Some.worker c.pass_of-pass.result.0 _
+          split grown told.same before.gathered;
+      seen = λ known. one_more_has c.args.back.published.rulesets c.loop-worker.workers.items
+          c.pop.new.self.items c.in-Some.worker c.args.back.workers.items split
+          (told.seen (c.both-is_known.ensures.second known)) (before.seen (c.both-is_known.ensures.first known));
     }
 
-pub returns-clause-world : goal.returns-clause-world
-returns-clause-world c =
-    let published = c.requires.published in
+pub close-requires-clause-all : goal.close-requires-clause-all
+close-requires-clause-all c =
     let before = c.loop-worker.invariant.all in
     let none = sym c.loop-worker.workers.ok.0 ∙ c.in_default.ensures.cases.0 in
-    is_one_world c.threads_are_one_world.ensures c.runs_add_up.ensures.none c.args.cells
-    c.args.back.published.rulesets published.rules c.args.back.operator c.loop-worker.room.items
-    c.in-Ok-close.closed (omega (arith, before, none)) published.last.rules_are published.sound
-    c.requires.operator c.loop-worker.invariant.gathered c.in-Ok-close.ensures.history
-    c.in-Ok-close.ensures.quotas
+    omega (arith, before, none)
+
+pub close-requires-clause-own : goal.close-requires-clause-own
+close-requires-clause-own c = c.loop-worker.invariant.own
+
+pub returns-clause-passes : goal.returns-clause-passes
+returns-clause-passes c =
+    let none = sym c.loop-worker.workers.ok.0 ∙ c.in_default.ensures.cases.0 in
+    c.in-Ok.ensures.passes
+    ∙ all_gathered c.loop-worker.room.items c.loop-worker.workers.items _ none
+    c.loop-worker.invariant.gathered
+
+pub returns-clause-seen : goal.returns-clause-seen
+returns-clause-seen c = λ known.
+    let none = sym c.loop-worker.workers.ok.0 ∙ c.in_default.ensures.cases.0 in
+    all_have_seen c.args.back.published.rulesets c.loop-worker.workers.items
+    c.args.back.workers.items none (c.loop-worker.invariant.seen known)

@@ -1,6 +1,8 @@
-use Rattle.std.proofs.Common.{◌≡◌, ◌+◌, ◌≤◌, All, length, vec_capacity, vec_len}
-use Rattle.serving.specs.Ended.{HasServed}
-use Rattle.serving.proofs.Ending.{AreGathered}
+use Rattle.std.proofs.Common.{◌≡◌, ◌+◌, ◌≤◌, ◌++◌, All, length, vec_capacity, vec_len}
+use Rattle.std.specs.Prelude.{IsTrue}
+use Rattle.shared_cells.specs.Passes.{IsPassOf}
+use Rattle.serving.specs.Ended.{IsOfServer, passes_of}
+use Rattle.serving.proofs.Closing.{HasSeen, turned}
 use Rattle.serving.proofs.ended.close_cells.Given as goal
 
 -- a pass more and a worker less each time, and there is room for the passes of all
@@ -8,9 +10,12 @@ abbrev pub invariant-loop-worker : goal.invariant-loop-worker
 invariant-loop-worker l = record {
   all : length l.room.items + length l.workers.items ≡ l.fn.cells.passes;
   enough : vec_len l.room + length l.workers.items ≤ vec_capacity l.room;
-  each : All (HasServed l.fn.cells.table l.fn.back.published) l.workers.items;
-  gathered : AreGathered l.fn.cells.table l.fn.back.published.rulesets l.fn.back.operator
-      l.room.items;
+  each : All (IsOfServer l.fn.cells l.fn.back.published.publisher) l.workers.items;
+  own : All (IsPassOf l.fn.cells) l.room.items;
+  gathered : l.room.items ++ turned l.workers.items
+      ≡ passes_of l.fn.back.operator l.fn.back.workers.items;
+  seen : IsTrue l.is_known → All (HasSeen l.fn.back.published.rulesets) l.workers.items
+      → All (HasSeen l.fn.back.published.rulesets) l.fn.back.workers.items;
 }
 
 abbrev pub decreases-loop-worker : goal.decreases-loop-worker

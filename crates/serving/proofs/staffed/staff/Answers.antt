@@ -1,7 +1,9 @@
-use Rattle.std.proofs.Common.{All, sym, ap, subst, ◌∙◌, arith}
+use Rattle.std.proofs.Common.{[], ◌∷◌, All, sym, ap, subst, ◌∙◌, arith}
 use Rattle.hot_swap.specs.Latest.{Publishing}
 use Rattle.hot_swap.specs.Published.{Beginning}
+use Rattle.ruleset.specs.Rules.{Rules}
 use Rattle.serving.specs.Staff.{IsNewWorker}
+use Rattle.serving.proofs.Leaving.{knows_first}
 use Rattle.serving.proofs.Staffing.{is_staff}
 use Rattle.serving.proofs.staffed.staff.Goals as goal
 
@@ -18,11 +20,15 @@ invariant_of-result g c =
     c.in-Ok-worker_list.ensures.all
     (λ new. subst (λ (b : Beginning). All (IsNewWorker cells.table b) workers) (sym known)
     (c.in-Ok-worker_list.ensures.each cells.table new)) in
+    let listed = ap (λ (b : Beginning). b.rulesets) known ∙ c.in-Ok-new-2.ensures.listed
+    ∙ ap (λ (r : Rules). r ∷ []) c.in-Ok.ensures.ok in
     let all = is.all in
     let many = made.many in
     let room = c.in-Ok-with_capacity.ensures.capacity in
     record {
       staff = is;
+      only = knows_first c.new-in-Ok-worker_list.result c.args.directory c.args.rules
+          c.new-in-Ok-worker_list.ensures.arrays listed c.requires.only;
       empty = c.in-Ok-with_capacity.ensures.items;
       enough = omega (arith, all, many, room);
     }

@@ -1,13 +1,14 @@
 use Rattle.std.specs.Prelude.{◌≡◌}
-use Rattle.hot_swap.specs.Published.{GoesOnwards}
+use Rattle.operator.specs.Leading.{LoadsLead}
 use Rattle.workers.specs.Back.{OperatorBack}
 use Rattle.workers.proofs.operating.operate.Given as goal
 
--- the operator's pass has only looked, and what is installed goes on
+-- the operator's pass has only looked, and loads alone have led to what is installed
 abbrev pub invariant-loop : goal.invariant-loop
 invariant-loop g l = record {
+  loader : l.seat.loader ≡ l.initial.seat.loader;
   cells : l.seat.cells ≡ l.initial.seat.cells;
   back : OperatorBack (g.C.CellSteps.belongs l.initial.seat.cells.now) (g.C.CellSteps.grew)
       l.initial.seat.pass l.seat.pass;
-  onwards : GoesOnwards l.initial.control.publishing.known l.control.publishing.known;
+  led : LoadsLead (g.L.Loader.loads l.initial.seat.loader.now) l.initial.control l.control;
 }

@@ -1,32 +1,68 @@
 use Rattle.std.proofs.Common.{◌≡◌, ℕ, ◌+◌, length, sym, ap, ◌∙◌, arith}
-use Rattle.serving.proofs.Ending.{as_many, has_looked, have_served, new_belong}
+use Rattle.hot_swap.specs.Published.{Beginning}
+use Rattle.serving.proofs.Ending.{are_of_server, as_many, has_looked, new_belong}
+use Rattle.serving.proofs.Leaving.{leaves}
+use Rattle.serving.proofs.Turns.{did_in_turn}
 use Rattle.serving.proofs.staffed.StaffedServer.serve.Goals as goal
 
 pub run-requires-clause-workers : goal.run-requires-clause-workers
 run-requires-clause-workers g c κs within =
     new_belong c.args.self.cells _ c.args.self.workers.items c.args.self.staff.each
 
-pub close_cells-requires-clause-all : goal.close_cells-requires-clause-all
-close_cells-requires-clause-all g c =
+pub close_cells-closed-requires-clause-all : goal.close_cells-closed-requires-clause-all
+close_cells-closed-requires-clause-all g c =
     let many = as_many _ c.args.self.workers.items c.in-Ok.back.workers.items
     c.in-Ok.ensures.back.workers in
     c.args.self.staff.all ∙ ap (λ (n : ℕ). n + 1) (sym many)
 
-pub close_cells-requires-clause-operator : goal.close_cells-requires-clause-operator
-close_cells-requires-clause-operator g c =
-    has_looked c.passes_gain_lists.ensures c.args.self.cells c.args.self.pass
-    c.in-Ok.back.operator c.args.self.staff.own c.in-Ok.ensures.back.operator
+pub close_cells-closed-requires-clause-operator : goal.close_cells-closed-requires-clause-operator
+close_cells-closed-requires-clause-operator g c = c.in-Ok.ensures.back.operator.belongs_yet
 
-pub close_cells-requires-clause-workers : goal.close_cells-requires-clause-workers
-close_cells-requires-clause-workers g c =
-    have_served c.passes_gain_lists.ensures c.args.self.cells _ c.in-Ok.back.published
-    c.args.self.workers.items c.in-Ok.back.workers.items c.in-Ok.ensures.back.onwards.publisher
-    c.args.self.staff.each c.in-Ok.ensures.back.workers
+pub close_cells-closed-requires-clause-workers : goal.close_cells-closed-requires-clause-workers
+close_cells-closed-requires-clause-workers g c =
+    let back = c.in-Ok.ensures.back in
+    let onwards = c.loads_go_on.ensures.onwards c.args.self.control back.end back.led in
+    are_of_server c.answers_are_runs.ensures.onwards c.args.self.cells
+    c.args.self.control.publishing.known c.in-Ok.back.published.publisher
+    c.args.self.workers.items c.in-Ok.back.workers.items
+    (ap (λ (b : Beginning). b.publisher) back.published_are ∙ onwards.publisher)
+    c.args.self.staff.each back.workers
 
-pub close_cells-requires-clause-enough : goal.close_cells-requires-clause-enough
-close_cells-requires-clause-enough g c =
+pub close_cells-closed-requires-clause-generation : goal.close_cells-closed-requires-clause-generation
+close_cells-closed-requires-clause-generation g c =
+    c.in-Ok.ensures.back.published.last.generation_is
+
+pub close_cells-closed-requires-clause-enough : goal.close_cells-closed-requires-clause-enough
+close_cells-closed-requires-clause-enough g c =
     let many : length c.in-Ok.back.workers.items ≡ length c.args.self.workers.items =
     as_many _ c.args.self.workers.items c.in-Ok.back.workers.items
     c.in-Ok.ensures.back.workers in
     let enough = c.args.self.enough in
     omega (arith, many, enough)
+
+pub returns-then-is_known-clause-world : goal.returns-then-is_known-clause-world
+returns-then-is_known-clause-world g c =
+    let server = c.args.self in
+    let known = server.control.publishing.known in
+    let back = c.in-Ok.ensures.back in
+    let published = back.published in
+    let onwards = c.loads_go_on.ensures.onwards server.control back.end back.led in
+    let answers = c.answers_are_runs.ensures in
+    let done = c.close_cells-closed.ensures in
+    let looked = has_looked c.passes_gain_lists.ensures server.cells server.pass
+    c.in-Ok.back.operator server.staff.own back.operator in
+    leaves _ c.loads_go_on.ensures.only c.threads_grant_quotas.ensures server.cells server.control
+    back.end c.in-Ok.back.published c.close_cells-closed.result.0 done.own back.led back.directory
+    server.only back.published_are published.sound
+    (did_in_turn (record {
+      gain = c.passes_gain_lists.ensures;
+      onwards = answers.onwards;
+      runs = answers.runs;
+      stay = answers.stay;
+      world = c.threads_are_one_world.ensures;
+    }) server.cells known c.in-Ok.back.published published.rules c.in-Ok.back.operator
+    server.workers.items c.in-Ok.back.workers.items c.close_cells-closed.result.0
+    published.last.rules_are published.sound looked
+    (ap (λ (b : Beginning). b.publisher) back.published_are ∙ onwards.publisher)
+    server.staff.each back.workers (done.seen c.if-is_known.true) done.passes done.history
+    done.quotas)

@@ -1,5 +1,7 @@
 use Rattle.std.proofs.Common.{◌≡◌, List, ◌++◌, Some, sym, ap, ◌∙◌, arith}
+use Rattle.std.specs.Prelude.{Vec}
 use Rattle.std.specs.Slots.{slots_items}
+use Rattle.std.specs.declared.alloc.Global.{Global}
 use Rattle.std.proofs.lemmas.List.Elements.{All-pop}
 use Rattle.atomic_table.specs.Table.{Me}
 use Rattle.shared_cells.specs.declared.rule.Account.{Account}
@@ -57,9 +59,16 @@ left_by c =
     (c.requires.all ∙ sym (ap (λ s. s.passes) c.self.view_is)) known
     c.close_with-table.ensures.values.2
 
+-- the passes that the closed cells tell of are those that were handed over
+told : (c : After-drop-passes) → c.of-all.result.value.items ≡ c.args.passes.items
+told c = ap (λ (v : Vec PassView Global). v.items) c.of-all.ensures
+
+pub returns-clause-passes : goal.returns-clause-passes
+returns-clause-passes c = told c
+
 pub returns-clause-history : goal.returns-clause-history
-returns-clause-history c = left_by c
+returns-clause-history c = rw (told c) (left_by c)
 
 pub returns-clause-quotas : goal.returns-clause-quotas
-returns-clause-quotas c = exact c.args.passes.items
-    (stored_values 0 c.close_with-table.result.words.items) (left_by c)
+returns-clause-quotas c = rw (told c) (exact c.args.passes.items
+    (stored_values 0 c.close_with-table.result.words.items) (left_by c))

@@ -1,7 +1,7 @@
 use Rattle.std.proofs.Common.{◌≡◌, ℕ, length, sym, ap, subst, arith}
 use Rattle.std.specs.Prelude.{Vec}
 use Rattle.std.specs.declared.alloc.Global.{Global}
-use Rattle.hot_swap.specs.Published.{Beginning, GoesOnwards}
+use Rattle.hot_swap.specs.Published.{Beginning}
 use Rattle.workers.specs.Back.{OperatorBack, WorkersBack}
 use Rattle.workers.proofs.InPlace.{as_many}
 use Rattle.workers.proofs.Served.{all_back}
@@ -35,8 +35,10 @@ returns g c =
             (sym (ap (λ (v : Vec (P × Beginning) Global). v.items) c.returned-back.ensures.workers))
             (all_back belongs grew cells old c.in-Ok-start_workers.threads.items
             c.joined.result.items c.in-Ok-start_workers.ensures c.joined.ensures);
-        onwards = subst (GoesOnwards c.captures.control.now.publishing.known)
-            (sym c.returned-back.ensures.known) c.operate_beside-pass.ensures.onwards;
+        end = c.operate_beside-pass.new.control;
+        led = c.operate_beside-pass.ensures.led;
+        directory = c.returned-back.ensures.directory;
+        published_are = c.returned-back.ensures.known;
         published = c.returned-back.ensures.published;
       };
       said = subst (λ (n : ℕ). g.S.Ready.says c.captures.ready n c.in-Ok-say.said)

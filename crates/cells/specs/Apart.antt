@@ -1,0 +1,38 @@
+-- The arrays of a directory lie apart, and a directory keeps those that it has.
+use Rattle.std.specs.Prelude.{◌≡◌, ℕ, ◌<◌, List, All, Contains, IsSome}
+use mathlib.Core.List.{IsPrefix}
+use Rattle.cells.specs.declared.array.ArrayNo.{ArrayNo}
+use Rattle.cells.specs.declared.array.CellArray.{CellArray}
+use Rattle.cells.specs.Arrays.{HasCell, AreNumbered}
+use Rattle.cells.specs.Directory.{HasDistinctNames, IsDirectory, HasArray}
+
+-- ---- their cells
+
+-- two arrays of a directory that have a cell in common are one
+abbrev pub ArraysLieApart : Type 0
+ArraysLieApart = (arrays : List CellArray) (a b : CellArray) (cell : ℕ) → IsDirectory arrays
+    → Contains arrays a → Contains arrays b → HasCell a cell → HasCell b cell → a ≡ b
+
+-- a cell of an array with a quota is one of the first 4096, which have 64 bits
+abbrev pub QuotasAreWide : Type 0
+QuotasAreWide = (arrays : List CellArray) (a : CellArray) (cell : ℕ) → IsDirectory arrays
+    → Contains arrays a → IsSome a.quota → HasCell a cell → cell < 4096
+
+-- ---- which arrays a directory has
+
+-- an array that a directory has by its name is one of its arrays
+abbrev pub NamedArraysAreThere : Type 0
+NamedArraysAreThere =
+    (arrays : List CellArray) (a : CellArray) → HasArray arrays a → Contains arrays a
+
+-- and each array that was taken of it by a number it has by its name
+abbrev pub NumberedArraysAreNamed : Type 0
+NumberedArraysAreNamed =
+    (directory : List CellArray) (numbers : List ArrayNo) (arrays : List CellArray)
+    → HasDistinctNames directory → AreNumbered directory numbers arrays
+    → All (HasArray directory) arrays
+
+-- and one that begins with another has all that the other has
+abbrev pub ArraysStay : Type 0
+ArraysStay = (old new : List CellArray) (a : CellArray) → IsPrefix old new → HasArray old a
+    → HasArray new a
