@@ -9,7 +9,7 @@ use Rattle.cells.specs.Grown.{GrewBy}
 use Rattle.cells.specs.declared.event.CellEvent.{CellEvent}
 use Rattle.shared_cells.specs.Passes.{CellsView, PassView, IsPassOf, IsNewPass, Gained}
 use Rattle.shared_cells.specs.Passes.{PassesGainLists}
-use Rattle.one_world.specs.Passes.{AreLoads}
+use Rattle.thread_laws.specs.Passes.{AreLoads}
 use Rattle.hot_swap.specs.Published.{Beginning, GoesOnwards, IsLatest, ShorterBegins}
 use Rattle.hot_swap.specs.declared.publisher_id.PublisherId.{PublisherId}
 use Rattle.ruleset.specs.Rules.{Rules}

@@ -3,7 +3,7 @@ use Rattle.std.proofs.Common.{◌≡◌, List, [], ◌∷◌, All, sym, subst}
 use Rattle.std.proofs.lemmas.List.Elements.{All-cons, All-nil, All-same}
 use Rattle.cells.specs.Directory.{IsDirectory}
 use Rattle.cells.specs.declared.array.CellArray.{CellArray}
-use Rattle.kept_quotas.specs.Quotas.{ThreadsGrantQuotas}
+use Rattle.thread_laws.specs.Quotas.{ThreadsGrantQuotas}
 use Rattle.shared_cells.specs.Passes.{CellsView, ClosedView, AreClosed}
 use Rattle.operator.specs.Control.{Controlled, Loading, KnowOnlyItsArrays}
 use Rattle.operator.specs.Leading.{LoadsLead, LoadsKeepToArrays}

@@ -9,9 +9,9 @@ use mathlib.Core.List.{IsPrefix}
 use Rattle.shared_cells.specs.Passes.{CellsView, PassView, IsPassOf, Gained}
 use Rattle.shared_cells.specs.Passes.{ClosedView, PassesGainLists, AreLeftBy, lists_of}
 use Rattle.shared_cells.specs.Quotas.{QuotasAreExact}
-use Rattle.one_world.specs.InTurn.{AreOfRuns, events_in_turn}
-use Rattle.one_world.specs.Passes.{AreLoads, DidRuns, PassesAreOneWorld, all_runs}
-use Rattle.one_world.specs.Runs.{AppRun, IsRunUnder, IsWholeRun}
+use Rattle.thread_laws.specs.InTurn.{AreOfRuns, events_in_turn}
+use Rattle.thread_laws.specs.Passes.{AreLoads, DidRuns, PassesAreOneWorld, all_runs}
+use Rattle.thread_laws.specs.Runs.{AppRun, IsRunUnder, IsWholeRun}
 use Rattle.hot_swap.specs.Published.{Beginning, GoesOnwards, HasLast}
 use Rattle.ruleset.specs.Rules.{Rules, IsRuleset}
 use Rattle.workers.specs.Answers.{WorkerAnswer, AreInTurn, made_in_turn}

@@ -1,11 +1,11 @@
 -- What a server leaves once it has ended: one history of all that its threads did to its counters.
 use Rattle.std.specs.Prelude.{◌≡◌, List, [], ◌∷◌, All, map, reverse}
-use Rattle.kept_quotas.specs.Quotas.{QuotasAreGranted}
+use Rattle.thread_laws.specs.Quotas.{QuotasAreGranted}
 use Rattle.shared_cells.specs.Passes.{CellsView, PassView, ClosedView, IsPassOf, AreClosed}
 use Rattle.shared_cells.specs.Passes.{AreLeftBy}
 use Rattle.shared_cells.specs.Quotas.{QuotasAreExact}
-use Rattle.one_world.specs.Passes.{DidOneWorld, all_runs}
-use Rattle.one_world.specs.Runs.{AppRun, IsWholeRun}
+use Rattle.thread_laws.specs.Passes.{DidOneWorld, all_runs}
+use Rattle.thread_laws.specs.Runs.{AppRun, IsWholeRun}
 use Rattle.cells.specs.Directory.{IsDirectory}
 use Rattle.operator.specs.Control.{Controlled, Loading, KnowOnlyItsArrays}
 use Rattle.operator.specs.Leading.{LoadsLead}

@@ -18,8 +18,6 @@ use crate::worker_list::worker_list;
 use bounded_files::ResourceFault;
 use cells::Directory;
 use hot_swap::{Publisher, SwapFault, Watcher};
-use kept_quotas::threads_grant_quotas;
-use one_world::threads_are_one_world;
 use operator::{Control, Loader, loads_go_on};
 use ruleset::Ruleset;
 use shared_cells::{Closed, SharedCells, SharedPass, passes_gain_lists};
@@ -28,6 +26,7 @@ use std::net::{Net, TcpListener, TcpStream};
 use std::sync::{Arc, Wait};
 use std::thread::Threads;
 use std::time::Clock;
+use thread_laws::{threads_are_one_world, threads_grant_quotas};
 use workers::{OperatorSeat, Ports, Service, answers_are_runs, run};
 
 /// A server that has its counters, its publisher and its workers. It is ended by `serve` or by

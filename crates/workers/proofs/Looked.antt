@@ -6,7 +6,7 @@ use Rattle.std.proofs.lemmas.List.Elements.{All-nil, All-append, All-push}
 use Rattle.cells.specs.Grown.{Grows, GrowsByAppend}
 use Rattle.cells.specs.declared.array.CellArray.{CellArray}
 use Rattle.cells.specs.declared.event.CellEvent.{CellEvent}
-use Rattle.one_world.specs.Passes.{AreLoads}
+use Rattle.thread_laws.specs.Passes.{AreLoads}
 use Rattle.operator.specs.Control.{Controlled, Loading}
 use Rattle.operator.specs.Counters.{IsLoad, ReadsCells, ReadsArrays}
 use Rattle.operator.specs.Counters.{no_cell, one_cell, no_array, one_array}

@@ -17,8 +17,8 @@ use Rattle.attrs.specs.Facts.{attributes_of, texts_of}
 use Rattle.attrs.specs.declared.facts.AppFacts.{AppFacts}
 use Rattle.attrs.specs.declared.facts.RequestFacts.{RequestFacts}
 use Rattle.cells.specs.declared.event.CellEvent.{CellEvent}
-use Rattle.one_world.specs.InTurn.{AreOfRuns, NoneAreOfRuns, OfRunsAppend, OfRunsStay}
-use Rattle.one_world.specs.Runs.{AppRun, IsWholeRun, AtEnd}
+use Rattle.thread_laws.specs.InTurn.{AreOfRuns, NoneAreOfRuns, OfRunsAppend, OfRunsStay}
+use Rattle.thread_laws.specs.Runs.{AppRun, IsWholeRun, AtEnd}
 use Rattle.world.specs.World.{ruleset_at, HasProgram}
 use Rattle.hot_swap.specs.Published.{Beginning, GoesOnwards, IsLatest, HasLast}
 use Rattle.omaha_json.specs.Request.{Request}

@@ -2,7 +2,7 @@
 -- them, and their watchers, with what they know.
 use Rattle.std.specs.Prelude.{◌≡◌, ◌≤◌, ℕ, List, All, length}
 use Rattle.std.specs.List.{AllZip}
-use Rattle.one_world.specs.Passes.{AreLoads}
+use Rattle.thread_laws.specs.Passes.{AreLoads}
 use Rattle.cells.specs.Directory.{IsDirectory}
 use Rattle.cells.specs.Grown.{GrewBy, Grows}
 use Rattle.cells.specs.declared.event.CellEvent.{CellEvent}

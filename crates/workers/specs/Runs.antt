@@ -12,8 +12,8 @@ use Rattle.attrs.specs.declared.facts.RequestFacts.{RequestFacts}
 use Rattle.cells.specs.declared.event.CellEvent.{CellEvent}
 use Rattle.hot_swap.specs.Published.{Beginning}
 use Rattle.omaha_json.specs.Request.{Request}
-use Rattle.one_world.specs.InTurn.{AreOfRuns}
-use Rattle.one_world.specs.Runs.{AppRun, AtEnd}
+use Rattle.thread_laws.specs.InTurn.{AreOfRuns}
+use Rattle.thread_laws.specs.Runs.{AppRun, AtEnd}
 use Rattle.ruleset.specs.Rules.{Rules}
 use Rattle.workers.specs.Answers.{WorkerAnswer, AreInTurn, made_in_turn}
 

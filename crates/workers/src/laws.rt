@@ -3,7 +3,7 @@
 ghost use Rattle.workers.specs.Answers.{AnswersGoOnwards, AnswersStayInTurn};
 ghost use Rattle.workers.specs.Runs.{AnswersAreOfRuns};
 
-use one_world::runs_add_up;
+use thread_laws::runs_add_up;
 
 /// What a worker's answers did to the counters is what their runs did, one after the other, each of
 /// the program that the last ruleset that the watcher knew then has for its app. It does nothing: a

@@ -1,4 +1,0 @@
-pub mod Lists
-pub mod Runs
-pub mod Law
-pub mod Granted

@@ -1,7 +1,0 @@
-use Rattle.kept_quotas.proofs.Granted.{quotas_are_granted}
-use Rattle.kept_quotas.proofs.laws.threads_grant_quotas.Goals as goal
-
-pub returns : goal.returns
-returns c =
-    quotas_are_granted c.threads_keep_quotas.ensures c.arrays_lie_apart.ensures.apart
-    c.arrays_lie_apart.ensures.wide c.arrays_stay.ensures.there

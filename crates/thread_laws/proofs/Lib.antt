@@ -1,0 +1,17 @@
+pub mod Lists
+pub mod Works
+pub mod Steps
+pub mod Playing
+pub mod Opening
+pub mod Law
+pub mod Made
+pub mod Safely
+pub mod Looking
+pub mod Taking
+pub mod Cutting
+pub mod InTurn
+pub mod Threads
+pub mod QuotaLists
+pub mod QuotaRuns
+pub mod QuotaLaw
+pub mod Granted

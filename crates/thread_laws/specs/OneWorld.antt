@@ -1,0 +1,90 @@
+-- Runs that shared the counters are runs of one world, which changes the counters in the order of
+-- their history.
+use Rattle.std.specs.Prelude.{◌≡◌, ℕ, List, [], ◌∷◌, All, length, map, get_or}
+use Rattle.ruleset.specs.Rules.{Rules, IsRuleset}
+use Rattle.shared_cells.specs.History.{Entry, all_events, events_by, IsLegal}
+use Rattle.world.specs.Happens.{Answer, Plays}
+use Rattle.world.specs.Safe.{IsSafeWorld}
+use Rattle.world.specs.World.{WorldState, opening_world, zeros}
+use Rattle.world.specs.declared.event.Event.{Event}
+use Rattle.world.specs.declared.event.Event.TheVariants.{Start, Step, Finish, Swap}
+use Rattle.thread_laws.specs.Entries.{entries_of}
+use Rattle.thread_laws.specs.Runs.{AppRun, IsRunUnder, lists_of_runs, at_start, as_far}
+
+-- the history is legal from counters that are all 0, and leaves these values. Each of its events is
+-- given to one of the runs, and the events of a run are those that are given to it, in their order.
+-- Runs have the numbers of their places in the list
+pub record IsSharedBy (runs : List AppRun) (history : List Entry)
+    (values : List ℕ) : Type 0 where
+  pub legal : IsLegal (all_events history) values
+  pub own : (k : ℕ) → events_by k history ≡ get_or (lists_of_runs runs) k []
+
+-- ---- the world of these runs
+
+-- a worker for each run, which has started it under its ruleset; no counter has been touched
+abbrev pub all_at_start : List Rules → List AppRun → WorldState
+all_at_start published runs = record {
+  rulesets = published;
+  cells = zeros;
+  workers = map at_start runs;
+}
+
+-- each worker has brought its run as far as it came, and the counters have these values
+abbrev pub all_as_far : List Rules → List AppRun → List ℕ → WorldState
+all_as_far published runs values = record {
+  rulesets = published;
+  cells = values;
+  workers = map as_far runs;
+}
+
+abbrev pub OpensRuns : Event → Type 0
+OpensRuns (Start k attrs) = Unit {0}
+OpensRuns (Swap rules) = Unit {0}
+OpensRuns (Step k) = ⊥
+OpensRuns (Finish k) = ⊥
+
+abbrev pub IsStepEvent : Event → Type 0
+IsStepEvent (Step k) = Unit {0}
+IsStepEvent (Start k attrs) = ⊥
+IsStepEvent (Finish k) = ⊥
+IsStepEvent (Swap rules) = ⊥
+
+-- a run of the world from one world to another, by events of one kind
+pub record WorldRun (OfKind : Event → Type 0) (w v : WorldState) : Type 0 where
+  pub events : List Event
+  pub answers : List Answer
+  pub plays : Plays w events answers v
+  pub of_kind : All OfKind events
+
+-- A run of the world, from its opening under the first ruleset, with an idle worker for each run:
+-- Starts and Swaps come first, then Steps, whose events on counters are the history, in its order
+-- and each by the worker of its run.
+pub record HasOneWorld (first : Rules) (later : List Rules) (runs : List AppRun)
+    (history : List Entry) (values : List ℕ) : Type 0 where
+  pub starts :
+      WorldRun OpensRuns (opening_world first (length runs))
+      (all_at_start (first ∷ later) runs)
+  pub steps :
+      WorldRun IsStepEvent (all_at_start (first ∷ later) runs)
+      (all_as_far (first ∷ later) runs values)
+  pub history_is :
+      entries_of (all_at_start (first ∷ later) runs) (all_as_far (first ∷ later) runs values)
+      steps.events steps.answers steps.plays
+      ≡ history
+
+-- ---- the laws
+
+-- so it is of every published list, of every list of runs under its rulesets, and of every legal
+-- history that these share
+abbrev pub OneWorld : Type 0
+OneWorld = (first : Rules) (later : List Rules) (runs : List AppRun) (history : List Entry)
+    (values : List ℕ)
+    → All IsRuleset (first ∷ later) → All (IsRunUnder (first ∷ later)) runs
+    → IsSharedBy runs history values
+    → HasOneWorld first later runs history values
+
+-- and the world in which it begins is safe, so all that is known of runs of a safe world holds of
+-- it
+abbrev pub OpensSafely : Type 0
+OpensSafely = (first : Rules) (workers : ℕ) → IsRuleset first
+    → IsSafeWorld (opening_world first workers)
