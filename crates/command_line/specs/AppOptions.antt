@@ -8,8 +8,8 @@ use Rattle.std.specs.List.{starts_with}
 use Rattle.attrs.specs.Bucket.{cohort_bucket}
 use Rattle.clap.specs.Words.{Row, Text, all_of, first_of}
 use Rattle.command_line.specs.declared.told.ToldApp.{ToldApp}
+use Rattle.command_line.specs.Day.{day_in}
 use Rattle.command_line.specs.Values.{HasBucket, HasFlag}
-use Rattle.days.specs.Day.{day_in}
 
 -- ---- attributes
 

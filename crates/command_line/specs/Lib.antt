@@ -1,5 +1,6 @@
 pub mod Grammar
 pub mod Values
+pub mod Day
 pub mod Apps
 pub mod AppOptions
 pub mod Misfits

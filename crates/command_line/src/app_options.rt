@@ -6,15 +6,15 @@ ghost use Rattle.std.specs.Option.{option_and_then, option_copied};
 ghost use Rattle.attrs.specs.Bucket.{cohort_bucket};
 ghost use Rattle.clap.specs.Words.{first_of, found_of, rows_of};
 ghost use Rattle.command_line.specs.AppOptions as specs;
+ghost use Rattle.command_line.specs.Day.{day_in};
 ghost use Rattle.command_line.specs.Values.{HasFlag};
-ghost use Rattle.days.specs.Day.{day_in};
 
+use crate::day::day_in;
 use crate::options::{bucket_of, flag_of, optional_text};
 use crate::request::NoRequest;
 use crate::told::ToldApp;
 use attrs::{Bucket, cohort_bucket};
 use clap::ArgMatches;
-use days::day_in;
 
 /// The last day that a moment can have, 9999-12-31.
 const LAST_DAY: u32 = 2919382;

@@ -8,6 +8,8 @@
 
 mod app_options;
 mod arguments;
+mod date;
+mod day;
 mod fault;
 mod grammar;
 mod option_misfit;

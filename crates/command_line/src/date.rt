@@ -1,7 +1,7 @@
 //! The day of a date.
 
 ghost use Rattle.std.specs.Prelude.{◌≡◌, ◌≤◌};
-ghost use Rattle.days.specs.Day as specs;
+ghost use Rattle.command_line.specs.Day as specs;
 
 use jiff_core::civil::Date;
 
@@ -9,7 +9,7 @@ use jiff_core::civil::Date;
 const FIRST_DAY: u32 = 4385101;
 
 /// The day of a date, where the calendar has it and it isn't before 2007.
-pub fn day_of_date(year: u16, month: u8, day: u8) -> Option<u32>
+pub(crate) fn day_of_date(year: u16, month: u8, day: u8) -> Option<u32>
     requires year { year ≤ 9999 }
     requires first_month { 1 ≤ month }
     requires last_month { month ≤ 12 }

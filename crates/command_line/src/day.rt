@@ -1,14 +1,14 @@
-//! The day that a text names.
+//! The day that a text names, counted from 2007-01-01 as Omaha counts them.
 
 ghost use Rattle.std.specs.Prelude.{◌≡◌, ◌≤◌, IfSome};
-ghost use Rattle.days.specs.Day as specs;
+ghost use Rattle.command_line.specs.Day as specs;
 
 use crate::date::day_of_date;
 use lexing::decimal_within;
 
 /// The day of a text, counted from 2007-01-01 and at most `most`: its number in decimal digits, or
 /// its date, as `2026-12-01`, of the years 2007 to 9999.
-pub fn day_in(most: u32, text: &str) -> Option<u32>
+pub(crate) fn day_in(most: u32, text: &str) -> Option<u32>
     ensures day { result ≡ specs.day_in most text.now }
     ensures limit { IfSome result (λ day. day ≤ most) }
 {
