@@ -1,18 +1,21 @@
 //! Answers a request over memory as often as it is told, or takes from a quota, by one worker or by
-//! several at once, and prints what came of it, which is the same on every machine. It reads no
-//! clock: `bench/answer` and `bench/quotas` time whole processes.
+//! several at once; or looks at a published ruleset, or installs others. It prints what came of it,
+//! which is the same on every machine but for looks beside installs. It reads no clock:
+//! `bench/answer`, `bench/quotas` and `bench/swap` time whole processes.
 #![tactic(auto)]
 
 mod answers;
+mod publishing;
 mod quotas;
 mod requests;
 mod rules;
 mod work;
 
 use crate::answers::{Tally, answer_under};
+use crate::publishing::watched;
 use crate::quotas::told;
 use crate::requests::{WORKED, of_apps, post};
-use crate::work::work_of;
+use crate::work::{watching_of, work_of};
 use anyhow::{Context, Result};
 use std::alloc::Global;
 use std::env;
@@ -28,10 +31,9 @@ fn tally_of<H: Wait>(rt: &H, alloc: Global, word: &str, times: u32) -> Result<Ta
         let input = post(alloc, WORKED)?;
         return answer_under(rt, alloc, rules::worked(alloc)?, &input, times);
     }
-    let count: u16 = word
-        .parse()
-        .ok()
-        .context("worked, a number of apps, or the work of several")?;
+    let count: u16 = word.parse().ok().context(
+        "worked, a number of apps, or the work of several or of watchers",
+    )?;
     let body = of_apps(alloc, count.min(MAX_APPS))?;
     let input = post(alloc, body.as_str())?;
     answer_under(rt, alloc, rules::many(alloc, MAX_APPS)?, &input, times)
@@ -46,6 +48,9 @@ fn line_of<H: Threads + Wait + Sync>(
 ) -> Result<String> {
     if let Some(work) = work_of(word) {
         return told(rt, alloc, work, times);
+    }
+    if let Some(watching) = watching_of(word) {
+        return watched(rt, alloc, watching, times);
     }
     let Tally { bytes, reply } = tally_of(rt, alloc, word, times)?;
     Ok(format!(in alloc; "answers={times} bytes={bytes} reply={reply}")?)

@@ -1,4 +1,4 @@
-//! The rulesets under which requests are answered.
+//! The rulesets under which requests are answered, and one that is only published.
 
 ghost use Rattle.std.specs.Prelude.{◌≡◌, ◌≤◌, IfOk, length};
 
@@ -47,6 +47,11 @@ pub(crate) fn many(alloc: Global, count: u16) -> Result<Arc<Ruleset>> {
 pub(crate) fn takers(alloc: Global, count: u16) -> Result<Arc<Ruleset>> {
     let program = program(alloc, TAKES, &quota_shape(alloc)?)?;
     ruleset(alloc, apps(alloc, count, &program, 1)?)
+}
+
+/// The ruleset of a server `prod` that knows no app.
+pub(crate) fn without_apps(alloc: Global) -> Result<Arc<Ruleset>> {
+    ruleset(alloc, Vec::new(alloc))
 }
 
 fn ruleset(alloc: Global, apps: Vec<App>) -> Result<Arc<Ruleset>> {

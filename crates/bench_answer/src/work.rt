@@ -1,4 +1,4 @@
-//! What a word of the command line asks several workers to do.
+//! What a word of the command line asks several workers, or several watchers, to do.
 
 /// What a worker does again and again.
 #[derive(Clone, Copy)]
@@ -47,5 +47,41 @@ pub(crate) fn work_of(word: &str) -> Option<Work> {
         task,
         sharing,
         workers,
+    })
+}
+
+/// What watchers of a published ruleset do.
+#[derive(Clone, Copy)]
+pub(crate) enum WatchKind {
+    /// Each that looks does so, in a thread of its own.
+    Looks,
+    /// A ruleset is installed, while those that look do so.
+    Installs,
+}
+
+/// What is done with so many watchers that look, and so many that stand still.
+#[derive(Clone, Copy)]
+pub(crate) struct Watching {
+    pub(crate) kind: WatchKind,
+    pub(crate) looking: usize,
+    pub(crate) still: usize,
+}
+
+/// What a word asks of watchers, as `installs:3:61`: what is done (`looks`, `installs`), how many
+/// look, and how many stand still.
+pub(crate) fn watching_of(word: &str) -> Option<Watching> {
+    let (kind, rest) = word.split_once(':')?;
+    let (looking, still) = rest.split_once(':')?;
+    let kind = match kind {
+        "looks" => WatchKind::Looks,
+        "installs" => WatchKind::Installs,
+        _ => return None,
+    };
+    let looking: usize = looking.parse().ok()?;
+    let still: usize = still.parse().ok()?;
+    Some(Watching {
+        kind,
+        looking,
+        still,
     })
 }

@@ -1,6 +1,7 @@
-//! A publisher and its watchers at work.
+//! A publisher and its watchers at work: looks at the published ruleset, and installs.
 
-use crate::work::{WorkKind, Workload};
+use crate::rules::without_apps;
+use crate::work::{WatchKind, Watching};
 use anyhow::Result;
 use hot_swap::{Publisher, Watcher};
 use ruleset::Ruleset;
@@ -12,10 +13,22 @@ use std::thread::{Threads, join, map_vec};
 /// How often a watcher looks at most beside installs.
 const PATIENCE: u32 = 1_000_000_000;
 
-/// The ruleset of a server `prod` without apps.
-pub(crate) fn empty(alloc: Global) -> Result<Arc<Ruleset>> {
-    let server = String::from_str(alloc, "prod")?;
-    Ok(Arc::new(alloc, Ruleset::new(server, Vec::new(alloc))?)?)
+/// The most watchers that a publisher has.
+const MOST: usize = 65;
+
+/// Has watchers of a publisher do this so often, and tells how many looks saw a ruleset, and which
+/// generation is the last.
+pub(crate) fn watched<H: Threads + Wait + Sync>(
+    rt: &H,
+    alloc: Global,
+    watching: Watching,
+    times: u32,
+) -> Result<String> {
+    let mut publisher = Publisher::new(rt, alloc, without_apps(alloc)?, MOST)?;
+    let seen = done(rt, alloc, &mut publisher, watching, times);
+    let generation = publisher.generation();
+    publisher.close(rt);
+    Ok(format!(in alloc; "seen={} generation={generation}", seen?)?)
 }
 
 fn sum(counts: &[u64]) -> u64 {
@@ -88,24 +101,26 @@ fn watchers(alloc: Global, publisher: &mut Publisher, count: usize) -> Result<Ve
     Ok(watchers)
 }
 
-/// Does this work with watchers of the publisher, and gives the number of looks that saw a ruleset.
-pub(crate) fn done<H: Threads + Wait + Sync>(
+/// Does this so often with watchers of the publisher, and gives the number of looks that saw a
+/// ruleset.
+fn done<H: Threads + Wait + Sync>(
     rt: &H,
     alloc: Global,
     publisher: &mut Publisher,
-    work: Workload,
+    watching: Watching,
+    times: u32,
 ) -> Result<u64> {
-    let looking = watchers(alloc, publisher, work.looking)?;
-    let _still = watchers(alloc, publisher, work.still)?;
-    let rules = empty(alloc)?;
+    let looking = watchers(alloc, publisher, watching.looking)?;
+    let _still = watchers(alloc, publisher, watching.still)?;
+    let rules = without_apps(alloc)?;
     let stop = AtomicBool::new(false);
-    match work.kind {
-        WorkKind::Looks => Ok(look_all(rt, looking, work.times, &stop)?),
-        WorkKind::Installs => {
+    match watching.kind {
+        WatchKind::Looks => Ok(look_all(rt, looking, times, &stop)?),
+        WatchKind::Installs => {
             let (seen, installed) = join(
                 rt,
                 || look_all(rt, looking, PATIENCE, &stop),
-                || install_all(rt, publisher, &rules, work.times, &stop),
+                || install_all(rt, publisher, &rules, times, &stop),
             );
             installed?;
             Ok(seen?)
