@@ -9,7 +9,7 @@ use bounded_files::{Device, Disk, ResourceFault};
 use bpf_text::assemble;
 use diagnosis::check;
 use load::FolderFiles;
-use replaying::replay_files;
+use replay::replay_files;
 use std::rt::Files;
 use std::{fs, str};
 
@@ -60,7 +60,7 @@ fn compare<R: Files + AllocGlobal>(rt: &R) -> Result<()> {
 }
 
 /// The replies to the script.
-fn replay<R: Files + AllocGlobal + Print>(rt: &R) -> Result<()> {
+fn play_script<R: Files + AllocGlobal + Print>(rt: &R) -> Result<()> {
     let disk = Examples {
         device: Device::new(rt),
     };
@@ -83,5 +83,5 @@ pub(crate) fn tell_all<R: Files + AllocGlobal + Print>(rt: &R) -> Result<()> {
         tell(rt, manifest)?;
     }
     compare(rt)?;
-    replay(rt)
+    play_script(rt)
 }

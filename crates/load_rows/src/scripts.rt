@@ -7,8 +7,7 @@ mod played;
 
 use crate::files::MemFiles;
 use crate::sample::{add_program, halves, repeated};
-use replay::Reply;
-use replaying::{ReplayFault, replay_files};
+use replay::{ReplayFault, Reply, replay_files};
 use std::alloc::{AllocError, Global};
 use std::fmt::Write;
 use std::test::Fail;

@@ -9,9 +9,9 @@ use Rattle.bounded_files.specs.Texts.{resource_text}
 use Rattle.bounded_files.specs.declared.fault.ResourceFault.TheVariants as resource
 use Rattle.manifest_tools.specs.declared.fault.ManifestToolFault.{ManifestToolFault}
 use Rattle.manifest_tools.specs.declared.fault.ManifestToolFault.TheVariants as fault
+use Rattle.replay.specs.Replays.{IsReplay, IsReplayFault}
 use Rattle.replay.specs.Replies.{reply_text}
 use Rattle.replay.specs.declared.reply.Reply.{Reply}
-use Rattle.replaying.specs.Replays.{IsReplay, IsReplayFault}
 use Rattle.ruleset.specs.Texts.{line}
 
 abbrev pub reply_line : Reply → List ℕ

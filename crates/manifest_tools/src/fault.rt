@@ -5,7 +5,7 @@ ghost use Rattle.manifest_tools.specs.Manifests.{fault_text};
 use bounded_files::ResourceFault;
 use diagnosis::Refused;
 use load::PathFault;
-use replaying::ReplayFault;
+use replay::ReplayFault;
 use std::fmt;
 
 /// What is wrong; it is shown as it is printed, but for the lines of a diagnosis.

@@ -7,8 +7,7 @@ ghost use Rattle.manifest_tools.specs.Manifests.{HasReplayed, IsReplayRefusal, r
 
 use crate::fault::ManifestToolFault;
 use bounded_files::{Disk, ResourceFault};
-use replay::Reply;
-use replaying::replay_files;
+use replay::{Reply, replay_files};
 use std::alloc::{AllocError, Global};
 use std::fmt::Write;
 

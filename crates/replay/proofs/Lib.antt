@@ -1,1 +1,2 @@
-mod Longer
+mod Walk
+mod OneRun

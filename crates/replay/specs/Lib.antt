@@ -1,3 +1,6 @@
-pub mod Acts
+pub mod Script
+pub mod Loaded
+pub mod Asked
 pub mod Replies
-pub mod Replayed
+pub mod Played
+pub mod Replays

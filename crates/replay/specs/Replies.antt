@@ -1,8 +1,7 @@
--- What the answers to an act's events come to, and how that is printed.
-use Rattle.std.specs.Prelude.{ℕ, ◌+◌, List, [], ◌++◌, codes, Ok, Err, Bool, if◌then◌else◌, is_some}
+-- What the answers to a line's events come to, and how that is printed.
+use Rattle.std.specs.Prelude.{ℕ, ◌+◌, List, [], ◌++◌, codes, Ok, Err, Bool, if◌then◌else◌}
 use Rattle.std.specs.List.{fold}
 use Rattle.std.specs.Fmt.{decimal}
-use Rattle.replay.specs.declared.act.Act.{Act}
 use Rattle.replay.specs.declared.reply.Reply.{Reply}
 use Rattle.world.specs.Happens.{Answer}
 use Rattle.world.specs.Texts.{fault_text}
@@ -24,8 +23,8 @@ joined_answer reply (Ok e) (Err fault) = record reply { answer = Err fault }
 abbrev pub with_answer : Reply → Answer → Reply
 with_answer reply answer = joined_answer reply reply.answer answer
 
-abbrev pub reply_to : Act → List Answer → Reply
-reply_to act answers = fold with_answer (opening_reply (is_some act.times)) answers
+abbrev pub reply_to : (counted : Bool) → List Answer → Reply
+reply_to counted answers = fold with_answer (opening_reply counted) answers
 
 -- ---- its text
 

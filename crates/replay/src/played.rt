@@ -1,32 +1,86 @@
-//! Acts, one after the other.
+//! The lines of a script, played one after the other. Each is a call of `play`.
 
-ghost use Rattle.std.specs.Prelude.{IfOk};
-ghost use Rattle.replay.specs.Replayed.{IsReplayed, AreReplayed};
+ghost use Rattle.std.specs.Prelude.{◌≡◌, IfOk, replicate};
+ghost use Rattle.replay.specs.Played.{AreRepliesFrom, IsLineReplied, IsReplied};
 
-use crate::act::Act;
+use crate::line::EventLine;
 use crate::reply::Reply;
 use std::alloc::{AllocError, Global};
-use world::{World, batches_compose};
+use std::slice;
+use world::{Event, World, batches_compose, play};
 
-/// Plays the acts, one after the other, and gives what each came to.
-pub fn replay(alloc: Global, world: &mut World, acts: &[Act]) -> Result<Vec<Reply>, AllocError>
-    // Each goes on in the world that the one before it left.
-    ensures { IfOk result (λ replies. AreReplayed world.old acts.now replies.items world.new) }
+/// Plays the lines with the events that they ask for, an event a line, and gives what each came to.
+pub(crate) fn play_lines(
+    alloc: Global,
+    world: &mut World,
+    lines: &[EventLine],
+    events: &[Event],
+) -> Result<Vec<Reply>, AllocError>
+    ensures { IfOk result (λ replies.
+        AreRepliesFrom world.old lines.now events.now replies.items) }
 {
-    let mut replies = Vec::with_capacity(alloc, acts.len())?;
-    for act in acts {
-        replies.push(replay_act(world, act))?;
+    batches_compose();
+    let mut replies = Vec::with_capacity(alloc, lines.len())?;
+    let mut left = lines;
+    let mut events = events;
+    while let [asked, others @ ..] = left {
+        let [event, behind @ ..] = events else {
+            return Err(AllocError);
+        };
+        let reply = play_line(alloc, world, asked, event)?;
+        replies.push(reply)?;
+        left = others;
+        events = behind;
+    }
+    // Each line has its event: were there more of either, nothing would be replied.
+    if let [_, ..] = events {
+        return Err(AllocError);
     }
     Ok(replies)
 }
 
-fn replay_act(world: &mut World, act: &Act) -> Reply
-    ensures { IsReplayed world.old act.now result world.new }
+fn play_line(
+    alloc: Global,
+    world: &mut World,
+    asked: &EventLine,
+    event: &Event,
+) -> Result<Reply, AllocError>
+    ensures { IfOk result (λ reply. IsLineReplied world.old asked.now event.now reply world.new) }
 {
-    batches_compose();
-    let mut reply = Reply::opening(act.times.is_some());
-    for _ in 0..act.times.unwrap_or(1) {
-        reply = reply.with(world.apply(&act.event));
+    match asked {
+        EventLine::Step {
+            worker,
+            count: Some(count),
+        } => {
+            let steps = steps_of(alloc, *worker as usize, *count)?;
+            reply_to(alloc, world, true, &steps)
+        }
+        _ => reply_to(alloc, world, false, slice::from_ref(event)),
     }
-    reply
+}
+
+// So many Steps of a worker.
+fn steps_of(alloc: Global, worker: usize, count: u32) -> Result<Vec<Event>, AllocError>
+    ensures { IfOk result (λ steps. steps.items ≡ replicate count (Event.Step worker)) }
+{
+    let mut steps = Vec::with_capacity(alloc, count as usize)?;
+    for _ in 0..count {
+        steps.push(Event::Step { worker })?;
+    }
+    Ok(steps)
+}
+
+// What these events come to, of a line with a count or without one.
+fn reply_to(
+    alloc: Global,
+    world: &mut World,
+    counted: bool,
+    events: &[Event],
+) -> Result<Reply, AllocError>
+    ensures { IfOk result (λ reply. IsReplied world.old counted events.now reply world.new) }
+{
+    let Ok(answers) = play(alloc, world, events) else {
+        return Err(AllocError);
+    };
+    Ok(Reply::to(counted, &answers))
 }

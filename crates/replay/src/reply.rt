@@ -1,25 +1,38 @@
-//! What an act came to, and how it is printed.
+//! What a line came to, and how it is printed.
 
-ghost use Rattle.std.specs.Prelude.{◌≡◌, ◌-◌, ◌<◌, ◌^◌, Some};
-ghost use Rattle.replay.specs.Replies.{opening_reply, with_answer, reply_text};
+ghost use Rattle.std.specs.Prelude.{◌≡◌, ◌+◌, ◌-◌, ◌<◌, ◌≤◌, ◌^◌, Some};
+ghost use Rattle.replay.specs.Replies.{opening_reply, with_answer, reply_to, reply_text};
 
 use std::fmt;
 use world::{Effect, WorldFault};
 
-/// What an act came to; it is shown as the line that is printed.
+/// What a line came to; it is shown as the line that is printed.
 #[derive(Clone, Copy)]
 pub struct Reply {
-    /// What its last event came to, or the first one that was refused.
+    /// The answer to its last event, or to the first one that was refused.
     pub answer: Result<Effect, WorldFault>,
-    /// How often it was done.
-    pub done: u32,
-    /// The act had a count.
+    /// How many of its events were done.
+    pub done: usize,
+    /// The line had a count.
     pub counted: bool,
 }
 
 impl Reply {
-    /// Nothing is done.
-    pub(crate) fn opening(counted: bool) -> Reply
+    /// The reply to these answers; what follows a refusal doesn't count.
+    pub(crate) fn to(counted: bool, answers: &[Result<Effect, WorldFault>]) -> Reply
+        ensures { result ≡ reply_to counted answers.now }
+    {
+        let mut reply = Reply::opening(counted);
+        let mut left = answers;
+        while let [answer, others @ ..] = left {
+            reply = reply.with(*answer);
+            left = others;
+        }
+        reply
+    }
+
+    // Nothing is done.
+    fn opening(counted: bool) -> Reply
         ensures { result ≡ opening_reply counted }
     {
         Reply {
@@ -29,10 +42,11 @@ impl Reply {
         }
     }
 
-    /// One answer more.
-    pub(crate) fn with(self, answer: Result<Effect, WorldFault>) -> Reply
-        requires { self.done < 2 ^ 32 - 1 }
-        ensures { result ≡ with_answer self answer }
+    // One answer more.
+    fn with(self, answer: Result<Effect, WorldFault>) -> Reply
+        requires { self.done < 2 ^ 64 - 1 }
+        ensures reply { result ≡ with_answer self answer }
+        ensures few { result.done ≤ self.done + 1 }
     {
         if self.answer.is_err() {
             return self;

@@ -1,7 +1,7 @@
 //! Which texts are scripts, by the number of their events, and which line is malformed.
 
 use crate::sample::{halves, must};
-use script::{ScriptFault, read_script};
+use replay::{ScriptFault, read_script};
 use std::alloc::{AllocError, Global};
 use std::test::Fail;
 

@@ -1,0 +1,97 @@
+-- Lines that are played one after the other are one run of the world.
+use Rattle.std.proofs.Common.{◌≡◌, suc, ◌-◌, ◌<◌, List, [], ◌∷◌, ◌++◌, length, get_or}
+use Rattle.std.proofs.Common.{take, drop, append_assoc, append-nil, refl, sym, ap, ◌∙◌, arith}
+use Rattle.std.proofs.Math.Seq.{take-length}
+use Rattle.world.specs.Batches.{BatchesJoin}
+use Rattle.world.specs.Happens.{Answer, Plays}
+use Rattle.world.specs.StandsFor.{Parts}
+use Rattle.world.specs.World.{WorldState}
+use Rattle.world.specs.declared.event.Event.{Event}
+use Rattle.replay.specs.Played.{repeated, IsLineReplied, AreRepliesFrom}
+use Rattle.replay.specs.declared.line.EventLine.{EventLine}
+use Rattle.replay.specs.declared.reply.Reply.{Reply}
+
+-- ---- a line before others
+
+-- each event has an answer
+as_many : (w v : WorldState) (es : List Event) (rs : List Answer) → Plays w es rs v
+    → length rs ≡ length es
+as_many w v [] [] plays = refl
+as_many w v (e ∷ es) (r ∷ rs) plays = ap (λ n. suc n) (as_many plays.0 v es rs plays.2)
+as_many w v [] (r ∷ rs) plays = absurd plays
+as_many w v (e ∷ es) [] plays = absurd plays
+
+told_first : BatchesJoin → (before between : Parts) (asked : EventLine) (lines : List EventLine)
+    (e : Event) (events : List Event) (reply : Reply) (replies : List Reply)
+    → IsLineReplied before asked e reply between → AreRepliesFrom between lines events replies
+    → AreRepliesFrom before (asked ∷ lines) (e ∷ events) (reply ∷ replies)
+told_first join before between asked lines e events reply replies own others w stands =
+    let played = own.played w stands in
+    let more = others played.0 played.2 in record {
+      answers = own.answers ∷ more.answers;
+      after = more.after;
+      run = join w more.after (repeated asked e) _ own.answers _
+          (record { between = played.0; first = played.1; second = more.run });
+      told = (
+        as_many w played.0 (repeated asked e) own.answers played.1,
+        own.reply_is,
+        more.told,
+      );
+    }
+
+-- ---- the lines so far
+
+-- whatever the lines that are left come to, all lines come to with the replies so far before it
+pub record Leads (before now : Parts) (lines left : List EventLine) (events behind : List Event)
+    (done : List Reply) : Type 0 where
+  pub tells : (more : List Reply) → AreRepliesFrom now left behind more
+      → AreRepliesFrom before lines events (done ++ more)
+
+pub begins : (before : Parts) (lines : List EventLine) (events : List Event)
+    → Leads before before lines lines events events []
+begins before lines events = record { tells = λ more told. told }
+
+first_rest : {X : Type 0} (xs : List X) (x : X) → 0 < length xs → x ≡ get_or xs 0 x
+    → xs ≡ x ∷ take (length xs - 1) (drop 1 xs)
+first_rest [] x some is = absurd (omega (arith, some))
+first_rest (y ∷ ys) x some is =
+    let n : length (y ∷ ys) - 1 ≡ length ys = omega arith in
+    ap (λ z. z ∷ ys) (sym is) ∙ ap (λ t. x ∷ t) (sym (ap (λ m. take m ys) n ∙ take-length ys))
+
+-- the first line that is left, with the first event
+pub goes_on : BatchesJoin → (before now after : Parts) (lines left : List EventLine)
+    (asked : EventLine) (events behind : List Event) (e : Event) (done longer : List Reply)
+    (reply : Reply) → 0 < length left → asked ≡ get_or left 0 asked → 0 < length behind
+    → e ≡ get_or behind 0 e → longer ≡ done ++ reply ∷ []
+    → Leads before now lines left events behind done
+    → IsLineReplied now asked e reply after
+    → Leads before after lines (take (length left - 1) (drop 1 left)) events
+    (take (length behind - 1) (drop 1 behind)) longer
+goes_on join before now after lines left asked events behind e done longer reply some found
+    event_there event_found grown so_far own =
+    let others = take (length left - 1) (drop 1 left) in
+    let later = take (length behind - 1) (drop 1 behind) in
+    let here = rw (
+      first_rest left asked some found,
+      first_rest behind e event_there event_found,
+    ) at so_far in record {
+      tells = λ more told.
+          rw (grown, append_assoc done (reply ∷ []) more)
+          (here.tells (reply ∷ more)
+          (told_first join now after asked others e later reply more own told));
+    }
+
+none_left : {X : Type 0} (xs : List X) → length xs < 1 → xs ≡ []
+none_left [] few = refl
+none_left (x ∷ xs) few = absurd (omega (arith, few))
+
+-- none is left
+pub ends : (before now : Parts) (lines left : List EventLine) (events behind : List Event)
+    (replies : List Reply) → length left < 1 → length behind < 1
+    → Leads before now lines left events behind replies
+    → AreRepliesFrom before lines events replies
+ends before now lines left events behind replies no_line no_event so_far =
+    let here = rw (none_left left no_line, none_left behind no_event) at so_far in
+    rw (append-nil replies) at
+    (here.tells []
+    (λ w stands. record { answers = []; after = w; run = refl; told = tt }))

@@ -1,0 +1,50 @@
+-- What the lines of a script ask, one after another: a swap line asks for the ruleset of its
+-- manifest, whose arrays are declared in the directory that the lines before it left.
+use Rattle.std.specs.Prelude.{◌≡◌, List, [], ◌∷◌}
+use Rattle.std.specs.Arc.{arc_value}
+use Rattle.attrs.specs.Attributes as attrs
+use Rattle.cells.specs.declared.array.CellArray.{CellArray}
+use Rattle.bounded_files.specs.Files.{KnownFiles}
+use Rattle.bounded_files.specs.declared.fault.ResourceFault.TheVariants.{Memory}
+use Rattle.load.specs.Loaded.{IsLoadedFrom}
+use Rattle.world.specs.declared.event.Event.{Event}
+use Rattle.world.specs.declared.event.Event.TheVariants as event
+use Rattle.replay.specs.Loaded.{GivesNoRuleset}
+use Rattle.replay.specs.declared.fault.ReplayFault.{ReplayFault}
+use Rattle.replay.specs.declared.fault.ReplayFault.TheVariants.{Resource}
+use Rattle.replay.specs.declared.line.EventLine.{EventLine}
+use Rattle.replay.specs.declared.line.EventLine.TheVariants as line
+
+module _ (known : KnownFiles) where
+  abbrev pub IsEventOf : EventLine → List CellArray → Event → List CellArray → Type 0
+  IsEventOf (line.Start worker appid bucket version) old (event.Start k sent) new =
+      (k ≡ worker) × (arc_value sent ≡ attrs.plain appid version bucket) × (new ≡ old)
+  IsEventOf (line.Step worker count) old e new = (e ≡ event.Step worker) × (new ≡ old)
+  IsEventOf (line.Finish worker) old e new = (e ≡ event.Finish worker) × (new ≡ old)
+  IsEventOf (line.Swap manifest) old (event.Swap rules) new =
+      IsLoadedFrom known manifest old (arc_value rules) new
+  IsEventOf asked old e new = ⊥
+
+  abbrev pub AreEventsOf : List EventLine → List CellArray → List Event → List CellArray → Type 0
+  AreEventsOf [] old [] new = new ≡ old
+  AreEventsOf (asked ∷ lines) old (e ∷ events) new =
+      (between : List CellArray) × IsEventOf asked old e between
+      × AreEventsOf lines between events new
+  AreEventsOf lines old events new = ⊥
+
+  -- why a line asks nothing: its manifest is refused
+  abbrev pub RefusesLine : EventLine → List CellArray → ReplayFault → Type 0
+  RefusesLine (line.Swap manifest) old fault = GivesNoRuleset known manifest old fault
+  RefusesLine asked old (Resource Memory) = Unit {0}
+  RefusesLine asked old fault = ⊥
+
+  -- the fault of the first line that is refused
+  pub data RefusesLines : List EventLine → List CellArray → ReplayFault → Type 0 where
+    no_memory : {lines : List EventLine} {old : List CellArray}
+        → RefusesLines lines old (Resource Memory)
+    this : {asked : EventLine} {lines : List EventLine} {old : List CellArray}
+        {fault : ReplayFault} → RefusesLine asked old fault
+        → RefusesLines (asked ∷ lines) old fault
+    later : {asked : EventLine} {lines : List EventLine} {old : List CellArray} (e : Event)
+        (between : List CellArray) {fault : ReplayFault} → IsEventOf asked old e between
+        → RefusesLines lines between fault → RefusesLines (asked ∷ lines) old fault

@@ -1,0 +1,62 @@
+-- The lines of a script, played one after the other: all their events are one run of the world.
+use Rattle.std.specs.Prelude.{◌≡◌, List, [], ◌∷◌, ◌++◌, length, replicate, Bool, true, false, Some}
+use Rattle.std.specs.List.{flat_map}
+use Rattle.world.specs.Happens.{Answer, Plays}
+use Rattle.world.specs.Headline.{ArePlayed}
+use Rattle.world.specs.StandsFor.{Parts, WorldStandsFor}
+use Rattle.world.specs.World.{WorldState}
+use Rattle.world.specs.declared.event.Event.{Event}
+use Rattle.world.specs.declared.event.Event.TheVariants as event
+use Rattle.replay.specs.Replies.{reply_to}
+use Rattle.replay.specs.declared.line.EventLine.{EventLine}
+use Rattle.replay.specs.declared.line.EventLine.TheVariants as line
+use Rattle.replay.specs.declared.reply.Reply.{Reply}
+
+-- ---- one line
+
+abbrev pub is_counted : EventLine → Bool
+is_counted (line.Step worker (Some count)) = true
+is_counted asked = false
+
+-- a Step with a count is so many Steps, each other line is its event once
+abbrev pub repeated : EventLine → Event → List Event
+repeated (line.Step worker (Some count)) e = replicate count (event.Step worker)
+repeated asked e = e ∷ []
+
+-- the events with some answers are a run of the world, and the reply is that to the answers
+pub record IsReplied (before : Parts) (counted : Bool) (events : List Event) (reply : Reply)
+    (after : Parts) : Type 0 where
+  pub answers : List Answer
+  pub played : ArePlayed before events answers after
+  pub reply_is : reply ≡ reply_to counted answers
+
+abbrev pub IsLineReplied : Parts → EventLine → Event → Reply → Parts → Type 0
+IsLineReplied before asked e reply after =
+    IsReplied before (is_counted asked) (repeated asked e) reply after
+
+-- ---- all lines, each with its event
+
+abbrev pub all_events : List EventLine → List Event → List Event
+all_events (asked ∷ lines) (e ∷ events) = repeated asked e ++ all_events lines events
+all_events lines events = []
+
+-- each line has an answer to each of its events, and the reply to these
+abbrev pub AreTold : List EventLine → List Event → List (List Answer) → List Reply → Type 0
+AreTold [] [] [] [] = Unit {0}
+AreTold (asked ∷ lines) (e ∷ events) (own ∷ answers) (reply ∷ replies) =
+    (length own ≡ length (repeated asked e)) × (reply ≡ reply_to (is_counted asked) own)
+    × AreTold lines events answers replies
+AreTold lines events answers replies = ⊥
+
+-- the events of all lines, in their order, are a run of the world
+pub record AreRepliesTo (w : WorldState) (lines : List EventLine) (events : List Event)
+    (replies : List Reply) : Type 0 where
+  pub answers : List (List Answer)
+  pub after : WorldState
+  pub run : Plays w (all_events lines events) (flat_map (λ own. own) answers) after
+  pub told : AreTold lines events answers replies
+
+-- so it is from every world that is stood for
+abbrev pub AreRepliesFrom : Parts → List EventLine → List Event → List Reply → Type 0
+AreRepliesFrom before lines events replies = (w : WorldState) → WorldStandsFor before w
+    → AreRepliesTo w lines events replies

@@ -1,0 +1,100 @@
+//! The events that the lines of a script ask for, one after another: that of a swap line has the
+//! ruleset of its manifest.
+
+ghost use Rattle.std.specs.Prelude.{◌≡◌, ◌<◌, IfOk, IfErr};
+ghost use Rattle.std.specs.Arc.{arc_value};
+ghost use Rattle.attrs.specs.Attributes.{plain};
+ghost use Rattle.replay.specs.Asked.{AreEventsOf, IsEventOf, RefusesLine, RefusesLines};
+
+use crate::fault::ReplayFault;
+use crate::line::EventLine;
+use crate::loaded::load_rules;
+use attrs::{Attrs, Text};
+use bounded_files::ResourceFault;
+use cells::Directory;
+use load::Disk;
+use std::alloc::{AllocError, Global};
+use std::sync::Arc;
+use world::Event;
+
+/// The events of all lines, in their order, an event a line.
+pub(crate) fn events_of<D: Disk>(
+    alloc: Global,
+    disk: &D,
+    lines: &[EventLine],
+    directory: &mut Directory,
+) -> Result<Vec<Event>, ReplayFault>
+    ensures events { IfOk result (λ events.
+        AreEventsOf (D.known disk.now) lines.now directory.old events.items directory.new) }
+    ensures fault { IfErr result (RefusesLines (D.known disk.now) lines.now directory.old) }
+{
+    let mut events = Vec::new(alloc);
+    for line in lines {
+        let event = event_of(alloc, disk, line, directory)?;
+        let Ok(()) = events.push(event) else {
+            return Err(ReplayFault::Resource(ResourceFault::Memory));
+        };
+    }
+    Ok(events)
+}
+
+// The event of a line. An app has its appid, bucket and version, and no other attribute; a swap has
+// the ruleset of its manifest, whose arrays are declared in the directory.
+fn event_of<D: Disk>(
+    alloc: Global,
+    disk: &D,
+    line: &EventLine,
+    directory: &mut Directory,
+) -> Result<Event, ReplayFault>
+    ensures event { IfOk result (λ event.
+        IsEventOf (D.known disk.now) line.now directory.old event directory.new) }
+    ensures fault { IfErr result (RefusesLine (D.known disk.now) line.now directory.old) }
+{
+    match line {
+        EventLine::Start {
+            worker,
+            appid,
+            bucket,
+            version,
+        } => match plain_attrs(alloc, appid, version, bucket.number()) {
+            Ok(attrs) => Ok(Event::Start {
+                worker: *worker as usize,
+                attrs,
+            }),
+            Err(_) => Err(ReplayFault::Resource(ResourceFault::Memory)),
+        },
+        EventLine::Step { worker, .. } => Ok(Event::Step {
+            worker: *worker as usize,
+        }),
+        EventLine::Finish { worker } => Ok(Event::Finish {
+            worker: *worker as usize,
+        }),
+        EventLine::Swap { manifest } => {
+            let rules = load_rules(alloc, disk, manifest.as_str(), directory)?;
+            Ok(Event::Swap { rules })
+        }
+    }
+}
+
+// The attributes of an app.
+fn plain_attrs(
+    alloc: Global,
+    appid: &Text,
+    version: &Option<Text>,
+    bucket: u16,
+) -> Result<Arc<Attrs>, AllocError>
+    requires { bucket < 10000 }
+    ensures { IfOk result (λ a. arc_value a ≡ plain appid.now version.now bucket) }
+{
+    let version = match version {
+        Some(text) => Some(text.as_str()),
+        None => None,
+    };
+    let Ok(attrs) = Attrs::plain(alloc, appid.as_str(), version, bucket) else {
+        return Err(AllocError);
+    };
+    match Arc::new(alloc, attrs) {
+        Ok(attrs) => Ok(attrs),
+        Err(_) => Err(AllocError),
+    }
+}

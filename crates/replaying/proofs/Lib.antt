@@ -1,2 +1,0 @@
-mod Walk
-mod OneRun

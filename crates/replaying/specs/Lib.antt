@@ -1,4 +1,0 @@
-pub mod Loaded
-pub mod Asked
-pub mod Replayed
-pub mod Replays
