@@ -3,7 +3,7 @@
 ghost use Rattle.std.specs.Prelude.{◌≡◌, ◌≤◌, IfOk, length};
 
 use acceptance::accept;
-use anyhow::{Result, ensure};
+use anyhow::{Context, Result, ensure};
 use attrs::Text;
 use bpf_text::assemble;
 use bpf_verify::Verified;
@@ -56,7 +56,8 @@ pub(crate) fn without_apps(alloc: Global) -> Result<Arc<Ruleset>> {
 
 fn ruleset(alloc: Global, apps: Vec<App>) -> Result<Arc<Ruleset>> {
     let server = String::from_str(alloc, "prod")?;
-    Ok(Arc::new(alloc, Ruleset::new(server, apps)?)?)
+    let rules = Ruleset::new(server, apps)?.context("an appid stands twice")?;
+    Ok(Arc::new(alloc, rules)?)
 }
 
 /// The shape of an app with one release that takes from a quota.

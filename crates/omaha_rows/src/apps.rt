@@ -37,7 +37,8 @@ pub(crate) fn rules_of(alloc: Global, count: u8, packages: u8) -> Result<Ruleset
     let plain = app(alloc, "x", count, packages)?;
     let braced = app(alloc, BRACED, count, packages)?;
     let apps = vec![in alloc; plain, braced]?;
-    Ok(Ruleset::new(String::from_str(alloc, "prod")?, apps)?)
+    let server = String::from_str(alloc, "prod")?;
+    Ok(Ruleset::new(server, apps)?.ok_or("an appid stands twice")?)
 }
 
 fn app(alloc: Global, appid: &str, count: u8, packages: u8) -> Result<App, Fail>

@@ -1,6 +1,6 @@
 -- A ruleset: the apps that a server knows, in order, each with its program and its releases.
 use Rattle.std.specs.Prelude.{◌≡◌, ℕ, ◌<◌, List, [], length, map, slice_index_or, All, Contains}
-use Rattle.std.specs.Prelude.{Option, IsTrue}
+use Rattle.std.specs.Prelude.{Option, Some, None, IsTrue}
 use Rattle.std.specs.List.{find, position}
 use Rattle.std.specs.Str.{bytes_eq}
 use Rattle.attrs.specs.Attributes.{Attributes, AreShort}
@@ -67,11 +67,10 @@ pub record HasTwice (appids : List (List ℕ)) : Type 0 where
   pub within : second < length appids
   pub same : slice_index_or appids first [] ≡ slice_index_or appids second []
 
--- the appid of a place stands at one before it
-pub record StandsBefore (appids : List (List ℕ)) (place : ℕ) : Type 0 where
-  pub earlier : ℕ
-  pub before : earlier < place
-  pub same : slice_index_or appids earlier [] ≡ slice_index_or appids place []
+-- these are all of the appids, where none stands twice, and there are none where one does
+abbrev pub StandOnce : List (List ℕ) → Option (List (List ℕ)) → Type 0
+StandOnce appids (Some all) = (all ≡ appids) × (¬ HasTwice appids)
+StandOnce appids None = HasTwice appids
 
 -- whatever the attributes, whose texts are short, a run of the program ends, with 0 or one of its
 -- releases

@@ -22,21 +22,23 @@ impl Model for AppidSet {
 }
 
 impl AppidSet {
-    ghost use Rattle.ruleset.specs.Rules.{HasTwice, appids_of, place_of};
+    ghost use Rattle.ruleset.specs.Rules.{StandOnce, appids_of, place_of};
 
-    /// The appids of apps, of which none stands twice.
-    pub fn of(alloc: Global, apps: &[App]) -> Result<AppidSet, AllocError>
-        requires { ¬ HasTwice (appids_of apps.now) }
-        ensures { IfOk result (λ appids. appids ≡ appids_of apps.now) }
+    /// The appids of apps; none where one stands twice.
+    pub fn of(alloc: Global, apps: &[App]) -> Result<Option<AppidSet>, AllocError>
+        ensures { IfOk result (StandOnce (appids_of apps.now)) }
     {
         let mut texts = IndexSet::with_capacity(alloc, apps.len())?;
         for app in apps {
             let text = String::from_str(alloc, app.appid())?;
-            let Ok(_added) = texts.insert(text) else {
+            let Ok(added) = texts.insert(text) else {
                 return Err(AllocError);
             };
+            if !added {
+                return Ok(None);
+            }
         }
-        Ok(AppidSet { texts })
+        Ok(Some(AppidSet { texts }))
     }
 
     /// The place of the app of an appid, from 0.

@@ -5,8 +5,7 @@ mod app;
 mod appid_set;
 mod ruleset;
 mod telling;
-mod twice;
 
 pub use app::App;
-pub use ruleset::{Ruleset, RulesetFault};
+pub use ruleset::Ruleset;
 pub use telling::tell_apps;

@@ -1,24 +1,12 @@
 //! The apps of a server, found by their appids.
 
-ghost use Rattle.std.specs.Prelude.{◌≡◌, ◌↔◌, IfOk, IfSome, IfNone, All, option_copied};
+ghost use Rattle.std.specs.Prelude.{◌≡◌, ◌↔◌, IfOk, IfSome, IfNone, IsNone, All, option_copied};
 ghost use Rattle.ruleset.specs.Rules.{IsApp};
 
 use crate::app::App;
 use crate::appid_set::AppidSet;
-use crate::twice::has_twice;
 use std::alloc::AllocError;
 use std::marker::Model;
-use thiserror::Error;
-
-/// Why no ruleset was made.
-#[derive(Clone, Copy, Debug, Drop, Error, PartialEq, Eq)]
-pub enum RulesetFault {
-    /// An appid stands twice.
-    #[error("M3 Duplicate")]
-    Duplicate,
-    #[error("M8 Memory")]
-    Memory,
-}
 
 /// The apps that a server knows, in order, and the text that names the server. No appid stands
 /// twice.
@@ -45,19 +33,21 @@ impl Ruleset {
     ghost use Rattle.ruleset.specs.Rules.{HasTwice, IsRuleset, ListsApp, OffersNone};
     ghost use Rattle.ruleset.specs.Rules.{app_of, appids_of};
 
-    /// The ruleset of these apps, for a server of this name. M3 exactly where an appid stands
-    /// twice, and M8 where memory is refused.
-    pub fn new(server: String, apps: Vec<App>) -> Result<Ruleset, RulesetFault>
-        ensures apps { IfOk result (λ r. r.apps ≡ apps.items) }
-        ensures server { IfOk result (λ r. r.server ≡ string_bytes server) }
-        ensures twice { (result ≡ Err RulesetFault.Duplicate) ↔ HasTwice (appids_of apps.items) }
+    /// The ruleset of these apps, for a server of this name; none exactly where an appid stands
+    /// twice.
+    pub fn new(server: String, apps: Vec<App>) -> Result<Option<Ruleset>, AllocError>
+        ensures apps { IfOk result (λ o. IfSome o (λ r. r.apps ≡ apps.items)) }
+        ensures server { IfOk result (λ o. IfSome o (λ r. r.server ≡ string_bytes server)) }
+        ensures twice { IfOk result (λ o. IsNone o ↔ HasTwice (appids_of apps.items)) }
     {
-        if has_twice(apps.as_slice()) {
-            return Err(RulesetFault::Duplicate);
-        }
-        match Ruleset::known(server, apps) {
-            Ok(rules) => Ok(rules),
-            Err(_) => Err(RulesetFault::Memory),
+        are_apps(apps.as_slice());
+        match AppidSet::of(*apps.allocator(), apps.as_slice())? {
+            Some(appids) => Ok(Some(Ruleset {
+                server,
+                apps,
+                appids,
+            })),
+            None => Ok(None),
         }
     }
 
@@ -67,13 +57,10 @@ impl Ruleset {
         ensures apps { IfOk result (λ r. r.apps ≡ apps.items) }
         ensures server { IfOk result (λ r. r.server ≡ string_bytes server) }
     {
-        are_apps(apps.as_slice());
-        let appids = AppidSet::of(*apps.allocator(), apps.as_slice())?;
-        Ok(Ruleset {
-            server,
-            apps,
-            appids,
-        })
+        match Ruleset::new(server, apps)? {
+            Some(rules) => Ok(rules),
+            None => unreachable!(),
+        }
     }
 
     /// What the type keeps. It does nothing: a proof calls it for its clauses.

@@ -61,7 +61,7 @@ pub(crate) fn rules_over(alloc: Global, text: &str, quota: u32) -> Result<Rulese
     for line in text.lines() {
         apps.push(app_in(alloc, line, quota)?)?;
     }
-    Ok(Ruleset::new(String::new(alloc), apps)?)
+    Ok(Ruleset::new(String::new(alloc), apps)?.ok_or("an appid stands twice")?)
 }
 
 fn app_in(alloc: Global, line: &str, quota: u32) -> Result<App, Fail> {

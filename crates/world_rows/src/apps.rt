@@ -80,7 +80,8 @@ pub(crate) fn rules_over(
     shape: &Shape,
 ) -> Result<Arc<Ruleset>, Fail> {
     let apps = vec![in alloc; app_over(alloc, appid, text, shape)?]?;
-    Ok(Arc::new(alloc, Ruleset::new(String::new(alloc), apps)?)?)
+    let rules = Ruleset::new(String::new(alloc), apps)?.ok_or("an appid stands twice")?;
+    Ok(Arc::new(alloc, rules)?)
 }
 
 /// The ruleset of one app, which has so many releases and no array.

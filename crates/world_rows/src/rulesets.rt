@@ -1,11 +1,10 @@
-//! That a ruleset is made where there is memory, how its faults are printed, and how long an appid
+//! That a ruleset is made where there is memory and no appid stands twice, and how long an appid
 //! is.
 
 use crate::apps::{NONE, app_over};
-use crate::table::must;
 use cells::Shape;
 use releases::is_appid;
-use ruleset::{App, Ruleset, RulesetFault};
+use ruleset::{App, Ruleset};
 use std::alloc::Global;
 use std::test::Fail;
 
@@ -18,16 +17,12 @@ fn push_apps(alloc: Global, apps: &mut Vec<App>, given: &[(&str, u8)]) -> Result
     Ok(())
 }
 
-/// The ruleset of the server `prod` and these apps, or its fault.
-fn rules_of(alloc: Global, given: &[(&str, u8)]) -> Result<Result<Ruleset, RulesetFault>, Fail> {
+/// The ruleset of the server `prod` and these apps, if no appid stands twice.
+fn rules_of(alloc: Global, given: &[(&str, u8)]) -> Result<Option<Ruleset>, Fail> {
     let mut apps = Vec::new(alloc);
     push_apps(alloc, &mut apps, given)?;
     let server = String::from_str(alloc, "prod")?;
-    Ok(Ruleset::new(server, apps))
-}
-
-fn fault_of(alloc: Global, given: &[(&str, u8)]) -> Result<Option<RulesetFault>, Fail> {
-    Ok(rules_of(alloc, given)?.err())
+    Ok(Ruleset::new(server, apps)?)
 }
 
 /// How many releases the app has, if one is found.
@@ -48,29 +43,15 @@ fn are_both(rules: &Ruleset) -> bool {
 
 #[test]
 fn apps_are_found(rt: HostRuntime) -> Result<(), Fail> {
-    let rules = rules_of(rt.alloc(), &[("x", 3), ("y", 64)])??;
+    let rules = rules_of(rt.alloc(), &[("x", 3), ("y", 64)])?.ok_or("no ruleset")?;
     assert!(rt; are_both(&rules));
     Ok(())
 }
 
 #[test]
 fn appids_stand_once(rt: HostRuntime) -> Result<(), Fail> {
-    let fault = fault_of(rt.alloc(), &[("x", 1), ("y", 1), ("x", 2)])?;
-    assert!(rt; fault == Some(RulesetFault::Duplicate));
-    Ok(())
-}
-
-const FAULTS: [(RulesetFault, &str); 2] = [
-    (RulesetFault::Duplicate, "M3 Duplicate"),
-    (RulesetFault::Memory, "M8 Memory"),
-];
-
-#[test]
-fn faults_are_printed(rt: HostRuntime) -> Result<(), Fail> {
-    for (fault, want) in FAULTS {
-        let printed = format!(in rt.alloc(); "{fault}")?;
-        must(printed.as_str(), printed.as_str() == want)?;
-    }
+    let rules = rules_of(rt.alloc(), &[("x", 1), ("y", 1), ("x", 2)])?;
+    assert!(rt; rules.is_none());
     Ok(())
 }
 

@@ -7,7 +7,7 @@ use bpf_text::assemble;
 use bpf_verify::{Refusal, Verified, verify};
 use cells::CellNo;
 use flow_check::Flow;
-use ruleset::{Ruleset, RulesetFault};
+use ruleset::Ruleset;
 use std::alloc::{AllocError, Global};
 use std::sync::Arc;
 use std::test::Fail;
@@ -40,11 +40,7 @@ fn rules_of(alloc: Global, appids: [&str; 2]) -> Result<Option<Ruleset>, AllocEr
     for appid in appids {
         apps.push(app_of(alloc, appid, program(alloc)?)?)?;
     }
-    match Ruleset::new(String::new(alloc), apps) {
-        Ok(rules) => Ok(Some(rules)),
-        Err(RulesetFault::Duplicate) => Ok(None),
-        Err(RulesetFault::Memory) => Err(AllocError),
-    }
+    Ruleset::new(String::new(alloc), apps)
 }
 
 /// Whether the ruleset has both apps; none where there is no ruleset.

@@ -1,9 +1,11 @@
-use Rattle.std.proofs.Common.{◌≡◌, map, take}
+use Rattle.std.proofs.Common.{◌≡◌, map, take, string_eq}
+use Rattle.std.specs.List.{IsDistinct}
 use Rattle.std.specs.Prelude.{string_bytes}
 use Rattle.ruleset.specs.Rules.{appids_of}
 use Rattle.ruleset.proofs.appid_set.AppidSet.of.Given as goal
 
--- the appids of the apps so far
+-- the appids of the apps so far, no two of which are equal
 abbrev pub invariant-loop-app : goal.invariant-loop-app
 invariant-loop-app l =
-    map string_bytes l.texts.keys ≡ take l.app-index (appids_of l.apps)
+    (map string_bytes l.texts.keys ≡ take l.app-index (appids_of l.apps))
+    × IsDistinct string_eq l.texts.keys
