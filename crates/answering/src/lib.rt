@@ -6,9 +6,10 @@
 //! replied to is refused by a line of text. A run acts on the server's counters, and what it did
 //! there stays, also where memory is refused before the reply is made.
 //!
-//! The contract of `answer` is one relation, with a constructor for each outcome: it says which
-//! reply the bytes of the reader have under the ruleset that the watcher gave, and which events the
-//! runs made. The pass grew by these, and what was written is that reply, or its beginning.
+//! The contract of `answer`, and of `answer_in`, by which it answers, is one definition, `Answers`:
+//! what was written is the reply to what was read, or its beginning. Which reply that is, under the
+//! ruleset that the watcher gave, and which events the runs made, by which the pass grew, is one
+//! relation, with a constructor for each outcome.
 #![tactic(auto)]
 
 mod answering;

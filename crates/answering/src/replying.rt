@@ -11,7 +11,7 @@ use crate::turn::Turn;
 use crate::witness::Witness;
 use cells::CellSteps;
 use hot_swap::Watcher;
-use omaha_json::{OmahaFault, Request, found_text_in};
+use omaha_json::{OmahaFault, Request, found_text};
 use ruleset::Ruleset;
 
 /// The text of the reply to a request, in the room of an earlier text, or why there is none. The
@@ -40,7 +40,7 @@ pub fn reply_to<C: CellSteps, W: Witness>(
     };
     let answers = found.as_slice();
     witness.see(current.0, request, answers);
-    match found_text_in(text, request, rules.server(), answers, *turn.moment) {
+    match found_text(text, rules.server(), request.apps(), answers, turn.moment) {
         Ok(text) => Ok(text),
         Err(_) => Err(Rejection::of_omaha(OmahaFault::Memory)),
     }

@@ -1,15 +1,14 @@
 //! One request at a turn: it is read into room that is kept, its reply is found, and written.
 
-ghost use Rattle.std.specs.Prelude.{◌≡◌, ◌≢◌, ◌+◌, ◌-◌, ◌^◌, ◌<◌, ◌≤◌, ℕ};
-ghost use Rattle.std.specs.Prelude.{Ok, Err, length, take, IfOk, IfErr};
-ghost use Rattle.std.specs.Io.KnownBytes.{Appends};
+ghost use Rattle.std.specs.Prelude.{◌≡◌, ◌+◌, ◌-◌, ◌^◌, ◌<◌, Err, IfOk};
 ghost use Rattle.hot_swap.specs.Published.{GoesOnwards};
 ghost use Rattle.devices.specs.Device.{CountsFailure, WritesBeginning};
 ghost use Rattle.http_front.specs.Post.{AnswersPost};
 ghost use Rattle.http_front.specs.Reply.{code_of};
 ghost use Rattle.http_front.specs.declared.fault.PostFault.TheVariants as fault;
-ghost use Rattle.answering.specs.Answer.{RepliesByRuns, WritesNothing, Settles};
-ghost use Rattle.answering.specs.Reply.{HttpReply, message_bytes, told_line, settled_reply};
+ghost use Rattle.answering.specs.Answer.{Settles};
+ghost use Rattle.answering.specs.Connection.{Answers};
+ghost use Rattle.answering.specs.Reply.{message_bytes, told_line, settled_reply};
 
 use crate::answering::AnswerFault;
 use crate::reading::hear;
@@ -40,35 +39,8 @@ pub fn answer_in<R: Read, W: Write, C: CellSteps, N: Witness>(
     requires writes { writer.old.failures < 2 ^ 64 - 1 }
     ensures belongs { C.belongs turn.now.cells.now pass.new }
     ensures watched { GoesOnwards watcher.old watcher.new }
-
-    // What was written is the reply to what was read, under the ruleset that the watcher gave.
-    ensures replied { IfOk result (λ sent. (reply : HttpReply)
-        × (code_of reply.status ≡ sent.status) × (sent.line.now ≡ told_line reply)
-        × RepliesByRuns C.grew (R.remaining reader.old.inner) watcher.new turn.now.moment.now
-        pass.old pass.new reply
-        × Appends (W.contents writer.old.inner) (W.contents writer.new.inner)
-        (message_bytes reply)) }
-    // A request that isn't one makes no run.
-    ensures idle { IfOk result (λ sent.
-        sent.status ≢ 200 → sent.status ≢ 500 → pass.new ≡ pass.old) }
-
-    // Or a beginning of it was written.
-    ensures begun { (n : ℕ) → result ≡ Err (AnswerFault.Writing n)
-        → (reply : HttpReply) × (n ≤ length (message_bytes reply))
-        × RepliesByRuns C.grew (R.remaining reader.old.inner) watcher.new turn.now.moment.now
-        pass.old pass.new reply
-        × Appends (W.contents writer.old.inner) (W.contents writer.new.inner)
-        (take n (message_bytes reply)) }
-    ensures unwritable { (n : ℕ) → result ≡ Err (AnswerFault.Writing n)
-        → writer.new.failures ≡ writer.old.failures + 1 }
-
-    // Or nothing was, and nothing else happened.
-    ensures unread { IfErr result
-        (λ e. WritesNothing e → (pass.new ≡ pass.old) × (writer.new ≡ writer.old)) }
-    ensures ended { result ≡ Err AnswerFault.Ended
-        → AnswersPost (R.remaining reader.old.inner) (Err fault.Ended) }
-    ensures unreadable { result ≡ Err AnswerFault.Reading
-        → reader.new.failures ≡ reader.old.failures + 1 }
+    ensures answers { Answers C.grew R.remaining W.contents watcher.new turn.now.moment.now
+        pass.old pass.new reader.old reader.new writer.old writer.new result }
 {
     let outcome = settle(turn, room, reader, pass, watcher, witness)?;
     match send(writer, &outcome) {
@@ -100,14 +72,13 @@ fn settle<R: Read, C: CellSteps, N: Witness>(
     ensures unreadable { result ≡ Err AnswerFault.Reading
         → reader.new.failures ≡ reader.old.failures + 1 }
 {
-    match hear(turn.alloc, &mut room.post, reader, witness) {
-        Ok(Ok(request)) => {
+    match hear(turn.alloc, &mut room.post, reader, witness)? {
+        Ok(request) => {
             let text = room.take_text(turn.alloc);
             let outcome = reply_to(turn, text, &request, pass, watcher, witness);
             Ok(outcome)
         }
-        Ok(Err(rejection)) => Ok(Err(rejection)),
-        Err(fault) => Err(fault),
+        Err(rejection) => Ok(Err(rejection)),
     }
 }
 

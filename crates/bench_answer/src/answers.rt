@@ -94,7 +94,7 @@ pub(crate) fn answer_times<C: CellSteps>(
     })
 }
 
-/// The same on cells of its own.
+/// Answers the request so often on cells of its own.
 fn answer_alone(alloc: Global, watcher: &mut Watcher, input: &[u8], times: u32) -> Result<Tally>
     ensures { IfOk result (IsTallyFromZeros input.now times) }
 {
@@ -102,7 +102,7 @@ fn answer_alone(alloc: Global, watcher: &mut Watcher, input: &[u8], times: u32) 
     answer_times(alloc, &cells, &mut pass, watcher, input, times)
 }
 
-/// The same under one ruleset.
+/// Answers the request so often under one ruleset.
 pub(crate) fn answer_under<H: Wait>(
     rt: &H,
     alloc: Global,

@@ -3,7 +3,7 @@
 -- `seen` are the bytes between.
 use Rattle.std.proofs.Common.{◌≡◌, ◌≤◌, ◌<◌, ℕ, length, length-take, length-append, map}
 use Rattle.std.proofs.Common.{List, [], ◌∷◌, ◌++◌, take, drop, append_assoc, append-nil}
-use Rattle.std.proofs.Common.{Option, Some, None, MatchOption, Result, Ok, Err}
+use Rattle.std.proofs.Common.{Option, Some, None, MatchOption, Result, Ok, Err, IfErr}
 use Rattle.std.proofs.Common.{ap, ◌∙◌, sym, subst, arith}
 use Rattle.std.proofs.lemmas.List.{length-map}
 use Rattle.std.proofs.Math.Seq.{take-append_seam}
@@ -21,9 +21,9 @@ use Rattle.http_front.specs.declared.head.Found.{Found}
 use Rattle.http_front.specs.Reading.{GainsBytes}
 use Rattle.http_front.specs.Post.{Posts, whole, cut_short, refused, malformed, long, many, ended}
 use Rattle.http_front.specs.Post.{HasHead, IsBegun, IsHeadFault, IsPostAnswer, AnswersPost}
-use Rattle.http_front.specs.Post.{IsFrugal, TakesAtMost}
+use Rattle.http_front.specs.Post.{IsFrugal, TakesAtMost, CountsDevice, post_answer}
 use Rattle.http_front.specs.Post.{head_limit, field_limit}
-use Rattle.http_front.specs.Head.{asked_length, asked_length_by}
+use Rattle.http_front.specs.Head.{IsAskedFault, asked_length, asked_length_by}
 use Rattle.http_front.specs.Reading.{IsFilled, IsFound, IsBody, IsBodyBehind, asked_at}
 
 -- no head was found, so the bytes have none yet
@@ -157,41 +157,26 @@ told {seen = seen} {headers = headers} {r = r} s =
     sym (asked_same seen headers r s.head.0 s.head.1)
 
 -- the body that follows the head is the answer
-post_read : (a b : Option (List ℕ)) (seen : List ℕ) (headers : List HeaderSpan) (r : RequestSpans)
-    (n : ℕ) (first : List ℕ) (answer : Result (List ℕ) PostFault)
+pub body_at : (a b : Option (List ℕ)) (seen : List ℕ) (headers : List HeaderSpan)
+    (r : RequestSpans) (n : ℕ) (first : List ℕ) (answer : Result (List ℕ) PostFault)
     → Stands a b seen headers r → asked_at seen headers r ≡ Ok n → first ≡ drop r.len seen
     → IsBodyBehind first b n answer → AnswersPost a answer
-post_read None b seen headers r n first answer s e split h = tt
-post_read (Some xs) None seen headers r n first answer s e split h = absurd s.bytes
-post_read (Some xs) (Some ys) seen headers r n first answer s e split h =
+body_at None b seen headers r n first answer s e split h = tt
+body_at (Some xs) None seen headers r n first answer s e split h = absurd s.bytes
+body_at (Some xs) (Some ys) seen headers r n first answer s e split h =
     let P : List ℕ → Type 0 = λ z. IsBody (z ++ ys) n answer in
     let rest = drop r.len seen ++ ys in
     body_answer xs rest s.head.0 n answer (known_head s) (told s ∙ e) (subst P split h)
 
--- the same, where the head's place is known
-pub body_at : {a b : Option (List ℕ)} {seen : List ℕ} {headers : List HeaderSpan} {r : RequestSpans}
-    → Stands a b seen headers r → (n : ℕ) (first : List ℕ) (answer : Result (List ℕ) PostFault)
-    → asked_at seen headers r ≡ Ok n → first ≡ drop r.len seen
-    → IsBodyBehind first b n answer → AnswersPost a answer
-body_at {a = a} {b = b} {seen = seen} {headers = headers} {r = r} s n first answer e split h =
-    post_read a b seen headers r n first answer s e split h
-
-post_refused : (a b : Option (List ℕ)) (seen : List ℕ) (headers : List HeaderSpan)
+-- a rule that the head breaks is the answer
+pub refused_at : (a b : Option (List ℕ)) (seen : List ℕ) (headers : List HeaderSpan)
     (r : RequestSpans) (x : PostFault)
     → Stands a b seen headers r → asked_at seen headers r ≡ Err x → AnswersPost a (Err x)
-post_refused None b seen headers r x s e = tt
-post_refused (Some xs) None seen headers r x s e = absurd s.bytes
-post_refused (Some xs) (Some ys) seen headers r fault.Device s e = tt
-post_refused (Some xs) (Some ys) seen headers r fault.Memory s e = tt
-post_refused (Some xs) (Some ys) seen headers r x s e = refused (known_head s) (told s ∙ e)
-
--- a rule that the head breaks is the answer
-pub refused_at : {a b : Option (List ℕ)} {seen : List ℕ} {headers : List HeaderSpan}
-    {r : RequestSpans}
-    → Stands a b seen headers r → (x : PostFault) → asked_at seen headers r ≡ Err x
-    → AnswersPost a (Err x)
-refused_at {a = a} {b = b} {seen = seen} {headers = headers} {r = r} s x e =
-    post_refused a b seen headers r x s e
+refused_at None b seen headers r x s e = tt
+refused_at (Some xs) None seen headers r x s e = absurd s.bytes
+refused_at (Some xs) (Some ys) seen headers r fault.Device s e = tt
+refused_at (Some xs) (Some ys) seen headers r fault.Memory s e = tt
+refused_at (Some xs) (Some ys) seen headers r x s e = refused (known_head s) (told s ∙ e)
 
 -- ---- the faults of a head that isn't whole, at what a buffer holds
 
@@ -241,19 +226,22 @@ frugal_at {a = a} {b = b} {buf = buf} {filled = filled} f room e =
     }) e
 
 -- no fault of a body is one of a head
-frugal_body : (a b c : Option (List ℕ)) (seen first : List ℕ) (n : ℕ) (e : PostFault)
-    → Consumes a b seen → IsBodyBehind first b n (Err e) → IsFrugal a c e
-frugal_body None b c seen first n e f h =
+pub frugal_behind : {A : Type 0} (a b : Option (List ℕ)) (seen : List ℕ)
+    (headers : List HeaderSpan) (r : RequestSpans) (c : Option (List ℕ)) (n : ℕ) (first : List ℕ)
+    (result : Result A PostFault) (body_of : A → List ℕ) → Stands a b seen headers r
+    → IsBodyBehind first b n (post_answer result body_of) → IfErr result (IsFrugal a c)
+frugal_behind a b seen headers r c n first (Ok x) body_of s h = tt
+frugal_behind None b seen headers r c n first (Err e) body_of s h =
     frugal (record { taken = []; consumed = tt; short = omega arith }) e
-frugal_body (Some xs) None c seen first n e f h = absurd f
-frugal_body (Some xs) (Some ys) c seen first n fault.Ended f h = tt
-frugal_body (Some xs) (Some ys) c seen first n fault.Device f h = tt
-frugal_body (Some xs) (Some ys) c seen first n fault.Memory f h = tt
-frugal_body (Some xs) (Some ys) c seen first n e f h = absurd h
+frugal_behind (Some xs) None seen headers r c n first (Err e) body_of s h = absurd s.bytes
+frugal_behind (Some xs) (Some ys) seen headers r c n first (Err fault.Ended) body_of s h = tt
+frugal_behind (Some xs) (Some ys) seen headers r c n first (Err fault.Device) body_of s h = tt
+frugal_behind (Some xs) (Some ys) seen headers r c n first (Err fault.Memory) body_of s h = tt
+frugal_behind (Some xs) (Some ys) seen headers r c n first (Err e) body_of s h = absurd h
 
-pub frugal_behind : {a b : Option (List ℕ)} {seen : List ℕ} {headers : List HeaderSpan}
-    {r : RequestSpans}
-    → Stands a b seen headers r → (c : Option (List ℕ)) (first : List ℕ) (n : ℕ) (e : PostFault)
-    → IsBodyBehind first b n (Err e) → IsFrugal a c e
-frugal_behind {a = a} {b = b} {seen = seen} s c first n e h =
-    frugal_body a b c seen first n e s.bytes h
+-- ---- a rule that a head breaks is no failure
+
+pub counts_asked : (A : Type 0) (old new : ℕ) (e : PostFault) → IsAskedFault e → new ≡ old
+    → CountsDevice {A = A} old new (Err e)
+counts_asked A old new fault.Device h same = absurd h
+counts_asked A old new e h same = same

@@ -5,8 +5,9 @@
 -- of more than 64 header lines that is malformed or cut short, and a target that isn't UTF-8 and is
 -- cut short.
 use Rattle.std.specs.Prelude.{◌≡◌, ℕ, ◌+◌, ◌<◌, ◌≤◌, List, length, take}
-use Rattle.std.specs.Prelude.{Option, Some, None, Result, Ok, Err}
+use Rattle.std.specs.Prelude.{Option, Some, None, Result, Ok, Err, IfErr}
 use Rattle.std.specs.Io.KnownBytes.{Consumes}
+use Rattle.devices.specs.declared.counted.Counted.{Counted}
 use Rattle.httparse.specs.Grammar.{RequestHead, ReadsRequest, print_request}
 use Rattle.httparse.specs.Grammar.{HasNoRequest, NeverHasRequest, MayBecomeRequest}
 use Rattle.httparse.specs.Spans.{RequestExceeds}
@@ -82,6 +83,22 @@ IsFrugal old new e = TakesAtMost head_limit old new
 abbrev pub CountsDevice : {A : Type 0} → ℕ → ℕ → Result A PostFault → Type 0
 CountsDevice old new (Err fault.Device) = new ≡ old + 1
 CountsDevice old new answer = new ≡ old
+
+-- the answer of a call that has this body where it succeeds
+abbrev pub post_answer : {A : Type 0}
+    → Result A PostFault → (A → List ℕ) → Result (List ℕ) PostFault
+post_answer (Ok a) body_of = Ok (body_of a)
+post_answer (Err e) body_of = Err e
+
+-- what it comes to that a request is read of a reader, as it was before and as it is after
+pub record ReadsPost {R A : Type 0} (remaining : R → Option (List ℕ)) (old new : Counted R)
+    (result : Result A PostFault) (body_of : A → List ℕ) : Type 0 where
+  -- the answer is one that the reader's bytes have
+  pub answers : AnswersPost (remaining old.inner) (post_answer result body_of)
+  -- what a head refuses took no more of them than a head may have
+  pub frugal : IfErr result (IsFrugal (remaining old.inner) (remaining new.inner))
+  -- and a failure was counted where it is the answer
+  pub count : CountsDevice old.failures new.failures result
 
 -- what is wrong with the bytes of a head that came
 abbrev pub IsHeadFault : List ℕ → PostFault → Type 0

@@ -1,8 +1,8 @@
 //! The body is read: into room that is made once, as much as the head's length says.
 
 ghost use Rattle.std.specs.Prelude.{◌≡◌, ◌+◌, ◌-◌, ◌^◌, ◌<◌, ◌≤◌, ◌++◌, length, drop};
-ghost use Rattle.std.specs.Prelude.{Ok, Err, OnOk, IfOk, IfErr};
-ghost use Rattle.http_front.specs.Post.{CountsDevice};
+ghost use Rattle.std.specs.Prelude.{Ok, Err, IfOk};
+ghost use Rattle.http_front.specs.Post.{CountsDevice, post_answer};
 ghost use Rattle.http_front.specs.Reading.{IsBodyBehind, FillsBody};
 
 use crate::fault::PostFault;
@@ -15,10 +15,8 @@ use std::io::Read;
 fn fill<R: Read>(reader: &mut Counted<R>, body: &mut [u8], known: usize) -> Result<(), PostFault>
     requires count { reader.old.failures < 2 ^ 64 - 1 }
     requires room { known ≤ length body.old }
-    ensures whole { OnOk result
-        (FillsBody (R.remaining reader.old.inner) body.old known (Ok body.new)) }
-    ensures refused { IfErr result
-        (λ e. FillsBody (R.remaining reader.old.inner) body.old known (Err e)) }
+    ensures body { FillsBody (R.remaining reader.old.inner) body.old known
+        (post_answer result (λ _. body.new)) }
     ensures count { CountsDevice reader.old.failures reader.new.failures result }
 {
     let mut filled = known;
@@ -40,10 +38,8 @@ pub fn read_body<R: Read>(
     size: usize,
 ) -> Result<(), PostFault>
     requires { reader.old.failures < 2 ^ 64 - 1 }
-    ensures body { OnOk result
-        (IsBodyBehind first.now (R.remaining reader.old.inner) size (Ok body.new.items)) }
-    ensures refused { IfErr result
-        (λ e. IsBodyBehind first.now (R.remaining reader.old.inner) size (Err e)) }
+    ensures body { IsBodyBehind first.now (R.remaining reader.old.inner) size
+        (post_answer result (λ _. body.new.items)) }
     ensures count { CountsDevice reader.old.failures reader.new.failures result }
 {
     if size <= first.len() {

@@ -1,18 +1,21 @@
 //! Room in which requests are read, so that a worker can keep it from one to the next.
 
-ghost use Rattle.std.specs.Prelude.{◌≡◌, ◌-◌, ◌^◌, ◌<◌, ◌≤◌, length, take, []};
-ghost use Rattle.std.specs.Prelude.{Ok, Err, OnOk, IfErr};
-ghost use Rattle.http_front.specs.Post.{AnswersPost, CountsDevice, IsFrugal};
+ghost use Rattle.std.specs.Prelude.{◌≡◌, ◌-◌, ◌^◌, ◌<◌, ◌≤◌, OnOk, length, take, []};
+ghost use Rattle.http_front.specs.Post.{ReadsPost};
 
 use crate::fault::PostFault;
-use crate::post::read_into;
+use crate::post::read_by;
 use devices::Counted;
+use httparse::spans::EMPTY_HEADER_SPAN;
 use std::alloc::{AllocError, Global};
 use std::io::Read;
 use std::marker::Model;
 
 /// The most bytes that a head may have.
 const HEAD_LIMIT: usize = 16_384;
+
+/// The most header lines that a head may have.
+const FIELD_LIMIT: usize = 64;
 
 /// The most room for a body that is kept for the next one.
 const KEPT_BODY: usize = 65_536;
@@ -55,7 +58,7 @@ impl PostRoom {
         self.body.as_slice()
     }
 
-    /// The same, without the room for a head.
+    /// The body that was read last, without the room for a head.
     pub fn into_body(self) -> Vec<u8>
         ensures { result.items ≡ self }
     {
@@ -63,22 +66,27 @@ impl PostRoom {
         body
     }
 
-    /// Reads the one POST of a connection as `read_post` does, and keeps its body. What the room
-    /// has after a refusal isn't told.
+    /// Reads the one POST of a connection, and keeps its body. What the room has after a refusal
+    /// isn't told.
     pub fn read_post<R: Read>(&mut self, reader: &mut Counted<R>) -> Result<(), PostFault>
         requires { reader.old.failures < 2 ^ 64 - 1 }
-        ensures body { OnOk result (AnswersPost (R.remaining reader.old.inner) (Ok self.new)) }
-        ensures refused { IfErr result (λ e. AnswersPost (R.remaining reader.old.inner) (Err e)) }
-        ensures frugal { IfErr result
-            (IsFrugal (R.remaining reader.old.inner) (R.remaining reader.new.inner)) }
-        ensures count { CountsDevice reader.old.failures reader.new.failures result }
+        ensures { ReadsPost R.remaining reader.old reader.new result (λ _. self.new) }
     {
-        read_into(reader, &mut self.head, &mut self.body)
+        let Ok(()) = make_head_room(&mut self.head) else {
+            return Err(PostFault::Memory);
+        };
+        let mut headers = [EMPTY_HEADER_SPAN; FIELD_LIMIT];
+        read_by(
+            reader,
+            self.head.as_mut_slice(),
+            &mut headers,
+            &mut self.body,
+        )
     }
 }
 
-/// Makes the room for a head, if it isn't there.
-pub fn make_head_room(head: &mut Vec<u8>) -> Result<(), AllocError>
+// Makes the room for a head, if it isn't there.
+fn make_head_room(head: &mut Vec<u8>) -> Result<(), AllocError>
     ensures { OnOk result (length head.new.items ≡ 16384) }
 {
     if head.len() == HEAD_LIMIT {

@@ -4,7 +4,6 @@ ghost use Rattle.std.specs.Prelude.{◌≡◌, ◌<◌, length, slice_index_or, 
 ghost use Rattle.attrs.specs.Bucket.{hashed_bucket};
 ghost use Rattle.omaha_json.specs.Found as specs;
 
-use crate::request::Request;
 use attrs::{AppFacts, RequestFacts, hashed_bucket, named_or_hashed};
 use releases::Release;
 use ruleset::{App, Ruleset};
@@ -69,20 +68,6 @@ impl<'a> FoundApp<'a> {
 
 /// What a ruleset has for each app of a request, with the choice of its run.
 pub(crate) fn find_apps<'a>(
-    alloc: Global,
-    request: &Request,
-    rules: &'a Ruleset,
-    choices: &[Option<u8>],
-) -> Result<Vec<Option<FoundApp<'a>>>, AllocError>
-    requires { length choices.now ≡ length request.now.apps }
-    ensures found { IfOk result (λ found. found.items
-        ≡ specs.found_apps rules.now request.now.facts request.now.apps choices.now) }
-    ensures each { IfOk result (λ found. length found.items ≡ length request.now.apps) }
-{
-    find_each(alloc, request.facts(), request.apps(), rules, choices)
-}
-
-fn find_each<'a>(
     alloc: Global,
     facts: &RequestFacts,
     apps: &[AppFacts],

@@ -17,6 +17,6 @@ mod update;
 pub use fault::OmahaFault;
 pub use found::FoundApp;
 pub use reading::read_request;
-pub use reply::{found_text, found_text_in, reply_text};
+pub use reply::{found_text, reply_text};
 pub use request::Request;
 pub use update::release_at;

@@ -36,49 +36,20 @@ pub fn reply_text(
         text.items ≡ specs.reply_text request.now rules.now choices.now moment) }
     ensures memory { IfErr result (λ e. e ≡ OmahaFault.Memory) }
 {
-    match find_apps(alloc, request, rules, choices) {
-        Ok(found) => found_text(alloc, request, rules.server(), found.as_slice(), moment),
-        Err(_) => Err(OmahaFault::Memory),
-    }
-}
-
-/// The same, by what was found of each app: `None` where the ruleset doesn't know it. The name is
-/// the server's.
-pub fn found_text(
-    alloc: Global,
-    request: &Request,
-    server: &str,
-    found: &[Option<FoundApp<'_>>],
-    moment: Moment,
-) -> Result<Vec<u8>, OmahaFault>
-    requires { length found.now ≡ length request.now.apps }
-    ensures text { IfOk result (λ text.
-        text.items ≡ specs.found_text server.now request.now.apps found.now moment) }
-    ensures memory { IfErr result (λ e. e ≡ OmahaFault.Memory) }
-{
-    found_text_in(Vec::new(alloc), request, server, found, moment)
-}
-
-/// The same, in the room of an earlier text.
-pub fn found_text_in(
-    room: Vec<u8>,
-    request: &Request,
-    server: &str,
-    found: &[Option<FoundApp<'_>>],
-    moment: Moment,
-) -> Result<Vec<u8>, OmahaFault>
-    requires { length found.now ≡ length request.now.apps }
-    ensures text { IfOk result (λ text.
-        text.items ≡ specs.found_text server.now request.now.apps found.now moment) }
-    ensures memory { IfErr result (λ e. e ≡ OmahaFault.Memory) }
-{
-    match write_text(room, server, request.apps(), found, &moment) {
+    let apps = request.apps();
+    let Ok(found) = find_apps(alloc, request.facts(), apps, rules, choices) else {
+        return Err(OmahaFault::Memory);
+    };
+    let room = Vec::new(alloc);
+    match found_text(room, rules.server(), apps, found.as_slice(), &moment) {
         Ok(text) => Ok(text),
         Err(_) => Err(OmahaFault::Memory),
     }
 }
 
-fn write_text(
+/// The reply by what was found of each app, in the room of an earlier text. `None` stands for an
+/// app that the ruleset doesn't know; the name is the server's.
+pub fn found_text(
     mut text: Vec<u8>,
     server: &str,
     apps: &[AppFacts],

@@ -1,7 +1,4 @@
-use Rattle.std.proofs.Common.{◌≡◌, ◌∙◌, length, ap, rules}
-use Rattle.std.proofs.lemmas.Int.{to_z-of_z}
-use mir.Val.{SFits}
-use mir.Syntax.{w64}
+use Rattle.std.proofs.Common.{◌≡◌, ◌∙◌, length, ap, sym}
 use Rattle.std.specs.Arc.{arc_value}
 use Rattle.hot_swap.specs.Published.{IsLatest}
 use Rattle.answering.specs.Answer.{unowned}
@@ -23,19 +20,18 @@ returns-in_default-run_apps-clause-replies g c =
     (is_broken_off (g.C.CellSteps.grew) c.args.request.now _ _ _ _ c.in-Ok.current.0 rules' newest
     c.in_default-run_apps.ensures.finds)
 
-pub found_text_in-requires : goal.found_text_in-requires
-found_text_in-requires g c =
+pub found_text-requires : goal.found_text-requires
+found_text-requires g c =
     ap length c.as_slice-answers.ensures.value
-    ∙ finds_length _ _ _ c.in-Ok-run_apps.ensures.finds.of
+    ∙ finds_length _ _ _ c.in-Ok-run_apps.ensures.finds.of ∙ ap length (sym c.apps.ensures)
 
-pub returns-in-Ok-found_text_in-clause-replies : goal.returns-in-Ok-found_text_in-clause-replies
-returns-in-Ok-found_text_in-clause-replies g c =
+pub returns-in-Ok-found_text-clause-replies : goal.returns-in-Ok-found_text-clause-replies
+returns-in-Ok-found_text-clause-replies g c =
     let rules' = c.deref-rules.result.now in
     let same : rules' ≡ arc_value c.in-Ok.current.1 = cc in
     let newest : IsLatest c.current.new.self c.in-Ok.current.0 rules' =
     rw same c.in-Ok.ensures.newest in
-    let fits : SFits w64 c.args.turn.now.moment.now = search rules in
-    let text = simp to_z-of_z at c.in-Ok-found_text_in.ensures.text in
+    let text = rw c.apps.ensures at c.in-Ok-found_text.ensures in
     is_replied (g.C.CellSteps.grew) c.args.request.now _ c.args.turn.now.moment.now _ _
     c.in-Ok.current.0 rules' c.in-Ok-run_apps.found.items c.as_slice-answers.result.now
     c.server.result.now _ newest c.server.ensures c.as_slice-answers.ensures.value text

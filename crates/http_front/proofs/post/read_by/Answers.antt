@@ -1,33 +1,37 @@
-use Rattle.std.proofs.Common.{Ok, Err, ◌∙◌, sym, take, arith}
+use Rattle.std.proofs.Common.{◌≡◌, ◌∙◌, ℕ, Err, subst, sym, take, arith, rules}
 use Rattle.std.proofs.lemmas.List.{take_rest}
+use Rattle.http_front.specs.Post.{CountsDevice, post_answer}
 use Rattle.http_front.proofs.Reading.{stands, body_at, refused_at, frugal_at, frugal_behind}
+use Rattle.http_front.proofs.Reading.{counts_asked}
 use Rattle.http_front.proofs.post.read_by.Goals as goal
 
-pub returns-in-Err-asked-clause-refused : goal.returns-in-Err-asked-clause-refused
-returns-in-Err-asked-clause-refused g c =
-    let here = stands c.in-Ok.ensures.found (omega arith) (omega arith) in
-    refused_at here c.in-Err-asked.fault (sym c.asked.ensures.length ∙ c.in-Err-asked.is)
+pub returns-in_err-size : goal.returns-in_err-size
+returns-in_err-size g c =
+    let head = c.in_ok-found.ensures in
+    let here = stands head.found (omega arith) (omega arith) in
+    let fault = c.in_err-size.field-0.0 in
+    let is : c.from_residual-in_err-size.result ≡ Err fault = search rules in
+    rw is (record {
+      answers = refused_at _ _ _ _ _ fault here (sym c.asked.ensures.length ∙ c.in_err-size.was);
+      frugal = frugal_at head.found.filled (omega arith) fault;
+      count = counts_asked (Unit {0}) _ _ fault c.in_err-size.ensures.rule head.count;
+    })
 
-pub returns-in-Ok-read_body-clause-body : goal.returns-in-Ok-read_body-clause-body
-returns-in-Ok-read_body-clause-body g c =
-    let here = stands c.in-Ok.ensures.found (omega arith) (omega arith) in
-    let behind = take_rest (take c.in-Ok.found.filled c.read_head.new.buf) c.in-Ok.found.head.len in
-    body_at here c.in-Ok-asked.size _ (Ok c.read_body.new.body.items)
-    (sym c.asked.ensures.length ∙ c.in-Ok-asked.is) behind c.in-Ok-read_body.ensures.body
-
-pub returns-in-Err-read_body-clause-refused : goal.returns-in-Err-read_body-clause-refused
-returns-in-Err-read_body-clause-refused g c =
-    let here = stands c.in-Ok.ensures.found (omega arith) (omega arith) in
-    let behind = take_rest (take c.in-Ok.found.filled c.read_head.new.buf) c.in-Ok.found.head.len in
-    body_at here c.in-Ok-asked.size _ (Err c.in-Err-read_body.fault)
-    (sym c.asked.ensures.length ∙ c.in-Ok-asked.is) behind c.in-Err-read_body.ensures.refused
-
-pub returns-in-Err-asked-clause-frugal : goal.returns-in-Err-asked-clause-frugal
-returns-in-Err-asked-clause-frugal g c =
-    frugal_at c.in-Ok.ensures.found.filled (omega arith) c.in-Err-asked.fault
-
-pub returns-in-Err-read_body-clause-frugal : goal.returns-in-Err-read_body-clause-frugal
-returns-in-Err-read_body-clause-frugal g c =
-    let here = stands c.in-Ok.ensures.found (omega arith) (omega arith) in
-    frugal_behind here _ _ c.in-Ok-asked.size c.in-Err-read_body.fault
-    c.in-Err-read_body.ensures.refused
+pub returns : goal.returns
+returns g c =
+    let head = c.in_ok-found.ensures in
+    let found = c.in_ok-found.found in
+    let here = stands head.found (omega arith) (omega arith) in
+    let behind = take_rest (take found.filled c.read_head.new.buf) found.head.len in
+    let asked = sym c.asked.ensures.length ∙ c.in_ok-size.was in
+    let size = c.in_ok-size.size in
+    let result = c.read_body.result in
+    let new = c.read_body.new.body.items in
+    let body = c.read_body.ensures.body in
+    record {
+      answers = body_at _ _ _ _ _ size _ (post_answer result (λ _. new)) here asked behind body;
+      frugal = frugal_behind _ _ _ _ _ _ size _ result (λ _. new) here body;
+      count =
+          subst (λ (n : ℕ). CountsDevice n c.read_body.new.reader.failures result)
+          head.count c.read_body.ensures.count;
+    }

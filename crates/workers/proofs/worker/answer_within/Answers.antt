@@ -6,5 +6,6 @@ returns-in_default-clause-back g c = unread _ (g.C.CellSteps.grew) _ _ c.require
 
 pub returns-clause-back : goal.returns-clause-back
 returns-clause-back g c = let told = c.answer_in-outcome.ensures in
+    let answers = told.answers in
     by_answer _ (g.C.CellSteps.grew) _ _ _ _ _ _ told.belongs told.watched
-    c.answer_in-outcome.result _ _ _ _ _ _ told.replied told.begun told.unread
+    c.answer_in-outcome.result _ _ _ _ _ _ answers.replied answers.begun answers.unread

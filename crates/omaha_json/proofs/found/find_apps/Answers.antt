@@ -2,7 +2,7 @@ use Rattle.std.proofs.Common.{◌≡◌, ◌<◌, ◌+◌, ◌++◌, ◌∷◌, 
 use Rattle.std.proofs.Common.{length, length-append, arith, rules, ◌∙◌, ap}
 use Rattle.std.proofs.lemmas.Grind.{common_steps}
 use Rattle.omaha_json.proofs.Apps.{then_found}
-use Rattle.omaha_json.proofs.found.find_each.Goals as goal
+use Rattle.omaha_json.proofs.found.find_apps.Goals as goal
 
 pub loop-i-preserved : goal.loop-i-preserved
 loop-i-preserved c =

@@ -1,6 +1,6 @@
 use Rattle.std.proofs.Common.{◌≡◌, ◌++◌, drop, length}
 use Rattle.omaha_json.specs.Found.{found_apps}
-use Rattle.omaha_json.proofs.found.find_each.Given as goal
+use Rattle.omaha_json.proofs.found.find_apps.Given as goal
 
 -- what was found so far, and what the apps that are left come to
 abbrev pub invariant-loop-i : goal.invariant-loop-i

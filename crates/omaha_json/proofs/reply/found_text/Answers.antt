@@ -1,7 +1,7 @@
 use Rattle.std.proofs.Common.{◌≡◌, ◌++◌, ap, ◌∙◌}
 use Rattle.omaha_json.specs.Reply.{guard, reply_value, found_text}
 use Rattle.omaha_json.proofs.Texts.{text_is}
-use Rattle.omaha_json.proofs.reply.write_text.Goals as goal
+use Rattle.omaha_json.proofs.reply.found_text.Goals as goal
 
 pub returns : goal.returns
 unfolding found_text

@@ -1,0 +1,41 @@
+-- What a connection comes to: a reply was written, or its beginning, or nothing.
+use Rattle.std.specs.Prelude.{◌≡◌, ◌≢◌, ℕ, ◌+◌, ◌≤◌, ℤ, List, length, take, Option}
+use Rattle.std.specs.Prelude.{Result, Err, IfOk, IfErr}
+use Rattle.std.specs.Io.KnownBytes.{Appends}
+use Rattle.cells.specs.declared.event.CellEvent.{CellEvent}
+use Rattle.devices.specs.declared.counted.Counted.{Counted}
+use Rattle.hot_swap.specs.Published.{Beginning}
+use Rattle.http_front.specs.Post.{AnswersPost}
+use Rattle.http_front.specs.Reply.{code_of}
+use Rattle.http_front.specs.declared.fault.PostFault.TheVariants as fault
+use Rattle.answering.specs.Answer.{RepliesByRuns, WritesNothing}
+use Rattle.answering.specs.Reply.{HttpReply, message_bytes, told_line}
+use Rattle.answering.specs.declared.answering.AnswerFault.{AnswerFault}
+use Rattle.answering.specs.declared.answering.AnswerFault.TheVariants as answer
+use Rattle.answering.specs.declared.sent.Sent.{Sent}
+
+-- How a pass grows, what a reader has left, and what a writer holds. Then what the watcher knows,
+-- the moment, the pass, the reader and the writer, each before and after, and the outcome.
+pub record Answers {P R W : Type 0} (grew : P → CellEvent → P → Type 0)
+    (remaining : R → Option (List ℕ)) (contents : W → Option (List ℕ))
+    (known : Beginning) (moment : ℤ) (pass pass' : P) (reader reader' : Counted R)
+    (writer writer' : Counted W) (outcome : Result Sent AnswerFault) : Type 0 where
+  -- what was written is the reply to what was read, under the ruleset that the watcher gave
+  pub replied : IfOk outcome (λ sent. (reply : HttpReply)
+      × (code_of reply.status ≡ sent.status) × (sent.line.now ≡ told_line reply)
+      × RepliesByRuns grew (remaining reader.inner) known moment pass pass' reply
+      × Appends (contents writer.inner) (contents writer'.inner) (message_bytes reply))
+  -- a request that isn't one makes no run
+  pub idle : IfOk outcome (λ sent. sent.status ≢ 200 → sent.status ≢ 500 → pass' ≡ pass)
+  -- or a beginning of it was written, and the failure was counted
+  pub begun : (n : ℕ) → outcome ≡ Err (answer.Writing n)
+      → (reply : HttpReply) × (n ≤ length (message_bytes reply))
+      × RepliesByRuns grew (remaining reader.inner) known moment pass pass' reply
+      × Appends (contents writer.inner) (contents writer'.inner) (take n (message_bytes reply))
+  pub unwritable : (n : ℕ) → outcome ≡ Err (answer.Writing n)
+      → writer'.failures ≡ writer.failures + 1
+  -- or nothing was, and nothing else happened
+  pub unread : IfErr outcome (λ e. WritesNothing e → (pass' ≡ pass) × (writer' ≡ writer))
+  pub ended : outcome ≡ Err answer.Ended
+      → AnswersPost (remaining reader.inner) (Err fault.Ended)
+  pub unreadable : outcome ≡ Err answer.Reading → reader'.failures ≡ reader.failures + 1
