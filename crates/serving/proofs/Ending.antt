@@ -1,6 +1,6 @@
 -- What the threads of a server gave back: a pass that was new has made what it grew by.
-use Rattle.std.proofs.Common.{◌≡◌, ℕ, suc, ◌≤◌, List, [], ◌∷◌, ◌++◌, length, All, refl, sym, ap}
-use Rattle.std.proofs.Common.{subst, ◌∙◌, arith, length-append}
+use Rattle.std.proofs.Common.{◌≡◌, ℕ, ◌≤◌, List, [], ◌∷◌, ◌++◌, length, All, sym, ap, subst}
+use Rattle.std.proofs.Common.{◌∙◌, arith, length-append}
 use Rattle.std.specs.List.{AllZip}
 use Rattle.std.proofs.lemmas.List.Elements.{All-nil, All-cons, All-head, All-tail, All-weaker}
 use mathlib.Core.List.{IsPrefix}
@@ -30,13 +30,6 @@ zipped P R Q one (x ∷ xs) [] all back = absurd back
 zipped P R Q one (x ∷ xs) (y ∷ ys) all back =
     All-cons Q y ys (one x y (All-head P x xs all) back.0)
     (zipped P R Q one xs ys (All-tail P x xs all) back.1)
-
-pub as_many : {A B : Type 0} (R : A → B → Type 0) (xs : List A) (ys : List B) → AllZip R xs ys
-    → length ys ≡ length xs
-as_many R [] [] all = refl
-as_many R [] (y ∷ ys) all = absurd all
-as_many R (x ∷ xs) [] all = absurd all
-as_many R (x ∷ xs) (y ∷ ys) all = ap (λ (n : ℕ). suc n) (as_many R xs ys all.1)
 
 -- a pass that was new has made what it grew by
 pub all_made : PassesGainLists → (table : TableId) (old : PassView) (made : List CellEvent)

@@ -26,8 +26,7 @@ use std::net::{Net, TcpListener, TcpStream};
 use std::sync::{Arc, Wait};
 use std::thread::Threads;
 use std::time::Clock;
-use thread_laws::{threads_are_one_world, threads_grant_quotas};
-use workers::{OperatorSeat, Ports, Service, answers_are_runs, run};
+use workers::{Open, OperatorSeat, Ports, Service, answers_are_runs, run};
 
 /// A server that has its counters, its publisher and its workers. It is ended by `serve` or by
 /// `close`, and isn't let go otherwise.
@@ -160,7 +159,7 @@ impl StaffedServer {
             cells: &cells,
             pass,
         };
-        let back = match run(rt, ports, seat, &mut control, workers, service, out) {
+        let back = match run(rt, &Open, ports, seat, &mut control, workers, service, out) {
             Ok(back) => back,
             Err(fault) => {
                 control.close(rt);

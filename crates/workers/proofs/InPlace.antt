@@ -1,6 +1,7 @@
 -- Lists whose elements belong together place by place.
-use Rattle.std.proofs.Common.{◌≡◌, suc, List, [], ◌∷◌, ◌++◌, length, refl, sym, ap, subst, ◌∙◌}
-use Rattle.std.proofs.Common.{arith, append_assoc, append-nil}
+use Rattle.std.proofs.Common.{◌≡◌, List, [], ◌∷◌, ◌++◌, length, sym, ap, subst, ◌∙◌}
+use Rattle.std.proofs.Common.{append_assoc, append-nil}
+use Rattle.std.proofs.lemmas.List.{nil_from_length}
 use Rattle.std.specs.List.{AllZip}
 
 module _ {A B : Type 0} (R : A → B → Type 0) where
@@ -10,12 +11,6 @@ module _ {A B : Type 0} (R : A → B → Type 0) where
   zip_push [] (b ∷ ys) x y all one = absurd all
   zip_push (a ∷ xs) [] x y all one = absurd all
   zip_push (a ∷ xs) (b ∷ ys) x y all one = (all.0, zip_push xs ys x y all.1 one)
-
-  pub as_many : (xs : List A) (ys : List B) → AllZip R xs ys → length ys ≡ length xs
-  as_many [] [] all = refl
-  as_many [] (y ∷ ys) all = absurd all
-  as_many (x ∷ xs) [] all = absurd all
-  as_many (x ∷ xs) (y ∷ ys) all = ap suc (as_many xs ys all.1)
 
   -- of all of these some were taken, and each of them has one in its place
   pub record HasOneEach (all taken rest : List A) (made : List B) : Type 0 where
@@ -32,16 +27,12 @@ module _ {A B : Type 0} (R : A → B → Type 0) where
         (zip_push taken made x y so_far.each one);
   }
 
-  nothing_left : (xs : List A) → length xs ≡ 0 → xs ≡ []
-  nothing_left [] none = refl
-  nothing_left (x ∷ xs) none = absurd (omega (arith, none))
-
   -- and when all were taken, each has
   pub all_have : (all taken rest : List A) (made : List B)
       → HasOneEach all taken rest made → length rest ≡ 0 → AllZip R all made
   all_have all taken rest made so_far none =
       subst (λ (xs : List A). AllZip R xs made) (sym (so_far.split
-      ∙ ap (λ (xs : List A). taken ++ xs) (nothing_left rest none) ∙ append-nil taken))
+      ∙ ap (λ (xs : List A). taken ++ xs) (nil_from_length rest none) ∙ append-nil taken))
       so_far.each
 
 pub zip_through : {A B C : Type 0} (R : A → B → Type 0) (S : B → C → Type 0) (T : A → C → Type 0)

@@ -86,12 +86,13 @@ module _ {F : Type 0} (loads : Loading F) where
     has_led told old new replied p q did =
         performs_leads did.of.asked old new did.events replied did.of.performs
 
+-- ---- nothing, and one after the other
+
+pub looked_at_nothing : {P : Type 0} (grew : P → CellEvent → P → Type 0) (p : P)
+    → Grows grew p p AreLoads
+looked_at_nothing grew p = record { events = []; grown = refl; of = All-nil IsLoad }
+
 module _ {P : Type 0} (belongs : P → Type 0) (grew : P → CellEvent → P → Type 0) where
-  pub looked_at_nothing : (p q : P) → q ≡ p → Grows grew p q AreLoads
-  looked_at_nothing p q same = record { events = []; grown = same; of = All-nil IsLoad }
-
-  -- ---- one after the other
-
   pub back_later : GrowsByAppend grew → (p m q : P) → OperatorBack belongs grew p m
       → OperatorBack belongs grew m q → OperatorBack belongs grew p q
   back_later append p m q first last = record {

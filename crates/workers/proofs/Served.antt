@@ -2,7 +2,8 @@
 -- give it back.
 use Rattle.std.proofs.Common.{◌≡◌, ℕ, List, [], ◌∷◌, ◌++◌, refl, sym, subst, append-nil, arith}
 use Rattle.std.specs.List.{AllZip}
-use Rattle.std.specs.Prelude.{ℤ, Option, None, Result, Ok, Err, IfOk, IfErr}
+use Rattle.std.specs.Prelude.{ℤ, Option, None, Result, Ok, Err, IfOk, IfErr, Vec}
+use Rattle.std.specs.declared.alloc.Global.{Global}
 use Rattle.std.specs.declared.thread.PromisedHandle.{PromisedHandle}
 use Rattle.std.proofs.lemmas.Grind.{flat_map-append}
 use Rattle.answering.specs.Answer.{RepliesByRuns, RepliesTo, WritesNothing, taken, rejected}
@@ -17,8 +18,9 @@ use Rattle.workers.proofs.Onwards.{goes_nowhere}
 use Rattle.workers.proofs.Turns.{turns_join}
 use Rattle.workers.specs.Answers.{WorkerAnswer, made_in_turn}
 use Rattle.workers.specs.Back.{WorkerBack, ConnectionBack, WorkersBack}
-use Rattle.workers.specs.Promised.{IsPromiseOf}
+use Rattle.workers.specs.Promised.{IsPromiseOf, ArePromised}
 use Rattle.workers.specs.declared.promise.OfWorker.{OfWorker}
+use Rattle.workers.specs.declared.promise.OfWorkers.{OfWorkers}
 
 -- ---- one connection
 
@@ -117,16 +119,21 @@ back_on belongs grew join first later same a b c so_far last =
 abbrev WorkerThread : (X P : Type 0) → Type 0
 WorkerThread X P = PromisedHandle (P × Beginning) (OfWorker X P)
 
+-- what is kept of a promise's cells, and of what its thread was given, is so of those that they are
+kept_of : {X W : Type 0} (Kept : X → W → Type 0) (cells x : X) (given w : W) → x ≡ cells
+    → w ≡ given → Kept x w → Kept cells given
+kept_of Kept cells x given w over is kept =
+    subst (λ it. Kept cells it) is (subst (λ it. Kept it w) over kept)
+
 module _ {X P : Type 0} (belongs : X → P → Type 0) (grew : P → CellEvent → P → Type 0)
     (cells : X) where
   is_back : (worker : P × Beginning) (promise : OfWorker X P) (back : P × Beginning)
       → IsPromiseOf cells worker promise
       → WorkerBack (belongs promise.cells.value) grew promise.given.value back
       → WorkerBack (belongs cells) grew worker back
-  is_back worker promise back is kept =
-      subst (λ (x : X). WorkerBack (belongs x) grew worker back) is.cells_are
-      (subst (λ (w : P × Beginning). WorkerBack (belongs promise.cells.value) grew w back)
-      is.worker_is kept)
+  is_back worker promise back is =
+      kept_of (λ (x : X) (w : P × Beginning). WorkerBack (belongs x) grew w back)
+      cells promise.cells.value worker promise.given.value is.cells_are is.worker_is
 
   pub all_back : (workers : List (P × Beginning)) (threads : List (WorkerThread X P))
       (back : List (P × Beginning))
@@ -143,3 +150,13 @@ module _ {X P : Type 0} (belongs : X → P → Type 0) (grew : P → CellEvent �
       WorkerBack (belongs thread.promise.cells.value) grew thread.promise.given.value new)
       (WorkerBack (belongs cells) grew)
       (λ worker thread new is kept. is_back worker thread.promise new is kept)
+
+  -- all that one thread was given
+  pub are_back : (workers : Vec (P × Beginning) Global) (promise : OfWorkers X P)
+      (back : List (P × Beginning)) → ArePromised cells workers promise
+      → WorkersBack (belongs promise.cells.value) grew promise.given.value.items back
+      → WorkersBack (belongs cells) grew workers.items back
+  are_back workers promise back are =
+      kept_of (λ (x : X) (ws : Vec (P × Beginning) Global).
+      WorkersBack (belongs x) grew ws.items back)
+      cells promise.cells.value workers promise.given.value are.cells_are are.workers_are

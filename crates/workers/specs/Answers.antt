@@ -6,9 +6,9 @@ use Rattle.cells.specs.declared.event.CellEvent.{CellEvent}
 use Rattle.hot_swap.specs.Published.{Beginning, GoesOnwards}
 
 -- An answer: what the worker's watcher knew then, the moment, what its runs did to the counters,
--- and the reply that was found, sent whole or not. It is one to some request, under the last ruleset
--- that the watcher knew, or a refusal: which bytes came nothing tells, nor which moment it was. A
--- connection that couldn't be read has none.
+-- and the reply that was found, sent whole or not. It is one to some request, under the last
+-- ruleset that the watcher knew, or a refusal: which bytes came nothing tells, nor which moment it
+-- was. A connection that couldn't be read has none.
 pub record WorkerAnswer : Type 0 where
   pub known : Beginning
   pub moment : ℤ

@@ -1,5 +1,5 @@
-//! The clients' side of a server: a thread that accepts connections, and the workers that answer
-//! them.
+//! The clients' side of a server: its queue, the workers that answer what stands there, and the
+//! caller's thread, which accepts connections for them. The program runs it in a thread (`beside`).
 
 ghost use Rattle.std.specs.Prelude.{◌≤◌, All, IfOk, length};
 ghost use Rattle.workers.specs.Back.{WorkersBack};
@@ -11,6 +11,7 @@ use crate::gate::Gate;
 use crate::queue::{WAITING, fill};
 use crate::worker::Service;
 use cells::CellSteps;
+use crossbeam_channel::Sender;
 use hot_swap::Watcher;
 use std::net::TcpListener;
 use std::sync::Wait;
@@ -40,14 +41,15 @@ where
     requires some { 1 ≤ length workers.items }
     requires few { length workers.items ≤ 64 }
 {
-    match serve_returning(rt, gate, listener, cells, workers, stop, service) {
+    match serve_returning(rt, gate, listener, cells, workers, stop, service, None) {
         Ok(_) => Ok(()),
         Err(fault) => Err(fault),
     }
 }
 
 /// The same, and gives the workers back, in their order. The room for them is taken before the
-/// first thread is started.
+/// first thread is started. Once all threads are there, and before the first connection is
+/// accepted, `started` gets a message; where one is refused it gets none.
 pub fn serve_returning<H, G, C>(
     rt: &H,
     gate: &G,
@@ -56,6 +58,7 @@ pub fn serve_returning<H, G, C>(
     workers: Vec<(C::Pass, Watcher)>,
     stop: &AtomicBool,
     service: Service<'_>,
+    started: Option<Sender<()>>,
 ) -> Result<Vec<(C::Pass, Watcher)>, ServeFault>
 where
     H: Threads + Wait + AllocGlobal + Clock + Sync,
@@ -85,9 +88,17 @@ where
             let Ok(threads) = start_workers(rt, gate, scope, from, cells, workers, service) else {
                 return Err(ServeFault::Memory);
             };
+            tell_started(rt, started);
             fill(rt, listener, &queue, stop, service.log);
             drop(queue);
             Ok(joined(rt, threads, room))
         },
     )
+}
+
+// Tells whoever waits for it that all threads are there.
+fn tell_started<H: Wait>(rt: &H, started: Option<Sender<()>>) {
+    if let Some(started) = started {
+        let _heard = started.send(rt, ());
+    }
 }

@@ -8,7 +8,7 @@ pub trait Gate {
     fn after(&self, call: u64);
 }
 
-/// A gate that does nothing.
+/// A gate that does nothing: the program's.
 #[derive(Clone, Copy, Debug, PartialEq, Eq)]
 pub struct Open;
 

@@ -1,9 +1,10 @@
 //! The threads of a server: those of its workers, and its operator's.
 //!
 //! One thread accepts the clients' connections and puts them into a queue, from which the workers
-//! take them, each in a thread of its own. Another serves the operator's port, whose connections
-//! come one after another. The operator's `stop` ends both: the clients' port is told by a flag and
-//! woken by one more connection, and the operator's stays open until all are answered.
+//! take them, each in a thread of its own: that is `serve`. In `run` another serves the operator's
+//! port beside it, whose connections come one after another. The operator's `stop` ends both: the
+//! clients' port is told by a flag and woken by one more connection, and the operator's stays open
+//! until all are answered.
 //!
 //! What they do is told to the log (`server_log`).
 //!
@@ -17,6 +18,7 @@
 #![tactic(auto)]
 
 mod accept;
+mod beside;
 mod clients;
 mod clock;
 mod crew;

@@ -3,30 +3,30 @@
 
 ghost use Rattle.std.specs.Prelude.{◌≡◌};
 
-use crate::clock::pause;
-use std::io::{self, ErrorKind};
-use std::net::{Ipv4Addr, Net, SocketAddr, TcpListener, TcpStream};
-use std::sync::Wait;
-use std::time::{Clock, Duration};
+use std::io;
+use std::net::{Ipv4Addr, Net, Shutdown, SocketAddr, TcpListener, TcpStream};
+use std::os::fd::OwnedFd;
+use std::sync::atomic::{AtomicBool, Ordering};
+use std::time::Duration;
 
-/// How long a port may take a connection.
+/// How long the end of a port waits for its own connection.
 const WAKE_SECONDS: u64 = 1;
 
 /// The two ports, which listen, and their addresses.
 #[derive(Drop)]
 pub struct Ports {
     pub(crate) service: TcpListener,
+    pub(crate) service_end: PortEnd,
     pub(crate) operator: TcpListener,
-    pub(crate) service_address: SocketAddr,
     pub(crate) operator_address: SocketAddr,
 }
 
 impl Ports {
     /// Where clients post their requests.
     pub fn service(&self) -> SocketAddr
-        ensures { result ≡ self.now.service_address }
+        ensures { result ≡ self.now.service_end.address }
     {
-        self.service_address
+        self.service_end.address
     }
 
     /// Where the operator asks.
@@ -42,6 +42,17 @@ impl Ports {
     pub fn operator_handle(&self) -> io::Result<TcpListener> {
         self.operator.try_clone()
     }
+
+    /// The clients' port, what it is ended by, and the operator's port.
+    pub(crate) fn parts(self) -> (TcpListener, PortEnd, TcpListener) {
+        let Ports {
+            service,
+            service_end,
+            operator,
+            operator_address: _address,
+        } = self;
+        (service, service_end, operator)
+    }
 }
 
 /// Binds both ports, of which 0 is any that is free.
@@ -49,12 +60,13 @@ pub fn bind<H>(rt: &H, service: u16, operator: u16) -> io::Result<Ports>
 where
     H: Net<Listener = TcpListener, Stream = TcpStream>,
 {
-    let (service, service_address) = bind_one(rt, service)?;
+    let (service, address) = bind_one(rt, service)?;
     let (operator, operator_address) = bind_one(rt, operator)?;
+    let handle = service.try_clone()?;
     Ok(Ports {
         service,
+        service_end: PortEnd { handle, address },
         operator,
-        service_address,
         operator_address,
     })
 }
@@ -68,24 +80,34 @@ where
     Ok((listener, address))
 }
 
-// Whether nobody waits at the port, or others wake who does.
-fn is_woken(kind: ErrorKind) -> bool {
-    matches!(kind, ErrorKind::ConnectionRefused | ErrorKind::TimedOut)
+/// What the thread that accepts connections at a port is ended by: the port's address, and one more
+/// handle of it, so that no descriptor is wanted then.
+#[derive(Drop)]
+pub(crate) struct PortEnd {
+    handle: TcpListener,
+    pub(crate) address: SocketAddr,
 }
 
-/// Connects to a port, whose thread then sees the flag that was set. One that refuses is closed,
-/// and nobody waits there any more; at one that has no room for a second others wait, who wake the
-/// thread. Anything else, as that file descriptors have run out, may pass, and the thread that is
-/// to be woken can't end before: so it is tried until one of the three comes.
-pub(crate) fn wake<H>(rt: &H, address: SocketAddr)
-where
-    H: Wait + Clock + Net<Stream = TcpStream>,
-{
-    for _ in 0..u64::MAX {
+impl PortEnd {
+    /// Sets the flag that the thread looks at behind each connection, and makes one more, which it
+    /// sees. Where that fails, or there is no room for it within a second, the port is shut: then
+    /// it can't accept any more, and looks at the flag as well. The handle is let go.
+    pub(crate) fn end<H>(self, rt: &H, stop: &AtomicBool)
+    where
+        H: Net<Stream = TcpStream>,
+    {
+        let PortEnd { handle, address } = self;
+        stop.store(true, Ordering::SeqCst);
         match TcpStream::connect_timeout(rt, &address, Duration::from_secs(WAKE_SECONDS)) {
-            Ok(_) => return,
-            Err(error) if is_woken(error.kind()) => return,
-            Err(_) => pause(rt),
+            Ok(_) => drop(handle),
+            Err(_) => shut(handle),
         }
     }
+}
+
+// Shuts a port for all its handles. The system closes it as it does a stream of which no more is to
+// be read, and gives an error to whoever accepts there.
+fn shut(port: TcpListener) {
+    let socket = TcpStream::from(OwnedFd::from(port));
+    let _shut = socket.shutdown(Shutdown::Read);
 }

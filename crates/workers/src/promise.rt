@@ -1,5 +1,7 @@
-//! What a worker's thread promises: to give back the worker that it was given, with what it did.
+//! What a server's threads promise: to give back the workers that they were given, with what these
+//! did.
 
+use crate::fault::ServeFault;
 use cells::CellSteps;
 use hot_swap::Watcher;
 use std::snapshot::Snapshot;
@@ -16,4 +18,20 @@ impl<C: CellSteps> Promise<(C::Pass, Watcher)> for OfWorker<C> {
     ghost use Rattle.workers.specs.Back.{WorkerBack};
 
     ghost kept_by = { λ p back. WorkerBack (C.belongs p.cells.value) C.grew p.given.value back };
+}
+
+/// The promise of the thread that serves clients with these workers over these cells: where nothing
+/// is refused to it all come back.
+#[derive(Drop)]
+pub(crate) struct OfWorkers<C: CellSteps> {
+    pub(crate) cells: Snapshot<C>,
+    pub(crate) given: Snapshot<Vec<(C::Pass, Watcher)>>,
+}
+
+impl<C: CellSteps> Promise<Result<Vec<(C::Pass, Watcher)>, ServeFault>> for OfWorkers<C> {
+    ghost use Rattle.std.specs.Prelude.{IfOk};
+    ghost use Rattle.workers.specs.Back.{WorkersBack};
+
+    ghost kept_by = { λ p result. IfOk result (λ back.
+        WorkersBack (C.belongs p.cells.value) C.grew p.given.value.items back.items) };
 }

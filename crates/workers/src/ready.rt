@@ -11,7 +11,7 @@ use std::io::{self, Write};
 
 /// What says that a server serves the ruleset of a generation.
 pub(crate) trait Ready {
-    type Said;
+    type Said: Drop;
 
     ghost says: { Self → ℕ → Self.Said → Type 0 };
 

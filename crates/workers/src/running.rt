@@ -1,9 +1,9 @@
-//! A server from its start to its end: its workers, the thread that accepts connections for them,
-//! and the operator's port, which is answered beside them. All threads are there before the server
-//! says that it serves. Once the operator has asked to stop, a flag is set, and a connection wakes
-//! the thread that accepts: it closes the clients' port and the queue, and the workers end. The
-//! operator's port stays open until they have (`stopping`). The threads give back what they were
-//! given (`promise`), so all is given back at the end.
+//! A server from its start to its end. Its clients' side is `serve_returning`, in a thread of its
+//! own (`beside`); the operator's port is answered in this one. All threads are there before the
+//! server says that it serves. Once the operator has asked to stop, the clients' port is ended
+//! (`ports`), then their queue, and the workers end. The operator's port stays open until they have
+//! (`stopping`). The threads give back what they were given (`promise`), so all is given back at
+//! the end.
 
 ghost use Rattle.std.specs.Io.KnownBytes.{Appends};
 ghost use Rattle.std.specs.Prelude.{◌≡◌, ◌≤◌, All, IfOk, OnOk, length};
@@ -12,67 +12,33 @@ ghost use Rattle.operator.specs.Leading.{LoadsLead};
 ghost use Rattle.workers.specs.Back.{IsPublished, OperatorBack, ServerBack};
 ghost use Rattle.workers.specs.Texts.{serving_line};
 
-use crate::accept::Call;
-use crate::crew::{joined, start_workers};
-use crate::fault::ServeFault;
-use crate::gate::Open;
+use crate::beside::{Ends, start_serving};
+use crate::gate::Gate;
 use crate::operating::{OperatorSeat, operate};
-use crate::ports::{Ports, wake};
-use crate::queue::{WAITING, fill};
+use crate::ports::{PortEnd, Ports};
 use crate::ready::{Ready, ReadyLine, take_back};
 use crate::returned::Returned;
-use crate::stopping::start_telling;
+use crate::stopping::tell_stopping;
 use crate::worker::Service;
 use bounded_files::ResourceFault;
 use cells::CellSteps;
-use crossbeam_channel::Sender;
 use hot_swap::Watcher;
 use operator::{Control, Loader};
-use server_log::LogQueue;
 use std::io::Write;
-use std::net::{Net, SocketAddr, TcpListener, TcpStream};
+use std::net::{Net, TcpListener, TcpStream};
 use std::sync::Wait;
-use std::sync::atomic::{AtomicBool, Ordering};
-use std::thread::{self, Scope, Threads};
+use std::thread::{self, Threads};
 use std::time::Clock;
 
-// Starts the thread that puts connections into the queue, until the flag is set; it closes the port
-// and the queue.
-fn start_accepting<'s, E, H>(
-    rt: &'s H,
-    scope: &Scope<'s, E>,
-    listener: TcpListener,
-    queue: Sender<Call>,
-    stop: &'s AtomicBool,
-    log: Option<&'s LogQueue>,
-) -> Result<(), ServeFault>
-where
-    H: Wait + AllocGlobal + Clock + Sync,
-{
-    match scope.spawn(move || fill(rt, listener, &queue, stop, log)) {
-        Ok(_) => Ok(()),
-        Err(_) => Err(ServeFault::Memory),
-    }
-}
-
-// Ends the thread that accepts connections at this address until the flag is set.
-fn end_port<H>(rt: &H, stop: &AtomicBool, address: SocketAddr)
-where
-    H: Wait + Clock + Net<Stream = TcpStream>,
-{
-    stop.store(true, Ordering::SeqCst);
-    wake(rt, address);
-}
-
-// Answers the operator until one has asked to stop, ends the clients' side, which listens at this
-// address, and gives the operator's pass back.
+// Answers the operator until one has asked to stop, has the clients' side end, tells who connects
+// meanwhile that the server stops, and gives the operator's pass back.
 fn operate_beside<H, L, C>(
     rt: &H,
     listener: &TcpListener,
     mut seat: OperatorSeat<'_, L, C>,
     control: &mut Control,
-    stop: &AtomicBool,
-    clients: SocketAddr,
+    clients: PortEnd,
+    ends: &Ends,
     service: Service<'_>,
 ) -> C::Pass
 where
@@ -85,8 +51,9 @@ where
     ensures back { OperatorBack (C.belongs seat.entry.cells.now) C.grew seat.entry.pass result }
     ensures led { LoadsLead (L.loads seat.entry.loader.now) control.old control.new }
 {
-    operate(rt, listener, &mut seat, control, stop, service);
-    end_port(rt, stop, clients);
+    operate(rt, listener, &mut seat, control, &ends.operator, service);
+    clients.end(rt, &ends.clients);
+    tell_stopping(rt, listener, &ends.operator);
     let OperatorSeat {
         loader: _loader,
         cells: _cells,
@@ -113,8 +80,9 @@ fn returned<P: Drop>(operator: P, workers: Vec<(P, Watcher)>, control: &Control)
 }
 
 // Serves as `run` does, and gives what `ready` gives back.
-fn run_saying<H, L, C, S>(
+fn run_saying<H, G, L, C, S>(
     rt: &H,
+    gate: &G,
     ports: Ports,
     seat: OperatorSeat<'_, L, C>,
     control: &mut Control,
@@ -125,6 +93,7 @@ fn run_saying<H, L, C, S>(
 where
     H: Threads + Wait + AllocGlobal + Clock + Sync,
     H: Net<Listener = TcpListener, Stream = TcpStream>,
+    G: Gate + Sync,
     L: Loader,
     C: CellSteps + Sync,
     C::Pass: Send + Drop,
@@ -138,45 +107,33 @@ where
     ensures said { IfOk result
         (λ r. S.says ready control.old.publishing.latest.generation r.1) }
 {
-    let Ok((queue, from)) = crossbeam_channel::bounded::<Call, _>(rt.alloc(), WAITING) else {
-        return Err(ResourceFault::Memory);
-    };
-    let stop = AtomicBool::new(false);
-    let ended = AtomicBool::new(false);
-    let gate = Open;
+    let ends = Ends::new();
     let OperatorSeat {
         loader,
         cells,
         pass,
     } = seat;
-    let Ports {
-        service: listener,
-        operator,
-        service_address: clients,
-        operator_address,
-    } = ports;
+    let (listener, clients, operator) = ports.parts();
     thread::scope(
         thread::scope_env(),
         rt,
         |scope| -> Result<(Returned<C::Pass>, S::Said), ResourceFault>
             requires pass { C.belongs cells.now pass }
             requires workers { All (λ worker. C.belongs cells.now worker.0) workers.items }
+            requires some { 1 ≤ length workers.items }
+            requires few { length workers.items ≤ 64 }
             ensures back { IfOk result (λ r. ServerBack (C.belongs cells.entry.now) C.grew
                 (L.loads loader.entry.now) pass workers.items control.entry.now r.0) }
             ensures said { IfOk result
                 (λ r. S.says ready control.entry.now.publishing.latest.generation r.1) }
         {
-            let Ok(room) = Vec::with_capacity(rt.alloc(), workers.len()) else {
-                return Err(ResourceFault::Memory);
-            };
-            let Ok(threads) = start_workers(rt, &gate, scope, from, cells, workers, service) else {
-                return Err(ResourceFault::Memory);
-            };
-            let Ok(()) = start_accepting(rt, scope, listener, queue, &stop, service.log) else {
+            let Ok(serving) = start_serving(
+                rt, gate, scope, listener, cells, workers, &ends, service,
+            ) else {
                 return Err(ResourceFault::Memory);
             };
             let Ok(said) = ready.say(control.generation()) else {
-                end_port(rt, &stop, clients);
+                clients.end(rt, &ends.clients);
                 return Err(ResourceFault::File);
             };
             let seat = OperatorSeat {
@@ -184,24 +141,24 @@ where
                 cells,
                 pass,
             };
-            let pass = operate_beside(rt, &operator, seat, control, &stop, clients, service);
-            let is_told = start_telling(rt, scope, &operator, &ended);
-            let back = returned(pass, joined(rt, threads, room), control);
-            if is_told {
-                end_port(rt, &ended, operator_address);
-            }
+            let pass = operate_beside(rt, &operator, seat, control, clients, &ends, service);
+            let Ok(workers) = serving.join(rt) else {
+                return Err(ResourceFault::Memory);
+            };
+            let back = returned(pass, workers, control);
             Ok((back, said))
         },
     )
 }
 
-/// Serves clients with these workers, of which there are 1 to 64, and the operator's port beside
-/// them, until the operator has asked to stop. The operator is answered in this thread. Once all
-/// threads are there, `out` is told which generation is served. Where nothing was refused all
-/// passes and watchers are given back. B4, of memory or of a thread, comes before any client is
-/// answered and before anything is written, and B3 where `out` can't be written.
-pub fn run<H, L, C, O>(
+/// Serves clients with these workers, of which there are 1 to 64, as `serve` does, and the
+/// operator's port beside them, until the operator has asked to stop. The operator is answered in
+/// this thread. Once all threads are there, `out` is told which generation is served. Where nothing
+/// was refused all passes and watchers are given back. B4, of memory or of a thread, comes before
+/// any client is answered and before anything is written, and B3 where `out` can't be written.
+pub fn run<H, G, L, C, O>(
     rt: &H,
+    gate: &G,
     ports: Ports,
     seat: OperatorSeat<'_, L, C>,
     control: &mut Control,
@@ -212,6 +169,7 @@ pub fn run<H, L, C, O>(
 where
     H: Threads + Wait + AllocGlobal + Clock + Sync,
     H: Net<Listener = TcpListener, Stream = TcpStream>,
+    G: Gate + Sync,
     L: Loader,
     C: CellSteps + Sync,
     C::Pass: Send + Drop,
@@ -226,7 +184,7 @@ where
         (serving_line control.old.publishing.latest.generation)) }
 {
     let ready = ReadyLine { out };
-    match run_saying(rt, ports, seat, control, workers, service, ready) {
+    match run_saying(rt, gate, ports, seat, control, workers, service, ready) {
         Ok((back, out)) => {
             take_back(out);
             Ok(back)

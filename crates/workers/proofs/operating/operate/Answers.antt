@@ -1,8 +1,6 @@
-use Rattle.std.proofs.Common.{Bor, [], refl, ap, ◌∙◌}
-use Rattle.std.proofs.lemmas.List.Elements.{All-nil}
-use Rattle.operator.specs.Counters.{IsLoad}
+use Rattle.std.proofs.Common.{Bor, refl, ap, ◌∙◌}
 use Rattle.operator.specs.Leading.{stays}
-use Rattle.workers.proofs.Looked.{back_on, led_on}
+use Rattle.workers.proofs.Looked.{back_on, led_on, looked_at_nothing}
 use Rattle.workers.proofs.operating.operate.Goals as goal
 
 pub loop-init : goal.loop-init
@@ -11,7 +9,7 @@ loop-init g c = record {
   cells = refl;
   back = record {
     belongs_yet = c.requires;
-    looked = record { events = []; grown = refl; of = All-nil IsLoad };
+    looked = looked_at_nothing (g.C.CellSteps.grew) _;
   };
   led = stays;
 }

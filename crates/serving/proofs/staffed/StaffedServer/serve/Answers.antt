@@ -1,6 +1,7 @@
 use Rattle.std.proofs.Common.{◌≡◌, ℕ, ◌+◌, length, sym, ap, ◌∙◌, arith}
+use Rattle.std.proofs.lemmas.Slice.Zip.{AllZip-long}
 use Rattle.hot_swap.specs.Published.{Beginning}
-use Rattle.serving.proofs.Ending.{are_of_server, as_many, has_looked, new_belong}
+use Rattle.serving.proofs.Ending.{are_of_server, has_looked, new_belong}
 use Rattle.serving.proofs.Leaving.{leaves}
 use Rattle.serving.proofs.Turns.{did_in_turn}
 use Rattle.serving.proofs.staffed.StaffedServer.serve.Goals as goal
@@ -11,7 +12,7 @@ run-requires-clause-workers g c κs within =
 
 pub close_cells-closed-requires-clause-all : goal.close_cells-closed-requires-clause-all
 close_cells-closed-requires-clause-all g c =
-    let many = as_many _ c.args.self.workers.items c.in-Ok.back.workers.items
+    let many = AllZip-long _ c.args.self.workers.items c.in-Ok.back.workers.items
     c.in-Ok.ensures.back.workers in
     c.args.self.staff.all ∙ ap (λ (n : ℕ). n + 1) (sym many)
 
@@ -35,7 +36,7 @@ close_cells-closed-requires-clause-generation g c =
 pub close_cells-closed-requires-clause-enough : goal.close_cells-closed-requires-clause-enough
 close_cells-closed-requires-clause-enough g c =
     let many : length c.in-Ok.back.workers.items ≡ length c.args.self.workers.items =
-    as_many _ c.args.self.workers.items c.in-Ok.back.workers.items
+    AllZip-long _ c.args.self.workers.items c.in-Ok.back.workers.items
     c.in-Ok.ensures.back.workers in
     let enough = c.args.self.enough in
     omega (arith, many, enough)

@@ -1,12 +1,12 @@
 use Rattle.std.proofs.Common.{◌≡◌, length, arith}
-use Rattle.workers.proofs.InPlace.{as_many}
+use Rattle.std.proofs.lemmas.Slice.Zip.{AllZip-long}
 use Rattle.workers.proofs.Served.{all_back}
 use Rattle.workers.proofs.clients.fn.serve_returning.scope.Goals as goal
 
 pub joined-requires : goal.joined-requires
 joined-requires g c =
     let many : length c.in-Ok-start_workers.threads.items ≡ length c.captures.workers.items =
-    as_many _ c.captures.workers.items c.in-Ok-start_workers.threads.items
+    AllZip-long _ c.captures.workers.items c.in-Ok-start_workers.threads.items
     c.in-Ok-start_workers.ensures in
     let workers = c.captures.workers.ok.0 in
     let threads = c.in-Ok-start_workers.threads.ok.0 in

@@ -1,24 +1,10 @@
-use Rattle.std.proofs.Common.{◌≡◌, ℕ, length, sym, ap, subst, arith}
+use Rattle.std.proofs.Common.{ℕ, sym, ap, subst}
 use Rattle.std.specs.Prelude.{Vec}
 use Rattle.std.specs.declared.alloc.Global.{Global}
 use Rattle.hot_swap.specs.Published.{Beginning}
 use Rattle.workers.specs.Back.{OperatorBack, WorkersBack}
-use Rattle.workers.proofs.InPlace.{as_many}
-use Rattle.workers.proofs.Served.{all_back}
+use Rattle.workers.proofs.Served.{are_back}
 use Rattle.workers.proofs.running.fn.run_saying.scope.Goals as goal
-
-pub joined-requires : goal.joined-requires
-joined-requires g c =
-    let many : length c.in-Ok-start_workers.threads.items ≡ length c.captures.workers.items =
-    as_many _ c.captures.workers.items c.in-Ok-start_workers.threads.items
-    c.in-Ok-start_workers.ensures in
-    let workers = c.captures.workers.ok.0 in
-    let threads = c.in-Ok-start_workers.threads.ok.0 in
-    let room = c.in-Ok.ensures.capacity in
-    record {
-      empty = c.in-Ok.ensures.items;
-      enough = omega (arith, many, workers, threads, room);
-    }
 
 pub returns : goal.returns
 returns g c =
@@ -33,8 +19,8 @@ returns g c =
             (sym c.returned-back.ensures.operator) c.operate_beside-pass.ensures.back;
         workers = subst (WorkersBack (belongs cells) grew old)
             (sym (ap (λ (v : Vec (P × Beginning) Global). v.items) c.returned-back.ensures.workers))
-            (all_back belongs grew cells old c.in-Ok-start_workers.threads.items
-            c.joined.result.items c.in-Ok-start_workers.ensures c.joined.ensures);
+            (are_back belongs grew cells c.captures.workers c.in-Ok.serving.promise
+            c.in-Ok-join.workers.items c.in-Ok.ensures c.in-Ok-join.ensures);
         end = c.operate_beside-pass.new.control;
         led = c.operate_beside-pass.ensures.led;
         directory = c.returned-back.ensures.directory;

@@ -1,0 +1,112 @@
+//! The clients' side of a server beside its operator's: a thread that serves clients as
+//! `serve_returning` does, and says when it has begun and when it has ended.
+
+ghost use Rattle.std.specs.Prelude.{◌≤◌, All, IfOk, length};
+ghost use Rattle.workers.specs.Back.{WorkersBack};
+ghost use Rattle.workers.specs.Promised.{ArePromised};
+
+use crate::clients::serve_returning;
+use crate::fault::ServeFault;
+use crate::gate::Gate;
+use crate::promise::OfWorkers;
+use crate::worker::Service;
+use cells::CellSteps;
+use crossbeam_channel::Sender;
+use hot_swap::Watcher;
+use std::net::TcpListener;
+use std::snapshot::Snapshot;
+use std::sync::Wait;
+use std::sync::atomic::{AtomicBool, Ordering};
+use std::thread::{PromisedHandle, Scope, Threads};
+use std::time::Clock;
+
+/// Which sides of a server are to end, as soon as they look: the clients' is told so by the
+/// operator's, and the operator's by the clients' once that has ended.
+#[derive(Drop)]
+pub(crate) struct Ends {
+    pub(crate) clients: AtomicBool,
+    pub(crate) operator: AtomicBool,
+}
+
+impl Ends {
+    pub(crate) fn new() -> Ends {
+        Ends {
+            clients: AtomicBool::new(false),
+            operator: AtomicBool::new(false),
+        }
+    }
+}
+
+/// Starts the thread that serves clients with these workers, and waits until all its threads are
+/// there. B4 where memory or a thread is refused; then those that were started end.
+pub(crate) fn start_serving<'s, E, H, G, C>(
+    rt: &'s H,
+    gate: &'s G,
+    scope: &Scope<'s, E>,
+    listener: TcpListener,
+    cells: &'s C,
+    workers: Vec<(C::Pass, Watcher)>,
+    ends: &'s Ends,
+    service: Service<'s>,
+) -> Result<PromisedHandle<Result<Vec<(C::Pass, Watcher)>, ServeFault>, OfWorkers<C>>, ServeFault>
+where
+    H: Threads + Wait + AllocGlobal + Clock + Sync,
+    G: Gate + Sync,
+    C: CellSteps + Sync,
+    C::Pass: Send + Drop + 's,
+    requires belongs { All (λ worker. C.belongs cells.now worker.0) workers.items }
+    requires some { 1 ≤ length workers.items }
+    requires few { length workers.items ≤ 64 }
+    ensures { IfOk result (λ thread. ArePromised cells.now workers thread.promise) }
+{
+    let Ok((started, starts)) = crossbeam_channel::bounded::<(), _>(rt.alloc(), 1) else {
+        return Err(ServeFault::Memory);
+    };
+    let promise = OfWorkers {
+        cells: Snapshot::of(cells),
+        given: Snapshot::of(&workers),
+    };
+    let job = move || -> Result<Vec<(C::Pass, Watcher)>, ServeFault>
+        requires belongs { All (λ worker. C.belongs cells.now worker.0) workers.items }
+        requires some { 1 ≤ length workers.items }
+        requires few { length workers.items ≤ 64 }
+        ensures { IfOk result
+            (λ back. WorkersBack (C.belongs cells.entry.now) C.grew workers.items back.items) }
+    { serve_beside(rt, gate, listener, cells, workers, ends, service, started) };
+    let Ok(thread) = scope.spawn_with(promise, job) else {
+        return Err(ServeFault::Memory);
+    };
+    match starts.recv(rt) {
+        Ok(()) => Ok(thread),
+        Err(_) => Err(ServeFault::Memory),
+    }
+}
+
+// Serves clients until their side is to end, and then has the operator's end.
+fn serve_beside<H, G, C>(
+    rt: &H,
+    gate: &G,
+    listener: TcpListener,
+    cells: &C,
+    workers: Vec<(C::Pass, Watcher)>,
+    ends: &Ends,
+    service: Service<'_>,
+    started: Sender<()>,
+) -> Result<Vec<(C::Pass, Watcher)>, ServeFault>
+where
+    H: Threads + Wait + AllocGlobal + Clock + Sync,
+    G: Gate + Sync,
+    C: CellSteps + Sync,
+    C::Pass: Send + Drop,
+    requires belongs { All (λ worker. C.belongs cells.now worker.0) workers.items }
+    requires some { 1 ≤ length workers.items }
+    requires few { length workers.items ≤ 64 }
+    ensures { IfOk result
+        (λ back. WorkersBack (C.belongs cells.now) C.grew workers.items back.items) }
+{
+    let started = Some(started);
+    let stop = &ends.clients;
+    let back = serve_returning(rt, gate, listener, cells, workers, stop, service, started);
+    ends.operator.store(true, Ordering::SeqCst);
+    back
+}
