@@ -127,13 +127,22 @@ where
     is_served
 }
 
+/// Two workers answer at once: the first call is held until the second was answered.
+#[test]
+fn two_answers_at_once(rt: HostRuntime) -> Result<(), Fail> {
+    assert!(rt; is_served(&rt, Clients::Two, 1, 2, 30)?);
+    Ok(())
+}
+
+/// A client that has sent its head alone holds up nobody else.
+#[test]
+fn head_held(rt: HostRuntime) -> Result<(), Fail> {
+    assert!(rt; is_served(&rt, Clients::Held, 0, 2, 30)?);
+    Ok(())
+}
+
 #[test]
 fn clients_are_served(rt: HostRuntime) -> Result<(), Fail> {
-    assert!(rt;
-        is_served(&rt, Clients::Two, 1, 2, 30)?,
-        "two answers at once"
-    );
-    assert!(rt; is_served(&rt, Clients::Held, 0, 2, 30)?, "a head is held");
     assert!(rt;
         is_served(&rt, Clients::Silent, 0, 1, 1)?,
         "a silent one is dropped"

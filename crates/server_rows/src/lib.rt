@@ -50,6 +50,8 @@ mod swaps;
 #[cfg(test)]
 mod swaps_under_load;
 #[cfg(test)]
+mod unconnected;
+#[cfg(test)]
 mod whole_log;
 #[cfg(test)]
 mod whole_server;

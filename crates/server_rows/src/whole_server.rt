@@ -74,7 +74,7 @@ where
 const SERVING: &[u8] = b"serving generation 1\n";
 
 /// The same, and B3 where it said anything else than that it serves.
-fn served<H>(
+pub(crate) fn served<H>(
     rt: &H,
     ports: Ports,
     path: &str,
@@ -94,7 +94,7 @@ where
 }
 
 /// What goes wrong at the ports of a server, if anything does. Then the server is stopped.
-fn wrong_at<H>(
+pub(crate) fn wrong_at<H>(
     rt: &H,
     clients: SocketAddr,
     operator: SocketAddr,
