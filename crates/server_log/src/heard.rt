@@ -1,6 +1,6 @@
 //! A device that remembers, for the log: what was read, up to so many bytes, and how it failed.
 
-ghost use Rattle.std.specs.Prelude.{◌≡◌, [], None};
+ghost use Rattle.std.specs.Prelude.{◌≡◌, ◌≤◌, ◌-◌, ◌++◌, [], None, true, false, take, vec_len};
 
 use memchr::memchr;
 use operator_request::OperatorRequest;
@@ -18,6 +18,7 @@ const FORWARDED: &[u8] = b"x-forwarded-for";
 #[derive(Drop)]
 pub struct Heard<T> {
     inner: T,
+    /// Whether the bytes are the first of what was read. They aren't to be, or memory was refused.
     is_kept: bool,
     bytes: Vec<u8>,
     failure: Option<ErrorKind>,
@@ -60,8 +61,11 @@ impl<T> Heard<T> {
         }
     }
 
-    /// The path of the load that an operator asked for, if one was.
+    /// The path of the load that an operator asked for, if one was and all of its line is kept.
     pub(crate) fn load_path(&self) -> Option<&str> {
+        if !self.is_kept {
+            return None;
+        }
         match OperatorRequest::of(first_line(&self.bytes)) {
             Some(OperatorRequest::Load(path)) => Some(path),
             _ => None,
@@ -100,12 +104,21 @@ impl<T> Heard<T> {
         self.bytes
     }
 
-    // Bytes whose memory is refused aren't kept.
+    // Keeps as many of these bytes as there is room for behind the others, while all that was read
+    // before is kept. Once memory is refused nothing more is, so that no text lacks its middle.
     fn keep(&mut self, bytes: &[u8])
-        ensures { self.new.inner ≡ self.old.inner }
+        ensures inner { self.new.inner ≡ self.old.inner }
+        ensures most { vec_len self.old.bytes ≤ 16384 → vec_len self.new.bytes ≤ 16384 }
+        ensures kept { self.new.is_kept ≡ true → self.new.bytes.items
+            ≡ self.old.bytes.items ++ take (16384 - vec_len self.old.bytes) bytes.now }
+        ensures refused { self.new.is_kept ≡ false
+            → self.new.bytes.items ≡ self.old.bytes.items }
+        ensures ended { self.old.is_kept ≡ false → self.new.is_kept ≡ false }
     {
-        if self.is_kept && self.bytes.len() < KEPT_LIMIT {
-            let _kept = self.bytes.extend_from_slice(bytes);
+        if self.is_kept {
+            let room = KEPT_LIMIT.saturating_sub(self.bytes.len());
+            let kept = self.bytes.extend_from_slice(first_bytes(bytes, room));
+            self.is_kept = kept.is_ok();
         }
     }
 
@@ -114,6 +127,16 @@ impl<T> Heard<T> {
     {
         self.failure = Some(error.kind());
     }
+}
+
+// As many of the first bytes, or all.
+fn first_bytes(bytes: &[u8], count: usize) -> &[u8]
+    ensures { result.now ≡ take count bytes.now }
+{
+    if count < bytes.len() {
+        return &bytes[..count];
+    }
+    bytes
 }
 
 // The bytes before the first line feed.

@@ -24,6 +24,9 @@ where
         return;
     };
     let Some(path) = heard.load_path() else {
+        if let OperatorReply::Loaded(_) = reply {
+            queue.lose(1);
+        }
         return;
     };
     match reply {
