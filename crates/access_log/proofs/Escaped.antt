@@ -1,22 +1,27 @@
 -- A text in which nothing is to be escaped stands in JSON as it is, and the text of a time is one.
-use Rattle.std.proofs.Common.{◌≡◌, ℕ, ◌/◌, List, [], ◌∷◌, ◌++◌, Bool, true, false, cond, refl, ap}
-use Rattle.std.proofs.Common.{◌∙◌, sym, append_assoc, arith}
+use Rattle.std.proofs.Common.{◌≡◌, ℕ, zero, suc, ◌+◌, ◌/◌, ◌<◌, List, [], ◌∷◌, ◌++◌, length}
+use Rattle.std.proofs.Common.{Bool, true, false, cond, refl, ap, ◌∙◌, sym, append_assoc, arith}
+use Rattle.std.proofs.Common.{append-nil}
+use Rattle.std.specs.Prelude.{slice_index}
 use Rattle.std.specs.Bool.{OnTrue}
+use Rattle.std.specs.List.{flat_map}
+use Rattle.std.specs.Str.{chars}
 use Rattle.std.proofs.lemmas.Bool.Decides.{nat_tests}
-use Rattle.json.specs.Print.{escape_byte, escape, quoted}
+use Rattle.std.proofs.lemmas.Str.{chars-IsAscii, chars-nil}
+use Rattle.json.specs.Print.{escape_byte}
 use Rattle.access_log.specs.Plain.{is_escaped, is_plain_text}
+use Rattle.access_log.specs.Room.{char_room, chars_room}
+use Rattle.access_log.specs.Spelled.{spelled_char, spelled_text, spelled_quoted}
 use Rattle.access_log.specs.Utc.{digit, two_digits, date_text, clock_text, utc_text}
 use Rattle.access_log.specs.declared.utc.Utc.{Utc}
 
-either : {A : Type 0} (P : A → Type 0) (b : Bool) (x y : A)
-    → (b ≡ true → P x) → (b ≡ false → P y) → P (cond b x y)
-either P true x y first other = first refl
-either P false x y first other = other refl
-
 -- a byte that stands as it is
-as_it_is : (b : ℕ) → is_escaped b ≡ false → escape_byte b ≡ b ∷ []
+as_spelled : (b : ℕ) → is_escaped b ≡ false → spelled_char b ≡ b ∷ []
 unfolding escape_byte
-as_it_is b is = grind (arith, nat_tests)
+as_spelled b is = grind (arith, nat_tests)
+
+room_of_1 : (b : ℕ) → is_escaped b ≡ false → char_room b ≡ 1
+room_of_1 b is = grind (arith, nat_tests)
 
 pub told : {P : Type 0} (b : Bool) → OnTrue b P → b ≡ true → P
 told true is holds = is
@@ -27,21 +32,65 @@ parts : (escaped plain : Bool) → cond escaped false plain ≡ true
 parts true plain is = absurd cc
 parts false plain is = (refl, is)
 
-pub plain_stands : (text : List ℕ) → is_plain_text text ≡ true → escape text ≡ text
-plain_stands [] is = refl
-plain_stands (b ∷ text) is =
+-- ---- its characters are its bytes
+
+low : (b : ℕ) → is_escaped b ≡ false → b < 128
+low b is = grind (arith, nat_tests)
+
+plain_low : (text : List ℕ) → is_plain_text text ≡ true → (i : ℕ) → slice_index text i < 128
+plain_low [] is i = omega arith
+plain_low (b ∷ text) is zero = low b (parts (is_escaped b) (is_plain_text text) is).0
+plain_low (b ∷ text) is (suc i) = plain_low text (parts (is_escaped b) (is_plain_text text) is).1 i
+
+plain_chars : (text : List ℕ) → is_plain_text text ≡ true → chars text ≡ text
+plain_chars text is = chars-IsAscii text (plain_low text is)
+
+each_spelled : (text : List ℕ) → is_plain_text text ≡ true → flat_map spelled_char text ≡ text
+each_spelled [] is = refl
+each_spelled (b ∷ text) is =
     let both = parts (is_escaped b) (is_plain_text text) is in
-    ap (λ l. l ++ escape text) (as_it_is b both.0)
-    ∙ ap (λ l. b ∷ l) (plain_stands text both.1)
+    ap (λ l. l ++ flat_map spelled_char text) (as_spelled b both.0)
+    ∙ ap (λ l. b ∷ l) (each_spelled text both.1)
+
+each_has_1 : (text : List ℕ) → is_plain_text text ≡ true → chars_room text ≡ length text
+unfolding chars_room
+each_has_1 [] is = refl
+each_has_1 (b ∷ text) is =
+    let both = parts (is_escaped b) (is_plain_text text) is in
+    omega (arith, room_of_1 b both.0, each_has_1 text both.1)
+
+pub plain_spelled : (text : List ℕ) → is_plain_text text ≡ true → spelled_text text ≡ text
+plain_spelled text is = ap (flat_map spelled_char) (plain_chars text is) ∙ each_spelled text is
+
+pub plain_room : (text : List ℕ) → is_plain_text text ≡ true
+    → chars_room (chars text) ≡ length text
+plain_room text is = ap chars_room (plain_chars text is) ∙ each_has_1 text is
+
+-- ---- characters one by one
+
+pub one_further : (o part rest new whole : List ℕ) → new ≡ o ++ part → o ++ (part ++ rest) ≡ whole
+    → new ++ rest ≡ whole
+one_further o part rest new whole is all =
+    ap (λ (l : List ℕ). l ++ rest) is ∙ append_assoc o part rest ∙ all
+
+nothing : (text : List ℕ) → length text ≡ 0 → text ≡ []
+nothing [] none = refl
+nothing (b ∷ text) none = absurd (omega (arith, none))
+
+pub none_further : (rest o whole : List ℕ) → length rest ≡ 0
+    → o ++ flat_map spelled_char (chars rest) ≡ whole → o ≡ whole
+none_further rest o whole none is =
+    let no_chars : chars rest ≡ [] = ap chars (nothing rest none) ∙ chars-nil in
+    sym (append-nil o) ∙ ap (λ (l : List ℕ). o ++ flat_map spelled_char l) (sym no_chars) ∙ is
 
 -- such a text between quotes, written in three pieces
 pub quoted_plain : (a text : List ℕ) {b c d : List ℕ} → is_plain_text text ≡ true
     → b ≡ a ++ 34 ∷ []
-    → c ≡ b ++ text → d ≡ c ++ 34 ∷ [] → d ≡ a ++ quoted text
+    → c ≡ b ++ text → d ≡ c ++ 34 ∷ [] → d ≡ a ++ spelled_quoted text
 quoted_plain a text {b} {c} {d} plain first next last =
     last ∙ ap (λ l. l ++ 34 ∷ []) (next ∙ ap (λ l. l ++ text) first)
     ∙ append_assoc (a ++ 34 ∷ []) text (34 ∷ []) ∙ append_assoc a (34 ∷ []) (text ++ 34 ∷ [])
-    ∙ ap (λ l. a ++ (34 ∷ (l ++ 34 ∷ []))) (sym (plain_stands text plain))
+    ∙ ap (λ l. a ++ (34 ∷ (l ++ 34 ∷ []))) (sym (plain_spelled text plain))
 
 -- ---- the text of a time
 

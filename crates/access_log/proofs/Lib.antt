@@ -1,7 +1,13 @@
 pub mod Added
+pub mod AddedApps
+pub mod Cut
+pub mod Enough
 pub mod Escaped
-pub mod Plain
+pub mod Fits
+pub mod Harmless
+pub mod Lanes
 pub mod Rooms
 pub mod Said
 pub mod Short
+pub mod Told
 pub mod Years

@@ -1,37 +1,84 @@
 -- What is left to be reckoned at a place.
-use Rattle.std.proofs.Common.{◌≡◌, ℕ, suc, ◌+◌, ◌-◌, ◌<◌, ◌≤◌, List, [], length, drop, get_or}
-use Rattle.std.proofs.Common.{Bool, true, false, ap, ◌∙◌}
-use Rattle.std.specs.Prelude.{nat_lt, if◌then◌else◌, None}
+use Rattle.std.proofs.Common.{◌≡◌, ℕ, suc, ◌+◌, ◌-◌, ◌<◌, ◌≤◌, List, [], ◌∷◌, length, drop, get_or}
+use Rattle.std.proofs.Common.{Bool, true, false, sym, ap, ◌∙◌, arith, length-append, ◌++◌}
+use Rattle.std.specs.Prelude.{nat_lt, if◌then◌else◌, None, encode_utf8}
+use Rattle.std.specs.Char.{len_utf8}
+use Rattle.std.specs.Str.{chars}
 use Rattle.std.proofs.lemmas.Bool.{lt-ltb, le-ltb}
 use Rattle.std.proofs.lemmas.List.{drop_all, drop_more}
-use Rattle.access_log.specs.Room.{byte_room, bytes_room, app_room, count_fitting}
+use Rattle.std.proofs.lemmas.Str.{chars-nil, length-encode}
+use Rattle.access_log.specs.Apps.{offers_of, offers_in, unknown_of, unknown_in}
+use Rattle.access_log.specs.Room.{char_room, chars_room, app_room, count_fitting}
+use Rattle.access_log.specs.Room.{left_behind}
 use Rattle.access_log.specs.declared.asked.AskedApp.{AskedApp}
 use Rattle.access_log.specs.declared.asked.Outcome.TheVariants.{Unknown}
 
-pub bytes_from : (bytes : List ℕ) (i d : ℕ) → i < length bytes
-    → bytes_room (drop i bytes) ≡ byte_room (get_or bytes i d) + bytes_room (drop (i + 1) bytes)
-unfolding bytes_room
-bytes_from bytes i d within = ap bytes_room (drop_more bytes i d within)
+-- ---- characters
 
-pub no_bytes_from : (bytes : List ℕ) (i : ℕ) → length bytes ≤ i → bytes_room (drop i bytes) ≡ 0
-unfolding bytes_room
-no_bytes_from bytes i past = ap bytes_room (drop_all i bytes past)
+pub one_char : (c : ℕ) (cs : List ℕ) {all : List ℕ} → all ≡ c ∷ cs
+    → chars_room all ≡ char_room c + chars_room cs
+unfolding chars_room
+one_char c cs is = ap chars_room is
+
+pub one_shorter : (text rest : List ℕ) (c : ℕ) → text ≡ encode_utf8 c ++ rest
+    → length text ≡ len_utf8 c + length rest
+one_shorter text rest c is =
+    ap length is ∙ length-append (encode_utf8 c) rest
+    ∙ ap (λ (n : ℕ). n + length rest) (length-encode c)
+
+pub no_chars : (text : List ℕ) → length text ≡ 0 → chars_room (chars text) ≡ 0
+unfolding chars_room
+no_chars [] none = ap chars_room chars-nil
+no_chars (b ∷ text) none = absurd (omega (arith, none))
+
+-- of a text that isn't too long
+pub in_room : (n room : ℕ) → n ≤ 4096 → room ≡ n → n ≡ (if nat_lt 4096 n then 4097 else room)
+in_room n room few is =
+    sym (ap (λ (b : Bool). if b then 4097 else room) (le-ltb 4096 n few) ∙ is)
+
+-- ---- apps
 
 pub no_apps_from : (apps : List AskedApp) (i room : ℕ) → length apps ≤ i
     → count_fitting room (drop i apps) ≡ 0
 unfolding count_fitting
 no_apps_from apps i room past = ap (count_fitting room) (drop_all i apps past)
 
+pub all_left_from : (apps : List AskedApp) (i room : ℕ) → length apps ≤ i
+    → left_behind room (drop i apps) ≡ room
+unfolding left_behind
+all_left_from apps i room past = ap (left_behind room) (drop_all i apps past)
+
+pub no_offers_from : (apps : List AskedApp) (i : ℕ) → length apps ≤ i
+    → offers_in (drop i apps) ≡ 0
+unfolding offers_in
+no_offers_from apps i past = ap offers_in (drop_all i apps past)
+
+pub no_unknown_from : (apps : List AskedApp) (i : ℕ) → length apps ≤ i
+    → unknown_in (drop i apps) ≡ 0
+unfolding unknown_in
+no_unknown_from apps i past = ap unknown_in (drop_all i apps past)
+
 -- what a reading past the end of a list of apps gives
 abbrev pub nobody : AskedApp
 nobody = record {
-  appid = record { ref_ptr = (0, 0); now = [] };
+  appid = record { text = record { ref_ptr = (0, 0); now = [] }; length = 0 };
   version = None;
   bucket = 0;
   named = false;
   outcome = Unknown;
   event = None;
 }
+
+module _ (apps : List AskedApp) (i : ℕ) (d : AskedApp) (within : i < length apps) where
+  pub offers_from : offers_in (drop i apps)
+      ≡ offers_of (get_or apps i d).outcome + offers_in (drop (i + 1) apps)
+  unfolding offers_in
+  offers_from = ap offers_in (drop_more apps i d within)
+
+  pub unknown_from : unknown_in (drop i apps)
+      ≡ unknown_of (get_or apps i d).outcome + unknown_in (drop (i + 1) apps)
+  unfolding unknown_in
+  unknown_from = ap unknown_in (drop_more apps i d within)
 
 module _ (apps : List AskedApp) (i room : ℕ) (d : AskedApp) (within : i < length apps) where
   abbrev app : AskedApp
@@ -46,10 +93,27 @@ module _ (apps : List AskedApp) (i room : ℕ) (d : AskedApp) (within : i < leng
       ∙ ap (λ (b : Bool). if b then 0
       else suc (count_fitting (room - app_room app) (drop (i + 1) apps))) test
 
+  left : (full : Bool) → nat_lt room (app_room app) ≡ full
+      → left_behind room (drop i apps)
+      ≡ (if full then room else left_behind (room - app_room app) (drop (i + 1) apps))
+  unfolding left_behind
+  left full test =
+      ap (left_behind room) (drop_more apps i d within)
+      ∙ ap (λ (b : Bool). if b then room
+      else left_behind (room - app_room app) (drop (i + 1) apps)) test
+
   pub full_at : room < app_room app → count_fitting room (drop i apps) ≡ 0
   full_at less = chosen true (lt-ltb room (app_room app) less)
+
+  pub left_at : room < app_room app → left_behind room (drop i apps) ≡ room
+  left_at less = left true (lt-ltb room (app_room app) less)
 
   pub one_more_at : app_room app ≤ room
       → count_fitting room (drop i apps)
       ≡ suc (count_fitting (room - app_room app) (drop (i + 1) apps))
   one_more_at enough = chosen false (le-ltb room (app_room app) enough)
+
+  pub left_by_one : app_room app ≤ room
+      → left_behind room (drop i apps)
+      ≡ left_behind (room - app_room app) (drop (i + 1) apps)
+  left_by_one enough = left false (le-ltb room (app_room app) enough)

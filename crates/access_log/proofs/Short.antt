@@ -1,57 +1,70 @@
 -- The line that stands in the place of one that is too long is short.
-use Rattle.std.proofs.Common.{ℕ, ◌*◌, ◌^◌, ◌<◌, ◌≤◌, List, [], ◌∷◌, ◌++◌, length}
-use Rattle.std.proofs.Common.{Bool, true, false, cond, arith, length-append}
-use Rattle.std.specs.Prelude.{nat_lt, ◌&&◌, decimal}
+use Rattle.std.proofs.Common.{◌≡◌, ℕ, ◌+◌, ◌^◌, ◌<◌, ◌≤◌, List, [], ◌∷◌, ◌++◌, length, codes}
+use Rattle.std.proofs.Common.{Bool, true, false, cond, arith, refl, ap, length-append}
+use Rattle.std.specs.Prelude.{◌&&◌, decimal}
 use Rattle.std.proofs.lemmas.Fmt.{length-decimal-le}
-use Rattle.json.specs.Print.{escape_letter, escape_byte, escape, separator, token_text}
-use Rattle.json.specs.Print.{print_from, print, begins, ends}
+use Rattle.json.specs.Print.{separator, begins, ends}
 use Rattle.json.specs.Token.{Token}
-use Rattle.json.specs.Tree.{room}
 use Rattle.access_log.specs.Line.{line_with, object_at, too_long_members}
+use Rattle.access_log.specs.Plain.{is_plain_text}
+use Rattle.access_log.specs.Spelled.{spelled, spelled_from, spelled_quoted, spelled_text}
+use Rattle.access_log.specs.Spelled.{spelled_token}
 use Rattle.access_log.specs.Utc.{utc_text}
 use Rattle.access_log.specs.declared.utc.Utc.{Utc}
+use Rattle.access_log.proofs.Escaped.{plain_spelled, time_stands}
+
+-- the room that is enough for these tokens, each with a comma
+abbrev room : List Token → ℕ
+room [] = 0
+room (t ∷ ts) = length (spelled_token t) + 1 + room ts
 
 either : {A : Type 0} (P : A → Type 0) (b : Bool) (x y : A) → P x → P y → P (cond b x y)
 either P true x y first other = first
 either P false x y first other = other
-
-byte_is_short : (x : ℕ) → length (escape_byte x) ≤ 6
-unfolding escape_byte
-byte_is_short x =
-    either (λ (bytes : List ℕ). length bytes ≤ 6) (nat_lt 0 (escape_letter x)) _ _ (omega arith)
-    (either (λ (bytes : List ℕ). length bytes ≤ 6) (nat_lt x 32) _ _ (omega arith) (omega arith))
-
-escape_is_short : (s : List ℕ) → length (escape s) ≤ 6 * length s
-escape_is_short [] = omega arith
-escape_is_short (x ∷ s) =
-    omega (arith, length-append (escape_byte x) (escape s), byte_is_short x, escape_is_short s)
 
 separator_is_short : (after : Bool) (t : Token) → length (separator after t) ≤ 1
 separator_is_short after t =
     either (λ (bytes : List ℕ). length bytes ≤ 1) (after && begins t) _ _ (omega arith)
     (omega arith)
 
-printed_is_short : (after : Bool) (ts : List Token) → length (print_from after ts) ≤ room ts
-unfolding print_from
-printed_is_short after [] = omega arith
-printed_is_short after (t ∷ ts) =
-    let rest = print_from (ends t) ts in
+spelled_is_short : (after : Bool) (ts : List Token) → length (spelled_from after ts) ≤ room ts
+unfolding spelled_from
+spelled_is_short after [] = omega arith
+spelled_is_short after (t ∷ ts) =
+    let rest = spelled_from (ends t) ts in
     omega (
       arith,
-      length-append (separator after t) (token_text t ++ rest),
-      length-append (token_text t) rest,
+      length-append (separator after t) (spelled_token t ++ rest),
+      length-append (spelled_token t) rest,
       separator_is_short after t,
-      printed_is_short (ends t) ts,
+      spelled_is_short (ends t) ts,
     )
 
+-- a text that stands as it is has two quotes beside it, and a name a colon behind them
+quoted_length : (text : List ℕ) → is_plain_text text ≡ true
+    → length (spelled_quoted text) ≡ length text + 2
+quoted_length text is =
+    let same : length (spelled_text text) ≡ length text = ap length (plain_spelled text is) in
+    omega (arith, same, length-append (spelled_text text) (34 ∷ []))
+
+named_length : (text : List ℕ) → is_plain_text text ≡ true
+    → length (spelled_quoted text ++ 58 ∷ []) ≡ length text + 3
+named_length text is =
+    omega (arith, quoted_length text is, length-append (spelled_quoted text) (58 ∷ []))
+
 room_of : (t : Utc) (n : ℕ) → n < 2 ^ 64 → room (object_at t (too_long_members n)) ≤ 300
-unfolding escape_byte
 room_of t n small =
     let digits : length (decimal n) ≤ 20 =
     length-decimal-le 20 n (omega arith) (omega (arith, small)) small in
-    let time = escape_is_short (utc_text t) in
-    let quotes = length-append (escape (utc_text t)) (34 ∷ []) in
-    omega (arith, digits, time, quotes)
+    omega (
+      arith,
+      digits,
+      named_length (codes "time") refl,
+      quoted_length (utc_text t) (time_stands t),
+      named_length (codes "kind") refl,
+      quoted_length (codes "too-long") refl,
+      named_length (codes "bytes") refl,
+    )
 
 pub too_long_is_short : (t : Utc) (n : ℕ) → n < 2 ^ 64
     → length (line_with t (too_long_members n)) ≤ 4096
@@ -59,7 +72,7 @@ too_long_is_short t n small =
     let ts = object_at t (too_long_members n) in
     omega (
       arith,
-      length-append (print ts) (10 ∷ []),
-      printed_is_short false ts,
+      length-append (spelled ts) (10 ∷ []),
+      spelled_is_short false ts,
       room_of t n small,
     )

@@ -1,11 +1,10 @@
 -- What a line says of the apps of a request.
-use Rattle.std.specs.Prelude.{ℕ, ◌-◌, List, [], ◌∷◌, ◌++◌, codes, length, take, true}
-use Rattle.std.specs.Prelude.{◌==◌, if◌then◌else◌, Option, Some, None, option_copied}
-use Rattle.std.specs.List.{flat_map}
+use Rattle.std.specs.Prelude.{ℕ, ◌+◌, List, [], ◌∷◌, ◌++◌, codes, length, take, drop, true}
+use Rattle.std.specs.Prelude.{nat_lt, ◌==◌, if◌then◌else◌, Option, Some, None}
 use Rattle.json.specs.Token.{Token, begin_object, end_object, begin_array, end_array, key}
-use Rattle.access_log.specs.Members.{text_member, number_member, flag_member}
-use Rattle.access_log.specs.Members.{optional_member, count_member, excerpt_members}
-use Rattle.access_log.specs.Room.{told_apps}
+use Rattle.access_log.specs.Members.{text_member, number_member, flag_member, count_member}
+use Rattle.access_log.specs.Members.{left_out, excerpt_members, optional_excerpt}
+use Rattle.access_log.specs.Room.{told_apps, room_of_events, event_room, behind_event}
 use Rattle.access_log.specs.declared.asked.AskedApp.{AskedApp}
 use Rattle.access_log.specs.declared.asked.Outcome.{Outcome}
 use Rattle.access_log.specs.declared.asked.Outcome.TheVariants.{Unknown, Unasked, NoUpdate, Offered}
@@ -23,33 +22,76 @@ outcome_members Unasked = []
 outcome_members NoUpdate = number_member (codes "choice") 0
 outcome_members (Offered choice version) = offer_members choice version.now
 
-abbrev pub event_members : Option Excerpt → List Token
-event_members (Some e) = excerpt_members (codes "event") (codes "event_left_out") e
-event_members None = []
+-- an event of a size, for which there is so much room; where that isn't enough it is left out whole
+abbrev pub told_event : ℕ → ℕ → Excerpt → List Token
+told_event room size e =
+    if nat_lt room size then count_member (codes "event_left_out") e.length
+    else excerpt_members (codes "event") (codes "event_left_out") e
+
+abbrev pub event_members : ℕ → Option Excerpt → List Token
+event_members room (Some e) = told_event room (event_room e) e
+event_members room None = []
 
 -- an app's object begins with its id
 abbrev pub head_of : List ℕ → List Token
 head_of appid = (begin_object ∷ []) ++ text_member (codes "appid") appid
 
-abbrev pub app_object : AskedApp → List Token
-app_object app =
-    head_of app.appid.now
-    ++ optional_member (codes "version") (option_copied app.version)
+-- an app, of whose event so many bytes have room
+abbrev pub app_object : ℕ → AskedApp → List Token
+app_object room app =
+    head_of app.appid.text.now
+    ++ count_member (codes "appid_left_out") (left_out app.appid)
+    ++ optional_excerpt (codes "version") (codes "version_left_out") app.version
     ++ number_member (codes "bucket") app.bucket
     ++ flag_member (codes "named") app.named
     ++ outcome_members app.outcome
-    ++ event_members app.event
+    ++ event_members room app.event
     ++ (end_object ∷ [])
 
-abbrev pub list_of : List AskedApp → List Token
-list_of apps =
-    (key (codes "apps") ∷ []) ++ (begin_array ∷ []) ++ flat_map app_object apps ++ (end_array ∷ [])
+-- apps, whose events share so much room
+unfoldable pub app_objects : ℕ → List AskedApp → List Token
+app_objects room [] = []
+app_objects room (app ∷ apps) =
+    app_object room app ++ app_objects (behind_event room app.event) apps
 
--- the first apps, and how many more there are
-abbrev pub first_apps : ℕ → List AskedApp → List Token
-first_apps n apps =
-    list_of (take n apps) ++ count_member (codes "left_out") (length apps - n)
+abbrev pub list_of : ℕ → List AskedApp → List Token
+list_of room apps =
+    (key (codes "apps") ∷ []) ++ (begin_array ∷ []) ++ app_objects room apps
+    ++ (end_array ∷ [])
+
+-- ---- what is left out
+
+-- 1 of an app that is offered a release, and else 0
+abbrev pub offers_of : Outcome → ℕ
+offers_of (Offered choice version) = 1
+offers_of outcome = 0
+
+-- 1 of an app that the server doesn't know, and else 0
+abbrev pub unknown_of : Outcome → ℕ
+unknown_of Unknown = 1
+unknown_of outcome = 0
+
+unfoldable pub offers_in : List AskedApp → ℕ
+offers_in [] = 0
+offers_in (app ∷ apps) = offers_of app.outcome + offers_in apps
+
+unfoldable pub unknown_in : List AskedApp → ℕ
+unknown_in [] = 0
+unknown_in (app ∷ apps) = unknown_of app.outcome + unknown_in apps
+
+-- how many they are, and how many of them are offers and how many are unknown
+abbrev pub left_out_members : List AskedApp → List Token
+left_out_members apps =
+    count_member (codes "left_out") (length apps)
+    ++ count_member (codes "offers_left_out") (offers_in apps)
+    ++ count_member (codes "unknown_left_out") (unknown_in apps)
+
+-- the first apps, and what is left out
+abbrev pub first_apps : ℕ → ℕ → List AskedApp → List Token
+first_apps n room apps = list_of room (take n apps) ++ left_out_members (drop n apps)
 
 -- nothing of what asks of no app
 abbrev pub apps_members : List AskedApp → List Token
-apps_members apps = if length apps == 0 then [] else first_apps (told_apps apps) apps
+apps_members apps =
+    if length apps == 0 then []
+    else first_apps (told_apps apps) (room_of_events apps) apps

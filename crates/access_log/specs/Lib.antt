@@ -1,8 +1,9 @@
+pub mod Spelled
 pub mod Members
 pub mod Plain
 pub mod Tokens
 pub mod Utc
-pub mod Excerpt
 pub mod Room
+pub mod Excerpt
 pub mod Apps
 pub mod Line

@@ -1,12 +1,15 @@
 -- What a line of the log says of an event, and its text: a JSON object, and a line feed.
-use Rattle.std.specs.Prelude.{◌≡◌, ℕ, ◌≤◌, List, [], ◌∷◌, ◌++◌, codes, length, All}
-use Rattle.std.specs.Prelude.{nat_lt, if◌then◌else◌, Option, option_copied}
+use Rattle.std.specs.Prelude.{◌≡◌, ℕ, List, [], ◌∷◌, ◌++◌, codes, length, All, true}
+use Rattle.std.specs.Prelude.{Bool, not, ◌&&◌, nat_lt, nat_le, if◌then◌else◌}
+use Rattle.std.specs.Prelude.{Option, option_copied, ⊤}
 use Rattle.std.specs.Borrow.{Bor}
-use Rattle.json.specs.Print.{print}
+use Rattle.std.specs.Str.{encode_utf8_all}
 use Rattle.json.specs.Token.{Token, begin_object, end_object}
 use Rattle.access_log.specs.Apps.{apps_members}
 use Rattle.access_log.specs.Members.{text_member, number_member, optional_member}
 use Rattle.access_log.specs.Members.{count_member, excerpt_members}
+use Rattle.access_log.specs.Room.{TellsEnough}
+use Rattle.access_log.specs.Spelled.{is_obeyed, spelled}
 use Rattle.access_log.specs.Utc.{utc_text}
 use Rattle.access_log.specs.declared.event.Connection.{Connection}
 use Rattle.access_log.specs.declared.event.Counter.{Counter}
@@ -93,13 +96,13 @@ abbrev pub object_at : Utc → List Token → List Token
 object_at time members = begun_at time ++ members ++ (end_object ∷ [])
 
 abbrev pub with_line_feed : List Token → List ℕ
-with_line_feed tokens = print tokens ++ 10 ∷ []
+with_line_feed tokens = spelled tokens ++ 10 ∷ []
 
 abbrev pub line_with : Utc → List Token → List ℕ
 line_with time members = with_line_feed (object_at time members)
 
 -- What stands in the place of a line of so many bytes. None of a connection comes to that by what a
--- server tells: its apps have 3400 bytes, and what stands before them some 430.
+-- server tells: its apps have 3660 bytes, and what stands round them some 390.
 abbrev pub too_long_members : ℕ → List Token
 too_long_members bytes = kind_member (codes "too-long") ++ number_member (codes "bytes") bytes
 
@@ -112,6 +115,17 @@ line_or_length time whole =
 abbrev pub event_line : Utc → LogEvent → List ℕ
 event_line time e = line_or_length time (line_with time (said e))
 
--- one line: it has a line feed at its end, and no other control character
+-- of a connection's apps as a server tells them all are told, or eleven at least
+abbrev pub TellsApps : LogEvent → Type 0
+TellsApps (log.Connection connection) = TellsEnough connection.apps.now
+TellsApps e = ⊤
+
+-- a character that changes nothing of a terminal: no control, and none of direction
+abbrev pub is_harmless : ℕ → Bool
+is_harmless c = nat_le 32 c && not (is_obeyed c)
+
+-- one line: harmless characters in UTF-8, and a line feed
 abbrev pub IsOneLine : List ℕ → Type 0
-IsOneLine line = (text : List ℕ) × (line ≡ text ++ 10 ∷ []) × All (λ b. 32 ≤ b) text
+IsOneLine line =
+    (cs : List ℕ) × (line ≡ encode_utf8_all cs ++ 10 ∷ [])
+    × All (λ c. is_harmless c ≡ true) cs

@@ -1,5 +1,5 @@
 -- Members of an object (RFC 8259, section 4), as the tokens that they are written by.
-use Rattle.std.specs.Prelude.{ℕ, List, [], ◌∷◌, ◌++◌, decimal, ◌==◌, if◌then◌else◌}
+use Rattle.std.specs.Prelude.{ℕ, ◌-◌, List, [], ◌∷◌, ◌++◌, length, decimal, ◌==◌, if◌then◌else◌}
 use Rattle.std.specs.Prelude.{Bool, Option, Some, None}
 use Rattle.json.specs.Token.{Token, key, string, number, boolean}
 use Rattle.access_log.specs.declared.excerpt.Excerpt.{Excerpt}
@@ -22,6 +22,15 @@ optional_member name None = []
 abbrev pub count_member : List ℕ → ℕ → List Token
 count_member name n = if n == 0 then [] else number_member name n
 
+-- how many bytes of a text aren't in its excerpt
+abbrev pub left_out : Excerpt → ℕ
+left_out e = e.length - length e.text.now
+
 -- a text that may be cut, and then how many bytes are left out of it
 abbrev pub excerpt_members : List ℕ → List ℕ → Excerpt → List Token
-excerpt_members name left_out e = text_member name e.text.now ++ count_member left_out e.left_out
+excerpt_members name count e = text_member name e.text.now ++ count_member count (left_out e)
+
+-- the same, where there is one
+abbrev pub optional_excerpt : List ℕ → List ℕ → Option Excerpt → List Token
+optional_excerpt name count (Some e) = excerpt_members name count e
+optional_excerpt name count None = []

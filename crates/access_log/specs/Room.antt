@@ -1,49 +1,107 @@
 -- How many apps a line tells: as many of the first as have room in it.
-use Rattle.std.specs.Prelude.{ℕ, suc, ◌+◌, ◌-◌, List, [], ◌∷◌, length}
-use Rattle.std.specs.Prelude.{◌||◌, ◌==◌, nat_lt, if◌then◌else◌, Option, Some, None, option_copied}
-use Rattle.std.specs.Str.{byte}
+use Rattle.std.specs.Prelude.{◌≡◌, ℕ, suc, ◌+◌, ◌-◌, ◌≤◌, ◌⊎◌, ⊤, IfSome, List, [], ◌∷◌, length}
+use Rattle.std.specs.Prelude.{◌||◌, ◌==◌, nat_lt, if◌then◌else◌, Option, Some, None}
+use Rattle.std.specs.Char.{len_utf8}
+use Rattle.std.specs.Str.{byte, chars}
+use Rattle.access_log.specs.Members.{left_out}
+use Rattle.access_log.specs.Spelled.{is_obeyed}
 use Rattle.access_log.specs.declared.asked.AskedApp.{AskedApp}
 use Rattle.access_log.specs.declared.asked.Outcome.{Outcome}
-use Rattle.access_log.specs.declared.asked.Outcome.TheVariants.{Offered}
+use Rattle.access_log.specs.declared.asked.Outcome.TheVariants.{Unasked, Offered}
 use Rattle.access_log.specs.declared.excerpt.Excerpt.{Excerpt}
 
--- the most bytes that a byte of a text takes: a control character may take six (RFC 8259,
--- section 7)
-abbrev pub byte_room : ℕ → ℕ
-byte_room b =
-    if nat_lt b 32 then 6 else (if (b == byte "\"") || (b == byte "\\") then 2 else 1)
+-- ---- texts
 
-unfoldable pub bytes_room : List ℕ → ℕ
-bytes_room [] = 0
-bytes_room (b ∷ bytes) = byte_room b + bytes_room bytes
+-- the most bytes that a character of a text takes: an escape may have six (RFC 8259, section 7)
+abbrev pub char_room : ℕ → ℕ
+char_room c =
+    if is_obeyed c || nat_lt c 32 then 6
+    else (if (c == byte "\"") || (c == byte "\\") then 2 else len_utf8 c)
+
+unfoldable pub chars_room : List ℕ → ℕ
+chars_room [] = 0
+chars_room (c ∷ cs) = char_room c + chars_room cs
 
 -- a text that is longer than a line has no room in any
 abbrev pub text_room : List ℕ → ℕ
-text_room text = if nat_lt 4096 (length text) then 4097 else bytes_room text
+text_room text = if nat_lt 4096 (length text) then 4097 else chars_room (chars text)
 
-abbrev pub optional_room : Option (List ℕ) → ℕ
-optional_room (Some text) = text_room text
-optional_room None = 0
+-- the text of an excerpt, and 27 bytes for the member that tells what is left out of it
+abbrev pub excerpt_room : Excerpt → ℕ
+excerpt_room e = text_room e.text.now + (if left_out e == 0 then 0 else 27)
+
+-- ---- apps
+
+abbrev pub version_room : Option Excerpt → ℕ
+version_room (Some e) = 13 + excerpt_room e
+version_room None = 0
 
 abbrev pub outcome_room : Outcome → ℕ
-outcome_room (Offered number version) = text_room version.now
-outcome_room outcome = 0
+outcome_room (Offered choice version) = 26 + text_room version.now
+outcome_room Unasked = 0
+outcome_room outcome = 15
 
-abbrev pub event_room : Option Excerpt → ℕ
-event_room (Some e) = text_room e.text.now
-event_room None = 0
+-- how much of an event is left out has room in each line
+abbrev pub event_count_room : Option Excerpt → ℕ
+event_count_room (Some e) = 27
+event_count_room None = 0
 
--- an app takes its texts, and 140 bytes for all else
+-- an app without the text of its event: its texts, and 41 bytes for what each app has beside them
 abbrev pub app_room : AskedApp → ℕ
 app_room app =
-    140 + text_room app.appid.now + optional_room (option_copied app.version)
-    + outcome_room app.outcome + event_room app.event
+    41 + excerpt_room app.appid + version_room app.version + outcome_room app.outcome
+    + event_count_room app.event
 
 unfoldable pub count_fitting : ℕ → List AskedApp → ℕ
 count_fitting room [] = 0
 count_fitting room (app ∷ apps) =
     if nat_lt room (app_room app) then 0 else suc (count_fitting (room - app_room app) apps)
 
--- all apps of a line together have 3400 bytes, and what stands before them the rest
+-- what the first apps that have room leave of it
+unfoldable pub left_behind : ℕ → List AskedApp → ℕ
+left_behind room [] = room
+left_behind room (app ∷ apps) =
+    if nat_lt room (app_room app) then room else left_behind (room - app_room app) apps
+
+-- all apps of a line together have 3660 bytes, and what stands round them the rest
 abbrev pub told_apps : List AskedApp → ℕ
-told_apps apps = count_fitting 3400 apps
+told_apps apps = count_fitting 3660 apps
+
+-- ---- events
+
+-- the texts of the events have what the apps leave of that
+abbrev pub room_of_events : List AskedApp → ℕ
+room_of_events apps = left_behind 3660 apps
+
+abbrev pub event_room : Excerpt → ℕ
+event_room e = 11 + text_room e.text.now
+
+-- what is left of a room behind so much: all, where it isn't enough
+abbrev pub left_after : ℕ → ℕ → ℕ
+left_after room size = if nat_lt room size then room else room - size
+
+-- what an event leaves to those behind it
+abbrev pub behind_event : ℕ → Option Excerpt → ℕ
+behind_event room (Some e) = left_after room (event_room e)
+behind_event room None = room
+
+-- ---- apps as a server tells them
+
+-- a release has at most four numbers of ten digits
+abbrev pub HasBriefRelease : Outcome → Type 0
+HasBriefRelease (Offered choice version) = text_room version.now ≤ 43
+HasBriefRelease outcome = ⊤
+
+-- what a client wrote of the app takes at most 64 bytes a text
+abbrev pub IsBrief : AskedApp → Type 0
+IsBrief app =
+    (text_room app.appid.text.now ≤ 64) × IfSome app.version (λ e. text_room e.text.now ≤ 64)
+    × HasBriefRelease app.outcome
+
+abbrev pub AreBrief : List AskedApp → Type 0
+AreBrief [] = ⊤
+AreBrief (app ∷ apps) = IsBrief app × AreBrief apps
+
+-- of such apps all stand in a line, or eleven at least, whatever their events are
+abbrev pub TellsEnough : List AskedApp → Type 0
+TellsEnough apps = AreBrief apps → (told_apps apps ≡ length apps) ⊎ (11 ≤ told_apps apps)

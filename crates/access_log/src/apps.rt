@@ -1,18 +1,20 @@
 //! The apps of a request, as a line tells them.
 
 ghost use Rattle.std.specs.Prelude.{◌≡◌, ◌≤◌, [], ◌∷◌, ◌++◌, true, false, cond, length, OnOk};
-ghost use Rattle.std.specs.List.{flat_map};
-ghost use Rattle.json.specs.Print.{print_from};
+ghost use Rattle.access_log.specs.Spelled.{spelled_from};
 ghost use Rattle.access_log.specs.Tokens.{AddsTokens, AddsMembers};
 ghost use Rattle.access_log.specs.Apps as specs;
+ghost use Rattle.access_log.specs.Room.{event_room};
 
 use crate::asked::{AskedApp, Outcome};
 use crate::excerpt::Excerpt;
+use crate::left_out::write_left_out;
 use crate::line_room::LineRoom;
 use crate::member::{
-    write_count, write_excerpt, write_flag, write_number, write_optional, write_text,
+    write_count, write_excerpt, write_flag, write_left_out_of, write_number,
+    write_optional_excerpt, write_text,
 };
-use crate::room::told_apps;
+use crate::room::{Told, behind_event, event_room, told_apps};
 use crate::text::write_quoted;
 use std::alloc::AllocError;
 
@@ -27,63 +29,72 @@ pub fn write_apps(line: &mut LineRoom, apps: &[AskedApp<'_>]) -> Result<(), Allo
     write_first(line, apps, told_apps(apps))
 }
 
-// So many of the first apps, and how many more there are.
-
-fn write_first(line: &mut LineRoom, apps: &[AskedApp<'_>], told: usize) -> Result<(), AllocError>
-    requires { told ≤ length apps.now }
+// So many of the first apps, and what is left out.
+fn write_first(line: &mut LineRoom, apps: &[AskedApp<'_>], told: Told) -> Result<(), AllocError>
+    requires { told.count ≤ length apps.now }
     ensures { OnOk result (AddsMembers line.old line.new
-        (specs.first_apps told apps.now)) }
+        (specs.first_apps told.count told.room apps.now)) }
 {
-    write_list(line, &apps[..told])?;
-    write_count(line, "left_out", (apps.len() - told) as u64)?;
+    let (first, others) = apps.split_at(told.count);
+    write_list(line, first, told.room)?;
+    write_left_out(line, others)?;
     Ok(())
 }
 
-fn write_list(line: &mut LineRoom, apps: &[AskedApp<'_>]) -> Result<(), AllocError>
-    ensures { OnOk result (AddsMembers line.old line.new (specs.list_of apps.now)) }
+// Apps whose events have so much room.
+fn write_list(line: &mut LineRoom, apps: &[AskedApp<'_>], room: usize) -> Result<(), AllocError>
+    ensures { OnOk result (AddsMembers line.old line.new (specs.list_of room apps.now)) }
 {
     line.put(b",\"apps\":[")?;
-    write_each(line, apps)?;
+    write_each(line, apps, room)?;
     line.put(b"]")?;
     Ok(())
 }
 
-fn write_each(line: &mut LineRoom, apps: &[AskedApp<'_>]) -> Result<(), AllocError>
+fn write_each(line: &mut LineRoom, apps: &[AskedApp<'_>], room: usize) -> Result<(), AllocError>
     ensures { OnOk result (line.new
-        ≡ line.old ++ print_from false (flat_map specs.app_object apps.now)) }
+        ≡ line.old ++ spelled_from false (specs.app_objects room apps.now)) }
 {
     let mut comma = false;
+    let mut left = room;
     for app in apps {
-        write_app(line, comma, app)?;
+        write_app(line, comma, app, left)?;
+        left = behind_event(left, &app.event);
         comma = true;
     }
     Ok(())
 }
 
 // An app, behind a comma or not.
-fn write_app(line: &mut LineRoom, comma: bool, app: &AskedApp<'_>) -> Result<(), AllocError>
+fn write_app(
+    line: &mut LineRoom,
+    comma: bool,
+    app: &AskedApp<'_>,
+    room: usize,
+) -> Result<(), AllocError>
     ensures { OnOk result (AddsTokens comma true line.old line.new
-        (specs.app_object app.now)) }
+        (specs.app_object room app.now)) }
 {
-    write_head(line, comma, app.appid)?;
-    write_optional(line, "version", app.version)?;
+    write_head(line, comma, app.appid.text)?;
+    write_left_out_of(line, "appid_left_out", &app.appid)?;
+    write_optional_excerpt(line, "version", "version_left_out", &app.version)?;
     write_number(line, "bucket", app.bucket as u64)?;
     write_flag(line, "named", app.named)?;
     write_outcome(line, &app.outcome)?;
-    write_event(line, &app.event)?;
+    write_event(line, &app.event, room)?;
     line.put(b"}")?;
     Ok(())
 }
 
 // The brace that opens an app, and its first member.
-#[tactic(auto, using(crate::proofs::Added::adds_head))]
+#[tactic(auto, using(crate::proofs::AddedApps::adds_head))]
 fn write_head(line: &mut LineRoom, comma: bool, appid: &str) -> Result<(), AllocError>
     ensures { OnOk result (AddsTokens comma true line.old line.new
         (specs.head_of appid.now)) }
 {
     write_comma(line, comma)?;
     line.put(b"{\"appid\":")?;
-    write_quoted(line, appid.as_bytes())?;
+    write_quoted(line, appid)?;
     Ok(())
 }
 
@@ -118,11 +129,39 @@ fn write_offer(line: &mut LineRoom, choice: u8, version: &str) -> Result<(), All
 }
 
 #[tactic(auto, using(crate::proofs::Added::adds_nothing))]
-fn write_event(line: &mut LineRoom, event: &Option<Excerpt<'_>>) -> Result<(), AllocError>
-    ensures { OnOk result (AddsMembers line.old line.new (specs.event_members event.now)) }
+fn write_event(
+    line: &mut LineRoom,
+    event: &Option<Excerpt<'_>>,
+    room: usize,
+) -> Result<(), AllocError>
+    ensures { OnOk result (AddsMembers line.old line.new (specs.event_members room event.now)) }
 {
     match event {
-        Some(event) => write_excerpt(line, "event", "event_left_out", event),
+        Some(event) => write_told_event(line, event, room),
         None => Ok(()),
     }
+}
+
+// An event, or how many bytes it has, where it has no room.
+fn write_told_event(line: &mut LineRoom, event: &Excerpt<'_>, room: usize) -> Result<(), AllocError>
+    ensures { OnOk result (AddsMembers line.old line.new
+        (specs.told_event room (event_room event.now) event.now)) }
+{
+    write_sized_event(line, event, room, event_room(event))
+}
+
+// The same of one that takes so much.
+fn write_sized_event(
+    line: &mut LineRoom,
+    event: &Excerpt<'_>,
+    room: usize,
+    size: usize,
+) -> Result<(), AllocError>
+    ensures { OnOk result (AddsMembers line.old line.new
+        (specs.told_event room size event.now)) }
+{
+    if room < size {
+        return write_count(line, "event_left_out", event.length);
+    }
+    write_excerpt(line, "event", "event_left_out", event)
 }

@@ -18,9 +18,9 @@ pub enum Outcome<'a> {
 /// An app of a request.
 #[derive(Clone, Copy)]
 pub struct AskedApp<'a> {
-    pub appid: &'a str,
+    pub appid: Excerpt<'a>,
     /// As the client wrote it, if it did.
-    pub version: Option<&'a str>,
+    pub version: Option<Excerpt<'a>>,
     /// From 0 to 9999.
     pub bucket: u16,
     /// Whether the client's cohort named the bucket.

@@ -1,8 +1,8 @@
 //! The line of an event.
 
 ghost use Rattle.std.specs.Prelude.{◌≡◌, ◌≤◌, ◌∷◌, [], ◌++◌, length, IfOk, OnOk};
-ghost use Rattle.json.specs.Print.{print};
 ghost use Rattle.access_log.specs.Line as specs;
+ghost use Rattle.access_log.specs.Spelled.{spelled};
 ghost use Rattle.access_log.specs.Tokens.{AddsMembers};
 
 use crate::event::LogEvent;
@@ -14,10 +14,12 @@ use crate::utc::Utc;
 use std::alloc::{AllocError, Global};
 
 /// The line of what happened at a time, with its line feed. Refused memory leaves no line.
+#[tactic(auto, using(crate::proofs::Enough::tells_apps))]
 pub fn log_line(alloc: Global, time: &Utc, event: &LogEvent<'_>) -> Result<Vec<u8>, AllocError>
     ensures text { IfOk result (λ line. line.items ≡ specs.event_line time.now event.now) }
     ensures limit { IfOk result (λ line. length line.items ≤ 4096) }
     ensures whole { IfOk result (λ line. specs.IsOneLine line.items) }
+    ensures apps { specs.TellsApps event.now }
 {
     let mut room = LineRoom::new(alloc);
     log_line_in(&mut room, time, event)?;
@@ -26,10 +28,12 @@ pub fn log_line(alloc: Global, time: &Utc, event: &LogEvent<'_>) -> Result<Vec<u
 
 /// The same, in the place of what stands in the room, which is kept from one line to the next.
 /// Where memory is refused a part of a line may stand there.
+#[tactic(auto, using(crate::proofs::Enough::tells_apps))]
 pub fn log_line_in(room: &mut LineRoom, time: &Utc, event: &LogEvent<'_>) -> Result<(), AllocError>
     ensures text { OnOk result (room.new ≡ specs.event_line time.now event.now) }
     ensures limit { OnOk result (length room.new ≤ 4096) }
     ensures whole { OnOk result (specs.IsOneLine room.new) }
+    ensures apps { specs.TellsApps event.now }
 {
     whole_line(room, time, event)?;
     let bytes = room.bytes().len();
@@ -64,7 +68,7 @@ fn too_long_line(room: &mut LineRoom, time: &Utc, bytes: usize) -> Result<(), Al
 
 // The brace that opens the object, and the time, in the place of what stands in the room.
 fn begin_line(room: &mut LineRoom, time: &Utc) -> Result<(), AllocError>
-    ensures { OnOk result (room.new ≡ print (specs.begun_at time.now)) }
+    ensures { OnOk result (room.new ≡ spelled (specs.begun_at time.now)) }
 {
     room.clear();
     room.put(b"{\"time\":\"")?;

@@ -1,11 +1,11 @@
 //! Members of an object of JSON behind other members, written one after another.
 
 ghost use Rattle.std.specs.Prelude.{◌≡◌, ◌++◌, true, OnOk, option_copied};
-ghost use Rattle.json.specs.Print.{token_text};
 ghost use Rattle.json.specs.Token.{boolean};
 ghost use Rattle.access_log.specs.Tokens.{AddsMembers};
 ghost use Rattle.access_log.specs.Members as specs;
 ghost use Rattle.access_log.specs.Plain.{is_plain_text};
+ghost use Rattle.access_log.specs.Spelled.{spelled_token};
 
 use crate::excerpt::Excerpt;
 use crate::line_room::LineRoom;
@@ -21,7 +21,7 @@ pub fn write_text(line: &mut LineRoom, name: &str, text: &str) -> Result<(), All
         (specs.text_member name.now text.now)) }
 {
     write_name(line, name)?;
-    write_quoted(line, text.as_bytes())?;
+    write_quoted(line, text)?;
     Ok(())
 }
 
@@ -67,7 +67,7 @@ pub fn write_flag(line: &mut LineRoom, name: &str, holds: bool) -> Result<(), Al
 // true or false
 #[inline(always)]
 fn write_bool(line: &mut LineRoom, holds: bool) -> Result<(), AllocError>
-    ensures { OnOk result (line.new ≡ line.old ++ token_text (boolean holds)) }
+    ensures { OnOk result (line.new ≡ line.old ++ spelled_token (boolean holds)) }
 {
     if holds {
         line.put(b"true")
@@ -104,8 +104,20 @@ pub fn write_count(line: &mut LineRoom, name: &str, n: u64) -> Result<(), AllocE
     write_number(line, name, n)
 }
 
-/// One that is a text which may be cut, and behind it how many bytes are left out, if any are.
+/// How many bytes are left out of a text, unless none are.
+pub fn write_left_out_of(
+    line: &mut LineRoom,
+    name: &str,
+    excerpt: &Excerpt<'_>,
+) -> Result<(), AllocError>
+    requires { is_plain_text name.now ≡ true }
+    ensures { OnOk result (AddsMembers line.old line.new
+        (specs.count_member name.now (specs.left_out excerpt.now))) }
+{
+    write_count(line, name, excerpt.left_out())
+}
 
+/// One that is a text which may be cut, and behind it how many bytes are left out, if any are.
 pub fn write_excerpt(
     line: &mut LineRoom,
     name: &str,
@@ -118,6 +130,25 @@ pub fn write_excerpt(
         (specs.excerpt_members name.now left_out.now excerpt.now)) }
 {
     write_text(line, name, excerpt.text)?;
-    write_count(line, left_out, excerpt.left_out)?;
+    write_left_out_of(line, left_out, excerpt)?;
     Ok(())
+}
+
+/// The same, where there is one.
+#[tactic(auto, using(crate::proofs::Added::adds_nothing))]
+pub fn write_optional_excerpt(
+    line: &mut LineRoom,
+    name: &str,
+    left_out: &str,
+    excerpt: &Option<Excerpt<'_>>,
+) -> Result<(), AllocError>
+    requires name { is_plain_text name.now ≡ true }
+    requires left_out { is_plain_text left_out.now ≡ true }
+    ensures { OnOk result (AddsMembers line.old line.new
+        (specs.optional_excerpt name.now left_out.now excerpt.now)) }
+{
+    match excerpt {
+        Some(excerpt) => write_excerpt(line, name, left_out, excerpt),
+        None => Ok(()),
+    }
 }

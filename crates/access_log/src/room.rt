@@ -1,110 +1,173 @@
 //! How many apps a line tells, reckoned before any is written: each takes room for its texts, as
-//! many bytes as they may have in JSON, and for all else.
+//! many bytes as they may have in JSON, and for all else. What is left is room for their events.
 
-ghost use Rattle.std.specs.Prelude.{◌≡◌, ◌*◌, ◌≤◌, length, option_copied};
+ghost use Rattle.std.specs.Prelude.{◌≡◌, ◌*◌, ◌≤◌, length};
+ghost use Rattle.std.specs.Str.{chars};
 ghost use Rattle.access_log.specs.Room as specs;
+ghost use Rattle.access_log.specs.Spelled.{spelled_text};
 
 use crate::asked::{AskedApp, Outcome};
 use crate::excerpt::Excerpt;
+use crate::text::is_obeyed;
+use crate::unescaped::is_plain;
 
 /// The most bytes of a line, with its line feed.
 pub const LINE_LIMIT: usize = 4096;
 
 /// What all apps of a line may take.
-const APPS_ROOM: usize = 3400;
+const APPS_ROOM: usize = 3660;
 
-/// What an app takes beside its texts.
-const APP_ROOM: usize = 140;
+/// What an app takes beside its texts, its version, its outcome and its event.
+const APP_ROOM: usize = 41;
 
-/// How many of these apps a line tells, from the first one on.
-pub fn told_apps(apps: &[AskedApp<'_>]) -> usize
-    ensures value { result ≡ specs.told_apps apps.now }
-    ensures within { result ≤ length apps.now }
+/// What a member takes that tells how much of a text is left out.
+const COUNT_ROOM: usize = 27;
+
+/// How many apps a line tells, from the first one on, and how much room they leave.
+#[derive(Clone, Copy)]
+pub struct Told {
+    pub count: usize,
+    pub room: usize,
+}
+
+/// What a line tells of these apps.
+pub fn told_apps(apps: &[AskedApp<'_>]) -> Told
+    ensures count { result.count ≡ specs.told_apps apps.now }
+    ensures within { result.count ≤ length apps.now }
+    ensures room { result.room ≡ specs.room_of_events apps.now }
+    ensures enough { specs.TellsEnough apps.now }
 {
     let mut room = APPS_ROOM;
-    let mut told = 0;
+    let mut count = 0;
     for app in apps {
         let size = app_room(app);
         if room < size {
-            return told;
+            return Told { count, room };
         }
         room -= size;
-        told += 1;
+        count += 1;
     }
-    told
+    Told { count, room }
 }
 
 fn app_room(app: &AskedApp<'_>) -> usize
     ensures { result ≡ specs.app_room app.now }
 {
     APP_ROOM
-        + text_room(app.appid)
-        + optional_room(app.version)
+        + excerpt_room(&app.appid)
+        + version_room(&app.version)
         + outcome_room(&app.outcome)
-        + event_room(&app.event)
+        + event_count_room(&app.event)
+}
+
+fn version_room(version: &Option<Excerpt<'_>>) -> usize
+    ensures value { result ≡ specs.version_room version.now }
+    ensures bound { result ≤ 24640 }
+{
+    match version {
+        Some(excerpt) => 13 + excerpt_room(excerpt),
+        None => 0,
+    }
 }
 
 fn outcome_room(outcome: &Outcome<'_>) -> usize
     ensures value { result ≡ specs.outcome_room outcome.now }
-    ensures bound { result ≤ 24576 }
+    ensures bound { result ≤ 24640 }
 {
     match outcome {
-        Outcome::Offered(_, version) => text_room(version),
-        Outcome::Unknown | Outcome::Unasked | Outcome::NoUpdate => 0,
+        Outcome::Offered(_, version) => 26 + text_room(version),
+        Outcome::Unasked => 0,
+        Outcome::Unknown | Outcome::NoUpdate => 15,
     }
 }
 
-fn event_room(event: &Option<Excerpt<'_>>) -> usize
-    ensures value { result ≡ specs.event_room event.now }
-    ensures bound { result ≤ 24576 }
+fn event_count_room(event: &Option<Excerpt<'_>>) -> usize
+    ensures value { result ≡ specs.event_count_room event.now }
+    ensures bound { result ≤ 27 }
 {
     match event {
-        Some(excerpt) => text_room(excerpt.text),
+        Some(_) => COUNT_ROOM,
         None => 0,
     }
 }
 
-fn optional_room(text: Option<&str>) -> usize
-    ensures value { result ≡ specs.optional_room (option_copied text.entry) }
-    ensures bound { result ≤ 24576 }
+fn excerpt_room(excerpt: &Excerpt<'_>) -> usize
+    ensures value { result ≡ specs.excerpt_room excerpt.now }
+    ensures bound { result ≤ 24603 }
 {
-    match text {
-        Some(text) => text_room(text),
-        None => 0,
+    let count = if excerpt.left_out() == 0 {
+        0
+    } else {
+        COUNT_ROOM
+    };
+    text_room(excerpt.text) + count
+}
+
+/// What an event takes beside the number of what is left out of it.
+pub fn event_room(event: &Excerpt<'_>) -> usize
+    ensures { result ≡ specs.event_room event.now }
+{
+    11 + text_room(event.text)
+}
+
+/// What an event leaves of this room.
+pub fn behind_event(room: usize, event: &Option<Excerpt<'_>>) -> usize
+    ensures { result ≡ specs.behind_event room event.now }
+{
+    match event {
+        Some(event) => behind_excerpt(room, event_room(event)),
+        None => room,
     }
 }
 
-fn text_room(text: &str) -> usize
+// What is left behind so much, where it has room.
+fn behind_excerpt(room: usize, size: usize) -> usize
+    ensures { result ≡ specs.left_after room size }
+{
+    if room < size { room } else { room - size }
+}
+
+/// The most bytes that a text takes in a line. One that is longer than a line takes more than it.
+#[tactic(auto, using(crate::proofs::Fits::text_fits))]
+pub fn text_room(text: &str) -> usize
     ensures value { result ≡ specs.text_room text.now }
-    ensures bound { result ≤ 24576 }
+    ensures bound { result ≤ 6 * length text.now }
+    ensures most { result ≤ 24576 }
+    ensures fits { length text.now ≤ 4096
+        → length (spelled_text text.now) ≤ specs.text_room text.now }
 {
     if text.len() > LINE_LIMIT {
         return LINE_LIMIT + 1;
     }
-    bytes_room(text.as_bytes())
+    let bytes = text.as_bytes();
+    if is_plain(bytes) {
+        return text.len();
+    }
+    chars_room(text)
 }
 
-fn bytes_room(bytes: &[u8]) -> usize
-    requires { length bytes.now ≤ 4096 }
-    ensures value { result ≡ specs.bytes_room bytes.now }
-    ensures bound { result ≤ 24576 }
+fn chars_room(text: &str) -> usize
+    requires { length text.now ≤ 4096 }
+    ensures value { result ≡ specs.chars_room (chars text.now) }
+    ensures bound { result ≤ 6 * length text.now }
 {
     let mut room = 0;
-    for byte in bytes {
-        room += byte_room(*byte);
+    for c in text.chars() {
+        room += char_room(c);
     }
     room
 }
 
-fn byte_room(byte: u8) -> usize
-    ensures value { result ≡ specs.byte_room byte }
+fn char_room(c: char) -> usize
+    ensures value { result ≡ specs.char_room c }
     ensures bound { result ≤ 6 }
 {
-    if byte < 32 {
+    let code = c as u32;
+    if is_obeyed(code) || code < 32 {
         6
-    } else if byte == b'"' || byte == b'\\' {
+    } else if c == '"' || c == '\\' {
         2
     } else {
-        1
+        c.len_utf8()
     }
 }

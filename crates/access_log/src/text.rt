@@ -1,9 +1,12 @@
-//! The text of JSON's tokens (RFC 8259), written as bytes behind what stands in a line.
+//! The text of JSON's tokens (RFC 8259), written as bytes behind what stands in a line. A character
+//! that a terminal may obey is escaped, too.
 
 ghost use Rattle.std.specs.Prelude.{◌≡◌, ◌++◌, ◌<◌, [], ◌∷◌, true, decimal, OnOk};
+ghost use Rattle.std.specs.Bool.{OnTrue};
 ghost use Rattle.std.specs.Char.{digit_char};
-ghost use Rattle.json.specs.Print.{escape_letter, escape_byte, escape, quoted};
-ghost use Rattle.access_log.specs.Plain as specs;
+ghost use Rattle.json.specs.Print.{escape_letter, escape_byte};
+ghost use Rattle.access_log.specs.Plain.{is_plain_text, named};
+ghost use Rattle.access_log.specs.Spelled as specs;
 
 use crate::line_room::LineRoom;
 use crate::unescaped::is_plain;
@@ -22,7 +25,7 @@ pub fn write_digits(line: &mut LineRoom, n: u64) -> Result<(), AllocError>
 /// A comma, a name in which nothing is to be escaped, and a colon.
 #[inline(always)]
 pub fn write_name(line: &mut LineRoom, name: &str) -> Result<(), AllocError>
-    ensures { OnOk result (line.new ≡ line.old ++ specs.named name.now) }
+    ensures { OnOk result (line.new ≡ line.old ++ named name.now) }
 {
     line.put(b",\"")?;
     line.put(name.as_bytes())?;
@@ -31,11 +34,11 @@ pub fn write_name(line: &mut LineRoom, name: &str) -> Result<(), AllocError>
 }
 
 /// A text between quotes.
-pub fn write_quoted(line: &mut LineRoom, text: &[u8]) -> Result<(), AllocError>
-    ensures { OnOk result (line.new ≡ line.old ++ quoted text.now) }
+pub fn write_quoted(line: &mut LineRoom, text: &str) -> Result<(), AllocError>
+    ensures { OnOk result (line.new ≡ line.old ++ specs.spelled_quoted text.now) }
 {
     line.put(b"\"")?;
-    write_escaped(line, text)?;
+    write_spelled(line, text)?;
     line.put(b"\"")?;
     Ok(())
 }
@@ -43,8 +46,8 @@ pub fn write_quoted(line: &mut LineRoom, text: &[u8]) -> Result<(), AllocError>
 /// A text in which nothing is to be escaped, between quotes.
 #[inline(always)]
 pub fn write_plain(line: &mut LineRoom, text: &[u8]) -> Result<(), AllocError>
-    requires { specs.is_plain_text text.now ≡ true }
-    ensures { OnOk result (line.new ≡ line.old ++ quoted text.now) }
+    requires { is_plain_text text.now ≡ true }
+    ensures { OnOk result (line.new ≡ line.old ++ specs.spelled_quoted text.now) }
 {
     line.put(b"\"")?;
     line.put(text)?;
@@ -53,24 +56,61 @@ pub fn write_plain(line: &mut LineRoom, text: &[u8]) -> Result<(), AllocError>
 }
 
 // A text with its escapes, of which most texts have none.
-fn write_escaped(line: &mut LineRoom, text: &[u8]) -> Result<(), AllocError>
-    ensures { OnOk result (line.new ≡ line.old ++ escape text.now) }
+fn write_spelled(line: &mut LineRoom, text: &str) -> Result<(), AllocError>
+    ensures { OnOk result (line.new ≡ line.old ++ specs.spelled_text text.now) }
 {
-    if is_plain(text) {
-        line.put(text)?;
+    let bytes = text.as_bytes();
+    if is_plain(bytes) {
+        line.put(bytes)?;
         return Ok(());
     }
-    write_each_escape(line, text)
+    write_each_char(line, text)
 }
 
 #[inline(never)]
-fn write_each_escape(line: &mut LineRoom, text: &[u8]) -> Result<(), AllocError>
-    ensures { OnOk result (line.new ≡ line.old ++ escape text.now) }
+fn write_each_char(line: &mut LineRoom, text: &str) -> Result<(), AllocError>
+    ensures { OnOk result (line.new ≡ line.old ++ specs.spelled_text text.now) }
 {
-    for byte in text {
-        write_escape(line, *byte)?;
+    for c in text.chars() {
+        write_char(line, c)?;
     }
     Ok(())
+}
+
+fn write_char(line: &mut LineRoom, c: char) -> Result<(), AllocError>
+    ensures { OnOk result (line.new ≡ line.old ++ specs.spelled_char c) }
+{
+    let code = c as u32;
+    if is_obeyed(code) {
+        return write_unicode_escape(line, code);
+    }
+    if code < 128 {
+        return write_escape(line, code as u8);
+    }
+    let mut bytes = [0; 4];
+    line.put(c.encode_utf8(&mut bytes).as_bytes())
+}
+
+/// Whether a terminal may obey a character of this code.
+pub fn is_obeyed(code: u32) -> bool
+    ensures value { result ≡ specs.is_obeyed code }
+    ensures small { OnTrue result (code < 65536) }
+{
+    matches!(code, 0x7f..=0x9f | 0x200e..=0x200f | 0x2028..=0x202e | 0x2066..=0x2069)
+}
+
+fn write_unicode_escape(line: &mut LineRoom, code: u32) -> Result<(), AllocError>
+    requires { code < 65536 }
+    ensures { OnOk result (line.new ≡ line.old ++ specs.unicode_escape code) }
+{
+    line.put(&[
+        b'\\',
+        b'u',
+        hex((code / 4096) as u8),
+        hex((code / 256 % 16) as u8),
+        hex((code / 16 % 16) as u8),
+        hex((code % 16) as u8),
+    ])
 }
 
 #[tactic(auto, unfolding(json::specs::Print::escape_byte))]

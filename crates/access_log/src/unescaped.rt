@@ -1,24 +1,23 @@
-//! Whether nothing is to be escaped in a text (RFC 8259, section 7), eight or sixteen bytes at a
-//! time. Two loads that overlap cover the end of a text.
+//! Whether nothing is to be escaped in a text, eight or sixteen bytes at a time. Two loads that
+//! overlap cover the end of a text.
 
-ghost use Rattle.std.specs.Prelude.{◌≡◌, ◌+◌, ◌≤◌, ◌<◌, length};
+ghost use Rattle.std.specs.Prelude.{◌≡◌, ◌+◌, ◌≤◌, ◌<◌, length, true};
 ghost use Rattle.std.specs.Bool.{OnTrue};
-ghost use Rattle.json.specs.Print.{escape};
-ghost use Rattle.json.specs.Written.{PlainBetween};
+ghost use Rattle.access_log.specs.Plain.{is_plain_text, StandBetween};
 
 use std::simd::prelude::*;
 
 /// That nothing is. Where it is unknown, something may be.
 #[inline(always)]
 pub fn is_plain(text: &[u8]) -> bool
-    ensures { OnTrue result (escape text.now ≡ text.now) }
+    ensures { OnTrue result (is_plain_text text.now ≡ true) }
 {
     all_plain(text)
 }
 
 #[inline(always)]
 fn all_plain(text: &[u8]) -> bool
-    ensures { OnTrue result (PlainBetween text.now 0 (length text.now)) }
+    ensures { OnTrue result (StandBetween text.now 0 (length text.now)) }
 {
     let len = text.len();
     if len >= 16 {
@@ -33,7 +32,7 @@ fn all_plain(text: &[u8]) -> bool
 #[inline(always)]
 fn long_plain(text: &[u8]) -> bool
     requires { 16 ≤ length text.now }
-    ensures { OnTrue result (PlainBetween text.now 0 (length text.now)) }
+    ensures { OnTrue result (StandBetween text.now 0 (length text.now)) }
 {
     let mut at = 0;
     while text.len() - at > 16 {
@@ -48,33 +47,35 @@ fn long_plain(text: &[u8]) -> bool
 #[inline(always)]
 fn plain_16(text: &[u8], at: usize) -> bool
     requires { at + 16 ≤ length text.now }
-    ensures { OnTrue result (PlainBetween text.now at (at + 16)) }
+    ensures { OnTrue result (StandBetween text.now at (at + 16)) }
 {
     let v = u8x16::from_slice(&text[at..]);
     (v.simd_eq(u8x16::splat(b'"'))
         | v.simd_eq(u8x16::splat(b'\\'))
-        | v.simd_lt(u8x16::splat(0x20))).to_bitmask()
+        | v.simd_lt(u8x16::splat(0x20))
+        | v.simd_ge(u8x16::splat(0x7f))).to_bitmask()
         == 0
 }
 
 #[inline(always)]
 fn plain_8(text: &[u8], at: usize) -> bool
     requires { at + 8 ≤ length text.now }
-    ensures { OnTrue result (PlainBetween text.now at (at + 8)) }
+    ensures { OnTrue result (StandBetween text.now at (at + 8)) }
 {
     let v = u8x8::from_slice(&text[at..]);
     (v.simd_eq(u8x8::splat(b'"'))
         | v.simd_eq(u8x8::splat(b'\\'))
-        | v.simd_lt(u8x8::splat(0x20))).to_bitmask()
+        | v.simd_lt(u8x8::splat(0x20))
+        | v.simd_ge(u8x8::splat(0x7f))).to_bitmask()
         == 0
 }
 
 #[inline(always)]
 fn few_plain(text: &[u8]) -> bool
-    ensures { OnTrue result (PlainBetween text.now 0 (length text.now)) }
+    ensures { OnTrue result (StandBetween text.now 0 (length text.now)) }
 {
     for &byte in text {
-        if byte == b'"' || byte == b'\\' || byte < 0x20 {
+        if byte == b'"' || byte == b'\\' || byte < 0x20 || byte >= 0x7f {
             return false;
         }
     }

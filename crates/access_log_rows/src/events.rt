@@ -46,10 +46,22 @@ const LINES: &str = r##"
 "unknown":true,"event":"[{\"a\":\"\\n\"}]"},{"appid":"editor","version":"","bucket":7,
 "named":false},{"appid":"\u0001\n/","bucket":7,"named":false,"choice":0,"event":"\t{}",
 "event_left_out":12}]}
+
+"kind":"connection","peer":"127.0.0.1:41248","forwarded":"203.0.113.7","status":200,
+"generation":5,"bytes":566,"micros":68,"apps":[{"appid":"\u009b31m","appid_left_out":3300,
+"version":"\u202e1","bucket":1,"named":false,"unknown":true},{"appid":"\u2028",
+"version":"1\u007f","version_left_out":1,"bucket":2,"named":false,"choice":64,
+"release":"2.0"}]}
 "##;
 
 fn whole(text: &str) -> Excerpt<'_> {
-    Excerpt { text, left_out: 0 }
+    cut(text, 0)
+}
+
+// A text behind which so many bytes are left out.
+fn cut(text: &str, left_out: u64) -> Excerpt<'_> {
+    let length = left_out.saturating_add(text.len() as u64);
+    Excerpt { text, length }
 }
 
 fn start(
@@ -105,8 +117,8 @@ fn app(
     event: Option<Excerpt<'static>>,
 ) -> AskedApp<'static> {
     AskedApp {
-        appid,
-        version,
+        appid: whole(appid),
+        version: version.map(whole),
         bucket,
         named: false,
         outcome,
@@ -116,10 +128,7 @@ fn app(
 
 // The lines of the server's own events, and of refused connections.
 fn told(alloc: Global) -> Result<String, Fail> {
-    let cut = Excerpt {
-        text: "a\tb",
-        left_out: 9,
-    };
+    let cut = cut("a\tb", 9);
     let mut lines = String::new(alloc);
     for event in [
         start(whole("m.toml"), None, 8080),
@@ -147,10 +156,6 @@ fn told(alloc: Global) -> Result<String, Fail> {
 
 // Those of connections whose requests were answered.
 fn answers(alloc: Global) -> Result<String, Fail> {
-    let cut = Excerpt {
-        text: "\t{}",
-        left_out: 12,
-    };
     let apps = [
         app(
             "q\"\\é",
@@ -160,10 +165,27 @@ fn answers(alloc: Global) -> Result<String, Fail> {
             Some(whole("[{\"a\":\"\\n\"}]")),
         ),
         app("editor", Some(""), 7, Outcome::Unasked, None),
-        app("\u{1}\n/", None, 7, Outcome::NoUpdate, Some(cut)),
+        app(
+            "\u{1}\n/",
+            None,
+            7,
+            Outcome::NoUpdate,
+            Some(cut("\t{}", 12)),
+        ),
+    ];
+    let strange = [
+        AskedApp {
+            appid: cut("\u{9b}31m", 3300),
+            ..app("", Some("\u{202e}1"), 1, Outcome::Unknown, None)
+        },
+        AskedApp {
+            version: Some(cut("1\u{7f}", 1)),
+            ..app("\u{2028}", None, 2, Outcome::Offered(64, "2.0"), None)
+        },
     ];
     let mut lines = line_at(alloc, &AT, &answered(&[NOTES]))?;
     lines.push_str(line_at(alloc, &AT, &answered(&apps))?.as_str())?;
+    lines.push_str(line_at(alloc, &AT, &answered(&strange))?.as_str())?;
     Ok(lines)
 }
 

@@ -1,7 +1,7 @@
 //! What the tests are given: a time, an app, a connection, and the line of an event.
 
-use access_log::{AskedApp, Connection, LogEvent, Outcome, Utc, log_line};
-use std::alloc::Global;
+use access_log::{AskedApp, Connection, Excerpt, LogEvent, Outcome, Utc, log_line};
+use std::alloc::{AllocError, Global};
 use std::io::{self, ErrorKind};
 
 /// 2026-11-24T12:19:16.042Z
@@ -17,8 +17,14 @@ pub(crate) const AT: Utc = Utc {
 
 /// An app that is offered a release.
 pub(crate) const NOTES: AskedApp<'static> = AskedApp {
-    appid: "notes",
-    version: Some("1.0"),
+    appid: Excerpt {
+        text: "notes",
+        length: 5,
+    },
+    version: Some(Excerpt {
+        text: "1.0",
+        length: 3,
+    }),
     bucket: 9999,
     named: true,
     outcome: Outcome::Offered(2, "1.1"),
@@ -44,4 +50,14 @@ pub(crate) fn answered<'a>(apps: &'a [AskedApp<'a>]) -> LogEvent<'a> {
 pub(crate) fn line_at(alloc: Global, at: &Utc, event: &LogEvent<'_>) -> io::Result<String> {
     let line = log_line(alloc, at, event)?;
     String::from_utf8(line).map_err(|_| io::Error::from(ErrorKind::InvalidData))
+}
+
+/// So many bytes `a`, and a text behind them.
+pub(crate) fn repeated(alloc: Global, count: usize, end: &str) -> Result<String, AllocError> {
+    let mut text = String::new(alloc);
+    for _ in 0..count {
+        text.push('a')?;
+    }
+    text.push_str(end)?;
+    Ok(text)
 }

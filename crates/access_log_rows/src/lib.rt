@@ -1,12 +1,16 @@
-//! Tests of the lines of a log: each kind of event, times, texts that are cut, requests of many
-//! apps, and lines that would be too long. The lines were written by hand.
+//! Tests of the lines of a log: each kind of event, times, texts with escapes and texts that are
+//! cut, requests of many apps, and lines that would be too long. The lines were written by hand.
 #![tactic(auto)]
 
+#[cfg(test)]
+mod apps;
 #[cfg(test)]
 mod events;
 #[cfg(test)]
 mod given;
 #[cfg(test)]
 mod limits;
+#[cfg(test)]
+mod texts;
 #[cfg(test)]
 mod times;

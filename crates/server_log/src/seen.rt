@@ -8,8 +8,8 @@ ghost use Rattle.server_log.specs.Seen.{IsUnseen, IsSameRequest};
 use crate::event_texts::event_texts;
 use crate::heard::Heard;
 use crate::kept_texts::{KeptTexts, TextPlace};
-use crate::seen_app::{KeptEvent, SeenApp};
-use access_log::AskedApp;
+use crate::seen_app::{KeptExcerpt, SeenApp};
+use access_log::{AskedApp, Excerpt};
 use answering::Witness;
 use attrs::{AppFacts, Bucket, hashed_bucket};
 use devices::Timed;
@@ -36,7 +36,7 @@ pub struct Seen {
     /// Room for what is read.
     room: Vec<u8>,
     texts: KeptTexts,
-    events: Vec<Option<KeptEvent>>,
+    events: Vec<Option<KeptExcerpt>>,
     apps: Vec<SeenApp>,
     /// Whether memory was refused to some of it.
     is_cut: bool,
@@ -153,14 +153,22 @@ impl Seen {
         }
     }
 
-    /// The apps, as a line tells them; none where memory was refused to some of them.
+    /// The apps, as a line tells them: those that the server knows before the others, so that an
+    /// unknown one takes the room of none of them; none where memory was refused to some of them.
     pub(crate) fn asked(&self) -> Result<Vec<AskedApp<'_>>, AllocError> {
         if self.is_cut {
             return Err(AllocError);
         }
         let mut asked = Vec::with_capacity(self.alloc, self.apps.len())?;
         for app in self.apps.iter() {
-            asked.push(app.asked(&self.texts))?;
+            if app.is_known {
+                asked.push(app.asked(&self.texts))?;
+            }
+        }
+        for app in self.apps.iter() {
+            if !app.is_known {
+                asked.push(app.asked(&self.texts))?;
+            }
         }
         Ok(asked)
     }
@@ -183,7 +191,7 @@ impl Seen {
         Ok(())
     }
 
-    fn event(&self, place: usize) -> Option<KeptEvent> {
+    fn event(&self, place: usize) -> Option<KeptExcerpt> {
         match self.events.get(place) {
             Some(event) => *event,
             None => None,
@@ -194,7 +202,7 @@ impl Seen {
     fn keep_events(&mut self, body: &[u8]) -> Result<(), AllocError> {
         for text in event_texts(self.alloc, body)? {
             let kept = match text {
-                Some(text) => Some(KeptEvent::of(&mut self.texts, &text)?),
+                Some(text) => Some(KeptExcerpt::of(&mut self.texts, Excerpt::of(&text))?),
                 None => None,
             };
             self.events.push(kept)?;

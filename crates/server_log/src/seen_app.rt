@@ -9,31 +9,42 @@ use std::alloc::AllocError;
 /// An app.
 #[derive(Clone, Copy)]
 pub(crate) struct SeenApp {
-    appid: TextPlace,
-    version: Option<TextPlace>,
+    appid: KeptExcerpt,
+    version: Option<KeptExcerpt>,
     bucket: u16,
     named: bool,
-    is_known: bool,
+    /// Whether the server has such an app.
+    pub(crate) is_known: bool,
     choice: Option<u8>,
     release: Option<TextPlace>,
-    event: Option<KeptEvent>,
+    event: Option<KeptExcerpt>,
 }
 
-/// The beginning of a member `event`, and how many bytes are left out.
+/// Where the beginning of a text stands, and how many bytes the whole text has.
 #[derive(Clone, Copy)]
-pub(crate) struct KeptEvent {
+pub(crate) struct KeptExcerpt {
     text: TextPlace,
-    left_out: u64,
+    length: u64,
 }
 
-impl KeptEvent {
-    /// Keeps what a line tells of an event.
-    pub(crate) fn of(texts: &mut KeptTexts, text: &str) -> Result<KeptEvent, AllocError> {
-        let excerpt = Excerpt::of(text);
-        Ok(KeptEvent {
+impl KeptExcerpt {
+    /// Keeps what a line tells of a text.
+    pub(crate) fn of(
+        texts: &mut KeptTexts,
+        excerpt: Excerpt<'_>,
+    ) -> Result<KeptExcerpt, AllocError> {
+        Ok(KeptExcerpt {
             text: texts.keep(excerpt.text)?,
-            left_out: excerpt.left_out,
+            length: excerpt.length,
         })
+    }
+
+    // As a line tells it.
+    fn excerpt<'x>(&self, texts: &'x KeptTexts) -> Excerpt<'x> {
+        Excerpt {
+            text: texts.at(self.text),
+            length: self.length,
+        }
     }
 }
 
@@ -44,14 +55,14 @@ impl SeenApp {
         app: &AppFacts,
         found: &Option<FoundApp<'_>>,
         hashed: Bucket,
-        event: Option<KeptEvent>,
+        event: Option<KeptExcerpt>,
     ) -> Result<SeenApp, AllocError> {
         let (bucket, choice, release) = match found {
             Some(found) => (found.bucket(), found.choice(), release_of(texts, found)?),
             None => (named_or_hashed(app, hashed.number()), None, None),
         };
         Ok(SeenApp {
-            appid: texts.keep(app.appid.as_str())?,
+            appid: KeptExcerpt::of(texts, Excerpt::brief(app.appid.as_str()))?,
             version: kept(texts, &app.version)?,
             bucket,
             named: is_named(&app.cohort),
@@ -65,8 +76,8 @@ impl SeenApp {
     /// As a line tells it.
     pub(crate) fn asked<'x>(&self, texts: &'x KeptTexts) -> AskedApp<'x> {
         AskedApp {
-            appid: texts.at(self.appid),
-            version: texts.at_some(self.version),
+            appid: self.appid.excerpt(texts),
+            version: excerpt_of(texts, self.version),
             bucket: self.bucket,
             named: self.named,
             outcome: self.outcome(texts),
@@ -100,9 +111,9 @@ fn release_of(
     }
 }
 
-fn kept(texts: &mut KeptTexts, text: &Option<Text>) -> Result<Option<TextPlace>, AllocError> {
+fn kept(texts: &mut KeptTexts, text: &Option<Text>) -> Result<Option<KeptExcerpt>, AllocError> {
     match text {
-        Some(text) => Ok(Some(texts.keep(text.as_str())?)),
+        Some(text) => Ok(Some(KeptExcerpt::of(texts, Excerpt::brief(text.as_str()))?)),
         None => Ok(None),
     }
 }
@@ -115,12 +126,9 @@ fn is_named(cohort: &Option<Text>) -> bool {
     }
 }
 
-fn excerpt_of<'x>(texts: &'x KeptTexts, event: Option<KeptEvent>) -> Option<Excerpt<'x>> {
-    match event {
-        Some(event) => Some(Excerpt {
-            text: texts.at(event.text),
-            left_out: event.left_out,
-        }),
+fn excerpt_of<'x>(texts: &'x KeptTexts, kept: Option<KeptExcerpt>) -> Option<Excerpt<'x>> {
+    match kept {
+        Some(kept) => Some(kept.excerpt(texts)),
         None => None,
     }
 }

@@ -14,6 +14,8 @@ mod counters;
 #[cfg(test)]
 mod crew;
 #[cfg(test)]
+mod crowded;
+#[cfg(test)]
 mod ends;
 #[cfg(test)]
 mod exchange;

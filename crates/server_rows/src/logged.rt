@@ -141,6 +141,7 @@ struct Lines {
 fn ask_rows<H>(
     rt: &H,
     place: SocketAddr,
+    rows: &str,
     pieces: &Receiver<LogPiece>,
     lines: &mut Lines,
 ) -> Result<(), Fail>
@@ -148,7 +149,7 @@ where
     H: Wait + Net<Stream = TcpStream> + AllocGlobal,
 {
     let mut streams = Vec::new(rt.alloc());
-    for row in ROWS.trim().split("\n\n") {
+    for row in rows.trim().split("\n\n") {
         let (headers, rest) = row.split_once('\n').ok_or("a row of four lines")?;
         let (body, told) = rest.split_once('\n').ok_or("a row of four lines")?;
         streams.push((asked(rt, place, headers, body)?, told))?;
@@ -164,6 +165,7 @@ where
 fn heard<H>(
     rt: &H,
     place: SocketAddr,
+    rows: &str,
     stop: &AtomicBool,
     pieces: &Receiver<LogPiece>,
 ) -> Result<Lines, Fail>
@@ -174,7 +176,7 @@ where
         wanted: String::new(rt.alloc()),
         kept: String::new(rt.alloc()),
     };
-    let asked = ask_rows(rt, place, pieces, &mut lines);
+    let asked = ask_rows(rt, place, rows, pieces, &mut lines);
     halt(rt, place, stop);
     asked?;
     Ok(lines)
@@ -202,8 +204,8 @@ fn is_log(alloc: Global, kept: &str, wanted: &str) -> Result<bool, AllocError> {
     Ok(others.as_str() == wanted && kept.contains(UNACCEPTED))
 }
 
-/// Whether the log of a server with these workers is as it should be, once the server has ended.
-fn is_logged_by<H>(rt: &H, crew: Crew) -> Result<bool, Fail>
+/// Whether the log of a server with these workers is as these rows say, once the server has ended.
+fn is_logged_by<H>(rt: &H, crew: Crew, rows: &str) -> Result<bool, Fail>
 where
     H: Threads + Wait + AllocGlobal + Clock + Sync,
     H: Net<Listener = TcpListener, Stream = TcpStream>,
@@ -217,7 +219,7 @@ where
     let (ended, heard) = thread::join(
         rt,
         || serves(&still, &Open, listener, crew, &stop, logging_to(&queue)),
-        || heard(rt, place, &stop, &pieces),
+        || heard(rt, place, rows, &stop, &pieces),
     );
     let mut lines = heard?;
     take(rt, &pieces, &mut lines.kept)?;
@@ -232,15 +234,15 @@ pub(crate) fn logging_to<'a>(queue: &'a LogQueue) -> Service<'a> {
     }
 }
 
-/// The same of a server with one worker.
-fn is_logged<H>(rt: &H) -> Result<bool, Fail>
+/// The same of a server of a manifest with one worker.
+pub(crate) fn is_logged<H>(rt: &H, path: &str, rows: &str) -> Result<bool, Fail>
 where
     H: Threads + Wait + AllocGlobal + Clock + Sync,
     H: Net<Listener = TcpListener, Stream = TcpStream>,
 {
-    let mut publisher = publisher_of(rt, rt.alloc(), "nothing", 1)?;
+    let mut publisher = publisher_of(rt, rt.alloc(), path, 1)?;
     let is_logged = match crew_of(rt.alloc(), &mut publisher, 1) {
-        Ok(crew) => is_logged_by(rt, crew),
+        Ok(crew) => is_logged_by(rt, crew, rows),
         Err(fault) => Err(fault),
     };
     publisher.close(rt);
@@ -249,6 +251,6 @@ where
 
 #[test]
 fn log_has_a_line_a_connection(rt: HostRuntime) -> Result<(), Fail> {
-    assert!(rt; is_logged(&rt)?);
+    assert!(rt; is_logged(&rt, "nothing", ROWS)?);
     Ok(())
 }

@@ -1,5 +1,7 @@
-use Rattle.access_log.proofs.Added.{then_adds}
+use Rattle.access_log.proofs.AddedApps.{adds_first}
 use Rattle.access_log.proofs.apps.write_first.Goals as goal
 
 pub returns : goal.returns
-returns c = then_adds c.in_ok-write_list.ensures c.in_ok-write_count.ensures
+returns c =
+    adds_first c.args.told.count c.args.told.room c.args.apps.now c.split_at.ensures.front
+    c.split_at.ensures.back c.in_ok-write_list.ensures c.in_ok-write_left_out.ensures

@@ -1,5 +1,5 @@
-use Rattle.json.proofs.Printed.Plain.{escape_on_plain}
+use Rattle.access_log.proofs.Lanes.{plain_if}
 use Rattle.access_log.proofs.unescaped.is_plain.Goals as goal
 
 pub returns : goal.returns
-returns c = escape_on_plain c.all_plain.result c.args.text.now c.all_plain.ensures
+returns c = plain_if c.all_plain.result c.args.text.now c.all_plain.ensures

@@ -1,0 +1,146 @@
+-- What is added of apps behind a line in several steps.
+use Rattle.std.proofs.Common.{◌≡◌, ℕ, ◌+◌, ◌<◌, ◌≤◌, List, [], ◌∷◌, ◌++◌, Bool, true, false, cond}
+use Rattle.std.proofs.Common.{length, drop, take, get_or, sym, ap, subst, ◌∙◌, append_assoc, refl}
+use Rattle.std.proofs.Common.{append-nil, codes}
+use Rattle.std.proofs.lemmas.Bool.{lt-ltb, le-ltb}
+use Rattle.std.proofs.lemmas.List.{drop_all, drop_more}
+use Rattle.std.specs.Prelude.{if◌then◌else◌}
+use Rattle.std.specs.Str.{chars}
+use Rattle.json.specs.Print.{escape_byte}
+use Rattle.json.specs.Token.{end_object, end_array}
+use Rattle.access_log.specs.Apps.{app_object, app_objects, head_of, list_of}
+use Rattle.access_log.specs.Apps.{told_event, offers_in, unknown_in, left_out_members}
+use Rattle.access_log.specs.Apps.{first_apps}
+use Rattle.access_log.specs.Members.{count_member, excerpt_members}
+use Rattle.access_log.specs.Room.{behind_event}
+use Rattle.access_log.specs.Spelled.{spelled_from, spelled_quoted}
+use Rattle.access_log.specs.Tokens.{AddsTokens, ends_behind}
+use Rattle.access_log.specs.declared.asked.AskedApp.{AskedApp}
+use Rattle.access_log.specs.declared.excerpt.Excerpt.{Excerpt}
+use Rattle.access_log.proofs.Added.{spelled_from-append, ends_joined, then_adds}
+
+three_texts : (a x y z : List ℕ) → ((a ++ x) ++ y) ++ z ≡ a ++ (x ++ (y ++ (z ++ [])))
+three_texts a x y z =
+    ap (λ v. ((a ++ x) ++ y) ++ v) (sym (append-nil z))
+    ∙ ap (λ l. l ++ (z ++ [])) (append_assoc a x y)
+    ∙ append_assoc a (x ++ y) (z ++ [])
+    ∙ ap (λ l. a ++ l) (append_assoc x y (z ++ []))
+
+pub adds_head : {a b c d appid : List ℕ} (comma : Bool) → b ≡ a ++ cond comma (44 ∷ []) []
+    → c ≡ b ++ codes "{\"appid\":" → d ≡ c ++ spelled_quoted appid
+    → AddsTokens comma true a d (head_of appid)
+unfolding spelled_from escape_byte chars
+adds_head {a} {b} {c} {d} {appid} true first next last = record {
+  text =
+      last ∙ ap (λ l. l ++ spelled_quoted appid) next
+      ∙ ap (λ l. (l ++ codes "{\"appid\":") ++ spelled_quoted appid) first
+      ∙ three_texts a (44 ∷ []) (codes "{\"appid\":") (spelled_quoted appid);
+  ended = refl;
+}
+adds_head {a} {b} {c} {d} {appid} false first next last = record {
+  text =
+      last ∙ ap (λ l. l ++ spelled_quoted appid) next
+      ∙ ap (λ l. (l ++ codes "{\"appid\":") ++ spelled_quoted appid) first
+      ∙ three_texts a [] (codes "{\"appid\":") (spelled_quoted appid);
+  ended = refl;
+}
+
+pub adds_end : {a b : List ℕ} → b ≡ a ++ 125 ∷ [] → AddsTokens true true a b (end_object ∷ [])
+unfolding spelled_from
+adds_end is = record { text = is; ended = refl }
+
+-- the app at a place behind those before it, and what it leaves to the events behind its own
+pub one_more : {all line new : List ℕ} {comma : Bool} (apps : List AskedApp) (i room left : ℕ)
+    (d : AskedApp) → i < length apps → left ≡ behind_event room (get_or apps i d).event
+    → AddsTokens comma true line new (app_object room (get_or apps i d))
+    → line ++ spelled_from comma (app_objects room (drop i apps)) ≡ all
+    → new ++ spelled_from true (app_objects left (drop (i + 1) apps)) ≡ all
+unfolding app_objects
+one_more {all} {line} {new} {comma} apps i room left d within behind adds before =
+    let app = get_or apps i d in
+    let rest = app_objects (behind_event room app.event) (drop (i + 1) apps) in
+    ap (λ (n : ℕ). new ++ spelled_from true (app_objects n (drop (i + 1) apps))) behind
+    ∙ ap (λ l. l ++ spelled_from true rest) adds.text
+    ∙ append_assoc line (spelled_from comma (app_object room app)) (spelled_from true rest)
+    ∙ ap (λ s. line ++ (spelled_from comma (app_object room app) ++ spelled_from s rest))
+    (sym adds.ended)
+    ∙ ap (λ l. line ++ l) (sym (spelled_from-append comma (app_object room app) rest))
+    ∙ ap (λ l. line ++ spelled_from comma (app_objects room l)) (sym (drop_more apps i d within))
+    ∙ before
+
+pub no_more : {all line : List ℕ} (comma : Bool) (apps : List AskedApp) (i room : ℕ)
+    → length apps ≤ i
+    → line ++ spelled_from comma (app_objects room (drop i apps)) ≡ all
+    → line ≡ all
+unfolding spelled_from app_objects
+no_more {all} {line} comma apps i room past before =
+    sym (append-nil line)
+    ∙ ap (λ l. line ++ spelled_from comma (app_objects room l)) (sym (drop_all i apps past))
+    ∙ before
+
+closed : (before : Bool) → spelled_from before (end_array ∷ []) ≡ 93 ∷ []
+unfolding spelled_from
+closed true = refl
+closed false = refl
+
+pub adds_list : {a b c d : List ℕ} (room : ℕ) (apps : List AskedApp)
+    → b ≡ a ++ codes ",\"apps\":["
+    → c ≡ b ++ spelled_from false (app_objects room apps) → d ≡ c ++ 93 ∷ []
+    → AddsTokens true true a d (list_of room apps)
+unfolding spelled_from escape_byte chars
+adds_list {a} {b} {c} {d} room apps first next last =
+    let objects = app_objects room apps in
+    let name = codes ",\"apps\":[" in
+    let shown = spelled_from false objects in
+    record {
+      text =
+          last ∙ ap (λ l. l ++ 93 ∷ []) (next ∙ ap (λ l. l ++ shown) first)
+          ∙ append_assoc (a ++ name) shown (93 ∷ []) ∙ append_assoc a name (shown ++ 93 ∷ [])
+          ∙ ap (λ l. a ++ (name ++ (shown ++ l)))
+          (sym (closed (ends_behind false objects)))
+          ∙ ap (λ l. a ++ (name ++ l)) (sym (spelled_from-append false objects (end_array ∷ [])));
+      ended = ends_joined false objects (end_array ∷ []);
+    }
+
+pub adds_no_event : {a b : List ℕ} (room size : ℕ) (e : Excerpt) → room < size
+    → AddsTokens true true a b (count_member (codes "event_left_out") e.length)
+    → AddsTokens true true a b (told_event room size e)
+adds_no_event {a} {b} room size e less adds =
+    subst
+    (λ (full : Bool). AddsTokens true true a b
+    (if full then count_member (codes "event_left_out") e.length
+    else excerpt_members (codes "event") (codes "event_left_out") e))
+    (sym (lt-ltb room size less)) adds
+
+pub adds_event : {a b : List ℕ} (room size : ℕ) (e : Excerpt) → size ≤ room
+    → AddsTokens true true a b (excerpt_members (codes "event") (codes "event_left_out") e)
+    → AddsTokens true true a b (told_event room size e)
+adds_event {a} {b} room size e enough adds =
+    subst
+    (λ (full : Bool). AddsTokens true true a b
+    (if full then count_member (codes "event_left_out") e.length
+    else excerpt_members (codes "event") (codes "event_left_out") e))
+    (sym (le-ltb room size enough)) adds
+
+pub adds_others : {a b c d : List ℕ} {offers unknown : ℕ} (apps : List AskedApp)
+    → offers ≡ offers_in apps → unknown ≡ unknown_in apps
+    → AddsTokens true true a b (count_member (codes "left_out") (length apps))
+    → AddsTokens true true b c (count_member (codes "offers_left_out") offers)
+    → AddsTokens true true c d (count_member (codes "unknown_left_out") unknown)
+    → AddsTokens true true a d (left_out_members apps)
+adds_others {a} {b} {c} {d} apps is also first next last =
+    then_adds
+    (then_adds first
+    (subst
+    (λ (n : ℕ). AddsTokens true true b c (count_member (codes "offers_left_out") n)) is next))
+    (subst
+    (λ (n : ℕ). AddsTokens true true c d (count_member (codes "unknown_left_out") n)) also last)
+
+pub adds_first : {a b c : List ℕ} {front back : List AskedApp} (n room : ℕ) (apps : List AskedApp)
+    → front ≡ take n apps → back ≡ drop n apps → AddsTokens true true a b (list_of room front)
+    → AddsTokens true true b c (left_out_members back)
+    → AddsTokens true true a c (first_apps n room apps)
+adds_first {a} {b} {c} n room apps is also first last =
+    then_adds
+    (subst (λ (xs : List AskedApp). AddsTokens true true a b (list_of room xs)) is first)
+    (subst (λ (xs : List AskedApp). AddsTokens true true b c (left_out_members xs)) also last)

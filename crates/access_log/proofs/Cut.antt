@@ -1,0 +1,37 @@
+-- A text is cut at the last place where what stands before it is brief.
+use Rattle.std.proofs.Common.{◌≡◌, ℕ, ◌-◌, ◌<◌, ◌≤◌, ◌⊎◌, inl, inr, List, take, sym, subst, arith}
+use Rattle.std.proofs.Common.{ap, ◌∙◌, slice_range}
+use Rattle.std.specs.Str.{IsCharBoundary}
+use Rattle.std.proofs.lemmas.Bool.{cases_order}
+use Rattle.access_log.specs.Room.{text_room}
+
+-- no place from one up to 64 is right
+abbrev pub IsTooLong : List ℕ → ℕ → Type 0
+IsTooLong text end =
+    (i : ℕ) → end < i → i ≤ 64 → IsCharBoundary text i → 64 < text_room (take i text)
+
+at_one : (text : List ℕ) (end next i : ℕ) → 64 < text_room (take end text)
+    → ((k : ℕ) → next < k → k ≤ end - 1 → ¬ IsCharBoundary text k)
+    → IsTooLong text end → next < i → i ≤ 64 → IsCharBoundary text i
+    → (i ≡ end) ⊎ ((i < end) ⊎ (end < i)) → 64 < text_room (take i text)
+at_one text end next i over none before above few bound (inl same) =
+    subst (λ (k : ℕ). 64 < text_room (take k text)) (sym same) over
+at_one text end next i over none before above few bound (inr (inl less)) =
+    absurd (none i above (omega (arith, less)) bound)
+at_one text end next i over none before above few bound (inr (inr more)) =
+    before i more few bound
+
+-- one place further to the front
+pub further : (text : List ℕ) (end next : ℕ) → 64 < text_room (take end text)
+    → ((k : ℕ) → next < k → k ≤ end - 1 → ¬ IsCharBoundary text k)
+    → IsTooLong text end → IsTooLong text next
+further text end next over none before i above few bound =
+    at_one text end next i over none before above few bound (cases_order i end)
+
+-- what stands before a place takes more, as it was reckoned
+pub over_at : (text : List ℕ) (end room : ℕ) {part : List ℕ} → part ≡ slice_range text 0 end
+    → room ≡ text_room part → 64 < room → 64 < text_room (take end text)
+over_at text end room is value more =
+    let all : end - 0 ≡ end = omega arith in
+    subst (λ (n : ℕ). 64 < n)
+    (value ∙ ap text_room is ∙ ap (λ (n : ℕ). text_room (take n text)) all) more

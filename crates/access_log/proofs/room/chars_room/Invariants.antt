@@ -1,0 +1,11 @@
+use Rattle.std.proofs.Common.{◌≡◌, ◌+◌, ◌*◌, ◌≤◌, IsUtf8, chars, length}
+use Rattle.std.specs.Str.Iter.{chars_rest}
+use Rattle.access_log.specs.Room.{chars_room}
+use Rattle.access_log.proofs.room.chars_room.Given as goal
+
+-- with the characters that are left it is the whole
+abbrev pub invariant-loop-c : goal.invariant-loop-c
+invariant-loop-c l =
+    IsUtf8 (chars_rest l.c-iterator)
+    × (l.room + chars_room (chars (chars_rest l.c-iterator)) ≡ chars_room (chars l.fn.text))
+    × (l.room + 6 * length (chars_rest l.c-iterator) ≤ 6 * length l.fn.text)

@@ -1,0 +1,140 @@
+//! Requests of many apps: how many of them stand in a line, what is left out, and which events have
+//! room.
+
+use crate::given::{AT, NOTES, answered, line_at, repeated};
+use access_log::{AskedApp, Excerpt, Outcome};
+use std::alloc::Global;
+use std::test::Fail;
+
+// The line of a request that asks of an app so often.
+fn line_of(alloc: Global, app: AskedApp<'_>, count: usize) -> Result<String, Fail> {
+    let mut apps = Vec::new(alloc);
+    for _ in 0..count {
+        apps.push(app)?;
+    }
+    Ok(line_at(alloc, &AT, &answered(&apps))?)
+}
+
+// How often a line has this.
+fn times(line: &str, part: &str) -> usize {
+    line.split(part).count().saturating_sub(1)
+}
+
+/// How many bytes an appid of as many `a` has, how many such apps ask, and how many of them the
+/// line tells: 3660 bytes have room for so many of 72 and the appid's, which has at most 91.
+const APPS: &[(usize, usize, usize)] = &[
+    (0, 1, 1),
+    (5, 47, 47),
+    (5, 48, 47),
+    (5, 256, 47),
+    (64, 26, 26),
+    (64, 27, 26),
+    (65, 22, 22),
+    (65, 23, 22),
+    (3300, 256, 22),
+    (100000, 1, 1),
+];
+
+#[test]
+fn as_many_apps_are_told_as_have_room(rt: HostRuntime) -> Result<(), Fail> {
+    for (length, count, wanted) in APPS {
+        let appid = repeated(rt.alloc(), *length, "")?;
+        let app = AskedApp {
+            appid: Excerpt::brief(&appid),
+            outcome: Outcome::NoUpdate,
+            ..NOTES
+        };
+        let line = line_of(rt.alloc(), app, *count)?;
+        let found = times(&line, "\"appid\"");
+        assert!(rt; found == *wanted, "{length} {count}: {found}");
+        assert!(rt; line.len() <= 4096, "{length} {count}");
+        let end = match count - wanted {
+            0 => format!(in rt.alloc(); "]}}\n")?,
+            left_out => format!(in rt.alloc(); "],\"left_out\":{left_out}}}\n")?,
+        };
+        assert!(rt; line.ends_with(end.as_str()), "{length} {count}: {line}");
+    }
+    Ok(())
+}
+
+/// Eleven apps stand, whatever a client wrote of them and a manifest has: all texts are cut, and no
+/// event has room.
+#[test]
+fn eleven_apps_stand_at_least(rt: HostRuntime) -> Result<(), Fail> {
+    let long = repeated(rt.alloc(), 1000, "")?;
+    let app = AskedApp {
+        appid: Excerpt::brief(&long),
+        version: Some(Excerpt::brief(&long)),
+        outcome: Outcome::Offered(64, "4294967295.4294967295.4294967295.4294967295"),
+        event: Some(Excerpt::of(&long)),
+        ..NOTES
+    };
+    let line = line_of(rt.alloc(), app, 12)?;
+    assert_eq!(rt; times(&line, "\"appid_left_out\":936"), 11);
+    assert_eq!(rt; times(&line, "\"version_left_out\":936"), 11);
+    assert_eq!(rt; times(&line, "\"event_left_out\":1000"), 11);
+    assert_eq!(rt; times(&line, "\"event\":"), 0);
+    assert!(rt;
+        line.ends_with("],\"left_out\":1,\"offers_left_out\":1}\n"),
+        "{line}"
+    );
+    assert!(rt; line.len() <= 4096);
+    Ok(())
+}
+
+/// Thirty apps have room, and behind them one event of 512 bytes.
+#[test]
+fn events_take_no_room_of_apps(rt: HostRuntime) -> Result<(), Fail> {
+    let event = repeated(rt.alloc(), 512, "")?;
+    let app = AskedApp {
+        event: Some(Excerpt::of(&event)),
+        outcome: Outcome::NoUpdate,
+        ..NOTES
+    };
+    let line = line_of(rt.alloc(), app, 30)?;
+    assert_eq!(rt; times(&line, "\"appid\""), 30);
+    assert_eq!(rt; times(&line, "\"event\":"), 1);
+    assert_eq!(rt; times(&line, "\"event_left_out\":512"), 29);
+    assert!(rt; line.len() <= 4096);
+    Ok(())
+}
+
+/// How many apps of one letter are offered the release 1.1, how many ask for no update behind them,
+/// how many are unknown, and how the line ends. They take 87, 58 and 73 bytes.
+const KINDS: &[(usize, usize, usize, &str)] = &[
+    (42, 0, 0, "]}\n"),
+    (42, 1, 0, "],\"left_out\":1}\n"),
+    (41, 0, 2, "],\"left_out\":1,\"unknown_left_out\":1}\n"),
+    (41, 1, 1, "],\"left_out\":1,\"unknown_left_out\":1}\n"),
+    (45, 0, 0, "],\"left_out\":3,\"offers_left_out\":3}\n"),
+    (
+        45,
+        0,
+        4,
+        "],\"left_out\":7,\"offers_left_out\":3,\"unknown_left_out\":4}\n",
+    ),
+    (256, 0, 0, "],\"left_out\":214,\"offers_left_out\":214}\n"),
+];
+
+#[test]
+fn what_is_left_out_is_counted_by_kind(rt: HostRuntime) -> Result<(), Fail> {
+    for (offers, others, unknown, end) in KINDS {
+        let mut apps = Vec::new(rt.alloc());
+        for (count, outcome) in [
+            (*offers, Outcome::Offered(2, "1.1")),
+            (*others, Outcome::Unasked),
+            (*unknown, Outcome::Unknown),
+        ] {
+            for _ in 0..count {
+                apps.push(AskedApp {
+                    appid: Excerpt::brief("x"),
+                    outcome,
+                    ..NOTES
+                })?;
+            }
+        }
+        let line = line_at(rt.alloc(), &AT, &answered(&apps))?;
+        assert!(rt; line.ends_with(*end), "{offers} {others} {unknown}: {line}");
+    }
+    Ok(())
+}
