@@ -11,6 +11,7 @@ use Rattle.charts.specs.Shares.{app_title}
 use Rattle.charts.specs.Shown.{Offer, Simulation, apps_gone, choice_name, choices_among}
 use Rattle.charts.specs.Shown.{offer_of, version_at}
 use Rattle.charts.specs.declared.moves.MoveWidths.{MoveWidths}
+use Rattle.printing.specs.Printed.{printed}
 use Rattle.simulation.specs.Counts.{buckets_moving}
 use Rattle.ruleset.specs.Rules.{AppRule}
 
@@ -50,7 +51,7 @@ loses now next from to =
 -- 9 at least
 abbrev pub move_widths : (appid : List ℕ) → (now next : List (List ℕ)) → MoveWidths
 move_widths appid now next = record {
-  app = max (width_of appid + 4) 15;
+  app = max (width_of (printed appid) + 4) 15;
   now = widest 9 now;
   next = widest 9 next;
 }

@@ -6,6 +6,7 @@ use Rattle.std.specs.Prelude.{◌==◌, if◌then◌else◌}
 use Rattle.std.specs.List.{flat_map}
 use Rattle.charts.specs.Columns.{at_left, at_right, bar, percent, widest}
 use Rattle.charts.specs.Shown.{Simulation, choices_among, version_at, versions_of}
+use Rattle.printing.specs.Printed.{printed}
 use Rattle.simulation.specs.Counts.{buckets_with}
 use Rattle.ruleset.specs.Rules.{AppRule}
 use Rattle.ruleset.specs.Texts.{line}
@@ -46,9 +47,9 @@ row_of_choice versions choices choice =
 abbrev pub rows_of : List (List ℕ) → List ℕ → List ℕ
 rows_of versions choices = flat_map (row_of_choice versions choices) (choices_among versions)
 
--- what stands above an app's rows, without its line feed
+-- what stands above an app's rows, without its line feed: the appid as it is printed
 abbrev pub app_title : List ℕ → List ℕ
-app_title appid = codes "app " ++ appid
+app_title appid = codes "app " ++ printed appid
 
 -- the table of an app
 abbrev pub shares_table : AppRule → List ℕ → List ℕ

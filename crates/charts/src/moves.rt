@@ -11,6 +11,7 @@ use crate::labels::{choice_name, release_count, widest_version};
 use crate::lost::loses;
 use crate::shares::push_title;
 use crate::simulated::{Offered, Simulated};
+use printing::Printed;
 use ruleset::App;
 use simulation::{Choices, count_moves};
 use std::alloc::{AllocError, Global};
@@ -110,16 +111,22 @@ fn push_table(
         (offered (option_copied now.entry.0) now.entry.1.now)
         (offered (option_copied next.entry.0) next.entry.1.now))) }
 {
-    let widths = widths_of(appid, now.0, next.0)?;
+    let widths = widths_of(*text.allocator(), appid, now.0, next.0)?;
     push_head(text, widths, appid)?;
     push_rows(text, widths, now, next, table)
 }
 
-fn widths_of(appid: &str, now: Option<&App>, next: Option<&App>) -> Result<MoveWidths, AllocError>
+fn widths_of(
+    alloc: Global,
+    appid: &str,
+    now: Option<&App>,
+    next: Option<&App>,
+) -> Result<MoveWidths, AllocError>
     ensures { IfOk result (λ widths. widths ≡ specs.move_widths appid.now
         (versions_or_none (option_copied now.entry)) (versions_or_none (option_copied next.entry))) }
 {
-    let Some(app) = width_of(appid).checked_add(4) else {
+    let appid = Printed(appid).to_string(alloc)?;
+    let Some(app) = width_of(appid.as_str()).checked_add(4) else {
         return Err(AllocError);
     };
     Ok(MoveWidths {

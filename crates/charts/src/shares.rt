@@ -8,6 +8,7 @@ ghost use Rattle.charts.specs.Shown.{versions_of};
 use crate::columns::{push_bar, push_left, push_number_right, push_percent_right};
 use crate::labels::{push_choice_label, release_count, widest_version};
 use crate::simulated::Simulated;
+use printing::Printed;
 use ruleset::App;
 use simulation::{Choices, count_buckets};
 use std::alloc::AllocError;
@@ -45,8 +46,8 @@ fn push_table(text: &mut String, app: &App, choices: &Choices) -> Result<(), All
 pub fn push_title(text: &mut String, appid: &str) -> Result<(), AllocError>
     ensures { OnOk result (Puts text.old text.new (specs.app_title appid.now)) }
 {
-    text.push_str("app ")?;
-    text.push_str(appid)
+    let appid = Printed(appid);
+    write!(text, "app {appid}")
 }
 
 // The rows of an app, with a column of this width for the labels.

@@ -1,5 +1,6 @@
 //! Tests of what `check` tells: of each fault of a rule's text the place, what stands there and what
-//! is expected, and the warnings on releases and on rules that are asked.
+//! is expected, and the warnings on appids, on releases and on rules that are asked; and how texts
+//! are printed.
 #![tactic(auto)]
 
 #[cfg(test)]
@@ -8,6 +9,8 @@ mod asked;
 mod misplaced;
 #[cfg(test)]
 mod parts;
+#[cfg(test)]
+mod printed;
 #[cfg(test)]
 mod rules;
 #[cfg(test)]

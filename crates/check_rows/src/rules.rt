@@ -73,8 +73,17 @@ line 2, column 25: "$" is no word of a rule
                           ^
 - otherwise none;<CR>
 line 1, column 16: U+000D is no word of a rule
-  otherwise none;<CR>
+  otherwise none;\u{d}
                  ^
+- <TAB>when attr ap is "x<ESC>[2J<CSI>31m<RLO>y" offer 1 $; / otherwise none;
+line 1, column 18: "x\u{1b}[2J\u{9b}31m\u{202e}y" is no word of a rule: a text ends in its line, <MORE>
+and has at most 64 characters of ASCII, without \
+  <TAB>when attr ap is "x\u{1b}[2J\u{9b}31m\u{202e}y" offer 1 $;
+  <TAB>                ^
+- otherwise <ESC>none;
+line 1, column 11: U+001B is no word of a rule
+  otherwise \u{1b}none;
+            ^
 - when flag beta offer 1; / otherwise none;
 line 1, column 11: "beta" is no flag; there are: version_known, <MORE>
 updatecheck, ping, event, cohort_known, installdate_known
@@ -173,6 +182,9 @@ fn with_characters(alloc: Global, text: &str) -> Result<String, AllocError> {
     let text = text.replace(alloc, "<MORE>\n", "")?;
     let text = text.replace(alloc, "<BOM>", "\u{feff}")?;
     let text = text.replace(alloc, "<CR>", "\r")?;
+    let text = text.replace(alloc, "<ESC>", "\u{1b}")?;
+    let text = text.replace(alloc, "<CSI>", "\u{9b}")?;
+    let text = text.replace(alloc, "<RLO>", "\u{202e}")?;
     text.replace(alloc, "<TAB>", "\t")
 }
 

@@ -1,11 +1,11 @@
-//! What is told of releases that are accepted and hardly meant.
+//! What is told of appids and releases that are accepted and hardly meant.
 
 use crate::rules::must;
 use manifest::{Manifest, read_manifest};
 use releases::Release;
 use std::alloc::{AllocError, Global};
 use std::test::Fail;
-use warnings::tell_releases;
+use warnings::{tell_appid, tell_releases};
 
 /// Each row: the versions and codebases of releases, and the warnings on them.
 const RELEASES: &str = r#"
@@ -71,6 +71,34 @@ fn check_releases(alloc: Global, row: &str) -> Result<(), Fail> {
 fn releases(rt: HostRuntime) -> Result<(), Fail> {
     for row in RELEASES.split("\n- ").skip(1) {
         check_releases(rt.alloc(), row)?;
+    }
+    Ok(())
+}
+
+/// Appids, and what is told of each.
+const APPIDS: [(&str, &str); 4] = [
+    ("editor", ""),
+    ("{8a69d345-d564-463c-aff1-a69d9e530f96} \u{fc}", ""),
+    (
+        "x\n::add-mask::y",
+        "warning: app[3].appid: it has a character that isn't printed\n",
+    ),
+    (
+        "\u{9b}31mx",
+        "warning: app[3].appid: it has a character that isn't printed\n",
+    ),
+];
+
+fn told_of_appid(alloc: Global, appid: &str) -> Result<String, AllocError> {
+    let mut told = String::new(alloc);
+    tell_appid(&mut told, 3, appid)?;
+    Ok(told)
+}
+
+#[test]
+fn appids(rt: HostRuntime) -> Result<(), Fail> {
+    for (appid, want) in APPIDS {
+        must(appid, told_of_appid(rt.alloc(), appid)?.as_str(), want)?;
     }
     Ok(())
 }

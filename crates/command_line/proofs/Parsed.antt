@@ -2,7 +2,7 @@
 use Rattle.std.proofs.Common.{◌≡◌, ◌∙◌, sym, subst, ap, refl, inl, inr, List, Option, Some, None}
 use Rattle.std.proofs.Common.{true}
 use Rattle.std.specs.Box.{box_value}
-use Rattle.std.specs.Prelude.{◌≢◌, option_map}
+use Rattle.std.specs.Prelude.{◌≢◌, ◌⊎◌, option_map}
 use Rattle.clap.specs.declared.error.Error.{Error}
 use Rattle.clap.specs.declared.error.kind.ErrorKind.{ErrorKind}
 use Rattle.clap.specs.declared.error.kind.ErrorKind.TheVariants.{DisplayHelp, OutOfMemory}
@@ -34,6 +34,13 @@ pub kind_is : (a : App) (words : List Text) (e : Error) → a ≡ commands
 kind_is a words e is kinds =
     subst (λ (x : App). HasKind (fault_of x words) e) is
     (kinds (ap is_simple_and_free is ∙ are_free))
+
+-- an error of the same kind
+pub same_kind : (words : List Text) (e f : Error) → kind_of f ≡ kind_of e
+    → HasKind (fault_of commands words) e → HasKind (fault_of commands words) f
+same_kind words e f same found =
+    subst (λ (k : ErrorKind). (k ≡ OutOfMemory) ⊎ IsAmong k (fault_of commands words)) (sym same)
+    found
 
 pub asks_for_help : (words : List Text) (e : Error) → HasKind (fault_of commands words) e
     → kind_of e ≡ DisplayHelp → AskForHelp words

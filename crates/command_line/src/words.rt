@@ -1,7 +1,8 @@
 //! What the words of a command line ask for.
 
-ghost use Rattle.std.specs.Prelude.{◌≡◌, List, map, IfOk, IfErr, Err};
+ghost use Rattle.std.specs.Prelude.{◌≡◌, ◌↔◌, List, map, IfOk, IfErr, IsTrue, Err};
 ghost use Rattle.clap.specs.Kinds.{HasKind};
+ghost use Rattle.clap.specs.Values.{kind_of};
 ghost use Rattle.clap.specs.Words.{Text, fault_of, found_of, rows_of, subcommand_of};
 ghost use Rattle.clap.specs.Words.{subcommand_rows_of};
 ghost use Rattle.command_line.specs.Grammar.{commands};
@@ -22,7 +23,8 @@ use crate::simulate_words::simulate_asked;
 use crate::verb::{Verb, verb_named};
 use clap::error::ErrorKind;
 use clap::{ArgMatches, Error};
-use std::alloc::Global;
+use printing::Printed;
+use std::alloc::{AllocError, Global};
 use std::convert::AsStr;
 
 /// The request of a command line's words, the first of which is the program's name.
@@ -44,7 +46,7 @@ pub fn read_words<'a, S: AsStr>(
     }
 }
 
-// What clap finds in the words.
+// What clap finds in the words. What is wrong with them is told of the words as they are printed.
 fn matches_of<'a, S: AsStr>(alloc: Global, words: &'a [S]) -> Result<ArgMatches<'a>, WordsFault>
     ensures rows { IfOk result (λ m.
         subcommand_rows_of m ≡ subcommand_of commands (map S.text words.now)) }
@@ -55,8 +57,50 @@ fn matches_of<'a, S: AsStr>(alloc: Global, words: &'a [S]) -> Result<ArgMatches<
     };
     match grammar.try_get_matches_from(words) {
         Ok(matches) => Ok(matches),
-        Err(error) => Err(words_fault(error)),
+        Err(error) => {
+            let shown = printed_error(alloc, words);
+            Err(words_fault(told_by(error, shown)))
+        }
     }
+}
+
+// What clap finds wrong with the words as they are printed; None where it takes these, or memory is
+// refused.
+fn printed_error<S: AsStr>(alloc: Global, words: &[S]) -> Option<Error> {
+    let Ok(words) = printed_words(alloc, words) else {
+        return None;
+    };
+    let Ok(grammar) = grammar(alloc) else {
+        return None;
+    };
+    match grammar.try_get_matches_from(words.as_slice()) {
+        Ok(_) => None,
+        Err(error) => Some(error),
+    }
+}
+
+fn printed_words<S: AsStr>(alloc: Global, words: &[S]) -> Result<Vec<String>, AllocError> {
+    let mut printed = Vec::new(alloc);
+    for word in words {
+        printed.push(Printed(word.as_str()).to_string(alloc)?)?;
+    }
+    Ok(printed)
+}
+
+// The error that is shown in the place of another: one of the same kind.
+fn told_by(error: Error, shown: Option<Error>) -> Error
+    ensures { kind_of result ≡ kind_of error }
+{
+    match shown {
+        Some(shown) if is_same(shown.kind(), error.kind()) => shown,
+        _ => error,
+    }
+}
+
+fn is_same(kind: ErrorKind, other: ErrorKind) -> bool
+    ensures { IsTrue result ↔ (kind ≡ other) }
+{
+    kind == other
 }
 
 // Why the words have no matches, of which clap finds this error.

@@ -16,6 +16,7 @@ use Rattle.manifest_tools.specs.Manifests as manifest
 use Rattle.manifest_tools.specs.declared.fault.ManifestToolFault.TheVariants as tool
 use Rattle.program_tools.specs.Texts as program
 use Rattle.bounded_files.specs.Texts.{resource_text}
+use Rattle.printing.specs.Printed.{printed}
 use Rattle.ruleset.specs.Texts.{line}
 use Rattle.operator.specs.Texts.{ask_text}
 use Rattle.serving.specs.Texts.{serving_text}
@@ -57,7 +58,8 @@ fault_text (Program fault) = program.fault_text fault
 fault_text (Manifest fault) = manifest.fault_text fault
 fault_text (Serving fault) = serving_text fault
 fault_text (Ask fault) = Some (ask_text fault)
-fault_text (fault.Told text) = Some (string_bytes text)
+-- the words of a server, or of who else listens at its port
+fault_text (fault.Told text) = Some (printed (string_bytes text))
 
 abbrev pub refused_line : List ℕ → List ℕ
 refused_line text = line (codes "refused " ++ text)

@@ -6,6 +6,7 @@ ghost use Rattle.commands.specs.Texts.{fault_text, refusal_reason};
 use bounded_files::ResourceFault;
 use manifest_tools::ManifestToolFault;
 use operator::AskFault;
+use printing::Printed;
 use program_tools::ProgramToolFault;
 use serving::ServingFault;
 use std::fmt;
@@ -49,7 +50,10 @@ impl fmt::Display for Fault {
             Fault::Manifest(fault) => write!(f, "{fault}"),
             Fault::Serving(fault) => write!(f, "{fault}"),
             Fault::Ask(fault) => f.write_str(fault.name()),
-            Fault::Told(text) => f.write_str(text),
+            Fault::Told(text) => {
+                let text = Printed(text.as_str());
+                write!(f, "{text}")
+            }
         }
     }
 }

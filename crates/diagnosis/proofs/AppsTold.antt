@@ -18,22 +18,21 @@ use Rattle.manifest.specs.declared.app.ProgramSource.{ProgramSource}
 use Rattle.manifest.specs.declared.app.ProgramSource.TheVariants.{Program, Rule}
 use Rattle.ruleset.specs.Rules.{AppRule}
 use Rattle.diagnosis.specs.Asked.{AddsApp, AddsFile, AddsSource, CountsUnread}
-use Rattle.diagnosis.specs.Warned.{AsksApp, Room, WarnsOfApps, app_rule}
+use Rattle.diagnosis.specs.Warned.{AsksApp, Room, WarnsOfApps, app_rule, app_warnings}
 use Rattle.diagnosis.specs.Asked.AddsFile.{no_rule as adds_none, a_rule as adds_rule}
 use Rattle.diagnosis.specs.Warned.AsksFile.{unread, no_rule, a_rule}
 use Rattle.diagnosis.specs.Warned.WarnsOfApps.{no_app, next}
 use Rattle.warnings.specs.Asked.{room_left, rule_text}
 use Rattle.warnings.specs.Asking.{RuleOfApp}
-use Rattle.warnings.specs.Releases.{releases_from}
 
 -- ---- one app
 
 -- without room
 pub adds_releases : (known : KnownFiles) (number : ℕ) (entry : AppEntry) (app : AppRule)
-    (old new : List ℕ) → new ≡ old ++ releases_from number 1 app.releases
+    (old new : List ℕ) → new ≡ old ++ app_warnings number app
     → AddsApp known number None entry app old new None
 adds_releases known number entry app old new is = record {
-  told = releases_from number 1 app.releases;
+  told = app_warnings number app;
   warns = record {
     asked = [];
     asks = (refl, refl);
@@ -45,7 +44,7 @@ adds_releases known number entry app old new is = record {
 pub adds_asked : (known : KnownFiles) (number room : ℕ) (entry : AppEntry) (source : ProgramSource)
     (app : AppRule) (releases : List ℕ) (old between new : List ℕ) (left : Room)
     → source ≡ entry.source → between ≡ old ++ releases
-    → releases ≡ releases_from number 1 app.releases
+    → releases ≡ app_warnings number app
     → AddsSource known number room source app between new left
     → AddsApp known number (Some room) entry app old new left
 adds_asked known number room entry source app releases old between new left same first which more =

@@ -11,9 +11,8 @@ use Rattle.cells.specs.declared.array.ArrayNo.{ArrayNo}
 use Rattle.cells.specs.declared.array.CellArray.{CellArray}
 use Rattle.declarations.specs.Order.{AreDeclared}
 use Rattle.declarations.specs.Order.AreDeclared.{none, next}
-use Rattle.ruleset.specs.Texts.{app_line}
 use Rattle.diagnosis.specs.Texts.{as_declared, array_line, declared_line}
-use Rattle.diagnosis.specs.Texts.{accepted_text, loaded_text}
+use Rattle.diagnosis.specs.Texts.{accepted_text, loaded_text, printed_app_line}
 use Rattle.manifest.specs.Manifest.{Manifest, none_of, once}
 use Rattle.manifest.specs.Twice.{repeated}
 use Rattle.ruleset.specs.Rules.{AppRule}
@@ -105,4 +104,4 @@ told_as_declared manifest arrays numbers apps is declared =
     let same = all_declared declared tt single.0 in
     let lines = lines_of_arrays arrays
     ∙ ap (λ (ds : List Declaration). flat_map array_line ds) same in
-    ap (λ (l : List ℕ). l ++ flat_map app_line apps) lines
+    ap (λ (l : List ℕ). l ++ flat_map printed_app_line apps) lines

@@ -19,11 +19,10 @@ use Rattle.manifest.specs.declared.app.ProgramSource.TheVariants.{Program, Rule}
 use Rattle.ruleset.specs.Rules.{AppRule}
 use Rattle.diagnosis.specs.Unused.{unused_from}
 use Rattle.diagnosis.specs.Warned.{AsksApp, AsksFile, Room, WarnsOf, WarnsOfApp, WarnsOfApps}
-use Rattle.diagnosis.specs.Warned.{app_rule}
+use Rattle.diagnosis.specs.Warned.{app_rule, app_warnings}
 use Rattle.diagnosis.specs.Warned.AsksFile.{unread, no_rule, a_rule}
 use Rattle.diagnosis.specs.Warned.WarnsOfApps.{no_app, next}
 use Rattle.warnings.specs.Asked.{room_left, rule_text}
-use Rattle.warnings.specs.Releases.{releases_from}
 
 abbrev in_reading : Result Manifest ManifestFault → Manifest → Manifest
 in_reading (Ok m) other = m
@@ -89,7 +88,7 @@ module _ (verdict : (s : AppShape) (text : Text) → RuleHasOneVerdict s text)
   app_once number room entry app told other left also h k =
       let same = source_once number room entry.source app h.asked k.asked left also h.asks k.asks
       in (
-        h.told_is ∙ ap (λ a. releases_from number 1 app.releases ++ a) same.0 ∙ sym k.told_is,
+        h.told_is ∙ ap (λ a. app_warnings number app ++ a) same.0 ∙ sym k.told_is,
         same.1,
       )
 

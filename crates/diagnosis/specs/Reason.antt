@@ -34,6 +34,7 @@ use Rattle.manifest.specs.declared.fault.ManifestFault.{ManifestFault}
 use Rattle.manifest.specs.declared.fault.ManifestFault.TheVariants as unread
 use Rattle.manifest.specs.declared.fault.TomlFault.{TomlFault}
 use Rattle.manifest.specs.declared.fault.TomlFault.TheVariants as toml
+use Rattle.printing.specs.Printed.{printed_lines}
 
 -- ---- an entry by its number, from 1
 
@@ -47,10 +48,11 @@ unfoldable pub tables_line : List ℕ
 tables_line =
     codes "tables begin with [[array]], [[app]], [[app.release]] or [[app.release.package]]\n"
 
--- of what the reader of TOML says nothing is promised; behind it stands how tables begin
+-- of what the reader of TOML says nothing is promised but how it is printed; behind it stands how
+-- tables begin
 abbrev pub IsTomlReason : TomlFault → List ℕ → Type 0
 IsTomlReason toml.TooLong text = text ≡ line (codes "more than 1048576 bytes")
-IsTomlReason toml.Text text = (said : List ℕ) × (text ≡ said ++ tables_line)
+IsTomlReason toml.Text text = (said : List ℕ) × (text ≡ printed_lines said ++ tables_line)
 
 abbrev pub IsManifestReason : ManifestFault → List ℕ → Type 0
 IsManifestReason (unread.Toml fault) text = IsTomlReason fault text

@@ -11,6 +11,7 @@ use Rattle.bpf_insn.specs.Program.{Program}
 use Rattle.bpf_semantics.specs.Program.{shaped}
 use Rattle.explaining.specs.RefusedPlace.{IsRefusedPlace}
 use Rattle.flow_check.specs.Flow.{IsFlow, program_bytes}
+use Rattle.printing.specs.Printed.{printed_lines}
 use Rattle.rule_lang.specs.declared.fault.RuleFaultKind.{RuleFaultKind}
 use Rattle.cells.specs.Arrays.{AppShape}
 use Rattle.ruleset.specs.Texts.{line}
@@ -18,10 +19,10 @@ use Rattle.rule_diagnosis.specs.Places.{line_text}
 use Rattle.rule_diagnosis.specs.Told.{IsRuleTold}
 use Rattle.bounded_files.specs.Files.{KnownFiles, Gives}
 
--- a line by its number, from 1
+-- a line by its number, from 1, as it is printed
 abbrev pub numbered_line : ℕ → List ℕ → List ℕ
 numbered_line number text =
-    line (codes "line " ++ decimal number ++ codes ": " ++ line_text number text)
+    line (codes "line " ++ decimal number ++ codes ": " ++ printed_lines (line_text number text))
 
 -- the instruction that begins at a slot, as it is listed
 abbrev pub IsInsnShown : ℕ → List ℕ → List ℕ → Type 0

@@ -1,13 +1,15 @@
--- The lines that are told of a manifest, each ended by a line feed.
-use Rattle.std.specs.Prelude.{ℕ, List, ◌++◌, codes, decimal, flat_map}
+-- The lines that are told of a manifest, each ended by a line feed. An appid and the name of a file
+-- are told as they are printed, so that neither begins a line.
+use Rattle.std.specs.Prelude.{ℕ, List, ◌++◌, length, codes, decimal, flat_map}
 use Rattle.cells.specs.Directory.{Declaration, declaration}
 use Rattle.cells.specs.declared.array.CellArray.{CellArray}
 use Rattle.declarations.specs.Texts.{declaration_text}
 use Rattle.load.specs.Source.{file_of}
 use Rattle.manifest.specs.declared.app.ProgramSource.{ProgramSource}
 use Rattle.manifest.specs.declared.app.ProgramSource.TheVariants.{Program, Rule}
+use Rattle.printing.specs.Printed.{printed}
 use Rattle.ruleset.specs.Rules.{AppRule}
-use Rattle.ruleset.specs.Texts.{line, app_line}
+use Rattle.ruleset.specs.Texts.{line}
 
 -- ---- of a manifest that is accepted
 
@@ -15,9 +17,15 @@ use Rattle.ruleset.specs.Texts.{line, app_line}
 abbrev pub array_line : Declaration → List ℕ
 array_line d = line (codes "array " ++ declaration_text d)
 
+-- an app, its releases and its program's slots
+abbrev pub printed_app_line : AppRule → List ℕ
+printed_app_line app = line (codes "app " ++ printed app.appid
+    ++ codes " releases " ++ decimal (length app.releases)
+    ++ codes " slots " ++ decimal (length app.program.code))
+
 -- a line an array, and then a line an app
 abbrev pub accepted_text : List Declaration → List AppRule → List ℕ
-accepted_text arrays apps = flat_map array_line arrays ++ flat_map app_line apps
+accepted_text arrays apps = flat_map array_line arrays ++ flat_map printed_app_line apps
 
 -- an array of a directory as it was declared
 abbrev pub as_declared : CellArray → Declaration
@@ -27,7 +35,7 @@ abbrev pub declared_line : CellArray → List ℕ
 declared_line a = array_line (as_declared a)
 
 abbrev pub loaded_text : List CellArray → List AppRule → List ℕ
-loaded_text arrays apps = flat_map declared_line arrays ++ flat_map app_line apps
+loaded_text arrays apps = flat_map declared_line arrays ++ flat_map printed_app_line apps
 
 -- ---- of one that is refused: the path of a member, in which tables are numbered from 1
 
@@ -38,7 +46,7 @@ source_key (Rule file) = codes "rule"
 -- the name of an app's file
 abbrev pub file_line : ℕ → ProgramSource → List ℕ
 file_line number source = line (codes "app[" ++ decimal number ++ codes "]." ++ source_key source
-    ++ codes ": " ++ file_of source)
+    ++ codes ": " ++ printed (file_of source))
 
 unfoldable pub passes_cells : List ℕ
 passes_cells = codes "passes the 4096 cells that all arrays of a width have"

@@ -1,5 +1,5 @@
 -- What is told of a manifest that is accepted and hardly means what it says: of its arrays, and of
--- each app in their order.
+-- each app in their order, of its appid, its releases and its rule.
 use Rattle.std.specs.Prelude.{◌≡◌, ℕ, ◌+◌, List, [], ◌∷◌, ◌++◌, Option, Some, None, Ok}
 use Rattle.acceptance.specs.Rule.{IsTextOf}
 use Rattle.rule_lang.specs.declared.rule.Statement.{Statement}
@@ -13,7 +13,13 @@ use Rattle.ruleset.specs.Rules.{AppRule}
 use Rattle.diagnosis.specs.Unused.{unused_from}
 use Rattle.warnings.specs.Asked.{all_room, room_left, rule_text}
 use Rattle.warnings.specs.Asking.{RuleOfApp}
-use Rattle.warnings.specs.Releases.{releases_from}
+use Rattle.warnings.specs.Releases.{appid_warning, releases_from}
+
+-- ---- the appid and the releases of an app
+
+unfoldable pub app_warnings : ℕ → AppRule → List ℕ
+app_warnings number app =
+    appid_warning number app.appid ++ releases_from number 1 app.releases
 
 -- ---- the rule of an app, which is read once more
 
@@ -47,12 +53,12 @@ module _ (known : KnownFiles) where
   AsksApp number (Some room) (Program file) app asked left = (asked ≡ []) × (left ≡ Some room)
   AsksApp number (Some room) (Rule file) app asked left = AsksFile number room file app asked left
 
-  -- of an app: its releases, and then its rule
+  -- of an app: its appid and its releases, and then its rule
   pub record WarnsOfApp (number : ℕ) (room : Room) (entry : AppEntry) (app : AppRule)
       (told : List ℕ) (left : Room) : Type 0 where
     pub asked : List ℕ
     pub asks : AsksApp number room entry.source app asked left
-    pub told_is : told ≡ releases_from number 1 app.releases ++ asked
+    pub told_is : told ≡ app_warnings number app ++ asked
 
   -- of these apps, the first of which has this number, and their entries
   pub data WarnsOfApps : ℕ → Room → List AppEntry → List AppRule → List ℕ → Type 0 where

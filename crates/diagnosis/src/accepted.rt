@@ -3,13 +3,15 @@
 ghost use Rattle.std.specs.Prelude.{◌≡◌, ◌^◌, ◌-◌, ◌<◌, ◌++◌, flat_map};
 ghost use Rattle.std.specs.Prelude.{IfOk, OnOk, string_bytes};
 ghost use Rattle.declarations.specs.Texts as declarations;
-ghost use Rattle.diagnosis.specs.Texts.{declared_line, loaded_text};
+ghost use Rattle.diagnosis.specs.Texts.{declared_line, loaded_text, printed_app_line};
 ghost use Rattle.diagnosis.specs.Warned.{WarnsOf};
 
 use crate::warned::tell_warnings;
+use bpf_verify::Verified;
 use cells::{CellArray, CellWidth};
 use load::Files;
-use ruleset::{App, tell_apps};
+use printing::Printed;
+use ruleset::App;
 use std::alloc::{AllocError, Global};
 use std::fmt::Write;
 
@@ -65,6 +67,27 @@ fn tell_array(text: &mut String, array: &CellArray) -> Result<(), AllocError>
         None => writeln!(text, "array {name}:{width}:{length}"),
         Some(quota) => writeln!(text, "array {name}:{width}:{length}:{quota}"),
     }
+}
+
+fn tell_apps(text: &mut String, apps: &[App]) -> Result<(), AllocError>
+    ensures { OnOk result
+        (string_bytes text.new ≡ string_bytes text.old ++ flat_map printed_app_line apps.now) }
+{
+    for app in apps {
+        tell_app(text, app)?;
+    }
+    Ok(())
+}
+
+fn tell_app(text: &mut String, app: &App) -> Result<(), AllocError>
+    ensures { OnOk result
+        (string_bytes text.new ≡ string_bytes text.old ++ printed_app_line app.now) }
+{
+    let program: &Verified = app.program();
+    let appid = Printed(app.appid());
+    let releases = app.releases().len();
+    let slots = program.len();
+    writeln!(text, "app {appid} releases {releases} slots {slots}")
 }
 
 fn width_text(width: CellWidth) -> &'static str

@@ -3,6 +3,7 @@
 ghost use Rattle.std.specs.Prelude.{◌≡◌, ◌^◌, ◌-◌, ◌<◌, ◌++◌, Some, IfOk, string_bytes};
 ghost use Rattle.std.specs.Option.{ForSome};
 ghost use Rattle.diagnosis.specs.Asked.{AddsApp, AddsFile, AddsSource, CountsUnread};
+ghost use Rattle.diagnosis.specs.Warned.{app_warnings};
 
 use bounded_files::ResourceFault;
 use bpf_verify::Verified;
@@ -12,9 +13,9 @@ use rule_lang::{RuleFault, one_verdict, parse};
 use ruleset::App;
 use std::alloc::{AllocError, Global};
 use std::str;
-use warnings::{AskedRule, tell_releases, tell_rule};
+use warnings::{AskedRule, tell_appid, tell_releases, tell_rule};
 
-/// Lines on an app: on its releases, and on its rule where there is room to ask it; and the room
+/// Lines on an app: on its appid and its releases, and on its rule where there is room to ask it; and the room
 /// that is left, if all files were to be read so far.
 pub(crate) fn tell_app<F: Files>(
     alloc: Global,
@@ -31,7 +32,7 @@ pub(crate) fn tell_app<F: Files>(
     ensures adds { IfOk result (AddsApp (F.known files.old) number room entry.now app.now
         (string_bytes text.old) (string_bytes text.new)) }
 {
-    tell_releases(text, number, app.releases())?;
+    tell_members(text, number, app)?;
     match room {
         Some(room) => {
             let left = tell_source(alloc, text, files, number, room, entry.source(), app)?;
@@ -39,6 +40,15 @@ pub(crate) fn tell_app<F: Files>(
         }
         None => Ok(None),
     }
+}
+
+#[tactic(auto, unfolding(crate::specs::Warned::app_warnings))]
+fn tell_members(text: &mut String, number: usize, app: &App) -> Result<(), AllocError>
+    ensures { OnOk result
+        (string_bytes text.new ≡ string_bytes text.old ++ app_warnings number app.now) }
+{
+    tell_appid(text, number, app.appid())?;
+    tell_releases(text, number, app.releases())
 }
 
 fn tell_source<F: Files>(

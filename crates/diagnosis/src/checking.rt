@@ -20,7 +20,8 @@ pub struct Refused {
     pub reason: String,
 }
 
-/// Checks a manifest: it is loaded with its files, into a directory of its own.
+/// Checks a manifest: it is loaded with its files, into a directory of its own. What it tells of
+/// the manifest's texts and of its files' is printed with no control.
 ///
 /// Of one that is accepted the text has a line an array, in its order, as `array q:64:1:2` (a quota
 /// comes last, where there is one), and then a line an app: `app APPID releases R slots S`. Lines
@@ -36,8 +37,8 @@ pub struct Refused {
 /// Of one that is refused the reason begins with the path of a member and what is wanted there, in
 /// which tables of a list are numbered from 1:
 ///
-/// - M1: that the bytes are too many, or what the crate `toml` says, of which nothing is promised,
-///   and how tables begin.
+/// - M1: that the bytes are too many, or what the crate `toml` says, of which nothing is promised
+///   but how it is printed, and how tables begin.
 /// - M2: `app[2].release[1].size: a whole number from 0 to 9007199254740991`.
 /// - M3: `array q stands twice` or `app x stands twice`.
 /// - M4 to M6: `app[1].rule: x.rule`, the name of the file as the manifest has it. Where M6 has a

@@ -12,6 +12,7 @@ use crate::shown::{Place, show};
 use cells::Shape;
 use load::Files;
 use manifest::{AppEntry, ProgramSource, read_manifest};
+use printing::Printed;
 use std::alloc::{AllocError, Global};
 use std::fmt::Write;
 
@@ -69,7 +70,7 @@ fn tell_name(text: &mut String, app: usize, source: &ProgramSource) -> Result<()
         (string_bytes text.new ≡ string_bytes text.old ++ file_line app source.now) }
 {
     let key = key_of(source);
-    let file = file_of(source);
+    let file = Printed(file_of(source));
     writeln!(text, "app[{app}].{key}: {file}")
 }
 

@@ -19,6 +19,7 @@ use cells::CellsFault;
 use flow_check::FlowFault;
 use load::{Files, LoadFault};
 use manifest::{ManifestFault, Misfit, TomlFault, read_manifest};
+use printing::PrintedLines;
 use rule_compile::CompileFault;
 use rule_lang::RuleFault;
 use std::alloc::{AllocError, Global};
@@ -115,21 +116,20 @@ pub(crate) fn tell_toml(alloc: Global, manifest: &[u8], fault: TomlFault) -> Opt
                 let Ok(said) = format!(in alloc; "{error}") else {
                     return None;
                 };
-                with_tables(said)
+                with_tables(alloc, said.as_str())
             }
             _ => None,
         },
     }
 }
 
-fn with_tables(said: String) -> Option<String>
+// Its lines end as they do, and quote the manifest, so each is printed as what somebody else wrote.
+fn with_tables(alloc: Global, said: &str) -> Option<String>
     ensures { IfSome result (λ text. IsTomlReason TomlFault.Text (string_bytes text)) }
 {
-    let mut text = said;
-    match text.push_str(tables()) {
-        Ok(()) => Some(text),
-        Err(_) => None,
-    }
+    let said = PrintedLines(said);
+    let tables = tables();
+    format!(in alloc; "{said}{tables}").ok()
 }
 
 // How the tables of a manifest are begun, since of a list that is begun otherwise the reader of

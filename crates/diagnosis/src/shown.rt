@@ -10,6 +10,7 @@ use bpf_text::line_of;
 use cells::Shape;
 use explaining::refused_place;
 use flow_check::Flow;
+use printing::PrintedLines;
 use rule_diagnosis::{line_text, tell_rule_fault};
 use rule_lang::RuleFaultKind;
 use std::alloc::Global;
@@ -151,7 +152,7 @@ fn show_text(
 fn show_line(alloc: Global, number: usize, text: &str) -> Option<String>
     ensures { IfSome result (λ shown. string_bytes shown ≡ specs.numbered_line number text.now) }
 {
-    let line = line_text(number, text);
+    let line = PrintedLines(line_text(number, text));
     match format!(in alloc; "line {number}: {line}\n") {
         Ok(shown) => Some(shown),
         Err(_) => None,

@@ -1,5 +1,5 @@
 -- The texts of what doesn't fit: the path of the member, and what is wanted there. Tables of a list
--- are numbered from 1.
+-- are numbered from 1. A key or a name of the manifest is told as it is printed.
 use Rattle.std.specs.Prelude.{ℕ, List, ◌++◌, codes, decimal}
 use Rattle.manifest.specs.declared.fault.Twice.{Twice}
 use Rattle.manifest.specs.declared.fault.Twice.TheVariants as twice
@@ -15,6 +15,7 @@ use Rattle.manifest.specs.declared.misfit.PackageMisfit.{PackageMisfit}
 use Rattle.manifest.specs.declared.misfit.PackageMisfit.TheVariants as the_package
 use Rattle.manifest.specs.declared.misfit.ReleaseMisfit.{ReleaseMisfit}
 use Rattle.manifest.specs.declared.misfit.ReleaseMisfit.TheVariants as release
+use Rattle.printing.specs.Printed.{printed}
 
 -- in the list of this key
 abbrev pub list_text : {M : Type 0} → (M → List ℕ) → (key wanted : List ℕ) → InList M → List ℕ
@@ -25,14 +26,14 @@ list_text text_of key wanted (At number misfit) =
     key ++ codes "[" ++ decimal number ++ codes "]." ++ text_of misfit
 
 abbrev pub package_text : PackageMisfit → List ℕ
-package_text (the_package.Unknown key) = key ++ codes ": no member of a package"
+package_text (the_package.Unknown key) = printed key ++ codes ": no member of a package"
 package_text the_package.Name = codes "name: a text"
 package_text the_package.Hash = codes "hash_sha256: 64 lower case hexadecimal digits"
 package_text the_package.Size = codes "size: a whole number from 0 to 9007199254740991"
 package_text the_package.Required = codes "required: true or false"
 
 abbrev pub release_text : ReleaseMisfit → List ℕ
-release_text (release.Unknown key) = key ++ codes ": no member of a release"
+release_text (release.Unknown key) = printed key ++ codes ": no member of a release"
 release_text release.Version =
     codes "version: one to four numbers below 4294967296, joined by dots"
 release_text release.Codebase = codes "codebase: a text"
@@ -40,14 +41,14 @@ release_text (release.Packages list) =
     list_text package_text (codes "package") (codes "1 to 16 tables") list
 
 abbrev pub app_text : AppMisfit → List ℕ
-app_text (app.Unknown key) = key ++ codes ": no member of an app"
+app_text (app.Unknown key) = printed key ++ codes ": no member of an app"
 app_text app.Appid = codes "appid: a text of 1 to 1024 bytes"
 app_text app.ProgramSource = codes "program or rule: one of the two, the name of a file"
 app_text (app.Releases list) =
     list_text release_text (codes "release") (codes "at most 64 tables") list
 
 abbrev pub array_text : ArrayMisfit → List ℕ
-array_text (array.Unknown key) = key ++ codes ": no member of an array"
+array_text (array.Unknown key) = printed key ++ codes ": no member of an array"
 array_text array.Name =
     codes "name: a letter or _, then letters, digits and _, at most 32 in all"
 array_text array.Width = codes "width: 32 or 64"
@@ -56,7 +57,7 @@ array_text array.Quota =
     codes "quota: a whole number from 1 to 9223372036854775807, with width 64 alone"
 
 abbrev pub misfit_text : Misfit → List ℕ
-misfit_text (misfit.Unknown key) = key ++ codes ": no member of a manifest"
+misfit_text (misfit.Unknown key) = printed key ++ codes ": no member of a manifest"
 misfit_text misfit.Server = codes "server: a text"
 misfit_text (misfit.Arrays list) =
     list_text array_text (codes "array") (codes "at most 64 tables") list
@@ -65,5 +66,5 @@ misfit_text (misfit.Apps list) = list_text app_text (codes "app") (codes "1 to 2
 -- ---- what stands twice
 
 abbrev pub twice_text : Twice → List ℕ
-twice_text (twice.Array name) = codes "array " ++ name
-twice_text (twice.App appid) = codes "app " ++ appid
+twice_text (twice.Array name) = codes "array " ++ printed name
+twice_text (twice.App appid) = codes "app " ++ printed appid

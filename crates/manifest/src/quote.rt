@@ -1,11 +1,13 @@
 //! A text of a manifest that a fault tells.
 
 ghost use Rattle.std.specs.Prelude.{◌≡◌, string_bytes, Some};
+ghost use Rattle.printing.specs.Printed.{printed};
 
+use printing::Printed;
 use std::fmt;
 use std::marker::Model;
 
-/// A key or a name, as the manifest has it.
+/// A key or a name, as the manifest has it. `Display` shows it as it is printed.
 #[derive(Debug, Drop)]
 pub struct Quote {
     text: String,
@@ -36,9 +38,10 @@ impl Quote {
 }
 
 impl fmt::Display for Quote {
-    ghost output = { λ text. Some text };
+    ghost output = { λ text. Some (printed text) };
 
     fn fmt<W: fmt::Write>(&self, f: &mut fmt::Formatter<W>) -> fmt::Result {
-        f.write_str(self.as_str())
+        let text = Printed(self.as_str());
+        write!(f, "{text}")
     }
 }

@@ -51,9 +51,21 @@ where
     for word in line.split_whitespace() {
         words.push(word.trim_matches('\''))?;
     }
+    told_of(rt, words.as_slice())
+}
+
+/// Does the command of these words.
+fn told_of<R>(rt: &R, words: &[&str]) -> io::Result<Printed>
+where
+    R: Files + Threads + Wait + AllocGlobal + Clock + LogOutput,
+    R: Copy + Drop + Send + Sync + 'static,
+    R: Net<Listener = TcpListener, Stream = TcpStream>,
+    R::File: Send,
+    R::Dir: Send,
+{
     let mut out = Vec::new(rt.alloc());
     let mut err = Vec::new(rt.alloc());
-    let status = command(rt, &Device::new(rt), words.as_slice(), &mut out, &mut err);
+    let status = command(rt, &Device::new(rt), words, &mut out, &mut err);
     Ok(Printed {
         status,
         out: text_of(out)?,

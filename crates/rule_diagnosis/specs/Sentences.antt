@@ -7,6 +7,7 @@ use Rattle.std.specs.Fmt.{digits}
 use Rattle.std.specs.Str.{bytes_eq}
 use Rattle.cells.specs.Arrays.{AppShape}
 use Rattle.cells.specs.declared.array.CellArray.{CellArray}
+use Rattle.printing.specs.Printed.{printed}
 use Rattle.rule_diagnosis.specs.Lexemes.{byte_at, is_relation, is_word}
 use Rattle.rule_lang.specs.Shapes.{array_named}
 use Rattle.rule_lang.specs.Tokens.{Text}
@@ -43,10 +44,11 @@ code_text n = codes "U+" ++ code_padding n ++ digits 16 true n
 abbrev pub is_printed : ℕ → Bool
 is_printed c = nat_le 32 c && nat_le c 126
 
--- texts have their marks; a character that isn't printed in ASCII is told by its number
+-- texts have their marks, and are told as they are printed; a character that isn't printed in ASCII
+-- is told by its number
 abbrev pub quoted_by : ℕ → Text → Text
 quoted_by c text =
-    if c == 34 then text
+    if c == 34 then printed text
     else if is_printed c then codes "\"" ++ text ++ codes "\"" else code_text (character_code text)
 
 abbrev pub lexeme_text : Text → Text

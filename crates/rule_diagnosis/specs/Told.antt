@@ -3,6 +3,7 @@
 use Rattle.std.specs.Prelude.{◌≡◌, ◌⊎◌, ◌<◌, ◌≤◌, ℕ, ◌+◌, ◌-◌, List, [], ◌++◌, codes, decimal}
 use Rattle.std.specs.Prelude.{length, take, Err, if◌then◌else◌}
 use Rattle.cells.specs.Arrays.{AppShape}
+use Rattle.printing.specs.Printed.{printed_lines}
 use Rattle.rule_diagnosis.specs.declared.follower.Follower.{Follower}
 use Rattle.rule_diagnosis.specs.Followers.{AreFollowers, listed, is_missing_semicolon}
 use Rattle.rule_diagnosis.specs.Lexemes.{spread, lexeme_start}
@@ -42,16 +43,19 @@ abbrev pub ended : Text → Text
 ended text = text ++ codes "\n"
 
 -- a sentence on a place, the text of its line, and a caret behind the blanks up to the place
-abbrev pub lines_of : (line : ℕ) → (shown pad sentence : Text) → Text
-lines_of number shown pad sentence =
-    ended (codes "line " ++ decimal number ++ codes ", column " ++ decimal (length pad + 1)
+abbrev pub lines_of : (line column : ℕ) → (shown pad sentence : Text) → Text
+lines_of number column shown pad sentence =
+    ended (codes "line " ++ decimal number ++ codes ", column " ++ decimal column
     ++ codes ": " ++ sentence)
     ++ ended (codes "  " ++ shown) ++ ended (codes "  " ++ pad ++ codes "^")
 
+-- a column is counted in characters; the line is shown as it is printed, and so the caret stands
+-- behind all that is printed of what is before the place
 abbrev pub told_at : Text → (place : ℕ) → (sentence : Text) → Text
 told_at text place sentence =
     let before = take place text in
-    lines_of (line_at before) (line_text (line_at before) text) (pad_at before) sentence
+    lines_of (line_at before) (length (pad_at before) + 1)
+    (printed_lines (line_text (line_at before) text)) (pad_at (printed_lines before)) sentence
 
 -- of a token that is misplaced; where a semicolon is missing the place is behind the lexeme before
 abbrev pub shape_sentence : (found : Text) → List Follower → Text

@@ -14,7 +14,11 @@
 // and it is told of which the verdict doesn't say that it is misplaced (`trial.rt`).
 //
 // A name or a number is judged by what it is behind: `offer`, `flag`, a bracket (`sentence.rt`).
+//
+// What is shown of the text is shown as it is printed, so that a rule of somebody else writes no
+// line of its own and moves no terminal (`caret.rt`, `quoting.rt`).
 
+mod caret;
 mod follower;
 mod hint;
 mod lexeme;

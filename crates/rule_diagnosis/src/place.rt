@@ -1,9 +1,20 @@
 //! Places of a text, told by the bytes before them.
 
-ghost use Rattle.std.specs.Prelude.{◌≡◌, ◌≤◌, ◌+◌, length, IfOk, OnOk, string_bytes};
+ghost use Rattle.std.specs.Prelude.{◌≡◌, ◌≤◌, ◌+◌, length, take, IfOk, OnOk, string_bytes};
 ghost use Rattle.rule_diagnosis.specs.Places as places;
 
 use std::alloc::{AllocError, Global};
+
+/// At most so many bytes of the front.
+pub fn front(text: &[u8], count: usize) -> &[u8]
+    ensures { result.now ≡ take count text.now }
+{
+    if count < text.len() {
+        &text[..count]
+    } else {
+        text
+    }
+}
 
 /// The text of a line, counted from 1, which is empty behind the last.
 pub fn line_text(number: usize, text: &str) -> &str

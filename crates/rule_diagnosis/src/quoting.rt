@@ -4,6 +4,7 @@ ghost use Rattle.std.specs.Prelude.{◌≡◌, ◌+◌, ◌*◌, ◌++◌, ◌<�
 ghost use Rattle.rule_diagnosis.specs.Sentences as sentences;
 
 use crate::lexeme::byte_at;
+use printing::Printed;
 use std::alloc::AllocError;
 use std::fmt::Write;
 
@@ -72,7 +73,8 @@ pub fn tell_lexeme(text: &mut String, lexeme: &str) -> Result<(), AllocError>
     }
     let c = byte_at(lexeme.as_bytes(), 0);
     if c == b'"' {
-        text.push_str(lexeme)
+        let printed = Printed(lexeme);
+        write!(text, "{printed}")
     } else if is_printed(c) {
         write!(text, "\"{lexeme}\"")
     } else {

@@ -1,13 +1,14 @@
 //! What is told of a rule's text that is refused.
 
-ghost use Rattle.std.specs.Prelude.{◌≡◌, ◌↔◌, ◌++◌, ◌≤◌, ◌<◌, ℕ, List, Err, take, length};
+ghost use Rattle.std.specs.Prelude.{◌≡◌, ◌↔◌, ◌++◌, ◌≤◌, ◌<◌, ℕ, List, Err, length};
 ghost use Rattle.std.specs.Prelude.{IfSome, IsTrue, OnOk, string_bytes};
 ghost use Rattle.rule_diagnosis.specs.Lexemes as lexemes;
 ghost use Rattle.rule_diagnosis.specs.Told as specs;
 ghost use Rattle.rule_lang.specs.Verdicts.{IsVerdict};
 
+use crate::caret::tell_at;
 use crate::follower::{Follower, is_missing_semicolon, tell_listed};
-use crate::place::{line_at, line_text, pad_at};
+use crate::place::{front, line_at, line_text};
 use crate::quoting::tell_lexeme;
 use crate::range::tell_range;
 use crate::sentence::{tell_name, tell_token};
@@ -16,7 +17,6 @@ use crate::trial::followers_of;
 use cells::Shape;
 use rule_lang::{RuleFault, RuleFaultKind, parse};
 use std::alloc::{AllocError, Global};
-use std::fmt::Write;
 use std::str;
 
 /// The most bytes of a rule's text.
@@ -31,9 +31,10 @@ const MOST_BYTES: usize = 65536;
 ///                               ^
 /// ```
 ///
-/// Columns are counted in characters from 1. Where nothing but a semicolon may stand the place is
-/// behind the last word. None where memory is refused, where the fault isn't this text's, and
-/// where the text's words, a line each, are more than 65536 bytes.
+/// Columns are counted in characters from 1. A control in the line is shown as `\u{1b}`, but for a
+/// tab. Where nothing but a semicolon may stand the place is behind the last word. None where memory
+/// is refused, where the fault isn't this text's, and where the text's words, a line each, are more
+/// than 65536 bytes.
 pub fn tell_rule_fault(
     alloc: Global,
     text: &str,
@@ -103,17 +104,6 @@ fn is_same(kind: RuleFaultKind, other: RuleFaultKind) -> bool
     ensures { IsTrue result ↔ (kind ≡ other) }
 {
     kind == other
-}
-
-// At most so many bytes of the front.
-fn front(text: &[u8], count: usize) -> &[u8]
-    ensures { result.now ≡ take count text.now }
-{
-    if count < text.len() {
-        &text[..count]
-    } else {
-        text
-    }
 }
 
 // Of a token that is misplaced.
@@ -201,43 +191,4 @@ fn tell_sentence(
         RuleFaultKind::Name => tell_name(text, shape, before, found),
         RuleFaultKind::Range => tell_range(text, shape, earlier, before, found),
     }
-}
-
-// A sentence on a place, and the line with a caret.
-fn tell_at(alloc: Global, text: &str, place: usize, sentence: &str) -> Option<String>
-    ensures { IfSome result
-        (λ told. string_bytes told ≡ specs.told_at text.now place sentence.now) }
-{
-    let before = front(text.as_bytes(), place);
-    let line = line_at(before);
-    let Ok(pad) = pad_at(alloc, before) else {
-        return None;
-    };
-    let mut told = String::new(alloc);
-    match tell_lines(
-        &mut told,
-        line,
-        line_text(line, text),
-        pad.as_str(),
-        sentence,
-    ) {
-        Ok(()) => Some(told),
-        Err(_) => None,
-    }
-}
-
-fn tell_lines(
-    text: &mut String,
-    line: usize,
-    shown: &str,
-    pad: &str,
-    sentence: &str,
-) -> Result<(), AllocError>
-    ensures { OnOk result (string_bytes text.new ≡ string_bytes text.old
-        ++ specs.lines_of line shown.now pad.now sentence.now) }
-{
-    let column = pad.len() + 1;
-    writeln!(text, "line {line}, column {column}: {sentence}")?;
-    writeln!(text, "  {shown}")?;
-    writeln!(text, "  {pad}^")
 }

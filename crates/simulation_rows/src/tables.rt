@@ -7,7 +7,7 @@ use std::alloc::Global;
 use std::test::Fail;
 
 /// A ruleset, and its tables: bars that are rounded, a wide version and an app without releases,
-/// a quota that the first app uses up, and a salt.
+/// a quota that the first app uses up, a salt, and an appid with controls.
 const SHARES: &[(&str, &str)] = &[
     (
         "x | 1.2 | ldxh r2, [r1+16] / mov r0, 1 / jlt r2, 374, +1 / mov r0, 0 / exit",
@@ -48,10 +48,17 @@ mov r0, 1 / exit",
   1  1.2          2444   24.44 %  ##########
 ",
     ),
+    (
+        "x\u{1b}[2J\u{202e} |  | mov r0, 0 / exit",
+        "app x\\u{1b}[2J\\u{202e}
+  none           10000  100.00 %  ########################################
+",
+    ),
 ];
 
 /// The ruleset that serves, the next one, and the tables of moves: another salt; versions that are
-/// lower, as high and higher, and none; and apps that one of the two alone has.
+/// lower, as high and higher, and none; apps that one of the two alone has; and an appid that is
+/// wide as it is printed.
 const MOVES: &[(&str, &str, &str)] = &[
     (
         "x | 1.2 | lddw r1, 7 / call 4 / mov r6, r0 / mov r0, 0 / jge r6, 2500, +1 / \
@@ -97,6 +104,16 @@ app b            now        next       buckets
 app a-long-appid  now        next       buckets
                   none       none          7556
                   1.2        none          2444  lost
+",
+    ),
+    (
+        "e\u{1b}\u{9b} | 1.2 | lddw r1, 7 / call 4 / mov r6, r0 / mov r0, 0 / \
+jge r6, 2500, +1 / mov r0, 1 / exit",
+        "e\u{1b}\u{9b} | 1.2 | lddw r1, 7 / call 4 / mov r6, r0 / mov r0, 0 / \
+jge r6, 2500, +1 / mov r0, 1 / exit",
+        "app e\\u{1b}\\u{9b}  now        next       buckets
+                   none       none          7556
+                   1.2        1.2           2444
 ",
     ),
 ];

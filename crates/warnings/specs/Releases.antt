@@ -1,10 +1,11 @@
--- What is told of releases that a manifest may have and hardly means: lines, each ended by a line
--- feed. Apps and releases are numbered from 1, as in the paths of their members.
+-- What is told of an appid and of releases that a manifest may have and hardly means: lines, each
+-- ended by a line feed. Apps and releases are numbered from 1, as in the paths of their members.
 use Rattle.std.specs.Prelude.{ℕ, ◌+◌, List, [], ◌∷◌, ◌++◌, codes, decimal, nat_eq}
 use Rattle.std.specs.Prelude.{Bool, true, false, not, ◌==◌, ◌&&◌, ◌||◌, Option, Some, None}
 use Rattle.std.specs.Prelude.{slice_index}
 use Rattle.std.specs.List.{ends_with, list_any, starts_with}
 use Rattle.attrs.specs.Version.{version_of}
+use Rattle.printing.specs.Printed.{has_control}
 use Rattle.releases.specs.Release.{Release}
 
 abbrev pub warned_app : ℕ → List ℕ
@@ -20,6 +21,19 @@ warned_member app release = warned_app app ++ release_path release
 abbrev pub line_where : Bool → (app release : ℕ) → List ℕ → List ℕ
 line_where true app release said = warned_member app release ++ said
 line_where false app release said = []
+
+-- ---- an appid
+
+-- what prints it raw, as the reply to a client does, prints its controls
+unfoldable pub appid_said : List ℕ
+appid_said = codes "appid: it has a character that isn't printed\n"
+
+abbrev pub appid_line : Bool → ℕ → List ℕ
+appid_line true app = warned_app app ++ appid_said
+appid_line false app = []
+
+abbrev pub appid_warning : ℕ → List ℕ → List ℕ
+appid_warning app appid = appid_line (has_control appid) app
 
 -- ---- a release
 

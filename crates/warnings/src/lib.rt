@@ -21,6 +21,7 @@
 // That a line is so, whoever asks, is a law (`law.rt`): what is denied is done by no run, and what
 // is said to be is done by some.
 
+mod appid;
 mod asking;
 mod condition;
 mod course;
@@ -35,6 +36,7 @@ mod spot;
 mod telling;
 mod whens;
 
+pub use appid::tell_appid;
 pub use asking::AskedRule;
 pub use law::warnings_are_so;
 pub use release::tell_releases;

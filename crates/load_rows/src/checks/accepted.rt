@@ -15,6 +15,9 @@ const ROWS: &str = r#"
 - length = 1 => length = 4096 & quota = 2 => quota = 9223372036854775807
  | array q:64:4096:9223372036854775807 / array n:32:10 /
 app x releases 1 slots 9 / app y releases 0 slots 5 /
+- appid = "y" => appid = "y\n\u001b[2Jgeneration 7"
+ | array q:64:1:2 / array n:32:10 / app x releases 1 slots 9 /
+app y\u{a}\u{1b}[2Jgeneration 7 releases 0 slots 5 /
 "#;
 
 #[test]

@@ -40,6 +40,14 @@ each package begins with [[app.release.package]] /
 - rule = "y.rule" => rule = "y.rule" / release = [1] | M2 Field / app[2].release[1]: a table /
 - rule = "y.rule" => rule = "y.rule" / release = 1 | M2 Field / app[2].release: at most 64 tables /
 each release begins with [[app.release]] /
+- server = "prod" => server = "prod" / "::add-mask::\u001b[31mKEY\n" = 1
+ | M2 Field / ::add-mask::\u{1b}[31mKEY\u{a}: no member of a manifest /
+the members of a manifest: server, array, app /
+- appid = "y" => appid = "y" / "a\u202eb" = 1 | M2 Field / app[2].a\u{202e}b: no member of an app /
+the members of an app: appid, program or rule, release /
+- appid = "x" => appid = "x\n\u009bapp" & appid = "y" => appid = "x\n\u009bapp"
+ | M3 Duplicate / app x\u{a}\u{9b}app stands twice /
+- "x.bpf" => "z\r\nrefused.bpf" | M4 File in app 1 / app[1].program: z\u{d}\u{a}refused.bpf /
 - name = "n" => name = "q" | M3 Duplicate / array q stands twice /
 - appid = "y" => appid = "x" | M3 Duplicate / app x stands twice /
 - width = 32 / length = 10 => width = 64 / length = 4096 | 

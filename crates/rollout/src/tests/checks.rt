@@ -19,7 +19,7 @@ otherwise none;
 ";
 
 /// A manifest, what is printed of it on standard output, and on standard error.
-const ROWS: [(&str, &str, &str); 10] = [
+const ROWS: [(&str, &str, &str); 11] = [
     (
         "server = \"prod\"
 array = [{ name = \"q\", width = 64, length = 1, quota = 2 },
@@ -98,6 +98,13 @@ required = true",
         "app x releases 1 slots 2\n",
         "warning: app[1].release[1].codebase: it begins with neither https:// nor http://\n",
     ),
+    // No control is printed, and the appid that has one is warned of.
+    (
+        "server = \"\"
+app = [{ appid = \"x\\n\\u001b[2Japp\", program = \"k_none.bin\" }]",
+        "app x\\u{a}\\u{1b}[2Japp releases 0 slots 2\n",
+        "warning: app[1].appid: it has a character that isn't printed\n",
+    ),
     // There is no room to ask the second app's rule, and enough for the third's.
     (
         "server = \"\"
@@ -156,6 +163,14 @@ fn checks(rt: HostRuntime) -> Result<(), Fail> {
         checked.err
     );
     assert!(rt; checked.err.contains("line 1") && checked.out.is_empty());
+    fs::write(&rt, "k.toml", b"server = \"\x1b[2J\"\n")?;
+    let checked = told(&rt, "rollout check k.toml")?;
+    assert!(rt;
+        checked.err.contains("server = \"\\u{1b}[2J\""),
+        "{}",
+        checked.err
+    );
+    assert!(rt; !checked.err.contains("\u{1b}"));
     let checked = told(&rt, "rollout check k_there_is_none.toml")?;
     assert!(rt; checked.status == 1 && checked.out.is_empty());
     assert_eq!(rt; checked.err.as_str(), "refused B3 File\n");

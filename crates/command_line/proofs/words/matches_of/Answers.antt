@@ -1,5 +1,5 @@
 use Rattle.std.proofs.Common.{map}
-use Rattle.command_line.proofs.Parsed.{kind_is, rows_are}
+use Rattle.command_line.proofs.Parsed.{kind_is, rows_are, same_kind}
 use Rattle.command_line.proofs.words.matches_of.Goals as goal
 
 pub returns-in-Ok-try_get_matches_from-clause-rows :
@@ -12,4 +12,5 @@ pub returns-in-Err-clause-fault : goal.returns-in-Err-clause-fault
 returns-in-Err-clause-fault g c =
     let words = map g.S.AsStr.text c.args.words.now in
     c.words_fault.ensures words
-    (kind_is _ words c.in-Err.error c.in-Ok.ensures c.in-Err.ensures.kinds)
+    (same_kind words c.in-Err.error c.told_by.result c.told_by.ensures
+    (kind_is _ words c.in-Err.error c.in-Ok.ensures c.in-Err.ensures.kinds))

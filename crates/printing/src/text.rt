@@ -1,0 +1,115 @@
+//! A text, shown with its controls escaped.
+
+ghost use Rattle.std.specs.Prelude.{◌≡◌};
+ghost use Rattle.std.specs.Fmt.{WritesOnOk};
+ghost use Rattle.printing.specs.Printed as specs;
+
+use std::fmt;
+use std::fmt::{Display, Formatter, Write};
+
+/// A text that is to stand in a line: each control is shown as `\u{1b}`, a line feed among them.
+#[derive(Clone, Copy, Debug, Drop)]
+pub struct Printed<'a>(pub &'a str);
+
+/// A text of several lines, or one of these: the same, but for its line feeds and tabs.
+#[derive(Clone, Copy, Debug, Drop)]
+pub struct PrintedLines<'a>(pub &'a str);
+
+impl<'a> Display for Printed<'a> {
+    ghost use Rattle.std.specs.Prelude.{Some};
+    ghost use Rattle.printing.specs.Printed as specs;
+
+    ghost output = { λ text. Some (specs.printed text.0.now) };
+
+    fn fmt<W: Write>(&self, f: &mut Formatter<W>) -> fmt::Result {
+        write_text(f, self.0)
+    }
+}
+
+impl<'a> Display for PrintedLines<'a> {
+    ghost use Rattle.std.specs.Prelude.{Some};
+    ghost use Rattle.printing.specs.Printed as specs;
+
+    ghost output = { λ text. Some (specs.printed_lines text.0.now) };
+
+    fn fmt<W: Write>(&self, f: &mut Formatter<W>) -> fmt::Result {
+        write_lines(f, self.0)
+    }
+}
+
+/// Whether some character of a text isn't printed.
+pub fn has_control(text: &str) -> bool
+    ensures { result ≡ specs.has_control text.now }
+{
+    for c in text.chars() {
+        if is_control(c) {
+            return true;
+        }
+    }
+    false
+}
+
+fn is_control(c: char) -> bool
+    ensures { result ≡ specs.is_control c }
+{
+    c <= '\u{1f}'
+        || ('\u{7f}' <= c && c <= '\u{9f}')
+        || ('\u{200e}' <= c && c <= '\u{200f}')
+        || ('\u{2028}' <= c && c <= '\u{202e}')
+        || ('\u{2066}' <= c && c <= '\u{2069}')
+}
+
+fn is_control_in_line(c: char) -> bool
+    ensures { result ≡ specs.is_control_in_line c }
+{
+    is_control(c) && !(c == '\t' || c == '\n')
+}
+
+#[tactic(auto, unfolding(crate::specs::Printed::printed))]
+fn write_text<W: Write>(f: &mut Formatter<W>, text: &str) -> fmt::Result
+    ensures { WritesOnOk W.write_str_gives f.old result (specs.printed text.now) f.new }
+{
+    for c in text.chars() {
+        write_char(f, c)?;
+    }
+    Ok(())
+}
+
+#[tactic(auto, unfolding(crate::specs::Printed::printed_lines))]
+fn write_lines<W: Write>(f: &mut Formatter<W>, text: &str) -> fmt::Result
+    ensures { WritesOnOk W.write_str_gives f.old result (specs.printed_lines text.now) f.new }
+{
+    for c in text.chars() {
+        write_char_in_line(f, c)?;
+    }
+    Ok(())
+}
+
+fn write_char<W: Write>(f: &mut Formatter<W>, c: char) -> fmt::Result
+    ensures { WritesOnOk W.write_str_gives f.old result
+        (specs.printed_char specs.is_control c) f.new }
+{
+    if is_control(c) {
+        write_escape(f, c)
+    } else {
+        f.write_char(c)
+    }
+}
+
+fn write_char_in_line<W: Write>(f: &mut Formatter<W>, c: char) -> fmt::Result
+    ensures { WritesOnOk W.write_str_gives f.old result
+        (specs.printed_char specs.is_control_in_line c) f.new }
+{
+    if is_control_in_line(c) {
+        write_escape(f, c)
+    } else {
+        f.write_char(c)
+    }
+}
+
+fn write_escape<W: Write>(f: &mut Formatter<W>, c: char) -> fmt::Result
+    ensures { WritesOnOk W.write_str_gives f.old result (specs.escape c) f.new }
+{
+    let code = u32::from(c);
+    write!(f, "\\u{{{code:x}}}")
+}

@@ -1,0 +1,73 @@
+//! A place of a rule's text: its line and column, and the line as it is printed, with a caret.
+
+ghost use Rattle.std.specs.Prelude.{◌≡◌, ◌++◌, IfSome, OnOk, string_bytes};
+ghost use Rattle.printing.specs.Printed.{printed_lines};
+ghost use Rattle.rule_diagnosis.specs.Places.{pad_at};
+ghost use Rattle.rule_diagnosis.specs.Told as specs;
+
+use crate::place::{front, line_at, line_text, pad_at};
+use printing::PrintedLines;
+use std::alloc::{AllocError, Global};
+use std::fmt::Write;
+use std::str;
+
+/// A sentence on a place, and the line with a caret; None where memory is refused.
+pub fn tell_at(alloc: Global, text: &str, place: usize, sentence: &str) -> Option<String>
+    ensures { IfSome result
+        (λ told. string_bytes told ≡ specs.told_at text.now place sentence.now) }
+{
+    let before = front(text.as_bytes(), place);
+    let line = line_at(before);
+    let Ok(column) = pad_at(alloc, before) else {
+        return None;
+    };
+    let Some(pad) = printed_pad(alloc, before) else {
+        return None;
+    };
+    let mut told = String::new(alloc);
+    match tell_lines(
+        &mut told,
+        line,
+        column.len() + 1,
+        line_text(line, text),
+        pad.as_str(),
+        sentence,
+    ) {
+        Ok(()) => Some(told),
+        Err(_) => None,
+    }
+}
+
+// Blanks for what is printed before a place in its line; None where memory is refused, or where no
+// text stands before it.
+fn printed_pad(alloc: Global, before: &[u8]) -> Option<String>
+    ensures { IfSome result (λ pad. string_bytes pad ≡ pad_at (printed_lines before.now)) }
+{
+    let Ok(spelled) = str::from_utf8(before) else {
+        return None;
+    };
+    let Ok(printed) = PrintedLines(spelled).to_string(alloc) else {
+        return None;
+    };
+    match pad_at(alloc, printed.as_bytes()) {
+        Ok(pad) => Some(pad),
+        Err(_) => None,
+    }
+}
+
+fn tell_lines(
+    text: &mut String,
+    line: usize,
+    column: usize,
+    shown: &str,
+    pad: &str,
+    sentence: &str,
+) -> Result<(), AllocError>
+    ensures { OnOk result (string_bytes text.new ≡ string_bytes text.old
+        ++ specs.lines_of line column (printed_lines shown.now) pad.now sentence.now) }
+{
+    let printed = PrintedLines(shown);
+    writeln!(text, "line {line}, column {column}: {sentence}")?;
+    writeln!(text, "  {printed}")?;
+    writeln!(text, "  {pad}^")
+}
