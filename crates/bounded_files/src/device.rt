@@ -37,6 +37,14 @@ impl<'a, R: Files + AllocGlobal> Disk for Device<'a, R> {
     fn read_regular(&self, path: &str, most: u32) -> Result<Option<Vec<u8>>, ResourceFault> {
         read_opened(self.rt.alloc(), open_regular(self.rt, path), most)
     }
+
+    // What can't be looked at counts as a link.
+    fn is_link(&self, path: &str) -> bool {
+        match fs::symlink_metadata(self.rt, path) {
+            Ok(found) => found.is_symlink(),
+            Err(_) => true,
+        }
+    }
 }
 
 // A regular file, opened. What the path leads to is looked at before it is opened, since opening a

@@ -25,6 +25,11 @@ pub trait Disk {
     /// counts as one that can't be read, and isn't waited for.
     fn read_regular(&self, path: &str, most: u32) -> Result<Option<Vec<u8>>, ResourceFault>
         ensures { ReadsAtMost most (regular_files (known self.now)) path.now result };
+
+    /// Whether a symbolic link stands at a path, as none does in memory. Nothing is promised of it.
+    fn is_link(&self, _path: &str) -> bool {
+        false
+    }
 }
 
 /// The bytes of a file of at most so many. A longer one counts as one that can't be read.

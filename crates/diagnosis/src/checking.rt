@@ -38,7 +38,8 @@ pub struct Refused {
 /// which tables of a list are numbered from 1:
 ///
 /// - M1: that the bytes are too many, or what the crate `toml` says, of which nothing is promised
-///   but how it is printed, and how tables begin.
+///   but how it is printed, and how tables begin. What it says quotes the manifest, so it is left
+///   out where the manifest itself is a symbolic link.
 /// - M2: `app[2].release[1].size: a whole number from 0 to 9007199254740991`.
 /// - M3: `array q stands twice` or `app x stands twice`.
 /// - M4 to M6: `app[1].rule: x.rule`, the name of the file as the manifest has it. Where M6 has a
@@ -49,7 +50,8 @@ pub struct Refused {
 ///   it, where the verifier refuses it, the sentence of `refused_place`. The file is read once more
 ///   for these lines. They are left out where it can't be read again; and a device may give other
 ///   bytes than before. They are left out, too, where the file lies outside the manifest's folder,
-///   by a name that is absolute or has a part `..`.
+///   by a name that is absolute or has a part `..`, and where the disk says that it, or a folder on
+///   its way, is a symbolic link.
 /// - M7: `array[2].length: r passes the 4096 cells that all arrays of a width have`.
 ///
 /// Behind the reason of M4 to M6 the apps behind the first refused one are judged, each by itself;
@@ -96,7 +98,7 @@ pub fn too_long(alloc: Global) -> Refused
     ensures { FailsIfLong result.fault (string_bytes result.reason) }
 {
     let fault = LoadFault::Manifest(ManifestFault::Toml(TomlFault::TooLong));
-    match tell_toml(alloc, &[], TomlFault::TooLong) {
+    match tell_toml(alloc, &[], false, TomlFault::TooLong) {
         Some(reason) => Refused { fault, reason },
         None => Refused {
             fault,

@@ -83,7 +83,8 @@ fn key_of(source: &ProgramSource) -> &'static str
     }
 }
 
-// The place in the file, which is read once more if it lies in the manifest's folder.
+// The place in the file, which is read once more if it lies in the manifest's folder, by its name
+// and with no link on the way.
 fn show_again<F: Files>(
     alloc: Global,
     files: &mut F,
@@ -101,6 +102,9 @@ fn show_again<F: Files>(
     }
     let name = file_of(source);
     if !is_inside(name) {
+        return String::new(alloc);
+    }
+    if files.is_behind_link(name) {
         return String::new(alloc);
     }
     let Ok(bytes) = files.bytes(name) else {

@@ -6,7 +6,7 @@ ghost use Rattle.diagnosis.specs.Inside as specs;
 use std::path::Path;
 
 /// Whether a name leads to the folder in which it is taken, or further down: it isn't absolute, and
-/// none of its parts is `..`. A link that lies in the folder is the folder's, wherever it leads.
+/// none of its parts is `..`. A link may still lead out, of which the disk is asked.
 pub(crate) fn is_inside(name: &str) -> bool
     ensures { result ≡ specs.is_inside name.now }
 {

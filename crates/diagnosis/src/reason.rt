@@ -56,7 +56,9 @@ fn tell_reason<F: Files>(
         IsReason (F.known files.old) manifest.now fault.now (string_bytes text)) }
 {
     match fault {
-        LoadFault::Manifest(fault) => tell_manifest(alloc, manifest, fault),
+        LoadFault::Manifest(fault) => {
+            tell_manifest(alloc, manifest, files.is_manifest_link(), fault)
+        }
         LoadFault::File { app } => tell_file(alloc, manifest, files, *app, Place::Whole),
         LoadFault::Program { app, fault } => {
             tell_file(alloc, manifest, files, *app, slot_of(fault))
@@ -74,11 +76,16 @@ fn tell_reason<F: Files>(
 }
 
 // What is wrong with a manifest itself.
-fn tell_manifest(alloc: Global, manifest: &[u8], fault: &ManifestFault) -> Option<String>
+fn tell_manifest(
+    alloc: Global,
+    manifest: &[u8],
+    is_link: bool,
+    fault: &ManifestFault,
+) -> Option<String>
     ensures { IfSome result (λ text. IsManifestReason fault.now (string_bytes text)) }
 {
     match fault {
-        ManifestFault::Toml(fault) => tell_toml(alloc, manifest, *fault),
+        ManifestFault::Toml(fault) => tell_toml(alloc, manifest, is_link, *fault),
         ManifestFault::Field(misfit) => tell_misfit(alloc, misfit),
         ManifestFault::Duplicate(twice) => format!(in alloc; "{twice} stands twice\n").ok(),
         ManifestFault::Memory => None,
@@ -105,12 +112,18 @@ fn push_misfit(text: &mut String, misfit: &Misfit) -> Result<(), AllocError>
 }
 
 // That the bytes are too many, or what the reader of TOML says of them, which it is asked once more
-// and which ends its own lines.
-pub(crate) fn tell_toml(alloc: Global, manifest: &[u8], fault: TomlFault) -> Option<String>
+// and which ends its own lines. Of a manifest that is a link it isn't asked, since it quotes it.
+pub(crate) fn tell_toml(
+    alloc: Global,
+    manifest: &[u8],
+    is_link: bool,
+    fault: TomlFault,
+) -> Option<String>
     ensures { IfSome result (λ text. IsTomlReason fault (string_bytes text)) }
 {
     match fault {
         TomlFault::TooLong => format!(in alloc; "more than 1048576 bytes\n").ok(),
+        TomlFault::Text if is_link => with_tables(alloc, ""),
         TomlFault::Text => match table_from_slice(alloc, manifest) {
             Err(error) if !error.is_memory() => {
                 let Ok(said) = format!(in alloc; "{error}") else {

@@ -25,4 +25,15 @@ pub trait Files {
     /// How many files couldn't be read so far.
     fn failures(&self) -> u64
         ensures { result ≡ failed self.now };
+
+    /// Whether a symbolic link stands on the way of a name: the file itself is one, or a folder of
+    /// its path below the manifest's. None does in memory, and nothing is promised of it.
+    fn is_behind_link(&self, _name: &str) -> bool {
+        false
+    }
+
+    /// Whether the manifest itself is a symbolic link, by the path by which it was read.
+    fn is_manifest_link(&self) -> bool {
+        false
+    }
 }

@@ -60,6 +60,31 @@ impl<'a, D: Disk> Files for FolderFiles<'a, D> {
     fn failures(&self) -> u64 {
         self.failures
     }
+
+    fn is_behind_link(&self, name: &str) -> bool {
+        for part in Path::new(name).ancestors() {
+            if is_link_beside(self.alloc, self.disk, self.manifest, part.as_os_str()) {
+                return true;
+            }
+        }
+        false
+    }
+
+    fn is_manifest_link(&self) -> bool {
+        self.disk.is_link(self.manifest)
+    }
+}
+
+// Whether a name, or the beginning of one, is a link; where memory for its path is refused, it counts
+// as one. The folder itself isn't asked.
+fn is_link_beside<D: Disk>(alloc: Global, disk: &D, manifest: &str, part: &str) -> bool {
+    if part.is_empty() {
+        return false;
+    }
+    match path_beside(alloc, manifest, part) {
+        Ok(path) => disk.is_link(path.as_str()),
+        Err(_) => true,
+    }
 }
 
 // The path of a name from the folder of a manifest.

@@ -10,6 +10,10 @@ pub returns-then-not-is_inside-clause-shows : goal.returns-then-not-is_inside-cl
 returns-then-not-is_inside-clause-shows g c =
     rw c.new-then-not-is_inside.ensures.bytes nothing
 
+pub returns-then-is_behind_link-clause-shows : goal.returns-then-is_behind_link-clause-shows
+returns-then-is_behind_link-clause-shows g c =
+    rw c.new-then-is_behind_link.ensures.bytes nothing
+
 pub returns-in_default-clause-shows : goal.returns-in_default-clause-shows
 returns-in_default-clause-shows g c = rw c.new-in_default.ensures.bytes nothing
 
