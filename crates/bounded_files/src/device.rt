@@ -5,7 +5,7 @@ ghost use Rattle.std.specs.Fs.{IsFile, file_type};
 ghost use Rattle.bounded_files.specs.Files.{IsBeginning, IsWithin, ReadsAtMost};
 
 use crate::disk::Disk;
-use crate::fault::ResourceFault;
+use crate::fault::{ResourceFault, fault_of};
 use std::alloc::Global;
 use std::fs::{self, Metadata, OpenFile};
 use std::io::{self, Error, ErrorKind, Read};
@@ -99,16 +99,4 @@ fn read_beginning<R: Read + Drop>(alloc: Global, reader: R, most: u32) -> io::Re
     reader.take(limit as u64).read_to_end(&mut bytes)?;
     bytes.truncate(limit);
     Ok(bytes)
-}
-
-/// Writes a file anew.
-pub fn write_file<R: Files>(rt: &R, path: &str, bytes: &[u8]) -> Result<(), ResourceFault> {
-    fs::write(rt, path, bytes).map_err(|error| fault_of(&error))
-}
-
-fn fault_of(error: &Error) -> ResourceFault {
-    match error.kind() {
-        ErrorKind::OutOfMemory => ResourceFault::Memory,
-        _ => ResourceFault::File,
-    }
 }

@@ -4,6 +4,7 @@ ghost use Rattle.std.specs.Prelude.{◌≡◌, Some};
 ghost use Rattle.bounded_files.specs.Texts.{resource_text};
 
 use std::fmt;
+use std::io::{Error, ErrorKind};
 
 /// What isn't to be had of the machine.
 #[derive(Clone, Copy, Debug, Drop, PartialEq, Eq)]
@@ -23,6 +24,14 @@ impl ResourceFault {
             ResourceFault::File => "B3 File",
             ResourceFault::Memory => "B4 Memory",
         }
+    }
+}
+
+/// What the failure of a file lacks.
+pub(crate) fn fault_of(error: &Error) -> ResourceFault {
+    match error.kind() {
+        ErrorKind::OutOfMemory => ResourceFault::Memory,
+        _ => ResourceFault::File,
     }
 }
 

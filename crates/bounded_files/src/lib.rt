@@ -5,12 +5,14 @@
 // more memory is taken for it. A path that has to lead to a regular file is looked at before it is
 // opened, so that nobody waits for the writer of a FIFO. Files are read through a trait, so that
 // files in memory can stand in for those of a device; of these the contracts say which bytes were
-// read.
+// read. A file that is written takes the place of the old one whole, where the folder lets it.
 
 mod device;
 mod disk;
 mod fault;
+mod written;
 
-pub use device::{Device, write_file};
+pub use device::Device;
 pub use disk::{Disk, MOST_BYTES, read_regular_within, read_within};
 pub use fault::ResourceFault;
+pub use written::{may_write_over, write_file};

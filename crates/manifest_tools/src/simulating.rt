@@ -9,7 +9,7 @@ ghost use Rattle.manifest_tools.specs.Simulations as specs;
 
 use crate::fault::ManifestToolFault;
 use crate::progress_lines::ProgressLines;
-use bounded_files::{Disk, ResourceFault, write_file};
+use bounded_files::{Disk, ResourceFault, may_write_over, write_file};
 use cells::Directory;
 use charts::{Simulated, draw, push_moves, push_shares};
 use load::{PathFault, load_path};
@@ -33,7 +33,7 @@ pub struct ToldSimulation {
 /// how far it is.
 ///
 /// The faults come in this order: B3 of the manifest, or M1 to M7 of its load; those of the other
-/// one; B3 where the picture can't be written. B4, or M8 in a load, comes where memory is refused.
+/// one; B3 where the picture can't be written, or would be written over what is none. B4, or M8 in a load, comes where memory is refused.
 pub fn simulate_files<R, D>(
     rt: &R,
     disk: &D,
@@ -58,14 +58,20 @@ where
     }
 }
 
-// Writes the picture of a simulation into the file that is named.
+// Writes the picture of a simulation into the file that is named. A file that stands there has to be
+// a picture, or empty, so that no manifest and no rule is written over, by whatever path.
 fn write_picture<R>(rt: &R, file: Option<&str>, told: &ToldSimulation) -> Result<(), ResourceFault>
 where
-    R: Files,
+    R: Files + AllocGlobal,
     ensures { OnErr result (IsSome (option_copied file.entry)) }
 {
     match (file, &told.picture) {
-        (Some(path), Some(picture)) => write_file(rt, path, picture.as_bytes()),
+        (Some(path), Some(picture)) => {
+            if !may_write_over(rt, path, b"<svg") {
+                return Err(ResourceFault::File);
+            }
+            write_file(rt, path, picture.as_bytes())
+        }
         _ => Ok(()),
     }
 }
