@@ -151,7 +151,10 @@ pub fn log_option<'a>(alloc: Global) -> Arg<'a>
     Arg::new(alloc, "log")
         .long("log")
         .action(ArgAction::SetTrue)
-        .help("Write a line a connection to standard error")
+        .help(
+            "Write the log to standard error: a JSON object a line, for each connection, start, load, \
+             stop and counter",
+        )
 }
 
 /// `--version T`.

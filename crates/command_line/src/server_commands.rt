@@ -83,7 +83,11 @@ pub fn load_command<'a>(alloc: Global) -> Result<Command<'a>, AllocError>
     ensures local { IfOk result (λ c. (fields_of c).has_globals ≡ false) }
 {
     let arguments = vec![in alloc;
-        file_argument(alloc, "PATH", "Manifest, as the server sees it"),
+        file_argument(
+            alloc,
+            "PATH",
+            "Manifest, as the server sees it: write its path whole, from / on",
+        ),
         operator_option(alloc),
     ]?;
     let about = "Have a server load a manifest; prints `generation G`, or its refusal";

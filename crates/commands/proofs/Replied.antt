@@ -1,4 +1,4 @@
--- A reply that doesn't begin as a refusal.
+-- A reply that doesn't begin as a refusal, and why there is none.
 use Rattle.std.proofs.Common.{◌≡◌, ◌∙◌, refl, sym, ap, subst, ℕ, List, ◌++◌, length, take, drop}
 use Rattle.std.proofs.Common.{Bool, true, false, ◌&&◌, ◌||◌}
 use Rattle.std.proofs.lemmas.List.{take-append-drop}
@@ -8,7 +8,11 @@ use Rattle.std.specs.Str.Pattern.{LacksTextAt}
 use Rattle.std.specs.Cmp.Lexicographic.{same_text}
 use Rattle.operator.specs.Replies.{IsReplyTo, is_answer}
 use Rattle.operator_request.specs.declared.request.OperatorRequest.{OperatorRequest}
-use Rattle.commands.specs.Asked.{IsDoneAs}
+use Rattle.operator.specs.declared.asking.AskFault.{AskFault}
+use Rattle.operator.specs.declared.asking.AskFault.TheVariants as ask
+use Rattle.operator_request.specs.Requests.{IsSendable}
+use Rattle.commands.specs.Asked.{IsAskRefusal, IsDoneAs}
+use Rattle.commands.specs.declared.fault.Fault.TheVariants.{Ask}
 
 lacks_word : (word bytes : List ℕ) (r : Bool) → r ≡ starts_with nat_eq bytes word
     → LacksTextAt word bytes 0 → r ≡ false
@@ -27,3 +31,9 @@ done request bytes lacks reply = record {
       (lacks_word (codes "refused ") bytes (starts_with nat_eq bytes (codes "refused "))
       refl lacks) reply.replied;
 }
+
+pub refuses : (request : OperatorRequest) (fault : AskFault)
+    → (fault ≡ ask.Word → ¬ IsSendable request) → IsAskRefusal request (Ask fault)
+refuses request ask.Word unsent = unsent refl
+refuses request ask.Memory unsent = tt
+refuses request ask.Connect unsent = tt

@@ -32,9 +32,7 @@ where
 {
     let reply = match ask(rt, port, request) {
         Ok(reply) => reply,
-        Err(AskFault::Word) => return Err(Fault::Ask(AskFault::Word)),
-        Err(AskFault::Memory) => return Err(Fault::Ask(AskFault::Memory)),
-        Err(AskFault::Connect) => return Err(Fault::Ask(AskFault::Connect)),
+        Err(fault) => return Err(Fault::Ask(fault)),
     };
     match read_reply(rt.alloc(), reply.as_slice()) {
         Ok(text) => Ok(text),

@@ -38,8 +38,8 @@ const USAGE: u8 = 2;
 /// Does what the words ask, the first of which is the program's name, with files of the disk.
 /// Results go to `out`, and refusals, usage and the warnings of `check` to `err`, which is left
 /// alone by all else that is done. A simulation that takes over a second says by the runtime itself
-/// how far it is. The status is 0 done, 1 refused or after a failed write, 2
-/// usage. A server has served once the status is there.
+/// how far it is. The status is 0 done, 1 refused or after a failed write, 2 usage. A server has
+/// served once the status is there.
 pub fn command<R, D, S, O, E>(rt: &R, disk: &D, words: &[S], out: &mut O, err: &mut E) -> u8
 where
     R: Files + Threads + Wait + AllocGlobal + Clock + LogOutput,
