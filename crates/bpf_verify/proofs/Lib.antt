@@ -3,7 +3,6 @@ pub mod Lists
 pub mod Pools
 pub mod WaitingThen
 pub mod Places
-pub mod Laid
 pub mod Joining
 pub mod Swept
 pub mod Visits

@@ -2,7 +2,6 @@ pub mod Count
 pub mod Pool
 pub mod Accepted
 pub mod Kept
-pub mod Laid
 pub mod Sweep
 pub mod Entries
 pub mod Walk

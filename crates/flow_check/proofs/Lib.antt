@@ -5,3 +5,4 @@ pub mod Graph
 pub mod Readings
 pub mod Beginnings
 pub mod Verdicts
+pub mod Laid

@@ -1,4 +1,5 @@
 pub mod Edges
+pub mod Laid
 pub mod Flow
 pub mod Fault
 pub mod Reading

@@ -9,8 +9,10 @@ ghost use Rattle.bpf_insn.specs.Program as program;
 ghost use Rattle.flow_check.specs.Edges.{jump_of, target_of, goes_on, next_of};
 ghost use Rattle.flow_check.specs.Edges.{KeepsJump, KeepsEdges};
 ghost use Rattle.flow_check.specs.Fault.{IsEdgeFault};
+ghost use Rattle.flow_check.specs.Laid.{laid};
 
 use crate::fault::FlowRule;
+use crate::slots::{insn_behind, is_half, is_wide_at, slot_count};
 use bpf_insn::{Distance, Insn};
 
 /// How far the instruction jumps, if it is a jump.
@@ -44,11 +46,11 @@ pub fn next_place(slot: usize, insn: Insn) -> Option<usize>
 }
 
 /// The lowest rule of the jump that is broken.
-fn jump_fault(code: &[Option<Insn>], slot: usize, insn: Insn) -> Option<FlowRule>
-    requires short { length code.now ≤ 4096 }
-    requires at { program.at code.now slot ≡ Some insn }
-    ensures fault { IfSome result (λ rule. IsEdgeFault code.now slot rule) }
-    ensures none { IfNone result (KeepsJump code.now slot) }
+fn jump_fault(code: &[Insn], slot: usize, insn: Insn) -> Option<FlowRule>
+    requires short { length (laid code.now) ≤ 4096 }
+    requires at { program.at (laid code.now) slot ≡ Some insn }
+    ensures fault { IfSome result (λ rule. IsEdgeFault (laid code.now) slot rule) }
+    ensures none { IfNone result (KeepsJump (laid code.now) slot) }
 {
     let Some(distance) = distance_of(insn) else {
         return None;
@@ -59,42 +61,47 @@ fn jump_fault(code: &[Option<Insn>], slot: usize, insn: Insn) -> Option<FlowRule
     if target <= slot {
         return Some(FlowRule::BackJump);
     }
-    match code.get(target) {
-        None => Some(FlowRule::Outside),
-        Some(None) => Some(FlowRule::InsideWide),
-        Some(Some(_)) => None,
+    if target >= slot_count(code) {
+        return Some(FlowRule::Outside);
     }
+    if is_half(code, target) {
+        return Some(FlowRule::InsideWide);
+    }
+    None
 }
 
 /// The lowest of the rules F1 to F4 that the place breaks.
-pub fn edge_fault(code: &[Option<Insn>], slot: usize, insn: Insn) -> Option<FlowRule>
-    requires short { length code.now ≤ 4096 }
-    requires at { program.at code.now slot ≡ Some insn }
-    ensures fault { IfSome result (λ rule. IsEdgeFault code.now slot rule) }
-    ensures none { IfNone result (KeepsEdges code.now slot) }
+pub fn edge_fault(code: &[Insn], slot: usize, insn: Insn) -> Option<FlowRule>
+    requires short { length (laid code.now) ≤ 4096 }
+    requires at { program.at (laid code.now) slot ≡ Some insn }
+    ensures fault { IfSome result (λ rule. IsEdgeFault (laid code.now) slot rule) }
+    ensures none { IfNone result (KeepsEdges (laid code.now) slot) }
 {
     if let Some(rule) = jump_fault(code, slot, insn) {
         return Some(rule);
     }
     match next_place(slot, insn) {
-        Some(next) if next == code.len() => Some(FlowRule::FallsOff),
+        Some(next) if next == slot_count(code) => Some(FlowRule::FallsOff),
         _ => None,
     }
 }
 
 /// The lowest place that breaks one of the rules F1 to F4, and the lowest of these.
-pub fn first_edge_fault(code: &[Option<Insn>]) -> Option<(usize, FlowRule)>
-    requires { length code.now ≤ 4096 }
-    ensures fault { IfSome result (λ f. IsEdgeFault code.now f.0 f.1) }
-    ensures before { IfSome result (λ f. (k : ℕ) → k < f.0 → KeepsEdges code.now k) }
-    ensures none { IfNone result ((k : ℕ) → KeepsEdges code.now k) }
+pub fn first_edge_fault(code: &[Insn]) -> Option<(usize, FlowRule)>
+    requires { length (laid code.now) ≤ 4096 }
+    ensures fault { IfSome result (λ f. IsEdgeFault (laid code.now) f.0 f.1) }
+    ensures before { IfSome result (λ f. (k : ℕ) → k < f.0 → KeepsEdges (laid code.now) k) }
+    ensures none { IfNone result ((k : ℕ) → KeepsEdges (laid code.now) k) }
 {
-    for (slot, place) in code.iter().enumerate() {
-        if let Some(insn) = *place
+    let count = slot_count(code);
+    let mut wide = false;
+    for slot in 0..count {
+        if let Some(insn) = insn_behind(code, slot, wide)
             && let Some(rule) = edge_fault(code, slot, insn)
         {
             return Some((slot, rule));
         }
+        wide = is_wide_at(code, slot);
     }
     None
 }

@@ -9,8 +9,10 @@ mod flow;
 mod law;
 mod reach;
 mod read;
+mod slots;
 
 pub use edges::{jump_target, next_place};
 pub use fault::{FlowFault, FlowRule};
 pub use flow::Flow;
 pub use law::one_verdict;
+pub use slots::is_wide;

@@ -5,10 +5,12 @@ ghost use Rattle.std.specs.Prelude.{◌≡◌, true, false, ℕ, ◌<◌, ◌≤
 ghost use Rattle.std.specs.Prelude.{All, Contains, length, replicate, slice_set};
 ghost use Rattle.flow_check.specs.Edges.{successors};
 ghost use Rattle.flow_check.specs.Flow.{LeadsAhead};
+ghost use Rattle.flow_check.specs.Laid.{laid};
 ghost use Rattle.flow_check.specs.Sweep.{IsMarked, IsMarkedTo};
 ghost use Rattle.flow_check.specs.Sweep.{IsLowestUnreached, MarksOnly, marked};
 
 use crate::edges::{jump_target, next_place};
+use crate::slots::{insn_behind, is_wide_at, slot_count};
 use bpf_insn::Insn;
 use std::alloc::{AllocError, Global};
 
@@ -35,19 +37,22 @@ fn mark_successors(marks: &mut [bool], slot: usize, insn: Insn)
 }
 
 /// Sweeps upwards, and stops at the first place that isn't reached.
-fn sweep(marks: &mut [bool], code: &[Option<Insn>]) -> Option<usize>
-    requires short { length code.now ≤ 4096 }
-    requires ahead { LeadsAhead code.now }
-    requires start { IsMarkedTo code.now 0 marks.old }
-    ensures { IsLowestUnreached code.now result }
+fn sweep(marks: &mut [bool], code: &[Insn]) -> Option<usize>
+    requires short { length (laid code.now) ≤ 4096 }
+    requires ahead { LeadsAhead (laid code.now) }
+    requires start { IsMarkedTo (laid code.now) 0 marks.old }
+    ensures { IsLowestUnreached (laid code.now) result }
 {
-    for (slot, place) in code.iter().enumerate() {
-        if let Some(insn) = *place {
+    let count = slot_count(code);
+    let mut wide = false;
+    for slot in 0..count {
+        if let Some(insn) = insn_behind(code, slot, wide) {
             if !marks[slot] {
                 return Some(slot);
             }
             mark_successors(marks, slot, insn);
         }
+        wide = is_wide_at(code, slot);
     }
     None
 }
@@ -63,12 +68,12 @@ fn opening(alloc: Global, count: usize) -> Result<Vec<bool>, AllocError>
 }
 
 /// The lowest place that isn't reached.
-pub fn first_unreached(alloc: Global, code: &[Option<Insn>]) -> Result<Option<usize>, AllocError>
-    requires some { 0 < length code.now }
-    requires short { length code.now ≤ 4096 }
-    requires ahead { LeadsAhead code.now }
-    ensures { IfOk result (λ place. IsLowestUnreached code.now place) }
+pub fn first_unreached(alloc: Global, code: &[Insn]) -> Result<Option<usize>, AllocError>
+    requires some { 0 < length (laid code.now) }
+    requires short { length (laid code.now) ≤ 4096 }
+    requires ahead { LeadsAhead (laid code.now) }
+    ensures { IfOk result (λ place. IsLowestUnreached (laid code.now) place) }
 {
-    let mut marks = opening(alloc, code.len())?;
+    let mut marks = opening(alloc, slot_count(code))?;
     Ok(sweep(&mut marks, code))
 }

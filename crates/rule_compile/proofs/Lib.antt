@@ -31,3 +31,4 @@ pub mod TextFronts
 pub mod RuleFronts
 pub mod StatementFronts
 pub mod Compiled
+pub mod Slots

@@ -1,29 +1,43 @@
 //! Code that is written from its end, so that the target of each jump stands before the jump.
 
-ghost use Rattle.std.specs.Prelude.{◌≡◌, ◌<◌, ◌≤◌, ◌+◌, ◌-◌, [], ◌∷◌, Some, None, length, OnOk};
+ghost use Rattle.std.specs.Prelude.{◌≡◌, ◌<◌, ◌≤◌, ◌+◌, ◌-◌, [], ◌∷◌, ◌++◌, Some, None};
+ghost use Rattle.std.specs.Prelude.{true, false, length, OnOk};
+ghost use Rattle.flow_check.specs.Laid.{is_wide, laid};
 
 use crate::fault::CompileFault;
 use bpf_insn::Insn;
-use std::alloc::Global;
+use std::alloc::{AllocError, Global};
 use std::marker::Model;
 
 const MAX_SLOTS: usize = 4096;
 
-/// The end of a program: its slots, the last one first.
+/// The end of a program: its slots, the last one first. A filler stands at the second half of a
+/// wide load.
 #[derive(Drop)]
 pub struct Code {
-    slots: Vec<Option<Insn>>,
+    slots: Vec<Insn>,
 }
 
 impl Model for Code {
     ghost use Rattle.std.specs.Prelude.{◌≤◌, length, reverse};
     ghost use Rattle.bpf_insn.specs.Program.{Program};
+    ghost use Rattle.flow_check.specs.Laid.{laid};
 
     ghost Value = { Program };
 
-    ghost view = { λ c. reverse c.slots.items };
+    ghost view = { λ c. laid (reverse c.slots.items) };
 
     ghost invariant = { λ c. length c.slots.items ≤ 4096 };
+}
+
+/// Adds a filler, and the wide load whose second half it stands for.
+fn push_wide(slots: &mut Vec<Insn>, insn: Insn) -> Result<(), AllocError>
+    ensures slots { OnOk result (slots.new.items ≡ slots.old.items ++ Insn.Exit ∷ insn ∷ []) }
+    ensures short { length slots.new.items ≤ length slots.old.items + 2 }
+{
+    slots.push(Insn::Exit)?;
+    slots.push(insn)?;
+    Ok(())
 }
 
 impl Code {
@@ -48,7 +62,7 @@ impl Code {
     pub fn keeps(&self)
         ensures { length self.now ≤ 4096 }
     {
-        let _slots = &self.slots;
+        let _count = self.len();
     }
 
     /// How many slots a jump passes over that is put in front and goes to the label.
@@ -57,18 +71,19 @@ impl Code {
         ensures slots { result ≡ length self.now - label }
         ensures in_range { result ≤ 4096 }
     {
-        self.slots.len() - label
+        self.len() - label
     }
 
     /// Puts an instruction of one slot in front.
     pub fn put(&mut self, insn: Insn) -> Result<(), CompileFault>
+        requires { is_wide insn ≡ false }
         ensures code { OnOk result (self.new ≡ Some insn ∷ self.old) }
         ensures long { result ≡ Err CompileFault.TooLong → 4096 ≤ length self.old }
     {
-        if self.slots.len() >= MAX_SLOTS {
+        if self.len() >= MAX_SLOTS {
             return Err(CompileFault::TooLong);
         }
-        match self.slots.push(Some(insn)) {
+        match self.slots.push(insn) {
             Ok(()) => Ok(()),
             Err(_) => Err(CompileFault::Memory),
         }
@@ -76,22 +91,23 @@ impl Code {
 
     /// Puts an instruction of two slots in front.
     pub fn put_wide(&mut self, insn: Insn) -> Result<(), CompileFault>
+        requires { is_wide insn ≡ true }
         ensures code { OnOk result (self.new ≡ Some insn ∷ None ∷ self.old) }
         ensures long { result ≡ Err CompileFault.TooLong → 4096 < length self.old + 2 }
     {
-        if self.slots.len() + 2 > MAX_SLOTS {
+        if self.len() + 2 > MAX_SLOTS {
             return Err(CompileFault::TooLong);
         }
-        match self.slots.push(None) {
-            Ok(()) => self.put(insn),
+        match push_wide(&mut self.slots, insn) {
+            Ok(()) => Ok(()),
             Err(_) => Err(CompileFault::Memory),
         }
     }
 
-    /// The slots in the program's order: an instruction at the slot where it begins, and nothing at
-    /// a second half.
-    pub fn into_slots(mut self) -> Vec<Option<Insn>>
-        ensures { result.items ≡ self }
+    /// The slots in the program's order: an instruction at the slot where it begins, and a filler
+    /// at a second half.
+    pub fn into_slots(mut self) -> Vec<Insn>
+        ensures { laid result.items ≡ self }
     {
         self.slots.reverse();
         self.slots

@@ -4,6 +4,7 @@ ghost use Rattle.std.specs.Prelude.{◌≡◌, ◌<◌, length, IfOk, true};
 ghost use Rattle.std.specs.List.{AllByRecursion};
 ghost use Rattle.attrs.specs.Attributes.{Attributes};
 ghost use Rattle.flow_check.specs.Flow.{IsFlow};
+ghost use Rattle.flow_check.specs.Laid.{laid};
 ghost use Rattle.rule_lang.specs.Fits.{fits};
 ghost use Rattle.rule_lang.specs.Cost.{cost};
 ghost use Rattle.rule_compile.specs.Code as code;
@@ -21,9 +22,9 @@ use rule_lang::Rule;
 use std::alloc::{AllocError, Global};
 
 /// The program of slots that are in order, with its bytes.
-fn flow_of(alloc: Global, slots: Vec<Option<Insn>>) -> Result<Flow, AllocError>
-    requires { AllByRecursion CanEncode slots.items → IsFlow slots.items }
-    ensures { IfOk result (λ flow. flow ≡ slots.items) }
+fn flow_of(alloc: Global, slots: Vec<Insn>) -> Result<Flow, AllocError>
+    requires { AllByRecursion CanEncode (laid slots.items) → IsFlow (laid slots.items) }
+    ensures { IfOk result (λ flow. flow ≡ laid slots.items) }
 {
     let bytes = program_bytes(alloc, &slots)?;
     Ok(Flow::known(bytes, slots))

@@ -1,4 +1,5 @@
 use Rattle.std.proofs.Common.{◌∙◌}
+use Rattle.flow_check.specs.Laid.{laid}
 use Rattle.rule_compile.proofs.Compiled.{written_flow, written_accepted, written_means}
 use Rattle.rule_compile.proofs.rule.compile.Goals as goal
 
@@ -7,7 +8,8 @@ flow_of-requires c =
     written_flow c.args.shape.now c.args.rule.now c.statements.result.now c.in_ok-code.code
     c.statements.ensures c.keeps.ensures c.requires c.in_ok-code.ensures.range
     c.in_ok-code.ensures.made
-    c.in_ok-code.ensures.code c.into_slots.result.items c.into_slots.ensures c.keeps-2.ensures
+    c.in_ok-code.ensures.code (laid c.into_slots.result.items) c.into_slots.ensures
+    c.keeps-2.ensures
 
 pub known-requires : goal.known-requires
 known-requires c =
