@@ -83,7 +83,7 @@ class Day:
 
 def wrong_stages(day):
     """Of a stage that is raised, and then halted."""
-    raising, moves = section("OPERATING.md", "Raising a stage")
+    raising, moves, _ = section("OPERATING.md", "Raising a stage")
     [placing] = section("OPERATING.md", "Putting a manifest in place")
     halting, lost, putting = section("OPERATING.md", "Halting a release")
     ask, buckets, _ = section("OPERATING.md", "What is being served")
