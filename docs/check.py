@@ -2,11 +2,13 @@
 """Checks that the pages speak of what is there: each link leads to a file, each definition that a
 row of DEFINITIONS names stands in the file of its link, each clause that is cited behind a call
 stands in that call's contract, the index at the end of DEFINITIONS has every public definition, and
-the picture and the table of CRATES have the crates of crates.txt. README is short, and names the
-logic of the toolchain that there is; VERSION, README and CHANGELOG name one version. Each wrong body
-can be put in place: what it replaces stands once in its file.
+the picture and the table of CRATES have the crates of crates.txt. What PROOF quotes is to the letter
+what its file has, each name that it cites is one of the sources, and its sizes are no more than a
+tenth off. README is short, and names the logic of the toolchain that there is; VERSION, README and
+CHANGELOG name one version. Each wrong body can be put in place: what it replaces stands once in its
+file.
 
-usage: docs/check.py [--write]     --write writes that index and that picture anew
+usage: docs/check.py [--write]     --write writes that index, picture, quotes and sizes anew
 """
 import re
 import shutil
@@ -23,10 +25,11 @@ CHANGELOG = ROOT / "CHANGELOG.md"
 VERSION = ROOT / "VERSION"
 CRATES_PAGE = DOCS / "CRATES.md"
 DEFINITIONS = DOCS / "DEFINITIONS.md"
+PROOF = DOCS / "PROOF.md"
 TOP = [README, CHANGELOG, ROOT / "CONTRIBUTING.md"]
 PAGES = [*TOP, *sorted(DOCS.glob("*.md")), ROOT / "bench" / "README.md"]
 # The pages that say what is so today. PROVING also tells of wrong bodies by names of their own.
-CITING = [README, DOCS / "PROMISE.md", CRATES_PAGE, DEFINITIONS, DOCS / "CONTRACTS.md"]
+CITING = [README, DOCS / "PROMISE.md", PROOF, CRATES_PAGE, DEFINITIONS, DOCS / "CONTRACTS.md"]
 # README is for a visitor.
 MOST_LINES, MOST_WORDS = 150, 1200
 LOGIC = re.compile(r"\blogic ([0-9a-f]+)")
@@ -40,6 +43,13 @@ STOREY = re.compile(r"^# (\w+): (.+)\n((?:\w.*\n)+)", re.M)
 PICTURE = re.compile(r"(?<=\n## By storeys\n\n```\n).*?(?=```\n)", re.S)
 EDIT = re.compile(r"^(file|old|new): ?(.*)$", re.M)
 FUNCTION = re.compile(r"\bfn (\w+)\b(.*?)(?:\s\{\}?|;)\s*\n", re.S)
+# A quote: a comment with its file and its name, and behind it the block.
+QUOTE = re.compile(r"<!-- quote (\S+) (\S+) -->\n```\n(.*?)```\n", re.S)
+QUOTABLE = re.compile(r"(?: *pub fn |(?:abbrev |unfoldable )?pub (?:record |data )?)(\w+)\b")
+CITED = re.compile(r"`((?:\w+::)?[A-Za-z]\w*)`")
+# The rows of the table of sizes: a part's name, its crates, and what is counted of them.
+SIZES = re.compile(r"^(\| [^|]+ \| )((?:`\w+`(?:, )?)+)( \|)((?: +[\d,]+ \|)+)$", re.M)
+LEMMA = re.compile(r"^(?:pub )?[^\s:({]+ :", re.M)
 
 
 def crates():
@@ -171,6 +181,97 @@ def drawn(text):
     return PICTURE.sub(lambda _: picture(), text)
 
 
+def quotable(file, name):
+    """The definition, or the contract, of a name as its file has it with the comment above it; none
+    where the file has not just one of that name."""
+    path = ROOT / file
+    lines = path.read_text().splitlines() if path.is_file() else []
+    heads = ((k, QUOTABLE.match(line)) for k, line in enumerate(lines))
+    found = [k for k, head in heads if head and head[1] == name]
+    if len(found) != 1:
+        return None
+    first = last = found[0]
+    while lines[first - 1].lstrip().startswith(("--", "//")):
+        first -= 1
+    # A definition goes to a blank line, and a contract to its body.
+    end = "{" if path.suffix == ".rt" else ""
+    while last < len(lines) and lines[last].strip() != end:
+        last += 1
+    return textwrap.dedent("\n".join(lines[first:last])) + "\n"
+
+
+def false_quotes(text):
+    for file, name, block in QUOTE.findall(text):
+        there = quotable(file, name)
+        if there is None:
+            yield f"a quote of {name}, which {file} doesn't define just once"
+        elif block != there:
+            yield f"the quote of {name} isn't what {file} has (docs/check.py --write)"
+
+
+def requoted(text):
+    def anew(quote):
+        file, name, block = quote.groups()
+        return f"<!-- quote {file} {name} -->\n```\n{quotable(file, name) or block}```\n"
+
+    return QUOTE.sub(anew, text)
+
+
+def unknown_names(text):
+    """Names in backticks that are no word of any crate's files."""
+    kinds = ("src/**/*.rt", "specs/**/*.antt", "proofs/**/*.antt")
+    files = [it for kind in kinds for it in CRATES.glob(f"*/{kind}")]
+    known = {*crates()}.union(*(re.findall(r"\w+", it.read_text()) for it in files))
+    for name in sorted({*CITED.findall(QUOTE.sub("", text))}):
+        if name.split("::")[-1] not in known:
+            yield f"{name} is no name of any crate"
+
+
+def sizes(names):
+    """Of crates: the lines of source, of definitions and of proofs; the lemmas at the top level of
+    their files; the wrong bodies that the gate tries, and the others."""
+
+    def texts(pattern):
+        return [it.read_text() for name in names for it in (CRATES / name).glob(pattern)]
+
+    def lines(pattern):
+        return sum(len(it.splitlines()) for it in texts(pattern))
+
+    return [
+        lines("src/**/*.rt"),
+        lines("specs/**/*.antt"),
+        lines("proofs/**/*.antt"),
+        sum(len(LEMMA.findall(it)) for it in texts("proofs/**/*.antt")),
+        len(texts("must-fail/*.edit")),
+        len(texts("wrong/*.edit")),
+    ]
+
+
+def is_near(told, counted):
+    return abs(told - counted) <= max(counted / 10, 5)
+
+
+def false_sizes(text):
+    named = []
+    for row in SIZES.finditer(text):
+        names = re.findall(r"\w+", row[2])
+        named += names
+        told = [int(it) for it in re.findall(r"\d+", row[4].replace(",", ""))]
+        counted = sizes(names)
+        if len(told) != len(counted) or not all(map(is_near, told, counted)):
+            yield f"{row[1].strip('| ')}: the sizes are {counted} (docs/check.py --write)"
+    if sorted(named) != sorted(crates()):
+        yield "the table of sizes doesn't name each crate once"
+
+
+def resized(text):
+    def anew(row):
+        counts = " |".join(f" {it:,}" for it in sizes(re.findall(r"\w+", row[2])))
+        return f"{row[1]}{row[2]}{row[3]}{counts} |"
+
+    return SIZES.sub(anew, text)
+
+
 def lost_edits():
     """Wrong bodies of which an `old` text doesn't stand once in its file, or that have none."""
     for edit in sorted([*CRATES.glob("*/must-fail/*.edit"), *CRATES.glob("*/wrong/*.edit")]):
@@ -199,10 +300,14 @@ def main():
     if sys.argv[1:]:
         for page, written in WRITTEN.items():
             page.write_text(written(page.read_text()))
+        PROOF.write_text(resized(requoted(PROOF.read_text())))
     faults = [f"{page.name}: {it}" for page in PAGES for it in dead_links(page)]
     text = DEFINITIONS.read_text()
     faults += [f"{DEFINITIONS.name}: {it}" for it in strangers(text[: text.index(INDEX)])]
     faults += [f"{CRATES_PAGE.name}: {it}" for it in other_crates(CRATES_PAGE.read_text())]
+    text = PROOF.read_text()
+    checks = (false_quotes, unknown_names, false_sizes)
+    faults += [f"{PROOF.name}: {it}" for check in checks for it in check(text)]
     text = README.read_text()
     faults += [f"{README.name}: {it}" for check in (too_long, other_logic) for it in check(text)]
     faults += other_versions()
