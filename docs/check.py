@@ -1,12 +1,12 @@
 #!/usr/bin/env python3
 """Checks that the pages speak of what is there: each link leads to a file, each definition that a
 row of DEFINITIONS names stands in the file of its link, each clause that is cited behind a call
-stands in that call's contract, the index at the end of DEFINITIONS has every public definition, and
-the picture and the table of CRATES have the crates of crates.txt. What PROOF quotes is to the letter
-what its file has, each name that it cites is one of the sources, and its sizes are no more than a
-tenth off. README is short, and names the logic of the toolchain that there is; VERSION, README and
-CHANGELOG name one version. Each wrong body can be put in place: what it replaces stands once in its
-file.
+stands in that call's contract, the index at the end of DEFINITIONS has every public definition, the
+picture and the table of CRATES have the crates of crates.txt, and CONTRACTS names each function
+that a library exports. What PROOF quotes is to the letter what its file has, each name that it
+cites is one of the sources, and its sizes are no more than a tenth off. README is short, and names
+the logic of the toolchain that there is; VERSION, README and CHANGELOG name one version. Each wrong
+body can be put in place: what it replaces stands once in its file.
 
 usage: docs/check.py [--write]     --write writes that index, picture, quotes and sizes anew
 """
@@ -26,10 +26,11 @@ VERSION = ROOT / "VERSION"
 CRATES_PAGE = DOCS / "CRATES.md"
 DEFINITIONS = DOCS / "DEFINITIONS.md"
 PROOF = DOCS / "PROOF.md"
+CONTRACTS = DOCS / "CONTRACTS.md"
 TOP = [README, CHANGELOG, ROOT / "CONTRIBUTING.md"]
 PAGES = [*TOP, *sorted(DOCS.glob("*.md")), ROOT / "bench" / "README.md"]
 # The pages that say what is so today. PROVING also tells of wrong bodies by names of their own.
-CITING = [README, DOCS / "PROMISE.md", PROOF, CRATES_PAGE, DEFINITIONS, DOCS / "CONTRACTS.md"]
+CITING = [README, DOCS / "PROMISE.md", PROOF, CRATES_PAGE, DEFINITIONS, CONTRACTS]
 # README is for a visitor.
 MOST_LINES, MOST_WORDS = 150, 1200
 LOGIC = re.compile(r"\blogic ([0-9a-f]+)")
@@ -41,6 +42,7 @@ LINK = re.compile(r"\]\(([^)#]+)(?:#[^)]*)?\)")
 SPEC = re.compile(r"\(\.\./crates/([^)]+\.antt)\)")
 STOREY = re.compile(r"^# (\w+): (.+)\n((?:\w.*\n)+)", re.M)
 PICTURE = re.compile(r"(?<=\n## By storeys\n\n```\n).*?(?=```\n)", re.S)
+EXPORT = re.compile(r"^pub use [\w:]*?(\w+|\{[^}]*\});", re.M)
 EDIT = re.compile(r"^(file|old|new): ?(.*)$", re.M)
 FUNCTION = re.compile(r"\bfn (\w+)\b(.*?)(?:\s\{\}?|;)\s*\n", re.S)
 # A quote: a comment with its file and its name, and behind it the block.
@@ -52,9 +54,13 @@ SIZES = re.compile(r"^(\| [^|]+ \| )((?:`\w+`(?:, )?)+)( \|)((?: +[\d,]+ \|)+)$"
 LEMMA = re.compile(r"^(?:pub )?[^\s:({]+ :", re.M)
 
 
+def names_in(lines):
+    """The crates of lines of crates.txt."""
+    return [re.split("[ :]", it)[0] for it in lines.splitlines() if it and it[0] != "#"]
+
+
 def crates():
-    lines = (ROOT / "crates.txt").read_text().splitlines()
-    return [re.split("[ :]", it)[0] for it in lines if it and it[0] != "#"]
+    return names_in((ROOT / "crates.txt").read_text())
 
 
 def dead_links(page):
@@ -164,9 +170,9 @@ def picture():
     """The storeys of crates.txt with their crates, the highest first."""
     lines = []
     for name, what, block in reversed(STOREY.findall((ROOT / "crates.txt").read_text())):
-        names = [re.split("[ :]", it)[0] for it in block.splitlines()]
+        names = "  ".join(reversed(names_in(block)))
         lines.append(f"{name:10}{what}")
-        lines.append(textwrap.indent(textwrap.fill("  ".join(reversed(names)), 86), " " * 10))
+        lines.append(textwrap.indent(textwrap.fill(names, 86), " " * 10))
     return "\n".join(lines) + "\n"
 
 
@@ -175,6 +181,18 @@ def other_crates(text):
     named = {name for names, _ in rows(text) for name in names}
     yield from (f"no row of the crate {it}" for it in crates() if it not in named)
     yield from (f"a row of {it}, which is no crate" for it in sorted(named - {*crates()}))
+
+
+def unnamed_calls(text):
+    """Functions that the libraries export, but for those of tests, which no row names."""
+    named = {word for it in re.findall("`([^`]+)`", text) for word in re.findall(r"\w+", it)}
+    for storey, _, block in STOREY.findall((ROOT / "crates.txt").read_text()):
+        for crate in names_in(block) if storey != "tests" else []:
+            lib = CRATES / crate / "src" / "lib.rt"
+            exports = EXPORT.findall(lib.read_text()) if lib.is_file() else []
+            for name in re.findall(r"\w+", " ".join(exports)):
+                if name[0].islower() and name not in named:
+                    yield f"no row names {name} of {crate}"
 
 
 def drawn(text):
@@ -305,6 +323,7 @@ def main():
     text = DEFINITIONS.read_text()
     faults += [f"{DEFINITIONS.name}: {it}" for it in strangers(text[: text.index(INDEX)])]
     faults += [f"{CRATES_PAGE.name}: {it}" for it in other_crates(CRATES_PAGE.read_text())]
+    faults += [f"{CONTRACTS.name}: {it}" for it in unnamed_calls(CONTRACTS.read_text())]
     text = PROOF.read_text()
     checks = (false_quotes, unknown_names, false_sizes)
     faults += [f"{PROOF.name}: {it}" for check in checks for it in check(text)]
