@@ -1,12 +1,12 @@
 -- A text has no more bytes in a line than it is given room.
-use Rattle.std.proofs.Common.{◌≡◌, ℕ, ◌≤◌, List, [], ◌∷◌, length, length-append, arith}
-use Rattle.std.proofs.Common.{Bool, true, false, cond, refl, ap}
-use Rattle.std.specs.Prelude.{nat_lt, ◌==◌, ◌||◌, if◌then◌else◌}
+use Rattle.std.proofs.Common.{◌≡◌, ℕ, ◌+◌, ◌≤◌, List, [], ◌∷◌, ◌++◌, length, length-append, arith}
+use Rattle.std.proofs.Common.{Bool, true, false, cond, refl, ap, ◌∙◌, sym}
+use Rattle.std.specs.Prelude.{nat_lt, ◌==◌, ◌||◌, if◌then◌else◌, encode_utf8}
 use Rattle.std.specs.Char.{len_utf8}
 use Rattle.std.specs.List.{flat_map}
 use Rattle.std.specs.Str.{chars}
 use Rattle.std.proofs.lemmas.Bool.Decides.{nat_tests}
-use Rattle.std.proofs.lemmas.Bool.{le-ltb}
+use Rattle.std.proofs.lemmas.Bool.{le-ltb, lt-ltb, ltb-true, ltb-false}
 use Rattle.std.proofs.lemmas.Str.{length-encode}
 use Rattle.json.specs.Print.{escape_letter, escape_byte}
 use Rattle.access_log.specs.Room.{char_room, chars_room, text_room}
@@ -67,9 +67,9 @@ chars_fit (c ∷ cs) =
       chars_fit cs,
     )
 
-pub text_fits : (text : List ℕ) → length text ≤ 4096
-    → length (spelled_text text) ≤ text_room text
-text_fits text few =
-    let all : text_room text ≡ chars_room (chars text) =
-    ap (λ (b : Bool). if b then 4097 else chars_room (chars text)) (le-ltb 4096 (length text) few) in
-    omega (arith, all, chars_fit (chars text))
+-- of a text that has no more than 64 bytes of room
+pub brief_fits : (text : List ℕ) → text_room text ≤ 64 → length (spelled_text text) ≤ 64
+brief_fits text few =
+    either (λ (n : ℕ). n ≤ 64 → length (spelled_text text) ≤ 64) (nat_lt 4096 (length text)) _ _
+    (λ e much. absurd (omega (arith, much)))
+    (λ e room. omega (arith, room, chars_fit (chars text))) few

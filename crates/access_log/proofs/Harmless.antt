@@ -14,7 +14,7 @@ use Rattle.json.specs.Print.{escape_letter, escape_byte, separator, begins, ends
 use Rattle.json.specs.Token.{Token, begin_object, end_object, begin_array, end_array, key, string}
 use Rattle.json.specs.Token.{number, boolean, null, bad}
 use Rattle.access_log.specs.Line.{is_harmless}
-use Rattle.access_log.specs.Spelled.{is_obeyed, spelled_char, spelled_text}
+use Rattle.access_log.specs.Spelled.{is_obeyed, unicode_escape, spelled_char, spelled_text}
 use Rattle.access_log.specs.Spelled.{spelled_quoted, spelled_token, spelled_from, spelled}
 
 abbrev Harmless : ℕ → Type 0

@@ -4,7 +4,6 @@
 ghost use Rattle.std.specs.Prelude.{◌≡◌, ◌*◌, ◌≤◌, length};
 ghost use Rattle.std.specs.Str.{chars};
 ghost use Rattle.access_log.specs.Room as specs;
-ghost use Rattle.access_log.specs.Spelled.{spelled_text};
 
 use crate::asked::{AskedApp, Outcome};
 use crate::excerpt::Excerpt;
@@ -127,14 +126,11 @@ fn behind_excerpt(room: usize, size: usize) -> usize
     if room < size { room } else { room - size }
 }
 
-/// The most bytes that a text takes in a line. One that is longer than a line takes more than it.
-#[tactic(auto, using(crate::proofs::Fits::text_fits))]
+/// The most bytes that a text takes in a line.
 pub fn text_room(text: &str) -> usize
     ensures value { result ≡ specs.text_room text.now }
     ensures bound { result ≤ 6 * length text.now }
     ensures most { result ≤ 24576 }
-    ensures fits { length text.now ≤ 4096
-        → length (spelled_text text.now) ≤ specs.text_room text.now }
 {
     if text.len() > LINE_LIMIT {
         return LINE_LIMIT + 1;

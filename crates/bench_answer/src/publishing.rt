@@ -1,7 +1,8 @@
 //! A publisher and its watchers at work: looks at the published ruleset, and installs.
 
-use crate::work::{WorkKind, Workload};
-use anyhow::{Context, Result};
+use crate::rules::without_apps;
+use crate::work::{WatchKind, Watching};
+use anyhow::Result;
 use hot_swap::{Publisher, Watcher};
 use ruleset::Ruleset;
 use std::alloc::{AllocError, Global};
@@ -12,11 +13,22 @@ use std::thread::{Threads, join, map_vec};
 /// How often a watcher looks at most beside installs.
 const PATIENCE: u32 = 1_000_000_000;
 
-/// The ruleset of a server `prod` without apps.
-pub(crate) fn empty(alloc: Global) -> Result<Arc<Ruleset>> {
-    let server = String::from_str(alloc, "prod")?;
-    let rules = Ruleset::new(server, Vec::new(alloc))?.context("an appid stands twice")?;
-    Ok(Arc::new(alloc, rules)?)
+/// The most watchers that a publisher has.
+const MOST: usize = 65;
+
+/// Has watchers of a publisher do this so often, and tells how many looks saw a ruleset, and which
+/// generation is the last.
+pub(crate) fn watched<H: Threads + Wait + Sync>(
+    rt: &H,
+    alloc: Global,
+    watching: Watching,
+    times: u32,
+) -> Result<String> {
+    let mut publisher = Publisher::new(rt, alloc, without_apps(alloc)?, MOST)?;
+    let seen = done(rt, alloc, &mut publisher, watching, times);
+    let generation = publisher.generation();
+    publisher.close(rt);
+    Ok(format!(in alloc; "seen={} generation={generation}", seen?)?)
 }
 
 fn sum(counts: &[u64]) -> u64 {

@@ -1,6 +1,6 @@
 //! What is told of an app and of its rule, which is read once more.
 
-ghost use Rattle.std.specs.Prelude.{◌≡◌, ◌^◌, ◌-◌, ◌<◌, ◌++◌, Some, IfOk, string_bytes};
+ghost use Rattle.std.specs.Prelude.{◌≡◌, ◌^◌, ◌-◌, ◌<◌, ◌++◌, Some, IfOk, OnOk, string_bytes};
 ghost use Rattle.std.specs.Option.{ForSome};
 ghost use Rattle.diagnosis.specs.Asked.{AddsApp, AddsFile, AddsSource, CountsUnread};
 ghost use Rattle.diagnosis.specs.Warned.{app_warnings};
@@ -15,8 +15,8 @@ use std::alloc::{AllocError, Global};
 use std::str;
 use warnings::{AskedRule, tell_appid, tell_releases, tell_rule};
 
-/// Lines on an app: on its appid and its releases, and on its rule where there is room to ask it; and the room
-/// that is left, if all files were to be read so far.
+/// Lines on an app: on its appid and its releases, and on its rule where there is room to ask it;
+/// and the room that is left, if all files were to be read so far.
 pub(crate) fn tell_app<F: Files>(
     alloc: Global,
     text: &mut String,

@@ -26,6 +26,7 @@ use std::net::{Net, TcpListener, TcpStream};
 use std::sync::{Arc, Wait};
 use std::thread::Threads;
 use std::time::Clock;
+use thread_laws::{threads_are_one_world, threads_grant_quotas};
 use workers::{Open, OperatorSeat, Ports, Service, answers_are_runs, run};
 
 /// A server that has its counters, its publisher and its workers. It is ended by `serve` or by

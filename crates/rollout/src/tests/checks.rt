@@ -203,11 +203,7 @@ fn checks(rt: HostRuntime) -> Result<(), Fail> {
     assert!(rt; checked.err.contains("line 1") && checked.out.is_empty());
     fs::write(&rt, "k.toml", b"server = \"\x1b[2J\"\n")?;
     let checked = told(&rt, "rollout check k.toml")?;
-    assert!(rt;
-        checked.err.contains("server = \"\\u{1b}[2J\""),
-        "{}",
-        checked.err
-    );
+    assert!(rt; checked.err.starts_with("refused M1 Toml\n"));
     assert!(rt; !checked.err.contains("\u{1b}"));
     let checked = told(&rt, "rollout check k_there_is_none.toml")?;
     assert!(rt; checked.status == 1 && checked.out.is_empty());
