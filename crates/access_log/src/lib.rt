@@ -3,8 +3,8 @@
 //! What an event says is defined as tokens of JSON, in a fixed order, and its line is what the
 //! kit's writer prints of them, with a line feed behind; but that more is escaped in a text: all
 //! characters by which it could change a terminal. A line has at most 4096 bytes. So much of a
-//! client's request is told as has room: a text is cut, and of many apps the first are told, and what
-//! is left out stands there as a number.
+//! client's request is told as has room: a text is cut, and of many apps the first are told, and
+//! what is left out stands there as a number.
 #![tactic(auto)]
 
 mod apps;

@@ -4,7 +4,8 @@ use crate::given::{AT, line_at, repeated};
 use access_log::{Excerpt, LogEvent};
 use std::test::Fail;
 
-/// So many bytes `a`, and a text behind them; how many bytes the excerpt has, and how many the text.
+/// So many bytes `a`, and a text behind them; how many bytes the excerpt has, and how many the
+/// text.
 const EXCERPTS: &[(usize, &str, usize, u64)] = &[
     (0, "", 0, 0),
     (512, "", 512, 512),

@@ -9,10 +9,10 @@ use std::rt::Files;
 /// How many names are tried for a file that is written beside another.
 const MOST_NAMES: u32 = 100;
 
-/// Writes a file anew. Where the path leads to a regular file, links followed, or to nothing, a file
-/// of a new name is written beside it, with the mode of the old one, synced, and renamed to it: so
-/// the old bytes stay where the writing fails. A device and a FIFO are written in place, and so is a
-/// file in a folder that takes no new one.
+/// Writes a file anew. Where the path leads to a regular file, links followed, or to nothing, a
+/// file of a new name is written beside it, with the mode of the old one, synced, and renamed to
+/// it: so the old bytes stay where the writing fails. A device and a FIFO are written in place, and
+/// so is a file in a folder that takes no new one.
 pub fn write_file<R: Files + AllocGlobal>(
     rt: &R,
     path: &str,

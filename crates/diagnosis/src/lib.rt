@@ -9,9 +9,9 @@
 // find the entry of that number, and where the fault lies in an app's file, that file is read once
 // more to show the line of the rule, or the instruction of the program, at which it lies. Manifests
 // of others are checked, too, so of a file that lies outside the manifest's folder, or behind a
-// symbolic link, nothing is shown. Behind an app that has no program the apps behind it are judged, too, and each that has
-// none is told as the first; and so are the arrays behind one that can't be declared, all else that
-// doesn't fit, and all other names that stand twice.
+// symbolic link, nothing is shown. Behind an app that has no program the apps behind it are judged,
+// too, and each that has none is told as the first; and so are the arrays behind one that can't be
+// declared, all else that doesn't fit, and all other names that stand twice.
 
 mod accepted;
 mod advice;

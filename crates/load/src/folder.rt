@@ -75,8 +75,8 @@ impl<'a, D: Disk> Files for FolderFiles<'a, D> {
     }
 }
 
-// Whether a name, or the beginning of one, is a link; where memory for its path is refused, it counts
-// as one. The folder itself isn't asked.
+// Whether a name, or the beginning of one, is a link; where memory for its path is refused, it
+// counts as one. The folder itself isn't asked.
 fn is_link_beside<D: Disk>(alloc: Global, disk: &D, manifest: &str, part: &str) -> bool {
     if part.is_empty() {
         return false;

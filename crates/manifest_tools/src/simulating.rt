@@ -33,7 +33,8 @@ pub struct ToldSimulation {
 /// how far it is.
 ///
 /// The faults come in this order: B3 of the manifest, or M1 to M7 of its load; those of the other
-/// one; B3 where the picture can't be written, or would be written over what is none. B4, or M8 in a load, comes where memory is refused.
+/// one; B3 where the picture can't be written, or would be written over what is none. B4, or M8 in
+/// a load, comes where memory is refused.
 pub fn simulate_files<R, D>(
     rt: &R,
     disk: &D,
@@ -58,8 +59,8 @@ where
     }
 }
 
-// Writes the picture of a simulation into the file that is named. A file that stands there has to be
-// a picture, or empty, so that no manifest and no rule is written over, by whatever path.
+// Writes the picture of a simulation into the file that is named. A file that stands there has to
+// be a picture, or empty, so that no manifest and no rule is written over, by whatever path.
 fn write_picture<R>(rt: &R, file: Option<&str>, told: &ToldSimulation) -> Result<(), ResourceFault>
 where
     R: Files + AllocGlobal,
