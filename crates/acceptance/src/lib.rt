@@ -1,5 +1,7 @@
 //! From bytes to a program that may run: the bytes of a program, or those of a rule's text, come to
 //! a program that is accepted under a shape, or are refused with one fault.
+//!
+//! See docs/PROGRAM.md, "Refusals".
 #![tactic(auto)]
 
 // This is the one way that bytes take: those of a file that a manifest names, those that a command

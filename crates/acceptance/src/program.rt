@@ -11,6 +11,7 @@ use std::alloc::Global;
 /// The program that bytes are, accepted under a shape, or the fault that counts: F1 to F9 of
 /// `Flow::check`, and then V1 to V15 of `verify`. Bytes with a fault of the first kind are read
 /// once more, which tells that they have no other.
+// open: whether memory is refused (F9, V15).
 pub fn accept(alloc: Global, bytes: &[u8], shape: &Shape) -> Result<Verified, ProgramFault>
     ensures shape { IfOk result (λ program. program.shape ≡ shape.now) }
     ensures program { IfOk result (IsProgramOf bytes.now) }

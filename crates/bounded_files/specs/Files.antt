@@ -44,6 +44,7 @@ abbrev pub if_regular : Option KnownFile → Option KnownFile
 if_regular None = None
 if_regular (Some file) = if file.is_regular then Some file else None
 
+-- what paths give where what is no regular file counts as one that can't be read
 abbrev pub regular_files : KnownFiles → KnownFiles
 regular_files known = option_map (λ files. λ path. if_regular (files path)) known
 
@@ -56,6 +57,7 @@ abbrev pub if_within : ℕ → Option KnownFile → Option KnownFile
 if_within most None = None
 if_within most (Some file) = if nat_le (length file.bytes) most then Some file else None
 
+-- what paths give where a file of more than so many bytes counts as one that can't be read
 abbrev pub within : ℕ → KnownFiles → KnownFiles
 within most known = option_map (λ files. λ path. if_within most (files path)) known
 

@@ -20,6 +20,8 @@ pub struct Device<'a, R> {
 
 impl<'a, R> Device<'a, R> {
     /// The files of this device.
+    // open: which bytes a device's file gives, and of which kind it is: tests and `bench/hostile`
+    // see that it is asked for its kind.
     pub fn new(rt: &'a R) -> Device<'a, R> {
         Device { rt }
     }

@@ -40,7 +40,8 @@ pub fn read_within<D: Disk>(disk: &D, path: &str, most: u32) -> Result<Vec<u8>, 
     whole(disk.read(path, most))
 }
 
-/// The same of a regular file.
+/// The bytes of a regular file of at most so many. A longer one counts as one that can't be read,
+/// and so does what is no regular file.
 pub fn read_regular_within<D: Disk>(
     disk: &D,
     path: &str,

@@ -1,4 +1,6 @@
 //! Files of at most so many bytes, of any kind or regular ones alone.
+//!
+//! See docs/DECISIONS.md, "Manifests".
 #![tactic(auto)]
 
 // A file is read to one byte past the most that it may have, so that a longer one shows, and no

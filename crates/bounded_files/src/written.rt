@@ -13,6 +13,8 @@ const MOST_NAMES: u32 = 100;
 /// file of a new name is written beside it, with the mode of the old one, synced, and renamed to
 /// it: so the old bytes stay where the writing fails. A device and a FIFO are written in place, and
 /// so is a file in a folder that takes no new one.
+// open: which bytes OUT got, that the old ones stay where the writing fails, and that not every
+// file gets B3: `bench/outside`.
 pub fn write_file<R: Files + AllocGlobal>(
     rt: &R,
     path: &str,
@@ -23,6 +25,7 @@ pub fn write_file<R: Files + AllocGlobal>(
 
 /// Whether a path may be written over by a file that begins so: nothing stands there, or what is no
 /// regular file, or one that is empty or begins so, too.
+// open: what it answers: `bench/outside`.
 pub fn may_write_over<R: Files>(rt: &R, path: &str, beginning: &[u8; 4]) -> bool {
     match fs::metadata(rt, path) {
         Ok(found) if found.is_file() => begins_so(rt, path, beginning),

@@ -58,5 +58,6 @@ abbrev pub of_parts : List (List ℕ) → Option (List Declaration)
 of_parts [] = Some []
 of_parts (part ∷ parts) = joined (of_part part) (of_parts parts)
 
+-- the declarations that a text is, all or none
 abbrev pub declarations_in : List ℕ → Option (List Declaration)
 declarations_in text = of_parts (slice_split (λ b. b == byte ",") text)

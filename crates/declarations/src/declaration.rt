@@ -31,6 +31,7 @@ impl ArrayDeclaration {
     ghost use Rattle.cells.specs.Directory.{declaration, IsDeclaration};
 
     /// The declaration of these values.
+    // open: whether memory is refused.
     pub fn new(
         name: ArrayName,
         width: CellWidth,

@@ -19,6 +19,7 @@ pub struct RefusedArray {
 
 /// Declares the arrays in their order, and gives their numbers: of equal declarations the same one.
 /// At the first that is refused it stops; those before it stand.
+// open: whether memory is refused.
 pub fn declare_all(
     alloc: Global,
     directory: &mut Directory,

@@ -1,5 +1,7 @@
 //! Arrays of counters as a server's owner writes them down, and their declaration in a directory:
 //! all in order, or the first that is refused.
+//!
+//! See docs/DECISIONS.md, "Counters".
 #![tactic(auto)]
 
 mod declaration;

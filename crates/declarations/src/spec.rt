@@ -27,6 +27,7 @@ pub enum SpecFault {
 
 /// The declarations of a text, in their order. A name may stand twice, and the empty text is
 /// malformed.
+// open: whether memory is refused.
 pub fn read_spec(alloc: Global, text: &str) -> Result<Vec<ArrayDeclaration>, SpecFault>
     ensures read { IfOk result (λ v. specs.declarations_in text.now ≡ Some v.items) }
     ensures malformed { result ≡ Err SpecFault.Malformed → specs.declarations_in text.now ≡ None }

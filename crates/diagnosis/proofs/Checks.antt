@@ -7,14 +7,14 @@ use Rattle.rule_lang.specs.Tokens.{Text}
 use Rattle.rule_lang.specs.Verdicts.{RuleHasOneVerdict}
 use Rattle.cells.specs.Arrays.{AppShape}
 use Rattle.cells.specs.Directory.{IsDirectory}
-use Rattle.manifest.specs.Manifest.{Manifest}
+use Rattle.manifest.specs.Manifest.{Manifest, ReadsManifest}
 use Rattle.manifest.specs.OneReading.{HasOneManifest}
 use Rattle.manifest.specs.declared.fault.ManifestFault.{ManifestFault}
 use Rattle.bounded_files.specs.Files.{KnownFile}
 use Rattle.load.specs.declared.fault.LoadFault.{LoadFault}
 use Rattle.load.specs.declared.fault.LoadFault.TheVariants.{Memory}
 use Rattle.load.specs.OneLoad.{HasOneLoad}
-use Rattle.ruleset.specs.Rules.{Rules}
+use Rattle.ruleset.specs.Rules.{AppRule, Rules}
 use Rattle.diagnosis.specs.Check.{FailsCheck, PassesCheck}
 use Rattle.diagnosis.specs.OneCheck.{HasOneCheck}
 use Rattle.diagnosis.specs.Texts.{accepted_text}
@@ -47,22 +47,30 @@ is_memory e h = absurd (h (λ x. absurd cc))
 module _ (load : HasOneLoad) (reading : (bytes : List ℕ) → HasOneManifest bytes)
     (verdict : (s : AppShape) (text : Text) → RuleHasOneVerdict s text)
     (files : List ℕ → Option KnownFile) (bytes : List ℕ) where
+  same_manifest : (m other : Manifest) → ReadsManifest bytes (Ok m)
+      → ReadsManifest bytes (Ok other) → m ≡ other
+  same_manifest m other h k =
+      ap (λ (r : Result Manifest ManifestFault). manifest_in r other)
+      (reading bytes (Ok m) (Ok other) h k (λ x. absurd cc) (λ x. absurd cc))
+
   same_text : (text other warnings others : List ℕ) → PassesCheck (Some files) bytes text warnings
       → PassesCheck (Some files) bytes other others → (text ≡ other) × (warnings ≡ others)
   same_text text other warnings others p q =
-      let loads = load files [] bytes (Ok p.rules) (Ok q.rules) p.arrays q.arrays empty p.loaded
-      q.loaded (λ x. absurd cc) (λ x. absurd cc) in
+      let loads = load files [] bytes (Ok p.rules) (Ok q.rules) p.g.directory q.g.directory empty
+      p.loaded q.loaded (λ x. absurd cc) (λ x. absurd cc) in
       let same : p.rules ≡ q.rules =
       ap (λ (r : Result Rules LoadFault). rules_in r q.rules) loads.0 in
+      let apps : p.rules.apps ≡ q.rules.apps = ap (λ (r : Rules). r.apps) same in
       let read : p.loaded.manifest ≡ q.loaded.manifest =
-      ap (λ (r : Result Manifest ManifestFault). manifest_in r q.loaded.manifest)
-      (reading bytes (Ok p.loaded.manifest) (Ok q.loaded.manifest) p.loaded.read q.loaded.read
-      (λ x. absurd cc) (λ x. absurd cc)) in (
+      same_manifest p.loaded.manifest q.loaded.manifest p.loaded.read q.loaded.read in (
         p.text_is ∙ ap (λ (m : Manifest). accepted_text m.arrays p.rules.apps) read
-            ∙ ap (λ (r : Rules). accepted_text q.loaded.manifest.arrays r.apps) same
+            ∙ ap (λ (a : List AppRule). accepted_text q.loaded.manifest.arrays a) apps
             ∙ sym q.text_is,
-        warned_once verdict files bytes (reading bytes) p.arrays q.arrays p.rules.apps q.rules.apps
-            warnings others loads.1 (ap (λ (r : Rules). r.apps) same) p.warned q.warned,
+        warned_once verdict files bytes p.g q.g p.passes.programs q.passes.programs warnings others
+            p.gathered q.gathered
+            (same_manifest p.gathered.manifest q.gathered.manifest p.gathered.read
+            q.gathered.read) loads.1 (sym p.apps_are ∙ apps ∙ q.apps_are) p.passes.judged
+            q.passes.judged p.passes.warned q.passes.warned,
       )
 
   same_fault : (e f : LoadFault) (reason other : List ℕ) → FailsCheck (Some files) bytes e reason
@@ -76,7 +84,7 @@ module _ (load : HasOneLoad) (reading : (bytes : List ℕ) → HasOneManifest by
       → PassesCheck (Some files) bytes text warnings → FailsCheck (Some files) bytes e reason
       → e ≢ Memory → ⊥
   not_both text warnings e reason p h known =
-      let loads = load files [] bytes (Ok p.rules) (Err e) p.arrays [] empty p.loaded
+      let loads = load files [] bytes (Ok p.rules) (Err e) p.g.directory [] empty p.loaded
       (h.refused, refl) (λ x. absurd cc) (λ x. known (ap fault_in x)) in
       let same = loads.0 in absurd cc
 

@@ -1,10 +1,10 @@
 -- A manifest that is too long fails for this, whatever its bytes are.
-use Rattle.std.proofs.Common.{◌≡◌, ◌⊎◌, List, ℕ, []}
+use Rattle.std.proofs.Common.{◌≡◌, ◌⊎◌, List, ℕ, [], arith}
 use Rattle.load.specs.Load.{of_bytes}
 use Rattle.load.specs.declared.fault.LoadFault.TheVariants.{Manifest}
 use Rattle.manifest.specs.declared.fault.ManifestFault.TheVariants.{Toml}
 use Rattle.manifest.specs.declared.fault.TomlFault.TheVariants.{TooLong}
-use Rattle.diagnosis.specs.Check.{FailsIfLong}
+use Rattle.diagnosis.specs.Check.{FailsIfLong, no_file}
 use Rattle.diagnosis.specs.Reason.{IsTomlReason}
 use Rattle.diagnosis.proofs.FaultsTold.{told_alone}
 
@@ -12,5 +12,8 @@ pub fails_if_long : (text : List ℕ) → (text ≡ []) ⊎ IsTomlReason TooLong
     → FailsIfLong (Manifest (Toml TooLong)) text
 fails_if_long text why known bytes long = record {
   refused = of_bytes long;
-  told = told_alone known bytes (Manifest (Toml TooLong)) text why;
+  arrays = [];
+  apps = [];
+  seen = no_file (λ some. absurd (omega (arith, some)));
+  told = told_alone bytes [] [] (Manifest (Toml TooLong)) text why;
 }

@@ -1,129 +1,194 @@
 -- Of files that tell their bytes one thing is told of apps.
-use Rattle.std.proofs.Common.{◌≡◌, ℕ, ◌+◌, List, [], ◌∷◌, ◌++◌, Option, Some, None}
-use Rattle.std.proofs.Common.{Result, Ok, Err}
-use Rattle.std.proofs.Common.{refl, sym, ap, ◌∙◌, subst}
-use Rattle.bounded_files.specs.Files.{KnownFile}
+use Rattle.std.proofs.Common.{◌≡◌, ℕ, ◌+◌, List, [], ◌∷◌, ◌++◌, Vec, Option, Some, None}
+use Rattle.std.proofs.Common.{Ok, refl, sym, ap, ◌∙◌, subst}
+use Rattle.std.proofs.lemmas.Option.{same_Some}
+use Rattle.std.specs.declared.alloc.Global.{Global}
+use Rattle.bounded_files.specs.Files.{KnownFile, bytes_of}
 use Rattle.acceptance.specs.Rule.{IsTextOf}
+use Rattle.bpf_semantics.specs.Program.{ShapedProgram}
+use Rattle.cells.specs.Arrays.{AppShape}
+use Rattle.cells.specs.declared.array.ArrayNo.{ArrayNo}
+use Rattle.cells.specs.declared.array.CellArray.{CellArray}
+use Rattle.releases.specs.Release.{Release}
 use Rattle.rule_lang.specs.Tokens.{Text}
 use Rattle.rule_lang.specs.Verdicts.{RuleHasOneVerdict}
 use Rattle.rule_lang.specs.declared.rule.Statement.{Statement}
 use Rattle.manifest.specs.App.{AppEntry}
 use Rattle.manifest.specs.Manifest.{Manifest}
-use Rattle.manifest.specs.OneReading.{HasOneManifest}
-use Rattle.manifest.specs.declared.fault.ManifestFault.{ManifestFault}
-use Rattle.cells.specs.declared.array.CellArray.{CellArray}
-use Rattle.warnings.specs.Asked.{all_room}
-use Rattle.cells.specs.Arrays.{AppShape}
 use Rattle.manifest.specs.declared.app.ProgramSource.{ProgramSource}
 use Rattle.manifest.specs.declared.app.ProgramSource.TheVariants.{Program, Rule}
 use Rattle.ruleset.specs.Rules.{AppRule}
+use Rattle.load.specs.Gathered.{AreGathered, no_app, next_app, IsGathered, IsGatheredApp}
+use Rattle.load.specs.Judged.{AreJudged, no_program, next_program, IsJudged, app_of, apps_of}
+use Rattle.load.specs.Kept.{IsKeptFrom, Keeps, most_of}
+use Rattle.load.specs.Source.{Given, file_of}
+use Rattle.load.specs.declared.gathering.Gathered.{Gathered}
+use Rattle.load.specs.declared.gathering.GatheredApp.{GatheredApp}
+use Rattle.load.specs.declared.kept.KeptFile.{KeptFile}
+use Rattle.load.specs.declared.kept.KeptFile.TheVariants.{Whole}
 use Rattle.diagnosis.specs.Unused.{unused_from}
-use Rattle.diagnosis.specs.Warned.{AsksApp, AsksFile, Room, WarnsOf, WarnsOfApp, WarnsOfApps}
+use Rattle.diagnosis.specs.Warned.{AsksApp, AsksRule, WarnsOf, WarnsOfApp, WarnsOfApps}
 use Rattle.diagnosis.specs.Warned.{app_rule, app_warnings}
-use Rattle.diagnosis.specs.Warned.AsksFile.{unread, no_rule, a_rule}
-use Rattle.diagnosis.specs.Warned.WarnsOfApps.{no_app, next}
-use Rattle.warnings.specs.Asked.{room_left, rule_text}
+use Rattle.diagnosis.specs.Warned.WarnsOfApps.{no_app as none_told, next as next_told}
+use Rattle.warnings.specs.Asked.{all_room, room_left, rule_text}
+use Rattle.warnings.specs.Asking.{RuleOfApp}
 
-abbrev in_reading : Result Manifest ManifestFault → Manifest → Manifest
-in_reading (Ok m) other = m
-in_reading (Err e) other = other
+kept_whole : (most : ℕ) (given : Given) (v : Vec ℕ Global) → Keeps most given (Whole v)
+    → given ≡ Some v.items
+kept_whole most None v k = absurd k
+kept_whole most (Some bytes) v k = ap (λ b. Some b) (sym k.0)
+
+-- two apps that are alike but for what is kept
+pub record AreAlike (a b : GatheredApp) : Type 0 where
+  pub appid : a.entry.appid ≡ b.entry.appid
+  pub releases : a.entry.releases ≡ b.entry.releases
+  pub shape : a.shape ≡ b.shape
+
+alike : (a b : GatheredApp) (p q : ShapedProgram) → IsJudged a p → IsJudged b q
+    → app_of a p ≡ app_of b q → AreAlike a b
+alike a b p q h k same = record {
+  appid = ap (λ (x : AppRule). x.appid) same;
+  releases = ap (λ (x : AppRule). x.releases) same;
+  shape = sym h.shape_is ∙ ap (λ (x : AppRule). x.program.shape) same ∙ k.shape_is;
+}
+
+same_rule : (a b : GatheredApp) (rule other : List Statement) → AreAlike a b → rule ≡ other
+    → app_rule a rule ≡ app_rule b other
+same_rule a b rule other h is =
+    ap (λ (x : List ℕ). record {
+      appid = x;
+      shape = a.shape;
+      releases = a.entry.releases;
+      rule = rule;
+    }) h.appid
+    ∙ ap (λ (x : AppShape). record {
+      appid = b.entry.appid;
+      shape = x;
+      releases = a.entry.releases;
+      rule = rule;
+    }) h.shape
+    ∙ ap (λ (x : List Release). record {
+      appid = b.entry.appid;
+      shape = b.shape;
+      releases = x;
+      rule = rule;
+    }) h.releases
+    ∙ ap (λ (x : List Statement). app_rule b x) is
 
 module _ (verdict : (s : AppShape) (text : Text) → RuleHasOneVerdict s text)
     (files : List ℕ → Option KnownFile) where
+  same_bytes : (from : ProgramSource) (a b : KeptFile) (v w : Vec ℕ Global)
+      → IsKeptFrom (Some files) from a → IsKeptFrom (Some files) from b → a ≡ Whole v
+      → b ≡ Whole w → v.items ≡ w.items
+  same_bytes from a b v w h k is are =
+      let first = kept_whole (most_of from) h.0 v
+      (subst (λ (x : KeptFile). Keeps (most_of from) h.0 x) is h.2) in
+      let second = kept_whole (most_of from) k.0 w
+      (subst (λ (x : KeptFile). Keeps (most_of from) k.0 x) are k.2) in
+      same_Some v.items w.items (sym first ∙ sym h.1 ∙ k.1 ∙ second)
+
   one_rule : (bytes : List ℕ) (s : AppShape) (rule other : List Statement)
       → IsTextOf bytes s rule → IsTextOf bytes s other → rule ≡ other
   one_rule bytes s rule other h k =
       let same = verdict s bytes (Ok rule) (Ok other) h.spelled k.spelled in cc
 
   -- what is asked of a rule, and the room behind it
-  asked_once : (number room : ℕ) (file : List ℕ) (app : AppRule) (asked other : List ℕ)
-      (left also : Room) → AsksFile (Some files) number room file app asked left
-      → AsksFile (Some files) number room file app other also → (asked ≡ other) × (left ≡ also)
-  asked_once number room file app asked other left also (unread h) (unread k) = (refl, refl)
-  asked_once number room file app asked other left also (unread h) (no_rule bytes k none) =
-      absurd (let same = sym h ∙ k in cc)
-  asked_once number room file app asked other left also (unread h) (a_rule bytes rule k is) =
-      absurd (let same = sym h ∙ k in cc)
-  asked_once number room file app asked other left also (no_rule bytes h none) (unread k) =
-      absurd (let same = sym h ∙ k in cc)
-  asked_once number room file app asked other left also (no_rule bytes h none)
-      (no_rule others k also_none) = (refl, refl)
-  asked_once number room file app asked other left also (no_rule bytes h none)
-      (a_rule others rule k is) =
-      let same : others ≡ bytes = let gives = sym h ∙ k in cc in
-      absurd (none rule
-      (subst (λ (b : List ℕ). IsTextOf b app.program.shape rule) same is))
-  asked_once number room file app asked other left also (a_rule bytes rule h is) (unread k) =
-      absurd (let same = sym h ∙ k in cc)
-  asked_once number room file app asked other left also (a_rule bytes rule h is)
-      (no_rule others k none) =
-      let same : bytes ≡ others = let gives = sym h ∙ k in cc in
-      absurd (none rule
-      (subst (λ (b : List ℕ). IsTextOf b app.program.shape rule) same is))
-  asked_once number room file app asked other left also (a_rule bytes rule h is)
-      (a_rule others second k are) =
-      let same : bytes ≡ others = let gives = sym h ∙ k in cc in
-      let one = one_rule others app.program.shape rule second
-      (subst (λ (b : List ℕ). IsTextOf b app.program.shape rule) same is) are in (
-        ap (λ (r : List Statement). rule_text number room (app_rule app r)) one,
-        ap (λ (r : List Statement). Some (room_left room (app_rule app r))) one,
+  asked_once : (number room : ℕ) (from : ProgramSource) (a b : GatheredApp)
+      (asked other : List ℕ) (left also : ℕ) → AreAlike a b → IsKeptFrom (Some files) from a.kept
+      → IsKeptFrom (Some files) from b.kept → AsksRule number room a asked left
+      → AsksRule number room b other also → (asked ≡ other) × (left ≡ also)
+  asked_once number room from a b asked other left also same h k p q =
+      let bytes = same_bytes from a.kept b.kept p.text q.text h k p.kept_is q.kept_is in
+      let there : IsTextOf q.text.items b.shape p.rule =
+      subst (λ (s : AppShape). IsTextOf q.text.items s p.rule) same.shape
+      (subst (λ (t : List ℕ). IsTextOf t a.shape p.rule) bytes p.spelled) in
+      let rules = same_rule a b p.rule q.rule same
+      (one_rule q.text.items b.shape p.rule q.rule there q.spelled) in (
+        p.asked_is ∙ ap (λ (r : RuleOfApp). rule_text number room r) rules ∙ sym q.asked_is,
+        p.left_is ∙ ap (λ (r : RuleOfApp). room_left room r) rules ∙ sym q.left_is,
       )
 
-  source_once : (number : ℕ) (room : Room) (source : ProgramSource) (app : AppRule)
-      (asked other : List ℕ) (left also : Room)
-      → AsksApp (Some files) number room source app asked left
-      → AsksApp (Some files) number room source app other also → (asked ≡ other) × (left ≡ also)
-  source_once number None source app asked other left also h k =
-      (h.0 ∙ sym k.0, h.1 ∙ sym k.1)
-  source_once number (Some room) (Program file) app asked other left also h k =
-      (h.0 ∙ sym k.0, h.1 ∙ sym k.1)
-  source_once number (Some room) (Rule file) app asked other left also h k =
-      asked_once number room file app asked other left also h k
+  source_once : (number room : ℕ) (from : ProgramSource) (a b : GatheredApp)
+      (asked other : List ℕ) (left also : ℕ) → AreAlike a b → IsKeptFrom (Some files) from a.kept
+      → IsKeptFrom (Some files) from b.kept → AsksApp number room from a asked left
+      → AsksApp number room from b other also → (asked ≡ other) × (left ≡ also)
+  source_once number room (Program file) a b asked other left also same h k p q =
+      (p.0 ∙ sym q.0, p.1 ∙ sym q.1)
+  source_once number room (Rule file) a b asked other left also same h k p q =
+      asked_once number room (Rule file) a b asked other left also same h k p q
 
-  app_once : (number : ℕ) (room : Room) (entry : AppEntry) (app : AppRule)
-      (told other : List ℕ) (left also : Room)
-      → WarnsOfApp (Some files) number room entry app told left
-      → WarnsOfApp (Some files) number room entry app other also
-      → (told ≡ other) × (left ≡ also)
-  app_once number room entry app told other left also h k =
-      let same = source_once number room entry.source app h.asked k.asked left also h.asks k.asks
-      in (
-        h.told_is ∙ ap (λ a. app_warnings number app ++ a) same.0 ∙ sym k.told_is,
-        same.1,
-      )
+  module _ (directory : List CellArray) (numbers more : List ArrayNo) where
+    app_once : (number room : ℕ) (entry : AppEntry) (a b : GatheredApp) (told other : List ℕ)
+        (left also : ℕ) → AreAlike a b
+        → IsGatheredApp (Some files) directory numbers entry a
+        → IsGatheredApp (Some files) directory more entry b → WarnsOfApp number room a told left
+        → WarnsOfApp number room b other also → (told ≡ other) × (left ≡ also)
+    app_once number room entry a b told other left also same h k p q =
+        let first = subst (λ (e : AppEntry). AsksApp number room e.source a p.asked left)
+        h.entry_is p.asks in
+        let second = subst (λ (e : AppEntry). AsksApp number room e.source b q.asked also)
+        k.entry_is q.asks in
+        let one = source_once number room entry.source a b p.asked q.asked left also same h.kept_is
+        k.kept_is first second in (
+          p.told_is
+              ∙ ap (λ (e : AppEntry). app_warnings number e ++ p.asked)
+              (h.entry_is ∙ sym k.entry_is)
+              ∙ ap (λ t. app_warnings number b.entry ++ t) one.0 ∙ sym q.told_is,
+          one.1,
+        )
 
-  pub told_once : (number : ℕ) (room : Room) (entries : List AppEntry) (apps : List AppRule)
-      (told other : List ℕ) → WarnsOfApps (Some files) number room entries apps told
-      → WarnsOfApps (Some files) number room entries apps other → told ≡ other
-  told_once number room [] [] told other no_app no_app = refl
-  told_once number room [] (app ∷ apps) told other h k = elim h [ ]
-  told_once number room (entry ∷ entries) [] told other h k = elim h [ ]
-  told_once number room (entry ∷ entries) (app ∷ apps) told other
-      (next {left = left} {told = first} {rest = rest} h later)
-      (next {left = also} {told = second} {rest = behind} k after) =
-      let same = app_once number room entry app first second left also h k in
-      let more = told_once (number + 1) also entries apps rest behind
-      (subst (λ (r : Room). WarnsOfApps (Some files) (number + 1) r entries apps rest) same.1 later)
-      after in
-      ap (λ t. t ++ rest) same.0 ∙ ap (λ t. second ++ t) more
+    told_once : (number room : ℕ) (entries : List AppEntry) (apps others : List GatheredApp)
+        (programs also : List ShapedProgram) (told other : List ℕ)
+        → AreGathered (Some files) directory numbers entries apps
+        → AreGathered (Some files) directory more entries others → AreJudged apps programs
+        → AreJudged others also → apps_of apps programs ≡ apps_of others also
+        → WarnsOfApps number room apps told → WarnsOfApps number room others other
+        → told ≡ other
+    told_once number room [] [] [] programs also told other g h p q same none_told none_told = refl
+    told_once number room [] (a ∷ apps) others programs also told other g h p q same v w =
+        elim g [ ]
+    told_once number room [] [] (b ∷ others) programs also told other g h p q same v w =
+        elim h [ ]
+    told_once number room (e ∷ entries) [] others programs also told other g h p q same v w =
+        elim g [ ]
+    told_once number room (e ∷ entries) (a ∷ apps) [] programs also told other g h p q same v w =
+        elim h [ ]
+    told_once number room (e ∷ entries) (a ∷ apps) (b ∷ others) [] also told other g h p q same v
+        w = elim p [ ]
+    told_once number room (e ∷ entries) (a ∷ apps) (b ∷ others) (x ∷ programs) [] told other g h p
+        q same v w = elim q [ ]
+    told_once number room (e ∷ entries) (a ∷ apps) (b ∷ others) (x ∷ programs) (y ∷ also) told
+        other (next_app g gs) (next_app h hs) (next_program p ps) (next_program q qs) same
+        (next_told {left = left} {told = first} {rest = rest} v later)
+        (next_told {left = behind} {told = second} {rest = others_told} w after) =
+        let head : app_of a x ≡ app_of b y = cc in
+        let tail : apps_of apps programs ≡ apps_of others also = cc in
+        let one = app_once number room e a b first second left behind (alike a b x y p q head) g h
+        v w in
+        let rest_is = told_once (number + 1) behind entries apps others programs also rest
+        others_told gs hs ps qs tail
+        (subst (λ (r : ℕ). WarnsOfApps (number + 1) r apps rest) one.1 later) after in
+        ap (λ t. t ++ rest) one.0 ∙ ap (λ t. second ++ t) rest_is
 
-  pub warned_once : (bytes : List ℕ) → HasOneManifest bytes → (arrays others : List CellArray)
-      (apps also : List AppRule) (warnings more : List ℕ) → arrays ≡ others → apps ≡ also
-      → WarnsOf (Some files) bytes arrays apps warnings
-      → WarnsOf (Some files) bytes others also more → warnings ≡ more
-  warned_once bytes reading arrays others apps also warnings more same_arrays same_apps h k =
-      let read : h.manifest ≡ k.manifest =
-      ap (λ (r : Result Manifest ManifestFault). in_reading r k.manifest)
-      (reading (Ok h.manifest) (Ok k.manifest) h.read k.read (λ x. absurd cc) (λ x. absurd cc)) in
-      let moved = subst
-      (λ (a : List AppRule). WarnsOfApps (Some files) 1 (Some all_room) k.manifest.apps a h.told)
-      same_apps
-      (subst
-      (λ (m : Manifest). WarnsOfApps (Some files) 1 (Some all_room) m.apps apps h.told) read
-      h.of_apps) in
-      h.warnings_are
-      ∙ ap (λ t. unused_from 0 arrays apps ++ t)
-      (told_once 1 (Some all_room) k.manifest.apps also h.told k.told moved k.of_apps)
-      ∙ ap (λ (a : List CellArray). unused_from 0 a apps ++ k.told) same_arrays
-      ∙ ap (λ (a : List AppRule). unused_from 0 others a ++ k.told) same_apps
-      ∙ sym k.warnings_are
+  pub warned_once : (bytes : List ℕ) (g h : Gathered) (programs also : List ShapedProgram)
+      (warnings others : List ℕ) (p : IsGathered (Some files) [] bytes g)
+      (q : IsGathered (Some files) [] bytes h) → p.manifest ≡ q.manifest
+      → g.directory ≡ h.directory → apps_of g.apps.items programs ≡ apps_of h.apps.items also
+      → AreJudged g.apps.items programs → AreJudged h.apps.items also
+      → WarnsOf g programs warnings → WarnsOf h also others → warnings ≡ others
+  warned_once bytes g h programs also warnings others p q read directories same judged_g judged_h v
+      w =
+      let there : AreGathered (Some files) h.directory p.numbers q.manifest.apps g.apps.items =
+      subst (λ (d : List CellArray).
+      AreGathered (Some files) d p.numbers q.manifest.apps g.apps.items) directories
+      (subst (λ (m : Manifest).
+      AreGathered (Some files) g.directory p.numbers m.apps g.apps.items) read p.apps_are) in
+      v.warnings_are
+      ∙ ap (λ t. unused_from 0 g.directory (apps_of g.apps.items programs) ++ t)
+      (told_once h.directory p.numbers q.numbers 1 all_room q.manifest.apps g.apps.items
+      h.apps.items programs also v.told w.told there q.apps_are judged_g judged_h same v.of_apps
+      w.of_apps)
+      ∙ ap (λ (d : List CellArray).
+      unused_from 0 d (apps_of g.apps.items programs) ++ w.told) directories
+      ∙ ap (λ (a : List AppRule). unused_from 0 h.directory a ++ w.told) same
+      ∙ sym w.warnings_are

@@ -1,43 +1,111 @@
--- From what was loaded, and from what was read again, to what is told.
-use Rattle.std.proofs.Common.{◌≡◌, ℕ, List, [], Some, true, ◌∙◌, subst}
-use Rattle.cells.specs.Arrays.{AppShape}
-use Rattle.cells.specs.declared.array.CellArray.{CellArray}
-use Rattle.diagnosis.specs.Check.{PassesCheck}
-use Rattle.diagnosis.specs.Inside.{is_inside}
-use Rattle.diagnosis.specs.Shown.{IsShown, ShowsPlace}
-use Rattle.diagnosis.specs.Shown.ShowsPlace.{shown}
+-- From what was gathered and judged to what is told.
+use Rattle.std.proofs.Common.{◌≡◌, ℕ, List, [], ◌++◌, true, ◌∙◌, ap, subst, refl, sym}
+use Rattle.std.proofs.Common.{Result, Ok, Err, IfOk, IfErr, inl}
+use Rattle.diagnosis.specs.Check.{FailsApps, FailsCheck, PassesApps, PassesCheck, files, no_file}
 use Rattle.diagnosis.specs.Texts.{loaded_text}
-use Rattle.diagnosis.specs.Warned.{WarnsOf}
-use Rattle.diagnosis.specs.declared.shown.Place.{Place}
+use Rattle.diagnosis.specs.Told.{TellsRefused}
+use Rattle.diagnosis.specs.Unused.{unused_from}
+use Rattle.diagnosis.specs.Warned.{WarnsOfApps}
+use Rattle.diagnosis.proofs.FaultsTold.{told_alone}
 use Rattle.diagnosis.proofs.Once.{told_as_declared}
-use Rattle.bounded_files.specs.Files.{KnownFiles, Gives}
+use Rattle.bpf_semantics.specs.Program.{ShapedProgram}
+use Rattle.bounded_files.specs.Files.{KnownFiles}
+use Rattle.cells.specs.declared.array.CellArray.{CellArray}
+use Rattle.load.specs.Gathered.{IsGathered, IsUngathered}
+use Rattle.load.specs.Judged.{AreJudged, IsLoadOf, apps_of}
 use Rattle.load.specs.Load.{IsRulesetOf}
-use Rattle.ruleset.specs.Rules.{AppRule, Rules}
+use Rattle.load.specs.declared.fault.LoadFault.{LoadFault}
+use Rattle.load.specs.declared.fault.LoadFault.TheVariants.{Memory}
+use Rattle.load.specs.declared.gathering.Gathered.{Gathered}
+use Rattle.load.specs.declared.gathering.GatheredApp.{GatheredApp}
+use Rattle.load.specs.declared.gathering.Ungathered.{Ungathered}
+use Rattle.ruleset.specs.Rules.{AppRule}
+use Rattle.warnings.specs.Asked.{all_room}
 
-pub passes : (known then_known : KnownFiles) (old : List CellArray) (bytes text warnings : List ℕ)
-    (rules : Rules) (arrays lent : List CellArray) (apps : List AppRule) → old ≡ []
-    → then_known ≡ known → IsRulesetOf known old bytes rules arrays → lent ≡ arrays
-    → apps ≡ rules.apps → text ≡ loaded_text lent apps
-    → WarnsOf then_known bytes lent apps warnings → PassesCheck known bytes text warnings
-passes known then_known old bytes text warnings rules arrays lent apps is same_known loaded
-    same_arrays same_apps told warned =
-    let over_none = rw is at loaded in
-    let told_of_them = rw (same_arrays, same_apps) at told in
+pub ok_by : {X E : Type 0} {P Q : X → Type 0} (r : Result X E) → ((x : X) → P x → Q x)
+    → IfOk r P → IfOk r Q
+ok_by (Ok x) f h = f x h
+ok_by (Err e) f h = tt
+
+pub err_by : {X E : Type 0} {P Q : E → Type 0} (r : Result X E) → ((e : E) → P e → Q e)
+    → IfErr r P → IfErr r Q
+err_by (Ok x) f h = tt
+err_by (Err e) f h = f e h
+
+pub passes_apps : (g : Gathered) (programs : List ShapedProgram) (gone : List GatheredApp)
+    (text warnings told lent : List ℕ) (arrays : List CellArray) (apps supplied : List AppRule)
+    → AreJudged g.apps.items programs → gone ≡ g.apps.items → arrays ≡ g.directory
+    → apps ≡ supplied → supplied ≡ apps_of g.apps.items programs → text ≡ loaded_text arrays apps
+    → WarnsOfApps 1 all_room gone told → lent ≡ told
+    → warnings ≡ unused_from 0 arrays apps ++ lent → PassesApps g text warnings
+passes_apps g programs gone text warnings told lent arrays apps supplied judged gone_are arrays_are
+    lent_are supplied_are text_is of_apps same warnings_are =
+    let apps_are : apps ≡ apps_of g.apps.items programs = lent_are ∙ supplied_are in
     record {
-      rules = rules;
-      arrays = arrays;
-      loaded = over_none;
-      text_is = told_of_them ∙ told_as_declared over_none.manifest arrays over_none.numbers
-          rules.apps over_none.read.1 over_none.declared;
-      warned = subst (λ (k : KnownFiles). WarnsOf k bytes arrays rules.apps warnings) same_known
-          (subst (λ (a : List CellArray). WarnsOf then_known bytes a rules.apps warnings) same_arrays
-          (subst (λ (a : List AppRule). WarnsOf then_known bytes lent a warnings) same_apps warned));
+      programs = programs;
+      judged = judged;
+      text_is = text_is ∙ ap (λ (l : List CellArray). loaded_text l apps) arrays_are
+          ∙ ap (λ (l : List AppRule). loaded_text g.directory l) apps_are;
+      warned = record {
+        told = told;
+        of_apps = subst (λ (l : List GatheredApp). WarnsOfApps 1 all_room l told) gone_are of_apps;
+        warnings_are = warnings_are
+            ∙ ap (λ (l : List CellArray). unused_from 0 l apps ++ lent) arrays_are
+            ∙ ap (λ (l : List AppRule). unused_from 0 g.directory l ++ lent) apps_are
+            ∙ ap (λ t. unused_from 0 g.directory (apps_of g.apps.items programs) ++ t) same;
+      };
     }
 
-pub is_shown : (known : KnownFiles) (file lent bytes slice text : List ℕ) (s : AppShape)
-    (place : Place) → lent ≡ file → is_inside lent ≡ true → Gives known lent (Some bytes)
-    → slice ≡ bytes → IsShown s place slice text → ShowsPlace known file s place text
-is_shown known file lent bytes slice text s place same stays gives whole is =
-    shown bytes (subst (λ (name : List ℕ). is_inside name ≡ true) same stays)
-    (subst (λ (name : List ℕ). Gives known name (Some bytes)) same gives)
-    (subst (λ (b : List ℕ). IsShown s place b text) whole is)
+module _ (known : KnownFiles) (bytes : List ℕ) (g : Gathered) (is : IsGathered known [] bytes g)
+    (load : IsLoadOf known [] bytes g is) where
+  pub passes : (text warnings : List ℕ) → PassesApps g text warnings
+      → PassesCheck known bytes text warnings
+  passes text warnings h = record {
+    g = g;
+    gathered = is;
+    passes = h;
+    rules = record { server = is.manifest.server; apps = apps_of g.apps.items h.programs };
+    loaded = load.supplied h.programs h.judged;
+    apps_are = refl;
+    text_is = h.text_is
+        ∙ told_as_declared loaded.manifest g.directory loaded.numbers
+        (apps_of g.apps.items h.programs) loaded.read.1 loaded.declared;
+  }
+    where
+      loaded : IsRulesetOf known [] bytes
+          (record { server = is.manifest.server; apps = apps_of g.apps.items h.programs })
+          g.directory
+      loaded = load.supplied h.programs h.judged
+
+  pub fails : (fault : LoadFault) (reason : List ℕ) → FailsApps bytes g fault reason
+      → FailsCheck known bytes fault reason
+  fails fault reason h = record {
+    refused = load.refused fault h.refused;
+    arrays = g.arrays.items;
+    apps = g.apps.items;
+    seen = files g is;
+    told = h.told;
+  }
+
+pub fails_early : (known : KnownFiles) (bytes : List ℕ) (u : Ungathered) (fault : LoadFault)
+    (reason : List ℕ) → IsUngathered [] bytes u → fault ≡ u.fault
+    → TellsRefused bytes u.arrays.items [] u.fault reason → FailsCheck known bytes fault reason
+fails_early known bytes u fault reason h is told =
+    subst (λ (f : LoadFault). FailsCheck known bytes f reason) (sym is)
+    (record {
+      refused = h.fault_is known;
+      arrays = u.arrays.items;
+      apps = [];
+      seen = no_file h.arrays_are;
+      told = told;
+    })
+
+-- want of memory, of which nothing is told
+pub nothing_told : (bytes : List ℕ) (g : Gathered) (fault : LoadFault) (reason : List ℕ)
+    → fault ≡ Memory → reason ≡ [] → FailsApps bytes g fault reason
+nothing_told bytes g fault reason is none =
+    subst (λ (f : LoadFault). FailsApps bytes g f reason) (sym is)
+    (record {
+      refused = tt;
+      told = told_alone bytes g.arrays.items g.apps.items Memory reason (inl none);
+    })

@@ -1,27 +1,61 @@
--- What comes of the check of a manifest, which is loaded over no arrays.
+-- What comes of the check of a manifest, which is loaded over no arrays. All of it is by what was
+-- gathered: of each file that an app names the same bytes are judged, shown and asked.
 use Rattle.std.specs.Prelude.{◌≡◌, ◌<◌, ℕ, List, [], length}
-use Rattle.cells.specs.declared.array.CellArray.{CellArray}
-use Rattle.diagnosis.specs.Texts.{accepted_text}
+use Rattle.bpf_semantics.specs.Program.{ShapedProgram}
+use Rattle.cells.specs.Directory.{Declaration}
+use Rattle.diagnosis.specs.Texts.{accepted_text, loaded_text}
 use Rattle.diagnosis.specs.Told.{TellsRefused}
 use Rattle.diagnosis.specs.Warned.{WarnsOf}
 use Rattle.bounded_files.specs.Files.{KnownFiles}
+use Rattle.load.specs.Gathered.{AreArraysOf, IsGathered}
+use Rattle.load.specs.Judged.{AreJudged, RefusesFirst, apps_of}
 use Rattle.load.specs.Load.{IsRulesetOf, IsLoadFault}
 use Rattle.load.specs.declared.fault.LoadFault.{LoadFault}
+use Rattle.load.specs.declared.gathering.Gathered.{Gathered}
+use Rattle.load.specs.declared.gathering.GatheredApp.{GatheredApp}
 use Rattle.ruleset.specs.Rules.{Rules}
 
+-- ---- of the apps that were gathered
+
+-- each has its program, this is told of arrays and apps, and these are the warnings
+pub record PassesApps (g : Gathered) (text warnings : List ℕ) : Type 0 where
+  pub programs : List ShapedProgram
+  pub judged : AreJudged g.apps.items programs
+  pub text_is : text ≡ loaded_text g.directory (apps_of g.apps.items programs)
+  pub warned : WarnsOf g programs warnings
+
+-- the first that has none has this fault, and this is told of where and why, and of the further
+-- faults
+pub record FailsApps (bytes : List ℕ) (g : Gathered) (fault : LoadFault) (reason : List ℕ)
+    : Type 0 where
+  pub refused : RefusesFirst g.apps.items fault
+  pub told : TellsRefused bytes g.arrays.items g.apps.items fault reason
+
+-- ---- of the manifest
+
 module _ (known : KnownFiles) (bytes : List ℕ) where
-  -- it comes to a ruleset, this is told of its arrays and its apps, and these are the warnings
+  -- it comes to a ruleset, of whose arrays and apps this is told, and these are the warnings
   pub record PassesCheck (text warnings : List ℕ) : Type 0 where
+    pub g : Gathered
+    pub gathered : IsGathered known [] bytes g
+    pub passes : PassesApps g text warnings
     pub rules : Rules
-    pub arrays : List CellArray
-    pub loaded : IsRulesetOf known [] bytes rules arrays
+    pub loaded : IsRulesetOf known [] bytes rules g.directory
+    pub apps_are : rules.apps ≡ apps_of g.apps.items passes.programs
     pub text_is : text ≡ accepted_text loaded.manifest.arrays rules.apps
-    pub warned : WarnsOf known bytes arrays rules.apps warnings
+
+  -- what was gathered until it was refused: nothing, its arrays, or its apps, too
+  pub data IsSeen : List Declaration → List GatheredApp → Type 0 where
+    no_file : {arrays : List Declaration} → AreArraysOf bytes arrays → IsSeen arrays []
+    files : (g : Gathered) → IsGathered known [] bytes g → IsSeen g.arrays.items g.apps.items
 
   -- it has this fault, and this is told of where and why, and of the further faults
   pub record FailsCheck (fault : LoadFault) (reason : List ℕ) : Type 0 where
     pub refused : IsLoadFault known [] bytes fault
-    pub told : TellsRefused known bytes fault reason
+    pub arrays : List Declaration
+    pub apps : List GatheredApp
+    pub seen : IsSeen arrays apps
+    pub told : TellsRefused bytes arrays apps fault reason
 
 -- every manifest of more than 1048576 bytes comes to this fault, whatever its files give
 abbrev pub FailsIfLong : LoadFault → List ℕ → Type 0

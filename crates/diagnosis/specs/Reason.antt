@@ -1,13 +1,8 @@
 -- Where and why a manifest is refused.
-use Rattle.std.specs.Prelude.{◌≡◌, ℕ, ◌-◌, List, [], ◌++◌, codes, slice_get, Some, Ok}
-use Rattle.load.specs.App.{IsShapeOf}
-use Rattle.cells.specs.Arrays.{AppShape}
+use Rattle.std.specs.Prelude.{◌≡◌, ℕ, ◌-◌, List, [], ◌++◌, codes, slice_get, Some}
 use Rattle.cells.specs.Directory.{Declaration}
-use Rattle.cells.specs.declared.array.ArrayNo.{ArrayNo}
-use Rattle.cells.specs.declared.array.CellArray.{CellArray}
 use Rattle.cells.specs.declared.fault.CellsFault.{CellsFault}
 use Rattle.cells.specs.declared.fault.CellsFault.TheVariants as cells
-use Rattle.declarations.specs.Order.{AreDeclared}
 use Rattle.diagnosis.specs.Advice.{advice}
 use Rattle.diagnosis.specs.declared.shown.Place.{Place}
 use Rattle.diagnosis.specs.declared.shown.Place.TheVariants.{Whole, Slot, Refused}
@@ -15,11 +10,10 @@ use Rattle.diagnosis.specs.declared.shown.Place.TheVariants.{Rule as InRule}
 use Rattle.diagnosis.specs.Shown.{ShowsPlace}
 use Rattle.diagnosis.specs.Texts.{file_line, cells_line}
 use Rattle.ruleset.specs.Texts.{line}
-use Rattle.bounded_files.specs.Files.{KnownFiles}
-use Rattle.load.specs.Source.{file_of}
 use Rattle.load.specs.declared.fault.LoadFault.{LoadFault}
 use Rattle.load.specs.declared.fault.LoadFault.TheVariants.{Manifest as NoManifest, Cells, File}
 use Rattle.load.specs.declared.fault.LoadFault.TheVariants.{Program, Rule, Memory}
+use Rattle.load.specs.declared.gathering.GatheredApp.{GatheredApp}
 use Rattle.bpf_rules.specs.declared.refusal.Refusal.TheVariants as verify
 use Rattle.acceptance.specs.declared.fault.ProgramFault.{ProgramFault}
 use Rattle.acceptance.specs.declared.fault.ProgramFault.TheVariants.{Flow, Verify}
@@ -27,20 +21,12 @@ use Rattle.acceptance.specs.declared.fault.RuleTextFault.{RuleTextFault}
 use Rattle.acceptance.specs.declared.fault.RuleTextFault.TheVariants.{Text}
 use Rattle.flow_check.specs.declared.fault.FlowFault.TheVariants as flow
 use Rattle.rule_lang.specs.declared.fault.RuleFault.TheVariants as rule
-use Rattle.manifest.specs.App.{AppEntry}
-use Rattle.manifest.specs.Manifest.{Manifest, ReadsManifest}
 use Rattle.manifest.specs.Texts.{misfit_text, twice_text}
 use Rattle.manifest.specs.declared.fault.ManifestFault.{ManifestFault}
 use Rattle.manifest.specs.declared.fault.ManifestFault.TheVariants as unread
 use Rattle.manifest.specs.declared.fault.TomlFault.{TomlFault}
 use Rattle.manifest.specs.declared.fault.TomlFault.TheVariants as toml
 use Rattle.printing.specs.Printed.{printed_lines}
-
--- ---- an entry by its number, from 1
-
-abbrev pub IsArrayAt : List ℕ → ℕ → Declaration → Type 0
-IsArrayAt bytes number array = (manifest : Manifest) × ReadsManifest bytes (Ok manifest)
-    × (slice_get manifest.arrays (number - 1) ≡ Some array)
 
 -- ---- faults of the manifest's bytes, and of its arrays
 
@@ -62,10 +48,11 @@ IsManifestReason (unread.Duplicate twice) text = text ≡ twice_text twice ++ co
 IsManifestReason unread.Memory text = text ≡ []
 
 -- of an array for which too few cells are left; over no arrays there is no other fault of one
-abbrev pub IsCellsReason : List ℕ → ℕ → CellsFault → List ℕ → Type 0
-IsCellsReason bytes number cells.CellsFull text =
-    (array : Declaration) × IsArrayAt bytes number array × (text ≡ cells_line number array.name)
-IsCellsReason bytes number fault text = ⊥
+abbrev pub IsCellsReason : List Declaration → ℕ → CellsFault → List ℕ → Type 0
+IsCellsReason arrays number cells.CellsFull text =
+    (array : Declaration) × (slice_get arrays (number - 1) ≡ Some array)
+    × (text ≡ cells_line number array.name)
+IsCellsReason arrays number fault text = ⊥
 
 -- ---- faults of files
 
@@ -80,37 +67,26 @@ abbrev pub rule_place : RuleTextFault → Place
 rule_place (Text (rule.At line kind)) = InRule line kind
 rule_place fault = Whole
 
--- the shape of an app, with these arrays declared over none
-pub record IsShapeOfEntry (arrays : List Declaration) (app : AppEntry) (shape : AppShape)
-    : Type 0 where
-  pub numbers : List ArrayNo
-  pub directory : List CellArray
-  pub declared : AreDeclared [] arrays numbers directory
-  pub shape_is : IsShapeOf directory numbers app shape
-
 -- the name of the file, and what is shown of it
-pub record IsTold (known : KnownFiles) (number : ℕ) (shape : AppShape) (place : Place)
-    (app : AppEntry) (text : List ℕ) : Type 0 where
+pub record IsTold (number : ℕ) (place : Place) (app : GatheredApp) (text : List ℕ) : Type 0 where
   pub place_text : List ℕ
-  pub shows : ShowsPlace known (file_of app.source) shape place place_text
-  pub text_is : text ≡ file_line number app.source ++ place_text
+  pub shows : ShowsPlace app place place_text
+  pub text_is : text ≡ file_line number app.entry.source ++ place_text
 
-module _ (known : KnownFiles) (bytes : List ℕ) where
-  -- of the app of this number
-  pub record IsFileReason (number : ℕ) (place : Place) (text : List ℕ) : Type 0 where
-    pub manifest : Manifest
-    pub read : ReadsManifest bytes (Ok manifest)
-    pub app : AppEntry
-    pub stands : slice_get manifest.apps (number - 1) ≡ Some app
-    pub shape : AppShape
-    pub shape_is : IsShapeOfEntry manifest.arrays app shape
-    pub told : IsTold known number shape place app text
+-- of the app of this number, from 1
+pub record IsFileReason (apps : List GatheredApp) (number : ℕ) (place : Place) (text : List ℕ)
+    : Type 0 where
+  pub app : GatheredApp
+  pub stands : slice_get apps (number - 1) ≡ Some app
+  pub told : IsTold number place app text
 
-  -- the lines beside a refusal
+-- ---- the lines beside a refusal, by what was gathered
+
+module _ (arrays : List Declaration) (apps : List GatheredApp) where
   abbrev pub IsReason : LoadFault → List ℕ → Type 0
   IsReason (NoManifest fault) text = IsManifestReason fault text
-  IsReason (Cells number fault) text = IsCellsReason bytes number fault text
-  IsReason (File number) text = IsFileReason number Whole text
-  IsReason (Program number fault) text = IsFileReason number (slot_of fault) text
-  IsReason (Rule number fault) text = IsFileReason number (rule_place fault) text
+  IsReason (Cells number fault) text = IsCellsReason arrays number fault text
+  IsReason (File number) text = IsFileReason apps number Whole text
+  IsReason (Program number fault) text = IsFileReason apps number (slot_of fault) text
+  IsReason (Rule number fault) text = IsFileReason apps number (rule_place fault) text
   IsReason Memory text = text ≡ []

@@ -1,5 +1,6 @@
 -- What is shown of an app's file: the place at which its fault lies.
-use Rattle.std.specs.Prelude.{◌≡◌, ◌⊎◌, ℕ, List, [], ◌++◌, codes, decimal, Some, true, IsUtf8}
+use Rattle.std.specs.Prelude.{◌≡◌, ◌⊎◌, ℕ, List, [], ◌++◌, codes, decimal, Bool, true, IsUtf8}
+use Rattle.std.specs.Prelude.{if◌then◌else◌, not, ◌&&◌}
 use Rattle.bpf_insn.specs.Spelling.{Spells}
 use Rattle.bpf_insn.specs.declared.insn.Insn.{Insn}
 use Rattle.bpf_text.specs.Listing.{line_of}
@@ -16,8 +17,11 @@ use Rattle.rule_lang.specs.declared.fault.RuleFaultKind.{RuleFaultKind}
 use Rattle.cells.specs.Arrays.{AppShape}
 use Rattle.ruleset.specs.Texts.{line}
 use Rattle.rule_diagnosis.specs.Places.{line_text}
-use Rattle.rule_diagnosis.specs.Told.{IsRuleTold}
-use Rattle.bounded_files.specs.Files.{KnownFiles, Gives}
+use Rattle.rule_diagnosis.specs.Told.{IsRuleTold, rule_too_long}
+use Rattle.load.specs.Source.{file_of}
+use Rattle.load.specs.declared.gathering.GatheredApp.{GatheredApp}
+use Rattle.load.specs.declared.kept.KeptFile.{KeptFile}
+use Rattle.load.specs.declared.kept.KeptFile.TheVariants.{Unread, Longer, Whole as All}
 
 -- a line by its number, from 1, as it is printed
 abbrev pub numbered_line : ℕ → List ℕ → List ℕ
@@ -60,10 +64,27 @@ IsShown s (InRule number kind) bytes text =
     (IsUtf8 bytes × IsTextShown s number kind bytes text)
     ⊎ (¬ (IsUtf8 bytes) × (text ≡ no_text_line))
 
--- the file is one of the manifest's folder, is read again, and its place is shown; or nothing is:
--- of a file from outside, for want of memory or of the file, or because there is no such place
-pub data ShowsPlace (known : KnownFiles) (file : List ℕ) (s : AppShape) (place : Place)
-    : List ℕ → Type 0 where
-  nothing : ShowsPlace known file s place []
-  shown : {text : List ℕ} (bytes : List ℕ) → is_inside file ≡ true → Gives known file (Some bytes)
-      → IsShown s place bytes text → ShowsPlace known file s place text
+-- of a longer file: the instruction that its beginning spells, or that a rule is too long, unless
+-- it is no text
+abbrev pub IsLongShown : Place → (beginning : List ℕ) → (is_text : Bool) → List ℕ → Type 0
+IsLongShown (Slot slot) beginning is_text text = IsInsnShown slot beginning text
+IsLongShown (InRule number kind) beginning is_text text =
+    text ≡ (if is_text then rule_too_long else no_text_line)
+IsLongShown place beginning is_text text = ⊥
+
+-- of what is kept of a file
+abbrev pub IsKeptShown : AppShape → Place → KeptFile → List ℕ → Type 0
+IsKeptShown s place Unread text = ⊥
+IsKeptShown s place (All v) text = IsShown s place v.items text
+IsKeptShown s place (Longer v is_text) text = IsLongShown place v.items is_text text
+
+-- the file of an app is one of the manifest's folder, by its name and with no link on the way
+abbrev pub lies_inside : GatheredApp → Bool
+lies_inside app = is_inside (file_of app.entry.source) && not app.behind_link
+
+-- it is, and its place is shown; or nothing is: of a file from outside, for want of memory, or
+-- because there is no such place
+pub data ShowsPlace (app : GatheredApp) (place : Place) : List ℕ → Type 0 where
+  nothing : ShowsPlace app place []
+  shown : {text : List ℕ} → lies_inside app ≡ true
+      → IsKeptShown app.shape place app.kept text → ShowsPlace app place text

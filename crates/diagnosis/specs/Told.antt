@@ -5,8 +5,9 @@ use Rattle.std.specs.Prelude.{length, take}
 use Rattle.diagnosis.specs.Further.{AreFurther}
 use Rattle.diagnosis.specs.Reason.{IsReason}
 use Rattle.diagnosis.specs.Refusal.{refusal_line}
-use Rattle.bounded_files.specs.Files.{KnownFiles}
+use Rattle.cells.specs.Directory.{Declaration}
 use Rattle.load.specs.declared.fault.LoadFault.{LoadFault}
+use Rattle.load.specs.declared.gathering.GatheredApp.{GatheredApp}
 use Rattle.ruleset.specs.Texts.{line}
 
 -- how many further faults are told at most
@@ -18,11 +19,11 @@ abbrev pub more_line : ℕ → List ℕ
 more_line zero = []
 more_line (suc n) = line (codes "and " ++ decimal (suc n) ++ codes " more")
 
-module _ (known : KnownFiles) (bytes : List ℕ) where
+module _ (arrays : List Declaration) (apps : List GatheredApp) where
   -- a fault's lines: that of its refusal, and then where and why, or nothing for want of memory
   pub record IsFaultTold (fault : LoadFault) (text : List ℕ) : Type 0 where
     pub reason : List ℕ
-    pub why : (reason ≡ []) ⊎ IsReason known bytes fault reason
+    pub why : (reason ≡ []) ⊎ IsReason arrays apps fault reason
     pub text_is : text ≡ refusal_line fault ++ reason
 
   -- those of these faults, one after the other
@@ -32,19 +33,19 @@ module _ (known : KnownFiles) (bytes : List ℕ) where
         → IsFaultTold fault told → AreFaultsTold faults rest
         → AreFaultsTold (fault ∷ faults) (told ++ rest)
 
+module _ (bytes : List ℕ) (arrays : List Declaration) (apps : List GatheredApp) where
   -- the first nine of the further faults, and how many more there are
   pub record TellsFurther (fault : LoadFault) (text : List ℕ) : Type 0 where
     pub faults : List LoadFault
-    pub further : AreFurther known bytes fault faults
+    pub further : AreFurther bytes arrays apps fault faults
     pub told : List ℕ
-    pub first : AreFaultsTold (take most_further faults) told
+    pub first : AreFaultsTold arrays apps (take most_further faults) told
     pub text_is : text ≡ told ++ more_line (length faults - most_further)
 
-  -- where and why, and then the further faults; for want of memory either is nothing, and the
-  -- further faults are nothing, too, where as many files couldn't be read as can be counted
+  -- where and why, and then the further faults; for want of memory either is nothing
   pub record TellsRefused (fault : LoadFault) (text : List ℕ) : Type 0 where
     pub reason : List ℕ
-    pub why : (reason ≡ []) ⊎ IsReason known bytes fault reason
+    pub why : (reason ≡ []) ⊎ IsReason arrays apps fault reason
     pub behind : List ℕ
     pub further : (behind ≡ []) ⊎ TellsFurther fault behind
     pub text_is : text ≡ reason ++ behind

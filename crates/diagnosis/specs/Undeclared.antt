@@ -1,9 +1,8 @@
 -- The faults of arrays, each of which is declared by itself beside those before it that can be.
-use Rattle.std.specs.Prelude.{◌≢◌, ℕ, ◌+◌, ◌-◌, List, [], ◌∷◌, ◌++◌, take, drop, Ok}
+use Rattle.std.specs.Prelude.{◌≢◌, ℕ, ◌+◌, ◌-◌, List, [], ◌∷◌, ◌++◌, take, drop}
 use Rattle.std.specs.Prelude.{Option, Some, None}
 use Rattle.load.specs.declared.fault.LoadFault.{LoadFault}
 use Rattle.load.specs.declared.fault.LoadFault.TheVariants.{Cells}
-use Rattle.manifest.specs.Manifest.{Manifest, ReadsManifest}
 use Rattle.cells.specs.Directory.{Declaration, Declares, IsRefusedDeclaration}
 use Rattle.cells.specs.declared.array.ArrayNo.{ArrayNo}
 use Rattle.cells.specs.declared.array.CellArray.{CellArray}
@@ -33,10 +32,9 @@ pub data AreFaultsOfArrays : ℕ → (old : List CellArray) → List Declaration
       → AreFaultsOfArrays number old (d ∷ ds) (fault_of_array number judged ++ faults)
 
 -- those of the arrays behind the one of this number, beside those before it
-pub record AreUndeclared (bytes : List ℕ) (number : ℕ) (faults : List LoadFault) : Type 0 where
-  pub manifest : Manifest
-  pub read : ReadsManifest bytes (Ok manifest)
+pub record AreUndeclared (arrays : List Declaration) (number : ℕ) (faults : List LoadFault)
+    : Type 0 where
   pub numbers : List ArrayNo
   pub directory : List CellArray
-  pub declared : AreDeclared [] (take (number - 1) manifest.arrays) numbers directory
-  pub faults_are : AreFaultsOfArrays (number + 1) directory (drop number manifest.arrays) faults
+  pub declared : AreDeclared [] (take (number - 1) arrays) numbers directory
+  pub faults_are : AreFaultsOfArrays (number + 1) directory (drop number arrays) faults

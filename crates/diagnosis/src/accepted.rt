@@ -1,15 +1,16 @@
 //! What is told of a manifest that is accepted.
 
-ghost use Rattle.std.specs.Prelude.{◌≡◌, ◌^◌, ◌-◌, ◌<◌, ◌++◌, flat_map};
-ghost use Rattle.std.specs.Prelude.{IfOk, OnOk, string_bytes};
+ghost use Rattle.std.specs.Prelude.{◌≡◌, ◌++◌, flat_map, All, IfOk, OnOk, string_bytes};
 ghost use Rattle.declarations.specs.Texts as declarations;
+ghost use Rattle.diagnosis.specs.Check.{PassesApps};
 ghost use Rattle.diagnosis.specs.Texts.{declared_line, loaded_text, printed_app_line};
-ghost use Rattle.diagnosis.specs.Warned.{WarnsOf};
+ghost use Rattle.load.specs.Gathered.{HasItsReleases};
+ghost use Rattle.load.specs.Judged.{AreJudged};
 
-use crate::warned::tell_warnings;
+use crate::warned::{tell_warnings, told_of_apps};
 use bpf_verify::Verified;
 use cells::{CellArray, CellWidth};
-use load::Files;
+use load::{Gathered, supply};
 use printing::Printed;
 use ruleset::App;
 use std::alloc::{AllocError, Global};
@@ -25,25 +26,37 @@ pub struct CheckedManifest {
 }
 
 /// A line an array, and then a line an app; and the warnings.
-pub(crate) fn tell_accepted<F: Files>(
+pub(crate) fn tell_accepted(
     alloc: Global,
-    manifest: &[u8],
-    files: &mut F,
-    arrays: &[CellArray],
-    apps: &[App],
+    gathered: Gathered,
+    programs: Vec<Verified>,
 ) -> Result<CheckedManifest, AllocError>
-    requires { F.failed files.old < 2 ^ 64 - 1 }
-    ensures known { F.known files.new ≡ F.known files.old }
-    ensures text { IfOk result (λ told.
-        string_bytes told.text ≡ loaded_text arrays.now apps.now) }
-    ensures warnings { IfOk result (λ told. WarnsOf (F.known files.old) manifest.now arrays.now
-        apps.now (string_bytes told.warnings)) }
+    requires shaped { All HasItsReleases gathered.apps.items }
+    requires judged { AreJudged gathered.apps.items programs.items }
+    ensures { IfOk result (λ told. PassesApps gathered (string_bytes told.text)
+        (string_bytes told.warnings)) }
+{
+    let told = told_of_apps(alloc, gathered.apps.as_slice())?;
+    let Gathered {
+        arrays: _arrays,
+        directory,
+        apps,
+    } = gathered;
+    let supplied = supply(alloc, apps, programs)?;
+    let arrays = directory.arrays();
+    let apps = supplied.as_slice();
+    let text = tell_loaded(alloc, arrays, apps)?;
+    let warnings = tell_warnings(alloc, arrays, apps, told.as_str())?;
+    Ok(CheckedManifest { text, warnings })
+}
+
+fn tell_loaded(alloc: Global, arrays: &[CellArray], apps: &[App]) -> Result<String, AllocError>
+    ensures { IfOk result (λ text. string_bytes text ≡ loaded_text arrays.now apps.now) }
 {
     let mut text = String::new(alloc);
     tell_arrays(&mut text, arrays)?;
     tell_apps(&mut text, apps)?;
-    let warnings = tell_warnings(alloc, manifest, files, arrays, apps)?;
-    Ok(CheckedManifest { text, warnings })
+    Ok(text)
 }
 
 fn tell_arrays(text: &mut String, arrays: &[CellArray]) -> Result<(), AllocError>

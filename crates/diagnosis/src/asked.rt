@@ -1,108 +1,73 @@
-//! What is told of an app and of its rule, which is read once more.
+//! What is told of an app and of its rule.
 
-ghost use Rattle.std.specs.Prelude.{◌≡◌, ◌^◌, ◌-◌, ◌<◌, ◌++◌, Some, IfOk, OnOk, string_bytes};
-ghost use Rattle.std.specs.Option.{ForSome};
-ghost use Rattle.diagnosis.specs.Asked.{AddsApp, AddsFile, AddsSource, CountsUnread};
+ghost use Rattle.std.specs.Prelude.{◌≡◌, ◌++◌, IfOk, OnOk, string_bytes};
+ghost use Rattle.diagnosis.specs.Asked.{AddsApp, AddsRule};
 ghost use Rattle.diagnosis.specs.Warned.{app_warnings};
 
-use bounded_files::ResourceFault;
-use bpf_verify::Verified;
-use load::Files;
+use load::{GatheredApp, KeptFile};
 use manifest::{AppEntry, ProgramSource};
-use rule_lang::{RuleFault, one_verdict, parse};
-use ruleset::App;
+use rule_lang::parse;
 use std::alloc::{AllocError, Global};
 use std::str;
 use warnings::{AskedRule, tell_appid, tell_releases, tell_rule};
 
-/// Lines on an app: on its appid and its releases, and on its rule where there is room to ask it;
-/// and the room that is left, if all files were to be read so far.
-pub(crate) fn tell_app<F: Files>(
+/// Lines on an app that is accepted: on its appid and its releases, and on its rule, if it has one;
+/// and the room that is left.
+pub(crate) fn tell_app(
     alloc: Global,
     text: &mut String,
-    files: &mut F,
     number: usize,
-    room: Option<u64>,
-    entry: &AppEntry,
-    app: &App,
-) -> Result<Option<u64>, AllocError>
-    requires { ForSome room (λ _. F.failed files.old < 2 ^ 64 - 1) }
-    ensures known { F.known files.new ≡ F.known files.old }
-    ensures count { IfOk result (CountsUnread (F.failed files.old) (F.failed files.new)) }
-    ensures adds { IfOk result (AddsApp (F.known files.old) number room entry.now app.now
-        (string_bytes text.old) (string_bytes text.new)) }
+    room: u64,
+    app: &GatheredApp,
+) -> Result<u64, AllocError>
+    ensures { IfOk result (AddsApp number room app.now (string_bytes text.old)
+        (string_bytes text.new)) }
 {
-    tell_members(text, number, app)?;
-    match room {
-        Some(room) => {
-            let left = tell_source(alloc, text, files, number, room, entry.source(), app)?;
+    tell_entry(text, number, &app.entry)?;
+    match app.entry.source() {
+        ProgramSource::Program(_) => Ok(room),
+        ProgramSource::Rule(_) => {
+            let left = tell_text(alloc, text, number, room, app)?;
             Ok(left)
         }
-        None => Ok(None),
     }
 }
 
 #[tactic(auto, unfolding(crate::specs::Warned::app_warnings))]
-fn tell_members(text: &mut String, number: usize, app: &App) -> Result<(), AllocError>
+fn tell_entry(text: &mut String, number: usize, entry: &AppEntry) -> Result<(), AllocError>
     ensures { OnOk result
-        (string_bytes text.new ≡ string_bytes text.old ++ app_warnings number app.now) }
+        (string_bytes text.new ≡ string_bytes text.old ++ app_warnings number entry.now) }
 {
-    tell_appid(text, number, app.appid())?;
-    tell_releases(text, number, app.releases())
+    tell_appid(text, number, entry.appid())?;
+    tell_releases(text, number, entry.releases())
 }
 
-fn tell_source<F: Files>(
-    alloc: Global,
-    text: &mut String,
-    files: &mut F,
-    number: usize,
-    room: u64,
-    source: &ProgramSource,
-    app: &App,
-) -> Result<Option<u64>, AllocError>
-    requires { F.failed files.old < 2 ^ 64 - 1 }
-    ensures known { F.known files.new ≡ F.known files.old }
-    ensures count { IfOk result (CountsUnread (F.failed files.old) (F.failed files.new)) }
-    ensures adds { IfOk result (AddsSource (F.known files.old) number room source.now app.now
-        (string_bytes text.old) (string_bytes text.new)) }
-{
-    let file = match source {
-        ProgramSource::Program(_) => return Ok(Some(room)),
-        ProgramSource::Rule(file) => file.as_str(),
-    };
-    let bytes = match files.bytes(file) {
-        Ok(bytes) => bytes,
-        Err(ResourceFault::File) => return Ok(None),
-        Err(ResourceFault::Memory) => return Err(AllocError),
-    };
-    let left = tell_text(alloc, text, number, room, bytes.as_slice(), app)?;
-    Ok(Some(left))
-}
-
-// Of the rule that bytes spell, if they do.
+// Of an app that is accepted the rule's text is kept whole: were it not, nothing would be told.
 fn tell_text(
     alloc: Global,
     text: &mut String,
     number: usize,
     room: u64,
-    bytes: &[u8],
-    app: &App,
+    app: &GatheredApp,
 ) -> Result<u64, AllocError>
-    ensures { IfOk result (AddsFile number room bytes.now app.now (string_bytes text.old)
+    ensures { IfOk result (AddsRule number room app.now (string_bytes text.old)
         (string_bytes text.new)) }
 {
-    one_verdict();
-    let Ok(spelled) = str::from_utf8(bytes) else {
-        return Ok(room);
+    let KeptFile::Whole(bytes) = &app.kept else {
+        return Err(AllocError);
     };
-    let program: &Verified = app.program();
-    let shape = program.shape();
-    let rule = match parse(alloc, spelled, shape) {
-        Ok(rule) => rule,
-        Err(RuleFault::Memory) => return Err(AllocError),
-        Err(RuleFault::At { .. }) => return Ok(room),
+    let Ok(spelled) = str::from_utf8(bytes.as_slice()) else {
+        return Err(AllocError);
     };
-    let asked = AskedRule::of(app.appid(), shape, app.releases(), rule.statements());
+    let Ok(rule) = parse(alloc, spelled, &app.shape) else {
+        return Err(AllocError);
+    };
+    let asked = AskedRule::of(
+        app.entry.appid(),
+        &app.shape,
+        app.entry.releases(),
+        rule.statements(),
+    );
     let left = tell_rule(alloc, text, number, &asked, room)?;
     Ok(left)
 }

@@ -1,13 +1,16 @@
 //! From the bytes of a manifest to what is told of them.
 
-ghost use Rattle.std.specs.Prelude.{◌≡◌, ◌^◌, ◌-◌, ◌<◌, IfOk, IfErr, string_bytes};
-ghost use Rattle.diagnosis.specs.Check.{FailsCheck, FailsIfLong, PassesCheck};
+ghost use Rattle.std.specs.Prelude.{◌≡◌, [], All, IfOk, IfErr, string_bytes};
+ghost use Rattle.diagnosis.specs.Check.{FailsApps, FailsCheck, FailsIfLong, PassesApps};
+ghost use Rattle.diagnosis.specs.Check.{PassesCheck};
+ghost use Rattle.diagnosis.specs.Told.{TellsRefused};
+ghost use Rattle.load.specs.Gathered.{HasItsReleases};
 
 use crate::accepted::{CheckedManifest, tell_accepted};
 use crate::reason::tell_toml;
 use crate::telling::tell_refused;
 use cells::Directory;
-use load::{Files, LoadFault, load_ruleset};
+use load::{Files, Gathered, LoadFault, Ungathered, gather, gathered_is_loaded, judge};
 use manifest::{ManifestFault, TomlFault};
 use std::alloc::Global;
 
@@ -20,8 +23,9 @@ pub struct Refused {
     pub reason: String,
 }
 
-/// Checks a manifest: it is loaded with its files, into a directory of its own. What it tells of
-/// the manifest's texts and of its files' is printed with no control.
+/// Checks a manifest: it is loaded with its files, into a directory of its own. It is read once,
+/// and so is each file; what is told of a file is told of the bytes that were judged. What is told
+/// of the manifest's texts and of its files' is printed with no control.
 ///
 /// Of one that is accepted the text has a line an array, in its order, as `array q:64:1:2` (a quota
 /// comes last, where there is one), and then a line an app: `app APPID releases R slots S`. Lines
@@ -31,8 +35,7 @@ pub struct Refused {
 /// uses it, and no rule`. Then app by app they have one for each release whose version a later one
 /// has, too, by its four numbers, whose codebase doesn't end in `/`, or begins with neither
 /// `https://` nor `http://`: `warning: app[1].release[2].codebase: no / ends it, and a client joins
-/// it with a package's name`. Last come those of the app's rule (`tell_rule` of `warnings`). Its
-/// file is read once more for them; behind one that can't be read again no rule is asked.
+/// it with a package's name`. Last come those of the app's rule (`tell_rule` of `warnings`).
 ///
 /// Of one that is refused the reason begins with the path of a member and what is wanted there, in
 /// which tables of a list are numbered from 1:
@@ -47,11 +50,9 @@ pub struct Refused {
 ///   the line and a caret (`tell_rule_fault` of `rule_diagnosis`); or, where that can't be told,
 ///   the line alone, as `line 2: count q[0];`; or that the file is no text in UTF-8. Where M5 has a
 ///   slot at which an instruction begins, it follows as it is listed: `slot 1: exit`; and behind
-///   it, where the verifier refuses it, the sentence of `refused_place`. The file is read once more
-///   for these lines. They are left out where it can't be read again; and a device may give other
-///   bytes than before. They are left out, too, where the file lies outside the manifest's folder,
-///   by a name that is absolute or has a part `..`, and where the disk says that it, or a folder on
-///   its way, is a symbolic link.
+///   it, where the verifier refuses it, the sentence of `refused_place`. These lines are left out
+///   where the file lies outside the manifest's folder, by a name that is absolute or has a part
+///   `..`, and where the disk says that it, or a folder on its way, is a symbolic link.
 /// - M7: `array[2].length: r passes the 4096 cells that all arrays of a width have`.
 ///
 /// Behind the reason of M4 to M6 the apps behind the first refused one are judged, each by itself;
@@ -61,35 +62,82 @@ pub struct Refused {
 /// stands twice. The first nine of these faults are told as the first is, by the line of the
 /// refusal and its own reason, and a last line says how many there are more: `and 3 more`.
 ///
-/// M8 comes where memory for the load or for what is told of an accepted manifest is refused. Where
-/// it is refused for the reason, the reason is left out, in whole or but for the file's name; and
-/// so are the further faults, in whole or but for their own reasons.
+/// M8 comes where memory for the load or for what is told of an accepted manifest is refused, and
+/// where as many files couldn't be read as can be counted. Where memory is refused for the reason,
+/// the reason is left out, in whole or but for the file's name; and so are the further faults, in
+/// whole or but for their own reasons.
+// open: whether memory is refused; that there is a reason beside the fault: tests; what `toml` says
+// of M1.
 pub fn check<F: Files>(
     alloc: Global,
     manifest: &[u8],
     files: &mut F,
 ) -> Result<CheckedManifest, Refused>
-    requires { F.failed files.old < 2 ^ 64 - 2 }
     ensures known { F.known files.new ≡ F.known files.old }
     ensures passes { IfOk result (λ told. PassesCheck (F.known files.old) manifest.now
         (string_bytes told.text) (string_bytes told.warnings)) }
     ensures fails { IfErr result (λ r.
         FailsCheck (F.known files.old) manifest.now r.fault (string_bytes r.reason)) }
 {
-    let mut directory = Directory::new(alloc);
-    let rules = match load_ruleset(alloc, manifest, files, &mut directory) {
-        Ok(rules) => rules,
-        Err(fault) => {
-            let reason = tell_refused(alloc, manifest, files, &fault);
-            return Err(Refused { fault, reason });
+    gathered_is_loaded();
+    let directory = Directory::new(alloc);
+    match gather(alloc, manifest, files, &directory) {
+        Ok(gathered) => check_apps(alloc, manifest, gathered),
+        Err(ungathered) => {
+            let is_link = files.is_manifest_link();
+            Err(refuse_ungathered(alloc, manifest, is_link, ungathered))
         }
-    };
-    match tell_accepted(alloc, manifest, files, directory.arrays(), rules.apps()) {
-        Ok(told) => Ok(told),
-        Err(_) => Err(Refused {
-            fault: LoadFault::Memory,
-            reason: String::new(alloc),
-        }),
+    }
+}
+
+// By what was gathered: the apps pass, or the first that has no program is told.
+fn check_apps(
+    alloc: Global,
+    manifest: &[u8],
+    gathered: Gathered,
+) -> Result<CheckedManifest, Refused>
+    requires { All HasItsReleases gathered.apps.items }
+    ensures passes { IfOk result (λ told. PassesApps gathered
+        (string_bytes told.text) (string_bytes told.warnings)) }
+    ensures fails { IfErr result (λ r.
+        FailsApps manifest.now gathered r.fault (string_bytes r.reason)) }
+{
+    match judge(alloc, gathered.apps.as_slice()) {
+        Ok(programs) => match tell_accepted(alloc, gathered, programs) {
+            Ok(told) => Ok(told),
+            Err(_) => Err(out_of_memory(alloc)),
+        },
+        Err(fault) => {
+            let arrays = gathered.arrays.as_slice();
+            let apps = gathered.apps.as_slice();
+            let reason = tell_refused(alloc, manifest, false, arrays, apps, &fault);
+            Err(Refused { fault, reason })
+        }
+    }
+}
+
+fn refuse_ungathered(
+    alloc: Global,
+    manifest: &[u8],
+    is_link: bool,
+    ungathered: Ungathered,
+) -> Refused
+    ensures fault { result.fault ≡ ungathered.fault }
+    ensures told { TellsRefused manifest.now ungathered.arrays.items [] ungathered.fault
+        (string_bytes result.reason) }
+{
+    let Ungathered { fault, arrays } = ungathered;
+    let reason = tell_refused(alloc, manifest, is_link, arrays.as_slice(), &[], &fault);
+    Refused { fault, reason }
+}
+
+fn out_of_memory(alloc: Global) -> Refused
+    ensures fault { result.fault ≡ LoadFault.Memory }
+    ensures reason { string_bytes result.reason ≡ [] }
+{
+    Refused {
+        fault: LoadFault::Memory,
+        reason: String::new(alloc),
     }
 }
 

@@ -1,64 +1,42 @@
 //! The file of an app, and the place in it at which its fault lies.
 
-ghost use Rattle.std.specs.Prelude.{◌≡◌, ◌^◌, ◌-◌, ◌<◌, ◌++◌, OnOk, IfSome, string_bytes};
+ghost use Rattle.std.specs.Prelude.{◌≡◌, ◌++◌, OnOk, IfSome, string_bytes};
 ghost use Rattle.diagnosis.specs.Reason.{IsFileReason, IsTold};
 ghost use Rattle.diagnosis.specs.Shown.{ShowsPlace};
 ghost use Rattle.diagnosis.specs.Texts.{file_line, source_key};
-ghost use Rattle.load.specs.Source as specs;
+ghost use Rattle.diagnosis.specs.Shown as specs;
 
 use crate::inside::is_inside;
-use crate::shape::shape_of;
 use crate::shown::{Place, show};
-use cells::Shape;
-use load::Files;
-use manifest::{AppEntry, ProgramSource, read_manifest};
+use load::{GatheredApp, file_of};
+use manifest::ProgramSource;
 use printing::Printed;
 use std::alloc::{AllocError, Global};
 use std::fmt::Write;
 
 /// The name of the file of the app of this number, and its place; None where memory is refused.
-pub(crate) fn tell_file<F: Files>(
+pub(crate) fn tell_file(
     alloc: Global,
-    manifest: &[u8],
-    files: &mut F,
-    app: usize,
+    apps: &[GatheredApp],
+    number: usize,
     place: Place,
 ) -> Option<String>
-    requires { F.failed files.old < 2 ^ 64 - 1 }
-    ensures known { F.known files.new ≡ F.known files.old }
-    ensures told { IfSome result (λ text.
-        IsFileReason (F.known files.old) manifest.now app place (string_bytes text)) }
+    ensures { IfSome result (λ text. IsFileReason apps.now number place (string_bytes text)) }
 {
-    let Ok(manifest) = read_manifest(alloc, manifest) else {
+    let Some(app) = apps.get(number.saturating_sub(1)) else {
         return None;
     };
-    let Some(entry) = manifest.apps().get(app.saturating_sub(1)) else {
-        return None;
-    };
-    let Some(shape) = shape_of(alloc, manifest.arrays(), entry) else {
-        return None;
-    };
-    tell_entry(alloc, files, &shape, app, place, entry)
+    tell_app(alloc, number, place, app)
 }
 
-fn tell_entry<F: Files>(
-    alloc: Global,
-    files: &mut F,
-    shape: &Shape,
-    app: usize,
-    place: Place,
-    entry: &AppEntry,
-) -> Option<String>
-    requires { F.failed files.old < 2 ^ 64 - 1 }
-    ensures known { F.known files.new ≡ F.known files.old }
-    ensures told { IfSome result (λ text.
-        IsTold (F.known files.old) app shape.now place entry.now (string_bytes text)) }
+fn tell_app(alloc: Global, number: usize, place: Place, app: &GatheredApp) -> Option<String>
+    ensures { IfSome result (λ text. IsTold number place app.now (string_bytes text)) }
 {
     let mut text = String::new(alloc);
-    let Ok(()) = tell_name(&mut text, app, entry.source()) else {
+    let Ok(()) = tell_name(&mut text, number, app.entry.source()) else {
         return None;
     };
-    let shown = show_again(alloc, files, shape, entry.source(), place);
+    let shown = show_inside(alloc, place, app);
     match text.push_str(shown.as_str()) {
         Ok(()) => Some(text),
         Err(_) => None,
@@ -83,44 +61,25 @@ fn key_of(source: &ProgramSource) -> &'static str
     }
 }
 
-// The place in the file, which is read once more if it lies in the manifest's folder, by its name
-// and with no link on the way.
-fn show_again<F: Files>(
-    alloc: Global,
-    files: &mut F,
-    shape: &Shape,
-    source: &ProgramSource,
-    place: Place,
-) -> String
-    requires { F.failed files.old < 2 ^ 64 - 1 }
-    ensures known { F.known files.new ≡ F.known files.old }
-    ensures shows { ShowsPlace (F.known files.old) (specs.file_of source.now) shape.now place
-        (string_bytes result) }
+// The place in the file, if it is one of the manifest's folder.
+fn show_inside(alloc: Global, place: Place, app: &GatheredApp) -> String
+    ensures { ShowsPlace app.now place (string_bytes result) }
 {
     if place == Place::Whole {
         return String::new(alloc);
     }
-    let name = file_of(source);
-    if !is_inside(name) {
+    if !lies_inside(app) {
         return String::new(alloc);
     }
-    if files.is_behind_link(name) {
-        return String::new(alloc);
-    }
-    let Ok(bytes) = files.bytes(name) else {
-        return String::new(alloc);
-    };
-    match show(alloc, place, shape, bytes.as_slice()) {
+    match show(alloc, place, &app.shape, &app.kept) {
         Some(text) => text,
         None => String::new(alloc),
     }
 }
 
-fn file_of(source: &ProgramSource) -> &str
-    ensures { result.now ≡ specs.file_of source.now }
+// Whether the file lies in the manifest's folder, by its name and with no link on the way.
+fn lies_inside(app: &GatheredApp) -> bool
+    ensures { result ≡ specs.lies_inside app.now }
 {
-    match source {
-        ProgramSource::Program(file) => file.as_str(),
-        ProgramSource::Rule(file) => file.as_str(),
-    }
+    is_inside(file_of(app.entry.source())) && !app.behind_link
 }

@@ -1,6 +1,6 @@
 //! Where and why a manifest is refused.
 
-ghost use Rattle.std.specs.Prelude.{◌≡◌, ◌^◌, ◌-◌, ◌<◌, ◌++◌, ◌⊎◌, []};
+ghost use Rattle.std.specs.Prelude.{◌≡◌, ◌++◌, ◌⊎◌, []};
 ghost use Rattle.std.specs.Prelude.{OnOk, IfSome, string_bytes};
 ghost use Rattle.diagnosis.specs.Reason.{IsCellsReason, IsManifestReason, IsReason, IsTomlReason};
 ghost use Rattle.diagnosis.specs.Reason as specs;
@@ -16,9 +16,10 @@ use crate::shown::Place;
 use acceptance::{ProgramFault, RuleTextFault};
 use bpf_verify::Refusal;
 use cells::CellsFault;
+use declarations::ArrayDeclaration;
 use flow_check::FlowFault;
-use load::{Files, LoadFault};
-use manifest::{ManifestFault, Misfit, TomlFault, read_manifest};
+use load::{GatheredApp, LoadFault};
+use manifest::{ManifestFault, Misfit, TomlFault};
 use printing::PrintedLines;
 use rule_compile::CompileFault;
 use rule_lang::RuleFault;
@@ -27,50 +28,40 @@ use std::fmt::Write;
 use toml::table_from_slice;
 
 /// The lines beside the refusal of a manifest; none where memory for them is refused.
-pub(crate) fn reason_of<F: Files>(
+pub(crate) fn reason_of(
     alloc: Global,
     manifest: &[u8],
-    files: &mut F,
+    is_link: bool,
+    arrays: &[ArrayDeclaration],
+    apps: &[GatheredApp],
     fault: &LoadFault,
 ) -> String
-    requires { F.failed files.old < 2 ^ 64 - 1 }
-    ensures known { F.known files.new ≡ F.known files.old }
-    ensures told { (string_bytes result ≡ [])
-        ⊎ IsReason (F.known files.old) manifest.now fault.now (string_bytes result) }
+    ensures { (string_bytes result ≡ [])
+        ⊎ IsReason arrays.now apps.now fault.now (string_bytes result) }
 {
-    match tell_reason(alloc, manifest, files, fault) {
+    match tell_reason(alloc, manifest, is_link, arrays, apps, fault) {
         Some(text) => text,
         None => String::new(alloc),
     }
 }
 
-fn tell_reason<F: Files>(
+fn tell_reason(
     alloc: Global,
     manifest: &[u8],
-    files: &mut F,
+    is_link: bool,
+    arrays: &[ArrayDeclaration],
+    apps: &[GatheredApp],
     fault: &LoadFault,
 ) -> Option<String>
-    requires { F.failed files.old < 2 ^ 64 - 1 }
-    ensures known { F.known files.new ≡ F.known files.old }
-    ensures told { IfSome result (λ text.
-        IsReason (F.known files.old) manifest.now fault.now (string_bytes text)) }
+    ensures { IfSome result (λ text.
+        IsReason arrays.now apps.now fault.now (string_bytes text)) }
 {
     match fault {
-        LoadFault::Manifest(fault) => {
-            tell_manifest(alloc, manifest, files.is_manifest_link(), fault)
-        }
-        LoadFault::File { app } => tell_file(alloc, manifest, files, *app, Place::Whole),
-        LoadFault::Program { app, fault } => {
-            tell_file(alloc, manifest, files, *app, slot_of(fault))
-        }
-        LoadFault::Rule { app, fault } => tell_file(
-            alloc,
-            manifest,
-            files,
-            *app,
-            rule_place(fault),
-        ),
-        LoadFault::Cells { array, fault } => tell_cells_fault(alloc, manifest, *array, *fault),
+        LoadFault::Manifest(fault) => tell_manifest(alloc, manifest, is_link, fault),
+        LoadFault::File { app } => tell_file(alloc, apps, *app, Place::Whole),
+        LoadFault::Program { app, fault } => tell_file(alloc, apps, *app, slot_of(fault)),
+        LoadFault::Rule { app, fault } => tell_file(alloc, apps, *app, rule_place(fault)),
+        LoadFault::Cells { array, fault } => tell_cells_fault(alloc, arrays, *array, *fault),
         LoadFault::Memory => None,
     }
 }
@@ -178,29 +169,26 @@ fn rule_place(fault: &RuleTextFault) -> Place
 
 fn tell_cells_fault(
     alloc: Global,
-    manifest: &[u8],
+    arrays: &[ArrayDeclaration],
     number: usize,
     fault: CellsFault,
 ) -> Option<String>
     ensures { IfSome result (λ text.
-        IsCellsReason manifest.now number fault (string_bytes text)) }
+        IsCellsReason arrays.now number fault (string_bytes text)) }
 {
     match fault {
-        CellsFault::CellsFull => tell_array(alloc, manifest, number),
+        CellsFault::CellsFull => tell_array(alloc, arrays, number),
         CellsFault::Redefined => None,
         CellsFault::Memory => None,
     }
 }
 
 // The array of this number, for which too few cells are left.
-fn tell_array(alloc: Global, manifest: &[u8], number: usize) -> Option<String>
+fn tell_array(alloc: Global, arrays: &[ArrayDeclaration], number: usize) -> Option<String>
     ensures { IfSome result (λ text.
-        IsCellsReason manifest.now number CellsFault.CellsFull (string_bytes text)) }
+        IsCellsReason arrays.now number CellsFault.CellsFull (string_bytes text)) }
 {
-    let Ok(manifest) = read_manifest(alloc, manifest) else {
-        return None;
-    };
-    let Some(array) = manifest.arrays().get(number.saturating_sub(1)) else {
+    let Some(array) = arrays.get(number.saturating_sub(1)) else {
         return None;
     };
     let mut text = String::new(alloc);

@@ -13,6 +13,7 @@ use std::fmt::Write;
 
 /// The line that a command prints of a refused manifest, ended by a line feed, as `refused M6 Rule
 /// L2 Shape at line 3 in app 3`.
+// open: whether memory is refused.
 pub fn refusal_line(alloc: Global, fault: &LoadFault) -> Result<String, AllocError>
     ensures { IfOk result (λ text. string_bytes text ≡ specs.refusal_line fault.now) }
 {

@@ -1,17 +1,19 @@
 //! What is shown of an app's file: the place at which its fault lies.
 
-ghost use Rattle.std.specs.Prelude.{◌≡◌, IfSome, string_bytes};
-ghost use Rattle.diagnosis.specs.Shown.{IsInsnShown, IsRefusedInsnShown, IsShown};
-ghost use Rattle.diagnosis.specs.Shown.{IsTextShown};
+ghost use Rattle.std.specs.Prelude.{◌≡◌, IfSome, string_bytes, if◌then◌else◌};
+ghost use Rattle.diagnosis.specs.Shown.{IsInsnShown, IsKeptShown, IsLongShown};
+ghost use Rattle.diagnosis.specs.Shown.{IsRefusedInsnShown, IsShown, IsTextShown};
 ghost use Rattle.diagnosis.specs.Shown as specs;
+ghost use Rattle.rule_diagnosis.specs.Told as told;
 
 use bpf_insn::decode_at;
 use bpf_text::line_of;
 use cells::Shape;
 use explaining::refused_place;
 use flow_check::Flow;
+use load::KeptFile;
 use printing::PrintedLines;
-use rule_diagnosis::{line_text, tell_rule_fault};
+use rule_diagnosis::{line_text, rule_too_long, tell_rule_fault};
 use rule_lang::RuleFaultKind;
 use std::alloc::Global;
 use std::str;
@@ -29,9 +31,48 @@ pub(crate) enum Place {
     Rule(usize, RuleFaultKind),
 }
 
-/// The lines that show a place in the file of an app of this shape, unless there is no such place
-/// or memory is refused.
-pub(crate) fn show(alloc: Global, place: Place, shape: &Shape, bytes: &[u8]) -> Option<String>
+/// The lines that show a place in the file of an app of this shape, by what is kept of it, unless
+/// there is no such place or memory is refused.
+pub(crate) fn show(alloc: Global, place: Place, shape: &Shape, kept: &KeptFile) -> Option<String>
+    ensures { IfSome result (λ text. IsKeptShown shape.now place kept.now (string_bytes text)) }
+{
+    match kept {
+        KeptFile::Unread => None,
+        KeptFile::Whole(bytes) => show_whole(alloc, place, shape, bytes.as_slice()),
+        KeptFile::Longer { beginning, is_text } => {
+            show_longer(alloc, place, beginning.as_slice(), *is_text)
+        }
+    }
+}
+
+// Of a file of more bytes than it may have.
+fn show_longer(alloc: Global, place: Place, beginning: &[u8], is_text: bool) -> Option<String>
+    ensures { IfSome result (λ text.
+        IsLongShown place beginning.now is_text (string_bytes text)) }
+{
+    match place {
+        Place::Whole => None,
+        Place::Slot(slot) => show_insn(alloc, slot, beginning),
+        Place::Refused(_) => None,
+        Place::Rule(_, _) => show_long_rule(alloc, is_text),
+    }
+}
+
+fn show_long_rule(alloc: Global, is_text: bool) -> Option<String>
+    ensures { IfSome result (λ text.
+        string_bytes text ≡ (if is_text then told.rule_too_long else specs.no_text_line)) }
+{
+    if is_text {
+        match String::from_str(alloc, rule_too_long()) {
+            Ok(text) => Some(text),
+            Err(_) => None,
+        }
+    } else {
+        show_no_text(alloc)
+    }
+}
+
+fn show_whole(alloc: Global, place: Place, shape: &Shape, bytes: &[u8]) -> Option<String>
     ensures { IfSome result (λ text. IsShown shape.now place bytes.now (string_bytes text)) }
 {
     match place {
@@ -71,7 +112,7 @@ fn show_refused(alloc: Global, shape: &Shape, slot: usize, bytes: &[u8]) -> Opti
     }
 }
 
-// The bytes may be other ones than those that were refused, so they are judged again.
+// Where the verifier refuses the program, and why, is asked of its walk.
 fn with_sentence(
     alloc: Global,
     shape: &Shape,

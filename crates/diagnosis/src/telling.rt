@@ -1,17 +1,17 @@
 //! What is told of a manifest that is refused, behind the line of its refusal.
 
-ghost use Rattle.std.specs.Prelude.{◌≡◌, ◌^◌, ◌-◌, ◌<◌, ◌++◌, ◌⊎◌, [], length};
-ghost use Rattle.std.specs.Prelude.{IfOk, IfSome, OnOk, string_bytes};
+ghost use Rattle.std.specs.Prelude.{◌≡◌, ◌++◌, ◌⊎◌, [], IfOk, IfSome, OnOk, string_bytes};
 ghost use Rattle.diagnosis.specs.Further.{AreFurther};
 ghost use Rattle.diagnosis.specs.Told.{AreFaultsTold, IsFaultTold, TellsFurther, TellsRefused};
 ghost use Rattle.diagnosis.specs.Told.{more_line};
 
-use crate::behind::{can_count, faults_behind};
+use crate::behind::faults_behind;
 use crate::others::{other_misfits, other_twice};
 use crate::reason::reason_of;
 use crate::refusal::refusal_line;
 use crate::undeclared::faults_behind_array;
-use load::{Files, LoadFault};
+use declarations::ArrayDeclaration;
+use load::{GatheredApp, LoadFault};
 use manifest::ManifestFault;
 use std::alloc::{AllocError, Global};
 use std::fmt::Write;
@@ -21,18 +21,18 @@ const MOST_FURTHER: usize = 9;
 
 /// Where and why a manifest is refused, and its further faults; for want of memory either is left
 /// out.
-pub(crate) fn tell_refused<F: Files>(
+pub(crate) fn tell_refused(
     alloc: Global,
     manifest: &[u8],
-    files: &mut F,
+    is_link: bool,
+    arrays: &[ArrayDeclaration],
+    apps: &[GatheredApp],
     fault: &LoadFault,
 ) -> String
-    requires { F.failed files.old < 2 ^ 64 - 1 }
-    ensures known { F.known files.new ≡ F.known files.old }
-    ensures told { TellsRefused (F.known files.old) manifest.now fault.now (string_bytes result) }
+    ensures { TellsRefused manifest.now arrays.now apps.now fault.now (string_bytes result) }
 {
-    let mut text = reason_of(alloc, manifest, files, fault);
-    match tell_further(alloc, manifest, files, fault) {
+    let mut text = reason_of(alloc, manifest, is_link, arrays, apps, fault);
+    match tell_further(alloc, manifest, is_link, arrays, apps, fault) {
         Ok(further) => {
             let _left_out = text.push_str(further.as_str());
             text
@@ -41,85 +41,85 @@ pub(crate) fn tell_refused<F: Files>(
     }
 }
 
-fn tell_further<F: Files>(
+fn tell_further(
     alloc: Global,
     manifest: &[u8],
-    files: &mut F,
+    is_link: bool,
+    arrays: &[ArrayDeclaration],
+    apps: &[GatheredApp],
     fault: &LoadFault,
 ) -> Result<String, AllocError>
-    ensures known { F.known files.new ≡ F.known files.old }
-    ensures told { IfOk result (λ text. TellsFurther (F.known files.old) manifest.now fault.now
-        (string_bytes text)) }
+    ensures { IfOk result (λ text.
+        TellsFurther manifest.now arrays.now apps.now fault.now (string_bytes text)) }
 {
-    let Some(found) = further_faults(alloc, manifest, files, fault) else {
+    let Some(found) = further_faults(alloc, manifest, arrays, apps, fault) else {
         return Err(AllocError);
     };
     let faults = found.as_slice();
     let (first, others) = faults.split_at(MOST_FURTHER.min(faults.len()));
-    let mut text = tell_faults(alloc, manifest, files, first)?;
+    let mut text = tell_faults(alloc, manifest, is_link, arrays, apps, first)?;
     tell_more(&mut text, others.len())?;
     Ok(text)
 }
 
 // The faults that are told behind this one.
-fn further_faults<F: Files>(
+fn further_faults(
     alloc: Global,
     manifest: &[u8],
-    files: &mut F,
+    arrays: &[ArrayDeclaration],
+    apps: &[GatheredApp],
     fault: &LoadFault,
 ) -> Option<Vec<LoadFault>>
-    ensures known { F.known files.new ≡ F.known files.old }
-    ensures further { IfSome result (λ v.
-        AreFurther (F.known files.old) manifest.now fault.now v.items) }
+    ensures { IfSome result (λ v.
+        AreFurther manifest.now arrays.now apps.now fault.now v.items) }
 {
     match fault {
-        LoadFault::File { app } => faults_behind(alloc, manifest, files, *app),
-        LoadFault::Program { app, .. } => faults_behind(alloc, manifest, files, *app),
-        LoadFault::Rule { app, .. } => faults_behind(alloc, manifest, files, *app),
+        LoadFault::File { app } => faults_behind(alloc, apps, *app),
+        LoadFault::Program { app, .. } => faults_behind(alloc, apps, *app),
+        LoadFault::Rule { app, .. } => faults_behind(alloc, apps, *app),
         LoadFault::Manifest(ManifestFault::Field(_)) => other_misfits(alloc, manifest),
         LoadFault::Manifest(ManifestFault::Duplicate(_)) => other_twice(alloc, manifest),
         LoadFault::Manifest(ManifestFault::Toml(_)) => Some(Vec::new(alloc)),
         LoadFault::Manifest(ManifestFault::Memory) => Some(Vec::new(alloc)),
-        LoadFault::Cells { array, .. } => faults_behind_array(alloc, manifest, *array),
+        LoadFault::Cells { array, .. } => faults_behind_array(alloc, arrays, *array),
         LoadFault::Memory => Some(Vec::new(alloc)),
     }
 }
 
-fn tell_faults<F: Files>(
+fn tell_faults(
     alloc: Global,
     manifest: &[u8],
-    files: &mut F,
+    is_link: bool,
+    arrays: &[ArrayDeclaration],
+    apps: &[GatheredApp],
     faults: &[LoadFault],
 ) -> Result<String, AllocError>
-    ensures known { F.known files.new ≡ F.known files.old }
-    ensures told { IfOk result (λ text.
-        AreFaultsTold (F.known files.old) manifest.now faults.now (string_bytes text)) }
+    ensures { IfOk result (λ text.
+        AreFaultsTold arrays.now apps.now faults.now (string_bytes text)) }
 {
     let mut text = String::new(alloc);
     let mut left = faults;
     while let [fault, others @ ..] = left {
-        let told = tell_fault(alloc, manifest, files, fault)?;
+        let told = tell_fault(alloc, manifest, is_link, arrays, apps, fault)?;
         text.push_str(told.as_str())?;
         left = others;
     }
     Ok(text)
 }
 
-fn tell_fault<F: Files>(
+fn tell_fault(
     alloc: Global,
     manifest: &[u8],
-    files: &mut F,
+    is_link: bool,
+    arrays: &[ArrayDeclaration],
+    apps: &[GatheredApp],
     fault: &LoadFault,
 ) -> Result<String, AllocError>
-    ensures known { F.known files.new ≡ F.known files.old }
-    ensures told { IfOk result (λ text. IsFaultTold (F.known files.old) manifest.now fault.now
-        (string_bytes text)) }
+    ensures { IfOk result (λ text.
+        IsFaultTold arrays.now apps.now fault.now (string_bytes text)) }
 {
-    if !can_count(files) {
-        return Err(AllocError);
-    }
     let mut text = refusal_line(alloc, fault)?;
-    let reason = reason_of(alloc, manifest, files, fault);
+    let reason = reason_of(alloc, manifest, is_link, arrays, apps, fault);
     text.push_str(reason.as_str())?;
     Ok(text)
 }

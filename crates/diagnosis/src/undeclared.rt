@@ -8,22 +8,17 @@ ghost use Rattle.diagnosis.specs.Undeclared.{fault_of_array};
 use cells::{CellsFault, Directory};
 use declarations::{ArrayDeclaration, declare_all};
 use load::LoadFault;
-use manifest::read_manifest;
 use std::alloc::{AllocError, Global};
 
 /// The faults of the arrays behind the one of this number; None where memory is refused, or where
 /// there is no such array.
 pub(crate) fn faults_behind_array(
     alloc: Global,
-    manifest: &[u8],
+    arrays: &[ArrayDeclaration],
     array: usize,
 ) -> Option<Vec<LoadFault>>
-    ensures { IfSome result (λ v. AreUndeclared manifest.now array v.items) }
+    ensures { IfSome result (λ v. AreUndeclared arrays.now array v.items) }
 {
-    let Ok(manifest) = read_manifest(alloc, manifest) else {
-        return None;
-    };
-    let arrays = manifest.arrays();
     if array == 0 || array > arrays.len() {
         return None;
     }

@@ -1,7 +1,13 @@
 mod Walk
+mod Long
+mod Keeping
+mod Slices
+mod Gathers
+mod InTurn
 mod Knowing
 mod Names
 mod OneProgram
 mod OneApp
 mod OneOutcome
 mod OnePath
+mod OneJudgement

@@ -1,8 +1,11 @@
 pub mod Files
 pub mod Folder
 pub mod Source
+pub mod Kept
 pub mod App
 pub mod Apps
 pub mod Load
 pub mod Loaded
+pub mod Gathered
+pub mod Judged
 pub mod OneLoad

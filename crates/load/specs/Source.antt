@@ -1,5 +1,5 @@
 -- The program that an app's file gives, as a program's bytes or as the text of a rule.
-use Rattle.std.specs.Prelude.{◌≡◌, ℕ, List, Some, None, false}
+use Rattle.std.specs.Prelude.{◌≡◌, ℕ, List, Option, Some, None, false}
 use Rattle.acceptance.specs.Program as program
 use Rattle.acceptance.specs.Program.{IsProgramOf, RefusesProgram}
 use Rattle.acceptance.specs.Rule as rule
@@ -39,6 +39,22 @@ abbrev pub RefusesFile : ProgramSource → List ℕ → AppShape → AppFault �
 RefusesFile (source.Program file) bytes shape fault = RefusesBytes bytes shape fault
 RefusesFile (source.Rule file) bytes shape fault = RefusesText bytes shape fault
 
+-- what a file gave: its bytes, or nothing, where it couldn't be read
+abbrev pub Given : Type 0
+Given = Option (List ℕ)
+
+-- the program that it gives, and why it gives none
+abbrev pub IsProgramGiven : ProgramSource → Given → ShapedProgram → Type 0
+IsProgramGiven from None p = ⊥
+IsProgramGiven from (Some bytes) p = IsProgramFrom from bytes p
+
+abbrev pub RefusesGiven : ProgramSource → Given → AppShape → AppFault → Type 0
+RefusesGiven from None shape app.File = Unit {0}
+RefusesGiven from None shape app.Memory = Unit {0}
+RefusesGiven from None shape fault = ⊥
+RefusesGiven from (Some bytes) shape fault = RefusesFile from bytes shape fault
+
+-- the same of the file to which an app's name leads
 abbrev pub IsProgramIn : KnownFiles → ProgramSource → ShapedProgram → Type 0
 IsProgramIn known from p =
     (bytes : List ℕ) × Gives known (file_of from) (Some bytes) × IsProgramFrom from bytes p

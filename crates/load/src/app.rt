@@ -1,16 +1,13 @@
 //! One app of a manifest, with its program.
 
 ghost use Rattle.std.specs.Prelude.{◌≡◌, ◌^◌, ◌-◌, ◌<◌, length, All, IfOk, IfErr};
-ghost use Rattle.acceptance.specs.Program.{IsProgramOf};
-ghost use Rattle.acceptance.specs.Rule.{IsProgramOfRule};
-ghost use Rattle.load.specs.Source.{IsProgramIn, RefusesBytes, RefusesSource, RefusesText};
-ghost use Rattle.load.specs.Source as specs;
+ghost use Rattle.load.specs.Source.{IsProgramIn, RefusesSource};
 ghost use Rattle.load.specs.App.{IsAppOf, RefusesApp, CountsApp};
 
 use crate::fault::AppFault;
 use crate::files::Files;
-use acceptance::{accept, rule_program};
-use bounded_files::ResourceFault;
+use crate::judging::judge_file;
+use crate::kept::gather_file;
 use bpf_verify::Verified;
 use cells::{ArrayNo, Directory, Shape};
 use manifest::{AppEntry, AppParts, ProgramSource};
@@ -48,9 +45,8 @@ pub(crate) fn load_app<F: Files>(
     Ok(App::new(appid.into_string(), program, releases))
 }
 
-/// The program of an app's file, under the app's shape: M4 where the file can't be read, M5
-/// where its bytes are no program, M6 where its text is no rule, and M8 where memory is refused.
-pub fn load_program<F: Files>(
+// The program of an app's file, under the app's shape.
+fn load_program<F: Files>(
     alloc: Global,
     files: &mut F,
     source: &ProgramSource,
@@ -63,46 +59,8 @@ pub fn load_program<F: Files>(
     ensures fault { IfErr result (RefusesSource (F.known files.old) source.now shape.now) }
     ensures count { CountsApp (F.failed files.old) (F.failed files.new) result }
 {
-    let bytes = match files.bytes(file_of(source)) {
-        Ok(bytes) => bytes,
-        Err(ResourceFault::File) => return Err(AppFault::File),
-        Err(ResourceFault::Memory) => return Err(AppFault::Memory),
+    let Ok(kept) = gather_file(alloc, files, source) else {
+        return Err(AppFault::Memory);
     };
-    match source {
-        ProgramSource::Program(_) => program_of(alloc, bytes.as_slice(), shape),
-        ProgramSource::Rule(_) => program_of_rule(alloc, bytes.as_slice(), shape),
-    }
-}
-
-fn program_of(alloc: Global, bytes: &[u8], shape: &Shape) -> Result<Verified, AppFault>
-    ensures shape { IfOk result (λ program. program.shape ≡ shape.now) }
-    ensures program { IfOk result (IsProgramOf bytes.now) }
-    ensures fault { IfErr result (RefusesBytes bytes.now shape.now) }
-{
-    match accept(alloc, bytes, shape) {
-        Ok(program) => Ok(program),
-        Err(fault) if fault.is_memory() => Err(AppFault::Memory),
-        Err(fault) => Err(AppFault::Program(fault)),
-    }
-}
-
-fn program_of_rule(alloc: Global, text: &[u8], shape: &Shape) -> Result<Verified, AppFault>
-    ensures shape { IfOk result (λ program. program.shape ≡ shape.now) }
-    ensures program { IfOk result (IsProgramOfRule text.now) }
-    ensures fault { IfErr result (RefusesText text.now shape.now) }
-{
-    match rule_program(alloc, text, shape) {
-        Ok(program) => Ok(program),
-        Err(fault) if fault.is_memory() => Err(AppFault::Memory),
-        Err(fault) => Err(AppFault::Rule(fault)),
-    }
-}
-
-fn file_of(source: &ProgramSource) -> &str
-    ensures { result.now ≡ specs.file_of source.now }
-{
-    match source {
-        ProgramSource::Program(file) => file.as_str(),
-        ProgramSource::Rule(file) => file.as_str(),
-    }
+    judge_file(alloc, source, &kept, shape)
 }

@@ -1,12 +1,19 @@
 //! Loading: a manifest and the files that it names become a ruleset, and its arrays are declared.
+//!
+//! See docs/DECISIONS.md, "Manifests".
 #![tactic(auto)]
 
 // How a load goes. The manifest is read first. Then its arrays are declared, in a copy of the
 // directory, and they make with the number of its releases the shape of each app. Then the apps
-// come in their order: the file of each is read, and its bytes are taken as a program and verified,
-// or taken as the text of a rule and compiled. The first fault ends the load. Only when all apps
+// come in their order: the file of each is read, and so much of it is kept as judging it takes
+// (`kept.rt`); that is taken as a program and verified, or as the text of a rule and compiled
+// (`judging.rt`). The first fault ends the load, and no further file is read. Only when all apps
 // have their programs is the directory exchanged for the copy, so a load that is refused declares
 // nothing.
+//
+// Who wants more than the first fault gathers first (`gathering.rt`): the manifest is read, its
+// arrays are declared, and of each app the shape and what is kept of its file stand ready. Then
+// what was gathered is judged (`programs.rt`), as often as one likes, and no file is read again.
 //
 // Files are read through a trait, so that files in memory can stand in for those of a device; of
 // these the contracts say which file of which folder was taken.
@@ -16,16 +23,22 @@ mod apps;
 mod fault;
 mod files;
 mod folder;
+mod gathering;
+mod judging;
+mod kept;
 mod law;
 mod loading;
 mod path;
+mod programs;
 
-pub use app::load_program;
 pub use apps::in_app;
 pub use bounded_files::{Device, Disk};
 pub use fault::{AppFault, LoadFault, PathFault};
 pub use files::Files;
 pub use folder::FolderFiles;
-pub use law::one_load;
+pub use gathering::{Gathered, GatheredApp, Ungathered, gather};
+pub use kept::{KeptFile, file_of};
+pub use law::{gathered_is_loaded, one_load};
 pub use loading::{load_over, load_ruleset};
 pub use path::{MOST_MANIFEST, load_path};
+pub use programs::{judge, judge_app, supply};

@@ -19,6 +19,7 @@ use std::alloc::Global;
 
 /// What `load_over` comes to, with the directory changed in place. After any refusal it is as it
 /// was.
+// open: whether memory is refused (M8); what a device's files give.
 pub fn load_ruleset<F: Files>(
     alloc: Global,
     manifest: &[u8],
@@ -48,6 +49,7 @@ pub fn load_ruleset<F: Files>(
 /// The faults come in this order: M1 to M3 of the manifest; M7 of the first array that isn't
 /// declared; then app by app M4 where its file can't be read, M5 where its bytes are no program,
 /// or M6 where they spell no rule. M8 comes where memory is refused.
+// open: whether memory is refused (M8); what a device's files give.
 pub fn load_over<F: Files>(
     alloc: Global,
     manifest: &[u8],
@@ -80,7 +82,8 @@ pub fn load_over<F: Files>(
     Ok((rules, grown))
 }
 
-fn read(alloc: Global, bytes: &[u8]) -> Result<Manifest, LoadFault>
+/// The manifest that bytes spell.
+pub(crate) fn read(alloc: Global, bytes: &[u8]) -> Result<Manifest, LoadFault>
     ensures manifest { IfOk result (λ manifest. ReadsManifest bytes.now (Ok manifest)) }
     ensures fault { IfErr result (RefusesManifest bytes.now) }
 {
@@ -91,7 +94,8 @@ fn read(alloc: Global, bytes: &[u8]) -> Result<Manifest, LoadFault>
     }
 }
 
-fn declare_arrays(
+/// Declares the arrays of a manifest, in their order.
+pub(crate) fn declare_arrays(
     alloc: Global,
     directory: &mut Directory,
     arrays: &[ArrayDeclaration],

@@ -20,6 +20,7 @@ pub const MOST_MANIFEST: u32 = 0x10_0000;
 /// The ruleset of the manifest at a path, and the directory with its arrays declared behind those
 /// that stand. The files that it names lie in its folder. It has to be a regular file, as have
 /// they; B3 comes where it isn't, or can't be read.
+// open: whether memory is refused (M8, B4); what a device's files give.
 pub fn load_path<D: Disk>(
     alloc: Global,
     disk: &D,

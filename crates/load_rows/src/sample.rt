@@ -53,8 +53,18 @@ fn add_files(alloc: Global, files: &mut MemFiles, rules: &str) -> Result<(), Fai
     add_ended(files, "costly.rule", costly, "\notherwise none;")?;
     let dense = repeated(alloc, 5000, DENSE)?;
     add_ended(files, "dense.rule", dense, "\notherwise none; $")?;
-    files.add("long.rule", Some(vec![in alloc; b' '; 65537]?))?;
+    add_long(alloc, files)?;
     Ok(files.add("unreadable.bpf", None)?)
+}
+
+// Files of more bytes than they may have: texts, one of them no UTF-8, and a program that begins
+// with an instruction.
+fn add_long(alloc: Global, files: &mut MemFiles) -> Result<(), AllocError> {
+    files.add("long.rule", Some(vec![in alloc; b' '; 65537]?))?;
+    files.add("long_no_text.rule", Some(vec![in alloc; 255; 65537]?))?;
+    let mut program = Vec::from_slice(alloc, b"\x95")?;
+    program.extend_from_slice(&vec![in alloc; 0; 32768]?)?;
+    files.add("long.bpf", Some(program))
 }
 
 fn add_programs(alloc: Global, files: &mut MemFiles) -> Result<(), Fail> {

@@ -43,6 +43,7 @@ source_in table =
 abbrev pub releases_of : Members → Result (List Release) (InList ReleaseMisfit)
 releases_of table = rows_of release_of 0 64 (get_member (codes "release") table)
 
+-- the app that a table is, or its first misfit
 abbrev pub app_of : Members → Result AppEntry AppMisfit
 app_of table =
     only kind.App table misfit.Unknown (

@@ -25,6 +25,7 @@ quota_of w None = Some None
 quota_of Bits64 (Some value) = option_map (λ q. Some q) (number 1 9223372036854775807 value)
 quota_of Bits32 (Some value) = None
 
+-- the array that a table is, or its first misfit
 abbrev pub array_of : Members → Result Declaration ArrayMisfit
 array_of table =
     only kind.Array table misfit.Unknown (

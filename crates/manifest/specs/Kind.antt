@@ -7,6 +7,7 @@ use Rattle.toml.specs.Data.{Members, no_members, member}
 use Rattle.manifest.specs.declared.kind.Kind.{Kind}
 use Rattle.manifest.specs.declared.kind.Kind.TheVariants.{Manifest, Array, App, Release, Package}
 
+-- the members that each kind of table may have; the first other one is a misfit
 abbrev pub members_of : Kind → List (List ℕ)
 members_of Manifest = codes "server" ∷ codes "array" ∷ codes "app" ∷ []
 members_of Array = codes "name" ∷ codes "width" ∷ codes "length" ∷ codes "quota" ∷ []

@@ -36,6 +36,7 @@ arrays_of table = rows_of array_of 0 64 (get_member (codes "array") table)
 abbrev pub apps_of : Members → Result (List AppEntry) (InList AppMisfit)
 apps_of table = rows_of app_of 1 256 (get_member (codes "app") table)
 
+-- the manifest that a document's table is, or its first misfit
 abbrev pub tables_of : Members → Result Manifest Misfit
 tables_of table =
     only kind.Manifest table misfit.Unknown (

@@ -56,6 +56,7 @@ array_text array.Length = codes "length: a whole number from 1 to 4096"
 array_text array.Quota =
     codes "quota: a whole number from 1 to 9223372036854775807, with width 64 alone"
 
+-- the path of the member that doesn't fit, and what is wanted there
 abbrev pub misfit_text : Misfit → List ℕ
 misfit_text (misfit.Unknown key) = printed key ++ codes ": no member of a manifest"
 misfit_text misfit.Server = codes "server: a text"
@@ -65,6 +66,7 @@ misfit_text (misfit.Apps list) = list_text app_text (codes "app") (codes "1 to 2
 
 -- ---- what stands twice
 
+-- what stands twice
 abbrev pub twice_text : Twice → List ℕ
 twice_text (twice.Array name) = codes "array " ++ printed name
 twice_text (twice.App appid) = codes "app " ++ printed appid

@@ -28,6 +28,8 @@
 //! Each kind of table has its file, its definition of the same name in `specs/`, and its misfits:
 //! the first member that such a table doesn't have, and then its own members in the order of this
 //! sample. So a manifest that doesn't fit has one misfit, and its path says where it is.
+//!
+//! See docs/DECISIONS.md, "Manifests".
 #![tactic(auto)]
 
 mod app;

@@ -27,6 +27,8 @@ use toml::{Table, Value};
 /// All that doesn't fit in a manifest: the first member that it doesn't have, its server, and then
 /// of each array and each app the first that doesn't fit; so the first is that of `read_manifest`.
 /// None where memory is refused, and of bytes that are no document.
+// open: when None is the answer: it comes where memory is refused, or the bytes have no tables to
+// ask.
 pub fn all_misfits(alloc: Global, bytes: &[u8]) -> Option<Vec<Misfit>>
     ensures { IfSome result (λ v. HasMisfits bytes.now v.items) }
 {

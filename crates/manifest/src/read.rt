@@ -17,6 +17,7 @@ const MAX_BYTES: usize = 1048576;
 ///
 /// M1 where the bytes are more or no document, M2 with the first misfit in the order of the
 /// format, M3 where the name of an array or an appid stands twice, M8 where memory is refused.
+// open: whether memory is refused (M8).
 pub fn read_manifest(alloc: Global, bytes: &[u8]) -> Result<Manifest, ManifestFault>
     ensures { ReadsManifest bytes.now result }
 {

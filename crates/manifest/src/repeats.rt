@@ -13,6 +13,8 @@ use std::alloc::{AllocError, Global};
 /// Each name that stands twice in a manifest that fits but for such names: of its arrays, and then
 /// the appids; so the first is that of `read_manifest`. None where memory is refused, and of bytes
 /// that don't fit.
+// open: when None is the answer: it comes where memory is refused, or the bytes have no tables to
+// ask.
 pub fn all_twice(alloc: Global, bytes: &[u8]) -> Option<Vec<Twice>>
     ensures { IfSome result (λ v. HasAllTwice bytes.now v.items) }
 {

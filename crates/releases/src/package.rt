@@ -47,6 +47,7 @@ impl Package {
 
     /// The file of this name, hash and length in bytes, which a client has to fetch where it is
     /// required; it takes no memory.
+    // open: that the hash and the size are those of a file, which no contract can see.
     pub fn new(name: Text, hash_sha256: Text, size: u64, required: bool) -> Package
         requires { specs.IsPackage hash_sha256 size }
         ensures { result ≡ record {

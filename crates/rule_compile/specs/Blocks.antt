@@ -101,6 +101,7 @@ compare_code attribute size rest =
     Some (insn.set_argument R1 attribute) ∷ Some insn.copy_top ∷ Some insn.point_at_text
     ∷ Some (insn.set_argument R3 size) ∷ Some (insn.call attr_is_number) ∷ rest
 
+-- the code of a text that is compared
 abbrev pub attribute_code : ℕ → List ℕ → Bool → ℕ → Program → Program
 attribute_code attribute text sense label rest =
     stores_code 63 text

@@ -66,6 +66,7 @@ take_named s name index sense label rest =
     code.take_code (place_named name s.arrays) index (quota_of (array_named name s.arrays)) sense
     label rest
 
+-- a test, which goes to a label where it is of this sense, and else falls on
 abbrev pub test_code : AppShape → the_test.Test → Bool → ℕ → Program → Program
 test_code s (test.Version r w) sense label rest = version_code r (four_of w) sense label rest
 test_code s (test.Bucket salt modulus r n) sense label rest =
@@ -81,6 +82,7 @@ test_code s (test.Take name index) sense label rest = take_named s name index se
 
 -- ---- conditions
 
+-- a condition, which goes to a label where it is of this sense, and else falls on
 abbrev pub tree_code : AppShape → Tree → Bool → ℕ → Program → Program
 tree_code s (Asked line t) sense label rest = test_code s t sense label rest
 tree_code s (Negated c) sense label rest = tree_code s c (not sense) label rest
@@ -146,6 +148,7 @@ count_named s name index rest =
 abbrev pub none_code : Program
 none_code = Some (set_choice 0) ∷ end_code
 
+-- a statement in front of what comes after it
 abbrev pub statement_code : AppShape → Statement → Program → Program
 statement_code s (Count name index) rest = count_named s name index rest
 statement_code s (When steps release) rest =
@@ -155,5 +158,6 @@ abbrev pub statements_code : AppShape → List Statement → Program
 statements_code s [] = none_code
 statements_code s (x ∷ xs) = statement_code s x (statements_code s xs)
 
+-- the program of a rule
 abbrev pub rule_code : AppShape → List Statement → Program
 rule_code s xs = Some keep_context ∷ Some (set_choice 0) ∷ statements_code s xs

@@ -4,6 +4,8 @@
 //! before its condition is asked, and stays where the condition holds; `mov r0, r7 / exit` is one
 //! place at the end. A condition's code goes to one label where the condition is of one sense, and
 //! else falls on to what is behind it, so that each test has one jump out and none leads to a jump.
+//!
+//! See docs/DECISIONS.md, "Rules".
 #![tactic(auto)]
 
 // What a run does is told by what comes next. From the rest of the code on a run does as some

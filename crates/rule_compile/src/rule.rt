@@ -36,6 +36,7 @@ fn flow_of(alloc: Global, slots: Vec<Insn>) -> Result<Flow, AllocError>
 /// C1 comes only where the code would pass 4096 slots, which no rule does whose cost is at most
 /// 4096, and C2 only for want of memory. (A shape with 2^31 arrays, which an instruction can't
 /// number, counts as want of memory.) The bytes to be kept in a file are the program's `bytes`.
+// open: whether memory is refused (C2).
 pub fn compile(alloc: Global, rule: &Rule, shape: &Shape) -> Result<Verified, CompileFault>
     requires { fits shape.now rule.now ≡ true }
     ensures code { IfOk result (λ v. v.code ≡ code.rule_code shape.now rule.now) }

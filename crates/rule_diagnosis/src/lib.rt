@@ -1,5 +1,7 @@
 //! Why a rule's text is refused, for the person who writes it: the line and column, what stands
 //! there, and what is expected.
+//!
+//! See docs/PROGRAM.md, "check".
 #![tactic(auto)]
 
 // The verdict on a text names a line and a kind of fault, and no more. The rest is asked of the
@@ -32,4 +34,4 @@ mod trial;
 
 pub use place::line_text;
 pub use sentence::array_named;
-pub use telling::tell_rule_fault;
+pub use telling::{rule_too_long, tell_rule_fault};

@@ -35,6 +35,8 @@ const MOST_BYTES: usize = 65536;
 /// tab. Where nothing but a semicolon may stand the place is behind the last word. None where memory
 /// is refused, where the fault isn't this text's, and where the text's words, a line each, are more
 /// than 65536 bytes.
+// open: that there is an answer: None comes where memory is refused, where the fault isn't this
+// text's, and where its words, a line each, are over 65536 bytes.
 pub fn tell_rule_fault(
     alloc: Global,
     text: &str,
@@ -82,8 +84,9 @@ fn tell_too_long(alloc: Global, kind: RuleFaultKind) -> Option<String>
     }
 }
 
+/// What is told of a rule's text of more than 65536 bytes: a line, ended by a line feed.
 #[tactic(auto, unfolding(crate::specs::Told::rule_too_long))]
-fn rule_too_long() -> &'static str
+pub fn rule_too_long() -> &'static str
     ensures { result.now ≡ specs.rule_too_long }
 {
     "a rule has at most 65536 bytes\n"

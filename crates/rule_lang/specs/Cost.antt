@@ -16,5 +16,6 @@ tests_of [] = 0
 tests_of (Count name index ∷ rest) = tests_of rest
 tests_of (When steps release ∷ rest) = tests_in steps + tests_of rest
 
+-- 8, and 8 a statement, and 48 a test
 abbrev pub cost : List Statement → ℕ
 cost rule = 8 + 8 * length rule + 48 * tests_of rule

@@ -38,5 +38,6 @@ abbrev pub statement_fits : AppShape → Statement → Bool
 statement_fits s (Count name index) = can_count (array_named name s.arrays) index
 statement_fits s (When steps release) = list_all (step_fits s) steps && is_release s release
 
+-- each array, index and release that a rule names is one of the shape's
 abbrev pub fits : AppShape → List Statement → Bool
 fits s rule = list_all (statement_fits s) rule

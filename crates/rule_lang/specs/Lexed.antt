@@ -37,6 +37,7 @@ lexed (suc n) line (c ∷ rest) = lexed n line rest
 lexed zero line (c ∷ rest) =
     after_piece line (tokens.piece_of (c ∷ rest) c rest) (λ n l. lexed (n - 1) l rest)
 
+-- all tokens with their lines, or the first place where none begins
 abbrev pub tokens_in : tokens.Text → Lexed
 tokens_in text = lexed 0 1 text
 

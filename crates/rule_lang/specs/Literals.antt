@@ -10,6 +10,8 @@ is_printable c = nat_le 32 c && nat_le c 126
 abbrev pub is_literal_byte : ℕ → Bool
 is_literal_byte c = is_printable c && not ((c == 34) || (c == 92))
 
+-- a text that a rule compares with: at most 64 bytes of printable ASCII, without quotation marks
+-- and backslashes
 pub record IsLiteral (text : List ℕ) : Type 0 where
   pub bytes : IsTrue (list_all is_literal_byte text)
   pub short : length text ≤ 64

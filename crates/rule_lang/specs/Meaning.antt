@@ -30,6 +30,7 @@ use Rattle.rule_lang.specs.Trees.{Tree, Asked, Negated, Both, Either, trees_from
 
 -- ---- numbers, versions, flags and attributes
 
+-- which orders a comparison allows
 abbrev pub allows : Comparison → Ordering → Bool
 allows Lt Less = true
 allows Le Less = true
@@ -121,6 +122,8 @@ test_then a s (test.Take name index) met unmet =
     let array = array_named name s.arrays in
     take_then (cell_of array index) (quota_of array) met unmet
 
+-- a condition, from left to right, until it is decided: what comes where it holds, and where it
+-- doesn't
 abbrev pub decide : Attributes → AppShape → Tree → Behaviour → Behaviour → Behaviour
 decide a s (Asked line t) met unmet = test_then a s t met unmet
 decide a s (Negated c) met unmet = decide a s c unmet met

@@ -13,6 +13,7 @@ use Rattle.rule_lang.specs.Parts.{OrFault, ◌>>?◌, part, array, index, releas
 use Rattle.rule_lang.specs.Tests as tests
 use Rattle.rule_lang.specs.Trees.{Tree, Asked, Negated, Both, Either}
 
+-- the test that the productions say, or the first name or number that is wrong
 abbrev pub test_says : AppShape → {ts rest : List Placed} → g.IsTest ts rest → OrFault Test
 test_says s (g.of k {ts = ts} h) = (tests.row k).says s ts
 
@@ -64,6 +65,7 @@ statement_says s (g.when {mid = mid} is c h) =
     release s (part mid 1) >>? λ k.
     Ok (When (steps_of condition) k)
 
+-- the statements that the productions say, or the first name or number that is wrong
 abbrev pub rule_says : AppShape → {ts : List Placed} → g.IsRule ts → OrFault (List Statement)
 rule_says s (g.otherwise h) = Ok []
 rule_says s (g.stmt x r) = statement_says s x >>? λ a. rule_says s r >>? λ rest. Ok (a ∷ rest)

@@ -81,6 +81,7 @@ pub record TestRow : Type 0 where
   pub wants : List Want
   pub says : AppShape → List Placed → OrFault Test
 
+-- of each kind of test its first word, what is wanted behind it, and what its tokens say
 abbrev pub row : TestKind → TestRow
 -- "version" rel ver
 row the_kind.Version = record {

@@ -15,6 +15,7 @@ use Rattle.rule_lang.specs.Phrases.{misplaced}
 use Rattle.rule_lang.specs.Says.{rule_says}
 use Rattle.rule_lang.specs.Tokens.{Text}
 
+-- the rule that a text spells, or the fault that counts
 pub data IsVerdict (s : AppShape) (text : Text) : OrFault (List Statement) → Type 0 where
   too_long : 65536 < length text → IsVerdict s text (Err (At 1 Range))
   no_token : {e : RuleFault} → length text ≤ 65536 → tokens_in text ≡ Err e
@@ -30,9 +31,11 @@ pub data IsVerdict (s : AppShape) (text : Text) : OrFault (List Statement) → T
 abbrev pub IsRuleFault : AppShape → Text → RuleFault → Type 0
 IsRuleFault s text e = (e ≡ Memory) ⊎ IsVerdict s text (Err e)
 
+-- each text has a verdict
 abbrev pub HasVerdict : AppShape → Text → Type 0
 HasVerdict s text = (v : OrFault (List Statement)) × IsVerdict s text v
 
+-- no text has two
 abbrev pub RuleHasOneVerdict : AppShape → Text → Type 0
 RuleHasOneVerdict s text = (v w : OrFault (List Statement)) → IsVerdict s text v
     → IsVerdict s text w

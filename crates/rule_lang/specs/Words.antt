@@ -11,6 +11,7 @@ use Rattle.rule_lang.specs.declared.test.Flag.TheVariants as flag
 
 -- ---- texts
 
+-- the words of the grammar, as they are written
 abbrev pub keyword_text : Keyword → List ℕ
 keyword_text keyword.Otherwise = codes "otherwise"
 keyword_text keyword.None = codes "none"
@@ -29,6 +30,7 @@ keyword_text keyword.Attr = codes "attr"
 keyword_text keyword.Is = codes "is"
 keyword_text keyword.Take = codes "take"
 
+-- the flags, as they are written
 abbrev pub flag_text : Flag → List ℕ
 flag_text flag.VersionKnown = codes "version_known"
 flag_text flag.Updatecheck = codes "updatecheck"
@@ -37,6 +39,7 @@ flag_text flag.Event = codes "event"
 flag_text flag.CohortKnown = codes "cohort_known"
 flag_text flag.InstalldateKnown = codes "installdate_known"
 
+-- the attributes, as they are written
 abbrev pub attribute_text : Attribute → List ℕ
 attribute_text attribute.Appid = codes "appid"
 attribute_text attribute.Version = codes "version"

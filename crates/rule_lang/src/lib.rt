@@ -1,4 +1,6 @@
 //! Rules: a small language in which an operator says which apps get which release.
+//!
+//! See docs/DECISIONS.md, "Rules".
 #![tactic(auto)]
 
 // The method. One language has three accounts here, each for what the others can't do.

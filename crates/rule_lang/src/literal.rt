@@ -50,6 +50,7 @@ impl Literal {
     }
 
     /// A text as a literal.
+    // open: whether memory is refused.
     pub fn of(alloc: Global, text: &str) -> Result<Literal, AllocError>
         requires { IsLiteral text.now }
         ensures { IfOk result (λ l. l ≡ text.now) }

@@ -20,6 +20,7 @@ const MOST_BYTES: usize = 65536;
 /// (L1); else the first token with which no rule goes on (L2, at the text's end in its last line);
 /// else the first name that isn't known (L3) or number out of its range (L4), a 33rd open `not` or
 /// parenthesis being L4. L5 where memory is refused. A rule that is answered fits the shape.
+// open: whether memory is refused (L5).
 pub fn parse(alloc: Global, text: &str, shape: &Shape) -> Result<Rule, RuleFault>
     ensures rule { IfOk result (λ r. IsVerdict shape.now text.now (Ok r)) }
     ensures fits { IfOk result (λ r. fits shape.now r ≡ true) }

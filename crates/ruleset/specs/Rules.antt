@@ -12,11 +12,13 @@ use Rattle.cells.specs.declared.array.CellArray.{CellArray}
 use Rattle.releases.specs.Appid.{is_appid}
 use Rattle.releases.specs.Release.{Release}
 
+-- an app with its program and its releases
 pub record AppRule : Type 0 where
   pub appid : List ℕ
   pub program : ShapedProgram
   pub releases : List Release
 
+-- a server's text, and its apps in order
 pub record Rules : Type 0 where
   pub server : List ℕ
   pub apps : List AppRule
@@ -49,6 +51,7 @@ appid_of a = slice_index_or a.texts 0 []
 abbrev pub app_in : List AppRule → List ℕ → Option AppRule
 app_in apps appid = find (λ app. bytes_eq app.appid appid) apps
 
+-- the first app of an appid
 abbrev pub app_of : Rules → List ℕ → Option AppRule
 app_of rules appid = app_in rules.apps appid
 

@@ -1,4 +1,6 @@
 //! Rulesets: the apps that a server knows, each with a verified program and its releases.
+//!
+//! See docs/DECISIONS.md, "The world".
 #![tactic(auto)]
 
 mod app;

@@ -35,6 +35,7 @@ impl Ruleset {
 
     /// The ruleset of these apps, for a server of this name; none exactly where an appid stands
     /// twice.
+    // open: whether memory is refused.
     pub fn new(server: String, apps: Vec<App>) -> Result<Option<Ruleset>, AllocError>
         ensures apps { IfOk result (λ o. IfSome o (λ r. r.apps ≡ apps.items)) }
         ensures server { IfOk result (λ o. IfSome o (λ r. r.server ≡ string_bytes server)) }
@@ -52,6 +53,7 @@ impl Ruleset {
     }
 
     /// The ruleset of apps of which the caller knows that no appid stands twice.
+    // open: whether memory is refused.
     pub fn known(server: String, apps: Vec<App>) -> Result<Ruleset, AllocError>
         requires { ¬ HasTwice (appids_of apps.items) }
         ensures apps { IfOk result (λ r. r.apps ≡ apps.items) }

@@ -10,6 +10,7 @@ use std::fmt::Write;
 
 /// Puts a line for each app behind a text: its appid, how many releases it has, and how many slots
 /// its program has.
+// open: whether memory is refused.
 pub fn tell_apps(text: &mut String, apps: &[App]) -> Result<(), AllocError>
     ensures { OnOk result
         (string_bytes text.new ≡ string_bytes text.old ++ flat_map app_line apps.now) }

@@ -74,6 +74,13 @@ V13: r0 is 2, and there is 1 release /
 V11: there is no array 2 /
 - "y.rule" => "no_text.rule" | M6 Rule L1 Token at line 1 in app 2 / app[2].rule: no_text.rule /
 a rule is a text in UTF-8 /
+- "y.rule" => "long_no_text.rule"
+ | M6 Rule L1 Token at line 1 in app 2 / app[2].rule: long_no_text.rule /
+a rule is a text in UTF-8 /
+- "y.rule" => "long.rule" | M6 Rule L4 Range at line 1 in app 2 / app[2].rule: long.rule /
+a rule has at most 65536 bytes /
+- "x.bpf" => "long.bpf"
+ | M5 Program F7 TooLong at slot 0 in app 1 / app[1].program: long.bpf / slot 0: exit /
 - "y.rule" => "token.rule"
  | M6 Rule L1 Token at line 2 in app 2 / app[2].rule: token.rule /
 line 2, column 17: "$" is no word of a rule /   otherwise none; $ /                   ^ /

@@ -1,6 +1,6 @@
 //! Memory that is refused once: a load that answers M8 prints it, leaves the directory as it was,
 //! and gives the ruleset when it is asked again. So this test passes with ample memory, and
-//! wherever one growth of a load is refused (docs/PROVING.md).
+//! wherever one growth of a load is refused.
 
 use super::{SAMPLE, ruleset_from};
 use crate::files::MemFiles;

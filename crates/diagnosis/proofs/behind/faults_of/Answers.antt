@@ -1,4 +1,4 @@
-use Rattle.std.proofs.Common.{List, ◌∙◌, arith}
+use Rattle.std.proofs.Common.{List, arith}
 use Rattle.std.proofs.lemmas.Grind.{common_steps}
 use Rattle.diagnosis.specs.Further.{AreFaultsOf}
 use Rattle.load.specs.declared.fault.LoadFault.{LoadFault}
@@ -7,21 +7,17 @@ use Rattle.diagnosis.proofs.Judged.{judged_all, judged_more}
 use Rattle.diagnosis.proofs.behind.faults_of.Goals as goal
 
 pub loop-left-preserved : goal.loop-left-preserved
-loop-left-preserved g c = record {
-  known = c.judge.ensures.known ∙ c.loop-left.invariant.known;
+loop-left-preserved c = record {
   so_far = λ rest later.
-      judged_more _ _ _ _ _ _ _ _ _ _ _ rest
-      (λ (v : List LoadFault). AreFaultsOf (g.F.Files.known c.args.files.now)
-      c.args.directory.now c.args.numbers.now c.args.first c.args.entries.now v)
-      c.loop-left.invariant.known c.loop-left.invariant.so_far c.in_ok-judged.ensures.judges
-      (first_rest c.loop-left.left.now c.entry-item.result (omega arith) c.entry-item.is)
+      judged_more _ _ _ _ _ _ _ rest
+      (λ (v : List LoadFault). AreFaultsOf c.args.first c.args.apps.now v)
+      c.loop-left.invariant.so_far c.in_ok-judged.ensures
+      (first_rest c.loop-left.left.now c.app-item.result (omega arith) c.app-item.is)
       c.in_ok-push_fault.ensures later;
   within = grind (arith, common_steps);
 }
 
-pub returns-clause-faults : goal.returns-clause-faults
-returns-clause-faults g c =
-    judged_all _ _ _ _ _ _
-    (λ (v : List LoadFault). AreFaultsOf (g.F.Files.known c.args.files.now)
-    c.args.directory.now c.args.numbers.now c.args.first c.args.entries.now v)
+pub returns : goal.returns
+returns c =
+    judged_all _ _ _ (λ (v : List LoadFault). AreFaultsOf c.args.first c.args.apps.now v)
     c.loop-left.invariant.so_far (none_left c.loop-left.left.now (omega arith))

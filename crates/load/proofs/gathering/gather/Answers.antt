@@ -1,0 +1,29 @@
+use Rattle.std.proofs.Common.{ap, arith, length, rules}
+use Rattle.load.specs.Load.{RefusesArrays, of_arrays, of_bytes}
+use Rattle.load.proofs.gathering.gather.Goals as goal
+
+pub returns-in-Err-clause-fault : goal.returns-in-Err-clause-fault
+returns-in-Err-clause-fault g c = record {
+  fault_is = λ known. of_bytes c.in-Err.ensures.fault;
+  arrays_are = λ some. absurd (omega (arith, some, ap length c.new.ensures.items));
+}
+
+pub returns-in_default-clause-fault : goal.returns-in_default-clause-fault
+returns-in_default-clause-fault g c =
+    c.out_of_memory.ensures c.args.directory.now c.args.manifest.now
+    (λ some. (c.in-Ok.manifest, c.in-Ok.ensures.manifest, c.into_parts-server.ensures.arrays))
+
+pub returns-in-Err-declare_arrays-clause-fault : goal.returns-in-Err-declare_arrays-clause-fault
+returns-in-Err-declare_arrays-clause-fault g c =
+    let fault : RefusesArrays c.args.directory.now c.in-Ok.manifest.arrays
+    c.in-Err-declare_arrays.fault = search rules in
+    record {
+      fault_is = λ known. of_arrays c.in-Ok.ensures.manifest fault;
+      arrays_are = λ some.
+          (c.in-Ok.manifest, c.in-Ok.ensures.manifest, c.into_parts-server.ensures.arrays);
+    }
+
+pub returns-clause-fault : goal.returns-clause-fault
+returns-clause-fault g c =
+    c.out_of_memory-in-Err-gather_apps.ensures c.args.directory.now c.args.manifest.now
+    (λ some. (c.in-Ok.manifest, c.in-Ok.ensures.manifest, c.into_parts-server.ensures.arrays))

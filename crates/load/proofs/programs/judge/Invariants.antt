@@ -1,0 +1,17 @@
+use Rattle.std.proofs.Common.{ℕ, ◌+◌, ◌++◌, List, length}
+use Rattle.bpf_semantics.specs.Program.{ShapedProgram}
+use Rattle.load.specs.declared.fault.AppFault.{AppFault}
+use Rattle.load.specs.Judged.{AreJudged, IsFirstRefused}
+use Rattle.load.proofs.programs.judge.Given as goal
+
+-- what the apps that are left come to, behind the programs so far, is what all come to
+abbrev pub invariant-loop-left : goal.invariant-loop-left
+invariant-loop-left l = record {
+  so_far : (rest : List ShapedProgram) → AreJudged l.left rest
+      → AreJudged l.fn.apps (l.programs.items ++ rest);
+  refused : (number : ℕ) (fault : AppFault) → IsFirstRefused l.left number fault
+      → IsFirstRefused l.fn.apps (length l.programs.items + number) fault;
+}
+
+abbrev pub decreases-loop-left : goal.decreases-loop-left
+decreases-loop-left l = length l.left

@@ -1,0 +1,54 @@
+-- What is gathered of a manifest and its files before any app is judged.
+use Rattle.std.specs.Prelude.{◌≡◌, ℕ, ◌<◌, List, [], ◌∷◌, length, Ok}
+use Rattle.bounded_files.specs.Files.{KnownFiles}
+use Rattle.cells.specs.Directory.{Declaration}
+use Rattle.cells.specs.declared.array.ArrayNo.{ArrayNo}
+use Rattle.cells.specs.declared.array.CellArray.{CellArray}
+use Rattle.declarations.specs.Order.{AreDeclared}
+use Rattle.manifest.specs.App.{AppEntry}
+use Rattle.manifest.specs.Manifest.{Manifest, ReadsManifest}
+use Rattle.load.specs.declared.gathering.Gathered.{Gathered}
+use Rattle.load.specs.declared.gathering.GatheredApp.{GatheredApp}
+use Rattle.load.specs.declared.gathering.Ungathered.{Ungathered}
+use Rattle.load.specs.App.{IsShapeOf}
+use Rattle.load.specs.Kept.{IsKeptFrom}
+use Rattle.load.specs.Load.{IsLoadFault}
+
+module _ (known : KnownFiles) (directory : List CellArray) (numbers : List ArrayNo) where
+  -- the app of an entry: its shape, and what is kept of its file
+  pub record IsGatheredApp (entry : AppEntry) (app : GatheredApp) : Type 0 where
+    pub entry_is : app.entry ≡ entry
+    pub shape_is : IsShapeOf directory numbers entry app.shape
+    pub kept_is : IsKeptFrom known entry.source app.kept
+
+  -- each entry has its own
+  pub data AreGathered : List AppEntry → List GatheredApp → Type 0 where
+    no_app : AreGathered [] []
+    next_app : {entries : List AppEntry} {apps : List GatheredApp} {entry : AppEntry}
+        {app : GatheredApp} → IsGatheredApp entry app → AreGathered entries apps
+        → AreGathered (entry ∷ entries) (app ∷ apps)
+
+-- its shape has as many releases as it has
+abbrev pub HasItsReleases : GatheredApp → Type 0
+HasItsReleases app = app.shape.releases ≡ length app.entry.releases
+
+-- of the manifest of these bytes: its arrays, declared behind those that stand, and its apps
+pub record IsGathered (known : KnownFiles) (old : List CellArray) (bytes : List ℕ) (g : Gathered)
+    : Type 0 where
+  pub manifest : Manifest
+  pub read : ReadsManifest bytes (Ok manifest)
+  pub arrays_are : g.arrays.items ≡ manifest.arrays
+  pub numbers : List ArrayNo
+  pub declared : AreDeclared old manifest.arrays numbers g.directory
+  pub apps_are : AreGathered known g.directory numbers manifest.apps g.apps.items
+
+-- the arrays of the manifest of these bytes, if there are any
+abbrev pub AreArraysOf : List ℕ → List Declaration → Type 0
+AreArraysOf bytes arrays =
+    0 < length arrays
+    → (manifest : Manifest) × ReadsManifest bytes (Ok manifest) × (arrays ≡ manifest.arrays)
+
+-- why no file is asked for, whatever it would give
+pub record IsUngathered (old : List CellArray) (bytes : List ℕ) (u : Ungathered) : Type 0 where
+  pub fault_is : (known : KnownFiles) → IsLoadFault known old bytes u.fault
+  pub arrays_are : AreArraysOf bytes u.arrays.items

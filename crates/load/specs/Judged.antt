@@ -1,0 +1,91 @@
+-- What apps that were gathered come to, by what is kept of their files alone.
+use Rattle.std.specs.Prelude.{◌≡◌, ℕ, suc, List, [], ◌∷◌, All}
+use Rattle.bounded_files.specs.Files.{KnownFiles}
+use Rattle.bpf_semantics.specs.Program.{ShapedProgram}
+use Rattle.cells.specs.declared.array.ArrayNo.{ArrayNo}
+use Rattle.cells.specs.declared.array.CellArray.{CellArray}
+use Rattle.manifest.specs.App.{AppEntry}
+use Rattle.ruleset.specs.Rules.{AppRule}
+use Rattle.load.specs.declared.fault.AppFault.{AppFault}
+use Rattle.load.specs.declared.fault.AppFault.TheVariants as app
+use Rattle.load.specs.declared.fault.LoadFault.{LoadFault}
+use Rattle.load.specs.declared.fault.LoadFault.TheVariants.{File, Program, Rule, Memory}
+use Rattle.load.specs.declared.gathering.Gathered.{Gathered}
+use Rattle.load.specs.declared.gathering.GatheredApp.{GatheredApp}
+use Rattle.load.specs.App.{IsAppOf, RefusesApp}
+use Rattle.load.specs.Gathered.{HasItsReleases, IsGathered, IsGatheredApp}
+use Rattle.load.specs.Kept.{Keeps, most_of}
+use Rattle.load.specs.Load.{IsLoadFault, IsRulesetOf}
+use Rattle.load.specs.Source.{Given, IsProgramGiven, RefusesGiven}
+
+-- the program of an app, whatever its file gave of which this is kept
+pub record IsJudged (app : GatheredApp) (program : ShapedProgram) : Type 0 where
+  pub shape_is : program.shape ≡ app.shape
+  pub program_is : (given : Given) → Keeps (most_of app.entry.source) given app.kept
+      → IsProgramGiven app.entry.source given program
+
+-- why it has none
+abbrev pub RefusesGathered : GatheredApp → AppFault → Type 0
+RefusesGathered app fault =
+    (given : Given) → Keeps (most_of app.entry.source) given app.kept
+    → RefusesGiven app.entry.source given app.shape fault
+
+-- each app has its own
+pub data AreJudged : List GatheredApp → List ShapedProgram → Type 0 where
+  no_program : AreJudged [] []
+  next_program : {apps : List GatheredApp} {programs : List ShapedProgram} {app : GatheredApp}
+      {program : ShapedProgram} → IsJudged app program → AreJudged apps programs
+      → AreJudged (app ∷ apps) (program ∷ programs)
+
+-- the first that has none has this number, counted from 1
+pub data IsFirstRefused : List GatheredApp → ℕ → AppFault → Type 0 where
+  here : {app : GatheredApp} {behind : List GatheredApp} {fault : AppFault}
+      → RefusesGathered app fault → IsFirstRefused (app ∷ behind) 1 fault
+  there : {app : GatheredApp} {behind : List GatheredApp} {number : ℕ} {fault : AppFault}
+      (program : ShapedProgram) → IsJudged app program → IsFirstRefused behind number fault
+      → IsFirstRefused (app ∷ behind) (suc number) fault
+
+-- its fault; of want of memory nothing is said
+abbrev pub RefusesFirst : List GatheredApp → LoadFault → Type 0
+RefusesFirst apps (File number) = IsFirstRefused apps number app.File
+RefusesFirst apps (Program number fault) = IsFirstRefused apps number (app.Program fault)
+RefusesFirst apps (Rule number fault) = IsFirstRefused apps number (app.Rule fault)
+RefusesFirst apps Memory = Unit {0}
+RefusesFirst apps fault = ⊥
+
+-- ---- what is gathered of files comes to what their load comes to
+
+-- an app with its program
+abbrev pub app_of : GatheredApp → ShapedProgram → AppRule
+app_of app program = record {
+  appid = app.entry.appid;
+  program = program;
+  releases = app.entry.releases;
+}
+
+abbrev pub apps_of : List GatheredApp → List ShapedProgram → List AppRule
+apps_of (app ∷ apps) (program ∷ programs) = app_of app program ∷ apps_of apps programs
+apps_of apps programs = []
+
+pub record IsLoadedApp (known : KnownFiles) (directory : List CellArray) (numbers : List ArrayNo)
+    (entry : AppEntry) (app : GatheredApp) : Type 0 where
+  pub supplied : (program : ShapedProgram) → IsJudged app program
+      → IsAppOf known directory numbers entry (app_of app program)
+  pub refused : (fault : AppFault) → RefusesGathered app fault
+      → RefusesApp known directory numbers entry fault
+
+pub record IsLoadOf (known : KnownFiles) (old : List CellArray) (bytes : List ℕ) (g : Gathered)
+    (is : IsGathered known old bytes g) : Type 0 where
+  pub shaped : All HasItsReleases g.apps.items
+  pub supplied : (programs : List ShapedProgram) → AreJudged g.apps.items programs
+      → IsRulesetOf known old bytes
+      (record { server = is.manifest.server; apps = apps_of g.apps.items programs }) g.directory
+  pub refused : (fault : LoadFault) → RefusesFirst g.apps.items fault
+      → IsLoadFault known old bytes fault
+
+pub record GatheredIsLoaded : Type 0 where
+  pub app : (known : KnownFiles) (directory : List CellArray) (numbers : List ArrayNo)
+      (entry : AppEntry) (app : GatheredApp) → IsGatheredApp known directory numbers entry app
+      → IsLoadedApp known directory numbers entry app
+  pub manifest : (known : KnownFiles) (old : List CellArray) (bytes : List ℕ) (g : Gathered)
+      (is : IsGathered known old bytes g) → IsLoadOf known old bytes g is

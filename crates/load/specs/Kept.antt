@@ -1,0 +1,48 @@
+-- What is kept of a file that an app names: enough to judge it, whatever its length.
+use Rattle.std.specs.Prelude.{◌≡◌, ◌≢◌, ◌↔◌, ℕ, ◌+◌, ◌<◌, ◌≤◌, List, length, take}
+use Rattle.std.specs.Prelude.{Bool, Some, None, Result, Ok, Err, IsTrue, IsUtf8}
+use Rattle.bounded_files.specs.Files.{KnownFiles, Gives}
+use Rattle.manifest.specs.declared.app.ProgramSource.{ProgramSource}
+use Rattle.manifest.specs.declared.app.ProgramSource.TheVariants as source
+use Rattle.load.specs.declared.fault.AppFault.{AppFault}
+use Rattle.load.specs.declared.fault.AppFault.TheVariants as app
+use Rattle.load.specs.declared.kept.KeptFile.{KeptFile}
+use Rattle.load.specs.declared.kept.KeptFile.TheVariants.{Unread, Whole, Longer}
+use Rattle.load.specs.Source.{Given, file_of}
+
+-- how many bytes a program, and the text of a rule, have at most
+abbrev pub most_of : ProgramSource → ℕ
+most_of (source.Program file) = 32768
+most_of (source.Rule file) = 65536
+
+-- what is kept of a file that gave this: nothing; all bytes; or, of more, so many of the first, and
+-- whether they are UTF-8 to their end
+abbrev pub Keeps : ℕ → Given → KeptFile → Type 0
+Keeps most None Unread = Unit {0}
+Keeps most (Some bytes) (Whole v) = (v.items ≡ bytes) × (length bytes ≤ most)
+Keeps most (Some bytes) (Longer v is_text) =
+    (v.items ≡ take most bytes) × (most < length bytes) × (IsTrue is_text ↔ IsUtf8 bytes)
+Keeps most given kept = ⊥
+
+-- this is kept of an app's file
+abbrev pub IsKeptFrom : KnownFiles → ProgramSource → KeptFile → Type 0
+IsKeptFrom known from kept =
+    (given : Given) × Gives known (file_of from) given × Keeps (most_of from) given kept
+
+-- these bytes are more than it may have, and so it is whether they are UTF-8
+abbrev pub IsLonger : ProgramSource → Bool → List ℕ → Type 0
+IsLonger from is_text bytes = (most_of from < length bytes) × (IsTrue is_text ↔ IsUtf8 bytes)
+
+-- a file that couldn't be read is counted
+abbrev pub CountsFile : ℕ → ℕ → KeptFile → Type 0
+CountsFile old new Unread = new ≡ old + 1
+CountsFile old new kept = new ≡ old
+
+abbrev pub CountsKept : {E : Type 0} → ℕ → ℕ → Result KeptFile E → Type 0
+CountsKept old new (Ok kept) = CountsFile old new kept
+CountsKept old new (Err e) = new ≡ old
+
+-- and it is the one that is refused for this
+abbrev pub FailsIfUnread : {X : Type 0} → KeptFile → Result X AppFault → Type 0
+FailsIfUnread Unread result = result ≡ Err app.File
+FailsIfUnread kept result = result ≢ Err app.File

@@ -1,0 +1,152 @@
+//! All that is taken of a manifest and its files, gathered before any app is judged.
+
+ghost use Rattle.std.specs.Prelude.{◌≡◌, ◌^◌, ◌-◌, ◌<◌, ℕ, List, length};
+ghost use Rattle.std.specs.Prelude.{All, IsTrue, IfOk, IfErr};
+ghost use Rattle.cells.specs.declared.array.CellArray.{CellArray};
+ghost use Rattle.load.specs.Gathered.{AreArraysOf, AreGathered, IsGathered, IsGatheredApp};
+ghost use Rattle.load.specs.Gathered.{IsUngathered};
+
+use crate::fault::LoadFault;
+use crate::files::Files;
+use crate::kept::{KeptFile, file_of, gather_file};
+use crate::loading::{declare_arrays, read};
+use cells::{ArrayNo, Directory, Shape};
+use declarations::ArrayDeclaration;
+use manifest::{AppEntry, ManifestParts};
+use std::alloc::{AllocError, Global};
+
+/// An app of a manifest, its shape, what is kept of its file, and whether that was behind a
+/// symbolic link when it was read.
+#[derive(Drop)]
+pub struct GatheredApp {
+    pub entry: AppEntry,
+    pub shape: Shape,
+    pub kept: KeptFile,
+    pub behind_link: bool,
+}
+
+/// A manifest that was read: its arrays, the directory in which they are declared behind those that
+/// stand, and its apps. Of 256 files at most 64 KiB each are kept.
+#[derive(Drop)]
+pub struct Gathered {
+    pub arrays: Vec<ArrayDeclaration>,
+    pub directory: Directory,
+    pub apps: Vec<GatheredApp>,
+}
+
+/// Why no files are asked for, M1 to M3, M7 or M8, and the arrays of the manifest if it was read.
+#[derive(Drop)]
+pub struct Ungathered {
+    pub fault: LoadFault,
+    pub arrays: Vec<ArrayDeclaration>,
+}
+
+/// Gathers a manifest and its files, each of which is read once. M8 comes, too, where as many files
+/// couldn't be read as can be counted.
+pub fn gather<F: Files>(
+    alloc: Global,
+    manifest: &[u8],
+    files: &mut F,
+    directory: &Directory,
+) -> Result<Gathered, Ungathered>
+    ensures known { F.known files.new ≡ F.known files.old }
+    ensures gathered { IfOk result (IsGathered (F.known files.old) directory.now manifest.now) }
+    ensures fault { IfErr result (IsUngathered directory.now manifest.now) }
+{
+    let manifest = match read(alloc, manifest) {
+        Ok(manifest) => manifest,
+        Err(fault) => {
+            return Err(Ungathered {
+                fault,
+                arrays: Vec::new(alloc),
+            });
+        }
+    };
+    let ManifestParts {
+        server: _server,
+        arrays,
+        apps,
+    } = manifest.into_parts();
+    let Ok(mut grown) = directory.copy(alloc) else {
+        return Err(out_of_memory(arrays));
+    };
+    let numbers = match declare_arrays(alloc, &mut grown, &arrays) {
+        Ok(numbers) => numbers,
+        Err(fault) => return Err(Ungathered { fault, arrays }),
+    };
+    let _arrays = grown.arrays();
+    match gather_apps(alloc, files, &grown, &numbers, apps) {
+        Ok(apps) => Ok(Gathered {
+            arrays,
+            directory: grown,
+            apps,
+        }),
+        Err(_) => Err(out_of_memory(arrays)),
+    }
+}
+
+fn out_of_memory(arrays: Vec<ArrayDeclaration>) -> Ungathered
+    ensures { (old : List CellArray) (bytes : List ℕ) → AreArraysOf bytes arrays.items
+        → IsUngathered old bytes result }
+{
+    Ungathered {
+        fault: LoadFault::Memory,
+        arrays,
+    }
+}
+
+fn gather_apps<F: Files>(
+    alloc: Global,
+    files: &mut F,
+    directory: &Directory,
+    numbers: &[ArrayNo],
+    entries: Vec<AppEntry>,
+) -> Result<Vec<GatheredApp>, AllocError>
+    requires { All (λ n. n.number < length directory.now) numbers.now }
+    ensures known { F.known files.new ≡ F.known files.old }
+    ensures apps { IfOk result (λ v.
+        AreGathered (F.known files.old) directory.now numbers.now entries.items v.items) }
+{
+    let mut apps = Vec::new(alloc);
+    for entry in entries {
+        let app = gather_app(alloc, files, directory, numbers, entry)?;
+        apps.push(app)?;
+    }
+    Ok(apps)
+}
+
+fn gather_app<F: Files>(
+    alloc: Global,
+    files: &mut F,
+    directory: &Directory,
+    numbers: &[ArrayNo],
+    entry: AppEntry,
+) -> Result<GatheredApp, AllocError>
+    requires { All (λ n. n.number < length directory.now) numbers.now }
+    ensures known { F.known files.new ≡ F.known files.old }
+    ensures app { IfOk result
+        (IsGatheredApp (F.known files.old) directory.now numbers.now entry) }
+{
+    if !can_count(files) {
+        return Err(AllocError);
+    }
+    let releases = entry.releases().len() as u8;
+    let Ok(shape) = Shape::of(alloc, releases, directory, numbers) else {
+        return Err(AllocError);
+    };
+    let behind_link = files.is_behind_link(file_of(entry.source()));
+    let kept = gather_file(alloc, files, entry.source())?;
+    Ok(GatheredApp {
+        entry,
+        shape,
+        kept,
+        behind_link,
+    })
+}
+
+// Whether one more file that can't be read can be counted.
+fn can_count<F: Files>(files: &F) -> bool
+    ensures { IsTrue result → F.failed files.now < 2 ^ 64 - 1 }
+{
+    files.failures() < u64::MAX
+}

@@ -1,0 +1,125 @@
+//! What is kept of an app's file is judged: it gives a program of the app's shape, or has a fault.
+
+ghost use Rattle.std.specs.Prelude.{◌≡◌, ◌≢◌, ◌↔◌, ◌<◌, ℕ, List, length, IfOk, IfErr};
+ghost use Rattle.std.specs.Prelude.{IsTrue, IsUtf8};
+ghost use Rattle.acceptance.specs.Program.{IsProgramOf};
+ghost use Rattle.acceptance.specs.Rule.{IsProgramOfRule};
+ghost use Rattle.cells.specs.Arrays.{AppShape};
+ghost use Rattle.load.specs.Kept.{FailsIfUnread, IsLonger, Keeps, most_of};
+ghost use Rattle.load.specs.Source.{Given, IsProgramFrom, IsProgramGiven, RefusesBytes};
+ghost use Rattle.load.specs.Source.{RefusesFile, RefusesGiven, RefusesText};
+
+use crate::fault::AppFault;
+use crate::kept::KeptFile;
+use acceptance::{ProgramFault, RuleTextFault, accept, rule_program};
+use bpf_verify::Verified;
+use cells::Shape;
+use flow_check::{FlowFault, FlowRule};
+use manifest::ProgramSource;
+use rule_lang::{RuleFault, RuleFaultKind};
+use std::alloc::Global;
+
+/// The program of an app, by what is kept of its file: M4 where it couldn't be read, M5 where its
+/// bytes are no program, M6 where its text is no rule, and M8 where memory is refused. Whatever the
+/// file gave of which this is kept, that is what it comes to.
+pub fn judge_file(
+    alloc: Global,
+    source: &ProgramSource,
+    kept: &KeptFile,
+    shape: &Shape,
+) -> Result<Verified, AppFault>
+    ensures shape { IfOk result (λ program. program.shape ≡ shape.now) }
+    ensures program { IfOk result (λ program. (given : Given)
+        → Keeps (most_of source.now) given kept.now → IsProgramGiven source.now given program) }
+    ensures fault { IfErr result (λ fault. (given : Given)
+        → Keeps (most_of source.now) given kept.now
+        → RefusesGiven source.now given shape.now fault) }
+    ensures unread { FailsIfUnread kept.now result }
+{
+    match kept {
+        KeptFile::Unread => Err(AppFault::File),
+        KeptFile::Whole(bytes) => judge_bytes(alloc, source, bytes.as_slice(), shape),
+        KeptFile::Longer { is_text, .. } => Err(too_long(source, *is_text)),
+    }
+}
+
+fn judge_bytes(
+    alloc: Global,
+    source: &ProgramSource,
+    bytes: &[u8],
+    shape: &Shape,
+) -> Result<Verified, AppFault>
+    ensures shape { IfOk result (λ program. program.shape ≡ shape.now) }
+    ensures program { IfOk result (IsProgramFrom source.now bytes.now) }
+    ensures fault { IfErr result (RefusesFile source.now bytes.now shape.now) }
+{
+    match source {
+        ProgramSource::Program(_) => program_of(alloc, bytes, shape),
+        ProgramSource::Rule(_) => program_of_rule(alloc, bytes, shape),
+    }
+}
+
+fn program_of(alloc: Global, bytes: &[u8], shape: &Shape) -> Result<Verified, AppFault>
+    ensures shape { IfOk result (λ program. program.shape ≡ shape.now) }
+    ensures program { IfOk result (IsProgramOf bytes.now) }
+    ensures fault { IfErr result (RefusesBytes bytes.now shape.now) }
+{
+    match accept(alloc, bytes, shape) {
+        Ok(program) => Ok(program),
+        Err(fault) if fault.is_memory() => Err(AppFault::Memory),
+        Err(fault) => Err(AppFault::Program(fault)),
+    }
+}
+
+fn program_of_rule(alloc: Global, text: &[u8], shape: &Shape) -> Result<Verified, AppFault>
+    ensures shape { IfOk result (λ program. program.shape ≡ shape.now) }
+    ensures program { IfOk result (IsProgramOfRule text.now) }
+    ensures fault { IfErr result (RefusesText text.now shape.now) }
+{
+    match rule_program(alloc, text, shape) {
+        Ok(program) => Ok(program),
+        Err(fault) if fault.is_memory() => Err(AppFault::Memory),
+        Err(fault) => Err(AppFault::Rule(fault)),
+    }
+}
+
+// The fault of a file of more bytes than it may have, under any shape.
+fn too_long(source: &ProgramSource, is_text: bool) -> AppFault
+    ensures fault { (bytes : List ℕ) (shape : AppShape) → IsLonger source.now is_text bytes
+        → RefusesFile source.now bytes shape result }
+    ensures other { result ≢ AppFault.File }
+{
+    match source {
+        ProgramSource::Program(_) => long_program(),
+        ProgramSource::Rule(_) => long_rule(is_text),
+    }
+}
+
+fn long_program() -> AppFault
+    ensures fault { (bytes : List ℕ) (shape : AppShape) → 32768 < length bytes
+        → RefusesBytes bytes shape result }
+    ensures other { result ≢ AppFault.File }
+{
+    AppFault::Program(ProgramFault::Flow(FlowFault::Rule {
+        slot: 0,
+        rule: FlowRule::TooLong,
+    }))
+}
+
+fn long_rule(is_text: bool) -> AppFault
+    ensures fault { (bytes : List ℕ) (shape : AppShape) → 65536 < length bytes
+        → (IsTrue is_text ↔ IsUtf8 bytes) → RefusesText bytes shape result }
+    ensures other { result ≢ AppFault.File }
+{
+    if is_text {
+        return rule_fault(RuleFaultKind::Range);
+    }
+    rule_fault(RuleFaultKind::Token)
+}
+
+// A fault in the first line of a rule.
+fn rule_fault(kind: RuleFaultKind) -> AppFault
+    ensures { result ≡ AppFault.Rule (RuleTextFault.Text (RuleFault.At 1 kind)) }
+{
+    AppFault::Rule(RuleTextFault::Text(RuleFault::At { line: 1, kind }))
+}

@@ -1,0 +1,86 @@
+//! Apps that were gathered are judged: each gives its program, or the first that gives none counts.
+
+ghost use Rattle.std.specs.Prelude.{◌≡◌, All, IfOk, IfErr};
+ghost use Rattle.load.specs.Gathered.{HasItsReleases};
+ghost use Rattle.load.specs.Judged.{AreJudged, IsJudged, RefusesFirst, RefusesGathered};
+ghost use Rattle.load.specs.Judged.{app_of, apps_of};
+
+use crate::apps::in_app;
+use crate::fault::{AppFault, LoadFault};
+use crate::gathering::GatheredApp;
+use crate::judging::judge_file;
+use bpf_verify::Verified;
+use manifest::AppParts;
+use ruleset::App;
+use std::alloc::{AllocError, Global};
+use std::sync::Arc;
+
+/// The programs of all apps, in their order, or the fault of the first that has none.
+pub fn judge(alloc: Global, apps: &[GatheredApp]) -> Result<Vec<Verified>, LoadFault>
+    ensures programs { IfOk result (λ v. AreJudged apps.now v.items) }
+    ensures fault { IfErr result (RefusesFirst apps.now) }
+{
+    let mut programs = Vec::new(alloc);
+    let mut left = apps;
+    while let [app, others @ ..] = left {
+        let program = match judge_app(alloc, app) {
+            Ok(program) => program,
+            Err(fault) => return Err(in_app(programs.len() + 1, fault)),
+        };
+        let Ok(()) = programs.push(program) else {
+            return Err(LoadFault::Memory);
+        };
+        left = others;
+    }
+    Ok(programs)
+}
+
+/// The program of an app by itself, or its fault.
+pub fn judge_app(alloc: Global, app: &GatheredApp) -> Result<Verified, AppFault>
+    ensures program { IfOk result (IsJudged app.now) }
+    ensures fault { IfErr result (RefusesGathered app.now) }
+{
+    judge_file(alloc, app.entry.source(), &app.kept, &app.shape)
+}
+
+/// The apps, each with its program.
+pub fn supply(
+    alloc: Global,
+    apps: Vec<GatheredApp>,
+    programs: Vec<Verified>,
+) -> Result<Vec<App>, AllocError>
+    requires shaped { All HasItsReleases apps.items }
+    requires judged { AreJudged apps.items programs.items }
+    ensures { IfOk result (λ v. v.items ≡ apps_of apps.items programs.items) }
+{
+    let mut supplied = Vec::new(alloc);
+    let mut left = programs.into_iter();
+    for app in apps {
+        let Some(program) = left.next() else {
+            return Err(AllocError);
+        };
+        let one = with_program(alloc, app, program)?;
+        supplied.push(one)?;
+    }
+    Ok(supplied)
+}
+
+fn with_program(alloc: Global, app: GatheredApp, program: Verified) -> Result<App, AllocError>
+    requires shaped { HasItsReleases app }
+    requires judged { IsJudged app program }
+    ensures { IfOk result (λ supplied. supplied ≡ app_of app program) }
+{
+    let GatheredApp {
+        entry,
+        shape: _shape,
+        kept: _kept,
+        behind_link: _behind_link,
+    } = app;
+    let AppParts {
+        appid,
+        source: _source,
+        releases,
+    } = entry.into_parts();
+    let program = Arc::new(alloc, program)?;
+    Ok(App::new(appid.into_string(), program, releases))
+}
