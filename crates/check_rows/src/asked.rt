@@ -87,6 +87,18 @@ warning: app[1].release[2].version: in some bucket who has it may get a lower on
 - when take(q, 0) offer 2; / when version < 2.0.4 offer 1; / otherwise none;
 warning: app[1].release[2].version: in some bucket who has it may get it again
 - when flag ping offer 1; / when version < 3.0.0 and flag updatecheck offer 2; / otherwise none;
+- when bucket < 500 offer 1; / when bucket < 400 offer 2; / count n[0]; /
+  when version < 3.0.0 offer 2; / when flag ping offer 1; / otherwise none;
+warning: app[1].rule: line 2: this when never holds
+warning: app[1].release[1].version: in some bucket who has it may get it again
+warning: app[1].release[2].version: in some bucket who has it may get a lower one
+- when version < 3.0.0 offer 1; / when version >= 3.0.0 offer 1; / when flag ping offer 2; /
+  count n[0]; / when bucket < 500 offer 2; / otherwise none;
+warning: app[1].rule: line 3: this when is never reached
+warning: app[1].rule: line 5: this when is never reached
+warning: app[1].release[1].version: in some bucket who has it may get it again
+warning: app[1].release[2]: no bucket gets it
+warning: app[1].release[2].version: in some bucket who has it may get a lower one
 - otherwise none;
 warning: app[1].release[1]: no bucket gets it
 warning: app[1].release[2]: no bucket gets it
@@ -155,4 +167,20 @@ fn room_of(alloc: Global, room: u64) -> Result<(), Fail> {
 fn room(rt: HostRuntime) -> Result<(), Fail> {
     room_of(rt.alloc(), 14)?;
     room_of(rt.alloc(), 16)
+}
+
+/// Two thousand statements of one step each are asked at one version, and for who has each of two
+/// releases: all but the first never hold.
+#[test]
+fn many(rt: HostRuntime) -> Result<(), Fail> {
+    let mut rule = "when bucket < 500 offer 1;\n".repeat(rt.alloc(), 2000)?;
+    rule.push_str("otherwise none;\n")?;
+    let (told, left) = told(rt.alloc(), rule.as_str(), 10000)?;
+    assert_eq!(rt; left, 4000);
+    let never = told
+        .lines()
+        .filter(|line| line.ends_with("this when never holds"))
+        .count();
+    assert_eq!(rt; never, 1999);
+    Ok(())
 }

@@ -22,7 +22,7 @@ none_more p n before here =
     subst (λ m. any_below p m ≡ false) (sym (add-one n)) (none_below_suc p n before here)
 
 -- one is enough
-any_found : (p : ℕ → Bool) (m n : ℕ) → m < n → p m ≡ true → any_below p n ≡ true
+pub any_found : (p : ℕ → Bool) (m n : ℕ) → m < n → p m ≡ true → any_below p n ≡ true
 unfolding any_below
 any_found p m zero within here = absurd (omega (arith, within))
 any_found p m (suc n) within here =
@@ -60,7 +60,7 @@ some_at p (suc n) some = elim (cases_Bool (any_below p n)) [
 
 -- ---- buckets
 
-abbrev moved : Attributes → ℕ → Attributes
+abbrev pub moved : Attributes → ℕ → Attributes
 moved a bucket = record a { context = record a.context { bucket = bucket } }
 
 -- who asks is the app of some bucket

@@ -1,8 +1,11 @@
 pub mod Found
 pub mod Stacks
 pub mod Buckets
+pub mod Each
+pub mod Marked
+pub mod Someone
+pub mod Crowds
 pub mod Told
-pub mod Later
 pub mod Versions
 pub mod Comes
 pub mod Conditions

@@ -1,53 +1,109 @@
 -- What is told of a statement, and of releases, is what the parts of it tell.
 use Rattle.std.proofs.Common.{◌≡◌, ℕ, ◌+◌, ◌-◌, ◌<◌, List, [], ◌∷◌, ◌++◌, length, take, drop}
-use Rattle.std.proofs.Common.{get_or, Bool, true, false, sym, ap, ◌∙◌, arith, append_assoc}
+use Rattle.std.proofs.Common.{get_or, Bool, false, refl, sym, ap, ◌∙◌, arith, append_assoc}
 use Rattle.std.proofs.Common.{append-nil}
 use Rattle.std.proofs.Math.Seq.{take-length}
 use Rattle.releases.specs.Release.{Release}
-use Rattle.rule_lang.specs.declared.condition.Step.{Step}
 use Rattle.rule_lang.specs.declared.rule.Statement.{Statement}
-use Rattle.rule_lang.specs.declared.rule.Statement.TheVariants.{When}
+use Rattle.rule_lang.specs.declared.rule.Statement.TheVariants.{Count, When}
 use Rattle.warnings.specs.declared.spot.Spot.{Spot}
-use Rattle.warnings.specs.Asked.{asked_from, release_lines, statement_line, when_line}
-use Rattle.warnings.specs.Asking.{RuleOfApp, arrives, may_end, may_give, someone}
+use Rattle.warnings.specs.Asked.{asked_from, marked_line, release_lines, statement_line}
+use Rattle.warnings.specs.Asked.{statements_from}
+use Rattle.warnings.specs.Asking.{RuleOfApp, may_give, someone}
+use Rattle.warnings.specs.Marks.{AreMarked, each_by, is_ended, is_reached}
 
--- a `when` that may end the rule
-pub nothing_told : (app : ℕ) (r : RuleOfApp) (spots : List Spot) (before : List Statement)
-    (st : Statement) (steps : List Step) (release : ℕ) (text : List ℕ) (ends : Bool)
-    → st ≡ When steps release → ends ≡ someone r spots (may_end r before st) → ends ≡ true
-    → text ≡ text ++ statement_line app r spots before st
-nothing_told app r spots before st steps release text ends is answers holds =
-    let told : statement_line app r spots before st ≡ [] =
-    ap (statement_line app r spots before) is
-    ∙ ap (λ b. when_line app b (someone r spots (arrives r before)) steps)
-    (ap (λ s. someone r spots (may_end r before s)) (sym is) ∙ sym answers ∙ holds) in
-    sym (ap (λ t. text ++ t) told ∙ append-nil text)
+-- what is told of a statement goes by its marks
+marked_is : (app : ℕ) (r : RuleOfApp) (spots : List Spot) (before : List Statement) (st : Statement)
+    → marked_line app (is_ended r (someone r spots) before st)
+    (is_reached r (someone r spots) before st) st
+    ≡ statement_line app r spots before st
+marked_is app r spots before (Count name index) = refl
+marked_is app r spots before (When steps release) = refl
 
--- one that may not
-pub line_told : (app : ℕ) (r : RuleOfApp) (spots : List Spot) (before : List Statement)
-    (st : Statement) (steps lent : List Step) (release : ℕ) (old new : List ℕ)
-    (ends reached : Bool) → st ≡ When steps release
-    → ends ≡ someone r spots (may_end r before st) → ends ≡ false
-    → reached ≡ someone r spots (arrives r before) → lent ≡ steps
-    → new ≡ old ++ when_line app false reached lent
-    → new ≡ old ++ statement_line app r spots before st
-line_told app r spots before st steps lent release old new ends reached is answers fails arrived
-    same told =
-    told ∙ ap (λ b. old ++ when_line app false b lent) arrived
-    ∙ ap (λ ss. old ++ when_line app false (someone r spots (arrives r before)) ss) same
-    ∙ ap (λ b. old ++ when_line app b (someone r spots (arrives r before)) steps)
-    (sym (ap (λ s. someone r spots (may_end r before s)) (sym is) ∙ sym answers ∙ fails))
-    ∙ ap (λ s. old ++ statement_line app r spots before s) (sym is)
+abbrev head_of : List Bool → Bool
+head_of [] = false
+head_of (m ∷ ms) = m
 
--- ---- releases
+abbrev behind : List Bool → List Bool
+behind [] = []
+behind (m ∷ ms) = ms
 
--- the first, and the others
+module _ (app : ℕ) (r : RuleOfApp) (spots : List Spot) (first : List ℕ) where
+  -- what is told of those that are left, by their marks, behind the text is what is told of all
+  pub record AreTold (left : List Statement) (reached ends : List Bool) (text : List ℕ) : Type 0
+    where
+      pub before : List Statement
+      pub told : text ++ statements_from app r spots before left
+          ≡ first ++ statements_from app r spots [] r.rule
+      pub reached_are : reached ≡ each_by (is_reached r (someone r spots)) before left
+      pub ends_are : ends ≡ each_by (is_ended r (someone r spots)) before left
+
+  pub none_told : (reached ends : List Bool) → AreMarked r (someone r spots) reached ends
+      → AreTold r.rule reached ends first
+  none_told reached ends h = record {
+    before = [];
+    told = refl;
+    reached_are = h.reached_are;
+    ends_are = h.ends_are;
+  }
+
+  pub next_told : (left others : List Statement) (st : Statement)
+      (reached ends reached_behind ends_behind : List Bool) (reach end : Bool)
+      (text new : List ℕ) → left ≡ st ∷ others → reached ≡ reach ∷ reached_behind
+      → ends ≡ end ∷ ends_behind → new ≡ text ++ marked_line app end reach st
+      → AreTold left reached ends text → AreTold others reached_behind ends_behind new
+  next_told left others st reached ends reached_behind ends_behind reach end text new stands
+      reached_stand ends_stand is h =
+      let of_reached = is_reached r (someone r spots) in
+      let of_ends = is_ended r (someone r spots) in
+      let reaches : reach ∷ reached_behind ≡ each_by of_reached h.before (st ∷ others) =
+      sym reached_stand ∙ h.reached_are
+      ∙ ap (λ (l : List Statement). each_by of_reached h.before l) stands in
+      let ending : end ∷ ends_behind ≡ each_by of_ends h.before (st ∷ others) =
+      sym ends_stand ∙ h.ends_are
+      ∙ ap (λ (l : List Statement). each_by of_ends h.before l) stands in
+      let more = statements_from app r spots (h.before ++ st ∷ []) others in
+      record {
+        before = h.before ++ st ∷ [];
+        told = ap (λ (t : List ℕ). t ++ more)
+            (is ∙ ap (λ b. text ++ marked_line app b reach st) (ap head_of ending)
+            ∙ ap (λ b. text ++ marked_line app (of_ends h.before st) b st) (ap head_of reaches)
+            ∙ ap (λ (t : List ℕ). text ++ t) (marked_is app r spots h.before st))
+            ∙ append_assoc text (statement_line app r spots h.before st) more
+            ∙ ap (λ (l : List Statement). text ++ statements_from app r spots h.before l)
+            (sym stands)
+            ∙ h.told;
+        reached_are = ap behind reaches;
+        ends_are = ap behind ending;
+      }
+
+  pub all_told : (left : List Statement) (reached ends : List Bool) (text : List ℕ)
+      → left ≡ [] → AreTold left reached ends text
+      → text ≡ first ++ statements_from app r spots [] r.rule
+  all_told left reached ends text none h =
+      sym (append-nil text)
+      ∙ ap (λ (l : List Statement). text ++ statements_from app r spots h.before l) (sym none)
+      ∙ h.told
+
+-- ---- the first, and the others
+
 pub first_rest : {X : Type 0} (xs : List X) (x : X) → 0 < length xs → x ≡ get_or xs 0 x
     → xs ≡ x ∷ take (length xs - 1) (drop 1 xs)
 first_rest [] x some is = absurd (omega (arith, some))
 first_rest (y ∷ ys) x some is =
     let n : length (y ∷ ys) - 1 ≡ length ys = omega arith in
     ap (λ z. z ∷ ys) (sym is) ∙ ap (λ t. x ∷ t) (sym (ap (λ m. take m ys) n ∙ take-length ys))
+
+pub first_got : {X : Type 0} (xs : List X) (d : X) → 0 < length xs
+    → xs ≡ get_or xs 0 d ∷ take (length xs - 1) (drop 1 xs)
+first_got [] d some = absurd (omega (arith, some))
+first_got (x ∷ xs) d some = first_rest (x ∷ xs) x some refl
+
+pub none_left : {X : Type 0} (xs : List X) → length xs < 1 → xs ≡ []
+none_left [] few = refl
+none_left (x ∷ xs) few = absurd (omega (arith, few))
+
+-- ---- releases
 
 pub next_release : (app number : ℕ) (r : RuleOfApp) (spots : List Spot) (left : List Release)
     (x : Release) (given : Bool) (first old new : List ℕ) → 0 < length left → x ≡ get_or left 0 x

@@ -105,6 +105,11 @@ statement_line app r spots before (When steps release) =
     when_line app (someone r spots (may_end r before (When steps release)))
     (someone r spots (arrives r before)) steps
 
+-- by its marks
+abbrev pub marked_line : (app : ℕ) → (ends reached : Bool) → Statement → List ℕ
+marked_line app ends reached (Count name index) = []
+marked_line app ends reached (When steps release) = when_line app ends reached steps
+
 -- of the statements behind these
 abbrev pub statements_from : (app : ℕ) → RuleOfApp → List Spot → (before rest : List Statement)
     → List ℕ

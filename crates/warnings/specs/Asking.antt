@@ -12,8 +12,6 @@ use Rattle.rule_lang.specs.declared.test.Comparison.{Comparison}
 use Rattle.rule_lang.specs.declared.test.Test.{Test}
 use Rattle.rule_lang.specs.Meaning.{allows, version_cmp}
 use Rattle.warnings.specs.declared.asking.AskedRule.{AskedRule}
-use Rattle.warnings.specs.declared.asking.Question.{Question}
-use Rattle.warnings.specs.declared.asking.Question.TheVariants.{Reaches, Ends, Gives, Gets}
 use Rattle.warnings.specs.declared.possible.Asker.{Asker}
 use Rattle.warnings.specs.declared.possible.Asker.TheVariants.{AllAt}
 use Rattle.warnings.specs.declared.possible.Possible.{Possible}
@@ -75,12 +73,6 @@ may_give r release asker a = may_offer (tests_for r asker a) r.rule release
 abbrev pub gets : RuleOfApp → Comparison → (version : List ℕ) → Asker → Attributes → Bool
 gets r by version asker a =
     choice_compares by r.releases version (first_offer (tests_for r asker a) r.rule)
-
-abbrev pub answer : RuleOfApp → Question → Asker → Attributes → Bool
-answer r (Reaches before) asker a = arrives r before.now asker a
-answer r (Ends before statement) asker a = may_end r before.now statement.now asker a
-answer r (Gives release) asker a = may_give r release asker a
-answer r (Gets by version) asker a = gets r by version.now asker a
 
 -- ---- all who are asked for
 

@@ -4,5 +4,6 @@ pub mod Possible
 pub mod Stack
 pub mod Course
 pub mod Asking
+pub mod Marks
 pub mod Asked
 pub mod Runs

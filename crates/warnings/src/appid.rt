@@ -8,6 +8,7 @@ use printing::has_control;
 use std::alloc::AllocError;
 
 /// A warning on an appid that has a character that isn't printed. Apps are numbered from 1.
+// open: whether memory is refused.
 pub fn tell_appid(text: &mut String, app: usize, appid: &str) -> Result<(), AllocError>
     ensures { OnOk result (string_bytes text.new
         ≡ string_bytes text.old ++ specs.appid_warning app appid.now) }

@@ -1,13 +1,11 @@
-//! What is asked of an app's rule: for each bucket, wherever a version may lie, or for who has a
-//! release.
+//! What is asked of an app's rule for who has a release: in each bucket.
 
-ghost use Rattle.std.specs.Prelude.{◌≡◌, IfOk, option_copied};
+ghost use Rattle.std.specs.Prelude.{◌≡◌, IfOk, Some, option_copied};
 ghost use Rattle.warnings.specs.Asking as specs;
 
-use crate::course::{first_offer, goes_past, may_offer, statement_possible};
+use crate::course::first_offer;
 use crate::holding::{allows, compare_versions};
 use crate::possible::{Asker, Possible};
-use crate::spot::Spot;
 use attrs::{Attrs, read_version};
 use cells::Shape;
 use releases::Release;
@@ -48,29 +46,6 @@ impl<'a> AskedRule<'a> {
     }
 }
 
-/// What is asked.
-#[derive(Drop)]
-pub(crate) enum Question<'a> {
-    /// Whether the rule may go on behind these statements.
-    Reaches {
-        before: &'a [Statement],
-    },
-    /// Whether the statement behind these may end it.
-    Ends {
-        before: &'a [Statement],
-        statement: &'a Statement,
-    },
-    /// Whether it may end with this release or a later one.
-    Gives {
-        release: usize,
-    },
-    /// Whether it ends with a release whose version compares so with this one.
-    Gets {
-        by: Comparison,
-        version: &'a str,
-    },
-}
-
 fn release_compares(by: Comparison, release: Option<&Release>, version: &str) -> bool
     ensures { result ≡ specs.release_compares by (option_copied release.entry) version.now }
 {
@@ -94,109 +69,42 @@ fn choice_compares(by: Comparison, releases: &[Release], version: &str, choice: 
     release_compares(by, releases.get(choice as usize - 1), version)
 }
 
-fn may_end(
-    stack: &mut Vec<Possible>,
-    asked: &AskedRule<'_>,
-    before: &[Statement],
-    statement: &Statement,
-    asker: Asker,
-    attrs: &Attrs,
-) -> Result<bool, AllocError>
-    ensures { IfOk result (λ yes. yes
-        ≡ specs.may_end (specs.rule_of asked.now) before.now statement.now asker attrs.now) }
-{
-    if !goes_past(stack, asker, attrs, asked.shape, before)? {
-        return Ok(false);
-    }
-    let possible = statement_possible(stack, asker, attrs, asked.shape, statement)?;
-    Ok(possible.holds)
-}
-
 fn gets(
     stack: &mut Vec<Possible>,
     asked: &AskedRule<'_>,
     by: Comparison,
     version: &str,
-    asker: Asker,
     attrs: &Attrs,
 ) -> Result<bool, AllocError>
     ensures { IfOk result (λ yes.
-        yes ≡ specs.gets (specs.rule_of asked.now) by version.now asker attrs.now) }
+        yes ≡ specs.gets (specs.rule_of asked.now) by version.now Asker.One attrs.now) }
 {
-    let choice = first_offer(stack, asker, attrs, asked.shape, asked.statements)?;
+    let choice = first_offer(stack, Asker::One, attrs, asked.shape, asked.statements)?;
     Ok(choice_compares(by, asked.releases, version, choice))
 }
 
-fn answer(
-    stack: &mut Vec<Possible>,
-    asked: &AskedRule<'_>,
-    question: &Question<'_>,
-    asker: Asker,
-    attrs: &Attrs,
-) -> Result<bool, AllocError>
-    ensures { IfOk result (λ yes.
-        yes ≡ specs.answer (specs.rule_of asked.now) question.now asker attrs.now) }
-{
-    match question {
-        Question::Reaches { before } => goes_past(stack, asker, attrs, asked.shape, before),
-        Question::Ends { before, statement } => {
-            may_end(stack, asked, before, statement, asker, attrs)
-        }
-        Question::Gives { release } => may_offer(
-            stack,
-            asker,
-            attrs,
-            asked.shape,
-            asked.statements,
-            *release,
-        ),
-        Question::Gets { by, version } => gets(stack, asked, *by, version, asker, attrs),
-    }
-}
-
-/// Whether it is so in some bucket, of an app that says of itself no more than this version.
-pub(crate) fn in_some_bucket(
+/// Whether in some bucket who says no more than this version gets a release whose version compares
+/// so with it, where each counter replies 0.
+pub(crate) fn gets_in_some_bucket(
     alloc: Global,
     asked: &AskedRule<'_>,
-    question: &Question<'_>,
-    asker: Asker,
-    version: Option<&str>,
+    by: Comparison,
+    version: &str,
 ) -> Result<bool, AllocError>
     ensures { IfOk result (λ yes. yes ≡ specs.in_some_bucket (specs.rule_of asked.now)
-        (specs.answer (specs.rule_of asked.now) question.now asker)
-        (option_copied version.entry)) }
+        (specs.gets (specs.rule_of asked.now) by version.now Asker.One) (Some version.now)) }
 {
-    let Ok(mut attrs) = Attrs::plain(alloc, asked.appid, version, 0) else {
+    let Ok(mut attrs) = Attrs::plain(alloc, asked.appid, Some(version), 0) else {
         return Err(AllocError);
     };
     let mut stack = Vec::new(alloc);
     let mut bucket = 0;
     while bucket < BUCKETS {
         attrs = attrs.in_bucket(bucket);
-        if answer(&mut stack, asked, question, asker, &attrs)? {
+        if gets(&mut stack, asked, by, version, &attrs)? {
             return Ok(true);
         }
         bucket += 1;
-    }
-    Ok(false)
-}
-
-/// Whether it is so in some bucket, for the versions that lie at some of these.
-pub(crate) fn someone(
-    alloc: Global,
-    asked: &AskedRule<'_>,
-    question: &Question<'_>,
-    spots: &[Spot],
-) -> Result<bool, AllocError>
-    ensures { IfOk result (λ yes. yes ≡ specs.someone (specs.rule_of asked.now) spots.now
-        (specs.answer (specs.rule_of asked.now) question.now)) }
-{
-    let mut left = spots;
-    while let [spot, others @ ..] = left {
-        if in_some_bucket(alloc, asked, question, Asker::AllAt(*spot), None)? {
-            return Ok(true);
-        }
-        left = others;
     }
     Ok(false)
 }

@@ -30,61 +30,14 @@ pub(crate) fn statement_possible(
     }
 }
 
-fn offered(statement: &Statement) -> u8
+/// The release with which a statement ends a rule, or 0.
+pub(crate) fn offered(statement: &Statement) -> u8
     ensures { result ≡ specs.offered statement.now }
 {
     match statement {
         Statement::Count { .. } => 0,
         Statement::When { release, .. } => *release,
     }
-}
-
-/// Whether the rule may go on behind all of these.
-pub(crate) fn goes_past(
-    stack: &mut Vec<Possible>,
-    asker: Asker,
-    attrs: &Attrs,
-    shape: &Shape,
-    before: &[Statement],
-) -> Result<bool, AllocError>
-    ensures { IfOk result (λ past.
-        past ≡ specs.goes_past (test_possible asker attrs.now shape.now) before.now) }
-{
-    let mut left = before;
-    while let [statement, others @ ..] = left {
-        let possible = statement_possible(stack, asker, attrs, shape, statement)?;
-        if !possible.fails {
-            return Ok(false);
-        }
-        left = others;
-    }
-    Ok(true)
-}
-
-/// Whether one of these may end it with this release or a later one.
-pub(crate) fn may_offer(
-    stack: &mut Vec<Possible>,
-    asker: Asker,
-    attrs: &Attrs,
-    shape: &Shape,
-    statements: &[Statement],
-    release: usize,
-) -> Result<bool, AllocError>
-    ensures { IfOk result (λ may. may
-        ≡ specs.may_offer (test_possible asker attrs.now shape.now) statements.now release) }
-{
-    let mut left = statements;
-    while let [statement, others @ ..] = left {
-        let possible = statement_possible(stack, asker, attrs, shape, statement)?;
-        if possible.holds && release <= offered(statement) as usize {
-            return Ok(true);
-        }
-        if !possible.fails {
-            return Ok(false);
-        }
-        left = others;
-    }
-    Ok(false)
 }
 
 /// The release of the first that may end it, or 0.

@@ -1,14 +1,15 @@
 //! What is told of the releases of a rule that was asked: who gets them, and what who has them may
 //! get.
 
-ghost use Rattle.std.specs.Prelude.{◌≡◌, ◌++◌, false, OnOk, IfOk, string_bytes};
+ghost use Rattle.std.specs.Prelude.{◌≡◌, ◌++◌, List, OnOk, string_bytes};
+ghost use Rattle.warnings.specs.declared.spot.Spot.{Spot};
 ghost use Rattle.warnings.specs.Asked as specs;
-ghost use Rattle.warnings.specs.Asking.{may_give, rule_of, someone};
+ghost use Rattle.warnings.specs.Asking.{rule_of, someone};
+ghost use Rattle.warnings.specs.Marks.{AreMarked};
 
-use crate::asking::{AskedRule, Question, in_some_bucket, someone};
-use crate::possible::Asker;
+use crate::asking::{AskedRule, gets_in_some_bucket};
+use crate::marks::{Marks, is_given};
 use crate::release::{tell_app, tell_if};
-use crate::spot::Spot;
 use releases::Release;
 use rule_lang::Comparison;
 use std::alloc::{AllocError, Global};
@@ -68,8 +69,7 @@ fn tell_got(
     ensures { OnOk result (string_bytes text.new ≡ string_bytes text.old
         ++ specs.got_line app number (rule_of asked.now) by version.now said.now) }
 {
-    let gets = Question::Gets { by, version };
-    let got = in_some_bucket(alloc, asked, &gets, Asker::One, Some(version))?;
+    let got = gets_in_some_bucket(alloc, asked, by, version)?;
     tell_if(text, got, app, number, said)
 }
 
@@ -109,42 +109,23 @@ fn tell_release(
     )
 }
 
-// Whether somebody gets this release or a later one, which isn't asked where nobody gets the one
-// before it or a later one.
-fn still_given(
-    alloc: Global,
-    asked: &AskedRule<'_>,
-    spots: &[Spot],
-    before: bool,
-    number: usize,
-) -> Result<bool, AllocError>
-    requires { before ≡ false
-        → someone (rule_of asked.now) spots.now (may_give (rule_of asked.now) number) ≡ false }
-    ensures { IfOk result (λ given. given
-        ≡ someone (rule_of asked.now) spots.now (may_give (rule_of asked.now) number)) }
-{
-    if !before {
-        return Ok(false);
-    }
-    someone(alloc, asked, &Question::Gives { release: number }, spots)
-}
-
-/// Lines on the releases of an app, in their order.
+/// Lines on the releases of an app, in their order, by the marks of its rule.
 pub(crate) fn tell_all_releases(
     alloc: Global,
     text: &mut String,
     app: usize,
     asked: &AskedRule<'_>,
-    spots: &[Spot],
+    marks: &Marks,
 ) -> Result<(), AllocError>
-    ensures { OnOk result (string_bytes text.new ≡ string_bytes text.old
-        ++ specs.asked_from app 1 (rule_of asked.now) spots.now (rule_of asked.now).releases) }
+    ensures { (spots : List Spot) → AreMarked (rule_of asked.now) (someone (rule_of asked.now) spots)
+        marks.now.reached.items marks.now.ends.items → OnOk result (string_bytes text.new
+        ≡ string_bytes text.old
+        ++ specs.asked_from app 1 (rule_of asked.now) spots (rule_of asked.now).releases) }
 {
     let mut number = 1;
-    let mut given = true;
     let mut left = asked.releases;
     while let [release, later @ ..] = left {
-        given = still_given(alloc, asked, spots, given, number)?;
+        let given = is_given(marks.ends.as_slice(), asked.statements, number);
         tell_release(alloc, text, app, number, asked, given, release)?;
         number += 1;
         left = later;

@@ -6,6 +6,7 @@ ghost use Rattle.warnings.specs.Runs.{WhensAreSo};
 /// A law: no run of a rule does what a line on a `when` or on a release denies, whoever asks and
 /// whatever counters reply; there is a run that does what a line on a version says; and a test
 /// holds for the part of the buckets that a line on it has.
+// open: that counters reply so: of a cell that a rule takes twice, 0 twice.
 pub fn warnings_are_so()
     ensures whens { WhensAreSo }
     ensures releases { ReleasesAreSo }

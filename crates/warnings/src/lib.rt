@@ -1,4 +1,6 @@
 //! Warnings: what a manifest may say, and hardly means.
+//!
+//! See docs/PROGRAM.md, "check".
 #![tactic(auto)]
 
 // How a rule is asked. Of an app version and bucket are known: a bucket of the 10,000, and where
@@ -10,10 +12,11 @@
 // decided, one of a day by the range of days, and what else an app says, and whether a counter
 // grants, is open (`holding.rt`). So a condition may hold, or fail, or both (`condition.rt`), and
 // a rule may go on behind a statement, or end with it (`course.rt`). What is never so, in no bucket
-// at no version, is told (`asking.rt`, `whens.rt`, `given.rt`).
+// at no version, is told (`whens.rt`, `given.rt`). For that whoever is asked goes through the rule
+// once, and marks the statements that he gets to, and those that may end it for him (`marks.rt`).
 //
-// That who has a release may get it again, or a lower one, is asked otherwise: of an app that says
-// no more, where each counter replies 0, since then each test is decided.
+// That who has a release may get it again, or a lower one, is asked otherwise (`asking.rt`): of an
+// app that says no more, where each counter replies 0, since then each test is decided.
 //
 // A test of the bucket whose number is too small or too great to be meant so is read alone, and
 // asks nothing (`parts.rt`).
@@ -28,6 +31,7 @@ mod course;
 mod given;
 mod holding;
 mod law;
+mod marks;
 mod parts;
 mod possible;
 mod release;

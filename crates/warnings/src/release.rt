@@ -130,6 +130,7 @@ fn tell_release(
 /// Warnings on the releases of an app, a line each: of a version that a later release has, too, and
 /// of a codebase that doesn't end in `/`, or begins with neither `https://` nor `http://`. Apps and
 /// releases are numbered from 1.
+// open: whether memory is refused.
 pub fn tell_releases(text: &mut String, app: usize, releases: &[Release]) -> Result<(), AllocError>
     ensures { OnOk result (string_bytes text.new
         ≡ string_bytes text.old ++ specs.releases_from app 1 releases.now) }

@@ -7,6 +7,7 @@ ghost use Rattle.warnings.specs.Spots as places;
 
 use crate::asking::AskedRule;
 use crate::given::tell_all_releases;
+use crate::marks::marks_of;
 use crate::parts::tell_parts_of_rule;
 use crate::release::tell_app;
 use crate::room::room_behind;
@@ -32,8 +33,9 @@ fn tell_answers(
     ensures { OnOk result (string_bytes text.new
         ≡ string_bytes text.old ++ specs.asked_text app (rule_of asked.now)) }
 {
-    tell_statements(alloc, text, app, asked, spots)?;
-    tell_all_releases(alloc, text, app, asked, spots)
+    let marks = marks_of(alloc, asked, spots)?;
+    tell_statements(text, app, asked, &marks)?;
+    tell_all_releases(alloc, text, app, asked, &marks)
 }
 
 // Of its answers, where there is room to ask it.
@@ -77,6 +79,8 @@ fn tell_asked(
 /// A rule takes room for each step of its conditions: once for the lowest version, for each that it
 /// names, for what lies just above each of these, and for each release. One for which there is too
 /// little is told of, isn't asked, and takes none; its tests are read all the same.
+// open: whether memory is refused; that a rule with such a `when` or release has its line: one may
+// be missing.
 pub fn tell_rule(
     alloc: Global,
     text: &mut String,

@@ -1,14 +1,16 @@
 //! What is told of the `when`s of a rule that was asked.
 
-ghost use Rattle.std.specs.Prelude.{◌≡◌, ◌++◌, [], false, OnOk, string_bytes};
+ghost use Rattle.std.specs.Prelude.{◌≡◌, ◌++◌, List, [], false, OnOk, string_bytes};
+ghost use Rattle.warnings.specs.declared.spot.Spot.{Spot};
 ghost use Rattle.warnings.specs.Asked as specs;
-ghost use Rattle.warnings.specs.Asking.{rule_of};
+ghost use Rattle.warnings.specs.Asking.{rule_of, someone};
+ghost use Rattle.warnings.specs.Marks.{AreMarked};
 
-use crate::asking::{AskedRule, Question, someone};
+use crate::asking::AskedRule;
+use crate::marks::Marks;
 use crate::release::tell_app;
-use crate::spot::Spot;
 use rule_lang::{Statement, Step};
-use std::alloc::{AllocError, Global};
+use std::alloc::AllocError;
 use std::fmt::Write;
 
 #[tactic(auto, unfolding(crate::specs::Asked::unreached_said))]
@@ -68,53 +70,51 @@ fn tell_never(
 }
 
 fn tell_when(
-    alloc: Global,
     text: &mut String,
     app: usize,
-    asked: &AskedRule<'_>,
-    spots: &[Spot],
-    before: &[Statement],
+    ends: bool,
+    reached: bool,
     statement: &Statement,
 ) -> Result<(), AllocError>
-    ensures { OnOk result (string_bytes text.new ≡ string_bytes text.old
-        ++ specs.statement_line app (rule_of asked.now) spots.now before.now statement.now) }
+    ensures { OnOk result (string_bytes text.new
+        ≡ string_bytes text.old ++ specs.marked_line app ends reached statement.now) }
 {
     let Statement::When { condition, .. } = statement else {
         return Ok(());
     };
-    if someone(alloc, asked, &Question::Ends { before, statement }, spots)? {
+    if ends {
         return Ok(());
     }
-    let reached = someone(alloc, asked, &Question::Reaches { before }, spots)?;
-    tell_never(text, app, reached, condition.steps())?;
-    Ok(())
+    tell_never(text, app, reached, condition.steps())
 }
 
-/// Lines on the `when`s of a rule, in their order.
+/// Lines on the `when`s of a rule, in their order, by its marks. Each statement has its own: were
+/// there fewer, nothing would be told.
 pub(crate) fn tell_statements(
-    alloc: Global,
     text: &mut String,
     app: usize,
     asked: &AskedRule<'_>,
-    spots: &[Spot],
+    marks: &Marks,
 ) -> Result<(), AllocError>
-    ensures { OnOk result (string_bytes text.new ≡ string_bytes text.old
-        ++ specs.statements_from app (rule_of asked.now) spots.now [] (rule_of asked.now).rule) }
+    ensures { (spots : List Spot) → AreMarked (rule_of asked.now) (someone (rule_of asked.now) spots)
+        marks.now.reached.items marks.now.ends.items → OnOk result (string_bytes text.new
+        ≡ string_bytes text.old
+        ++ specs.statements_from app (rule_of asked.now) spots [] (rule_of asked.now).rule) }
 {
-    let mut place = 0;
     let mut left = asked.statements;
+    let mut reached = marks.reached.as_slice();
+    let mut ends = marks.ends.as_slice();
     while let [statement, others @ ..] = left {
-        tell_when(
-            alloc,
-            text,
-            app,
-            asked,
-            spots,
-            &asked.statements[..place],
-            statement,
-        )?;
-        place += 1;
+        let [is_reached, reached_behind @ ..] = reached else {
+            return Err(AllocError);
+        };
+        let [is_ended, ends_behind @ ..] = ends else {
+            return Err(AllocError);
+        };
+        tell_when(text, app, *is_ended, *is_reached, statement)?;
         left = others;
+        reached = reached_behind;
+        ends = ends_behind;
     }
     Ok(())
 }

@@ -1,18 +1,17 @@
-use Rattle.std.proofs.Common.{◌≡◌, ◌+◌, ◌++◌, [], length, take, drop, string_bytes}
-use Rattle.warnings.specs.Asked.{statements_from}
-use Rattle.warnings.specs.Asking.{rule_of}
+use Rattle.std.proofs.Common.{List, length, string_bytes}
+use Rattle.warnings.specs.declared.spot.Spot.{Spot}
+use Rattle.warnings.specs.Asking.{rule_of, someone}
+use Rattle.warnings.specs.Marks.{AreMarked}
+use Rattle.warnings.proofs.Told.{AreTold}
 use Rattle.warnings.proofs.whens.tell_statements.Given as goal
 
 abbrev pub invariant-loop-left : goal.invariant-loop-left
-invariant-loop-left l = record {
-  so_far : string_bytes l.text
-      ++ statements_from l.app (rule_of l.asked) l.spots (take l.place l.asked.statements.now)
-      l.left
-      ≡ string_bytes l.initial.text
-      ++ statements_from l.app (rule_of l.asked) l.spots [] l.asked.statements.now;
-  rest : l.left ≡ drop l.place l.asked.statements.now;
-  within : l.place + length l.left ≡ length l.asked.statements.now;
-}
+invariant-loop-left l =
+    (spots : List Spot)
+    → AreMarked (rule_of l.asked) (someone (rule_of l.asked) spots) l.marks.reached.items
+    l.marks.ends.items
+    → AreTold l.app (rule_of l.asked) spots (string_bytes l.initial.text) l.left l.reached l.ends
+    (string_bytes l.text)
 
 abbrev pub decreases-loop-left : goal.decreases-loop-left
 decreases-loop-left l = length l.left

@@ -1,0 +1,24 @@
+use Rattle.std.proofs.Common.{arith, false, get_or, string_bytes}
+use Rattle.warnings.specs.Asking.{rule_of}
+use Rattle.warnings.proofs.Told.{all_told, first_got, first_rest, next_told, none_left, none_told}
+use Rattle.warnings.proofs.whens.tell_statements.Goals as goal
+
+pub loop-left-init : goal.loop-left-init
+loop-left-init c = λ spots marked.
+    rw (c.as_slice-reached.ensures.value, c.as_slice-ends.ensures.value)
+    (none_told c.args.app (rule_of c.args.asked.now) spots (string_bytes c.args.text.now) _ _ marked)
+
+pub loop-left-preserved : goal.loop-left-preserved
+loop-left-preserved c = λ spots marked.
+    next_told c.args.app (rule_of c.args.asked.now) spots _ c.loop-left.left.now _
+    c.statement-item.result c.loop-left.reached.now c.loop-left.ends.now _ _
+    (get_or c.loop-left.reached.now 0 false) (get_or c.loop-left.ends.now 0 false) _ _
+    (first_rest c.loop-left.left.now c.statement-item.result (omega arith) c.statement-item.is)
+    (first_got c.loop-left.reached.now false (omega arith))
+    (first_got c.loop-left.ends.now false (omega arith))
+    c.in_ok-tell_when.ensures (c.loop-left.invariant spots marked)
+
+pub returns : goal.returns
+returns c = λ spots marked.
+    all_told c.args.app (rule_of c.args.asked.now) spots _ c.loop-left.left.now _ _ _
+    (none_left c.loop-left.left.now (omega arith)) (c.loop-left.invariant spots marked)

@@ -1,0 +1,200 @@
+//! Who gets to each statement of a rule, and whether it may end the rule, asked of all at once.
+
+ghost use Rattle.std.specs.Prelude.{◌≡◌, ◌<◌, length, map, true, IfOk, OnOk};
+ghost use Rattle.std.specs.Prelude.{◌&&◌, if◌then◌else◌, slice_set};
+ghost use Rattle.std.specs.List.{list_all};
+ghost use Rattle.warnings.specs.Asking.{rule_of, someone};
+ghost use Rattle.warnings.specs.Marks.{AreMarked, Crowd, nobody, with_buckets, with_one};
+ghost use Rattle.warnings.specs.Marks as specs;
+
+use crate::asking::{AskedRule, BUCKETS};
+use crate::course::{offered, statement_possible};
+use crate::possible::{Asker, Possible};
+use crate::spot::Spot;
+use attrs::Attrs;
+use rule_lang::Statement;
+use std::alloc::{AllocError, Global};
+
+// Whoever is asked goes through the rule once, and marks the statements on his way, up to the one
+// that ends it for him. So a rule of many statements takes each of its steps once for each bucket
+// and spot, where to ask of each statement anew would take those before it, too.
+
+/// A mark for each statement: that somebody gets to it, and that it may end the rule for somebody.
+/// A `count` has both.
+#[derive(Drop)]
+pub(crate) struct Marks {
+    pub reached: Vec<bool>,
+    pub ends: Vec<bool>,
+}
+
+fn mark_place(reached: &mut [bool], ends: &mut [bool], place: usize, holds: bool)
+    requires reached { place < length reached.old }
+    requires ends { place < length ends.old }
+    ensures reached { reached.new ≡ slice_set reached.old place true }
+    ensures ends { ends.new ≡ (if holds then slice_set ends.old place true else ends.old) }
+{
+    reached[place] = true;
+    if holds {
+        ends[place] = true;
+    }
+}
+
+// The marks with those of one more who is asked.
+fn mark_way(
+    stack: &mut Vec<Possible>,
+    asked: &AskedRule<'_>,
+    asker: Asker,
+    attrs: &Attrs,
+    reached: &mut [bool],
+    ends: &mut [bool],
+) -> Result<(), AllocError>
+    requires reached { length reached.old ≡ length asked.now.statements.now }
+    requires ends { length ends.old ≡ length asked.now.statements.now }
+    ensures { (crowd : Crowd) → AreMarked (rule_of asked.now) crowd reached.old ends.old
+        → OnOk result (AreMarked (rule_of asked.now) (with_one crowd asker attrs.now)
+        reached.new ends.new) }
+{
+    let mut place = 0;
+    let mut left = asked.statements;
+    while let [statement, others @ ..] = left {
+        let possible = statement_possible(stack, asker, attrs, asked.shape, statement)?;
+        mark_place(reached, ends, place, possible.holds);
+        if !possible.fails {
+            return Ok(());
+        }
+        place += 1;
+        left = others;
+    }
+    Ok(())
+}
+
+fn all_set(marks: &[bool]) -> bool
+    ensures { result ≡ list_all (λ mark. mark) marks.now }
+{
+    let mut left = marks;
+    while let [mark, others @ ..] = left {
+        if !*mark {
+            return false;
+        }
+        left = others;
+    }
+    true
+}
+
+// Whether all are set, so that nobody more would change them.
+fn are_settled(reached: &[bool], ends: &[bool]) -> bool
+    ensures { result ≡ (list_all (λ mark. mark) ends.now && list_all (λ mark. mark) reached.now) }
+{
+    all_set(ends) && all_set(reached)
+}
+
+// The marks with those of each bucket whose version lies there.
+fn mark_buckets(
+    alloc: Global,
+    asked: &AskedRule<'_>,
+    spot: Spot,
+    reached: &mut [bool],
+    ends: &mut [bool],
+) -> Result<(), AllocError>
+    requires reached { length reached.old ≡ length asked.now.statements.now }
+    requires ends { length ends.old ≡ length asked.now.statements.now }
+    ensures { (crowd : Crowd) → AreMarked (rule_of asked.now) crowd reached.old ends.old
+        → OnOk result (AreMarked (rule_of asked.now) (with_buckets (rule_of asked.now) crowd spot)
+        reached.new ends.new) }
+{
+    let Ok(mut attrs) = Attrs::plain(alloc, asked.appid, None, 0) else {
+        return Err(AllocError);
+    };
+    let mut stack = Vec::new(alloc);
+    let mut bucket = 0;
+    while bucket < BUCKETS {
+        if are_settled(reached, ends) {
+            return Ok(());
+        }
+        attrs = attrs.in_bucket(bucket);
+        mark_way(&mut stack, asked, Asker::AllAt(spot), &attrs, reached, ends)?;
+        bucket += 1;
+    }
+    Ok(())
+}
+
+fn mark_spots(
+    alloc: Global,
+    asked: &AskedRule<'_>,
+    spots: &[Spot],
+    reached: &mut [bool],
+    ends: &mut [bool],
+) -> Result<(), AllocError>
+    requires { AreMarked (rule_of asked.now) nobody reached.old ends.old }
+    ensures { OnOk result (AreMarked (rule_of asked.now) (someone (rule_of asked.now) spots.now)
+        reached.new ends.new) }
+{
+    let mut left = spots;
+    while let [spot, others @ ..] = left {
+        mark_buckets(alloc, asked, *spot, reached, ends)?;
+        left = others;
+    }
+    Ok(())
+}
+
+fn is_count(statement: &Statement) -> bool
+    ensures { result ≡ specs.is_count statement.now }
+{
+    match statement {
+        Statement::Count { .. } => true,
+        Statement::When { .. } => false,
+    }
+}
+
+// The marks before anybody is asked.
+fn unmarked(alloc: Global, statements: &[Statement]) -> Result<Vec<bool>, AllocError>
+    ensures { IfOk result (λ v. v.items ≡ map specs.is_count statements.now) }
+{
+    let mut marks = Vec::new(alloc);
+    let mut left = statements;
+    while let [statement, others @ ..] = left {
+        marks.push(is_count(statement))?;
+        left = others;
+    }
+    Ok(marks)
+}
+
+/// The marks of a rule, of all whose versions lie at one of these spots.
+pub(crate) fn marks_of(
+    alloc: Global,
+    asked: &AskedRule<'_>,
+    spots: &[Spot],
+) -> Result<Marks, AllocError>
+    ensures { IfOk result (λ marks. AreMarked (rule_of asked.now)
+        (someone (rule_of asked.now) spots.now) marks.reached.items marks.ends.items) }
+{
+    let mut reached = unmarked(alloc, asked.statements)?;
+    let mut ends = unmarked(alloc, asked.statements)?;
+    mark_spots(
+        alloc,
+        asked,
+        spots,
+        reached.as_mut_slice(),
+        ends.as_mut_slice(),
+    )?;
+    Ok(Marks { reached, ends })
+}
+
+/// Whether a statement that may end the rule gives this release or a later one.
+pub(crate) fn is_given(ends: &[bool], statements: &[Statement], release: usize) -> bool
+    ensures { result ≡ specs.is_given ends.now statements.now release }
+{
+    let mut left = statements;
+    let mut marks = ends;
+    while let [statement, others @ ..] = left {
+        let [ended, behind @ ..] = marks else {
+            return false;
+        };
+        if *ended && release <= offered(statement) as usize {
+            return true;
+        }
+        left = others;
+        marks = behind;
+    }
+    false
+}
