@@ -1,12 +1,12 @@
 -- Of apps that are brief all stand in a line, or eleven.
-use Rattle.std.proofs.Common.{◌≡◌, ℕ, zero, suc, ◌+◌, ◌-◌, ◌*◌, ◌<◌, ◌≤◌, ◌⊎◌, inl, inr, refl}
-use Rattle.std.proofs.Common.{List, [], ◌∷◌, length, Bool, true, false, cond, ap, ◌∙◌, sym, arith}
-use Rattle.std.specs.Prelude.{nat_lt, ◌==◌, IfSome, Option, Some, None, if◌then◌else◌}
+use Rattle.std.proofs.Common.{◌≡◌, ℕ, zero, suc, ◌-◌, ◌*◌, ◌≤◌, ◌⊎◌, inl, inr, refl}
+use Rattle.std.proofs.Common.{List, [], ◌∷◌, length, Bool, true, false, ap, arith}
+use Rattle.std.specs.Prelude.{◌==◌, IfSome, Option, Some, None, if◌then◌else◌}
 use Rattle.std.proofs.lemmas.Bool.{le-ltb}
 use Rattle.access_log.specs.Line.{TellsApps}
 use Rattle.access_log.specs.Members.{left_out}
 use Rattle.access_log.specs.Room.{text_room, excerpt_room, version_room, outcome_room}
-use Rattle.access_log.specs.Room.{event_count_room, app_room, count_fitting, told_apps}
+use Rattle.access_log.specs.Room.{event_count_room, app_room, count_fitting}
 use Rattle.access_log.specs.Room.{HasBriefRelease, IsBrief, AreBrief, TellsEnough}
 use Rattle.access_log.specs.declared.asked.AskedApp.{AskedApp}
 use Rattle.access_log.specs.declared.asked.Outcome.{Outcome}

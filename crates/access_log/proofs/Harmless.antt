@@ -1,28 +1,24 @@
--- What is printed are harmless characters: no control, and none that a terminal obeys.
+-- What is printed has no control.
 use Rattle.std.proofs.Common.{◌≡◌, ℕ, zero, suc, ◌/◌, ◌%◌, ◌<◌, ◌≤◌, List, [], ◌∷◌, ◌++◌}
-use Rattle.std.proofs.Common.{Bool, true, false, cond, refl, arith, All, ap, ap₂, sym, ◌∙◌}
-use Rattle.std.proofs.Common.{append-nil}
+use Rattle.std.proofs.Common.{Bool, true, false, cond, refl, arith, ap, append-nil}
 use Rattle.std.specs.Prelude.{nat_lt, ◌==◌, ◌||◌, ◌&&◌, decimal, encode_utf8}
 use Rattle.std.specs.Char.{digit_char}
 use Rattle.std.specs.Fmt.{digits, digits_onto, digit_glyph}
 use Rattle.std.specs.List.{flat_map}
-use Rattle.std.specs.Str.{chars, encode_utf8_all}
+use Rattle.std.specs.Str.{chars, NoCharPasses}
+use Rattle.std.proofs.lemmas.Bool.{ltb-true}
 use Rattle.std.proofs.lemmas.Bool.Decides.{nat_tests}
-use Rattle.std.proofs.lemmas.List.Elements.{All-nil, All-cons, All-append}
-use Rattle.std.proofs.lemmas.Str.{encode_ascii, encodes-append}
+use Rattle.std.proofs.lemmas.Str.{NoCharPasses-append, NoCharPasses-nil, encode_ascii}
 use Rattle.json.specs.Print.{escape_letter, escape_byte, separator, begins, ends}
 use Rattle.json.specs.Token.{Token, begin_object, end_object, begin_array, end_array, key, string}
 use Rattle.json.specs.Token.{number, boolean, null, bad}
-use Rattle.access_log.specs.Line.{is_harmless}
-use Rattle.access_log.specs.Spelled.{is_obeyed, unicode_escape, spelled_char, spelled_text}
+use Rattle.printing.specs.Printed.{is_control}
+use Rattle.access_log.specs.Spelled.{spelled_char, spelled_text}
 use Rattle.access_log.specs.Spelled.{spelled_quoted, spelled_token, spelled_from, spelled}
 
-abbrev Harmless : ℕ → Type 0
-Harmless c = is_harmless c ≡ true
-
--- the UTF-8 of harmless characters
+-- a text without a control
 abbrev pub IsHarmless : List ℕ → Type 0
-IsHarmless bytes = (cs : List ℕ) × (bytes ≡ encode_utf8_all cs) × All (λ c. is_harmless c ≡ true) cs
+IsHarmless text = NoCharPasses is_control text
 
 either : {A : Type 0} (P : A → Type 0) (b : Bool) (x y : A)
     → (b ≡ true → P x) → (b ≡ false → P y) → P (cond b x y)
@@ -31,33 +27,28 @@ either P false x y first other = other refl
 
 -- ---- bytes of ASCII, and texts behind one another
 
-ascii_is : (b : ℕ) → 32 ≤ b → b < 127 → Harmless b
+ascii_is : (b : ℕ) → 32 ≤ b → b < 127 → is_control b ≡ false
 ascii_is b from to = grind (arith, nat_tests)
 
 no_byte : IsHarmless []
-no_byte = ([], refl, All-nil Harmless)
+no_byte = NoCharPasses-nil is_control
+
+both : (xs ys : List ℕ) → IsHarmless xs → IsHarmless ys → IsHarmless (xs ++ ys)
+both xs ys first last = NoCharPasses-append is_control xs ys first last
+
+mark : (b : ℕ) → 32 ≤ b → b < 127 → IsHarmless (b ∷ [])
+mark b from to = (
+  b ∷ [],
+  ap (λ (l : List ℕ). l ++ []) (encode_ascii b (omega (arith, to))),
+  (ascii_is b from to, tt),
+)
 
 one_byte : (b : ℕ) (bytes : List ℕ) → 32 ≤ b → b < 127 → IsHarmless bytes
     → IsHarmless (b ∷ bytes)
-one_byte b bytes from to (cs, is, are) = (
-  b ∷ cs,
-  ap (λ (l : List ℕ). b ∷ l) is
-      ∙ ap (λ (l : List ℕ). l ++ encode_utf8_all cs) (sym (encode_ascii b (omega (arith, to)))),
-  All-cons Harmless b cs (ascii_is b from to) are,
-)
+one_byte b bytes from to is = both (b ∷ []) bytes (mark b from to) is
 
-both : (xs ys : List ℕ) → IsHarmless xs → IsHarmless ys → IsHarmless (xs ++ ys)
-both xs ys (cs, is, are) (ds, also, too) = (
-  cs ++ ds,
-  ap₂ (λ (a : List ℕ) (b : List ℕ). a ++ b) is also ∙ sym (encodes-append cs ds),
-  All-append Harmless cs ds are too,
-)
-
-one_char : (c : ℕ) → Harmless c → IsHarmless (encode_utf8 c)
-one_char c is = (c ∷ [], sym (append-nil (encode_utf8 c)), All-cons Harmless c [] is (All-nil Harmless))
-
-mark : (b : ℕ) → 32 ≤ b → b < 127 → IsHarmless (b ∷ [])
-mark b from to = one_byte b [] from to no_byte
+one_char : (c : ℕ) → is_control c ≡ false → IsHarmless (encode_utf8 c)
+one_char c is = (c ∷ [], append-nil (encode_utf8 c), (is, tt))
 
 -- ---- numbers
 
@@ -130,23 +121,17 @@ byte_is x low =
     (omega arith))
     (λ f. mark x (grind (arith, nat_tests)) low))
 
-obeyed_is_small : (c : ℕ) → is_obeyed c ≡ true → c < 65536
-obeyed_is_small c is = grind (arith, nat_tests)
-
-below_controls : (c : ℕ) → is_obeyed c ≡ false → nat_lt c 128 ≡ true → c < 127
-below_controls c is low = grind (arith, nat_tests)
-
-above_controls : (c : ℕ) → is_obeyed c ≡ false → nat_lt c 128 ≡ false → Harmless c
-above_controls c is high = grind (arith, nat_tests)
+control_is_small : (c : ℕ) → is_control c ≡ true → c < 65536
+control_is_small c is = grind (arith, nat_tests)
 
 char_is : (c : ℕ) → IsHarmless (spelled_char c)
 char_is c =
-    either IsHarmless (is_obeyed c) _ _
-    (λ e. let small = obeyed_is_small c e in
+    either IsHarmless (nat_lt c 127) _ _ (λ e. byte_is c (ltb-true c 127 e))
+    (λ e. either IsHarmless (is_control c) _ _
+    (λ f. let small = control_is_small c f in
     escape_is (c / 4096) (c / 256 % 16) (c / 16 % 16) (c % 16)
     (omega (arith, small)) (omega arith) (omega arith) (omega arith))
-    (λ e. either IsHarmless (nat_lt c 128) _ _ (λ f. byte_is c (below_controls c e f))
-    (λ f. one_char c (above_controls c e f)))
+    (λ f. one_char c f))
 
 chars_are : (cs : List ℕ) → IsHarmless (flat_map spelled_char cs)
 chars_are [] = no_byte

@@ -1,5 +1,5 @@
 -- From the empty mask of a load to bytes that stand as they are.
-use Rattle.std.proofs.Common.{◌≡◌, ℕ, suc, ◌+◌, ◌-◌, ◌%◌, ◌^◌, ◌<◌, ◌≤◌, eqb, ltb, leb, ◌==◌, refl, sym}
+use Rattle.std.proofs.Common.{◌≡◌, ℕ, suc, ◌+◌, ◌-◌, ◌%◌, ◌^◌, ◌≤◌, eqb, ltb, leb, ◌==◌, refl, sym}
 use Rattle.std.proofs.Common.{ap, ap₂, ◌∙◌, subst, arith, Bool, true, false, cond, not, ◌||◌}
 use Rattle.std.proofs.Common.{List, [], ◌∷◌, map, length, get_or, replicate, bit_or, Fits, w8}
 use Rattle.std.specs.Bool.{OnTrue}

@@ -6,6 +6,7 @@ pub mod Escaped
 pub mod Fits
 pub mod Harmless
 pub mod Lanes
+pub mod ReadBack
 pub mod Rooms
 pub mod Said
 pub mod Short

@@ -1,5 +1,5 @@
 -- What an event says is printed in one line.
-use Rattle.std.proofs.Common.{◌≡◌, ℕ, List, [], ◌∷◌, ◌++◌, codes, Option, ap, ◌∙◌}
+use Rattle.std.proofs.Common.{◌≡◌, ℕ, List, [], ◌∷◌, ◌++◌, codes, Option}
 use Rattle.std.specs.Prelude.{option_copied}
 use Rattle.std.specs.Borrow.{Bor}
 use Rattle.json.specs.Token.{Token, end_object}
@@ -9,6 +9,7 @@ use Rattle.access_log.specs.Line.{connection_members, counter_members, load_memb
 use Rattle.access_log.specs.Line.{path_members, reply_members, start_members, stop_members}
 use Rattle.access_log.specs.Line.{too_long_members}
 use Rattle.access_log.specs.Members.{text_member, number_member, optional_member, count_member}
+use Rattle.access_log.specs.Spelled.{spelled}
 use Rattle.access_log.specs.declared.event.Connection.{Connection}
 use Rattle.access_log.specs.declared.event.Counter.{Counter}
 use Rattle.access_log.specs.declared.event.LogEvent.{LogEvent}
@@ -113,7 +114,7 @@ is_one time members line are is =
     let all = all_harmless (begun_at time ++ members) (end_object ∷ [])
     (all_harmless (begun_at time) members begun are) (tt, tt) in
     let shown = print_is_harmless (object_at time members) all in
-    (shown.0, is ∙ ap (λ (l : List ℕ). l ++ 10 ∷ []) shown.1, shown.2)
+    (spelled (object_at time members), is, shown)
 
 pub event_is_one : (time : Utc) (e : LogEvent) (line : List ℕ) → line ≡ line_with time (said e)
     → IsOneLine line

@@ -1,15 +1,16 @@
 -- What a line of the log says of an event, and its text: a JSON object, and a line feed.
-use Rattle.std.specs.Prelude.{◌≡◌, ℕ, List, [], ◌∷◌, ◌++◌, codes, length, All, true}
-use Rattle.std.specs.Prelude.{Bool, not, ◌&&◌, nat_lt, nat_le, if◌then◌else◌}
+use Rattle.std.specs.Prelude.{◌≡◌, ℕ, List, [], ◌∷◌, ◌++◌, codes, length}
+use Rattle.std.specs.Prelude.{nat_lt, if◌then◌else◌}
 use Rattle.std.specs.Prelude.{Option, option_copied, ⊤}
 use Rattle.std.specs.Borrow.{Bor}
-use Rattle.std.specs.Str.{encode_utf8_all}
+use Rattle.std.specs.Str.{NoCharPasses}
 use Rattle.json.specs.Token.{Token, begin_object, end_object}
+use Rattle.printing.specs.Printed.{is_control}
 use Rattle.access_log.specs.Apps.{apps_members}
 use Rattle.access_log.specs.Members.{text_member, number_member, optional_member}
 use Rattle.access_log.specs.Members.{count_member, excerpt_members}
 use Rattle.access_log.specs.Room.{TellsEnough}
-use Rattle.access_log.specs.Spelled.{is_obeyed, spelled}
+use Rattle.access_log.specs.Spelled.{spelled}
 use Rattle.access_log.specs.Utc.{utc_text}
 use Rattle.access_log.specs.declared.event.Connection.{Connection}
 use Rattle.access_log.specs.declared.event.Counter.{Counter}
@@ -120,12 +121,6 @@ abbrev pub TellsApps : LogEvent → Type 0
 TellsApps (log.Connection connection) = TellsEnough connection.apps.now
 TellsApps e = ⊤
 
--- a character that changes nothing of a terminal: no control, and none of direction
-abbrev pub is_harmless : ℕ → Bool
-is_harmless c = nat_le 32 c && not (is_obeyed c)
-
--- one line: harmless characters in UTF-8, and a line feed
+-- one line: a text without a control, which is UTF-8, and a line feed
 abbrev pub IsOneLine : List ℕ → Type 0
-IsOneLine line =
-    (cs : List ℕ) × (line ≡ encode_utf8_all cs ++ 10 ∷ [])
-    × All (λ c. is_harmless c ≡ true) cs
+IsOneLine line = (text : List ℕ) × (line ≡ text ++ 10 ∷ []) × NoCharPasses is_control text

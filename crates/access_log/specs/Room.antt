@@ -3,8 +3,8 @@ use Rattle.std.specs.Prelude.{◌≡◌, ℕ, suc, ◌+◌, ◌-◌, ◌≤◌, 
 use Rattle.std.specs.Prelude.{◌||◌, ◌==◌, nat_lt, if◌then◌else◌, Option, Some, None}
 use Rattle.std.specs.Char.{len_utf8}
 use Rattle.std.specs.Str.{byte, chars}
+use Rattle.printing.specs.Printed.{is_control}
 use Rattle.access_log.specs.Members.{left_out}
-use Rattle.access_log.specs.Spelled.{is_obeyed}
 use Rattle.access_log.specs.declared.asked.AskedApp.{AskedApp}
 use Rattle.access_log.specs.declared.asked.Outcome.{Outcome}
 use Rattle.access_log.specs.declared.asked.Outcome.TheVariants.{Unasked, Offered}
@@ -15,7 +15,7 @@ use Rattle.access_log.specs.declared.excerpt.Excerpt.{Excerpt}
 -- the most bytes that a character of a text takes: an escape may have six (RFC 8259, section 7)
 abbrev pub char_room : ℕ → ℕ
 char_room c =
-    if is_obeyed c || nat_lt c 32 then 6
+    if is_control c then 6
     else (if (c == byte "\"") || (c == byte "\\") then 2 else len_utf8 c)
 
 unfoldable pub chars_room : List ℕ → ℕ

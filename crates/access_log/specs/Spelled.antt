@@ -1,20 +1,14 @@
--- How a text stands in a line: a string of JSON (RFC 8259, section 7), in which each character that
--- a terminal may obey is escaped, too. And what is printed of tokens with such strings.
-use Rattle.std.specs.Prelude.{ℕ, ◌/◌, ◌%◌, List, [], ◌∷◌, ◌++◌, Bool, false, nat_lt}
-use Rattle.std.specs.Prelude.{◌||◌, if◌then◌else◌, encode_utf8}
+-- How a text stands in a line: a string of JSON (RFC 8259, section 7), in which each control that a
+-- terminal may obey is escaped, too. And what is printed of tokens with such strings.
+use Rattle.std.specs.Prelude.{◌≡◌, ℕ, ◌/◌, ◌%◌, List, [], ◌∷◌, ◌++◌, Bool, false, nat_lt}
+use Rattle.std.specs.Prelude.{if◌then◌else◌, encode_utf8, Some}
 use Rattle.std.specs.Char.{digit_char}
-use Rattle.std.specs.Int.{is_in_range}
 use Rattle.std.specs.List.{flat_map}
-use Rattle.std.specs.Str.{chars}
+use Rattle.std.specs.Str.{chars, IsUtf8}
 use Rattle.json.specs.Print.{escape_byte, token_text, separator, ends}
+use Rattle.json.specs.Text.{content, plain}
 use Rattle.json.specs.Token.{Token, key, string}
-
--- the controls from U+007F to U+009F, the marks of direction (Bidi_Control in UAX #9) in the block
--- General Punctuation, and among them U+2028 and U+2029, which end a line and a paragraph
-abbrev pub is_obeyed : ℕ → Bool
-is_obeyed c =
-    is_in_range 0x7f 0x9f c || is_in_range 0x200e 0x200f c || is_in_range 0x2028 0x202e c
-    || is_in_range 0x2066 0x2069 c
+use Rattle.printing.specs.Printed.{is_control}
 
 -- `\u` and four hexadecimal digits
 abbrev pub unicode_escape : ℕ → List ℕ
@@ -22,11 +16,11 @@ unicode_escape c =
     92 ∷ 117 ∷ digit_char (c / 4096) ∷ digit_char (c / 256 % 16) ∷ digit_char (c / 16 % 16)
     ∷ digit_char (c % 16) ∷ []
 
--- a character: of ASCII with the shortest escape
+-- a character: below U+007F, which is a control, with the shortest escape
 abbrev pub spelled_char : ℕ → List ℕ
 spelled_char c =
-    if is_obeyed c then unicode_escape c
-    else if nat_lt c 128 then escape_byte c
+    if nat_lt c 127 then escape_byte c
+    else if is_control c then unicode_escape c
     else encode_utf8 c
 
 -- the characters of a text, which is UTF-8
@@ -35,6 +29,11 @@ spelled_text text = flat_map spelled_char (chars text)
 
 abbrev pub spelled_quoted : List ℕ → List ℕ
 spelled_quoted text = 34 ∷ (spelled_text text ++ 34 ∷ [])
+
+-- a reader of JSON reads what stands behind the quote that opens a text as the text
+abbrev pub IsReadBack : List ℕ → Type 0
+IsReadBack text =
+    IsUtf8 text → (behind : List ℕ) → content plain (spelled_text text ++ 34 ∷ behind) ≡ Some text
 
 -- a token: names and texts as above, and any other as the kit's writer has it
 abbrev pub spelled_token : Token → List ℕ

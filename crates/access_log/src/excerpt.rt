@@ -33,7 +33,7 @@ impl<'a> Excerpt<'a> {
         }
     }
 
-    /// As many as take 64 bytes in a line, with their escapes.
+    /// As many whole characters of a text as take 64 bytes in a line, with their escapes.
     pub fn brief(text: &'a str) -> Excerpt<'a>
         ensures { IsBriefExcerpt text.now result }
     {

@@ -1,7 +1,7 @@
 //! The apps of a request that a line leaves out: how many, how many of them are offered a release,
 //! and how many the server doesn't know.
 
-ghost use Rattle.std.specs.Prelude.{◌≡◌, ◌≤◌, length, OnOk};
+ghost use Rattle.std.specs.Prelude.{◌≡◌, ◌≤◌, OnOk};
 ghost use Rattle.access_log.specs.Tokens.{AddsMembers};
 ghost use Rattle.access_log.specs.Apps as specs;
 

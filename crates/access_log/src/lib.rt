@@ -5,6 +5,8 @@
 //! characters by which it could change a terminal. A line has at most 4096 bytes. So much of a
 //! client's request is told as has room: a text is cut, and of many apps the first are told, and
 //! what is left out stands there as a number.
+//!
+//! See docs/OPERATING.md, "The log".
 #![tactic(auto)]
 
 mod apps;

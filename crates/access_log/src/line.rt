@@ -14,6 +14,8 @@ use crate::utc::Utc;
 use std::alloc::{AllocError, Global};
 
 /// The line of what happened at a time, with its line feed. Refused memory leaves no line.
+// open: whether memory is refused; that no line of a connection is too long, and that a line is
+// JSON, as its definition has it: tests.
 #[tactic(auto, using(crate::proofs::Enough::tells_apps))]
 pub fn log_line(alloc: Global, time: &Utc, event: &LogEvent<'_>) -> Result<Vec<u8>, AllocError>
     ensures text { IfOk result (λ line. line.items ≡ specs.event_line time.now event.now) }
@@ -26,8 +28,10 @@ pub fn log_line(alloc: Global, time: &Utc, event: &LogEvent<'_>) -> Result<Vec<u
     Vec::from_slice(alloc, room.bytes())
 }
 
-/// The same, in the place of what stands in the room, which is kept from one line to the next.
+/// Writes the line of an event in the place of what stands in the room, which is kept from one line
+/// to the next.
 /// Where memory is refused a part of a line may stand there.
+// open: whether memory is refused; the same as of `log_line`.
 #[tactic(auto, using(crate::proofs::Enough::tells_apps))]
 pub fn log_line_in(room: &mut LineRoom, time: &Utc, event: &LogEvent<'_>) -> Result<(), AllocError>
     ensures text { OnOk result (room.new ≡ specs.event_line time.now event.now) }

@@ -7,8 +7,8 @@ ghost use Rattle.access_log.specs.Room as specs;
 
 use crate::asked::{AskedApp, Outcome};
 use crate::excerpt::Excerpt;
-use crate::text::is_obeyed;
 use crate::unescaped::is_plain;
+use printing::is_control;
 
 /// The most bytes of a line, with its line feed.
 pub const LINE_LIMIT: usize = 4096;
@@ -158,8 +158,7 @@ fn char_room(c: char) -> usize
     ensures value { result ≡ specs.char_room c }
     ensures bound { result ≤ 6 }
 {
-    let code = c as u32;
-    if is_obeyed(code) || code < 32 {
+    if is_control(c) {
         6
     } else if c == '"' || c == '\\' {
         2

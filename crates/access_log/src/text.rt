@@ -1,8 +1,7 @@
-//! The text of JSON's tokens (RFC 8259), written as bytes behind what stands in a line. A character
+//! The text of JSON's tokens (RFC 8259), written as bytes behind what stands in a line. A control
 //! that a terminal may obey is escaped, too.
 
 ghost use Rattle.std.specs.Prelude.{◌≡◌, ◌++◌, ◌<◌, [], ◌∷◌, true, decimal, OnOk};
-ghost use Rattle.std.specs.Bool.{OnTrue};
 ghost use Rattle.std.specs.Char.{digit_char};
 ghost use Rattle.json.specs.Print.{escape_letter, escape_byte};
 ghost use Rattle.access_log.specs.Plain.{is_plain_text, named};
@@ -11,6 +10,7 @@ ghost use Rattle.access_log.specs.Spelled as specs;
 use crate::line_room::LineRoom;
 use crate::unescaped::is_plain;
 use itoa::Buffer;
+use printing::is_control;
 use std::alloc::AllocError;
 
 /// The digits of a number.
@@ -33,9 +33,11 @@ pub fn write_name(line: &mut LineRoom, name: &str) -> Result<(), AllocError>
     Ok(())
 }
 
-/// A text between quotes.
+/// A text between quotes. A reader of JSON reads it as the text.
+#[tactic(auto, using(crate::proofs::ReadBack::text_reads))]
 pub fn write_quoted(line: &mut LineRoom, text: &str) -> Result<(), AllocError>
-    ensures { OnOk result (line.new ≡ line.old ++ specs.spelled_quoted text.now) }
+    ensures text { OnOk result (line.new ≡ line.old ++ specs.spelled_quoted text.now) }
+    ensures reads { specs.IsReadBack text.now }
 {
     line.put(b"\"")?;
     write_spelled(line, text)?;
@@ -81,22 +83,14 @@ fn write_char(line: &mut LineRoom, c: char) -> Result<(), AllocError>
     ensures { OnOk result (line.new ≡ line.old ++ specs.spelled_char c) }
 {
     let code = c as u32;
-    if is_obeyed(code) {
-        return write_unicode_escape(line, code);
-    }
-    if code < 128 {
+    if code < 127 {
         return write_escape(line, code as u8);
+    }
+    if is_control(c) {
+        return write_unicode_escape(line, code);
     }
     let mut bytes = [0; 4];
     line.put(c.encode_utf8(&mut bytes).as_bytes())
-}
-
-/// Whether a terminal may obey a character of this code.
-pub fn is_obeyed(code: u32) -> bool
-    ensures value { result ≡ specs.is_obeyed code }
-    ensures small { OnTrue result (code < 65536) }
-{
-    matches!(code, 0x7f..=0x9f | 0x200e..=0x200f | 0x2028..=0x202e | 0x2066..=0x2069)
 }
 
 fn write_unicode_escape(line: &mut LineRoom, code: u32) -> Result<(), AllocError>

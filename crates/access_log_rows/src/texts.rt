@@ -3,6 +3,7 @@
 
 use crate::given::{AT, line_at};
 use access_log::LogEvent;
+use printing::{has_control, is_control};
 use std::test::Fail;
 
 /// A text, and what stands between its quotes. Beside each range of what is escaped stand the last
@@ -46,6 +47,24 @@ const TEXTS: &[(&str, &str)] = &[
         "it stands in the middle\\u009b, and not at an end",
     ),
 ];
+
+/// The first and the last character of each range that is escaped.
+const CONTROLS: &str = "\u{0}\u{1f}\u{7f}\u{9f}\u{200e}\u{200f}\u{2028}\u{202e}\u{2066}\u{2069}";
+
+/// The last one before each, and the first one behind it.
+const OTHERS: &str = " ~\u{a0}\u{200d}\u{2010}\u{2027}\u{202f}\u{2065}\u{206a}\u{10ffff}";
+
+#[test]
+fn controls_are_those_of_what_is_printed(rt: HostRuntime) -> Result<(), Fail> {
+    for c in CONTROLS.chars() {
+        assert!(rt; is_control(c), "{c:?}");
+    }
+    for c in OTHERS.chars() {
+        assert!(rt; !is_control(c), "{c:?}");
+    }
+    assert!(rt; has_control(CONTROLS) && !has_control(OTHERS));
+    Ok(())
+}
 
 #[test]
 fn texts_change_no_terminal(rt: HostRuntime) -> Result<(), Fail> {

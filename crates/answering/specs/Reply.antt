@@ -10,6 +10,7 @@ use Rattle.omaha_json.specs.Faults.{omaha_name}
 use Rattle.omaha_json.specs.declared.fault.OmahaFault.{OmahaFault}
 use Rattle.omaha_json.specs.declared.fault.OmahaFault.TheVariants as omaha
 
+-- a status with a text
 pub record HttpReply : Type 0 where
   pub status : Status
   pub text : List ℕ

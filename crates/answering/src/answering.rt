@@ -42,6 +42,7 @@ impl Display for AnswerFault {
 impl Error for AnswerFault {}
 
 /// Reads a request, answers it, and tells the reply that was sent.
+// open: what `answer_in` leaves open.
 pub fn answer<R: Read, W: Write, C: CellSteps>(
     alloc: Global,
     reader: &mut Counted<R>,

@@ -1,6 +1,6 @@
 //! The apps of a request: each is looked up, and run if it asks for an update, app after app.
 
-ghost use Rattle.std.specs.Prelude.{◌≡◌, ◌<◌, false, IfOk, MatchResult};
+ghost use Rattle.std.specs.Prelude.{◌≡◌, ◌<◌, false, length, IfOk, MatchResult};
 ghost use Rattle.std.specs.Arc.{arc_value};
 ghost use Rattle.attrs.specs.Bucket.{app_bucket, hashed_bucket};
 ghost use Rattle.attrs.specs.Facts.{attributes_of};
@@ -92,6 +92,7 @@ pub fn run_apps<'r, C: CellSteps>(
 ) -> Result<Vec<Option<FoundApp<'r>>>, AllocError>
     requires { C.belongs turn.now.cells.now pass.old }
     ensures belongs { C.belongs turn.now.cells.now pass.new }
+    ensures each { IfOk result (λ found. length found.items ≡ length request.now.apps) }
     ensures finds { MatchResult result
         (λ found. Grows C.grew pass.old pass.new (FindsApps
         rules.now request.now.facts turn.now.moment.now request.now.apps found.items))

@@ -10,6 +10,8 @@
 //! what was written is the reply to what was read, or its beginning. Which reply that is, under the
 //! ruleset that the watcher gave, and which events the runs made, by which the pass grew, is one
 //! relation, with a constructor for each outcome.
+//!
+//! See docs/DECISIONS.md, "Requests"; docs/DECISIONS.md, "The front".
 #![tactic(auto)]
 
 mod answering;
@@ -24,6 +26,7 @@ mod turn;
 mod witness;
 
 pub use answering::{AnswerFault, answer};
+pub use apps::run_apps;
 pub use room::AnswerRoom;
 pub use sent::Sent;
 pub use settling::answer_in;

@@ -25,6 +25,8 @@ use std::io::{Read, Write};
 
 /// Reads a request at a turn into room that is kept, answers it before a witness, and tells the
 /// reply that was sent.
+// open: whether memory is refused (O5, P9), or a ruleset (H2), each a reply with status 500; which
+// bytes a socket carries; that the moment is the clock's: a test.
 pub fn answer_in<R: Read, W: Write, C: CellSteps, N: Witness>(
     turn: &Turn<'_, C>,
     room: &mut AnswerRoom,

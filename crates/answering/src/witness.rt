@@ -8,8 +8,8 @@ pub trait Witness {
     /// A request was read; these bytes are its body.
     fn hear(&mut self, body: &[u8], request: &Request);
 
-    /// Its apps were answered, all under the ruleset of this generation. There is nothing for an
-    /// app that the ruleset doesn't know.
+    /// The apps of a request were answered, all under the ruleset of this generation. There is
+    /// nothing for an app that the ruleset doesn't know.
     fn see(&mut self, generation: Generation, request: &Request, found: &[Option<FoundApp<'_>>]);
 }
 

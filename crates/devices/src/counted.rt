@@ -50,6 +50,7 @@ impl<T> Counted<T> {
 
 impl<R: Read> Counted<R> {
     /// Reads some bytes to the front of `buf`; no byte is the end of the input.
+    // open: when a device fails.
     pub fn read_some(&mut self, buf: &mut [u8]) -> Result<usize, Failed>
         requires { self.old.failures < 2 ^ 64 - 1 }
         ensures within { MatchResult result (λ n. n ≤ length buf.new) (λ _. Unit {0}) }
@@ -70,6 +71,7 @@ impl<R: Read> Counted<R> {
 impl<W: Write> Counted<W> {
     /// Writes all bytes, or those before the first failure. After a write that took a part of
     /// them it goes on behind that part.
+    // open: when a device fails.
     pub fn write_whole(&mut self, bytes: &[u8]) -> Result<(), WriteFault>
         requires { self.old.failures < 2 ^ 64 - 1 }
         ensures bytes { WritesBeginning

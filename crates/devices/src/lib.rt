@@ -5,6 +5,8 @@
 //! can be held to it. `Timed` is a connection that has to be done by a time: before each read and
 //! write the socket's time-out is set to what is left until then, so that a client that sends a
 //! byte now and then is dropped as one that sends none. `FailAt` is for tests.
+//!
+//! See docs/DECISIONS.md, "The front".
 #![tactic(auto)]
 
 mod counted;

@@ -27,6 +27,7 @@ pub struct Timed<'a, R: Clock> {
 
 impl<'a, R: Clock> Timed<'a, R> {
     /// A direction that ends at that time.
+    // open: that it counts the bytes of each call, and keeps to its time: tests.
     pub fn new(stream: &'a TcpStream, clock: &'a R, until: Instant) -> Timed<'a, R>
         ensures until { result.until ≡ until }
         ensures bytes { result.bytes ≡ 0 }
@@ -102,6 +103,7 @@ impl<R: Clock> Write for Timed<'_, R> {
 }
 
 /// Reads what a client goes on to send after its reply, for at most a second.
+// open: what is taken at a connection's end: tests.
 pub fn drain<R: Clock>(stream: &TcpStream, clock: &R) -> io::Result<()> {
     stream.shutdown(Shutdown::Write)?;
     let now = Instant::now(clock)?;
@@ -121,6 +123,7 @@ pub fn drain<R: Clock>(stream: &TcpStream, clock: &R) -> io::Result<()> {
 /// Takes what has come behind the request, up to 512 bytes, and doesn't wait for more: clients are
 /// known that end a body with a line's end that they don't count (RFC 9112, section 2.2). Where
 /// nothing has come it fails with `WouldBlock`. The stream doesn't wait from then on.
+// open: what is taken at a connection's end: tests.
 pub fn take_rest(stream: &TcpStream) -> io::Result<()> {
     stream.set_nonblocking(true)?;
     let mut rest = stream;

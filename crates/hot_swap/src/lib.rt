@@ -10,6 +10,8 @@
 //! A ruleset is entered in the list by the publish that shows it, after the last step that can be
 //! refused and before any reader sees it. So what is shown comes with the list that it ends, and
 //! what a watcher has seen, what a notice tells and what was installed are beginnings of one list.
+//!
+//! See docs/DECISIONS.md, "The published ruleset".
 #![tactic(auto)]
 
 mod beginning;

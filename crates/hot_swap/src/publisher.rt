@@ -53,6 +53,7 @@ impl Publisher {
 
     /// Installs the first ruleset, of generation 1, with places for 1 to 65 watchers. H1 where
     /// memory is refused. There is nobody yet for whom it could wait.
+    // open: whether memory is refused (H1).
     pub fn new<R: Wait>(
         rt: &R,
         alloc: Global,
@@ -119,6 +120,7 @@ impl Publisher {
     /// Installs a ruleset, and gives its generation, which is one above the last. It may wait for
     /// watchers that still look at the ruleset before the last. H3 after generation 2^64 - 1, and
     /// else H1 where memory is refused; then the old ruleset stays.
+    // open: whether memory is refused (H1). That watchers who weren't told come to see it: tests.
     pub fn install<R: Wait>(&mut self, rt: &R, next: Arc<Ruleset>) -> Result<Generation, SwapFault>
         ensures done { IfOk result (λ n. Installs self.old (arc_value next) n self.new) }
         ensures same { IfErr result (λ _. self.new ≡ self.old) }
@@ -149,6 +151,7 @@ impl Publisher {
 
     /// A watcher, which has seen all that was installed. It takes a place for good. H2 where none
     /// is left, and else H1 where memory is refused.
+    // open: whether memory is refused (H1).
     pub fn watcher(&mut self) -> Result<Watcher, SwapFault>
         ensures seen { IfOk result (λ w. w ≡ self.old.known) }
         ensures known { self.new.known ≡ self.old.known }
@@ -177,6 +180,7 @@ impl Publisher {
     }
 
     /// Waits for those that look, and gives up what it holds. Its watchers see nothing more.
+    // open: that watchers see nothing afterwards.
     pub fn close<R: Wait>(self, rt: &R) {
         let Publisher {
             writer,

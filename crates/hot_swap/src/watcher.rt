@@ -53,6 +53,8 @@ impl Watcher {
     /// The newest ruleset with its generation, which never goes back. H2 where the ruleset has no
     /// room for one more owner, after which the watcher may have seen more, or where nothing is
     /// shown any more.
+    // open: how new the ruleset is, unless the watcher was told, and that H2 doesn't always come:
+    // tests.
     pub fn current(&mut self) -> Result<(Generation, Arc<Ruleset>), SwapFault>
         ensures onwards { GoesOnwards self.old self.new }
         ensures newest { IfOk result (λ r. IsLatest self.new r.0 (arc_value r.1)) }

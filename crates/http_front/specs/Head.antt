@@ -1,4 +1,5 @@
--- What a whole head asks for: one target is served, by POST, with a body of a length that is told.
+-- What a whole head asks for: one target is served, by POST, with a body of a length that is told
+-- (RFC 9112, sections 3 and 6).
 use Rattle.std.specs.Prelude.{ℕ, List, ◌++◌, map, filter, codes, nat_eq}
 use Rattle.std.specs.Prelude.{Result, Err, Bool, not, ◌||◌, if◌then◌else◌}
 use Rattle.std.specs.List.{starts_with, list_any}
@@ -23,6 +24,7 @@ has_line name lines = list_any (is_named name) lines
 abbrev pub values_of : List ℕ → List HeaderLine → List (List ℕ)
 values_of name lines = map (λ (l : HeaderLine). l.1) (filter (is_named name) lines)
 
+-- the target that is served
 abbrev pub service : List ℕ
 service = codes "/service/update2/json"
 
@@ -38,6 +40,7 @@ asked_length target method lines =
     else if has_line (codes "transfer-encoding") lines then Err fault.Length
     else told_length (values_of (codes "content-length") lines)
 
+-- the length of the body that a head gives, or the first rule that it breaks
 abbrev pub asked_length_by : RequestHead → Result ℕ PostFault
 asked_length_by h = asked_length h.target h.method (map name_and_value h.fields)
 

@@ -1,4 +1,4 @@
--- Which answer a reader's bytes have: a body, or why there is none.
+-- Which answer a reader's bytes have: a body, or why there is none (RFC 9112, sections 2 to 6).
 --
 -- A head is judged as its bytes come, and at most 16,384 of them, so `take k xs` is what was
 -- judged. Where httparse leaves two answers right, so does this relation, and nowhere else: a head
@@ -32,6 +32,7 @@ pub record IsBegun (xs : List ℕ) : Type 0 where
   pub not_yet : HasNoRequest xs
   pub may_become : MayBecomeRequest xs
 
+-- which answers bytes have: a body, or why there is none
 pub data Posts (xs : List ℕ) : Result (List ℕ) PostFault → Type 0 where
   -- the body, as long as the head tells; bytes behind it are ignored
   whole : {h : RequestHead} {rest : List ℕ} {n : ℕ}

@@ -53,5 +53,6 @@ unfoldable pub reply_head : Status → ℕ → List ℕ
 reply_head s size =
     status_line s ++ type_line s ++ length_line size ++ allow_line s ++ close_line ++ crlf
 
+-- the bytes of a reply
 abbrev pub reply_bytes : Status → List ℕ → List ℕ
 reply_bytes s body = reply_head s (length body) ++ body

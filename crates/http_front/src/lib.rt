@@ -5,6 +5,8 @@
 //! come first. It is judged as its bytes come, so that a client hears of a malformed head as soon
 //! as no bytes can mend it, and never more is read than a head may have. Only then are the target,
 //! the method and the length looked at, in this order, and room is made for the body, once.
+//!
+//! See docs/DECISIONS.md, "The front".
 #![tactic(auto)]
 
 mod asked;

@@ -16,6 +16,10 @@ use std::io::Read;
 /// Reads the one POST of a connection, and gives its body. Never more than 16,384 bytes are read
 /// while no head is whole, and of a body that is refused no more than came with its head. The
 /// reader may have given more bytes than the request has; they are lost.
+// open: whether memory is refused (P9). At which of these bytes a head that no bytes can make good
+// is refused: tests. Which of two answers comes where `httparse` leaves both right: P6 beside P1,
+// P7 or P8 of a head with over 64 lines, P1 beside P6, P7 or P8 where the input stops within the
+// target.
 pub fn read_post<R: Read>(alloc: Global, reader: &mut Counted<R>) -> Result<Vec<u8>, PostFault>
     requires { reader.old.failures < 2 ^ 64 - 1 }
     ensures { ReadsPost R.remaining reader.old reader.new result (λ v. v.items) }

@@ -82,6 +82,7 @@ fn write_both<W: Write>(writer: &mut Counted<W>, head: &[u8], body: &[u8]) -> Re
 }
 
 /// Writes a whole reply, or its beginning up to the first failure; no memory is taken.
+// open: when a device fails.
 pub fn write_reply<W: Write>(
     writer: &mut Counted<W>,
     status: Status,

@@ -1,4 +1,5 @@
--- The reply to a request under a ruleset: its JSON value, and its bytes.
+-- The reply to a request under a ruleset, by this project's profile of Omaha 3.1: its JSON value,
+-- and its bytes.
 use Rattle.std.specs.Prelude.{ℕ, ℤ, List, [], ◌∷◌, ◌++◌, codes}
 use Rattle.std.specs.Prelude.{Bool, true, false, Option, Some, None}
 use Rattle.serde_json.specs.Data.{Data, number, string, array, object, unsigned}
@@ -40,6 +41,7 @@ unknown_value appid = object (
     member (codes "status") (string (codes "error-unknownApplication"))
     no_members))
 
+-- what is told of an app: one that the ruleset knows, or not
 abbrev pub app_value : AppFacts → Option FoundApp → Data
 app_value app (Some found) = known_value app found
 app_value app None = unknown_value app.appid

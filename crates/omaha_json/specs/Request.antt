@@ -1,4 +1,4 @@
--- Which request a body is, or what is wrong with it first.
+-- Which request a body is, by this project's profile of Omaha 3.1, or what is wrong with it first.
 use Rattle.std.specs.Prelude.{ℕ, suc, List, [], ◌∷◌, codes, Bool, false, nat_lt, Option, Some, None}
 use Rattle.std.specs.Prelude.{is_none, option_map, option_and_then, if◌then◌else◌, Result, Ok, Err}
 use Rattle.std.specs.Str.{is_utf8, bytes_eq}
@@ -85,6 +85,7 @@ of_apps facts apps =
     if nat_lt 256 (count_of apps) then Err TooManyApps
     else or_fault Shape (λ each. Ok (record { facts = facts; apps = each })) (all_facts apps)
 
+-- the text 3.1
 abbrev pub is_protocol : Option (List ℕ) → Bool
 is_protocol (Some text) = bytes_eq text (codes "3.1")
 is_protocol None = false

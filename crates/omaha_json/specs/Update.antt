@@ -1,4 +1,4 @@
--- What an `updatecheck` is answered: a release of the app to fetch, or none.
+-- What an `updatecheck` of Omaha 3.1 is answered: a release of the app to fetch, or none.
 use Rattle.std.specs.Prelude.{ℕ, ◌-◌, ◌==◌, List, codes, map, slice_get}
 use Rattle.std.specs.Prelude.{Option, Some, None, if◌then◌else◌}
 use Rattle.serde_json.specs.Data.{Data, boolean, number, string, array, object, unsigned}

@@ -51,7 +51,7 @@ impl<'a> FoundApp<'a> {
         self.releases
     }
 
-    /// Its bucket.
+    /// The bucket of the app.
     pub fn bucket(&self) -> u16
         ensures { result ≡ self.now.bucket }
     {

@@ -19,6 +19,7 @@ const MAX_APPS: usize = 256;
 
 /// The request that a body is. A member that stands twice has its last value, and members that the
 /// profile doesn't name are ignored.
+// open: whether memory is refused (O5).
 pub fn read_request(alloc: Global, body: &[u8]) -> Result<Request, OmahaFault>
     ensures { result ≢ Err OmahaFault.Memory → result ≡ request_in body.now }
 {

@@ -24,6 +24,7 @@ const USUAL_LENGTH: usize = 512;
 
 /// The reply to a request under a ruleset at a moment, with the choice of each app's run, in the
 /// apps' order: `None` where no run was made, since the app asked for none or isn't known.
+// open: whether memory is refused (O5).
 pub fn reply_text(
     alloc: Global,
     request: &Request,
@@ -49,6 +50,7 @@ pub fn reply_text(
 
 /// The reply by what was found of each app, in the room of an earlier text. `None` stands for an
 /// app that the ruleset doesn't know; the name is the server's.
+// open: whether memory is refused (O5).
 pub fn found_text(
     mut text: Vec<u8>,
     server: &str,

@@ -9,6 +9,7 @@ use Rattle.operator.specs.declared.reply.OperatorRefusal.{OperatorRefusal}
 use Rattle.operator.specs.declared.reply.OperatorRefusal.TheVariants as refusal
 use Rattle.ruleset.specs.Rules.{Rules, KnowsOnly}
 
+-- which ruleset was installed last, and the server's arrays
 pub record Controlled : Type 0 where
   pub publishing : Publishing
   pub arrays : List CellArray

@@ -46,6 +46,7 @@ module _ {F : Type 0} (fault_text : F → Option (List ℕ)) where
   refusal_text (refusal.Load fault) = fault_text fault
   refusal_text (refusal.Install fault) = Some (swap_text fault)
 
+  -- the lines of a reply
   abbrev pub reply_text : OperatorReply F → Option (List ℕ)
   reply_text (reply.Loaded generation) = Some (generation_line generation)
   reply_text (reply.Told lines) = Some (string_bytes lines)

@@ -25,6 +25,8 @@ const LINE_ROOM: usize = LINE_LIMIT + 1;
 
 /// Reads a line, does what it asks, and gives the reply. None where the reader failed; then nothing
 /// was done.
+// open: whether memory is refused (B4); which line a socket gave. Of the counters each reply is of
+// the moment of its load.
 pub fn answer<H: Wait, R: Read, L: Loader, C: CellSteps>(
     rt: &H,
     alloc: Global,
@@ -58,6 +60,7 @@ pub fn answer<H: Wait, R: Read, L: Loader, C: CellSteps>(
 }
 
 /// Writes a reply; it takes no memory.
+// open: whether memory is refused (B4).
 pub fn write_reply<W: Write, F: Display>(writer: &mut W, reply: &OperatorReply<F>) -> io::Result<()>
     ensures { OnOk result (IfSome (reply_text F.output reply.now)
         (λ text. Appends (W.contents writer.old) (W.contents writer.new) text)) }

@@ -61,6 +61,7 @@ impl std::error::Error for AskFault {}
 /// reply, of at most 1 MiB: those of a refusal begin with `refused `. What has not the form of a
 /// reply is none. But no byte is one to `cells`, as of a server whose counters are all 0. It waits
 /// ten minutes for each piece of the reply; after B5 a load or a stop may still have been done.
+// open: which of B4 and B5 comes; its ten minutes, which nothing tests.
 pub fn ask<H>(rt: &H, port: u16, request: OperatorRequest<'_>) -> Result<Vec<u8>, AskFault>
 where
     H: Net<Stream = TcpStream> + AllocGlobal,

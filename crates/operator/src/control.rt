@@ -87,6 +87,7 @@ impl Control {
     /// Loads the manifest at a path, and installs its ruleset as the next generation. Where it is
     /// refused nothing changes. It may wait for those who still look at the ruleset before the
     /// last.
+    // open: whether memory is refused (B4, H1).
     pub fn load<R: Wait, L: Loader>(
         &mut self,
         rt: &R,

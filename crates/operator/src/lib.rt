@@ -7,6 +7,8 @@
 //!
 //! The contract of `perform` is one relation, with a constructor for each outcome of a request: the
 //! reply, what became of ruleset and arrays, and the events by which the cells were read.
+//!
+//! See docs/DECISIONS.md, "The operator's port".
 #![tactic(auto)]
 
 mod answering;

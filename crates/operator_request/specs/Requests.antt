@@ -33,6 +33,7 @@ pub record SpellsRequest (line : List ℕ) (request : OperatorRequest) : Type 0 
   pub single : IsFalse (list_any is_line_feed line)
   pub worded : HasWordsOf line request
 
+-- a line spells no request
 abbrev pub SpellsNoRequest : List ℕ → Type 0
 SpellsNoRequest line = (request : OperatorRequest) → ¬ SpellsRequest line request
 

@@ -2,6 +2,8 @@
 //!
 //! The command line makes a request of its words, and a server's operator's port reads one of the
 //! line that it is sent. Both are one type, so that what is sent is what is read.
+//!
+//! See docs/DECISIONS.md, "The operator's port".
 #![tactic(auto)]
 
 mod request;

@@ -30,6 +30,7 @@ impl<'a> OperatorRequest<'a> {
     /// The request of a line, which is given without its line feed. None where the line has more
     /// than 4096 bytes or a line feed, is none of the words, or is `load` without a path or with
     /// one that isn't UTF-8.
+    // open: whether memory is refused.
     pub fn of(line: &'a [u8]) -> Option<OperatorRequest<'a>>
         ensures some { IfSome result (SpellsRequest line.now) }
         ensures none { IfNone result (SpellsNoRequest line.now) }
@@ -64,6 +65,7 @@ impl<'a> OperatorRequest<'a> {
     }
 
     /// The words of its line, without the line feed.
+    // open: whether memory is refused.
     pub fn words(self, alloc: Global) -> Result<String, AllocError>
         ensures { IfOk result (λ words. string_bytes words ≡ request_words self.entry) }
     {

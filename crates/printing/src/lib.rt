@@ -7,4 +7,4 @@ mod law;
 mod text;
 
 pub use law::no_control_is_printed;
-pub use text::{Printed, PrintedLines, has_control};
+pub use text::{Printed, PrintedLines, has_control, is_control};

@@ -1,6 +1,7 @@
 //! A text, shown with its controls escaped.
 
-ghost use Rattle.std.specs.Prelude.{◌≡◌};
+ghost use Rattle.std.specs.Prelude.{◌≡◌, ◌<◌};
+ghost use Rattle.std.specs.Bool.{OnTrue};
 ghost use Rattle.std.specs.Fmt.{WritesOnOk};
 ghost use Rattle.printing.specs.Printed as specs;
 
@@ -49,8 +50,11 @@ pub fn has_control(text: &str) -> bool
     false
 }
 
-fn is_control(c: char) -> bool
-    ensures { result ≡ specs.is_control c }
+/// Whether a character isn't printed: a terminal may obey it, or it ends a line. The log of a
+/// server escapes the same ones.
+pub fn is_control(c: char) -> bool
+    ensures value { result ≡ specs.is_control c }
+    ensures small { OnTrue result (c < 65536) }
 {
     c <= '\u{1f}'
         || ('\u{7f}' <= c && c <= '\u{9f}')

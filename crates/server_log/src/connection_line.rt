@@ -18,6 +18,8 @@ use std::{io, slice, str};
 /// Puts the line of a connection into a worker's log, where it is kept: how long it took since it
 /// began, 0 where that isn't known, what came of it, and what was seen. It is lost where memory is
 /// refused.
+// open: what a line tells of a connection, that apps which the server knows come first, and when it
+// is handed on: tests.
 pub fn note_connection<H>(
     rt: &H,
     log: &mut Log<'_>,

@@ -9,6 +9,8 @@
 //! failed (`Heard`), and what each app was answered (`Seen`). The line of an event is that of
 //! `log_line` in `access_log`, of which it is proved what it says. Of queues, threads and clocks,
 //! and of what is written, nothing is proved.
+//!
+//! See docs/OPERATING.md, "The log".
 #![tactic(auto)]
 
 mod clock;

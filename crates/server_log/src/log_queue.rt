@@ -52,6 +52,8 @@ impl LogQueue {
     }
 
     /// Puts the line of an event into the queue. It is lost where memory is refused.
+    // open: that lines come out whole, that nothing waits for a log that nobody reads, and that
+    // lost lines are counted: tests, and `bench/hostile`.
     pub fn note<H>(&self, rt: &H, event: &LogEvent<'_>)
     where
         H: Wait + AllocGlobal + Clock,
@@ -59,7 +61,8 @@ impl LogQueue {
         let _noted = self.note_until(rt, event, None);
     }
 
-    /// The same, and waits until then for a place where there is none. Whether it was put there.
+    /// Puts the line of an event into the queue, and waits until then for a place where there is
+    /// none. Whether it was put there.
     pub fn note_until<H>(&self, rt: &H, event: &LogEvent<'_>, until: Option<Instant>) -> bool
     where
         H: Wait + AllocGlobal + Clock,

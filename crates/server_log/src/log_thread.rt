@@ -23,6 +23,7 @@ pub struct LogEnd {
 
 /// Starts the thread that writes the lines of a queue on standard error, until the queue is let go
 /// of and empty. B4 where memory or the thread is refused.
+// open: all but the line of an event, which is that of `log_line`: tests.
 pub fn start_log<H>(rt: &H) -> Result<(LogQueue, LogEnd), ResourceFault>
 where
     H: Threads + Wait + AllocGlobal + Clock + LogOutput + Copy + Drop + Send + 'static,

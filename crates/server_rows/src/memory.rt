@@ -1,7 +1,7 @@
 //! Memory that is refused once: a request that takes of a quota gets a line that says so, which the
 //! test prints, and asked again it is answered as ever, by the count that the runs that were made
 //! left. So this passes with ample memory, and wherever one growth of it is refused, which
-//! `bench/refused` does for each in turn (docs/PROVING.md).
+//! `bench/refused` does for each in turn.
 
 use crate::exchange::{Answering, Heard, WHOLE, exchange, post, server_of, success};
 use crate::refusals::refusal;

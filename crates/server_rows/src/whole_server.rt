@@ -11,7 +11,7 @@ use crate::swaps_under_load::{are_whole, is_shared};
 use bounded_files::ResourceFault;
 use cells::Directory;
 use serving::{ServingFault, staff};
-use std::io::Write;
+use std::io::{self, Write};
 use std::net::{Net, SocketAddr, TcpListener, TcpStream};
 use std::sync::Wait;
 use std::test::Fail;
@@ -73,7 +73,25 @@ where
 /// What a server says once it serves its first ruleset.
 const SERVING: &[u8] = b"serving generation 1\n";
 
-/// The same, and B3 where it said anything else than that it serves.
+/// What was written, and by how many writes.
+#[derive(Drop)]
+struct Said {
+    text: Vec<u8>,
+    writes: u64,
+}
+
+impl Write for Said {
+    fn write(&mut self, buf: &[u8]) -> io::Result<usize> {
+        self.writes = self.writes.saturating_add(1);
+        self.text.write(buf)
+    }
+
+    fn flush(&mut self) -> io::Result<()> {
+        Ok(())
+    }
+}
+
+/// The same, and B3 where it said anything else than that it serves, or not by one write.
 pub(crate) fn served<H>(
     rt: &H,
     ports: Ports,
@@ -85,9 +103,12 @@ where
     H: Threads + Wait + AllocGlobal + Clock + Sync,
     H: Net<Listener = TcpListener, Stream = TcpStream>,
 {
-    let mut said = Vec::new(rt.alloc());
+    let mut said = Said {
+        text: Vec::new(rt.alloc()),
+        writes: 0,
+    };
     served_to(rt, ports, path, workers, service, &mut said)?;
-    if said.as_slice() == SERVING {
+    if said.text.as_slice() == SERVING && said.writes == 1 {
         return Ok(());
     }
     Err(ServingFault::Resource(ResourceFault::File))

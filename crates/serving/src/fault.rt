@@ -15,7 +15,7 @@ use std::fmt::{self, Display};
 pub enum ServingFault {
     /// B3, B4, M1 to M8: the manifest comes to no ruleset.
     Manifest(PathFault),
-    /// B6: a port can't be bound.
+    /// B6: a port can't be bound, or too few descriptors are left.
     Bind,
     /// S1: the counters are refused memory.
     Cells(SharedFault),

@@ -4,6 +4,8 @@
 //! by: the operator has the publisher and the directory, the workers have a watcher each, and all
 //! have passes to cells that they share without a lock. So what can be refused is refused before a
 //! server says that it serves, which it does once its threads are there, too (`workers`).
+//!
+//! See docs/DECISIONS.md, "The server".
 #![tactic(auto)]
 
 mod ended;

@@ -16,6 +16,7 @@ pub struct Manifests<'a, D> {
 
 impl<'a, D> Manifests<'a, D> {
     /// The manifests of this disk.
+    // open: what a device's files give.
     pub fn of(disk: &'a D) -> Manifests<'a, D>
         ensures { result.disk.now ≡ disk.now }
     {

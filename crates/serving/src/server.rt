@@ -26,7 +26,9 @@ pub struct Server {
 }
 
 /// Loads the manifest at a path, and binds both ports of loopback, of which 0 is any that is free.
-/// The fault of the manifest, and else B6 where a port can't be bound.
+/// The fault of the manifest, and else B6 where a port can't be bound, or the system has fewer
+/// descriptors left than a server wants at least.
+// open: what a device's files give.
 pub fn prepare<H, D>(
     rt: &H,
     disk: &D,

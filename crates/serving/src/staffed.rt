@@ -50,6 +50,7 @@ pub struct StaffedServer {
 /// those of the directory, with so many workers. Nothing else is installed. S1 where the counters
 /// are refused memory, H1 where the publisher or one of its watchers is, and B4 where the program
 /// itself is.
+// open: when B4 comes.
 pub fn staff<H>(
     rt: &H,
     ports: Ports,
@@ -114,10 +115,12 @@ impl StaffedServer {
 
     /// Serves until the operator stops the server, and gives the counters as they are left; those
     /// that aren't 0 have a line of the log. Once all threads are there, `out` is told that the
-    /// server serves. Later rulesets come from the loader. B4 where memory or a thread was refused,
-    /// which is before any client is answered and before anything is written; B3 where `out` can't
-    /// be written; and H2 where a worker can't be asked at the end what it has seen, which the log
-    /// tells with the counters.
+    /// server serves, by one write of the whole line. Later rulesets come from the loader. B4 where
+    /// memory or a thread was refused, which is before any client is answered and before anything
+    /// is written; B3 where `out` can't be written; and H2 where a worker can't be asked at the end
+    /// what it has seen, which the log tells with the counters.
+    // open: when which of B4, B3 and H2 comes; that the log has the last values, and that the line
+    // takes one write: tests.
     pub fn serve<H, L, O>(
         self,
         rt: &H,

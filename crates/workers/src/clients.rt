@@ -23,6 +23,7 @@ use std::time::Clock;
 /// comes, which isn't answered; those that were accepted before are, while the port is closed. Each
 /// pair of a pass and a watcher is a worker of its own, and there are 1 to 64. B4 comes before any
 /// connection is accepted.
+// open: what `run` leaves open; that the gate is called round each answer: tests.
 pub fn serve<H, G, C>(
     rt: &H,
     gate: &G,
@@ -50,6 +51,7 @@ where
 /// The same, and gives the workers back, in their order. The room for them is taken before the
 /// first thread is started. Once all threads are there, and before the first connection is
 /// accepted, `started` gets a message; where one is refused it gets none.
+// open: what `run` leaves open; that the gate is called round each answer: tests.
 pub fn serve_returning<H, G, C>(
     rt: &H,
     gate: &G,

@@ -15,6 +15,8 @@
 //! there. Which bytes a socket carried nothing tells. Of clocks nothing is proved, and of a server
 //! that gives up that it does so for want of memory or of a thread, or since it can't say that it
 //! serves.
+//!
+//! See docs/DECISIONS.md, "The server".
 #![tactic(auto)]
 
 mod accept;

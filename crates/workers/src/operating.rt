@@ -40,6 +40,7 @@ where
 /// to see to. The line of a connection has to come within 5 seconds, and its reply to be taken
 /// within 5 more, since a load may last; or within the limit of time, where that is shorter. A
 /// connection that fails is passed over, and so is one that can't be accepted.
+// open: which bytes a socket carries, and that requests are answered one after another: tests.
 pub fn operate<'x, H, L, C>(
     rt: &H,
     listener: &'x TcpListener,

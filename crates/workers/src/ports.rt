@@ -55,7 +55,11 @@ impl Ports {
     }
 }
 
-/// Binds both ports, of which 0 is any that is free.
+/// Binds both ports, of which 0 is any that is free. Where the system has fewer descriptors left
+/// than a server wants at least, that is an error, too: else it would listen, and could accept
+/// nobody. These are one by which the operator's port is kept open (`operator_handle`), one of a
+/// client's connection, one of the operator's, and one of a file that is loaded.
+// open: that both ports are on loopback: std says nothing of an address, so tests do.
 pub fn bind<H>(rt: &H, service: u16, operator: u16) -> io::Result<Ports>
 where
     H: Net<Listener = TcpListener, Stream = TcpStream>,
@@ -63,12 +67,22 @@ where
     let (service, address) = bind_one(rt, service)?;
     let (operator, operator_address) = bind_one(rt, operator)?;
     let handle = service.try_clone()?;
+    require_descriptors(&handle)?;
     Ok(Ports {
         service,
         service_end: PortEnd { handle, address },
         operator,
         operator_address,
     })
+}
+
+// Takes as many descriptors as a server wants at least behind those of its ports, and lets them go.
+fn require_descriptors(port: &TcpListener) -> io::Result<()> {
+    let _kept_open = port.try_clone()?;
+    let _client = port.try_clone()?;
+    let _operator = port.try_clone()?;
+    let _file = port.try_clone()?;
+    Ok(())
 }
 
 fn bind_one<H>(rt: &H, port: u16) -> io::Result<(TcpListener, SocketAddr)>

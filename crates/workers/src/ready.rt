@@ -6,8 +6,12 @@ ghost use Rattle.std.specs.Io.KnownBytes.{Appends};
 ghost use Rattle.std.specs.Prelude.{◌≡◌, ℕ, IfOk, OnOk};
 ghost use Rattle.workers.specs.Texts.{serving_line};
 
+use arrayvec::ArrayVec;
 use hot_swap::Generation;
 use std::io::{self, Write};
+
+/// More bytes than the line of any generation has.
+const LINE_ROOM: usize = 64;
 
 /// What says that a server serves the ruleset of a generation.
 pub(crate) trait Ready {
@@ -19,7 +23,7 @@ pub(crate) trait Ready {
         ensures { IfOk result (λ said. says self generation said) };
 }
 
-/// A writer, to which the line is written.
+/// A writer, to which the line is written at once.
 #[derive(Drop)]
 pub(crate) struct ReadyLine<'a, O> {
     pub(crate) out: &'a mut O,
@@ -38,11 +42,15 @@ impl<'a, O: Write> Ready for ReadyLine<'a, O> {
     }
 }
 
+// Writes the line, which is made before, by one write: so no line of another program that writes to
+// the same place stands in it. It takes no memory.
 fn write_line<O: Write>(out: &mut O, generation: Generation) -> io::Result<()>
     ensures { OnOk result
         (Appends (O.contents out.old) (O.contents out.new) (serving_line generation)) }
 {
-    writeln!(out, "serving generation {generation}")?;
+    let mut line = ArrayVec::<u8, LINE_ROOM>::new();
+    writeln!(line, "serving generation {generation}")?;
+    out.write_all(line.as_slice())?;
     out.flush()
 }
 

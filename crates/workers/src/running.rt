@@ -153,9 +153,14 @@ where
 
 /// Serves clients with these workers, of which there are 1 to 64, as `serve` does, and the
 /// operator's port beside them, until the operator has asked to stop. The operator is answered in
-/// this thread. Once all threads are there, `out` is told which generation is served. Where nothing
-/// was refused all passes and watchers are given back. B4, of memory or of a thread, comes before
-/// any client is answered and before anything is written, and B3 where `out` can't be written.
+/// this thread. Once all threads are there, `out` is told which generation is served, by one write
+/// of the whole line. Where nothing was refused all passes and watchers are given back. B4, of
+/// memory or of a thread, comes before any client is answered and before anything is written, and
+/// B3 where `out` can't be written.
+// open: which bytes a socket carries, and which moment a clock gives: nothing tells. That
+// connections are answered side by side, or the operator's one after another, their limits of time,
+// the log, that all threads end by a stop, also of a server that may not connect, and that the line
+// takes one write, of whose number std says nothing: tests.
 pub fn run<H, G, L, C, O>(
     rt: &H,
     gate: &G,

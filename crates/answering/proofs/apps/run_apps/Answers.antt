@@ -1,7 +1,10 @@
-use Rattle.std.proofs.Common.{◌≡◌, ◌+◌, ◌<◌, [], ◌∷◌, ◌++◌, length, refl, rules}
+use Rattle.std.proofs.Common.{◌≡◌, ◌∙◌, ◌+◌, ◌<◌, ◌≤◌, [], ◌∷◌, ◌++◌, length, ap, arith, refl}
+use Rattle.std.proofs.Common.{rules}
 use Rattle.std.proofs.lemmas.Grind.{common_steps}
+use Rattle.std.proofs.lemmas.List.{take_all}
 use Rattle.answering.specs.Apps.{none}
-use Rattle.answering.proofs.Grown.{grows_none, grows_next, grows_few, finds_nothing}
+use Rattle.answering.proofs.Grown.{grows_none, grows_next, grows_few, finds_length}
+use Rattle.answering.proofs.Grown.{finds_nothing}
 use Rattle.answering.proofs.apps.run_apps.Goals as goal
 
 pub returns-in_default-clause-finds : goal.returns-in_default-clause-finds
@@ -41,3 +44,10 @@ loop-app-preserved g c =
           c.growth.ensures.append below c.app-item.is pushed c.loop-app.invariant.1
           c.in-Ok-run_app.ensures.finds,
     )
+
+pub returns-clause-each : goal.returns-clause-each
+returns-clause-each g c =
+    let apps' = c.apps-apps.result.now in
+    let past : length apps' ≤ c.loop-app.app-index = c.loop-app-test.false in
+    finds_length _ _ _ c.loop-app.invariant.1.of
+    ∙ ap length (take_all c.loop-app.app-index apps' (omega (arith, past)) ∙ c.apps-apps.ensures)
