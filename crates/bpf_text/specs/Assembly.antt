@@ -183,6 +183,7 @@ Assembles text verdict = (v : Vocabulary) × IsExact v × (assembly_of v text �
 abbrev pub IsAsmFault : List ℕ → AsmFault → Type 0
 IsAsmFault text e = (e ≡ Memory) ⊎ Assembles text (Err e)
 
+-- no text has two verdicts
 abbrev pub HasOneAssembly : List ℕ → Type 0
 HasOneAssembly text = (a b : BytesOrFault) → Assembles text a → Assembles text b → a ≡ b
 

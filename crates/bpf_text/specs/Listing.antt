@@ -59,6 +59,7 @@ line_of i =
     ++ text_behind (codes ", ") ((arguments_of i).third)
     ++ codes "\n"
 
+-- the lines of a list of instructions
 abbrev pub listing_of : List Insn → List ℕ
 listing_of [] = []
 listing_of (i ∷ rest) = line_of i ++ listing_of rest
@@ -86,6 +87,7 @@ IsListing bytes (Ok text) = Lists bytes text
 IsListing bytes (Err (list_fault.Insn slot e)) = IsFirstFault bytes slot e
 IsListing bytes (Err list_fault.Memory) = ⊥
 
+-- no bytes have two listings or faults
 abbrev pub HasOneListing : List ℕ → Type 0
 HasOneListing bytes =
     (a b : Result (List ℕ) ListFault) → IsListing bytes a → IsListing bytes b → a ≡ b

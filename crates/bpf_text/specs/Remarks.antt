@@ -34,6 +34,7 @@ bare_line i =
     ++ text_behind (codes ", ") ((arguments_of i).second)
     ++ text_behind (codes ", ") ((arguments_of i).third)
 
+-- a listing with a remark behind each line
 abbrev pub remarked_listing : List RemarkedInsn → List ℕ
 remarked_listing [] = []
 remarked_listing (l ∷ ls) =

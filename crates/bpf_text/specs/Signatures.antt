@@ -13,6 +13,7 @@ use Rattle.bpf_text.specs.declared.signature.OperandKind.TheVariants.{Memory, Sh
 use Rattle.bpf_text.specs.Arguments.{mnemonic_of, arguments_of}
 use Rattle.bpf_text.specs.Three.{none, one, two, three}
 
+-- the kinds of operands that each word wants
 abbrev pub kinds_of : Mnemonic → UpToThree OperandKind
 kinds_of (word.Alu bits op) = two Register Source
 kinds_of (word.Mov bits) = two Register Source

@@ -184,6 +184,7 @@ fn assembled(alloc: Global, text: &[u8]) -> Result<Vec<u8>, AsmFault>
 /// Refused with the first line that has a fault of its own (of several the lowest: `Token`,
 /// `Mnemonic`, `Operand`, `Label` for one given twice, `Range`, `TooLong` past slot 4096), else
 /// with the first jump to an unknown label; or with `Memory` where a growth was refused.
+// open: whether memory is refused (A7).
 pub fn assemble(alloc: Global, text: &str) -> Result<Vec<u8>, AsmFault>
     ensures bytes { IfOk result (λ v. Assembles text.now (Ok v.items)) }
     ensures fault { IfErr result (IsAsmFault text.now) }

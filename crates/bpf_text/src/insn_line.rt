@@ -12,6 +12,7 @@ use bpf_insn::Insn;
 use std::alloc::{AllocError, Global};
 
 /// The line of an instruction as a listing has it, ended by LF.
+// open: whether memory is refused.
 pub fn line_of(alloc: Global, insn: Insn) -> Result<String, AllocError>
     ensures { IfOk result (λ text. string_bytes text ≡ specs.line_of insn) }
 {
@@ -21,6 +22,7 @@ pub fn line_of(alloc: Global, insn: Insn) -> Result<String, AllocError>
 }
 
 /// Writes the line of an instruction without the LF that ends it.
+// open: whether memory is refused.
 pub fn push_bare_line(out: &mut String, insn: Insn) -> Result<(), AllocError>
     ensures { OnOk result (Appends out.old out.new (bare_line insn)) }
 {

@@ -2,6 +2,8 @@
 //! Both go by one word and one signature an instruction: `mnemonic` has the words, `argument` the
 //! arguments behind them, which the listing writes, and `signature` the kinds of operands that the
 //! assembler reads them from.
+//!
+//! See docs/PROGRAM.md, "Assembly text"; docs/DECISIONS.md, "The assembly text".
 #![tactic(auto)]
 
 mod argument;

@@ -153,6 +153,7 @@ fn push_next(out: &mut String, bytes: &[u8], slot: usize) -> Result<usize, ListF
 ///
 /// Refused with the first slot where no instruction begins and its fault, or with `Memory` where a
 /// growth of the text was refused.
+// open: whether memory is refused.
 pub fn listing(alloc: Global, bytes: &[u8]) -> Result<String, ListFault>
     ensures text { IfOk result (λ text. Lists bytes.now (string_bytes text)) }
     ensures assembles { IfOk result (λ text. AssemblesAgain bytes.now (string_bytes text)) }

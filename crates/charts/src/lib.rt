@@ -1,4 +1,6 @@
 //! Charts: what a simulation came to, as tables of text and as a picture.
+//!
+//! See docs/PROGRAM.md, "simulate".
 #![tactic(auto)]
 
 // How it goes. A simulation is kept with its ruleset, so an app has its releases beside the choices

@@ -25,6 +25,7 @@ pub struct MoveWidths {
 }
 
 /// Puts the tables of all apps that one of two rulesets has behind a text.
+// open: whether memory is refused.
 pub fn push_moves(
     alloc: Global,
     text: &mut String,

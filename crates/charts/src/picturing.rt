@@ -37,6 +37,7 @@ fn ground_closes() -> &'static str
 
 /// The picture of a simulation, as the text of an SVG file. Want of memory is answered, too, where
 /// its height passes 64 bits.
+// open: whether memory is refused.
 pub fn draw(alloc: Global, simulated: &Simulated) -> Result<String, AllocError>
     ensures { IfOk result (λ text. string_bytes text ≡ specs.picture simulated.now) }
 {

@@ -15,6 +15,7 @@ use std::alloc::AllocError;
 use std::fmt::Write;
 
 /// Puts the tables of all apps behind a text.
+// open: whether memory is refused.
 pub fn push_shares(text: &mut String, simulated: &Simulated) -> Result<(), AllocError>
     ensures { OnOk result (Puts text.old text.new (specs.shares_text simulated.now)) }
 {

@@ -33,6 +33,7 @@ impl Model for Simulated {
 impl Simulated {
     /// The simulation of a ruleset for clients that say what this one does. The onlooker is told
     /// how far it is.
+    // open: whether memory is refused.
     pub fn of<O: Onlooker>(
         alloc: Global,
         rules: Ruleset,

@@ -1,5 +1,5 @@
-//! Simulations, as `rollout simulate` tells them: of the rules under `examples/rules/`, and of the
-//! server's next manifest against the one that serves.
+//! Simulations, as `rollout simulate` tells them: of the rules under `examples/rules/`, of the
+//! server's next manifest against the one that serves, and of three stages, with their picture.
 
 use anyhow::{Context, Result};
 use attrs::{AppFacts, RequestFacts, Text};
@@ -9,6 +9,7 @@ use simulation::Client;
 use std::alloc::{AllocError, Global};
 use std::rt::Files;
 use std::time::Clock;
+use std::{fs, str};
 
 /// The first second of 2026-12-01 by the Unix clock.
 const DECEMBER: i64 = 1796083200;
@@ -50,6 +51,30 @@ where
     Ok(())
 }
 
+/// Draws three stages. README shows their squares side by side: of the picture's lines that file
+/// lacks those of its frame alone, and these are printed.
+fn draw_stages<R>(rt: &R) -> Result<()>
+where
+    R: Files + AllocGlobal + Print + Clock + Eprint,
+{
+    let clients = clients(rt.alloc(), "1.9")?;
+    let disk = Device::new(rt);
+    let stages = "stages/manifest.toml";
+    let told = simulate_files(rt, &disk, stages, None, Some("drawn.svg"), clients)
+        .ok()
+        .context("a simulation")?;
+    print!(rt; "{stages}, simulated:\n{}", told.text)?;
+    let picture = told.picture.as_ref().context("a picture")?;
+    let shown = fs::read(rt, "stages.svg")?;
+    let shown = str::from_utf8(&shown)?;
+    for line in picture.lines() {
+        if !shown.contains(line) {
+            println!(rt; "stages.svg hasn't {line}")?;
+        }
+    }
+    Ok(())
+}
+
 /// Simulates the manifests.
 pub(crate) fn simulate_all<R>(rt: &R) -> Result<()>
 where
@@ -57,5 +82,6 @@ where
 {
     tell(rt, "rules/manifest.toml", None, "1.9")?;
     let serving = Some("staged/manifest.toml");
-    tell(rt, "staged/next.toml", serving, "2.0.4")
+    tell(rt, "staged/next.toml", serving, "2.0.4")?;
+    draw_stages(rt)
 }

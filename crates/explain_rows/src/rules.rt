@@ -28,7 +28,7 @@ mov r0, 0
 exit
 - V3 | 1
 mul r1, 2             ; 0: V3: r1 is context+0: <MORE>
-only a place in context or stack is moved, by a number and in 64 bits
+only a place in context or stack is moved, by add or sub of a number in 64 bits
 mov r0, 0
 exit
 - V4: a single number | 1
@@ -67,6 +67,9 @@ const MEMORY: &str = r#"
 - V6: outside the context | 1
 ldxdw r0, [r1+60]     ; 0: V6: r1 is context+0, and 8 bytes at [r1+60] may lie outside the region
 exit
+- V6: a byte | 1
+ldxb r0, [r1+64]      ; 0: V6: r1 is context+0, and 1 byte at [r1+64] may lie outside the region
+exit
 - V6: a part of a cell | 1
 ldcell r6, 0, 0       ; 0:
 ldxw r0, [r6+0]       ; 2: V6: r6 is a[0]: <MORE>
@@ -98,6 +101,13 @@ ldcell r6, 2, 0       ; 0:
 stdw [r6+0], 1        ; 2: V14: r6 is q[0], <MORE>
 of an array with a quota: only a load or an atomic add of 1 with fetch touches it
 mov r0, 0
+exit
+- V14: an addition of 2 | 1
+ldcell r6, 2, 0       ; 0:
+mov r2, 2             ; 2: r6 q[0]
+fadddw [r6+0], r2     ; 3: V14: r6 is q[0], <MORE>
+of an array with a quota: only a load or an atomic add of 1 with fetch touches it, and r2 is 2
+mov r0, 0
 exit"#;
 
 const CALLS: &str = r#"
@@ -115,6 +125,16 @@ mov r2, 0             ; 1: r1 0
 mov r3, 4             ; 2: r2 0
 call 2                ; 3: V10: helper 2 takes a number, and of the stack a place <MORE>
 and a single length up to 64: r1 is 0, r2 is 0, r3 is 4
+exit
+- V10: a text that ends past the stack's top | 1
+mov r1, 0             ; 0:
+stdw [r10-8], 1       ; 1: r1 0, r10 stack-0
+mov r2, r10           ; 2: r10 stack-0
+add r2, -4            ; 3: r2 stack-0
+mov r3, 8             ; 4: r2 stack-4
+call 2                ; 5: V10: helper 2 takes a number, and of the stack a place <MORE>
+and a single length up to 64: r1 is 0, r2 is stack-4, r3 is 8, <MORE>
+which ends past the stack's top by 4 bytes
 exit
 - V10: a length | 1
 call 3                ; 0: V10: helper 3 takes a number: r1 is context+0

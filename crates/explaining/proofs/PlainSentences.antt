@@ -1,20 +1,22 @@
 -- No sentence has a control character, where the names of arrays have none.
 use Rattle.std.proofs.Common.{ℕ, zero, suc, ℤ, pos, negsuc}
 use Rattle.std.proofs.Common.{List, [], ◌∷◌}
-use Rattle.std.proofs.Common.{codes, ◌||◌, ◌==◌}
+use Rattle.std.proofs.Common.{codes, ◌&&◌, ◌||◌, ◌==◌, ◌+◌, ◌-◌, nat_le}
 use Rattle.std.proofs.Common.{Option, Some, None, refl, slice_get}
 use Rattle.std.specs.Int.{w64, cast_signed}
 use Rattle.bpf_insn.specs.declared.insn.Insn.{Insn}
-use Rattle.bpf_insn.specs.declared.insn.Insn.TheVariants.{Alu, Load, Call, Wide}
+use Rattle.bpf_insn.specs.declared.insn.Insn.TheVariants.{Alu, Load, Atomic, Call, Wide}
 use Rattle.bpf_insn.specs.declared.operand.AluOp.{AluOp}
+use Rattle.bpf_insn.specs.declared.operand.AtomicOp.TheVariants.{FetchAdd}
 use Rattle.bpf_insn.specs.declared.operand.WideValue.TheVariants as wide
 use Rattle.bpf_insn.specs.declared.reg.Reg.{Reg}
 use Rattle.bpf_insn.specs.declared.reg.Reg.TheVariants.{R0, R1, R2, R3}
+use Rattle.bpf_semantics.specs.Memory.{stack_size}
 use Rattle.cells.specs.Arrays.{AppShape}
 use Rattle.cells.specs.declared.array.CellArray.{CellArray}
 use Rattle.abs_value.specs.declared.state.AbsState.{AbsState}
 use Rattle.abs_value.specs.declared.value.Abs.{Abs}
-use Rattle.abs_value.specs.declared.value.Abs.TheVariants.{Num, MayCell, Cell}
+use Rattle.abs_value.specs.declared.value.Abs.TheVariants.{Num, Stk, MayCell, Cell}
 use Rattle.abs_value.specs.Numbers.{is_single, least}
 use Rattle.abs_value.specs.States.{value_of, operand_value}
 use Rattle.bpf_rules.specs.Reads.{helper_of}
@@ -85,10 +87,15 @@ module _ (shape : AppShape) (names : AreNamedPlainly shape.arrays) where
       (move_plain op (value_of e dst) (operand_value e bits src))
   moved_plain e i = word [] refl
 
+  so_many_plain : (n : ℕ) → IsPlain (sentences.so_many_bytes n)
+  so_many_plain n =
+      either (n == 1) (word (codes "1 byte") refl)
+      (both (decimal_plain n) (word (codes " bytes") refl))
+
   bytes_plain : (t : TouchedMemory) → IsPlain (sentences.bytes_text t)
   bytes_plain t =
-      both (both (both (word (codes ", and ") refl) (decimal_plain t.count))
-      (word (codes " bytes at ") refl)) (memory_plain t.base t.offset)
+      both (both (both (word (codes ", and ") refl) (so_many_plain t.count))
+      (word (codes " at ") refl)) (memory_plain t.base t.offset)
 
   outside_plain : (t : TouchedMemory) (v : Abs) → IsPlain (sentences.outside_text t v)
   unfolding asked.cells_ask
@@ -113,6 +120,26 @@ module _ (shape : AppShape) (names : AreNamedPlainly shape.arrays) where
   two_plain e =
       both (both (register_is_plain e R1) (word (codes ", ") refl)) (register_is_plain e R2)
 
+  added_plain : (e : AbsState) (i : Insn) → IsPlain (sentences.added_text shape e i)
+  added_plain e (Atomic FetchAdd size dst src offset) =
+      both (word (codes ", and ") refl) (register_is_plain e src)
+  added_plain e i = word [] refl
+
+  past_plain : (n : ℕ) → IsPlain (sentences.past_text n)
+  unfolding asked.past_top
+  past_plain n =
+      either (n == 0) (word [] refl)
+      (both (word asked.past_top refl) (so_many_plain n))
+
+  past_top_plain : (a b : Abs) → IsPlain (sentences.past_top_text a b)
+  past_top_plain (Stk place) (Num n) =
+      either (is_single n && nat_le (least n) 64) (past_plain (place + least n - stack_size))
+      (word [] refl)
+  past_top_plain a b = word [] refl
+
+  three_plain : (e : AbsState) → IsPlain (sentences.three_are shape e)
+  three_plain e = both (both (two_plain e) (word (codes ", ") refl)) (register_is_plain e R3)
+
   call_plain : (e : AbsState) (number : ℤ) (h : Option Helper)
       → IsPlain (sentences.call_text shape e number h)
   unfolding asked.lookup_takes asked.attr_is_takes
@@ -120,8 +147,8 @@ module _ (shape : AppShape) (names : AreNamedPlainly shape.arrays) where
   call_plain e number (Some helper.Lookup) =
       both (word asked.lookup_takes refl) (two_plain e)
   call_plain e number (Some helper.AttrIs) =
-      both (both (both (word asked.attr_is_takes refl) (two_plain e)) (word (codes ", ") refl))
-      (register_is_plain e R3)
+      both (both (word asked.attr_is_takes refl) (three_plain e))
+      (past_top_plain (value_of e R2) (value_of e R3))
   call_plain e number (Some h) =
       both (both (both (word (codes "helper ") refl) (signed_plain number))
       (word (codes " takes a number: ") refl)) (register_is_plain e R1)
@@ -168,6 +195,8 @@ module _ (shape : AppShape) (names : AreNamedPlainly shape.arrays) where
   sentence_plain e i rule.MapIndex = array_fault_plain i
   sentence_plain e i rule.Result =
       both (register_is_plain e R0) (choice_plain shape.releases (value_of e R0))
+  sentence_plain e i rule.QuotaCell =
+      both (access_plain e rule.QuotaCell (touched i)) (added_plain e i)
   sentence_plain e i k = access_plain e k (touched i)
 
   pub refusal_plain : (e : AbsState) (i : Insn) (k : VerifierRule)

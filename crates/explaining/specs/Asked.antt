@@ -4,11 +4,12 @@ use Rattle.std.specs.Prelude.{ℕ, List, codes}
 use Rattle.bpf_rules.specs.declared.refusal.VerifierRule.{VerifierRule}
 use Rattle.bpf_rules.specs.declared.refusal.VerifierRule.TheVariants as rule
 
+-- what a rule asks, in words
 unfoldable pub asked_of : VerifierRule → List ℕ
 asked_of rule.Unusable = codes " may be unset, or paths disagree on it"
 asked_of rule.WritesFrame = codes "r10 has the stack's top, and isn't written"
 asked_of rule.PointerArithmetic =
-    codes ": only a place in context or stack is moved, by a number and in 64 bits"
+    codes ": only a place in context or stack is moved, by add or sub of a number in 64 bits"
 asked_of rule.OffsetRange = codes " may move it out of its region"
 asked_of rule.PointerCompare =
     codes ": only what a lookup gave or a cell's address is compared, with 0 by 64-bit jeq or jne"
@@ -41,3 +42,7 @@ lookup_takes = codes "helper 1 takes a map and a number: "
 unfoldable pub attr_is_takes : List ℕ
 attr_is_takes =
     codes "helper 2 takes a number, and of the stack a place and a single length up to 64: "
+
+-- of a text that doesn't end in the stack
+unfoldable pub past_top : List ℕ
+past_top = codes ", which ends past the stack's top by "

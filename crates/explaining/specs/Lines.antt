@@ -85,6 +85,7 @@ lines_from p way s (i ∷ is) =
 
 -- ---- the whole
 
+-- a program's listing with these remarks, and that it is accepted, or the rule that refuses it
 pub record IsExplained (p : ShapedProgram) (text : List ℕ) : Type 0 where
   pub insns : List Insn
   pub code_is : p.code ≡ layout insns

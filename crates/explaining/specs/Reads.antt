@@ -55,6 +55,7 @@ abbrev pub exchanged_registers : AtomicOp → Reg → Reg → ReadRegisters
 exchanged_registers atomic.CompareExchange dst src = three_registers dst src R0
 exchanged_registers op dst src = two_registers dst src
 
+-- the registers that an instruction reads, which are those of the rules
 abbrev pub read_registers : Insn → ReadRegisters
 read_registers (Alu bits op dst src) = with_operand dst src
 read_registers (Mov bits dst src) = operand_registers src

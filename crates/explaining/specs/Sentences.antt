@@ -1,20 +1,23 @@
 -- Why a rule of the verifier refuses an instruction: what the rule asks, and what is known instead.
-use Rattle.std.specs.Prelude.{ℕ, ◌==◌, ℤ, pos, negsuc, List, [], ◌++◌, codes}
-use Rattle.std.specs.Prelude.{Bool, true, false, ◌||◌, if◌then◌else◌, Option, Some, None, slice_get}
+use Rattle.std.specs.Prelude.{ℕ, ◌+◌, ◌-◌, ◌==◌, nat_le, ℤ, pos, negsuc, List, [], ◌++◌, codes}
+use Rattle.std.specs.Prelude.{Bool, true, false, ◌&&◌, ◌||◌, if◌then◌else◌}
+use Rattle.std.specs.Prelude.{Option, Some, None, slice_get}
 use Rattle.std.specs.Fmt.{decimal, signed_decimal}
 use Rattle.std.specs.Int.{w64, cast_signed}
 use Rattle.bpf_insn.specs.declared.insn.Insn.{Insn}
 use Rattle.bpf_insn.specs.declared.insn.Insn.TheVariants.{Alu, Call, Load, Store, Atomic, Wide}
 use Rattle.bpf_insn.specs.declared.operand.AluOp.{AluOp}
 use Rattle.bpf_insn.specs.declared.operand.AluOp.TheVariants.{Add}
+use Rattle.bpf_insn.specs.declared.operand.AtomicOp.TheVariants.{FetchAdd}
 use Rattle.bpf_insn.specs.declared.operand.WideValue.TheVariants as wide
 use Rattle.bpf_insn.specs.declared.reg.Reg.{Reg}
 use Rattle.bpf_insn.specs.declared.reg.Reg.TheVariants.{R0, R1, R2, R3}
+use Rattle.bpf_semantics.specs.Memory.{stack_size}
 use Rattle.cells.specs.Arrays.{AppShape}
 use Rattle.cells.specs.declared.array.CellArray.{CellArray}
 use Rattle.abs_value.specs.declared.state.AbsState.{AbsState}
 use Rattle.abs_value.specs.declared.value.Abs.{Abs}
-use Rattle.abs_value.specs.declared.value.Abs.TheVariants.{Num, Ctx, MayCell, Cell}
+use Rattle.abs_value.specs.declared.value.Abs.TheVariants.{Num, Ctx, Stk, MayCell, Cell}
 use Rattle.abs_value.specs.Numbers.{is_single, least}
 use Rattle.abs_value.specs.States.{value_of, operand_value}
 use Rattle.abs_value.specs.Values.{is_unusable, is_pointer}
@@ -26,7 +29,7 @@ use Rattle.bpf_rules.specs.declared.refusal.VerifierRule.TheVariants as rule
 use Rattle.explaining.specs.declared.reads.ReadRegisters.{ReadRegisters}
 use Rattle.explaining.specs.declared.reads.TouchedMemory.{TouchedMemory}
 use Rattle.explaining.specs.Asked.{asked_of, unset_byte, no_cell_at, cells_ask}
-use Rattle.explaining.specs.Asked.{lookup_takes, attr_is_takes}
+use Rattle.explaining.specs.Asked.{lookup_takes, attr_is_takes, past_top}
 use Rattle.explaining.specs.Known.{register_word, memory_text}
 use Rattle.explaining.specs.Reads.{first_such, read_registers, touched}
 use Rattle.explaining.specs.Values.{number_text, value_text}
@@ -94,9 +97,12 @@ moved_text shape e i = []
 
 -- ---- V6, V8, V9, V12, V14: an access
 
+abbrev pub so_many_bytes : ℕ → List ℕ
+so_many_bytes n = if n == 1 then codes "1 byte" else decimal n ++ codes " bytes"
+
 abbrev pub bytes_text : TouchedMemory → List ℕ
 bytes_text t =
-    codes ", and " ++ decimal t.count ++ codes " bytes at " ++ memory_text t.base t.offset
+    codes ", and " ++ so_many_bytes t.count ++ codes " at " ++ memory_text t.base t.offset
 
 abbrev pub outside_text : TouchedMemory → Abs → List ℕ
 outside_text t (Cell origin) = cells_ask
@@ -116,6 +122,15 @@ access_text shape e rule.Access (Some t) =
 access_text shape e rule.NotAddress (Some t) = no_address shape e t.base
 access_text shape e r (Some t) = register_is shape e t.base ++ asked_of r
 
+-- what is added, where it is that alone which isn't allowed
+abbrev pub added_text : AppShape → AbsState → Insn → List ℕ
+added_text shape e (Atomic FetchAdd size dst src offset) =
+    codes ", and " ++ register_is shape e src
+added_text shape e i = []
+
+abbrev pub quota_text : AppShape → AbsState → Insn → List ℕ
+quota_text shape e i = access_text shape e rule.QuotaCell (touched i) ++ added_text shape e i
+
 -- ---- V7
 
 abbrev pub or_r0 : AbsState → Reg → Reg
@@ -132,6 +147,21 @@ stored_register e i = None
 abbrev pub two_are : AppShape → AbsState → List ℕ
 two_are shape e = register_is shape e R1 ++ codes ", " ++ register_is shape e R2
 
+abbrev pub ends_past : ℕ → List ℕ
+ends_past n = past_top ++ so_many_bytes n
+
+abbrev pub past_text : ℕ → List ℕ
+past_text n = if n == 0 then [] else ends_past n
+
+-- of a text in the stack, how far it ends past the top
+abbrev pub past_top_text : Abs → Abs → List ℕ
+past_top_text (Stk place) (Num n) =
+    if is_single n && nat_le (least n) 64 then past_text (place + least n - stack_size) else []
+past_top_text address length = []
+
+abbrev pub three_are : AppShape → AbsState → List ℕ
+three_are shape e = two_are shape e ++ codes ", " ++ register_is shape e R3
+
 abbrev pub taker_text : ℤ → List ℕ
 taker_text number = codes "helper " ++ signed_decimal number ++ codes " takes a number: "
 
@@ -142,7 +172,7 @@ abbrev pub call_text : AppShape → AbsState → ℤ → Option Helper → List 
 call_text shape e number None = asked_of rule.Helper ++ signed_decimal number
 call_text shape e number (Some helper.Lookup) = lookup_takes ++ two_are shape e
 call_text shape e number (Some helper.AttrIs) =
-    attr_is_takes ++ two_are shape e ++ codes ", " ++ register_is shape e R3
+    attr_is_takes ++ three_are shape e ++ past_top_text (value_of e R2) (value_of e R3)
 call_text shape e number (Some h) = number_is_taken shape e number
 
 abbrev pub helper_text : AppShape → AbsState → Insn → List ℕ
@@ -202,6 +232,7 @@ rule_sentence shape e i rule.StoresPointer =
 rule_sentence shape e i rule.Helper = helper_text shape e i
 rule_sentence shape e i rule.MapIndex = array_fault shape i
 rule_sentence shape e i rule.Result = result_text shape e
+rule_sentence shape e i rule.QuotaCell = quota_text shape e i
 rule_sentence shape e i r = access_text shape e r (touched i)
 
 -- its number, `V1` to `V14`

@@ -55,6 +55,7 @@ lowest_bits a (suc j) = bit_text a j ++ lowest_bits a j
 abbrev pub bits_text : Number → ℕ → List ℕ
 bits_text a n = if n == 0 then [] else codes " bits " ++ lowest_bits a (8 * ((n + 7) / 8))
 
+-- of a number its range, and the bits of the lowest bytes where one says more
 abbrev pub number_text : Number → List ℕ
 number_text a = range_text a.range.lo a.range.hi ++ bits_text a (telling_bits a 64)
 
@@ -96,6 +97,7 @@ place_text lo hi =
 abbrev pub stack_place_text : ℕ → List ℕ
 stack_place_text place = codes "stack-" ++ decimal (stack_size - place)
 
+-- what is known of a value
 abbrev pub value_text : AppShape → Abs → List ℕ
 value_text shape Unusable = codes "unusable"
 value_text shape (Num a) = number_text a

@@ -31,6 +31,7 @@ pub fn push_found(text: &mut String, shape: &Shape, lookup: Lookup) -> Result<()
 }
 
 /// Writes a counter, as `q[0]`.
+// open: whether memory is refused.
 pub fn push_counter(text: &mut String, shape: &Shape, cell: u16) -> Result<(), AllocError>
     ensures { OnOk result (Appends text.old text.new (specs.counter_text shape.now cell)) }
 {

@@ -15,7 +15,7 @@ pub fn asked_by(rule: VerifierRule) -> &'static str
         VerifierRule::Unusable => " may be unset, or paths disagree on it",
         VerifierRule::WritesFrame => "r10 has the stack's top, and isn't written",
         VerifierRule::PointerArithmetic => {
-            ": only a place in context or stack is moved, by a number and in 64 bits"
+            ": only a place in context or stack is moved, by add or sub of a number in 64 bits"
         }
         VerifierRule::OffsetRange => " may move it out of its region",
         VerifierRule::PointerCompare => {
@@ -95,4 +95,12 @@ pub fn no_cell_at() -> &'static str
     ensures { result.now ≡ asked.no_cell_at }
 {
     " has no cell at byte "
+}
+
+/// What is wrong with a text that doesn't end in the stack.
+#[tactic(auto, unfolding(crate::specs::Asked::past_top))]
+pub fn past_top() -> &'static str
+    ensures { result.now ≡ asked.past_top }
+{
+    ", which ends past the stack's top by "
 }

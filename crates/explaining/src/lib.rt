@@ -1,5 +1,7 @@
 //! A program with what is known before each of its instructions, in words: its listing, each line
 //! with a comment behind it, so that the text assembles to the same bytes.
+//!
+//! See docs/PROGRAM.md, "explain".
 #![tactic(auto)]
 
 // What is told of a place is the definition's entry there, which a walk over the places lends
@@ -11,6 +13,7 @@
 mod arrays;
 mod asks;
 mod bits;
+mod called;
 mod known;
 mod law;
 mod line;

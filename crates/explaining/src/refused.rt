@@ -49,6 +49,7 @@ fn tell_place(
 }
 
 /// Where and why `verify` refuses a program under a shape; none where it accepts it.
+// open: whether memory is refused.
 pub fn refused_place(
     alloc: Global,
     flow: &Flow,

@@ -5,9 +5,10 @@ ghost use Rattle.bpf_text.specs.Listing.{Appends};
 ghost use Rattle.explaining.specs.Sentences as specs;
 
 use crate::asks::{asked_by, verifier_rule_number};
+use crate::called::push_helper;
 use crate::operands::{push_moved, push_pointer, push_register_is, push_unusable, stored_register};
 use crate::reads::{ReadRegisters, touched};
-use crate::wrong::{push_access, push_array_fault, push_helper};
+use crate::wrong::{push_access, push_array_fault, push_quota};
 use abs_value::{Abs, AbsState};
 use bpf_insn::{Insn, Reg};
 use bpf_verify::VerifierRule;
@@ -65,6 +66,7 @@ fn push_sentence(
         VerifierRule::Helper => push_helper(text, shape, e, insn),
         VerifierRule::MapIndex => push_array_fault(text, shape, insn),
         VerifierRule::Result => push_result(text, shape, e),
+        VerifierRule::QuotaCell => push_quota(text, shape, e, insn),
         _ => push_access(text, shape, e, rule, touched(insn)),
     }
 }

@@ -92,6 +92,7 @@ fn tell(alloc: Global, flow: &Flow, shape: &Shape) -> Result<Explained, AllocErr
 /// The listing of a program with what is known before each instruction as a comment behind it, up
 /// to the first instruction that breaks a rule: of that one the comment has the rule and what is
 /// known instead of what it asks. A refusal that is told is never V15.
+// open: whether memory is refused.
 pub fn explain(alloc: Global, flow: &Flow, shape: &Shape) -> Result<Explained, AllocError>
     ensures text { IfOk result
         (λ x. IsExplained (shaped flow.now shape.now) (string_bytes x.text)) }

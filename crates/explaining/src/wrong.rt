@@ -1,27 +1,36 @@
-//! What is said of an access that isn't allowed, of a call and of an array that isn't there.
+//! What is said of an access that isn't allowed, and of an array that isn't there.
 
 ghost use Rattle.std.specs.Prelude.{◌≡◌, OnOk, option_copied};
 ghost use Rattle.bpf_text.specs.Listing.{Appends};
-ghost use Rattle.bpf_rules.specs.Reads.{helper_of};
 ghost use Rattle.explaining.specs.Sentences as specs;
 
-use crate::asks::{asked_by, attr_is_takes, cells_ask, lookup_takes, no_cell_at};
+use crate::asks::{asked_by, cells_ask, no_cell_at};
 use crate::known::{push_memory, push_register};
 use crate::operands::push_register_is;
-use crate::reads::TouchedMemory;
+use crate::reads::{TouchedMemory, touched};
 use abs_value::{Abs, AbsState};
-use bpf_insn::{Insn, Reg, WideValue};
-use bpf_semantics::helpers::{ATTR_IS, ATTR_LEN, BUCKET, LOOKUP};
+use bpf_insn::{AtomicOp, Insn, Reg, WideValue};
 use bpf_verify::VerifierRule;
 use cells::{CellArray, Shape};
 use std::alloc::AllocError;
 use std::fmt::Write;
 
+/// Writes a number of bytes, of one without its plural.
+pub fn push_so_many(text: &mut String, count: u64) -> Result<(), AllocError>
+    ensures { OnOk result (Appends text.old text.new (specs.so_many_bytes count)) }
+{
+    if count == 1 {
+        return text.push_str("1 byte");
+    }
+    write!(text, "{count} bytes")
+}
+
 fn push_bytes(text: &mut String, touched: TouchedMemory) -> Result<(), AllocError>
     ensures { OnOk result (Appends text.old text.new (specs.bytes_text touched)) }
 {
-    let count = touched.count;
-    write!(text, ", and {count} bytes at ")?;
+    text.push_str(", and ")?;
+    push_so_many(text, touched.count as u64)?;
+    text.push_str(" at ")?;
     push_memory(text, touched.base, touched.offset)
 }
 
@@ -84,69 +93,32 @@ pub fn push_access(
     }
 }
 
-fn push_two(text: &mut String, shape: &Shape, e: &AbsState) -> Result<(), AllocError>
-    ensures { OnOk result (Appends text.old text.new (specs.two_are shape.now e.now)) }
+fn push_added(text: &mut String, shape: &Shape, e: &AbsState, insn: Insn) -> Result<(), AllocError>
+    ensures { OnOk result (Appends text.old text.new (specs.added_text shape.now e.now insn)) }
 {
-    push_register_is(text, shape, e, Reg::R1)?;
-    text.push_str(", ")?;
-    push_register_is(text, shape, e, Reg::R2)
+    let Insn::Atomic {
+        op: AtomicOp::FetchAdd,
+        src,
+        ..
+    } = insn
+    else {
+        return Ok(());
+    };
+    text.push_str(", and ")?;
+    push_register_is(text, shape, e, src)
 }
 
-fn push_taker(text: &mut String, number: i32) -> Result<(), AllocError>
-    ensures { OnOk result (Appends text.old text.new (specs.taker_text number)) }
-{
-    write!(text, "helper {number} takes a number: ")
-}
-
-fn push_number_taker(
-    text: &mut String,
-    shape: &Shape,
-    e: &AbsState,
-    number: i32,
-) -> Result<(), AllocError>
-    ensures { OnOk result (Appends text.old text.new
-        (specs.number_is_taken shape.now e.now number)) }
-{
-    push_taker(text, number)?;
-    push_register_is(text, shape, e, Reg::R1)?;
-    Ok(())
-}
-
-fn push_call(text: &mut String, shape: &Shape, e: &AbsState, number: i32) -> Result<(), AllocError>
-    ensures { OnOk result (Appends text.old text.new
-        (specs.call_text shape.now e.now number (helper_of number))) }
-{
-    if number == LOOKUP {
-        text.push_str(lookup_takes())?;
-        push_two(text, shape, e)
-    } else if number == ATTR_IS {
-        text.push_str(attr_is_takes())?;
-        push_two(text, shape, e)?;
-        text.push_str(", ")?;
-        push_register_is(text, shape, e, Reg::R3)
-    } else if number == ATTR_LEN {
-        push_number_taker(text, shape, e, number)
-    } else if number == BUCKET {
-        push_number_taker(text, shape, e, number)
-    } else {
-        text.push_str(asked_by(VerifierRule::Helper))?;
-        write!(text, "{number}")
-    }
-}
-
-/// Writes what a helper takes, and what it is given.
-pub fn push_helper(
+/// Writes how a cell with a quota is touched, and of an addition what it adds.
+pub fn push_quota(
     text: &mut String,
     shape: &Shape,
     e: &AbsState,
     insn: Insn,
 ) -> Result<(), AllocError>
-    ensures { OnOk result (Appends text.old text.new (specs.helper_text shape.now e.now insn)) }
+    ensures { OnOk result (Appends text.old text.new (specs.quota_text shape.now e.now insn)) }
 {
-    match insn {
-        Insn::Call { helper } => push_call(text, shape, e, helper),
-        _ => Ok(()),
-    }
+    push_access(text, shape, e, VerifierRule::QuotaCell, touched(insn))?;
+    push_added(text, shape, e, insn)
 }
 
 fn array_at(shape: &Shape, index: i32) -> Option<&CellArray>

@@ -16,6 +16,7 @@ use Rattle.replay.specs.declared.line.EventLine.{EventLine}
 use Rattle.replay.specs.declared.line.EventLine.TheVariants as line
 
 module _ (known : KnownFiles) where
+  -- the event of a world that a line asks for, a swap with the ruleset of its manifest
   abbrev pub IsEventOf : EventLine → List CellArray → Event → List CellArray → Type 0
   IsEventOf (line.Start worker appid bucket version) old (event.Start k sent) new =
       (k ≡ worker) × (arc_value sent ≡ attrs.plain appid version bucket) × (new ≡ old)
@@ -25,6 +26,7 @@ module _ (known : KnownFiles) where
       IsLoadedFrom known manifest old (arc_value rules) new
   IsEventOf asked old e new = ⊥
 
+  -- the events of all lines
   abbrev pub AreEventsOf : List EventLine → List CellArray → List Event → List CellArray → Type 0
   AreEventsOf [] old [] new = new ≡ old
   AreEventsOf (asked ∷ lines) old (e ∷ events) new =

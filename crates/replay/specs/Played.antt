@@ -14,6 +14,7 @@ use Rattle.replay.specs.declared.reply.Reply.{Reply}
 
 -- ---- one line
 
+-- whether the line is a Step with a count, which is so many Steps
 abbrev pub is_counted : EventLine → Bool
 is_counted (line.Step worker (Some count)) = true
 is_counted asked = false

@@ -23,6 +23,7 @@ joined_answer reply (Ok e) (Err fault) = record reply { answer = Err fault }
 abbrev pub with_answer : Reply → Answer → Reply
 with_answer reply answer = joined_answer reply reply.answer answer
 
+-- what the answers to a line come to, up to the first that is refused
 abbrev pub reply_to : (counted : Bool) → List Answer → Reply
 reply_to counted answers = fold with_answer (opening_reply counted) answers
 
@@ -43,5 +44,6 @@ answer_text done counted (Err fault) =
     codes "refused " ++ fault_text fault
     ++ (if counted then codes " after " ++ decimal done else [])
 
+-- what is printed of it
 abbrev pub reply_text : Reply → List ℕ
 reply_text reply = answer_text reply.done reply.counted reply.answer

@@ -72,6 +72,7 @@ of_fields fields = None
 abbrev pub swap : List ℕ → Option EventLine
 swap rest = option_map (λ m. Swap m) (text rest)
 
+-- the event that a line says
 abbrev pub event_of : List ℕ → Option EventLine
 event_of line =
     if bytes_eq (before_first is_blank line) (codes "swap") then swap (after_first is_blank line)
@@ -104,6 +105,7 @@ abbrev pub IsFirstMalformed : List (List ℕ) → ScriptFault → Type 0
 IsFirstMalformed lines (Malformed line) = position_from is_malformed 1 lines ≡ Some line
 IsFirstMalformed lines Memory = Unit {0}
 
+-- the events of all lines, or the first line that says none
 pub record IsScript (bytes : List ℕ) (events : List EventLine) : Type 0 where
   pub is_text : IsUtf8 bytes
   pub said : AreSaid (lines bytes) events

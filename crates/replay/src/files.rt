@@ -29,6 +29,7 @@ use world::{Event, World};
 /// of its first malformed line; B3 of the manifest, or M1 to M7 of its load; and then those of the
 /// swap lines' manifests, one by one. After any of them no line was played. B4, or M8 in a load,
 /// comes where memory is refused.
+// open: whether memory is refused; what a device's files give.
 pub fn replay_files<D: Disk>(
     alloc: Global,
     disk: &D,

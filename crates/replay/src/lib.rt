@@ -15,6 +15,8 @@
 //!
 //! The fields of a line are divided by one blank, and none is empty. Numbers are decimal digits, a
 //! worker's is at most 4294967295, a bucket's 9999. Lines end at LF, or at CR LF.
+//!
+//! See docs/PROGRAM.md, "replay".
 #![tactic(auto)]
 
 // How a script is played from its files. All lines of the script are read first. Then the manifests

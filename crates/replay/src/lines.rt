@@ -10,6 +10,7 @@ use std::alloc::{AllocError, Global};
 use std::str;
 
 /// The events of a script, in their order, or the first line that is malformed.
+// open: whether memory is refused.
 pub fn read_script(alloc: Global, bytes: &[u8]) -> Result<Vec<EventLine>, ScriptFault>
     ensures script { IfOk result (λ v. specs.IsScript bytes.now v.items) }
     ensures fault { IfErr result (specs.IsScriptFault bytes.now) }

@@ -17,6 +17,7 @@ asking_for c appid = record c { app = record c.app { appid = appid } }
 abbrev pub attributes : Client → Attributes
 attributes c = attributes_of c.app c.request c.moment
 
+-- the attributes of the client of each bucket, which says the cohort that it was told
 abbrev pub clients : Client → ℕ → Attributes
 clients c bucket = attributes (in_bucket c bucket)
 

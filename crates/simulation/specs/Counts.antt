@@ -27,6 +27,7 @@ buckets_moving now next from to =
 abbrev pub moves_in : List ℕ → (from to : ℕ) → ℕ
 moves_in table from to = slice_index table (65 * from + to)
 
+-- how many get one release by these choices and another by those
 abbrev pub AreMoves : (now next table : List ℕ) → Type 0
 AreMoves now next table = (from to : ℕ) → from ≤ 64 → to ≤ 64
     → moves_in table from to ≡ buckets_moving now next from to

@@ -34,6 +34,7 @@ impl Choices {
     }
 
     /// No release for any bucket, as of an app that a ruleset doesn't have.
+    // open: whether memory is refused.
     pub fn none(alloc: Global) -> Result<Choices, AllocError>
         ensures { IfOk result (λ c. c ≡ choices_or_none None) }
     {

@@ -13,12 +13,13 @@ use std::alloc::{AllocError, Global};
 
 /// Who is told how far a simulation is.
 pub trait Onlooker {
-    /// So many of all apps have been asked.
+    /// Is told that so many of all apps have been asked.
     fn asked(&mut self, done: usize, all: usize);
 }
 
 /// What the clients of all buckets choose of each app, in the ruleset's order. All counters are 0
 /// as it begins, and each run leaves them to the next. The onlooker is told after each app.
+// open: whether memory is refused; what an onlooker hears of it.
 pub fn simulate<O: Onlooker>(
     alloc: Global,
     rules: &Ruleset,

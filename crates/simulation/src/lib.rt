@@ -1,4 +1,6 @@
 //! Simulation: what a ruleset chooses for a client in each bucket, and how many get which release.
+//!
+//! See docs/PROGRAM.md, "simulate".
 #![tactic(auto)]
 
 // How it goes. App after app, in the ruleset's order, each is asked once for each of the 10000

@@ -32,6 +32,7 @@ op_text (op.Xor x) = codes "xor " ++ decimal x
 op_text (op.Swap x) = codes "swap " ++ decimal x
 op_text (op.CompareExchange x y) = codes "compare " ++ decimal x ++ codes " swap " ++ decimal y
 
+-- what a counter was asked, and what it replied
 abbrev pub event_part : AppShape → Option CellEvent → List ℕ
 event_part shape None = []
 event_part shape (Some e) =
@@ -63,6 +64,7 @@ stored_part (StoreImm size dst offset imm) t =
 stored_part (Store size dst src offset) t = bytes_part t (register t dst) offset (byte_count size)
 stored_part i t = []
 
+-- the register that was written
 abbrev pub written_part : Insn → State → List ℕ
 written_part i t = register_part (writes i) (writes i >>= λ r. register t r)
 

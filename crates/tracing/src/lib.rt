@@ -1,4 +1,6 @@
-//! The trace of a run: each step with its slot, its instruction and what it changed.
+//! The trace of a run: each step with its slot, its instruction and what it wrote.
+//!
+//! See docs/PROGRAM.md, "run --trace".
 #![tactic(auto)]
 
 // The run is the definition's own: the interpreter that holds what is set and what isn't makes its

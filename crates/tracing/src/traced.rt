@@ -23,6 +23,7 @@ pub struct TracedRun {
 }
 
 /// The trace of a program's run for an app, on counters of its own that open at 0.
+// open: whether memory is refused.
 pub fn trace(alloc: Global, program: &Verified, attrs: Arc<Attrs>) -> Result<TracedRun, AllocError>
     ensures trace { IfOk result (λ t. IsTrace program.now (arc_value attrs)
         t.choice t.count (string_bytes t.text)) }
