@@ -1,8 +1,8 @@
 -- The attributes among the texts of `--attr`.
 use Rattle.std.proofs.Common.{◌≡◌, ◌∙◌, sym, subst, ap, refl, ℕ, suc, ◌+◌, ◌<◌, ◌≤◌, add-one}
 use Rattle.std.proofs.Common.{List, [], Option, Some, None, Bool, true, false, length, drop}
-use Rattle.std.proofs.Common.{codes, get_or, map, drop-cons, drop_of_length-le}
-use Rattle.std.specs.Prelude.{MatchOption, if◌then◌else◌}
+use Rattle.std.proofs.Common.{get_or, map, drop-cons, drop_of_length-le}
+use Rattle.std.specs.Prelude.{IfOk, MatchOption, Result, Ok, Err, if◌then◌else◌}
 use Rattle.std.specs.Option.{option_copied, option_map, option_or, unwrap_or}
 use Rattle.std.specs.Borrow.{Bor}
 use Rattle.std.specs.Str.Pattern.{FindsTextPrefix, StripsPrefix}
@@ -12,8 +12,9 @@ use Rattle.clap.proofs.WalkLemmas.{raw_values-rows}
 use Rattle.clap.specs.declared.parser.matches.Found.{Found}
 use Rattle.clap.specs.Matches.{matched_of, raw_values}
 use Rattle.clap.specs.Words.{Row, Text, rows_of}
-use Rattle.command_line.specs.AppOptions.{HasAttributes, count_attributes, given}
+use Rattle.command_line.specs.AppOptions.{HasAttributes, count_attributes}
 use Rattle.command_line.specs.AppOptions.{value_in, value_of}
+use Rattle.command_line.specs.Values.{texts_of}
 use Rattle.command_line.specs.declared.told.ToldApp.{ToldApp}
 
 abbrev pub texts : List (Bor Text) → List Text
@@ -73,29 +74,28 @@ none_at name lent i past so_far =
 
 -- ---- what clap found
 
-given_read : (f : Found) (r : Option (Bor (List (Bor Text))))
-    → option_map (λ s. map (λ v. v.now) s.now) r
-    ≡ option_map raw_values (matched_of f (codes "attr"))
-    → unwrap_or (option_map (λ s. map (λ v. v.now) s.now) r) [] ≡ given (rows_of f)
-given_read f r is =
-    ap (λ (o : Option (List Text)). unwrap_or o []) (is ∙ raw_values-rows f (codes "attr"))
+texts_read : (f : Found) (id : Text) (r : Option (Bor (List (Bor Text))))
+    → option_map (λ s. map (λ v. v.now) s.now) r ≡ option_map raw_values (matched_of f id)
+    → unwrap_or (option_map (λ s. map (λ v. v.now) s.now) r) [] ≡ texts_of id (rows_of f)
+texts_read f id r is =
+    ap (λ (o : Option (List Text)). unwrap_or o []) (is ∙ raw_values-rows f id)
 
-pub given_some : (f : Found) (r : Option (Bor (List (Bor Text)))) (s : Bor (List (Bor Text)))
-    → option_map (λ s. map (λ v. v.now) s.now) r
-    ≡ option_map raw_values (matched_of f (codes "attr")) → r ≡ Some s
-    → texts s.now ≡ given (rows_of f)
-given_some f r s is some =
+pub texts_some : (f : Found) (id : Text) (r : Option (Bor (List (Bor Text))))
+    (s : Bor (List (Bor Text)))
+    → option_map (λ s. map (λ v. v.now) s.now) r ≡ option_map raw_values (matched_of f id)
+    → r ≡ Some s → texts s.now ≡ texts_of id (rows_of f)
+texts_some f id r s is some =
     subst (λ (o : Option (Bor (List (Bor Text)))).
-    unwrap_or (option_map (λ s. map (λ v. v.now) s.now) o) [] ≡ given (rows_of f)) some
-    (given_read f r is)
+    unwrap_or (option_map (λ s. map (λ v. v.now) s.now) o) [] ≡ texts_of id (rows_of f)) some
+    (texts_read f id r is)
 
-pub given_none : (f : Found) (r : Option (Bor (List (Bor Text))))
-    → option_map (λ s. map (λ v. v.now) s.now) r
-    ≡ option_map raw_values (matched_of f (codes "attr")) → r ≡ None → [] ≡ given (rows_of f)
-given_none f r is none =
+pub texts_none : (f : Found) (id : Text) (r : Option (Bor (List (Bor Text))))
+    → option_map (λ s. map (λ v. v.now) s.now) r ≡ option_map raw_values (matched_of f id)
+    → r ≡ None → [] ≡ texts_of id (rows_of f)
+texts_none f id r is none =
     subst (λ (o : Option (Bor (List (Bor Text)))).
-    unwrap_or (option_map (λ s. map (λ v. v.now) s.now) o) [] ≡ given (rows_of f)) none
-    (given_read f r is)
+    unwrap_or (option_map (λ s. map (λ v. v.now) s.now) o) [] ≡ texts_of id (rows_of f)) none
+    (texts_read f id r is)
 
 -- two apps of the same attributes have as many
 pub same_count : (rows : List Row) (a b : ToldApp) → HasAttributes rows a → HasAttributes rows b
@@ -110,3 +110,10 @@ same_count rows a b has_a has_b =
     let platform : option_copied a.platform ≡ option_copied b.platform =
     has_a.platform ∙ sym has_b.platform in
     rw (appid, brand, ap_is, lang, cohort, platform) refl
+
+-- texts that are kept as they are lent
+pub kept_texts : {V E : Type 0} (items : V → List (Bor Text)) (r : Result V E)
+    (lent : List (Bor Text)) (told : List Text) → IfOk r (λ v. items v ≡ lent)
+    → texts lent ≡ told → IfOk r (λ v. texts (items v) ≡ told)
+kept_texts items (Ok v) lent told is same = ap texts is ∙ same
+kept_texts items (Err e) lent told is same = tt

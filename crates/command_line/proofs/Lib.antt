@@ -5,3 +5,4 @@ mod Parsed
 mod Attributes
 mod Lacking
 mod SimulationMisfits
+mod ReportMisfits

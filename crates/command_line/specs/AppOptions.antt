@@ -3,19 +3,19 @@ use Rattle.std.specs.Prelude.{◌≡◌, ◌≢◌, ◌⊎◌, ℕ, ◌+◌, Lis
 use Rattle.std.specs.Prelude.{is_some}
 use Rattle.std.specs.Prelude.{length, drop, codes, nat_eq, IsNone, IsSome, IsSomeAnd}
 use Rattle.std.specs.Prelude.{if◌then◌else◌}
-use Rattle.std.specs.Option.{option_and_then, option_copied, option_or, unwrap_or}
+use Rattle.std.specs.Option.{option_and_then, option_copied, option_or}
 use Rattle.std.specs.List.{starts_with}
 use Rattle.attrs.specs.Bucket.{cohort_bucket}
-use Rattle.clap.specs.Words.{Row, Text, all_of, first_of}
+use Rattle.clap.specs.Words.{Row, Text, first_of}
 use Rattle.command_line.specs.declared.told.ToldApp.{ToldApp}
 use Rattle.command_line.specs.Day.{day_in}
-use Rattle.command_line.specs.Values.{HasBucket, HasFlag}
+use Rattle.command_line.specs.Values.{HasBucket, HasFlag, texts_of}
 
 -- ---- attributes
 
 -- all texts NAME=TEXT that are given
 abbrev pub given : List Row → List Text
-given rows = unwrap_or (all_of (codes "attr") rows) []
+given rows = texts_of (codes "attr") rows
 
 -- what stands behind this beginning
 abbrev pub value_of : Text → (beginning : Text) → Option Text

@@ -39,6 +39,8 @@ abbrev pub placed : Option ℕ → Attributes → Attributes
 placed None a = a
 placed (Some bucket) a = record a { context = record a.context { bucket = bucket } }
 
+-- the attributes of the app that the words tell of, in its bucket: it asks for an update at the
+-- first second of a day
 abbrev pub attributes_told : ToldApp → (bucket : Option ℕ) → Attributes
 attributes_told told bucket =
     placed bucket (attributes_of (app_facts told) (request_facts told) (moment told))

@@ -117,6 +117,16 @@ simulate_command =
     command (codes "simulate")
     (file (codes "MANIFEST") ∷ option (codes "against") ∷ option (codes "svg") ∷ told)
 
+-- words by their places, of which there has to be one
+abbrev pub files : Text → Rule
+files id = record (new_rule id) { required = true; action = Some Append }
+
+abbrev pub report_command : Shape
+report_command =
+    command (codes "report")
+    (files (codes "LOG") ∷ option (codes "since") ∷ option (codes "until")
+    ∷ flag (codes "prometheus") ∷ [])
+
 abbrev pub serve_command : Shape
 serve_command = command (codes "serve")
     (file (codes "MANIFEST") ∷ number (codes "port") 65535 ∷ operator
@@ -142,6 +152,7 @@ verb_command verb.List = list_command
 verb_command Load = load_command
 verb_command Order = order_command
 verb_command Replay = replay_command
+verb_command verb.Report = report_command
 verb_command Run = run_command
 verb_command Serve = serve_command
 verb_command Show = operator_command (codes "show")
@@ -151,7 +162,7 @@ verb_command Verify = verify_command
 
 abbrev pub verbs : List Verb
 verbs = Assemble ∷ Cells ∷ Check ∷ Compile ∷ Explain ∷ verb.List ∷ Load ∷ Order ∷ Replay
-    ∷ Run ∷ Serve ∷ Show ∷ Simulate ∷ Stop ∷ Verify ∷ []
+    ∷ verb.Report ∷ Run ∷ Serve ∷ Show ∷ Simulate ∷ Stop ∷ Verify ∷ []
 
 -- all of them, in the order of their names
 abbrev pub commands : App

@@ -4,5 +4,6 @@ pub mod Day
 pub mod Apps
 pub mod AppOptions
 pub mod Misfits
+pub mod ReportWords
 pub mod Words
 pub mod Requests

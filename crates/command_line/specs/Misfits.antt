@@ -5,6 +5,7 @@ use Rattle.std.specs.Prelude.{List, Option, Some, None, codes}
 use Rattle.clap.specs.Words.{Row, Text, first_of}
 use Rattle.command_line.specs.AppOptions.{LacksAttributes, LacksInstalled, LacksPlace, LacksToday}
 use Rattle.command_line.specs.AppOptions.{LacksTold, TellsOneClient, given, value_in}
+use Rattle.command_line.specs.ReportWords.{IsReportMisfit}
 use Rattle.command_line.specs.Values.{LacksArrays, LacksText}
 use Rattle.command_line.specs.Words.{WritesOver, verb_named}
 use Rattle.command_line.specs.declared.option_misfit.OptionMisfit.{OptionMisfit}
@@ -46,6 +47,7 @@ IsAnyMisfit rows misfit = ⊥
 abbrev pub IsMisfit : Option Verb → List Row → OptionMisfit → Type 0
 IsMisfit (Some verb.Simulate) rows misfit = IsSimulationMisfit rows misfit
 IsMisfit (Some verb.Run) rows misfit = IsRunMisfit rows misfit
+IsMisfit (Some verb.Report) rows misfit = IsReportMisfit rows misfit
 IsMisfit verb rows misfit = IsAnyMisfit rows misfit
 
 -- without a command it is the command that is missing

@@ -1,9 +1,9 @@
 -- What the values of arguments and options are.
 use Rattle.std.specs.Prelude.{◌≡◌, ℕ, ◌≤◌, ◌<◌, ◌^◌, List, [], Option, Some, None}
 use Rattle.std.specs.Prelude.{Bool, true, false}
-use Rattle.std.specs.Prelude.{codes}
+use Rattle.std.specs.Prelude.{codes, unwrap_or}
 use Rattle.std.specs.Str.Parse.{IsNumeral, digits_value, without_leading_plus}
-use Rattle.clap.specs.Words.{Row, Text, first_of, one_of}
+use Rattle.clap.specs.Words.{Row, Text, all_of, first_of, one_of}
 use Rattle.cells.specs.Directory.{Declaration}
 use Rattle.declarations.specs.Spec.{declarations_in}
 use Rattle.command_line.specs.declared.request.DeclaredShape.{DeclaredShape}
@@ -17,6 +17,10 @@ HasText id rows text = first_of id rows ≡ Some text
 
 abbrev pub LacksText : Text → List Row → Type 0
 LacksText id rows = (text : Text) → ¬ HasText id rows text
+
+-- all texts that an argument was given
+abbrev pub texts_of : Text → List Row → List Text
+texts_of id rows = unwrap_or (all_of id rows) []
 
 -- the digits are a number's, in decimal, with or without a + before them
 abbrev pub IsDecimal : Text → ℕ → Type 0

@@ -4,6 +4,7 @@ use Rattle.std.specs.Prelude.{codes, option_copied}
 use Rattle.std.specs.Str.{bytes_eq}
 use Rattle.clap.specs.Words.{Row, Text, first_of}
 use Rattle.command_line.specs.AppOptions.{HasTold, IsAnyones, IsPlace}
+use Rattle.command_line.specs.ReportWords.{AsksToReport}
 use Rattle.command_line.specs.Values.{HasFlag, HasPlan, HasShape, HasShort, HasText}
 use Rattle.command_line.specs.declared.request.AskedRun.{AskedRun}
 use Rattle.command_line.specs.declared.request.AskedSimulation.{AskedSimulation}
@@ -27,6 +28,7 @@ verb_named name =
     else if bytes_eq name (codes "verify") then Some verb.Verify
     else if bytes_eq name (codes "run") then Some verb.Run
     else if bytes_eq name (codes "replay") then Some verb.Replay
+    else if bytes_eq name (codes "report") then Some verb.Report
     else if bytes_eq name (codes "simulate") then Some verb.Simulate
     else if bytes_eq name (codes "serve") then Some verb.Serve
     else if bytes_eq name (codes "load") then Some verb.Load
@@ -78,6 +80,7 @@ VerbAsks (Some verb.Run) rows (request.Trace run) =
 VerbAsks (Some verb.Replay) rows (request.Replay manifest script) =
     HasText (codes "MANIFEST") rows manifest.now × HasText (codes "SCRIPT") rows script.now
 VerbAsks (Some verb.Simulate) rows (request.Simulate asked) = AsksToSimulate rows asked
+VerbAsks (Some verb.Report) rows (request.Report asked) = AsksToReport rows asked
 VerbAsks (Some verb.Serve) rows (request.Serve manifest plan) =
     HasText (codes "MANIFEST") rows manifest.now × HasPlan rows plan
 VerbAsks (Some verb.Load) rows (request.Ask (sent.Load path) port) =

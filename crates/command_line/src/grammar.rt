@@ -10,6 +10,7 @@ use crate::program_commands::{
     assemble_command, compile_command, explain_command, list_command, order_command, run_command,
     simulate_command, verify_command,
 };
+use crate::report_command::report_command;
 use crate::server_commands::{
     cells_command, check_command, load_command, replay_command, serve_command, show_command,
     stop_command,
@@ -33,6 +34,7 @@ fn verb_command<'a>(alloc: Global, verb: Verb) -> Result<Command<'a>, AllocError
         Verb::Load => load_command(alloc),
         Verb::Order => order_command(alloc),
         Verb::Replay => replay_command(alloc),
+        Verb::Report => report_command(alloc),
         Verb::Run => run_command(alloc),
         Verb::Serve => serve_command(alloc),
         Verb::Show => show_command(alloc),

@@ -1,4 +1,6 @@
 //! The command line: what its words ask for.
+//!
+//! See docs/PROGRAM.md, "Status".
 #![tactic(auto)]
 
 // How words are read. `grammar` says to `clap` which commands there are, with the arguments and
@@ -16,6 +18,8 @@ mod option_misfit;
 mod options;
 mod program_commands;
 mod program_words;
+mod report_command;
+mod report_words;
 mod request;
 mod server_commands;
 mod server_words;
@@ -26,6 +30,6 @@ mod words;
 
 pub use fault::WordsFault;
 pub use option_misfit::OptionMisfit;
-pub use request::{AskedRun, AskedSimulation, CommandRequest, DeclaredShape, Plan};
+pub use request::{AskedReport, AskedRun, AskedSimulation, CommandRequest, DeclaredShape, Plan};
 pub use told::ToldApp;
 pub use words::read_words;

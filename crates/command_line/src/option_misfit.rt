@@ -4,11 +4,13 @@ ghost use Rattle.std.specs.Prelude.{IfSome, Some};
 ghost use Rattle.clap.specs.Words.{subcommand_rows_of, found_of, rows_of};
 ghost use Rattle.command_line.specs.Misfits.{IsAnyMisfit, IsMisfit, IsMisfitOf, IsRunMisfit};
 ghost use Rattle.command_line.specs.Misfits.{IsSimulationMisfit};
+ghost use Rattle.command_line.specs.ReportWords.{IsReportMisfit};
 ghost use Rattle.command_line.specs.Values.{LacksArrays};
 ghost use Rattle.command_line.specs.Words.{IsNothingAsked, VerbAsksNothing};
 
 use crate::app_options::{installed_of, place_of, today_of, told_on};
 use crate::options::arrays_of;
+use crate::report_words::{NoReport, report_of};
 use crate::request::NoRequest;
 use crate::simulate_words::simulation_of;
 use crate::verb::{Verb, verb_named};
@@ -31,6 +33,10 @@ pub enum OptionMisfit {
     OneClient,
     #[error("'--svg' names a manifest of the simulation, which the picture would be written over")]
     Overwritten,
+    #[error("'--since' wants a time by RFC 3339, or how long ago, as 90s, 10m, 2h or 3d")]
+    Since,
+    #[error("'--until' wants a time by RFC 3339, or how long ago, as 90s, 10m, 2h or 3d")]
+    Until,
     #[error("MANIFEST is missing")]
     Manifest,
     #[error("'--bucket' can't stand beside a cohort that names a bucket")]
@@ -58,6 +64,7 @@ fn misfit_among(alloc: Global, verb: Option<Verb>, found: &ArgMatches<'_>) -> Op
     match verb {
         Some(Verb::Simulate) => Some(simulation_misfit(found)),
         Some(Verb::Run) => run_misfit(alloc, found),
+        Some(Verb::Report) => report_misfit(alloc, found),
         _ => any_misfit(alloc, found),
     }
 }
@@ -69,6 +76,17 @@ fn simulation_misfit(found: &ArgMatches<'_>) -> OptionMisfit
     match simulation_of(found) {
         Ok(_asked) => unreachable!(),
         Err(misfit) => misfit,
+    }
+}
+
+fn report_misfit(alloc: Global, found: &ArgMatches<'_>) -> Option<OptionMisfit>
+    requires { VerbAsksNothing (Some Verb.Report) (rows_of (found_of found.now)) }
+    ensures { IfSome result (IsReportMisfit (rows_of (found_of found.now))) }
+{
+    match report_of(alloc, found) {
+        Ok(_asked) => unreachable!(),
+        Err(NoReport::Misfit(misfit)) => Some(misfit),
+        Err(NoReport::Memory) => None,
     }
 }
 

@@ -5,6 +5,7 @@ ghost use Rattle.std.specs.Prelude.{◌≤◌};
 use crate::told::ToldApp;
 use attrs::Bucket;
 use declarations::ArrayDeclaration;
+use moments::NamedTime;
 use operator_request::OperatorRequest;
 
 /// The shape that a program is judged under, as the words declare it: how many releases the app
@@ -26,14 +27,25 @@ pub struct AskedRun<'a> {
     pub bucket: Option<Bucket>,
 }
 
-/// A simulation that is asked for: of a manifest's ruleset, against that of one that serves now, for
-/// clients of which this is told. A picture is written into the file that is named.
+/// A simulation that is asked for: of a manifest's ruleset, against that of one that serves now,
+/// for clients of which this is told. A picture is written into the file that is named.
 #[derive(Clone, Copy)]
 pub struct AskedSimulation<'a> {
     pub manifest: &'a str,
     pub against: Option<&'a str>,
     pub picture: Option<&'a str>,
     pub app: ToldApp<'a>,
+}
+
+/// A report that is asked for: of these logs, of which `-` is standard input, from one moment on
+/// and before another.
+#[derive(Drop)]
+pub struct AskedReport<'a> {
+    pub logs: Vec<&'a str>,
+    pub since: Option<NamedTime>,
+    pub until: Option<NamedTime>,
+    /// Whether it is told as Prometheus reads it.
+    pub prometheus: bool,
 }
 
 /// One request of the command line.
@@ -80,6 +92,8 @@ pub enum CommandRequest<'a> {
     },
     /// Tell what the clients in all buckets get by a manifest.
     Simulate(AskedSimulation<'a>),
+    /// Tell what the lines of logs come to.
+    Report(AskedReport<'a>),
     /// Serve the ruleset of a manifest.
     Serve {
         manifest: &'a str,

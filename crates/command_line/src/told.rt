@@ -28,6 +28,7 @@ impl<'a> ToldApp<'a> {
     ghost use Rattle.command_line.specs.Apps as specs;
 
     /// What its request would say of it; it asks for an update.
+    // open: whether memory is refused.
     pub fn app(&self, alloc: Global) -> Result<AppFacts, AllocError>
         ensures { IfOk result (λ app. app ≡ specs.app_facts self.now) }
     {
@@ -46,6 +47,7 @@ impl<'a> ToldApp<'a> {
     }
 
     /// What that request would say of itself: it has no id, and names no session.
+    // open: whether memory is refused.
     pub fn request(&self, alloc: Global) -> Result<RequestFacts, AllocError>
         ensures { IfOk result (λ request. request ≡ specs.request_facts self.now) }
     {
@@ -64,6 +66,7 @@ impl<'a> ToldApp<'a> {
     }
 
     /// Its attributes, in this bucket, or with none in the one that its cohort names.
+    // open: whether memory is refused.
     pub fn attributes(&self, alloc: Global, bucket: Option<Bucket>) -> Result<Attrs, AllocError>
         ensures { IfOk result (λ a. a ≡ specs.attributes_told self.now bucket) }
     {

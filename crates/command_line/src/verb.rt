@@ -15,6 +15,7 @@ pub enum Verb {
     Verify,
     Run,
     Replay,
+    Report,
     Simulate,
     Serve,
     Load,
@@ -24,7 +25,7 @@ pub enum Verb {
 }
 
 /// All commands, by their names' order.
-pub const VERBS: [Verb; 15] = [
+pub const VERBS: [Verb; 16] = [
     Verb::Assemble,
     Verb::Cells,
     Verb::Check,
@@ -34,6 +35,7 @@ pub const VERBS: [Verb; 15] = [
     Verb::Load,
     Verb::Order,
     Verb::Replay,
+    Verb::Report,
     Verb::Run,
     Verb::Serve,
     Verb::Show,
@@ -56,6 +58,7 @@ pub fn verb_named(name: &str) -> Option<Verb>
         "verify" => Some(Verb::Verify),
         "run" => Some(Verb::Run),
         "replay" => Some(Verb::Replay),
+        "report" => Some(Verb::Report),
         "simulate" => Some(Verb::Simulate),
         "serve" => Some(Verb::Serve),
         "load" => Some(Verb::Load),

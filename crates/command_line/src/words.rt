@@ -15,6 +15,7 @@ use crate::option_misfit::misfit_of;
 use crate::program_words::{
     assemble_asked, compile_asked, explain_asked, list_asked, order_asked, run_asked, verify_asked,
 };
+use crate::report_words::report_asked;
 use crate::request::{CommandRequest, NoRequest};
 use crate::server_words::{
     cells_asked, check_asked, load_asked, replay_asked, serve_asked, show_asked, stop_asked,
@@ -28,6 +29,8 @@ use std::alloc::{AllocError, Global};
 use std::convert::AsStr;
 
 /// The request of a command line's words, the first of which is the program's name.
+// open: whether memory is refused; texts of help; that the grammar leaves a request wherever it
+// takes the words: tests, command by command.
 pub fn read_words<'a, S: AsStr>(
     alloc: Global,
     words: &'a [S],
@@ -149,6 +152,7 @@ fn request_named<'a>(
         Some(Verb::Verify) => verify_asked(alloc, found),
         Some(Verb::Run) => run_asked(alloc, found),
         Some(Verb::Replay) => replay_asked(found),
+        Some(Verb::Report) => report_asked(alloc, found),
         Some(Verb::Simulate) => simulate_asked(found),
         Some(Verb::Serve) => serve_asked(found),
         Some(Verb::Load) => load_asked(found),

@@ -1,7 +1,7 @@
 -- What each request is answered, and why it is refused: by what the files give, as far as that is
 -- known. Of a device's files nothing is known, so of these it is what some bytes come to. What a
 -- server replies no contract can say; of memory that was refused no claim is made.
-use Rattle.std.specs.Prelude.{◌≡◌, [], option_copied}
+use Rattle.std.specs.Prelude.{◌≡◌, [], length, option_copied}
 use Rattle.std.specs.String.{string_bytes}
 use Rattle.command_line.specs.declared.request.CommandRequest.{CommandRequest}
 use Rattle.command_line.specs.declared.request.CommandRequest.TheVariants as request
@@ -11,10 +11,11 @@ use Rattle.commands.specs.Clients.{client_told}
 use Rattle.commands.specs.declared.answer.Answer.{Answer}
 use Rattle.commands.specs.declared.answer.Answer.TheVariants.{Assembled, Checked, Compiled}
 use Rattle.commands.specs.declared.answer.Answer.TheVariants.{Explained, Simulated}
+use Rattle.commands.specs.declared.answer.Answer.TheVariants as answer
 use Rattle.commands.specs.declared.answer.Answer.TheVariants.{Listed, Accepted, Chosen, Told}
 use Rattle.commands.specs.declared.answer.Answer.TheVariants.{Ordered, Replayed, Ready, Traced}
 use Rattle.commands.specs.declared.fault.Fault.{Fault}
-use Rattle.commands.specs.declared.fault.Fault.TheVariants.{Manifest, Program, Serving}
+use Rattle.commands.specs.declared.fault.Fault.TheVariants.{Manifest, Program, Resource, Serving}
 use Rattle.load.specs.Loaded.{IsLoadedFrom}
 use Rattle.program_tools.specs.Programs.{IsProgramRefusal, IsRunRefusal}
 use Rattle.manifest_tools.specs.Manifests.{HasReplayed, IsChecked, IsCheckRefusal}
@@ -27,6 +28,7 @@ use Rattle.program_tools.specs.Explanations.{HasExplained, IsExplainRefusal}
 use Rattle.program_tools.specs.Orders.{IsOrderedFrom, IsOrderRefusal}
 use Rattle.program_tools.specs.Programs.{HasChosen, HasSlots, HasTraced}
 use Rattle.program_tools.specs.Rules.{HasCompiled, IsCompileRefusal}
+use Rattle.log_tools.specs.Reports.{HasReported}
 use Rattle.serving.specs.Manifests.{RefusesToServe}
 
 module _ (known : KnownFiles) where
@@ -49,6 +51,9 @@ module _ (known : KnownFiles) where
       HasTraced known run choice instructions (string_bytes lines)
   IsAnswer (request.Replay manifest script) (Replayed text) =
       HasReplayed known manifest.now script.now (string_bytes text)
+  IsAnswer (request.Report asked) (answer.Reported text) =
+      HasReported (length asked.logs.items) asked.since asked.until asked.prometheus
+      (string_bytes text)
   IsAnswer (request.Simulate asked) (Simulated told) =
       HasSimulated known (client_told asked.app) asked.manifest.now (option_copied asked.against)
       (option_copied asked.picture) told
@@ -75,6 +80,8 @@ module _ (known : KnownFiles) where
       IsRunRefusal known run.path.now run.shape fault
   IsRefused (request.Replay manifest script) (Manifest fault) =
       IsReplayRefusal known manifest.now script.now fault
+  -- which log of a device can't be read, or whether its clock can't, nothing tells
+  IsRefused (request.Report asked) (Resource fault) = Unit {0}
   IsRefused (request.Simulate asked) (Manifest fault) =
       IsSimulationRefusal known (client_told asked.app) asked.manifest.now
       (option_copied asked.against) (option_copied asked.picture) fault

@@ -22,6 +22,7 @@ use Rattle.operator.specs.Texts.{ask_text}
 use Rattle.serving.specs.Texts.{serving_text}
 use Rattle.workers.specs.Texts.{serving_line}
 
+-- what is printed of an answer
 abbrev pub answer_text : Answer → List ℕ
 answer_text (Assembled program) = line (decimal (length program.items / 8) ++ codes " slots")
 answer_text (Checked told) = string_bytes told.text
@@ -37,6 +38,7 @@ answer_text (Traced lines choice instructions) =
     line (string_bytes lines ++ codes "choice " ++ decimal choice
     ++ codes " after " ++ decimal instructions ++ codes " instructions")
 answer_text (Replayed text) = string_bytes text
+answer_text (answer.Reported text) = string_bytes text
 answer_text (answer.Simulated told) = string_bytes told.text
 answer_text (answer.Told text) = string_bytes text
 -- the first generation

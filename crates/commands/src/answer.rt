@@ -53,6 +53,10 @@ pub enum Answer {
     Replayed {
         text: String,
     },
+    /// What the logs come to, a line a number.
+    Reported {
+        text: String,
+    },
     /// What is told of a simulation, of which the lines are printed.
     Simulated(ToldSimulation),
     /// The lines of a server's reply.
@@ -109,6 +113,7 @@ impl fmt::Display for Answer {
                 "{lines}choice {choice} after {instructions} instructions"
             ),
             Answer::Replayed { text } => f.write_str(text),
+            Answer::Reported { text } => f.write_str(text),
             Answer::Simulated(told) => f.write_str(told.text.as_str()),
             Answer::Told { text } => f.write_str(text),
             Answer::Ready { .. } => {

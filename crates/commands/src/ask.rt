@@ -24,6 +24,7 @@ const LOOK_SECONDS: u64 = 1;
 
 /// The lines of a server's reply, where it did what it was asked. A reply that begins with
 /// `refused ` is the server's refusal.
+// open: that a server answers: tests.
 pub fn ask_server<R>(rt: &R, request: OperatorRequest<'_>, port: u16) -> Result<String, Fault>
 where
     R: Net<Stream = TcpStream> + AllocGlobal,

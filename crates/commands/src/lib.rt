@@ -1,5 +1,7 @@
 //! The commands of the program, from the words of a command line to a status, over any files that
 //! are read and any two writers.
+//!
+//! See docs/PROGRAM.md, "Status".
 #![tactic(auto)]
 
 // How a command goes. Its words are read as a request, or it is told what is wrong with them. The
@@ -11,6 +13,7 @@ mod answer;
 mod ask;
 mod fault;
 mod logged;
+mod reports;
 mod requests;
 mod runs;
 mod serve;

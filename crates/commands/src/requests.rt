@@ -6,6 +6,7 @@ ghost use Rattle.commands.specs.Answers.{IsAnswer, IsRefused};
 use crate::answer::Answer;
 use crate::ask::{ask_server, stop_and_wait};
 use crate::fault::Fault;
+use crate::reports::reported;
 use crate::runs::{chosen, traced};
 use crate::simulations::simulated;
 use command_line::CommandRequest;
@@ -21,6 +22,8 @@ use std::time::Clock;
 
 /// Does what is asked, with files of the disk; what is made is written as a file of the runtime. A
 /// server of a manifest is made ready, and doesn't serve yet.
+// open: which bytes a device's file gives: no contract can say what a device does, so the tests run
+// each command on files.
 pub fn answer<R, D>(rt: &R, disk: &D, request: &CommandRequest<'_>) -> Result<Answer, Fault>
 where
     R: Files + AllocGlobal + Clock + Eprint,
@@ -58,6 +61,7 @@ where
         CommandRequest::Replay { manifest, script } => Ok(Answer::Replayed {
             text: replay_script(alloc, disk, manifest, script).map_err(Fault::Manifest)?,
         }),
+        CommandRequest::Report(asked) => reported(rt, asked),
         CommandRequest::Simulate(asked) => simulated(rt, disk, asked),
         CommandRequest::Serve { manifest, plan } => Ok(Answer::Ready {
             server: prepare(rt, disk, manifest, plan.port, plan.operator).map_err(Fault::Serving)?,

@@ -22,6 +22,7 @@ use workers::Service;
 /// log or without one. Once all is made, `out` is told that the first generation is served. S1, H1
 /// or B4 where memory is refused before, B4 where memory or a thread is, B3 where `out` can't be
 /// written, and H2 where a server that has ended can't give its counters.
+// open: what a connection brings, and that a server answers: tests.
 pub fn serve_until_stopped<R, D, O>(
     rt: &R,
     disk: &D,

@@ -40,6 +40,8 @@ const USAGE: u8 = 2;
 /// alone by all else that is done. A simulation that takes over a second says by the runtime itself
 /// how far it is. The status is 0 done, 1 refused or after a failed write, 2 usage. A server has
 /// served once the status is there.
+// open: `clap`'s texts; that it doesn't give up with 1, since a read or a write may fail at any
+// time: the tests compare each command's lines and status.
 pub fn command<R, D, S, O, E>(rt: &R, disk: &D, words: &[S], out: &mut O, err: &mut E) -> u8
 where
     R: Files + Threads + Wait + AllocGlobal + Clock + LogOutput,
@@ -161,6 +163,7 @@ where
 }
 
 /// What words are answered that can't be read: their memory was refused, or one isn't UTF-8.
+// open: the text on `err`.
 pub fn unreadable_words<E: Write>(error: &io::Error, err: &mut E) -> u8
     ensures within { (1 ≤ result) × (result ≤ 2) }
     ensures memory { error_kind error.now ≡ ErrorKind.OutOfMemory → result ≡ 1 }
@@ -173,6 +176,7 @@ pub fn unreadable_words<E: Write>(error: &io::Error, err: &mut E) -> u8
 
 /// What words are answered that are no request: help, what is wrong with them, or that memory was
 /// refused.
+// open: the texts on `err`.
 pub fn usage<O: Write, E: Write>(fault: &WordsFault, out: &mut O, err: &mut E) -> u8
     ensures within { result ≤ 2 }
     ensures memory { fault.now ≡ WordsFault.Memory → result ≡ 1 }

@@ -13,6 +13,7 @@ use std::alloc::Global;
 /// The lines of the arrays and apps of a file's manifest, and its warnings. The files that it names
 /// lie in its folder. It has to be a regular file, as have they; B3 comes where it isn't, or can't
 /// be read.
+// open: what `check` of `diagnosis` leaves open.
 pub fn check_file<D: Disk>(
     alloc: Global,
     disk: &D,

@@ -1,4 +1,6 @@
 //! The commands on manifests that need no server: `check`, `replay` and `simulate`.
+//!
+//! See docs/PROGRAM.md, "check"; docs/PROGRAM.md, "replay"; docs/PROGRAM.md, "simulate".
 #![tactic(auto)]
 
 // How each goes. `check` reads the manifest and loads it over no arrays: what it declares, and what

@@ -12,6 +12,7 @@ use std::alloc::{AllocError, Global};
 use std::fmt::Write;
 
 /// The lines of a script's events, on a world whose first ruleset is the manifest's.
+// open: what `replay_files` leaves open.
 pub fn replay_script<D: Disk>(
     alloc: Global,
     disk: &D,

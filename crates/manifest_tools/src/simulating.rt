@@ -35,6 +35,7 @@ pub struct ToldSimulation {
 /// The faults come in this order: B3 of the manifest, or M1 to M7 of its load; those of the other
 /// one; B3 where the picture can't be written, or would be written over what is none. B4, or M8 in
 /// a load, comes where memory is refused.
+// open: whether memory is refused; what is told of how far it is; that the file gets the picture.
 pub fn simulate_files<R, D>(
     rt: &R,
     disk: &D,

@@ -41,5 +41,6 @@ module _ (known : KnownFiles) (path : List ℕ) (asked : DeclaredShape) where
     pub shape_is : IsShapeFor asked shape
     pub explained : OfFile known path (λ bytes. IsExplanation bytes shape None text)
 
+  -- why nothing is told of a file
   abbrev pub IsExplainRefusal : ProgramToolFault → Type 0
   IsExplainRefusal fault = IsRefusedUnder known path asked IsExplainFault fault

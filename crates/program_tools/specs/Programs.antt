@@ -82,6 +82,7 @@ pub data IsRefusedUnder (known : KnownFiles) (path : List ℕ) (asked : Declared
   of_bytes : {s : AppShape} → IsShapeFor asked s → OfFile known path (faults s fault)
       → IsRefusedUnder known path asked faults fault
 
+-- why a file has no program that is accepted: the shape comes first, then the file, then its bytes
 abbrev pub IsProgramRefusal : KnownFiles → List ℕ → DeclaredShape → ProgramToolFault → Type 0
 IsProgramRefusal known path asked fault = IsRefusedUnder known path asked IsProgramFault fault
 

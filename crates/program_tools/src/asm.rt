@@ -12,6 +12,7 @@ use std::rt::Files;
 use std::str;
 
 /// The program that a file's text stands for. It is written only where the whole text has bytes.
+// open: whether memory is refused (A7, B4); what a device's files give, and which bytes OUT got.
 pub fn assemble_file<R: Files + AllocGlobal, D: Disk>(
     rt: &R,
     disk: &D,

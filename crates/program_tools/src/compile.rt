@@ -14,6 +14,8 @@ use std::alloc::Global;
 use std::rt::Files;
 
 /// The slots of the program of a file's rule. It is written only where the whole rule has one.
+// open: whether memory is refused (L5, C2, N3, B4); what a device's files give, and which bytes OUT
+// got.
 pub fn compile_file<R: Files + AllocGlobal, D: Disk>(
     rt: &R,
     disk: &D,

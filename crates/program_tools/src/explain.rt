@@ -18,6 +18,7 @@ use std::alloc::Global;
 /// The listing of a file's program, with what is known before each instruction, once it is
 /// accepted; what refuses it comes with the same, up to the slot that is refused. It is refused as
 /// by `verify_file`, and the shape before the file is read.
+// open: whether memory is refused (N3, F9, V15); what a device's files give.
 pub fn explain_file<D: Disk>(
     alloc: Global,
     disk: &D,

@@ -1,4 +1,6 @@
 //! The commands on single programs: `asm`, `list`, `compile`, `order`, `verify`, `explain`, `run`.
+//!
+//! See docs/PROGRAM.md, "Refusals".
 #![tactic(auto)]
 
 // How each goes. The shape is made that the words declare, where the command has one. Then the file

@@ -14,6 +14,7 @@ use std::alloc::Global;
 use std::rt::Files;
 
 /// The program of a file in order. It is written only where the whole program has an order.
+// open: whether memory is refused (F9, B4); what a device's files give, and which bytes OUT got.
 pub fn order_file<R: Files + AllocGlobal, D: Disk>(
     rt: &R,
     disk: &D,

@@ -20,6 +20,7 @@ use tracing::{TracedRun, trace};
 
 /// The choice of a file's program for an app, once it is accepted, and the number of its
 /// instructions.
+// open: whether memory is refused (N3, F9, V15); what a device's files give.
 pub fn run_file<D: Disk>(
     alloc: Global,
     disk: &D,
@@ -39,7 +40,8 @@ pub fn run_file<D: Disk>(
     }
 }
 
-/// The same, with a line for each instruction that the run does.
+/// Runs a file's program as `run_file` does, and tells a line for each instruction of the run.
+// open: whether memory is refused (N3, F9, V15); what a device's files give.
 pub fn trace_file<D: Disk>(
     alloc: Global,
     disk: &D,

@@ -10,6 +10,7 @@ use command_line::DeclaredShape;
 use std::alloc::Global;
 
 /// The slots of a file's program, once it is accepted.
+// open: whether memory is refused (N3, F9, V15); what a device's files give.
 pub fn verify_file<D: Disk>(
     alloc: Global,
     disk: &D,

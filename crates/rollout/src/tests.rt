@@ -11,6 +11,7 @@ mod orders;
 mod programs;
 mod refusals;
 mod replays;
+mod reports;
 mod rules;
 mod server;
 mod simulations;

@@ -12,8 +12,10 @@ const STAGED: &str = "# Two of a hundred.
 when bucket < 100 and take(q, 0) offer 1;
 otherwise none;";
 
+const FOURTH: &str = "when bucket mod 4 == 3 offer 1; otherwise none;";
+
 /// A rule, an option of the run, and the beginning of the line of its choice.
-const CHOICES: [(&str, &str, &str); 9] = [
+const CHOICES: [(&str, &str, &str); 11] = [
     (BY_VERSION, "--version 1.9", "choice 1 after "),
     (BY_VERSION, "--version 0.99", "choice 1 after "),
     (BY_VERSION, "--version 1.10.0.0", "choice 0 after "),
@@ -21,6 +23,8 @@ const CHOICES: [(&str, &str, &str); 9] = [
     (BY_VERSION, "--bucket 0", "choice 1 after "),
     (BY_TEXT, "--version 1.0", "choice 1 after "),
     (BY_TEXT, "--version 1", "choice 0 after "),
+    (FOURTH, "--bucket 4999", "choice 1 after 8 "),
+    (FOURTH, "--bucket 5000", "choice 0 after 9 "),
     (STAGED, "--bucket 50", "choice 1 after "),
     (STAGED, "--bucket 100", "choice 0 after "),
 ];

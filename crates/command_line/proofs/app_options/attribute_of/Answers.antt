@@ -1,15 +1,15 @@
 use Rattle.std.proofs.Common.{◌∙◌, List, ap}
 use Rattle.clap.specs.Words.{Text, found_of}
 use Rattle.command_line.specs.AppOptions.{value_in}
-use Rattle.command_line.proofs.Attributes.{given_none, given_some}
+use Rattle.command_line.proofs.Attributes.{texts_none, texts_some}
 use Rattle.command_line.proofs.app_options.attribute_of.Goals as goal
 
 pub returns-in-Some : goal.returns-in-Some
 returns-in-Some c = c.value_in.ensures
     ∙ ap (λ (l : List Text). value_in l c.args.name.now)
-    (given_some (found_of c.args.found.now) _ _ c.get_strs.ensures c.in-Some.is)
+    (texts_some (found_of c.args.found.now) _ _ _ c.get_strs.ensures c.in-Some.is)
 
 pub returns-in-None : goal.returns-in-None
 returns-in-None c =
     ap (λ (l : List Text). value_in l c.args.name.now)
-    (given_none (found_of c.args.found.now) _ c.get_strs.ensures c.in-None.is)
+    (texts_none (found_of c.args.found.now) _ _ c.get_strs.ensures c.in-None.is)

@@ -1,0 +1,97 @@
+//! What `report` asks for.
+
+ghost use Rattle.std.specs.Prelude.{◌≡◌, IfOk, Err, OnErr, Some, codes, map};
+ghost use Rattle.std.specs.Option.{option_copied};
+ghost use Rattle.clap.specs.Words.{first_of, found_of, rows_of};
+ghost use Rattle.command_line.specs.ReportWords.{AsksToReport, IsNamedTime, IsReportMisfit};
+ghost use Rattle.command_line.specs.ReportWords.{LacksNamedTime, logs_told};
+ghost use Rattle.command_line.specs.ReportWords as specs;
+ghost use Rattle.command_line.specs.Words.{VerbAsks, VerbAsksNothing};
+
+use crate::option_misfit::OptionMisfit;
+use crate::options::{flag_of, optional_text};
+use crate::request::{AskedReport, CommandRequest, NoRequest};
+use crate::verb::Verb;
+use clap::ArgMatches;
+use moments::{NamedTime, moment_in};
+use std::alloc::{AllocError, Global};
+
+/// Why the words ask for no report.
+#[derive(Clone, Copy)]
+pub enum NoReport {
+    /// An option is ill-written.
+    Misfit(OptionMisfit),
+    Memory,
+}
+
+/// What `report` asks for.
+pub fn report_asked<'a>(
+    alloc: Global,
+    found: &ArgMatches<'a>,
+) -> Result<CommandRequest<'a>, NoRequest>
+    ensures asked { IfOk result (VerbAsks (Some Verb.Report) (rows_of (found_of found.now))) }
+    ensures nothing { result ≡ Err NoRequest.Wrong
+        → VerbAsksNothing (Some Verb.Report) (rows_of (found_of found.now)) }
+{
+    match report_of(alloc, found) {
+        Ok(asked) => Ok(CommandRequest::Report(asked)),
+        Err(NoReport::Misfit(_)) => Err(NoRequest::Wrong),
+        Err(NoReport::Memory) => Err(NoRequest::Memory),
+    }
+}
+
+/// The report that the words ask for, or one of their options that are ill-written.
+pub fn report_of<'a>(alloc: Global, found: &ArgMatches<'a>) -> Result<AskedReport<'a>, NoReport>
+    ensures asked { IfOk result (AsksToReport (rows_of (found_of found.now))) }
+    ensures misfit { (misfit : OptionMisfit) → result ≡ Err (NoReport.Misfit misfit)
+        → IsReportMisfit (rows_of (found_of found.now)) misfit }
+{
+    let Ok(since) = moment_of(found, "since") else {
+        return Err(NoReport::Misfit(OptionMisfit::Since));
+    };
+    let Ok(until) = moment_of(found, "until") else {
+        return Err(NoReport::Misfit(OptionMisfit::Until));
+    };
+    let Ok(logs) = logs_of(alloc, found) else {
+        return Err(NoReport::Memory);
+    };
+    Ok(AskedReport {
+        logs,
+        since,
+        until,
+        prometheus: flag_of(found, "prometheus"),
+    })
+}
+
+// The moment of an option, if it stands.
+fn moment_of(found: &ArgMatches<'_>, id: &str) -> Result<Option<NamedTime>, NoRequest>
+    ensures given { IfOk result (IsNamedTime (first_of id.now (rows_of (found_of found.now)))) }
+    ensures lacking { OnErr result
+        (LacksNamedTime (first_of id.now (rows_of (found_of found.now)))) }
+{
+    moment_told(optional_text(found, id))
+}
+
+fn moment_told(text: Option<&str>) -> Result<Option<NamedTime>, NoRequest>
+    ensures given { IfOk result (IsNamedTime (option_copied text.entry)) }
+    ensures lacking { OnErr result (LacksNamedTime (option_copied text.entry)) }
+{
+    match text {
+        Some(text) => match moment_in(text) {
+            Some(moment) => Ok(Some(moment)),
+            None => Err(NoRequest::Wrong),
+        },
+        None => Ok(None),
+    }
+}
+
+// The logs that are named.
+fn logs_of<'a>(alloc: Global, found: &ArgMatches<'a>) -> Result<Vec<&'a str>, AllocError>
+    ensures { IfOk result (λ logs. map (λ log. log.now) logs.items
+        ≡ logs_told (rows_of (found_of found.now))) }
+{
+    match found.get_strs("LOG") {
+        Some(logs) => Vec::from_slice(alloc, logs),
+        None => Ok(Vec::new(alloc)),
+    }
+}

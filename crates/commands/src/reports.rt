@@ -1,0 +1,28 @@
+//! `report`: the answer to a report on logs.
+
+ghost use Rattle.std.specs.Prelude.{IfOk, IfErr};
+ghost use Rattle.bounded_files.specs.Files.{KnownFiles};
+ghost use Rattle.commands.specs.Answers.{IsAnswer, IsRefused};
+
+use crate::answer::Answer;
+use crate::fault::Fault;
+use command_line::{AskedReport, CommandRequest};
+use log_tools::report_logs;
+use std::rt::Files;
+use std::time::Clock;
+
+/// What the logs come to.
+pub fn reported<R>(rt: &R, asked: &AskedReport<'_>) -> Result<Answer, Fault>
+where
+    R: Files + AllocGlobal + Clock + Eprint,
+    ensures answer { (known : KnownFiles)
+        → IfOk result (IsAnswer known (CommandRequest.Report asked.now)) }
+    ensures fault { (known : KnownFiles)
+        → IfErr result (IsRefused known (CommandRequest.Report asked.now)) }
+{
+    let logs = asked.logs.as_slice();
+    match report_logs(rt, logs, asked.since, asked.until, asked.prometheus) {
+        Ok(text) => Ok(Answer::Reported { text }),
+        Err(fault) => Err(Fault::Resource(fault)),
+    }
+}

@@ -1,0 +1,70 @@
+-- The lines of one log more are counted.
+use Rattle.std.proofs.Common.{◌≡◌, ◌∙◌, refl, sym, ap, subst, ℕ, ◌+◌, List, [], ◌∷◌, ◌++◌}
+use Rattle.std.proofs.Common.{append_assoc, append-nil, length, flat_map, Option, arith}
+use Rattle.std.proofs.Common.{Bool, is_some}
+use Rattle.std.proofs.lemmas.Grind.{flat_map-append}
+use Rattle.std.proofs.lemmas.List.{length-append}
+use Rattle.std.proofs.lemmas.List.Concat.{flat_map-cons}
+use Rattle.log_tools.specs.Reports.{CountsLogs, HasReported, told_by}
+use Rattle.moments.specs.declared.moment.NamedTime.{NamedTime}
+use Rattle.report.specs.Counts.{Counts}
+use Rattle.report.specs.Lines.{lines_in}
+use Rattle.report.specs.Reading.{CountsLines, ReadsLog}
+use Rattle.report.specs.declared.counting.Report.{Report}
+use Rattle.report.specs.declared.window.Window.{Window}
+
+module _ (window : Window) where
+  counts_none : (r : Report) → CountsLines window [] r r
+  counts_none r = record {
+    behind = λ before counted.
+        subst (λ (lines : List (List ℕ)). Counts window lines r) (sym (append-nil before)) counted;
+  }
+
+  counts_both : (xs ys : List (List ℕ)) (a b c : Report)
+      → CountsLines window xs a b → CountsLines window ys b c → CountsLines window (xs ++ ys) a c
+  counts_both xs ys a b c first last = record {
+    behind = λ before counted.
+        subst (λ (lines : List (List ℕ)). Counts window lines c) (append_assoc before xs ys)
+        (last.behind (before ++ xs) (first.behind before counted));
+  }
+
+  pub no_logs : (r : Report) → CountsLogs window 0 r r
+  no_logs r = record { logs = []; each = refl; counted = counts_none r }
+
+  only : (log : List ℕ) → lines_in log ≡ flat_map lines_in (log ∷ [])
+  only log = sym (flat_map-cons lines_in log [] ∙ append-nil (lines_in log))
+
+  pub one_log : (known : Option (List ℕ)) (old new : Report) → ReadsLog window known old new
+      → CountsLogs window 1 old new
+  one_log known old new reads = record {
+    logs = reads.bytes ∷ [];
+    each = refl;
+    counted = subst (λ (lines : List (List ℕ)). CountsLines window lines old new)
+        (only reads.bytes) reads.counted;
+  }
+
+  pub more_logs : (n m : ℕ) (a b c : Report) → CountsLogs window n a b → CountsLogs window m b c
+      → CountsLogs window (n + m) a c
+  more_logs n m a b c first last = record {
+    logs = first.logs ++ last.logs;
+    each = omega (arith, length-append first.logs last.logs, first.each, last.each);
+    counted = subst (λ (lines : List (List ℕ)). CountsLines window lines a c)
+        (sym (flat_map-append lines_in first.logs last.logs))
+        (counts_both (flat_map lines_in first.logs) (flat_map lines_in last.logs) a b c
+        first.counted last.counted);
+  }
+
+pub has_reported : (n : ℕ) (since until : Option NamedTime) (prometheus : Bool) (text : List ℕ)
+    (window : Window) (start last : Report) → is_some window.since ≡ is_some since
+    → is_some window.until ≡ is_some until → Counts window [] start
+    → CountsLogs window n start last → text ≡ told_by prometheus last
+    → HasReported n since until prometheus text
+has_reported n since until prometheus text window start last from to none reads is = record {
+  window = window;
+  asked_for = record { since_is = from; until_is = to };
+  logs = reads.logs;
+  each = reads.each;
+  report = last;
+  counted = reads.counted.behind [] none;
+  text_is = is;
+}

@@ -1,0 +1,38 @@
+-- What a report of logs tells. Of the files of a device nothing is known, so what each log has are
+-- some bytes; and of its clock nothing is, so the window of what was asked is from some times on.
+use Rattle.std.specs.Prelude.{◌≡◌, ℕ, List, Option, length, flat_map, is_some}
+use Rattle.std.specs.Prelude.{Bool, if◌then◌else◌}
+use Rattle.moments.specs.declared.moment.NamedTime.{NamedTime}
+use Rattle.report.specs.Counts.{Counts}
+use Rattle.report.specs.Exposition.{exposition}
+use Rattle.report.specs.Lines.{lines_in}
+use Rattle.report.specs.Reading.{CountsLines}
+use Rattle.report.specs.Screen.{screen}
+use Rattle.report.specs.declared.counting.Report.{Report}
+use Rattle.report.specs.declared.window.Window.{Window}
+
+-- the window begins where a beginning was asked for, and ends where an end was
+pub record IsWindowOf (since until : Option NamedTime) (window : Window) : Type 0 where
+  pub since_is : is_some window.since ≡ is_some since
+  pub until_is : is_some window.until ≡ is_some until
+
+-- the lines of so many logs are counted, whatever was counted before
+pub record CountsLogs (window : Window) (n : ℕ) (old new : Report) : Type 0 where
+  pub logs : List (List ℕ)
+  pub each : length logs ≡ n
+  pub counted : CountsLines window (flat_map lines_in logs) old new
+
+-- as a screen, or as Prometheus reads it
+abbrev pub told_by : Bool → Report → List ℕ
+told_by prometheus report = if prometheus then exposition report else screen report
+
+-- the text of a report that counts the lines of so many logs, each from its first byte to its last
+pub record HasReported (n : ℕ) (since until : Option NamedTime) (prometheus : Bool) (text : List ℕ)
+    : Type 0 where
+  pub window : Window
+  pub asked_for : IsWindowOf since until window
+  pub logs : List (List ℕ)
+  pub each : length logs ≡ n
+  pub report : Report
+  pub counted : Counts window (flat_map lines_in logs) report
+  pub text_is : text ≡ told_by prometheus report

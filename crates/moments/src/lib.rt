@@ -1,0 +1,7 @@
+//! Moments as an operator names them: so long ago, or a time by RFC 3339; and as a log's lines have
+//! their times.
+#![tactic(auto)]
+
+mod moment;
+
+pub use moment::{NamedTime, moment_in, time_text};

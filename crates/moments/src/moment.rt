@@ -1,0 +1,82 @@
+//! Moments as an operator names them, and as a log's lines have their times.
+
+ghost use Rattle.std.specs.Prelude.{◌≡◌, ◌<◌, ◌≤◌, IfNone, IfSome};
+ghost use Rattle.moments.specs.Moments as specs;
+
+use jiff_core::Timestamp;
+use jiff_fmt::temporal::{DateTimePrinter, parse_timestamp};
+use lexing::decimal_within;
+use std::alloc::{AllocError, Global};
+
+/// The longest time ago that is named, in each unit.
+const MOST: u64 = 99999;
+
+/// A moment that is named.
+#[derive(Clone, Copy)]
+pub enum NamedTime {
+    /// So many seconds ago.
+    Ago(u64),
+    At(Timestamp),
+}
+
+/// The moment that a text names: a number with `s`, `m`, `h` or `d` behind it is so long ago, and
+/// all else a time by RFC 3339.
+pub fn moment_in(text: &str) -> Option<NamedTime>
+    ensures moment { IfSome result (specs.Names text.now) }
+    ensures none { IfNone result (specs.NamesNone text.now) }
+{
+    if let Some(seconds) = seconds_ago(text) {
+        return Some(NamedTime::Ago(seconds));
+    }
+    match parse_timestamp(text.as_bytes()) {
+        Ok(time) => Some(NamedTime::At(time)),
+        Err(_) => None,
+    }
+}
+
+fn seconds_ago(text: &str) -> Option<u64>
+    ensures { result ≡ specs.seconds_ago text.now }
+{
+    if let Some(seconds) = seconds_by('s', 1, text) {
+        return Some(seconds);
+    }
+    if let Some(seconds) = seconds_by('m', 60, text) {
+        return Some(seconds);
+    }
+    if let Some(seconds) = seconds_by('h', 3600, text) {
+        return Some(seconds);
+    }
+    seconds_by('d', 86400, text)
+}
+
+fn seconds_by(letter: char, unit: u64, text: &str) -> Option<u64>
+    requires ascii { letter < 128 }
+    requires unit { unit ≤ 86400 }
+    ensures { result ≡ specs.seconds_by letter unit text.now }
+{
+    match text.split_once(letter) {
+        Some((number, "")) => Some(decimal_within(number, 0, MOST)? * unit),
+        _ => None,
+    }
+}
+
+/// The time of a moment as a server's log has it, with milliseconds and `Z`, where it is now so.
+/// What is before all times is the first of them.
+pub fn time_text(alloc: Global, moment: NamedTime, now: Timestamp) -> Result<String, AllocError> {
+    let time = match moment {
+        NamedTime::At(time) => time,
+        NamedTime::Ago(seconds) => earlier(now, seconds),
+    };
+    let text = DateTimePrinter::new()
+        .precision(Some(3))
+        .timestamp_text(time);
+    String::from_str(alloc, text.as_str())
+}
+
+fn earlier(now: Timestamp, seconds: u64) -> Timestamp {
+    let nanoseconds = seconds as i128 * 1_000_000_000;
+    match Timestamp::from_nanosecond(now.nanosecond - nanoseconds) {
+        Ok(time) => time,
+        Err(_) => Timestamp::MIN,
+    }
+}

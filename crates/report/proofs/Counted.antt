@@ -1,0 +1,80 @@
+-- What a line more does to what is counted of lines.
+use Rattle.std.proofs.Common.{◌≡◌, ℕ, ◌+◌, ◌^◌, ◌-◌, List, [], ◌∷◌, ◌++◌, refl, sym, ap, ◌∙◌, arith}
+use Rattle.std.proofs.Common.{Bool, cond, min, Option, Some, None, append-nil, subst, flat_map}
+use Rattle.std.proofs.Common.{sum_by, count_by, is_some, is_none, if◌then◌else◌, codes}
+use Rattle.std.proofs.lemmas.List.Sums.{sum_by_push}
+use Rattle.std.proofs.lemmas.List.Concat.{flat_map-cons}
+use Rattle.std.proofs.lemmas.Grind.{flat_map-append}
+use Rattle.serde_json.specs.Data.{Data}
+use Rattle.report.specs.Counts.{Adds, Counts, GoesUp, all_names, names_if, one_if, total}
+use Rattle.report.specs.Reading.{CountsLines}
+use Rattle.report.specs.Tallies.{Name, capped, IsTally, Notes}
+use Rattle.report.specs.Told.{event_in, told}
+use Rattle.report.specs.declared.counting.Report.{Report}
+use Rattle.report.specs.declared.tally.Tally.{Tally}
+use Rattle.report.specs.declared.window.Window.{Window}
+
+pub capped_sum : (n by : ℕ) → GoesUp n (min (n + by) (2 ^ 64 - 1)) by
+capped_sum n by before n_is = rw n_is (capped_both before by)
+  where
+    capped_both : (c k : ℕ) → min (capped c + k) (2 ^ 64 - 1) ≡ capped (c + k)
+    capped_both c k = grind arith
+
+pub stays : (n : ℕ) → GoesUp n n 0
+stays n before n_is = omega (arith, n_is)
+
+-- the sum over one line more
+more_sum : (f : List ℕ → ℕ) (before : List (List ℕ)) (line : List ℕ) (old new by : ℕ)
+    → GoesUp old new by → by ≡ f line → old ≡ capped (sum_by f before)
+    → new ≡ capped (sum_by f (before ++ line ∷ []))
+more_sum f before line old new by up by_is old_is =
+    up (sum_by f before) old_is
+    ∙ ap capped (ap (λ (k : ℕ). sum_by f before + k) by_is ∙ sym (sum_by_push f before line))
+
+module _ (window : Window) (before : List (List ℕ)) (line : List ℕ) where
+  more_names : (names : Data → List Name)
+      → all_names window (before ++ line ∷ []) names
+      ≡ all_names window before names ++ names_if names (told window line)
+  more_names names =
+      flat_map-append (λ l. names_if names (told window l)) before (line ∷ [])
+      ∙ ap (λ (t : List Name). all_names window before names ++ t)
+      (flat_map-cons (λ l. names_if names (told window l)) line []
+      ∙ append-nil (names_if names (told window line)))
+
+  more_tally : (limit : ℕ) (names : Data → List Name) (old new : Tally)
+      → Notes old new (names_if names (told window line))
+      → IsTally limit (all_names window before names) old
+      → IsTally limit (all_names window (before ++ line ∷ []) names) new
+  more_tally limit names old new notes counted =
+      subst (λ (all : List Name). IsTally limit all new) (sym (more_names names))
+      (notes.behind limit (all_names window before names) counted)
+
+pub counts_one : (window : Window) (line : List ℕ) (old new : Report)
+    → Adds (event_in line) (told window line) old new → CountsLines window (line ∷ []) old new
+counts_one window line old new adds = record {
+  behind = λ before counted. record {
+    lines_told = more_sum (λ l. one_if (is_some (told window l))) before line _ _ _
+        adds.lines_told refl counted.lines_told;
+    foreign = more_sum (λ l. one_if (is_none (event_in l))) before line _ _ _
+        adds.foreign refl counted.foreign;
+    lost = more_sum _ before line _ _ _ adds.lost refl counted.lost;
+    left_out = more_sum _ before line _ _ _ adds.left_out refl counted.left_out;
+    offers_left_out =
+        more_sum _ before line _ _ _ adds.offers_left_out refl counted.offers_left_out;
+    kinds = more_tally window before line 256 _ _ _ adds.kinds counted.kinds;
+    refusals = more_tally window before line 256 _ _ _ adds.refusals counted.refusals;
+    loads = more_tally window before line 256 _ _ _ adds.loads counted.loads;
+    asked = more_tally window before line 256 _ _ _ adds.asked counted.asked;
+    offered = more_tally window before line 256 _ _ _ adds.offered counted.offered;
+    unoffered = more_tally window before line 256 _ _ _ adds.unoffered counted.unoffered;
+    hours = more_tally window before line 4096 _ _ _ adds.hours counted.hours;
+    buckets = more_tally window before line 65536 _ _ _ adds.buckets counted.buckets;
+    unknown = more_tally window before line 256 _ _ _ adds.unknown counted.unknown;
+    without_cohort =
+        more_tally window before line 256 _ _ _ adds.without_cohort counted.without_cohort;
+    without_id = more_tally window before line 256 _ _ _ adds.without_id counted.without_id;
+    cut_events = more_tally window before line 256 _ _ _ adds.cut_events counted.cut_events;
+    ended = more_tally window before line 256 _ _ _ adds.ended counted.ended;
+    results = more_tally window before line 256 _ _ _ adds.results counted.results;
+  };
+}

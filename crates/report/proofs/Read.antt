@@ -1,0 +1,146 @@
+-- What is counted of bytes, one piece after another.
+use Rattle.std.proofs.Common.{◌≡◌, ◌≢◌, ℕ, suc, List, [], ◌∷◌, ◌++◌, refl, sym, ap, ◌∙◌, subst}
+use Rattle.std.proofs.Common.{append_assoc, append-nil, length, Bool, true, false, ◌==◌}
+use Rattle.std.proofs.Common.{if◌then◌else◌, eq-eqb, arith}
+use Rattle.std.specs.Io.KnownBytes.{Consumes, IsAtEnd}
+use Rattle.std.specs.Prelude.{IfNone, IfSome, Option, None, Some}
+use Rattle.report.specs.Counts.{Counts}
+use Rattle.report.specs.Lines.{grown, lines_behind}
+use Rattle.report.specs.Reading.{CountsLines, ReadsLog, ReadsOn}
+use Rattle.report.specs.declared.counting.Report.{Report}
+use Rattle.report.specs.declared.window.Window.{Window}
+
+pub counts_none : (window : Window) (r : Report) → CountsLines window [] r r
+counts_none window r = record {
+  behind = λ before counted.
+      subst (λ (lines : List (List ℕ)). Counts window lines r) (sym (append-nil before)) counted;
+}
+
+pub counts_both : (window : Window) (xs ys : List (List ℕ)) (a b c : Report)
+    → CountsLines window xs a b → CountsLines window ys b c → CountsLines window (xs ++ ys) a c
+counts_both window xs ys a b c first last = record {
+  behind = λ before counted.
+      subst (λ (lines : List (List ℕ)). Counts window lines c) (append_assoc before xs ys)
+      (last.behind (before ++ xs) (first.behind before counted));
+}
+
+if_true : {A : Type 0} (b : Bool) (x y : A) → b ≡ true → (if b then x else y) ≡ x
+if_true b x y holds = rw holds refl
+
+if_false : {A : Type 0} (b : Bool) (x y : A) → b ≡ false → (if b then x else y) ≡ y
+if_false b x y fails = rw fails refl
+
+feed_ends : (begun bytes : List ℕ)
+    → lines_behind begun (10 ∷ bytes) ≡ begun ∷ lines_behind [] bytes
+unfolding lines_behind
+feed_ends begun bytes = refl
+
+other_goes_on : (begun : List ℕ) (b : ℕ) (bytes : List ℕ) → (b == 10) ≡ false
+    → lines_behind begun (b ∷ bytes) ≡ lines_behind (grown begun b) bytes
+unfolding lines_behind
+other_goes_on begun b bytes differs = if_false (b == 10) _ _ differs
+
+none_begun : lines_behind [] [] ≡ []
+unfolding lines_behind
+none_begun = refl
+
+more_than_none : (n : ℕ) → (suc n == 0) ≡ false
+more_than_none n = grind arith
+
+some_begun : (b : ℕ) (line : List ℕ) → lines_behind (b ∷ line) [] ≡ (b ∷ line) ∷ []
+unfolding lines_behind
+some_begun b line = if_false (length (b ∷ line) == 0) _ _ (more_than_none (length line))
+
+pub is_zero : (n : ℕ) (b : Bool) → b ≡ (n == 0) → b ≡ true → n ≡ 0
+is_zero n b is holds = grind arith
+
+pub no_line : (window : Window) (begun : List ℕ) (r : Report) → length begun ≡ 0
+    → CountsLines window (lines_behind begun []) r r
+no_line window [] r none =
+    subst (λ (lines : List (List ℕ)). CountsLines window lines r r) (sym none_begun)
+    (counts_none window r)
+no_line window (b ∷ line) r none = absurd (omega (arith, none))
+
+pub line_ends : (window : Window) (begun : List ℕ) (old new : Report)
+    → CountsLines window (begun ∷ []) old new → ReadsOn window (10 ∷ []) begun old [] new
+line_ends window begun old new counted = record {
+  behind = λ bytes last rest.
+      subst (λ (lines : List (List ℕ)). CountsLines window lines old last)
+      (sym (feed_ends begun bytes))
+      (counts_both window (begun ∷ []) (lines_behind [] bytes) old new last counted rest);
+}
+
+pub line_goes_on : (window : Window) (begun begun_then : List ℕ) (b : ℕ) (r : Report)
+    → b ≢ 10 → begun_then ≡ grown begun b → ReadsOn window (b ∷ []) begun r begun_then r
+line_goes_on window begun begun_then b r other grows = record {
+  behind = λ bytes last rest.
+      subst (λ (lines : List (List ℕ)). CountsLines window lines r last)
+      (ap (λ (line : List ℕ). lines_behind line bytes) grows
+      ∙ sym (other_goes_on begun b bytes (neq_false b 10 other))) rest;
+}
+  where
+    neq_false : (m n : ℕ) → m ≢ n → (m == n) ≡ false
+    neq_false m n differs = grind arith
+
+pub reads_none : (window : Window) (begun : List ℕ) (r : Report)
+    → ReadsOn window [] begun r begun r
+reads_none window begun r = record { behind = λ bytes last rest. rest }
+
+pub reads_both : (window : Window) (xs ys : List ℕ) (x y z : List ℕ) (a b c : Report)
+    → ReadsOn window xs x a y b → ReadsOn window ys y b z c → ReadsOn window (xs ++ ys) x a z c
+reads_both window xs ys x y z a b c first next = record {
+  behind = λ bytes last rest.
+      subst (λ (all : List ℕ). CountsLines window (lines_behind x all) a last)
+      (sym (append_assoc xs ys bytes))
+      (first.behind (ys ++ bytes) last (next.behind bytes last rest));
+}
+
+pub last_line : (window : Window) (begun : List ℕ) (old new : Report)
+    → (length begun ≡ 0 → old ≡ new)
+    → (length begun ≢ 0 → CountsLines window (begun ∷ []) old new)
+    → CountsLines window (lines_behind begun []) old new
+last_line window [] old new none some =
+    subst (λ (lines : List (List ℕ)). CountsLines window lines old new) (sym none_begun)
+    (subst (λ (r : Report). CountsLines window [] old r) (none refl) (counts_none window old))
+last_line window (b ∷ line) old new none some =
+    subst (λ (lines : List (List ℕ)). CountsLines window lines old new) (sym (some_begun b line))
+    (some (λ long. absurd (omega (arith, long))))
+
+-- ---- bytes of a reader
+
+pub consumes_none : (a : Option (List ℕ)) → Consumes a a []
+consumes_none None = tt
+consumes_none (Some s) = refl
+
+pub consumes_both : (a b c : Option (List ℕ)) (xs ys : List ℕ)
+    → Consumes a b xs → Consumes b c ys → Consumes a c (xs ++ ys)
+consumes_both None b c xs ys first last = tt
+consumes_both (Some s) None c xs ys first last = absurd first
+consumes_both (Some s) (Some t) None xs ys first last = absurd last
+consumes_both (Some s) (Some t) (Some u) xs ys first last =
+    first ∙ ap (λ (z : List ℕ). xs ++ z) last ∙ sym (append_assoc xs ys u)
+
+pub all_consumed : (a b : Option (List ℕ)) (xs : List ℕ) → Consumes a b xs → IsAtEnd b
+    → IfSome a (λ all. xs ≡ all)
+all_consumed None b xs first last = tt
+all_consumed (Some s) None xs first last = absurd first
+all_consumed (Some s) (Some t) xs first last =
+    sym (first ∙ ap (λ (z : List ℕ). xs ++ z) last ∙ append-nil xs)
+
+pub at_some : {A : Type 0} (o : Option A) (x : A) (P : A → Type 0) → o ≡ Some x → IfSome o P
+    → P x
+at_some {A} o x P is holds = subst (λ (q : Option A). IfSome q P) is holds
+
+pub at_none : {A : Type 0} (o : Option A) (P : Type 0) → o ≡ None → IfNone o P → P
+at_none {A} o P is holds = subst (λ (q : Option A). IfNone q P) is holds
+
+pub log_read : (window : Window) (known last_known : Option (List ℕ)) (seen begun : List ℕ)
+    (start old new : Report) → Consumes known last_known seen → IsAtEnd last_known
+    → ReadsOn window seen [] start begun old
+    → CountsLines window (lines_behind begun []) old new → ReadsLog window known start new
+log_read window known last_known seen begun start old new consumed ended reads last = record {
+  bytes = seen;
+  given = all_consumed known last_known seen consumed ended;
+  counted = subst (λ (bytes : List ℕ). CountsLines window (lines_behind [] bytes) start new)
+      (append-nil seen) (reads.behind [] new last);
+}

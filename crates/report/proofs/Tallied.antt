@@ -1,0 +1,278 @@
+-- What one name more does to a table: its row goes up, or it gets a row, or it counts among the
+-- others. And what names behind names do.
+use Rattle.std.proofs.Common.{◌≡◌, ℕ, ◌+◌, ◌^◌, ◌-◌, ◌<◌, ◌≤◌, List, [], ◌∷◌, ◌++◌, refl}
+use Rattle.std.proofs.Common.{sym, ap, ◌∙◌}
+use Rattle.std.proofs.Common.{Bool, true, false, cond, Option, Some, None, is_none, is_some, min}
+use Rattle.std.proofs.Common.{arith}
+use Rattle.std.proofs.Common.{append_assoc, append-nil, count_by, subst, if◌then◌else◌, option_map}
+use Rattle.std.proofs.Common.{String, string_bytes}
+use Rattle.std.specs.BTreeMap.{btree_map_len, get_by_text}
+use Rattle.std.specs.Str.{bytes_eq}
+use Rattle.std.specs.Cmp.Lexicographic.{bytes_decides, nat_list_eq_equiv}
+use Rattle.std.proofs.lemmas.List.Sums.{sum_by_push, sum_by-le-sum_by}
+use Rattle.report.specs.Tallies.{Name, capped, occurrences_of, has_no_row, IsTally, Notes, Sets}
+use Rattle.report.specs.declared.tally.Tally.{Tally}
+
+-- ---- counts
+
+count_push : {X : Type 0} (p : X → Bool) (xs : List X) (x : X)
+    → count_by p (xs ++ x ∷ []) ≡ count_by p xs + cond (p x) 1 0
+count_push p xs x = sum_by_push _ xs x
+
+at_most : (b c : Bool) → (c ≡ true → b ≡ true) → cond c 1 0 ≤ cond b 1 0
+at_most b false more = omega arith
+at_most b true more = rw (more refl) (omega arith)
+
+fewer : {X : Type 0} (p q : X → Bool) (xs : List X) → ((x : X) → q x ≡ true → p x ≡ true)
+    → count_by q xs ≤ count_by p xs
+fewer p q xs more = sum_by-le-sum_by _ _ xs (λ x. at_most (p x) (q x) (more x))
+
+same_count : {X : Type 0} (p q : X → Bool) (xs : List X) → ((x : X) → p x ≡ q x)
+    → count_by p xs ≡ count_by q xs
+same_count {X} p q xs same = ap (λ (r : X → Bool). count_by r xs) (λ i. λ x. same x i)
+
+some_is : (m k : ℕ) → Some m ≡ Some k → m ≡ k
+some_is m k same = cc
+
+no_some : {A : Type 0} (a : A) (o : Option A) → o ≡ None → o ≡ Some a → ⊥
+no_some a o none some = cc
+
+-- a number that goes up with the count, and one that stays with it
+counted_up : (n m k c d : ℕ) (b : Bool) → n ≡ capped c → m ≡ min (n + 1) (2 ^ 64 - 1) → m ≡ k
+    → b ≡ true → d ≡ c + cond b 1 0 → (0 < k) × (k ≡ capped d)
+counted_up n m k c d true n_is m_is k_is holds d_is = grind arith
+counted_up n m k c d false n_is m_is k_is holds d_is = cc
+
+counted_on : (k c d : ℕ) (b : Bool) → (0 < k) × (k ≡ capped c) → b ≡ false
+    → d ≡ c + cond b 1 0 → (0 < k) × (k ≡ capped d)
+counted_on k c d true was fails d_is = cc
+counted_on k c d false was fails d_is = (was.0, was.1 ∙ ap capped (sym (as_many c d d_is)))
+  where
+    as_many : (c d : ℕ) → d ≡ c + cond false 1 0 → d ≡ c
+    as_many c d d_is = omega (arith, d_is)
+
+none_zero : (c : ℕ) → 0 ≡ capped c → c ≡ 0
+none_zero c is = grind arith
+
+zero_if_none : (n : ℕ) → (0 < n → ⊥) → n ≡ 0
+zero_if_none n not_more = omega arith
+
+-- ---- a table whose row is set
+
+module _ (old new : Tally) (name : Name) (m : ℕ) (sets : Sets old new name m) where
+  set_at : (other : Name) → bytes_eq name other ≡ true → get_by_text new.rows other ≡ Some m
+  set_at other same = let row = sets.row other in rw same at row
+
+  kept_at : (other : Name) → bytes_eq name other ≡ false
+      → get_by_text new.rows other ≡ get_by_text old.rows other
+  kept_at other differs = let row = sets.row other in rw differs at row
+
+  has_now : has_no_row new name ≡ false
+  has_now = ap is_none (set_at name ((bytes_decides name name).1 refl))
+
+  -- what has no row now had none before
+  had_none : (other : Name) (b : Bool) → bytes_eq name other ≡ b
+      → has_no_row new other ≡ true → has_no_row old other ≡ true
+  had_none other true same none =
+      let has : has_no_row new other ≡ false = ap is_none (set_at other same) in
+      cc
+  had_none other false differs none = sym (ap is_none (kept_at other differs)) ∙ none
+
+  kept_count : (before : List Name) (k : ℕ) (other : Name)
+      → ((0 < k) × (k ≡ capped (occurrences_of other before))) → bytes_eq name other ≡ false
+      → (0 < k) × (k ≡ capped (occurrences_of other (before ++ name ∷ [])))
+  kept_count before k other was differs =
+      counted_on k (occurrences_of other before) (occurrences_of other (before ++ name ∷ []))
+      (bytes_eq other name) was (nat_list_eq_equiv.symm other name ∙ differs)
+      (count_push (bytes_eq other) before name)
+
+  others_behind : (before : List Name)
+      → count_by (has_no_row new) (before ++ name ∷ []) ≡ count_by (has_no_row new) before
+  others_behind before =
+      count_push (has_no_row new) before name
+      ∙ ap (λ (b : Bool). count_by (has_no_row new) before + cond b 1 0) has_now
+      ∙ (omega arith)
+
+-- ---- the row of a name goes up
+
+module _ (old new : Tally) (name : Name) (n m : ℕ) (had : get_by_text old.rows name ≡ Some n)
+    (more : m ≡ min (n + 1) (2 ^ 64 - 1)) (sets : Sets old new name m) where
+  had_row : has_no_row old name ≡ false
+  had_row = ap is_none had
+
+  as_before : (other : Name) (b : Bool) → bytes_eq name other ≡ b
+      → has_no_row new other ≡ has_no_row old other
+  as_before other true same =
+      ap is_none (set_at old new name m sets other same)
+      ∙ sym (ap (has_no_row old) (sym ((bytes_decides name other).0 same)) ∙ had_row)
+  as_before other false differs = ap is_none (kept_at old new name m sets other differs)
+
+  module _ (limit : ℕ) (before : List Name) (counted : IsTally limit before old) where
+    up_row : (other : Name) (k : ℕ) → get_by_text new.rows other ≡ Some k
+        → (b : Bool) → bytes_eq name other ≡ b
+        → (0 < k) × (k ≡ capped (occurrences_of other (before ++ name ∷ [])))
+    up_row other k found true same =
+        counted_up n m k (occurrences_of other before)
+        (occurrences_of other (before ++ name ∷ [])) (bytes_eq other name)
+        ((counted.rows name n had).1
+        ∙ ap (λ (t : Name). capped (occurrences_of t before)) ((bytes_decides name other).0 same))
+        more (some_is m k (sym (set_at old new name m sets other same) ∙ found))
+        (nat_list_eq_equiv.symm other name ∙ same)
+        (count_push (bytes_eq other) before name)
+    up_row other k found false differs =
+        kept_count old new name m sets before k other
+        (counted.rows other k (sym (kept_at old new name m sets other differs) ∙ found)) differs
+
+    up_others : new.others ≡ capped (count_by (has_no_row new) (before ++ name ∷ []))
+    up_others =
+        sets.others ∙ counted.others
+        ∙ ap capped (sym (others_behind old new name m sets before
+        ∙ same_count _ _ before (λ x. as_before x (bytes_eq name x) refl)))
+
+    as_long : btree_map_len new.rows ≡ btree_map_len old.rows
+    as_long =
+        sets.len
+        ∙ ap (λ (b : Bool). btree_map_len old.rows + (if b then 1 else 0)) had_row
+        ∙ (omega arith)
+
+    up : IsTally limit (before ++ name ∷ []) new
+    up = record {
+      rows = λ other k found. up_row other k found (bytes_eq name other) refl;
+      others = up_others;
+      full = λ some. rw as_long (counted.full (rw (sets.others) at some));
+      within = rw as_long counted.within;
+      room = sets.limit ∙ counted.room;
+    }
+
+  pub goes_up : Notes old new (name ∷ [])
+  goes_up = record { behind = up }
+
+-- ---- a name gets a row
+
+module _ (old new : Tally) (name : Name) (none : get_by_text old.rows name ≡ None)
+    (free : btree_map_len old.rows < old.limit) (sets : Sets old new name 1) where
+  had_no_row : has_no_row old name ≡ true
+  had_no_row = ap is_none none
+
+  named_in : (x : Name) → bytes_eq name x ≡ true → has_no_row old x ≡ true
+  named_in x same = ap (has_no_row old) (sym ((bytes_decides name x).0 same)) ∙ had_no_row
+
+  module _ (limit : ℕ) (before : List Name) (counted : IsTally limit before old) where
+    no_others : old.others ≡ 0
+    no_others =
+        zero_if_none old.others (λ some. omega (arith, counted.full some, counted.room, free))
+
+    all_have_rows : count_by (has_no_row old) before ≡ 0
+    all_have_rows = none_zero _ (sym no_others ∙ counted.others)
+
+    unseen : occurrences_of name before ≡ 0
+    unseen = omega (arith, fewer (has_no_row old) (bytes_eq name) before named_in, all_have_rows)
+
+    first_row : (other : Name) (k : ℕ) → get_by_text new.rows other ≡ Some k
+        → (b : Bool) → bytes_eq name other ≡ b
+        → (0 < k) × (k ≡ capped (occurrences_of other (before ++ name ∷ [])))
+    first_row other k found true same =
+        counted_up 0 1 k (occurrences_of other before)
+        (occurrences_of other (before ++ name ∷ [])) (bytes_eq other name)
+        (sym (ap capped (sym (ap (λ (t : Name). occurrences_of t before)
+        ((bytes_decides name other).0 same)) ∙ unseen)))
+        refl (some_is 1 k (sym (set_at old new name 1 sets other same) ∙ found))
+        (nat_list_eq_equiv.symm other name ∙ same)
+        (count_push (bytes_eq other) before name)
+    first_row other k found false differs =
+        kept_count old new name 1 sets before k other
+        (counted.rows other k (sym (kept_at old new name 1 sets other differs) ∙ found)) differs
+
+    none_behind : count_by (has_no_row new) (before ++ name ∷ []) ≡ 0
+    none_behind = omega (
+      arith,
+      others_behind old new name 1 sets before,
+      fewer (has_no_row old) (has_no_row new) before
+          (λ x. had_none old new name 1 sets x (bytes_eq name x) refl),
+      all_have_rows,
+    )
+
+    one_longer : btree_map_len new.rows ≡ btree_map_len old.rows + 1
+    one_longer =
+        sets.len ∙ ap (λ (b : Bool). btree_map_len old.rows + (if b then 1 else 0)) had_no_row
+
+    begun : IsTally limit (before ++ name ∷ []) new
+    begun = record {
+      rows = λ other k found. first_row other k found (bytes_eq name other) refl;
+      others = sets.others ∙ no_others ∙ sym (ap capped none_behind);
+      full = λ some. absurd (omega (arith, some, sets.others, no_others));
+      within = omega (arith, one_longer, free, counted.room);
+      room = sets.limit ∙ counted.room;
+    }
+
+  pub gets_row : Notes old new (name ∷ [])
+  gets_row = record { behind = begun }
+
+-- ---- a name counts among the others
+
+module _ (old new : Tally) (name : Name) (none : get_by_text old.rows name ≡ None)
+    (full : old.limit ≤ btree_map_len old.rows)
+    (rows : new.rows ≡ old.rows) (limit_is : new.limit ≡ old.limit)
+    (more : new.others ≡ min (old.others + 1) (2 ^ 64 - 1)) where
+  module _ (limit : ℕ) (before : List Name) (counted : IsTally limit before old) where
+    other_row : (other : Name) (k : ℕ) → get_by_text old.rows other ≡ Some k
+        → (b : Bool) → bytes_eq name other ≡ b
+        → (0 < k) × (k ≡ capped (occurrences_of other (before ++ name ∷ [])))
+    other_row other k found true same =
+        absurd (no_some k (get_by_text old.rows name) none
+        (ap (get_by_text old.rows) ((bytes_decides name other).0 same) ∙ found))
+    other_row other k found false differs =
+        counted_on k (occurrences_of other before) (occurrences_of other (before ++ name ∷ []))
+        (bytes_eq other name) (counted.rows other k found)
+        (nat_list_eq_equiv.symm other name ∙ differs)
+        (count_push (bytes_eq other) before name)
+
+    one_other : new.others ≡ capped (count_by (has_no_row old) (before ++ name ∷ []))
+    one_other = (counted_up old.others new.others new.others (count_by (has_no_row old) before)
+        (count_by (has_no_row old) (before ++ name ∷ [])) (has_no_row old name)
+        counted.others more refl (ap is_none none) (count_push (has_no_row old) before name)).1
+
+    joined : IsTally limit (before ++ name ∷ []) new
+    joined = record {
+      rows = λ other k found. other_row other k (rw rows at found) (bytes_eq name other) refl;
+      others = rw rows one_other;
+      full = λ some. rw rows (omega (arith, full, counted.room));
+      within = rw rows counted.within;
+      room = limit_is ∙ counted.room;
+    }
+
+  pub joins_others : Notes old new (name ∷ [])
+  joins_others = record { behind = joined }
+
+pub len_after : (n m : ℕ) (o p : Option ℕ) → o ≡ p → m ≡ n + (if is_some o then 0 else 1)
+    → m ≡ n + (if is_none p then 1 else 0)
+len_after n m None p same is =
+    subst (λ (q : Option ℕ). m ≡ n + (if is_none q then 1 else 0)) same is
+len_after n m (Some k) p same is =
+    subst (λ (q : Option ℕ). m ≡ n + (if is_none q then 1 else 0)) same is
+
+-- ---- names behind names
+
+pub notes_none : (t : Tally) → Notes t t []
+notes_none t = record {
+  behind = λ limit before counted.
+      subst (λ (names : List Name). IsTally limit names t) (sym (append-nil before)) counted;
+}
+
+pub notes_both : (a b c : Tally) (xs ys : List Name)
+    → Notes a b xs → Notes b c ys → Notes a c (xs ++ ys)
+notes_both a b c xs ys first last = record {
+  behind = λ limit before counted.
+      subst (λ (names : List Name). IsTally limit names c) (append_assoc before xs ys)
+      (last.behind limit (before ++ xs) (first.behind limit before counted));
+}
+
+pub empty_tally : (limit : ℕ) (t : Tally) → t.others ≡ 0 → btree_map_len t.rows ≡ 0
+    → t.limit ≡ limit → ((name : Name) → get_by_text t.rows name ≡ None) → IsTally limit [] t
+empty_tally limit t none_else none_long room none = record {
+  rows = λ name n found. absurd (no_some n _ (none name) found);
+  others = none_else;
+  full = λ some. absurd (omega (arith, some, none_else));
+  within = omega (arith, none_long);
+  room = room;
+}

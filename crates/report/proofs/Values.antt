@@ -1,0 +1,28 @@
+-- Texts that have a JSON value, and those that have none.
+use Rattle.std.proofs.Common.{◌≡◌, ℕ, List, Bool, true, false}
+use Rattle.std.proofs.Common.{Option, Some, None, if◌then◌else◌, refl}
+use Rattle.std.specs.Str.{IsUtf8, is_utf8}
+use Rattle.std.proofs.lemmas.Str.{is_utf8-from_IsUtf8, IsUtf8-from_is_utf8}
+use Rattle.serde_json.specs.Data.{Data}
+use Rattle.serde_json.specs.Read.{read}
+use Rattle.report.specs.Told.{value_of}
+
+some_if : (b : Bool) (o : Option Data) (d : Data)
+    → b ≡ true → o ≡ Some d → (if b then o else None) ≡ Some d
+some_if true o d holds found = found
+some_if false o d holds found = cc
+
+none_if : (b : Bool) (o : Option Data) → (b ≡ true → o ≡ None) → (if b then o else None) ≡ None
+none_if true o none = none refl
+none_if false o none = refl
+
+pub value_found : (text : List ℕ) (d : Data)
+    → IsUtf8 text → read text ≡ Some d → value_of text ≡ Some d
+unfolding value_of
+value_found text d utf8 found =
+    some_if (is_utf8 text) (read text) d (is_utf8-from_IsUtf8 text utf8) found
+
+pub value_missing : (text : List ℕ) → (IsUtf8 text → read text ≡ None) → value_of text ≡ None
+unfolding value_of
+value_missing text none =
+    none_if (is_utf8 text) (read text) (λ e. none (IsUtf8-from_is_utf8 text e))

@@ -1,0 +1,15 @@
+use Rattle.std.proofs.Common.{length}
+use Rattle.serde_json.specs.View.{view}
+use Rattle.report.specs.Events.{names_in_text}
+use Rattle.report.specs.Tallies.{Notes}
+use Rattle.report.specs.declared.tally.Tally.{Tally}
+use Rattle.report.proofs.events.note_text.Given as goal
+
+-- once the events of the text that is left are counted, all are
+abbrev pub invariant-loop-left : goal.invariant-loop-left
+invariant-loop-left l = (last : Tally)
+    → Notes l.tally last (names_in_text l.question (view l.app) l.appid l.left)
+    → Notes l.fn.tally last (names_in_text l.question (view l.app) l.appid l.text)
+
+abbrev pub decreases-loop-left : goal.decreases-loop-left
+decreases-loop-left l = length l.left

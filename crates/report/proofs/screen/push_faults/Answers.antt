@@ -1,0 +1,11 @@
+use Rattle.report.proofs.Written.{and_then}
+use Rattle.report.proofs.screen.push_faults.Goals as goal
+
+pub returns : goal.returns
+returns c =
+    and_then _ _ _ _ _ (and_then _ _ _ _ _ (and_then _ _ _ _ _
+    (and_then _ _ _ _ _ c.in_ok-push_table.ensures
+    c.in_ok-push_table-2.ensures)
+    c.in_ok-push_table-3.ensures)
+    c.in_ok-push_table-4.ensures)
+    c.in_ok-push_table-5.ensures

@@ -1,0 +1,99 @@
+-- What a report counts of the lines of a log.
+use Rattle.std.specs.Prelude.{◌≡◌, ℕ, ◌+◌, List, [], ◌∷◌, ◌++◌, codes, count_by, flat_map, sum_by}
+use Rattle.std.specs.Prelude.{Bool, Option, Some, None, is_some, is_none, unwrap_or}
+use Rattle.std.specs.Prelude.{if◌then◌else◌}
+use Rattle.serde_json.specs.Data.{Data}
+use Rattle.report.specs.Events.{event_names}
+use Rattle.report.specs.Names.{app_names, line_names, is_kind}
+use Rattle.report.specs.Tallies.{Name, capped, IsTally, Notes}
+use Rattle.report.specs.Told.{event_in, number_in, told}
+use Rattle.report.specs.declared.question.AppQuestion.TheVariants as of_app
+use Rattle.report.specs.declared.question.EventQuestion.TheVariants as of_event
+use Rattle.report.specs.declared.question.LineQuestion.TheVariants as of_line
+use Rattle.report.specs.declared.counting.Report.{Report}
+use Rattle.report.specs.declared.window.Window.{Window}
+
+-- ---- of a line, if it is told
+
+abbrev pub names_if : (Data → List Name) → Option Data → List Name
+names_if names (Some line) = names line
+names_if names None = []
+
+abbrev pub number_if : (Data → ℕ) → Option Data → ℕ
+number_if number (Some line) = number line
+number_if number None = 0
+
+-- a number that a line has, and 0 where it has none
+abbrev pub number_or_none : List ℕ → Data → ℕ
+number_or_none name line = unwrap_or (number_in name line) 0
+
+-- how many lines were lost before it
+abbrev pub lost_in : Data → ℕ
+lost_in line = if is_kind (codes "lost") line then number_or_none (codes "lines") line else 0
+
+-- ---- of all lines
+
+module _ (window : Window) (lines : List (List ℕ)) where
+  abbrev pub all_names : (Data → List Name) → List Name
+  all_names names = flat_map (λ line. names_if names (told window line)) lines
+
+  abbrev pub total : (Data → ℕ) → ℕ
+  total number = capped (sum_by (λ line. number_if number (told window line)) lines)
+
+  -- Of each question the table counts the names that the lines tell: those of the server's, in the
+  -- window. Of all others nothing is counted, but of those that aren't the server's how many.
+  pub record Counts (r : Report) : Type 0 where
+    pub lines_told : r.lines ≡ capped (count_by (λ line. is_some (told window line)) lines)
+    pub foreign : r.foreign ≡ capped (count_by (λ line. is_none (event_in line)) lines)
+    pub lost : r.lost ≡ total lost_in
+    pub left_out : r.left_out ≡ total (number_or_none (codes "left_out"))
+    pub offers_left_out : r.offers_left_out ≡ total (number_or_none (codes "offers_left_out"))
+    pub kinds : IsTally 256 (all_names (line_names of_line.Kind)) r.kinds
+    pub refusals : IsTally 256 (all_names (line_names of_line.Refusal)) r.refusals
+    pub loads : IsTally 256 (all_names (line_names of_line.Load)) r.loads
+    pub asked : IsTally 256 (all_names (app_names of_app.Asked)) r.asked
+    pub offered : IsTally 256 (all_names (app_names of_app.Offered)) r.offered
+    pub unoffered : IsTally 256 (all_names (app_names of_app.Unoffered)) r.unoffered
+    pub hours : IsTally 4096 (all_names (app_names of_app.Hour)) r.hours
+    pub buckets : IsTally 65536 (all_names (app_names of_app.Bucket)) r.buckets
+    pub unknown : IsTally 256 (all_names (app_names of_app.Unknown)) r.unknown
+    pub without_cohort : IsTally 256 (all_names (app_names of_app.WithoutCohort)) r.without_cohort
+    pub without_id : IsTally 256 (all_names (app_names of_app.WithoutId)) r.without_id
+    pub cut_events : IsTally 256 (all_names (app_names of_app.CutEvent)) r.cut_events
+    pub ended : IsTally 256 (all_names (event_names of_event.Ended)) r.ended
+    pub results : IsTally 256 (all_names (event_names of_event.Result)) r.results
+
+-- ---- of one line more
+
+-- whatever was counted before, so many are counted behind it
+abbrev pub GoesUp : ℕ → ℕ → ℕ → Type 0
+GoesUp old new by = (before : ℕ) → old ≡ capped before → new ≡ capped (before + by)
+
+abbrev pub one_if : Bool → ℕ
+one_if holds = if holds then 1 else 0
+
+-- what is counted of a line that is this event, if it is one, and is told as this, if it is told
+pub record Adds (event line : Option Data) (old new : Report) : Type 0 where
+  pub lines_told : GoesUp old.lines new.lines (one_if (is_some line))
+  pub foreign : GoesUp old.foreign new.foreign (one_if (is_none event))
+  pub lost : GoesUp old.lost new.lost (number_if lost_in line)
+  pub left_out :
+      GoesUp old.left_out new.left_out (number_if (number_or_none (codes "left_out")) line)
+  pub offers_left_out :
+      GoesUp old.offers_left_out new.offers_left_out
+      (number_if (number_or_none (codes "offers_left_out")) line)
+  pub kinds : Notes old.kinds new.kinds (names_if (line_names of_line.Kind) line)
+  pub refusals : Notes old.refusals new.refusals (names_if (line_names of_line.Refusal) line)
+  pub loads : Notes old.loads new.loads (names_if (line_names of_line.Load) line)
+  pub asked : Notes old.asked new.asked (names_if (app_names of_app.Asked) line)
+  pub offered : Notes old.offered new.offered (names_if (app_names of_app.Offered) line)
+  pub unoffered : Notes old.unoffered new.unoffered (names_if (app_names of_app.Unoffered) line)
+  pub hours : Notes old.hours new.hours (names_if (app_names of_app.Hour) line)
+  pub buckets : Notes old.buckets new.buckets (names_if (app_names of_app.Bucket) line)
+  pub unknown : Notes old.unknown new.unknown (names_if (app_names of_app.Unknown) line)
+  pub without_cohort :
+      Notes old.without_cohort new.without_cohort (names_if (app_names of_app.WithoutCohort) line)
+  pub without_id : Notes old.without_id new.without_id (names_if (app_names of_app.WithoutId) line)
+  pub cut_events : Notes old.cut_events new.cut_events (names_if (app_names of_app.CutEvent) line)
+  pub ended : Notes old.ended new.ended (names_if (event_names of_event.Ended) line)
+  pub results : Notes old.results new.results (names_if (event_names of_event.Result) line)

@@ -1,0 +1,105 @@
+-- How installs ended, as the events of a line's apps tell it. A line has the member `event` of an
+-- app as the client wrote it, or a beginning of that, so each object in it that is whole counts.
+use Rattle.std.specs.Prelude.{ℕ, List, [], ◌∷◌, ◌++◌, codes, decimal, take}
+use Rattle.std.specs.Prelude.{Bool, ◌&&◌, ◌||◌, ◌==◌, ◌+◌, if◌then◌else◌}
+use Rattle.std.specs.Prelude.{Option, Some, None, option_and_then, unwrap_or}
+use Rattle.std.specs.List.{position, slice_index}
+use Rattle.std.specs.Str.{byte}
+use Rattle.serde_json.specs.Data.{Data, Items, no_items, item}
+use Rattle.report.specs.Tallies.{Name}
+use Rattle.report.specs.Told.{text_in, number_in, list_in, is_number, value_of}
+use Rattle.report.specs.Names.{three, if_holds, listed, text_or_mark}
+use Rattle.report.specs.declared.question.EventQuestion.{EventQuestion}
+use Rattle.report.specs.declared.question.EventQuestion.TheVariants.{Ended, Result}
+
+-- ---- the objects of a text
+
+abbrev pub is_brace : ℕ → Bool
+is_brace b = (b == byte "{") || (b == byte "}")
+
+-- the object that a text begins with, whose first brace behind the one that opens it stands at n in
+-- the rest, if that closes it
+abbrev pub closed_at : List ℕ → List ℕ → ℕ → Option (List ℕ)
+closed_at text rest n =
+    if slice_index rest n == byte "}" then Some (take (n + 2) text) else None
+
+abbrev pub closed : List ℕ → List ℕ → Option (List ℕ)
+closed text rest = option_and_then (closed_at text rest) (position is_brace rest)
+
+abbrev pub object_at : List ℕ → Option (List ℕ)
+object_at [] = None
+object_at (b ∷ rest) = if b == byte "{" then closed (b ∷ rest) rest else None
+
+-- ---- an event
+
+-- an install or an update (Omaha 3.1)
+abbrev pub is_install : Data → Bool
+is_install event =
+    is_number 2 (number_in (codes "eventtype") event)
+    || is_number 3 (number_in (codes "eventtype") event)
+
+-- the version that the event tells, or else the app's
+abbrev pub from_version : Data → Data → List ℕ
+from_version app event =
+    unwrap_or (text_in (codes "previousversion") event)
+    (text_or_mark (text_in (codes "version") app))
+
+-- from that version to the one that the event tells
+abbrev pub install_name : Data → List ℕ → Data → Name
+install_name app appid event =
+    three appid (from_version app event) (text_or_mark (text_in (codes "nextversion") event))
+
+-- 1 is a success and 0 a failure (Omaha 3.1)
+abbrev pub result_text : Option ℕ → List ℕ
+result_text (Some result) = decimal result
+result_text None = codes "?"
+
+abbrev pub result_name : Data → List ℕ → Data → Name
+result_name app appid event =
+    result_text (number_in (codes "eventresult") event) ++ codes "\t"
+    ++ install_name app appid event
+
+abbrev pub install_told : EventQuestion → Data → List ℕ → Data → Name
+install_told Ended app appid event = install_name app appid event
+install_told Result app appid event = result_name app appid event
+
+abbrev pub event_name : EventQuestion → Data → List ℕ → Data → Option Name
+event_name question app appid event =
+    if_holds (is_install event) (install_told question app appid event)
+
+-- ---- the events of an app, and of all apps of a line
+
+abbrev pub name_at : EventQuestion → Data → List ℕ → List ℕ → Option Name
+name_at question app appid text =
+    option_and_then (λ object. option_and_then (event_name question app appid) (value_of object))
+    (object_at text)
+
+abbrev pub names_at : EventQuestion → Data → List ℕ → List ℕ → List Name
+names_at question app appid text = listed (name_at question app appid text)
+
+-- at each place of the text
+abbrev pub names_in_text : EventQuestion → Data → List ℕ → List ℕ → List Name
+names_in_text question app appid [] = []
+names_in_text question app appid (b ∷ text) =
+    names_at question app appid (b ∷ text) ++ names_in_text question app appid text
+
+abbrev pub names_in : EventQuestion → Data → Option (List ℕ) → Option (List ℕ) → List Name
+names_in question app (Some appid) (Some text) = names_in_text question app appid text
+names_in question app (Some appid) None = []
+names_in question app None text = []
+
+abbrev pub names_of_app : EventQuestion → Data → List Name
+names_of_app question app =
+    names_in question app (text_in (codes "appid") app) (text_in (codes "event") app)
+
+abbrev pub names_of_events : EventQuestion → Items → List Name
+names_of_events question no_items = []
+names_of_events question (item app apps) =
+    names_of_app question app ++ names_of_events question apps
+
+abbrev pub names_of_list : EventQuestion → Option Items → List Name
+names_of_list question (Some apps) = names_of_events question apps
+names_of_list question None = []
+
+abbrev pub event_names : EventQuestion → Data → List Name
+event_names question line = names_of_list question (list_in (codes "apps") line)

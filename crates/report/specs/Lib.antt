@@ -1,0 +1,9 @@
+pub mod Tallies
+pub mod Lines
+pub mod Told
+pub mod Names
+pub mod Events
+pub mod Counts
+pub mod Reading
+pub mod Screen
+pub mod Exposition

@@ -1,0 +1,165 @@
+-- The names that are counted of a line, question by question. A name is one text or several, with a
+-- tab between them; a control in a text is escaped, so that none of them has a tab of its own.
+use Rattle.std.specs.Prelude.{ℕ, List, [], ◌∷◌, ◌++◌, codes, decimal, Bool, true, false, ◌&&◌}
+use Rattle.std.specs.Prelude.{Option, Some, None, is_some, option_map, option_and_then, unwrap_or}
+use Rattle.std.specs.Prelude.{◌==◌, if◌then◌else◌}
+use Rattle.std.specs.List.{before_first}
+use Rattle.std.specs.Str.{byte}
+use Rattle.printing.specs.Printed.{printed}
+use Rattle.serde_json.specs.Data.{Data, Items, no_items, item}
+use Rattle.report.specs.Tallies.{Name}
+use Rattle.report.specs.Told.{text_in, number_in, flag_in, list_in, is_number, is_flag, is_text}
+use Rattle.report.specs.declared.question.AppQuestion.{AppQuestion}
+use Rattle.report.specs.declared.question.AppQuestion.TheVariants.{Asked, Offered, Unoffered}
+use Rattle.report.specs.declared.question.AppQuestion.TheVariants.{Hour, Bucket, Unknown}
+use Rattle.report.specs.declared.question.AppQuestion.TheVariants.{WithoutCohort, WithoutId}
+use Rattle.report.specs.declared.question.AppQuestion.TheVariants.{CutEvent}
+use Rattle.report.specs.declared.question.LineQuestion.{LineQuestion}
+use Rattle.report.specs.declared.question.LineQuestion.TheVariants.{Kind, Refusal, Load}
+
+-- ---- names
+
+abbrev pub one : List ℕ → Name
+one a = printed a
+
+abbrev pub two : List ℕ → List ℕ → Name
+two a b = printed a ++ codes "\t" ++ printed b
+
+abbrev pub three : List ℕ → List ℕ → List ℕ → Name
+three a b c = printed a ++ codes "\t" ++ printed b ++ codes "\t" ++ printed c
+
+abbrev pub decimal_text : ℕ → List ℕ
+decimal_text n = decimal n
+
+abbrev pub if_holds : Bool → Name → Option Name
+if_holds holds name = if holds then Some name else None
+
+abbrev pub listed : Option Name → List Name
+listed (Some name) = name ∷ []
+listed None = []
+
+-- ---- of an app
+
+-- the whole reply was sent
+abbrev pub is_answered : Data → Bool
+is_answered line = is_number 200 (number_in (codes "status") line)
+
+-- a known app asked for an update, and got a whole reply
+abbrev pub has_asked : Data → Data → Bool
+has_asked line app = is_answered line && is_some (number_in (codes "choice") app)
+
+abbrev pub has_no_update : Data → Data → Bool
+has_no_update line app = is_answered line && is_number 0 (number_in (codes "choice") app)
+
+-- the server has no such app
+abbrev pub is_unknown : Data → Bool
+is_unknown app = is_flag true (flag_in (codes "unknown") app)
+
+-- the client's cohort named no bucket
+abbrev pub is_unnamed : Data → Bool
+is_unnamed app = is_flag false (flag_in (codes "named") app)
+
+-- and the bucket is that of an empty request id
+abbrev pub has_no_id : Data → Bool
+has_no_id app = is_unnamed app && is_number 6037 (number_in (codes "bucket") app)
+
+-- some of its event is left out
+abbrev pub has_cut_event : Data → Bool
+has_cut_event app = is_some (number_in (codes "event_left_out") app)
+
+-- a text that is absent is told as a question mark
+abbrev pub text_or_mark : Option (List ℕ) → List ℕ
+text_or_mark text = unwrap_or text (codes "?")
+
+abbrev pub is_colon : ℕ → Bool
+is_colon b = b == byte ":"
+
+-- the hour of a line's time, as `2026-11-24T12`
+abbrev pub hour_of : Data → List ℕ
+hour_of line = before_first is_colon (text_or_mark (text_in (codes "time") line))
+
+abbrev pub version_of : Data → List ℕ
+version_of app = text_or_mark (text_in (codes "version") app)
+
+abbrev pub offered : Data → Data → List ℕ → Option Name
+offered line app appid =
+    if is_answered line then option_map (two appid) (text_in (codes "release") app) else None
+
+abbrev pub hour_name : Data → Data → List ℕ → Option Name
+hour_name line app appid =
+    if_holds (has_asked line app) (three appid (hour_of line) (version_of app))
+
+abbrev pub bucket_name : Data → Data → List ℕ → Option Name
+bucket_name line app appid =
+    if has_asked line app
+    then option_map (λ n. two appid (decimal n)) (number_in (codes "bucket") app) else None
+
+abbrev pub named : AppQuestion → Data → Data → List ℕ → Option Name
+named Asked line app appid = if_holds (has_asked line app) (one appid)
+named Offered line app appid = offered line app appid
+named Unoffered line app appid = if_holds (has_no_update line app) (one appid)
+named Hour line app appid = hour_name line app appid
+named Bucket line app appid = bucket_name line app appid
+named Unknown line app appid = if_holds (is_unknown app) (one appid)
+named WithoutCohort line app appid = if_holds (is_unnamed app) (one appid)
+named WithoutId line app appid = if_holds (has_no_id app) (one appid)
+named CutEvent line app appid = if_holds (has_cut_event app) (one appid)
+
+-- one name of each app, at most
+abbrev pub app_name : AppQuestion → Data → Data → Option Name
+app_name question line app =
+    option_and_then (named question line app) (text_in (codes "appid") app)
+
+abbrev pub names_of_apps : AppQuestion → Data → Items → List Name
+names_of_apps question line no_items = []
+names_of_apps question line (item app apps) =
+    listed (app_name question line app) ++ names_of_apps question line apps
+
+abbrev pub names_of_list : AppQuestion → Data → Option Items → List Name
+names_of_list question line (Some apps) = names_of_apps question line apps
+names_of_list question line None = []
+
+abbrev pub app_names : AppQuestion → Data → List Name
+app_names question line = names_of_list question line (list_in (codes "apps") line)
+
+-- ---- of a line
+
+abbrev pub is_kind : List ℕ → Data → Bool
+is_kind kind line = is_text kind (text_in (codes "kind") line)
+
+-- as `400`, or `none` where no whole reply was sent
+abbrev pub status_text : Option ℕ → List ℕ
+status_text (Some status) = decimal status
+status_text None = codes "none"
+
+abbrev pub refused : Data → List ℕ → Name
+refused line refusal = two (status_text (number_in (codes "status") line)) refusal
+
+-- when, its generation, and its path
+abbrev pub loaded : Data → ℕ → Name
+loaded line generation =
+    three (text_or_mark (text_in (codes "time") line)) (decimal generation)
+    (text_or_mark (text_in (codes "path") line))
+
+abbrev pub kind_name : Data → Option Name
+kind_name line = option_map one (text_in (codes "kind") line)
+
+-- of a connection
+abbrev pub refusal_name : Data → Option Name
+refusal_name line =
+    if is_kind (codes "connection") line
+    then option_map (refused line) (text_in (codes "refusal") line) else None
+
+-- of a load that was done
+abbrev pub load_name : Data → Option Name
+load_name line =
+    if is_kind (codes "load") line
+    then option_map (loaded line) (number_in (codes "generation") line) else None
+
+abbrev pub line_name : LineQuestion → Data → Option Name
+line_name Kind line = kind_name line
+line_name Refusal line = refusal_name line
+line_name Load line = load_name line
+
+abbrev pub line_names : LineQuestion → Data → List Name
+line_names question line = listed (line_name question line)

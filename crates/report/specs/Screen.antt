@@ -1,0 +1,134 @@
+-- The text of a report: numbers with what they count, a line each, by questions.
+use Rattle.std.specs.Prelude.{◌≡◌, ℕ, ◌*◌, ◌/◌, ◌%◌, List, [], ◌∷◌, ◌++◌, codes, decimal, length}
+use Rattle.std.specs.Prelude.{Bool, ◌==◌, if◌then◌else◌, Option, Some, None, count_by}
+use Rattle.std.specs.Prelude.{String, string_bytes}
+use Rattle.std.specs.BTreeMap.{get_by_text}
+use Rattle.std.specs.List.{after_first, before_first}
+use Rattle.std.specs.Str.{byte, bytes_eq}
+use Rattle.std.specs.declared.alloc.Global.{Global}
+use Rattle.report.specs.declared.counting.Report.{Report}
+use Rattle.report.specs.declared.tally.Tally.{Tally}
+
+-- the new text is the old one with this behind it
+abbrev pub Puts : (old new : String Global) → List ℕ → Type 0
+Puts old new more = string_bytes new ≡ string_bytes old ++ more
+
+-- the entries of a table
+abbrev pub Rows : Type 0
+Rows = List (String Global × ℕ)
+
+-- ---- rows
+
+abbrev pub row : ℕ → List ℕ → List ℕ
+row n name = decimal n ++ codes "\t" ++ name ++ codes "\n"
+
+abbrev pub rows_text : Rows → List ℕ
+rows_text [] = []
+rows_text (entry ∷ rows) = row entry.1 (string_bytes entry.0) ++ rows_text rows
+
+abbrev pub others_text : ℕ → List ℕ
+others_text n = if n == 0 then [] else row n (codes "others")
+
+-- a table with its title, unless it is empty
+abbrev pub table_text : List ℕ → Tally → List ℕ
+table_text title t =
+    if length t.rows.entries == 0 then []
+    else title ++ rows_text t.rows.entries ++ others_text t.others
+
+-- ---- buckets
+
+abbrev pub is_tab : ℕ → Bool
+is_tab b = b == byte "\t"
+
+-- the name's first text is this one
+abbrev pub is_of_text : List ℕ → List ℕ → Bool
+is_of_text first name = bytes_eq (before_first is_tab name) first
+
+abbrev pub is_of : List ℕ → String Global → Bool
+is_of first name = is_of_text first (string_bytes name)
+
+-- how many buckets of an app have rows
+abbrev pub buckets_of : List ℕ → Rows → ℕ
+buckets_of app rows = count_by (λ entry. is_of app entry.0) rows
+
+unfoldable pub bucket_row : Rows → List ℕ → List ℕ
+bucket_row buckets app = row (buckets_of app buckets) app
+
+abbrev pub bucket_rows : Rows → Rows → List ℕ
+bucket_rows buckets [] = []
+bucket_rows buckets (entry ∷ rows) =
+    bucket_row buckets (string_bytes entry.0) ++ bucket_rows buckets rows
+
+-- how many buckets asked of each app
+abbrev pub buckets_text : Report → List ℕ
+buckets_text r =
+    if length r.buckets.rows.entries == 0 then []
+    else codes "buckets\n"
+    ++ bucket_rows r.buckets.rows.entries r.asked.rows.entries ++ others_text r.buckets.others
+
+-- ---- results of installs
+
+-- hundredths of a percent, as `95.22 %`
+abbrev pub percent : ℕ → List ℕ
+percent hundredths =
+    decimal (hundredths / 100) ++ codes "." ++ decimal (hundredths / 10 % 10)
+    ++ decimal (hundredths % 10) ++ codes " %"
+
+-- so many of these, where it is known how many these are
+abbrev pub share : ℕ → Option ℕ → List ℕ
+share n (Some whole) = if whole == 0 then codes "?" else percent (n * 10000 / whole)
+share n None = codes "?"
+
+-- the install of which a result's name tells: its texts but the first one
+abbrev pub install_of : List ℕ → List ℕ
+install_of name = after_first is_tab name
+
+abbrev pub share_of : Tally → ℕ → List ℕ → List ℕ
+share_of ended n name = share n (get_by_text ended.rows (install_of name))
+
+abbrev pub result_row : Tally → ℕ → List ℕ → List ℕ
+result_row ended n name =
+    decimal n ++ codes "\t" ++ share_of ended n name ++ codes "\t" ++ name ++ codes "\n"
+
+abbrev pub result_rows : Tally → Rows → List ℕ
+result_rows ended [] = []
+result_rows ended (entry ∷ rows) =
+    result_row ended entry.1 (string_bytes entry.0) ++ result_rows ended rows
+
+abbrev pub results_text : Report → List ℕ
+results_text r =
+    if length r.results.rows.entries == 0 then []
+    else codes "installs\n"
+    ++ result_rows r.ended r.results.rows.entries ++ others_text r.results.others
+
+-- ---- the screen
+
+abbrev pub lines_text : Report → List ℕ
+lines_text r =
+    codes "lines\n" ++ row r.lines (codes "counted")
+    ++ row r.foreign (codes "not the server's") ++ row r.lost (codes "lost")
+
+abbrev pub left_out_text : Report → List ℕ
+left_out_text r =
+    row r.left_out (codes "apps left out") ++ row r.offers_left_out (codes "offers left out")
+
+unfoldable pub numbers_text : Report → List ℕ
+numbers_text r =
+    lines_text r ++ left_out_text r ++ table_text (codes "kinds of lines\n") r.kinds
+    ++ table_text (codes "loads\n") r.loads
+
+abbrev pub asks_text : Report → List ℕ
+asks_text r =
+    table_text (codes "asks\n") r.asked ++ table_text (codes "offers\n") r.offered
+    ++ table_text (codes "no update\n") r.unoffered ++ buckets_text r
+    ++ table_text (codes "asks by hour and version\n") r.hours
+
+abbrev pub faults_text : Report → List ℕ
+faults_text r =
+    table_text (codes "refusals\n") r.refusals ++ table_text (codes "unknown apps\n") r.unknown
+    ++ table_text (codes "without a cohort\n") r.without_cohort
+    ++ table_text (codes "without a request id\n") r.without_id
+    ++ table_text (codes "events that are cut\n") r.cut_events
+
+abbrev pub screen : Report → List ℕ
+screen r = numbers_text r ++ asks_text r ++ results_text r ++ faults_text r

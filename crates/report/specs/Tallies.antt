@@ -1,0 +1,46 @@
+-- A table that counts names: how often each of them stood there. It has rows for so many names, and
+-- what came behind these counts under one number.
+use Rattle.std.specs.Prelude.{◌≡◌, ℕ, ◌^◌, ◌-◌, ◌<◌, ◌≤◌, List, ◌++◌, min, count_by}
+use Rattle.std.specs.Prelude.{◌+◌, Bool, Some, is_none, if◌then◌else◌}
+use Rattle.std.specs.BTreeMap.{btree_map_len, get_by_text}
+use Rattle.std.specs.Str.{bytes_eq}
+use Rattle.report.specs.declared.tally.Tally.{Tally}
+
+abbrev pub Name : Type 0
+Name = List ℕ
+
+-- a count stops at the greatest number of 64 bits
+abbrev pub capped : ℕ → ℕ
+capped n = min n (2 ^ 64 - 1)
+
+abbrev pub occurrences_of : Name → List Name → ℕ
+occurrences_of name names = count_by (bytes_eq name) names
+
+abbrev pub has_no_row : Tally → Name → Bool
+has_no_row t name = is_none (get_by_text t.rows name)
+
+-- the table counts these names, and has room for so many different ones
+pub record IsTally (limit : ℕ) (names : List Name) (t : Tally) : Type 0 where
+  -- a row tells how often its name stands there, which it does
+  pub rows : (name : Name) (n : ℕ) → get_by_text t.rows name ≡ Some n
+      → (0 < n) × (n ≡ capped (occurrences_of name names))
+  -- and the number of the others how often a name that has no row does
+  pub others : t.others ≡ capped (count_by (has_no_row t) names)
+  -- there are others only where no row is free
+  pub full : 0 < t.others → limit ≤ btree_map_len t.rows
+  pub within : btree_map_len t.rows ≤ limit
+  pub room : t.limit ≡ limit
+
+-- whatever was counted before, these names are counted behind it
+pub record Notes (old new : Tally) (names : List Name) : Type 0 where
+  pub behind : (limit : ℕ) (before : List Name)
+      → IsTally limit before old → IsTally limit (before ++ names) new
+
+-- the name has this row, and all else is as it was
+pub record Sets (old new : Tally) (name : Name) (n : ℕ) : Type 0 where
+  pub row : (other : Name) → get_by_text new.rows other
+      ≡ (if bytes_eq name other then Some n else get_by_text old.rows other)
+  pub len : btree_map_len new.rows
+      ≡ btree_map_len old.rows + (if has_no_row old name then 1 else 0)
+  pub others : new.others ≡ old.others
+  pub limit : new.limit ≡ old.limit

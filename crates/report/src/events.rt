@@ -1,0 +1,217 @@
+//! How installs ended: the names of the events that a line has of an app.
+
+ghost use Rattle.std.specs.Prelude.{◌≡◌, ◌+◌, ◌<◌, IfOk, IfSome, OnOk, length, option_map};
+ghost use Rattle.std.specs.List.{position};
+ghost use Rattle.std.specs.Option.{option_copied};
+ghost use Rattle.std.specs.String.{string_bytes};
+ghost use Rattle.serde_json.specs.View.{view, items_view};
+ghost use Rattle.report.specs.Events as specs;
+ghost use Rattle.report.specs.Tallies.{Notes};
+
+use crate::names::{decimal, text_or_mark, three};
+use crate::question::EventQuestion;
+use crate::tally::{Tally, note_if, note_nothing};
+use crate::told::{is_number, number_in, text_in, value_of};
+use serde_json::Value;
+use std::alloc::{AllocError, Global};
+
+/// Counts the events of apps.
+pub(crate) fn note_events(
+    alloc: Global,
+    tally: &mut Tally,
+    question: EventQuestion,
+    apps: &[Value],
+) -> Result<(), AllocError>
+    ensures { OnOk result (Notes tally.old tally.new
+        (specs.names_of_events question (items_view apps.now))) }
+{
+    let mut left = apps;
+    while let [app, rest @ ..] = left {
+        note_app_events(alloc, tally, question, app)?;
+        left = rest;
+    }
+    Ok(())
+}
+
+// Counts the events of an app.
+fn note_app_events(
+    alloc: Global,
+    tally: &mut Tally,
+    question: EventQuestion,
+    app: &Value,
+) -> Result<(), AllocError>
+    ensures { OnOk result (Notes tally.old tally.new
+        (specs.names_of_app question (view app.now))) }
+{
+    match (text_in(app, "appid"), text_in(app, "event")) {
+        (Some(appid), Some(text)) => note_text(alloc, tally, question, app, appid, text.as_bytes()),
+        _ => note_nothing(tally),
+    }
+}
+
+// Counts the events of a text: each object in it that is whole and has no other in it.
+fn note_text(
+    alloc: Global,
+    tally: &mut Tally,
+    question: EventQuestion,
+    app: &Value,
+    appid: &str,
+    text: &[u8],
+) -> Result<(), AllocError>
+    ensures { OnOk result (Notes tally.old tally.new
+        (specs.names_in_text question (view app.now) appid.now text.now)) }
+{
+    let mut left = text;
+    while let [_, rest @ ..] = left {
+        note_object(alloc, tally, question, app, appid, left)?;
+        left = rest;
+    }
+    Ok(())
+}
+
+// Counts the event that stands at the beginning of a text, if one does.
+fn note_object(
+    alloc: Global,
+    tally: &mut Tally,
+    question: EventQuestion,
+    app: &Value,
+    appid: &str,
+    text: &[u8],
+) -> Result<(), AllocError>
+    ensures { OnOk result (Notes tally.old tally.new
+        (specs.names_at question (view app.now) appid.now text.now)) }
+{
+    let name = name_at(alloc, question, app, appid, text)?;
+    note_if(tally, name)
+}
+
+fn name_at(
+    alloc: Global,
+    question: EventQuestion,
+    app: &Value,
+    appid: &str,
+    text: &[u8],
+) -> Result<Option<String>, AllocError>
+    ensures { IfOk result (λ name. option_map string_bytes name
+        ≡ specs.name_at question (view app.now) appid.now text.now) }
+{
+    let Some(object) = object_at(text) else {
+        return Ok(None);
+    };
+    match value_of(alloc, object)? {
+        Some(event) => event_name(alloc, question, app, appid, &event),
+        None => Ok(None),
+    }
+}
+
+// The object that stands at the beginning of a text, if it has no brace in it.
+fn object_at<'a>(text: &'a [u8]) -> Option<&'a [u8]>
+    ensures { option_copied result ≡ specs.object_at text.now }
+{
+    let [first, rest @ ..] = text else {
+        return None;
+    };
+    if *first == b'{' {
+        closed(text, rest)
+    } else {
+        None
+    }
+}
+
+// The same of a text that begins with an opening brace, with the rest behind it.
+fn closed<'a>(text: &'a [u8], rest: &[u8]) -> Option<&'a [u8]>
+    requires { length text.now ≡ length rest.now + 1 }
+    ensures { option_copied result ≡ specs.closed text.now rest.now }
+{
+    match brace_in(rest) {
+        Some(at) => closed_at(text, rest, at),
+        None => None,
+    }
+}
+
+fn closed_at<'a>(text: &'a [u8], rest: &[u8], at: usize) -> Option<&'a [u8]>
+    requires within { at < length rest.now }
+    requires long { length text.now ≡ length rest.now + 1 }
+    ensures { option_copied result ≡ specs.closed_at text.now rest.now at }
+{
+    if rest[at] == b'}' {
+        Some(&text[..at + 2])
+    } else {
+        None
+    }
+}
+
+// Where the first brace stands.
+fn brace_in(text: &[u8]) -> Option<usize>
+    ensures place { result ≡ position specs.is_brace text.now }
+    ensures within { IfSome result (λ at. at < length text.now) }
+{
+    text.iter().position(|b| *b == b'{' || *b == b'}')
+}
+
+fn event_name(
+    alloc: Global,
+    question: EventQuestion,
+    app: &Value,
+    appid: &str,
+    event: &Value,
+) -> Result<Option<String>, AllocError>
+    ensures { IfOk result (λ name. option_map string_bytes name
+        ≡ specs.event_name question (view app.now) appid.now (view event.now)) }
+{
+    if !is_install(event) {
+        return Ok(None);
+    }
+    match question {
+        EventQuestion::Ended => Ok(Some(install_name(alloc, app, appid, event)?)),
+        EventQuestion::Result => Ok(Some(result_name(alloc, app, appid, event)?)),
+    }
+}
+
+fn is_install(event: &Value) -> bool
+    ensures { result ≡ specs.is_install (view event.now) }
+{
+    is_number(2, number_in(event, "eventtype")) || is_number(3, number_in(event, "eventtype"))
+}
+
+// From the version that the event tells, or else the app's, to the one that it tells.
+fn install_name(
+    alloc: Global,
+    app: &Value,
+    appid: &str,
+    event: &Value,
+) -> Result<String, AllocError>
+    ensures { IfOk result (λ name. string_bytes name
+        ≡ specs.install_name (view app.now) appid.now (view event.now)) }
+{
+    let to = text_or_mark(text_in(event, "nextversion"));
+    three(alloc, appid, from_version(app, event), to)
+}
+
+fn from_version<'a>(app: &'a Value, event: &'a Value) -> &'a str
+    ensures { result.now ≡ specs.from_version (view app.now) (view event.now) }
+{
+    match text_in(event, "previousversion") {
+        Some(version) => version,
+        None => text_or_mark(text_in(app, "version")),
+    }
+}
+
+fn result_name(alloc: Global, app: &Value, appid: &str, event: &Value) -> Result<String, AllocError>
+    ensures { IfOk result (λ name. string_bytes name
+        ≡ specs.result_name (view app.now) appid.now (view event.now)) }
+{
+    let mut name = result_text(alloc, number_in(event, "eventresult"))?;
+    name.push_str("\t")?;
+    name.push_str(install_name(alloc, app, appid, event)?.as_str())?;
+    Ok(name)
+}
+
+fn result_text(alloc: Global, found: Option<u64>) -> Result<String, AllocError>
+    ensures { IfOk result (λ s. string_bytes s ≡ specs.result_text found) }
+{
+    match found {
+        Some(n) => decimal(alloc, n),
+        None => String::from_str(alloc, "?"),
+    }
+}

@@ -1,0 +1,117 @@
+//! The labels of a sample, by the texts of its name.
+
+ghost use Rattle.std.specs.Prelude.{◌≡◌, OnOk};
+ghost use Rattle.report.specs.Exposition as specs;
+ghost use Rattle.report.specs.Screen.{Puts};
+
+use std::alloc::AllocError;
+
+/// Which labels a name's texts have.
+#[derive(Clone, Copy)]
+pub(crate) enum Labels {
+    App,
+    /// An app, and a release.
+    Release,
+    /// A result, an app, and the versions from which and to which.
+    Install,
+    /// A status, and a rule.
+    Rule,
+    Kind,
+}
+
+/// Puts the labels of a name behind a text.
+pub(crate) fn push_labels(text: &mut String, labels: Labels, name: &str) -> Result<(), AllocError>
+    ensures { OnOk result (Puts text.old text.new (specs.labels_text labels name.now)) }
+{
+    match labels {
+        Labels::App => push_label(text, "app", name),
+        Labels::Release => push_two(text, "app", "release", name),
+        Labels::Install => {
+            push_label(text, "result", first(name))?;
+            text.push_str(",")?;
+            push_install(text, rest(name))
+        }
+        Labels::Rule => push_two(text, "status", "rule", name),
+        Labels::Kind => push_label(text, "kind", name),
+    }
+}
+
+// The labels of two texts.
+fn push_two(text: &mut String, one: &str, other: &str, name: &str) -> Result<(), AllocError>
+    ensures { OnOk result (Puts text.old text.new (specs.two_labels one.now other.now name.now)) }
+{
+    push_label(text, one, first(name))?;
+    text.push_str(",")?;
+    push_label(text, other, rest(name))
+}
+
+fn push_install(text: &mut String, name: &str) -> Result<(), AllocError>
+    ensures { OnOk result (Puts text.old text.new (specs.install_labels name.now)) }
+{
+    push_label(text, "app", first(name))?;
+    text.push_str(",")?;
+    push_two(text, "from", "to", rest(name))
+}
+
+/// The first label.
+pub(crate) fn first_label(labels: Labels) -> &'static str
+    ensures { result.now ≡ specs.first_label labels }
+{
+    match labels {
+        Labels::App | Labels::Release => "app",
+        Labels::Install => "result",
+        Labels::Rule => "status",
+        Labels::Kind => "kind",
+    }
+}
+
+/// Puts a label with its value.
+pub(crate) fn push_label(text: &mut String, name: &str, value: &str) -> Result<(), AllocError>
+    ensures { OnOk result (Puts text.old text.new (specs.label name.now value.now)) }
+{
+    text.push_str(name)?;
+    text.push_str("=\"")?;
+    push_value(text, value)?;
+    text.push_str("\"")
+}
+
+fn push_value(text: &mut String, value: &str) -> Result<(), AllocError>
+    ensures { OnOk result (Puts text.old text.new (specs.value_text value.now)) }
+{
+    for c in value.chars() {
+        push_char(text, c)?;
+    }
+    Ok(())
+}
+
+fn push_char(text: &mut String, c: char) -> Result<(), AllocError>
+    ensures { OnOk result (Puts text.old text.new (specs.value_char c)) }
+{
+    if c == '"' {
+        text.push_str("\\\"")
+    } else if c == '\\' {
+        text.push_str("\\\\")
+    } else {
+        text.push(c)
+    }
+}
+
+// The first text of a name.
+fn first<'a>(name: &'a str) -> &'a str
+    ensures { result.now ≡ specs.first name.now }
+{
+    match name.split_once('\t') {
+        Some((text, _)) => text,
+        None => name,
+    }
+}
+
+// The others.
+fn rest<'a>(name: &'a str) -> &'a str
+    ensures { result.now ≡ specs.rest name.now }
+{
+    match name.split_once('\t') {
+        Some((_, others)) => others,
+        None => "",
+    }
+}

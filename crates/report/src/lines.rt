@@ -1,0 +1,188 @@
+//! The lines of a log, read in blocks: what stands in a block behind its last line feed is kept for
+//! the next one. Of a line at most 65537 bytes are kept, which are more than any of a server's has.
+
+ghost use Rattle.std.specs.Prelude.{◌≡◌, ◌≢◌, ◌<◌, ◌≤◌, [], ◌∷◌, length, take};
+ghost use Rattle.std.specs.Prelude.{IfNone, IfOk, IfSome, OnOk};
+ghost use Rattle.std.specs.Io.KnownBytes.{Consumes, IsAtEnd};
+ghost use Rattle.report.specs.Lines.{grown, lines_behind};
+ghost use Rattle.report.specs.Reading.{CountsLines, ReadsOn, ReadsLog};
+
+use crate::counting::Report;
+use crate::told::LINE_LIMIT;
+use crate::window::Window;
+use std::alloc::{AllocError, Global};
+use std::io::{self, Error, ErrorKind, Read};
+
+/// The most bytes of a line that are kept.
+const KEPT: usize = LINE_LIMIT + 1;
+
+/// How many bytes are read at a time.
+const BLOCK: usize = 0x40000;
+
+/// Who is told how many bytes of a log have been read.
+pub trait LogOnlooker {
+    /// Is told how many bytes of the log have been read so far.
+    fn read(&mut self, bytes: u64);
+}
+
+/// Counts the lines of a log. Where it fails, a part of them may be counted.
+pub fn count_log<R: Read, O: LogOnlooker>(
+    alloc: Global,
+    reader: &mut R,
+    window: &Window<'_>,
+    report: &mut Report,
+    onlooker: &mut O,
+) -> io::Result<()>
+    ensures { OnOk result (ReadsLog window.now (R.remaining reader.old) report.old report.new) }
+{
+    let mut block = vec![in alloc; 0; BLOCK]?;
+    count_by_blocks(
+        alloc,
+        reader,
+        window,
+        report,
+        onlooker,
+        block.as_mut_slice(),
+    )
+}
+
+// The same, by blocks of so many bytes.
+fn count_by_blocks<R: Read, O: LogOnlooker>(
+    alloc: Global,
+    reader: &mut R,
+    window: &Window<'_>,
+    report: &mut Report,
+    onlooker: &mut O,
+    block: &mut [u8],
+) -> io::Result<()>
+    requires { 0 < length block.old }
+    ensures { OnOk result (ReadsLog window.now (R.remaining reader.old) report.old report.new) }
+{
+    let mut begun = Vec::new(alloc);
+    let mut bytes = 0;
+    for _ in 0..u64::MAX {
+        let read = read_some(reader, block)?;
+        match read {
+            Some(count) => {
+                count_block(alloc, window, report, &mut begun, &block[..count])?;
+                bytes = u64::saturating_add(bytes, count as u64);
+                onlooker.read(bytes);
+            }
+            None => {
+                count_last(alloc, window, report, begun.as_slice())?;
+                return Ok(());
+            }
+        }
+    }
+    Err(Error::from(ErrorKind::InvalidData))
+}
+
+// Reads so many bytes, none where a signal came; None at the end.
+fn read_some<R: Read>(reader: &mut R, block: &mut [u8]) -> io::Result<Option<usize>>
+    requires { 0 < length block.old }
+    ensures within { IfOk result (λ r. IfSome r (λ n. n ≤ length block.old)) }
+    ensures some { IfOk result (λ r. IfSome r (λ n.
+        Consumes (R.remaining reader.old) (R.remaining reader.new) (take n block.new))) }
+    ensures end { IfOk result (λ r. IfNone r (IsAtEnd (R.remaining reader.old))) }
+    ensures len { length block.new ≡ length block.old }
+{
+    match reader.read(block) {
+        Ok(0) => Ok(None),
+        Ok(count) => Ok(Some(count)),
+        Err(error) if error.kind() == ErrorKind::Interrupted => Ok(Some(0)),
+        Err(error) => Err(error),
+    }
+}
+
+// Counts the lines that end in a block, and keeps what stands behind them.
+fn count_block(
+    alloc: Global,
+    window: &Window<'_>,
+    report: &mut Report,
+    begun: &mut Vec<u8>,
+    block: &[u8],
+) -> Result<(), AllocError>
+    ensures { OnOk result (ReadsOn window.now block.now
+        begun.old.items report.old begun.new.items report.new) }
+{
+    let mut left = block;
+    while let [byte, rest @ ..] = left {
+        count_byte(alloc, window, report, begun, *byte)?;
+        left = rest;
+    }
+    Ok(())
+}
+
+// Counts the line that a line feed ends, and keeps another byte.
+fn count_byte(
+    alloc: Global,
+    window: &Window<'_>,
+    report: &mut Report,
+    begun: &mut Vec<u8>,
+    byte: u8,
+) -> Result<(), AllocError>
+    ensures { OnOk result (ReadsOn window.now (byte ∷ [])
+        begun.old.items report.old begun.new.items report.new) }
+{
+    if byte == b'\n' {
+        return end_line(alloc, window, report, begun);
+    }
+    keep_other(window, report, begun, byte)
+}
+
+// A byte that is no line feed.
+#[tactic(auto, using(crate::proofs::Read::line_goes_on))]
+fn keep_other(
+    window: &Window<'_>,
+    report: &mut Report,
+    begun: &mut Vec<u8>,
+    byte: u8,
+) -> Result<(), AllocError>
+    requires { byte ≢ 10 }
+    ensures { OnOk result (ReadsOn window.now (byte ∷ [])
+        begun.old.items report.old begun.new.items report.new) }
+{
+    keep(begun, byte)
+}
+
+#[tactic(auto, using(crate::proofs::Read::line_ends))]
+fn end_line(
+    alloc: Global,
+    window: &Window<'_>,
+    report: &mut Report,
+    begun: &mut Vec<u8>,
+) -> Result<(), AllocError>
+    ensures { OnOk result (ReadsOn window.now (10 ∷ [])
+        begun.old.items report.old begun.new.items report.new) }
+{
+    report.count_line(alloc, window, begun.as_slice())?;
+    begun.clear();
+    Ok(())
+}
+
+// A line goes on with a byte, which is kept where there is room.
+fn keep(begun: &mut Vec<u8>, byte: u8) -> Result<(), AllocError>
+    ensures { OnOk result (begun.new.items ≡ grown begun.old.items byte) }
+{
+    if begun.len() < KEPT {
+        begun.push(byte)?;
+    }
+    Ok(())
+}
+
+// The last line, where it has no line feed.
+#[tactic(auto, using(crate::proofs::Read::last_line))]
+fn count_last(
+    alloc: Global,
+    window: &Window<'_>,
+    report: &mut Report,
+    begun: &[u8],
+) -> Result<(), AllocError>
+    ensures { OnOk result
+        (CountsLines window.now (lines_behind begun.now []) report.old report.new) }
+{
+    if begun.is_empty() {
+        return Ok(());
+    }
+    report.count_line(alloc, window, begun)
+}

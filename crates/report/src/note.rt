@@ -1,0 +1,91 @@
+//! The names that a line's questions have, counted in their tables.
+
+ghost use Rattle.std.specs.Prelude.{◌≡◌, OnOk};
+ghost use Rattle.serde_json.specs.View.{view, items_view};
+ghost use Rattle.report.specs.Events.{event_names};
+ghost use Rattle.report.specs.Names as specs;
+ghost use Rattle.report.specs.Tallies.{Notes};
+
+use crate::events::note_events;
+use crate::names::{app_name, line_name};
+use crate::question::{AppQuestion, EventQuestion, LineQuestion};
+use crate::tally::{Tally, note_if, note_nothing};
+use crate::told::list_in;
+use serde_json::Value;
+use std::alloc::{AllocError, Global};
+
+/// Counts what a line says of itself.
+pub(crate) fn note_line(
+    alloc: Global,
+    tally: &mut Tally,
+    question: LineQuestion,
+    line: &Value,
+) -> Result<(), AllocError>
+    ensures { OnOk result (Notes tally.old tally.new
+        (specs.line_names question (view line.now))) }
+{
+    let name = line_name(alloc, question, line)?;
+    note_if(tally, name)
+}
+
+/// Counts what it says of its apps.
+pub(crate) fn note_apps(
+    alloc: Global,
+    tally: &mut Tally,
+    question: AppQuestion,
+    line: &Value,
+) -> Result<(), AllocError>
+    ensures { OnOk result (Notes tally.old tally.new (specs.app_names question (view line.now))) }
+{
+    match list_in(line, "apps") {
+        Some(apps) => note_each(alloc, tally, question, line, apps),
+        None => note_nothing(tally),
+    }
+}
+
+/// Counts what it says of how installs ended.
+pub(crate) fn note_ends(
+    alloc: Global,
+    tally: &mut Tally,
+    question: EventQuestion,
+    line: &Value,
+) -> Result<(), AllocError>
+    ensures { OnOk result (Notes tally.old tally.new (event_names question (view line.now))) }
+{
+    match list_in(line, "apps") {
+        Some(apps) => note_events(alloc, tally, question, apps),
+        None => note_nothing(tally),
+    }
+}
+
+fn note_each(
+    alloc: Global,
+    tally: &mut Tally,
+    question: AppQuestion,
+    line: &Value,
+    apps: &[Value],
+) -> Result<(), AllocError>
+    ensures { OnOk result (Notes tally.old tally.new
+        (specs.names_of_apps question (view line.now) (items_view apps.now))) }
+{
+    let mut left = apps;
+    while let [app, rest @ ..] = left {
+        note_app(alloc, tally, question, line, app)?;
+        left = rest;
+    }
+    Ok(())
+}
+
+fn note_app(
+    alloc: Global,
+    tally: &mut Tally,
+    question: AppQuestion,
+    line: &Value,
+    app: &Value,
+) -> Result<(), AllocError>
+    ensures { OnOk result (Notes tally.old tally.new
+        (specs.listed (specs.app_name question (view line.now) (view app.now)))) }
+{
+    let name = app_name(alloc, question, line, app)?;
+    note_if(tally, name)
+}

@@ -1,0 +1,49 @@
+//! The rows of a report's text: a number, and what it counts.
+
+ghost use Rattle.std.specs.Prelude.{◌≡◌, ◌++◌, OnOk, codes};
+ghost use Rattle.report.specs.Screen.{Puts};
+ghost use Rattle.report.specs.Screen as specs;
+
+use crate::tally::Tally;
+use std::alloc::AllocError;
+use std::collections::BTreeMap;
+use std::fmt::Write;
+
+/// Puts a row behind a text.
+pub(crate) fn push_row(text: &mut String, n: u64, name: &str) -> Result<(), AllocError>
+    ensures { OnOk result (Puts text.old text.new (specs.row n name.now)) }
+{
+    write!(text, "{n}\t{name}\n")
+}
+
+/// Puts a table with its title, unless it is empty.
+pub(crate) fn push_table(text: &mut String, title: &str, tally: &Tally) -> Result<(), AllocError>
+    ensures { OnOk result (Puts text.old text.new (specs.table_text title.now tally.now)) }
+{
+    if tally.rows.is_empty() {
+        return Ok(());
+    }
+    text.push_str(title)?;
+    push_rows(text, &tally.rows)?;
+    push_others(text, tally.others)
+}
+
+#[tactic(auto, using(crate::proofs::Written::one_further, crate::proofs::Written::at_end))]
+fn push_rows(text: &mut String, rows: &BTreeMap<String, u64>) -> Result<(), AllocError>
+    ensures { OnOk result (Puts text.old text.new (specs.rows_text rows.now.entries)) }
+{
+    for (name, n) in rows.iter() {
+        push_row(text, *n, name.as_str())?;
+    }
+    Ok(())
+}
+
+/// Puts the row of the names that have none, if there are any.
+pub(crate) fn push_others(text: &mut String, others: u64) -> Result<(), AllocError>
+    ensures { OnOk result (Puts text.old text.new (specs.others_text others)) }
+{
+    if others == 0 {
+        return Ok(());
+    }
+    push_row(text, others, "others")
+}

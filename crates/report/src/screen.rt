@@ -1,0 +1,216 @@
+//! The text of a report.
+
+ghost use Rattle.std.specs.Prelude.{◌≡◌, ◌++◌, IfOk, OnOk, codes};
+ghost use Rattle.std.specs.Option.{option_copied};
+ghost use Rattle.std.specs.String.{string_bytes};
+ghost use Rattle.report.specs.Screen.{Puts};
+ghost use Rattle.report.specs.Screen as specs;
+
+use crate::counting::Report;
+use crate::rows::{push_others, push_row, push_table};
+use crate::tally::Tally;
+use std::alloc::{AllocError, Global};
+use std::collections::BTreeMap;
+use std::fmt::Write;
+
+/// The text of a report, a line a number. What a client wrote stands there with its controls
+/// escaped.
+pub fn report_text(alloc: Global, report: &Report) -> Result<String, AllocError>
+    ensures { IfOk result (λ s. string_bytes s ≡ specs.screen report.now) }
+{
+    let mut text = String::new(alloc);
+    push_screen(&mut text, report)?;
+    Ok(text)
+}
+
+fn push_screen(text: &mut String, report: &Report) -> Result<(), AllocError>
+    ensures { OnOk result (Puts text.old text.new (specs.screen report.now)) }
+{
+    push_numbers(text, report)?;
+    push_asks(text, report)?;
+    push_results(text, report)?;
+    push_faults(text, report)?;
+    Ok(())
+}
+
+#[tactic(auto, unfolding(crate::specs::Screen::numbers_text))]
+fn push_numbers(text: &mut String, report: &Report) -> Result<(), AllocError>
+    ensures { OnOk result (Puts text.old text.new (specs.numbers_text report.now)) }
+{
+    push_lines(text, report)?;
+    push_left_out(text, report)?;
+    push_table(text, "kinds of lines\n", &report.kinds)?;
+    push_table(text, "loads\n", &report.loads)?;
+    Ok(())
+}
+
+fn push_lines(text: &mut String, report: &Report) -> Result<(), AllocError>
+    ensures { OnOk result (Puts text.old text.new (specs.lines_text report.now)) }
+{
+    text.push_str("lines\n")?;
+    push_row(text, report.lines, "counted")?;
+    push_row(text, report.foreign, "not the server's")?;
+    push_row(text, report.lost, "lost")?;
+    Ok(())
+}
+
+fn push_left_out(text: &mut String, report: &Report) -> Result<(), AllocError>
+    ensures { OnOk result (Puts text.old text.new (specs.left_out_text report.now)) }
+{
+    push_row(text, report.left_out, "apps left out")?;
+    push_row(text, report.offers_left_out, "offers left out")?;
+    Ok(())
+}
+
+fn push_asks(text: &mut String, report: &Report) -> Result<(), AllocError>
+    ensures { OnOk result (Puts text.old text.new (specs.asks_text report.now)) }
+{
+    push_table(text, "asks\n", &report.asked)?;
+    push_table(text, "offers\n", &report.offered)?;
+    push_table(text, "no update\n", &report.unoffered)?;
+    push_buckets(text, report)?;
+    push_table(text, "asks by hour and version\n", &report.hours)?;
+    Ok(())
+}
+
+fn push_faults(text: &mut String, report: &Report) -> Result<(), AllocError>
+    ensures { OnOk result (Puts text.old text.new (specs.faults_text report.now)) }
+{
+    push_table(text, "refusals\n", &report.refusals)?;
+    push_table(text, "unknown apps\n", &report.unknown)?;
+    push_table(text, "without a cohort\n", &report.without_cohort)?;
+    push_table(text, "without a request id\n", &report.without_id)?;
+    push_table(text, "events that are cut\n", &report.cut_events)?;
+    Ok(())
+}
+
+// ---- buckets
+
+fn push_buckets(text: &mut String, report: &Report) -> Result<(), AllocError>
+    ensures { OnOk result (Puts text.old text.new (specs.buckets_text report.now)) }
+{
+    if report.buckets.rows.is_empty() {
+        return Ok(());
+    }
+    text.push_str("buckets\n")?;
+    push_bucket_rows(text, &report.buckets.rows, &report.asked.rows)?;
+    push_others(text, report.buckets.others)?;
+    Ok(())
+}
+
+#[tactic(auto, using(crate::proofs::Written::one_further, crate::proofs::Written::at_end))]
+fn push_bucket_rows(
+    text: &mut String,
+    buckets: &BTreeMap<String, u64>,
+    asked: &BTreeMap<String, u64>,
+) -> Result<(), AllocError>
+    ensures { OnOk result (Puts text.old text.new
+        (specs.bucket_rows buckets.now.entries asked.now.entries)) }
+{
+    for (app, _asks) in asked.iter() {
+        push_bucket_row(text, buckets, app.as_str())?;
+    }
+    Ok(())
+}
+
+#[tactic(auto, unfolding(crate::specs::Screen::bucket_row))]
+fn push_bucket_row(
+    text: &mut String,
+    buckets: &BTreeMap<String, u64>,
+    app: &str,
+) -> Result<(), AllocError>
+    ensures { OnOk result (Puts text.old text.new
+        (specs.bucket_row buckets.now.entries app.now)) }
+{
+    push_row(text, buckets_of(app, buckets), app)
+}
+
+// How many buckets of an app have rows.
+fn buckets_of(app: &str, buckets: &BTreeMap<String, u64>) -> u64
+    ensures { result ≡ specs.buckets_of app.now buckets.now.entries }
+{
+    let mut count = 0;
+    for (name, _) in buckets.iter() {
+        if is_of(app, name.as_str()) {
+            count += 1;
+        }
+    }
+    count
+}
+
+// Whether a name's first text is this one.
+fn is_of(first: &str, name: &str) -> bool
+    ensures { result ≡ specs.is_of_text first.now name.now }
+{
+    match name.split_once('\t') {
+        Some((text, _)) => text == first,
+        None => name == first,
+    }
+}
+
+// ---- results of installs
+
+fn push_results(text: &mut String, report: &Report) -> Result<(), AllocError>
+    ensures { OnOk result (Puts text.old text.new (specs.results_text report.now)) }
+{
+    if report.results.rows.is_empty() {
+        return Ok(());
+    }
+    text.push_str("installs\n")?;
+    push_result_rows(text, &report.ended, &report.results.rows)?;
+    push_others(text, report.results.others)?;
+    Ok(())
+}
+
+#[tactic(auto, using(crate::proofs::Written::one_further, crate::proofs::Written::at_end))]
+fn push_result_rows(
+    text: &mut String,
+    ended: &Tally,
+    results: &BTreeMap<String, u64>,
+) -> Result<(), AllocError>
+    ensures { OnOk result (Puts text.old text.new
+        (specs.result_rows ended.now results.now.entries)) }
+{
+    for (name, n) in results.iter() {
+        push_result(text, ended, *n, name.as_str())?;
+    }
+    Ok(())
+}
+
+fn push_result(text: &mut String, ended: &Tally, n: u64, name: &str) -> Result<(), AllocError>
+    ensures { OnOk result (Puts text.old text.new (specs.result_row ended.now n name.now)) }
+{
+    write!(text, "{n}\t")?;
+    push_share(text, n, ended.count_of(install_of(name)))?;
+    write!(text, "\t{name}\n")
+}
+
+// The install of which a result's name tells: its texts but the first one.
+fn install_of<'a>(name: &'a str) -> &'a str
+    ensures { result.now ≡ specs.install_of name.now }
+{
+    match name.split_once('\t') {
+        Some((_, install)) => install,
+        None => "",
+    }
+}
+
+// So many of these, in percent, where it is known how many these are.
+fn push_share(text: &mut String, n: u64, whole: Option<u64>) -> Result<(), AllocError>
+    ensures { OnOk result (Puts text.old text.new (specs.share n whole)) }
+{
+    match whole {
+        Some(whole) if whole != 0 => push_percent(text, n as u128 * 10000 / whole as u128),
+        _ => text.push_str("?"),
+    }
+}
+
+// Hundredths of a percent, as `95.22 %`.
+fn push_percent(text: &mut String, hundredths: u128) -> Result<(), AllocError>
+    ensures { OnOk result (Puts text.old text.new (specs.percent hundredths)) }
+{
+    let whole = hundredths / 100;
+    let tenth = hundredths / 10 % 10;
+    let hundredth = hundredths % 10;
+    write!(text, "{whole}.{tenth}{hundredth} %")
+}

@@ -1,0 +1,122 @@
+//! A table that counts names. It has so many rows at most; what comes behind these counts under one
+//! number, so that no log takes more memory than that.
+
+ghost use Rattle.std.specs.Prelude.{◌≡◌, ◌<◌, ◌≤◌, [], ◌∷◌, None, Some, OnOk, option_map};
+ghost use Rattle.std.specs.String.{string_bytes};
+ghost use Rattle.std.specs.BTreeMap.{btree_map_len, get_by_text};
+ghost use Rattle.report.specs.Names.{listed};
+ghost use Rattle.report.specs.Tallies.{IsTally, Notes, Sets};
+
+use std::alloc::{AllocError, Global};
+use std::collections::BTreeMap;
+
+/// Names with their counts, which stop at the greatest number of 64 bits.
+#[derive(Drop)]
+pub struct Tally {
+    pub(crate) rows: BTreeMap<String, u64>,
+    pub(crate) others: u64,
+    pub(crate) limit: usize,
+}
+
+impl Tally {
+    /// An empty table with room for so many names.
+    pub fn new(alloc: Global, limit: usize) -> Tally
+        ensures { IsTally limit [] result }
+    {
+        Tally {
+            rows: BTreeMap::new(alloc),
+            others: 0,
+            limit,
+        }
+    }
+
+    /// How often a name was counted, where it has a row.
+    pub fn count_of(&self, name: &str) -> Option<u64>
+        ensures { result ≡ get_by_text self.now.rows name.now }
+    {
+        self.rows.get(name).copied()
+    }
+
+    /// How often names were counted that have none.
+    pub fn others(&self) -> u64
+        ensures { result ≡ self.now.others }
+    {
+        self.others
+    }
+
+    // Sets the count of a name.
+    fn set(&mut self, name: String, count: u64) -> Result<(), AllocError>
+        ensures { OnOk result (Sets self.old self.new (string_bytes name) count) }
+    {
+        self.rows.insert(name, count)?;
+        Ok(())
+    }
+
+    /// Counts a name.
+    pub(crate) fn note(&mut self, name: String) -> Result<(), AllocError>
+        ensures { OnOk result (Notes self.old self.new (string_bytes name ∷ [])) }
+    {
+        match self.count_of(name.as_str()) {
+            Some(count) => self.raise(name, count),
+            None => self.note_new(name),
+        }
+    }
+
+    // Counts a name that has a row.
+    #[tactic(auto, using(crate::proofs::Tallied::goes_up))]
+    fn raise(&mut self, name: String, count: u64) -> Result<(), AllocError>
+        requires { get_by_text self.old.rows (string_bytes name) ≡ Some count }
+        ensures { OnOk result (Notes self.old self.new (string_bytes name ∷ [])) }
+    {
+        self.set(name, count.saturating_add(1))
+    }
+
+    // Counts a name that has none.
+    fn note_new(&mut self, name: String) -> Result<(), AllocError>
+        requires { get_by_text self.old.rows (string_bytes name) ≡ None }
+        ensures { OnOk result (Notes self.old self.new (string_bytes name ∷ [])) }
+    {
+        if self.rows.len() < self.limit {
+            return self.add_row(name);
+        }
+        self.add_other(name);
+        Ok(())
+    }
+
+    #[tactic(auto, using(crate::proofs::Tallied::gets_row))]
+    fn add_row(&mut self, name: String) -> Result<(), AllocError>
+        requires none { get_by_text self.old.rows (string_bytes name) ≡ None }
+        requires free { btree_map_len self.old.rows < self.old.limit }
+        ensures { OnOk result (Notes self.old self.new (string_bytes name ∷ [])) }
+    {
+        self.set(name, 1)
+    }
+
+    #[tactic(auto, using(crate::proofs::Tallied::joins_others))]
+    fn add_other(&mut self, name: String)
+        requires none { get_by_text self.old.rows (string_bytes name) ≡ None }
+        requires full { self.old.limit ≤ btree_map_len self.old.rows }
+        ensures { Notes self.old self.new (string_bytes name ∷ []) }
+    {
+        self.others = self.others.saturating_add(1);
+    }
+}
+
+/// Counts a name, if there is one.
+pub(crate) fn note_if(tally: &mut Tally, name: Option<String>) -> Result<(), AllocError>
+    ensures { OnOk result (Notes tally.old tally.new
+        (listed (option_map string_bytes name))) }
+{
+    match name {
+        Some(name) => tally.note(name),
+        None => note_nothing(tally),
+    }
+}
+
+/// Counts no name.
+#[tactic(auto, using(crate::proofs::Tallied::notes_none))]
+pub(crate) fn note_nothing(tally: &mut Tally) -> Result<(), AllocError>
+    ensures { OnOk result (Notes tally.old tally.new []) }
+{
+    Ok(())
+}

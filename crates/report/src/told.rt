@@ -1,0 +1,126 @@
+//! What a line is: an event of the server's, as a value of JSON, or none.
+
+ghost use Rattle.std.specs.Prelude.{◌≡◌, IfOk, codes, option_map};
+ghost use Rattle.std.specs.Option.{option_copied};
+ghost use Rattle.serde_json.specs.View.{view, items_view};
+ghost use Rattle.report.specs.Told as specs;
+
+use crate::window::Window;
+use serde_json::Value;
+use std::alloc::{AllocError, Global};
+
+/// The most bytes of a line; a server's has 4096.
+pub(crate) const LINE_LIMIT: usize = 65536;
+
+/// The member of this name, if it is a text.
+pub(crate) fn text_in<'a>(value: &'a Value, name: &str) -> Option<&'a str>
+    ensures { option_copied result ≡ specs.text_in name.now (view value.now) }
+{
+    match value.get(name) {
+        Some(member) => member.as_str(),
+        None => None,
+    }
+}
+
+/// The same of a number from 0 on.
+pub(crate) fn number_in(value: &Value, name: &str) -> Option<u64>
+    ensures { result ≡ specs.number_in name.now (view value.now) }
+{
+    match value.get(name) {
+        Some(member) => member.as_u64(),
+        None => None,
+    }
+}
+
+/// The same of true or false.
+pub(crate) fn flag_in(value: &Value, name: &str) -> Option<bool>
+    ensures { result ≡ specs.flag_in name.now (view value.now) }
+{
+    match value.get(name) {
+        Some(member) => member.as_bool(),
+        None => None,
+    }
+}
+
+/// The same of a list.
+pub(crate) fn list_in<'a>(value: &'a Value, name: &str) -> Option<&'a [Value]>
+    ensures { option_map (λ list. items_view list.now) result
+        ≡ specs.list_in name.now (view value.now) }
+{
+    match value.get(name) {
+        Some(member) => match member {
+            Value::Array(list) => Some(list.as_slice()),
+            _ => None,
+        },
+        None => None,
+    }
+}
+
+/// Whether there is this number.
+pub(crate) fn is_number(n: u64, found: Option<u64>) -> bool
+    ensures { result ≡ specs.is_number n found }
+{
+    match found {
+        Some(m) => m == n,
+        None => false,
+    }
+}
+
+/// Whether there is this text.
+pub(crate) fn is_text(text: &str, found: Option<&str>) -> bool
+    ensures { result ≡ specs.is_text text.now (option_copied found.entry) }
+{
+    match found {
+        Some(other) => other == text,
+        None => false,
+    }
+}
+
+/// The value of JSON that a text is.
+#[tactic(auto, using(crate::proofs::Values::value_found, crate::proofs::Values::value_missing))]
+pub(crate) fn value_of(alloc: Global, text: &[u8]) -> Result<Option<Value>, AllocError>
+    ensures { IfOk result (λ v. option_map view v ≡ specs.value_of text.now) }
+{
+    match Value::from_slice(alloc, text) {
+        Ok(value) => Ok(Some(value)),
+        Err(e) if e.is_memory() => Err(AllocError),
+        Err(_) => Ok(None),
+    }
+}
+
+/// The event of a line, if it is one of the server's.
+pub(crate) fn event_in(alloc: Global, line: &[u8]) -> Result<Option<Value>, AllocError>
+    ensures { IfOk result (λ v. option_map view v ≡ specs.event_in line.now) }
+{
+    if line.len() > LINE_LIMIT {
+        return Ok(None);
+    }
+    match value_of(alloc, line)? {
+        Some(value) => Ok(if_event(value)),
+        None => Ok(None),
+    }
+}
+
+fn if_event(value: Value) -> Option<Value>
+    ensures { option_map view result ≡ specs.if_event (view value) }
+{
+    if is_event(&value) { Some(value) } else { None }
+}
+
+// It tells when, and of what kind it is.
+fn is_event(value: &Value) -> bool
+    ensures { result ≡ specs.is_event (view value.now) }
+{
+    text_in(value, "time").is_some() && text_in(value, "kind").is_some()
+}
+
+/// Whether an event lies in a window.
+pub(crate) fn is_within(window: &Window<'_>, event: &Value) -> bool
+    ensures { result ≡ specs.is_within window.now
+        (specs.text_in (codes "time") (view event.now)) }
+{
+    match text_in(event, "time") {
+        Some(time) => window.has(time),
+        None => false,
+    }
+}

@@ -1,0 +1,27 @@
+//! What the tests are given: the report of the lines of a text, in a window of time.
+
+use report::{LogOnlooker, Report, Window, count_log};
+use std::alloc::Global;
+use std::io;
+
+/// All times.
+pub(crate) const ALWAYS: Window<'static> = Window {
+    since: None,
+    until: None,
+};
+
+/// Nobody is told how far a reading is.
+#[derive(Drop)]
+struct Nobody {}
+
+impl LogOnlooker for Nobody {
+    fn read(&mut self, _bytes: u64) {}
+}
+
+/// The report of these lines.
+pub(crate) fn report_of(alloc: Global, log: &str, window: &Window<'_>) -> io::Result<Report> {
+    let mut report = Report::new(alloc);
+    let mut bytes = log.as_bytes();
+    count_log(alloc, &mut bytes, window, &mut report, &mut Nobody {})?;
+    Ok(report)
+}
