@@ -70,6 +70,7 @@ shifted_signed w a count = if nat_lt a.hi (sign_bit w) then shifted_right a coun
 abbrev pub count_of : Bits → Interval → ℕ
 count_of w b = b.lo % bits (word_width w)
 
+-- the interval of what arithmetic gives, one formula an operation
 abbrev pub bounds : Bits → AluOp → Interval → Interval → Interval
 bounds w Add a b = sum w a b
 bounds w Sub a b = difference w a b

@@ -124,6 +124,7 @@ pub record KeepsNumber (g : Answers) (v : Abs) (bytes : ℕ → Option ℕ) : Ty
 abbrev pub HasSet : ℕ → (ℕ → Option ℕ) → Type 0
 HasSet mask bytes = (j : ℕ) → j < 8 → bit_at mask j ≡ 1 → IsSome (bytes j)
 
+-- what a slot of the stack stands for
 abbrev pub CoversSlot : Answers → AbsSlot → (ℕ → Option ℕ) → Type 0
 CoversSlot g (Kept v) bytes = KeepsNumber g v bytes
 CoversSlot g (Bytes mask) bytes = HasSet mask bytes
@@ -141,6 +142,7 @@ CoversRegisters g values registers =
 abbrev pub CoversStack : Answers → List AbsSlot → (ℕ → Option ℕ) → Type 0
 CoversStack g slots stack = (i : ℕ) → CoversSlot g (slot_at slots i) (bytes_of stack i)
 
+-- which states of the machine a state of the verifier stands for
 pub record Covers (g : Answers) (e : AbsState) (s : State) : Type 0 where
   pub registers : CoversRegisters g e.registers s.registers
   pub stack : CoversStack g e.stack s.stack

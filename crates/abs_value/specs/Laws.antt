@@ -172,6 +172,7 @@ abbrev pub CoversOn : Answers → Option AbsState → State → Type 0
 CoversOn g None s = ⊥
 CoversOn g (Some e) s = Covers g e s
 
+-- the edge that a run takes is kept, and what is known there covers it
 abbrev pub CoversEdges : Type 0
 CoversEdges =
     (g : Answers) (e : AbsState) (s : State)
@@ -213,6 +214,7 @@ abbrev pub CoversAfter : Answers → AbsState → Option State → Type 0
 CoversAfter g e None = ⊥
 CoversAfter g e (Some t) = Covers g e t
 
+-- what is known after a store covers the state after it
 abbrev pub CoversStores : Type 0
 CoversStores =
     (g : Answers) (e : AbsState) (s : State) (place : ℕ) (size : Size) (v : Abs) (x : ℕ)

@@ -1,5 +1,6 @@
 -- What is learnt of lookups and left by calls: a comparison with 0 tells whether a lookup found a
--- cell (64-bit JEQ and JNE with imm 0), and a CALL gives R0 and takes R1 to R5.
+-- cell (64-bit JEQ and JNE with imm 0), and a CALL gives R0 and takes R1 to R5 (RFC 9669, "Jump
+-- Instructions" and "Helper Functions").
 use Rattle.std.specs.Prelude.{◌≡◌, ℕ, ℤ, pos, negsuc, List, ◌∷◌, drop, map}
 use Rattle.std.specs.Prelude.{Option, Some, None, option_map}
 use Rattle.std.specs.Prelude.{Bool, true, false, ◌&&◌, not, ◌==◌, if◌then◌else◌}
@@ -124,6 +125,7 @@ abbrev pub called_registers : List Abs → Abs → List Abs
 called_registers registers v =
     v ∷ Unusable ∷ Unusable ∷ Unusable ∷ Unusable ∷ Unusable ∷ drop 6 registers
 
+-- all that is known after a CALL
 abbrev pub called : AbsState → ℤ → ℕ → AbsState
 called e helper slot =
     record e { registers = called_registers e.registers (call_value helper slot (value_at e 1)) }

@@ -83,6 +83,7 @@ abbrev pub kept_or : AbsSlot → Abs → Abs
 kept_or (Kept v) other = v
 kept_or (Bytes mask) other = other
 
+-- what a load from the stack gives
 abbrev pub loaded_from : List AbsSlot → ℕ → LoadKind → Abs
 loaded_from slots place Double =
     if place % 8 == 0 then kept_or (slot_at slots (place / 8)) (loaded_value Double)

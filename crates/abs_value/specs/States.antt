@@ -46,6 +46,7 @@ unfoldable pub join_registers : List Abs → List Abs → List Abs
 join_registers a b =
     map (λ r. join_values (register_at a r) (register_at b r)) (range_with_len 0 11)
 
+-- what is known on both sides, of each register and each slot
 abbrev pub join_states : AbsState → AbsState → AbsState
 join_states e f = record {
   registers = join_registers e.registers f.registers;
@@ -59,5 +60,6 @@ opening_registers =
     Unusable ∷ Ctx (places 0 0) ∷ Unusable ∷ Unusable ∷ Unusable ∷ Unusable
     ∷ Unusable ∷ Unusable ∷ Unusable ∷ Unusable ∷ Stk stack_size ∷ []
 
+-- what is known where a run starts
 abbrev pub opening_state : AbsState
 opening_state = record { registers = opening_registers; stack = replicate 64 (Bytes 0) }

@@ -104,6 +104,7 @@ abbrev pub or_unusable : Option Abs → Abs
 or_unusable None = Unusable
 or_unusable (Some v) = v
 
+-- what arithmetic gives of two values
 abbrev pub alu_value : Bits → AluOp → Abs → Abs → Abs
 alu_value bits op (Num a) (Num b) = Num (alu_number bits op a b)
 alu_value bits op a b = or_unusable (pointer_result bits op a b)
@@ -162,6 +163,7 @@ same_origin a b = false
 
 -- ---- what stands for both
 
+-- what is known on both sides
 abbrev pub join_values : Abs → Abs → Abs
 join_values (Num a) (Num b) = Num (join_numbers a b)
 join_values (Ctx a) (Ctx b) = Ctx (place_hull a b)

@@ -13,6 +13,7 @@ pub struct Interval {
 }
 
 impl Interval {
+    /// The interval that has this number alone.
     pub fn just(n: u64) -> Interval
         ensures { result ≡ intervals.just n }
     {

@@ -1,5 +1,7 @@
 //! What the verifier knows of values: arithmetic, conditions, joins and the stack, each with what
 //! it stands for. Everything has a fixed size; nothing here allocates or fails.
+//!
+//! See docs/DECISIONS.md, "The verifier".
 #![tactic(auto)]
 
 // The method. The verifier runs a program once, not on numbers but on what is known of them, and

@@ -19,6 +19,7 @@ pub struct Number {
 }
 
 impl Number {
+    /// One number, of which all is known.
     pub fn single(n: u64) -> Number
         ensures { result ≡ numbers.single n }
     {

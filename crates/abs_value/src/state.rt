@@ -37,6 +37,7 @@ impl AbsState {
         }
     }
 
+    /// A copy of the entry.
     pub fn copy(&self) -> AbsState
         ensures { result ≡ self.now }
     {
@@ -55,6 +56,7 @@ impl AbsState {
         self.stack.copy_from(&other.stack);
     }
 
+    /// What is known of a register.
     #[inline]
     pub fn value(&self, r: Reg) -> Abs
         ensures { result ≡ states.value_of self.now r }
@@ -73,6 +75,7 @@ impl AbsState {
         }
     }
 
+    /// Sets what is known of a register.
     #[inline]
     pub fn set(&mut self, r: Reg, value: Abs)
         ensures { self.new ≡ states.with_value self.old r value }

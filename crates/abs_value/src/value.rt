@@ -32,6 +32,7 @@ pub enum Abs {
 }
 
 impl Abs {
+    /// Whether nothing is known of it: it may be unset.
     #[inline]
     pub fn is_unusable(self) -> bool
         ensures { result ≡ values.is_unusable self }
@@ -39,6 +40,7 @@ impl Abs {
         matches!(self, Abs::Unusable)
     }
 
+    /// Whether it is an address, an array, or what a lookup gave, which may be 0.
     #[inline]
     pub fn is_pointer(self) -> bool
         ensures { result ≡ values.is_pointer self }
@@ -46,6 +48,7 @@ impl Abs {
         !matches!(self, Abs::Unusable | Abs::Num(_))
     }
 
+    /// Whether it is a number.
     #[inline]
     pub fn is_number(self) -> bool
         ensures { result ≡ values.is_number self }

@@ -3,6 +3,7 @@ use Rattle.std.specs.Prelude.{◌≡◌, ℕ, ◌<◌, ◌^◌, All, List, [], �
 use Rattle.std.specs.Prelude.{slice_index, replicate}
 use Rattle.std.specs.Int.{w8, w16, w32, to_le_bytes}
 
+-- the facts that a program reads of an app
 pub record Context : Type 0 where
   pub version : List ℕ
   pub bucket : ℕ

@@ -15,6 +15,7 @@ abbrev pub is_text : List ℕ → Option (List ℕ) → ℕ
 is_text bytes (Some text) = if bytes_eq text bytes then 1 else 0
 is_text bytes None = 0
 
+-- whether an attribute's text is these bytes
 abbrev pub attr_is : Attributes → (number : ℕ) → (bytes : List ℕ) → ℕ
 attr_is a number bytes = is_text bytes (attribute a number)
 
@@ -23,6 +24,7 @@ abbrev pub text_length : Option (List ℕ) → ℕ
 text_length (Some text) = length text
 text_length None = 0
 
+-- the length of an attribute's text, 0 of an unknown number
 abbrev pub attr_len : Attributes → (number : ℕ) → ℕ
 attr_len a number = text_length (attribute a number)
 

@@ -25,5 +25,6 @@ is_version parts = nat_le (length parts) 4 && list_all is_decimal_number parts
 abbrev pub numbers_of : List (List ℕ) → List ℕ
 numbers_of parts = map (digits_value 10) parts ++ replicate (4 - length parts) 0
 
+-- the four numbers of a version text, or none
 abbrev pub version_of : List ℕ → Option (List ℕ)
 version_of text = if is_version (parts_of text) then Some (numbers_of (parts_of text)) else None

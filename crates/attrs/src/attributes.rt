@@ -66,6 +66,7 @@ impl Attrs {
 
     /// An app that asks for an update on day 0 at second 0, with no attributes but these. A version
     /// text that is too long to be kept still gives its numbers.
+    // open: whether memory is refused, its one error.
     pub fn plain(
         alloc: Global,
         appid: &str,
@@ -88,6 +89,7 @@ impl Attrs {
     }
 
     /// The attributes of an app at a moment, from what its request says.
+    // open: whether memory is refused, its one error.
     pub fn of(
         alloc: Global,
         app: &AppFacts,
@@ -99,7 +101,8 @@ impl Attrs {
         Attrs::of_hashed(alloc, app, request, hashed_bucket(request), moment)
     }
 
-    /// The same, of an app of a request whose hashed bucket is known.
+    /// The attributes of an app at a moment, where the hashed bucket of its request is known.
+    // open: whether memory is refused, its one error.
     pub fn of_hashed(
         alloc: Global,
         app: &AppFacts,
@@ -122,7 +125,7 @@ impl Attrs {
         })
     }
 
-    /// The same in another bucket, 0 to 9999, which no cohort names.
+    /// The same attributes in another bucket, 0 to 9999, which no cohort names.
     pub fn in_bucket(self, bucket: u16) -> Attrs
         requires { bucket < 10000 }
         ensures { result ≡ record self { context = record self.context { bucket = bucket } } }

@@ -43,7 +43,7 @@ impl Bucket {
         Bucket { value: number }
     }
 
-    /// Its number.
+    /// The number of the bucket, 0 to 9999.
     pub fn number(&self) -> u16
         ensures number { result ≡ self.now }
         ensures range { result < 10000 }

@@ -19,7 +19,7 @@ impl Model for Text {
 }
 
 impl Text {
-    /// This text; it takes no memory.
+    /// A text as an attribute; it takes no memory.
     pub fn new(text: String) -> Text
         ensures { result ≡ string_bytes text }
     {

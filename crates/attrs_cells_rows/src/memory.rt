@@ -1,7 +1,7 @@
 //! Memory that is refused once. Each call is asked for its answer. Where that is its own refusal of
 //! memory, the test prints it, what was lent to the call is as it was, and the call is asked again:
 //! the second answer is the untroubled one. So these tests pass with ample memory, and wherever one
-//! growth of theirs is refused, which `bench/refused` does for each in turn (docs/PROVING.md).
+//! growth of theirs is refused, which `bench/refused` does for each in turn.
 
 ghost use Rattle.std.specs.Prelude.{◌<◌, ◌≤◌};
 

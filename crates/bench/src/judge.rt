@@ -19,6 +19,7 @@ fn bench_shape(alloc: Global) -> Shape
 }
 
 /// The program that the bytes are, once it is accepted for an app of 64 releases.
+// open: whether memory is refused.
 pub fn verified(alloc: Global, bytes: &[u8]) -> Result<Verified, BenchFault>
     ensures program { IfOk result (IsProgramOf bytes.now) }
     ensures shape { IfOk result (λ v. v.shape ≡ bench_shape) }
@@ -28,6 +29,7 @@ pub fn verified(alloc: Global, bytes: &[u8]) -> Result<Verified, BenchFault>
 }
 
 /// Verifies the program that the bytes are so many times.
+// open: whether memory is refused.
 pub fn verify_times(alloc: Global, bytes: &[u8], times: u32) -> Result<(), BenchFault>
     ensures accepted { OnOk result (0 < times → AreAccepted bytes.now) }
     ensures fault { IfErr result (λ e. IsBenchFault bytes.now e) }

@@ -66,6 +66,7 @@ fn run_once(
 }
 
 /// Runs the program so many times, for each app in turn, on cells that open at 0.
+// open: whether memory is refused.
 pub fn run_times(
     alloc: Global,
     program: &Arc<Verified>,

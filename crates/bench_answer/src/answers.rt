@@ -65,6 +65,8 @@ fn sum(bytes: u64, more: usize) -> Result<u64>
 
 /// Answers the request so often, under the ruleset that the watcher sees, by runs that act on the
 /// cells.
+// open: whether memory is refused; how many takes several workers make at once, which the gate
+// compares.
 pub(crate) fn answer_times<C: CellSteps>(
     alloc: Global,
     cells: &C,
@@ -103,6 +105,7 @@ fn answer_alone(alloc: Global, watcher: &mut Watcher, input: &[u8], times: u32) 
 }
 
 /// Answers the request so often under one ruleset.
+// open: whether memory is refused.
 pub(crate) fn answer_under<H: Wait>(
     rt: &H,
     alloc: Global,

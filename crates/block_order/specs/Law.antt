@@ -26,6 +26,8 @@ TrapAlike p q =
     → ((count : ℕ) × Traps (shaped p shape) (opening a) es count)
     ↔ ((count : ℕ) × Traps (shaped q shape) (opening a) es count)
 
+-- where a run of either program ends or traps, the other's does after the same events, with the
+-- same choice
 pub record DoAlike (p q : Program) : Type 0 where
   pub end : EndAlike p q
   pub trap : TrapAlike p q

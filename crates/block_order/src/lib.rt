@@ -1,5 +1,7 @@
 //! Basic blocks in order: a program whose jumps lead backward, though it has no cycle, is written
 //! with its blocks in an order in which every jump leads forward.
+//!
+//! See docs/PROGRAM.md, "Refusals".
 #![tactic(auto)]
 
 mod disorder;

@@ -160,6 +160,8 @@ fn copied(alloc: Global, bytes: &[u8], flow: &Flow) -> Result<Vec<u8>, AllocErro
 /// lowest that jumps below slot 0, out of the program or into a wide load, or lets it fall off its
 /// end, and else F1 of the lowest jump that closes a cycle. F7 also comes where there is neither,
 /// and the program in order has more than 4096 slots. F9 may come at any time.
+// open: which order is found; that F7 comes of no program that has 4096 slots or fewer once it is
+// in order; the count of instructions, which may be another; whether memory is refused.
 pub fn ordered(alloc: Global, bytes: &[u8]) -> Result<Vec<u8>, FlowFault>
     ensures program { IfOk result (λ v. IsOrdered bytes.now v.items) }
     ensures same { (p : Program) → IsAcceptedAs bytes.now p

@@ -1,6 +1,8 @@
 //! BPF instructions and their encoding (RFC 9669): the conformance groups base32, base64, divmul32,
 //! divmul64, atomic32 and atomic64. `decode_at` reads the instruction that bytes spell, and
 //! `encode` writes it.
+//!
+//! See docs/DECISIONS.md, "The encoding"; docs/PROGRAM.md, "Refusals".
 #![tactic(auto)]
 
 mod arithmetic;

@@ -6,6 +6,8 @@
 //! verifier: where the step of the semantics is a trap, nothing is promised and nothing is tested.
 //! A `Run` holds a program that the verifier accepted, and stands for at least one state that it
 //! covers; so no step of a run is a trap.
+//!
+//! See docs/DECISIONS.md, "The machine".
 #![tactic(auto)]
 
 mod access;

@@ -1,4 +1,5 @@
--- The arrays of a program's shape: which of them an instruction or an address names.
+-- The arrays of a program's shape: which of them an instruction (RFC 9669, "64-bit Immediate
+-- Instructions") or an address names.
 use Rattle.std.specs.Prelude.{ℕ, ◌+◌, ◌/◌, ◌%◌, pos, Option, Some, None, is_some, option_map}
 use Rattle.std.specs.Prelude.{Bool, false, ◌&&◌, nat_le, nat_lt, ◌==◌, if◌then◌else◌, slice_get}
 use Rattle.std.specs.List.{list_any}

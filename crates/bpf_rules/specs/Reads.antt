@@ -38,6 +38,7 @@ helper_of (pos n) =
     else if n == bucket_number then Some Bucket
     else None
 
+-- the registers that a helper takes
 abbrev pub arguments : Option Helper → List Reg
 arguments None = []
 arguments (Some Lookup) = R1 ∷ R2 ∷ []

@@ -210,6 +210,7 @@ breaks_quota shape e i = accesses (reaches_quota shape) e i && not (leaves_quota
 
 -- ---- the rule with the lowest number that fails
 
+-- the lowest of V1 to V14 that an instruction breaks, each a test by its own name
 unfoldable pub first_rule : AppShape → AbsState → Insn → Option VerifierRule
 first_rule shape e i =
     if reads_unusable e i then Some rule.Unusable

@@ -1,5 +1,7 @@
 //! The rules of the verifier: what one instruction reads, writes and accesses, which rule it
 //! breaks, and what it makes of what is known at its place.
+//!
+//! See docs/DECISIONS.md, "The verifier"; docs/DECISIONS.md, "Helpers".
 #![tactic(auto)]
 
 // The method. The verifier goes over a program with what is known at each place, an `AbsState`.

@@ -2,6 +2,8 @@
 //! The definitions stand in `specs/`; the crates above cite them. The laws of all runs have no work
 //! to do. The machine's numbers stand here once for code, too: its regions, its helpers, and what
 //! each access has and does.
+//!
+//! See docs/DECISIONS.md, "The machine".
 #![tactic(auto)]
 
 mod accesses;

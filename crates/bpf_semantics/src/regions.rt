@@ -44,7 +44,7 @@ pub fn add_offset(base: u64, offset: i16) -> u64
     base.wrapping_add((offset as i64).cast_unsigned())
 }
 
-/// The same, of a wide load's offset.
+/// A base and an offset of a wide load, which has 32 bits, modulo 2^64.
 #[inline]
 pub fn add_long_offset(base: u64, offset: i32) -> u64
     ensures { result ≡ memory.address_of base offset }
@@ -53,6 +53,7 @@ pub fn add_long_offset(base: u64, offset: i32) -> u64
 }
 
 /// The address of a counter.
+// open: what it is of numbers from 2^32 on, which no call may ask.
 #[inline]
 pub fn cell_address(cell: u64) -> u64
     requires { cell < 2 ^ 32 }

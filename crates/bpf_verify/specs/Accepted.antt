@@ -41,6 +41,7 @@ incoming p zero m = if m == 0 then opening_state ∷ [] else []
 incoming p (suc k) m =
     incoming p k m ++ to_place m (edges_of p.shape k (join_all (incoming p k k)) (at p.code k))
 
+-- a place's entry: the join over all edges that lead to it
 abbrev pub entry_of : ShapedProgram → ℕ → Option AbsState
 entry_of p s = join_all (incoming p s s)
 
@@ -52,6 +53,7 @@ IsFine p s =
     (e : AbsState) (i : Insn) → entry_of p s ≡ Some e → at p.code s ≡ Some i
     → first_rule p.shape e i ≡ None
 
+-- no rule fails at any place
 abbrev pub IsAccepted : Program → AppShape → Type 0
 IsAccepted code shape = (s : ℕ) → IsFine (shaped code shape) s
 
@@ -68,6 +70,8 @@ pub record IsRefusedAt (p : ShapedProgram) (s : ℕ) (rule : VerifierRule) : Typ
   pub before : (k : ℕ) → k < s → IsFine p k
   pub fails : Fails p s rule
 
+-- a refusal by a rule is of the first place that fails, by its first rule; memory may be refused at
+-- any time
 abbrev pub IsRefusal : Program → AppShape → Refusal → Type 0
 IsRefusal code shape (refusal.Rule s rule) = IsRefusedAt (shaped code shape) s rule
 IsRefusal code shape refusal.Memory = Unit {0}

@@ -33,6 +33,7 @@ unfoldable pub most_ahead : Program → ℕ → ℕ
 most_ahead p zero = 0
 most_ahead p (suc n) = max (most_ahead p n) (ahead p n)
 
+-- the most targets of jumps that lie ahead of one place
 abbrev pub greatest_ahead : Program → ℕ
 greatest_ahead p = most_ahead p (length p)
 
@@ -64,6 +65,7 @@ abbrev pub IsPeakBefore : ShapedProgram → Refusal → ℕ → Type 0
 IsPeakBefore p (refusal.Rule s rule) n = n ≡ greatest_kept p s
 IsPeakBefore p refusal.Memory n = Unit {0}
 
+-- the count is the most entries that were kept at once, over the places that were judged
 abbrev pub IsPeak : {A : Type 0} → ShapedProgram → Result A Refusal → ℕ → Type 0
 IsPeak p (Ok v) n = n ≡ greatest_kept p (length p.code)
 IsPeak p (Err r) n = IsPeakBefore p r n

@@ -1,5 +1,7 @@
 //! The verifier: it decides which programs may run. `verify` accepts a program, or refuses it with
 //! a slot and a rule, and an accepted program never does what the machine doesn't define.
+//!
+//! See docs/DECISIONS.md, "The verifier"; docs/PROGRAM.md, "Refusals".
 #![tactic(auto)]
 
 // How it judges. All jumps go forward, so one sweep upwards over the slots sees each instruction

@@ -27,6 +27,7 @@ pub struct Walk {
 
 impl Walk {
     /// A walk that stands before the first place, under whatever shape.
+    // open: whether memory is refused.
     pub fn start(alloc: Global, flow: &Flow) -> Result<Walk, AllocError>
         ensures { IfOk result (λ w. (shape : AppShape) → IsWalkBefore flow.now shape 0 w) }
     {
@@ -39,6 +40,7 @@ impl Walk {
 
     /// Arrives at the next place, which is that of the slot. After a refusal of memory, here or by
     /// `carry_on`, the walk is of no use.
+    // open: whether memory is refused.
     pub fn arrive(&mut self, slot: usize) -> Result<(), AllocError>
         ensures { OnOk result ((code : Program) (shape : AppShape) → slot < length code
             → IsWalkBefore code shape slot self.old → IsWalkAt code shape slot self.new) }
@@ -70,6 +72,7 @@ impl Walk {
     }
 
     /// Goes on from a place at which no rule fails, along the edges of its instruction.
+    // open: whether memory is refused.
     pub fn carry_on(
         &mut self,
         flow: &Flow,

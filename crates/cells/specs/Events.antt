@@ -1,4 +1,5 @@
--- Cells: how wide each is, and what an operation replies and leaves.
+-- Cells: how wide each is, and what an operation replies and leaves (RFC 9669, "Atomic
+-- Operations").
 use Rattle.std.specs.Prelude.{◌≡◌, ℕ, ◌+◌, ◌%◌, ◌^◌, ◌<◌, ◌==◌, nat_lt, if◌then◌else◌}
 use Rattle.std.specs.Prelude.{bit_and, bit_or, bit_xor, List, length, slice_index, slice_set}
 use Rattle.cells.specs.declared.event.CellOp.{CellOp}

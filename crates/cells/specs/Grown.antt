@@ -4,6 +4,7 @@ use Rattle.std.specs.Prelude.{◌≡◌, List, [], ◌∷◌, ◌++◌}
 use Rattle.cells.specs.declared.event.CellEvent.{CellEvent}
 
 module _ {P : Type 0} (grew : P → CellEvent → P → Type 0) where
+  -- a pass grew by a list of events, one after the other
   abbrev pub GrewBy : P → List CellEvent → P → Type 0
   GrewBy p [] q = q ≡ p
   GrewBy p (e ∷ es) q = (m : P) × grew p e m × GrewBy m es q

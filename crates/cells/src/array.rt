@@ -59,6 +59,7 @@ impl ArrayName {
     }
 
     /// A text as a name.
+    // open: whether memory is refused.
     pub fn of(alloc: Global, text: &str) -> Result<ArrayName, AllocError>
         requires { IsName text.now }
         ensures { IfOk result (λ n. n ≡ text.now) }
@@ -111,6 +112,7 @@ fn goes_on(bytes: &[u8]) -> bool
 
 impl CellArray {
     /// The same array once more, with a name of its own.
+    // open: whether memory is refused.
     pub fn copy(&self, alloc: Global) -> Result<CellArray, AllocError>
         ensures { IfOk result (λ a. a ≡ self.now) }
     {

@@ -54,6 +54,7 @@ impl Directory {
     /// One that stands with these same values is given again. N2 where the name stands with others,
     /// N1 where the name is new and fewer cells of the width are left, N3 where memory is refused.
     /// Of a new array the cells are the lowest of its width that no array has.
+    // open: whether memory is refused (N3).
     pub fn declare(
         &mut self,
         alloc: Global,
@@ -83,6 +84,7 @@ impl Directory {
     }
 
     /// The same directory once more. N3 where memory is refused.
+    // open: whether memory is refused (N3).
     pub fn copy(&self, alloc: Global) -> Result<Directory, CellsFault>
         ensures same { IfOk result (λ d. d ≡ self.now) }
         ensures memory { IfErr result (λ e. e ≡ CellsFault.Memory) }

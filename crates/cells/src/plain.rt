@@ -38,6 +38,7 @@ impl Model for PlainPass {
 
 impl PlainCells {
     /// The cells, and a pass in which all of them are 0. N3 where memory is refused.
+    // open: whether memory is refused (N3).
     pub fn new(alloc: Global) -> Result<(PlainCells, PlainPass), CellsFault>
         ensures opening { IfOk result (λ made. AreZeros 8192 made.1) }
         ensures memory { IfErr result (λ e. e ≡ CellsFault.Memory) }

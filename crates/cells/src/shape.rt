@@ -30,6 +30,7 @@ impl Model for Shape {
 impl Shape {
     /// The shape of an app with so many releases, 0 to 64, over the arrays of these numbers of the
     /// directory, in their order. N3 where memory is refused.
+    // open: whether memory is refused (N3).
     pub fn of(
         alloc: Global,
         releases: u8,
@@ -60,6 +61,7 @@ impl Shape {
     }
 
     /// The same shape once more. N3 where memory is refused.
+    // open: whether memory is refused (N3).
     pub fn copy(&self, alloc: Global) -> Result<Shape, CellsFault>
         ensures same { IfOk result (λ s. s ≡ self.now) }
         ensures memory { IfErr result (λ e. e ≡ CellsFault.Memory) }

@@ -20,6 +20,8 @@ pub trait CellSteps {
     ghost grew: { Self.Pass → CellEvent → Self.Pass → Type 0 };
 
     /// One atomic operation on a cell. The reply is the value before, of a Store 0.
+    // open: which reply an operation gets. Of `PlainCells` `grew` is `IsEvent`: the reply is the
+    // cell's value before, and this cell alone gets a new one.
     fn act(&self, pass: &mut Self::Pass, cell: CellNo, op: CellOp) -> u64
         requires { belongs self.now pass.old }
         ensures belongs { belongs self.now pass.new }

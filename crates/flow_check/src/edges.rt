@@ -27,6 +27,7 @@ fn distance_of(insn: Insn) -> Option<Distance>
 }
 
 /// The slot that the instruction jumps to, if it is a jump and no slot below 0 is named.
+// open: slots from 4096 on, which no program has.
 pub fn jump_target(slot: usize, insn: Insn) -> Option<usize>
     requires { slot < 4096 }
     ensures { result ≡ target_of slot insn }
@@ -35,6 +36,7 @@ pub fn jump_target(slot: usize, insn: Insn) -> Option<usize>
 }
 
 /// The slot of the next instruction, where this one may go on to it.
+// open: slots from 4096 on, which no program has.
 pub fn next_place(slot: usize, insn: Insn) -> Option<usize>
     requires { slot < 4096 }
     ensures { result ≡ (if goes_on insn then Some (next_of slot insn) else None) }

@@ -23,6 +23,7 @@ pub struct LockedPass;
 
 impl<R: Wait + Drop> LockedCells<R> {
     /// Cells that are all 0. N3 where memory is refused.
+    // open: whether memory is refused (N3).
     pub fn new(alloc: Global, rt: R) -> Result<LockedCells<R>, CellsFault>
         ensures { IfErr result (λ e. e ≡ CellsFault.Memory) }
     {
@@ -47,6 +48,8 @@ impl<R: Wait + Drop> CellSteps for LockedCells<R> {
     ghost grew = { λ _ e _. CanReply e.cell e.op e.reply };
 
     /// Waits until no other thread acts on the cells.
+    // open: which reply comes, and that cells are 0 at first: no contract can name what stands
+    // under a lock that other threads take.
     fn act(&self, _pass: &mut LockedPass, cell: CellNo, op: CellOp) -> u64 {
         let mut values = self.values.lock(&self.rt);
         PlainCells.act(&mut values, cell, op)

@@ -9,6 +9,7 @@ use Rattle.reference.specs.declared.state.Interpreter.{Interpreter}
 abbrev pub mark_at : List (Option ℕ) → ℕ → Option ℕ
 mark_at marks k = slice_index_or marks k None
 
+-- the state that an interpreter has: a register or byte that is unset is marked so
 unfoldable pub state_of : Interpreter → State
 state_of m = record {
   slot = m.slot;

@@ -1,6 +1,8 @@
 //! The machine's semantics, executable: an interpreter with a mark for each register and byte that
 //! is unset, and an end that the machine does not define. It is slow and obvious, runs any program,
 //! accepted or not, and judges the machine that is fast.
+//!
+//! See docs/DECISIONS.md, "The machine".
 #![tactic(auto)]
 
 mod attempt;

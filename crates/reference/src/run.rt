@@ -16,6 +16,7 @@ use cells::{CellSteps, Shape, growth};
 
 impl Interpreter {
     /// So many steps at most of a program of at most 4096 slots, for an app of this shape.
+    // open: which replies the counters give.
     pub fn run<C: CellSteps>(
         &mut self,
         code: &[Option<Insn>],

@@ -15,6 +15,7 @@ use cells::{CellEvent, CellSteps, Shape};
 
 impl Interpreter {
     /// One step of a program of at most 4096 slots, for an app of this shape.
+    // open: which reply the counter gives.
     pub fn step<C: CellSteps>(
         &mut self,
         code: &[Option<Insn>],

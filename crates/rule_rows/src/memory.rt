@@ -1,7 +1,7 @@
 //! Memory that is refused once, to `parse` or to `compile`. What is told of a text is asked for
 //! again where memory was refused, and the second answer is the untroubled one. A refusal of the
 //! two is printed. So these tests pass with ample memory, and wherever one growth of theirs is
-//! refused (docs/PROVING.md).
+//! refused.
 
 use crate::given::{halves, must};
 use crate::told::{told, told_as_read};

@@ -1,5 +1,7 @@
 //! Counters that threads share without waiting for one another: 8192 words, each changed by single
 //! atomic steps, and one history for all that was done to them.
+//!
+//! See docs/DECISIONS.md, "Counters".
 #![tactic(auto)]
 
 // The method. What the threads share is a table of 8192 words (`atomic_table`), one for each cell,

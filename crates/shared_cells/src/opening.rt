@@ -17,6 +17,7 @@ const CELLS: usize = 8192;
 
 impl SharedCells {
     /// Cells that are all 0, and 1 to 65 passes to them. S1 where memory is refused.
+    // open: whether memory is refused (S1).
     pub fn new(alloc: Global, passes: usize) -> Result<(SharedCells, Vec<SharedPass>), SharedFault>
         requires { (0 < passes) × (passes ≤ 65) }
         ensures many { IfOk result (λ made. made.0.passes ≡ passes) }

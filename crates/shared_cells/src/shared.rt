@@ -38,6 +38,7 @@ impl CellSteps for SharedCells {
     ghost grew = { Gained };
 
     /// One atomic step, which takes no lock and waits for no other thread's work.
+    // open: that a Load sees what another thread stored a moment ago: tests.
     fn act(&self, pass: &mut SharedPass, cell: CellNo, op: CellOp) -> u64 {
         self.act_as::<Brand>(pass, cell, op)
     }

@@ -1,5 +1,7 @@
 //! What many threads did on shared counters is what one world does, and they do nothing to the cell
 //! of a quota but what counts.
+//!
+//! See docs/DECISIONS.md, "The world"; docs/DECISIONS.md, "Counters".
 #![tactic(auto)]
 
 // One world. What threads do is known thread by thread: each made its runs one after the other,

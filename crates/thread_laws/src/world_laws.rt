@@ -40,6 +40,7 @@ pub fn one_world()
 /// What threads did is what one world does. Of passes each of which made the events of runs, but
 /// for one that only looked, the history that the closing of shared cells gives
 /// (`SharedCells::close`, `history`) is, without these looks, that of a world that does these runs.
+// open: that passes did runs: the calls that make them say it.
 pub fn threads_are_one_world()
     ensures { PassesAreOneWorld }
 {

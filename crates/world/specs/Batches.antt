@@ -12,10 +12,12 @@ pub record ArePlayedInTurn (w : WorldState) (es fs : List Event) (rs qs : List A
   pub first : Plays w es rs between
   pub second : Plays between fs qs v
 
+-- two runs of the world, one after the other, are one
 abbrev pub BatchesJoin : Type 0
 BatchesJoin = (w v : WorldState) (es fs : List Event) (rs qs : List Answer)
     → ArePlayedInTurn w es fs rs qs v → Plays w (es ++ fs) (rs ++ qs) v
 
+-- a run of the world can be cut after each event
 abbrev pub BatchesPart : Type 0
 BatchesPart = (w v : WorldState) (es fs : List Event) (rs : List Answer)
     → Plays w (es ++ fs) rs v

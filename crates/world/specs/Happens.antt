@@ -115,6 +115,7 @@ Happens w event (Err e) v = IsRefusedEvent w event e × (v ≡ w)
 
 -- ---- a run of the world: a list of events with their answers
 
+-- a list of events with their answers is a run of the world
 abbrev pub Plays : WorldState → List Event → List Answer → WorldState → Type 0
 Plays w [] [] v = v ≡ w
 Plays w (e ∷ es) (r ∷ rs) v = (u : WorldState) × Happens w e r u × Plays u es rs v

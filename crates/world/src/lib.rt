@@ -1,4 +1,6 @@
 //! All workers of a server, its rulesets and its counters, as one list of events.
+//!
+//! See docs/DECISIONS.md, "The world".
 #![tactic(auto)]
 
 // How it keeps its promise. A `World` holds rulesets, one row of counters, and a seat for each

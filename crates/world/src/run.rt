@@ -9,6 +9,7 @@ use std::alloc::Global;
 
 /// Plays the events, one after the other, and gives the answer of each. E6 where memory for the
 /// list of answers is refused: then nothing was played.
+// open: whether memory is refused (E6).
 pub fn play(
     alloc: Global,
     world: &mut World,

@@ -47,6 +47,7 @@ impl World {
 
     /// A world with one ruleset, of number 1, all counters 0, and so many idle workers. E6 where
     /// memory is refused.
+    // open: whether memory is refused (E6).
     pub fn new(alloc: Global, workers: usize, first: Arc<Ruleset>) -> Result<World, WorldFault>
         requires at_least { 1 ≤ workers }
         requires at_most { workers ≤ 64 }
@@ -95,6 +96,8 @@ impl World {
     }
 
     /// One event. One that is refused changes nothing.
+    // open: whether memory is refused (E6): so which of Started and E6 is the answer, where the
+    // worker is idle and the app is there, and which of Swapped and E6.
     pub fn apply(&mut self, event: &Event) -> Result<Effect, WorldFault>
         ensures happens { IsApplied self.old event.now result self.new }
         ensures same { IfErr result (λ e. self.new ≡ self.old) }
