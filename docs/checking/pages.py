@@ -1,0 +1,64 @@
+"""What holds of single pages: links lead to files, README is short and names the toolchain's logic,
+and one version is named everywhere. And what their writers may look at: the long sentences."""
+import re
+import shutil
+import subprocess
+
+from checking.places import CHANGELOG, README, REFERENCE, VERSION, pages
+
+# README is for a visitor.
+MOST_LINES, MOST_WORDS = 150, 1200
+LOGIC = re.compile(r"\blogic ([0-9a-f]+)")
+# What is no sentence: code, tables, headings, and where a link leads to.
+NO_SENTENCE = re.compile(r"^```.*?^```|^\|.*?$|^#.*?$|^ {4}.*?$|(?<=\])\([^)]*\)", re.M | re.S)
+MOST_IN_SENTENCE = 35
+LINK = re.compile(r"\]\(([^)#]+)(?:#[^)]*)?\)")
+
+
+def dead_links(page):
+    for link in LINK.findall(page.read_text()):
+        if not link.startswith("http") and not (page.parent / link).exists():
+            yield f"no file {link}"
+
+
+def too_long(text):
+    if (lines := len(text.splitlines())) > MOST_LINES:
+        yield f"{lines} lines, which are more than {MOST_LINES}"
+    if (words := len(text.split())) > MOST_WORDS:
+        yield f"{words} words, which are more than {MOST_WORDS}"
+
+
+def other_logic(text):
+    """Where there is an `rt`, its logic is README's. Its number differs between machines."""
+    if shutil.which("rt"):
+        printed = subprocess.run(["rt", "version"], stdout=subprocess.PIPE, text=True).stdout
+        if {*LOGIC.findall(text)} != {*LOGIC.findall(printed)}:
+            yield f"the logic isn't that of `rt version`: {printed.strip()}"
+
+
+def other_versions():
+    """VERSION is the number alone, which README and the newest entry of CHANGELOG name."""
+    number = VERSION.read_text() if VERSION.exists() else ""
+    if not re.fullmatch(r"\d+\.\d+\.\d+\n", number):
+        yield f"{VERSION.name}: no number of three parts alone"
+        return
+    first = re.search(r"^## (\S+)", CHANGELOG.read_text(), re.M)
+    if not first or first[1] != number.strip():
+        yield f"{CHANGELOG.name}: the first heading isn't of {number.strip()}"
+    if number.strip() not in re.findall(r"\d+(?:\.\d+)+", README.read_text()):
+        yield f"{README.name}: it doesn't name the version {number.strip()}"
+
+
+def long_sentences(text):
+    plain = NO_SENTENCE.sub("", text)
+    found = re.split(r"(?<=[.!?:])[*)]*\s|\n(?:\n| *- )", plain)
+    return [it for it in found if len(it.split()) > MOST_IN_SENTENCE]
+
+
+def tell_long():
+    for page in pages():
+        if page.parent != REFERENCE:
+            found = long_sentences(page.read_text())
+            for it in found:
+                print(f"{page.name}: {' '.join(it.split())}\n")
+            print(f"{page.name}: {len(found)} of over {MOST_IN_SENTENCE} words\n")

@@ -1,0 +1,55 @@
+"""How a page tells of types, of constants and of what contracts know of a value."""
+import re
+
+
+def is_law(item):
+    """It takes nothing and gives nothing, so all that there is of it is what it ensures."""
+    return item.kind == "fn" and item.front()[0].endswith("()")
+
+
+def constants(items):
+    """Constants and statics with their comments."""
+    return "\n".join("\n".join([*item.head, *item.lines]) for item in items)
+
+
+def declaration(item):
+    """A type as its source has it, without what is private or told by itself."""
+    if item.kind == "trait":
+        return trait(item)
+    if item.kind != "struct" or len(item.lines) == 1:
+        return re.sub(r"\((?!pub )[^()]*\);$", "(..);", "\n".join(item.lines))
+    front = item.front()
+    shown, head, is_shown, hides = [], [], False, False
+    for line in item.lines[len(front):-1]:
+        word = line.strip()
+        if word.startswith(("//", "#[")):
+            head.append(line)
+            continue
+        if line.startswith("    ") and line[4:5].strip() not in ("}", ")", ">", ""):
+            is_shown = word.startswith("pub ")
+            hides = hides or not is_shown
+        if is_shown:
+            shown += [*head, line]
+        head = []
+    inside = [*shown, *(["    .."] if hides else [])]
+    return "\n".join([*front[:-1], front[-1] + " {", *inside, "}"])
+
+
+def trait(item):
+    """Its ghosts and its types; its functions are told by themselves."""
+    inside = []
+    for it in item.inner():
+        if it.kind in ("ghost", "type") and it.name != "use":
+            inside += [f"    {line}" for line in (*it.head, *it.lines)]
+    front = item.front()
+    return "\n".join([*front[:-1], front[-1] + " {", *inside, "    ..", "}"])
+
+
+def view(impls):
+    """The ghosts by which a type has a trait: of `Model` what a contract reads in its values."""
+    lines = []
+    for trait_name, impl, _ in impls:
+        ghosts = [it for it in impl.inner() if it.kind == "ghost" and it.name != "use"]
+        if trait_name and ghosts:
+            lines += [*impl.front(), *(f"    {line}" for it in ghosts for line in it.lines)]
+    return "\n".join(lines)
