@@ -21,6 +21,8 @@ SERVING = "--port 8080 --operator 8081 --workers 1 --log"
 OFFERED, NOTHING = '"version":"2.1"', '"status":"noupdate"'
 CHECKED = "app editor releases 1 slots 21\n"
 HALTED = "app editor releases 1 slots 5\n"
+# The fewest file descriptors that a server starts with, as "On a host" has it.
+LEAST = 10
 # What the last recipe tells behind the moment and the address.
 OFFERS = ["editor b:2 1.9 2.1"]
 # What each recipe before it counts, in the page's order: in the day below one machine is offered
@@ -31,6 +33,14 @@ COUNTS = [
     ['1 "editor"'],
     ['1 "editor 1.9"'],
 ]
+# What `report` counts of the same day, and how Prometheus reads some of it.
+REPORTED = {
+    "offers": ["1 editor 2.1"],
+    "installs": ["1 50.00 % 0 editor 1.9 2.0.4", "1 50.00 % 1 editor 1.9 2.0.4"],
+    "without a cohort": ["1 editor"],
+    "events that are cut": ["1 editor"],
+}
+EXPOSED = ['rollout_offers{app="editor",release="2.1"} 1', 'rollout_cut_events{app="editor"} 1']
 
 
 class Day:
@@ -129,6 +139,24 @@ def wrong_counts(day):
         return f"{found} by {offers}"
 
 
+def wrong_report(day):
+    """Of what `report` counts of the day's log, of which each line is the server's."""
+    told, heading = {}, ""
+    for line in day.run("rollout report server.log").splitlines():
+        heading = heading if "\t" in line else line
+        told.setdefault(heading, []).extend([line.replace("\t", " ")] if "\t" in line else [])
+    lines = (day.folder / "server.log").read_text().splitlines()
+    counted = {"lines": [f"{len(lines)} counted", "0 not the server's", "0 lost"]}
+    for heading, rows in {**counted, **REPORTED}.items():
+        if told.get(heading, [])[: len(rows)] != rows:
+            return f"report: {heading}: {told.get(heading)}"
+    exposed = day.run("cat server.log | rollout report - --prometheus").splitlines()
+    if lost := {*EXPOSED} - {*exposed}:
+        return f"report --prometheus: no {lost}"
+    if said := day.run("rollout report server.log --since 2007-01-01T00:00:00Z --until 1d"):
+        return None if said.startswith("lines\n0\tcounted\n") else f"report --until 1d: {said}"
+
+
 def day_of_the_page(folder, program=BUILT):
     """A stage, the next one, and a halt that stays over a restart; and what its log tells."""
     needs("jq", "curl")
@@ -136,11 +164,48 @@ def day_of_the_page(folder, program=BUILT):
     with day.served():
         if wrong := wrong_stages(day) or wrong_events(day):
             return wrong
-    if wrong := wrong_counts(day):
+    if wrong := wrong_counts(day) or wrong_report(day):
         return wrong
     with day.served():
         if NOTHING not in (said := day.run(section("OPERATING.md", "What is being served")[0])):
             return f"after a restart: {said}"
 
 
-PAGES = {"the commands of docs/OPERATING.md": day_of_the_page, **UPGRADES}
+def few_descriptors(folder, program=BUILT):
+    """With nine file descriptors a server doesn't start, and with ten it answers and loads."""
+    needs("curl")
+    day = Day(folder / "few", program)
+    start = f"ulimit -n {{}}; exec {program} serve current.toml {SERVING.removesuffix(' --log')}"
+    for count in range(4, LEAST):
+        if (said := day.run(start.format(count))) != "1 refused B6 Bind\n":
+            return f"with {count}: {said!r}"
+    how = {"stdout": subprocess.PIPE, "text": True, **day.place()}
+    with subprocess.Popen(day.words(start.format(LEAST)), **how) as server:
+        try:
+            return wrong_with_few(day, server)
+        finally:
+            server.kill()
+
+
+def wrong_with_few(day, server):
+    """Of a server that has as many file descriptors as it wants at least."""
+    if (said := server.stdout.readline()) != "serving generation 1\n":
+        return f"with {LEAST}: {said!r}"
+    ask = section("OPERATING.md", "What is being served")[0]
+    for command, wanted in (
+        (ask, NOTHING),
+        ('rollout load "$PWD/current.toml" --operator 8081', "generation 2\n"),
+        (ask, NOTHING),
+        ("rollout stop --operator 8081 --wait", "stopping\n"),
+    ):
+        if wanted not in (said := day.run(command)):
+            return f"with {LEAST}: {said!r} of {command}"
+    if server.wait(PATIENCE) != 0:
+        return f"with {LEAST}: status {server.returncode}"
+
+
+PAGES = {
+    "the commands of docs/OPERATING.md": day_of_the_page,
+    "few file descriptors": few_descriptors,
+    **UPGRADES,
+}

@@ -14,7 +14,7 @@ from pathlib import Path
 from hosts import DEPLOY, Skipped, called, needs
 from launching import BARE, BUILT_FROM, ROOT, Repository
 
-SHARED = ["README.md", "CHANGELOG.md", "VERSION", "built-from", "docs/PROVING.md"]
+SHARED = ["README.md", "CHANGELOG.md", "VERSION", "built-from", "docs/internals/COSTS.md"]
 SHARED += ["examples/one.rule", *(f"examples/deploy/{it.name}" for it in DEPLOY.iterdir())]
 INSTALLED = {"bin/rollout", "libexec/rollout", *(f"share/rollout/{it}" for it in SHARED)}
 PORTS = [18098, 18099]

@@ -1,4 +1,4 @@
-"""The repository's crates: what crates.txt says of them, and docs/PROVING.md of their time."""
+"""The repository's crates: what crates.txt says of them, and COSTS.md of their time."""
 import re
 import sys
 from pathlib import Path
@@ -31,7 +31,7 @@ class Crate:
         self.name, self.line = name, line
         self.folder = CRATES / name
         self.is_program = name == PROGRAM
-        self.root = f"src/{'main' if self.is_program else 'lib'}.rt"
+        self.root = f"src/{'main' if (self.folder / 'src' / 'main.rt').exists() else 'lib'}.rt"
         # The crates of the repository that its line names, and the libraries of the kit.
         self.named = [known[it] for it in named if it in known]
         self.of_kit = [it for it in named if it not in known]
@@ -43,13 +43,17 @@ class Crate:
         return sorted(it for it in found if it.is_file())
 
 
+def crate_lines(text):
+    """The lines of a crates.txt by the names of their crates."""
+    lines = [it for it in text.splitlines() if it and it[0] != "#"]
+    return {re.split("[ :]", it)[0]: it for it in lines}
+
+
 def all_crates():
     """The repository's crates by their names, lowest first."""
     known = {}
-    for line in (ROOT / "crates.txt").read_text().splitlines():
-        if line and line[0] != "#":
-            crate = Crate(line, known)
-            known[crate.name] = crate
+    for name, line in crate_lines((ROOT / "crates.txt").read_text()).items():
+        known[name] = Crate(line, known)
     return known
 
 
@@ -60,6 +64,6 @@ def crates_of_program():
 
 
 def seconds_recorded():
-    """How long a crate takes from nothing, by the table of docs/PROVING.md."""
-    text = (ROOT / "docs" / "PROVING.md").read_text()
+    """How long a crate takes from nothing, by the table of docs/internals/COSTS.md."""
+    text = (ROOT / "docs" / "internals" / "COSTS.md").read_text()
     return {name: int(s) for name, s in re.findall(r"^\| `(\w+)` \| \d+ \| (\d+) \|", text, re.M)}

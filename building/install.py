@@ -25,7 +25,7 @@ PLACES = {
     "libexec/rollout": BUILT / PROGRAM,
 }
 # What checks the pages stays with the sources.
-LEFT_OUT = shutil.ignore_patterns("*.py", "__pycache__")
+LEFT_OUT = shutil.ignore_patterns("*.py", "checking", "__pycache__")
 
 
 def beside(place, ending):

@@ -16,8 +16,8 @@ class Kit:
         # Sums of the kit's own files: another build of the compiler has others.
         self.what = (folder / "WHAT").read_bytes()
 
-    def commands(self, crate, way, jobs):
-        """What proves and builds a crate over its libraries, one after the other, in its folder."""
+    def words(self, crate, way, jobs):
+        """How the compiler is called for a crate over its libraries, in its folder."""
         words = [self.folder / "bin" / "rattle", "build", "--crate-name", crate.name, crate.root]
         for name in ["std", *crate.of_kit]:
             words += ["--extern", f"{name}={self.folder}/rlibs/{name}.rlib"]
@@ -27,14 +27,27 @@ class Kit:
             words += ["-L", f"dependency={place}"]
         words += ["--antt-project", self.folder / "rattle" / "logic" / "antt-project.json"]
         words += ["--logic-built", self.folder / "logic_built"]
-        words += ["--links", f"{crate.name}=", "--jobs", str(jobs), *way.words(crate)]
-        if not crate.is_program:
-            return [[*words, "-o", way.library(crate)]]
-        compiled, toolchain = BUILT / f"{PROGRAM}.o", ["--toolchain", self.folder / "toolchain"]
+        return [*words, "--links", f"{crate.name}=", "--jobs", str(jobs)]
+
+    def linked(self, words, compiled, made):
+        """What compiles what these words prove, and links it."""
+        toolchain = ["--toolchain", self.folder / "toolchain"]
         link = [self.folder / "bin" / "rattle-link", "--target", TARGET, *toolchain]
-        link += ["-o", BUILT / f"{PROGRAM}.new", compiled]
+        link += ["-o", made, compiled]
         link += [self.folder / "c" / it for it in ("libos_c.a", "liblibc_c.a")]
         return [[*words, *toolchain, "--backend", "llvm", "-o", compiled], link]
+
+    def commands(self, crate, way, jobs):
+        """What proves and builds a crate over its libraries, one after the other."""
+        words = [*self.words(crate, way, jobs), *way.words(crate)]
+        if not crate.is_program:
+            return [[*words, "-o", way.library(crate)]]
+        return self.linked(words, BUILT / f"{PROGRAM}.o", BUILT / f"{PROGRAM}.new")
+
+    def run_commands(self, runs, way, jobs):
+        """What proves and builds the tests of a crate, or a program that is run."""
+        words = [*self.words(runs.crate, way, jobs), *runs.words()]
+        return self.linked(words, runs.place(".o"), runs.place(".new"))
 
 
 def find_kit():

@@ -7,7 +7,8 @@ import sys
 import time
 from concurrent.futures import ThreadPoolExecutor
 
-from building.crates import BUILT, PROGRAM, crates_of_program, say, seconds_recorded
+from building.crates import BUILT, PROGRAM, say, seconds_recorded
+from building.running import Runs, stored_run
 from building.work import Guard, Work, count_jobs
 
 # More jobs of one crate gain nothing.
@@ -17,11 +18,13 @@ MOST_SILENT = 50
 
 
 class Build:
-    def __init__(self, kit, way):
-        self.kit, self.way = kit, way
-        self.crates = crates_of_program()
+    what = "the program"
+
+    def __init__(self, kit, way, crates):
+        self.kit, self.way, self.crates = kit, way, crates
         recorded = seconds_recorded()
-        self.recorded = {it: recorded.get(it.name, 0) + 1 for it in self.crates}
+        names = {it: it.crate.name if isinstance(it, Runs) else it.name for it in crates}
+        self.recorded = {it: recorded.get(names[it], 0) + 1 for it in crates}
         self.chain = {}
         for crate in reversed(self.crates):
             above = [self.chain[it] for it in self.chain if crate in it.below]
@@ -79,8 +82,18 @@ class Build:
         self.way.folder.mkdir(parents=True, exist_ok=True)
         self.way.stamp(crate).unlink(missing_ok=True)
         self.sums[crate] = self.way.sum(crate, self.kit)
-        commands = self.kit.commands(crate, self.way, jobs)
+        commands = self.commands(crate, jobs)
         self.running[crate] = Work(commands, crate.folder, jobs, self.guard)
+
+    def commands(self, crate, jobs):
+        return self.kit.commands(crate, self.way, jobs)
+
+    def is_good(self, crate):
+        """Puts what its commands have made where it belongs."""
+        if crate.is_program:
+            (BUILT / f"{PROGRAM}.new").replace(BUILT / PROGRAM)
+            (BUILT / f"{PROGRAM}.o").unlink(missing_ok=True)
+        return True
 
     def end(self, crate):
         """Keeps and tells of a crate whose commands have ended."""
@@ -91,11 +104,8 @@ class Build:
         if work.process.returncode:
             sys.stderr.write(work.printed())
             sys.exit(f"rollout: {crate.name} isn't proved")
-        if crate.is_program:
-            (BUILT / f"{PROGRAM}.new").replace(BUILT / PROGRAM)
-            (BUILT / f"{PROGRAM}.o").unlink(missing_ok=True)
         # A source may have changed meanwhile.
-        if self.way.sum(crate, self.kit) == self.sums[crate]:
+        if self.is_good(crate) and self.way.sum(crate, self.kit) == self.sums[crate]:
             self.way.stamp(crate).write_text(self.sums[crate])
         self.left.remove(crate)
         seconds = work.seconds()
@@ -112,7 +122,7 @@ class Build:
 
     def build(self):
         count, minutes = len(self.left), self.minutes_left()
-        say(f"proving and building the program, {count} crates, about {minutes} min")
+        say(f"proving and building {self.what}, {count} crates, about {minutes} min")
         self.told = time.monotonic()
         self.guard = Guard()
         while self.left:
@@ -123,3 +133,36 @@ class Build:
                     self.end(crate)
             if self.left and time.monotonic() - self.told >= MOST_SILENT:
                 self.tell(", ".join(map(self.under_way, self.running)))
+
+
+class Gate(Build):
+    """Of what has changed: libraries, and over them the tests and the stored runs of crates."""
+
+    what = "what has changed"
+
+    def __init__(self, kit, way, changed):
+        super().__init__(kit, way, [*changed.libraries(), *changed.runs()])
+        self.programs = [it for it in changed.selected if it.is_program]
+        self.bad = 0
+
+    def commands(self, crate, jobs):
+        if not isinstance(crate, Runs):
+            return super().commands(crate, jobs)
+        crate.place("").parent.mkdir(exist_ok=True)
+        return self.kit.run_commands(crate, self.way, jobs)
+
+    def is_good(self, crate):
+        if not isinstance(crate, Runs):
+            return super().is_good(crate)
+        return self.passes(crate.faults(self.kit))
+
+    def passes(self, faults):
+        """Tells what is wrong with a run, while the others go on."""
+        sys.stderr.write(faults)
+        self.bad += bool(faults)
+        return not faults
+
+    def run(self):
+        super().run()
+        for it in self.programs:
+            self.passes(stored_run(it, BUILT / PROGRAM))

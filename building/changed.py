@@ -1,0 +1,83 @@
+"""Which crates have changed since a commit, what stands on them, and what of these is run."""
+import subprocess
+import sys
+
+from building.crates import PROGRAM, ROOT, all_crates, crate_lines, seconds_recorded
+from building.running import Runs
+
+# The edits of wrong bodies, which change nothing of a crate.
+EDITS = {"must-fail", "wrong"}
+
+
+def printed(*words):
+    """The lines that git prints, or none where it fails."""
+    done = subprocess.run(["git", *words], cwd=ROOT, capture_output=True, text=True)
+    return done.stdout.splitlines() if done.returncode == 0 else None
+
+
+def commit_before(commit):
+    """The last commit that this branch shares with the one that is named, or with main."""
+    for name in [commit] if commit else ["origin/main", "main"]:
+        if found := printed("merge-base", "HEAD", name):
+            return found[0]
+    sys.exit(f"rollout: git knows no commit {commit or 'origin/main or main'}")
+
+
+def touched_paths(commit):
+    """The paths below crates that differ from a commit's, new ones among them."""
+    differing = printed("diff", "--name-only", "--no-renames", commit, "--", "crates")
+    new = printed("ls-files", "--others", "--exclude-standard", "--", "crates")
+    return [it.split("/") for it in [*(differing or []), *(new or [])]]
+
+
+class Changed:
+    """The crates that a gate of what has changed goes by, lowest first."""
+
+    def __init__(self, commit):
+        self.since = commit_before(commit)
+        self.known = all_crates()
+        paths = touched_paths(self.since)
+        lines = crate_lines("\n".join(printed("show", f"{self.since}:crates.txt") or []))
+        texts = {path[1] for path in paths if path[2:] and path[2] not in EDITS}
+        edits = {path[1] for path in paths if path[2:] and path[2] in EDITS}
+        crates = self.known.values()
+        self.crates = [it for it in crates if it.name in texts or lines.get(it.name) != it.line]
+        self.above = [it for it in crates if it.below & {*self.crates} and it not in self.crates]
+        self.selected = [it for it in crates if it in {*self.crates, *self.above}]
+        # Those whose wrong bodies are to be tried once more.
+        self.tried = [it.name for it in crates if it in self.crates or it.name in edits]
+        self.tried = [it for it in self.tried if any(self.known[it].folder.glob("*/*.edit"))]
+
+    def runs(self):
+        """The tests and the stored runs of what is selected."""
+        found = [Runs(it, of_tests) for it in self.selected for of_tests in (True, False)]
+        return [it for it in found if it.is_there()]
+
+    def libraries(self):
+        """What is proved as a library or as the program: the selected crates but those that have
+        tests alone, and all that these and the runs stand on."""
+        stood_on = set().union(*(it.below for it in self.known.values()))
+        tests = {it.crate for it in self.runs()}
+        wanted = {it for it in self.selected if it in stood_on or it not in tests}
+        wanted |= {it for it in self.selected if it.name == PROGRAM}
+        below = set().union(*(it.below for it in [*wanted, *tests]))
+        return [it for it in self.known.values() if it in wanted | below]
+
+    def tell(self):
+        """The lines of --list."""
+        recorded = seconds_recorded()
+        count, above = len(self.crates), len(self.above)
+        yield f"since {self.since[:12]}: {count} changed, and {above} above"
+        runs = {it: [] for it in self.selected}
+        for it in self.runs():
+            runs[it.crate].append("tests" if it.of_tests else "stored run")
+        if self.known[PROGRAM] in runs:
+            runs[self.known[PROGRAM]].append("stored run")
+        for it in self.selected:
+            seconds = f"{recorded[it.name]:4} s" if it.name in recorded else "     -"
+            how = "changed" if it in self.crates else "above"
+            yield f"  {it.name:18}{how:9}{seconds}  {', '.join(runs[it])}".rstrip()
+        whole = sum(recorded.get(it.name, 0) for it in self.selected)
+        yield f"{whole // 60 + 1} min from nothing on one processor; what stands isn't proved again"
+        if self.tried:
+            yield f"then: bench/wrong --all {' '.join(self.tried)}"
