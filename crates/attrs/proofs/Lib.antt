@@ -1,3 +1,4 @@
 pub mod ContextBytes
 pub mod Numbers
+pub mod ShortTexts
 pub mod Versions

@@ -47,11 +47,13 @@ context_in app hashed moment = record {
 abbrev pub context_of : AppFacts → RequestFacts → ℤ → Context
 context_of app request moment = context_in app (hashed_bucket request) moment
 
--- the texts in their order
+-- the texts in their order, as they are kept
+abbrev pub texts_with : AppFacts → (platform : Option (List ℕ)) → List (List ℕ)
+texts_with app platform = map kept_text (
+    Some app.appid ∷ app.version ∷ app.brand ∷ app.ap ∷ app.lang ∷ app.cohort ∷ platform ∷ [])
+
 abbrev pub texts_of : AppFacts → RequestFacts → List (List ℕ)
-texts_of app request = map kept_text (
-    Some app.appid ∷ app.version ∷ app.brand ∷ app.ap ∷ app.lang ∷ app.cohort
-    ∷ request.platform ∷ [])
+texts_of app request = texts_with app request.platform
 
 abbrev pub attributes_of : AppFacts → RequestFacts → ℤ → Attributes
 attributes_of app request moment = record {

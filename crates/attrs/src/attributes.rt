@@ -1,23 +1,22 @@
-//! The attributes of an app: its context, and seven texts by number.
+//! The attributes of an app: its context, and seven texts by number. The texts are those of what its
+//! request says, which they share with the request; one over 1024 bytes counts as an empty one.
 
-ghost use Rattle.std.specs.Prelude.{◌≡◌, ◌<◌, ◌≤◌, length, [], slice_index_or};
-ghost use Rattle.std.specs.Prelude.{IfOk, string_bytes, option_copied};
+ghost use Rattle.std.specs.Prelude.{◌≡◌, ◌<◌, [], slice_index_or, IfOk, option_copied};
 ghost use Rattle.attrs.specs.Bucket as specs;
 ghost use Rattle.attrs.specs.Context.{HasContextRanges};
-ghost use Rattle.attrs.specs.Attributes.{kept_text, AreShort};
+ghost use Rattle.attrs.specs.Attributes.{AreShort};
 
 use crate::app_context::{context_in, plain_context};
 use crate::bucket::hashed_bucket;
 use crate::context::Context;
 use crate::facts::{AppFacts, RequestFacts};
+use crate::kept::{copied, keep_some, keep_text, own, short, short_or_none};
 use crate::moment::Moment;
-use crate::text::lent;
+use crate::shared_facts::SharedFacts;
+use crate::text::{Text, lent};
 use std::alloc::Global;
 use std::marker::Model;
 use thiserror::Error;
-
-/// A text over this many bytes is kept as an empty one.
-const TEXT_LIMIT: usize = 1024;
 
 /// Why no attributes were made.
 #[derive(Clone, Copy, Debug, Error, PartialEq, Eq)]
@@ -31,32 +30,20 @@ pub enum AttrFault {
 #[derive(Drop)]
 pub struct Attrs {
     context: Context,
-    appid: String,
-    version: String,
-    brand: String,
-    ap: String,
-    lang: String,
-    cohort: String,
-    platform: String,
+    app: SharedFacts,
+    platform: Option<Text>,
 }
 
 impl Model for Attrs {
-    ghost use Rattle.std.specs.Prelude.{◌∷◌, [], string_bytes};
-    ghost use Rattle.attrs.specs.Attributes.{Attributes, AreShort};
+    ghost use Rattle.attrs.specs.Attributes.{Attributes};
+    ghost use Rattle.attrs.specs.Facts.{texts_with};
 
     ghost Value = { Attributes };
 
     ghost view = { λ a. record {
       context = a.context;
-      texts = string_bytes a.appid ∷ string_bytes a.version ∷ string_bytes a.brand
-          ∷ string_bytes a.ap ∷ string_bytes a.lang ∷ string_bytes a.cohort
-          ∷ string_bytes a.platform ∷ [];
+      texts = texts_with a.app a.platform;
     } };
-
-    ghost invariant = { λ a. AreShort (
-        string_bytes a.appid ∷ string_bytes a.version ∷ string_bytes a.brand
-        ∷ string_bytes a.ap ∷ string_bytes a.lang ∷ string_bytes a.cohort
-        ∷ string_bytes a.platform ∷ []) };
 }
 
 impl Attrs {
@@ -76,20 +63,26 @@ impl Attrs {
         requires { bucket < 10000 }
         ensures { IfOk result (λ a. a ≡ plain appid.now (option_copied version.entry) bucket) }
     {
+        let app = AppFacts {
+            appid: keep_text(alloc, appid)?,
+            version: keep_some(alloc, version)?,
+            brand: None,
+            ap: None,
+            lang: None,
+            cohort: None,
+            installdate: None,
+            updatecheck: true,
+            ping: false,
+            event: false,
+        };
         Ok(Attrs {
             context: plain_context(version, bucket),
-            appid: keep_text(alloc, Some(appid))?,
-            version: keep_text(alloc, version)?,
-            brand: String::new(alloc),
-            ap: String::new(alloc),
-            lang: String::new(alloc),
-            cohort: String::new(alloc),
-            platform: String::new(alloc),
+            app: own(alloc, app)?,
+            platform: None,
         })
     }
 
-    /// The attributes of an app at a moment, from what its request says.
-    // open: whether memory is refused, its one error.
+    /// The attributes of an app at a moment, from what its request says, which is copied.
     pub fn of(
         alloc: Global,
         app: &AppFacts,
@@ -98,14 +91,18 @@ impl Attrs {
     ) -> Result<Attrs, AttrFault>
         ensures { IfOk result (λ a. a ≡ attributes_of app.now request.now moment) }
     {
-        Attrs::of_hashed(alloc, app, request, hashed_bucket(request), moment)
+        Ok(Attrs {
+            context: context_in(app, hashed_bucket(request), moment),
+            app: copied(alloc, app)?,
+            platform: keep_some(alloc, lent(&request.platform))?,
+        })
     }
 
-    /// The attributes of an app at a moment, where the hashed bucket of its request is known.
-    // open: whether memory is refused, its one error.
+    /// The same, of an app of a request whose hashed bucket is known. What the request says of the
+    /// app is shared; of what it says of itself the platform is copied.
     pub fn of_hashed(
         alloc: Global,
-        app: &AppFacts,
+        app: &SharedFacts,
         request: &RequestFacts,
         hashed: u16,
         moment: Moment,
@@ -113,15 +110,13 @@ impl Attrs {
         requires { hashed ≡ specs.hashed_bucket request.now }
         ensures { IfOk result (λ a. a ≡ attributes_of app.now request.now moment) }
     {
+        let Ok(shared) = app.share() else {
+            return Err(AttrFault::Memory);
+        };
         Ok(Attrs {
-            context: context_in(app, hashed, moment),
-            appid: keep_text(alloc, Some(app.appid.as_str()))?,
-            version: keep_text(alloc, lent(&app.version))?,
-            brand: keep_text(alloc, lent(&app.brand))?,
-            ap: keep_text(alloc, lent(&app.ap))?,
-            lang: keep_text(alloc, lent(&app.lang))?,
-            cohort: keep_text(alloc, lent(&app.cohort))?,
-            platform: keep_text(alloc, lent(&request.platform))?,
+            context: context_in(app.facts(), hashed, moment),
+            app: shared,
+            platform: keep_some(alloc, lent(&request.platform))?,
         })
     }
 
@@ -145,6 +140,7 @@ impl Attrs {
     }
 
     /// The facts that the type keeps: the context is in its ranges, and no text is over 1024 bytes.
+    #[tactic(auto, using(crate::proofs::ShortTexts::all_are_short))]
     pub fn keeps(&self)
         ensures context { HasContextRanges self.now.context }
         ensures texts { AreShort self.now.texts }
@@ -166,28 +162,16 @@ impl Attrs {
     pub(crate) fn attribute(&self, number: u64) -> Option<&str>
         ensures { option_copied result ≡ attribute self.now number }
     {
+        let app = self.app.facts();
         match number {
-            0 => Some(&self.appid),
-            1 => Some(&self.version),
-            2 => Some(&self.brand),
-            3 => Some(&self.ap),
-            4 => Some(&self.lang),
-            5 => Some(&self.cohort),
-            6 => Some(&self.platform),
+            0 => Some(short(app.appid.as_str())),
+            1 => Some(short_or_none(&app.version)),
+            2 => Some(short_or_none(&app.brand)),
+            3 => Some(short_or_none(&app.ap)),
+            4 => Some(short_or_none(&app.lang)),
+            5 => Some(short_or_none(&app.cohort)),
+            6 => Some(short_or_none(&self.platform)),
             _ => None,
         }
-    }
-}
-
-// A text as it is kept: nothing of one that is absent or too long.
-fn keep_text(alloc: Global, text: Option<&str>) -> Result<String, AttrFault>
-    ensures value { IfOk result (λ t. string_bytes t ≡ kept_text (option_copied text.entry)) }
-    ensures short { IfOk result (λ t. length (string_bytes t) ≤ 1024) }
-{
-    match text {
-        Some(text) if text.len() <= TEXT_LIMIT => {
-            String::from_str(alloc, text).map_err(|_| AttrFault::Memory)
-        }
-        _ => Ok(String::new(alloc)),
     }
 }

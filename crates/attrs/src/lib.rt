@@ -11,7 +11,9 @@ mod context;
 mod facts;
 mod hash;
 mod helpers;
+mod kept;
 mod moment;
+mod shared_facts;
 mod text;
 mod version;
 
@@ -24,5 +26,6 @@ pub use facts::{AppFacts, RequestFacts};
 pub use hash::fnv1a;
 pub use helpers::{helper_attr_is, helper_attr_len, helper_bucket};
 pub use moment::{Elapsed, Moment};
+pub use shared_facts::SharedFacts;
 pub use text::Text;
 pub use version::read_version;

@@ -1,0 +1,60 @@
+//! What a request says of one of its apps, owned by all who need it: the request, the attributes of
+//! the app's run, and the log. So no text of it is copied.
+
+ghost use Rattle.std.specs.Prelude.{◌≡◌, IfOk};
+
+use crate::facts::AppFacts;
+use std::alloc::{AllocError, Global};
+use std::marker::Model;
+use std::sync::Arc;
+
+/// The facts of an app, by one of their owners.
+#[derive(Drop)]
+pub struct SharedFacts {
+    facts: Arc<AppFacts>,
+}
+
+impl Model for SharedFacts {
+    ghost use Rattle.attrs.specs.declared.facts.AppFacts.{AppFacts};
+
+    ghost Value = { AppFacts };
+
+    ghost view = { λ s. s.facts.value };
+}
+
+impl SharedFacts {
+    /// These facts, which take memory once.
+    pub fn new(alloc: Global, facts: AppFacts) -> Result<SharedFacts, AllocError>
+        ensures { IfOk result (λ s. s ≡ facts) }
+    {
+        match Arc::new(alloc, facts) {
+            Ok(facts) => Ok(SharedFacts { facts }),
+            Err(_) => Err(AllocError),
+        }
+    }
+
+    /// The same for one more owner. It takes no memory, and is refused only where there is no place
+    /// for one more.
+    pub fn share(&self) -> Result<SharedFacts, AllocError>
+        ensures { IfOk result (λ s. s ≡ self.now) }
+    {
+        match Arc::try_clone(&self.facts) {
+            Ok(facts) => Ok(SharedFacts { facts }),
+            Err(_) => Err(AllocError),
+        }
+    }
+
+    /// The facts, lent.
+    pub fn facts(&self) -> &AppFacts
+        ensures { result.now ≡ self.now }
+    {
+        &self.facts
+    }
+
+    /// The app's id, lent.
+    pub fn appid(&self) -> &str
+        ensures { result.now ≡ self.now.appid }
+    {
+        self.facts.appid.as_str()
+    }
+}
