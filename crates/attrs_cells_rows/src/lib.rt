@@ -14,4 +14,6 @@ mod facts;
 #[cfg(test)]
 mod memory;
 #[cfg(test)]
+mod shared;
+#[cfg(test)]
 mod texts;
