@@ -83,6 +83,7 @@ impl Attrs {
     }
 
     /// The attributes of an app at a moment, from what its request says, which is copied.
+    // open: whether memory is refused, its one error.
     pub fn of(
         alloc: Global,
         app: &AppFacts,
@@ -100,6 +101,7 @@ impl Attrs {
 
     /// The same, of an app of a request whose hashed bucket is known. What the request says of the
     /// app is shared; of what it says of itself the platform is copied.
+    // open: whether memory is refused, its one error.
     pub fn of_hashed(
         alloc: Global,
         app: &SharedFacts,
