@@ -21,7 +21,7 @@ use Rattle.rule_diagnosis.specs.Told.{IsRuleTold, rule_too_long}
 use Rattle.load.specs.Source.{file_of}
 use Rattle.load.specs.declared.gathering.GatheredApp.{GatheredApp}
 use Rattle.load.specs.declared.kept.KeptFile.{KeptFile}
-use Rattle.load.specs.declared.kept.KeptFile.TheVariants.{Unread, Longer, Whole as All}
+use Rattle.load.specs.declared.kept.KeptFile.TheVariants.{Unread, Longer, Whole as WholeFile}
 
 -- a line by its number, from 1, as it is printed
 abbrev pub numbered_line : ℕ → List ℕ → List ℕ
@@ -75,7 +75,7 @@ IsLongShown place beginning is_text text = ⊥
 -- of what is kept of a file
 abbrev pub IsKeptShown : AppShape → Place → KeptFile → List ℕ → Type 0
 IsKeptShown s place Unread text = ⊥
-IsKeptShown s place (All v) text = IsShown s place v.items text
+IsKeptShown s place (WholeFile v) text = IsShown s place v.items text
 IsKeptShown s place (Longer v is_text) text = IsLongShown place v.items is_text text
 
 -- the file of an app is one of the manifest's folder, by its name and with no link on the way
