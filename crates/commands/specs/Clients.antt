@@ -1,5 +1,5 @@
 -- The client of a simulation, as the words tell of it.
-use Rattle.simulation.specs.declared.client.Client.{Client}
+use Rattle.simulate.specs.declared.client.Client.{Client}
 use Rattle.command_line.specs.Apps.{app_facts, moment, request_facts}
 use Rattle.command_line.specs.declared.told.ToldApp.{ToldApp}
 

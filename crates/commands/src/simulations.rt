@@ -10,7 +10,7 @@ use bounded_files::ResourceFault;
 use command_line::{AskedSimulation, CommandRequest, ToldApp};
 use load::Disk;
 use manifest_tools::{ManifestToolFault, simulate_files};
-use simulation::Client;
+use simulate::Client;
 use std::alloc::{AllocError, Global};
 use std::rt::Files;
 use std::time::Clock;

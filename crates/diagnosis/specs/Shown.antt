@@ -10,7 +10,7 @@ use Rattle.diagnosis.specs.declared.shown.Place.TheVariants.{Whole, Slot, Refuse
 use Rattle.diagnosis.specs.declared.shown.Place.TheVariants.{Rule as InRule}
 use Rattle.bpf_insn.specs.Program.{Program}
 use Rattle.bpf_semantics.specs.Program.{shaped}
-use Rattle.explaining.specs.RefusedPlace.{IsRefusedPlace}
+use Rattle.explain.specs.RefusedPlace.{IsRefusedPlace}
 use Rattle.flow_check.specs.Flow.{IsFlow, program_bytes}
 use Rattle.printing.specs.Printed.{printed_lines}
 use Rattle.rule_lang.specs.declared.fault.RuleFaultKind.{RuleFaultKind}

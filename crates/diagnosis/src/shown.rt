@@ -9,7 +9,7 @@ ghost use Rattle.rule_diagnosis.specs.Told as told;
 use bpf_insn::decode_at;
 use bpf_text::line_of;
 use cells::Shape;
-use explaining::refused_place;
+use explain::refused_place;
 use flow_check::Flow;
 use load::KeptFile;
 use printing::PrintedLines;

@@ -3,7 +3,7 @@
 use anyhow::Result;
 use bpf_text::assemble;
 use cells::Shape;
-use explaining::explain;
+use explain::explain;
 use flow_check::Flow;
 use std::rt::Files;
 use std::{fs, str};

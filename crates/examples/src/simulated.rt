@@ -5,7 +5,7 @@ use anyhow::{Context, Result};
 use attrs::{AppFacts, RequestFacts, Text};
 use load::Device;
 use manifest_tools::simulate_files;
-use simulation::Client;
+use simulate::Client;
 use std::alloc::{AllocError, Global};
 use std::rt::Files;
 use std::time::Clock;

@@ -1,10 +1,10 @@
 -- Clients that say the same, but for appid and cohort, are asked alike.
 use Rattle.std.proofs.Common.{◌≡◌, ap, subst, ℕ, List}
-use Rattle.simulation.specs.Clients.{IsSameButApp, asking_for, attributes, clients}
-use Rattle.simulation.specs.Course.{AppByApp, AsksForApp, InTurn, IsSimulated}
-use Rattle.simulation.specs.Course.AppByApp.{none as no_app, next as next_app}
+use Rattle.simulate.specs.Clients.{IsSameButApp, asking_for, attributes, clients}
+use Rattle.simulate.specs.Course.{AppByApp, AsksForApp, InTurn, IsSimulated}
+use Rattle.simulate.specs.Course.AppByApp.{none as no_app, next as next_app}
 use Rattle.attrs.specs.Attributes.{Attributes}
-use Rattle.simulation.specs.declared.client.Client.{Client}
+use Rattle.simulate.specs.declared.client.Client.{Client}
 use Rattle.ruleset.specs.Rules.{AppRule}
 
 asks_alike : (c d : Client) (app : AppRule) (old choices new : List ℕ) → IsSameButApp c d

@@ -3,12 +3,12 @@
 use Rattle.std.specs.Prelude.{◌≡◌, ◌++◌, ℕ, List, [], Option, Some, None, IsSome}
 use Rattle.std.specs.Option.{option_map}
 use Rattle.std.specs.String.{string_bytes}
-use Rattle.charts.specs.Moving.{moves_text}
-use Rattle.charts.specs.Pictures.{picture}
-use Rattle.charts.specs.Shares.{shares_text}
-use Rattle.charts.specs.Shown.{Simulation}
-use Rattle.simulation.specs.Course.{IsSimulated}
-use Rattle.simulation.specs.declared.client.Client.{Client}
+use Rattle.simulate.specs.Moving.{moves_text}
+use Rattle.simulate.specs.Pictures.{picture}
+use Rattle.simulate.specs.Shares.{shares_text}
+use Rattle.simulate.specs.Shown.{Simulation}
+use Rattle.simulate.specs.Course.{IsSimulated}
+use Rattle.simulate.specs.declared.client.Client.{Client}
 use Rattle.load.specs.Loaded.{IsLoadedFrom, RefusesPath}
 use Rattle.bounded_files.specs.Files.{KnownFiles}
 use Rattle.bounded_files.specs.declared.fault.ResourceFault.TheVariants as resource

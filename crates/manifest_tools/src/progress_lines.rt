@@ -1,6 +1,6 @@
 //! How far a simulation is, on standard error.
 
-use simulation::Onlooker;
+use simulate::Onlooker;
 use std::time::{Clock, Instant};
 
 /// Says at most once a second how far a simulation is. It says nothing where the clock can't be

@@ -13,7 +13,7 @@ use Rattle.command_line.specs.declared.request.DeclaredShape.{DeclaredShape}
 use Rattle.program_tools.specs.Programs.{IsProgramFault, IsRefusedUnder, IsShapeFor}
 use Rattle.program_tools.specs.declared.fault.ProgramToolFault.{ProgramToolFault}
 use Rattle.program_tools.specs.declared.fault.ProgramToolFault.TheVariants.{Explained, Program}
-use Rattle.explaining.specs.Lines.{IsExplained, IsFinding}
+use Rattle.explain.specs.Lines.{IsExplained, IsFinding}
 use Rattle.bpf_text.specs.Assembly.{Assembles}
 
 -- the bytes are a program that is accepted under the shape, or refused so; the text tells what is

@@ -27,7 +27,7 @@ use Rattle.flow_check.specs.declared.fault.FlowRule.TheVariants.{TooLong}
 use Rattle.bounded_files.specs.Files.{KnownFiles, OfFile}
 use Rattle.bounded_files.specs.declared.fault.ResourceFault.TheVariants.{Memory}
 use Rattle.program_tools.specs.Resources.{IsNoFile}
-use Rattle.tracing.specs.Trace.{IsTrace}
+use Rattle.trace.specs.Trace.{IsTrace}
 
 -- the most bytes of a program
 abbrev pub most_program : ℕ

@@ -9,7 +9,7 @@
 
 mod asm;
 mod compile;
-mod explain;
+mod explanation;
 mod fault;
 mod list;
 mod order;
@@ -19,7 +19,7 @@ mod verify;
 
 pub use asm::assemble_file;
 pub use compile::compile_file;
-pub use explain::explain_file;
+pub use explanation::explain_file;
 pub use fault::ProgramToolFault;
 pub use list::list_file;
 pub use order::order_file;

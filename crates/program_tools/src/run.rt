@@ -4,7 +4,7 @@ ghost use Rattle.std.specs.Prelude.{◌≡◌, ◌≤◌, length, IfOk, IfErr, s
 ghost use Rattle.std.specs.Arc.{arc_value};
 ghost use Rattle.command_line.specs.Apps.{attributes_told};
 ghost use Rattle.program_tools.specs.Programs.{HasChosen, HasTraced, IsRunRefusal, RunsTo};
-ghost use Rattle.tracing.specs.Trace.{IsTrace};
+ghost use Rattle.trace.specs.Trace.{IsTrace};
 
 use crate::fault::ProgramToolFault;
 use crate::program::program_of_file;
@@ -16,7 +16,7 @@ use cells::{PlainCells, events_fit};
 use command_line::{AskedRun, ToldApp};
 use std::alloc::{AllocError, Global};
 use std::sync::Arc;
-use tracing::{TracedRun, trace};
+use trace::{TracedRun, trace};
 
 /// The choice of a file's program for an app, once it is accepted, and the number of its
 /// instructions.

@@ -1,7 +1,7 @@
 use Rattle.std.proofs.Common.{subst, string_bytes}
 use Rattle.std.specs.Prelude.{IfOk}
 use Rattle.attrs.specs.Attributes.{Attributes}
-use Rattle.tracing.specs.Trace.{IsTrace}
+use Rattle.trace.specs.Trace.{IsTrace}
 use Rattle.program_tools.proofs.run.traced.Goals as goal
 
 pub returns : goal.returns

@@ -1,0 +1,114 @@
+-- A program with what is known before each instruction: its listing, with a remark behind each line
+-- up to the slot that is refused, and none behind that.
+use Rattle.std.specs.Prelude.{◌≡◌, ℕ, ◌-◌, max, List, [], ◌∷◌, ◌++◌, codes, length, replicate}
+use Rattle.std.specs.Prelude.{Option, Some, None, true}
+use Rattle.std.specs.Fmt.{decimal}
+use Rattle.bpf_insn.specs.declared.insn.Insn.{Insn}
+use Rattle.bpf_insn.specs.Program.{Program, layout}
+use Rattle.bpf_text.specs.Remarks.{RemarkedInsn, bare_line, remarked_listing}
+use Rattle.cells.specs.Arrays.{AppShape}
+use Rattle.flow_check.specs.Edges.{next_of}
+use Rattle.bpf_semantics.specs.Program.{ShapedProgram, shaped}
+use Rattle.bpf_verify.specs.Accepted.{entry_of, IsAccepted, IsRefusedAt}
+use Rattle.abs_value.specs.declared.state.AbsState.{AbsState}
+use Rattle.bpf_rules.specs.Rules.{first_rule}
+use Rattle.bpf_rules.specs.declared.refusal.VerifierRule.{VerifierRule}
+use Rattle.bpf_rules.specs.declared.refusal.Refusal.{Refusal}
+use Rattle.bpf_rules.specs.declared.refusal.Refusal.TheVariants as refusal
+use Rattle.explain.specs.declared.way.Way.{Way}
+use Rattle.explain.specs.Known.{registers_text, all_registers, stack_text}
+use Rattle.explain.specs.Reads.{read_registers}
+use Rattle.explain.specs.Sentences.{refusal_text}
+use Rattle.explain.specs.Way.{still, way_past}
+
+-- ---- one place
+
+abbrev pub known_text : AppShape → AbsState → Insn → Way → List ℕ
+known_text shape e i way =
+    registers_text shape e (read_registers i) way true all_registers ++ stack_text shape e i
+
+-- what is known before the instruction; where a rule fails, why
+abbrev pub told_text : AppShape → AbsState → Insn → Way → Option VerifierRule → List ℕ
+told_text shape e i way None = known_text shape e i way
+told_text shape e i way (Some rule) = refusal_text shape e i rule
+
+abbrev pub told_of_insn : AppShape → AbsState → Insn → Way → List ℕ
+told_of_insn shape e i way = told_text shape e i way (first_rule shape e i)
+
+abbrev pub comment : AppShape → ℕ → Option AbsState → Insn → Way → List ℕ
+comment shape s None i way = codes "no run comes here"
+comment shape s (Some e) i way = decimal s ++ codes ":" ++ told_of_insn shape e i way
+
+-- comments stand one below the other, 22 characters in, or a blank behind what is longer
+abbrev pub pad_to_comment : ℕ → List ℕ
+pad_to_comment n = replicate (max (22 - n) 1) 32
+
+abbrev pub padded_line : Insn → List ℕ
+padded_line i = bare_line i ++ pad_to_comment (length (bare_line i))
+
+abbrev pub as_comment : List ℕ → List ℕ → List ℕ
+as_comment line text = pad_to_comment (length line) ++ codes "; " ++ text
+
+-- a line with a comment behind it
+abbrev pub line_with : Insn → List ℕ → List ℕ
+line_with i text = bare_line i ++ as_comment (bare_line i) text ++ codes "\n"
+
+-- ---- place by place
+
+-- behind a refused place nothing is known any more
+abbrev pub remark_at : ShapedProgram → Option Way → ℕ → Insn → List ℕ
+remark_at p None s i = []
+remark_at p (Some way) s i = as_comment (bare_line i) (comment p.shape s (entry_of p s) i way)
+
+abbrev pub way_unless : Option VerifierRule → Way → Option Way
+way_unless None way = Some way
+way_unless (Some rule) way = None
+
+abbrev pub way_past_entry : AppShape → ℕ → Option AbsState → Insn → Way
+way_past_entry shape s None i = still
+way_past_entry shape s (Some e) i = way_past shape s e i
+
+abbrev pub way_from : AppShape → ℕ → Option AbsState → Insn → Option Way
+way_from shape s None i = Some still
+way_from shape s (Some e) i = way_unless (first_rule shape e i) (way_past shape s e i)
+
+abbrev pub way_on : ShapedProgram → Option Way → ℕ → Insn → Option Way
+way_on p None s i = None
+way_on p (Some way) s i = way_from p.shape s (entry_of p s) i
+
+-- the instructions from slot s on, each with its remark
+abbrev pub lines_from : ShapedProgram → Option Way → ℕ → List Insn → List RemarkedInsn
+lines_from p way s [] = []
+lines_from p way s (i ∷ is) =
+    record { insn = i; remark = remark_at p way s i }
+    ∷ lines_from p (way_on p way s i) (next_of s i) is
+
+-- ---- the whole
+
+-- a program's listing with these remarks, and that it is accepted, or the rule that refuses it
+pub record IsExplained (p : ShapedProgram) (text : List ℕ) : Type 0 where
+  pub insns : List Insn
+  pub code_is : p.code ≡ layout insns
+  pub text_is : text ≡ remarked_listing (lines_from p (Some still) 0 insns)
+
+-- accepted, or refused by this rule
+abbrev pub IsFinding : Program → AppShape → Option Refusal → Type 0
+IsFinding code shape None = IsAccepted code shape
+IsFinding code shape (Some (refusal.Rule s rule)) = IsRefusedAt (shaped code shape) s rule
+IsFinding code shape (Some refusal.Memory) = ⊥
+
+-- ---- on the way through a program
+
+-- the instructions before a slot, and those from it on
+pub record WalkParts (code : Program) (slot : ℕ) : Type 0 where
+  pub front : List Insn
+  pub rest : List Insn
+  pub code_is : code ≡ layout (front ++ rest)
+  pub slot_is : slot ≡ length (layout front)
+
+-- with the lines from the slot on the text so far is the whole
+pub record TellsOn (p : ShapedProgram) (way : Option Way) (slot : ℕ) (text : List ℕ) : Type 0 where
+  pub parts : WalkParts p.code slot
+  pub text_is :
+      text ++ remarked_listing (lines_from p way slot parts.rest)
+      ≡ remarked_listing (lines_from p (Some still) 0 (parts.front ++ parts.rest))

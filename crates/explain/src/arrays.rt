@@ -1,0 +1,79 @@
+//! Arrays and counters by name.
+
+ghost use Rattle.std.specs.Prelude.{◌≡◌, OnOk, option_copied};
+ghost use Rattle.std.specs.List.{find};
+ghost use Rattle.bpf_text.specs.Listing.{Appends};
+ghost use Rattle.explain.specs.Values as specs;
+
+use abs_value::Lookup;
+use cells::{CellArray, Shape};
+use std::alloc::AllocError;
+use std::fmt::Write;
+
+/// Writes the name of an array, or its number where there is none.
+pub fn push_array(text: &mut String, shape: &Shape, index: u32) -> Result<(), AllocError>
+    ensures { OnOk result (Appends text.old text.new (specs.array_text shape.now index)) }
+{
+    match shape.arrays().get(index as usize) {
+        Some(array) => text.push_str(array.name.as_str()),
+        None => write!(text, "{index}"),
+    }
+}
+
+/// Writes what a lookup finds.
+pub fn push_found(text: &mut String, shape: &Shape, lookup: Lookup) -> Result<(), AllocError>
+    ensures { OnOk result (Appends text.old text.new (specs.found_text shape.now lookup)) }
+{
+    text.push_str("a cell of ")?;
+    push_array(text, shape, lookup.array)?;
+    let slot = lookup.slot;
+    write!(text, " by slot {slot}")
+}
+
+/// Writes a counter, as `q[0]`.
+// open: whether memory is refused.
+pub fn push_counter(text: &mut String, shape: &Shape, cell: u16) -> Result<(), AllocError>
+    ensures { OnOk result (Appends text.old text.new (specs.counter_text shape.now cell)) }
+{
+    shape.keeps();
+    match array_of(shape.arrays(), cell) {
+        Some(array) => {
+            let name = array.name.as_str();
+            let index = cell.saturating_sub(array.base);
+            write!(text, "{name}[{index}]")
+        }
+        None => write!(text, "cell {cell}"),
+    }
+}
+
+// The array that has a counter.
+fn array_of(arrays: &[CellArray], cell: u16) -> Option<&CellArray>
+    ensures { option_copied result ≡ find (specs.holds_cell cell) arrays.now }
+{
+    let mut left = arrays;
+    while let [array, rest @ ..] = left {
+        if holds_cell(array, cell) {
+            return Some(array);
+        }
+        left = rest;
+    }
+    None
+}
+
+fn holds_cell(array: &CellArray, cell: u16) -> bool
+    ensures { result ≡ specs.holds_cell cell array.now }
+{
+    array.base <= cell && (cell as u32) < array.base as u32 + array.length as u32
+}
+
+/// The names of arrays are names. It does nothing: a proof calls it for its clause.
+#[tactic(auto, using(crate::proofs::Naming::one_name_more))]
+pub fn keep_names(arrays: &[CellArray])
+    ensures { specs.HaveNames arrays.now }
+{
+    let mut left = arrays;
+    while let [array, rest @ ..] = left {
+        let _name = array.name.as_str();
+        left = rest;
+    }
+}

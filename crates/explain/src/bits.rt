@@ -1,0 +1,80 @@
+//! The known bits of a number, where they say more than its range.
+
+ghost use Rattle.std.specs.Prelude.{◌≡◌, ◌<◌, ◌≤◌, OnOk};
+ghost use Rattle.bpf_text.specs.Listing.{Appends};
+ghost use Rattle.explain.specs.Values as specs;
+
+use abs_value::Number;
+use std::alloc::AllocError;
+
+// Whether the bit is known, and the range doesn't tell it.
+fn says_more(number: Number, bit: u32) -> bool
+    requires { bit < 64 }
+    ensures { result ≡ specs.says_more number bit }
+{
+    let unknown = number.bits.has ^ number.bits.may_have;
+    (unknown >> bit) % 2 == 0 && number.range.lo >> bit != number.range.hi >> bit
+}
+
+// How many bits there are up to the highest one that says more.
+#[tactic(auto, using(crate::proofs::Top::here, crate::proofs::Top::next, crate::proofs::Top::last))]
+fn telling_bits(number: Number) -> u32
+    ensures bits { result ≡ specs.telling_bits number 64 }
+    ensures most { result ≤ 64 }
+{
+    let mut left = 64;
+    while left > 0 {
+        if says_more(number, left - 1) {
+            return left;
+        }
+        left -= 1;
+    }
+    0
+}
+
+fn bit_text(number: Number, bit: u32) -> &'static str
+    requires { bit < 64 }
+    ensures { result.now ≡ specs.bit_text number bit }
+{
+    let unknown = number.bits.has ^ number.bits.may_have;
+    if (unknown >> bit) % 2 == 1 {
+        "x"
+    } else if (number.bits.has >> bit) % 2 == 1 {
+        "1"
+    } else {
+        "0"
+    }
+}
+
+fn push_lowest(text: &mut String, number: Number, count: u32) -> Result<(), AllocError>
+    requires { count ≤ 64 }
+    ensures { OnOk result (Appends text.old text.new (specs.lowest_bits number count)) }
+{
+    let mut left = count;
+    while left > 0 {
+        left -= 1;
+        text.push_str(bit_text(number, left))?;
+    }
+    Ok(())
+}
+
+fn push_up_to(text: &mut String, number: Number, count: u32) -> Result<(), AllocError>
+    requires { count ≤ 64 }
+    ensures { OnOk result (Appends text.old text.new (specs.bits_text number count)) }
+{
+    if count == 0 {
+        return Ok(());
+    }
+    text.push_str(" bits ")?;
+    push_lowest(text, number, 8 * ((count + 7) / 8))?;
+    Ok(())
+}
+
+/// Writes the bits of the lowest bytes, up to the highest byte with one that the range doesn't
+/// tell, if there is one.
+pub fn push_bits(text: &mut String, number: Number) -> Result<(), AllocError>
+    ensures { OnOk result (Appends text.old text.new
+        (specs.bits_text number (specs.telling_bits number 64))) }
+{
+    push_up_to(text, number, telling_bits(number))
+}

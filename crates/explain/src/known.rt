@@ -1,0 +1,201 @@
+//! What is told of an instruction's registers, and of the slot of the stack that it reads.
+
+ghost use Rattle.std.specs.Prelude.{◌≡◌, ◌≤◌, ◌+◌, OnOk, IfSome, true};
+ghost use Rattle.bpf_text.specs.Listing.{Appends, with_sign};
+ghost use Rattle.bpf_semantics.specs.Memory.{stack_size};
+ghost use Rattle.bpf_rules.specs.Memory as memory;
+ghost use Rattle.explain.specs.Known as specs;
+
+use crate::reads::ReadRegisters;
+use crate::values::push_value;
+use crate::way::Way;
+use abs_value::{Abs, AbsState};
+use bpf_insn::{Insn, LoadKind, Reg};
+use bpf_semantics::{STACK_SIZE, load_count};
+use cells::Shape;
+use std::alloc::AllocError;
+use std::fmt::Write;
+
+const REGISTERS: [Reg; 11] = [
+    Reg::R0,
+    Reg::R1,
+    Reg::R2,
+    Reg::R3,
+    Reg::R4,
+    Reg::R5,
+    Reg::R6,
+    Reg::R7,
+    Reg::R8,
+    Reg::R9,
+    Reg::R10,
+];
+
+/// Writes the name of a register.
+pub fn push_register(text: &mut String, r: Reg) -> Result<(), AllocError>
+    ensures { OnOk result (Appends text.old text.new (specs.register_word r)) }
+{
+    let number = r.index();
+    write!(text, "r{number}")
+}
+
+/// Writes a register and what is known of it.
+fn push_part(text: &mut String, shape: &Shape, e: &AbsState, r: Reg) -> Result<(), AllocError>
+    ensures { OnOk result (Appends text.old text.new (specs.register_part shape.now e.now r)) }
+{
+    push_register(text, r)?;
+    text.push_str(" ")?;
+    push_value(text, shape, e.value(r))
+}
+
+fn is_told(reads: &ReadRegisters, way: &Way, r: Reg) -> bool
+    ensures { result ≡ specs.is_told reads.now way.now r }
+{
+    reads.has(r) || way.changes_on_way(r)
+}
+
+fn divider(first: bool) -> &'static str
+    ensures { result.now ≡ specs.divider_of first }
+{
+    if first { " " } else { ", " }
+}
+
+fn push_if_told(
+    text: &mut String,
+    shape: &Shape,
+    e: &AbsState,
+    reads: &ReadRegisters,
+    way: &Way,
+    first: bool,
+    r: Reg,
+) -> Result<(), AllocError>
+    ensures { OnOk result (Appends text.old text.new
+        (specs.register_if shape.now e.now reads.now way.now first r)) }
+{
+    if is_told(reads, way, r) {
+        text.push_str(divider(first))?;
+        push_part(text, shape, e, r)?;
+    }
+    Ok(())
+}
+
+/// Writes the registers that are read, or that changed on the way.
+#[tactic(auto, using(crate::proofs::Texts::told_further, crate::proofs::Texts::told_to_end))]
+pub fn push_registers(
+    text: &mut String,
+    shape: &Shape,
+    e: &AbsState,
+    reads: &ReadRegisters,
+    way: &Way,
+) -> Result<(), AllocError>
+    ensures { OnOk result (Appends text.old text.new (specs.registers_text shape.now e.now
+        reads.now way.now true specs.all_registers)) }
+{
+    let mut first = true;
+    let mut left: &[Reg] = &REGISTERS;
+    while let [r, rest @ ..] = left {
+        push_if_told(text, shape, e, reads, way, first, *r)?;
+        first = first && !is_told(reads, way, *r);
+        left = rest;
+    }
+    Ok(())
+}
+
+fn push_signed(text: &mut String, offset: i16) -> Result<(), AllocError>
+    ensures { OnOk result (Appends text.old text.new (with_sign offset)) }
+{
+    if offset >= 0 {
+        text.push_str("+")?;
+    }
+    write!(text, "{offset}")
+}
+
+/// Writes memory as an instruction names it, `[r10-8]`.
+pub fn push_memory(text: &mut String, base: Reg, offset: i16) -> Result<(), AllocError>
+    ensures { OnOk result (Appends text.old text.new (specs.memory_text base offset)) }
+{
+    text.push_str("[")?;
+    push_register(text, base)?;
+    push_signed(text, offset)?;
+    text.push_str("]")
+}
+
+fn lies_in_stack(place: u16, offset: i16, count: u16) -> bool
+    requires { count ≤ 8 }
+    ensures { result ≡ memory.lies_in stack_size place place offset count }
+{
+    let first = place as i64 + offset as i64;
+    let end = (place as i64 + count as i64) + offset as i64;
+    first >= 0 && end <= STACK_SIZE as i64
+}
+
+// The place in the stack where so many bytes lie; `None` where they don't all lie there.
+fn stack_place(address: Abs, offset: i16, count: u16) -> Option<u16>
+    requires { count ≤ 8 }
+    ensures place { result ≡ memory.stack_place address offset count }
+    ensures inside { IfSome result (λ place. place + count ≤ stack_size) }
+{
+    match address {
+        Abs::Stk { place } if lies_in_stack(place, offset, count) => {
+            Some((place as i64 + offset as i64) as u16)
+        }
+        _ => None,
+    }
+}
+
+fn push_slot_name(text: &mut String, src: Reg, offset: i16) -> Result<(), AllocError>
+    ensures { OnOk result (Appends text.old text.new (specs.slot_name src offset)) }
+{
+    text.push_str(", ")?;
+    push_memory(text, src, offset)?;
+    text.push_str(" ")
+}
+
+fn push_slot(
+    text: &mut String,
+    shape: &Shape,
+    src: Reg,
+    offset: i16,
+    value: Abs,
+) -> Result<(), AllocError>
+    ensures { OnOk result (Appends text.old text.new (specs.slot_part shape.now src offset value)) }
+{
+    push_slot_name(text, src, offset)?;
+    push_value(text, shape, value)
+}
+
+fn push_loaded(
+    text: &mut String,
+    shape: &Shape,
+    e: &AbsState,
+    kind: LoadKind,
+    src: Reg,
+    offset: i16,
+) -> Result<(), AllocError>
+    ensures { OnOk result (Appends text.old text.new (specs.found_in_stack shape.now e.now kind
+        src offset)) }
+{
+    match stack_place(e.value(src), offset, load_count(kind)) {
+        Some(place) => push_slot(text, shape, src, offset, e.load(place, kind)),
+        None => Ok(()),
+    }
+}
+
+/// Writes what a load from the stack finds there.
+pub fn push_stack(
+    text: &mut String,
+    shape: &Shape,
+    e: &AbsState,
+    insn: Insn,
+) -> Result<(), AllocError>
+    ensures { OnOk result (Appends text.old text.new (specs.stack_text shape.now e.now insn)) }
+{
+    match insn {
+        Insn::Load {
+            kind,
+            src,
+            offset,
+            ..
+        } => push_loaded(text, shape, e, kind, src, offset),
+        _ => Ok(()),
+    }
+}

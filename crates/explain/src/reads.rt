@@ -1,0 +1,240 @@
+//! The registers that an instruction reads, and the memory that it accesses.
+
+ghost use Rattle.std.specs.Prelude.{◌≡◌};
+ghost use Rattle.bpf_rules.specs.Reads.{helper_of};
+ghost use Rattle.explain.specs.Reads as specs;
+ghost use Rattle.explain.specs.Sentences as sentences;
+
+use abs_value::AbsState;
+use bpf_insn::{AtomicOp, Insn, Operand, Reg};
+use bpf_semantics::helpers::{ATTR_IS, ATTR_LEN, BUCKET, LOOKUP};
+use bpf_semantics::{atomic_count, byte_count, load_count};
+
+/// The registers that an instruction reads, in their order; at most three.
+#[derive(Clone, Copy)]
+pub struct ReadRegisters {
+    pub first: Option<Reg>,
+    pub second: Option<Reg>,
+    pub third: Option<Reg>,
+}
+
+/// So many bytes from an address on: that in a register, plus the offset.
+#[derive(Clone, Copy)]
+pub struct TouchedMemory {
+    pub base: Reg,
+    pub offset: i16,
+    pub count: u16,
+}
+
+impl ReadRegisters {
+    fn none() -> ReadRegisters
+        ensures { result ≡ specs.no_register }
+    {
+        ReadRegisters {
+            first: None,
+            second: None,
+            third: None,
+        }
+    }
+
+    fn one(r: Reg) -> ReadRegisters
+        ensures { result ≡ specs.one_register r }
+    {
+        ReadRegisters {
+            first: Some(r),
+            second: None,
+            third: None,
+        }
+    }
+
+    fn two(r: Reg, s: Reg) -> ReadRegisters
+        ensures { result ≡ specs.two_registers r s }
+    {
+        ReadRegisters {
+            first: Some(r),
+            second: Some(s),
+            third: None,
+        }
+    }
+
+    fn three(r: Reg, s: Reg, t: Reg) -> ReadRegisters
+        ensures { result ≡ specs.three_registers r s t }
+    {
+        ReadRegisters {
+            first: Some(r),
+            second: Some(s),
+            third: Some(t),
+        }
+    }
+
+    fn with_operand(r: Reg, operand: Operand) -> ReadRegisters
+        ensures { result ≡ specs.with_operand r operand }
+    {
+        match operand {
+            Operand::Imm(_) => ReadRegisters::one(r),
+            Operand::Register(s) => ReadRegisters::two(r, s),
+        }
+    }
+
+    fn of_operand(operand: Operand) -> ReadRegisters
+        ensures { result ≡ specs.operand_registers operand }
+    {
+        match operand {
+            Operand::Imm(_) => ReadRegisters::none(),
+            Operand::Register(r) => ReadRegisters::one(r),
+        }
+    }
+
+    fn of_helper(number: i32) -> ReadRegisters
+        ensures { result ≡ specs.argument_registers (helper_of number) }
+    {
+        if number == LOOKUP {
+            ReadRegisters::two(Reg::R1, Reg::R2)
+        } else if number == ATTR_IS {
+            ReadRegisters::three(Reg::R1, Reg::R2, Reg::R3)
+        } else if number == ATTR_LEN {
+            ReadRegisters::one(Reg::R1)
+        } else if number == BUCKET {
+            ReadRegisters::one(Reg::R1)
+        } else {
+            ReadRegisters::none()
+        }
+    }
+
+    fn of_atomic(op: AtomicOp, dst: Reg, src: Reg) -> ReadRegisters
+        ensures { result ≡ specs.exchanged_registers op dst src }
+    {
+        match op {
+            AtomicOp::CompareExchange => ReadRegisters::three(dst, src, Reg::R0),
+            _ => ReadRegisters::two(dst, src),
+        }
+    }
+
+    /// The registers that an instruction reads.
+    pub fn of(insn: Insn) -> ReadRegisters
+        ensures { result ≡ specs.read_registers insn }
+    {
+        match insn {
+            Insn::Alu { dst, src, .. } => ReadRegisters::with_operand(dst, src),
+            Insn::Mov { src, .. } => ReadRegisters::of_operand(src),
+            Insn::MovSx { src, .. } => ReadRegisters::one(src),
+            Insn::Neg { dst, .. } => ReadRegisters::one(dst),
+            Insn::End { dst, .. } => ReadRegisters::one(dst),
+            Insn::Jump { .. } => ReadRegisters::none(),
+            Insn::JumpIf { left, right, .. } => ReadRegisters::with_operand(left, right),
+            Insn::Call { helper } => ReadRegisters::of_helper(helper),
+            Insn::Exit => ReadRegisters::one(Reg::R0),
+            Insn::Load { src, .. } => ReadRegisters::one(src),
+            Insn::StoreImm { dst, .. } => ReadRegisters::one(dst),
+            Insn::Store { dst, src, .. } => ReadRegisters::two(dst, src),
+            Insn::Atomic { op, dst, src, .. } => ReadRegisters::of_atomic(op, dst, src),
+            Insn::Wide { .. } => ReadRegisters::none(),
+        }
+    }
+
+    /// Whether a register is one of them.
+    pub fn has(&self, r: Reg) -> bool
+        ensures { result ≡ specs.is_among r self.now }
+    {
+        is_register(r, self.first) || is_register(r, self.second) || is_register(r, self.third)
+    }
+
+    /// The first of them of which nothing is known.
+    pub fn unusable(&self, e: &AbsState) -> Option<Reg>
+        ensures { result ≡ sentences.first_unusable e.now self.now }
+    {
+        or_next(
+            if_unusable(e, self.first),
+            or_next(if_unusable(e, self.second), if_unusable(e, self.third)),
+        )
+    }
+
+    /// The first of them that is a pointer.
+    pub fn pointer(&self, e: &AbsState) -> Option<Reg>
+        ensures { result ≡ sentences.first_pointer e.now self.now }
+    {
+        or_next(
+            if_pointer(e, self.first),
+            or_next(if_pointer(e, self.second), if_pointer(e, self.third)),
+        )
+    }
+}
+
+fn is_register(r: Reg, found: Option<Reg>) -> bool
+    ensures { result ≡ specs.is_register r found }
+{
+    match found {
+        Some(other) => other.index() == r.index(),
+        None => false,
+    }
+}
+
+fn or_next(found: Option<Reg>, next: Option<Reg>) -> Option<Reg>
+    ensures { result ≡ specs.or_next found next }
+{
+    match found {
+        Some(r) => Some(r),
+        None => next,
+    }
+}
+
+fn if_unusable(e: &AbsState, found: Option<Reg>) -> Option<Reg>
+    ensures { result ≡ specs.if_such (sentences.unusable_in e.now) found }
+{
+    match found {
+        Some(r) if e.value(r).is_unusable() => Some(r),
+        _ => None,
+    }
+}
+
+fn if_pointer(e: &AbsState, found: Option<Reg>) -> Option<Reg>
+    ensures { result ≡ specs.if_such (sentences.pointer_in e.now) found }
+{
+    match found {
+        Some(r) if e.value(r).is_pointer() => Some(r),
+        _ => None,
+    }
+}
+
+fn touching(base: Reg, offset: i16, count: u16) -> Option<TouchedMemory>
+    ensures { result ≡ specs.touching base offset count }
+{
+    Some(TouchedMemory {
+        base,
+        offset,
+        count,
+    })
+}
+
+/// The memory that an instruction accesses by an address.
+pub fn touched(insn: Insn) -> Option<TouchedMemory>
+    ensures { result ≡ specs.touched insn }
+{
+    match insn {
+        Insn::Load {
+            kind,
+            src,
+            offset,
+            ..
+        } => touching(src, offset, load_count(kind)),
+        Insn::StoreImm {
+            size,
+            dst,
+            offset,
+            ..
+        } => touching(dst, offset, byte_count(size)),
+        Insn::Store {
+            size,
+            dst,
+            offset,
+            ..
+        } => touching(dst, offset, byte_count(size)),
+        Insn::Atomic {
+            size,
+            dst,
+            offset,
+            ..
+        } => touching(dst, offset, atomic_count(size)),
+        _ => None,
+    }
+}

@@ -1,0 +1,77 @@
+//! Where and why a program is refused, in a sentence: of the first instruction that breaks a rule
+//! what the rule asks, and what is known instead.
+
+ghost use Rattle.std.specs.Prelude.{◌≡◌, IfOk, IfSome, Ok, None, Some};
+ghost use Rattle.std.specs.Prelude.{option_copied, string_bytes};
+ghost use Rattle.bpf_insn.specs.Program.{at};
+ghost use Rattle.bpf_semantics.specs.Program.{shaped};
+ghost use Rattle.bpf_verify.specs.Accepted.{FailsAt, IsAccepted, IsRefusal, entry_of};
+ghost use Rattle.explain.specs.RefusedPlace.{IsRefusedPlace};
+
+use crate::sentence::push_cited_rule;
+use abs_value::AbsState;
+use bpf_insn::Insn;
+use bpf_verify::{Refusal, Walk, end_is_accepted};
+use cells::Shape;
+use flow_check::Flow;
+use std::alloc::{AllocError, Global};
+
+/// The slot of the first instruction that breaks a rule, and the sentence of the first such rule,
+/// as `V9: r0 may be 0: compare it with 0 first`. No line feed ends it.
+#[derive(Drop)]
+pub struct RefusedPlace {
+    pub slot: usize,
+    pub sentence: String,
+}
+
+// The place that is refused has an entry, so what isn't told is for want of memory.
+fn tell_place(
+    alloc: Global,
+    flow: &Flow,
+    shape: &Shape,
+    place: (usize, &Insn),
+    entry: Option<&AbsState>,
+    refusal: Refusal,
+) -> Result<RefusedPlace, AllocError>
+    requires here { FailsAt place.0 refusal }
+    requires refused { IsRefusal flow.now shape.now refusal }
+    requires insn { at flow.now place.0 ≡ Some place.1.now }
+    requires entry { option_copied entry ≡ entry_of (shaped flow.now shape.now) place.0 }
+    ensures { IfOk result (λ told.
+        IsRefusedPlace (shaped flow.now shape.now) told.slot (string_bytes told.sentence)) }
+{
+    let (Some(e), Refusal::Rule { slot, rule }) = (entry, refusal) else {
+        return Err(AllocError);
+    };
+    let mut sentence = String::new(alloc);
+    push_cited_rule(&mut sentence, shape, e, *place.1, rule)?;
+    Ok(RefusedPlace { slot, sentence })
+}
+
+/// Where and why `verify` refuses a program under a shape; none where it accepts it.
+// open: whether memory is refused.
+pub fn refused_place(
+    alloc: Global,
+    flow: &Flow,
+    shape: &Shape,
+) -> Result<Option<RefusedPlace>, AllocError>
+    ensures refused { IfOk result (λ found. IfSome found (λ told.
+        IsRefusedPlace (shaped flow.now shape.now) told.slot (string_bytes told.sentence))) }
+    ensures accepted { result ≡ Ok None → IsAccepted flow.now shape.now }
+{
+    flow.keeps();
+    let mut walk = Walk::start(alloc, flow)?;
+    let mut slot = 0;
+    while slot < flow.len() {
+        let insn = flow.insn(slot);
+        walk.arrive(slot)?;
+        if let Err(refusal) = walk.judge(flow, shape, slot, insn) {
+            let told = tell_place(alloc, flow, shape, (slot, insn), walk.entry(), refusal)?;
+            return Ok(Some(told));
+        }
+        walk.carry_on(flow, shape, slot, insn)?;
+        slot += insn.width().slots();
+    }
+    end_is_accepted();
+    Ok(None)
+}

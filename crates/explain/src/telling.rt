@@ -1,0 +1,108 @@
+//! A whole program, place by place, by the entries that the verifier judges by.
+
+ghost use Rattle.std.specs.Prelude.{◌≡◌, ◌<◌, ◌≤◌, ◌++◌, ◌+◌, IfOk, OnOk, Some, None, length};
+ghost use Rattle.std.specs.Prelude.{string_bytes, option_copied};
+ghost use Rattle.std.specs.Prelude.{Ok};
+ghost use Rattle.bpf_text.specs.Assembly.{Assembles};
+ghost use Rattle.bpf_semantics.specs.Program.{shaped};
+ghost use Rattle.flow_check.specs.Flow.{program_bytes};
+ghost use Rattle.cells.specs.Arrays.{AppShape};
+ghost use Rattle.explain.specs.Lines.{IsExplained, IsFinding, WalkParts, TellsOn};
+ghost use Rattle.explain.specs.Lines as specs;
+
+use crate::arrays::keep_names;
+use crate::line::push_line;
+use crate::way::Way;
+use abs_value::AbsState;
+use bpf_insn::Insn;
+use bpf_text::{push_bare_line, remarks_are_skipped};
+use bpf_verify::{Refusal, Walk, end_is_accepted};
+use cells::Shape;
+use flow_check::Flow;
+use std::alloc::{AllocError, Global};
+
+/// What is told of a program: its listing with comments, and why it is refused, if it is.
+#[derive(Drop)]
+pub struct Explained {
+    pub text: String,
+    pub refusal: Option<Refusal>,
+}
+
+fn way_past(shape: &Shape, slot: usize, entry: Option<&AbsState>, insn: &Insn) -> Way
+    requires { slot < 4096 }
+    ensures { result ≡ specs.way_past_entry shape.now slot (option_copied entry.entry) insn.now }
+{
+    match entry {
+        Some(e) => Way::past(shape, slot, e, insn),
+        None => Way::still(),
+    }
+}
+
+// The lines of the instructions from the slot on, without comments.
+fn push_rest(text: &mut String, flow: &Flow, slot: usize) -> Result<(), AllocError>
+    requires { WalkParts flow.now slot }
+    ensures { OnOk result ((shape : AppShape)
+        → TellsOn (shaped flow.now shape) None slot (string_bytes text.old)
+        → IsExplained (shaped flow.now shape) (string_bytes text.new)) }
+{
+    flow.keeps();
+    let mut slot = slot;
+    while slot < flow.len() {
+        let insn = flow.insn(slot);
+        push_bare_line(text, *insn)?;
+        text.push_str("\n")?;
+        slot += insn.width().slots();
+    }
+    Ok(())
+}
+
+// Place by place, up to the first instruction that breaks a rule.
+fn tell(alloc: Global, flow: &Flow, shape: &Shape) -> Result<Explained, AllocError>
+    ensures text { IfOk result
+        (λ x. IsExplained (shaped flow.now shape.now) (string_bytes x.text)) }
+    ensures verdict { IfOk result (λ x. IsFinding flow.now shape.now x.refusal) }
+{
+    flow.keeps();
+    let mut walk = Walk::start(alloc, flow)?;
+    let mut text = String::new(alloc);
+    let mut way = Way::still();
+    let mut slot = 0;
+    while slot < flow.len() {
+        let insn = flow.insn(slot);
+        walk.arrive(slot)?;
+        push_line(&mut text, shape, slot, walk.entry(), insn, &way)?;
+        if let Err(refusal) = walk.judge(flow, shape, slot, insn) {
+            push_rest(&mut text, flow, slot + insn.width().slots())?;
+            return Ok(Explained {
+                text,
+                refusal: Some(refusal),
+            });
+        }
+        way = way_past(shape, slot, walk.entry(), insn);
+        walk.carry_on(flow, shape, slot, insn)?;
+        slot += insn.width().slots();
+    }
+    end_is_accepted();
+    Ok(Explained {
+        text,
+        refusal: None,
+    })
+}
+
+/// The listing of a program with what is known before each instruction as a comment behind it, up
+/// to the first instruction that breaks a rule: of that one the comment has the rule and what is
+/// known instead of what it asks. A refusal that is told is never V15.
+// open: whether memory is refused.
+pub fn explain(alloc: Global, flow: &Flow, shape: &Shape) -> Result<Explained, AllocError>
+    ensures text { IfOk result
+        (λ x. IsExplained (shaped flow.now shape.now) (string_bytes x.text)) }
+    ensures verdict { IfOk result (λ x. IsFinding flow.now shape.now x.refusal) }
+    ensures assembles { IfOk result
+        (λ x. Assembles (string_bytes x.text) (Ok (program_bytes flow.now))) }
+{
+    flow.keeps();
+    remarks_are_skipped();
+    keep_names(shape.arrays());
+    let explained = tell(alloc, flow, shape)?;
+    Ok(explained)
+}

@@ -1,0 +1,89 @@
+//! What changed on the way to a place.
+
+ghost use Rattle.std.specs.Prelude.{◌≡◌, ◌<◌};
+ghost use Rattle.abs_value.specs.Values as values;
+ghost use Rattle.explain.specs.Way as specs;
+
+use abs_value::{Abs, AbsState, Number, Origin};
+use bpf_insn::{Insn, Reg};
+use bpf_rules::go_on_in;
+use cells::Shape;
+use flow_check::next_place;
+
+/// What was known of the registers before an instruction, and on the edge by which it goes on.
+#[derive(Clone, Copy)]
+pub struct Way {
+    pub before: [Abs; 11],
+    pub after: [Abs; 11],
+}
+
+impl Way {
+    /// Where nothing goes on to the place.
+    pub fn still() -> Way
+        ensures { result ≡ specs.still }
+    {
+        let nothing = [Abs::Unusable; 11];
+        Way {
+            before: nothing,
+            after: nothing,
+        }
+    }
+
+    /// Past an instruction before which this is known.
+    pub fn past(shape: &Shape, slot: usize, e: &AbsState, insn: &Insn) -> Way
+        requires { slot < 4096 }
+        ensures { result ≡ specs.way_past shape.now slot e.now insn.now }
+    {
+        let mut edge = e.copy();
+        if next_place(slot, *insn).is_some() && go_on_in(&mut edge, shape, slot as u16, insn) {
+            Way {
+                before: e.registers,
+                after: edge.registers,
+            }
+        } else {
+            Way::still()
+        }
+    }
+
+    /// Whether a register changed.
+    pub fn changes_on_way(&self, r: Reg) -> bool
+        ensures { result ≡ specs.changes_on_way self.now r }
+    {
+        !same_value(self.before[r.index()], self.after[r.index()])
+    }
+}
+
+fn same_number(a: Number, b: Number) -> bool
+    ensures { result ≡ specs.same_number a b }
+{
+    a.range.lo == b.range.lo
+        && a.range.hi == b.range.hi
+        && a.bits.has == b.bits.has
+        && a.bits.may_have == b.bits.may_have
+}
+
+fn same_origin(a: Origin, b: Origin) -> bool
+    ensures { result ≡ values.same_origin a b }
+{
+    match (a, b) {
+        (Origin::Found(a), Origin::Found(b)) => a.array == b.array && a.slot == b.slot,
+        (Origin::Fixed(a), Origin::Fixed(b)) => a == b,
+        _ => false,
+    }
+}
+
+// Whether the same is known of two values.
+fn same_value(a: Abs, b: Abs) -> bool
+    ensures { result ≡ specs.same_value a b }
+{
+    match (a, b) {
+        (Abs::Unusable, Abs::Unusable) => true,
+        (Abs::Num(a), Abs::Num(b)) => same_number(a, b),
+        (Abs::Ctx(a), Abs::Ctx(b)) => a.lo == b.lo && a.hi == b.hi,
+        (Abs::Stk { place: a }, Abs::Stk { place: b }) => a == b,
+        (Abs::Map { index: a }, Abs::Map { index: b }) => a == b,
+        (Abs::MayCell(a), Abs::MayCell(b)) => a.array == b.array && a.slot == b.slot,
+        (Abs::Cell(a), Abs::Cell(b)) => same_origin(a, b),
+        _ => false,
+    }
+}

@@ -1,0 +1,9 @@
+pub mod Clients
+pub mod Course
+pub mod Counts
+pub mod Columns
+pub mod Shown
+pub mod Shares
+pub mod Moving
+pub mod Xml
+pub mod Pictures

@@ -1,0 +1,64 @@
+//! What the clients of a simulation say.
+
+ghost use Rattle.std.specs.Prelude.{◌≡◌, IfOk, OnOk};
+ghost use Rattle.attrs.specs.Bucket as specs;
+
+use attrs::{AppFacts, Attrs, Moment, RequestFacts, Text};
+use std::alloc::{AllocError, Global};
+
+/// What every client says in the same way: of the app, of itself, and when. The appid and the
+/// cohort are put in place app by app and bucket by bucket.
+#[derive(Drop)]
+pub struct Client {
+    pub app: AppFacts,
+    pub request: RequestFacts,
+    pub moment: Moment,
+}
+
+impl Client {
+    ghost use Rattle.simulate.specs.Clients.{in_bucket, asking_for, attributes};
+    ghost use Rattle.simulate.specs.Clients.{IsSameButCohort, IsSameButApp};
+
+    /// Asks for another app.
+    pub(crate) fn ask_for(&mut self, alloc: Global, appid: &str) -> Result<(), AllocError>
+        ensures asks { OnOk result (self.new ≡ asking_for self.old appid.now) }
+        ensures same { IsSameButApp self.old self.new }
+    {
+        let appid = String::from_str(alloc, appid)?;
+        self.app.appid = Text::new(appid);
+        Ok(())
+    }
+
+    /// Moves to another bucket.
+    pub(crate) fn move_to(&mut self, alloc: Global, bucket: u16) -> Result<(), AllocError>
+        ensures moves { OnOk result (self.new ≡ in_bucket self.old bucket) }
+        ensures same { IsSameButCohort self.old self.new }
+    {
+        let cohort = told_cohort(alloc, bucket)?;
+        self.app.cohort = Some(cohort);
+        Ok(())
+    }
+
+    /// What a program sees of it.
+    pub(crate) fn attributes(&self, alloc: Global) -> Result<Attrs, AllocError>
+        ensures { IfOk result (λ a. a ≡ attributes self.now) }
+    {
+        let moment = self.moment;
+        match Attrs::of(alloc, &self.app, &self.request, moment) {
+            Ok(attrs) => Ok(attrs),
+            Err(_) => Err(AllocError),
+        }
+    }
+}
+
+// The cohort that the client of a bucket was told: `b:` and four digits.
+fn told_cohort(alloc: Global, bucket: u16) -> Result<Text, AllocError>
+    ensures { IfOk result (λ text. text ≡ specs.told_cohort bucket) }
+{
+    let first = bucket / 1000 % 10;
+    let second = bucket / 100 % 10;
+    let third = bucket / 10 % 10;
+    let last = bucket % 10;
+    let text = format!(in alloc; "b:{first}{second}{third}{last}")?;
+    Ok(Text::new(text))
+}

@@ -1,0 +1,60 @@
+//! The apps of a ruleset, one after the other.
+
+ghost use Rattle.std.specs.Prelude.{◌≡◌, length, IfOk};
+ghost use Rattle.simulate.specs.Clients.{IsSameButApp};
+ghost use Rattle.simulate.specs.Course.{AsksForApp, IsSimulated};
+
+use crate::asking::ask_all;
+use crate::choices::Choices;
+use crate::client::Client;
+use cells::{PlainCells, PlainPass};
+use ruleset::{App, Ruleset};
+use std::alloc::{AllocError, Global};
+
+/// Who is told how far a simulation is.
+pub trait Onlooker {
+    /// Is told that so many of all apps have been asked.
+    fn asked(&mut self, done: usize, all: usize);
+}
+
+/// What the clients of all buckets choose of each app, in the ruleset's order. All counters are 0
+/// as it begins, and each run leaves them to the next. The onlooker is told after each app.
+// open: whether memory is refused; what an onlooker hears of it.
+pub fn simulate<O: Onlooker>(
+    alloc: Global,
+    rules: &Ruleset,
+    client: &mut Client,
+    onlooker: &mut O,
+) -> Result<Vec<Choices>, AllocError>
+    ensures choices { IfOk result (λ chosen. IsSimulated client.old rules.now.apps chosen.items) }
+    ensures all { IfOk result (λ chosen. length chosen.items ≡ length rules.now.apps) }
+    ensures client { IsSameButApp client.old client.new }
+{
+    let Ok((cells, mut pass)) = PlainCells::new(alloc) else {
+        return Err(AllocError);
+    };
+    let apps = rules.apps();
+    let mut chosen = Vec::with_capacity(alloc, apps.len())?;
+    for app in apps {
+        let choices = ask_for_app(alloc, app, client, &cells, &mut pass)?;
+        chosen.push(choices)?;
+        onlooker.asked(chosen.len(), apps.len());
+    }
+    Ok(chosen)
+}
+
+// What the clients choose of an app.
+fn ask_for_app(
+    alloc: Global,
+    app: &App,
+    client: &mut Client,
+    cells: &PlainCells,
+    pass: &mut PlainPass,
+) -> Result<Choices, AllocError>
+    ensures choices { IfOk result (λ choices.
+        AsksForApp client.old app.now pass.old choices pass.new) }
+    ensures client { IsSameButApp client.old client.new }
+{
+    client.ask_for(alloc, app.appid())?;
+    ask_all(alloc, app.program(), client, cells, pass)
+}

@@ -1,0 +1,39 @@
+//! Simulation: what a ruleset chooses for a client in each bucket, how many get which release, and
+//! what that comes to, as tables of text and as a picture.
+//!
+//! See docs/PROGRAM.md, "simulate".
+#![tactic(auto)]
+
+// How it goes. App after app, in the ruleset's order, each is asked once for each of the 10000
+// buckets, in their order, as a client that keeps the cohort that it was told (`b:NNNN`). All runs
+// are on the same counters, which are 0 before the first. So the choices are those of one legal
+// history, run after run.
+//
+// A simulation is kept with its ruleset, so an app has its releases beside the choices of its
+// buckets. Each text is written part by part behind what stands, and each part is a definition.
+
+mod asking;
+mod bucket_square;
+mod choices;
+mod client;
+mod colours;
+mod columns;
+mod counts;
+mod course;
+mod labels;
+mod legends;
+mod lost;
+mod moves;
+mod picturing;
+mod shares;
+mod simulated;
+mod xml;
+
+pub use choices::Choices;
+pub use client::Client;
+pub use counts::{count_buckets, count_moves};
+pub use course::{Onlooker, simulate};
+pub use moves::push_moves;
+pub use picturing::draw;
+pub use shares::push_shares;
+pub use simulated::Simulated;

@@ -1,2 +1,0 @@
-mod Courses
-mod Counted

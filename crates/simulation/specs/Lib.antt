@@ -1,3 +1,0 @@
-pub mod Clients
-pub mod Course
-pub mod Counts

@@ -1,0 +1,49 @@
+-- The slots of a program, and the line of a step.
+use Rattle.std.proofs.Common.{◌≡◌, ℕ, zero, suc, ◌+◌, ◌<◌, List, [], ◌∷◌, ◌++◌, length, take}
+use Rattle.std.proofs.Common.{ap, ◌∙◌, refl, arith, add-one, append_assoc}
+use Rattle.std.proofs.Common.{Option, Some, IsSome}
+use Rattle.std.proofs.lemmas.Bool.{false≢true}
+use Rattle.bpf_insn.specs.declared.insn.Insn.{Insn}
+use Rattle.bpf_insn.specs.Program.{Program, at}
+use Rattle.bpf_semantics.specs.Program.{ShapedProgram, shaped}
+use Rattle.cells.specs.Arrays.{AppShape}
+use Rattle.bpf_semantics.specs.State.{State}
+use Rattle.cells.specs.declared.event.CellEvent.{CellEvent}
+use Rattle.trace.specs.Lines.{step_line, line_between}
+
+next_slot : (p : Program) (s : ℕ) → s < length p → take (suc s) p ≡ take s p ++ at p s ∷ []
+next_slot [] s within = absurd (omega (arith, within))
+next_slot (i ∷ p) zero within = refl
+next_slot (i ∷ p) (suc s) within =
+    ap (λ (q : Program). i ∷ q) (next_slot p s (omega (arith, within)))
+
+pub one_slot_more : (p : Program) (s : ℕ) → s < length p
+    → take (s + 1) p ≡ take s p ++ at p s ∷ []
+one_slot_more p s within = rw add-one (next_slot p s within)
+
+-- what is written part by part is written as a whole
+pub gathered : (o w a b c d e : List ℕ)
+    → o ++ w ++ a ++ b ++ c ++ d ++ e ≡ o ++ (w ++ a ++ b ++ c ++ d ++ e)
+gathered o w a b c d e = simp append_assoc refl
+
+pub place_within : (p : Program) (s : ℕ) → IsSome (at p s) → s < length p
+place_within [] s found = absurd (false≢true found)
+place_within (i ∷ p) zero found = omega arith
+place_within (i ∷ p) (suc s) found =
+    let less = place_within p s found in omega (arith, less)
+
+-- a line of this shape and slot is that of the step
+pub line_is : (p : ShapedProgram) (s : State) (shape : AppShape) (slot : ℕ) (i : Insn)
+    (asked : Option CellEvent) (t : State) (old new : List ℕ)
+    → shape ≡ p.shape → slot ≡ s.slot → at p.code slot ≡ Some i
+    → new ≡ old ++ step_line shape slot i asked t → new ≡ old ++ line_between p s asked t
+line_is p s shape slot i asked t old new of_shape of_slot found grown =
+    let there : at p.code s.slot ≡ Some i = rw of_slot at found in
+    let line : step_line shape slot i asked t ≡ line_between p s asked t =
+    rw (of_shape, of_slot, there) refl in
+    grown ∙ ap (λ (l : List ℕ). old ++ l) line
+
+-- the program as it is taken apart
+pub whole : (p : ShapedProgram) (slots code : Program) (shape : AppShape)
+    → slots ≡ code → code ≡ p.code → shape ≡ p.shape → shaped slots shape ≡ p
+whole p slots code shape e f g = rw (e, f, g) refl

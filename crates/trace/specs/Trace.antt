@@ -1,0 +1,37 @@
+-- The trace of a run: a line a step, in their order.
+use Rattle.std.specs.Prelude.{◌≡◌, ℕ, List, ◌++◌, Some, None}
+use Rattle.attrs.specs.Attributes.{Attributes}
+use Rattle.bpf_semantics.specs.Program.{ShapedProgram}
+use Rattle.bpf_semantics.specs.Run.{Ends}
+use Rattle.bpf_semantics.specs.Run.Ends.{last, more, asked}
+use Rattle.bpf_semantics.specs.State.{State, opening}
+use Rattle.cells.specs.Events.{AreZeros, IsEvent}
+use Rattle.cells.specs.Grown.{GrewBy}
+use Rattle.cells.specs.declared.event.CellEvent.{CellEvent}
+use Rattle.trace.specs.Lines.{line_between}
+
+-- the lines of a run that ends: of each step from the state before it to the one after it, and of
+-- EXIT, which leaves the state as it was
+unfoldable pub trace_of : (p : ShapedProgram) (s : State) (events : List CellEvent)
+    (choice count : ℕ) → Ends p s events choice count → List ℕ
+trace_of p s events choice count (last step is_count) = line_between p s None s
+trace_of p s events choice count (more {t = t} step rest) =
+    line_between p s None t ++ trace_of p t events choice count rest
+trace_of p s events choice count (asked {next = next} {e = e} {es = es} step rest) =
+    line_between p s (Some e) (next e.reply) ++ trace_of p (next e.reply) es choice count rest
+
+-- a run from a state, by which the counters' values change from these to those, with its trace
+pub record IsTraced (p : ShapedProgram) (s : State) (old new : List ℕ) (choice count : ℕ)
+    (text : List ℕ) : Type 0 where
+  pub events : List CellEvent
+  pub legal : GrewBy IsEvent old events new
+  pub ends : Ends p s events choice count
+  pub text_is : text ≡ trace_of p s events choice count ends
+
+-- the run of a program for an app, on counters that are 0 before it
+pub record IsTrace (p : ShapedProgram) (a : Attributes) (choice count : ℕ) (text : List ℕ)
+    : Type 0 where
+  pub zeros : List ℕ
+  pub opens : AreZeros 8192 zeros
+  pub left : List ℕ
+  pub run : IsTraced p (opening a) zeros left choice count text

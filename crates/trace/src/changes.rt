@@ -1,0 +1,97 @@
+//! What an instruction wrote: a register, or bytes of the stack.
+
+ghost use Rattle.std.specs.Prelude.{◌≡◌, ◌++◌, OnOk, codes, string_bytes};
+ghost use Rattle.bpf_semantics.specs.Reads as reads;
+ghost use Rattle.bpf_semantics.specs.State.{read_at};
+ghost use Rattle.bpf_rules.specs.Reads.{writes};
+ghost use Rattle.reference.specs.Marks.{state_of};
+ghost use Rattle.trace.specs.Lines as specs;
+
+use bpf_insn::{Insn, Reg, Size};
+use bpf_semantics::{STACK_TOP, add_offset, byte_count, fetched};
+use reference::Interpreter;
+use std::alloc::AllocError;
+use std::fmt::Write;
+
+/// Writes what the register has that the instruction wrote, if it wrote one.
+pub fn push_written(text: &mut String, insn: Insn, run: &Interpreter) -> Result<(), AllocError>
+    ensures { OnOk result (string_bytes text.new
+        ≡ string_bytes text.old ++ specs.written_part insn (state_of run.now)) }
+{
+    let Some(register) = written(insn) else {
+        return Ok(());
+    };
+    let Some(value) = run.register(register) else {
+        return Ok(());
+    };
+    let number = register.index();
+    write!(text, " ; r{number} {value}")
+}
+
+/// Writes the bytes of the stack that the instruction wrote, if it wrote some, as a number.
+pub fn push_stored(text: &mut String, insn: Insn, run: &Interpreter) -> Result<(), AllocError>
+    ensures { OnOk result (string_bytes text.new
+        ≡ string_bytes text.old ++ specs.stored_part insn (state_of run.now)) }
+{
+    match insn {
+        Insn::StoreImm {
+            size,
+            dst,
+            offset,
+            ..
+        } => push_bytes(text, run, run.register(dst), offset, size),
+        Insn::Store {
+            size,
+            dst,
+            offset,
+            ..
+        } => push_bytes(text, run, run.register(dst), offset, size),
+        _ => Ok(()),
+    }
+}
+
+fn push_bytes(
+    text: &mut String,
+    run: &Interpreter,
+    base: Option<u64>,
+    offset: i16,
+    size: Size,
+) -> Result<(), AllocError>
+    ensures { OnOk result (string_bytes text.new ≡ string_bytes text.old
+        ++ specs.bytes_part (state_of run.now) base offset (reads.byte_count size)) }
+{
+    match base {
+        Some(base) => push_at(text, run, add_offset(base, offset), size),
+        None => Ok(()),
+    }
+}
+
+// The number of the bytes at an address of the stack.
+fn push_at(text: &mut String, run: &Interpreter, address: u64, size: Size) -> Result<(), AllocError>
+    ensures { OnOk result (string_bytes text.new ≡ string_bytes text.old
+        ++ specs.stack_part address (read_at (state_of run.now) address (reads.byte_count size))) }
+{
+    let Some(value) = run.number_at(address, byte_count(size) as u64) else {
+        return Ok(());
+    };
+    let below = STACK_TOP.saturating_sub(address);
+    write!(text, " ; [r10-{below}] {value}")
+}
+
+// The register that an instruction writes: of an atomic operation the one that takes the old value.
+fn written(insn: Insn) -> Option<Reg>
+    ensures { result ≡ writes insn }
+{
+    match insn {
+        Insn::Alu { dst, .. } => Some(dst),
+        Insn::Mov { dst, .. } => Some(dst),
+        Insn::MovSx { dst, .. } => Some(dst),
+        Insn::Neg { dst, .. } => Some(dst),
+        Insn::End { dst, .. } => Some(dst),
+        Insn::Call { .. } => Some(Reg::R0),
+        Insn::Load { dst, .. } => Some(dst),
+        Insn::Atomic { op, src, .. } => fetched(op, src),
+        Insn::Wide { dst, .. } => Some(dst),
+        _ => None,
+    }
+}

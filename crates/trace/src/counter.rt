@@ -1,0 +1,44 @@
+//! What is told of a counter: its name, the operation and the reply.
+
+ghost use Rattle.std.specs.Prelude.{◌≡◌, ◌++◌, OnOk, string_bytes};
+ghost use Rattle.trace.specs.Lines as specs;
+
+use cells::{CellEvent, CellOp, Shape};
+use explain::push_counter;
+use std::alloc::AllocError;
+use std::fmt::Write;
+
+/// Writes what was asked of a counter, if one was.
+pub fn push_event(
+    text: &mut String,
+    shape: &Shape,
+    event: Option<CellEvent>,
+) -> Result<(), AllocError>
+    ensures { OnOk result (string_bytes text.new
+        ≡ string_bytes text.old ++ specs.event_part shape.now event) }
+{
+    let Some(event) = event else {
+        return Ok(());
+    };
+    text.push_str(" ; ")?;
+    push_counter(text, shape, event.cell)?;
+    text.push_str(" ")?;
+    push_op(text, event.op)?;
+    let reply = event.reply;
+    write!(text, " replied {reply}")
+}
+
+fn push_op(text: &mut String, op: CellOp) -> Result<(), AllocError>
+    ensures { OnOk result (string_bytes text.new ≡ string_bytes text.old ++ specs.op_text op) }
+{
+    match op {
+        CellOp::Load => text.push_str("load"),
+        CellOp::Store(new) => write!(text, "store {new}"),
+        CellOp::Add(number) => write!(text, "add {number}"),
+        CellOp::Or(bits) => write!(text, "or {bits}"),
+        CellOp::And(bits) => write!(text, "and {bits}"),
+        CellOp::Xor(bits) => write!(text, "xor {bits}"),
+        CellOp::Swap(new) => write!(text, "swap {new}"),
+        CellOp::CompareExchange(expected, new) => write!(text, "compare {expected} swap {new}"),
+    }
+}
