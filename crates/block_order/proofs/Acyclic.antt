@@ -11,14 +11,14 @@ use Rattle.bpf_insn.specs.declared.insn.Insn.TheVariants.{Jump, JumpIf, Exit}
 use Rattle.bpf_insn.specs.Program.{Program, ◌>>=◌, at, landing, slots_moved}
 use Rattle.flow_check.specs.declared.fault.FlowRule.TheVariants.{BackJump, Outside}
 use Rattle.flow_check.specs.declared.fault.FlowRule.TheVariants.{InsideWide, FallsOff}
-use Rattle.flow_check.specs.Edges.{jump_of, target_of, next_of, successors}
+use Rattle.flow_check.specs.Edges.{jump_of, target_of, next_of, next_target, successors}
 use Rattle.flow_check.specs.Flow.{IsFlow}
 use Rattle.block_order.specs.Order.{Places, LeadsOnto, GoesOnAt, IsKeptAs, IsNoJump}
 use Rattle.block_order.specs.Order.{LeavesJumps, other, jumped, IsOrderOf}
 use Rattle.block_order.specs.Law.{HasNoCycle}
 use Rattle.block_order.specs.Reach.{ReachedFrom, here, along}
 use Rattle.block_order.specs.Refusal.{StaysWithin, ClosesCycle}
-use Rattle.block_order.proofs.Places.{at_within, next, contains_either}
+use Rattle.block_order.proofs.Places.{at_within, contains_either}
 use Rattle.block_order.proofs.Successors.{some_is, apart, lands_among, next_among, later, landed}
 
 -- ---- jumps of the new program lead forward
@@ -63,14 +63,14 @@ module _ (places : Places) (p q : Program) (order : IsOrderOf places p q) (flow 
       }
 
   edge : (s t u : ℕ) (i : Insn) → IsKeptAs places q s t i
-      → (target_of s i ≡ Some u) ⊎ (next s i ≡ Some u) → Leads places t i u
+      → (target_of s i ≡ Some u) ⊎ (next_target s i ≡ Some u) → Leads places t i u
   edge s t u (Jump d) k (inl lands) = record {
     place = k.2.0;
     placed = subst (λ (n : ℕ). places n ≡ Some k.2.0) (some_is k.0 u (sym k.1 ∙ lands)) k.2.1;
     onward = onto q flow t k.2.0 k.2.2;
     rises = λ lacks. absurd lacks;
   }
-  edge s t u (Jump d) k (inr on) = absurd (apart (next s (Jump d)) u refl on)
+  edge s t u (Jump d) k (inr on) = absurd (apart (next_target s (Jump d)) u refl on)
   edge s t u (JumpIf bits condition left right offset) k (inl lands) =
       let jumps : IsSome (jump_of k.0.moved) =
       subst (λ i. IsSome (jump_of i)) (sym k.0.same.1) refl in
@@ -87,7 +87,7 @@ module _ (places : Places) (p q : Program) (order : IsOrderOf places p q) (flow 
       goes t (JumpIf bits condition left right offset) u (t + 1)
       (subst (λ (n : ℕ). GoesOnAt places q (t + 1) n) (some_is (s + 1) u on) k.1) (omega arith)
   edge s t u Exit k (inl lands) = absurd (apart (target_of s Exit) u refl lands)
-  edge s t u Exit k (inr on) = absurd (apart (next s Exit) u refl on)
+  edge s t u Exit k (inr on) = absurd (apart (next_target s Exit) u refl on)
   edge s t u i k (inl lands) = absurd (apart (target_of s i) u refl lands)
   edge s t u i k (inr on) =
       goes t i u (next_of t i)

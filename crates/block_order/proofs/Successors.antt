@@ -1,17 +1,13 @@
 -- The places that an instruction leads to, as elements of its successors.
-use Rattle.std.proofs.Common.{◌≡◌, ℕ, ◌<◌, ◌≤◌, Bool, true, [], ◌∷◌}
+use Rattle.std.proofs.Common.{◌≡◌, ℕ, ◌<◌, Bool, true, [], ◌∷◌}
 use Rattle.std.proofs.Common.{Option, Some, None, refl, sym, ◌∙◌, subst, arith, inl, inr}
 use Rattle.std.specs.Prelude.{Contains, ◌⊎◌, option_to_list, if◌then◌else◌}
 use Rattle.std.proofs.lemmas.List.Elements.{Contains-append_left, Contains-append_right}
 use Rattle.bpf_insn.specs.declared.operand.Distance.{Distance}
-use Rattle.bpf_insn.specs.declared.insn.Width.{Width}
-use Rattle.bpf_insn.specs.declared.insn.Width.TheVariants.{One, Two}
 use Rattle.bpf_insn.specs.declared.insn.Insn.{Insn}
-use Rattle.bpf_insn.specs.declared.insn.Insn.TheVariants.{Jump}
-use Rattle.bpf_insn.specs.Spelling.{slots_of, width_of}
+use Rattle.bpf_insn.specs.declared.insn.Insn.TheVariants.{Jump, Wide}
 use Rattle.bpf_insn.specs.Program.{landing, slots_moved}
-use Rattle.flow_check.specs.Edges.{target_of, goes_on, next_of, successors}
-use Rattle.block_order.proofs.Places.{next}
+use Rattle.flow_check.specs.Edges.{target_of, goes_on, next_of, next_target, successors}
 
 -- ---- what there is, and what there isn't
 
@@ -29,25 +25,22 @@ only t = (0, omega arith, refl)
 pub lands_among : (s t : ℕ) (i : Insn) → target_of s i ≡ Some t → Contains (successors s i) t
 lands_among s t i lands =
     Contains-append_left (option_to_list (target_of s i))
-    (if goes_on i then next_of s i ∷ [] else []) t
+    (option_to_list (next_target s i)) t
     (subst (λ o. Contains (option_to_list o) t) (sym lands) (only t))
 
 pub next_among : (s : ℕ) (i : Insn) → goes_on i ≡ true → Contains (successors s i) (next_of s i)
 next_among s i goes =
     Contains-append_right (option_to_list (target_of s i))
-    (if goes_on i then next_of s i ∷ [] else []) (next_of s i)
-    (subst (λ (b : Bool). Contains (if b then next_of s i ∷ [] else []) (next_of s i)) (sym goes)
-    (only (next_of s i)))
-
-slots_some : (w : Width) → 1 ≤ slots_of w
-slots_some One = omega arith
-slots_some Two = omega arith
+    (option_to_list (next_target s i)) (next_of s i)
+    (subst (λ (b : Bool). Contains (option_to_list (if b then Some (next_of s i) else None))
+    (next_of s i)) (sym goes) (only (next_of s i)))
 
 pub later : (t : ℕ) (i : Insn) → t < next_of t i
-later t i = let some : 1 ≤ slots_of (width_of i) = slots_some (width_of i) in omega (arith, some)
+later t (Wide dst value) = omega arith
+later t i = omega arith
 
 -- a JA leads to its target alone
 pub landed : (s t u : ℕ) (d : Distance) → landing s (slots_moved d) ≡ Some t
-    → (target_of s (Jump d) ≡ Some u) ⊎ (next s (Jump d) ≡ Some u) → t ≡ u
+    → (target_of s (Jump d) ≡ Some u) ⊎ (next_target s (Jump d) ≡ Some u) → t ≡ u
 landed s t u d lands (inl to) = some_is t u (sym lands ∙ to)
-landed s t u d lands (inr on) = absurd (apart (next s (Jump d)) u refl on)
+landed s t u d lands (inr on) = absurd (apart (next_target s (Jump d)) u refl on)

@@ -1,6 +1,6 @@
 -- What an instruction makes of what is known at its place, on each edge that it leads along.
 use Rattle.std.specs.Prelude.{◌≡◌, ℕ, ◌*◌, ◌-◌, ◌^◌, List, [], ◌∷◌, ◌++◌, Option, Some, None}
-use Rattle.std.specs.Prelude.{true, false, if◌then◌else◌}
+use Rattle.std.specs.Prelude.{true, false}
 use Rattle.bpf_insn.specs.declared.operand.AtomicSize.{AtomicSize}
 use Rattle.bpf_insn.specs.declared.operand.Bits.TheVariants.{Bits64}
 use Rattle.bpf_insn.specs.declared.operand.LoadKind.{LoadKind}
@@ -12,7 +12,7 @@ use Rattle.bpf_insn.specs.Words.{immediate}
 use Rattle.bpf_semantics.specs.Reads.{byte_count, load_count}
 use Rattle.bpf_semantics.specs.Counters.{atomic_count, fetched}
 use Rattle.cells.specs.Arrays.{AppShape}
-use Rattle.flow_check.specs.Edges.{target_of, goes_on, next_of}
+use Rattle.flow_check.specs.Edges.{target_of, next_target}
 use Rattle.abs_value.specs.declared.value.Abs.{Abs}
 use Rattle.abs_value.specs.declared.value.Abs.TheVariants.{Num}
 use Rattle.abs_value.specs.declared.state.AbsState.{AbsState}
@@ -106,9 +106,6 @@ edge_to target e = record { target = target; entry = e }
 abbrev pub edge : Option ℕ → Option AbsState → List Edge
 edge (Some target) (Some e) = edge_to target e ∷ []
 edge target e = []
-
-abbrev pub next_target : ℕ → Insn → Option ℕ
-next_target s i = if goes_on i then Some (next_of s i) else None
 
 abbrev pub jump_edge : ℕ → AbsState → Insn → List Edge
 jump_edge s e i = edge (target_of s i) (jumping e i)

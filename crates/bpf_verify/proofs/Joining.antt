@@ -10,14 +10,14 @@ use Rattle.bpf_insn.specs.declared.insn.Insn.{Insn}
 use Rattle.bpf_insn.specs.Program.{at}
 use Rattle.bpf_semantics.specs.Program.{ShapedProgram}
 use Rattle.flow_check.specs.Edges.{next_of}
-use Rattle.flow_check.specs.Flow.{IsLayout}
+use Rattle.flow_check.specs.Flow.{IsForward}
 use Rattle.abs_value.specs.declared.state.AbsState.{AbsState}
 use Rattle.abs_value.specs.States.{join_states}
 use Rattle.bpf_rules.specs.Transfer.{Edge, edge}
 use Rattle.bpf_verify.specs.Pool.{Waiting, waits_at, held, joined_with}
 use Rattle.bpf_verify.specs.Accepted.{to_place, joined, join_all, edges_of, incoming}
 use Rattle.bpf_verify.specs.Sweep.{arrived, IsAdded}
-use Rattle.bpf_verify.proofs.Places.{between, after_two}
+use Rattle.bpf_verify.proofs.Places.{after_two}
 
 -- ---- joining one edge after the other is joining the list
 
@@ -71,12 +71,12 @@ no_place p k m none = nothing (join_all (incoming p k k)) (at p.code k) none
     nothing (Some x) (Some i) e = absurd (none-some i (sym e))
 
 -- what comes to a place after an instruction, from it and before
-pub past : (p : ShapedProgram) (k m : ℕ) (i : Insn) → IsLayout p.code → at p.code k ≡ Some i
+pub past : (p : ShapedProgram) (k m : ℕ) (i : Insn) → IsForward p.code → at p.code k ≡ Some i
     → incoming p (next_of k i) m ≡ incoming p (suc k) m
-past p k m i layout is = elim (after_two k i) [
+past p k m i flow is = elim (after_two k i) [
   | inl one ↦ ap (λ n. incoming p n m) one
   | inr two ↦ ap (λ n. incoming p n m) two ∙ no_place p (suc k) m
-      (between p.code layout k i (suc k) is (omega arith) (omega (arith, two)))
+      (flow.between k (suc k) i is (omega arith) (omega (arith, two)))
 ]
 
 -- ---- what waits, and what falls through

@@ -9,7 +9,7 @@ use Rattle.bpf_insn.specs.declared.insn.Insn.{Insn}
 use Rattle.bpf_insn.specs.Program.{Program, at}
 use Rattle.bpf_semantics.specs.Program.{ShapedProgram}
 use Rattle.flow_check.specs.Edges.{next_of}
-use Rattle.flow_check.specs.Flow.{IsLayout}
+use Rattle.flow_check.specs.Flow.{IsForward}
 use Rattle.abs_value.specs.declared.state.AbsState.{AbsState}
 use Rattle.bpf_rules.specs.Transfer.{Edge, edge}
 use Rattle.bpf_verify.specs.Count.{count}
@@ -19,7 +19,7 @@ use Rattle.bpf_verify.specs.Kept.{jumps_to, ahead, most_ahead, jump_edges}
 use Rattle.bpf_verify.specs.Kept.{awaited, kept, greatest_kept}
 use Rattle.bpf_verify.specs.Sweep.{arrived, IsAdded, IsAwaited, IsSwept}
 use Rattle.bpf_verify.proofs.Counts.{count_same, count_within}
-use Rattle.bpf_verify.proofs.Places.{next_at, between, after}
+use Rattle.bpf_verify.proofs.Places.{after}
 use Rattle.bpf_verify.proofs.Joining.{with_edges, with_edges-to_place, with_edges-append, past}
 use Rattle.bpf_verify.proofs.Joining.{added_is, waits_cases, IsMost, added_most, added_len}
 
@@ -90,13 +90,13 @@ kept_over p k (suc d) none =
 
 -- ---- one place
 
-module _ (p : ShapedProgram) (k : ℕ) (i : Insn) (layout : IsLayout p.code)
+module _ (p : ShapedProgram) (k : ℕ) (i : Insn) (flow : IsForward p.code)
     (is : at p.code k ≡ Some i) where
   -- a place after an instruction is the next one, or behind it
   next_within : (m : ℕ) → k < m → IsSome (at p.code m) → next_of k i ≤ m
   next_within m lt some = elim (cases_lt m (next_of k i)) [
     | inl below ↦
-        let none = between p.code layout k i m is lt below in
+        let none = flow.between k m i is lt below in
         let no : is_some (at p.code m) ≡ false = ap is_some none in
         absurd (grind (arith, no, some))
     | inr above ↦ above
@@ -106,7 +106,7 @@ module _ (p : ShapedProgram) (k : ℕ) (i : Insn) (layout : IsLayout p.code)
   past_k m d lt = elim (cases_lt m k) [
     | inl below ↦ inl below
     | inr above ↦ elim (cases_lt k m) [
-      | inl later ↦ inr (inr (between p.code layout k i m is later lt))
+      | inl later ↦ inr (inr (flow.between k m i is later lt))
       | inr not ↦ inr (inl (omega (arith, above, not)))
     ]
   ]
@@ -143,7 +143,7 @@ module _ (p : ShapedProgram) (k : ℕ) (i : Insn) (layout : IsLayout p.code)
         ≡ join_all (incoming p (next_of k i) m)
     unfolding incoming
     comes_then m lt within =
-        sym (ap join_all (past p k m i layout is) ∙ with_edges-to_place m
+        sym (ap join_all (past p k m i flow is) ∙ with_edges-to_place m
         (edges_of p.shape k (join_all (incoming p k k)) (at p.code k)) (incoming p k m)
         ∙ ap (λ ds. with_edges m ds (join_all (incoming p k m))) l.edges_are
         ∙ with_edges-append m (edge l.target l.jump) l.rest (join_all (incoming p k m))
@@ -220,7 +220,7 @@ module _ (p : ShapedProgram) (k : ℕ) (i : Insn) (layout : IsLayout p.code)
 
     pub swept_next : IsSwept p (next_of k i) here2 w2
     swept_next = record {
-      place = next_at p.code layout k i is;
+      place = flow.next k i is;
       len = added_len l.target l.jump w1 w2 l.added ∙ l.gave.len ∙ h.len;
       entry = λ within.
           let test : (next_of k i == next_of k i) ≡ true = grind arith in
@@ -256,7 +256,7 @@ module _ (p : ShapedProgram) (k : ℕ) (i : Insn) (layout : IsLayout p.code)
             let e : next_of k i - suc k + suc k ≡ next_of k i = omega (arith, lt) in
             subst (λ n. greatest_kept p n ≡ greatest_kept p (suc k)) e
             (kept_over p k (next_of k i - suc k)
-            (λ m later below. ap is_some (between p.code layout k i m is later
+            (λ m later below. ap is_some (flow.between k m i is later
             (omega (arith, below, e)))))
 
         exact_then : (is_some (entry_of p k) ≡ true) ⊎ (is_some (entry_of p k) ≡ false)

@@ -1,5 +1,5 @@
 -- One place is judged: what is known before and after.
-use Rattle.std.proofs.Common.{◌≡◌, ℕ, zero, suc, ◌<◌, ◌≤◌, List, [], ◌∷◌, ◌++◌}
+use Rattle.std.proofs.Common.{◌≡◌, ℕ, zero, suc, ◌<◌, ◌≤◌, List, [], ◌++◌}
 use Rattle.std.proofs.Common.{length, get_or, replicate, Option, Some, None}
 use Rattle.std.proofs.Common.{Bool, true, false, refl, sym, ap, subst, ◌∙◌, arith, inl, inr}
 use Rattle.std.specs.Prelude.{IfSome, is_some, ◌==◌, ◌||◌, if◌then◌else◌, option_to_list}
@@ -9,8 +9,8 @@ use Rattle.std.proofs.lemmas.Option.{same_Some, none-some}
 use Rattle.bpf_insn.specs.declared.insn.Insn.{Insn}
 use Rattle.bpf_insn.specs.Program.{Program, at, ◌>>=◌}
 use Rattle.bpf_semantics.specs.Program.{ShapedProgram}
-use Rattle.flow_check.specs.Edges.{target_of, goes_on, next_of}
-use Rattle.flow_check.specs.Flow.{IsLayout, IsForward, IsAhead}
+use Rattle.flow_check.specs.Edges.{target_of, goes_on, next_of, next_target}
+use Rattle.flow_check.specs.Flow.{IsForward, IsAhead}
 use Rattle.abs_value.specs.declared.state.AbsState.{AbsState}
 use Rattle.abs_value.specs.States.{opening_state}
 use Rattle.bpf_rules.specs.declared.refusal.VerifierRule.{VerifierRule}
@@ -20,7 +20,7 @@ use Rattle.bpf_verify.specs.Pool.{Waiting, waits_at, held, IsChanged}
 use Rattle.bpf_verify.specs.Accepted.{join_all, incoming, entry_of, IsFine, IsRefusedAt}
 use Rattle.bpf_verify.specs.Kept.{jumps_to, most_ahead, greatest_ahead, greatest_kept}
 use Rattle.bpf_verify.specs.Sweep.{arrived, falling, IsAdded, IsSwept, HasArrived}
-use Rattle.bpf_verify.proofs.Places.{at_within, start_at}
+use Rattle.bpf_verify.proofs.Places.{at_within}
 use Rattle.bpf_verify.proofs.Joining.{falls, arrived_none}
 use Rattle.bpf_verify.proofs.Swept.{swept_next, most_after}
 
@@ -33,7 +33,7 @@ first_ahead p k (Some v) rest u a e = subst (IsAhead p k) (same_Some v u e) a.0
 pub target_ahead : (p : Program) (k : ℕ) (i : Insn)
     → IsForward p → at p k ≡ Some i → (u : ℕ) → target_of k i ≡ Some u → IsAhead p k u
 target_ahead p k i flow is u e = first_ahead p k (target_of k i)
-    (if goes_on i then next_of k i ∷ [] else []) u (flow.ahead k i is) e
+    (option_to_list (next_target k i)) u (flow.ahead k i is) e
 
 jumps_here : (p : Program) (k u : ℕ) (i : Insn) → at p k ≡ Some i → target_of k i ≡ Some u
     → jumps_to p (suc k) u ≡ true
@@ -71,7 +71,7 @@ arrives p k fell here w w1 within h is gave same held = record {
   room = held;
 }
 
-module _ (p : ShapedProgram) (k : ℕ) (i : Insn) (layout : IsLayout p.code) (flow : IsForward p.code)
+module _ (p : ShapedProgram) (k : ℕ) (i : Insn) (flow : IsForward p.code)
     (is : at p.code k ≡ Some i) (here : Option AbsState) (w : Waiting)
     (a : HasArrived p k here w) where
   -- without an entry it isn't judged
@@ -82,7 +82,7 @@ module _ (p : ShapedProgram) (k : ℕ) (i : Insn) (layout : IsLayout p.code) (fl
   pub passed_over : here ≡ None → IsSwept p (next_of k i) here w
   passed_over none =
       let no : entry_of p k ≡ None = sym a.entry ∙ none in
-      rw none (swept_next p k i layout is a.fell None a.waited w w a.swept (record {
+      rw none (swept_next p k i flow is a.fell None a.waited w w a.swept (record {
         target = None;
         jump = None;
         rest = [];
@@ -126,7 +126,7 @@ module _ (p : ShapedProgram) (k : ℕ) (i : Insn) (layout : IsLayout p.code) (fl
     unfolding edges
     gone_on here2 w2 fine added falls_to =
         let entry : entry_of p k ≡ Some e = sym a.entry ∙ some in
-        rw falls_to (swept_next p k i layout is a.fell (falling p.shape k e i) a.waited w w2 a.swept
+        rw falls_to (swept_next p k i flow is a.fell (falling p.shape k e i) a.waited w w2 a.swept
         (record {
           target = target_of k i;
           jump = jumping e i;
@@ -149,12 +149,12 @@ module _ (p : ShapedProgram) (k : ℕ) (i : Insn) (layout : IsLayout p.code) (fl
 
 -- ---- start and end
 
-pub swept_start : (p : ShapedProgram) (here : Option AbsState) (w : Waiting) → IsLayout p.code
+pub swept_start : (p : ShapedProgram) (here : Option AbsState) (w : Waiting) → IsForward p.code
     → here ≡ Some opening_state → w.entries ≡ replicate (length p.code) None → w.most ≡ 0
     → IsSwept p 0 here w
 unfolding incoming most_ahead greatest_kept
-swept_start p here w layout opens none most = record {
-  place = start_at p.code layout;
+swept_start p here w flow opens none most = record {
+  place = inr flow.start;
   len = ap length none ∙ length-replicate {A = Option AbsState} (length p.code) None;
   entry = λ lt. let no = nones 0 in rw (no, opens) refl;
   later = λ m lt within. nones m ∙ sym (nothing m lt);

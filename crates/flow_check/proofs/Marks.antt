@@ -8,8 +8,8 @@ use Rattle.std.proofs.lemmas.Grind.{common_steps}
 use Rattle.std.proofs.lemmas.List.Elements.{All-contains}
 use Rattle.bpf_insn.specs.declared.insn.Insn.{Insn}
 use Rattle.bpf_insn.specs.Program.{Program, at}
-use Rattle.flow_check.proofs.Places.{ahead_at, at_within, next, contains_either}
-use Rattle.flow_check.specs.Edges.{target_of, successors, Reached, start, along}
+use Rattle.flow_check.proofs.Places.{ahead_at, at_within, contains_either}
+use Rattle.flow_check.specs.Edges.{target_of, next_target, successors, Reached, start, along}
 use Rattle.flow_check.specs.Flow.{LeadsAhead}
 use Rattle.flow_check.specs.Sweep.{IsMarked, IsMarkedTo, marked}
 
@@ -27,14 +27,15 @@ marked_here marks (Some t) m e lt = let same : t ≡ m = cc in rw same (grind (a
 
 pub marked_successors : (s : ℕ) (i : Insn) (old mid new : List Bool)
     → All (λ t. t < length old) (successors s i)
-    → mid ≡ marked old (target_of s i) → new ≡ marked mid (next s i) → length mid ≡ length old
+    → mid ≡ marked old (target_of s i) → new ≡ marked mid (next_target s i)
+    → length mid ≡ length old
     → (m : ℕ) → Contains (successors s i) m → IsMarked new m
 marked_successors s i old mid new within first second len m h =
     let lt : m < length old = All-contains (λ t. t < length old) (successors s i) m within h in
     subst (λ marks. IsMarked marks m) (sym second) (elim (contains_either s i m h) [
-      | inl e ↦ marked_kept mid (next s i) m
+      | inl e ↦ marked_kept mid (next_target s i) m
           (subst (λ marks. IsMarked marks m) (sym first) (marked_here old (target_of s i) m e lt))
-      | inr e ↦ marked_here mid (next s i) m e (omega arith)
+      | inr e ↦ marked_here mid (next_target s i) m e (omega arith)
     ])
 
 -- ---- the sweep

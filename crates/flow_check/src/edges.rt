@@ -4,9 +4,9 @@
 //! before F4.
 
 ghost use Rattle.std.specs.Prelude.{◌≡◌, ℕ, ◌<◌, ◌≤◌, IfSome, IfNone, length};
-ghost use Rattle.std.specs.Prelude.{Some, None, if◌then◌else◌};
+ghost use Rattle.std.specs.Prelude.{Some};
 ghost use Rattle.bpf_insn.specs.Program as program;
-ghost use Rattle.flow_check.specs.Edges.{jump_of, target_of, goes_on, next_of};
+ghost use Rattle.flow_check.specs.Edges.{jump_of, target_of, next_target};
 ghost use Rattle.flow_check.specs.Edges.{KeepsJump, KeepsEdges};
 ghost use Rattle.flow_check.specs.Fault.{IsEdgeFault};
 ghost use Rattle.flow_check.specs.Laid.{laid};
@@ -39,7 +39,7 @@ pub fn jump_target(slot: usize, insn: Insn) -> Option<usize>
 // open: slots from 4096 on, which no program has.
 pub fn next_place(slot: usize, insn: Insn) -> Option<usize>
     requires { slot < 4096 }
-    ensures { result ≡ (if goes_on insn then Some (next_of slot insn) else None) }
+    ensures { result ≡ next_target slot insn }
 {
     match insn {
         Insn::Jump { .. } | Insn::Exit => None,

@@ -13,7 +13,7 @@ use Rattle.bpf_insn.specs.declared.operand.Distance.{Distance}
 use Rattle.bpf_insn.specs.Spelling.{width_of}
 use Rattle.bpf_insn.specs.Program.{Program, ◌>>=◌, at, landing, slots_moved}
 use Rattle.flow_check.specs.Edges.{Reached, start, along, jump_of, target_of}
-use Rattle.flow_check.specs.Edges.{goes_on, next_of, successors, KeepsEdges}
+use Rattle.flow_check.specs.Edges.{goes_on, next_of, next_target, successors, KeepsEdges}
 use Rattle.flow_check.specs.declared.fault.FlowRule.TheVariants.{BackJump, Outside}
 use Rattle.flow_check.specs.declared.fault.FlowRule.TheVariants.{InsideWide, FallsOff}
 use Rattle.flow_check.specs.Flow.{IsFlow}
@@ -94,9 +94,9 @@ module _ (shape : AppShape) (p : Program) (ds : List Known) (typed : IsTyped sha
   contains_next s i on =
       let here : Contains (next_of s i ∷ []) (next_of s i) = (0, omega arith, refl) in
       Contains-append_right (option_to_list (target_of s i))
-      (if goes_on i then next_of s i ∷ [] else []) (next_of s i)
-      (subst (λ (b : Bool). Contains (if b then next_of s i ∷ [] else []) (next_of s i))
-      (sym on) here)
+      (option_to_list (next_target s i)) (next_of s i)
+      (subst (λ (b : Bool). Contains (option_to_list (if b then Some (next_of s i) else None))
+      (next_of s i)) (sym on) here)
 
   -- where something stands behind an instruction, it goes on
   goes_there : (q : Program) (es : List Known) (d : Known) (i : Insn) (k : ℕ) (b : Bool)

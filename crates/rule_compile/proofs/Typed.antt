@@ -11,13 +11,13 @@ use Rattle.bpf_insn.specs.declared.insn.Width.TheVariants.{One, Two}
 use Rattle.bpf_insn.specs.declared.operand.Distance.{Distance}
 use Rattle.bpf_insn.specs.Spelling.{width_of, slots_of}
 use Rattle.bpf_insn.specs.Program.{Program, ◌>>=◌, at, landing, slots_moved}
-use Rattle.flow_check.specs.Edges.{jump_of, target_of, goes_on, next_of}
+use Rattle.flow_check.specs.Edges.{jump_of, target_of, goes_on, next_of, next_target}
 use Rattle.cells.specs.Arrays.{AppShape}
 use Rattle.abs_value.specs.declared.state.AbsState.{AbsState}
 use Rattle.abs_value.specs.States.{opening_state}
 use Rattle.bpf_rules.specs.Rules.{first_rule}
 use Rattle.bpf_rules.specs.Transfer.{Edge, edge, edges, jumping, going_on}
-use Rattle.bpf_rules.specs.Transfer.{jump_edge, next_edge, next_target}
+use Rattle.bpf_rules.specs.Transfer.{jump_edge, next_edge}
 use Rattle.bpf_verify.specs.Table.{Known, Knows, IsTable}
 
 -- past the list nothing is known

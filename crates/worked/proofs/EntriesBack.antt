@@ -22,11 +22,11 @@ use Rattle.abs_value.specs.declared.value.Abs.{Abs}
 use Rattle.abs_value.specs.declared.value.Abs.TheVariants.{Num}
 use Rattle.abs_value.specs.Numbers.{single}
 use Rattle.abs_value.specs.States.{value_of, operand_value, opening_state, join_states}
-use Rattle.flow_check.specs.Edges.{target_of}
+use Rattle.flow_check.specs.Edges.{target_of, next_target}
 use Rattle.bpf_rules.specs.Memory.{stack_place}
 use Rattle.bpf_rules.specs.Transfer.{loaded_at, stored_at, fetched_value}
 use Rattle.bpf_rules.specs.Transfer.{with_fetched, after, jumping, going_on}
-use Rattle.bpf_rules.specs.Transfer.{Edge, edge, edges, next_target}
+use Rattle.bpf_rules.specs.Transfer.{Edge, edge, edges}
 use Rattle.bpf_verify.specs.Accepted.{to_place, joined, join_all, edges_of, incoming, entry_of}
 use Rattle.worked.specs.LooksBack.{LooksBack, StateLooksBack}
 use Rattle.worked.proofs.ValuesBack as value

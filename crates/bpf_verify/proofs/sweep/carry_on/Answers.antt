@@ -9,7 +9,7 @@ use Rattle.bpf_verify.proofs.sweep.carry_on.Goals as goal
 pub returns-then-not-entries-clause-swept : goal.returns-then-not-entries-clause-swept
 returns-then-not-entries-clause-swept c =
     passed_over (shaped c.args.flow.now c.args.shape.now) c.args.slot c.args.insn.now
-    c.keeps.ensures.flow.program c.keeps.ensures.forward c.requires.place
+    c.keeps.ensures.forward c.requires.place
     (at_hand c.args.entries.now) c.args.entries.now.waiting c.requires.here
     (rw c.if-not-entries.true refl)
 
@@ -31,7 +31,7 @@ go_on-requires c =
 pub returns-clause-swept : goal.returns-clause-swept
 returns-clause-swept c =
     gone_on (shaped c.args.flow.now c.args.shape.now) c.args.slot c.args.insn.now
-    c.keeps.ensures.flow.program c.keeps.ensures.forward c.requires.place
+    c.keeps.ensures.forward c.requires.place
     (at_hand c.args.entries.now) c.args.entries.now.waiting c.requires.here
     c.args.entries.now.here (rw c.if-not-entries.false refl)
     (at_hand c.go_on.new.self) c.go_on.new.self.waiting c.requires.fine
