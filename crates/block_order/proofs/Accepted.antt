@@ -1,5 +1,5 @@
 -- A program that the flow check accepts is its own order.
-use Rattle.std.proofs.Common.{◌≡◌, ℕ, zero, suc, ◌+◌, ◌*◌, ◌<◌, ◌≤◌, ℤ, pos, negsuc, ◌≤ℤ◌}
+use Rattle.std.proofs.Common.{◌≡◌, ℕ, zero, suc, ◌+◌, ◌<◌, ◌≤◌, ℤ, pos, negsuc, ◌≤ℤ◌}
 use Rattle.std.proofs.Common.{List, [], ◌∷◌, ◌++◌, length}
 use Rattle.std.proofs.Common.{Option, Some, None, refl, sym, ap, subst, ◌∙◌, arith, inl, inr}
 use Rattle.std.specs.Prelude.{IsSome, option_to_list}
@@ -13,7 +13,6 @@ use Rattle.flow_check.specs.Fault.{IsRead}
 use Rattle.flow_check.specs.Flow.{IsFlow, IsAhead, IsForward, program_bytes}
 use Rattle.block_order.specs.Order.{Places, GoesOnAt, IsKeptAs, IsOrderOf, IsOrdered}
 use Rattle.block_order.specs.Order.{LeavesJumps, other, jumped}
-use Rattle.block_order.proofs.Layouts.{length_program_bytes}
 use Rattle.block_order.proofs.Places.{at_within}
 
 -- each instruction at its own slot
@@ -103,22 +102,11 @@ own_order p f = record {
       leave_own p f (length p) s (omega arith) (subst IsSome (sym o.1) refl);
 }
 
-accepted_read : (bytes : List ℕ) (p : Program) → IsFlow p → program_bytes p ≡ bytes → IsRead bytes p
-accepted_read bytes p flow is =
-    let size : length bytes ≡ 8 * length p =
-    sym (ap length is) ∙ length_program_bytes p flow.program in
-    record {
-      some = omega (arith, size, flow.some);
-      short = omega (arith, size, flow.short);
-      program = flow.program;
-      bytes_are = is;
-    }
-
 pub ordered_itself : (bytes copy : List ℕ) (p : Program) → IsFlow p → IsForward p
-    → program_bytes p ≡ bytes → copy ≡ bytes → IsOrdered bytes copy
-ordered_itself bytes copy p flow forward is same = record {
+    → IsRead (program_bytes p) p → program_bytes p ≡ bytes → copy ≡ bytes → IsOrdered bytes copy
+ordered_itself bytes copy p flow forward read is same = record {
   old = p;
-  read = accepted_read bytes p flow is;
+  read = subst (λ (b : List ℕ). IsRead b p) is read;
   order = record {
     new = p;
     accepted = (flow, is ∙ sym same);

@@ -1,7 +1,6 @@
 pub mod Lockstep
 pub mod Steps
 pub mod Runs
-pub mod Layouts
 pub mod Places
 pub mod Marks
 pub mod Straight

@@ -1,12 +1,14 @@
 -- What is wrong with the marked places is a refusal of the bytes, and F7 where nothing is.
-use Rattle.std.proofs.Common.{◌≡◌, ℕ, ◌<◌, Bool, List, Some, refl, inl, inr}
+use Rattle.std.proofs.Common.{◌≡◌, ℕ, ◌<◌, Bool, List, Some, refl, arith, inl, inr}
 use Rattle.bpf_insn.specs.declared.insn.Insn.{Insn}
 use Rattle.bpf_insn.specs.Program.{Program, at}
 use Rattle.flow_check.specs.declared.fault.FlowRule.{FlowRule}
 use Rattle.flow_check.specs.declared.fault.FlowRule.TheVariants.{BackJump, Outside}
-use Rattle.flow_check.specs.declared.fault.FlowRule.TheVariants.{InsideWide, FallsOff, TooLong}
-use Rattle.flow_check.specs.declared.fault.FlowFault.TheVariants.{Rule}
-use Rattle.flow_check.specs.Fault.{IsRead}
+use Rattle.flow_check.specs.declared.fault.FlowRule.TheVariants.{InsideWide, FallsOff}
+use Rattle.flow_check.specs.declared.fault.FlowRule.TheVariants.{Empty, TooLong, Insn as NoInsn}
+use Rattle.flow_check.specs.declared.fault.FlowFault.{FlowFault}
+use Rattle.flow_check.specs.declared.fault.FlowFault.TheVariants.{Rule, Memory}
+use Rattle.flow_check.specs.Fault.{IsFlowFault, IsOfReading, IsRead}
 use Rattle.flow_check.specs.Sweep.{IsMarked}
 use Rattle.block_order.specs.Reach.{ReachedFrom, AreReachedFrom}
 use Rattle.block_order.specs.Refusal.{IsStray, StaysWithin, ClosesCycle, IsStrayBy}
@@ -21,6 +23,15 @@ stray_at p s Outside (i, t, is, lands, past) = (i, is)
 stray_at p s InsideWide (i, t, is, lands, half) = (i, is)
 stray_at p s FallsOff (i, is, goes, ends) = (i, is)
 stray_at p s rule stray = absurd stray
+
+-- bytes that can't be read are refused alike
+pub unread : (bytes : List ℕ) (e : FlowFault) → IsFlowFault bytes e → IsOfReading e
+    → IsOrderFault bytes e
+unread bytes (Rule s Empty) fault kind = fault
+unread bytes (Rule s TooLong) fault kind = (fault.1, inl fault.0)
+unread bytes (Rule s (NoInsn e)) fault kind = fault
+unread bytes (Rule s rule) fault kind = absurd (omega (arith, kind))
+unread bytes Memory fault kind = tt
 
 module _ (p : Program) (marks : List Bool) (reached : AreReachedFrom p 0 marks) where
   within_reached : (s : ℕ) → (IsMarked marks s → StaysWithin p s) → ReachedFrom p 0 s

@@ -23,8 +23,6 @@ use bpf_insn::Insn;
 use flow_check::{Flow, FlowFault, FlowRule};
 use std::alloc::{AllocError, Global};
 
-const MAX_BYTES: usize = 32768;
-
 /// Whether the flow check accepts the bytes, and they are the program in order.
 fn is_kept_by(
     alloc: Global,
@@ -122,18 +120,6 @@ fn rearranged(alloc: Global, bytes: &[u8]) -> Result<Vec<u8>, FlowFault>
     ensures program { IfOk result (λ v. IsOrdered bytes.now v.items) }
     ensures fault { IfErr result (λ e. IsOrderFault bytes.now e) }
 {
-    if bytes.is_empty() {
-        return Err(FlowFault::Rule {
-            slot: 0,
-            rule: FlowRule::Empty,
-        });
-    }
-    if bytes.len() > MAX_BYTES {
-        return Err(FlowFault::Rule {
-            slot: 0,
-            rule: FlowRule::TooLong,
-        });
-    }
     let code = read(alloc, bytes)?;
     in_order(alloc, &code)
 }

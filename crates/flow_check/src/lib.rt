@@ -18,4 +18,4 @@ pub use fault::{FlowFault, FlowRule};
 pub use flow::Flow;
 pub use law::one_verdict;
 pub use read::read_program;
-pub use slots::is_wide;
+pub use slots::{is_wide, laid_out};

@@ -6,6 +6,7 @@ use bpf_insn::Insn;
 use bpf_verify::Verified;
 use cells::{Directory, Shape};
 use declarations::{declare_all, read_spec};
+use flow_check::laid_out;
 use std::alloc::Global;
 use std::sync::Arc;
 use std::test::Fail;
@@ -28,9 +29,5 @@ pub(crate) fn attributes(alloc: Global, version: &str) -> Result<Arc<Attrs>, Fai
 
 /// The instructions of a program, slot by slot.
 pub(crate) fn code_of(alloc: Global, program: &Verified) -> Result<Vec<Option<Insn>>, Fail> {
-    let mut code: Vec<Option<Insn>> = Vec::new(alloc);
-    for slot in 0..program.len() {
-        code.push(program.at(slot))?;
-    }
-    Ok(code)
+    Ok(laid_out(alloc, program.code())?)
 }

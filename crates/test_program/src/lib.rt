@@ -29,6 +29,8 @@ mod pointers;
 #[cfg(test)]
 mod quotas;
 #[cfg(test)]
+mod reading;
+#[cfg(test)]
 mod row;
 #[cfg(test)]
 mod stack;

@@ -1,6 +1,6 @@
 -- The slots of a program, and the line of a step.
-use Rattle.std.proofs.Common.{◌≡◌, ℕ, zero, suc, ◌+◌, ◌<◌, List, [], ◌∷◌, ◌++◌, length, take}
-use Rattle.std.proofs.Common.{ap, ◌∙◌, refl, arith, add-one, append_assoc}
+use Rattle.std.proofs.Common.{◌≡◌, ℕ, zero, suc, ◌+◌, ◌<◌, List, [], ◌∷◌, ◌++◌, length}
+use Rattle.std.proofs.Common.{ap, ◌∙◌, refl, arith, append_assoc}
 use Rattle.std.proofs.Common.{Option, Some, IsSome}
 use Rattle.std.proofs.lemmas.Bool.{false≢true}
 use Rattle.bpf_insn.specs.declared.insn.Insn.{Insn}
@@ -10,16 +10,6 @@ use Rattle.cells.specs.Arrays.{AppShape}
 use Rattle.bpf_semantics.specs.State.{State}
 use Rattle.cells.specs.declared.event.CellEvent.{CellEvent}
 use Rattle.trace.specs.Lines.{step_line, line_between}
-
-next_slot : (p : Program) (s : ℕ) → s < length p → take (suc s) p ≡ take s p ++ at p s ∷ []
-next_slot [] s within = absurd (omega (arith, within))
-next_slot (i ∷ p) zero within = refl
-next_slot (i ∷ p) (suc s) within =
-    ap (λ (q : Program). i ∷ q) (next_slot p s (omega (arith, within)))
-
-pub one_slot_more : (p : Program) (s : ℕ) → s < length p
-    → take (s + 1) p ≡ take s p ++ at p s ∷ []
-one_slot_more p s within = rw add-one (next_slot p s within)
 
 -- what is written part by part is written as a whole
 pub gathered : (o w a b c d e : List ℕ)

@@ -10,6 +10,7 @@ use bpf_insn::Insn;
 use bpf_semantics::counts_instructions;
 use bpf_verify::Verified;
 use cells::PlainCells;
+use flow_check::laid_out;
 use reference::{Interpreter, Observed};
 use std::alloc::{AllocError, Global};
 use std::sync::Arc;
@@ -65,10 +66,5 @@ pub fn trace(alloc: Global, program: &Verified, attrs: Arc<Attrs>) -> Result<Tra
 fn slots_of(alloc: Global, program: &Verified) -> Result<Vec<Option<Insn>>, AllocError>
     ensures { IfOk result (λ code. code.items ≡ program.now.code) }
 {
-    program.keeps();
-    let mut code = Vec::with_capacity(alloc, program.len())?;
-    for slot in 0..program.len() {
-        code.push(program.at(slot))?;
-    }
-    Ok(code)
+    Ok(laid_out(alloc, program.code())?)
 }

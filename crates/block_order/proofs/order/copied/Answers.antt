@@ -6,4 +6,4 @@ pub returns-clause-program : goal.returns-clause-program
 returns-clause-program c =
     let same : c.in_ok-copy.copy.items ≡ c.args.bytes.now = search rules in
     ordered_itself c.args.bytes.now c.in_ok-copy.copy.items c.args.flow.now c.keeps.ensures.flow
-    c.keeps.ensures.forward c.requires same
+    c.keeps.ensures.forward c.keeps.ensures.read c.requires same
