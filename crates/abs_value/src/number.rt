@@ -129,7 +129,7 @@ impl Number {
     }
 
     /// Whether both are the same.
-    fn is_same(self, other: Number) -> bool
+    pub fn is_same(self, other: Number) -> bool
         ensures { result ≡ numbers.is_same self other }
     {
         self.range.lo == other.range.lo

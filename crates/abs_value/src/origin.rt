@@ -15,7 +15,8 @@ pub struct Lookup {
 }
 
 impl Lookup {
-    pub(crate) fn is_same(self, other: Lookup) -> bool
+    /// Whether both are the same.
+    pub fn is_same(self, other: Lookup) -> bool
         ensures { result ≡ values.same_lookup self other }
     {
         self.array == other.array && self.slot == other.slot
@@ -52,7 +53,8 @@ impl Origin {
         }
     }
 
-    pub(crate) fn is_same(self, other: Origin) -> bool
+    /// Whether both are the same.
+    pub fn is_same(self, other: Origin) -> bool
         ensures { result ≡ values.same_origin self other }
     {
         match (self, other) {

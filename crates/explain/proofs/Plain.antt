@@ -23,6 +23,7 @@ use Rattle.abs_value.specs.declared.state.AbsState.{AbsState}
 use Rattle.abs_value.specs.declared.value.Abs.{Abs}
 use Rattle.abs_value.specs.declared.value.Abs.TheVariants.{Unusable, Num, Ctx, Stk}
 use Rattle.abs_value.specs.declared.value.Abs.TheVariants.{Map, MayCell, Cell}
+use Rattle.abs_value.specs.Known.{unknown}
 use Rattle.abs_value.specs.States.{value_of}
 use Rattle.abs_value.specs.Stack.{loaded_from}
 use Rattle.bpf_rules.specs.Memory.{stack_place}
@@ -88,7 +89,7 @@ range_plain lo hi =
 
 bit_plain : (a : Number) (j : ℕ) → IsPlain (values.bit_text a j)
 bit_plain a j =
-    either (bit_at (values.unknown_bits a) j == 1) (word (codes "x") refl)
+    either (bit_at (unknown a.bits) j == 1) (word (codes "x") refl)
     (either (bit_at a.bits.has j == 1) (word (codes "1") refl) (word (codes "0") refl))
 
 lowest_plain : (a : Number) (n : ℕ) → IsPlain (values.lowest_bits a n)

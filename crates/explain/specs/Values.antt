@@ -1,6 +1,6 @@
 -- What is known of a value, in words.
 use Rattle.std.specs.Prelude.{ℕ, zero, suc, ◌+◌, ◌*◌, ◌-◌, ◌/◌, ◌^◌, List, [], ◌++◌, codes}
-use Rattle.std.specs.Prelude.{Bool, ◌&&◌, not, ◌==◌, nat_le, nat_lt, if◌then◌else◌, bit_xor}
+use Rattle.std.specs.Prelude.{Bool, ◌&&◌, not, ◌==◌, nat_le, nat_lt, if◌then◌else◌}
 use Rattle.std.specs.Prelude.{Option, Some, None, slice_get}
 use Rattle.std.specs.Fmt.{decimal}
 use Rattle.std.specs.Int.{bit_at}
@@ -15,6 +15,7 @@ use Rattle.abs_value.specs.declared.origin.Origin.TheVariants.{Found, Fixed}
 use Rattle.abs_value.specs.declared.value.Abs.{Abs}
 use Rattle.abs_value.specs.declared.value.Abs.TheVariants.{Unusable, Num, Ctx, Stk}
 use Rattle.abs_value.specs.declared.value.Abs.TheVariants.{Map, MayCell, Cell}
+use Rattle.abs_value.specs.Known.{unknown}
 
 -- ---- numbers
 
@@ -28,13 +29,9 @@ range_text lo hi =
 abbrev pub range_tells : Number → ℕ → Bool
 range_tells a j = a.range.lo / 2 ^ j == a.range.hi / 2 ^ j
 
--- the bits that aren't known
-abbrev pub unknown_bits : Number → ℕ
-unknown_bits a = bit_xor a.bits.has a.bits.may_have
-
 -- the j-th bit is known, and the range doesn't tell it
 abbrev pub says_more : Number → ℕ → Bool
-says_more a j = (bit_at (unknown_bits a) j == 0) && not (range_tells a j)
+says_more a j = (bit_at (unknown a.bits) j == 0) && not (range_tells a j)
 
 -- how many bits there are up to the highest one below k that says more
 abbrev pub telling_bits : Number → ℕ → ℕ
@@ -43,7 +40,7 @@ telling_bits a (suc j) = if says_more a j then suc j else telling_bits a j
 
 abbrev pub bit_text : Number → ℕ → List ℕ
 bit_text a j =
-    if bit_at (unknown_bits a) j == 1 then codes "x"
+    if bit_at (unknown a.bits) j == 1 then codes "x"
     else if bit_at a.bits.has j == 1 then codes "1" else codes "0"
 
 -- the lowest so many bits, the highest first

@@ -4,25 +4,20 @@ use Rattle.bpf_insn.specs.declared.insn.Insn.{Insn}
 use Rattle.bpf_insn.specs.declared.reg.Reg.{Reg}
 use Rattle.bpf_insn.specs.Table.{number_of}
 use Rattle.cells.specs.Arrays.{AppShape}
-use Rattle.abs_value.specs.declared.number.Number.{Number}
 use Rattle.abs_value.specs.declared.state.AbsState.{AbsState}
 use Rattle.abs_value.specs.declared.value.Abs.{Abs}
 use Rattle.abs_value.specs.declared.value.Abs.TheVariants.{Unusable, Num, Ctx, Stk}
 use Rattle.abs_value.specs.declared.value.Abs.TheVariants.{Map, MayCell, Cell}
+use Rattle.abs_value.specs.Numbers.{is_same}
 use Rattle.abs_value.specs.States.{register_at}
 use Rattle.abs_value.specs.Values.{same_lookup, same_origin}
 use Rattle.bpf_verify.specs.Sweep.{falling}
 use Rattle.explain.specs.declared.way.Way.{Way}
 
--- the same is known of two numbers
-abbrev pub same_number : Number → Number → Bool
-same_number a b =
-    (a.range.lo == b.range.lo) && (a.range.hi == b.range.hi) && (a.bits.has == b.bits.has)
-    && (a.bits.may_have == b.bits.may_have)
-
+-- the same is known of two values
 abbrev pub same_value : Abs → Abs → Bool
 same_value Unusable Unusable = true
-same_value (Num a) (Num b) = same_number a b
+same_value (Num a) (Num b) = is_same a b
 same_value (Ctx a) (Ctx b) = (a.lo == b.lo) && (a.hi == b.hi)
 same_value (Stk a) (Stk b) = a == b
 same_value (Map a) (Map b) = a == b

@@ -1,10 +1,9 @@
 //! What changed on the way to a place.
 
 ghost use Rattle.std.specs.Prelude.{◌≡◌, ◌<◌};
-ghost use Rattle.abs_value.specs.Values as values;
-ghost use Rattle.explain.specs.Way as specs;
+ghost use Rattle.explaining.specs.Way as specs;
 
-use abs_value::{Abs, AbsState, Number, Origin};
+use abs_value::{Abs, AbsState};
 use bpf_insn::{Insn, Reg};
 use bpf_rules::go_on_in;
 use cells::Shape;
@@ -53,37 +52,18 @@ impl Way {
     }
 }
 
-fn same_number(a: Number, b: Number) -> bool
-    ensures { result ≡ specs.same_number a b }
-{
-    a.range.lo == b.range.lo
-        && a.range.hi == b.range.hi
-        && a.bits.has == b.bits.has
-        && a.bits.may_have == b.bits.may_have
-}
-
-fn same_origin(a: Origin, b: Origin) -> bool
-    ensures { result ≡ values.same_origin a b }
-{
-    match (a, b) {
-        (Origin::Found(a), Origin::Found(b)) => a.array == b.array && a.slot == b.slot,
-        (Origin::Fixed(a), Origin::Fixed(b)) => a == b,
-        _ => false,
-    }
-}
-
 // Whether the same is known of two values.
 fn same_value(a: Abs, b: Abs) -> bool
     ensures { result ≡ specs.same_value a b }
 {
     match (a, b) {
         (Abs::Unusable, Abs::Unusable) => true,
-        (Abs::Num(a), Abs::Num(b)) => same_number(a, b),
+        (Abs::Num(a), Abs::Num(b)) => a.is_same(b),
         (Abs::Ctx(a), Abs::Ctx(b)) => a.lo == b.lo && a.hi == b.hi,
         (Abs::Stk { place: a }, Abs::Stk { place: b }) => a == b,
         (Abs::Map { index: a }, Abs::Map { index: b }) => a == b,
-        (Abs::MayCell(a), Abs::MayCell(b)) => a.array == b.array && a.slot == b.slot,
-        (Abs::Cell(a), Abs::Cell(b)) => same_origin(a, b),
+        (Abs::MayCell(a), Abs::MayCell(b)) => a.is_same(b),
+        (Abs::Cell(a), Abs::Cell(b)) => a.is_same(b),
         _ => false,
     }
 }
