@@ -1,17 +1,16 @@
 //! What is told of an instruction's registers, and of the slot of the stack that it reads.
 
-ghost use Rattle.std.specs.Prelude.{◌≡◌, ◌≤◌, ◌+◌, OnOk, IfSome, true};
+ghost use Rattle.std.specs.Prelude.{◌≡◌, OnOk, true};
 ghost use Rattle.bpf_text.specs.Listing.{Appends, with_sign};
-ghost use Rattle.bpf_semantics.specs.Memory.{stack_size};
-ghost use Rattle.bpf_rules.specs.Memory as memory;
-ghost use Rattle.explain.specs.Known as specs;
+ghost use Rattle.explaining.specs.Known as specs;
 
 use crate::reads::ReadRegisters;
 use crate::values::push_value;
 use crate::way::Way;
 use abs_value::{Abs, AbsState};
 use bpf_insn::{Insn, LoadKind, Reg};
-use bpf_semantics::{STACK_SIZE, load_count};
+use bpf_rules::stack_place;
+use bpf_semantics::load_count;
 use cells::Shape;
 use std::alloc::AllocError;
 use std::fmt::Write;
@@ -117,29 +116,6 @@ pub fn push_memory(text: &mut String, base: Reg, offset: i16) -> Result<(), Allo
     push_register(text, base)?;
     push_signed(text, offset)?;
     text.push_str("]")
-}
-
-fn lies_in_stack(place: u16, offset: i16, count: u16) -> bool
-    requires { count ≤ 8 }
-    ensures { result ≡ memory.lies_in stack_size place place offset count }
-{
-    let first = place as i64 + offset as i64;
-    let end = (place as i64 + count as i64) + offset as i64;
-    first >= 0 && end <= STACK_SIZE as i64
-}
-
-// The place in the stack where so many bytes lie; `None` where they don't all lie there.
-fn stack_place(address: Abs, offset: i16, count: u16) -> Option<u16>
-    requires { count ≤ 8 }
-    ensures place { result ≡ memory.stack_place address offset count }
-    ensures inside { IfSome result (λ place. place + count ≤ stack_size) }
-{
-    match address {
-        Abs::Stk { place } if lies_in_stack(place, offset, count) => {
-            Some((place as i64 + offset as i64) as u16)
-        }
-        _ => None,
-    }
 }
 
 fn push_slot_name(text: &mut String, src: Reg, offset: i16) -> Result<(), AllocError>
