@@ -1,11 +1,10 @@
 -- The rules: each is a test of an instruction, of what is known at its place, and of the shape.
-use Rattle.std.specs.Prelude.{◌+◌, Option, Some, None, is_none, Bool, true, false}
+use Rattle.std.specs.Prelude.{◌+◌, ◌∷◌, Option, Some, None, is_none, Bool, true, false}
 use Rattle.std.specs.Prelude.{◌&&◌, ◌||◌, not, nat_le, ◌==◌, if◌then◌else◌}
 use Rattle.std.specs.List.{list_any}
 use Rattle.bpf_insn.specs.declared.operand.AluOp.{AluOp}
 use Rattle.bpf_insn.specs.declared.operand.AluOp.TheVariants.{Add, Sub}
-use Rattle.bpf_insn.specs.declared.operand.AtomicOp.{AtomicOp}
-use Rattle.bpf_insn.specs.declared.operand.AtomicOp.TheVariants.{FetchAdd, CompareExchange}
+use Rattle.bpf_insn.specs.declared.operand.AtomicOp.TheVariants.{FetchAdd}
 use Rattle.bpf_insn.specs.declared.operand.Bits.{Bits}
 use Rattle.bpf_insn.specs.declared.operand.Bits.TheVariants.{Bits64}
 use Rattle.bpf_insn.specs.declared.reg.Reg.{Reg}
@@ -29,7 +28,7 @@ use Rattle.bpf_rules.specs.declared.helper.Helper.{Helper}
 use Rattle.bpf_rules.specs.declared.helper.Helper.TheVariants.{Lookup, AttrIs, AttrLen, Bucket}
 use Rattle.bpf_rules.specs.declared.refusal.VerifierRule.{VerifierRule}
 use Rattle.bpf_rules.specs.declared.refusal.VerifierRule.TheVariants as rule
-use Rattle.bpf_rules.specs.Reads.{helper_of, reads, writes}
+use Rattle.bpf_rules.specs.Reads.{helper_of, reads, writes, compared_register}
 use Rattle.bpf_rules.specs.Arrays.{wide_abs}
 use Rattle.bpf_rules.specs.Memory.{accesses, is_outside, changes_context, is_no_address}
 use Rattle.bpf_rules.specs.Memory.{exchanges_stack, reaches_quota, stack_place, is_slot}
@@ -141,18 +140,13 @@ exchanges_in_stack e i = accesses exchanges_stack e i
 
 -- ---- V7: a pointer is stored
 
--- compare-and-exchange compares with R0
-abbrev pub compares_r0 : AtomicOp → Bool
-compares_r0 CompareExchange = true
-compares_r0 op = false
-
 -- other than to a whole slot of the stack
 abbrev pub stores_pointer : AbsState → Insn → Bool
 stores_pointer e (Store size dst src offset) =
     is_pointer (value_of e src)
     && not (is_slot (stack_place (value_of e dst) offset (byte_count size)) (byte_count size))
 stores_pointer e (Atomic op size dst src offset) =
-    is_pointer (value_of e src) || (compares_r0 op && is_pointer (value_of e R0))
+    list_any (λ r. is_pointer (value_of e r)) (src ∷ compared_register op)
 stores_pointer e i = false
 
 -- ---- V10: a helper that isn't there, or arguments that it doesn't take

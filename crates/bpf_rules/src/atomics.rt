@@ -1,9 +1,8 @@
 //! Atomic operations (RFC 9669, "Atomic Operations"): the rules that they may break, and what they
 //! leave.
 
-ghost use Rattle.std.specs.Prelude.{◌≡◌, ◌&&◌, ◌||◌, ◌∷◌, ℤ};
+ghost use Rattle.std.specs.Prelude.{◌≡◌, ◌∷◌, ℤ, true};
 ghost use Rattle.std.specs.List.{list_any};
-ghost use Rattle.bpf_insn.specs.declared.reg.Reg.TheVariants.{R0};
 ghost use Rattle.bpf_semantics.specs.Counters as counters;
 ghost use Rattle.abs_value.specs.States.{value_of};
 ghost use Rattle.abs_value.specs.Values.{is_unusable, is_pointer};
@@ -31,7 +30,7 @@ fn fetches_frame(op: AtomicOp, src: Reg) -> bool
 
 /// Whether it compares with R0.
 fn compares(op: AtomicOp) -> bool
-    ensures { result ≡ rules.compares_r0 op }
+    ensures { result ≡ list_any (λ r. true) (reads.compared_register op) }
 {
     op == AtomicOp::CompareExchange
 }
@@ -64,8 +63,8 @@ fn reads_unusable(e: &AbsState, op: AtomicOp, dst: Reg, src: Reg) -> bool
 }
 
 fn stores_pointer(e: &AbsState, op: AtomicOp, src: Reg) -> bool
-    ensures { result ≡ (is_pointer (value_of e.now src)
-        || (rules.compares_r0 op && is_pointer (value_of e.now R0))) }
+    ensures { result ≡ list_any (λ r. is_pointer (value_of e.now r))
+        (src ∷ reads.compared_register op) }
 {
     e.value(src).is_pointer() || (compares(op) && e.value(Reg::R0).is_pointer())
 }
