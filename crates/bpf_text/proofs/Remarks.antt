@@ -1,26 +1,22 @@
 -- A listing with remarks assembles to the bytes of its instructions.
-use Rattle.std.proofs.Common.{◌≡◌, ℕ, List, [], ◌∷◌, ◌++◌, map, codes, Ok}
+use Rattle.std.proofs.Common.{◌≡◌, ℕ, List, [], ◌∷◌, ◌++◌, map, Ok}
 use Rattle.std.proofs.Common.{Bool, true, false, ◌&&◌, ◌||◌, ◌==◌, nat_le}
 use Rattle.std.proofs.Common.{refl, ap, ◌∙◌, append_assoc, arith}
 use Rattle.std.proofs.lemmas.List.Folds.{list_all-append}
 use Rattle.std.specs.List.{AllByRecursion}
-use Rattle.bpf_insn.specs.declared.insn.Insn.{Insn}
 use Rattle.bpf_insn.specs.Spelling.{IsEncodable}
 use Rattle.bpf_insn.specs.Program.{encodings}
-use Rattle.bpf_text.specs.Arguments.{mnemonic_of, arguments_of}
 use Rattle.bpf_text.specs.Assembly.{assembly_of, assembly_of_lines}
 use Rattle.bpf_text.specs.Lines.{Line, lines_in, read_line, line_if_tokens}
-use Rattle.bpf_text.specs.Listing.{text_behind}
-use Rattle.bpf_text.specs.Remarks.{is_blank_or_comment, IsRemark, RemarkedInsn, bare_line}
+use Rattle.bpf_text.specs.Remarks.{is_blank_or_comment, IsRemark, RemarkedInsn}
 use Rattle.bpf_text.specs.Remarks.{remarked_listing, insns_of, RemarksAreSkipped}
 use Rattle.bpf_text.specs.Tables.{tables}
 use Rattle.lexing.specs.Letter.{is_word_byte}
 use Rattle.bpf_text.specs.Tokens.{is_blank, word_goes_on}
 use Rattle.bpf_text.specs.Tokens.{pieces, tokens_in}
-use Rattle.bpf_text.specs.Words.{word_of}
 use Rattle.bpf_text.proofs.Back.{is_plain, plain_line, line_of_plain, lines_assemble}
 use Rattle.bpf_text.proofs.Exact.{by_tables}
-use Rattle.bpf_text.proofs.Rereading.{line_text, as_line, line_again, regroup}
+use Rattle.bpf_text.proofs.Rereading.{line_text, as_line, line_again, bare_is}
 
 -- ---- a remark has no pieces, and ends the word before it
 
@@ -75,12 +71,6 @@ plain_both : (xs ys : List ℕ) → is_plain xs ≡ true → is_plain ys ≡ tru
     → is_plain (xs ++ ys) ≡ true
 plain_both xs ys h k =
     list_all-append (λ c. nat_le 32 c) xs ys ∙ ap (λ (b : Bool). b && is_plain ys) h ∙ k
-
-bare_is : (i : Insn) → bare_line i ≡ line_text i
-bare_is i =
-    regroup (word_of (mnemonic_of i)) (text_behind (codes " ") ((arguments_of i).first))
-    (text_behind (codes ", ") ((arguments_of i).second))
-    (text_behind (codes ", ") ((arguments_of i).third))
 
 line_lines : (t r rest : List ℕ) → is_plain t ≡ true → IsRemark r
     → lines_in tables (t ++ r ++ (10 ∷ []) ++ rest) ≡ read_line tables t ∷ lines_in tables rest

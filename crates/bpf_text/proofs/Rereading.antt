@@ -15,7 +15,7 @@ use Rattle.bpf_text.specs.Arguments.{mnemonic_of, arguments_of}
 use Rattle.bpf_text.specs.Items.{Items, Tokens, items_of}
 use Rattle.bpf_text.specs.Lines.{AsmStatement, Line, Body, body_of}
 use Rattle.bpf_text.specs.Lines.{split_label, line_if_tokens, read_line}
-use Rattle.bpf_text.specs.Listing.{argument_text, text_behind, line_of}
+use Rattle.bpf_text.specs.Listing.{argument_text, text_behind, bare_line, line_of}
 use Rattle.bpf_text.specs.Operands.{items_as}
 use Rattle.bpf_text.specs.Signatures.{kinds_of}
 use Rattle.bpf_text.specs.Tables.{tables}
@@ -38,17 +38,19 @@ arguments_text a = text_behind (codes " ") a.first
 abbrev pub line_text : Insn → List ℕ
 line_text i = word_of (mnemonic_of i) ++ arguments_text (arguments_of i)
 
-pub regroup : (w a b c : List ℕ) → ((w ++ a) ++ b) ++ c ≡ w ++ (a ++ (b ++ (c ++ [])))
+regroup : (w a b c : List ℕ) → ((w ++ a) ++ b) ++ c ≡ w ++ (a ++ (b ++ (c ++ [])))
 regroup w a b c =
     append_assoc (w ++ a) b c ∙ append_assoc w a (b ++ c)
     ∙ ap (λ (d : List ℕ). w ++ (a ++ (b ++ d))) (sym (append-nil c))
 
-pub line_ends : (i : Insn) → line_of i ≡ line_text i ++ (10 ∷ [])
-line_ends i =
-    ap (λ (t : List ℕ). t ++ (10 ∷ []))
-    (regroup (word_of (mnemonic_of i)) (text_behind (codes " ") ((arguments_of i).first))
+pub bare_is : (i : Insn) → bare_line i ≡ line_text i
+bare_is i =
+    regroup (word_of (mnemonic_of i)) (text_behind (codes " ") ((arguments_of i).first))
     (text_behind (codes ", ") ((arguments_of i).second))
-    (text_behind (codes ", ") ((arguments_of i).third)))
+    (text_behind (codes ", ") ((arguments_of i).third))
+
+pub line_ends : (i : Insn) → line_of i ≡ line_text i ++ (10 ∷ [])
+line_ends i = ap (λ (t : List ℕ). t ++ (10 ∷ [])) (bare_is i)
 
 -- ---- its numbers are short
 

@@ -50,14 +50,16 @@ abbrev pub text_behind : List ℕ → Option Argument → List ℕ
 text_behind divider None = []
 text_behind divider (Some a) = divider ++ argument_text a
 
--- the line of an instruction
-abbrev pub line_of : Insn → List ℕ
-line_of i =
+-- the line of an instruction without the line feed that ends it
+abbrev pub bare_line : Insn → List ℕ
+bare_line i =
     word_of (mnemonic_of i)
     ++ text_behind (codes " ") ((arguments_of i).first)
     ++ text_behind (codes ", ") ((arguments_of i).second)
     ++ text_behind (codes ", ") ((arguments_of i).third)
-    ++ codes "\n"
+
+abbrev pub line_of : Insn → List ℕ
+line_of i = bare_line i ++ codes "\n"
 
 -- the lines of a list of instructions
 abbrev pub listing_of : List Insn → List ℕ

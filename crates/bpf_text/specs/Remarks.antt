@@ -5,11 +5,9 @@ use Rattle.std.specs.List.{AllByRecursion, list_all}
 use Rattle.bpf_insn.specs.declared.insn.Insn.{Insn}
 use Rattle.bpf_insn.specs.Spelling.{IsEncodable}
 use Rattle.bpf_insn.specs.Program.{encodings, layout}
-use Rattle.bpf_text.specs.Arguments.{mnemonic_of, arguments_of}
 use Rattle.bpf_text.specs.Assembly.{Assembles}
-use Rattle.bpf_text.specs.Listing.{text_behind}
+use Rattle.bpf_text.specs.Listing.{bare_line}
 use Rattle.bpf_text.specs.Tokens.{is_blank}
-use Rattle.bpf_text.specs.Words.{word_of}
 
 -- blanks, and behind them nothing or a comment
 abbrev pub is_blank_or_comment : List ℕ → Bool
@@ -26,15 +24,6 @@ pub record RemarkedInsn : Type 0 where
   pub insn : Insn
   pub remark : List ℕ
 
--- the line of an instruction without the line feed that ends it
-abbrev pub bare_line : Insn → List ℕ
-bare_line i =
-    word_of (mnemonic_of i)
-    ++ text_behind (codes " ") ((arguments_of i).first)
-    ++ text_behind (codes ", ") ((arguments_of i).second)
-    ++ text_behind (codes ", ") ((arguments_of i).third)
-
--- a listing with a remark behind each line
 abbrev pub remarked_listing : List RemarkedInsn → List ℕ
 remarked_listing [] = []
 remarked_listing (l ∷ ls) =

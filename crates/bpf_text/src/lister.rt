@@ -1,6 +1,6 @@
 //! The listing: a line an instruction, from the bytes' first slot to their end.
 
-ghost use Rattle.std.specs.Prelude.{◌≡◌, ◌*◌, ◌<◌, ◌≤◌, ◌++◌, length, OnOk, IfOk, IfErr, codes};
+ghost use Rattle.std.specs.Prelude.{◌≡◌, ◌*◌, ◌<◌, length, OnOk, IfOk, IfErr};
 ghost use Rattle.std.specs.String.{string_bytes};
 ghost use Rattle.std.specs.Fmt.{decimal, signed_decimal};
 ghost use Rattle.bpf_text.specs.Listing.{
@@ -9,6 +9,7 @@ ghost use Rattle.bpf_text.specs.Listing.{
   with_sign,
   argument_text,
   text_behind,
+  bare_line,
   line_of,
   Lists,
   IsListFault,
@@ -21,7 +22,6 @@ ghost use Rattle.bpf_text.specs.Words.{word_of};
 use crate::argument::{Argument, arguments_of, mnemonic_of};
 use crate::fault::ListFault;
 use crate::mnemonic::Mnemonic;
-use crate::three::UpToThree;
 use bpf_insn::{Distance, Insn, Reg, Width, decode_at};
 use std::alloc::{AllocError, Global};
 use std::fmt::Write;
@@ -85,7 +85,7 @@ fn push_argument(out: &mut String, argument: Argument) -> Result<(), AllocError>
 }
 
 /// Writes an argument, if there is one, behind what divides it from what stands before it.
-pub fn push_behind(
+fn push_behind(
     out: &mut String,
     divider: &str,
     argument: Option<Argument>,
@@ -100,31 +100,30 @@ pub fn push_behind(
 }
 
 /// Writes the word of a mnemonic.
-pub fn push_word(out: &mut String, mnemonic: Mnemonic) -> Result<(), AllocError>
+fn push_word(out: &mut String, mnemonic: Mnemonic) -> Result<(), AllocError>
     ensures { OnOk result (Appends out.old out.new (word_of mnemonic)) }
 {
     out.push_str(mnemonic.stem())?;
     out.push_str(mnemonic.suffix())
 }
 
-// The arguments behind the word, and the line's end.
-fn push_arguments(out: &mut String, arguments: UpToThree<Argument>) -> Result<(), AllocError>
-    ensures { OnOk result (Appends out.old out.new (text_behind (codes " ") arguments.first
-        ++ text_behind (codes ", ") arguments.second ++ text_behind (codes ", ") arguments.third
-        ++ codes "\n")) }
+/// Writes the line of an instruction without the LF that ends it.
+pub fn push_bare_line(out: &mut String, insn: Insn) -> Result<(), AllocError>
+    ensures { OnOk result (Appends out.old out.new (bare_line insn)) }
 {
+    let arguments = arguments_of(insn);
+    push_word(out, mnemonic_of(insn))?;
     push_behind(out, " ", arguments.first)?;
     push_behind(out, ", ", arguments.second)?;
-    push_behind(out, ", ", arguments.third)?;
-    out.push_str("\n")
+    push_behind(out, ", ", arguments.third)
 }
 
 /// Writes the line of an instruction.
 pub fn push_line(out: &mut String, insn: Insn) -> Result<(), AllocError>
     ensures { OnOk result (Appends out.old out.new (line_of insn)) }
 {
-    push_word(out, mnemonic_of(insn))?;
-    push_arguments(out, arguments_of(insn))
+    push_bare_line(out, insn)?;
+    out.push_str("\n")
 }
 
 // Writes the line of the instruction that begins at a slot, and answers the slot after it.

@@ -8,7 +8,8 @@ use Rattle.bpf_insn.specs.declared.insn.Insn.TheVariants.{Wide}
 use Rattle.bpf_insn.specs.Program.{Program, at, layout, encodings}
 use Rattle.bpf_insn.specs.Spelling.{IsEncodable, encoding}
 use Rattle.bpf_text.specs.Assembly.{Assembles}
-use Rattle.bpf_text.specs.Remarks.{is_blank_or_comment, IsRemark, RemarkedInsn, bare_line}
+use Rattle.bpf_text.specs.Listing.{bare_line}
+use Rattle.bpf_text.specs.Remarks.{is_blank_or_comment, IsRemark, RemarkedInsn}
 use Rattle.bpf_text.specs.Remarks.{remarked_listing, insns_of, RemarksAreSkipped}
 use Rattle.bpf_verify.specs.Accepted.{entry_of}
 use Rattle.abs_value.specs.declared.state.AbsState.{AbsState}

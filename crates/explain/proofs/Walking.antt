@@ -10,7 +10,8 @@ use Rattle.bpf_insn.specs.declared.insn.Insn.{Insn}
 use Rattle.bpf_insn.specs.declared.insn.Insn.TheVariants.{Wide}
 use Rattle.bpf_insn.specs.Program.{Program, at, layout, slots}
 use Rattle.bpf_insn.specs.Spelling.{width_of, slots_of}
-use Rattle.bpf_text.specs.Remarks.{bare_line, remarked_listing}
+use Rattle.bpf_text.specs.Listing.{bare_line}
+use Rattle.bpf_text.specs.Remarks.{remarked_listing}
 use Rattle.flow_check.specs.Edges.{next_of}
 use Rattle.flow_check.specs.Flow.{IsLayout}
 use Rattle.bpf_semantics.specs.Program.{ShapedProgram, shaped}

@@ -5,7 +5,8 @@ use Rattle.std.specs.Prelude.{Option, Some, None, true}
 use Rattle.std.specs.Fmt.{decimal}
 use Rattle.bpf_insn.specs.declared.insn.Insn.{Insn}
 use Rattle.bpf_insn.specs.Program.{Program, layout}
-use Rattle.bpf_text.specs.Remarks.{RemarkedInsn, bare_line, remarked_listing}
+use Rattle.bpf_text.specs.Listing.{bare_line}
+use Rattle.bpf_text.specs.Remarks.{RemarkedInsn, remarked_listing}
 use Rattle.cells.specs.Arrays.{AppShape}
 use Rattle.flow_check.specs.Edges.{next_of}
 use Rattle.bpf_semantics.specs.Program.{ShapedProgram, shaped}

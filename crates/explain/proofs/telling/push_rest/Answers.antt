@@ -1,5 +1,5 @@
 use Rattle.std.proofs.Common.{None, List, ℕ, ◌++◌, ◌∙◌, ap, arith, codes, string_bytes}
-use Rattle.bpf_text.specs.Remarks.{bare_line}
+use Rattle.bpf_text.specs.Listing.{bare_line}
 use Rattle.bpf_semantics.specs.Program.{shaped}
 use Rattle.explain.proofs.Texts.{bare_gathered}
 use Rattle.explain.proofs.Walking.{place_there, parts_next, tells_next, tells_whole}
