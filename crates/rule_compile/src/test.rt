@@ -4,7 +4,6 @@ ghost use Rattle.std.specs.Prelude.{◌≡◌, ◌<◌, ◌≤◌, ◌+◌, ◌^
 ghost use Rattle.std.specs.Prelude.{length, slice_get, slice_index, OnOk, IfOk, IfErr};
 ghost use Rattle.rule_compile.specs.Code as code;
 ghost use Rattle.rule_compile.specs.Ranges.{IsInRange};
-ghost use Rattle.rule_lang.specs.Meaning as meaning;
 ghost use Rattle.rule_lang.specs.Shapes as shapes;
 
 use crate::blocks::{put_bucket, put_field, put_flag, put_take};
@@ -17,7 +16,7 @@ use crate::versions::{put_equal, put_order};
 use attrs::Context;
 use bpf_insn::{Condition, LoadKind};
 use cells::{CellArray, Shape};
-use rule_lang::{Attribute, Comparison, Flag, Test};
+use rule_lang::{Comparison, Test};
 
 /// Where the days begin in the context.
 const TODAY: u8 = Context::TODAY_OFFSET;
@@ -35,35 +34,6 @@ fn condition_of(comparison: Comparison) -> Condition
         Comparison::Ne => Condition::Ne,
         Comparison::Ge => Condition::Ge,
         Comparison::Gt => Condition::Gt,
-    }
-}
-
-/// The bit of a flag in the context.
-fn flag_bit(flag: Flag) -> u8
-    ensures { result ≡ meaning.flag_bit flag }
-{
-    match flag {
-        Flag::VersionKnown => Context::VERSION_KNOWN,
-        Flag::Updatecheck => Context::UPDATECHECK,
-        Flag::Ping => Context::PING,
-        Flag::Event => Context::EVENT,
-        Flag::CohortKnown => Context::COHORT_KNOWN,
-        Flag::InstalldateKnown => Context::INSTALLDATE_KNOWN,
-    }
-}
-
-/// The number by which a helper knows an attribute.
-fn attribute_number(attribute: Attribute) -> u8
-    ensures { result ≡ meaning.attribute_number attribute }
-{
-    match attribute {
-        Attribute::Appid => 0,
-        Attribute::Version => 1,
-        Attribute::Brand => 2,
-        Attribute::Ap => 3,
-        Attribute::Lang => 4,
-        Attribute::Cohort => 5,
-        Attribute::Platform => 6,
     }
 }
 
@@ -191,10 +161,10 @@ pub fn put_test(rest: &mut Code, shape: &Shape, test: &Test, goal: Goal) -> Resu
             let condition = turned(sense, condition_of(*comparison));
             put_field(rest, LoadKind::Word, INSTALL_DAY, condition, *number, label)
         }
-        Test::Flag(flag) => put_flag(rest, flag_bit(*flag), sense, label),
+        Test::Flag(flag) => put_flag(rest, flag.bit(), sense, label),
         Test::Attr { attribute, text } => {
             let text = text.as_str().as_bytes();
-            put_attribute(rest, attribute_number(*attribute), text, sense, label)
+            put_attribute(rest, attribute.number(), text, sense, label)
         }
         Test::Take { array, index } => put_named_take(rest, shape, array.as_str(), *index, goal),
     }

@@ -4,8 +4,8 @@ ghost use Rattle.std.specs.Prelude.{◌≡◌, ◌++◌, OnOk, option_copied, st
 ghost use Rattle.rule_diagnosis.specs.Sentences as sentences;
 
 use crate::quoting::tell_lexeme;
-use crate::sentence::array_named;
 use cells::{CellArray, Shape};
+use rule_lang::array_named;
 use std::alloc::AllocError;
 use std::fmt::Write;
 

@@ -1,13 +1,14 @@
 //! What is said of a lexeme that is no word (L1), a name that isn't there (L3), or out of its range
 //! (L4).
 
-ghost use Rattle.std.specs.Prelude.{◌≡◌, ◌++◌, OnOk, flat_map, option_copied, string_bytes};
+ghost use Rattle.std.specs.Prelude.{◌≡◌, ◌++◌, OnOk, flat_map, string_bytes};
 ghost use Rattle.rule_diagnosis.specs.Sentences as sentences;
 ghost use Rattle.rule_lang.specs.Shapes as shapes;
 
 use crate::hint::hint;
 use crate::quoting::tell_lexeme;
 use cells::{CellArray, Shape};
+use rule_lang::array_named;
 use std::alloc::AllocError;
 use std::fmt::Write;
 
@@ -54,18 +55,6 @@ fn quota_hint() -> &'static str
     ensures { result.now ≡ sentences.quota_hint }
 {
     " has a quota: take adds to it, and count doesn't"
-}
-
-/// The first array of a name.
-pub fn array_named<'a>(arrays: &'a [CellArray], name: &str) -> Option<&'a CellArray>
-    ensures { option_copied result ≡ shapes.array_named name.now arrays.now }
-{
-    for array in arrays {
-        if array.name.as_str() == name {
-            return Some(array);
-        }
-    }
-    None
 }
 
 fn tell_next(text: &mut String, arrays: &[CellArray]) -> Result<(), AllocError>

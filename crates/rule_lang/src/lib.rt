@@ -68,6 +68,7 @@ mod token;
 
 pub use condition::{RuleCondition, Step};
 pub use fault::{RuleFault, RuleFaultKind};
+pub use fits::array_named;
 pub use law::{one_verdict, some_verdict, words_are_exact};
 pub use literal::Literal;
 pub use parser::parse;

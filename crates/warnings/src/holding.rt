@@ -9,10 +9,9 @@ ghost use Rattle.warnings.specs.Possible as specs;
 
 use crate::possible::{Asker, Possible};
 use crate::spot::Spot;
-use attrs::{Attrs, Context, helper_attr_is, helper_bucket};
+use attrs::{Attrs, helper_attr_is, helper_bucket};
 use cells::{CellArray, Shape};
-use rule_diagnosis::array_named;
-use rule_lang::{Attribute, Comparison, Flag, Test};
+use rule_lang::{Comparison, Test, array_named};
 use std::cmp::Ordering;
 
 /// The last day on which a server is asked, that of 9999-12-31.
@@ -56,33 +55,6 @@ pub(crate) fn compare_versions(v: [u32; 4], w: [u32; 4]) -> Ordering
 {
     let behind = compare_place(v, w, 2).then(compare_place(v, w, 3));
     compare_place(v, w, 0).then(compare_place(v, w, 1).then(behind))
-}
-
-fn flag_bit(flag: Flag) -> u8
-    ensures { result ≡ meaning.flag_bit flag }
-{
-    match flag {
-        Flag::VersionKnown => Context::VERSION_KNOWN,
-        Flag::Updatecheck => Context::UPDATECHECK,
-        Flag::Ping => Context::PING,
-        Flag::Event => Context::EVENT,
-        Flag::CohortKnown => Context::COHORT_KNOWN,
-        Flag::InstalldateKnown => Context::INSTALLDATE_KNOWN,
-    }
-}
-
-fn attribute_number(attribute: Attribute) -> u64
-    ensures { result ≡ meaning.attribute_number attribute }
-{
-    match attribute {
-        Attribute::Appid => 0,
-        Attribute::Version => 1,
-        Attribute::Brand => 2,
-        Attribute::Ap => 3,
-        Attribute::Lang => 4,
-        Attribute::Cohort => 5,
-        Attribute::Platform => 6,
-    }
 }
 
 fn bucket_by(attrs: &Attrs, salt: Option<u64>) -> u64
@@ -157,9 +129,9 @@ fn holds(attrs: &Attrs, shape: &Shape, test: &Test) -> bool
             let day = attrs.context().install_day as u64;
             allows(*comparison, compare(day, *number as u64))
         }
-        Test::Flag(flag) => attrs.context().flags & flag_bit(*flag) != 0,
+        Test::Flag(flag) => attrs.context().flags & flag.bit() != 0,
         Test::Attr { attribute, text } => {
-            let number = attribute_number(*attribute);
+            let number = attribute.number() as u64;
             helper_attr_is(attrs, number, text.as_str().as_bytes()) == 1
         }
         Test::Take { array, .. } => { 0 < quota_of(array_named(shape.arrays(), array.as_str())) }
