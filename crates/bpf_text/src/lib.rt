@@ -30,3 +30,4 @@ pub use fault::{AsmFault, AsmFaultKind, ListFault};
 pub use insn_line::line_of;
 pub use law::{kinds_agree, one_assembly, one_listing, reads_as_stated, remarks_are_skipped};
 pub use lister::{listing, push_bare_line};
+pub use vocabulary::REGISTERS;

@@ -11,23 +11,10 @@ use abs_value::{Abs, AbsState};
 use bpf_insn::{Insn, LoadKind, Reg};
 use bpf_rules::stack_place;
 use bpf_semantics::load_count;
+use bpf_text::REGISTERS;
 use cells::Shape;
 use std::alloc::AllocError;
 use std::fmt::Write;
-
-const REGISTERS: [Reg; 11] = [
-    Reg::R0,
-    Reg::R1,
-    Reg::R2,
-    Reg::R3,
-    Reg::R4,
-    Reg::R5,
-    Reg::R6,
-    Reg::R7,
-    Reg::R8,
-    Reg::R9,
-    Reg::R10,
-];
 
 /// Writes the name of a register.
 pub fn push_register(text: &mut String, r: Reg) -> Result<(), AllocError>
