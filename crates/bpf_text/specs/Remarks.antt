@@ -24,6 +24,7 @@ pub record RemarkedInsn : Type 0 where
   pub insn : Insn
   pub remark : List ℕ
 
+-- a listing with a remark behind each line
 abbrev pub remarked_listing : List RemarkedInsn → List ℕ
 remarked_listing [] = []
 remarked_listing (l ∷ ls) =

@@ -108,6 +108,7 @@ fn push_word(out: &mut String, mnemonic: Mnemonic) -> Result<(), AllocError>
 }
 
 /// Writes the line of an instruction without the LF that ends it.
+// open: whether memory is refused.
 pub fn push_bare_line(out: &mut String, insn: Insn) -> Result<(), AllocError>
     ensures { OnOk result (Appends out.old out.new (bare_line insn)) }
 {

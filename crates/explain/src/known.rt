@@ -2,7 +2,7 @@
 
 ghost use Rattle.std.specs.Prelude.{◌≡◌, OnOk, true};
 ghost use Rattle.bpf_text.specs.Listing.{Appends, with_sign};
-ghost use Rattle.explaining.specs.Known as specs;
+ghost use Rattle.explain.specs.Known as specs;
 
 use crate::reads::ReadRegisters;
 use crate::values::push_value;

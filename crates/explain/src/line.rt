@@ -3,7 +3,7 @@
 ghost use Rattle.std.specs.Prelude.{◌≡◌, ◌++◌, ◌<◌, ℕ, List, codes, OnOk, length, option_copied};
 ghost use Rattle.std.specs.Prelude.{string_bytes, replicate};
 ghost use Rattle.bpf_text.specs.Listing.{bare_line, Appends};
-ghost use Rattle.explaining.specs.Lines as specs;
+ghost use Rattle.explain.specs.Lines as specs;
 
 use crate::known::{push_registers, push_stack};
 use crate::reads::ReadRegisters;

@@ -1,7 +1,7 @@
 //! What changed on the way to a place.
 
 ghost use Rattle.std.specs.Prelude.{◌≡◌, ◌<◌};
-ghost use Rattle.explaining.specs.Way as specs;
+ghost use Rattle.explain.specs.Way as specs;
 
 use abs_value::{Abs, AbsState};
 use bpf_insn::{Insn, Reg};

@@ -1,9 +1,9 @@
 use Rattle.std.proofs.Common.{codes, length, string_bytes}
 use Rattle.std.specs.Option.{option_copied}
 use Rattle.bpf_text.specs.Listing.{bare_line}
-use Rattle.explaining.specs.Lines.{comment, pad_to_comment}
-use Rattle.explaining.proofs.Texts.{line_gathered}
-use Rattle.explaining.proofs.line.push_line.Goals as goal
+use Rattle.explain.specs.Lines.{comment, pad_to_comment}
+use Rattle.explain.proofs.Texts.{line_gathered}
+use Rattle.explain.proofs.line.push_line.Goals as goal
 
 pub returns : goal.returns
 returns c =

@@ -2,9 +2,9 @@ use Rattle.std.proofs.Common.{◌++◌, codes, string_bytes}
 use Rattle.std.specs.Fmt.{decimal}
 use Rattle.reference.specs.Marks.{state_of}
 use Rattle.bpf_text.specs.Listing.{bare_line}
-use Rattle.tracing.specs.Lines as specs
-use Rattle.tracing.proofs.Texts.{gathered}
-use Rattle.tracing.proofs.line.push_step.Goals as goal
+use Rattle.trace.specs.Lines as specs
+use Rattle.trace.proofs.Texts.{gathered}
+use Rattle.trace.proofs.line.push_step.Goals as goal
 
 pub returns : goal.returns
 returns c =
