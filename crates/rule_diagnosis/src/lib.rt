@@ -33,4 +33,4 @@ mod telling;
 mod trial;
 
 pub use place::line_text;
-pub use telling::tell_rule_fault;
+pub use telling::{rule_too_long, tell_rule_fault};
