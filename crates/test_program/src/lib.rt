@@ -19,6 +19,8 @@ mod encoding;
 #[cfg(test)]
 mod jumps;
 #[cfg(test)]
+mod known;
+#[cfg(test)]
 mod lookups;
 #[cfg(test)]
 mod mnemonics;

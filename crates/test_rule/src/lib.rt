@@ -24,3 +24,5 @@ mod sizes;
 mod told;
 #[cfg(test)]
 mod verdicts;
+#[cfg(test)]
+mod words;
