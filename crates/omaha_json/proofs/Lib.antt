@@ -2,4 +2,7 @@ pub mod Added
 pub mod Apps
 pub mod Bodies
 pub mod Cohorts
+pub mod MembersOfApps
+pub mod MembersOfRequests
+pub mod Named
 pub mod Texts

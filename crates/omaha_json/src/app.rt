@@ -8,7 +8,7 @@ use crate::cohort::{as_text, told_cohort};
 use crate::found::FoundApp;
 use crate::tokens::write_tokens;
 use crate::update::{release_at, write_status, write_update};
-use attrs::AppFacts;
+use attrs::SharedFacts;
 use json::{Token, Writer};
 use releases::Release;
 use std::alloc::AllocError;
@@ -17,7 +17,7 @@ use std::alloc::AllocError;
 /// list.
 pub fn write_apps(
     writer: &mut Writer,
-    apps: &[AppFacts],
+    apps: &[SharedFacts],
     found: &[Option<FoundApp<'_>>],
 ) -> Result<(), AllocError>
     requires { length found.now ≡ length apps.now }
@@ -32,7 +32,7 @@ pub fn write_apps(
 
 fn write_app(
     writer: &mut Writer,
-    app: &AppFacts,
+    app: &SharedFacts,
     found: &Option<FoundApp<'_>>,
 ) -> Result<(), AllocError>
     ensures { OnOk result (Adds writer.old writer.new
@@ -40,7 +40,7 @@ fn write_app(
 {
     match found {
         Some(found) => write_known(writer, app, found),
-        None => write_unknown(writer, app.appid.as_str()),
+        None => write_unknown(writer, app.appid()),
     }
 }
 
@@ -63,7 +63,11 @@ fn write_unknown(writer: &mut Writer, appid: &str) -> Result<(), AllocError>
 }
 
 // One that it knows.
-fn write_known(writer: &mut Writer, app: &AppFacts, found: &FoundApp<'_>) -> Result<(), AllocError>
+fn write_known(
+    writer: &mut Writer,
+    app: &SharedFacts,
+    found: &FoundApp<'_>,
+) -> Result<(), AllocError>
     ensures { OnOk result (Adds writer.old writer.new
         (tokens_of (specs.known_value app.now found.now))) }
 {
@@ -73,12 +77,12 @@ fn write_known(writer: &mut Writer, app: &AppFacts, found: &FoundApp<'_>) -> Res
         &[
             Token::BeginObject,
             Token::Key("appid"),
-            Token::String(app.appid.as_str()),
+            Token::String(app.appid()),
             Token::Key("cohort"),
             Token::String(as_text(&cohort)),
         ],
     )?;
-    write_pinged(writer, app.ping, found.releases(), found.choice())?;
+    write_pinged(writer, app.facts().ping, found.releases(), found.choice())?;
     Ok(())
 }
 

@@ -4,7 +4,7 @@ ghost use Rattle.std.specs.Prelude.{◌≡◌, ◌<◌, length, slice_index_or, 
 ghost use Rattle.attrs.specs.Bucket.{hashed_bucket};
 ghost use Rattle.omaha_json.specs.Found as specs;
 
-use attrs::{AppFacts, RequestFacts, hashed_bucket, named_or_hashed};
+use attrs::{RequestFacts, SharedFacts, hashed_bucket, named_or_hashed};
 use releases::Release;
 use ruleset::{App, Ruleset};
 use std::alloc::{AllocError, Global};
@@ -70,7 +70,7 @@ impl<'a> FoundApp<'a> {
 pub(crate) fn find_apps<'a>(
     alloc: Global,
     facts: &RequestFacts,
-    apps: &[AppFacts],
+    apps: &[SharedFacts],
     rules: &'a Ruleset,
     choices: &[Option<u8>],
 ) -> Result<Vec<Option<FoundApp<'a>>>, AllocError>
@@ -97,7 +97,7 @@ fn choice_at(choices: &[Option<u8>], place: usize) -> Option<u8>
 
 // What a ruleset has for an app of a request whose hashed bucket is known.
 fn find_app<'a>(
-    app: &AppFacts,
+    app: &SharedFacts,
     hashed: u16,
     rules: &'a Ruleset,
     choice: Option<u8>,
@@ -106,8 +106,8 @@ fn find_app<'a>(
     ensures { (facts : _) → hashed ≡ hashed_bucket facts
         → result ≡ specs.found_app rules.now facts app.now choice }
 {
-    match rules.find(app.appid.as_str()) {
-        Some(known) => Some(FoundApp::new(known, named_or_hashed(app, hashed), choice)),
+    match rules.find(app.appid()) {
+        Some(known) => Some(FoundApp::new(known, named_or_hashed(app.facts(), hashed), choice)),
         None => None,
     }
 }

@@ -6,18 +6,22 @@
 #![tactic(auto)]
 
 mod app;
+mod app_members;
 mod cohort;
-mod facts;
 mod fault;
 mod found;
+mod hears_apps;
 mod reading;
 mod reply;
 mod request;
+mod request_members;
 mod tokens;
 mod update;
+mod value;
 
 pub use fault::OmahaFault;
 pub use found::FoundApp;
+pub use hears_apps::{HearsApps, WrittenApp};
 pub use reading::read_request;
 pub use reply::{found_text, reply_text};
 pub use request::Request;

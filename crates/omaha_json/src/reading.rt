@@ -1,31 +1,39 @@
 //! From the bytes of a body to a request.
 
-ghost use Rattle.std.specs.Prelude.{◌≡◌, ◌≢◌, codes, Some, None, Ok, IfOk, IfErr, option_map};
-ghost use Rattle.serde_json.specs.View.{view, items_view};
+ghost use Rattle.std.specs.Prelude.{◌≡◌, ◌≢◌, Some, None, Ok, IfOk, IfErr, option_map};
+ghost use Rattle.serde_json.specs.Data.{object};
+ghost use Rattle.serde_json.specs.View.{view, items_view, members_view};
 ghost use Rattle.omaha_json.specs.Request.{request_in, of_request, value_in};
-ghost use Rattle.omaha_json.specs.Request.{all_facts, listed, is_protocol};
-ghost use Rattle.omaha_json.specs.Request.{text_in};
-ghost use Rattle.serde_json.specs.Find.{get};
+ghost use Rattle.omaha_json.specs.Request.{all_facts, listed};
+ghost use Rattle.omaha_json.specs.Members.{request_found};
 
-use crate::facts::{app_facts, object_in, request_facts};
+use crate::app_members::app_facts;
 use crate::fault::OmahaFault;
+use crate::hears_apps::{HearsApps, WrittenApp};
 use crate::request::Request;
-use attrs::AppFacts;
-use serde_json::Value;
-use std::alloc::{AllocError, Global};
+use crate::request_members::{RequestMembers, request_members};
+use crate::value::object_in;
+use attrs::{RequestFacts, SharedFacts};
+use serde_json::{Map, Value};
+use std::alloc::Global;
 
 /// The most apps that a request may have.
 const MAX_APPS: usize = 256;
 
 /// The request that a body is. A member that stands twice has its last value, and members that the
-/// profile doesn't name are ignored.
-// open: whether memory is refused (O5).
-pub fn read_request(alloc: Global, body: &[u8]) -> Result<Request, OmahaFault>
+/// profile doesn't name are ignored. The witness is shown the apps; where the request is refused,
+/// some of them.
+// open: whether memory is refused (O5); which apps the witness is shown: tests.
+pub fn read_request<H: HearsApps>(
+    alloc: Global,
+    body: &[u8],
+    witness: &mut H,
+) -> Result<Request, OmahaFault>
     ensures { result ≢ Err OmahaFault.Memory → result ≡ request_in body.now }
 {
     let value = value_in(alloc, body)?;
-    match object_in(&value, "request") {
-        Some(request) => of_request(alloc, request),
+    match object_in(value, "request") {
+        Some(request) => of_request(alloc, request, witness),
         None => Err(OmahaFault::Shape),
     }
 }
@@ -45,69 +53,89 @@ fn value_in(alloc: Global, body: &[u8]) -> Result<Value, OmahaFault>
 }
 
 // The request that the member `request` is.
-#[tactic(auto, using(crate::proofs::Bodies::count_of_view))]
-fn of_request(alloc: Global, request: &Value) -> Result<Request, OmahaFault>
-    ensures { result ≢ Err OmahaFault.Memory → result ≡ of_request (view request.now) }
+fn of_request<H: HearsApps>(
+    alloc: Global,
+    request: Map<String, Value>,
+    witness: &mut H,
+) -> Result<Request, OmahaFault>
+    ensures { result ≢ Err OmahaFault.Memory
+        → result ≡ of_request (object (members_view request.entries)) }
 {
-    if !is_version_3_1(request) {
+    of_members(alloc, request_members(request), witness)
+}
+
+// The request of which these members were found.
+#[tactic(auto, using(crate::proofs::Bodies::count_of_view))]
+fn of_members<H: HearsApps>(
+    alloc: Global,
+    found: RequestMembers,
+    witness: &mut H,
+) -> Result<Request, OmahaFault>
+    ensures { result ≢ Err OmahaFault.Memory → result ≡ request_found found }
+{
+    let RequestMembers {
+        is_version_3_1,
+        apps,
+        requestid,
+        sessionid,
+        platform,
+    } = found;
+    if !is_version_3_1 {
         return Err(OmahaFault::Protocol);
     }
-    let Some(apps) = listed(request) else {
+    let Some(apps) = listed(alloc, apps) else {
         return Err(OmahaFault::Shape);
     };
-    if apps.len() > MAX_APPS {
+    if apps.as_slice().len() > MAX_APPS {
         return Err(OmahaFault::TooManyApps);
     }
-    let Ok(facts) = request_facts(alloc, request) else {
-        return Err(OmahaFault::Memory);
+    let facts = RequestFacts {
+        requestid,
+        sessionid,
+        platform,
     };
-    match all_facts(alloc, apps) {
+    match all_facts(alloc, apps, witness) {
         Ok(each) => Ok(Request::new(facts, each)),
         Err(e) => Err(e),
     }
 }
 
-// Whether the request is of protocol 3.1.
-fn is_version_3_1(request: &Value) -> bool
-    ensures { result ≡ is_protocol (text_in (codes "protocol") (view request.now)) }
+// The list of apps: none where there is no such member.
+fn listed(alloc: Global, apps: Option<Value>) -> Option<Vec<Value>>
+    ensures { option_map (λ apps. items_view apps.items) result
+        ≡ listed (option_map view apps) }
 {
-    match request.get("protocol").and_then(Value::as_str) {
-        Some(text) => text == "3.1",
-        None => false,
-    }
-}
-
-// The list of apps.
-fn listed(request: &Value) -> Option<&[Value]>
-    ensures { option_map (λ apps. items_view apps.now) result
-        ≡ listed (get (codes "app") (view request.now)) }
-{
-    match request.get("app") {
+    match apps {
         Some(apps) => match apps {
-            Value::Array(apps) => Some(apps.as_slice()),
+            Value::Array(apps) => Some(apps),
             _ => None,
         },
-        None => Some(&[]),
+        None => Some(Vec::new(alloc)),
     }
 }
 
 // The facts of all apps.
-fn all_facts(alloc: Global, apps: &[Value]) -> Result<Vec<AppFacts>, OmahaFault>
-    ensures ok { IfOk result (λ each. all_facts (items_view apps.now) ≡ Some each.items) }
+fn all_facts<H: HearsApps>(
+    alloc: Global,
+    apps: Vec<Value>,
+    witness: &mut H,
+) -> Result<Vec<SharedFacts>, OmahaFault>
+    ensures ok { IfOk result (λ each. all_facts (items_view apps.items) ≡ Some each.items) }
     ensures err { IfErr result (λ e. e ≢ OmahaFault.Memory
-        → (e ≡ OmahaFault.Shape) × (all_facts (items_view apps.now) ≡ None)) }
+        → (e ≡ OmahaFault.Shape) × (all_facts (items_view apps.items) ≡ None)) }
 {
     let Ok(mut each) = Vec::with_capacity(alloc, apps.len()) else {
         return Err(OmahaFault::Memory);
     };
     for app in apps {
-        let Ok(facts) = app_facts(alloc, app) else {
-            return Err(OmahaFault::Memory);
-        };
-        let Some(facts) = facts else {
+        witness.hear_app(WrittenApp::of(&app));
+        let Some(said) = app_facts(app) else {
             return Err(OmahaFault::Shape);
         };
-        let Ok(()) = each.push(facts) else {
+        let Ok(shared) = SharedFacts::new(alloc, said) else {
+            return Err(OmahaFault::Memory);
+        };
+        let Ok(()) = each.push(shared) else {
             return Err(OmahaFault::Memory);
         };
     }

@@ -11,7 +11,7 @@ use crate::fault::OmahaFault;
 use crate::found::{FoundApp, find_apps};
 use crate::request::Request;
 use crate::tokens::{write_number, write_tokens};
-use attrs::{AppFacts, Elapsed, Moment};
+use attrs::{Elapsed, Moment, SharedFacts};
 use json::{Token, Writer};
 use ruleset::Ruleset;
 use std::alloc::{AllocError, Global};
@@ -54,7 +54,7 @@ pub fn reply_text(
 pub fn found_text(
     mut text: Vec<u8>,
     server: &str,
-    apps: &[AppFacts],
+    apps: &[SharedFacts],
     found: &[Option<FoundApp<'_>>],
     moment: &Moment,
 ) -> Result<Vec<u8>, AllocError>
@@ -74,7 +74,7 @@ pub fn found_text(
 fn write_reply(
     writer: &mut Writer,
     server: &str,
-    apps: &[AppFacts],
+    apps: &[SharedFacts],
     found: &[Option<FoundApp<'_>>],
     moment: &Moment,
 ) -> Result<(), AllocError>
@@ -91,7 +91,7 @@ fn write_reply(
 fn write_response(
     writer: &mut Writer,
     server: &str,
-    apps: &[AppFacts],
+    apps: &[SharedFacts],
     found: &[Option<FoundApp<'_>>],
     moment: &Moment,
 ) -> Result<(), AllocError>

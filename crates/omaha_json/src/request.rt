@@ -2,14 +2,14 @@
 
 ghost use Rattle.std.specs.Prelude.{◌≡◌};
 
-use attrs::{AppFacts, RequestFacts};
+use attrs::{RequestFacts, SharedFacts};
 use std::marker::Model;
 
 /// A request of protocol 3.1, with at most 256 apps.
 #[derive(Drop)]
 pub struct Request {
     facts: RequestFacts,
-    apps: Vec<AppFacts>,
+    apps: Vec<SharedFacts>,
 }
 
 impl Model for Request {
@@ -24,7 +24,7 @@ impl Request {
     ghost use Rattle.omaha_json.specs.Request as specs;
 
     // The request of these facts and apps.
-    pub(crate) fn new(facts: RequestFacts, apps: Vec<AppFacts>) -> Request
+    pub(crate) fn new(facts: RequestFacts, apps: Vec<SharedFacts>) -> Request
         ensures { result ≡ record { facts = facts; apps = apps.items } }
     {
         Request { facts, apps }
@@ -38,7 +38,7 @@ impl Request {
     }
 
     /// What it says of each of its apps, in its order.
-    pub fn apps(&self) -> &[AppFacts]
+    pub fn apps(&self) -> &[SharedFacts]
         ensures { result.now ≡ self.now.apps }
     {
         self.apps.as_slice()

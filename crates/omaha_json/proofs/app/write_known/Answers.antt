@@ -5,10 +5,11 @@ pub returns : goal.returns
 returns c =
     rw (
       ← c.bucket.ensures,
-      ← c.as_str.ensures,
+      ← c.appid.ensures,
       ← c.told_cohort-cohort.ensures.value,
       ← c.as_text.ensures,
       ← c.releases.ensures,
       ← c.choice.ensures,
+      ← c.facts.ensures,
     )
     (then_adds c.in_ok-write_tokens.ensures c.in_ok-write_pinged.ensures)
