@@ -10,7 +10,7 @@ ghost use Rattle.cells.specs.Grown.{Grows};
 ghost use Rattle.answering.specs.Apps.{FindsApp, FindsApps, RunsFew};
 
 use crate::turn::Turn;
-use attrs::{AppFacts, Attrs, Moment, RequestFacts, hashed_bucket, named_or_hashed};
+use attrs::{Attrs, Moment, RequestFacts, SharedFacts, hashed_bucket, named_or_hashed};
 use bpf_machine::Run;
 use bpf_verify::Verified;
 use cells::{CellSteps, growth};
@@ -23,7 +23,7 @@ use std::sync::Arc;
 fn start(
     alloc: Global,
     program: &Arc<Verified>,
-    app: &AppFacts,
+    app: &SharedFacts,
     facts: &RequestFacts,
     hashed: u16,
     moment: &Moment,
@@ -52,7 +52,7 @@ fn start(
 // memory is refused no run is made. An app that names no bucket is in the hashed one.
 fn run_app<'r, C: CellSteps>(
     turn: &Turn<'_, C>,
-    app: &AppFacts,
+    app: &SharedFacts,
     facts: &RequestFacts,
     hashed: u16,
     rules: &'r Ruleset,
@@ -67,11 +67,12 @@ fn run_app<'r, C: CellSteps>(
         (FindsApp rules.now facts.now turn.now.moment.now app.now found))
         (λ _. pass.new ≡ pass.old) }
 {
-    let Some(known) = rules.find(app.appid.as_str()) else {
+    let Some(known) = rules.find(app.appid()) else {
         return Ok(None);
     };
-    if !app.updatecheck {
-        return Ok(Some(FoundApp::new(known, named_or_hashed(app, hashed), None)));
+    let told = app.facts();
+    if !told.updatecheck {
+        return Ok(Some(FoundApp::new(known, named_or_hashed(told, hashed), None)));
     }
     known.keeps();
     let Ok((run, bucket)) = start(turn.alloc, known.program(), app, facts, hashed, turn.moment)

@@ -45,11 +45,8 @@ pub fn hear<R: Read, W: Witness>(
 fn request_of<W: Witness>(alloc: Global, body: &[u8], witness: &mut W) -> Result<Request, Rejection>
     ensures { IsHeardBody body.now result }
 {
-    match read_request(alloc, body) {
-        Ok(request) => {
-            witness.hear(body, &request);
-            Ok(request)
-        }
+    match read_request(alloc, body, witness) {
+        Ok(request) => Ok(request),
         Err(fault) => Err(Rejection::of_omaha(fault)),
     }
 }

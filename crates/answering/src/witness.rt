@@ -1,15 +1,14 @@
 //! Who is told what is asked and answered, beside the client, as a server's log is.
 
 use hot_swap::Generation;
-use omaha_json::{FoundApp, Request};
+use omaha_json::{FoundApp, HearsApps, Request, WrittenApp};
 
-/// What sees a request, and what comes of it. What it does with that changes nothing of the answer.
-pub trait Witness {
-    /// A request was read; these bytes are its body.
-    fn hear(&mut self, body: &[u8], request: &Request);
-
-    /// The apps of a request were answered, all under the ruleset of this generation. There is
-    /// nothing for an app that the ruleset doesn't know.
+/// What sees a request, and what comes of it: first each app as its client wrote it, also of a
+/// request that is refused, and then what the apps were answered. What it does with that changes
+/// nothing of the answer.
+pub trait Witness: HearsApps {
+    /// The apps were answered, all under the ruleset of this generation. There is nothing for an
+    /// app that the ruleset doesn't know.
     fn see(&mut self, generation: Generation, request: &Request, found: &[Option<FoundApp<'_>>]);
 }
 
@@ -17,9 +16,11 @@ pub trait Witness {
 #[derive(Clone, Copy, Debug)]
 pub struct Nobody;
 
-impl Witness for Nobody {
-    fn hear(&mut self, _body: &[u8], _request: &Request) {}
+impl HearsApps for Nobody {
+    fn hear_app(&mut self, _app: WrittenApp<'_>) {}
+}
 
+impl Witness for Nobody {
     fn see(
         &mut self,
         _generation: Generation,

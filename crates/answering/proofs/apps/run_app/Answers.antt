@@ -1,6 +1,7 @@
 use Rattle.std.proofs.Common.{◌≡◌, ◌∙◌, None, Some, List, ℕ, true, false, ap, sym, rules}
 use Rattle.std.specs.Prelude.{unwrap_or}
 use Rattle.attrs.specs.Bucket.{named_bucket}
+use Rattle.attrs.specs.declared.facts.AppFacts.{AppFacts}
 use Rattle.ruleset.specs.Rules.{app_of}
 use Rattle.answering.proofs.Grown.{grows_none, grows_ran, grows_found, not_true, not_false}
 use Rattle.answering.proofs.Grown.{finds_none, finds_unasked, found_is}
@@ -8,36 +9,41 @@ use Rattle.answering.proofs.apps.run_app.Goals as goal
 
 pub returns-in_default-clause-finds : goal.returns-in_default-clause-finds
 returns-in_default-clause-finds g c =
-    let same = ap (λ (z : List ℕ). app_of c.args.rules.now z) c.as_str.ensures in
+    let same = ap (λ (z : List ℕ). app_of c.args.rules.now z) c.appid.ensures in
     grows_none (g.C.CellSteps.grew) _ _
     (finds_none c.args.rules.now c.args.facts.now c.args.turn.now.moment.now c.args.app.now
     (sym same ∙ sym c.in_default.ensures.found))
 
-pub returns-then-not-app-clause-finds : goal.returns-then-not-app-clause-finds
-returns-then-not-app-clause-finds g c =
+pub returns-then-not-told-clause-finds : goal.returns-then-not-told-clause-finds
+returns-then-not-told-clause-finds g c =
     let rules' = c.args.rules.now in
     let facts' = c.args.facts.now in
     let app' = c.args.app.now in
-    let asks : app'.updatecheck ≡ false =
+    let told = c.facts-told.ensures in
+    let asks : c.facts-told.result.now.updatecheck ≡ false =
     first_of (search rules, search (rules, not_true)) in
-    let same = ap (λ (z : List ℕ). app_of rules' z) c.as_str.ensures in
+    let same = ap (λ (z : List ℕ). app_of rules' z) c.appid.ensures in
     let knows = sym same ∙ sym c.in-Some.ensures.found in
     let bucket =
-    c.named_or_hashed.ensures.value ∙ ap (unwrap_or (named_bucket app')) c.requires.hashed in
+    c.named_or_hashed.ensures.value
+    ∙ ap (λ (f : AppFacts). unwrap_or (named_bucket f) c.args.hashed) told
+    ∙ ap (unwrap_or (named_bucket app')) c.requires.hashed in
     let is =
     found_is rules' facts' app' None c.in-Some.known.now c.named_or_hashed.result c.new.result
     knows bucket c.new.ensures in
     grows_none (g.C.CellSteps.grew) _ _
-    (finds_unasked rules' facts' c.args.turn.now.moment.now app' (Some c.new.result) asks is)
+    (finds_unasked rules' facts' c.args.turn.now.moment.now app' (Some c.new.result)
+    (sym (ap (λ (f : AppFacts). f.updatecheck) told) ∙ asks) is)
 
 pub returns-clause-finds : goal.returns-clause-finds
 returns-clause-finds g c =
     let rules' = c.args.rules.now in
     let facts' = c.args.facts.now in
     let app' = c.args.app.now in
-    let asks : app'.updatecheck ≡ true =
+    let asked : c.facts-told.result.now.updatecheck ≡ true =
     first_of (search rules, search (rules, not_false)) in
-    let same = ap (λ (z : List ℕ). app_of rules' z) c.as_str.ensures in
+    let asks = sym (ap (λ (f : AppFacts). f.updatecheck) c.facts-told.ensures) ∙ asked in
+    let same = ap (λ (z : List ℕ). app_of rules' z) c.appid.ensures in
     let knows = sym same ∙ sym c.in-Some.ensures.found in
     let choice = Some c.run-choice.result.0 in
     let is =
@@ -47,7 +53,7 @@ returns-clause-finds g c =
     (Some c.new-2.result) is
     (grows_ran (g.C.CellSteps.grew) _ _ _ _ _ _ c.in-Some.known.now c.in-Ok.run' _ _ asks
     knows c.keeps.ensures
-    (rw c.as_str.ensures at c.in-Some.ensures.known)
+    (rw c.appid.ensures at c.in-Some.ensures.known)
     (c.in-Ok.ensures.program ∙ c.program.ensures)
     c.in-Ok.ensures.stands c.run-choice.ensures.runs c.run-choice.ensures.short
     c.run-choice.ensures.choice)
