@@ -8,7 +8,7 @@ use attrs::{Moment, Text};
 use bpf_text::assemble;
 use bpf_verify::Verified;
 use cells::Shape;
-use omaha_json::{OmahaFault, Request, read_request, reply_text};
+use omaha_json::{HearsApps, OmahaFault, Request, WrittenApp, read_request, reply_text};
 use releases::{Package, Release};
 use ruleset::{App, Ruleset};
 use std::alloc::{AllocError, Global};
@@ -89,9 +89,17 @@ fn package(alloc: Global) -> Result<Package, AllocError> {
     Ok(Package::new(name, hash, 3, true))
 }
 
+/// Who takes no notice of apps.
+#[derive(Clone, Copy)]
+struct Deaf;
+
+impl HearsApps for Deaf {
+    fn hear_app(&mut self, _app: WrittenApp<'_>) {}
+}
+
 /// The request that a body is. It has no clauses, so that no proof reads the bytes of a test.
 pub(crate) fn read(alloc: Global, body: &[u8]) -> Result<Request, OmahaFault> {
-    read_request(alloc, body)
+    read_request(alloc, body, &mut Deaf)
 }
 
 /// The reply to a body.

@@ -53,7 +53,7 @@ pub(crate) fn told(alloc: Global, body: &str) -> Result<String, Fail> {
     let request = read(alloc, body.as_bytes())?;
     let mut lines = vec![in alloc; told_request(alloc, request.facts())?]?;
     for app in request.apps() {
-        lines.push(told_app(alloc, app)?)?;
+        lines.push(told_app(alloc, app.facts())?)?;
     }
     Ok(lines.join(alloc, "\n")?)
 }

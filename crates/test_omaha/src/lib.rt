@@ -10,6 +10,8 @@ mod bodies;
 #[cfg(test)]
 mod clients;
 #[cfg(test)]
+mod events;
+#[cfg(test)]
 mod facts;
 #[cfg(test)]
 mod limits;
