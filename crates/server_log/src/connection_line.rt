@@ -40,6 +40,7 @@ where
     if note_kept(rt, log, peer, micros, outcome, seen).is_err() {
         log.lose();
     }
+    seen.let_go();
 }
 
 fn note_kept<H>(

@@ -15,7 +15,6 @@
 
 mod clock;
 mod connection_line;
-mod event_texts;
 mod heard;
 mod kept_texts;
 mod load_line;

@@ -1,20 +1,20 @@
 //! What the log has seen of a connection: what each app was answered, and under which generation.
-//! The texts are copied, since the line is written once the reply was sent. A worker keeps the room
-//! for all of it from one connection to the next.
+//! The line is written once the reply was sent: what a request says of its apps is shared until
+//! then, and other texts are copied. A worker keeps the room for all of it from one connection to
+//! the next.
 
 ghost use Rattle.std.specs.Prelude.{◌≡◌, [], None, Some};
 ghost use Rattle.server_log.specs.Seen.{IsUnseen, IsSameRequest};
 
-use crate::event_texts::event_texts;
 use crate::heard::Heard;
 use crate::kept_texts::{KeptTexts, TextPlace};
 use crate::seen_app::{KeptExcerpt, SeenApp};
 use access_log::{AskedApp, Excerpt};
 use answering::Witness;
-use attrs::{AppFacts, Bucket, hashed_bucket};
+use attrs::{Bucket, hashed_bucket};
 use devices::Timed;
 use hot_swap::Generation;
-use omaha_json::{FoundApp, Request};
+use omaha_json::{FoundApp, HearsApps, Request, WrittenApp};
 use std::alloc::{AllocError, Global};
 use std::mem;
 use std::net::{IpAddr, SocketAddr};
@@ -185,7 +185,7 @@ impl Seen {
                 return Ok(());
             };
             let event = self.event(place);
-            let seen = SeenApp::of(&mut self.texts, app, found, hashed, event)?;
+            let seen = SeenApp::of(&mut self.texts, app.share()?, found, hashed, event)?;
             self.apps.push(seen)?;
         }
         Ok(())
@@ -198,26 +198,32 @@ impl Seen {
         }
     }
 
-    // Keeps the events of a body, one a place.
-    fn keep_events(&mut self, body: &[u8]) -> Result<(), AllocError> {
-        for text in event_texts(self.alloc, body)? {
-            let kept = match text {
-                Some(text) => Some(KeptExcerpt::of(&mut self.texts, Excerpt::of(&text))?),
-                None => None,
-            };
-            self.events.push(kept)?;
-        }
+    // Keeps the event of the next app.
+    fn keep_event(&mut self, app: WrittenApp<'_>) -> Result<(), AllocError> {
+        let kept = match app.event_text(self.alloc)? {
+            Some(text) => Some(KeptExcerpt::of(&mut self.texts, Excerpt::of(&text))?),
+            None => None,
+        };
+        self.events.push(kept)?;
         Ok(())
+    }
+
+    /// Lets the apps go, once their line is written.
+    pub(crate) fn let_go(&mut self) {
+        self.apps.clear();
+    }
+}
+
+impl HearsApps for Seen {
+    fn hear_app(&mut self, app: WrittenApp<'_>) {
+        if self.is_kept {
+            let is_kept = self.keep_event(app).is_ok();
+            self.is_cut = self.is_cut || !is_kept;
+        }
     }
 }
 
 impl Witness for Seen {
-    fn hear(&mut self, body: &[u8], request: &Request) {
-        if self.is_kept && has_event(request.apps()) {
-            self.is_cut = self.keep_events(body).is_err();
-        }
-    }
-
     fn see(&mut self, generation: Generation, request: &Request, found: &[Option<FoundApp<'_>>]) {
         self.generation = generation;
         if self.is_kept {
@@ -235,13 +241,4 @@ fn bucket_of_unknown(request: &Request, found: &[Option<FoundApp<'_>>]) -> Bucke
         }
     }
     Bucket::new(0)
-}
-
-fn has_event(apps: &[AppFacts]) -> bool {
-    for app in apps {
-        if app.event {
-            return true;
-        }
-    }
-    false
 }

@@ -1,18 +1,17 @@
-//! An app of a request, as the log keeps it: what it was answered, and where its texts stand.
+//! An app of a request, as the log keeps it: what it said and was answered, and where the texts
+//! beside these stand.
 
 use crate::kept_texts::{KeptTexts, TextPlace};
 use access_log::{AskedApp, Excerpt, Outcome};
-use attrs::{AppFacts, Bucket, Text, cohort_bucket, named_or_hashed};
+use attrs::{Bucket, SharedFacts, Text, cohort_bucket, named_or_hashed};
 use omaha_json::{FoundApp, release_at};
 use std::alloc::AllocError;
 
 /// An app.
-#[derive(Clone, Copy)]
+#[derive(Drop)]
 pub(crate) struct SeenApp {
-    appid: KeptExcerpt,
-    version: Option<KeptExcerpt>,
+    said: SharedFacts,
     bucket: u16,
-    named: bool,
     /// Whether the server has such an app.
     pub(crate) is_known: bool,
     choice: Option<u8>,
@@ -52,20 +51,18 @@ impl SeenApp {
     /// Keeps an app, what was found for it, and its event.
     pub(crate) fn of(
         texts: &mut KeptTexts,
-        app: &AppFacts,
+        said: SharedFacts,
         found: &Option<FoundApp<'_>>,
         hashed: Bucket,
         event: Option<KeptExcerpt>,
     ) -> Result<SeenApp, AllocError> {
         let (bucket, choice, release) = match found {
             Some(found) => (found.bucket(), found.choice(), release_of(texts, found)?),
-            None => (named_or_hashed(app, hashed.number()), None, None),
+            None => (named_or_hashed(said.facts(), hashed.number()), None, None),
         };
         Ok(SeenApp {
-            appid: KeptExcerpt::of(texts, Excerpt::brief(app.appid.as_str()))?,
-            version: kept(texts, &app.version)?,
+            said,
             bucket,
-            named: is_named(&app.cohort),
             is_known: found.is_some(),
             choice,
             release,
@@ -74,12 +71,13 @@ impl SeenApp {
     }
 
     /// As a line tells it.
-    pub(crate) fn asked<'x>(&self, texts: &'x KeptTexts) -> AskedApp<'x> {
+    pub(crate) fn asked<'x>(&'x self, texts: &'x KeptTexts) -> AskedApp<'x> {
+        let said = self.said.facts();
         AskedApp {
-            appid: self.appid.excerpt(texts),
-            version: excerpt_of(texts, self.version),
+            appid: Excerpt::brief(said.appid.as_str()),
+            version: brief_of(&said.version),
             bucket: self.bucket,
-            named: self.named,
+            named: is_named(&said.cohort),
             outcome: self.outcome(texts),
             event: excerpt_of(texts, self.event),
         }
@@ -111,10 +109,11 @@ fn release_of(
     }
 }
 
-fn kept(texts: &mut KeptTexts, text: &Option<Text>) -> Result<Option<KeptExcerpt>, AllocError> {
+// What a line tells of a text.
+fn brief_of(text: &Option<Text>) -> Option<Excerpt<'_>> {
     match text {
-        Some(text) => Ok(Some(KeptExcerpt::of(texts, Excerpt::brief(text.as_str()))?)),
-        None => Ok(None),
+        Some(text) => Some(Excerpt::brief(text.as_str())),
+        None => None,
     }
 }
 

@@ -62,7 +62,7 @@ Content-Length: 69
 Content-Length: 69;X-Forwarded-For: ::1
 {"request":{"protocol":"3.1","app":[{"appid":"y","event":[{ }]   }]}}
 "forwarded":"::1","status":200,"generation":1,
-,"apps":[{"appid":"y","bucket":6037,"named":false,"unknown":true,"event":"[{ }]"}]
+,"apps":[{"appid":"y","bucket":6037,"named":false,"unknown":true,"event":"[{}]"}]
 
 Content-Length: 2;X-Forwarded-For: ::1, ::2
 []
