@@ -26,12 +26,14 @@ LEAST = 10
 # What the last recipe tells behind the moment and the address.
 OFFERS = ["editor b:2 1.9 2.1"]
 # What each recipe before it counts, in the page's order: in the day below one machine is offered
-# 2.1, one has no cohort, two installs end, and a third one's event is cut.
+# 2.1, one has no cohort, two installs end, and a third one's event is cut. In no minute a client is
+# dropped, or waits.
 COUNTS = [
     ['1 "editor 2.1"'],
     ['1 "editor 2.0.4 to 2.0.4 result 0"', '1 "editor 2.0.4 to 2.0.4 result 1"'],
     ['1 "editor"'],
     ['1 "editor 1.9"'],
+    [],
 ]
 # What `report` counts of the same day, and how Prometheus reads some of it.
 REPORTED = {

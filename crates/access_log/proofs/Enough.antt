@@ -82,9 +82,11 @@ tells_enough apps are = so_many 11 3660 apps (omega arith) are
 
 pub tells_apps : (e : LogEvent) → TellsApps e
 tells_apps (log.Start s) = tt
+tells_apps (log.Serving generation) = tt
 tells_apps (log.Load l) = tt
 tells_apps (log.Connection a) = tells_enough a.apps.now
 tells_apps (log.Unaccepted reason) = tt
 tells_apps (log.Lost lines) = tt
+tells_apps (log.Totals t) = tt
 tells_apps (log.Stop refusal) = tt
 tells_apps (log.Counter a) = tt

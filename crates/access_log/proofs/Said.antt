@@ -6,8 +6,8 @@ use Rattle.json.specs.Token.{Token, end_object}
 use Rattle.access_log.specs.Apps.{apps_members}
 use Rattle.access_log.specs.Line.{IsOneLine, begun_at, object_at, line_with, said}
 use Rattle.access_log.specs.Line.{connection_members, counter_members, load_members}
-use Rattle.access_log.specs.Line.{path_members, reply_members, start_members, stop_members}
-use Rattle.access_log.specs.Line.{too_long_members}
+use Rattle.access_log.specs.Line.{path_members, reply_members, start_members, status_members}
+use Rattle.access_log.specs.Line.{stop_members, too_long_members, totals_members}
 use Rattle.access_log.specs.Members.{text_member, number_member, optional_member, count_member}
 use Rattle.access_log.specs.Spelled.{spelled}
 use Rattle.access_log.specs.declared.event.Connection.{Connection}
@@ -16,6 +16,7 @@ use Rattle.access_log.specs.declared.event.LogEvent.{LogEvent}
 use Rattle.access_log.specs.declared.event.LogEvent.TheVariants as log
 use Rattle.access_log.specs.declared.event.Load.{Load}
 use Rattle.access_log.specs.declared.event.Start.{Start}
+use Rattle.access_log.specs.declared.event.Totals.{Totals}
 use Rattle.access_log.specs.declared.excerpt.Excerpt.{Excerpt}
 use Rattle.access_log.specs.declared.utc.Utc.{Utc}
 use Rattle.access_log.proofs.Harmless.{HaveHarmlessNumbers, all_harmless, decimal_is_harmless}
@@ -56,7 +57,9 @@ reply a =
     let cause = optional_member (codes "cause") (option_copied a.cause) in
     let generation = count_member (codes "generation") a.generation in
     let bytes = number_member (codes "bytes") a.bytes in
-    all_harmless (status ++ refusal ++ cause ++ generation ++ bytes) _
+    let micros = number_member (codes "micros") a.micros in
+    all_harmless (status ++ refusal ++ cause ++ generation ++ bytes ++ micros) _
+    (all_harmless (status ++ refusal ++ cause ++ generation ++ bytes) micros
     (all_harmless (status ++ refusal ++ cause ++ generation) bytes
     (all_harmless (status ++ refusal ++ cause) generation
     (all_harmless (status ++ refusal) cause
@@ -64,7 +67,7 @@ reply a =
     (maybe (codes "refusal") (option_copied a.refusal)))
     (maybe (codes "cause") (option_copied a.cause)))
     (counted (codes "generation") a.generation)) (count (codes "bytes") a.bytes))
-    (count (codes "micros") a.micros)
+    (count (codes "micros") a.micros)) (count (codes "waited") a.waited)
 
 connection : (a : Connection) → HaveHarmlessNumbers (connection_members a)
 connection a =
@@ -77,6 +80,40 @@ connection a =
     (all_harmless kind peer (text (codes "kind") (codes "connection"))
     (text (codes "peer") a.peer.now)) (maybe (codes "forwarded") (option_copied a.forwarded)))
     (reply a)) (asked a.apps.now)
+
+-- a number behind other members
+behind : (ts : List Token) (name : List ℕ) (n : ℕ) → HaveHarmlessNumbers ts
+    → HaveHarmlessNumbers (ts ++ number_member name n)
+behind ts name n are = all_harmless ts (number_member name n) are (count name n)
+
+statuses : (t : Totals) → HaveHarmlessNumbers (status_members t)
+statuses t =
+    let to_200 = number_member (codes "status_200") t.success in
+    let to_400 = to_200 ++ number_member (codes "status_400") t.bad_request in
+    let to_404 = to_400 ++ number_member (codes "status_404") t.not_found in
+    let to_405 = to_404 ++ number_member (codes "status_405") t.method_not_allowed in
+    let to_411 = to_405 ++ number_member (codes "status_411") t.length_required in
+    let to_413 = to_411 ++ number_member (codes "status_413") t.content_too_large in
+    let to_431 = to_413 ++ number_member (codes "status_431") t.header_fields_too_large in
+    behind to_431 (codes "status_500") t.internal_server_error
+    (behind to_413 (codes "status_431") t.header_fields_too_large
+    (behind to_411 (codes "status_413") t.content_too_large
+    (behind to_405 (codes "status_411") t.length_required
+    (behind to_404 (codes "status_405") t.method_not_allowed
+    (behind to_400 (codes "status_404") t.not_found
+    (behind to_200 (codes "status_400") t.bad_request
+    (count (codes "status_200") t.success)))))))
+
+totals : (t : Totals) → HaveHarmlessNumbers (totals_members t)
+totals t =
+    let kind = text_member (codes "kind") (codes "totals") in
+    let counted = kind ++ status_members t in
+    let dropped = counted ++ number_member (codes "dropped") t.dropped in
+    let waited = dropped ++ number_member (codes "longest_wait") t.longest_wait in
+    behind waited (codes "busy") t.busy
+    (behind dropped (codes "longest_wait") t.longest_wait
+    (behind counted (codes "dropped") t.dropped
+    (all_harmless kind (status_members t) (text (codes "kind") (codes "totals")) (statuses t))))
 
 stop : (refusal : Option (Bor (List ℕ))) → HaveHarmlessNumbers (stop_members refusal)
 stop refusal =
@@ -98,10 +135,12 @@ counter a = (
 
 says : (e : LogEvent) → HaveHarmlessNumbers (said e)
 says (log.Start s) = start s
+says (log.Serving generation) = (tt, (tt, (tt, (decimal_is_harmless generation, tt))))
 says (log.Load l) = load l
 says (log.Connection a) = connection a
 says (log.Unaccepted reason) = (tt, (tt, (tt, (tt, tt))))
 says (log.Lost lines) = (tt, (tt, (tt, (decimal_is_harmless lines, tt))))
+says (log.Totals t) = totals t
 says (log.Stop refusal) = stop refusal
 says (log.Counter a) = counter a
 

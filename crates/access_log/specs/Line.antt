@@ -18,6 +18,7 @@ use Rattle.access_log.specs.declared.event.LogEvent.{LogEvent}
 use Rattle.access_log.specs.declared.event.LogEvent.TheVariants as log
 use Rattle.access_log.specs.declared.event.Load.{Load}
 use Rattle.access_log.specs.declared.event.Start.{Start}
+use Rattle.access_log.specs.declared.event.Totals.{Totals}
 use Rattle.access_log.specs.declared.excerpt.Excerpt.{Excerpt}
 use Rattle.access_log.specs.declared.utc.Utc.{Utc}
 
@@ -36,6 +37,11 @@ start_members start =
     ++ number_member (codes "operator") start.operator
     ++ optional_member (codes "refusal") (option_copied start.refusal)
 
+-- the server is ready
+abbrev pub serving_members : ℕ → List Token
+serving_members generation =
+    kind_member (codes "serving") ++ number_member (codes "generation") generation
+
 abbrev pub load_members : Load → List Token
 load_members load =
     kind_member (codes "load") ++ path_members load.path
@@ -51,6 +57,7 @@ reply_members connection =
     ++ count_member (codes "generation") connection.generation
     ++ number_member (codes "bytes") connection.bytes
     ++ number_member (codes "micros") connection.micros
+    ++ number_member (codes "waited") connection.waited
 
 abbrev pub connection_members : Connection → List Token
 connection_members connection =
@@ -67,6 +74,26 @@ unaccepted_members reason =
 abbrev pub lost_members : ℕ → List Token
 lost_members lines = kind_member (codes "lost") ++ number_member (codes "lines") lines
 
+-- how many replies there were of each status
+abbrev pub status_members : Totals → List Token
+status_members totals =
+    number_member (codes "status_200") totals.success
+    ++ number_member (codes "status_400") totals.bad_request
+    ++ number_member (codes "status_404") totals.not_found
+    ++ number_member (codes "status_405") totals.method_not_allowed
+    ++ number_member (codes "status_411") totals.length_required
+    ++ number_member (codes "status_413") totals.content_too_large
+    ++ number_member (codes "status_431") totals.header_fields_too_large
+    ++ number_member (codes "status_500") totals.internal_server_error
+
+-- what connections came to in a minute
+abbrev pub totals_members : Totals → List Token
+totals_members totals =
+    kind_member (codes "totals") ++ status_members totals
+    ++ number_member (codes "dropped") totals.dropped
+    ++ number_member (codes "longest_wait") totals.longest_wait
+    ++ number_member (codes "busy") totals.busy
+
 abbrev pub stop_members : Option (Bor (List ℕ)) → List Token
 stop_members refusal =
     kind_member (codes "stop") ++ optional_member (codes "refusal") (option_copied refusal)
@@ -80,10 +107,12 @@ counter_members counter =
 
 abbrev pub said : LogEvent → List Token
 said (log.Start start) = start_members start
+said (log.Serving generation) = serving_members generation
 said (log.Load load) = load_members load
 said (log.Connection connection) = connection_members connection
 said (log.Unaccepted reason) = unaccepted_members reason.now
 said (log.Lost lines) = lost_members lines
+said (log.Totals totals) = totals_members totals
 said (log.Stop refusal) = stop_members refusal
 said (log.Counter counter) = counter_members counter
 
@@ -103,7 +132,7 @@ abbrev pub line_with : Utc → List Token → List ℕ
 line_with time members = with_line_feed (object_at time members)
 
 -- What stands in the place of a line of so many bytes. None of a connection comes to that by what a
--- server tells: its apps have 3660 bytes, and what stands round them some 390.
+-- server tells: its apps have 3660 bytes, and what stands round them 412 at most.
 abbrev pub too_long_members : ℕ → List Token
 too_long_members bytes = kind_member (codes "too-long") ++ number_member (codes "bytes") bytes
 

@@ -43,7 +43,29 @@ pub struct Connection<'a> {
     pub bytes: u64,
     /// How many microseconds it took.
     pub micros: u64,
+    /// How many microseconds it had waited for a worker before; 0 where that isn't known.
+    pub waited: u64,
     pub apps: &'a [AskedApp<'a>],
+}
+
+/// What connections came to, by the statuses of their replies.
+#[derive(Clone, Copy)]
+pub struct Totals {
+    /// How many had a whole reply of the status 200, and so on.
+    pub success: u64,
+    pub bad_request: u64,
+    pub not_found: u64,
+    pub method_not_allowed: u64,
+    pub length_required: u64,
+    pub content_too_large: u64,
+    pub header_fields_too_large: u64,
+    pub internal_server_error: u64,
+    /// How many had no whole reply.
+    pub dropped: u64,
+    /// How many microseconds one of them had waited for a worker at most.
+    pub longest_wait: u64,
+    /// How many workers were at work at once at most.
+    pub busy: u64,
 }
 
 /// A counter that isn't 0 when a server has ended.
@@ -58,12 +80,16 @@ pub struct Counter<'a> {
 #[derive(Clone, Copy)]
 pub enum LogEvent<'a> {
     Start(Start<'a>),
+    /// The server is ready, and serves the ruleset of this generation.
+    Serving(u64),
     Load(Load<'a>),
     Connection(Connection<'a>),
     /// A connection couldn't be accepted, for this reason.
     Unaccepted(&'a str),
     /// So many lines before this one were lost, since they weren't read in time.
     Lost(u64),
+    /// What the connections since the last such line came to.
+    Totals(Totals),
     /// The operator has stopped the server; and what was refused at its end, if anything was.
     Stop(Option<&'a str>),
     Counter(Counter<'a>),

@@ -7,7 +7,7 @@ ghost use Rattle.access_log.specs.Members.{text_member, number_member};
 ghost use Rattle.access_log.specs.Plain.{is_plain_text};
 
 use crate::apps::write_apps;
-use crate::event::{Connection, Counter, Load, LogEvent, Start};
+use crate::event::{Connection, Counter, Load, LogEvent, Start, Totals};
 use crate::excerpt::Excerpt;
 use crate::line_room::LineRoom;
 use crate::member::{
@@ -21,10 +21,12 @@ pub fn write_said(line: &mut LineRoom, event: &LogEvent<'_>) -> Result<(), Alloc
 {
     match event {
         LogEvent::Start(start) => write_start(line, start),
+        LogEvent::Serving(generation) => write_serving(line, *generation),
         LogEvent::Load(load) => write_load(line, load),
         LogEvent::Connection(connection) => write_connection(line, connection),
         LogEvent::Unaccepted(reason) => write_unaccepted(line, reason),
         LogEvent::Lost(lines) => write_lost(line, *lines),
+        LogEvent::Totals(totals) => write_totals(line, totals),
         LogEvent::Stop(refusal) => write_stop(line, *refusal),
         LogEvent::Counter(counter) => write_counter(line, counter),
     }
@@ -38,6 +40,14 @@ fn write_start(line: &mut LineRoom, start: &Start<'_>) -> Result<(), AllocError>
     write_number(line, "port", start.port as u64)?;
     write_number(line, "operator", start.operator as u64)?;
     write_optional(line, "refusal", start.refusal)?;
+    Ok(())
+}
+
+fn write_serving(line: &mut LineRoom, generation: u64) -> Result<(), AllocError>
+    ensures { OnOk result (AddsMembers line.old line.new (specs.serving_members generation)) }
+{
+    write_kind(line, "serving")?;
+    write_number(line, "generation", generation)?;
     Ok(())
 }
 
@@ -73,6 +83,7 @@ fn write_reply(line: &mut LineRoom, connection: &Connection<'_>) -> Result<(), A
     write_count(line, "generation", connection.generation)?;
     write_number(line, "bytes", connection.bytes)?;
     write_number(line, "micros", connection.micros)?;
+    write_number(line, "waited", connection.waited)?;
     Ok(())
 }
 
@@ -89,6 +100,32 @@ fn write_lost(line: &mut LineRoom, lines: u64) -> Result<(), AllocError>
 {
     write_kind(line, "lost")?;
     write_number(line, "lines", lines)?;
+    Ok(())
+}
+
+fn write_totals(line: &mut LineRoom, totals: &Totals) -> Result<(), AllocError>
+    ensures { OnOk result (AddsMembers line.old line.new (specs.totals_members totals.now)) }
+{
+    write_kind(line, "totals")?;
+    write_statuses(line, totals)?;
+    write_number(line, "dropped", totals.dropped)?;
+    write_number(line, "longest_wait", totals.longest_wait)?;
+    write_number(line, "busy", totals.busy)?;
+    Ok(())
+}
+
+// How many replies there were of each status.
+fn write_statuses(line: &mut LineRoom, totals: &Totals) -> Result<(), AllocError>
+    ensures { OnOk result (AddsMembers line.old line.new (specs.status_members totals.now)) }
+{
+    write_number(line, "status_200", totals.success)?;
+    write_number(line, "status_400", totals.bad_request)?;
+    write_number(line, "status_404", totals.not_found)?;
+    write_number(line, "status_405", totals.method_not_allowed)?;
+    write_number(line, "status_411", totals.length_required)?;
+    write_number(line, "status_413", totals.content_too_large)?;
+    write_number(line, "status_431", totals.header_fields_too_large)?;
+    write_number(line, "status_500", totals.internal_server_error)?;
     Ok(())
 }
 

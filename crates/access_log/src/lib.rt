@@ -24,7 +24,7 @@ mod unescaped;
 mod utc;
 
 pub use asked::{AskedApp, Outcome};
-pub use event::{Connection, Counter, Load, LogEvent, Start};
+pub use event::{Connection, Counter, Load, LogEvent, Start, Totals};
 pub use excerpt::Excerpt;
 pub use line::{log_line, log_line_in};
 pub use line_room::LineRoom;

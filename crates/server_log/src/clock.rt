@@ -22,6 +22,14 @@ pub fn seconds_from_now<H: Clock>(rt: &H, seconds: u64) -> Option<Instant> {
         .checked_add(Duration::from_secs(seconds))
 }
 
+/// Whether a moment is past. It isn't where the clock can't tell.
+pub(crate) fn is_past<H: Clock>(rt: &H, moment: Instant) -> bool {
+    match Instant::now(rt) {
+        Ok(now) => moment <= now,
+        Err(_) => false,
+    }
+}
+
 /// How many microseconds it is since something began; 0 where that isn't known.
 pub(crate) fn micros_since<H: Clock>(rt: &H, begun: Option<Instant>) -> u64 {
     let Some(begun) = begun else {

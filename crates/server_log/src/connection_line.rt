@@ -15,15 +15,16 @@ use std::sync::Wait;
 use std::time::{Clock, Instant};
 use std::{io, slice, str};
 
-/// Puts the line of a connection into a worker's log, where it is kept: how long it took since it
-/// began, 0 where that isn't known, what came of it, and what was seen. It is lost where memory is
-/// refused.
+/// Puts the line of a connection into a worker's log, where it is kept: for how many microseconds
+/// it had waited before it began, how long it took since, 0 where that isn't known, what came of
+/// it, and what was seen. It is lost where memory is refused.
 // open: what a line tells of a connection, that apps which the server knows come first, and when it
 // is handed on: tests.
 pub fn note_connection<H>(
     rt: &H,
     log: &mut Log<'_>,
     peer: SocketAddr,
+    waited: u64,
     begun: Option<Instant>,
     outcome: &Result<Sent, AnswerFault>,
     seen: &mut Seen,
@@ -36,18 +37,28 @@ where
     if !log.is_kept() {
         return;
     }
-    let micros = micros_since(rt, begun);
-    if note_kept(rt, log, peer, micros, outcome, seen).is_err() {
+    let times = Times {
+        micros: micros_since(rt, begun),
+        waited,
+    };
+    if note_kept(rt, log, peer, times, outcome, seen).is_err() {
         log.lose();
     }
     seen.let_go();
+}
+
+// How long a connection took, and how long it had waited before, in microseconds.
+#[derive(Clone, Copy)]
+struct Times {
+    micros: u64,
+    waited: u64,
 }
 
 fn note_kept<H>(
     rt: &H,
     log: &mut Log<'_>,
     peer: SocketAddr,
-    micros: u64,
+    times: Times,
     outcome: &Result<Sent, AnswerFault>,
     seen: &mut Seen,
 ) -> Result<(), AllocError>
@@ -60,7 +71,8 @@ where
         status: status_of(outcome),
         generation: seen.generation,
         bytes: seen.bytes,
-        micros,
+        micros: times.micros,
+        waited: times.waited,
         ..without_texts(refusal_of(outcome), cause_of(outcome, seen))
     };
     let (peer, forwarded) = (seen.peer(addresses), seen.forwarded_text(addresses));
@@ -86,6 +98,7 @@ fn without_texts<'x>(refusal: Option<&'x str>, cause: Option<&'x str>) -> Connec
         generation: 0,
         bytes: 0,
         micros: 0,
+        waited: 0,
         apps: &[],
     }
 }
@@ -105,7 +118,8 @@ fn connection_event<'x>(
     })
 }
 
-fn status_of(outcome: &Result<Sent, AnswerFault>) -> u16 {
+/// The status of the reply; 0 where there is none, or not all of it was sent.
+pub(crate) fn status_of(outcome: &Result<Sent, AnswerFault>) -> u16 {
     match outcome {
         Ok(sent) => sent.status,
         Err(_) => 0,

@@ -7,8 +7,9 @@
 //!
 //! What a line tells of a connection is kept beside its answer: what was read and how a device
 //! failed (`Heard`), and what each app was answered (`Seen`). The line of an event is that of
-//! `log_line` in `access_log`, of which it is proved what it says. Of queues, threads and clocks,
-//! and of what is written, nothing is proved.
+//! `log_line` in `access_log`, of which it is proved what it says. What connections come to is
+//! counted beside (`tally`), and told each minute. Of queues, threads and clocks, and of what is
+//! written, nothing is proved.
 //!
 //! See docs/OPERATING.md, "The log".
 #![tactic(auto)]
@@ -24,13 +25,15 @@ mod log_queue;
 mod log_thread;
 mod seen;
 mod seen_app;
+mod tally;
 
 pub use clock::seconds_from_now;
 pub use connection_line::{note_connection, note_unaccepted};
 pub use heard::Heard;
-pub use load_line::note_load;
+pub use load_line::{note_load, note_serving};
 pub use log::Log;
 pub use log_output::LogOutput;
 pub use log_queue::{LogPiece, LogQueue};
 pub use log_thread::{LogEnd, note_at_once, start_log};
 pub use seen::Seen;
+pub use tally::{count_begun, count_ended};

@@ -1,9 +1,10 @@
-//! What the log tells of a load.
+//! What the log tells of what is served: that the server is ready, and each load.
 
 use crate::clock::seconds_from_now;
 use crate::heard::Heard;
 use crate::log_queue::LogQueue;
 use access_log::{Excerpt, Load, LogEvent};
+use hot_swap::Generation;
 use operator::OperatorReply;
 use std::fmt::Display;
 use std::sync::Wait;
@@ -11,6 +12,18 @@ use std::time::Clock;
 
 /// How long the line of a load waits for a place.
 const LOAD_SECONDS: u64 = 2;
+
+/// Puts the line into the queue, if there is one, that the server is ready, and serves the ruleset
+/// of this generation. It is lost where memory is refused.
+// open: all but the line of an event: tests.
+pub fn note_serving<H>(rt: &H, log: Option<&LogQueue>, generation: Generation)
+where
+    H: Wait + AllocGlobal + Clock,
+{
+    if let Some(queue) = log {
+        queue.note(rt, &LogEvent::Serving(generation));
+    }
+}
 
 /// Puts the line of a load into the queue, if there is one and a load was asked for. It is lost
 /// where memory is refused, or where it has waited for a place in vain.

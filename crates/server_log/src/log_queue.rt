@@ -4,11 +4,12 @@
 //! threads share is known to no contract.
 
 use crate::clock::utc_now;
-use access_log::{LogEvent, log_line};
+use crate::tally::Tally;
+use access_log::{LogEvent, Totals, log_line};
 use crossbeam_channel::{Receiver, Sender, bounded};
 use std::alloc::{AllocError, Global};
-use std::sync::Wait;
 use std::sync::atomic::{AtomicU64, Ordering};
+use std::sync::{Arc, Wait};
 use std::time::{Clock, Instant};
 
 /// How many pieces may wait to be written.
@@ -23,11 +24,12 @@ pub struct LogPiece {
     pub lines: u64,
 }
 
-/// Where the threads of a server put the lines of its log.
+/// Where the threads of a server put the lines of its log, and count their connections.
 #[derive(Drop)]
 pub struct LogQueue {
     pieces: Sender<LogPiece>,
     lost: AtomicU64,
+    tally: Arc<Tally>,
 }
 
 impl LogQueue {
@@ -36,11 +38,32 @@ impl LogQueue {
         let Ok((pieces, from)) = bounded::<LogPiece, _>(alloc, PLACES) else {
             return Err(AllocError);
         };
+        let Ok(tally) = Arc::new(alloc, Tally::new()) else {
+            return Err(AllocError);
+        };
         let queue = LogQueue {
             pieces,
             lost: AtomicU64::new(0),
+            tally,
         };
         Ok((queue, from))
+    }
+
+    /// What the connections come to since this was last asked, as the thread of `start_log` does
+    /// each minute.
+    // open: what the numbers come to: tests.
+    pub fn take_totals(&self) -> Totals {
+        self.tally.take()
+    }
+
+    /// By what connections are counted.
+    pub(crate) fn tally(&self) -> &Tally {
+        &self.tally
+    }
+
+    /// The same, for the thread that tells it.
+    pub(crate) fn shared_tally(&self) -> Option<Arc<Tally>> {
+        Arc::try_clone(&self.tally).ok()
     }
 
     /// Puts lines into the queue. Where it is full they are lost.

@@ -1,19 +1,24 @@
 //! The thread that writes a server's log, which nobody joins: a write to a reader that doesn't read
 //! has no end, and the server's end isn't to wait for it. It is let go by its handle, and ends with
-//! the program at the latest. Of threads, and of what standard error takes, nothing is proved.
+//! the program at the latest. Each minute, and at its end, it tells what connections came to. Of
+//! threads, and of what standard error takes, nothing is proved.
 
-use crate::clock::utc_now;
+use crate::clock::{is_past, seconds_from_now, utc_now};
 use crate::log_output::LogOutput;
 use crate::log_queue::{LogPiece, LogQueue};
+use crate::tally::Tally;
 use access_log::{LogEvent, log_line};
 use bounded_files::ResourceFault;
-use crossbeam_channel::{Receiver, Sender, bounded};
-use std::sync::Wait;
+use crossbeam_channel::{Receiver, RecvTimeoutError, Sender, bounded};
+use std::sync::{Arc, Wait};
 use std::thread::{self, Threads};
-use std::time::{Clock, Duration};
+use std::time::{Clock, Duration, Instant};
 
 /// How long the end of a server waits for what is still to be written.
 const END_SECONDS: u64 = 4;
+
+/// How long it is from one line of totals to the next.
+const TOTALS_SECONDS: u64 = 60;
 
 /// What is heard when the thread has ended.
 #[derive(Drop)]
@@ -34,29 +39,69 @@ where
     let Ok((ending, ended)) = bounded::<(), _>(rt.alloc(), 1) else {
         return Err(ResourceFault::Memory);
     };
+    let Some(tally) = queue.shared_tally() else {
+        return Err(ResourceFault::Memory);
+    };
     let own = *rt;
-    match thread::spawn(rt, move || write_pieces(own, from, ending)) {
+    match thread::spawn(rt, move || write_pieces(own, from, tally, ending)) {
         Ok(_) => Ok((queue, LogEnd { ended })),
         Err(_) => Err(ResourceFault::Memory),
     }
 }
 
-// Writes each piece, and at the end how many lines couldn't be written.
-fn write_pieces<H>(rt: H, pieces: Receiver<LogPiece>, ending: Sender<()>)
+// Writes each piece, and the totals each minute and at the end; and then how many lines couldn't be
+// written.
+fn write_pieces<H>(rt: H, pieces: Receiver<LogPiece>, tally: Arc<Tally>, ending: Sender<()>)
 where
     H: Wait + AllocGlobal + Clock + LogOutput + Drop,
 {
     let mut unwritten = 0;
+    let mut minute = seconds_from_now(&rt, TOTALS_SECONDS);
     for _ in rt.forever() {
-        let Ok(piece) = pieces.recv(&rt) else {
-            break;
-        };
-        unwritten = write_piece(&rt, &piece, unwritten);
+        match next_piece(&rt, &pieces, minute) {
+            Ok(piece) => unwritten = write_piece(&rt, &piece, unwritten),
+            Err(RecvTimeoutError::Timeout) => {
+                minute = seconds_from_now(&rt, TOTALS_SECONDS);
+                unwritten = write_totals(&rt, &tally, unwritten);
+            }
+            Err(RecvTimeoutError::Disconnected) => break,
+        }
     }
+    unwritten = write_totals(&rt, &tally, unwritten);
     if unwritten != 0 {
         let _told = tell_unwritten(&rt, unwritten);
     }
     drop(ending);
+}
+
+// The next piece, until a minute is over, also where pieces go on coming. A minute of which the
+// clock can't tell when it is over has no end.
+fn next_piece<H>(
+    rt: &H,
+    pieces: &Receiver<LogPiece>,
+    minute: Option<Instant>,
+) -> Result<LogPiece, RecvTimeoutError>
+where
+    H: Wait + Clock,
+{
+    let Some(minute) = minute else {
+        return pieces.recv(rt).map_err(|_| RecvTimeoutError::Disconnected);
+    };
+    if is_past(rt, minute) {
+        return Err(RecvTimeoutError::Timeout);
+    }
+    pieces.recv_deadline(rt, minute)
+}
+
+// Writes the line of the totals, as a piece.
+fn write_totals<H>(rt: &H, tally: &Tally, unwritten: u64) -> u64
+where
+    H: AllocGlobal + Clock + LogOutput,
+{
+    match log_line(rt.alloc(), &utc_now(rt), &LogEvent::Totals(tally.take())) {
+        Ok(text) => write_piece(rt, &LogPiece { text, lines: 1 }, unwritten),
+        Err(_) => unwritten.saturating_add(1),
+    }
 }
 
 // Writes a piece, behind so many lines that couldn't be written, as on a full disk; how many then

@@ -2,7 +2,7 @@
 //! room.
 
 use crate::given::{AT, NOTES, answered, line_at, repeated};
-use access_log::{AskedApp, Excerpt, Outcome};
+use access_log::{AskedApp, Connection, Excerpt, LogEvent, Outcome};
 use std::alloc::Global;
 use std::test::Fail;
 
@@ -136,5 +136,48 @@ fn what_is_left_out_is_counted_by_kind(rt: HostRuntime) -> Result<(), Fail> {
         let line = line_at(rt.alloc(), &AT, &answered(&apps))?;
         assert!(rt; line.ends_with(*end), "{offers} {others} {unknown}: {line}");
     }
+    Ok(())
+}
+
+/// What stands round the apps of a connection at most: a peer with a scope, the longest address of
+/// a proxy, a failure behind the answer, and numbers of twenty digits.
+fn long<'a>(apps: &'a [AskedApp<'a>]) -> LogEvent<'a> {
+    LogEvent::Connection(Connection {
+        peer: "[ffff:ffff:ffff:ffff:ffff:ffff:ffff:ffff%4294967295]:65535",
+        forwarded: Some("ffff:ffff:ffff:ffff:ffff:ffff:ffff:ffff"),
+        status: 0,
+        refusal: Some("P8 Device"),
+        cause: Some("time-out"),
+        generation: u64::MAX,
+        bytes: u64::MAX,
+        micros: u64::MAX,
+        waited: u64::MAX,
+        apps,
+    })
+}
+
+/// 256 apps that take as much as they may: 26 with 64 bytes and one with 52 fill 3660 bytes, but
+/// for the comma before the first, and 412 stand round them.
+#[test]
+fn no_line_of_a_connection_is_too_long(rt: HostRuntime) -> Result<(), Fail> {
+    let texts = [repeated(rt.alloc(), 64, "")?, repeated(rt.alloc(), 52, "")?];
+    let mut apps = Vec::new(rt.alloc());
+    for place in 0..256 {
+        let text = if place == 26 { &texts[1] } else { &texts[0] };
+        apps.push(AskedApp {
+            appid: Excerpt::brief(text),
+            named: false,
+            outcome: if place < 130 {
+                Outcome::Unknown
+            } else {
+                Outcome::Offered(64, "1.0")
+            },
+            ..NOTES
+        })?;
+    }
+    let line = line_at(rt.alloc(), &AT, &long(&apps))?;
+    let end = "],\"left_out\":229,\"offers_left_out\":126,\"unknown_left_out\":103}\n";
+    assert!(rt; line.ends_with(end), "{line}");
+    assert_eq!(rt; line.len(), 4071);
     Ok(())
 }

@@ -1,7 +1,7 @@
 //! Each kind of event, and its line.
 
 use crate::given::{AT, NOTES, answered, line_at};
-use access_log::{AskedApp, Connection, Counter, Excerpt, Load, LogEvent, Outcome, Start};
+use access_log::{AskedApp, Connection, Counter, Excerpt, Load, LogEvent, Outcome, Start, Totals};
 use std::alloc::Global;
 use std::test::Fail;
 
@@ -14,6 +14,8 @@ const LINES: &str = r##"
 
 "kind":"start","path":"a\tb","path_left_out":9,"port":80,"operator":8081}
 
+"kind":"serving","generation":1}
+
 "kind":"load","path":"next.toml","generation":2}
 
 "kind":"load","path":"a\tb","path_left_out":9,"refusal":"M2 Field"}
@@ -22,6 +24,10 @@ const LINES: &str = r##"
 
 "kind":"lost","lines":18446744073709551615}
 
+"kind":"totals","status_200":1,"status_400":2,"status_404":3,"status_405":4,"status_411":5,
+"status_413":6,"status_431":7,"status_500":8,"dropped":9,"longest_wait":18446744073709551615,
+"busy":64}
+
 "kind":"stop"}
 
 "kind":"stop","refusal":"H2 NoPlace"}
@@ -29,30 +35,48 @@ const LINES: &str = r##"
 "kind":"counter","array":"canary","index":3,"value":18446744073709551615}
 
 "kind":"connection","peer":"[2001:db8::1]:443","status":411,"refusal":"P4 Length","bytes":111,
-"micros":9}
+"micros":9,"waited":0}
 
 "kind":"connection","peer":"[fe80::1%2]:80","refusal":"P8 Device","cause":"time-out","bytes":0,
-"micros":0}
+"micros":0,"waited":0}
 
 "kind":"connection","peer":"[fe80::1%2]:80","refusal":"P8 Device","cause":"device","bytes":7,
-"micros":0}
+"micros":0,"waited":0}
 
 "kind":"connection","peer":"127.0.0.1:41248","forwarded":"203.0.113.7","status":200,
-"generation":5,"bytes":566,"micros":68,"apps":[{"appid":"notes","version":"1.0","bucket":9999,
+"generation":5,"bytes":566,"micros":68,"waited":7,
+"apps":[{"appid":"notes","version":"1.0","bucket":9999,
 "named":true,"choice":2,"release":"1.1"}]}
 
 "kind":"connection","peer":"127.0.0.1:41248","forwarded":"203.0.113.7","status":200,
-"generation":5,"bytes":566,"micros":68,"apps":[{"appid":"q\"\\é","bucket":0,"named":false,
+"generation":5,"bytes":566,"micros":68,"waited":7,
+"apps":[{"appid":"q\"\\é","bucket":0,"named":false,
 "unknown":true,"event":"[{\"a\":\"\\n\"}]"},{"appid":"editor","version":"","bucket":7,
 "named":false},{"appid":"\u0001\n/","bucket":7,"named":false,"choice":0,"event":"\t{}",
 "event_left_out":12}]}
 
 "kind":"connection","peer":"127.0.0.1:41248","forwarded":"203.0.113.7","status":200,
-"generation":5,"bytes":566,"micros":68,"apps":[{"appid":"\u009b31m","appid_left_out":3300,
+"generation":5,"bytes":566,"micros":68,"waited":7,
+"apps":[{"appid":"\u009b31m","appid_left_out":3300,
 "version":"\u202e1","bucket":1,"named":false,"unknown":true},{"appid":"\u2028",
 "version":"1\u007f","version_left_out":1,"bucket":2,"named":false,"choice":64,
 "release":"2.0"}]}
 "##;
+
+/// Another number each.
+const TOTALS: Totals = Totals {
+    success: 1,
+    bad_request: 2,
+    not_found: 3,
+    method_not_allowed: 4,
+    length_required: 5,
+    content_too_large: 6,
+    header_fields_too_large: 7,
+    internal_server_error: 8,
+    dropped: 9,
+    longest_wait: 18446744073709551615,
+    busy: 64,
+};
 
 fn whole(text: &str) -> Excerpt<'_> {
     cut(text, 0)
@@ -105,6 +129,7 @@ fn unanswered(
         generation: 0,
         bytes,
         micros: if status == 0 { 0 } else { 9 },
+        waited: 0,
         apps: &[],
     })
 }
@@ -134,10 +159,12 @@ fn told(alloc: Global) -> Result<String, Fail> {
         start(whole("m.toml"), None, 8080),
         start(whole("m.toml"), Some("B6 Bind"), 80),
         start(cut, None, 80),
+        LogEvent::Serving(1),
         load(whole("next.toml"), 2, None),
         load(cut, 0, Some("M2 Field")),
         LogEvent::Unaccepted("Too many open files (os error 24)"),
         LogEvent::Lost(18446744073709551615),
+        LogEvent::Totals(TOTALS),
         LogEvent::Stop(None),
         LogEvent::Stop(Some("H2 NoPlace")),
         LogEvent::Counter(Counter {

@@ -42,6 +42,7 @@ pub(crate) fn answered<'a>(apps: &'a [AskedApp<'a>]) -> LogEvent<'a> {
         generation: 5,
         bytes: 566,
         micros: 68,
+        waited: 7,
         apps,
     })
 }

@@ -97,7 +97,7 @@ where
     take(rt, &pieces, &mut lines)?;
     let wanted = format!(in rt.alloc();
         "{{\"time\":\"1970-01-01T00:00:00.000Z\",\"kind\":\"connection\",\"peer\":\"{client}\",\
-        \"refusal\":\"P8 Device\",\"cause\":\"clock\",\"bytes\":0,\"micros\":0}}\n"
+        \"refusal\":\"P8 Device\",\"cause\":\"clock\",\"bytes\":0,\"micros\":0,\"waited\":0}}\n"
     )?;
     Ok(ended && lines == wanted)
 }

@@ -125,7 +125,7 @@ fn want_line(alloc: Global, stream: &TcpStream, told: &str, log: &mut String) ->
     log.push_str("{\"time\":\"2026-03-02T01:00:00.000Z\",\"kind\":\"connection\",")?;
     Ok(writeln!(
         log,
-        "\"peer\":\"{client}\",{before}\"bytes\":{size},\"micros\":0{behind}}}"
+        "\"peer\":\"{client}\",{before}\"bytes\":{size},\"micros\":0,\"waited\":0{behind}}}"
     )?)
 }
 

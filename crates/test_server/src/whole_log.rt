@@ -46,7 +46,8 @@ one|0
 stop;|stopping;";
 
 /// What the log tells of that.
-const LOADS_TOLD: &str = r#"load","path":"unset","refusal":"a program"}
+const LOADS_TOLD: &str = r#"serving","generation":1}
+load","path":"unset","refusal":"a program"}
 load","path":"other_quota","refusal":"an array"}
 load","path":"yes","generation":2}
 load","path":"quota","generation":3}
@@ -54,13 +55,22 @@ stop"}
 counter","array":"q","index":0,"value":3}
 "#;
 
-/// Loads, also those that are refused, the stop, and the counter that isn't 0 have a line each.
+/// That the server is ready, loads, also those that are refused, the stop, and the counter that
+/// isn't 0 have a line each. What the connections came to is told once.
 #[test]
 fn loads_and_the_end_are_logged(rt: HostRuntime) -> Result<(), Fail> {
     let (queue, pieces) = LogQueue::new(rt.alloc())?;
     let wrong = wrong_by(&rt, "quota", 2, logging_to(&queue), Work::Rows(LOADS))?;
     assert_eq!(rt; wrong, None);
     assert_eq!(rt; lines_told(&rt, &pieces)?.as_str(), LOADS_TOLD);
+    let totals = queue.take_totals();
+    assert_eq!(rt;
+        (totals.success, totals.bad_request, totals.dropped),
+        (4, 0, 0)
+    );
+    assert!(rt; 1 <= totals.busy && totals.busy <= 2);
+    let rest = queue.take_totals();
+    assert_eq!(rt; (rest.success, rest.longest_wait, rest.busy), (0, 0, 0));
     Ok(())
 }
 
@@ -70,8 +80,9 @@ one|1
 one|0
 stop;|stopping;";
 
-/// What the log tells once it is read: the lines of three connections and of the stop were lost.
-const UNREAD_TOLD: &str = "lost\",\"lines\":4}\nunaccepted\",\"reason\":\"read\"}\n";
+/// What the log tells once it is read: that the server was ready, the lines of three connections
+/// and that of the stop were lost.
+const UNREAD_TOLD: &str = "lost\",\"lines\":5}\nunaccepted\",\"reason\":\"read\"}\n";
 
 /// A server whose log nobody reads answers as ever, and ends.
 #[test]

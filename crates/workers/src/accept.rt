@@ -6,14 +6,16 @@ use std::io;
 use std::net::{SocketAddr, TcpListener, TcpStream};
 use std::sync::Wait;
 use std::sync::atomic::{AtomicBool, Ordering};
-use std::time::Clock;
+use std::time::{Clock, Instant};
 
-/// A connection with its number, from 1 on, and its client's address.
+/// A connection with its number, from 1 on, its client's address, and when it was accepted, where
+/// the log tells how long it waits, and the clock can.
 #[derive(Drop)]
 pub(crate) struct Call {
     pub(crate) number: u64,
     pub(crate) stream: TcpStream,
     pub(crate) peer: SocketAddr,
+    pub(crate) accepted: Option<Instant>,
 }
 
 /// A port that listens, until a flag is set and one more connection comes.
@@ -53,19 +55,27 @@ impl<'a> Port<'a> {
                 return None;
             }
             match accepted {
-                Ok((stream, peer)) => return Some(self.numbered(stream, peer)),
+                Ok((stream, peer)) => return Some(self.numbered(rt, stream, peer)),
                 Err(error) => self.pass_over(rt, &error),
             }
         }
         None
     }
 
-    fn numbered(&mut self, stream: TcpStream, peer: SocketAddr) -> Call {
+    fn numbered<H: Clock>(&mut self, rt: &H, stream: TcpStream, peer: SocketAddr) -> Call {
         self.accepted = self.accepted.saturating_add(1);
         Call {
             number: self.accepted,
             stream,
             peer,
+            accepted: self.now(rt),
+        }
+    }
+
+    fn now<H: Clock>(&self, rt: &H) -> Option<Instant> {
+        match self.log {
+            Some(_) => Instant::now(rt).ok(),
+            None => None,
         }
     }
 

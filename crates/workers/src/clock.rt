@@ -35,6 +35,16 @@ pub(crate) fn begun(limits: Option<Limits>) -> Option<Instant> {
     }
 }
 
+/// How many microseconds it is from one moment to another; 0 where one isn't known.
+pub(crate) fn micros_between(from: Option<Instant>, to: Option<Instant>) -> u64 {
+    match (from, to) {
+        (Some(from), Some(to)) => {
+            u64::try_from(to.duration_since(from).as_micros()).unwrap_or(u64::MAX)
+        }
+        _ => 0,
+    }
+}
+
 /// The second by the clock; 0 where it can't be read, which counts as the first of 2007.
 pub(crate) fn unix_second<H: Clock>(rt: &H) -> i64 {
     let Ok(now) = SystemTime::now(rt) else {

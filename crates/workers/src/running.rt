@@ -24,6 +24,7 @@ use bounded_files::ResourceFault;
 use cells::CellSteps;
 use hot_swap::Watcher;
 use operator::{Control, Loader};
+use server_log::note_serving;
 use std::io::Write;
 use std::net::{Net, TcpListener, TcpStream};
 use std::sync::Wait;
@@ -136,6 +137,7 @@ where
                 clients.end(rt, &ends.clients);
                 return Err(ResourceFault::File);
             };
+            note_serving(rt, service.log, control.generation());
             let seat = OperatorSeat {
                 loader,
                 cells,

@@ -4,7 +4,7 @@ ghost use Rattle.std.specs.Prelude.{◌≡◌};
 ghost use Rattle.workers.specs.Back.{ConnectionBack, WorkerBack};
 
 use crate::accept::Call;
-use crate::clock::{Limits, begun, unix_second};
+use crate::clock::{Limits, begun, micros_between, unix_second};
 use crate::gate::Gate;
 use crate::queue::next;
 use answering::{AnswerFault, AnswerRoom, Sent, Turn, answer_in};
@@ -12,7 +12,7 @@ use cells::{CellSteps, growth};
 use crossbeam_channel::Receiver;
 use devices::{Counted, Timed, drain, take_rest};
 use hot_swap::Watcher;
-use server_log::{Heard, Log, LogQueue, Seen, note_connection};
+use server_log::{Heard, Log, LogQueue, Seen, count_begun, count_ended, note_connection};
 use std::io;
 use std::net::TcpStream;
 use std::sync::Wait;
@@ -106,10 +106,14 @@ where
     let moment = unix_second(rt);
     log.hand_on_earlier(rt, moment);
     let limits = Limits::begin(rt, service.timeout);
+    let waited = micros_between(call.accepted, begun(limits));
+    count_begun(service.log, waited);
     seen.begin();
     let outcome = answer_within(rt, &call.stream, seat, moment, limits, seen);
-    note_connection(rt, log, call.peer, begun(limits), &outcome, seen);
-    finish(rt, &call.stream, &outcome)
+    note_connection(rt, log, call.peer, waited, begun(limits), &outcome, seen);
+    let finished = finish(rt, &call.stream, &outcome);
+    count_ended(service.log, &outcome);
+    finished
 }
 
 // Answers one connection within its limits. Where the clock can't tell when the connection has to

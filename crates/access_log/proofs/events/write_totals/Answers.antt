@@ -1,0 +1,8 @@
+use Rattle.access_log.proofs.Added.{then_adds}
+use Rattle.access_log.proofs.events.write_totals.Goals as goal
+
+pub returns : goal.returns
+returns c =
+    then_adds (then_adds (then_adds (then_adds c.in_ok-write_kind.ensures
+    c.in_ok-write_statuses.ensures) c.in_ok-write_number.ensures)
+    c.in_ok-write_number-2.ensures) c.in_ok-write_number-3.ensures
