@@ -18,7 +18,8 @@ impl Events {
             Some(text) => text,
             None => String::from_str(self.alloc, "-")?,
         };
-        self.lines.push(line)
+        self.lines.push(line)?;
+        Ok(())
     }
 }
 
