@@ -26,7 +26,8 @@ count name n = (tt, (decimal_is_harmless n, tt))
 flag : (name : List ℕ) (holds : Bool) → HaveHarmlessNumbers (flag_member name holds)
 flag name holds = (tt, (tt, tt))
 
-pub maybe : (name : List ℕ) (value : Option (List ℕ)) → HaveHarmlessNumbers (optional_member name value)
+pub maybe : (name : List ℕ) (value : Option (List ℕ))
+    → HaveHarmlessNumbers (optional_member name value)
 maybe name (Some value) = text name value
 maybe name None = tt
 

@@ -2,7 +2,8 @@ use Rattle.std.proofs.lemmas.Result.{on_ok_weaker}
 use Rattle.access_log.proofs.Said.{event_is_one, length_is_one}
 use Rattle.access_log.proofs.line.log_line_in.Goals as goal
 
-pub returns-then-bytes-gt-LINE_LIMIT-clause-whole : goal.returns-then-bytes-gt-LINE_LIMIT-clause-whole
+pub returns-then-bytes-gt-LINE_LIMIT-clause-whole :
+    goal.returns-then-bytes-gt-LINE_LIMIT-clause-whole
 returns-then-bytes-gt-LINE_LIMIT-clause-whole c =
     on_ok_weaker c.too_long_line.result
     (λ is. length_is_one c.args.time.now _ _ is)
