@@ -1,1 +1,3 @@
+mod Pieces
+mod SoFar
 mod Within

@@ -1,2 +1,4 @@
 pub mod Files
+pub mod Kept
+pub mod SoFar
 pub mod Texts

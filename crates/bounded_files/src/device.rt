@@ -3,9 +3,11 @@
 ghost use Rattle.std.specs.Prelude.{◌↔◌, List, ℕ, None, IfOk, IsOk};
 ghost use Rattle.std.specs.Fs.{IsFile, file_type};
 ghost use Rattle.bounded_files.specs.Files.{IsBeginning, IsWithin, ReadsAtMost};
+ghost use Rattle.bounded_files.specs.Kept.{KeepsFile};
 
-use crate::disk::Disk;
+use crate::disk::{Disk, MOST_BYTES};
 use crate::fault::{ResourceFault, fault_of};
+use crate::kept::{KeptBytes, keep};
 use std::alloc::Global;
 use std::fs::{self, Metadata, OpenFile};
 use std::io::{self, Error, ErrorKind, Read};
@@ -40,6 +42,11 @@ impl<'a, R: Files + AllocGlobal> Disk for Device<'a, R> {
         read_opened(self.rt.alloc(), open_regular(self.rt, path), most)
     }
 
+    // It is read by pieces, of which none is kept behind the first bytes.
+    fn keep_regular(&self, path: &str, kept: u32) -> Result<KeptBytes, ResourceFault> {
+        keep_opened(self.rt.alloc(), open_within(self.rt, path), kept)
+    }
+
     // What can't be looked at counts as a link.
     fn is_link(&self, path: &str) -> bool {
         match fs::symlink_metadata(self.rt, path) {
@@ -56,6 +63,15 @@ fn open_regular<R: Files>(rt: &R, path: &str) -> io::Result<R::File> {
     require_regular(&fs::metadata(rt, path)?)?;
     let file = fs::open(rt, path)?;
     require_regular(&file.metadata()?)?;
+    Ok(file)
+}
+
+// One that says itself to be longer than 16 MiB isn't read.
+fn open_within<R: Files>(rt: &R, path: &str) -> io::Result<R::File> {
+    let file = open_regular(rt, path)?;
+    if file.metadata()?.len() > MOST_BYTES as u64 {
+        return Err(Error::from(ErrorKind::FileTooLarge));
+    }
     Ok(file)
 }
 
@@ -88,6 +104,25 @@ fn read_opened<F: Read + Drop>(
         return Ok(None);
     }
     Ok(Some(bytes))
+}
+
+// What is kept of what was opened.
+fn keep_opened<F: Read + Drop>(
+    alloc: Global,
+    opened: io::Result<F>,
+    kept: u32,
+) -> Result<KeptBytes, ResourceFault>
+    ensures { (path : List ℕ) → KeepsFile kept None path result }
+{
+    let read = match opened {
+        Ok(file) => keep(alloc, file, kept as usize, MOST_BYTES as usize),
+        Err(error) => Err(error),
+    };
+    match read {
+        Ok(Some(kept)) => Ok(kept),
+        Ok(None) => Err(ResourceFault::File),
+        Err(error) => Err(fault_of(&error)),
+    }
 }
 
 /// The first bytes that a reader gives, one more than are allowed at most: of one whose bytes are

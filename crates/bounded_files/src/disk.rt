@@ -2,10 +2,12 @@
 
 ghost use Rattle.std.specs.Prelude.{◌≡◌, ◌≤◌, length, IfOk, List, ℕ, Option};
 ghost use Rattle.bounded_files.specs.Files.{KnownFile, ReadsAtMost, ReadsFile};
-ghost use Rattle.bounded_files.specs.Files.{regular_files, within};
+ghost use Rattle.bounded_files.specs.Files.{most_bytes, regular_files, within};
 ghost use Rattle.bounded_files.specs.Files as specs;
+ghost use Rattle.bounded_files.specs.Kept.{KeepsFile};
 
 use crate::fault::ResourceFault;
+use crate::kept::{KeptBytes, keep_read};
 
 /// The most bytes of a text, of a script, and of a file that a manifest names: 16 MiB.
 pub const MOST_BYTES: u32 = 0x100_0000;
@@ -25,6 +27,16 @@ pub trait Disk {
     /// counts as one that can't be read, and isn't waited for.
     fn read_regular(&self, path: &str, most: u32) -> Result<Option<Vec<u8>>, ResourceFault>
         ensures { ReadsAtMost most (regular_files (known self.now)) path.now result };
+
+    /// What is kept of a regular file: its bytes, if they are at most `kept`; or else so many of
+    /// the first, how many they are, and whether they are UTF-8 to their end. What is no regular
+    /// file counts as one that can't be read, and so does one of over 16 MiB.
+    fn keep_regular(&self, path: &str, kept: u32) -> Result<KeptBytes, ResourceFault>
+        ensures { KeepsFile kept (within most_bytes (regular_files (known self.now)))
+            path.now result }
+    {
+        keep_read(whole(self.read_regular(path, MOST_BYTES)), kept as usize)
+    }
 
     /// Whether a symbolic link stands at a path, as none does in memory. Nothing is promised of it.
     fn is_link(&self, _path: &str) -> bool {

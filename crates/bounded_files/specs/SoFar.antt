@@ -1,0 +1,17 @@
+-- What is kept of bytes while they are read.
+use Rattle.std.specs.Prelude.{◌≡◌, ℕ, List, length, take, Option}
+use Rattle.std.specs.Io.KnownBytes.{Consumes}
+use Rattle.bounded_files.specs.declared.kept.SoFar.{SoFar}
+use Rattle.bounded_files.specs.Kept.{LeavesOpen}
+
+-- of these bytes: so many of the first, how many they are, and what they leave open of a text
+pub record KeepsSoFar (most : ℕ) (bytes : List ℕ) (far : SoFar) : Type 0 where
+  pub beginning : far.beginning.items ≡ take most bytes
+  pub count : far.count ≡ length bytes
+  pub text : LeavesOpen bytes far.left
+
+-- of those that a reader gave until now
+pub record IsReadSoFar (most : ℕ) (old now : Option (List ℕ)) (far : SoFar) : Type 0 where
+  pub bytes : List ℕ
+  pub read : Consumes old now bytes
+  pub kept : KeepsSoFar most bytes far
