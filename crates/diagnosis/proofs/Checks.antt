@@ -13,6 +13,7 @@ use Rattle.manifest.specs.declared.fault.ManifestFault.{ManifestFault}
 use Rattle.bounded_files.specs.Files.{KnownFile}
 use Rattle.load.specs.declared.fault.LoadFault.{LoadFault}
 use Rattle.load.specs.declared.fault.LoadFault.TheVariants.{Memory}
+use Rattle.load.specs.Judged.{GatheredIsLoaded}
 use Rattle.load.specs.OneLoad.{HasOneLoad}
 use Rattle.ruleset.specs.Rules.{AppRule, Rules}
 use Rattle.diagnosis.specs.Check.{FailsCheck, PassesCheck}
@@ -44,7 +45,8 @@ is_memory : (e : LoadFault) → (e ≢ Memory → ⊥) → e ≡ Memory
 is_memory Memory h = refl
 is_memory e h = absurd (h (λ x. absurd cc))
 
-module _ (load : HasOneLoad) (reading : (bytes : List ℕ) → HasOneManifest bytes)
+module _ (load : HasOneLoad) (gathered : GatheredIsLoaded)
+    (reading : (bytes : List ℕ) → HasOneManifest bytes)
     (verdict : (s : AppShape) (text : Text) → RuleHasOneVerdict s text)
     (files : List ℕ → Option KnownFile) (bytes : List ℕ) where
   same_manifest : (m other : Manifest) → ReadsManifest bytes (Ok m)
@@ -68,6 +70,10 @@ module _ (load : HasOneLoad) (reading : (bytes : List ℕ) → HasOneManifest by
             ∙ sym q.text_is,
         warned_once verdict files bytes p.g q.g p.passes.programs q.passes.programs warnings others
             p.gathered q.gathered
+            ((gathered.manifest (Some files) [] bytes p.g p.gathered).gathered p.passes.programs
+            p.passes.judged)
+            ((gathered.manifest (Some files) [] bytes q.g q.gathered).gathered q.passes.programs
+            q.passes.judged)
             (same_manifest p.gathered.manifest q.gathered.manifest p.gathered.read
             q.gathered.read) loads.1 (sym p.apps_are ∙ apps ∙ q.apps_are) p.passes.judged
             q.passes.judged p.passes.warned q.passes.warned,

@@ -1,5 +1,5 @@
 -- A manifest that is too long fails for this, whatever its bytes are.
-use Rattle.std.proofs.Common.{◌≡◌, ◌⊎◌, List, ℕ, [], arith}
+use Rattle.std.proofs.Common.{◌≡◌, ◌⊎◌, List, ℕ, [], arith, refl}
 use Rattle.load.specs.Load.{of_bytes}
 use Rattle.load.specs.declared.fault.LoadFault.TheVariants.{Manifest}
 use Rattle.manifest.specs.declared.fault.ManifestFault.TheVariants.{Toml}
@@ -14,6 +14,11 @@ fails_if_long text why known bytes long = record {
   refused = of_bytes long;
   arrays = [];
   apps = [];
+  unread = 0;
   seen = no_file (λ some. absurd (omega (arith, some)));
-  told = told_alone bytes [] [] (Manifest (Toml TooLong)) text why;
+  told = record {
+    told = text;
+    refused = told_alone bytes [] [] (Manifest (Toml TooLong)) text why;
+    ends = refl;
+  };
 }

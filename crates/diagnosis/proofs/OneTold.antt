@@ -172,21 +172,24 @@ module _ (verdict : (s : AppShape) (text : Text) → RuleHasOneVerdict s text)
 
   pub warned_once : (bytes : List ℕ) (g h : Gathered) (programs also : List ShapedProgram)
       (warnings others : List ℕ) (p : IsGathered (Some files) [] bytes g)
-      (q : IsGathered (Some files) [] bytes h) → p.manifest ≡ q.manifest
-      → g.directory ≡ h.directory → apps_of g.apps.items programs ≡ apps_of h.apps.items also
+      (q : IsGathered (Some files) [] bytes h)
+      → AreGathered (Some files) g.directory p.numbers p.manifest.apps g.apps.items
+      → AreGathered (Some files) h.directory q.numbers q.manifest.apps h.apps.items
+      → p.manifest ≡ q.manifest → g.directory ≡ h.directory
+      → apps_of g.apps.items programs ≡ apps_of h.apps.items also
       → AreJudged g.apps.items programs → AreJudged h.apps.items also
       → WarnsOf g programs warnings → WarnsOf h also others → warnings ≡ others
-  warned_once bytes g h programs also warnings others p q read directories same judged_g judged_h v
-      w =
+  warned_once bytes g h programs also warnings others p q of_g of_h read directories same judged_g
+      judged_h v w =
       let there : AreGathered (Some files) h.directory p.numbers q.manifest.apps g.apps.items =
       subst (λ (d : List CellArray).
       AreGathered (Some files) d p.numbers q.manifest.apps g.apps.items) directories
       (subst (λ (m : Manifest).
-      AreGathered (Some files) g.directory p.numbers m.apps g.apps.items) read p.apps_are) in
+      AreGathered (Some files) g.directory p.numbers m.apps g.apps.items) read of_g) in
       v.warnings_are
       ∙ ap (λ t. unused_from 0 g.directory (apps_of g.apps.items programs) ++ t)
       (told_once h.directory p.numbers q.numbers 1 all_room q.manifest.apps g.apps.items
-      h.apps.items programs also v.told w.told there q.apps_are judged_g judged_h same v.of_apps
+      h.apps.items programs also v.told w.told there of_h judged_g judged_h same v.of_apps
       w.of_apps)
       ∙ ap (λ (d : List CellArray).
       unused_from 0 d (apps_of g.apps.items programs) ++ w.told) directories

@@ -1,9 +1,10 @@
 -- From what was gathered and judged to what is told.
-use Rattle.std.proofs.Common.{◌≡◌, ℕ, List, [], ◌++◌, true, ◌∙◌, ap, subst, refl, sym}
+use Rattle.std.proofs.Common.{◌≡◌, ℕ, zero, suc, List, [], ◌++◌, length, true, ◌∙◌, ap, subst}
+use Rattle.std.proofs.Common.{◌<◌, ◌⊎◌, refl, sym, arith}
 use Rattle.std.proofs.Common.{Result, Ok, Err, IfOk, IfErr, inl}
 use Rattle.diagnosis.specs.Check.{FailsApps, FailsCheck, PassesApps, PassesCheck, files, no_file}
-use Rattle.diagnosis.specs.Texts.{loaded_text}
-use Rattle.diagnosis.specs.Told.{TellsRefused}
+use Rattle.diagnosis.specs.Texts.{loaded_text, unread_line}
+use Rattle.diagnosis.specs.Told.{TellsRefused, TellsUnread}
 use Rattle.diagnosis.specs.Unused.{unused_from}
 use Rattle.diagnosis.specs.Warned.{WarnsOfApps}
 use Rattle.diagnosis.proofs.FaultsTold.{told_alone}
@@ -83,6 +84,7 @@ module _ (known : KnownFiles) (bytes : List ℕ) (g : Gathered) (is : IsGathered
     refused = load.refused fault h.refused;
     arrays = g.arrays.items;
     apps = g.apps.items;
+    unread = g.unread;
     seen = files g is;
     told = h.told;
   }
@@ -96,9 +98,19 @@ fails_early known bytes u fault reason h is told =
       refused = h.fault_is known;
       arrays = u.arrays.items;
       apps = [];
+      unread = 0;
       seen = no_file h.arrays_are;
-      told = told;
+      told = record { told = reason; refused = told; ends = refl };
     })
+
+pub nothing_more : (apps unread : ℕ) (text : List ℕ) → TellsUnread apps unread text text
+nothing_more apps zero text = refl
+nothing_more apps (suc left) text = inl refl
+
+pub some_unread : (apps unread : ℕ) (told text : List ℕ) → 0 < unread
+    → (text ≡ told) ⊎ (text ≡ told ++ unread_line apps) → TellsUnread apps unread told text
+some_unread apps zero told text some h = absurd (omega (arith, some))
+some_unread apps (suc left) told text some h = h
 
 -- want of memory, of which nothing is told
 pub nothing_told : (bytes : List ℕ) (g : Gathered) (fault : LoadFault) (reason : List ℕ)
@@ -107,5 +119,9 @@ nothing_told bytes g fault reason is none =
     subst (λ (f : LoadFault). FailsApps bytes g f reason) (sym is)
     (record {
       refused = tt;
-      told = told_alone bytes g.arrays.items g.apps.items Memory reason (inl none);
+      told = record {
+        told = reason;
+        refused = told_alone bytes g.arrays.items g.apps.items Memory reason (inl none);
+        ends = nothing_more (length g.apps.items) g.unread reason;
+      };
     })

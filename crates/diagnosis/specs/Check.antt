@@ -4,7 +4,7 @@ use Rattle.std.specs.Prelude.{◌≡◌, ◌<◌, ℕ, List, [], length}
 use Rattle.bpf_semantics.specs.Program.{ShapedProgram}
 use Rattle.cells.specs.Directory.{Declaration}
 use Rattle.diagnosis.specs.Texts.{accepted_text, loaded_text}
-use Rattle.diagnosis.specs.Told.{TellsRefused}
+use Rattle.diagnosis.specs.Told.{TellsAll}
 use Rattle.diagnosis.specs.Warned.{WarnsOf}
 use Rattle.bounded_files.specs.Files.{KnownFiles}
 use Rattle.load.specs.Gathered.{AreArraysOf, IsGathered}
@@ -25,11 +25,11 @@ pub record PassesApps (g : Gathered) (text warnings : List ℕ) : Type 0 where
   pub warned : WarnsOf g programs warnings
 
 -- the first that has none has this fault, and this is told of where and why, and of the further
--- faults
+-- faults, and where there are apps left, whose files aren't read
 pub record FailsApps (bytes : List ℕ) (g : Gathered) (fault : LoadFault) (reason : List ℕ)
     : Type 0 where
   pub refused : RefusesFirst g.apps.items fault
-  pub told : TellsRefused bytes g.arrays.items g.apps.items fault reason
+  pub told : TellsAll bytes g.arrays.items g.apps.items g.unread fault reason
 
 -- ---- of the manifest
 
@@ -44,18 +44,21 @@ module _ (known : KnownFiles) (bytes : List ℕ) where
     pub apps_are : rules.apps ≡ apps_of g.apps.items passes.programs
     pub text_is : text ≡ accepted_text loaded.manifest.arrays rules.apps
 
-  -- what was gathered until it was refused: nothing, its arrays, or its apps, too
-  pub data IsSeen : List Declaration → List GatheredApp → Type 0 where
-    no_file : {arrays : List Declaration} → AreArraysOf bytes arrays → IsSeen arrays []
-    files : (g : Gathered) → IsGathered known [] bytes g → IsSeen g.arrays.items g.apps.items
+  -- what was gathered until it was refused: nothing, its arrays, or its apps, too, and how many
+  -- there are behind these
+  pub data IsSeen : List Declaration → List GatheredApp → (unread : ℕ) → Type 0 where
+    no_file : {arrays : List Declaration} → AreArraysOf bytes arrays → IsSeen arrays [] 0
+    files : (g : Gathered) → IsGathered known [] bytes g
+        → IsSeen g.arrays.items g.apps.items g.unread
 
   -- it has this fault, and this is told of where and why, and of the further faults
   pub record FailsCheck (fault : LoadFault) (reason : List ℕ) : Type 0 where
     pub refused : IsLoadFault known [] bytes fault
     pub arrays : List Declaration
     pub apps : List GatheredApp
-    pub seen : IsSeen arrays apps
-    pub told : TellsRefused bytes arrays apps fault reason
+    pub unread : ℕ
+    pub seen : IsSeen arrays apps unread
+    pub told : TellsAll bytes arrays apps unread fault reason
 
 -- every manifest of more than 1048576 bytes comes to this fault, whatever its files give
 abbrev pub FailsIfLong : LoadFault → List ℕ → Type 0

@@ -76,7 +76,7 @@ IsLongShown place beginning is_text text = ⊥
 abbrev pub IsKeptShown : AppShape → Place → KeptFile → List ℕ → Type 0
 IsKeptShown s place Unread text = ⊥
 IsKeptShown s place (WholeFile v) text = IsShown s place v.items text
-IsKeptShown s place (Longer v is_text) text = IsLongShown place v.items is_text text
+IsKeptShown s place (Longer v count is_text) text = IsLongShown place v.items is_text text
 
 -- the file of an app is one of the manifest's folder, by its name and with no link on the way
 abbrev pub lies_inside : GatheredApp → Bool

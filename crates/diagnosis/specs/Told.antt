@@ -1,10 +1,11 @@
--- What is told of a manifest that is refused, behind the line of its refusal: where and why, and
--- then the further faults.
+-- What is told of a manifest that is refused, behind the line of its refusal: where and why, then
+-- the further faults, and last behind which app no file is read.
 use Rattle.std.specs.Prelude.{◌≡◌, ◌⊎◌, ℕ, ◌-◌, zero, suc, List, [], ◌∷◌, ◌++◌, codes, decimal}
 use Rattle.std.specs.Prelude.{length, take}
 use Rattle.diagnosis.specs.Further.{AreFurther}
 use Rattle.diagnosis.specs.Reason.{IsReason}
 use Rattle.diagnosis.specs.Refusal.{refusal_line}
+use Rattle.diagnosis.specs.Texts.{unread_line}
 use Rattle.cells.specs.Directory.{Declaration}
 use Rattle.load.specs.declared.fault.LoadFault.{LoadFault}
 use Rattle.load.specs.declared.gathering.GatheredApp.{GatheredApp}
@@ -18,6 +19,11 @@ most_further = 9
 abbrev pub more_line : ℕ → List ℕ
 more_line zero = []
 more_line (suc n) = line (codes "and " ++ decimal (suc n) ++ codes " more")
+
+-- last, that no further file is read, if there are apps left; or nothing for want of memory
+abbrev pub TellsUnread : (apps unread : ℕ) → (told text : List ℕ) → Type 0
+TellsUnread apps zero told text = text ≡ told
+TellsUnread apps (suc left) told text = (text ≡ told) ⊎ (text ≡ told ++ unread_line apps)
 
 module _ (arrays : List Declaration) (apps : List GatheredApp) where
   -- a fault's lines: that of its refusal, and then where and why, or nothing for want of memory
@@ -49,3 +55,9 @@ module _ (bytes : List ℕ) (arrays : List Declaration) (apps : List GatheredApp
     pub behind : List ℕ
     pub further : (behind ≡ []) ⊎ TellsFurther fault behind
     pub text_is : text ≡ reason ++ behind
+
+  -- and last what isn't read: the files of so many apps behind these
+  pub record TellsAll (unread : ℕ) (fault : LoadFault) (text : List ℕ) : Type 0 where
+    pub told : List ℕ
+    pub refused : TellsRefused fault told
+    pub ends : TellsUnread (length apps) unread told text

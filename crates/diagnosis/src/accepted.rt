@@ -41,6 +41,7 @@ pub(crate) fn tell_accepted(
         arrays: _arrays,
         directory,
         apps,
+        unread: _unread,
     } = gathered;
     let supplied = supply(alloc, apps, programs)?;
     let arrays = directory.arrays();

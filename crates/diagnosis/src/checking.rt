@@ -8,7 +8,7 @@ ghost use Rattle.load.specs.Gathered.{HasItsReleases};
 
 use crate::accepted::{CheckedManifest, tell_accepted};
 use crate::reason::tell_toml;
-use crate::telling::tell_refused;
+use crate::telling::{tell_all, tell_refused};
 use cells::Directory;
 use load::{Files, Gathered, LoadFault, Ungathered, gather, gathered_is_loaded, judge};
 use manifest::{ManifestFault, TomlFault};
@@ -62,6 +62,10 @@ pub struct Refused {
 /// stands twice. The first nine of these faults are told as the first is, by the line of the
 /// refusal and its own reason, and a last line says how many there are more: `and 3 more`.
 ///
+/// A file that is longer than it may be is a fault, whatever it says. Once such files have more
+/// than 64 MiB in all no further file is read, and the last line says so: `behind app 5 no file is
+/// read: those before that are too long have more than 64 MiB`.
+///
 /// M8 comes where memory for the load or for what is told of an accepted manifest is refused, and
 /// where as many files couldn't be read as can be counted. Where memory is refused for the reason,
 /// the reason is left out, in whole or but for the file's name; and so are the further faults, in
@@ -110,7 +114,7 @@ fn check_apps(
         Err(fault) => {
             let arrays = gathered.arrays.as_slice();
             let apps = gathered.apps.as_slice();
-            let reason = tell_refused(alloc, manifest, false, arrays, apps, &fault);
+            let reason = tell_all(alloc, manifest, arrays, apps, gathered.unread, &fault);
             Err(Refused { fault, reason })
         }
     }

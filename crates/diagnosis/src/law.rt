@@ -2,7 +2,7 @@
 
 ghost use Rattle.diagnosis.specs.OneCheck.{ChecksOneWay};
 
-use load::one_load;
+use load::{gathered_is_loaded, one_load};
 use manifest::one_reading;
 use rule_lang::one_verdict;
 
@@ -12,6 +12,7 @@ pub fn one_check()
     ensures { ChecksOneWay }
 {
     one_load();
+    gathered_is_loaded();
     one_reading();
     one_verdict();
 }

@@ -39,9 +39,11 @@ pub(crate) fn show(alloc: Global, place: Place, shape: &Shape, kept: &KeptFile) 
     match kept {
         KeptFile::Unread => None,
         KeptFile::Whole(bytes) => show_whole(alloc, place, shape, bytes.as_slice()),
-        KeptFile::Longer { beginning, is_text } => {
-            show_longer(alloc, place, beginning.as_slice(), *is_text)
-        }
+        KeptFile::Longer {
+            beginning,
+            is_text,
+            ..
+        } => { show_longer(alloc, place, beginning.as_slice(), *is_text) }
     }
 }
 

@@ -3,7 +3,8 @@
 ghost use Rattle.std.specs.Prelude.{◌≡◌, ◌++◌, ◌⊎◌, [], IfOk, IfSome, OnOk, string_bytes};
 ghost use Rattle.diagnosis.specs.Further.{AreFurther};
 ghost use Rattle.diagnosis.specs.Told.{AreFaultsTold, IsFaultTold, TellsFurther, TellsRefused};
-ghost use Rattle.diagnosis.specs.Told.{more_line};
+ghost use Rattle.diagnosis.specs.Told.{TellsAll, TellsUnread, more_line};
+ghost use Rattle.diagnosis.specs.Texts as texts;
 
 use crate::behind::faults_behind;
 use crate::others::{other_misfits, other_twice};
@@ -39,6 +40,68 @@ pub(crate) fn tell_refused(
         }
         Err(_) => text,
     }
+}
+
+/// The same of a manifest whose apps were gathered, and last behind which of them no file is read,
+/// if there are apps left; for want of memory that is left out.
+pub(crate) fn tell_all(
+    alloc: Global,
+    manifest: &[u8],
+    arrays: &[ArrayDeclaration],
+    apps: &[GatheredApp],
+    unread: usize,
+    fault: &LoadFault,
+) -> String
+    ensures { TellsAll manifest.now arrays.now apps.now unread fault.now (string_bytes result) }
+{
+    let told = tell_refused(alloc, manifest, false, arrays, apps, fault);
+    tell_unread(alloc, told, apps.len(), unread)
+}
+
+fn tell_unread(alloc: Global, told: String, apps: usize, unread: usize) -> String
+    ensures { TellsUnread apps unread (string_bytes told) (string_bytes result) }
+{
+    if unread == 0 {
+        return told;
+    }
+    say_unread(alloc, told, apps)
+}
+
+fn say_unread(alloc: Global, told: String, apps: usize) -> String
+    ensures { (string_bytes result ≡ string_bytes told)
+        ⊎ (string_bytes result ≡ string_bytes told ++ texts.unread_line apps) }
+{
+    let mut text = told;
+    match unread_line(alloc, apps) {
+        Ok(line) => {
+            let _left_out = text.push_str(line.as_str());
+            text
+        }
+        Err(_) => text,
+    }
+}
+
+fn unread_line(alloc: Global, app: usize) -> Result<String, AllocError>
+    ensures { IfOk result (λ text. string_bytes text ≡ texts.unread_line app) }
+{
+    let mut text = String::new(alloc);
+    push_unread(&mut text, app)?;
+    Ok(text)
+}
+
+fn push_unread(text: &mut String, app: usize) -> Result<(), AllocError>
+    ensures { OnOk result
+        (string_bytes text.new ≡ string_bytes text.old ++ texts.unread_line app) }
+{
+    let said = unread_said();
+    writeln!(text, "behind app {app} {said}")
+}
+
+#[tactic(auto, unfolding(crate::specs::Texts::unread_said))]
+fn unread_said() -> &'static str
+    ensures { result.now ≡ texts.unread_said }
+{
+    "no file is read: those before that are too long have more than 64 MiB"
 }
 
 fn tell_further(

@@ -1,6 +1,6 @@
 -- Apps are gathered one after another, and come to what their entries come to.
-use Rattle.std.proofs.Common.{◌≡◌, ℕ, List, [], ◌∷◌, ◌++◌, length}
-use Rattle.std.proofs.Common.{All, refl, sym, ap, ◌∙◌, subst, append-nil, arith}
+use Rattle.std.proofs.Common.{◌≡◌, ℕ, ◌+◌, ◌-◌, ◌<◌, ◌≤◌, List, [], ◌∷◌, ◌++◌, length}
+use Rattle.std.proofs.Common.{All, refl, sym, ap, ◌∙◌, subst, append-nil, append_assoc, arith}
 use Rattle.std.proofs.lemmas.List.Elements.{All-nil, All-cons}
 use Rattle.bounded_files.specs.Files.{KnownFiles}
 use Rattle.bpf_semantics.specs.Program.{ShapedProgram}
@@ -18,33 +18,62 @@ use Rattle.load.specs.declared.gathering.GatheredApp.{GatheredApp}
 use Rattle.load.specs.App.{IsAppOf, IsShapeOf, RefusesApp}
 use Rattle.load.specs.Apps.{AreAppsOf, none, next, IsRefusedApp}
 use Rattle.load.specs.Gathered.{AreGathered, no_app, next_app, HasItsReleases, IsGathered}
-use Rattle.load.specs.Gathered.{IsGatheredApp}
+use Rattle.load.specs.Gathered.{AreTaken, all_read, not_read, next_read, IsGatheredApp, most_long}
 use Rattle.load.specs.Judged.{AreJudged, next_program, IsJudged, RefusesGathered}
 use Rattle.load.specs.Judged.{IsFirstRefused, here, there, RefusesFirst, app_of, apps_of}
 use Rattle.load.specs.Judged.{GatheredIsLoaded}
-use Rattle.load.specs.Kept.{IsKeptFrom}
+use Rattle.load.specs.Kept.{IsKeptFrom, long_count}
 use Rattle.load.specs.Load.{IsLoadFault, of_apps}
 use Rattle.load.specs.Source.{IsProgramIn, RefusesSource}
-use Rattle.load.proofs.Keeping.{fault_of, program_of}
+use Rattle.load.proofs.Keeping.{fault_of, none_long, program_of}
 
--- ---- gathered one after another
+-- ---- read one after another
 
 module _ (known : KnownFiles) (directory : List CellArray) (numbers : List ArrayNo) where
-  pub gathered_more : (entries : List AppEntry) (apps : List GatheredApp) {entry : AppEntry}
-      {one : GatheredApp} → AreGathered known directory numbers entries apps
-      → IsGatheredApp known directory numbers entry one
-      → AreGathered known directory numbers (entries ++ entry ∷ []) (apps ++ one ∷ [])
-  gathered_more [] [] no_app h = next_app h no_app
-  gathered_more [] (a ∷ apps) are h = elim are [ ]
-  gathered_more (e ∷ entries) [] are h = elim are [ ]
-  gathered_more (e ∷ entries) (a ∷ apps) (next_app head tail) h =
-      next_app head (gathered_more entries apps tail h)
+  -- whatever is read behind these apps, of the entries that are left, is read of all
+  abbrev pub ReadsOn : List AppEntry → List GatheredApp → (long : ℕ) → List AppEntry → Type 0
+  ReadsOn entries apps long left =
+      (more : List GatheredApp) (unread : ℕ)
+      → AreTaken known directory numbers long left more unread
+      → AreTaken known directory numbers 0 entries (apps ++ more) unread
 
-  pub gathered_all : (all done left : List AppEntry) (apps : List GatheredApp)
-      → all ≡ done ++ left → length left ≡ 0 → AreGathered known directory numbers done apps
-      → AreGathered known directory numbers all apps
-  gathered_all all done [] apps stands empty are = rw (stands ∙ append-nil done) are
-  gathered_all all done (e ∷ left) apps stands empty are = absurd (omega (arith, empty))
+  pub read_none : (entries left : List AppEntry) (apps : List GatheredApp) → left ≡ entries
+      → apps ≡ [] → ReadsOn entries apps 0 left
+  read_none entries left apps same empty = λ more unread h.
+      subst
+      (λ (l : List GatheredApp).
+      AreTaken known directory numbers 0 entries (l ++ more) unread)
+      (sym empty)
+      (subst (λ (l : List AppEntry). AreTaken known directory numbers 0 l more unread) same h)
+
+  module _ (entries left : List AppEntry) (apps : List GatheredApp) (long : ℕ)
+      (so_far : ReadsOn entries apps long left) where
+    pub read_more : (entry : AppEntry) (rest : List AppEntry) (one : GatheredApp)
+        (new : List GatheredApp) (sum : ℕ) → left ≡ entry ∷ rest → long ≤ most_long
+        → IsGatheredApp known directory numbers entry one → new ≡ apps ++ one ∷ []
+        → sum ≡ long + long_count one.kept → ReadsOn entries new sum rest
+    read_more entry rest one new sum is few h new_is sum_is = λ more unread later.
+        let behind : AreTaken known directory numbers (long + long_count one.kept) rest more unread =
+        subst (λ (n : ℕ). AreTaken known directory numbers n rest more unread) sum_is later in
+        let all = so_far (one ∷ more) unread
+        (subst (λ (l : List AppEntry). AreTaken known directory numbers long l (one ∷ more) unread)
+        (sym is) (next_read few h behind)) in
+        subst (λ (l : List GatheredApp). AreTaken known directory numbers 0 entries l unread)
+        (sym (append_assoc apps (one ∷ []) more) ∙ ap (λ l. l ++ more) (sym new_is)) all
+
+    pub read_enough : (unread : ℕ) → most_long < long → unread ≡ length left
+        → AreTaken known directory numbers 0 entries apps unread
+    read_enough unread much is =
+        subst (λ (n : ℕ). AreTaken known directory numbers 0 entries apps n) (sym is)
+        (subst (λ (l : List GatheredApp). AreTaken known directory numbers 0 entries l (length left))
+        (append-nil apps) (so_far [] (length left) (not_read much)))
+
+    pub read_all : left ≡ [] → AreTaken known directory numbers 0 entries apps 0
+    read_all is =
+        subst (λ (l : List GatheredApp). AreTaken known directory numbers 0 entries l 0)
+        (append-nil apps)
+        (so_far [] 0 (subst (λ (l : List AppEntry). AreTaken known directory numbers long l [] 0)
+        (sym is) all_read))
 
 -- ---- to what is loaded
 
@@ -82,6 +111,31 @@ module _ (known : KnownFiles) (directory : List CellArray) (numbers : List Array
         (one.shape, h.shape_is, source_refused (app.Rule fault) refused)
 
 module _ (known : KnownFiles) (directory : List CellArray) (numbers : List ArrayNo) where
+  -- what has a program isn't longer than it may be
+  still_few : (long : ℕ) (entry : AppEntry) (one : GatheredApp) (p : ShapedProgram)
+      → IsGatheredApp known directory numbers entry one → IsJudged one p → long ≤ most_long
+      → long + long_count one.kept ≤ most_long
+  still_few long entry one p h j few =
+      let kept : IsKeptFrom known one.entry.source one.kept =
+      subst (λ (e : AppEntry). IsKeptFrom known e.source one.kept) (sym h.entry_is) h.kept_is in
+      let none = none_long one.entry.source one.kept kept.0 p kept.2 (j.program_is kept.0 kept.2) in
+      omega (arith, few, none)
+
+  all_gathered : (long : ℕ) (entries : List AppEntry) (apps : List GatheredApp)
+      (programs : List ShapedProgram) {unread : ℕ} → long ≤ most_long
+      → AreTaken known directory numbers long entries apps unread → AreJudged apps programs
+      → AreGathered known directory numbers entries apps
+  all_gathered long [] [] programs few are judged = no_app
+  all_gathered long [] (a ∷ apps) programs few are judged = elim are [ ]
+  all_gathered long (e ∷ entries) [] programs few (not_read much) judged =
+      absurd (omega (arith, few, much))
+  all_gathered long (e ∷ entries) (a ∷ apps) [] few are judged = elim judged [ ]
+  all_gathered long (e ∷ entries) (a ∷ apps) (p ∷ programs) few (next_read same h more)
+      (next_program j rest) =
+      next_app h
+      (all_gathered (long + long_count a.kept) entries apps programs
+      (still_few long e a p h j few) more rest)
+
   are_apps : (entries : List AppEntry) (apps : List GatheredApp) (programs : List ShapedProgram)
       → AreGathered known directory numbers entries apps → AreJudged apps programs
       → AreAppsOf known directory numbers entries (apps_of apps programs)
@@ -92,36 +146,35 @@ module _ (known : KnownFiles) (directory : List CellArray) (numbers : List Array
   are_apps (e ∷ entries) (a ∷ apps) (p ∷ programs) (next_app h more) (next_program j rest) =
       next (is_app known directory numbers e a h p j) (are_apps entries apps programs more rest)
 
-  are_shaped : (entries : List AppEntry) (apps : List GatheredApp)
-      → AreGathered known directory numbers entries apps → All HasItsReleases apps
-  are_shaped [] [] no_app = All-nil HasItsReleases
-  are_shaped [] (a ∷ apps) are = elim are [ ]
-  are_shaped (e ∷ entries) [] are = elim are [ ]
-  are_shaped (e ∷ entries) (a ∷ apps) (next_app h more) =
+  are_shaped : (long : ℕ) (entries : List AppEntry) (apps : List GatheredApp) {unread : ℕ}
+      → AreTaken known directory numbers long entries apps unread → All HasItsReleases apps
+  are_shaped long entries [] are = All-nil HasItsReleases
+  are_shaped long [] (a ∷ apps) are = elim are [ ]
+  are_shaped long (e ∷ entries) (a ∷ apps) (next_read few h more) =
       All-cons HasItsReleases a apps
       (h.shape_is.releases_are
       ∙ ap (λ (x : AppEntry). length x.releases) (sym h.entry_is))
-      (are_shaped entries apps more)
+      (are_shaped (long + long_count a.kept) entries apps more)
 
-  refused_app : (entries : List AppEntry) (apps : List GatheredApp) {number : ℕ}
-      {fault : AppFault} → AreGathered known directory numbers entries apps
+  refused_app : (long : ℕ) (entries : List AppEntry) (apps : List GatheredApp) {unread number : ℕ}
+      {fault : AppFault} → AreTaken known directory numbers long entries apps unread
       → IsFirstRefused apps number fault
       → IsRefusedApp known directory numbers entries number fault
-  refused_app [] [] are refused = elim refused [ ]
-  refused_app [] (a ∷ apps) are refused = elim are [ ]
-  refused_app (e ∷ entries) [] are refused = elim are [ ]
-  refused_app (e ∷ entries) (a ∷ apps) {fault = fault} (next_app h more) (here refused) = record {
-    before = [];
-    entry = e;
-    after = entries;
-    stands = refl;
-    number_is = omega arith;
-    apps = [];
-    supplied = none;
-    refused = app_refused known directory numbers e a h fault refused;
-  }
-  refused_app (e ∷ entries) (a ∷ apps) (next_app h more) (there p judged behind) =
-      let rest = refused_app entries apps more behind in
+  refused_app long entries [] are refused = elim refused [ ]
+  refused_app long [] (a ∷ apps) are refused = elim are [ ]
+  refused_app long (e ∷ entries) (a ∷ apps) {fault = fault} (next_read few h more) (here refused) =
+      record {
+        before = [];
+        entry = e;
+        after = entries;
+        stands = refl;
+        number_is = omega arith;
+        apps = [];
+        supplied = none;
+        refused = app_refused known directory numbers e a h fault refused;
+      }
+  refused_app long (e ∷ entries) (a ∷ apps) (next_read few h more) (there p judged behind) =
+      let rest = refused_app (long + long_count a.kept) entries apps more behind in
       record {
         before = e ∷ rest.before;
         entry = rest.entry;
@@ -135,17 +188,23 @@ module _ (known : KnownFiles) (directory : List CellArray) (numbers : List Array
 
 module _ (known : KnownFiles) (old : List CellArray) (bytes : List ℕ) (g : Gathered)
     (is : IsGathered known old bytes g) where
+  all_of : (programs : List ShapedProgram) → AreJudged g.apps.items programs
+      → AreGathered known g.directory is.numbers is.manifest.apps g.apps.items
+  all_of programs judged =
+      all_gathered known g.directory is.numbers 0 is.manifest.apps g.apps.items programs
+      (omega arith) is.apps_are judged
+
   load_refused : (fault : LoadFault) → RefusesFirst g.apps.items fault
       → IsLoadFault known old bytes fault
   load_refused (File number) h =
       of_apps is.numbers g.directory is.read is.declared
-      (refused_app known g.directory is.numbers is.manifest.apps g.apps.items is.apps_are h)
+      (refused_app known g.directory is.numbers 0 is.manifest.apps g.apps.items is.apps_are h)
   load_refused (Program number fault) h =
       of_apps is.numbers g.directory is.read is.declared
-      (refused_app known g.directory is.numbers is.manifest.apps g.apps.items is.apps_are h)
+      (refused_app known g.directory is.numbers 0 is.manifest.apps g.apps.items is.apps_are h)
   load_refused (Rule number fault) h =
       of_apps is.numbers g.directory is.read is.declared
-      (refused_app known g.directory is.numbers is.manifest.apps g.apps.items is.apps_are h)
+      (refused_app known g.directory is.numbers 0 is.manifest.apps g.apps.items is.apps_are h)
   load_refused Memory h = of_apps is.numbers g.directory is.read is.declared tt
   load_refused (NoManifest fault) h = absurd h
   load_refused (Cells number fault) h = absurd h
@@ -157,7 +216,8 @@ gathered_is_loaded = record {
     refused = app_refused known directory numbers entry one h;
   };
   manifest = λ known old bytes g is. record {
-    shaped = are_shaped known g.directory is.numbers is.manifest.apps g.apps.items is.apps_are;
+    shaped = are_shaped known g.directory is.numbers 0 is.manifest.apps g.apps.items is.apps_are;
+    gathered = all_of known old bytes g is;
     supplied = λ programs judged. record {
       manifest = is.manifest;
       read = is.read;
@@ -165,7 +225,7 @@ gathered_is_loaded = record {
       declared = is.declared;
       server_is = refl;
       apps_are = are_apps known g.directory is.numbers is.manifest.apps g.apps.items programs
-          is.apps_are judged;
+          (all_of known old bytes g is programs judged) judged;
     };
     refused = load_refused known old bytes g is;
   };

@@ -1,19 +1,26 @@
 -- From what is kept of a file to what its bytes come to, and to what is counted.
-use Rattle.std.proofs.Common.{◌≡◌, ◌≢◌, ℕ, ◌<◌, List, length, Vec, Bool, true, false}
+use Rattle.std.proofs.Common.{◌≡◌, ◌≢◌, ℕ, ◌<◌, ◌≤◌, List, length, Vec, Bool, true, false}
 use Rattle.std.proofs.Common.{Some, None, Result, Ok, Err, IfOk, IfErr, refl, sym, ap, ◌∙◌, subst}
+use Rattle.std.proofs.Common.{arith}
 use Rattle.std.specs.Prelude.{◌↔◌, IsTrue, IsUtf8}
 use Rattle.std.specs.declared.alloc.Global.{Global}
 use Rattle.acceptance.specs.Rule.{no_rule, no_text}
 use Rattle.acceptance.specs.declared.fault.ProgramFault.TheVariants.{Flow}
 use Rattle.acceptance.specs.declared.fault.RuleTextFault.TheVariants.{Text}
 use Rattle.bounded_files.specs.Files.{KnownFiles, Gives}
+use Rattle.bounded_files.specs.Kept.{IsKeptOf, KeepsFile}
+use Rattle.bounded_files.specs.declared.kept.KeptBytes.{KeptBytes}
 use Rattle.bpf_semantics.specs.Program.{ShapedProgram}
 use Rattle.cells.specs.Arrays.{AppShape}
 use Rattle.flow_check.specs.declared.fault.FlowFault.TheVariants as flow
 use Rattle.flow_check.specs.declared.fault.FlowRule.TheVariants.{TooLong}
 use Rattle.manifest.specs.declared.app.ProgramSource.{ProgramSource}
 use Rattle.manifest.specs.declared.app.ProgramSource.TheVariants as source
-use Rattle.rule_lang.specs.Verdicts.{too_long}
+use Rattle.rule_lang.specs.Parts.{OrFault}
+use Rattle.rule_lang.specs.Tokens.{Text as RuleText}
+use Rattle.rule_lang.specs.Verdicts.{IsVerdict, too_long, no_token, a_rule}
+use Rattle.rule_lang.specs.Verdicts.IsVerdict.{no_rule as no_grammar}
+use Rattle.rule_lang.specs.declared.rule.Statement.{Statement}
 use Rattle.rule_lang.specs.declared.fault.RuleFault.TheVariants.{At}
 use Rattle.rule_lang.specs.declared.fault.RuleFaultKind.TheVariants as kind
 use Rattle.load.specs.declared.fault.AppFault.{AppFault}
@@ -21,12 +28,12 @@ use Rattle.load.specs.declared.fault.AppFault.TheVariants as app
 use Rattle.load.specs.declared.kept.KeptFile.{KeptFile}
 use Rattle.load.specs.declared.kept.KeptFile.TheVariants.{Unread, Whole, Longer}
 use Rattle.load.specs.App.{CountsApp}
-use Rattle.load.specs.Kept.{CountsFile, CountsKept, FailsIfUnread}
-use Rattle.load.specs.Kept.{IsKeptFrom, IsLonger, Keeps, most_of}
+use Rattle.load.specs.Kept.{CountsFile, FailsIfUnread}
+use Rattle.load.specs.Kept.{IsKeptFrom, IsLonger, Keeps, long_count, most_of}
 use Rattle.load.specs.Source.{Given, IsProgramFrom, IsProgramGiven, IsProgramIn}
 use Rattle.load.specs.Source.{RefusesBytes, RefusesFile, RefusesGiven, RefusesSource, RefusesText}
 use Rattle.load.specs.Source.{file_of}
-use Rattle.load.proofs.Long.{long_verdict}
+use Rattle.load.proofs.Long.{long_verdict, no_program}
 
 no_file : (from : ProgramSource) (bytes : List ℕ) (shape : AppShape)
     → RefusesFile from bytes shape app.File → ⊥
@@ -107,30 +114,53 @@ pub no_text_at_all : (bytes : List ℕ) (shape : AppShape) (is_text : Bool) → 
 no_text_at_all bytes shape is_text fails utf8 =
     (no_text (λ h. let both = sym fails ∙ utf8.1 h in absurd cc), refl)
 
-longer_given : (from : ProgramSource) (beginning : Vec ℕ Global) (is_text : Bool)
+longer_given : (from : ProgramSource) (beginning : Vec ℕ Global) (count : ℕ) (is_text : Bool)
     (shape : AppShape) (fault : AppFault)
     → ((bytes : List ℕ) (s : AppShape) → IsLonger from is_text bytes
     → RefusesFile from bytes s fault)
-    → (given : Given) → Keeps (most_of from) given (Longer beginning is_text)
+    → (given : Given) → Keeps (most_of from) given (Longer beginning count is_text)
     → RefusesGiven from given shape fault
-longer_given from beginning is_text shape fault refuses None k = absurd k
-longer_given from beginning is_text shape fault refuses (Some bytes) k =
-    refuses bytes shape (k.1, k.2)
+longer_given from beginning count is_text shape fault refuses None k = absurd k
+longer_given from beginning count is_text shape fault refuses (Some bytes) k =
+    refuses bytes shape (k.1, k.3)
 
-module _ (from : ProgramSource) (kept : KeptFile) (beginning : Vec ℕ Global) (is_text : Bool)
-    (fault : AppFault) (is : kept ≡ Longer beginning is_text) where
+module _ (from : ProgramSource) (kept : KeptFile) (beginning : Vec ℕ Global) (count : ℕ)
+    (is_text : Bool) (fault : AppFault) (is : kept ≡ Longer beginning count is_text) where
   pub longer_fault : (shape : AppShape)
       → ((bytes : List ℕ) (s : AppShape) → IsLonger from is_text bytes
       → RefusesFile from bytes s fault)
       → (given : Given) → Keeps (most_of from) given kept → RefusesGiven from given shape fault
   longer_fault shape refuses given k =
-      longer_given from beginning is_text shape fault refuses given
+      longer_given from beginning count is_text shape fault refuses given
       (subst (λ (x : KeptFile). Keeps (most_of from) given x) is k)
 
   pub longer_read : (X : Type 0) → fault ≢ app.File → FailsIfUnread {X = X} kept (Err fault)
   longer_read X other =
       subst (λ (x : KeptFile). FailsIfUnread {X = X} x (Err fault)) (sym is)
       (λ e. other (ap (λ (r : Result X AppFault). in_result r) e))
+
+-- ---- what has a program isn't longer
+
+rule_short : {s : AppShape} {text : RuleText} {v : OrFault (List Statement)}
+    (rule : List Statement) → IsVerdict s text v → v ≡ Ok rule → length text ≤ 65536
+rule_short rule (too_long long) is = absurd cc
+rule_short rule (no_token short e) is = short
+rule_short rule (no_grammar before after p short lexed begins none) is = short
+rule_short rule (a_rule short lexed r) is = short
+
+none_longer : (from : ProgramSource) (bytes : List ℕ) (p : ShapedProgram)
+    → most_of from < length bytes → IsProgramFrom from bytes p → ⊥
+none_longer (source.Program file) bytes p long h = no_program bytes p.code long h.are.bytes_are
+none_longer (source.Rule file) bytes p long h =
+    omega (arith, long, rule_short h.rule h.text.spelled refl)
+
+pub none_long : (from : ProgramSource) (kept : KeptFile) (given : Given) (p : ShapedProgram)
+    → Keeps (most_of from) given kept → IsProgramGiven from given p → long_count kept ≡ 0
+none_long from Unread given p k h = refl
+none_long from (Whole v) given p k h = refl
+none_long from (Longer v n is_text) None p k h = absurd k
+none_long from (Longer v n is_text) (Some bytes) p k h =
+    absurd (none_longer from bytes p k.1 h)
 
 -- ---- what is counted
 
@@ -143,11 +173,11 @@ counted old new (Whole v) (Err app.File) count fails = absurd (fails refl)
 counted old new (Whole v) (Err app.Memory) count fails = count
 counted old new (Whole v) (Err (app.Program fault)) count fails = count
 counted old new (Whole v) (Err (app.Rule fault)) count fails = count
-counted old new (Longer v is_text) (Ok p) count fails = count
-counted old new (Longer v is_text) (Err app.File) count fails = absurd (fails refl)
-counted old new (Longer v is_text) (Err app.Memory) count fails = count
-counted old new (Longer v is_text) (Err (app.Program fault)) count fails = count
-counted old new (Longer v is_text) (Err (app.Rule fault)) count fails = count
+counted old new (Longer v n is_text) (Ok p) count fails = count
+counted old new (Longer v n is_text) (Err app.File) count fails = absurd (fails refl)
+counted old new (Longer v n is_text) (Err app.Memory) count fails = count
+counted old new (Longer v n is_text) (Err (app.Program fault)) count fails = count
+counted old new (Longer v n is_text) (Err (app.Rule fault)) count fails = count
 
 -- ---- the file of which it is kept
 
@@ -156,24 +186,29 @@ pub kept_unread : (known : KnownFiles) (from : ProgramSource) (name : List ℕ)
 kept_unread known from name named gives =
     (None, subst (λ (n : List ℕ). Gives known n None) named gives, tt)
 
-module _ (E : Type 0) (bytes : List ℕ) (most : ℕ) where
-  pub kept_from : (known : KnownFiles) (from : ProgramSource) (name : List ℕ)
-      (r : Result KeptFile E) → name ≡ file_of from → most ≡ most_of from
-      → Gives known name (Some bytes) → IfOk r (Keeps most (Some bytes))
-      → IfOk r (IsKeptFrom known from)
-  kept_from known from name (Ok kept) named is gives h = (
-    Some bytes,
-    subst (λ (n : List ℕ). Gives known n (Some bytes)) named gives,
-    subst (λ (m : ℕ). Keeps m (Some bytes) kept) is h,
-  )
-  kept_from known from name (Err e) named is gives h = tt
+pub kept_from : (known : KnownFiles) (from : ProgramSource) (name : List ℕ) (most : ℕ)
+    (k : KeptBytes) (file : KeptFile) → name ≡ file_of from → most ≡ most_of from
+    → KeepsFile most known name (Ok k)
+    → ((m : ℕ) (bytes : List ℕ) → IsKeptOf m bytes k → Keeps m (Some bytes) file)
+    → IsKeptFrom known from file
+kept_from known from name most k file named is h as_file = (
+  Some h.0,
+  subst (λ (n : List ℕ). Gives known n (Some h.0)) named h.1,
+  subst (λ (m : ℕ). Keeps m (Some h.0) file) is (as_file most h.0 h.2),
+)
 
-  pub kept_counts : (old new : ℕ) (r : Result KeptFile E) → new ≡ old
-      → IfOk r (Keeps most (Some bytes)) → CountsKept old new r
-  kept_counts old new (Ok Unread) count h = absurd h
-  kept_counts old new (Ok (Whole v)) count h = count
-  kept_counts old new (Ok (Longer v is_text)) count h = count
-  kept_counts old new (Err e) count h = count
+read_counts : (old new most : ℕ) (bytes : List ℕ) (file : KeptFile) → new ≡ old
+    → Keeps most (Some bytes) file → CountsFile old new file
+read_counts old new most bytes Unread count h = absurd h
+read_counts old new most bytes (Whole v) count h = count
+read_counts old new most bytes (Longer v n is_text) count h = count
+
+pub kept_counts : (known : KnownFiles) (name : List ℕ) (old new most : ℕ) (k : KeptBytes)
+    (file : KeptFile) → KeepsFile most known name (Ok k)
+    → ((m : ℕ) (bytes : List ℕ) → IsKeptOf m bytes k → Keeps m (Some bytes) file) → new ≡ old
+    → CountsFile old new file
+kept_counts known name old new most k file h as_file count =
+    read_counts old new most h.0 file count (as_file most h.0 h.2)
 
 -- ---- the program of the file
 

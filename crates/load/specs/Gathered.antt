@@ -1,5 +1,5 @@
 -- What is gathered of a manifest and its files before any app is judged.
-use Rattle.std.specs.Prelude.{◌≡◌, ℕ, ◌<◌, List, [], ◌∷◌, length, Ok}
+use Rattle.std.specs.Prelude.{◌≡◌, ℕ, ◌+◌, ◌^◌, ◌<◌, ◌≤◌, List, [], ◌∷◌, length, Ok}
 use Rattle.bounded_files.specs.Files.{KnownFiles}
 use Rattle.cells.specs.Directory.{Declaration}
 use Rattle.cells.specs.declared.array.ArrayNo.{ArrayNo}
@@ -11,8 +11,12 @@ use Rattle.load.specs.declared.gathering.Gathered.{Gathered}
 use Rattle.load.specs.declared.gathering.GatheredApp.{GatheredApp}
 use Rattle.load.specs.declared.gathering.Ungathered.{Ungathered}
 use Rattle.load.specs.App.{IsShapeOf}
-use Rattle.load.specs.Kept.{IsKeptFrom}
+use Rattle.load.specs.Kept.{IsKeptFrom, long_count}
 use Rattle.load.specs.Load.{IsLoadFault}
+
+-- past so many bytes of files that are too long no further file is read: 64 MiB
+abbrev pub most_long : ℕ
+most_long = 2 ^ 26
 
 module _ (known : KnownFiles) (directory : List CellArray) (numbers : List ArrayNo) where
   -- the app of an entry: its shape, and what is kept of its file
@@ -28,11 +32,23 @@ module _ (known : KnownFiles) (directory : List CellArray) (numbers : List Array
         {app : GatheredApp} → IsGatheredApp entry app → AreGathered entries apps
         → AreGathered (entry ∷ entries) (app ∷ apps)
 
+  -- so have those whose files are read, behind so many bytes of files that are too long; and of how
+  -- many more no file is
+  pub data AreTaken : (long : ℕ) → List AppEntry → List GatheredApp → (unread : ℕ) → Type 0 where
+    all_read : {long : ℕ} → AreTaken long [] [] 0
+    not_read : {long : ℕ} {entries : List AppEntry} → most_long < long
+        → AreTaken long entries [] (length entries)
+    next_read : {long : ℕ} {entries : List AppEntry} {apps : List GatheredApp} {entry : AppEntry}
+        {app : GatheredApp} {unread : ℕ} → long ≤ most_long → IsGatheredApp entry app
+        → AreTaken (long + long_count app.kept) entries apps unread
+        → AreTaken long (entry ∷ entries) (app ∷ apps) unread
+
 -- its shape has as many releases as it has
 abbrev pub HasItsReleases : GatheredApp → Type 0
 HasItsReleases app = app.shape.releases ≡ length app.entry.releases
 
--- of the manifest of these bytes: its arrays, declared behind those that stand, and its apps
+-- of the manifest of these bytes: its arrays, declared behind those that stand, and those of its
+-- apps whose files are read
 pub record IsGathered (known : KnownFiles) (old : List CellArray) (bytes : List ℕ) (g : Gathered)
     : Type 0 where
   pub manifest : Manifest
@@ -40,7 +56,7 @@ pub record IsGathered (known : KnownFiles) (old : List CellArray) (bytes : List 
   pub arrays_are : g.arrays.items ≡ manifest.arrays
   pub numbers : List ArrayNo
   pub declared : AreDeclared old manifest.arrays numbers g.directory
-  pub apps_are : AreGathered known g.directory numbers manifest.apps g.apps.items
+  pub apps_are : AreTaken known g.directory numbers 0 manifest.apps g.apps.items g.unread
 
 -- the arrays of the manifest of these bytes, if there are any
 abbrev pub AreArraysOf : List ℕ → List Declaration → Type 0

@@ -13,7 +13,7 @@ use Rattle.load.specs.declared.fault.LoadFault.TheVariants.{File, Program, Rule,
 use Rattle.load.specs.declared.gathering.Gathered.{Gathered}
 use Rattle.load.specs.declared.gathering.GatheredApp.{GatheredApp}
 use Rattle.load.specs.App.{IsAppOf, RefusesApp}
-use Rattle.load.specs.Gathered.{HasItsReleases, IsGathered, IsGatheredApp}
+use Rattle.load.specs.Gathered.{AreGathered, HasItsReleases, IsGathered, IsGatheredApp}
 use Rattle.load.specs.Kept.{Keeps, most_of}
 use Rattle.load.specs.Load.{IsLoadFault, IsRulesetOf}
 use Rattle.load.specs.Source.{Given, IsProgramGiven, RefusesGiven}
@@ -77,6 +77,9 @@ pub record IsLoadedApp (known : KnownFiles) (directory : List CellArray) (number
 pub record IsLoadOf (known : KnownFiles) (old : List CellArray) (bytes : List ℕ) (g : Gathered)
     (is : IsGathered known old bytes g) : Type 0 where
   pub shaped : All HasItsReleases g.apps.items
+  -- where each has its program, no file was left unread
+  pub gathered : (programs : List ShapedProgram) → AreJudged g.apps.items programs
+      → AreGathered known g.directory is.numbers is.manifest.apps g.apps.items
   pub supplied : (programs : List ShapedProgram) → AreJudged g.apps.items programs
       → IsRulesetOf known old bytes
       (record { server = is.manifest.server; apps = apps_of g.apps.items programs }) g.directory

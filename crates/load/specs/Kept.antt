@@ -1,7 +1,9 @@
 -- What is kept of a file that an app names: enough to judge it, whatever its length.
-use Rattle.std.specs.Prelude.{◌≡◌, ◌≢◌, ◌↔◌, ℕ, ◌+◌, ◌<◌, ◌≤◌, List, length, take}
+use Rattle.std.specs.Prelude.{◌≡◌, ◌≢◌, ◌↔◌, ℕ, ◌+◌, ◌<◌, List, length}
 use Rattle.std.specs.Prelude.{Bool, Some, None, Result, Ok, Err, IsTrue, IsUtf8}
 use Rattle.bounded_files.specs.Files.{KnownFiles, Gives}
+use Rattle.bounded_files.specs.Kept.{IsKeptOf}
+use Rattle.bounded_files.specs.declared.kept.KeptBytes.TheVariants as kept
 use Rattle.manifest.specs.declared.app.ProgramSource.{ProgramSource}
 use Rattle.manifest.specs.declared.app.ProgramSource.TheVariants as source
 use Rattle.load.specs.declared.fault.AppFault.{AppFault}
@@ -15,13 +17,13 @@ abbrev pub most_of : ProgramSource → ℕ
 most_of (source.Program file) = 32768
 most_of (source.Rule file) = 65536
 
--- what is kept of a file that gave this: nothing; all bytes; or, of more, so many of the first, and
--- whether they are UTF-8 to their end
+-- what is kept of a file that gave this: nothing; all bytes; or, of more, so many of the first, how
+-- many they are, and whether they are UTF-8 to their end
 abbrev pub Keeps : ℕ → Given → KeptFile → Type 0
 Keeps most None Unread = Unit {0}
-Keeps most (Some bytes) (Whole v) = (v.items ≡ bytes) × (length bytes ≤ most)
-Keeps most (Some bytes) (Longer v is_text) =
-    (v.items ≡ take most bytes) × (most < length bytes) × (IsTrue is_text ↔ IsUtf8 bytes)
+Keeps most (Some bytes) (Whole v) = IsKeptOf most bytes (kept.Whole v)
+Keeps most (Some bytes) (Longer v count is_text) =
+    IsKeptOf most bytes (kept.Longer v count is_text)
 Keeps most given kept = ⊥
 
 -- this is kept of an app's file
@@ -32,6 +34,11 @@ IsKeptFrom known from kept =
 -- these bytes are more than it may have, and so it is whether they are UTF-8
 abbrev pub IsLonger : ProgramSource → Bool → List ℕ → Type 0
 IsLonger from is_text bytes = (most_of from < length bytes) × (IsTrue is_text ↔ IsUtf8 bytes)
+
+-- how many bytes a file has, if they are more than it may have; else 0
+abbrev pub long_count : KeptFile → ℕ
+long_count (Longer v count is_text) = count
+long_count kept = 0
 
 -- a file that couldn't be read is counted
 abbrev pub CountsFile : ℕ → ℕ → KeptFile → Type 0

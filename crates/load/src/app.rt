@@ -59,7 +59,7 @@ fn load_program<F: Files>(
     ensures fault { IfErr result (RefusesSource (F.known files.old) source.now shape.now) }
     ensures count { CountsApp (F.failed files.old) (F.failed files.new) result }
 {
-    let Ok(kept) = gather_file(alloc, files, source) else {
+    let Ok(kept) = gather_file(files, source) else {
         return Err(AppFault::Memory);
     };
     judge_file(alloc, source, &kept, shape)

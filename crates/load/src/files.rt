@@ -2,9 +2,10 @@
 
 ghost use Rattle.std.specs.Prelude.{◌≡◌, ◌^◌, ◌-◌, ◌<◌, List, ℕ, Option};
 ghost use Rattle.bounded_files.specs.Files.{KnownFile, ReadsFile};
+ghost use Rattle.bounded_files.specs.Kept.{KeepsFile};
 ghost use Rattle.load.specs.Files.{Counts};
 
-use bounded_files::ResourceFault;
+use bounded_files::{KeptBytes, ResourceFault};
 
 /// Files by their names.
 pub trait Files {
@@ -21,6 +22,21 @@ pub trait Files {
         ensures known { known self.new ≡ known self.old }
         ensures read { ReadsFile (known self.old) name.now result }
         ensures count { Counts (failed self.old) (failed self.new) result };
+
+    /// What is kept of a file: its bytes, if they are at most `most`; or else so many of the first,
+    /// how many they are, and whether they are UTF-8 to their end. One that can't be read is
+    /// counted. Files that needn't hold all bytes of a longer one have their own.
+    fn keep(&mut self, name: &str, most: u32) -> Result<KeptBytes, ResourceFault>
+        requires { failed self.old < 2 ^ 64 - 1 }
+        ensures known { known self.new ≡ known self.old }
+        ensures read { KeepsFile most (known self.old) name.now result }
+        ensures count { Counts (failed self.old) (failed self.new) result }
+    {
+        match self.bytes(name) {
+            Ok(bytes) => Ok(KeptBytes::of(bytes, most as usize)),
+            Err(fault) => Err(fault),
+        }
+    }
 
     /// How many files couldn't be read so far.
     fn failures(&self) -> u64

@@ -5,7 +5,7 @@ ghost use Rattle.std.specs.Path.{path_buf_bytes};
 ghost use Rattle.load.specs.Folder as specs;
 
 use crate::files::Files;
-use bounded_files::{Disk, MOST_BYTES, ResourceFault, read_regular_within};
+use bounded_files::{Disk, KeptBytes, MOST_BYTES, ResourceFault, read_regular_within};
 use std::alloc::{AllocError, Global};
 use std::path::{Path, PathBuf};
 
@@ -49,6 +49,21 @@ impl<'a, D: Disk> Files for FolderFiles<'a, D> {
         };
         match read_regular_within(self.disk, path.as_str(), MOST_BYTES) {
             Ok(bytes) => Ok(bytes),
+            Err(ResourceFault::Memory) => Err(ResourceFault::Memory),
+            Err(ResourceFault::File) => {
+                self.failures += 1;
+                Err(ResourceFault::File)
+            }
+        }
+    }
+
+    // The same, without all bytes of a longer one.
+    fn keep(&mut self, name: &str, most: u32) -> Result<KeptBytes, ResourceFault> {
+        let Ok(place) = path_beside(self.alloc, self.manifest, name) else {
+            return Err(ResourceFault::Memory);
+        };
+        match self.disk.keep_regular(place.as_str(), most) {
+            Ok(kept) => Ok(kept),
             Err(ResourceFault::Memory) => Err(ResourceFault::Memory),
             Err(ResourceFault::File) => {
                 self.failures += 1;

@@ -3,17 +3,21 @@
 ghost use Rattle.std.specs.Prelude.{◌≡◌, ◌^◌, ◌-◌, ◌<◌, ℕ, List, length};
 ghost use Rattle.std.specs.Prelude.{All, IsTrue, IfOk, IfErr};
 ghost use Rattle.cells.specs.declared.array.CellArray.{CellArray};
-ghost use Rattle.load.specs.Gathered.{AreArraysOf, AreGathered, IsGathered, IsGatheredApp};
+ghost use Rattle.load.specs.Gathered.{AreArraysOf, AreTaken, IsGathered, IsGatheredApp};
 ghost use Rattle.load.specs.Gathered.{IsUngathered};
 
 use crate::fault::LoadFault;
 use crate::files::Files;
-use crate::kept::{KeptFile, file_of, gather_file};
+use crate::kept::{KeptFile, file_of, gather_file, long_count};
 use crate::loading::{declare_arrays, read};
 use cells::{ArrayNo, Directory, Shape};
 use declarations::ArrayDeclaration;
 use manifest::{AppEntry, ManifestParts};
 use std::alloc::{AllocError, Global};
+
+/// The most bytes that are read of files that are longer than they may be, before no further file
+/// is read: 64 MiB.
+const MOST_LONG: u128 = 0x400_0000;
 
 /// An app of a manifest, its shape, what is kept of its file, and whether that was behind a
 /// symbolic link when it was read.
@@ -32,6 +36,16 @@ pub struct Gathered {
     pub arrays: Vec<ArrayDeclaration>,
     pub directory: Directory,
     pub apps: Vec<GatheredApp>,
+    /// How many apps there are behind these, of which no file is read, since those of the apps
+    /// before them that are longer than they may be have more than 64 MiB in all. Where there is
+    /// one, some app before it has no program.
+    pub unread: usize,
+}
+
+/// The apps whose files are read, and how many there are behind them.
+struct ReadApps {
+    apps: Vec<GatheredApp>,
+    unread: usize,
 }
 
 /// Why no files are asked for, M1 to M3, M7 or M8, and the arrays of the manifest if it was read.
@@ -41,7 +55,8 @@ pub struct Ungathered {
     pub arrays: Vec<ArrayDeclaration>,
 }
 
-/// Gathers a manifest and its files, each of which is read once. M8 comes, too, where as many files
+/// Gathers a manifest and its files, each of which is read once, and none behind more than 64 MiB
+/// of files that are longer than they may be. M8 comes, too, where as many files
 /// couldn't be read as can be counted.
 pub fn gather<F: Files>(
     alloc: Global,
@@ -76,10 +91,11 @@ pub fn gather<F: Files>(
     };
     let _arrays = grown.arrays();
     match gather_apps(alloc, files, &grown, &numbers, apps) {
-        Ok(apps) => Ok(Gathered {
+        Ok(ReadApps { apps, unread }) => Ok(Gathered {
             arrays,
             directory: grown,
             apps,
+            unread,
         }),
         Err(_) => Err(out_of_memory(arrays)),
     }
@@ -101,18 +117,26 @@ fn gather_apps<F: Files>(
     directory: &Directory,
     numbers: &[ArrayNo],
     entries: Vec<AppEntry>,
-) -> Result<Vec<GatheredApp>, AllocError>
+) -> Result<ReadApps, AllocError>
     requires { All (λ n. n.number < length directory.now) numbers.now }
     ensures known { F.known files.new ≡ F.known files.old }
-    ensures apps { IfOk result (λ v.
-        AreGathered (F.known files.old) directory.now numbers.now entries.items v.items) }
+    ensures apps { IfOk result (λ read.
+        AreTaken (F.known files.old) directory.now numbers.now 0 entries.items read.apps.items
+        read.unread) }
 {
+    let count = entries.len();
     let mut apps = Vec::new(alloc);
+    let mut long = 0;
     for entry in entries {
+        if long > MOST_LONG {
+            let unread = count - apps.len();
+            return Ok(ReadApps { apps, unread });
+        }
         let app = gather_app(alloc, files, directory, numbers, entry)?;
+        long += long_count(&app.kept);
         apps.push(app)?;
     }
-    Ok(apps)
+    Ok(ReadApps { apps, unread: 0 })
 }
 
 fn gather_app<F: Files>(
@@ -135,7 +159,7 @@ fn gather_app<F: Files>(
         return Err(AllocError);
     };
     let behind_link = files.is_behind_link(file_of(entry.source()));
-    let kept = gather_file(alloc, files, entry.source())?;
+    let kept = gather_file(files, entry.source())?;
     Ok(GatheredApp {
         entry,
         shape,

@@ -1,22 +1,22 @@
 //! What is kept of a file that an app names: its bytes, if they are no more than a program, or the
 //! text of a rule, may have; else their beginning.
 
-ghost use Rattle.std.specs.Prelude.{◌≡◌, ◌↔◌, ◌^◌, ◌-◌, ◌<◌, IfOk, IsTrue, IsUtf8, Some};
+ghost use Rattle.std.specs.Prelude.{◌≡◌, ◌^◌, ◌-◌, ◌<◌, List, ℕ, IfOk, Some};
+ghost use Rattle.bounded_files.specs.Kept.{IsKeptOf};
 ghost use Rattle.load.specs.Kept.{CountsKept, IsKeptFrom, Keeps};
 ghost use Rattle.load.specs.Kept as specs;
 ghost use Rattle.load.specs.Source as sources;
 
 use crate::files::Files;
-use bounded_files::ResourceFault;
+use bounded_files::{KeptBytes, ResourceFault};
 use manifest::ProgramSource;
-use std::alloc::{AllocError, Global};
-use std::str;
+use std::alloc::AllocError;
 
 /// The most bytes of a program.
-const MOST_PROGRAM: usize = 32768;
+const MOST_PROGRAM: u32 = 32768;
 
 /// The most bytes of the text of a rule.
-const MOST_RULE: usize = 65536;
+const MOST_RULE: u32 = 65536;
 
 /// What is kept of a file.
 #[derive(Drop)]
@@ -25,13 +25,17 @@ pub enum KeptFile {
     Unread,
     /// All its bytes.
     Whole(Vec<u8>),
-    /// The beginning of more bytes than it may have, and whether they are UTF-8 to their end.
-    Longer { beginning: Vec<u8>, is_text: bool },
+    /// The beginning of more bytes than it may have, how many they are, and whether they are UTF-8
+    /// to their end.
+    Longer {
+        beginning: Vec<u8>,
+        count: usize,
+        is_text: bool,
+    },
 }
 
 /// Reads the file of an app.
 pub(crate) fn gather_file<F: Files>(
-    alloc: Global,
     files: &mut F,
     source: &ProgramSource,
 ) -> Result<KeptFile, AllocError>
@@ -40,37 +44,48 @@ pub(crate) fn gather_file<F: Files>(
     ensures gathered { IfOk result (IsKeptFrom (F.known files.old) source.now) }
     ensures count { CountsKept (F.failed files.old) (F.failed files.new) result }
 {
-    let bytes = match files.bytes(file_of(source)) {
-        Ok(bytes) => bytes,
-        Err(ResourceFault::File) => return Ok(KeptFile::Unread),
-        Err(ResourceFault::Memory) => return Err(AllocError),
-    };
-    keep(alloc, bytes, most_of(source))
-}
-
-fn keep(alloc: Global, bytes: Vec<u8>, most: usize) -> Result<KeptFile, AllocError>
-    ensures { IfOk result (Keeps most (Some bytes.items)) }
-{
-    if bytes.len() <= most {
-        return Ok(KeptFile::Whole(bytes));
+    match files.keep(file_of(source), most_of(source)) {
+        Ok(kept) => Ok(of_file(kept)),
+        Err(ResourceFault::File) => Ok(KeptFile::Unread),
+        Err(ResourceFault::Memory) => Err(AllocError),
     }
-    let beginning = Vec::from_slice(alloc, &bytes[..most])?;
-    let is_text = is_utf8(bytes.as_slice());
-    Ok(KeptFile::Longer { beginning, is_text })
 }
 
-fn is_utf8(bytes: &[u8]) -> bool
-    ensures { IsTrue result ↔ IsUtf8 bytes.now }
+fn of_file(kept: KeptBytes) -> KeptFile
+    ensures { (most : ℕ) (bytes : List ℕ) → IsKeptOf most bytes kept
+        → Keeps most (Some bytes) result }
 {
-    str::from_utf8(bytes).is_ok()
+    match kept {
+        KeptBytes::Whole(bytes) => KeptFile::Whole(bytes),
+        KeptBytes::Longer {
+            beginning,
+            count,
+            is_text,
+        } => KeptFile::Longer {
+            beginning,
+            count,
+            is_text,
+        },
+    }
 }
 
-fn most_of(source: &ProgramSource) -> usize
+fn most_of(source: &ProgramSource) -> u32
     ensures { result ≡ specs.most_of source.now }
 {
     match source {
         ProgramSource::Program(_) => MOST_PROGRAM,
         ProgramSource::Rule(_) => MOST_RULE,
+    }
+}
+
+/// How many bytes a file has, if they are more than it may have; else 0.
+pub(crate) fn long_count(kept: &KeptFile) -> u128
+    ensures count { result ≡ specs.long_count kept.now }
+    ensures within { result < 2 ^ 64 }
+{
+    match kept {
+        KeptFile::Longer { count, .. } => *count as u128,
+        _ => 0,
     }
 }
 

@@ -15,6 +15,11 @@
 // arrays are declared, and of each app the shape and what is kept of its file stand ready. Then
 // what was gathered is judged (`programs.rt`), as often as one likes, and no file is read again.
 //
+// A file is read to its end, but of one that is longer than it may be only the beginning is kept,
+// how many bytes it has, and whether they are a text. Such a file is a fault of its own, so once
+// those that were gathered have more than 64 MiB in all, the first fault is among them, and no
+// further file is read.
+//
 // Files are read through a trait, so that files in memory can stand in for those of a device; of
 // these the contracts say which file of which folder was taken.
 

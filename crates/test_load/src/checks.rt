@@ -4,6 +4,7 @@ mod accepted;
 mod further;
 mod lines;
 mod refused;
+mod unread;
 
 use crate::files::MemFiles;
 use crate::sample::{changed, files, halves, must};

@@ -1,9 +1,9 @@
 //! Files of a device, of each kind that a test can find.
 
 use crate::sample::must;
-use bounded_files::{Device, Disk, ResourceFault, may_write_over, write_file};
+use bounded_files::{Device, Disk, KeptBytes, ResourceFault, may_write_over, write_file};
 use std::alloc::{AllocError, Global};
-use std::fs;
+use std::fs::{self, File, OpenFile};
 use std::os::unix::fs::{PermissionsExt, symlink};
 use std::rt::Files;
 use std::test::Fail;
@@ -45,6 +45,64 @@ fn each_kind(rt: HostRuntime) -> Result<(), Fail> {
     write_file(&rt, "four", b"1234").map_err(|_| "not written")?;
     for (path, any, regular) in PATHS {
         is_told(&rt, path, any, regular)?;
+    }
+    Ok(())
+}
+
+/// A path, and what is kept of a regular file there, at most 3 bytes: how many, of how many, and
+/// whether all are a text; or the refusal. Files are read by pieces of 65536 bytes.
+const KEPT: [(&str, &str); 9] = [
+    ("three", "3"),
+    ("four", "3 of 4 true"),
+    ("across", "3 of 65537 true"),
+    ("cut", "3 of 65536 false"),
+    ("most", "3 of 16777216 true"),
+    ("more", "B3 File"),
+    ("/dev/null", "B3 File"),
+    (".", "B3 File"),
+    ("nowhere", "B3 File"),
+];
+
+fn told_kept(alloc: Global, kept: Result<KeptBytes, ResourceFault>) -> Result<String, AllocError> {
+    match kept {
+        Ok(KeptBytes::Whole(bytes)) => format!(in alloc; "{}", bytes.len()),
+        Ok(
+            KeptBytes::Longer {
+                beginning,
+                count,
+                is_text,
+            },
+        ) => format!(in alloc; "{} of {count} {is_text}", beginning.len()),
+        Err(fault) => format!(in alloc; "{fault}"),
+    }
+}
+
+fn write<R: Files + AllocGlobal>(rt: &R, path: &str, bytes: &[u8]) -> Result<(), Fail> {
+    write_file(rt, path, bytes).map_err(|_| "not written")?;
+    Ok(())
+}
+
+fn write_texts<R: Files + AllocGlobal>(rt: &R) -> Result<(), Fail> {
+    write(rt, "three", b"123")?;
+    write(rt, "four", b"1234")?;
+    let mut text = vec![in rt.alloc(); b'a'; 65535]?;
+    text.extend_from_slice("\u{e9}".as_bytes())?;
+    write(rt, "across", text.as_slice())?;
+    text.truncate(65536);
+    write(rt, "cut", text.as_slice())
+}
+
+/// A file that is kept is told to its end: a character stands across two pieces, and its second
+/// half is cut.
+#[test]
+fn kept(rt: HostRuntime) -> Result<(), Fail> {
+    write_texts(&rt)?;
+    File::create(&rt, "most")?.set_len(0x100_0000)?;
+    File::create(&rt, "more")?.set_len(0x100_0001)?;
+    let device = Device::new(&rt);
+    for (path, want) in KEPT {
+        let found = told_kept(rt.alloc(), device.keep_regular(path, 3))?;
+        must(path, found.as_str(), found.as_str() == want)?;
     }
     Ok(())
 }

@@ -1,27 +1,37 @@
-use Rattle.std.proofs.Common.{◌∙◌, ◌++◌, length, [], ◌∷◌, refl, sym, ap, append_assoc, rules}
-use Rattle.load.specs.Gathered.{no_app}
-use Rattle.load.proofs.Gathers.{gathered_all, gathered_more}
+use Rattle.std.proofs.Common.{◌∙◌, length, length-append, refl, sym, ap, arith, rules}
+use Rattle.load.proofs.Gathers.{read_all, read_enough, read_more, read_none}
+use Rattle.load.proofs.Slices.{none_left}
 use Rattle.load.proofs.gathering.gather_apps.Goals as goal
 
 pub loop-entry-init : goal.loop-entry-init
 loop-entry-init g c =
-    let gives = c.into_iter-entry-iterator.ensures.into_iter_gives in (
+    let gives = c.into_iter-entry-iterator.ensures.into_iter_gives in
+    let empty = c.new-apps.ensures.items in (
       refl,
-      sym gives.0,
+      read_none _ _ _ _ _ _ gives.0 empty,
+      omega (arith, c.len-count.ensures, c.args.entries.ok.0, ap length gives.0, ap length empty),
       gives.1 ∙ c.args.entries.ok.0 ∙ ap length (sym gives.0),
-      rw c.new-apps.ensures.items no_app,
     )
+
+pub returns-then-long-gt-MOST_LONG-clause-known : goal.returns-then-long-gt-MOST_LONG-clause-known
+returns-then-long-gt-MOST_LONG-clause-known g c = c.loop-entry.invariant.0
+
+pub returns-then-long-gt-MOST_LONG-clause-apps : goal.returns-then-long-gt-MOST_LONG-clause-apps
+returns-then-long-gt-MOST_LONG-clause-apps g c =
+    let i = c.loop-entry.invariant in
+    read_enough _ _ _ _ _ _ _ i.1 _ c.if-long-gt-MOST_LONG.true (search rules)
 
 pub loop-entry-preserved : goal.loop-entry-preserved
 loop-entry-preserved g c =
     let i = c.loop-entry.invariant in
-    let steps = c.in-Some.ensures.steps in (
+    let left = c.in-Some.ensures.steps.0 in
+    let more = c.in_ok-push.ensures.items in (
       c.gather_app.ensures.known ∙ i.0,
-      i.1 ∙ ap (λ left. c.loop-entry.yielded ++ left) steps.0
-          ∙ sym (append_assoc c.loop-entry.yielded (c.in-Some.entry ∷ []) _),
+      read_more _ _ _ _ _ _ _ i.1 c.in-Some.entry _ c.in_ok-app.app _ _ left
+          (omega (arith, c.if-long-gt-MOST_LONG.false)) (rw i.0 at c.in_ok-app.ensures.app) more
+          (omega (arith, c.long_count-long.ensures.count)),
+      omega (arith, i.2, ap length left, ap length more ∙ length-append c.loop-entry.apps.items _),
       search rules,
-      rw c.in_ok-push.ensures.items
-          (gathered_more _ _ _ _ _ i.3 (rw i.0 at c.in_ok-app.ensures.app)),
     )
 
 pub returns-clause-known : goal.returns-clause-known
@@ -30,4 +40,5 @@ returns-clause-known g c = c.loop-entry.invariant.0
 pub returns-clause-apps : goal.returns-clause-apps
 returns-clause-apps g c =
     let i = c.loop-entry.invariant in
-    gathered_all _ _ _ _ _ _ _ i.1 (sym i.2 ∙ c.in-None.ensures.steps.0) i.3
+    read_all _ _ _ _ _ _ _ i.1
+    (none_left _ (omega (arith, i.3, c.in-None.ensures.steps.0)))

@@ -27,10 +27,10 @@ returns-in-Whole-clause-unread c =
 
 pub returns-in-Longer-clause-fault : goal.returns-in-Longer-clause-fault
 returns-in-Longer-clause-fault c =
-    longer_fault c.args.source.now c.args.kept.now _ _ c.too_long.result c.in-Longer.is
+    longer_fault c.args.source.now c.args.kept.now _ _ _ c.too_long.result c.in-Longer.is
     c.args.shape.now c.too_long.ensures.fault
 
 pub returns-in-Longer-clause-unread : goal.returns-in-Longer-clause-unread
 returns-in-Longer-clause-unread c =
-    longer_read c.args.source.now c.args.kept.now _ _ c.too_long.result c.in-Longer.is _
+    longer_read c.args.source.now c.args.kept.now _ _ _ c.too_long.result c.in-Longer.is _
     c.too_long.ensures.other
