@@ -1,0 +1,4 @@
+mod Courses
+mod Requests
+mod Sending
+mod Finding

@@ -1,0 +1,45 @@
+-- What a server sends: the reply that is found beforehand, and no other.
+use Rattle.std.specs.Prelude.{◌≡◌, ◌↔◌, ◌⊎◌, ℕ, ℤ, List, Ok, Err}
+use Rattle.cells.specs.Events.{IsEvent}
+use Rattle.cells.specs.Grown.{GrewBy}
+use Rattle.cells.specs.declared.event.CellEvent.{CellEvent}
+use Rattle.hot_swap.specs.Published.{Beginning, IsLatest}
+use Rattle.ruleset.specs.Rules.{Rules}
+use Rattle.omaha_json.specs.Request.{Request, request_in}
+use Rattle.omaha_json.specs.declared.fault.OmahaFault.{OmahaFault}
+use Rattle.omaha_json.specs.declared.fault.OmahaFault.TheVariants.{Memory}
+use Rattle.answering.specs.Answer.{RepliesToBody}
+use Rattle.answering.specs.Reply.{HttpReply, success, omaha_rejection}
+use Rattle.dry_run.specs.Reply.{Replies, RepliesToBodyOn}
+
+-- as Omaha's reply to a body a server, of whose watcher the newest ruleset is this one, may send
+-- what its apps are answered under it, with these events, and nothing else
+abbrev pub SendsReplies : Type 0
+SendsReplies = (watcher : Beginning) (generation : ℕ) (rules : Rules) (moment : ℤ)
+    (body : List ℕ) (events : List CellEvent) (text : List ℕ) → IsLatest watcher generation rules
+    → RepliesToBody body watcher moment events (success text)
+    ↔ ((request : Request) × (request_in body ≡ Ok request)
+    × Replies rules moment request events text)
+
+-- on counters of the same values there is one reply, and they have the same values then
+abbrev pub HasOneReply : Type 0
+HasOneReply = (rules : Rules) (moment : ℤ) (body old text text' new new' : List ℕ)
+    → RepliesToBodyOn rules moment body old text new
+    → RepliesToBodyOn rules moment body old text' new' → (text ≡ text') × (new ≡ new')
+
+-- so what a server sends as Omaha's reply is the text that was found, where the newest ruleset that
+-- its watcher has seen, the moment at which it answers, and the values that its counters have then
+-- are the same, and no other request's run changes a counter between this one's runs
+abbrev pub SendsWhatIsFound : Type 0
+SendsWhatIsFound = (watcher : Beginning) (generation : ℕ) (rules : Rules) (moment : ℤ)
+    (body old found left sent new : List ℕ) (events : List CellEvent)
+    → IsLatest watcher generation rules → RepliesToBodyOn rules moment body old found left
+    → RepliesToBody body watcher moment events (success sent) → GrewBy IsEvent old events new
+    → (sent ≡ found) × (new ≡ left)
+
+-- and a body that is no request it refuses by the same fault, or for want of memory
+abbrev pub RefusesAlike : Type 0
+RefusesAlike = (watcher : Beginning) (moment : ℤ) (body : List ℕ) (events : List CellEvent)
+    (reply : HttpReply) (fault : OmahaFault) → request_in body ≡ Err fault
+    → RepliesToBody body watcher moment events reply
+    → (reply ≡ omaha_rejection fault) ⊎ (reply ≡ omaha_rejection Memory)

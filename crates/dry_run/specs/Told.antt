@@ -1,0 +1,48 @@
+-- The reply to a body on counters as they are told, and why there is none.
+use Rattle.std.specs.Prelude.{◌≡◌, ℕ, ℤ, List, None, Err}
+use Rattle.bounded_files.specs.declared.fault.ResourceFault.TheVariants as resource
+use Rattle.cells.specs.Events.{AreZeros}
+use Rattle.cells.specs.declared.array.CellArray.{CellArray}
+use Rattle.omaha_json.specs.Request.{request_in}
+use Rattle.omaha_json.specs.declared.fault.OmahaFault.TheVariants as omaha
+use Rattle.ruleset.specs.Rules.{Rules}
+use Rattle.told_cells.specs.Told.{Told}
+use Rattle.dry_run.specs.Counters.{AreSetAsTold, with_cells, with_known}
+use Rattle.dry_run.specs.Reply.{RepliesToBodyOn}
+use Rattle.dry_run.specs.declared.fault.DryRunFault.{DryRunFault}
+use Rattle.dry_run.specs.declared.fault.DryRunFault.TheVariants as fault
+
+-- the reply to a body, at a moment, where the counters are those that a server and the words tell
+pub record RepliesAsTold (rules : Rules) (arrays : List CellArray) (body : List ℕ) (moment : ℤ)
+    (served words : List Told) (text : List ℕ) : Type 0 where
+  pub counters : List ℕ
+  pub set : AreSetAsTold arrays served words counters
+  pub left : List ℕ
+  pub replies : RepliesToBodyOn rules moment body counters text left
+
+-- the words tell a cell that isn't there, or a value that doesn't fit
+pub record AreUntold (arrays : List CellArray) (served words : List Told) : Type 0 where
+  pub zeros : List ℕ
+  pub opens : AreZeros 8192 zeros
+  pub unset : with_cells arrays (with_known arrays zeros served) words ≡ None
+
+abbrev pub IsUntold : List CellArray → (served words : List Told) → DryRunFault → Type 0
+IsUntold arrays served words fault.Cell = AreUntold arrays served words
+IsUntold arrays served words (fault.Resource resource.Memory) = Unit {0}
+IsUntold arrays served words why = ⊥
+
+-- the counters that they tell are there
+abbrev pub AreSettable : List CellArray → (served words : List Told) → Type 0
+AreSettable arrays served words =
+    (counters : List ℕ) × AreSetAsTold arrays served words counters
+
+-- why there is none: the words, or else the body, which is no request. Of memory that was refused
+-- nothing is said
+abbrev pub IsUnanswered : List CellArray → (body : List ℕ) → (served words : List Told)
+    → DryRunFault → Type 0
+IsUnanswered arrays body served words fault.Cell = AreUntold arrays served words
+IsUnanswered arrays body served words (fault.Omaha omaha.Memory) = Unit {0}
+IsUnanswered arrays body served words (fault.Omaha why) =
+    AreSettable arrays served words × (request_in body ≡ Err why)
+IsUnanswered arrays body served words (fault.Resource resource.Memory) = Unit {0}
+IsUnanswered arrays body served words why = ⊥

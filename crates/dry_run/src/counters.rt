@@ -1,0 +1,117 @@
+//! Counters by the values of cells that are told.
+
+ghost use Rattle.std.specs.Prelude.{◌≡◌, ◌<◌, true, false, Some, None, IfOk, IfSome, IfNone};
+ghost use Rattle.std.specs.Prelude.{nat_lt, option_copied};
+ghost use Rattle.cells.specs.Events.{AreZeros, limit};
+ghost use Rattle.dry_run.specs.Counters as specs;
+
+use cells::{CellArray, CellNo, CellOp, CellSteps, PlainCells, PlainPass};
+use rule_lang::array_named;
+use std::alloc::{AllocError, Global};
+use told_cells::ToldCell;
+
+/// The first cell of 32 bits.
+const NARROW: u16 = 4096;
+
+/// How many cells there are.
+const CELLS: u32 = 8192;
+
+/// Counters that are all 0.
+pub(crate) fn zero_counters(alloc: Global) -> Result<PlainPass, AllocError>
+    ensures { IfOk result (AreZeros 8192) }
+{
+    match PlainCells::new(alloc) {
+        Ok((_cells, counters)) => Ok(counters),
+        Err(_) => Err(AllocError),
+    }
+}
+
+/// Puts the values of cells in place, in their order. False where the arrays have no such cell, or
+/// its value doesn't fit it: the cells before it are set then.
+pub(crate) fn set_cells(
+    arrays: &[CellArray],
+    counters: &mut PlainPass,
+    told: &[ToldCell<'_>],
+) -> bool
+    ensures set { result ≡ true
+        → specs.with_cells arrays.now counters.old told.now ≡ Some counters.new }
+    ensures unset { result ≡ false
+        → specs.with_cells arrays.now counters.old told.now ≡ None }
+{
+    for cell in told {
+        if !set_cell(arrays, counters, cell) {
+            return false;
+        }
+    }
+    true
+}
+
+/// Puts the values of those cells in place that the arrays have, and whose values fit.
+pub(crate) fn set_known(arrays: &[CellArray], counters: &mut PlainPass, told: &[ToldCell<'_>])
+    ensures { counters.new ≡ specs.with_known arrays.now counters.old told.now }
+{
+    for cell in told {
+        let _is_set = set_cell(arrays, counters, cell);
+    }
+}
+
+// Puts the value of one cell in place, where the arrays have it and the value fits.
+fn set_cell(arrays: &[CellArray], counters: &mut PlainPass, told: &ToldCell<'_>) -> bool
+    ensures set { result ≡ true
+        → specs.with_cell arrays.now counters.old told.now ≡ Some counters.new }
+    ensures unset { result ≡ false → specs.with_cell arrays.now counters.old told.now ≡ None }
+    ensures same { result ≡ false → counters.new ≡ counters.old }
+{
+    match cell_in(told.index(), array_named(arrays, told.array())) {
+        Some(cell) => put(counters, cell, told.value()),
+        None => false,
+    }
+}
+
+// The cell of an index in an array.
+fn cell_in(index: u16, array: Option<&CellArray>) -> Option<CellNo>
+    ensures found { IfSome result (λ c.
+        specs.cell_in index (option_copied array.entry) ≡ Some c.number) }
+    ensures none { IfNone result (specs.cell_in index (option_copied array.entry) ≡ None) }
+{
+    match array {
+        Some(array) if index < array.length => cell_at(array.base as u32 + index as u32),
+        _ => None,
+    }
+}
+
+fn cell_at(number: u32) -> Option<CellNo>
+    ensures found { IfSome result (λ c. specs.cell_at number ≡ Some c.number) }
+    ensures none { IfNone result (specs.cell_at number ≡ None) }
+{
+    if number < CELLS {
+        Some(CellNo::new(number as u16))
+    } else {
+        None
+    }
+}
+
+// Puts a value in place, where it fits the cell.
+fn put(counters: &mut PlainPass, cell: CellNo, value: u64) -> bool
+    ensures set { result ≡ true
+        → specs.with_value counters.old value cell.number ≡ Some counters.new }
+    ensures unset { result ≡ false → specs.with_value counters.old value cell.number ≡ None }
+    ensures same { result ≡ false → counters.new ≡ counters.old }
+{
+    if !fits(cell, value) {
+        return false;
+    }
+    let _reply = PlainCells.act(counters, cell, CellOp::Store(value));
+    true
+}
+
+// Whether the cell has room for a value.
+fn fits(cell: CellNo, value: u64) -> bool
+    ensures { result ≡ nat_lt value (limit cell.number) }
+{
+    if cell.number < NARROW {
+        true
+    } else {
+        value < 1 << 32
+    }
+}

@@ -1,0 +1,77 @@
+//! The files of a dry run: a manifest, and the body of a request.
+
+ghost use Rattle.std.specs.Prelude.{◌≡◌, [], IfOk, IfErr};
+ghost use Rattle.load.specs.Loaded.{LoadsFrom};
+ghost use Rattle.dry_run.specs.Files as specs;
+
+use crate::fault::DryRunFault;
+use bounded_files::Disk;
+use cells::Directory;
+use load::{PathFault, load_path};
+use ruleset::Ruleset;
+use std::alloc::Global;
+
+/// The most bytes of a body, as of a server's client: 1 MiB.
+const MOST_BODY: u32 = 0x10_0000;
+
+/// A ruleset with the arrays of its manifest, and a body.
+#[derive(Drop)]
+pub struct Opened {
+    pub rules: Ruleset,
+    pub directory: Directory,
+    pub body: Vec<u8>,
+}
+
+/// Loads a manifest over no arrays, as a server's first one, and reads a body, of a file of any
+/// kind; `-` is standard input. The manifest's faults come first, M1 to M8 or B3; then B3 of the
+/// body, and P5 where it has more than 1 MiB. B4 comes where memory is refused.
+pub fn open_files<D: Disk>(
+    alloc: Global,
+    disk: &D,
+    manifest: &str,
+    request: &str,
+) -> Result<Opened, DryRunFault>
+    ensures opened { IfOk result (λ o. specs.AreOpened (D.known disk.now) manifest.now request.now
+        o.rules o.directory o.body.items) }
+    ensures fault { IfErr result (specs.IsOpenFault (D.known disk.now) manifest.now request.now) }
+{
+    let (rules, directory) = match load_alone(alloc, disk, manifest) {
+        Ok(loaded) => loaded,
+        Err(fault) => return Err(DryRunFault::Manifest(fault)),
+    };
+    match disk.read(body_path(request), MOST_BODY) {
+        Ok(Some(body)) => Ok(Opened {
+            rules,
+            directory,
+            body,
+        }),
+        Ok(None) => Err(DryRunFault::TooLarge),
+        Err(fault) => Err(DryRunFault::Resource(fault)),
+    }
+}
+
+// The ruleset of a manifest that is loaded over no arrays, and its own.
+fn load_alone<D: Disk>(
+    alloc: Global,
+    disk: &D,
+    path: &str,
+) -> Result<(Ruleset, Directory), PathFault>
+    ensures { LoadsFrom (D.known disk.now) path.now [] result }
+{
+    let none = Directory::new(alloc);
+    match load_path(alloc, disk, path, &none) {
+        Ok(loaded) => Ok(loaded),
+        Err(fault) => Err(fault),
+    }
+}
+
+// Where the body lies.
+fn body_path<'a>(request: &'a str) -> &'a str
+    ensures { result.now ≡ specs.body_path request.now }
+{
+    if request == "-" {
+        "/dev/stdin"
+    } else {
+        request
+    }
+}

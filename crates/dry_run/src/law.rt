@@ -1,0 +1,26 @@
+//! Laws of the definitions: a server sends what is found beforehand. They are called by nothing.
+
+ghost use Rattle.dry_run.specs.Sent as specs;
+
+/// A law: the texts that a server may send as Omaha's reply, whose newest ruleset is this one, are
+/// those by which its apps are answered under it.
+pub fn sends_replies()
+    ensures { specs.SendsReplies }
+{}
+
+/// A law: on counters of the same values there is one reply.
+pub fn has_one_reply()
+    ensures { specs.HasOneReply }
+{}
+
+/// A law: what a server sends as Omaha's reply to a body is what was found, where the newest ruleset
+/// that its watcher has seen, the moment and the values of its counters are those by which it was
+/// found, and no other request's run changes a counter between this one's runs.
+pub fn sends_what_is_found()
+    ensures { specs.SendsWhatIsFound }
+{}
+
+/// A law: a body that is no request a server refuses by the same fault.
+pub fn refuses_alike()
+    ensures { specs.RefusesAlike }
+{}

@@ -1,0 +1,59 @@
+//! The reply to a body on counters as they are told.
+
+ghost use Rattle.std.specs.Prelude.{IfOk, IfErr};
+ghost use Rattle.dry_run.specs.Counters.{AreSetAsTold};
+ghost use Rattle.dry_run.specs.Told as specs;
+
+use crate::counters::{set_cells, set_known, zero_counters};
+use crate::fault::DryRunFault;
+use crate::files::Opened;
+use crate::reply::find_reply;
+use attrs::Moment;
+use bounded_files::ResourceFault;
+use cells::{CellArray, PlainPass};
+use std::alloc::Global;
+use told_cells::ToldCell;
+
+/// The text of the reply to a body at a moment. Counters are 0, but for those that a server tells
+/// of arrays that the manifest has, and then for those that the words tell. B7 where it hasn't a
+/// cell of the words, or a value doesn't fit; then O1 to O4. B4 and O5 come where memory is
+/// refused.
+pub fn reply_as_told(
+    alloc: Global,
+    opened: &Opened,
+    moment: &Moment,
+    served: &[ToldCell<'_>],
+    words: &[ToldCell<'_>],
+) -> Result<Vec<u8>, DryRunFault>
+    ensures replies { IfOk result (λ text. specs.RepliesAsTold opened.now.rules
+        opened.now.directory opened.now.body.items moment.now served.now words.now text.items) }
+    ensures fault { IfErr result (specs.IsUnanswered opened.now.directory opened.now.body.items
+        served.now words.now) }
+{
+    let mut counters = counters_as_told(alloc, opened.directory.arrays(), served, words)?;
+    match find_reply(alloc, &opened.rules, moment, &opened.body, &mut counters) {
+        Ok(text) => Ok(text),
+        Err(fault) => Err(DryRunFault::Omaha(fault)),
+    }
+}
+
+// The counters.
+fn counters_as_told(
+    alloc: Global,
+    arrays: &[CellArray],
+    served: &[ToldCell<'_>],
+    words: &[ToldCell<'_>],
+) -> Result<PlainPass, DryRunFault>
+    ensures told { IfOk result (λ counters. AreSetAsTold arrays.now served.now words.now counters) }
+    ensures fault { IfErr result (specs.IsUntold arrays.now served.now words.now) }
+{
+    let Ok(mut counters) = zero_counters(alloc) else {
+        return Err(DryRunFault::Resource(ResourceFault::Memory));
+    };
+    set_known(arrays, &mut counters, served);
+    if set_cells(arrays, &mut counters, words) {
+        Ok(counters)
+    } else {
+        Err(DryRunFault::Cell)
+    }
+}

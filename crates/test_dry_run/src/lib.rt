@@ -1,0 +1,13 @@
+//! Tests of replies that are found beforehand: with counters of all kinds, byte for byte, and
+//! each refusal. The replies are written out by docs/CLIENTS.md; days and seconds are those of
+//! `date -u`.
+#![tactic(auto)]
+
+#[cfg(test)]
+mod refusals;
+#[cfg(test)]
+mod replies;
+#[cfg(test)]
+mod sample;
+#[cfg(test)]
+mod told_texts;

@@ -1,0 +1,37 @@
+//! The cells of a server's counters, as its operator's port tells them.
+
+ghost use Rattle.std.specs.Prelude.{◌≡◌, IfOk, map};
+ghost use Rattle.std.specs.Str.Lines.{lines};
+ghost use Rattle.told_cells.specs.Told as specs;
+
+use crate::told::ToldCell;
+use std::alloc::{AllocError, Global};
+
+/// The cells that the lines of a text tell, each `NAME[INDEX] VALUE`; other lines are passed over.
+pub fn told_lines<'a>(alloc: Global, text: &'a str) -> Result<Vec<ToldCell<'a>>, AllocError>
+    ensures { IfOk result (λ v. v.items ≡ specs.told_by (lines text.now)) }
+{
+    let lines = lines_of(alloc, text)?;
+    let cells = told_by(alloc, &lines)?;
+    Ok(cells)
+}
+
+fn lines_of<'a>(alloc: Global, text: &'a str) -> Result<Vec<&'a str>, AllocError>
+    ensures { IfOk result (λ v. map (λ line. line.now) v.items ≡ lines text.now) }
+{
+    text.lines().collect(alloc)
+}
+
+fn told_by<'a>(alloc: Global, lines: &[&'a str]) -> Result<Vec<ToldCell<'a>>, AllocError>
+    ensures { IfOk result (λ v. v.items ≡ specs.told_by (map (λ line. line.now) lines.now)) }
+{
+    let mut cells = Vec::with_capacity(alloc, lines.len())?;
+    let mut rest = lines;
+    while let [line, more @ ..] = rest {
+        if let Some(cell) = ToldCell::listed(line) {
+            cells.push(cell)?;
+        }
+        rest = more;
+    }
+    Ok(cells)
+}

@@ -1,0 +1,120 @@
+//! One cell of an array, with its value.
+
+ghost use Rattle.std.specs.Prelude.{◌≡◌, ◌≤◌, IfSome};
+ghost use Rattle.told_cells.specs.Told as specs;
+
+use lexing::decimal_within;
+use std::marker::Model;
+
+/// The greatest index that is told.
+const LAST_INDEX: u64 = 65535;
+
+/// A cell by the name of its array and its index, and its value. That there is such an array isn't
+/// said.
+#[derive(Debug, Drop)]
+pub struct ToldCell<'a> {
+    array: &'a str,
+    index: u16,
+    value: u64,
+}
+
+impl<'a> Model for ToldCell<'a> {
+    ghost use Rattle.told_cells.specs.Told.{Told};
+
+    ghost Value = { Told };
+
+    ghost view = { λ c. record { array = c.array.now; index = c.index; value = c.value } };
+}
+
+impl<'a> ToldCell<'a> {
+    /// The cell of a text `NAME[INDEX]=VALUE`. The index is 0 to 65535, the value one of 64 bits,
+    /// both in decimal digits.
+    pub fn assigned(text: &'a str) -> Option<ToldCell<'a>>
+        ensures { result ≡ specs.assigned text.now }
+    {
+        match text.split_once('=') {
+            Some((cell, value)) => valued(cell, decimal_within(value, 0, u64::MAX)),
+            None => None,
+        }
+    }
+
+    /// The same of a text `NAME[INDEX] VALUE`.
+    pub fn listed(text: &'a str) -> Option<ToldCell<'a>>
+        ensures { result ≡ specs.listed text.now }
+    {
+        match text.split_once(' ') {
+            Some((cell, value)) => valued(cell, decimal_within(value, 0, u64::MAX)),
+            None => None,
+        }
+    }
+
+    /// The name of its array.
+    pub fn array(&self) -> &'a str
+        ensures { result.now ≡ self.now.array }
+    {
+        self.array
+    }
+
+    /// Its index in the array.
+    pub fn index(&self) -> u16
+        ensures { result ≡ self.now.index }
+    {
+        self.index
+    }
+
+    /// Its value.
+    pub fn value(&self) -> u64
+        ensures { result ≡ self.now.value }
+    {
+        self.value
+    }
+}
+
+fn valued<'a>(cell: &'a str, value: Option<u64>) -> Option<ToldCell<'a>>
+    ensures { result ≡ specs.valued cell.now value }
+{
+    match cell.split_once('[') {
+        Some((array, rest)) => indexed(array, rest, value),
+        None => None,
+    }
+}
+
+fn indexed<'a>(array: &'a str, rest: &str, value: Option<u64>) -> Option<ToldCell<'a>>
+    ensures { result ≡ specs.indexed array.now rest.now value }
+{
+    match rest.split_once(']') {
+        Some((index, behind)) => ended(array, behind, decimal_within(index, 0, LAST_INDEX), value),
+        None => None,
+    }
+}
+
+// Nothing stands behind the index.
+fn ended<'a>(
+    array: &'a str,
+    behind: &str,
+    index: Option<u64>,
+    value: Option<u64>,
+) -> Option<ToldCell<'a>>
+    requires { IfSome index (λ i. i ≤ 65535) }
+    ensures { result ≡ specs.ended array.now behind.now index value }
+{
+    if behind.len() == 0 {
+        of_parts(array, index, value)
+    } else {
+        None
+    }
+}
+
+fn of_parts<'a>(array: &'a str, index: Option<u64>, value: Option<u64>) -> Option<ToldCell<'a>>
+    requires { IfSome index (λ i. i ≤ 65535) }
+    ensures { result ≡ specs.of_parts array.now index value }
+{
+    match (index, value) {
+        (Some(index), Some(value)) => Some(ToldCell {
+            array,
+            index: index as u16,
+            value,
+        }),
+        _ => None,
+    }
+}
