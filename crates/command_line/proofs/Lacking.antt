@@ -1,11 +1,15 @@
 -- Options that are ill-written tell of no app.
-use Rattle.std.proofs.Common.{◌≡◌, ◌∙◌, sym, subst, ℕ, List, Option, Some, None}
+use Rattle.std.proofs.Common.{◌≡◌, ◌∙◌, refl, ap, sym, subst, ℕ, List, Option, Some, None, codes}
 use Rattle.std.specs.Borrow.{Bor}
 use Rattle.std.specs.Option.{option_copied}
 use Rattle.std.specs.Prelude.{IsSomeAnd, OnErr, Result, Ok, Err}
-use Rattle.clap.specs.Words.{Row, Text}
-use Rattle.command_line.specs.AppOptions.{IsInstallDay, IsPlaceBeside, IsToday}
-use Rattle.command_line.specs.AppOptions.{LacksInstalled, LacksToday}
+use Rattle.std.specs.Prelude.{◌+◌, ◌*◌, ℤ, pos, option_map}
+use Rattle.attrs.specs.Moment.{first_second}
+use Rattle.clap.specs.Words.{Row, Text, first_of}
+use Rattle.command_line.specs.AppOptions.{IsInstallDay, IsPlaceBeside, LacksInstalled}
+use Rattle.command_line.specs.declared.option_misfit.MomentMisfit.{MomentMisfit}
+use Rattle.command_line.specs.declared.option_misfit.MomentMisfit.TheVariants as misfit
+use Rattle.command_line.specs.Seconds.{HasMoment, IsMomentMisfit, LacksMoment, moment_told}
 use Rattle.command_line.specs.Values.{HasBucket, LacksBucket}
 
 -- what holds of a refusal, holds of it however it is answered
@@ -13,9 +17,25 @@ pub on_any_error : {T E : Type 0} (P : Type 0) (r : Result T E) → P → OnErr 
 on_any_error P (Ok x) p = tt
 on_any_error P (Err e) p = p
 
-pub no_today : (text : Option Text) (day : ℕ) → LacksToday text → IsToday text day → ⊥
-no_today None day lacks is = lacks
-no_today (Some text) day lacks is = let bad : Some day ≡ None = sym is ∙ lacks in cc
+pub no_value : {A : Type 0} (o : Option A) (a : A) → o ≡ None → o ≡ Some a → ⊥
+no_value o a none some = let bad : Some a ≡ None = sym some ∙ none in cc
+
+untold : (at today : Option Text) (m : MomentMisfit) → IsMomentMisfit at today m
+    → moment_told at today ≡ None
+untold None today misfit.Today lacks =
+    ap (λ (o : Option ℕ). option_map (λ day. pos (first_second + 86400 * day)) o) lacks
+untold None today misfit.At lacks = absurd lacks
+untold None today misfit.Both lacks = absurd lacks
+untold (Some text) None misfit.At lacks = lacks
+untold (Some text) None misfit.Today lacks = absurd lacks
+untold (Some text) None misfit.Both lacks = absurd lacks
+untold (Some text) (Some day) m lacks = refl
+
+pub no_moment : (rows : List Row) (m : MomentMisfit) (moment : ℤ) → LacksMoment rows m
+    → HasMoment rows moment → ⊥
+no_moment rows m moment lacks has =
+    no_value _ moment (untold (first_of (codes "at") rows) (first_of (codes "today") rows) m lacks)
+    has
 
 pub not_installed : (text : Option Text) (day : Option ℕ) → LacksInstalled text
     → IsInstallDay text day → ⊥

@@ -12,7 +12,7 @@ use Rattle.command_line.specs.declared.request.AskedSimulation.{AskedSimulation}
 use Rattle.command_line.specs.declared.told.ToldApp.{ToldApp}
 use Rattle.command_line.specs.declared.verb.Verb.TheVariants as verb
 use Rattle.command_line.proofs.Asking.{simulates_nothing}
-use Rattle.command_line.proofs.Lacking.{no_today, not_installed}
+use Rattle.command_line.proofs.Lacking.{no_moment, not_installed}
 
 none_some : (o p : Option Text) → o ≡ p → IsNone o → IsSome p → ⊥
 none_some o p same none some =
@@ -29,8 +29,8 @@ one_client rows app (inr cohort) anyones =
 not_simulated : (rows : List Row) (m : OptionMisfit) (asked : AskedSimulation)
     → IsSimulationMisfit rows m → AsksToSimulate rows asked → ⊥
 not_simulated rows misfit.Manifest asked lacks asks = lacks asked.manifest.now asks.file
-not_simulated rows misfit.Today asked lacks asks =
-    no_today (first_of (codes "today") rows) asked.app.today lacks asks.clients.told.today
+not_simulated rows (misfit.Moment m) asked lacks asks =
+    no_moment rows m asked.app.moment lacks asks.clients.told.moment
 not_simulated rows misfit.Installed asked lacks asks =
     not_installed (first_of (codes "installed") rows) asked.app.installed lacks
     asks.clients.told.installed

@@ -9,6 +9,7 @@ use Rattle.attrs.specs.Bucket.{cohort_bucket}
 use Rattle.clap.specs.Words.{Row, Text, first_of}
 use Rattle.command_line.specs.declared.told.ToldApp.{ToldApp}
 use Rattle.command_line.specs.Day.{day_in}
+use Rattle.command_line.specs.Seconds.{HasMoment}
 use Rattle.command_line.specs.Values.{HasBucket, HasFlag, texts_of}
 
 -- ---- attributes
@@ -51,16 +52,7 @@ abbrev pub LacksAttributes : List Row → Type 0
 LacksAttributes rows =
     (told : ToldApp) → HasAttributes rows told → length (given rows) ≢ count_attributes told
 
--- ---- days
-
--- day 0 where none is given
-abbrev pub IsToday : Option Text → ℕ → Type 0
-IsToday None day = day ≡ 0
-IsToday (Some text) day = day_in 2919382 text ≡ Some day
-
-abbrev pub LacksToday : Option Text → Type 0
-LacksToday None = ⊥
-LacksToday (Some text) = day_in 2919382 text ≡ None
+-- ---- the day of the installation
 
 -- unknown where none is given
 abbrev pub IsInstallDay : Option Text → Option ℕ → Type 0
@@ -79,7 +71,7 @@ pub record HasTold (rows : List Row) (told : ToldApp) : Type 0 where
   pub each : length (given rows) ≡ count_attributes told
   pub ping : HasFlag (codes "ping") rows told.ping
   pub event : HasFlag (codes "event") rows told.event
-  pub today : IsToday (first_of (codes "today") rows) told.today
+  pub moment : HasMoment rows told.moment
   pub installed : IsInstallDay (first_of (codes "installed") rows) told.installed
 
 abbrev pub LacksTold : List Row → Type 0

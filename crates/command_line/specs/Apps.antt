@@ -1,10 +1,8 @@
--- The app that the words tell of, as its request would: it asks for an update at the first second
--- of a day.
-use Rattle.std.specs.Prelude.{ℕ, ◌+◌, ◌*◌, ℤ, pos, [], Option, Some, None, option_copied}
+-- The app that the words tell of, as its request would: it asks for an update at a moment.
+use Rattle.std.specs.Prelude.{ℕ, ℤ, [], Option, Some, None, option_copied}
 use Rattle.std.specs.Prelude.{unwrap_or, true}
 use Rattle.attrs.specs.Attributes.{Attributes}
 use Rattle.attrs.specs.Facts.{attributes_of}
-use Rattle.attrs.specs.Moment.{first_second}
 use Rattle.attrs.specs.declared.facts.AppFacts.{AppFacts}
 use Rattle.attrs.specs.declared.facts.RequestFacts.{RequestFacts}
 use Rattle.command_line.specs.declared.told.ToldApp.{ToldApp}
@@ -32,15 +30,14 @@ request_facts told = record {
 }
 
 abbrev pub moment : ToldApp → ℤ
-moment told = pos (first_second + 86400 * told.today)
+moment told = told.moment
 
 -- in a bucket of its own, or else where its cohort puts it
 abbrev pub placed : Option ℕ → Attributes → Attributes
 placed None a = a
 placed (Some bucket) a = record a { context = record a.context { bucket = bucket } }
 
--- the attributes of the app that the words tell of, in its bucket: it asks for an update at the
--- first second of a day
+-- the attributes of the app that the words tell of, in its bucket: it asks for an update
 abbrev pub attributes_told : ToldApp → (bucket : Option ℕ) → Attributes
 attributes_told told bucket =
     placed bucket (attributes_of (app_facts told) (request_facts told) (moment told))

@@ -74,7 +74,7 @@ log = flag (codes "log")
 -- what is told of an app that asks
 abbrev pub told : List Rule
 told = version ∷ attr ∷ flag (codes "ping") ∷ flag (codes "event") ∷ option (codes "today")
-    ∷ option (codes "installed") ∷ []
+    ∷ option (codes "at") ∷ option (codes "installed") ∷ []
 
 -- ---- commands
 

@@ -1,6 +1,7 @@
 pub mod Grammar
 pub mod Values
 pub mod Day
+pub mod Seconds
 pub mod Apps
 pub mod AppOptions
 pub mod Misfits

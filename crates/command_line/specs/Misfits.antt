@@ -3,9 +3,10 @@
 -- nothing.
 use Rattle.std.specs.Prelude.{List, Option, Some, None, codes}
 use Rattle.clap.specs.Words.{Row, Text, first_of}
-use Rattle.command_line.specs.AppOptions.{LacksAttributes, LacksInstalled, LacksPlace, LacksToday}
+use Rattle.command_line.specs.AppOptions.{LacksAttributes, LacksInstalled, LacksPlace}
 use Rattle.command_line.specs.AppOptions.{LacksTold, TellsOneClient, given, value_in}
 use Rattle.command_line.specs.ReportWords.{IsReportMisfit}
+use Rattle.command_line.specs.Seconds.{LacksMoment}
 use Rattle.command_line.specs.Values.{LacksArrays, LacksText}
 use Rattle.command_line.specs.Words.{WritesOver, verb_named}
 use Rattle.command_line.specs.declared.option_misfit.OptionMisfit.{OptionMisfit}
@@ -16,7 +17,7 @@ use Rattle.command_line.specs.declared.verb.Verb.TheVariants as verb
 -- of `simulate`
 abbrev pub IsSimulationMisfit : List Row → OptionMisfit → Type 0
 IsSimulationMisfit rows misfit.Manifest = LacksText (codes "MANIFEST") rows
-IsSimulationMisfit rows misfit.Today = LacksToday (first_of (codes "today") rows)
+IsSimulationMisfit rows (misfit.Moment wrong) = LacksMoment rows wrong
 IsSimulationMisfit rows misfit.Installed = LacksInstalled (first_of (codes "installed") rows)
 IsSimulationMisfit rows misfit.Attributes = LacksAttributes rows
 IsSimulationMisfit rows misfit.OneClient = TellsOneClient rows
@@ -30,7 +31,7 @@ cohort_in rows = value_in (given rows) (codes "cohort=")
 -- of `run`; nothing but a value is missing where each option is well written
 abbrev pub IsRunMisfit : List Row → OptionMisfit → Type 0
 IsRunMisfit rows misfit.Arrays = LacksArrays rows
-IsRunMisfit rows misfit.Today = LacksToday (first_of (codes "today") rows)
+IsRunMisfit rows (misfit.Moment wrong) = LacksMoment rows wrong
 IsRunMisfit rows misfit.Installed = LacksInstalled (first_of (codes "installed") rows)
 IsRunMisfit rows misfit.Attributes = LacksAttributes rows
 IsRunMisfit rows misfit.Bucket = LacksPlace rows (cohort_in rows)

@@ -1,4 +1,5 @@
-//! What the options say of the app that asks: its attributes, its bucket and its days.
+//! What the options say of the app that asks: its attributes, its bucket, and the day of its
+//! installation.
 
 ghost use Rattle.std.specs.Prelude.{◌≡◌, ◌≤◌, Err, IfNone, IfOk, IfSome, None, OnErr, Some};
 ghost use Rattle.std.specs.Prelude.{codes, length, map};
@@ -7,17 +8,16 @@ ghost use Rattle.attrs.specs.Bucket.{cohort_bucket};
 ghost use Rattle.clap.specs.Words.{first_of, found_of, rows_of};
 ghost use Rattle.command_line.specs.AppOptions as specs;
 ghost use Rattle.command_line.specs.Day.{day_in};
+ghost use Rattle.command_line.specs.Seconds.{HasMoment};
 ghost use Rattle.command_line.specs.Values.{HasFlag};
 
 use crate::day::day_in;
 use crate::options::{bucket_of, flag_of, optional_text};
 use crate::request::NoRequest;
+use crate::second::moment_of;
 use crate::told::ToldApp;
-use attrs::{Bucket, cohort_bucket};
+use attrs::{Bucket, Moment, cohort_bucket};
 use clap::ArgMatches;
-
-/// The last day that a moment can have, 9999-12-31.
-const LAST_DAY: u32 = 2919382;
 
 /// The last day that an app can be installed on: the next number stands for an unknown one.
 const LAST_INSTALLED: u32 = 4294967294;
@@ -27,40 +27,41 @@ pub fn told_of<'a>(found: &ArgMatches<'a>) -> Result<ToldApp<'a>, NoRequest>
     ensures given { IfOk result (specs.HasTold (rows_of (found_of found.now))) }
     ensures lacking { OnErr result (specs.LacksTold (rows_of (found_of found.now))) }
 {
-    let today = today_of(found)?;
+    let Ok(moment) = moment_of(found) else {
+        return Err(NoRequest::Wrong);
+    };
     let installed = installed_of(found)?;
-    match told_on(found, today, installed) {
+    match told_at(found, &moment, installed) {
         Some(told) => Ok(told),
         None => Err(NoRequest::Wrong),
     }
 }
 
-/// The app of these days, where each text gives one of the attributes, and none is given twice.
-pub fn told_on<'a>(
+/// The app at this moment, of this day of its installation, where each text gives one of the
+/// attributes, and none is given twice.
+pub fn told_at<'a>(
     found: &ArgMatches<'a>,
-    today: u32,
+    moment: &Moment,
     installed: Option<u32>,
 ) -> Option<ToldApp<'a>>
-    requires { today ≤ 2919382 }
     ensures given { IfSome result (λ told.
-        specs.IsToday (first_of (codes "today") (rows_of (found_of found.now))) today
+        HasMoment (rows_of (found_of found.now)) moment.now
         → specs.IsInstallDay (first_of (codes "installed") (rows_of (found_of found.now))) installed
         → specs.HasTold (rows_of (found_of found.now)) told) }
     ensures lacking { IfNone result (specs.LacksAttributes (rows_of (found_of found.now))) }
 {
-    let told = described(found, today, installed);
+    let told = described(found, moment, installed);
     let given = count_given(found);
     let counted = count_attributes(&told);
     if given == counted { Some(told) } else { None }
 }
 
-// The app of these days, with the first text of each attribute.
-fn described<'a>(found: &ArgMatches<'a>, today: u32, installed: Option<u32>) -> ToldApp<'a>
-    requires { today ≤ 2919382 }
+// The app of this moment and day, with the first text of each attribute.
+fn described<'a>(found: &ArgMatches<'a>, moment: &Moment, installed: Option<u32>) -> ToldApp<'a>
     ensures attributes { specs.HasAttributes (rows_of (found_of found.now)) result }
     ensures ping { HasFlag (codes "ping") (rows_of (found_of found.now)) result.ping }
     ensures event { HasFlag (codes "event") (rows_of (found_of found.now)) result.event }
-    ensures today { result.today ≡ today }
+    ensures moment { result.moment ≡ moment.now }
     ensures installed { result.installed ≡ installed }
 {
     ToldApp {
@@ -73,7 +74,7 @@ fn described<'a>(found: &ArgMatches<'a>, today: u32, installed: Option<u32>) -> 
         platform: attribute_of(found, "platform="),
         ping: flag_of(found, "ping"),
         event: flag_of(found, "event"),
-        today,
+        moment: *moment,
         installed,
     }
 }
@@ -138,29 +139,7 @@ fn value_of<'a>(text: &'a str, name: &str) -> Option<&'a str>
     text.strip_prefix(name)
 }
 
-// ---- days
-
-/// The day of the moment, 0 where the words tell none.
-pub fn today_of(found: &ArgMatches<'_>) -> Result<u32, NoRequest>
-    ensures given { IfOk result
-        (specs.IsToday (first_of (codes "today") (rows_of (found_of found.now)))) }
-    ensures limit { IfOk result (λ day. day ≤ 2919382) }
-    ensures lacking { OnErr result
-        (specs.LacksToday (first_of (codes "today") (rows_of (found_of found.now)))) }
-{
-    today_told(optional_text(found, "today"))
-}
-
-fn today_told(text: Option<&str>) -> Result<u32, NoRequest>
-    ensures given { IfOk result (specs.IsToday (option_copied text.entry)) }
-    ensures limit { IfOk result (λ day. day ≤ 2919382) }
-    ensures lacking { OnErr result (specs.LacksToday (option_copied text.entry)) }
-{
-    match text {
-        Some(text) => day_told(LAST_DAY, text),
-        None => Ok(0),
-    }
-}
+// ---- the day of the installation
 
 /// The day of the installation, where the words tell one.
 pub fn installed_of(found: &ArgMatches<'_>) -> Result<Option<u32>, NoRequest>

@@ -202,6 +202,15 @@ pub fn today_option<'a>(alloc: Global) -> Arg<'a>
     text_option(alloc, "today", "DAY", help)
 }
 
+/// `--at TIME`.
+pub fn at_option<'a>(alloc: Global) -> Arg<'a>
+    ensures rule { rule_of result ≡ grammar.option (codes "at") }
+    ensures local { result.global ≡ false }
+{
+    let help = "Moment in place of --today, as 2026-12-01T03:00:00Z, or a Unix second";
+    text_option(alloc, "at", "TIME", help)
+}
+
 /// `--installed DAY`.
 pub fn installed_option<'a>(alloc: Global) -> Arg<'a>
     ensures rule { rule_of result ≡ grammar.option (codes "installed") }

@@ -6,7 +6,7 @@
 // How words are read. `grammar` says to `clap` which commands there are, with the arguments and
 // options of each, and `clap` takes the words by it, or finds their first fault. What it gives are
 // texts by their names; `words` makes a request of them, command by command, and reads the texts of
-// `--arrays`, `--attr`, `--today` and `--installed`, which the grammar leaves as they are.
+// `--arrays`, `--attr`, `--today`, `--at` and `--installed`, which the grammar leaves as they are.
 
 mod app_options;
 mod arguments;
@@ -21,6 +21,7 @@ mod program_words;
 mod report_command;
 mod report_words;
 mod request;
+mod second;
 mod server_commands;
 mod server_words;
 mod simulate_words;
@@ -29,7 +30,7 @@ mod verb;
 mod words;
 
 pub use fault::WordsFault;
-pub use option_misfit::OptionMisfit;
+pub use option_misfit::{MomentMisfit, OptionMisfit};
 pub use request::{AskedReport, AskedRun, AskedSimulation, CommandRequest, DeclaredShape, Plan};
 pub use told::ToldApp;
 pub use words::read_words;

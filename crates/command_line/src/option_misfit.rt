@@ -8,10 +8,11 @@ ghost use Rattle.command_line.specs.ReportWords.{IsReportMisfit};
 ghost use Rattle.command_line.specs.Values.{LacksArrays};
 ghost use Rattle.command_line.specs.Words.{IsNothingAsked, VerbAsksNothing};
 
-use crate::app_options::{installed_of, place_of, today_of, told_on};
+use crate::app_options::{installed_of, place_of, told_at};
 use crate::options::arrays_of;
-use crate::report_words::{NoReport, report_of};
+use crate::report_words::report_of;
 use crate::request::NoRequest;
+use crate::second::moment_of;
 use crate::simulate_words::simulation_of;
 use crate::verb::{Verb, verb_named};
 use clap::ArgMatches;
@@ -23,8 +24,8 @@ use thiserror::Error;
 pub enum OptionMisfit {
     #[error("'--arrays' wants name:width:length, or name:64:length:quota, joined by commas")]
     Arrays,
-    #[error("'--today' wants a day from 0 to 2919382, or a date from 2007-01-01 to 9999-12-31")]
-    Today,
+    #[error("{0}")]
+    Moment(MomentMisfit),
     #[error("'--installed' wants a day from 0 to 4294967294, or a date from 2007-01-01 on")]
     Installed,
     #[error("'--attr' wants NAME=TEXT: appid, brand, ap, lang, cohort or platform, each once")]
@@ -43,6 +44,26 @@ pub enum OptionMisfit {
     Bucket,
     #[error("a value that the command requires is missing, or out of its range")]
     Missing,
+}
+
+/// What is wrong with the options that tell a moment.
+#[derive(Clone, Copy, Debug, PartialEq, Eq, Error)]
+pub enum MomentMisfit {
+    #[error("'--today' wants a day from 0 to 2919382, or a date from 2007-01-01 to 9999-12-31")]
+    Today,
+    #[error("'--at' wants a time by RFC 3339, as 2026-12-01T03:00:00Z, or a Unix second")]
+    At,
+    #[error("'--at' and '--today' can't stand beside each other")]
+    Both,
+}
+
+/// Why words of which options may be ill-written ask for nothing.
+#[derive(Clone, Copy)]
+pub enum Unasked {
+    /// This option is ill-written.
+    Misfit(OptionMisfit),
+    /// Memory was refused.
+    Memory,
 }
 
 /// An option of the command that is ill-written, of words that ask for nothing: one of those that
@@ -85,8 +106,8 @@ fn report_misfit(alloc: Global, found: &ArgMatches<'_>) -> Option<OptionMisfit>
 {
     match report_of(alloc, found) {
         Ok(_asked) => unreachable!(),
-        Err(NoReport::Misfit(misfit)) => Some(misfit),
-        Err(NoReport::Memory) => None,
+        Err(Unasked::Misfit(misfit)) => Some(misfit),
+        Err(Unasked::Memory) => None,
     }
 }
 
@@ -105,13 +126,14 @@ fn told_misfit(found: &ArgMatches<'_>) -> Option<OptionMisfit>
     requires { ¬ LacksArrays (rows_of (found_of found.now)) }
     ensures { IfSome result (IsRunMisfit (rows_of (found_of found.now))) }
 {
-    let Ok(today) = today_of(found) else {
-        return Some(OptionMisfit::Today);
+    let moment = match moment_of(found) {
+        Ok(moment) => moment,
+        Err(misfit) => return Some(OptionMisfit::Moment(misfit)),
     };
     let Ok(installed) = installed_of(found) else {
         return Some(OptionMisfit::Installed);
     };
-    let Some(told) = told_on(found, today, installed) else {
+    let Some(told) = told_at(found, &moment, installed) else {
         return Some(OptionMisfit::Attributes);
     };
     match place_of(found, told.cohort) {

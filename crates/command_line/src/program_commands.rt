@@ -6,7 +6,7 @@ ghost use Rattle.clap.specs.declared.builder.command.Command.TheViews.{out-Comma
 ghost use Rattle.command_line.specs.Grammar as grammar;
 
 use crate::arguments::{
-    arrays_option, attr_option, bucket_option, command_of, file_argument, flag_option,
+    arrays_option, at_option, attr_option, bucket_option, command_of, file_argument, flag_option,
     installed_option, program_argument, releases_option, text_option, today_option, version_option,
 };
 use clap::Command;
@@ -113,6 +113,7 @@ pub fn run_command<'a>(alloc: Global) -> Result<Command<'a>, AllocError>
         flag_option(alloc, "ping", "The app sends a ping"),
         flag_option(alloc, "event", "The app sends an event"),
         today_option(alloc),
+        at_option(alloc),
         installed_option(alloc),
     ]?;
     let about = "Verify a program and run it for one app; prints `choice K after N instructions`";
@@ -138,6 +139,7 @@ pub fn simulate_command<'a>(alloc: Global) -> Result<Command<'a>, AllocError>
         flag_option(alloc, "ping", "The clients send a ping"),
         flag_option(alloc, "event", "The clients send an event"),
         today_option(alloc),
+        at_option(alloc),
         installed_option(alloc),
     ]?;
     let about = "Tell how many of the 10000 buckets get which release by a manifest";

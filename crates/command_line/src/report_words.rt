@@ -8,21 +8,13 @@ ghost use Rattle.command_line.specs.ReportWords.{LacksNamedTime, logs_told};
 ghost use Rattle.command_line.specs.ReportWords as specs;
 ghost use Rattle.command_line.specs.Words.{VerbAsks, VerbAsksNothing};
 
-use crate::option_misfit::OptionMisfit;
+use crate::option_misfit::{OptionMisfit, Unasked};
 use crate::options::{flag_of, optional_text};
 use crate::request::{AskedReport, CommandRequest, NoRequest};
 use crate::verb::Verb;
 use clap::ArgMatches;
 use moments::{NamedTime, moment_in};
 use std::alloc::{AllocError, Global};
-
-/// Why the words ask for no report.
-#[derive(Clone, Copy)]
-pub enum NoReport {
-    /// An option is ill-written.
-    Misfit(OptionMisfit),
-    Memory,
-}
 
 /// What `report` asks for.
 pub fn report_asked<'a>(
@@ -35,25 +27,25 @@ pub fn report_asked<'a>(
 {
     match report_of(alloc, found) {
         Ok(asked) => Ok(CommandRequest::Report(asked)),
-        Err(NoReport::Misfit(_)) => Err(NoRequest::Wrong),
-        Err(NoReport::Memory) => Err(NoRequest::Memory),
+        Err(Unasked::Misfit(_)) => Err(NoRequest::Wrong),
+        Err(Unasked::Memory) => Err(NoRequest::Memory),
     }
 }
 
 /// The report that the words ask for, or one of their options that are ill-written.
-pub fn report_of<'a>(alloc: Global, found: &ArgMatches<'a>) -> Result<AskedReport<'a>, NoReport>
+pub fn report_of<'a>(alloc: Global, found: &ArgMatches<'a>) -> Result<AskedReport<'a>, Unasked>
     ensures asked { IfOk result (AsksToReport (rows_of (found_of found.now))) }
-    ensures misfit { (misfit : OptionMisfit) → result ≡ Err (NoReport.Misfit misfit)
+    ensures misfit { (misfit : OptionMisfit) → result ≡ Err (Unasked.Misfit misfit)
         → IsReportMisfit (rows_of (found_of found.now)) misfit }
 {
     let Ok(since) = moment_of(found, "since") else {
-        return Err(NoReport::Misfit(OptionMisfit::Since));
+        return Err(Unasked::Misfit(OptionMisfit::Since));
     };
     let Ok(until) = moment_of(found, "until") else {
-        return Err(NoReport::Misfit(OptionMisfit::Until));
+        return Err(Unasked::Misfit(OptionMisfit::Until));
     };
     let Ok(logs) = logs_of(alloc, found) else {
-        return Err(NoReport::Memory);
+        return Err(Unasked::Memory);
     };
     Ok(AskedReport {
         logs,

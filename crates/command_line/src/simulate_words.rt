@@ -8,10 +8,11 @@ ghost use Rattle.command_line.specs.Misfits.{IsSimulationMisfit};
 ghost use Rattle.command_line.specs.Values.{HasText};
 ghost use Rattle.command_line.specs.Words.{AsksToSimulate, VerbAsks, VerbAsksNothing, WritesOver};
 
-use crate::app_options::{installed_of, today_of, told_on};
+use crate::app_options::{installed_of, told_at};
 use crate::option_misfit::OptionMisfit;
 use crate::options::optional_text;
 use crate::request::{AskedSimulation, CommandRequest, NoRequest};
+use crate::second::moment_of;
 use crate::told::ToldApp;
 use crate::verb::Verb;
 use clap::ArgMatches;
@@ -65,13 +66,14 @@ fn anyone_told<'a>(found: &ArgMatches<'a>) -> Result<ToldApp<'a>, OptionMisfit>
     ensures given { IfOk result (IsAnyones (rows_of (found_of found.now))) }
     ensures misfit { IfErr result (IsSimulationMisfit (rows_of (found_of found.now))) }
 {
-    let Ok(today) = today_of(found) else {
-        return Err(OptionMisfit::Today);
+    let moment = match moment_of(found) {
+        Ok(moment) => moment,
+        Err(misfit) => return Err(OptionMisfit::Moment(misfit)),
     };
     let Ok(installed) = installed_of(found) else {
         return Err(OptionMisfit::Installed);
     };
-    match told_on(found, today, installed) {
+    match told_at(found, &moment, installed) {
         Some(app) if is_untold(app.appid) && is_untold(app.cohort) => Ok(app),
         Some(_) => Err(OptionMisfit::OneClient),
         None => Err(OptionMisfit::Attributes),

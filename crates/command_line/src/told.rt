@@ -1,13 +1,13 @@
 //! What the words say of the app that asks.
 
-ghost use Rattle.std.specs.Prelude.{◌≡◌, ◌≤◌, [], IfOk};
+ghost use Rattle.std.specs.Prelude.{◌≡◌, [], IfOk};
 ghost use Rattle.std.specs.Option.{option_copied, unwrap_or};
 
 use attrs::{AppFacts, Attrs, Bucket, Moment, RequestFacts, Text};
 use std::alloc::{AllocError, Global};
 
-/// An app as the words tell of it: its texts, what it sends beside its call for an update, and its
-/// days from 2007-01-01 on. The day of the moment is at most 2919382, that of 9999-12-31.
+/// An app as the words tell of it: its texts, what it sends beside its call for an update, when it
+/// asks, and the day of its installation from 2007-01-01 on.
 #[derive(Clone, Copy)]
 pub struct ToldApp<'a> {
     pub appid: Option<&'a str>,
@@ -19,9 +19,8 @@ pub struct ToldApp<'a> {
     pub platform: Option<&'a str>,
     pub ping: bool,
     pub event: bool,
-    pub today: u32,
+    pub moment: Moment,
     pub installed: Option<u32>,
-    pub ghost in_time: { today ≤ 2919382 },
 }
 
 impl<'a> ToldApp<'a> {
@@ -58,11 +57,11 @@ impl<'a> ToldApp<'a> {
         })
     }
 
-    /// The first second of its day.
+    /// When it asks.
     pub fn moment(&self) -> Moment
         ensures { result ≡ specs.moment self.now }
     {
-        (1167609600 + 86400 * self.today as u64) as i64
+        self.moment
     }
 
     /// Its attributes, in this bucket, or with none in the one that its cohort names.
