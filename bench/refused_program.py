@@ -10,7 +10,7 @@ from refusing import Wrong, told
 PATIENCE = 60
 LINE = re.compile(r"refused ([A-Z]\d+ Memory(?: in --against)?)\n")
 # What `check` writes of a manifest that is accepted.
-WARNINGS = re.compile(r"(warning: .*\n)*")
+WARNINGS = re.compile(r"(warning [a-z-]+: .*\n)*")
 # How far `simulate` is.
 PROGRESS = re.compile(r"^simulated .*\n", re.M)
 # Bytes that stand in an OUT before a command.

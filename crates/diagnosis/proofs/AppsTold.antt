@@ -13,15 +13,16 @@ use Rattle.load.specs.declared.kept.KeptFile.TheVariants.{Whole}
 use Rattle.diagnosis.specs.Asked.{AddsApp, AddsRule}
 use Rattle.diagnosis.specs.Warned.{AsksApp, WarnsOfApps, app_rule, app_warnings}
 use Rattle.diagnosis.specs.Warned.WarnsOfApps.{no_app, next}
-use Rattle.warnings.specs.Asked.{room_left, rule_text}
+use Rattle.warnings.specs.Asked.{room_left, rule_warnings}
 use Rattle.warnings.specs.Asking.{RuleOfApp}
+use Rattle.warnings.specs.declared.warning.Warning.{Warning}
 
 -- ---- one app
 
 module _ (number room : ℕ) (app : GatheredApp) (source : ProgramSource)
     (same : source ≡ app.entry.source) where
   -- with a program
-  pub adds_warnings : (file old new : List ℕ) → source ≡ Program file
+  pub adds_warnings : (file : List ℕ) (old new : List Warning) → source ≡ Program file
       → new ≡ old ++ app_warnings number app.entry
       → AddsApp number room app old new room
   adds_warnings file old new is added = record {
@@ -32,11 +33,11 @@ module _ (number room : ℕ) (app : GatheredApp) (source : ProgramSource)
           (sym is ∙ same) (refl, refl);
       told_is = sym (append-nil _);
     };
-    text_is = added;
+    added_is = added;
   }
 
   -- with a rule
-  pub adds_asked : (file old between new : List ℕ) (left : ℕ) → source ≡ Rule file
+  pub adds_asked : (file : List ℕ) (old between new : List Warning) (left : ℕ) → source ≡ Rule file
       → between ≡ old ++ app_warnings number app.entry
       → AddsRule number room app between new left → AddsApp number room app old new left
   adds_asked file old between new left is first more = record {
@@ -47,7 +48,7 @@ module _ (number room : ℕ) (app : GatheredApp) (source : ProgramSource)
           (sym is ∙ same) more.asks;
       told_is = refl;
     };
-    text_is = more.text_is ∙ ap (λ t. t ++ more.asked) first
+    added_is = more.added_is ∙ ap (λ t. t ++ more.asked) first
         ∙ append_assoc old (app_warnings number app.entry) more.asked;
   }
 
@@ -60,18 +61,18 @@ same_asked asked app rule appid shape releases is =
     rw (← appid, ← shape, ← releases, ← is) refl
 
 pub added_rule : (number room : ℕ) (app : GatheredApp) (v : Vec ℕ Global) (bytes text : List ℕ)
-    (asked : RuleOfApp) (rule : List Statement) (old new : List ℕ) (left : ℕ)
+    (asked : RuleOfApp) (rule : List Statement) (old new : List Warning) (left : ℕ)
     → app.kept ≡ Whole v → bytes ≡ v.items → text ≡ bytes → IsUtf8 bytes
     → asked.appid ≡ app.entry.appid → asked.shape ≡ app.shape
     → asked.releases ≡ app.entry.releases → asked.rule ≡ rule
     → IsVerdict app.shape text (Ok rule)
-    → new ≡ old ++ rule_text number room asked → left ≡ room_left room asked
+    → new ≡ old ++ rule_warnings number room asked → left ≡ room_left room asked
     → AddsRule number room app old new left
 added_rule number room app v bytes text asked rule old new left kept lent same utf8 appid shape
     releases is verdict told room_is =
     let all = same_asked asked app rule appid shape releases is in
     record {
-      asked = rule_text number room (app_rule app rule);
+      asked = rule_warnings number room (app_rule app rule);
       asks = record {
         text = v;
         kept_is = kept;
@@ -83,7 +84,7 @@ added_rule number room app v bytes text asked rule old new left kept lent same u
         asked_is = refl;
         left_is = room_is ∙ ap (room_left room) all;
       };
-      text_is = told ∙ ap (λ (r : RuleOfApp). old ++ rule_text number room r) all;
+      added_is = told ∙ ap (λ (r : RuleOfApp). old ++ rule_warnings number room r) all;
     }
 
 -- ---- one more
@@ -100,20 +101,21 @@ none_left [] few = refl
 none_left (x ∷ xs) few = absurd (omega (arith, few))
 
 pub more_told : (number room left : ℕ) (all_apps apps : List GatheredApp) (app : GatheredApp)
-    (old new rest : List ℕ) (all : List ℕ → Type 0)
-    → ((more : List ℕ) → WarnsOfApps number room all_apps more → all (old ++ more))
+    (old new rest : List Warning) (all : List Warning → Type 0)
+    → ((more : List Warning) → WarnsOfApps number room all_apps more → all (old ++ more))
     → AddsApp number room app old new left → all_apps ≡ app ∷ apps
     → WarnsOfApps (number + 1) left apps rest → all (new ++ rest)
 more_told number room left all_apps apps app old new rest all so_far added apps_are later =
     let told : WarnsOfApps number room all_apps (added.told ++ rest) =
     rw apps_are (next added.warns later) in
-    subst all (sym (ap (λ t. t ++ rest) added.text_is ∙ append_assoc old added.told rest))
+    subst all (sym (ap (λ t. t ++ rest) added.added_is ∙ append_assoc old added.told rest))
     (so_far (added.told ++ rest) told)
 
 -- ---- all
 
-pub ended : (number room : ℕ) (apps : List GatheredApp) (text : List ℕ) (all : List ℕ → Type 0)
-    → ((more : List ℕ) → WarnsOfApps number room apps more → all (text ++ more))
+pub ended : (number room : ℕ) (apps : List GatheredApp) (text : List Warning)
+    (all : List Warning → Type 0)
+    → ((more : List Warning) → WarnsOfApps number room apps more → all (text ++ more))
     → apps ≡ [] → all text
 ended number room apps text all so_far no_apps =
     let told : WarnsOfApps number room apps [] = rw no_apps no_app in

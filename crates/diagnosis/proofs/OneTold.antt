@@ -30,8 +30,10 @@ use Rattle.diagnosis.specs.Unused.{unused_from}
 use Rattle.diagnosis.specs.Warned.{AsksApp, AsksRule, WarnsOf, WarnsOfApp, WarnsOfApps}
 use Rattle.diagnosis.specs.Warned.{app_rule, app_warnings}
 use Rattle.diagnosis.specs.Warned.WarnsOfApps.{no_app as none_told, next as next_told}
-use Rattle.warnings.specs.Asked.{all_room, room_left, rule_text}
+use Rattle.warnings.specs.Asked.{all_room, room_left, rule_warnings}
 use Rattle.warnings.specs.Asking.{RuleOfApp}
+use Rattle.warnings.specs.Warnings.{warnings_text}
+use Rattle.warnings.specs.declared.warning.Warning.{Warning}
 
 kept_whole : (most : ℕ) (given : Given) (v : Vec ℕ Global) → Keeps most given (Whole v)
     → given ≡ Some v.items
@@ -94,7 +96,8 @@ module _ (verdict : (s : AppShape) (text : Text) → RuleHasOneVerdict s text)
 
   -- what is asked of a rule, and the room behind it
   asked_once : (number room : ℕ) (from : ProgramSource) (a b : GatheredApp)
-      (asked other : List ℕ) (left also : ℕ) → AreAlike a b → IsKeptFrom (Some files) from a.kept
+      (asked other : List Warning) (left also : ℕ) → AreAlike a b
+      → IsKeptFrom (Some files) from a.kept
       → IsKeptFrom (Some files) from b.kept → AsksRule number room a asked left
       → AsksRule number room b other also → (asked ≡ other) × (left ≡ also)
   asked_once number room from a b asked other left also same h k p q =
@@ -104,12 +107,13 @@ module _ (verdict : (s : AppShape) (text : Text) → RuleHasOneVerdict s text)
       (subst (λ (t : List ℕ). IsTextOf t a.shape p.rule) bytes p.spelled) in
       let rules = same_rule a b p.rule q.rule same
       (one_rule q.text.items b.shape p.rule q.rule there q.spelled) in (
-        p.asked_is ∙ ap (λ (r : RuleOfApp). rule_text number room r) rules ∙ sym q.asked_is,
+        p.asked_is ∙ ap (λ (r : RuleOfApp). rule_warnings number room r) rules ∙ sym q.asked_is,
         p.left_is ∙ ap (λ (r : RuleOfApp). room_left room r) rules ∙ sym q.left_is,
       )
 
   source_once : (number room : ℕ) (from : ProgramSource) (a b : GatheredApp)
-      (asked other : List ℕ) (left also : ℕ) → AreAlike a b → IsKeptFrom (Some files) from a.kept
+      (asked other : List Warning) (left also : ℕ) → AreAlike a b
+      → IsKeptFrom (Some files) from a.kept
       → IsKeptFrom (Some files) from b.kept → AsksApp number room from a asked left
       → AsksApp number room from b other also → (asked ≡ other) × (left ≡ also)
   source_once number room (Program file) a b asked other left also same h k p q =
@@ -118,7 +122,7 @@ module _ (verdict : (s : AppShape) (text : Text) → RuleHasOneVerdict s text)
       asked_once number room (Rule file) a b asked other left also same h k p q
 
   module _ (directory : List CellArray) (numbers more : List ArrayNo) where
-    app_once : (number room : ℕ) (entry : AppEntry) (a b : GatheredApp) (told other : List ℕ)
+    app_once : (number room : ℕ) (entry : AppEntry) (a b : GatheredApp) (told other : List Warning)
         (left also : ℕ) → AreAlike a b
         → IsGatheredApp (Some files) directory numbers entry a
         → IsGatheredApp (Some files) directory more entry b → WarnsOfApp number room a told left
@@ -138,7 +142,7 @@ module _ (verdict : (s : AppShape) (text : Text) → RuleHasOneVerdict s text)
         )
 
     told_once : (number room : ℕ) (entries : List AppEntry) (apps others : List GatheredApp)
-        (programs also : List ShapedProgram) (told other : List ℕ)
+        (programs also : List ShapedProgram) (told other : List Warning)
         → AreGathered (Some files) directory numbers entries apps
         → AreGathered (Some files) directory more entries others → AreJudged apps programs
         → AreJudged others also → apps_of apps programs ≡ apps_of others also
@@ -187,11 +191,14 @@ module _ (verdict : (s : AppShape) (text : Text) → RuleHasOneVerdict s text)
       (subst (λ (m : Manifest).
       AreGathered (Some files) g.directory p.numbers m.apps g.apps.items) read of_g) in
       v.warnings_are
-      ∙ ap (λ t. unused_from 0 g.directory (apps_of g.apps.items programs) ++ t)
+      ∙ ap (λ (t : List Warning).
+      warnings_text (unused_from 0 g.directory (apps_of g.apps.items programs)) ++ warnings_text t)
       (told_once h.directory p.numbers q.numbers 1 all_room q.manifest.apps g.apps.items
       h.apps.items programs also v.told w.told there of_h judged_g judged_h same v.of_apps
       w.of_apps)
       ∙ ap (λ (d : List CellArray).
-      unused_from 0 d (apps_of g.apps.items programs) ++ w.told) directories
-      ∙ ap (λ (a : List AppRule). unused_from 0 h.directory a ++ w.told) same
+      warnings_text (unused_from 0 d (apps_of g.apps.items programs))
+      ++ warnings_text w.told) directories
+      ∙ ap (λ (a : List AppRule).
+      warnings_text (unused_from 0 h.directory a) ++ warnings_text w.told) same
       ∙ sym w.warnings_are

@@ -1,13 +1,17 @@
 -- Arrays that no program uses. A program knows an array by its number alone, in a wide load of the
 -- array or of one of its cells; so does that of a rule.
-use Rattle.std.specs.Prelude.{ℕ, ◌+◌, ℤ, pos, negsuc, List, [], ◌∷◌, ◌++◌, codes, decimal}
-use Rattle.std.specs.Prelude.{Bool, true, false, ◌==◌, Option, Some, None}
+use Rattle.std.specs.Prelude.{ℕ, ◌+◌, ℤ, pos, negsuc, List, [], ◌∷◌, ◌++◌}
+use Rattle.std.specs.Prelude.{Bool, true, false, not, ◌==◌, Option, Some, None}
 use Rattle.std.specs.List.{list_any}
 use Rattle.bpf_insn.specs.declared.insn.Insn.{Insn}
 use Rattle.bpf_insn.specs.declared.insn.Insn.TheVariants.{Wide}
 use Rattle.bpf_insn.specs.declared.operand.WideValue.TheVariants as wide
 use Rattle.cells.specs.declared.array.CellArray.{CellArray}
 use Rattle.ruleset.specs.Rules.{AppRule}
+use Rattle.warnings.specs.Warnings.{warned_if}
+use Rattle.warnings.specs.declared.warning.WarningPlace.TheVariants as place
+use Rattle.warnings.specs.declared.warning.Warning.{Warning}
+use Rattle.warnings.specs.declared.warning.WarningKind.TheVariants as kind
 
 abbrev pub is_number : ℤ → ℕ → Bool
 is_number (pos i) number = i == number
@@ -28,18 +32,13 @@ place_names number None = false
 abbrev pub app_names : ℕ → AppRule → Bool
 app_names number app = list_any (place_names number) app.program.code
 
-unfoldable pub unused_said : List ℕ
-unused_said = codes "no program uses it, and no rule\n"
+-- an array of this number, from 0, which is told from 1
+abbrev pub unused_warning : (used : Bool) → ℕ → List Warning
+unused_warning used number = warned_if (not used) (place.Array (number + 1)) kind.UnusedArray
 
-abbrev pub of_array : ℕ → List ℕ
-of_array number = codes "warning: array[" ++ decimal number ++ codes "]: "
-
-abbrev pub unused_line : Bool → ℕ → List ℕ
-unused_line true number = []
-unused_line false number = of_array (number + 1) ++ unused_said
-
--- of these arrays, the first of which has this number, from 0; they are told from 1
-abbrev pub unused_from : ℕ → List CellArray → List AppRule → List ℕ
+-- of these arrays, the first of which has this number, from 0
+abbrev pub unused_from : ℕ → List CellArray → List AppRule → List Warning
 unused_from number [] apps = []
 unused_from number (array ∷ others) apps =
-    unused_line (list_any (app_names number) apps) number ++ unused_from (number + 1) others apps
+    unused_warning (list_any (app_names number) apps) number
+    ++ unused_from (number + 1) others apps

@@ -13,13 +13,15 @@ use Rattle.load.specs.declared.gathering.Gathered.{Gathered}
 use Rattle.load.specs.declared.gathering.GatheredApp.{GatheredApp}
 use Rattle.load.specs.declared.kept.KeptFile.TheVariants.{Whole}
 use Rattle.diagnosis.specs.Unused.{unused_from}
-use Rattle.warnings.specs.Asked.{all_room, room_left, rule_text}
+use Rattle.warnings.specs.Asked.{all_room, room_left, rule_warnings}
 use Rattle.warnings.specs.Asking.{RuleOfApp}
 use Rattle.warnings.specs.Releases.{appid_warning, releases_from}
+use Rattle.warnings.specs.Warnings.{warnings_text}
+use Rattle.warnings.specs.declared.warning.Warning.{Warning}
 
 -- ---- the appid and the releases of an app
 
-unfoldable pub app_warnings : ℕ → AppEntry → List ℕ
+unfoldable pub app_warnings : ℕ → AppEntry → List Warning
 app_warnings number entry =
     appid_warning number entry.appid ++ releases_from number 1 entry.releases
 
@@ -34,39 +36,41 @@ app_rule app rule = record {
 }
 
 -- what is told of it, and how much room is left for what is asked of others
-pub record AsksRule (number room : ℕ) (app : GatheredApp) (asked : List ℕ) (left : ℕ) : Type 0
+pub record AsksRule (number room : ℕ) (app : GatheredApp) (asked : List Warning) (left : ℕ) : Type 0
   where
     pub text : Vec ℕ Global
     pub kept_is : app.kept ≡ Whole text
     pub rule : List Statement
     pub spelled : IsTextOf text.items app.shape rule
-    pub asked_is : asked ≡ rule_text number room (app_rule app rule)
+    pub asked_is : asked ≡ rule_warnings number room (app_rule app rule)
     pub left_is : left ≡ room_left room (app_rule app rule)
 
-abbrev pub AsksApp : (number room : ℕ) → ProgramSource → GatheredApp → List ℕ → (left : ℕ)
+abbrev pub AsksApp : (number room : ℕ) → ProgramSource → GatheredApp → List Warning → (left : ℕ)
     → Type 0
 AsksApp number room (Program file) app asked left = (asked ≡ []) × (left ≡ room)
 AsksApp number room (Rule file) app asked left = AsksRule number room app asked left
 
 -- of an app: its appid and its releases, and then its rule
-pub record WarnsOfApp (number room : ℕ) (app : GatheredApp) (told : List ℕ) (left : ℕ) : Type 0
+pub record WarnsOfApp (number room : ℕ) (app : GatheredApp) (told : List Warning) (left : ℕ)
+    : Type 0
   where
-    pub asked : List ℕ
+    pub asked : List Warning
     pub asks : AsksApp number room app.entry.source app asked left
     pub told_is : told ≡ app_warnings number app.entry ++ asked
 
 -- of these apps, the first of which has this number
-pub data WarnsOfApps : (number room : ℕ) → List GatheredApp → List ℕ → Type 0 where
+pub data WarnsOfApps : (number room : ℕ) → List GatheredApp → List Warning → Type 0 where
   no_app : {number room : ℕ} → WarnsOfApps number room [] []
   next : {number room left : ℕ} {app : GatheredApp} {apps : List GatheredApp}
-      {told rest : List ℕ} → WarnsOfApp number room app told left
+      {told rest : List Warning} → WarnsOfApp number room app told left
       → WarnsOfApps (number + 1) left apps rest
       → WarnsOfApps number room (app ∷ apps) (told ++ rest)
 
--- of the arrays, and of the apps
+-- the lines of those of the arrays, and of the apps
 pub record WarnsOf (g : Gathered) (programs : List ShapedProgram) (warnings : List ℕ) : Type 0
   where
-    pub told : List ℕ
+    pub told : List Warning
     pub of_apps : WarnsOfApps 1 all_room g.apps.items told
     pub warnings_are : warnings
-        ≡ unused_from 0 g.directory (apps_of g.apps.items programs) ++ told
+        ≡ warnings_text (unused_from 0 g.directory (apps_of g.apps.items programs))
+        ++ warnings_text told

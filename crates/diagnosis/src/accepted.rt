@@ -47,7 +47,7 @@ pub(crate) fn tell_accepted(
     let arrays = directory.arrays();
     let apps = supplied.as_slice();
     let text = tell_loaded(alloc, arrays, apps)?;
-    let warnings = tell_warnings(alloc, arrays, apps, told.as_str())?;
+    let warnings = tell_warnings(alloc, arrays, apps, told.as_slice())?;
     Ok(CheckedManifest { text, warnings })
 }
 

@@ -1,6 +1,6 @@
 //! What is told of an app and of its rule.
 
-ghost use Rattle.std.specs.Prelude.{◌≡◌, ◌++◌, IfOk, OnOk, string_bytes};
+ghost use Rattle.std.specs.Prelude.{◌≡◌, ◌++◌, IfOk, OnOk};
 ghost use Rattle.diagnosis.specs.Asked.{AddsApp, AddsRule};
 ghost use Rattle.diagnosis.specs.Warned.{app_warnings};
 
@@ -9,49 +9,51 @@ use manifest::{AppEntry, ProgramSource};
 use rule_lang::parse;
 use std::alloc::{AllocError, Global};
 use std::str;
-use warnings::{AskedRule, tell_appid, tell_releases, tell_rule};
+use warnings::{AskedRule, Warning, tell_appid, tell_releases, tell_rule};
 
-/// Lines on an app that is accepted: on its appid and its releases, and on its rule, if it has one;
-/// and the room that is left.
+/// Warnings on an app that is accepted: on its appid and its releases, and on its rule, if it has
+/// one; and the room that is left.
 pub(crate) fn tell_app(
     alloc: Global,
-    text: &mut String,
+    warnings: &mut Vec<Warning>,
     number: usize,
     room: u64,
     app: &GatheredApp,
 ) -> Result<u64, AllocError>
-    ensures { IfOk result (AddsApp number room app.now (string_bytes text.old)
-        (string_bytes text.new)) }
+    ensures { IfOk result (AddsApp number room app.now warnings.old.items warnings.new.items) }
 {
-    tell_entry(text, number, &app.entry)?;
+    tell_entry(warnings, number, &app.entry)?;
     match app.entry.source() {
         ProgramSource::Program(_) => Ok(room),
         ProgramSource::Rule(_) => {
-            let left = tell_text(alloc, text, number, room, app)?;
+            let left = tell_text(alloc, warnings, number, room, app)?;
             Ok(left)
         }
     }
 }
 
 #[tactic(auto, unfolding(crate::specs::Warned::app_warnings))]
-fn tell_entry(text: &mut String, number: usize, entry: &AppEntry) -> Result<(), AllocError>
+fn tell_entry(
+    warnings: &mut Vec<Warning>,
+    number: usize,
+    entry: &AppEntry,
+) -> Result<(), AllocError>
     ensures { OnOk result
-        (string_bytes text.new ≡ string_bytes text.old ++ app_warnings number entry.now) }
+        (warnings.new.items ≡ warnings.old.items ++ app_warnings number entry.now) }
 {
-    tell_appid(text, number, entry.appid())?;
-    tell_releases(text, number, entry.releases())
+    tell_appid(warnings, number, entry.appid())?;
+    tell_releases(warnings, number, entry.releases())
 }
 
 // Of an app that is accepted the rule's text is kept whole: were it not, nothing would be told.
 fn tell_text(
     alloc: Global,
-    text: &mut String,
+    warnings: &mut Vec<Warning>,
     number: usize,
     room: u64,
     app: &GatheredApp,
 ) -> Result<u64, AllocError>
-    ensures { IfOk result (AddsRule number room app.now (string_bytes text.old)
-        (string_bytes text.new)) }
+    ensures { IfOk result (AddsRule number room app.now warnings.old.items warnings.new.items) }
 {
     let KeptFile::Whole(bytes) = &app.kept else {
         return Err(AllocError);
@@ -68,6 +70,6 @@ fn tell_text(
         app.entry.releases(),
         rule.statements(),
     );
-    let left = tell_rule(alloc, text, number, &asked, room)?;
+    let left = tell_rule(alloc, warnings, number, &asked, room)?;
     Ok(left)
 }

@@ -31,11 +31,11 @@ pub struct Refused {
 /// comes last, where there is one), and then a line an app: `app APPID releases R slots S`. Lines
 /// are ended by a line feed.
 ///
-/// The warnings have a line for each array that no program uses, as `warning: array[2]: no program
-/// uses it, and no rule`. Then app by app they have one for each release whose version a later one
-/// has, too, by its four numbers, whose codebase doesn't end in `/`, or begins with neither
-/// `https://` nor `http://`: `warning: app[1].release[2].codebase: no / ends it, and a client joins
-/// it with a package's name`. Last come those of the app's rule (`tell_rule` of `warnings`).
+/// The warnings have a line for each array that no program uses, as `warning unused-array:
+/// array[2]: no program uses it, and no rule`. Then app by app they have one for an appid with a
+/// character that isn't printed, for each release whose version a later one has, too, by its four
+/// numbers, whose codebase doesn't end in `/`, or begins with neither `https://` nor `http://`. Last
+/// come those of the app's rule (`tell_rule` of `warnings`).
 ///
 /// Of one that is refused the reason begins with the path of a member and what is wanted there, in
 /// which tables of a list are numbered from 1:

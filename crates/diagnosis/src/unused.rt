@@ -1,6 +1,6 @@
 //! Which arrays no program uses.
 
-ghost use Rattle.std.specs.Prelude.{◌≡◌, ◌^◌, ◌<◌, ◌++◌, OnOk, string_bytes};
+ghost use Rattle.std.specs.Prelude.{◌≡◌, ◌^◌, ◌<◌, ◌++◌, OnOk};
 ghost use Rattle.std.specs.List.{list_any};
 ghost use Rattle.diagnosis.specs.Unused as specs;
 
@@ -9,7 +9,7 @@ use bpf_verify::Verified;
 use cells::CellArray;
 use ruleset::App;
 use std::alloc::AllocError;
-use std::fmt::Write;
+use warnings::{Warning, WarningKind, WarningPlace, warn_if};
 
 fn is_number(index: i32, number: usize) -> bool
     ensures { result ≡ specs.is_number index number }
@@ -78,45 +78,32 @@ fn apps_name(number: usize, apps: &[App]) -> bool
     false
 }
 
-#[tactic(auto, unfolding(crate::specs::Unused::unused_said))]
-fn unused_said() -> &'static str
-    ensures { result.now ≡ specs.unused_said }
-{
-    "no program uses it, and no rule\n"
-}
-
-fn tell_number(text: &mut String, number: usize) -> Result<(), AllocError>
-    ensures { OnOk result
-        (string_bytes text.new ≡ string_bytes text.old ++ specs.of_array number) }
-{
-    write!(text, "warning: array[{number}]: ")
-}
-
-fn tell_unless(text: &mut String, used: bool, number: usize) -> Result<(), AllocError>
+fn tell_unless(warnings: &mut Vec<Warning>, used: bool, number: usize) -> Result<(), AllocError>
     requires { number < 2 ^ 63 }
     ensures { OnOk result
-        (string_bytes text.new ≡ string_bytes text.old ++ specs.unused_line used number) }
+        (warnings.new.items ≡ warnings.old.items ++ specs.unused_warning used number) }
 {
-    if used {
-        return Ok(());
-    }
-    tell_number(text, number + 1)?;
-    text.push_str(unused_said())
+    warn_if(
+        warnings,
+        !used,
+        WarningPlace::Array(number + 1),
+        WarningKind::UnusedArray,
+    )
 }
 
-/// A line of each array that no program of these apps uses. Arrays are numbered from 1.
+/// A warning on each array that no program of these apps uses. Arrays are numbered from 1.
 pub(crate) fn tell_unused(
-    text: &mut String,
+    warnings: &mut Vec<Warning>,
     arrays: &[CellArray],
     apps: &[App],
 ) -> Result<(), AllocError>
-    ensures { OnOk result (string_bytes text.new
-        ≡ string_bytes text.old ++ specs.unused_from 0 arrays.now apps.now) }
+    ensures { OnOk result (warnings.new.items
+        ≡ warnings.old.items ++ specs.unused_from 0 arrays.now apps.now) }
 {
     let mut number = 0;
     let mut left = arrays;
     while let [_, others @ ..] = left {
-        tell_unless(text, apps_name(number, apps), number)?;
+        tell_unless(warnings, apps_name(number, apps), number)?;
         number += 1;
         left = others;
     }

@@ -2,7 +2,7 @@
 //! arrays `q`, of one cell with a quota, and `n`, of ten cells without.
 
 use crate::rules::{must, shape};
-use crate::warned::{manifest_of, releases_of};
+use crate::warned::{lines_of, manifest_of, releases_of};
 use cells::Shape;
 use releases::Release;
 use rule_lang::{Rule, parse};
@@ -18,62 +18,62 @@ const RELEASES: &str = "2.0.4 https://dl.example/, 3.0.0 https://dl.example/";
 const ROWS: &str = r#"
 - when version < 2.0.4 offer 1; / when version < 3.0.0 and bucket < 500 offer 2; / otherwise none;
 - when version < 2.0.4 offer 1; / otherwise none;
-warning: app[1].release[2]: no bucket gets it
+warning no-bucket: app[1].release[2]: no bucket gets it
 - when version < 3.0.0 offer 2; / otherwise none;
 - when bucket < 500 offer 1; / when version < 3.0.0 offer 2; / otherwise none;
-warning: app[1].release[1].version: in some bucket who has it may get it again
-warning: app[1].release[2].version: in some bucket who has it may get a lower one
+warning offered-again: app[1].release[1].version: in some bucket who has it may get it again
+warning offered-lower: app[1].release[2].version: in some bucket who has it may get a lower one
 - when bucket < 5 offer 1; / when bucket < 10 offer 2; / otherwise none;
-warning: app[1].rule: line 1: bucket < 5 is 0.05 percent of the bucket numbers: one percent is 100 of them
-warning: app[1].rule: line 2: bucket < 10 is 0.10 percent of the bucket numbers: one percent is 100 of them
-warning: app[1].release[1].version: in some bucket who has it may get it again
-warning: app[1].release[2].version: in some bucket who has it may get it again
-warning: app[1].release[2].version: in some bucket who has it may get a lower one
+warning few-buckets: app[1].rule: line 1: bucket < 5 is 0.05 percent of the bucket numbers: one percent is 100 of them
+warning few-buckets: app[1].rule: line 2: bucket < 10 is 0.10 percent of the bucket numbers: one percent is 100 of them
+warning offered-again: app[1].release[1].version: in some bucket who has it may get it again
+warning offered-again: app[1].release[2].version: in some bucket who has it may get it again
+warning offered-lower: app[1].release[2].version: in some bucket who has it may get a lower one
 - when bucket < 25000 offer 1; / when version < 3.0.0 offer 2; / otherwise none;
-warning: app[1].rule: line 1: bucket < 25000 is all of the bucket numbers: one percent is 100 of them
-warning: app[1].rule: line 2: this when is never reached
-warning: app[1].release[1].version: in some bucket who has it may get it again
-warning: app[1].release[2]: no bucket gets it
-warning: app[1].release[2].version: in some bucket who has it may get a lower one
+warning all-buckets: app[1].rule: line 1: bucket < 25000 is all of the bucket numbers: one percent is 100 of them
+warning never-reached: app[1].rule: line 2: this when is never reached
+warning offered-again: app[1].release[1].version: in some bucket who has it may get it again
+warning no-bucket: app[1].release[2]: no bucket gets it
+warning offered-lower: app[1].release[2].version: in some bucket who has it may get a lower one
 - when version < 2.0.4 offer 2; / when version == 2.0.4 and bucket == 9999 offer 1; / otherwise none;
-warning: app[1].release[1].version: in some bucket who has it may get it again
+warning offered-again: app[1].release[1].version: in some bucket who has it may get it again
 - when version < 4 offer 2; / # never so far / when version < 2.0.4 offer 1; / otherwise none;
-warning: app[1].rule: line 3: this when never holds
-warning: app[1].release[2].version: in some bucket who has it may get it again
+warning never-holds: app[1].rule: line 3: this when never holds
+warning offered-again: app[1].release[2].version: in some bucket who has it may get it again
 - when version < 2 or version >= 2 offer 1; / when bucket < 5 offer 2; / otherwise none;
-warning: app[1].rule: line 2: bucket < 5 is 0.05 percent of the bucket numbers: one percent is 100 of them
-warning: app[1].rule: line 2: this when is never reached
-warning: app[1].release[1].version: in some bucket who has it may get it again
-warning: app[1].release[2]: no bucket gets it
-warning: app[1].release[2].version: in some bucket who has it may get a lower one
+warning few-buckets: app[1].rule: line 2: bucket < 5 is 0.05 percent of the bucket numbers: one percent is 100 of them
+warning never-reached: app[1].rule: line 2: this when is never reached
+warning offered-again: app[1].release[1].version: in some bucket who has it may get it again
+warning no-bucket: app[1].release[2]: no bucket gets it
+warning offered-lower: app[1].release[2].version: in some bucket who has it may get a lower one
 - when version < 2 offer 1; / when version < 1 offer 2; / otherwise none;
-warning: app[1].rule: line 2: this when never holds
-warning: app[1].release[2]: no bucket gets it
+warning never-holds: app[1].rule: line 2: this when never holds
+warning no-bucket: app[1].release[2]: no bucket gets it
 - when version >= 1 and version < 2 offer 2; / otherwise none;
 - when version > 1 and version < 2 offer 2; / otherwise none;
 - when version == 1.2.3 offer 2; / otherwise none;
 - when version < 1 and version != 0 offer 2; / otherwise none;
 - when version > 3.0.0 offer 2; / otherwise none;
 - when version < 0 offer 2; / otherwise none;
-warning: app[1].rule: line 1: this when never holds
-warning: app[1].release[1]: no bucket gets it
-warning: app[1].release[2]: no bucket gets it
+warning never-holds: app[1].rule: line 1: this when never holds
+warning no-bucket: app[1].release[1]: no bucket gets it
+warning no-bucket: app[1].release[2]: no bucket gets it
 - when bucket >= 10000 offer 1; / when version < 3.0.0 offer 2; / otherwise none;
-warning: app[1].rule: line 1: this when never holds
+warning never-holds: app[1].rule: line 1: this when never holds
 - when version < 2.0.4 and bucket mod 4 == 3 offer 1; /
   when version < 3.0.0 and bucket mod 4 == 4 offer 2; / otherwise none;
-warning: app[1].rule: line 2: this when never holds
-warning: app[1].release[2]: no bucket gets it
+warning never-holds: app[1].rule: line 2: this when never holds
+warning no-bucket: app[1].release[2]: no bucket gets it
 - when today < 0 offer 1; / when installed > 4294967295 offer 2; / otherwise none;
-warning: app[1].rule: line 1: this when never holds
-warning: app[1].rule: line 2: this when never holds
-warning: app[1].release[1]: no bucket gets it
-warning: app[1].release[2]: no bucket gets it
+warning never-holds: app[1].rule: line 1: this when never holds
+warning never-holds: app[1].rule: line 2: this when never holds
+warning no-bucket: app[1].release[1]: no bucket gets it
+warning no-bucket: app[1].release[2]: no bucket gets it
 - when today > 2919382 offer 1; / when today == 2919383 offer 2; / otherwise none;
-warning: app[1].rule: line 1: this when never holds
-warning: app[1].rule: line 2: this when never holds
-warning: app[1].release[1]: no bucket gets it
-warning: app[1].release[2]: no bucket gets it
+warning never-holds: app[1].rule: line 1: this when never holds
+warning never-holds: app[1].rule: line 2: this when never holds
+warning no-bucket: app[1].release[1]: no bucket gets it
+warning no-bucket: app[1].release[2]: no bucket gets it
 - when version < 2.0.4 and today == 2919382 offer 1; /
   when version < 3.0.0 and installed == 4294967295 offer 2; / otherwise none;
 - when version < 2.0.4 and today >= 7273 offer 1; /
@@ -81,27 +81,27 @@ warning: app[1].release[2]: no bucket gets it
 - when version < 2.0.4 or not today >= 0 offer 1; /
   when not version >= 3 and installed != 7 offer 2; / otherwise none;
 - when version == 3.0.0 or version < 2.0.4 offer 1; / otherwise none;
-warning: app[1].release[2]: no bucket gets it
-warning: app[1].release[2].version: in some bucket who has it may get a lower one
+warning no-bucket: app[1].release[2]: no bucket gets it
+warning offered-lower: app[1].release[2].version: in some bucket who has it may get a lower one
 - count n[0]; / when version < 3.0.0 and take(q, 0) offer 2; / when version < 2.0.4 offer 1; / otherwise none;
 - when take(q, 0) offer 2; / when version < 2.0.4 offer 1; / otherwise none;
-warning: app[1].release[2].version: in some bucket who has it may get it again
+warning offered-again: app[1].release[2].version: in some bucket who has it may get it again
 - when flag ping offer 1; / when version < 3.0.0 and flag updatecheck offer 2; / otherwise none;
 - when bucket < 500 offer 1; / when bucket < 400 offer 2; / count n[0]; /
   when version < 3.0.0 offer 2; / when flag ping offer 1; / otherwise none;
-warning: app[1].rule: line 2: this when never holds
-warning: app[1].release[1].version: in some bucket who has it may get it again
-warning: app[1].release[2].version: in some bucket who has it may get a lower one
+warning never-holds: app[1].rule: line 2: this when never holds
+warning offered-again: app[1].release[1].version: in some bucket who has it may get it again
+warning offered-lower: app[1].release[2].version: in some bucket who has it may get a lower one
 - when version < 3.0.0 offer 1; / when version >= 3.0.0 offer 1; / when flag ping offer 2; /
   count n[0]; / when bucket < 500 offer 2; / otherwise none;
-warning: app[1].rule: line 3: this when is never reached
-warning: app[1].rule: line 5: this when is never reached
-warning: app[1].release[1].version: in some bucket who has it may get it again
-warning: app[1].release[2]: no bucket gets it
-warning: app[1].release[2].version: in some bucket who has it may get a lower one
+warning never-reached: app[1].rule: line 3: this when is never reached
+warning never-reached: app[1].rule: line 5: this when is never reached
+warning offered-again: app[1].release[1].version: in some bucket who has it may get it again
+warning no-bucket: app[1].release[2]: no bucket gets it
+warning offered-lower: app[1].release[2].version: in some bucket who has it may get a lower one
 - otherwise none;
-warning: app[1].release[1]: no bucket gets it
-warning: app[1].release[2]: no bucket gets it
+warning no-bucket: app[1].release[1]: no bucket gets it
+warning no-bucket: app[1].release[2]: no bucket gets it
 "#;
 
 /// The rule of a text. It has no clauses, so that no proof reads the texts of a test.
@@ -118,9 +118,9 @@ fn told_of_rule(
     room: u64,
 ) -> Option<(String, u64)> {
     let asked = AskedRule::of("x", shape, releases, rule.statements());
-    let mut told = String::new(alloc);
-    match tell_rule(alloc, &mut told, 1, &asked, room) {
-        Ok(left) => Some((told, left)),
+    let mut warnings = Vec::new(alloc);
+    match tell_rule(alloc, &mut warnings, 1, &asked, room) {
+        Ok(left) => Some((lines_of(alloc, warnings.as_slice()).ok()?, left)),
         Err(_) => None,
     }
 }
@@ -154,9 +154,9 @@ fn room_of(alloc: Global, room: u64) -> Result<(), Fail> {
     let (told, left) = told(alloc, rule, room)?;
     let told = format!(in alloc; "{left}: {told}")?;
     let want = if room < 15 {
-        "14: warning: app[1].rule: not asked which releases it gives, since that would take long"
+        "14: warning not-asked: app[1].rule: not asked which releases it gives, since that would take long"
     } else {
-        "1: warning: app[1].release[2]: no bucket gets it"
+        "1: warning no-bucket: app[1].release[2]: no bucket gets it"
     };
     must(rule, told.as_str(), want)
 }

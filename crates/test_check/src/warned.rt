@@ -5,21 +5,21 @@ use manifest::{Manifest, read_manifest};
 use releases::Release;
 use std::alloc::{AllocError, Global};
 use std::test::Fail;
-use warnings::{tell_appid, tell_releases};
+use warnings::{Warning, is_warning_name, push_warnings, some_counts, tell_appid, tell_releases};
 
 /// Each row: the versions and codebases of releases, and the warnings on them.
 const RELEASES: &str = r#"
 - 1.2 https://dl.example/, 2.0.4 http://dl.example/x/, 1.20 https://dl.example/
 - 1.2 https://dl.example/, 2.0.4 https://dl.example/, 1.2.0.0 https://dl.example/
-warning: app[1].release[1].version: a later release has it, too
+warning same-version: app[1].release[1].version: a later release has it, too
 - 1.2 https://dl.example/1.2, 2.0.4 https://dl.example/
-warning: app[1].release[1].codebase: no / ends it, and a client joins it with a package's name
+warning codebase-slash: app[1].release[1].codebase: no / ends it, and a client joins it with a package's name
 - 1.2 https://dl.example/, 2.0.4 htps://dl.example/
-warning: app[1].release[2].codebase: it begins with neither https:// nor http://
+warning codebase-scheme: app[1].release[2].codebase: it begins with neither https:// nor http://
 - 3 dl, 3.0 https://dl.example/
-warning: app[1].release[1].version: a later release has it, too
-warning: app[1].release[1].codebase: no / ends it, and a client joins it with a package's name
-warning: app[1].release[1].codebase: it begins with neither https:// nor http://
+warning same-version: app[1].release[1].version: a later release has it, too
+warning codebase-slash: app[1].release[1].codebase: no / ends it, and a client joins it with a package's name
+warning codebase-scheme: app[1].release[1].codebase: it begins with neither https:// nor http://
 "#;
 
 /// A package that is as good as any.
@@ -53,10 +53,17 @@ pub(crate) fn releases_of(manifest: &Manifest) -> Option<&[Release]> {
     Some(app.releases())
 }
 
+/// The lines of warnings.
+pub(crate) fn lines_of(alloc: Global, warnings: &[Warning]) -> Result<String, AllocError> {
+    let mut text = String::new(alloc);
+    push_warnings(&mut text, warnings)?;
+    Ok(text)
+}
+
 fn told_of_releases(alloc: Global, releases: &[Release]) -> Result<String, AllocError> {
-    let mut told = String::new(alloc);
-    tell_releases(&mut told, 1, releases)?;
-    Ok(told)
+    let mut warnings = Vec::new(alloc);
+    tell_releases(&mut warnings, 1, releases)?;
+    lines_of(alloc, warnings.as_slice())
 }
 
 fn check_releases(alloc: Global, row: &str) -> Result<(), Fail> {
@@ -81,18 +88,18 @@ const APPIDS: [(&str, &str); 4] = [
     ("{8a69d345-d564-463c-aff1-a69d9e530f96} \u{fc}", ""),
     (
         "x\n::add-mask::y",
-        "warning: app[3].appid: it has a character that isn't printed\n",
+        "warning unprinted-appid: app[3].appid: it has a character that isn't printed\n",
     ),
     (
         "\u{9b}31mx",
-        "warning: app[3].appid: it has a character that isn't printed\n",
+        "warning unprinted-appid: app[3].appid: it has a character that isn't printed\n",
     ),
 ];
 
 fn told_of_appid(alloc: Global, appid: &str) -> Result<String, AllocError> {
-    let mut told = String::new(alloc);
-    tell_appid(&mut told, 3, appid)?;
-    Ok(told)
+    let mut warnings = Vec::new(alloc);
+    tell_appid(&mut warnings, 3, appid)?;
+    lines_of(alloc, warnings.as_slice())
 }
 
 #[test]
@@ -100,5 +107,33 @@ fn appids(rt: HostRuntime) -> Result<(), Fail> {
     for (appid, want) in APPIDS {
         must(appid, told_of_appid(rt.alloc(), appid)?.as_str(), want)?;
     }
+    Ok(())
+}
+
+/// Names that are allowed, and whether one of the warnings on the releases below counts beside them.
+const ALLOWED: [(&[&str], bool); 5] = [
+    (&[], true),
+    (&["codebase-slash"], true),
+    (&["codebase-scheme", "same-version"], true),
+    (&["codebase-slash", "no-bucket", "codebase-scheme"], false),
+    (&["codebase"], true),
+];
+
+fn counts(alloc: Global, allowed: &[&str]) -> Result<bool, Fail> {
+    let manifest = manifest_of(alloc, "1 dl")?.ok_or("no manifest")?;
+    let releases = releases_of(&manifest).ok_or("no app")?;
+    let mut warnings = Vec::new(alloc);
+    tell_releases(&mut warnings, 1, releases)?;
+    Ok(some_counts(warnings.as_slice(), allowed))
+}
+
+#[test]
+fn allowed(rt: HostRuntime) -> Result<(), Fail> {
+    for (allowed, want) in ALLOWED {
+        assert_eq!(rt; counts(rt.alloc(), allowed)?, want);
+    }
+    assert!(rt; is_warning_name("never-holds") && is_warning_name("unused-array"));
+    assert!(rt; !is_warning_name("never") && !is_warning_name(""));
+    assert!(rt; !some_counts(&[], &[]));
     Ok(())
 }

@@ -1,7 +1,7 @@
 -- How many buckets a test holds for.
 use Rattle.std.proofs.Common.{◌≡◌, ℕ, zero, suc, ◌+◌, ◌-◌, ◌<◌, ◌≤◌, ◌%◌, [], Option, None, Some}
 use Rattle.std.proofs.Common.{Bool, true, false, cond, refl, sym, ap, subst, arith, inl, inr}
-use Rattle.std.specs.Prelude.{codes, if◌then◌else◌, min}
+use Rattle.std.specs.Prelude.{if◌then◌else◌, min}
 use Rattle.std.specs.Cmp.{nat_cmp_is}
 use Rattle.std.specs.List.{count_by, range_with_len}
 use Rattle.std.specs.Ordering.{nat_cmp}
@@ -12,10 +12,12 @@ use Rattle.attrs.specs.Attributes.{Attributes}
 use Rattle.rule_lang.specs.declared.test.Comparison.TheVariants.{Le, Lt}
 use Rattle.rule_lang.specs.declared.test.Test.TheVariants as test
 use Rattle.rule_lang.specs.Meaning.{allows, bucket_by}
-use Rattle.warnings.specs.Asked.{few_percent, is_above_all, is_few, part_words}
-use Rattle.warnings.specs.Asked.{rule_line}
+use Rattle.warnings.specs.Asked.{is_above_all, is_few}
 use Rattle.warnings.specs.Runs.{AlwaysHolds, IsSoOfTest, MayAsk, TestsAreSo, buckets_that}
 use Rattle.warnings.specs.Runs as so
+use Rattle.warnings.specs.Warnings.{warned, warned_if}
+use Rattle.warnings.specs.declared.warning.WarningPlace.TheVariants as place
+use Rattle.warnings.specs.declared.warning.WarningKind.TheVariants as kind
 
 -- ---- numbers
 
@@ -85,26 +87,26 @@ bucket_within a may (Some salt) = remainder_within _
 
 module _ (app line n : ℕ) (salt : Option ℕ) where
   below_few : is_few n ≡ true → IsSoOfTest app line (test.Bucket salt None Lt n)
-      (rule_line app line (part_words (codes "<") n (few_percent n)))
+      (warned (place.Line app line) (kind.FewBuckets false n n))
   below_few is =
       let some : 0 < n = grind arith in
       let few : n < 100 = grind arith in
       let all : n ≤ 10000 = omega arith in
       let same : buckets_that Lt n ≡ n = counted _ n 10000 (below n) all in
       subst (λ k. IsSoOfTest app line (test.Bucket salt None Lt n)
-      (rule_line app line (part_words (codes "<") n (few_percent k)))) same
+      (warned (place.Line app line) (kind.FewBuckets false n k))) same
       (so.IsSoOfTest.few_below salt n (subst (λ k. 0 < k) (sym same) some)
       (subst (λ k. k < 100) (sym same) few))
 
   up_to_few : is_few (n + 1) ≡ true → IsSoOfTest app line (test.Bucket salt None Le n)
-      (rule_line app line (part_words (codes "<=") n (few_percent (n + 1))))
+      (warned (place.Line app line) (kind.FewBuckets true n (n + 1)))
   up_to_few is =
       let some : 0 < n + 1 = grind arith in
       let few : n + 1 < 100 = grind arith in
       let all : n + 1 ≤ 10000 = omega arith in
       let same : buckets_that Le n ≡ n + 1 = counted _ (n + 1) 10000 (up_to n) all in
       subst (λ k. IsSoOfTest app line (test.Bucket salt None Le n)
-      (rule_line app line (part_words (codes "<=") n (few_percent k)))) same
+      (warned (place.Line app line) (kind.FewBuckets true n k))) same
       (so.IsSoOfTest.few_up_to salt n (subst (λ k. 0 < k) (sym same) some)
       (subst (λ k. k < 100) (sym same) few))
 
@@ -124,16 +126,16 @@ module _ (app line n : ℕ) (salt : Option ℕ) where
 
   below_so : (few all : Bool) → is_few n ≡ few → is_above_all n ≡ all
       → IsSoOfTest app line (test.Bucket salt None Lt n)
-      (if few then rule_line app line (part_words (codes "<") n (few_percent n))
-      else if all then rule_line app line (part_words (codes "<") n (codes "all")) else [])
+      (if few then warned (place.Line app line) (kind.FewBuckets false n n)
+      else warned_if all (place.Line app line) (kind.AllBuckets false n))
   below_so true all is past = below_few is
   below_so false true is past = so.IsSoOfTest.all_below salt n (below_all past)
   below_so false false is past = so.IsSoOfTest.nothing (test.Bucket salt None Lt n)
 
   up_to_so : (few all : Bool) → is_few (n + 1) ≡ few → is_above_all n ≡ all
       → IsSoOfTest app line (test.Bucket salt None Le n)
-      (if few then rule_line app line (part_words (codes "<=") n (few_percent (n + 1)))
-      else if all then rule_line app line (part_words (codes "<=") n (codes "all")) else [])
+      (if few then warned (place.Line app line) (kind.FewBuckets true n (n + 1))
+      else warned_if all (place.Line app line) (kind.AllBuckets true n))
   up_to_so true all is past = up_to_few is
   up_to_so false true is past = so.IsSoOfTest.all_up_to salt n (up_to_all past)
   up_to_so false false is past = so.IsSoOfTest.nothing (test.Bucket salt None Le n)

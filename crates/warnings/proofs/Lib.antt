@@ -15,3 +15,4 @@ pub mod Fresh
 pub mod So
 pub mod Counted
 pub mod Taken
+pub mod AllNamed

@@ -11,16 +11,18 @@ use Rattle.rule_lang.specs.declared.test.Test.{Test}
 use Rattle.warnings.specs.declared.possible.Asker.{Asker}
 use Rattle.warnings.specs.declared.possible.Asker.TheVariants.{AllAt, One}
 use Rattle.warnings.specs.declared.possible.Possible.{Possible}
-use Rattle.warnings.specs.Asked.{ungiven_line, when_line}
+use Rattle.warnings.specs.Asked.{ungiven_warning, when_warning}
 use Rattle.warnings.specs.Asking.{RuleOfApp, arrives, gets, in_some_bucket, may_end, may_give}
 use Rattle.warnings.specs.Asking.{someone, tests_for}
 use Rattle.warnings.specs.Course.{first_offer}
-use Rattle.warnings.specs.Releases.{line_where}
 use Rattle.warnings.specs.Runs.{IsNeverChosen, IsNeverPassed, IsSoOfRelease, IsSoOfVersion}
 use Rattle.warnings.specs.Runs.{IsSoOfWhen, MayAsk, MayGet, NeverHolds, ReleasesAreSo}
 use Rattle.warnings.specs.Runs.{VersionsAreSo, WhensAreSo}
 use Rattle.warnings.specs.Runs as so
 use Rattle.warnings.specs.Spots.{spots_of}
+use Rattle.warnings.specs.Warnings.{warned_if}
+use Rattle.warnings.specs.declared.warning.WarningPlace.TheVariants as the_place
+use Rattle.warnings.specs.declared.warning.WarningKind.{WarningKind}
 use Rattle.warnings.proofs.Buckets.{none_at, some_at}
 use Rattle.warnings.proofs.Comes.{AnswersAlike, IsOneOf, test_comes}
 use Rattle.warnings.proofs.Conditions.{TestComes}
@@ -106,7 +108,7 @@ module _ (r : RuleOfApp) (before rest : List Statement) (steps : List Step) (rel
   when_so : (app : ℕ) (ends reached : Bool)
       → someone r (spots_of r.rule) (may_end r before (When steps release)) ≡ ends
       → someone r (spots_of r.rule) (arrives r before) ≡ reached
-      → IsSoOfWhen app r before steps (when_line app ends reached steps)
+      → IsSoOfWhen app r before steps (when_warning app ends reached steps)
   when_so app true reached ends-is reached-is = so.IsSoOfWhen.nothing
   when_so app false true ends-is reached-is = so.IsSoOfWhen.unheld (held_never ends-is)
   when_so app false false ends-is reached-is = so.IsSoOfWhen.unreached (passed_never reached-is)
@@ -128,7 +130,7 @@ given_never r number some nobody release from a may events run =
 
 release_so : (app number : ℕ) (r : RuleOfApp) → 0 < number → (given : Bool)
     → someone r (spots_of r.rule) (may_give r number) ≡ given
-    → IsSoOfRelease app number r (ungiven_line given app number)
+    → IsSoOfRelease app number r (ungiven_warning given app number)
 release_so app number r some true is = so.IsSoOfRelease.nothing
 release_so app number r some false is =
     so.IsSoOfRelease.ungiven (given_never r number some is)
@@ -156,14 +158,15 @@ got_so r by version some =
       compares = w.holds;
     }
 
-version_so : (app number : ℕ) (r : RuleOfApp) (by : Comparison) (version said : List ℕ)
-    (got : Bool) → in_some_bucket r (gets r by version One) (Some version) ≡ got
-    → IsSoOfVersion app number r by version said (line_where got app number said)
-version_so app number r by version said false is = so.IsSoOfVersion.nothing
-version_so app number r by version said true is =
+version_so : (app number : ℕ) (r : RuleOfApp) (by : Comparison) (version : List ℕ)
+    (what : WarningKind) (got : Bool)
+    → in_some_bucket r (gets r by version One) (Some version) ≡ got
+    → IsSoOfVersion app number r by version what (warned_if got (the_place.Release app number) what)
+version_so app number r by version what false is = so.IsSoOfVersion.nothing
+version_so app number r by version what true is =
     so.IsSoOfVersion.got (got_so r by version is)
 
 pub versions_so : VersionsAreSo
-versions_so app number r by version said =
-    version_so app number r by version said
+versions_so app number r by version what =
+    version_so app number r by version what
     (in_some_bucket r (gets r by version One) (Some version)) refl

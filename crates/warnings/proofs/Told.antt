@@ -7,16 +7,17 @@ use Rattle.releases.specs.Release.{Release}
 use Rattle.rule_lang.specs.declared.rule.Statement.{Statement}
 use Rattle.rule_lang.specs.declared.rule.Statement.TheVariants.{Count, When}
 use Rattle.warnings.specs.declared.spot.Spot.{Spot}
-use Rattle.warnings.specs.Asked.{asked_from, marked_line, release_lines, statement_line}
-use Rattle.warnings.specs.Asked.{statements_from}
+use Rattle.warnings.specs.declared.warning.Warning.{Warning}
+use Rattle.warnings.specs.Asked.{asked_from, given_warnings, marked_warning}
+use Rattle.warnings.specs.Asked.{statement_warning, statements_from}
 use Rattle.warnings.specs.Asking.{RuleOfApp, may_give, someone}
 use Rattle.warnings.specs.Marks.{AreMarked, each_by, is_ended, is_reached}
 
 -- what is told of a statement goes by its marks
 marked_is : (app : ℕ) (r : RuleOfApp) (spots : List Spot) (before : List Statement) (st : Statement)
-    → marked_line app (is_ended r (someone r spots) before st)
+    → marked_warning app (is_ended r (someone r spots) before st)
     (is_reached r (someone r spots) before st) st
-    ≡ statement_line app r spots before st
+    ≡ statement_warning app r spots before st
 marked_is app r spots before (Count name index) = refl
 marked_is app r spots before (When steps release) = refl
 
@@ -28,9 +29,10 @@ abbrev behind : List Bool → List Bool
 behind [] = []
 behind (m ∷ ms) = ms
 
-module _ (app : ℕ) (r : RuleOfApp) (spots : List Spot) (first : List ℕ) where
+module _ (app : ℕ) (r : RuleOfApp) (spots : List Spot) (first : List Warning) where
   -- what is told of those that are left, by their marks, behind the text is what is told of all
-  pub record AreTold (left : List Statement) (reached ends : List Bool) (text : List ℕ) : Type 0
+  pub record AreTold (left : List Statement) (reached ends : List Bool) (text : List Warning)
+      : Type 0
     where
       pub before : List Statement
       pub told : text ++ statements_from app r spots before left
@@ -49,8 +51,8 @@ module _ (app : ℕ) (r : RuleOfApp) (spots : List Spot) (first : List ℕ) wher
 
   pub next_told : (left others : List Statement) (st : Statement)
       (reached ends reached_behind ends_behind : List Bool) (reach end : Bool)
-      (text new : List ℕ) → left ≡ st ∷ others → reached ≡ reach ∷ reached_behind
-      → ends ≡ end ∷ ends_behind → new ≡ text ++ marked_line app end reach st
+      (text new : List Warning) → left ≡ st ∷ others → reached ≡ reach ∷ reached_behind
+      → ends ≡ end ∷ ends_behind → new ≡ text ++ marked_warning app end reach st
       → AreTold left reached ends text → AreTold others reached_behind ends_behind new
   next_told left others st reached ends reached_behind ends_behind reach end text new stands
       reached_stand ends_stand is h =
@@ -65,11 +67,11 @@ module _ (app : ℕ) (r : RuleOfApp) (spots : List Spot) (first : List ℕ) wher
       let more = statements_from app r spots (h.before ++ st ∷ []) others in
       record {
         before = h.before ++ st ∷ [];
-        told = ap (λ (t : List ℕ). t ++ more)
-            (is ∙ ap (λ b. text ++ marked_line app b reach st) (ap head_of ending)
-            ∙ ap (λ b. text ++ marked_line app (of_ends h.before st) b st) (ap head_of reaches)
-            ∙ ap (λ (t : List ℕ). text ++ t) (marked_is app r spots h.before st))
-            ∙ append_assoc text (statement_line app r spots h.before st) more
+        told = ap (λ (t : List Warning). t ++ more)
+            (is ∙ ap (λ b. text ++ marked_warning app b reach st) (ap head_of ending)
+            ∙ ap (λ b. text ++ marked_warning app (of_ends h.before st) b st) (ap head_of reaches)
+            ∙ ap (λ (t : List Warning). text ++ t) (marked_is app r spots h.before st))
+            ∙ append_assoc text (statement_warning app r spots h.before st) more
             ∙ ap (λ (l : List Statement). text ++ statements_from app r spots h.before l)
             (sym stands)
             ∙ h.told;
@@ -77,7 +79,7 @@ module _ (app : ℕ) (r : RuleOfApp) (spots : List Spot) (first : List ℕ) wher
         ends_are = ap behind ending;
       }
 
-  pub all_told : (left : List Statement) (reached ends : List Bool) (text : List ℕ)
+  pub all_told : (left : List Statement) (reached ends : List Bool) (text : List Warning)
       → left ≡ [] → AreTold left reached ends text
       → text ≡ first ++ statements_from app r spots [] r.rule
   all_told left reached ends text none h =
@@ -106,16 +108,17 @@ none_left (x ∷ xs) few = absurd (omega (arith, few))
 -- ---- releases
 
 pub next_release : (app number : ℕ) (r : RuleOfApp) (spots : List Spot) (left : List Release)
-    (x : Release) (given : Bool) (first old new : List ℕ) → 0 < length left → x ≡ get_or left 0 x
+    (x : Release) (given : Bool) (first old new : List Warning) → 0 < length left
+    → x ≡ get_or left 0 x
     → given ≡ someone r spots (may_give r number)
     → old ++ asked_from app number r spots left ≡ first
-    → new ≡ old ++ release_lines app number r given x
+    → new ≡ old ++ given_warnings app number r given x
     → new ++ asked_from app (number + 1) r spots (take (length left - 1) (drop 1 left)) ≡ first
 next_release app number r spots left x given first old new some is gives before told =
     let rest = take (length left - 1) (drop 1 left) in
     let later = asked_from app (number + 1) r spots rest in
-    ap (λ t. t ++ later) (told ∙ ap (λ g. old ++ release_lines app number r g x) gives)
-    ∙ append_assoc old (release_lines app number r (someone r spots (may_give r number)) x) later
+    ap (λ t. t ++ later) (told ∙ ap (λ g. old ++ given_warnings app number r g x) gives)
+    ∙ append_assoc old (given_warnings app number r (someone r spots (may_give r number)) x) later
     ∙ ap (λ l. old ++ asked_from app number r spots l) (sym (first_rest left x some is))
     ∙ before
 

@@ -1,3 +1,5 @@
+pub mod Warnings
+pub mod Names
 pub mod Releases
 pub mod Spots
 pub mod Possible

@@ -1,6 +1,6 @@
 -- What the warnings on a rule say of its runs, by what rules mean.
 use Rattle.std.specs.Prelude.{◌≡◌, ℕ, ◌<◌, ◌≤◌, ℤ, List, [], ◌∷◌, ◌++◌, Option, Some, None, true}
-use Rattle.std.specs.Prelude.{All, codes}
+use Rattle.std.specs.Prelude.{All, false}
 use Rattle.std.specs.List.{count_by, range_with_len}
 use Rattle.std.specs.Ordering.{nat_cmp}
 use Rattle.attrs.specs.Attributes.{Attributes, plain}
@@ -16,12 +16,15 @@ use Rattle.rule_lang.specs.declared.test.Comparison.TheVariants.{Le, Lt}
 use Rattle.rule_lang.specs.declared.test.Test.{Test}
 use Rattle.rule_lang.specs.declared.test.Test.TheVariants as test
 use Rattle.rule_lang.specs.Meaning.{Behaviour, HasTrace, allows, behaviour, test_then}
-use Rattle.warnings.specs.Asked.{few_percent, first_line, got_line, of_release}
-use Rattle.warnings.specs.Asked.{part_words, rule_line, statement_line, test_line}
-use Rattle.warnings.specs.Asked.{ungiven_line, ungiven_said, unheld_said, unreached_said}
+use Rattle.warnings.specs.Asked.{first_line, got_warning, statement_warning, test_warning}
+use Rattle.warnings.specs.Asked.{ungiven_warning}
 use Rattle.warnings.specs.Asking.{RuleOfApp, all_buckets, choice_compares, may_give, someone}
-use Rattle.warnings.specs.Releases.{warned_app, warned_member}
 use Rattle.warnings.specs.Spots.{spots_of}
+use Rattle.warnings.specs.Warnings.{warned}
+use Rattle.warnings.specs.declared.warning.WarningPlace.TheVariants as place
+use Rattle.warnings.specs.declared.warning.Warning.{Warning}
+use Rattle.warnings.specs.declared.warning.WarningKind.{WarningKind}
+use Rattle.warnings.specs.declared.warning.WarningKind.TheVariants as kind
 
 -- an app that a server may be asked for: its context is in the ranges of that type, and its day is
 -- that of a moment
@@ -77,64 +80,67 @@ pub record MayGet (r : RuleOfApp) (by : Comparison) (version : List ℕ) : Type 
       choice
   pub compares : choice_compares by r.releases version choice ≡ true
 
--- ---- lines that are so
+-- ---- warnings that are so
 
--- the line says for how many buckets the test holds, or for how many of those under a salt, and
--- these are some, and fewer than one percent; or that it holds for all, and it always does
-pub data IsSoOfTest (app line : ℕ) : Test → List ℕ → Type 0 where
+-- it says for how many buckets the test holds, or for how many of those under a salt, and these are
+-- some, and fewer than one percent; or that it holds for all, and it always does
+pub data IsSoOfTest (app line : ℕ) : Test → List Warning → Type 0 where
   nothing : (t : Test) → IsSoOfTest app line t []
   few_below : (salt : Option ℕ) (n : ℕ) → 0 < buckets_that Lt n → buckets_that Lt n < 100
       → IsSoOfTest app line (test.Bucket salt None Lt n)
-      (rule_line app line (part_words (codes "<") n (few_percent (buckets_that Lt n))))
+      (warned (place.Line app line) (kind.FewBuckets false n (buckets_that Lt n)))
   few_up_to : (salt : Option ℕ) (n : ℕ) → 0 < buckets_that Le n → buckets_that Le n < 100
       → IsSoOfTest app line (test.Bucket salt None Le n)
-      (rule_line app line (part_words (codes "<=") n (few_percent (buckets_that Le n))))
+      (warned (place.Line app line) (kind.FewBuckets true n (buckets_that Le n)))
   all_below : (salt : Option ℕ) (n : ℕ) → AlwaysHolds (test.Bucket salt None Lt n)
       → IsSoOfTest app line (test.Bucket salt None Lt n)
-      (rule_line app line (part_words (codes "<") n (codes "all")))
+      (warned (place.Line app line) (kind.AllBuckets false n))
   all_up_to : (salt : Option ℕ) (n : ℕ) → AlwaysHolds (test.Bucket salt None Le n)
       → IsSoOfTest app line (test.Bucket salt None Le n)
-      (rule_line app line (part_words (codes "<=") n (codes "all")))
+      (warned (place.Line app line) (kind.AllBuckets true n))
 
 pub data IsSoOfWhen (app : ℕ) (r : RuleOfApp) (before : List Statement) (steps : List Step)
-    : List ℕ → Type 0 where
+    : List Warning → Type 0 where
   nothing : IsSoOfWhen app r before steps []
   unreached : IsNeverPassed r.shape before
-      → IsSoOfWhen app r before steps (rule_line app (first_line steps) unreached_said)
+      → IsSoOfWhen app r before steps
+      (warned (place.Line app (first_line steps)) kind.NeverReached)
   unheld : NeverHolds r.shape before steps
-      → IsSoOfWhen app r before steps (rule_line app (first_line steps) unheld_said)
+      → IsSoOfWhen app r before steps
+      (warned (place.Line app (first_line steps)) kind.NeverHolds)
 
-pub data IsSoOfRelease (app number : ℕ) (r : RuleOfApp) : List ℕ → Type 0 where
+pub data IsSoOfRelease (app number : ℕ) (r : RuleOfApp) : List Warning → Type 0 where
   nothing : IsSoOfRelease app number r []
   ungiven : ((release : ℕ) → number ≤ release → IsNeverChosen r.shape r.rule release)
-      → IsSoOfRelease app number r (warned_app app ++ of_release number ++ ungiven_said)
+      → IsSoOfRelease app number r (warned (place.Release app number) kind.NoBucket)
 
-pub data IsSoOfVersion (app number : ℕ) (r : RuleOfApp) (by : Comparison) (version said : List ℕ)
-    : List ℕ → Type 0 where
-  nothing : IsSoOfVersion app number r by version said []
+pub data IsSoOfVersion (app number : ℕ) (r : RuleOfApp) (by : Comparison) (version : List ℕ)
+    (what : WarningKind) : List Warning → Type 0 where
+  nothing : IsSoOfVersion app number r by version what []
   got : MayGet r by version
-      → IsSoOfVersion app number r by version said (warned_member app number ++ said)
+      → IsSoOfVersion app number r by version what (warned (place.Release app number) what)
 
 -- ---- the laws
 
 -- what is told of a test of a rule is so
 abbrev pub TestsAreSo : Type 0
-TestsAreSo = (app line : ℕ) (t : Test) → IsSoOfTest app line t (test_line app line t)
+TestsAreSo = (app line : ℕ) (t : Test) → IsSoOfTest app line t (test_warning app line t)
 
 -- what is told of a `when` of a rule is so
 abbrev pub WhensAreSo : Type 0
 WhensAreSo = (app : ℕ) (r : RuleOfApp) (before rest : List Statement) (steps : List Step)
     (release : ℕ) → r.rule ≡ before ++ When steps release ∷ rest
     → IsSoOfWhen app r before steps
-    (statement_line app r (spots_of r.rule) before (When steps release))
+    (statement_warning app r (spots_of r.rule) before (When steps release))
 
 -- what is told of a release that no bucket gets is so
 abbrev pub ReleasesAreSo : Type 0
 ReleasesAreSo = (app number : ℕ) (r : RuleOfApp) → 0 < number
     → IsSoOfRelease app number r
-    (ungiven_line (someone r (spots_of r.rule) (may_give r number)) app number)
+    (ungiven_warning (someone r (spots_of r.rule) (may_give r number)) app number)
 
 -- what is told of who has a version is so
 abbrev pub VersionsAreSo : Type 0
-VersionsAreSo = (app number : ℕ) (r : RuleOfApp) (by : Comparison) (version said : List ℕ)
-    → IsSoOfVersion app number r by version said (got_line app number r by version said)
+VersionsAreSo = (app number : ℕ) (r : RuleOfApp) (by : Comparison) (version : List ℕ)
+    (what : WarningKind)
+    → IsSoOfVersion app number r by version what (got_warning app number r by version what)

@@ -1,5 +1,7 @@
-//! Laws of the definitions: what is told of a rule is so. They are called by nothing.
+//! Laws of the definitions: what is told of a rule is so, and each warning has a name. They are
+//! called by nothing.
 
+ghost use Rattle.warnings.specs.Names.{AllAreNamed};
 ghost use Rattle.warnings.specs.Runs.{ReleasesAreSo, TestsAreSo, VersionsAreSo};
 ghost use Rattle.warnings.specs.Runs.{WhensAreSo};
 
@@ -12,4 +14,9 @@ pub fn warnings_are_so()
     ensures releases { ReleasesAreSo }
     ensures versions { VersionsAreSo }
     ensures tests { TestsAreSo }
+{}
+
+/// A law: the name of each kind of warning is one of those that are known.
+pub fn warnings_are_named()
+    ensures { AllAreNamed }
 {}

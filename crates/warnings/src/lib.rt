@@ -19,10 +19,13 @@
 // app that says no more, where each counter replies 0, since then each test is decided.
 //
 // A test of the bucket whose number is too small or too great to be meant so is read alone, and
-// asks nothing (`parts.rt`).
+// asks nothing (`parts.rt`); so is a take that stands before the version (`takes.rt`).
 //
-// That a line is so, whoever asks, is a law (`law.rt`): what is denied is done by no run, and what
-// is said to be is done by some.
+// A warning is a place and a kind (`warning.rt`), so that who runs a pipeline may count some and
+// not others by their names; its line is made of both (`line.rt`).
+//
+// That a warning on a rule is so, whoever asks, is a law (`law.rt`): what is denied is done by no
+// run, and what is said to be is done by some. Of a take no law says more than where it stands.
 
 mod appid;
 mod asking;
@@ -31,17 +34,24 @@ mod course;
 mod given;
 mod holding;
 mod law;
+mod line;
 mod marks;
+mod names;
 mod parts;
 mod possible;
 mod release;
 mod room;
 mod spot;
+mod takes;
 mod telling;
+mod warning;
 mod whens;
 
 pub use appid::tell_appid;
 pub use asking::AskedRule;
-pub use law::warnings_are_so;
+pub use law::{warnings_are_named, warnings_are_so};
+pub use line::{push_warning_text, push_warnings};
+pub use names::{is_warning_name, some_counts};
 pub use release::tell_releases;
 pub use telling::tell_rule;
+pub use warning::{Warning, WarningKind, WarningPlace, warn_if};

@@ -1,22 +1,14 @@
-//! What is told of the tests of a rule that hold for few of the 10,000 buckets, or whose number is
-//! above that. They are read, and the rule isn't asked for them.
+//! What is told of the tests of a rule: of those that hold for few of the 10,000 buckets, or whose
+//! number is above that, and of takes. They are read, and the rule isn't asked for them.
 
-ghost use Rattle.std.specs.Prelude.{◌≡◌, ◌++◌, OnOk, codes, string_bytes};
+ghost use Rattle.std.specs.Prelude.{◌≡◌, ◌++◌, OnOk};
 ghost use Rattle.warnings.specs.Asked as specs;
 
 use crate::asking::BUCKETS;
-use crate::release::tell_app;
-use crate::whens::tell_line;
+use crate::takes::tell_takes;
+use crate::warning::{Warning, WarningKind, WarningPlace, warn_if};
 use rule_lang::{Comparison, Statement, Step, Test};
 use std::alloc::AllocError;
-use std::fmt::Write;
-
-#[tactic(auto, unfolding(crate::specs::Asked::part_said))]
-fn part_said() -> &'static str
-    ensures { result.now ≡ specs.part_said }
-{
-    " of the bucket numbers: one percent is 100 of them\n"
-}
 
 fn is_few(buckets: u64) -> bool
     ensures { result ≡ specs.is_few buckets }
@@ -30,109 +22,94 @@ fn is_above_all(number: u32) -> bool
     number > BUCKETS as u32
 }
 
-fn tell_few(text: &mut String, sign: &str, number: u32, buckets: u64) -> Result<(), AllocError>
-    ensures { OnOk result (string_bytes text.new ≡ string_bytes text.old
-        ++ specs.part_words sign.now number (specs.few_percent buckets)) }
-{
-    let tenths = buckets / 10;
-    let hundredths = buckets % 10;
-    write!(
-        text,
-        "bucket {sign} {number} is 0.{tenths}{hundredths} percent"
-    )?;
-    text.push_str(part_said())
-}
-
-fn tell_all(text: &mut String, sign: &str, number: u32) -> Result<(), AllocError>
-    ensures { OnOk result (string_bytes text.new
-        ≡ string_bytes text.old ++ specs.part_words sign.now number (codes "all")) }
-{
-    write!(text, "bucket {sign} {number} is all")?;
-    text.push_str(part_said())
-}
-
 // The test by this sign and number holds for so many buckets.
 fn tell_part(
-    text: &mut String,
-    app: usize,
-    line: usize,
-    sign: &str,
+    warnings: &mut Vec<Warning>,
+    place: WarningPlace,
+    up_to: bool,
     number: u32,
     buckets: u64,
 ) -> Result<(), AllocError>
-    ensures { OnOk result (string_bytes text.new
-        ≡ string_bytes text.old ++ specs.part_line app line sign.now number buckets) }
+    ensures { OnOk result (warnings.new.items
+        ≡ warnings.old.items ++ specs.part_warning place up_to number buckets) }
 {
+    let few = WarningKind::FewBuckets {
+        up_to,
+        number,
+        buckets,
+    };
+    let all = WarningKind::AllBuckets { up_to, number };
     if is_few(buckets) {
-        tell_app(text, app)?;
-        tell_line(text, line)?;
-        tell_few(text, sign, number, buckets)
-    } else if is_above_all(number) {
-        tell_app(text, app)?;
-        tell_line(text, line)?;
-        tell_all(text, sign, number)
+        warn_if(warnings, true, place, few)
     } else {
-        Ok(())
+        warn_if(warnings, is_above_all(number), place, all)
     }
 }
 
-fn tell_test(text: &mut String, app: usize, line: usize, test: &Test) -> Result<(), AllocError>
+fn tell_test(
+    warnings: &mut Vec<Warning>,
+    app: usize,
+    line: usize,
+    test: &Test,
+) -> Result<(), AllocError>
     ensures { OnOk result
-        (string_bytes text.new ≡ string_bytes text.old ++ specs.test_line app line test.now) }
+        (warnings.new.items ≡ warnings.old.items ++ specs.test_warning app line test.now) }
 {
+    let place = WarningPlace::Line { app, line };
     match test {
         Test::Bucket {
             modulus: None,
             comparison: Comparison::Lt,
             number,
             ..
-        } => tell_part(text, app, line, "<", *number, *number as u64),
+        } => tell_part(warnings, place, false, *number, *number as u64),
         Test::Bucket {
             modulus: None,
             comparison: Comparison::Le,
             number,
             ..
-        } => tell_part(text, app, line, "<=", *number, *number as u64 + 1),
+        } => tell_part(warnings, place, true, *number, *number as u64 + 1),
         _ => Ok(()),
     }
 }
 
-fn tell_step(text: &mut String, app: usize, step: &Step) -> Result<(), AllocError>
+fn tell_step(warnings: &mut Vec<Warning>, app: usize, step: &Step) -> Result<(), AllocError>
     ensures { OnOk result
-        (string_bytes text.new ≡ string_bytes text.old ++ specs.parts_of_step app step.now) }
+        (warnings.new.items ≡ warnings.old.items ++ specs.parts_of_step app step.now) }
 {
     match step {
-        Step::Test { line, test } => tell_test(text, app, *line, test),
+        Step::Test { line, test } => tell_test(warnings, app, *line, test),
         _ => Ok(()),
     }
 }
 
-fn tell_steps(text: &mut String, app: usize, steps: &[Step]) -> Result<(), AllocError>
+fn tell_steps(warnings: &mut Vec<Warning>, app: usize, steps: &[Step]) -> Result<(), AllocError>
     ensures { OnOk result
-        (string_bytes text.new ≡ string_bytes text.old ++ specs.parts_of_steps app steps.now) }
+        (warnings.new.items ≡ warnings.old.items ++ specs.parts_of_steps app steps.now) }
 {
     let mut left = steps;
     while let [step, others @ ..] = left {
-        tell_step(text, app, step)?;
+        tell_step(warnings, app, step)?;
         left = others;
     }
     Ok(())
 }
 
-/// Lines on the tests of a rule that hold for few buckets, or whose number is above 10,000, in their
-/// order.
+/// Warnings on the tests of a rule that hold for few buckets, or whose number is above 10,000, and
+/// on takes before a test of the version: of one `when` after the other.
 pub(crate) fn tell_parts_of_rule(
-    text: &mut String,
+    warnings: &mut Vec<Warning>,
     app: usize,
     statements: &[Statement],
 ) -> Result<(), AllocError>
     ensures { OnOk result
-        (string_bytes text.new ≡ string_bytes text.old ++ specs.parts_of_rule app statements.now) }
+        (warnings.new.items ≡ warnings.old.items ++ specs.parts_of_rule app statements.now) }
 {
     let mut left = statements;
     while let [statement, others @ ..] = left {
         if let Statement::When { condition, .. } = statement {
-            tell_steps(text, app, condition.steps())?;
+            tell_steps(warnings, app, condition.steps())?;
+            tell_takes(warnings, app, condition.steps())?;
         }
         left = others;
     }

@@ -1,6 +1,6 @@
 //! What is told of an app's rule.
 
-ghost use Rattle.std.specs.Prelude.{◌≡◌, ◌++◌, OnOk, IfOk, string_bytes};
+ghost use Rattle.std.specs.Prelude.{◌≡◌, ◌++◌, OnOk, IfOk};
 ghost use Rattle.warnings.specs.Asked as specs;
 ghost use Rattle.warnings.specs.Asking.{rule_of};
 ghost use Rattle.warnings.specs.Spots as places;
@@ -9,44 +9,37 @@ use crate::asking::AskedRule;
 use crate::given::tell_all_releases;
 use crate::marks::marks_of;
 use crate::parts::tell_parts_of_rule;
-use crate::release::tell_app;
 use crate::room::room_behind;
 use crate::spot::{Spot, spots_of};
+use crate::warning::{Warning, WarningKind, WarningPlace};
 use crate::whens::tell_statements;
 use std::alloc::{AllocError, Global};
 
-#[tactic(auto, unfolding(crate::specs::Asked::unasked_said))]
-fn unasked_said() -> &'static str
-    ensures { result.now ≡ specs.unasked_said }
-{
-    "rule: not asked which releases it gives, since that would take long\n"
-}
-
 fn tell_answers(
     alloc: Global,
-    text: &mut String,
+    warnings: &mut Vec<Warning>,
     app: usize,
     asked: &AskedRule<'_>,
     spots: &[Spot],
 ) -> Result<(), AllocError>
     requires { spots.now ≡ places.spots_of (rule_of asked.now).rule }
-    ensures { OnOk result (string_bytes text.new
-        ≡ string_bytes text.old ++ specs.asked_text app (rule_of asked.now)) }
+    ensures { OnOk result (warnings.new.items
+        ≡ warnings.old.items ++ specs.asked_warnings app (rule_of asked.now)) }
 {
     let marks = marks_of(alloc, asked, spots)?;
-    tell_statements(text, app, asked, &marks)?;
-    tell_all_releases(alloc, text, app, asked, &marks)
+    tell_statements(warnings, app, asked, &marks)?;
+    tell_all_releases(alloc, warnings, app, asked, &marks)
 }
 
 // Of its answers, where there is room to ask it.
 fn tell_asked(
     alloc: Global,
-    text: &mut String,
+    warnings: &mut Vec<Warning>,
     app: usize,
     asked: &AskedRule<'_>,
     room: u64,
 ) -> Result<u64, AllocError>
-    ensures text { OnOk result (string_bytes text.new ≡ string_bytes text.old
+    ensures told { OnOk result (warnings.new.items ≡ warnings.old.items
         ++ specs.told_in (specs.room_after (rule_of asked.now) room) app (rule_of asked.now)) }
     ensures room { IfOk result (λ left. left ≡ specs.room_left room (rule_of asked.now)) }
 {
@@ -54,23 +47,26 @@ fn tell_asked(
     let versions = (spots.len() + asked.releases.len()) as u64;
     match room_behind(versions, room, asked.statements) {
         Some(left) => {
-            tell_answers(alloc, text, app, asked, spots.as_slice())?;
+            tell_answers(alloc, warnings, app, asked, spots.as_slice())?;
             Ok(left)
         }
         None => {
-            tell_app(text, app)?;
-            text.push_str(unasked_said())?;
+            let place = WarningPlace::App(app);
+            let kind = WarningKind::NotAsked;
+            warnings.push(Warning { place, kind })?;
             Ok(room)
         }
     }
 }
 
 /// Warnings on the rule of an app, which is read, and asked for each bucket; and the room that is
-/// left for other rules. A line tells
+/// left for other rules. One tells
 ///
 /// - of a test `bucket < n` or `bucket <= n`, also under a salt, without a modulus, that it holds
 ///   for few buckets, 1 to 99 of the 10,000, or, where its number is above 10,000, for all, whatever
 ///   stands around it;
+/// - of a `take` that it stands before the first test of the version in its `when`, so that it is
+///   done whatever the version is;
 /// - of a `when` that it is never reached, or never holds, and of a release that no bucket gets it,
 ///   nor a later one: at any version, whatever else an app says, and whatever counters reply;
 /// - of a release that in some bucket who has it may get it again, or a lower one: where the app
@@ -79,19 +75,19 @@ fn tell_asked(
 /// A rule takes room for each step of its conditions: once for the lowest version, for each that it
 /// names, for what lies just above each of these, and for each release. One for which there is too
 /// little is told of, isn't asked, and takes none; its tests are read all the same.
-// open: whether memory is refused; that a rule with such a `when` or release has its line: one may
-// be missing.
+// open: whether memory is refused; that a rule with such a `when` or release has its warning: one
+// may be missing.
 pub fn tell_rule(
     alloc: Global,
-    text: &mut String,
+    warnings: &mut Vec<Warning>,
     app: usize,
     asked: &AskedRule<'_>,
     room: u64,
 ) -> Result<u64, AllocError>
-    ensures text { OnOk result (string_bytes text.new
-        ≡ string_bytes text.old ++ specs.rule_text app room (rule_of asked.now)) }
+    ensures told { OnOk result (warnings.new.items
+        ≡ warnings.old.items ++ specs.rule_warnings app room (rule_of asked.now)) }
     ensures room { IfOk result (λ left. left ≡ specs.room_left room (rule_of asked.now)) }
 {
-    tell_parts_of_rule(text, app, asked.statements)?;
-    tell_asked(alloc, text, app, asked, room)
+    tell_parts_of_rule(warnings, app, asked.statements)?;
+    tell_asked(alloc, warnings, app, asked, room)
 }

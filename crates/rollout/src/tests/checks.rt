@@ -27,7 +27,7 @@ array = [{ name = \"q\", width = 64, length = 1, quota = 2 },
     { name = \"n\", width = 32, length = 9 }]
 app = [{ appid = \"x\", program = \"k_take.bin\" }, { appid = \"y\", program = \"k_none.bin\" }]",
         "array q:64:1:2\narray n:32:9\napp x releases 0 slots 6\napp y releases 0 slots 2\n",
-        "warning: array[2]: no program uses it, and no rule\n",
+        "warning unused-array: array[2]: no program uses it, and no rule\n",
     ),
     (
         "server = \"\"\napp = [{ appid = 3, rule = \"k.rule\" }]",
@@ -97,14 +97,14 @@ hash_sha256 = \"ba7816bf8f01cfea414140de5dae2223b00361a396177a9cb410ff61f20015ad
 size = 3
 required = true",
         "app x releases 1 slots 2\n",
-        "warning: app[1].release[1].codebase: it begins with neither https:// nor http://\n",
+        "warning codebase-scheme: app[1].release[1].codebase: it begins with neither https:// nor http://\n",
     ),
     // No control is printed, and the appid that has one is warned of.
     (
         "server = \"\"
 app = [{ appid = \"x\\n\\u001b[2Japp\", program = \"k_none.bin\" }]",
         "app x\\u{a}\\u{1b}[2Japp releases 0 slots 2\n",
-        "warning: app[1].appid: it has a character that isn't printed\n",
+        "warning unprinted-appid: app[1].appid: it has a character that isn't printed\n",
     ),
     // There is no room to ask the second app's rule, and enough for the third's.
     (
@@ -119,10 +119,10 @@ app = [{ appid = \"x\", rule = \"k_forty.rule\", release = [{ version = \"40\", 
     codebase = \"https://a/\", package = [{ name = \"x\", size = 3, required = true, \
     hash_sha256 = \"ba7816bf8f01cfea414140de5dae2223b00361a396177a9cb410ff61f20015ad\" }] }] }]",
         "app x releases 1 slots 326\napp y releases 1 slots 326\napp z releases 1 slots 8\n",
-        "warning: app[1].release[1].version: in some bucket who has it may get it again
-warning: app[2].rule: not asked which releases it gives, since that would take long
-warning: app[3].rule: line 1: bucket < 5 is 0.05 percent of the bucket numbers: one percent is 100 of them
-warning: app[3].release[1].version: in some bucket who has it may get it again
+        "warning offered-again: app[1].release[1].version: in some bucket who has it may get it again
+warning not-asked: app[2].rule: not asked which releases it gives, since that would take long
+warning few-buckets: app[3].rule: line 1: bucket < 5 is 0.05 percent of the bucket numbers: one percent is 100 of them
+warning offered-again: app[3].release[1].version: in some bucket who has it may get it again
 ",
     ),
 ];

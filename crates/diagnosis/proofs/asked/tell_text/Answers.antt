@@ -11,4 +11,4 @@ returns c =
     (c.of-asked.ensures.appid ∙ c.appid.ensures.appid) c.of-asked.ensures.shape
     (c.of-asked.ensures.releases ∙ c.releases.ensures.releases)
     (c.of-asked.ensures.rule ∙ c.statements.ensures) c.in-Ok-parse.ensures.rule
-    c.in_ok-left.ensures.text c.in_ok-left.ensures.room
+    c.in_ok-left.ensures.told c.in_ok-left.ensures.room

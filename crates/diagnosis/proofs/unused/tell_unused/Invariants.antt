@@ -1,11 +1,11 @@
-use Rattle.std.proofs.Common.{◌≡◌, ◌+◌, ◌++◌, length, string_bytes}
+use Rattle.std.proofs.Common.{◌≡◌, ◌+◌, ◌++◌, length}
 use Rattle.diagnosis.specs.Unused.{unused_from}
 use Rattle.diagnosis.proofs.unused.tell_unused.Given as goal
 
 abbrev pub invariant-loop-left : goal.invariant-loop-left
 invariant-loop-left l = record {
-  so_far : string_bytes l.text ++ unused_from l.number l.left l.apps
-      ≡ string_bytes l.initial.text ++ unused_from 0 l.arrays l.apps;
+  so_far : l.warnings.items ++ unused_from l.number l.left l.apps
+      ≡ l.initial.warnings.items ++ unused_from 0 l.arrays l.apps;
   within : l.number + length l.left ≡ length l.arrays;
 }
 

@@ -1,7 +1,8 @@
-use Rattle.std.proofs.Common.{List, ℕ, arith}
+use Rattle.std.proofs.Common.{List, arith}
 use Rattle.std.proofs.lemmas.Grind.{common_steps}
 use Rattle.diagnosis.specs.Warned.{WarnsOfApps}
 use Rattle.warnings.specs.Asked.{all_room}
+use Rattle.warnings.specs.declared.warning.Warning.{Warning}
 use Rattle.diagnosis.proofs.AppsTold.{ended, first_rest, more_told, none_left}
 use Rattle.diagnosis.proofs.warned.told_of_apps.Goals as goal
 
@@ -9,7 +10,7 @@ pub loop-left-preserved : goal.loop-left-preserved
 loop-left-preserved c = record {
   so_far = λ rest later.
       more_told _ _ _ _ _ _ _ _ rest
-      (λ (t : List ℕ). WarnsOfApps 1 all_room c.args.apps.now t) c.loop-left.invariant.so_far
+      (λ (t : List Warning). WarnsOfApps 1 all_room c.args.apps.now t) c.loop-left.invariant.so_far
       c.in_ok-room.ensures
       (first_rest c.loop-left.left.now c.app-item.result (omega arith) c.app-item.is) later;
   within = grind (arith, common_steps);
@@ -17,5 +18,5 @@ loop-left-preserved c = record {
 
 pub returns : goal.returns
 returns c =
-    ended _ _ _ _ (λ (t : List ℕ). WarnsOfApps 1 all_room c.args.apps.now t)
+    ended _ _ _ _ (λ (t : List Warning). WarnsOfApps 1 all_room c.args.apps.now t)
     c.loop-left.invariant.so_far (none_left c.loop-left.left.now (omega arith))

@@ -1,4 +1,4 @@
-use Rattle.std.proofs.Common.{◌≡◌, ℕ, ◌+◌, ◌<◌, ◌++◌, List, length, string_bytes}
+use Rattle.std.proofs.Common.{◌≡◌, ℕ, ◌+◌, ◌<◌, ◌++◌, List, length}
 use Rattle.warnings.specs.declared.spot.Spot.{Spot}
 use Rattle.warnings.specs.Asked.{asked_from}
 use Rattle.warnings.specs.Asking.{rule_of, someone}
@@ -10,8 +10,8 @@ invariant-loop-left l = record {
   so_far : (spots : List Spot)
       → AreMarked (rule_of l.asked) (someone (rule_of l.asked) spots) l.marks.reached.items
       l.marks.ends.items
-      → string_bytes l.text ++ asked_from l.app l.number (rule_of l.asked) spots l.left
-      ≡ string_bytes l.initial.text
+      → l.warnings.items ++ asked_from l.app l.number (rule_of l.asked) spots l.left
+      ≡ l.initial.warnings.items
       ++ asked_from l.app 1 (rule_of l.asked) spots l.asked.releases.now;
   within : l.number + length l.left ≡ 1 + length l.asked.releases.now;
   some : 0 < l.number;

@@ -1,11 +1,11 @@
-use Rattle.std.proofs.Common.{◌≡◌, ◌+◌, ◌++◌, length, string_bytes}
+use Rattle.std.proofs.Common.{◌≡◌, ◌+◌, ◌++◌, length}
 use Rattle.warnings.specs.Releases.{releases_from}
 use Rattle.warnings.proofs.release.tell_releases.Given as goal
 
 abbrev pub invariant-loop-left : goal.invariant-loop-left
 invariant-loop-left l = record {
-  so_far : string_bytes l.text ++ releases_from l.app l.number l.left
-      ≡ string_bytes l.initial.text ++ releases_from l.app 1 l.releases;
+  so_far : l.warnings.items ++ releases_from l.app l.number l.left
+      ≡ l.initial.warnings.items ++ releases_from l.app 1 l.releases;
   within : l.number + length l.left ≡ 1 + length l.releases;
 }
 

@@ -1,4 +1,4 @@
-use Rattle.std.proofs.Common.{arith, false, get_or, string_bytes}
+use Rattle.std.proofs.Common.{arith, false, get_or}
 use Rattle.warnings.specs.Asking.{rule_of}
 use Rattle.warnings.proofs.Told.{all_told, first_got, first_rest, next_told, none_left, none_told}
 use Rattle.warnings.proofs.whens.tell_statements.Goals as goal
@@ -6,7 +6,7 @@ use Rattle.warnings.proofs.whens.tell_statements.Goals as goal
 pub loop-left-init : goal.loop-left-init
 loop-left-init c = λ spots marked.
     rw (c.as_slice-reached.ensures.value, c.as_slice-ends.ensures.value)
-    (none_told c.args.app (rule_of c.args.asked.now) spots (string_bytes c.args.text.now) _ _ marked)
+    (none_told c.args.app (rule_of c.args.asked.now) spots c.args.warnings.now.items _ _ marked)
 
 pub loop-left-preserved : goal.loop-left-preserved
 loop-left-preserved c = λ spots marked.

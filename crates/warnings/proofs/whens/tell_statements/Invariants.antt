@@ -1,4 +1,4 @@
-use Rattle.std.proofs.Common.{List, length, string_bytes}
+use Rattle.std.proofs.Common.{List, length}
 use Rattle.warnings.specs.declared.spot.Spot.{Spot}
 use Rattle.warnings.specs.Asking.{rule_of, someone}
 use Rattle.warnings.specs.Marks.{AreMarked}
@@ -10,8 +10,8 @@ invariant-loop-left l =
     (spots : List Spot)
     → AreMarked (rule_of l.asked) (someone (rule_of l.asked) spots) l.marks.reached.items
     l.marks.ends.items
-    → AreTold l.app (rule_of l.asked) spots (string_bytes l.initial.text) l.left l.reached l.ends
-    (string_bytes l.text)
+    → AreTold l.app (rule_of l.asked) spots l.initial.warnings.items l.left l.reached l.ends
+    l.warnings.items
 
 abbrev pub decreases-loop-left : goal.decreases-loop-left
 decreases-loop-left l = length l.left

@@ -1,0 +1,101 @@
+-- Warnings, their names and their lines.
+use Rattle.std.specs.Prelude.{ℕ, ◌/◌, ◌%◌, List, [], ◌∷◌, ◌++◌, codes, decimal, flat_map}
+use Rattle.std.specs.Prelude.{Bool, true, false}
+use Rattle.warnings.specs.declared.warning.WarningPlace.{WarningPlace}
+use Rattle.warnings.specs.declared.warning.WarningPlace.TheVariants as place
+use Rattle.warnings.specs.declared.warning.Warning.{Warning}
+use Rattle.warnings.specs.declared.warning.WarningKind.{WarningKind}
+use Rattle.warnings.specs.declared.warning.WarningKind.TheVariants as kind
+
+-- one warning
+abbrev pub warned : WarningPlace → WarningKind → List Warning
+warned place kind = record { place = place; kind = kind } ∷ []
+
+-- where something holds
+abbrev pub warned_if : Bool → WarningPlace → WarningKind → List Warning
+warned_if true place kind = warned place kind
+warned_if false place kind = []
+
+-- ---- names, which stay
+
+abbrev pub name_of : WarningKind → List ℕ
+name_of kind.UnprintedAppid = codes "unprinted-appid"
+name_of kind.UnusedArray = codes "unused-array"
+name_of kind.SameVersion = codes "same-version"
+name_of kind.CodebaseSlash = codes "codebase-slash"
+name_of kind.CodebaseScheme = codes "codebase-scheme"
+name_of (kind.FewBuckets up_to number buckets) = codes "few-buckets"
+name_of (kind.AllBuckets up_to number) = codes "all-buckets"
+name_of kind.TakeBeforeVersion = codes "take-before-version"
+name_of kind.NeverReached = codes "never-reached"
+name_of kind.NeverHolds = codes "never-holds"
+name_of kind.NoBucket = codes "no-bucket"
+name_of kind.OfferedAgain = codes "offered-again"
+name_of kind.OfferedLower = codes "offered-lower"
+name_of kind.NotAsked = codes "not-asked"
+
+-- ---- lines
+
+abbrev pub app_path : ℕ → List ℕ
+app_path app = codes "app[" ++ decimal app ++ codes "]"
+
+abbrev pub place_text : WarningPlace → List ℕ
+place_text (place.Array array) = codes "array[" ++ decimal array ++ codes "]"
+place_text (place.App app) = app_path app
+place_text (place.Release app release) =
+    app_path app ++ codes ".release[" ++ decimal release ++ codes "]"
+place_text (place.Line app line) = app_path app ++ codes ".rule: line " ++ decimal line
+
+abbrev pub sign_of : (up_to : Bool) → List ℕ
+sign_of true = codes "<="
+sign_of false = codes "<"
+
+-- in percent with two places
+abbrev pub few_percent : (buckets : ℕ) → List ℕ
+few_percent buckets =
+    codes "0." ++ decimal (buckets / 10) ++ decimal (buckets % 10) ++ codes " percent"
+
+-- a test, and for which part of the buckets it holds
+abbrev pub part_text : WarningKind → List ℕ
+part_text (kind.FewBuckets up_to number buckets) =
+    codes ": bucket " ++ sign_of up_to ++ codes " " ++ decimal number ++ codes " is "
+    ++ few_percent buckets
+part_text (kind.AllBuckets up_to number) =
+    codes ": bucket " ++ sign_of up_to ++ codes " " ++ decimal number ++ codes " is all"
+part_text k = []
+
+-- what stands behind the place, and behind a test's part
+unfoldable pub said_of : WarningKind → List ℕ
+said_of kind.UnprintedAppid = codes ".appid: it has a character that isn't printed"
+said_of kind.UnusedArray = codes ": no program uses it, and no rule"
+said_of kind.SameVersion = codes ".version: a later release has it, too"
+said_of kind.CodebaseSlash =
+    codes ".codebase: no / ends it, and a client joins it with a package's name"
+said_of kind.CodebaseScheme = codes ".codebase: it begins with neither https:// nor http://"
+said_of (kind.FewBuckets up_to number buckets) =
+    codes " of the bucket numbers: one percent is 100 of them"
+said_of (kind.AllBuckets up_to number) =
+    codes " of the bucket numbers: one percent is 100 of them"
+said_of kind.TakeBeforeVersion =
+    codes ": this take stands before the version, so it is done whatever the version is"
+said_of kind.NeverReached = codes ": this when is never reached"
+said_of kind.NeverHolds = codes ": this when never holds"
+said_of kind.NoBucket = codes ": no bucket gets it"
+said_of kind.OfferedAgain = codes ".version: in some bucket who has it may get it again"
+said_of kind.OfferedLower = codes ".version: in some bucket who has it may get a lower one"
+said_of kind.NotAsked =
+    codes ".rule: not asked which releases it gives, since that would take long"
+
+-- where it is, and what
+abbrev pub warning_text : Warning → List ℕ
+warning_text w = place_text w.place ++ part_text w.kind ++ said_of w.kind
+
+abbrev pub line_start : WarningKind → List ℕ
+line_start k = codes "warning " ++ name_of k ++ codes ": "
+
+abbrev pub warning_line : Warning → List ℕ
+warning_line w = line_start w.kind ++ warning_text w ++ codes "\n"
+
+-- a line each
+abbrev pub warnings_text : List Warning → List ℕ
+warnings_text warnings = flat_map warning_line warnings

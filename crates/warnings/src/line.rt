@@ -1,0 +1,162 @@
+//! The lines of warnings.
+
+ghost use Rattle.std.specs.Prelude.{◌≡◌, ◌++◌, OnOk, flat_map, string_bytes};
+ghost use Rattle.warnings.specs.Warnings as specs;
+
+use crate::warning::{Warning, WarningKind, WarningPlace};
+use std::alloc::AllocError;
+use std::fmt::Write;
+
+impl WarningKind {
+    /// Its name, in lower case with hyphens, as `never-holds`: it stays from one release of the
+    /// program to the next.
+    pub fn name(self) -> &'static str
+        ensures { result.now ≡ specs.name_of self }
+    {
+        match self {
+            WarningKind::UnprintedAppid => "unprinted-appid",
+            WarningKind::UnusedArray => "unused-array",
+            WarningKind::SameVersion => "same-version",
+            WarningKind::CodebaseSlash => "codebase-slash",
+            WarningKind::CodebaseScheme => "codebase-scheme",
+            WarningKind::FewBuckets { .. } => "few-buckets",
+            WarningKind::AllBuckets { .. } => "all-buckets",
+            WarningKind::TakeBeforeVersion => "take-before-version",
+            WarningKind::NeverReached => "never-reached",
+            WarningKind::NeverHolds => "never-holds",
+            WarningKind::NoBucket => "no-bucket",
+            WarningKind::OfferedAgain => "offered-again",
+            WarningKind::OfferedLower => "offered-lower",
+            WarningKind::NotAsked => "not-asked",
+        }
+    }
+
+    #[tactic(auto, unfolding(crate::specs::Warnings::said_of))]
+    fn said(self) -> &'static str
+        ensures { result.now ≡ specs.said_of self }
+    {
+        match self {
+            WarningKind::UnprintedAppid => ".appid: it has a character that isn't printed",
+            WarningKind::UnusedArray => ": no program uses it, and no rule",
+            WarningKind::SameVersion => ".version: a later release has it, too",
+            WarningKind::CodebaseSlash => {
+                ".codebase: no / ends it, and a client joins it with a package's name"
+            }
+            WarningKind::CodebaseScheme => {
+                ".codebase: it begins with neither https:// nor http://"
+            }
+            WarningKind::FewBuckets { .. } | WarningKind::AllBuckets { .. } => {
+                " of the bucket numbers: one percent is 100 of them"
+            }
+            WarningKind::TakeBeforeVersion => {
+                ": this take stands before the version, so it is done whatever the version is"
+            }
+            WarningKind::NeverReached => ": this when is never reached",
+            WarningKind::NeverHolds => ": this when never holds",
+            WarningKind::NoBucket => ": no bucket gets it",
+            WarningKind::OfferedAgain => ".version: in some bucket who has it may get it again",
+            WarningKind::OfferedLower => ".version: in some bucket who has it may get a lower one",
+            WarningKind::NotAsked => {
+                ".rule: not asked which releases it gives, since that would take long"
+            }
+        }
+    }
+}
+
+fn push_app(text: &mut String, app: usize) -> Result<(), AllocError>
+    ensures { OnOk result (string_bytes text.new ≡ string_bytes text.old ++ specs.app_path app) }
+{
+    write!(text, "app[{app}]")
+}
+
+fn push_place(text: &mut String, place: WarningPlace) -> Result<(), AllocError>
+    ensures { OnOk result
+        (string_bytes text.new ≡ string_bytes text.old ++ specs.place_text place) }
+{
+    match place {
+        WarningPlace::Array(array) => write!(text, "array[{array}]"),
+        WarningPlace::App(app) => push_app(text, app),
+        WarningPlace::Release { app, release } => {
+            push_app(text, app)?;
+            write!(text, ".release[{release}]")
+        }
+        WarningPlace::Line { app, line } => {
+            push_app(text, app)?;
+            write!(text, ".rule: line {line}")
+        }
+    }
+}
+
+fn sign_of(up_to: bool) -> &'static str
+    ensures { result.now ≡ specs.sign_of up_to }
+{
+    if up_to { "<=" } else { "<" }
+}
+
+// A test of the bucket, and for which part of the buckets it holds.
+fn push_part(text: &mut String, kind: WarningKind) -> Result<(), AllocError>
+    ensures { OnOk result
+        (string_bytes text.new ≡ string_bytes text.old ++ specs.part_text kind) }
+{
+    match kind {
+        WarningKind::FewBuckets {
+            up_to,
+            number,
+            buckets,
+        } => {
+            let sign = sign_of(up_to);
+            let tenths = buckets / 10;
+            let hundredths = buckets % 10;
+            write!(
+                text,
+                ": bucket {sign} {number} is 0.{tenths}{hundredths} percent"
+            )
+        }
+        WarningKind::AllBuckets { up_to, number } => {
+            let sign = sign_of(up_to);
+            write!(text, ": bucket {sign} {number} is all")
+        }
+        _ => Ok(()),
+    }
+}
+
+/// What a warning says: where it is, as `app[1].rule: line 3`, and what, without a line end.
+// open: whether memory is refused.
+pub fn push_warning_text(text: &mut String, warning: &Warning) -> Result<(), AllocError>
+    ensures { OnOk result
+        (string_bytes text.new ≡ string_bytes text.old ++ specs.warning_text warning.now) }
+{
+    push_place(text, warning.place)?;
+    push_part(text, warning.kind)?;
+    text.push_str(warning.kind.said())
+}
+
+fn push_name(text: &mut String, kind: WarningKind) -> Result<(), AllocError>
+    ensures { OnOk result (string_bytes text.new
+        ≡ string_bytes text.old ++ specs.line_start kind) }
+{
+    let name = kind.name();
+    write!(text, "warning {name}: ")
+}
+
+fn push_line(text: &mut String, warning: &Warning) -> Result<(), AllocError>
+    ensures { OnOk result
+        (string_bytes text.new ≡ string_bytes text.old ++ specs.warning_line warning.now) }
+{
+    push_name(text, warning.kind)?;
+    push_warning_text(text, warning)?;
+    text.push_str("\n")
+}
+
+/// A line each, ended by a line feed: `warning never-holds: app[1].rule: line 3: this when never
+/// holds`.
+// open: whether memory is refused.
+pub fn push_warnings(text: &mut String, warnings: &[Warning]) -> Result<(), AllocError>
+    ensures { OnOk result
+        (string_bytes text.new ≡ string_bytes text.old ++ specs.warnings_text warnings.now) }
+{
+    for warning in warnings {
+        push_line(text, warning)?;
+    }
+    Ok(())
+}
