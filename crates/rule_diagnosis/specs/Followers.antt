@@ -136,3 +136,8 @@ is_semicolon f = false
 abbrev pub is_missing_semicolon : List Follower → Bool
 is_missing_semicolon (f ∷ []) = is_semicolon f
 is_missing_semicolon fs = false
+
+-- where the word `flag` may stand, a test may
+abbrev pub is_flag_word : Follower → Bool
+is_flag_word follower.Flag = true
+is_flag_word f = false

@@ -4,6 +4,7 @@ use Rattle.std.specs.Prelude.{ℕ, ◌+◌, ◌*◌, ◌%◌, List, [], ◌∷�
 use Rattle.std.specs.Prelude.{Bool, true, ◌==◌, ◌&&◌, ◌||◌, nat_le, nat_lt, if◌then◌else◌}
 use Rattle.std.specs.Prelude.{Option, Some, None, is_some, flat_map, length}
 use Rattle.std.specs.Fmt.{digits}
+use Rattle.std.specs.List.{list_any}
 use Rattle.std.specs.Str.{bytes_eq}
 use Rattle.cells.specs.Arrays.{AppShape}
 use Rattle.cells.specs.declared.array.CellArray.{CellArray}
@@ -11,6 +12,7 @@ use Rattle.printing.specs.Printed.{printed}
 use Rattle.rule_diagnosis.specs.Lexemes.{byte_at, is_relation, is_word}
 use Rattle.rule_lang.specs.Shapes.{array_named}
 use Rattle.rule_lang.specs.Tokens.{Text}
+use Rattle.rule_lang.specs.Words.{all_attributes, all_flags, attribute_text, flag_text}
 
 -- ---- how a lexeme is told
 
@@ -69,6 +71,10 @@ joint_hint = codes ": conditions are joined by and, or and not"
 unfoldable pub word_hint : Text
 word_hint = codes ": a version is one to four numbers, joined by dots"
 
+unfoldable pub day_hint : Text
+day_hint =
+    codes ": a number has no sign, and a day is one, counted from 2007-01-01: 2026-12-01 is 7274"
+
 abbrev pub character_hint : ℕ → Text
 character_hint n = if n == 65279 then codes ": a byte order mark" else []
 
@@ -76,6 +82,7 @@ abbrev pub mark_hint : ℕ → Text
 mark_hint c =
     if c == 37 then codes ": 1 percent is 100 buckets"
     else if (c == 38) || (c == 124) then joint_hint
+    else if c == 45 then day_hint
     else if c == 47 then codes ": a remark begins with #"
     else if c == 39 then codes ": a text stands in \"\"" else []
 
@@ -94,6 +101,20 @@ no_word = codes " is no word of a rule"
 
 abbrev pub token_sentence : Text → Text
 token_sentence found = lexeme_text found ++ no_word ++ hint found
+
+-- ---- L2: the name of a flag or an attribute that stands alone where a test is expected
+
+abbrev pub names_flag : Text → Bool
+names_flag word = list_any (λ f. bytes_eq word (flag_text f)) all_flags
+
+abbrev pub names_attribute : Text → Bool
+names_attribute word = list_any (λ a. bytes_eq word (attribute_text a)) all_attributes
+
+abbrev pub test_hint : (found : Text) → Text
+test_hint found =
+    if names_flag found then codes ": a flag is tested by flag " ++ found
+    else if names_attribute found then
+    codes ": an attribute is tested by attr " ++ found ++ codes " is \"..\"" else []
 
 -- ---- L3: a name that isn't there, or stands for an array of the other kind
 

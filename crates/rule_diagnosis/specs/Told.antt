@@ -2,14 +2,16 @@
 -- expected, and the line itself with a caret.
 use Rattle.std.specs.Prelude.{◌≡◌, ◌⊎◌, ◌<◌, ◌≤◌, ℕ, ◌+◌, ◌-◌, List, [], ◌++◌, codes, decimal}
 use Rattle.std.specs.Prelude.{length, take, Err, if◌then◌else◌}
+use Rattle.std.specs.List.{list_any}
 use Rattle.cells.specs.Arrays.{AppShape}
 use Rattle.printing.specs.Printed.{printed_lines}
 use Rattle.rule_diagnosis.specs.declared.follower.Follower.{Follower}
-use Rattle.rule_diagnosis.specs.Followers.{AreFollowers, listed, is_missing_semicolon}
+use Rattle.rule_diagnosis.specs.Followers.{AreFollowers, is_flag_word, is_missing_semicolon}
+use Rattle.rule_diagnosis.specs.Followers.{listed}
 use Rattle.rule_diagnosis.specs.Lexemes.{spread, lexeme_start}
 use Rattle.rule_diagnosis.specs.Places.{line_text, line_at, pad_at}
 use Rattle.rule_diagnosis.specs.Sentences.{lexeme_text, token_sentence, name_sentence}
-use Rattle.rule_diagnosis.specs.Sentences.{range_sentence}
+use Rattle.rule_diagnosis.specs.Sentences.{range_sentence, test_hint}
 use Rattle.rule_lang.specs.declared.fault.RuleFault.TheVariants.{At}
 use Rattle.rule_lang.specs.declared.fault.RuleFaultKind.{RuleFaultKind}
 use Rattle.rule_lang.specs.declared.fault.RuleFaultKind.TheVariants as kind
@@ -58,9 +60,13 @@ told_at text place sentence =
     (printed_lines (line_text (line_at before) text)) (pad_at (printed_lines before)) sentence
 
 -- of a token that is misplaced; where a semicolon is missing the place is behind the lexeme before
-abbrev pub shape_sentence : (found : Text) → List Follower → Text
+abbrev pub shape_hint : (found : Text) → List Follower → Text
+shape_hint found fs = if list_any is_flag_word fs then test_hint found else []
+
+unfoldable pub shape_sentence : (found : Text) → List Follower → Text
 shape_sentence found fs =
     lexeme_text found ++ codes " stands where " ++ listed fs ++ codes " is expected"
+    ++ shape_hint found fs
 
 abbrev pub shape_place : Text → ℕ → List Follower → ℕ
 shape_place text row fs =

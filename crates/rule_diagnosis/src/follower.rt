@@ -1,6 +1,7 @@
 //! What may stand behind the beginning of a rule, one by one, and how it is told.
 
 ghost use Rattle.std.specs.Prelude.{◌≡◌, ◌++◌, OnOk, option_map, string_bytes};
+ghost use Rattle.std.specs.List.{list_any};
 ghost use Rattle.rule_diagnosis.specs.Followers as followers;
 
 use std::alloc::AllocError;
@@ -183,4 +184,27 @@ pub fn is_missing_semicolon(listed: &[Follower]) -> bool
         [Follower::Semicolon] => true,
         _ => false,
     }
+}
+
+fn is_flag_word(follower: Follower) -> bool
+    ensures { result ≡ followers.is_flag_word follower }
+{
+    match follower {
+        Follower::Flag => true,
+        _ => false,
+    }
+}
+
+/// Whether a test may stand.
+pub fn expects_test(listed: &[Follower]) -> bool
+    ensures { result ≡ list_any followers.is_flag_word listed.now }
+{
+    let mut left = listed;
+    while let [first, rest @ ..] = left {
+        if is_flag_word(*first) {
+            return true;
+        }
+        left = rest;
+    }
+    false
 }

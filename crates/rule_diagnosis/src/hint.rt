@@ -1,10 +1,13 @@
-//! What is written in place of a lexeme that is no word of a rule, where that is plain.
+//! What is written in place of a lexeme that is no word of a rule, or is misplaced, where that is
+//! plain.
 
-ghost use Rattle.std.specs.Prelude.{◌≡◌};
+ghost use Rattle.std.specs.Prelude.{◌≡◌, ◌++◌, OnOk, string_bytes};
 ghost use Rattle.rule_diagnosis.specs.Sentences as sentences;
 
 use crate::lexeme::{byte_at, is_relation, is_word};
 use crate::quoting::character_code;
+use std::alloc::AllocError;
+use std::fmt::Write;
 
 #[tactic(auto, unfolding(crate::specs::Sentences::text_hint))]
 fn text_hint() -> &'static str
@@ -34,6 +37,13 @@ fn word_hint() -> &'static str
     ": a version is one to four numbers, joined by dots"
 }
 
+#[tactic(auto, unfolding(crate::specs::Sentences::day_hint))]
+fn day_hint() -> &'static str
+    ensures { result.now ≡ sentences.day_hint }
+{
+    ": a number has no sign, and a day is one, counted from 2007-01-01: 2026-12-01 is 7274"
+}
+
 fn character_hint(n: u32) -> &'static str
     ensures { result.now ≡ sentences.character_hint n }
 {
@@ -51,6 +61,8 @@ fn mark_hint(c: u8) -> &'static str
         ": 1 percent is 100 buckets"
     } else if c == b'&' || c == b'|' {
         joint_hint()
+    } else if c == b'-' {
+        day_hint()
     } else if c == b'/' {
         ": a remark begins with #"
     } else if c == b'\'' {
@@ -77,5 +89,38 @@ pub fn hint(lexeme: &str) -> &'static str
         word_hint()
     } else {
         mark_hint(c)
+    }
+}
+
+fn names_flag(word: &str) -> bool
+    ensures { result ≡ sentences.names_flag word.now }
+{
+    match word {
+        "version_known" | "updatecheck" | "ping" | "event" | "cohort_known" | "installdate_known" =>
+            true,
+        _ => false,
+    }
+}
+
+fn names_attribute(word: &str) -> bool
+    ensures { result ≡ sentences.names_attribute word.now }
+{
+    match word {
+        "appid" | "version" | "brand" | "ap" | "lang" | "cohort" | "platform" => true,
+        _ => false,
+    }
+}
+
+/// What is written where a test is expected and the name of a flag or an attribute stands alone.
+pub fn tell_test_hint(text: &mut String, lexeme: &str) -> Result<(), AllocError>
+    ensures { OnOk result
+        (string_bytes text.new ≡ string_bytes text.old ++ sentences.test_hint lexeme.now) }
+{
+    if names_flag(lexeme) {
+        write!(text, ": a flag is tested by flag {lexeme}")
+    } else if names_attribute(lexeme) {
+        write!(text, ": an attribute is tested by attr {lexeme} is \"..\"")
+    } else {
+        Ok(())
     }
 }

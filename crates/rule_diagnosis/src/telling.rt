@@ -7,7 +7,8 @@ ghost use Rattle.rule_diagnosis.specs.Told as specs;
 ghost use Rattle.rule_lang.specs.Verdicts.{IsVerdict};
 
 use crate::caret::tell_at;
-use crate::follower::{Follower, is_missing_semicolon, tell_listed};
+use crate::follower::{Follower, expects_test, is_missing_semicolon, tell_listed};
+use crate::hint::tell_test_hint;
 use crate::place::{front, line_at, line_text};
 use crate::quoting::tell_lexeme;
 use crate::range::tell_range;
@@ -129,6 +130,7 @@ fn tell_shape(alloc: Global, text: &str, shape: &Shape, rows: &str, row: usize) 
     }
 }
 
+#[tactic(auto, unfolding(crate::specs::Told::shape_sentence))]
 fn tell_misplaced(text: &mut String, lexeme: &str, found: &[Follower]) -> Result<(), AllocError>
     ensures { OnOk result (string_bytes text.new ≡ string_bytes text.old
         ++ specs.shape_sentence lexeme.now found.now) }
@@ -136,7 +138,12 @@ fn tell_misplaced(text: &mut String, lexeme: &str, found: &[Follower]) -> Result
     tell_lexeme(text, lexeme)?;
     text.push_str(" stands where ")?;
     tell_listed(text, found)?;
-    text.push_str(" is expected")
+    text.push_str(" is expected")?;
+    if expects_test(found) {
+        tell_test_hint(text, lexeme)
+    } else {
+        Ok(())
+    }
 }
 
 // Where a semicolon is missing, behind the lexeme before, else at the lexeme.

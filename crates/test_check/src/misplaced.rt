@@ -1,7 +1,7 @@
 //! What is told of rules in which a word, a mark or the text's end is misplaced, for the app of
 //! `rules`: what stands there, and all that may.
 
-use crate::rules::test_check;
+use crate::rules::check_rows;
 use std::test::Fail;
 
 /// Each row: a rule, in which ` / ` ends a line, and what is told of it.
@@ -15,6 +15,20 @@ line 1, column 6: "offer" stands where "not", "version", "bucket", <MORE>
 "today", "installed", "flag", "attr", "take" or "(" is expected
   when offer 1;
        ^
+- when version_known offer 1; / otherwise none;
+line 1, column 6: "version_known" stands where "not", "version", "bucket", <MORE>
+"today", "installed", "flag", "attr", "take" or "(" is expected: a flag is tested by flag version_known
+  when version_known offer 1;
+       ^
+- when version < 2 and not ap == "beta" offer 1; / otherwise none;
+line 1, column 26: "ap" stands where "not", "version", "bucket", <MORE>
+"today", "installed", "flag", "attr", "take" or "(" is expected: an attribute is tested by attr ap is ".."
+  when version < 2 and not ap == "beta" offer 1;
+                           ^
+- when version < 2 ping offer 1; / otherwise none;
+line 1, column 18: "ping" stands where "offer", "and" or "or" is expected
+  when version < 2 ping offer 1;
+                   ^
 - when bucket < 500 version < 2 offer 1; / otherwise none;
 line 1, column 19: "version" stands where "offer", "and" or "or" is expected
   when bucket < 500 version < 2 offer 1;
@@ -107,5 +121,5 @@ line 1, column 17: "count" stands where the text's end is expected
 
 #[test]
 fn each(rt: HostRuntime) -> Result<(), Fail> {
-    test_check(rt.alloc(), ROWS)
+    check_rows(rt.alloc(), ROWS)
 }

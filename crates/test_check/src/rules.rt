@@ -29,6 +29,10 @@ line 1, column 16: "%" is no word of a rule: 1 percent is 100 buckets
 line 1, column 17: "&" is no word of a rule: conditions are joined by and, or and not
   when bucket < 5 && today > 1 offer 1;
                   ^
+- when today >= 2026-12-01 offer 1; / otherwise none;
+line 1, column 19: "-" is no word of a rule: a number has no sign, and a day is one, counted from 2007-01-01: 2026-12-01 is 7274
+  when today >= 2026-12-01 offer 1;
+                    ^
 - when flag ping | flag event offer 1; / otherwise none;
 line 1, column 16: "|" is no word of a rule: conditions are joined by and, or and not
   when flag ping | flag event offer 1;
@@ -205,7 +209,7 @@ pub(crate) fn must(rule: &str, told: &str, want: &str) -> Result<(), Fail> {
 }
 
 /// Checks each row of a table.
-pub(crate) fn test_check(alloc: Global, rows: &str) -> Result<(), Fail> {
+pub(crate) fn check_rows(alloc: Global, rows: &str) -> Result<(), Fail> {
     let shape = shape(alloc)?;
     for row in rows.split("\n- ").skip(1) {
         check_row(alloc, &shape, row)?;
@@ -215,7 +219,7 @@ pub(crate) fn test_check(alloc: Global, rows: &str) -> Result<(), Fail> {
 
 #[test]
 fn each(rt: HostRuntime) -> Result<(), Fail> {
-    test_check(rt.alloc(), ROWS)
+    check_rows(rt.alloc(), ROWS)
 }
 
 fn told_of_long(alloc: Global) -> Result<String, Fail> {
