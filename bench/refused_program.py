@@ -33,6 +33,7 @@ MANIFESTS = {
     "one.toml": manifest("one", app("z", "none.rule", "3.0")),
     "script.txt": "start 0 x 99 1.0\nstep 0 4097\nswap next.toml\nstart 1 z 7 -\nstep 1 4097\n"
     "finish 0\nfinish 1\n",
+    "ask.json": request("x", "y"),
 }
 
 COMMANDS = {
@@ -47,6 +48,7 @@ COMMANDS = {
     "check": ["check", "next.toml"],
     "replay": ["replay", "first.toml", "script.txt"],
     "simulate": ["simulate", "one.toml", "--against", "one.toml", "--svg", "OUT"],
+    "ask": ["ask", "first.toml", "ask.json", "--at", "0", "--cells", "q[0]=3"],
 }
 
 

@@ -6,3 +6,4 @@ mod Attributes
 mod Lacking
 mod SimulationMisfits
 mod ReportMisfits
+mod ReplyMisfits

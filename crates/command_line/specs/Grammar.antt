@@ -9,7 +9,7 @@ use Rattle.command_line.specs.declared.verb.Verb.TheVariants as verb
 use Rattle.command_line.specs.declared.verb.Verb.TheVariants.{Assemble, Check, Compile, Verify, Run}
 use Rattle.command_line.specs.declared.verb.Verb.TheVariants.{Replay, Serve, Load}
 use Rattle.command_line.specs.declared.verb.Verb.TheVariants.{Explain, Order, Show, Cells, Stop}
-use Rattle.command_line.specs.declared.verb.Verb.TheVariants.{Simulate}
+use Rattle.command_line.specs.declared.verb.Verb.TheVariants.{Simulate, Ask}
 
 -- a word by its place, which has to be there
 abbrev pub file : Text → Rule
@@ -56,6 +56,14 @@ number name most = record (option name) {
 abbrev pub operator : Rule
 operator = number (codes "operator") 65535
 
+-- `--NAME N` that may be left out, from 1
+abbrev pub optional_number : Text → ℕ → Rule
+optional_number name most = record (option name) { parser = Some (Signed (pos 1) (pos most)) }
+
+-- `--NAME VALUE`, any number of times
+abbrev pub repeated : Text → Rule
+repeated name = record (option name) { action = Some Append }
+
 -- `--timeout S`, 30 by default
 abbrev pub timeout : Rule
 timeout = record (option (codes "timeout")) {
@@ -80,6 +88,11 @@ told = version ∷ attr ∷ flag (codes "ping") ∷ flag (codes "event") ∷ opt
 
 abbrev pub command : Text → List Rule → Shape
 command name arguments = record (new_shape name) { rules = arguments }
+
+abbrev pub ask_command : Shape
+ask_command = command (codes "ask")
+    (file (codes "MANIFEST") ∷ file (codes "REQUEST") ∷ option (codes "at")
+    ∷ repeated (codes "cells") ∷ optional_number (codes "operator") 65535 ∷ [])
 
 abbrev pub assemble_command : Shape
 assemble_command = command (codes "asm") (file (codes "IN") ∷ file (codes "OUT") ∷ [])
@@ -143,6 +156,7 @@ abbrev pub stop_command : Shape
 stop_command = command (codes "stop") (operator ∷ flag (codes "wait") ∷ [])
 
 abbrev pub verb_command : Verb → Shape
+verb_command Ask = ask_command
 verb_command Assemble = assemble_command
 verb_command Cells = operator_command (codes "cells")
 verb_command Check = check_command
@@ -161,7 +175,7 @@ verb_command Stop = stop_command
 verb_command Verify = verify_command
 
 abbrev pub verbs : List Verb
-verbs = Assemble ∷ Cells ∷ Check ∷ Compile ∷ Explain ∷ verb.List ∷ Load ∷ Order ∷ Replay
+verbs = Ask ∷ Assemble ∷ Cells ∷ Check ∷ Compile ∷ Explain ∷ verb.List ∷ Load ∷ Order ∷ Replay
     ∷ verb.Report ∷ Run ∷ Serve ∷ Show ∷ Simulate ∷ Stop ∷ Verify ∷ []
 
 -- all of them, in the order of their names

@@ -4,6 +4,7 @@ pub mod Day
 pub mod Seconds
 pub mod Apps
 pub mod AppOptions
+pub mod ReplyWords
 pub mod Misfits
 pub mod ReportWords
 pub mod Words

@@ -5,6 +5,7 @@ use Rattle.std.specs.Prelude.{List, Option, Some, None, codes}
 use Rattle.clap.specs.Words.{Row, Text, first_of}
 use Rattle.command_line.specs.AppOptions.{LacksAttributes, LacksInstalled, LacksPlace}
 use Rattle.command_line.specs.AppOptions.{LacksTold, TellsOneClient, given, value_in}
+use Rattle.command_line.specs.ReplyWords.{IsReplyMisfit}
 use Rattle.command_line.specs.ReportWords.{IsReportMisfit}
 use Rattle.command_line.specs.Seconds.{LacksMoment}
 use Rattle.command_line.specs.Values.{LacksArrays, LacksText}
@@ -46,6 +47,7 @@ IsAnyMisfit rows misfit.Missing = ¬ LacksArrays rows
 IsAnyMisfit rows misfit = ⊥
 
 abbrev pub IsMisfit : Option Verb → List Row → OptionMisfit → Type 0
+IsMisfit (Some verb.Ask) rows misfit = IsReplyMisfit rows misfit
 IsMisfit (Some verb.Simulate) rows misfit = IsSimulationMisfit rows misfit
 IsMisfit (Some verb.Run) rows misfit = IsRunMisfit rows misfit
 IsMisfit (Some verb.Report) rows misfit = IsReportMisfit rows misfit

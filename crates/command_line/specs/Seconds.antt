@@ -33,7 +33,7 @@ abbrev pub today_told : Option Text → Option ℕ
 today_told None = Some 0
 today_told (Some text) = day_in 2919382 text
 
--- ---- options
+-- ---- `run` and `simulate`
 
 -- the second of `--at`, beside which no day may stand; without it the first one of the day
 abbrev pub moment_told : (at today : Option Text) → Option ℤ
@@ -56,3 +56,10 @@ HasMoment rows moment =
 abbrev pub LacksMoment : List Row → MomentMisfit → Type 0
 LacksMoment rows misfit =
     IsMomentMisfit (first_of (codes "at") rows) (first_of (codes "today") rows) misfit
+
+-- ---- `ask`
+
+-- the second of `--at`, and none of its own without it
+abbrev pub second_told : (at : Option Text) → Option (Option ℤ)
+second_told None = Some None
+second_told (Some text) = option_map Some (second_in text)

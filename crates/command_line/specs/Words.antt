@@ -6,6 +6,7 @@ use Rattle.clap.specs.Words.{Row, Text, first_of}
 use Rattle.command_line.specs.AppOptions.{HasTold, IsAnyones, IsPlace}
 use Rattle.command_line.specs.ReportWords.{AsksToReport}
 use Rattle.command_line.specs.Values.{HasFlag, HasPlan, HasShape, HasShort, HasText}
+use Rattle.command_line.specs.ReplyWords.{AsksForReply}
 use Rattle.command_line.specs.declared.request.AskedRun.{AskedRun}
 use Rattle.command_line.specs.declared.request.AskedSimulation.{AskedSimulation}
 use Rattle.operator_request.specs.declared.request.OperatorRequest.TheVariants as sent
@@ -19,7 +20,8 @@ use Rattle.command_line.specs.declared.verb.Verb.TheVariants as verb
 -- the command of a name
 abbrev pub verb_named : Text → Option Verb
 verb_named name =
-    if bytes_eq name (codes "asm") then Some verb.Assemble
+    if bytes_eq name (codes "ask") then Some verb.Ask
+    else if bytes_eq name (codes "asm") then Some verb.Assemble
     else if bytes_eq name (codes "check") then Some verb.Check
     else if bytes_eq name (codes "compile") then Some verb.Compile
     else if bytes_eq name (codes "explain") then Some verb.Explain
@@ -60,6 +62,7 @@ pub record AsksToSimulate (rows : List Row) (asked : AskedSimulation) : Type 0 w
 
 -- the command, with these arguments, asks for this
 abbrev pub VerbAsks : Option Verb → List Row → CommandRequest → Type 0
+VerbAsks (Some verb.Ask) rows (request.DryRun asked) = AsksForReply rows asked
 VerbAsks (Some verb.Assemble) rows (request.Assemble text out) =
     HasText (codes "IN") rows text.now × HasText (codes "OUT") rows out.now
 VerbAsks (Some verb.Check) rows (request.Check manifest) =

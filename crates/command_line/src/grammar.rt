@@ -6,6 +6,7 @@ ghost use Rattle.clap.specs.Words.{app_of, shape_of};
 ghost use Rattle.clap.specs.declared.builder.command.Command.TheViews.{out-Command as fields_of};
 ghost use Rattle.command_line.specs.Grammar as grammar;
 
+use crate::ask_command::ask_command;
 use crate::program_commands::{
     assemble_command, compile_command, explain_command, list_command, order_command, run_command,
     simulate_command, verify_command,
@@ -25,6 +26,7 @@ fn verb_command<'a>(alloc: Global, verb: Verb) -> Result<Command<'a>, AllocError
     ensures local { IfOk result (λ c. (fields_of c).has_globals ≡ false) }
 {
     match verb {
+        Verb::Ask => ask_command(alloc),
         Verb::Assemble => assemble_command(alloc),
         Verb::Cells => cells_command(alloc),
         Verb::Check => check_command(alloc),

@@ -6,10 +6,13 @@
 // How words are read. `grammar` says to `clap` which commands there are, with the arguments and
 // options of each, and `clap` takes the words by it, or finds their first fault. What it gives are
 // texts by their names; `words` makes a request of them, command by command, and reads the texts of
-// `--arrays`, `--attr`, `--today`, `--at` and `--installed`, which the grammar leaves as they are.
+// `--arrays`, `--attr`, `--today`, `--installed`, `--at` and `--cells`, which the grammar leaves as
+// they are.
 
 mod app_options;
 mod arguments;
+mod ask_command;
+mod ask_words;
 mod date;
 mod day;
 mod fault;
@@ -31,6 +34,8 @@ mod words;
 
 pub use fault::WordsFault;
 pub use option_misfit::{MomentMisfit, OptionMisfit};
-pub use request::{AskedReport, AskedRun, AskedSimulation, CommandRequest, DeclaredShape, Plan};
+pub use request::{
+    AskedReply, AskedReport, AskedRun, AskedSimulation, CommandRequest, DeclaredShape, Plan,
+};
 pub use told::ToldApp;
 pub use words::read_words;

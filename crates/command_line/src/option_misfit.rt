@@ -4,11 +4,13 @@ ghost use Rattle.std.specs.Prelude.{IfSome, Some};
 ghost use Rattle.clap.specs.Words.{subcommand_rows_of, found_of, rows_of};
 ghost use Rattle.command_line.specs.Misfits.{IsAnyMisfit, IsMisfit, IsMisfitOf, IsRunMisfit};
 ghost use Rattle.command_line.specs.Misfits.{IsSimulationMisfit};
+ghost use Rattle.command_line.specs.ReplyWords.{IsReplyMisfit};
 ghost use Rattle.command_line.specs.ReportWords.{IsReportMisfit};
 ghost use Rattle.command_line.specs.Values.{LacksArrays};
 ghost use Rattle.command_line.specs.Words.{IsNothingAsked, VerbAsksNothing};
 
 use crate::app_options::{installed_of, place_of, told_at};
+use crate::ask_words::reply_of;
 use crate::options::arrays_of;
 use crate::report_words::report_of;
 use crate::request::NoRequest;
@@ -40,6 +42,10 @@ pub enum OptionMisfit {
     Until,
     #[error("MANIFEST is missing")]
     Manifest,
+    #[error("REQUEST is missing")]
+    Request,
+    #[error("'--cells' wants NAME[INDEX]=VALUE, as early[0]=283")]
+    Cells,
     #[error("'--bucket' can't stand beside a cohort that names a bucket")]
     Bucket,
     #[error("a value that the command requires is missing, or out of its range")]
@@ -83,6 +89,7 @@ fn misfit_among(alloc: Global, verb: Option<Verb>, found: &ArgMatches<'_>) -> Op
     ensures { IfSome result (IsMisfit verb (rows_of (found_of found.now))) }
 {
     match verb {
+        Some(Verb::Ask) => reply_misfit(alloc, found),
         Some(Verb::Simulate) => Some(simulation_misfit(found)),
         Some(Verb::Run) => run_misfit(alloc, found),
         Some(Verb::Report) => report_misfit(alloc, found),
@@ -105,6 +112,17 @@ fn report_misfit(alloc: Global, found: &ArgMatches<'_>) -> Option<OptionMisfit>
     ensures { IfSome result (IsReportMisfit (rows_of (found_of found.now))) }
 {
     match report_of(alloc, found) {
+        Ok(_asked) => unreachable!(),
+        Err(Unasked::Misfit(misfit)) => Some(misfit),
+        Err(Unasked::Memory) => None,
+    }
+}
+
+fn reply_misfit(alloc: Global, found: &ArgMatches<'_>) -> Option<OptionMisfit>
+    requires { VerbAsksNothing (Some Verb.Ask) (rows_of (found_of found.now)) }
+    ensures { IfSome result (IsReplyMisfit (rows_of (found_of found.now))) }
+{
+    match reply_of(alloc, found) {
         Ok(_asked) => unreachable!(),
         Err(Unasked::Misfit(misfit)) => Some(misfit),
         Err(Unasked::Memory) => None,

@@ -3,10 +3,11 @@
 ghost use Rattle.std.specs.Prelude.{◌≤◌};
 
 use crate::told::ToldApp;
-use attrs::Bucket;
+use attrs::{Bucket, Moment};
 use declarations::ArrayDeclaration;
 use moments::NamedTime;
 use operator_request::OperatorRequest;
+use told_cells::ToldCell;
 
 /// The shape that a program is judged under, as the words declare it: how many releases the app
 /// has, and the arrays that the program may use.
@@ -48,9 +49,22 @@ pub struct AskedReport<'a> {
     pub prometheus: bool,
 }
 
+/// A reply that is asked for beforehand: of a manifest's server to a request's body, at a moment or
+/// now, with counters of which these are told, or a server's.
+#[derive(Drop)]
+pub struct AskedReply<'a> {
+    pub manifest: &'a str,
+    pub request: &'a str,
+    pub at: Option<Moment>,
+    pub cells: Vec<ToldCell<'a>>,
+    pub operator: Option<u16>,
+}
+
 /// One request of the command line.
 #[derive(Drop)]
 pub enum CommandRequest<'a> {
+    /// Tell the reply to a request.
+    DryRun(AskedReply<'a>),
     /// Assemble the text of one file into another.
     Assemble {
         text: &'a str,

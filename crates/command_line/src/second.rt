@@ -1,7 +1,7 @@
 //! The moment that the options tell, as a Unix second.
 
-ghost use Rattle.std.specs.Prelude.{◌≡◌, ◌≤◌, IfErr, IfOk, IfSome, Some, option_copied};
-ghost use Rattle.clap.specs.Words.{found_of, rows_of};
+ghost use Rattle.std.specs.Prelude.{◌≡◌, ◌≤◌, IfErr, IfOk, IfSome, Some, codes, option_copied};
+ghost use Rattle.clap.specs.Words.{first_of, found_of, rows_of};
 ghost use Rattle.command_line.specs.Seconds as specs;
 
 use crate::day::day_in;
@@ -53,7 +53,7 @@ fn today_told(text: Option<&str>) -> Option<u32>
     }
 }
 
-// ---- options
+// ---- `run` and `simulate`
 
 /// The moment of an app: that of `--at`, or the first second of the day of `--today`, which is day
 /// 0 where the words tell none. Both may not stand.
@@ -80,5 +80,26 @@ fn moment_told(at: Option<&str>, today: Option<&str>) -> Result<Moment, MomentMi
             Some(day) => Ok((FIRST_SECOND + 86400 * day as u64) as i64),
             None => Err(MomentMisfit::Today),
         },
+    }
+}
+
+// ---- `ask`
+
+/// The moment of `--at`, where the words tell one. None where it is ill-written.
+pub fn second_of(found: &ArgMatches<'_>) -> Option<Option<Moment>>
+    ensures { result ≡ specs.second_told (first_of (codes "at") (rows_of (found_of found.now))) }
+{
+    second_told(optional_text(found, "at"))
+}
+
+fn second_told(text: Option<&str>) -> Option<Option<Moment>>
+    ensures { result ≡ specs.second_told (option_copied text.entry) }
+{
+    match text {
+        Some(text) => match second_in(text) {
+            Some(second) => Some(Some(second)),
+            None => None,
+        },
+        None => Some(None),
     }
 }

@@ -6,6 +6,7 @@ ghost use Rattle.command_line.specs.Words.{verb_named};
 /// A command.
 #[derive(Clone, Copy)]
 pub enum Verb {
+    Ask,
     Assemble,
     Check,
     Compile,
@@ -25,7 +26,8 @@ pub enum Verb {
 }
 
 /// All commands, by their names' order.
-pub const VERBS: [Verb; 16] = [
+pub const VERBS: [Verb; 17] = [
+    Verb::Ask,
     Verb::Assemble,
     Verb::Cells,
     Verb::Check,
@@ -49,6 +51,7 @@ pub fn verb_named(name: &str) -> Option<Verb>
     ensures { result ≡ verb_named name.now }
 {
     match name {
+        "ask" => Some(Verb::Ask),
         "asm" => Some(Verb::Assemble),
         "check" => Some(Verb::Check),
         "compile" => Some(Verb::Compile),

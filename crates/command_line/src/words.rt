@@ -9,6 +9,7 @@ ghost use Rattle.command_line.specs.Grammar.{commands};
 ghost use Rattle.command_line.specs.Requests.{AskFor, IsWordsFault};
 ghost use Rattle.command_line.specs.Words.{IsAsked, IsNothingAsked, VerbAsks, VerbAsksNothing};
 
+use crate::ask_words::reply_asked;
 use crate::fault::WordsFault;
 use crate::grammar::grammar;
 use crate::option_misfit::misfit_of;
@@ -143,6 +144,7 @@ fn request_named<'a>(
         → VerbAsksNothing verb (rows_of (found_of found.now)) }
 {
     match verb {
+        Some(Verb::Ask) => reply_asked(alloc, found),
         Some(Verb::Assemble) => assemble_asked(found),
         Some(Verb::Check) => check_asked(found),
         Some(Verb::Compile) => compile_asked(alloc, found),

@@ -8,6 +8,7 @@ use Rattle.command_line.specs.declared.request.CommandRequest.TheVariants as req
 use Rattle.operator_request.specs.declared.request.OperatorRequest.TheVariants as sent
 use Rattle.commands.specs.Asked.{IsAskRefusal, IsDoneAs}
 use Rattle.commands.specs.Clients.{client_told}
+use Rattle.commands.specs.DryRuns.{HasDryRun, IsDryRunRefusal}
 use Rattle.commands.specs.declared.answer.Answer.{Answer}
 use Rattle.commands.specs.declared.answer.Answer.TheVariants.{Assembled, Checked, Compiled}
 use Rattle.commands.specs.declared.answer.Answer.TheVariants.{Explained, Simulated}
@@ -33,6 +34,7 @@ use Rattle.serving.specs.Manifests.{RefusesToServe}
 
 module _ (known : KnownFiles) where
   abbrev pub IsAnswer : CommandRequest → Answer → Type 0
+  IsAnswer (request.DryRun asked) (answer.DryRun body) = HasDryRun known asked body.items
   IsAnswer (request.Assemble text out) (Assembled program) =
       IsAssembledFrom known text.now program.items
   IsAnswer (request.Check manifest) (Checked told) =
@@ -64,6 +66,7 @@ module _ (known : KnownFiles) where
   IsAnswer asked answer = ⊥
 
   abbrev pub IsRefused : CommandRequest → Fault → Type 0
+  IsRefused (request.DryRun asked) fault = IsDryRunRefusal known asked fault
   IsRefused (request.Assemble text out) (Program fault) = IsAssemblyRefusal known text.now fault
   IsRefused (request.Check manifest) (Manifest fault) = IsCheckRefusal known manifest.now fault
   IsRefused (request.Compile text shape out) (Program fault) =

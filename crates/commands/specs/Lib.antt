@@ -1,5 +1,6 @@
 pub mod Texts
 pub mod Asked
 pub mod Clients
+pub mod DryRuns
 pub mod Answers
 pub mod Commands

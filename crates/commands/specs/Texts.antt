@@ -10,12 +10,13 @@ use Rattle.commands.specs.declared.answer.Answer.TheVariants.{Ordered, Ready, Tr
 use Rattle.commands.specs.declared.answer.Answer.TheVariants as answer
 use Rattle.commands.specs.declared.fault.Fault.{Fault}
 use Rattle.commands.specs.declared.fault.Fault.TheVariants.{Resource, Program, Manifest}
-use Rattle.commands.specs.declared.fault.Fault.TheVariants.{Serving, Ask}
+use Rattle.commands.specs.declared.fault.Fault.TheVariants.{Serving, Ask, DryRun}
 use Rattle.commands.specs.declared.fault.Fault.TheVariants as fault
 use Rattle.manifest_tools.specs.Manifests as manifest
 use Rattle.manifest_tools.specs.declared.fault.ManifestToolFault.TheVariants as tool
 use Rattle.program_tools.specs.Texts as program
 use Rattle.bounded_files.specs.Texts.{resource_text}
+use Rattle.dry_run.specs.Texts.{dry_run_text}
 use Rattle.printing.specs.Printed.{printed}
 use Rattle.ruleset.specs.Texts.{line}
 use Rattle.operator.specs.Texts.{ask_text}
@@ -40,6 +41,7 @@ answer_text (Traced lines choice instructions) =
 answer_text (Replayed text) = string_bytes text
 answer_text (answer.Reported text) = string_bytes text
 answer_text (answer.Simulated told) = string_bytes told.text
+answer_text (answer.DryRun body) = body.items
 answer_text (answer.Told text) = string_bytes text
 -- the first generation
 answer_text (Ready server plan) = serving_line 1
@@ -58,6 +60,7 @@ abbrev pub fault_text : Fault → Option (List ℕ)
 fault_text (Resource fault) = Some (resource_text fault)
 fault_text (Program fault) = program.fault_text fault
 fault_text (Manifest fault) = manifest.fault_text fault
+fault_text (DryRun fault) = dry_run_text fault
 fault_text (Serving fault) = serving_text fault
 fault_text (Ask fault) = Some (ask_text fault)
 -- the words of a server, or of who else listens at its port

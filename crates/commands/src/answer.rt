@@ -7,9 +7,9 @@ use command_line::Plan;
 use hot_swap::Generation;
 use manifest_tools::{CheckedManifest, ToldSimulation};
 use serving::Server;
-use std::fmt;
+use std::{fmt, str};
 
-/// What a request is answered, by lines that are each ended by LF.
+/// What a request is answered, by lines that are each ended by LF, but for the body of a reply.
 #[derive(Drop)]
 pub enum Answer {
     /// The text was assembled into these bytes, of which the number of slots is printed.
@@ -59,6 +59,10 @@ pub enum Answer {
     },
     /// What is told of a simulation, of which the lines are printed.
     Simulated(ToldSimulation),
+    /// The body of a reply that a server would send.
+    DryRun {
+        body: Vec<u8>,
+    },
     /// The lines of a server's reply.
     Told {
         text: String,
@@ -115,6 +119,10 @@ impl fmt::Display for Answer {
             Answer::Replayed { text } => f.write_str(text),
             Answer::Reported { text } => f.write_str(text),
             Answer::Simulated(told) => f.write_str(told.text.as_str()),
+            Answer::DryRun { body } => match str::from_utf8(body.as_slice()) {
+                Ok(text) => f.write_str(text),
+                Err(_) => Err(fmt::Error),
+            },
             Answer::Told { text } => f.write_str(text),
             Answer::Ready { .. } => {
                 let first: Generation = 1;

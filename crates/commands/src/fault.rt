@@ -4,6 +4,7 @@ ghost use Rattle.std.specs.Prelude.{◌≡◌};
 ghost use Rattle.commands.specs.Texts.{fault_text, refusal_reason};
 
 use bounded_files::ResourceFault;
+use dry_run::DryRunFault;
 use manifest_tools::ManifestToolFault;
 use operator::AskFault;
 use printing::Printed;
@@ -20,6 +21,8 @@ pub enum Fault {
     Program(ProgramToolFault),
     /// `check`, `replay` or `simulate` is refused.
     Manifest(ManifestToolFault),
+    /// B3, B4, B7, M1 to M8, O1 to O5, P5: there is no reply to a request.
+    DryRun(DryRunFault),
     /// There is no server, or none that serves.
     Serving(ServingFault),
     /// B1, B4, B5: a server isn't asked.
@@ -48,6 +51,7 @@ impl fmt::Display for Fault {
             Fault::Resource(fault) => f.write_str(fault.name()),
             Fault::Program(fault) => write!(f, "{fault}"),
             Fault::Manifest(fault) => write!(f, "{fault}"),
+            Fault::DryRun(fault) => write!(f, "{fault}"),
             Fault::Serving(fault) => write!(f, "{fault}"),
             Fault::Ask(fault) => f.write_str(fault.name()),
             Fault::Told(text) => {

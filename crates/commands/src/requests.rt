@@ -5,6 +5,7 @@ ghost use Rattle.commands.specs.Answers.{IsAnswer, IsRefused};
 
 use crate::answer::Answer;
 use crate::ask::{ask_server, stop_and_wait};
+use crate::dry_runs::dry_run_of;
 use crate::fault::Fault;
 use crate::reports::reported;
 use crate::runs::{chosen, traced};
@@ -34,6 +35,7 @@ where
 {
     let alloc = rt.alloc();
     match request {
+        CommandRequest::DryRun(asked) => dry_run_of(rt, disk, asked),
         CommandRequest::Assemble { text, out } => Ok(Answer::Assembled {
             program: assemble_file(rt, disk, text, out).map_err(Fault::Program)?,
         }),

@@ -3,6 +3,7 @@
 //! folder of its own, where its files lie.
 
 mod arrays;
+mod asks;
 mod attributes;
 mod checks;
 mod explanations;

@@ -28,6 +28,11 @@ rollout run p.bin --releases 63 --today 2026-12-01 -> choice 42 after 3 instruct
 rollout run p.bin --releases 63 --today 9999-12-31 -> choice 22 after 3 instructions
 rollout run p.bin --releases 63 --today 2919382 -> choice 22 after 3 instructions
 
+ldxw r0, [r1+28] / div r0, 600 / mod r0, 64 / exit ; ten minutes of the day
+rollout run p.bin --releases 63 --today 2026-12-01 -> choice 0 after 4 instructions
+rollout run p.bin --releases 63 --at 2026-12-01T03:09:59Z -> choice 18 after 4 instructions
+rollout run p.bin --releases 63 --at 1796094600 -> choice 19 after 4 instructions
+
 ldxw r0, [r1+20] / mod r0, 64 / exit
 rollout run p.bin --releases 63 -> choice 63 after 3 instructions
 rollout run p.bin --releases 63 --installed 4294967294 -> choice 62 after 3 instructions

@@ -79,6 +79,8 @@ rollout simulate z_7.toml --attr cohort=x --svg z_7.toml -> no appid and no coho
 rollout simulate z_7.toml --attr colour=red -> '--attr' wants NAME=TEXT
 rollout simulate z_7.toml --attr appid=x --attr appid=y -> '--attr' wants NAME=TEXT
 rollout simulate z_7.toml --today 2919383 --attr appid=x -> '--today' wants a day
+rollout simulate z_7.toml --at x --attr appid=x -> '--at' wants a time
+rollout simulate z_7.toml --at 0 --today 0 --svg z_7.toml -> can't stand beside each other
 rollout simulate z_7.toml --installed x --svg z_7.toml -> '--installed' wants a day
 rollout simulate z_7.toml --svg z_7.toml -> '--svg' names a manifest
 rollout simulate z_7.toml --against z_8.toml --svg z_8.toml -> '--svg' names a manifest";

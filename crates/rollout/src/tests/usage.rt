@@ -26,6 +26,8 @@ rollout run a.bin --releases 0 --today 2006-12-31 -> usage
 rollout run a.bin --releases 0 --today 2026-02-29 -> usage
 rollout run a.bin --releases 0 --today 2026-2-01 -> usage
 rollout run a.bin --releases 0 --today 10000-01-01 -> usage
+rollout run a.bin --releases 0 --at 2026-12-01 -> usage
+rollout run a.bin --releases 0 --at 0 --today 0 -> usage
 rollout run a.bin --releases 0 --installed 4294967295 -> usage
 rollout run a.bin --releases 0 --installed x -> usage
 rollout verify a.bin --releases 0 --bucket 1 -> usage
@@ -75,6 +77,8 @@ rollout order --help -> <IN> <OUT>
 rollout verify --help -> name:width:length
 rollout run --help -> --bucket
 rollout check --help -> MANIFEST
+rollout ask --help -> <MANIFEST> <REQUEST>
+rollout ask --help -> --cells <NAME[I]=V>
 rollout replay --help -> start 0 agent 4998 -
 rollout replay --help -> step 0 8
 rollout simulate --help -> --against <MANIFEST>

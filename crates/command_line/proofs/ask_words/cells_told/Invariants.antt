@@ -1,0 +1,13 @@
+use Rattle.std.proofs.Common.{◌≡◌, ◌++◌, map, length}
+use Rattle.std.specs.Prelude.{option_map}
+use Rattle.command_line.specs.ReplyWords as specs
+use Rattle.command_line.proofs.ask_words.cells_told.Given as goal
+
+-- what is told so far, and then what the texts that are left tell, is all
+abbrev pub invariant-loop-rest : goal.invariant-loop-rest
+invariant-loop-rest l =
+    specs.cells_told (map (λ text. text.now) l.given)
+    ≡ option_map (λ cs. l.cells.items ++ cs) (specs.cells_told (map (λ text. text.now) l.rest))
+
+abbrev pub decreases-loop-rest : goal.decreases-loop-rest
+decreases-loop-rest l = length l.rest

@@ -1,0 +1,65 @@
+-- What the words of `ask` ask for, and which of them is ill-written.
+use Rattle.std.specs.Prelude.{◌≡◌, List, [], ◌∷◌, codes, IfNone, IfSome}
+use Rattle.std.specs.Prelude.{Option, Some, None, option_and_then, option_map}
+use Rattle.clap.specs.Words.{Row, Text, first_of}
+use Rattle.told_cells.specs.Told.{Told, assigned}
+use Rattle.command_line.specs.Seconds.{second_told}
+use Rattle.command_line.specs.Values.{HasShort, HasText, LacksShort, LacksText, texts_of}
+use Rattle.command_line.specs.declared.option_misfit.MomentMisfit.TheVariants as moment
+use Rattle.command_line.specs.declared.option_misfit.OptionMisfit.{OptionMisfit}
+use Rattle.command_line.specs.declared.option_misfit.OptionMisfit.TheVariants as misfit
+use Rattle.command_line.specs.declared.option_misfit.Unasked.{Unasked}
+use Rattle.command_line.specs.declared.option_misfit.Unasked.TheVariants as unasked
+use Rattle.command_line.specs.declared.request.AskedReply.{AskedReply}
+
+-- ---- the counters
+
+abbrev pub joined : Option Told → Option (List Told) → Option (List Told)
+joined first rest = option_and_then (λ c. option_map (λ cs. c ∷ cs) rest) first
+
+-- all cells that texts tell, each NAME[INDEX]=VALUE
+abbrev pub cells_told : List Text → Option (List Told)
+cells_told [] = Some []
+cells_told (text ∷ more) = joined (assigned text) (cells_told more)
+
+abbrev pub HasCells : List Row → List Told → Type 0
+HasCells rows cells = cells_told (texts_of (codes "cells") rows) ≡ Some cells
+
+abbrev pub LacksCells : List Row → Type 0
+LacksCells rows = cells_told (texts_of (codes "cells") rows) ≡ None
+
+-- ---- all words
+
+-- the reply to a request, of a manifest's server, at a moment or now, with counters as they are
+-- told, or as a server has them
+pub record AsksForReply (rows : List Row) (asked : AskedReply) : Type 0 where
+  pub manifest : HasText (codes "MANIFEST") rows asked.manifest.now
+  pub request : HasText (codes "REQUEST") rows asked.request.now
+  pub at : second_told (first_of (codes "at") rows) ≡ Some asked.at
+  pub cells : HasCells rows asked.cells.items
+  pub port : IfSome asked.operator (HasShort (codes "operator") rows)
+  pub no_port : IfNone asked.operator (LacksShort (codes "operator") rows)
+
+-- ---- what is ill-written
+
+abbrev pub IsReplyMisfit : List Row → OptionMisfit → Type 0
+IsReplyMisfit rows misfit.Manifest = LacksText (codes "MANIFEST") rows
+IsReplyMisfit rows misfit.Request = LacksText (codes "REQUEST") rows
+IsReplyMisfit rows (misfit.Moment moment.At) = second_told (first_of (codes "at") rows) ≡ None
+IsReplyMisfit rows misfit.Cells = LacksCells rows
+IsReplyMisfit rows misfit = ⊥
+
+-- texts that tell no cells
+abbrev pub IsCellsMisfit : List Text → OptionMisfit → Type 0
+IsCellsMisfit texts misfit.Cells = cells_told texts ≡ None
+IsCellsMisfit texts misfit = ⊥
+
+-- why no reply is asked for, and why no cells are told; of memory that was refused no claim is
+-- made
+abbrev pub LacksReply : List Row → Unasked → Type 0
+LacksReply rows (unasked.Misfit misfit) = IsReplyMisfit rows misfit
+LacksReply rows unasked.Memory = Unit {0}
+
+abbrev pub LacksCellsTold : List Text → Unasked → Type 0
+LacksCellsTold texts (unasked.Misfit misfit) = IsCellsMisfit texts misfit
+LacksCellsTold texts unasked.Memory = Unit {0}

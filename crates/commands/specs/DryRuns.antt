@@ -1,0 +1,78 @@
+-- What `ask` tells, and why it tells nothing. Which second the clock tells no contract can say, nor
+-- which counters a server has.
+use Rattle.std.specs.Prelude.{◌≡◌, ◌⊎◌, ℕ, ℤ, List, [], Option, Some, None, IsSome}
+use Rattle.std.specs.Str.Lines.{lines}
+use Rattle.bounded_files.specs.Files.{KnownFiles}
+use Rattle.bounded_files.specs.declared.fault.ResourceFault.TheVariants as resource
+use Rattle.cells.specs.declared.array.CellArray.{CellArray}
+use Rattle.command_line.specs.declared.request.AskedReply.{AskedReply}
+use Rattle.dry_run.specs.Files.{AreOpened, IsOpenFault}
+use Rattle.dry_run.specs.Told.{IsUnanswered, RepliesAsTold}
+use Rattle.operator_request.specs.declared.request.OperatorRequest.TheVariants as sent
+use Rattle.ruleset.specs.Rules.{Rules}
+use Rattle.told_cells.specs.Told.{Told, told_by}
+use Rattle.commands.specs.Asked.{IsAskRefusal, IsDoneAs}
+use Rattle.commands.specs.declared.fault.Fault.{Fault}
+use Rattle.commands.specs.declared.fault.Fault.TheVariants.{Ask, DryRun, Resource}
+use Rattle.commands.specs.declared.fault.Fault.TheVariants as fault
+
+-- ---- by a ruleset with its arrays, to a body
+
+-- cells that some reply to `cells` tells, and none without a port
+abbrev pub AreServed : (port : Option ℕ) → List Told → Type 0
+AreServed None served = served ≡ []
+AreServed (Some port) served =
+    (reply : List ℕ) × IsDoneAs sent.Cells reply × (served ≡ told_by (lines reply))
+
+-- the moment of the words, or any other without one
+abbrev pub IsAt : (at : Option ℤ) → ℤ → Type 0
+IsAt None moment = Unit {0}
+IsAt (Some at) moment = moment ≡ at
+
+-- the reply at that moment, with the counters of that server and of the words
+pub record IsReplyBy (rules : Rules) (arrays : List CellArray) (body : List ℕ)
+    (asked : AskedReply) (text : List ℕ) : Type 0 where
+  pub moment : ℤ
+  pub at : IsAt asked.at moment
+  pub served : List Told
+  pub told : AreServed asked.operator served
+  pub replies : RepliesAsTold rules arrays body moment served asked.cells.items text
+
+-- why there is none: the server of the port, where one is told, then the counters and the body; of
+-- memory no claim is made
+abbrev pub IsReplyFault : List CellArray → (body : List ℕ) → AskedReply → Fault → Type 0
+IsReplyFault arrays body asked (DryRun why) =
+    (served : List Told) × AreServed asked.operator served
+    × IsUnanswered arrays body served asked.cells.items why
+IsReplyFault arrays body asked (Ask why) =
+    IsSome asked.operator × IsAskRefusal sent.Cells (Ask why)
+IsReplyFault arrays body asked (fault.Told text) =
+    IsSome asked.operator × IsAskRefusal sent.Cells (fault.Told text)
+IsReplyFault arrays body asked (Resource resource.Memory) = Unit {0}
+IsReplyFault arrays body asked why = ⊥
+
+-- ---- by the files
+
+-- the reply to the body that one file has, by the ruleset that the other comes to
+pub record HasDryRun (known : KnownFiles) (asked : AskedReply) (text : List ℕ) : Type 0 where
+  pub rules : Rules
+  pub arrays : List CellArray
+  pub body : List ℕ
+  pub opened : AreOpened known asked.manifest.now asked.request.now rules arrays body
+  pub reply : IsReplyBy rules arrays body asked text
+
+-- why there is none, where the files come to a ruleset and a body
+pub record IsUnansweredFile (known : KnownFiles) (asked : AskedReply) (why : Fault)
+    : Type 0 where
+  pub rules : Rules
+  pub arrays : List CellArray
+  pub body : List ℕ
+  pub opened : AreOpened known asked.manifest.now asked.request.now rules arrays body
+  pub because : IsReplyFault arrays body asked why
+
+-- and where they don't: that comes first
+abbrev pub IsDryRunRefusal : KnownFiles → AskedReply → Fault → Type 0
+IsDryRunRefusal known asked (DryRun why) =
+    IsOpenFault known asked.manifest.now asked.request.now why
+    ⊎ IsUnansweredFile known asked (DryRun why)
+IsDryRunRefusal known asked why = IsUnansweredFile known asked why

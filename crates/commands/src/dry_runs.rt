@@ -1,0 +1,99 @@
+//! `ask`: the reply that a server would send.
+
+ghost use Rattle.std.specs.Prelude.{IfOk, IfErr, IsSome};
+ghost use Rattle.std.specs.String.{string_bytes};
+ghost use Rattle.std.specs.Str.Lines.{lines};
+ghost use Rattle.told_cells.specs.Told.{told_by};
+ghost use Rattle.commands.specs.Answers.{IsAnswer, IsRefused};
+ghost use Rattle.commands.specs.Asked.{IsAskRefusal};
+ghost use Rattle.commands.specs.DryRuns as specs;
+
+use crate::answer::Answer;
+use crate::ask::ask_server;
+use crate::fault::Fault;
+use attrs::Moment;
+use bounded_files::ResourceFault;
+use command_line::{AskedReply, CommandRequest};
+use dry_run::{Opened, open_files, reply_as_told};
+use load::Disk;
+use operator_request::OperatorRequest;
+use std::net::{Net, TcpStream};
+use std::time::{Clock, SystemTime, UNIX_EPOCH};
+use told_cells::told_lines;
+
+/// The body of the reply. The files are opened first, then a server is asked for its counters,
+/// where a port is told.
+// open: which counters a server has, and which second the clock tells: tests.
+pub fn dry_run_of<R, D>(rt: &R, disk: &D, asked: &AskedReply<'_>) -> Result<Answer, Fault>
+where
+    R: AllocGlobal + Clock + Net<Stream = TcpStream>,
+    D: Disk,
+    ensures answer { IfOk result (IsAnswer (D.known disk.now) (CommandRequest.DryRun asked.now)) }
+    ensures fault { IfErr result (IsRefused (D.known disk.now) (CommandRequest.DryRun asked.now)) }
+{
+    let opened = match open_files(rt.alloc(), disk, asked.manifest, asked.request) {
+        Ok(opened) => opened,
+        Err(fault) => return Err(Fault::DryRun(fault)),
+    };
+    match reply_to(rt, &opened, asked) {
+        Ok(body) => Ok(Answer::DryRun { body }),
+        Err(fault) => Err(fault),
+    }
+}
+
+// The body of the reply, by what the files come to.
+fn reply_to<R>(rt: &R, opened: &Opened, asked: &AskedReply<'_>) -> Result<Vec<u8>, Fault>
+where
+    R: AllocGlobal + Clock + Net<Stream = TcpStream>,
+    ensures reply { IfOk result (λ body. specs.IsReplyBy opened.now.rules opened.now.directory
+        opened.now.body.items asked.now body.items) }
+    ensures fault { IfErr result (specs.IsReplyFault opened.now.directory opened.now.body.items
+        asked.now) }
+{
+    let reply = match served_reply(rt, asked.operator) {
+        Ok(reply) => reply,
+        Err(fault) => return Err(fault),
+    };
+    let Ok(served) = told_lines(rt.alloc(), reply.as_str()) else {
+        return Err(Fault::Resource(ResourceFault::Memory));
+    };
+    let moment = moment_of(rt, asked.at);
+    match reply_as_told(rt.alloc(), opened, &moment, &served, &asked.cells) {
+        Ok(body) => Ok(body),
+        Err(fault) => Err(Fault::DryRun(fault)),
+    }
+}
+
+// The lines of a server's counters, and none without a port.
+fn served_reply<R>(rt: &R, port: Option<u16>) -> Result<String, Fault>
+where
+    R: AllocGlobal + Net<Stream = TcpStream>,
+    ensures served { IfOk result (λ t. specs.AreServed port (told_by (lines (string_bytes t)))) }
+    ensures fault { IfErr result (λ fault. IsSome port × IsAskRefusal OperatorRequest.Cells fault) }
+{
+    match port {
+        Some(port) => ask_server(rt, OperatorRequest::Cells, port),
+        None => Ok(String::new(rt.alloc())),
+    }
+}
+
+// The moment of the words, or the clock's.
+fn moment_of<R: Clock>(rt: &R, at: Option<Moment>) -> Moment
+    ensures { specs.IsAt at result }
+{
+    match at {
+        Some(moment) => moment,
+        None => unix_second(rt),
+    }
+}
+
+// The second by the clock; 0 where it can't be read, which counts as the first of 2007.
+fn unix_second<R: Clock>(rt: &R) -> Moment {
+    let Ok(now) = SystemTime::now(rt) else {
+        return 0;
+    };
+    match now.duration_since(UNIX_EPOCH) {
+        Ok(since) => i64::try_from(since.as_secs()).unwrap_or(0),
+        Err(_) => 0,
+    }
+}
