@@ -70,7 +70,11 @@ const BODIES: [(&str, &[u8]); 6] = [
 /// Words, the apps of the reply, and its day and second.
 const ROWS: [(&str, &str, &str); 10] = [
     ("a_x.json --at 2026-12-01T03:00:00Z", "7", "7274 10800"),
-    ("a_x.json --at 2026-12-01T04:00:00.999+01:00", "7", "7274 10800"),
+    (
+        "a_x.json --at 2026-12-01T04:00:00.999+01:00",
+        "7",
+        "7274 10800",
+    ),
     ("a_x.json --at 1796094000", "7", "7274 10800"),
     ("a_x.json --at 0 --cells early[0]=1", "7", "0 0"),
     (
