@@ -1,7 +1,7 @@
 //! What is told of a rule that is asked, for an app `x` of two releases, 2.0.4 and 3.0.0, and the
 //! arrays `q`, of one cell with a quota, and `n`, of ten cells without.
 
-use crate::rules::{must, shape};
+use crate::rules::{must, shape, with_characters};
 use crate::warned::{lines_of, manifest_of, releases_of};
 use cells::Shape;
 use releases::Release;
@@ -13,8 +13,8 @@ use warnings::{AskedRule, tell_rule};
 /// The releases of the app.
 const RELEASES: &str = "2.0.4 https://dl.example/, 3.0.0 https://dl.example/";
 
-/// Each row: a rule, in which ` / ` ends a line, and the warnings on it. A line that two blanks begin
-/// goes on with the rule.
+/// Each row: a rule, in which ` / ` ends a line, and the warnings on it. `<MORE>` breaks a line in
+/// two. A line that two blanks begin goes on with the rule.
 const ROWS: &str = r#"
 - when version < 2.0.4 offer 1; / when version < 3.0.0 and bucket < 500 offer 2; / otherwise none;
 - when version < 2.0.4 offer 1; / otherwise none;
@@ -24,24 +24,29 @@ warning no-bucket: app[1].release[2]: no bucket gets it
 warning offered-again: app[1].release[1].version: in some bucket who has it may get it again
 warning offered-lower: app[1].release[2].version: in some bucket who has it may get a lower one
 - when bucket < 5 offer 1; / when bucket < 10 offer 2; / otherwise none;
-warning few-buckets: app[1].rule: line 1: bucket < 5 is 0.05 percent of the bucket numbers: one percent is 100 of them
-warning few-buckets: app[1].rule: line 2: bucket < 10 is 0.10 percent of the bucket numbers: one percent is 100 of them
+warning few-buckets: app[1].rule: line 1: bucket < 5 is 0.05 percent of the bucket numbers: <MORE>
+one percent is 100 of them
+warning few-buckets: app[1].rule: line 2: bucket < 10 is 0.10 percent of the bucket numbers: <MORE>
+one percent is 100 of them
 warning offered-again: app[1].release[1].version: in some bucket who has it may get it again
 warning offered-again: app[1].release[2].version: in some bucket who has it may get it again
 warning offered-lower: app[1].release[2].version: in some bucket who has it may get a lower one
 - when bucket < 25000 offer 1; / when version < 3.0.0 offer 2; / otherwise none;
-warning all-buckets: app[1].rule: line 1: bucket < 25000 is all of the bucket numbers: one percent is 100 of them
+warning all-buckets: app[1].rule: line 1: bucket < 25000 is all of the bucket numbers: <MORE>
+one percent is 100 of them
 warning never-reached: app[1].rule: line 2: this when is never reached
 warning offered-again: app[1].release[1].version: in some bucket who has it may get it again
 warning no-bucket: app[1].release[2]: no bucket gets it
 warning offered-lower: app[1].release[2].version: in some bucket who has it may get a lower one
-- when version < 2.0.4 offer 2; / when version == 2.0.4 and bucket == 9999 offer 1; / otherwise none;
+- when version < 2.0.4 offer 2; <MORE>
+/ when version == 2.0.4 and bucket == 9999 offer 1; / otherwise none;
 warning offered-again: app[1].release[1].version: in some bucket who has it may get it again
 - when version < 4 offer 2; / # never so far / when version < 2.0.4 offer 1; / otherwise none;
 warning never-holds: app[1].rule: line 3: this when never holds
 warning offered-again: app[1].release[2].version: in some bucket who has it may get it again
 - when version < 2 or version >= 2 offer 1; / when bucket < 5 offer 2; / otherwise none;
-warning few-buckets: app[1].rule: line 2: bucket < 5 is 0.05 percent of the bucket numbers: one percent is 100 of them
+warning few-buckets: app[1].rule: line 2: bucket < 5 is 0.05 percent of the bucket numbers: <MORE>
+one percent is 100 of them
 warning never-reached: app[1].rule: line 2: this when is never reached
 warning offered-again: app[1].release[1].version: in some bucket who has it may get it again
 warning no-bucket: app[1].release[2]: no bucket gets it
@@ -83,7 +88,8 @@ warning no-bucket: app[1].release[2]: no bucket gets it
 - when version == 3.0.0 or version < 2.0.4 offer 1; / otherwise none;
 warning no-bucket: app[1].release[2]: no bucket gets it
 warning offered-lower: app[1].release[2].version: in some bucket who has it may get a lower one
-- count n[0]; / when version < 3.0.0 and take(q, 0) offer 2; / when version < 2.0.4 offer 1; / otherwise none;
+- count n[0]; / when version < 3.0.0 and take(q, 0) offer 2; <MORE>
+/ when version < 2.0.4 offer 1; / otherwise none;
 - when take(q, 0) offer 2; / when version < 2.0.4 offer 1; / otherwise none;
 warning offered-again: app[1].release[2].version: in some bucket who has it may get it again
 - when flag ping offer 1; / when version < 3.0.0 and flag updatecheck offer 2; / otherwise none;
@@ -134,6 +140,7 @@ pub(crate) fn told(alloc: Global, text: &str, room: u64) -> Result<(String, u64)
 }
 
 fn check_row(alloc: Global, row: &str) -> Result<(), Fail> {
+    let row = with_characters(alloc, row)?;
     let row = row.replace(alloc, " /\n  ", " / ")?;
     let (rule, want) = row.split_once("\n").unwrap_or((row.as_str(), ""));
     let rule = rule.replace(alloc, " / ", "\n")?;

@@ -30,7 +30,8 @@ line 1, column 17: "&" is no word of a rule: conditions are joined by and, or an
   when bucket < 5 && today > 1 offer 1;
                   ^
 - when today >= 2026-12-01 offer 1; / otherwise none;
-line 1, column 19: "-" is no word of a rule: a number has no sign, and a day is one, counted from 2007-01-01: 2026-12-01 is 7274
+line 1, column 19: "-" is no word of a rule: a number has no sign, <MORE>
+and a day is one, counted from 2007-01-01: 2026-12-01 is 7274
   when today >= 2026-12-01 offer 1;
                     ^
 - when flag ping | flag event offer 1; / otherwise none;
@@ -141,11 +142,13 @@ line 1, column 16: "4294967296.0" is out of range: each number of a version is a
 line 1, column 14: "4294967296" is out of range: 0 to 4294967295
   when today < 4294967296 offer 1;
                ^
-- when ((((((((((((((((((((((((((((((((not today<5)))))))))))))))))))))))))))))))) offer 1; / otherwise none;
+- when ((((((((((((((((((((((((((((((((not today<5)))))))))))))))))))))))))))))))) offer 1; <MORE>
+/ otherwise none;
 line 1, column 38: "not" is out of range: at most 32 of not and ( stand in one another
   when ((((((((((((((((((((((((((((((((not today<5)))))))))))))))))))))))))))))))) offer 1;
                                        ^
-- when (((((((((((((((((((((((((((((((((flag ping))))))))))))))))))))))))))))))))) offer 1; / otherwise none;
+- when (((((((((((((((((((((((((((((((((flag ping))))))))))))))))))))))))))))))))) offer 1; <MORE>
+/ otherwise none;
 line 1, column 38: "(" is out of range: at most 32 of not and ( stand in one another
   when (((((((((((((((((((((((((((((((((flag ping))))))))))))))))))))))))))))))))) offer 1;
                                        ^
@@ -182,7 +185,7 @@ fn told(alloc: Global, text: &str, shape: &Shape) -> Option<String> {
 }
 
 /// With the characters that a row can't show, and a line that `<MORE>` breaks in one.
-fn with_characters(alloc: Global, text: &str) -> Result<String, AllocError> {
+pub(crate) fn with_characters(alloc: Global, text: &str) -> Result<String, AllocError> {
     let text = text.replace(alloc, "<MORE>\n", "")?;
     let text = text.replace(alloc, "<BOM>", "\u{feff}")?;
     let text = text.replace(alloc, "<CR>", "\r")?;
