@@ -58,6 +58,7 @@ bare_line i =
     ++ text_behind (codes ", ") ((arguments_of i).second)
     ++ text_behind (codes ", ") ((arguments_of i).third)
 
+-- the line of an instruction
 abbrev pub line_of : Insn → List ℕ
 line_of i = bare_line i ++ codes "\n"
 
