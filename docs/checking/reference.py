@@ -7,7 +7,7 @@ from checking.definitions import SpecFile, prose, titled
 from checking.exports import TYPES, Crate, calls_of, ordered
 from checking.markdown import Headings, fenced, linked, lost_sections, slug
 from checking.places import CRATES, REFERENCE, crates
-from checking.telling import constants, declaration, is_law, view
+from checking.telling import constants, declaration, is_law, own, view
 
 HEAD = "<!-- docs/check.py --write writes this page from crates/{name}. -->"
 ALL = "[All crates](README.md)"
@@ -66,8 +66,10 @@ class Page:
 
     def tell_type(self, name, item, module):
         impls = list(self.crate.impls(item.name))
-        known = view(impls)
+        known, numbers = view(impls), own(impls)
         blocks = [item.doc(), fenced(declaration(item))]
+        if numbers:
+            blocks += ["Its constants:", fenced(numbers)]
         if known:
             blocks += ["In contracts:", fenced(known)]
         kind = "Traits" if item.kind == "trait" else "Types"

@@ -12,6 +12,12 @@ def constants(items):
     return "\n".join("\n".join([*item.head, *item.lines]) for item in items)
 
 
+def own(impls):
+    """The constants of a type, with their comments."""
+    inner = [it for trait_name, impl, _ in impls if not trait_name for it in impl.inner()]
+    return constants(it for it in inner if it.kind == "const" and it.is_pub)
+
+
 def declaration(item):
     """A type as its source has it, without what is private or told by itself."""
     if item.kind == "trait":
