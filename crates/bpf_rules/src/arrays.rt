@@ -7,7 +7,7 @@ ghost use Rattle.bpf_rules.specs.Arrays as arrays;
 
 use abs_value::{Abs, Number, Origin};
 use bpf_insn::WideValue;
-use cells::{CellArray, CellWidth, Shape};
+use cells::{CellArray, CellNo, CellWidth, Shape};
 
 /// The cell so many bytes behind the array's first, if it is one of the array's.
 fn cell_behind(array: &CellArray, offset: u32) -> Option<u16>
@@ -59,7 +59,7 @@ pub fn origin_bits(shape: &Shape, origin: Origin) -> u16
             Some(array) => width_bits(array.width),
             None => 0,
         },
-        Origin::Fixed(cell) => { if cell < 4096 { 64 } else { 32 } }
+        Origin::Fixed(cell) => { if cell < CellNo::FIRST_NARROW { 64 } else { 32 } }
     }
 }
 

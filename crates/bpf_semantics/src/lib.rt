@@ -16,8 +16,8 @@ mod words;
 pub use accesses::{atomic_count, byte_count, cell_op, fetched, load_count};
 pub use count::counts_instructions;
 pub use regions::{
-    CELL_COUNT, CELL_START, CONTEXT_SIZE, CONTEXT_START, MAP_START, STACK_SIZE, STACK_START,
-    STACK_TOP, add_long_offset, add_offset, cell_address, region_numbers,
+    CELL_START, CONTEXT_SIZE, CONTEXT_START, MAP_START, STACK_SIZE, STACK_START, STACK_TOP,
+    add_long_offset, add_offset, cell_address, region_numbers,
 };
 pub use run::one_end;
 pub use words::words_stay;

@@ -4,6 +4,8 @@
 ghost use Rattle.std.specs.Prelude.{◌≡◌, ◌<◌, ◌^◌};
 ghost use Rattle.bpf_semantics.specs.Memory as memory;
 
+use cells::CellNo;
+
 /// The address of the first byte of the context.
 pub const CONTEXT_START: u64 = 0x1000_0000;
 /// How many bytes the context has.
@@ -18,8 +20,6 @@ pub const STACK_SIZE: u16 = 512;
 
 /// The address of counter 0.
 pub const CELL_START: u64 = 0x3000_0000;
-/// How many counters there are.
-pub const CELL_COUNT: u16 = 8192;
 
 /// The number of map 0.
 pub const MAP_START: u64 = 0x4000_0000;
@@ -32,7 +32,7 @@ pub fn region_numbers()
     ensures top { STACK_TOP ≡ memory.stack_top }
     ensures stack_size { STACK_SIZE ≡ memory.stack_size }
     ensures cells { CELL_START ≡ memory.cell_start }
-    ensures cell_count { CELL_COUNT ≡ memory.cell_count }
+    ensures cell_count { CellNo.COUNT ≡ memory.cell_count }
     ensures maps { MAP_START ≡ memory.map_start }
 {}
 

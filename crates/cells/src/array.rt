@@ -21,13 +21,18 @@ pub enum CellWidth {
     Bits64,
 }
 
+impl CellWidth {
+    /// How many cells there are of each width, and so the most that an array has.
+    pub const CELLS: u16 = 4096;
+}
+
 /// The first of the 4096 cells of a width.
 pub fn first_cell(width: CellWidth) -> u16
     ensures { result ≡ array.first_cell width }
 {
     match width {
         CellWidth::Bits64 => 0,
-        CellWidth::Bits32 => 4096,
+        CellWidth::Bits32 => CellWidth::CELLS,
     }
 }
 
@@ -111,6 +116,9 @@ fn goes_on(bytes: &[u8]) -> bool
 }
 
 impl CellArray {
+    /// The greatest quota, 2^63 - 1.
+    pub const MOST_QUOTA: u64 = 9223372036854775807;
+
     /// The same array once more, with a name of its own.
     // open: whether memory is refused.
     pub fn copy(&self, alloc: Global) -> Result<CellArray, AllocError>

@@ -11,9 +11,6 @@ use crate::fault::CellsFault;
 use std::alloc::{AllocError, Global};
 use std::marker::Model;
 
-/// How many cells there are of each width.
-const CELLS_OF_A_WIDTH: u16 = 4096;
-
 /// Declared arrays with distinct names, in the order of their declarations.
 #[derive(Debug, Drop)]
 pub struct Directory {
@@ -76,7 +73,7 @@ impl Directory {
             }
             return Err(CellsFault::Redefined);
         }
-        if length > CELLS_OF_A_WIDTH - self.taken(width) {
+        if length > CellWidth::CELLS - self.taken(width) {
             return Err(CellsFault::CellsFull);
         }
         let name = ArrayName::of(alloc, name)?;

@@ -3,6 +3,8 @@
 
 ghost use Rattle.std.specs.Prelude.{◌≡◌, ◌<◌};
 
+use crate::array::CellWidth;
+
 /// The number of a cell, 0 to 8191.
 #[derive(Clone, Copy, Debug, PartialEq, Eq)]
 pub struct CellNo {
@@ -11,6 +13,12 @@ pub struct CellNo {
 }
 
 impl CellNo {
+    /// How many cells there are.
+    pub const COUNT: u16 = 8192;
+
+    /// The first cell that is 32 bits wide.
+    pub const FIRST_NARROW: u16 = CellWidth::CELLS;
+
     /// The cell of a number, 0 to 8191.
     pub fn new(number: u16) -> CellNo
         requires { number < 8192 }

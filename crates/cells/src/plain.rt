@@ -10,11 +10,6 @@ use crate::steps::CellSteps;
 use std::alloc::{AllocError, Global};
 use std::marker::Model;
 
-const CELLS: usize = 8192;
-
-/// The first cell that is 32 bits wide.
-const NARROW: usize = 4096;
-
 /// Cells of one thread. Every pass belongs to them.
 #[derive(Clone, Copy, Debug)]
 pub struct PlainCells;
@@ -43,7 +38,7 @@ impl PlainCells {
         ensures opening { IfOk result (λ made. AreZeros 8192 made.1) }
         ensures memory { IfErr result (λ e. e ≡ CellsFault.Memory) }
     {
-        let values = zeros(alloc, CELLS)?;
+        let values = zeros(alloc, CellNo::COUNT as usize)?;
         Ok((PlainCells, PlainPass { values }))
     }
 }
@@ -99,7 +94,7 @@ fn zeros(alloc: Global, count: usize) -> Result<Vec<u64>, AllocError>
 fn cut(cell: usize, number: u64) -> u64
     ensures { result ≡ number % limit cell }
 {
-    if cell < NARROW {
+    if cell < CellNo::FIRST_NARROW as usize {
         number
     } else {
         number % (1 << 32)

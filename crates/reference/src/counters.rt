@@ -15,19 +15,19 @@ use crate::memory::in_stack;
 use crate::state::Interpreter;
 use bpf_insn::{AtomicOp, AtomicSize, LoadKind, Reg, Size};
 use bpf_semantics::{
-    CELL_COUNT, CELL_START, STACK_START, add_offset, atomic_count, byte_count, cell_address,
-    cell_op, fetched,
+    CELL_START, STACK_START, add_offset, atomic_count, byte_count, cell_address, cell_op, fetched,
 };
 use cells::{CellNo, CellOp};
-
-/// The first counter that is 32 bits wide.
-const NARROW: u64 = 4096;
 
 /// How many bytes a counter has.
 fn width(number: u64) -> u64
     ensures { 8 * result ≡ events.width number }
 {
-    if number < NARROW { 8 } else { 4 }
+    if number < CellNo::FIRST_NARROW as u64 {
+        8
+    } else {
+        4
+    }
 }
 
 /// The counter that an access of so many bytes reaches: by its own address, in its own width.
@@ -35,7 +35,7 @@ fn cell_at(address: u64, count: u64) -> Option<CellNo>
     ensures { cell_number_in result ≡ memory.cell_at address count }
 {
     let number = address.saturating_sub(CELL_START) / 8;
-    if number < CELL_COUNT as u64 && cell_address(number) == address && count == width(number) {
+    if number < CellNo::COUNT as u64 && cell_address(number) == address && count == width(number) {
         Some(CellNo::new(number as u16))
     } else {
         None

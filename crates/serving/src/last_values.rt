@@ -8,8 +8,6 @@ use shared_cells::Closed;
 use std::sync::Wait;
 use std::time::{Clock, Instant};
 
-const CELLS: u16 = 8192;
-
 /// How long all these lines wait for places.
 const END_SECONDS: u64 = 4;
 
@@ -70,7 +68,7 @@ fn counter_event<'x>(array: &'x CellArray, index: u16, value: u64) -> LogEvent<'
 // 0 past the last cell, which no array reaches.
 fn value_of(array: &CellArray, index: u16, closed: &Closed) -> u64 {
     match array.base.checked_add(index) {
-        Some(number) if number < CELLS => closed.value(CellNo::new(number)),
+        Some(number) if number < CellNo::COUNT => closed.value(CellNo::new(number)),
         _ => 0,
     }
 }

@@ -11,9 +11,8 @@ use crate::pass::SharedPass;
 use crate::rule::{CutFirst, OneHistory, View};
 use crate::shared::SharedCells;
 use atomic_table::{Seat, Shared, Table};
+use cells::CellNo;
 use std::alloc::{AllocError, Global};
-
-const CELLS: usize = 8192;
 
 impl SharedCells {
     /// Cells that are all 0, and 1 to 65 passes to them. S1 where memory is refused.
@@ -25,7 +24,7 @@ impl SharedCells {
         ensures each { IfOk result (λ made. All (IsNewPass made.0.table) made.1.items) }
         ensures memory { IfErr result (λ e. e ≡ SharedFault.Memory) }
     {
-        let words = zeros(alloc, CELLS)?;
+        let words = zeros(alloc, CellNo::COUNT as usize)?;
         let (table, mut seat) = Table::of_words(alloc, words.as_slice(), &passes)?;
         let mut made = cut_passes(alloc, &table.shared, &mut seat, passes - 1)?;
         made.push(SharedPass::new(seat))?;

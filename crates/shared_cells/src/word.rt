@@ -4,14 +4,13 @@ ghost use Rattle.std.specs.Prelude.{◌≡◌, ◌%◌, ◌<◌};
 ghost use Rattle.cells.specs.Events.{limit};
 ghost use Rattle.shared_cells.specs.Words.{stored_word, stored_value};
 
-/// The first cell that is 32 bits wide.
-const NARROW: usize = 4096;
+use cells::CellNo;
 
 // The word of a number, of which a cell takes the bits that it has room for.
 pub(crate) fn to_word(cell: usize, number: u64) -> u64
     ensures { result ≡ stored_word cell (number % limit cell) }
 {
-    if cell < NARROW {
+    if cell < CellNo::FIRST_NARROW as usize {
         number
     } else {
         (number % (1 << 32)) << 32
@@ -23,5 +22,9 @@ pub(crate) fn to_value(cell: usize, word: u64) -> u64
     ensures value { result ≡ stored_value cell word }
     ensures fits { result < limit cell }
 {
-    if cell < NARROW { word } else { word >> 32 }
+    if cell < CellNo::FIRST_NARROW as usize {
+        word
+    } else {
+        word >> 32
+    }
 }
