@@ -6,15 +6,9 @@ ghost use Rattle.declarations.specs.Spec as specs;
 
 use crate::declaration::ArrayDeclaration;
 use crate::parts::parts_of;
-use cells::{ArrayName, CellWidth};
+use cells::{ArrayName, CellArray, CellWidth};
 use lexing::decimal_within;
 use std::alloc::Global;
-
-/// The most cells of an array.
-const MAX_LENGTH: u64 = 4096;
-
-/// The greatest quota, 2^63 - 1.
-const MAX_QUOTA: u64 = 9223372036854775807;
 
 /// Why a text gives no declarations.
 #[derive(Clone, Copy, Debug, PartialEq, Eq)]
@@ -99,7 +93,7 @@ fn read_values(
     let Some(width) = width_of(width) else {
         return Err(SpecFault::Malformed);
     };
-    let Some(length) = decimal_within(length, 1, MAX_LENGTH) else {
+    let Some(length) = decimal_within(length, 1, CellWidth::CELLS as u64) else {
         return Err(SpecFault::Malformed);
     };
     let Some(quota) = quota_of(width, quota) else {
@@ -129,7 +123,7 @@ fn quota_of(width: CellWidth, text: Option<&str>) -> Option<Option<u64>>
         return Some(None);
     };
     match width {
-        CellWidth::Bits64 => Some(Some(decimal_within(text, 1, MAX_QUOTA)?)),
+        CellWidth::Bits64 => Some(Some(decimal_within(text, 1, CellArray::MOST_QUOTA)?)),
         CellWidth::Bits32 => None,
     }
 }

@@ -13,16 +13,10 @@ use crate::member::{member, number, number_of, text};
 use crate::misfit::ArrayMisfit;
 use crate::rows::TableRow;
 use crate::unread::{Unread, quote};
-use cells::{ArrayName, CellWidth};
+use cells::{ArrayName, CellArray, CellWidth};
 use declarations::ArrayDeclaration;
 use std::alloc::Global;
 use toml::{Table, Value};
-
-/// The most cells of an array.
-const MAX_LENGTH: u64 = 4096;
-
-/// The greatest quota, 2^63 - 1.
-const MAX_QUOTA: u64 = 9223372036854775807;
 
 impl TableRow for ArrayDeclaration {
     type Misfit = ArrayMisfit;
@@ -46,7 +40,7 @@ fn read_array(alloc: Global, table: &Table) -> Result<ArrayDeclaration, Unread<A
     let Some(width) = width(table) else {
         return Err(Unread::Misfit(ArrayMisfit::Width));
     };
-    let Some(length) = number(table, "length", 1, MAX_LENGTH) else {
+    let Some(length) = number(table, "length", 1, CellWidth::CELLS as u64) else {
         return Err(Unread::Misfit(ArrayMisfit::Length));
     };
     let Some(quota) = quota(table, width) else {
@@ -95,7 +89,7 @@ fn quota(table: &Table, width: CellWidth) -> Option<Option<u64>>
         return Some(None);
     };
     match width {
-        CellWidth::Bits64 => match number_of(value, 1, MAX_QUOTA) {
+        CellWidth::Bits64 => match number_of(value, 1, CellArray::MOST_QUOTA) {
             Some(quota) => Some(Some(quota)),
             None => None,
         },
