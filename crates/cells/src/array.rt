@@ -11,9 +11,6 @@ use lexing::{is_letter, is_word_byte};
 use std::alloc::{AllocError, Global};
 use std::marker::Model;
 
-/// The most bytes that a name has.
-const MAX_NAME: usize = 32;
-
 /// How wide the cells of an array are.
 #[derive(Clone, Copy, Debug, PartialEq, Eq)]
 pub enum CellWidth {
@@ -55,12 +52,15 @@ impl Model for ArrayName {
 }
 
 impl ArrayName {
+    /// The most bytes that a name has.
+    pub const MOST_BYTES: usize = 32;
+
     /// Whether a text has the form of a name.
     pub fn is_name(text: &str) -> bool
         ensures { IsTrue result ↔ IsName text.now }
     {
         let bytes = text.as_bytes();
-        bytes.len() <= MAX_NAME && is_spelled(bytes)
+        bytes.len() <= ArrayName::MOST_BYTES && is_spelled(bytes)
     }
 
     /// A text as a name.

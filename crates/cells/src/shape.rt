@@ -28,6 +28,9 @@ impl Model for Shape {
 }
 
 impl Shape {
+    /// The most releases of an app.
+    pub const MOST_RELEASES: u8 = 64;
+
     /// The shape of an app with so many releases, 0 to 64, over the arrays of these numbers of the
     /// directory, in their order. N3 where memory is refused.
     // open: whether memory is refused (N3).

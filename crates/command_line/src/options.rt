@@ -9,6 +9,7 @@ ghost use Rattle.command_line.specs.Values.{LacksReleases, LacksShape, LacksShor
 
 use crate::request::{DeclaredShape, NoRequest, Plan};
 use attrs::Bucket;
+use cells::Shape;
 use clap::ArgMatches;
 use declarations::{ArrayDeclaration, SpecFault, read_spec};
 use std::alloc::Global;
@@ -91,7 +92,7 @@ fn releases_of(found: &ArgMatches<'_>) -> Option<u8>
     ensures lacking { IfNone result (LacksReleases (rows_of (found_of found.now))) }
 {
     match found.get_one::<u8>("releases") {
-        Some(releases) if releases <= 64 => Some(releases),
+        Some(releases) if releases <= Shape::MOST_RELEASES => Some(releases),
         _ => None,
     }
 }

@@ -15,13 +15,11 @@ use crate::misfit::{AppMisfit, InList, ReleaseMisfit};
 use crate::rows::{TableRow, read_rows};
 use crate::unread::{Unread, copy, quote};
 use attrs::Text;
+use cells::Shape;
 use releases::Release;
 use std::alloc::Global;
 use std::marker::Model;
 use toml::Table;
-
-/// The most releases of an app.
-const MAX_RELEASES: usize = 64;
 
 /// The file from which an app's program comes, by its name.
 #[derive(Drop)]
@@ -171,5 +169,5 @@ fn read_releases(
     ensures releases { ReadsListAs (specs.releases_of (table_view table.now)) result }
     ensures count { IfOk result (λ v. length v.items ≤ 64) }
 {
-    read_rows(alloc, table, "release", 0, MAX_RELEASES)
+    read_rows(alloc, table, "release", 0, Shape::MOST_RELEASES as usize)
 }

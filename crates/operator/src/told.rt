@@ -7,10 +7,8 @@ ghost use Rattle.std.specs.List.{list_all, position, before_first, after_first};
 ghost use Rattle.lexing.specs.Letter.{is_word_byte};
 ghost use Rattle.operator.specs.Replies as specs;
 
+use cells::ArrayName;
 use lexing::{is_letter, is_word_byte};
-
-/// The most bytes of the name of an array.
-const MAX_NAME: usize = 32;
 
 /// Whether the bytes are the line of a generation.
 pub(crate) fn is_loaded(bytes: &[u8]) -> bool
@@ -77,7 +75,7 @@ fn is_array_name(text: &[u8]) -> bool
 {
     match text {
         [first, rest @ ..] => {
-            is_letter(*first) && are_word_bytes(rest) && text.len() <= MAX_NAME
+            is_letter(*first) && are_word_bytes(rest) && text.len() <= ArrayName::MOST_BYTES
         }
         [] => false,
     }

@@ -5,10 +5,11 @@ ghost use Rattle.std.specs.Prelude.{slice_index};
 ghost use Rattle.simulate.specs.Counts.{AreMoves, buckets_with};
 
 use crate::choices::Choices;
+use cells::Shape;
 use std::alloc::{AllocError, Global};
 
 /// How many choices a program can have: none, and 64 releases.
-const KINDS: usize = 65;
+const KINDS: usize = Shape::MOST_RELEASES as usize + 1;
 
 /// How many buckets get each release, by its number; 0 is none.
 pub fn count_buckets(choices: &Choices) -> [u32; KINDS]
