@@ -17,5 +17,5 @@ pub use edges::{jump_target, next_place};
 pub use fault::{FlowFault, FlowRule};
 pub use flow::Flow;
 pub use law::one_verdict;
-pub use read::read_program;
+pub use read::{MOST_PROGRAM, read_program};
 pub use slots::{is_wide, laid_out};

@@ -13,7 +13,7 @@ use manifest::ProgramSource;
 use std::alloc::AllocError;
 
 /// The most bytes of a program.
-const MOST_PROGRAM: u32 = 32768;
+const MOST_PROGRAM: u32 = flow_check::MOST_PROGRAM as u32;
 
 /// The most bytes of the text of a rule.
 const MOST_RULE: u32 = 65536;

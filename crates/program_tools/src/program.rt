@@ -15,8 +15,8 @@ use declarations::declare_all;
 use flow_check::{FlowFault, FlowRule};
 use std::alloc::Global;
 
-/// The most bytes that a program can have.
-pub const MOST_PROGRAM: u32 = 32768;
+/// The most bytes that a program can have, as a disk counts them.
+pub const MOST_PROGRAM: u32 = flow_check::MOST_PROGRAM as u32;
 
 /// The program of a file, once it is accepted under the shape that the words declare. Refused is
 /// the shape before the file is read.
