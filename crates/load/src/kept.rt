@@ -16,7 +16,7 @@ use std::alloc::AllocError;
 const MOST_PROGRAM: u32 = flow_check::MOST_PROGRAM as u32;
 
 /// The most bytes of the text of a rule.
-const MOST_RULE: u32 = 65536;
+const MOST_RULE: u32 = rule_lang::MOST_RULE as u32;
 
 /// What is kept of a file.
 #[derive(Drop)]

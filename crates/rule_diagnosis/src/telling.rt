@@ -16,12 +16,9 @@ use crate::sentence::{tell_name, tell_token};
 use crate::spread::{lexeme_start, spread};
 use crate::trial::followers_of;
 use cells::Shape;
-use rule_lang::{RuleFault, RuleFaultKind, parse};
+use rule_lang::{MOST_RULE, RuleFault, RuleFaultKind, parse};
 use std::alloc::{AllocError, Global};
 use std::str;
-
-/// The most bytes of a rule's text.
-const MOST_BYTES: usize = 65536;
 
 /// What is told of a text whose fault has this line and kind, under the shape of its app: lines,
 /// each ended by a line feed, as
@@ -48,7 +45,7 @@ pub fn tell_rule_fault(
     ensures { IfSome result
         (λ told. specs.IsRuleTold shape.now text.now line kind (string_bytes told)) }
 {
-    if text.len() > MOST_BYTES {
+    if text.len() > MOST_RULE {
         return tell_too_long(alloc, kind);
     }
     let Ok(rows) = spread(alloc, text.as_bytes()) else {

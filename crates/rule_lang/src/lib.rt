@@ -71,6 +71,6 @@ pub use fault::{RuleFault, RuleFaultKind};
 pub use fits::array_named;
 pub use law::{one_verdict, some_verdict, words_are_exact};
 pub use literal::Literal;
-pub use parser::parse;
+pub use parser::{MOST_RULE, parse};
 pub use rule::{Rule, Statement};
 pub use test::{Attribute, Comparison, Flag, Test};

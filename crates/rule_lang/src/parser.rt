@@ -12,7 +12,7 @@ use cells::Shape;
 use std::alloc::Global;
 
 /// The most bytes of a rule's text.
-const MOST_BYTES: usize = 65536;
+pub const MOST_RULE: usize = 65536;
 
 /// The rule that a text spells, for apps of the shape.
 ///
@@ -26,7 +26,7 @@ pub fn parse(alloc: Global, text: &str, shape: &Shape) -> Result<Rule, RuleFault
     ensures fits { IfOk result (λ r. fits shape.now r ≡ true) }
     ensures fault { IfErr result (IsRuleFault shape.now text.now) }
 {
-    if text.len() > MOST_BYTES {
+    if text.len() > MOST_RULE {
         return Err(RuleFault::At {
             line: 1,
             kind: RuleFaultKind::Range,

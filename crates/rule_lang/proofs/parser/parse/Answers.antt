@@ -12,8 +12,8 @@ use Rattle.rule_lang.proofs.PhraseFitting.{rule_fits}
 use Rattle.rule_lang.proofs.Parsing.{token_fault, read_fault, ok_then, err_then}
 use Rattle.rule_lang.proofs.parser.parse.Goals as goal
 
-pub returns-then-text-gt-MOST_BYTES-clause-fault : goal.returns-then-text-gt-MOST_BYTES-clause-fault
-returns-then-text-gt-MOST_BYTES-clause-fault c =
+pub returns-then-text-gt-MOST_RULE-clause-fault : goal.returns-then-text-gt-MOST_RULE-clause-fault
+returns-then-text-gt-MOST_RULE-clause-fault c =
     let long : 65536 < length c.args.text.now = search (rules, arith) in
     inr (too_long long)
 
