@@ -14,8 +14,8 @@ use manifest::{ManifestFault, TomlFault};
 use ruleset::Ruleset;
 use std::alloc::Global;
 
-/// The most bytes of a manifest: 1 MiB.
-pub const MOST_MANIFEST: u32 = 0x10_0000;
+/// The most bytes of a manifest, 1 MiB, as a disk counts them.
+pub const MOST_MANIFEST: u32 = manifest::MOST_MANIFEST as u32;
 
 /// The ruleset of the manifest at a path, and the directory with its arrays declared behind those
 /// that stand. The files that it names lie in its folder. It has to be a regular file, as have

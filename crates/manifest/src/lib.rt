@@ -57,5 +57,5 @@ pub use manifest::{Manifest, ManifestParts};
 pub use misfit::{AppMisfit, ArrayMisfit, InList, Misfit, PackageMisfit, ReleaseMisfit};
 pub use misfits::all_misfits;
 pub use quote::Quote;
-pub use read::read_manifest;
+pub use read::{MOST_MANIFEST, read_manifest};
 pub use repeats::all_twice;

@@ -11,7 +11,7 @@ use std::alloc::Global;
 use toml::{Table, table_from_slice};
 
 /// The most bytes of a manifest.
-const MAX_BYTES: usize = 1048576;
+pub const MOST_MANIFEST: usize = 1048576;
 
 /// Reads a manifest, a TOML document of at most 1048576 bytes.
 ///
@@ -39,7 +39,7 @@ pub(crate) fn read_tree(alloc: Global, bytes: &[u8]) -> Result<Table, ManifestFa
     ensures ok { IfOk result (λ table. IsTree bytes.now (table_view table)) }
     ensures err { IfErr result (RefusesTree bytes.now) }
 {
-    if bytes.len() > MAX_BYTES {
+    if bytes.len() > MOST_MANIFEST {
         return Err(ManifestFault::Toml(TomlFault::TooLong));
     }
     match table_from_slice(alloc, bytes) {
