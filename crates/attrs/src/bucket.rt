@@ -10,9 +10,6 @@ use crate::text::lent;
 use crate::version::read_number;
 use std::marker::Model;
 
-/// How many buckets there are.
-pub(crate) const BUCKETS: u64 = 10000;
-
 /// How long a cohort is that names a bucket.
 const COHORT_LENGTH: usize = 6;
 
@@ -35,6 +32,9 @@ impl Model for Bucket {
 }
 
 impl Bucket {
+    /// How many buckets there are.
+    pub const COUNT: u16 = 10000;
+
     /// The bucket of this number.
     pub fn new(number: u16) -> Bucket
         requires { number < 10000 }
@@ -92,7 +92,7 @@ pub fn hashed_bucket(request: &RequestFacts) -> u16
     ensures value { result ≡ specs.hashed_bucket request.now }
     ensures range { result < 10000 }
 {
-    (fnv1a(asker(request).as_bytes()) % BUCKETS) as u16
+    (fnv1a(asker(request).as_bytes()) % Bucket::COUNT as u64) as u16
 }
 
 /// The bucket that the app's cohort names, if it does.

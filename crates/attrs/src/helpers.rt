@@ -5,7 +5,7 @@ ghost use Rattle.std.specs.Prelude.{◌≡◌};
 ghost use Rattle.attrs.specs.Helpers.{attr_is, attr_len, bucket_of};
 
 use crate::attributes::Attrs;
-use crate::bucket::{BUCKETS, four_digits};
+use crate::bucket::{Bucket, four_digits};
 use crate::hash::fnv1a;
 
 /// CALL 2: 1 where attribute `number` has exactly these bytes, else 0. No attribute has a number
@@ -37,5 +37,5 @@ pub fn helper_bucket(attrs: &Attrs, salt: u64) -> u64
     let mut bytes = [0; 12];
     bytes[..4].copy_from_slice(&four_digits(attrs.context().bucket));
     bytes[4..].copy_from_slice(&salt.to_le_bytes());
-    fnv1a(&bytes) % BUCKETS
+    fnv1a(&bytes) % Bucket::COUNT as u64
 }

@@ -118,7 +118,7 @@ pub fn bucket_of(found: &ArgMatches<'_>) -> Result<Bucket, NoRequest>
     ensures lacking { result ≡ Err NoRequest.Wrong → LacksBucket (rows_of (found_of found.now)) }
 {
     match found.get_one::<u16>("bucket") {
-        Some(number) if number < 10000 => Ok(Bucket::new(number)),
+        Some(number) if number < Bucket::COUNT => Ok(Bucket::new(number)),
         _ => Err(NoRequest::Wrong),
     }
 }

@@ -7,14 +7,12 @@ ghost use Rattle.simulate.specs.Course.{Chooses, InTurn, bucket_count};
 
 use crate::choices::Choices;
 use crate::client::Client;
+use attrs::Bucket;
 use bpf_machine::Run;
 use bpf_verify::Verified;
 use cells::{PlainCells, PlainPass};
 use std::alloc::{AllocError, Global};
 use std::sync::Arc;
-
-/// How many buckets there are.
-const BUCKETS: u16 = 10000;
 
 /// The choices of the clients of all buckets, in their order.
 pub(crate) fn ask_all(
@@ -28,9 +26,9 @@ pub(crate) fn ask_all(
         pass.old bucket_count choices pass.new) }
     ensures client { IsSameButCohort client.old client.new }
 {
-    let mut choices = Vec::with_capacity(alloc, BUCKETS as usize)?;
+    let mut choices = Vec::with_capacity(alloc, Bucket::COUNT as usize)?;
     let mut bucket = 0;
-    while bucket < BUCKETS {
+    while bucket < Bucket::COUNT {
         client.move_to(alloc, bucket)?;
         let choice = ask(alloc, program, client, cells, pass)?;
         choices.push(choice)?;

@@ -3,6 +3,7 @@
 ghost use Rattle.std.specs.Prelude.{◌≡◌, None, IfOk};
 ghost use Rattle.simulate.specs.Counts.{AreChoices, choices_or_none};
 
+use attrs::Bucket;
 use std::alloc::{AllocError, Global};
 use std::marker::Model;
 
@@ -38,7 +39,7 @@ impl Choices {
     pub fn none(alloc: Global) -> Result<Choices, AllocError>
         ensures { IfOk result (λ c. c ≡ choices_or_none None) }
     {
-        let choices = Vec::from_elem(alloc, 0, 10000)?;
+        let choices = Vec::from_elem(alloc, 0, Bucket::COUNT as usize)?;
         Ok(Choices { choices })
     }
 

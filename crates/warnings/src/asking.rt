@@ -6,14 +6,11 @@ ghost use Rattle.warnings.specs.Asking as specs;
 use crate::course::first_offer;
 use crate::holding::{allows, compare_versions};
 use crate::possible::{Asker, Possible};
-use attrs::{Attrs, read_version};
+use attrs::{Attrs, Bucket, read_version};
 use cells::Shape;
 use releases::Release;
 use rule_lang::{Comparison, Statement};
 use std::alloc::{AllocError, Global};
-
-/// How many buckets there are.
-pub(crate) const BUCKETS: u16 = 10000;
 
 /// An app, its shape, its releases and the statements of its rule.
 #[derive(Drop)]
@@ -99,7 +96,7 @@ pub(crate) fn gets_in_some_bucket(
     };
     let mut stack = Vec::new(alloc);
     let mut bucket = 0;
-    while bucket < BUCKETS {
+    while bucket < Bucket::COUNT {
         attrs = attrs.in_bucket(bucket);
         if gets(&mut stack, asked, by, version, &attrs)? {
             return Ok(true);

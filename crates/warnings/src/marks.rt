@@ -7,11 +7,11 @@ ghost use Rattle.warnings.specs.Asking.{rule_of, someone};
 ghost use Rattle.warnings.specs.Marks.{AreMarked, Crowd, nobody, with_buckets, with_one};
 ghost use Rattle.warnings.specs.Marks as specs;
 
-use crate::asking::{AskedRule, BUCKETS};
+use crate::asking::AskedRule;
 use crate::course::{offered, statement_possible};
 use crate::possible::{Asker, Possible};
 use crate::spot::Spot;
-use attrs::Attrs;
+use attrs::{Attrs, Bucket};
 use rule_lang::Statement;
 use std::alloc::{AllocError, Global};
 
@@ -107,7 +107,7 @@ fn mark_buckets(
     };
     let mut stack = Vec::new(alloc);
     let mut bucket = 0;
-    while bucket < BUCKETS {
+    while bucket < Bucket::COUNT {
         if are_settled(reached, ends) {
             return Ok(());
         }

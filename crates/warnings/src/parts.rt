@@ -4,9 +4,9 @@
 ghost use Rattle.std.specs.Prelude.{◌≡◌, ◌++◌, OnOk};
 ghost use Rattle.warnings.specs.Asked as specs;
 
-use crate::asking::BUCKETS;
 use crate::takes::tell_takes;
 use crate::warning::{Warning, WarningKind, WarningPlace, warn_if};
+use attrs::Bucket;
 use rule_lang::{Comparison, Statement, Step, Test};
 use std::alloc::AllocError;
 
@@ -19,7 +19,7 @@ fn is_few(buckets: u64) -> bool
 fn is_above_all(number: u32) -> bool
     ensures { result ≡ specs.is_above_all number }
 {
-    number > BUCKETS as u32
+    number > Bucket::COUNT as u32
 }
 
 // The test by this sign and number holds for so many buckets.
