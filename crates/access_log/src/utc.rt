@@ -5,8 +5,9 @@ ghost use Rattle.jiff_core.specs.Calendar.{IsCivilDate, days_from_civil};
 ghost use Rattle.access_log.specs.Utc as specs;
 
 use jiff_core::civil::{Date, Time};
+use jiff_core::constants::SECS_PER_CIVIL_DAY;
 
-const DAY_SECONDS: u64 = 86400;
+const DAY_SECONDS: u64 = SECS_PER_CIVIL_DAY as u64;
 
 /// A moment of a year from 0 to 9999, to the millisecond. `of_unix` gives it; other numbers than a
 /// calendar has are printed by their last digits.

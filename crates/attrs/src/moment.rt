@@ -1,17 +1,16 @@
 //! A moment, and the days and seconds of it from 2007-01-01 UTC on, where Omaha's count begins.
 
-ghost use Rattle.std.specs.Prelude.{◌≡◌, ◌<◌, ◌≤◌};
+ghost use Rattle.std.specs.Prelude.{◌≡◌, ◌<◌, ◌≤◌, pos};
 ghost use Rattle.attrs.specs.Moment.{elapsed, elapsed_days, elapsed_seconds};
+ghost use Rattle.attrs.specs.Moment.{first_second, last_second};
 
 /// A second by the Unix clock, which may lie before 1970.
 pub type Moment = i64;
 
 /// The first second of 2007.
-const FIRST_SECOND: i64 = 1167609600;
+const FIRST_SECOND: i64 = Elapsed::FIRST_SECOND as i64;
 /// The last second of the year 9999.
 const LAST_SECOND: i64 = 253402300799;
-
-const SECONDS_OF_A_DAY: u64 = 86400;
 
 /// The time from 2007-01-01 UTC to a moment.
 #[derive(Clone, Copy, Debug, PartialEq, Eq)]
@@ -23,17 +22,31 @@ pub struct Elapsed {
 }
 
 impl Elapsed {
+    /// The second from which time is counted, with which 2007 begins.
+    pub const FIRST_SECOND: u64 = 1167609600;
+    /// How many seconds a day has.
+    pub const SECONDS_OF_A_DAY: u64 = 86400;
+    /// The last day that a moment is in, 9999-12-31.
+    pub const LAST_DAY: u32 = 2919382;
+
+    /// Each constant is the number that the definitions give it.
+    pub fn day_numbers()
+        ensures first { Self.FIRST_SECOND ≡ first_second }
+        ensures last { Self.LAST_DAY ≡ elapsed_days (pos last_second) }
+    {}
+
     /// The time to this moment. One before 2007 counts as the first second of that year, and one
     /// after 9999 as the last of that.
     pub fn at(moment: Moment) -> Elapsed
         ensures days { result.days ≡ elapsed_days moment }
         ensures seconds { result.seconds ≡ elapsed_seconds moment }
         ensures range { result.seconds < 86400 }
+        ensures last { result.days ≤ 2919382 }
     {
         let elapsed = seconds_until(moment);
         Elapsed {
-            days: (elapsed / SECONDS_OF_A_DAY) as u32,
-            seconds: (elapsed % SECONDS_OF_A_DAY) as u32,
+            days: (elapsed / Elapsed::SECONDS_OF_A_DAY) as u32,
+            seconds: (elapsed % Elapsed::SECONDS_OF_A_DAY) as u32,
         }
     }
 }

@@ -16,11 +16,11 @@ use crate::options::{bucket_of, flag_of, optional_text};
 use crate::request::NoRequest;
 use crate::second::moment_of;
 use crate::told::ToldApp;
-use attrs::{Bucket, Moment, cohort_bucket};
+use attrs::{Bucket, Context, Moment, cohort_bucket};
 use clap::ArgMatches;
 
 /// The last day that an app can be installed on: the next number stands for an unknown one.
-const LAST_INSTALLED: u32 = 4294967294;
+const LAST_INSTALLED: u32 = Context::UNKNOWN_DAY - 1;
 
 /// The app of which the options tell.
 pub fn told_of<'a>(found: &ArgMatches<'a>) -> Result<ToldApp<'a>, NoRequest>

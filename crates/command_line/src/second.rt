@@ -7,19 +7,13 @@ ghost use Rattle.command_line.specs.Seconds as specs;
 use crate::day::day_in;
 use crate::option_misfit::MomentMisfit;
 use crate::options::optional_text;
-use attrs::Moment;
+use attrs::{Elapsed, Moment};
 use clap::ArgMatches;
 use jiff_fmt::temporal::parse_timestamp;
 use lexing::decimal_within;
 
-/// The first second of 2007, where days are counted from.
-const FIRST_SECOND: u64 = 1167609600;
-
 /// The last second of the year 9999.
 const LAST_SECOND: u64 = 253402300799;
-
-/// The last day that a moment can have, 9999-12-31.
-const LAST_DAY: u32 = 2919382;
 
 // ---- texts
 
@@ -48,7 +42,7 @@ fn today_told(text: Option<&str>) -> Option<u32>
     ensures limit { IfSome result (λ day. day ≤ 2919382) }
 {
     match text {
-        Some(text) => day_in(LAST_DAY, text),
+        Some(text) => day_in(Elapsed::LAST_DAY, text),
         None => Some(0),
     }
 }
@@ -77,7 +71,9 @@ fn moment_told(at: Option<&str>, today: Option<&str>) -> Result<Moment, MomentMi
             None => Err(MomentMisfit::At),
         },
         (None, today) => match today_told(today) {
-            Some(day) => Ok((FIRST_SECOND + 86400 * day as u64) as i64),
+            Some(day) => {
+                Ok((Elapsed::FIRST_SECOND + Elapsed::SECONDS_OF_A_DAY * day as u64) as i64)
+            }
             None => Err(MomentMisfit::Today),
         },
     }

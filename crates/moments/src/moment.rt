@@ -4,9 +4,12 @@ ghost use Rattle.std.specs.Prelude.{◌≡◌, ◌<◌, ◌≤◌, IfNone, IfSom
 ghost use Rattle.moments.specs.Moments as specs;
 
 use jiff_core::Timestamp;
+use jiff_core::constants::SECS_PER_CIVIL_DAY;
 use jiff_fmt::temporal::{DateTimePrinter, parse_timestamp};
 use lexing::decimal_within;
 use std::alloc::{AllocError, Global};
+
+const DAY: u64 = SECS_PER_CIVIL_DAY as u64;
 
 /// The longest time ago that is named, in each unit.
 const MOST: u64 = 99999;
@@ -46,7 +49,7 @@ fn seconds_ago(text: &str) -> Option<u64>
     if let Some(seconds) = seconds_by('h', 3600, text) {
         return Some(seconds);
     }
-    seconds_by('d', 86400, text)
+    seconds_by('d', DAY, text)
 }
 
 fn seconds_by(letter: char, unit: u64, text: &str) -> Option<u64>

@@ -9,15 +9,15 @@ ghost use Rattle.warnings.specs.Possible as specs;
 
 use crate::possible::{Asker, Possible};
 use crate::spot::Spot;
-use attrs::{Attrs, helper_attr_is, helper_bucket};
+use attrs::{Attrs, Context, Elapsed, helper_attr_is, helper_bucket};
 use cells::{CellArray, Shape};
 use rule_lang::{Comparison, Test, array_named};
 use std::cmp::Ordering;
 
 /// The last day on which a server is asked, that of 9999-12-31.
-const LAST_TODAY: u64 = 2919382;
+const LAST_TODAY: u64 = Elapsed::LAST_DAY as u64;
 /// The last day of installation. One that isn't known is told as this, too.
-const LAST_INSTALL_DAY: u64 = 4294967295;
+const LAST_INSTALL_DAY: u64 = Context::UNKNOWN_DAY as u64;
 
 fn compare(left: u64, right: u64) -> Ordering
     ensures { result ≡ nat_cmp left right }
