@@ -1,27 +1,33 @@
 -- What a call leaves covers the state after it.
-use Rattle.std.proofs.Common.{◌≡◌, ℕ, zero, suc, ◌+◌, ◌-◌, ◌^◌, ◌<◌, ◌≤◌, ℤ, pos, negsuc}
-use Rattle.std.proofs.Common.{List, [], ◌∷◌, drop, length, All, Option, Some, None}
+use Rattle.std.proofs.Common.{◌≡◌, ℕ, zero, suc, ◌+◌, ◌-◌, ◌^◌, ◌<◌, ◌≤◌, ℤ}
+use Rattle.std.proofs.Common.{List, drop, Option, Some, None}
 use Rattle.std.proofs.Common.{Bool, true, false, refl, subst, arith, inl, inr}
-use Rattle.std.specs.Prelude.{IfSome, slice_get, bytes_eq, nat_le, nat_lt, ◌==◌, if◌then◌else◌}
+use Rattle.std.specs.Prelude.{IfSome, option_map, slice_get, bytes_eq, nat_le, nat_lt, ◌==◌}
+use Rattle.std.specs.Prelude.{if◌then◌else◌}
 use Rattle.std.proofs.lemmas.Bool.{cases_Bool}
 use Rattle.std.proofs.lemmas.List.{get_or-drop}
-use Rattle.std.proofs.lemmas.List.Elements.{All-head, All-tail}
-use Rattle.attrs.specs.Helpers.{attribute, is_text, attr_is, text_length, attr_len, bucket_of}
+use Rattle.attrs.specs.Attributes.{Attributes, AreShort}
+use Rattle.attrs.specs.Helpers.{attribute, is_text, attr_is}
 use Rattle.cells.specs.Arrays.{AppShape}
 use Rattle.cells.specs.declared.array.CellArray.{CellArray}
 use Rattle.bpf_insn.specs.Program.{◌>>=◌}
 use Rattle.bpf_semantics.specs.Memory.{cell_address, map_start}
 use Rattle.bpf_semantics.specs.State.{State, HasWords, stack_bytes, with_result}
-use Rattle.bpf_semantics.specs.Reads.{only}
 use Rattle.bpf_semantics.specs.Calls as calls
-use Rattle.bpf_semantics.specs.Calls.{array_of, compared, helper_result}
+use Rattle.bpf_semantics.specs.Calls.{array_of, compared, result_by, known_result, helper_result}
+use Rattle.bpf_semantics.specs.declared.helpers.Helper.{Helper}
+use Rattle.bpf_semantics.specs.declared.helpers.Prototype.{Prototype}
+use Rattle.bpf_semantics.specs.declared.helpers.Prototype.TheVariants.{OfMap, OfText, OfNumber}
+use Rattle.bpf_semantics.specs.Helpers.{helper_of, prototype_of, given_of_number, most_given}
+use Rattle.bpf_semantics.specs.Helpers.{AllKeepMost}
 use Rattle.abs_value.specs.declared.value.Abs.{Abs}
 use Rattle.abs_value.specs.declared.value.Abs.TheVariants.{Unusable, Num, Ctx}
 use Rattle.abs_value.specs.declared.value.Abs.TheVariants.{Stk, Map, MayCell, Cell}
 use Rattle.abs_value.specs.declared.state.AbsState.{AbsState}
 use Rattle.abs_value.specs.Numbers.{up_to}
 use Rattle.abs_value.specs.States.{register_at, value_at}
-use Rattle.abs_value.specs.Lookups.{lookup, lookup_value, call_value, called_registers, called}
+use Rattle.abs_value.specs.Lookups.{lookup, lookup_value, value_given, call_value}
+use Rattle.abs_value.specs.Lookups.{called_registers, called}
 use Rattle.abs_value.specs.Covers.{Answers, Answered, AreBefore, answering, Holds}
 use Rattle.abs_value.specs.Covers.{Includes, CoversValue, CoversRegisters, Covers}
 use Rattle.abs_value.proofs.ResultsHold.{up_to_holds}
@@ -34,12 +40,6 @@ after : {A : Type 0} (o : Option A) (f : A → Option ℕ) (P : ℕ → Type 0)
     → ((x : A) → IfSome (f x) P) → IfSome (o >>= f) P
 after None f P h = tt
 after (Some x) f P h = h x
-
--- by a test, where it holds or where it doesn't
-either : (b : Bool) (o q : Option ℕ) (v w : Abs) (P : ℕ → Abs → Type 0) → IfSome o (λ x. P x v)
-    → IfSome q (λ x. P x w) → IfSome (if b then o else q) (λ x. P x (if b then v else w))
-either true o q v w P left right = left
-either false o q v w P left right = right
 
 any : (o : Option ℕ) → IfSome o (λ x. Unit {0})
 any None = tt
@@ -112,53 +112,42 @@ compared_within s number address n = by_test (nat_le n 64)
         (λ x. Holds (up_to 1) x) (λ bytes. is_short bytes (attribute s.attributes number))
     by_test false = tt
 
-all_at : {X : Type 0} (P : X → Type 0) (xs : List X) (k : ℕ) → All P xs → IfSome (slice_get xs k) P
-all_at P [] k h = tt
-all_at P (x ∷ xs) zero h = All-head P x xs h
-all_at P (x ∷ xs) (suc k) h = all_at P xs k (All-tail P x xs h)
-
-length_within : (o : Option (List ℕ)) → IfSome o (λ text. length text ≤ 1024)
-    → text_length o ≤ 1024
-length_within None h = omega arith
-length_within (Some text) h = h
-
 small_holds : (hi x : ℕ) → hi < 2 ^ 64 → x ≤ hi → Holds (up_to hi) x
 small_holds hi x lt le = up_to_holds hi x (omega (arith, lt, le)) le
 
 -- ---- R0
 
--- the value stands for the result, once the call at the slot has answered it
-abbrev IsResult : Answers → ℕ → ℕ → Abs → Type 0
-IsResult g slot x v = Includes (answering g slot x) v x
-
-call_includes : (g : Answers) (s : State) (v : Abs) (helper : ℤ) → HasWords s
+given_includes : (g : Answers) (s : State) (v : Abs) (f : ℕ → ℕ) (prototype : Prototype)
+    → most_given prototype < 2 ^ 64 → ((n : ℕ) → f n ≤ most_given prototype)
     → CoversValue g v (s.registers 1)
-    → IfSome (helper_result g.shape s helper)
-    (λ x. Includes (answering g s.slot x) (call_value helper s.slot v) x)
-call_includes g s v (negsuc n) w h = tt
-call_includes g s v (pos n) w h =
-    either (n == 1) (s.registers 1 >>= λ map. s.registers 2 >>= λ key. calls.lookup g.shape map key)
-    _ (lookup_value s.slot v) _ (IsResult g s.slot)
-    (looked_up g s.slot v (s.registers 1) (s.registers 2) h)
-    (either (n == 2) (s.registers 1 >>= λ number. s.registers 2 >>= λ address.
-    s.registers 3 >>= λ k. compared s number address k) _ (Num (up_to 1)) _ (IsResult g s.slot)
-    (after (s.registers 1) (λ number. s.registers 2 >>= λ address. s.registers 3 >>= λ k.
+    → IfSome (result_by g.shape s f prototype)
+    (λ x. Includes (answering g s.slot x) (value_given (Some prototype) s.slot v) x)
+given_includes g s v f OfMap word most h =
+    looked_up g s.slot v (s.registers 1) (s.registers 2) h
+given_includes g s v f OfText word most h =
+    after (s.registers 1) (λ number. s.registers 2 >>= λ address. s.registers 3 >>= λ k.
     compared s number address k) (λ x. Holds (up_to 1) x) (λ number.
     after (s.registers 2) (λ address. s.registers 3 >>= λ k. compared s number address k)
     (λ x. Holds (up_to 1) x) (λ address.
     after (s.registers 3) (λ k. compared s number address k) (λ x. Holds (up_to 1) x)
-    (λ k. compared_within s number address k))))
-    (either (n == 3) (only (attr_len s.attributes) (s.registers 1)) _ (Num (up_to 1024)) _
-    (IsResult g s.slot)
-    (after (s.registers 1) (λ number. Some (attr_len s.attributes number))
-    (λ x. Holds (up_to 1024) x) (λ number.
-    small_holds 1024 (attr_len s.attributes number) (omega arith)
-    (length_within (attribute s.attributes number)
-    (all_at (λ text. length text ≤ 1024) s.attributes.texts number w.texts))))
-    (either (n == 4) (only (bucket_of s.attributes) (s.registers 1)) None
-    (Num (up_to 9999)) Unusable (IsResult g s.slot)
-    (after (s.registers 1) (λ salt. Some (bucket_of s.attributes salt)) (λ x. Holds (up_to 9999) x)
-    (λ salt. small_holds 9999 (bucket_of s.attributes salt) (omega arith) (omega arith))) tt)))
+    (λ k. compared_within s number address k)))
+given_includes g s v f (OfNumber hi) word most h =
+    after (s.registers 1) (λ n. Some (f n)) (λ x. Holds (up_to hi) x)
+    (λ n. small_holds hi (f n) word (most n))
+
+call_includes : (g : Answers) (s : State) (v : Abs) (number : ℤ) → AllKeepMost s.attributes
+    → CoversValue g v (s.registers 1)
+    → IfSome (helper_result g.shape s number)
+    (λ x. Includes (answering g s.slot x) (call_value number s.slot v) x)
+call_includes g s v number most h = by_helper (helper_of number)
+  where
+    by_helper : (o : Option Helper)
+        → IfSome (o >>= known_result g.shape s) (λ x.
+        Includes (answering g s.slot x) (value_given (option_map prototype_of o) s.slot v) x)
+    by_helper None = tt
+    by_helper (Some helper) =
+        given_includes g s v (given_of_number helper s.attributes) (prototype_of helper)
+        (most helper).word (most helper).within h
 
 -- ---- all registers
 
@@ -182,14 +171,16 @@ called_at g values s v x h k (suc (suc (suc (suc (suc zero))))) = tt
 called_at g values s v x h k (suc (suc (suc (suc (suc (suc r)))))) =
     past_five g values s x r (suc (suc (suc (suc (suc (suc r)))))) (omega arith) h
 
-pub covers_call : (g : Answers) (e : AbsState) (s : State) (helper : ℤ) (x : ℕ)
+-- by the law of bpf_semantics that a helper gives no more than its prototype says
+pub covers_call : ((a : Attributes) → AreShort a.texts → AllKeepMost a)
+    → (g : Answers) (e : AbsState) (s : State) (helper : ℤ) (x : ℕ)
     → HasWords s → AreBefore s.slot g → Covers g e s → helper_result g.shape s helper ≡ Some x
     → Covers (answering g s.slot x) (called e helper s.slot) (with_result s x)
-covers_call g e s helper x w before h is =
+covers_call most g e s helper x w before h is =
     let later = covers_later g (answering g s.slot x) e s (is_more g s.slot x before) h in
     let result = subst (λ (o : Option ℕ).
     IfSome o (λ y. Includes (answering g s.slot y) (call_value helper s.slot (value_at e 1)) y)) is
-    (call_includes g s (value_at e 1) helper w (h.registers 1)) in
+    (call_includes g s (value_at e 1) helper (most s.attributes w.texts) (h.registers 1)) in
     record {
       registers = called_at (answering g s.slot x) e.registers s
           (call_value helper s.slot (value_at e 1)) x later.registers result;

@@ -1,5 +1,5 @@
 -- What is computed of values whose ends are in order has its ends in order.
-use Rattle.std.proofs.Common.{◌≡◌, ℕ, ℤ, pos, negsuc, ◌+◌, ◌-◌, ◌*◌, ◌/◌, ◌%◌, ◌^◌, ◌≤◌}
+use Rattle.std.proofs.Common.{◌≡◌, ℕ, ℤ, ◌+◌, ◌-◌, ◌*◌, ◌/◌, ◌%◌, ◌^◌, ◌≤◌}
 use Rattle.std.proofs.Common.{Option, Some, None, Bool, true, false, refl, arith, inl, inr}
 use Rattle.std.specs.Prelude.{option_map, nat_lt, ◌==◌, ◌||◌, if◌then◌else◌, bit_and}
 use mir.Val.{bits}
@@ -21,6 +21,9 @@ use Rattle.bpf_insn.specs.Table.{extension_class}
 use Rattle.bpf_insn.specs.Words.{word_width}
 use Rattle.bpf_insn.specs.Arithmetic.{extended, end_width, reordered}
 use Rattle.bpf_insn.specs.Conditions.{holds}
+use Rattle.bpf_semantics.specs.declared.helpers.Prototype.{Prototype}
+use Rattle.bpf_semantics.specs.declared.helpers.Prototype.TheVariants.{OfMap, OfText, OfNumber}
+use Rattle.bpf_semantics.specs.Helpers.{called_prototype}
 use Rattle.abs_value.specs.declared.interval.Interval.{Interval}
 use Rattle.abs_value.specs.declared.known_bits.KnownBits.{KnownBits}
 use Rattle.abs_value.specs.declared.number.Number.{Number}
@@ -31,7 +34,7 @@ use Rattle.abs_value.specs.declared.relation.Relation.{Relation}
 use Rattle.abs_value.specs.declared.relation.Relation.TheVariants.{Equal, Unequal, Less, AtMost}
 use Rattle.abs_value.specs.declared.relation.Relation.TheVariants.{More, AtLeast, Meets, Misses}
 use Rattle.abs_value.specs.declared.value.Abs.{Abs}
-use Rattle.abs_value.specs.declared.value.Abs.TheVariants.{Unusable, Num, Ctx}
+use Rattle.abs_value.specs.declared.value.Abs.TheVariants.{Num, Ctx}
 use Rattle.abs_value.specs.declared.value.Abs.TheVariants.{Stk, Map, MayCell, Cell}
 use Rattle.abs_value.specs.Intervals.{IsRange, is_just, all_of, cut_interval, hull}
 use Rattle.abs_value.specs.Bounds.{fitting, quotient, shifted_left, shifted_right}
@@ -45,7 +48,7 @@ use Rattle.abs_value.specs.Narrowing.{meeting, left_by, learnt, is_taken, is_com
 use Rattle.abs_value.specs.Values.{moved_in_context, moved_in_stack, or_unusable}
 use Rattle.abs_value.specs.Values.{alu_value, copied_value, extended_value, reordered_value}
 use Rattle.abs_value.specs.Values.{loaded_value, join_values, refined, numbers}
-use Rattle.abs_value.specs.Lookups.{answer_of, with_answer, lookup_value, call_value}
+use Rattle.abs_value.specs.Lookups.{answer_of, with_answer, lookup_value, value_given, call_value}
 use Rattle.abs_value.specs.Order.{HasOrderedEnds, AreInOrder}
 use Rattle.abs_value.specs.Covers.{IsBetween}
 use Rattle.abs_value.proofs.ShiftedRanges.{shifted_right_holds}
@@ -192,13 +195,15 @@ lookup_in_order : (slot : ℕ) (v : Abs) → HasOrderedEnds (lookup_value slot v
 lookup_in_order slot (Map index) = tt
 lookup_in_order slot v = tt
 
+given_in_order : (called : Option Prototype) (slot : ℕ) (v : Abs)
+    → HasOrderedEnds (value_given called slot v)
+given_in_order None slot v = tt
+given_in_order (Some OfMap) slot v = lookup_in_order slot v
+given_in_order (Some OfText) slot v = omega arith
+given_in_order (Some (OfNumber most)) slot v = omega arith
+
 pub call_in_order : (helper : ℤ) (slot : ℕ) (v : Abs) → HasOrderedEnds (call_value helper slot v)
-call_in_order (negsuc n) slot v = tt
-call_in_order (pos n) slot v =
-    chosen_in_order (n == 1) (lookup_value slot v) _ (lookup_in_order slot v)
-    (chosen_in_order (n == 2) (Num (up_to 1)) _ (omega arith)
-    (chosen_in_order (n == 3) (Num (up_to 1024)) _ (omega arith)
-    (chosen_in_order (n == 4) (Num (up_to 9999)) Unusable (omega arith) tt)))
+call_in_order helper slot v = given_in_order (called_prototype helper) slot v
 
 -- ---- narrowing
 

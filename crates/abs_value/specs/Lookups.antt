@@ -1,7 +1,7 @@
 -- What is learnt of lookups and left by calls: a comparison with 0 tells whether a lookup found a
 -- cell (64-bit JEQ and JNE with imm 0), and a CALL gives R0 and takes R1 to R5 (RFC 9669, "Jump
 -- Instructions" and "Helper Functions").
-use Rattle.std.specs.Prelude.{◌≡◌, ℕ, ℤ, pos, negsuc, List, ◌∷◌, drop, map}
+use Rattle.std.specs.Prelude.{◌≡◌, ℕ, ℤ, pos, List, ◌∷◌, drop, map}
 use Rattle.std.specs.Prelude.{Option, Some, None, option_map}
 use Rattle.std.specs.Prelude.{Bool, true, false, ◌&&◌, not, ◌==◌, if◌then◌else◌}
 use Rattle.bpf_insn.specs.declared.reg.Reg.{Reg}
@@ -12,8 +12,9 @@ use Rattle.bpf_insn.specs.declared.operand.Condition.TheVariants.{Eq, Ne}
 use Rattle.bpf_insn.specs.declared.operand.Operand.{Operand}
 use Rattle.bpf_insn.specs.declared.operand.Operand.TheVariants.{Imm, Register}
 use Rattle.bpf_insn.specs.Table.{number_of}
-use Rattle.bpf_semantics.specs.Helpers.{lookup_number, attr_is_number, attr_len_number}
-use Rattle.bpf_semantics.specs.Helpers.{bucket_number}
+use Rattle.bpf_semantics.specs.declared.helpers.Prototype.{Prototype}
+use Rattle.bpf_semantics.specs.declared.helpers.Prototype.TheVariants.{OfMap, OfText, OfNumber}
+use Rattle.bpf_semantics.specs.Helpers.{called_prototype}
 use Rattle.abs_value.specs.declared.origin.Lookup.{Lookup}
 use Rattle.abs_value.specs.declared.origin.Origin.TheVariants.{Found}
 use Rattle.abs_value.specs.declared.value.Abs.{Abs}
@@ -110,15 +111,15 @@ abbrev pub lookup_value : ℕ → Abs → Abs
 lookup_value slot (Map array) = MayCell (lookup array slot)
 lookup_value slot v = Unusable
 
--- R0 after a call: by the helper's number, the slot of the CALL and what is known of R1
+-- R0 after a call: by the helper's prototype, the slot of the CALL and what is known of R1
+abbrev pub value_given : Option Prototype → ℕ → Abs → Abs
+value_given None slot v = Unusable
+value_given (Some OfMap) slot v = lookup_value slot v
+value_given (Some OfText) slot v = Num (up_to 1)
+value_given (Some (OfNumber most)) slot v = Num (up_to most)
+
 abbrev pub call_value : ℤ → ℕ → Abs → Abs
-call_value (negsuc n) slot v = Unusable
-call_value (pos n) slot v =
-    if n == lookup_number then lookup_value slot v
-    else if n == attr_is_number then Num (up_to 1)
-    else if n == attr_len_number then Num (up_to 1024)
-    else if n == bucket_number then Num (up_to 9999)
-    else Unusable
+call_value helper slot v = value_given (called_prototype helper) slot v
 
 -- R1 to R5 are unset, and all else stays
 abbrev pub called_registers : List Abs → Abs → List Abs

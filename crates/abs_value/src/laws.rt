@@ -7,6 +7,7 @@ ghost use Rattle.abs_value.specs.Laws as laws;
 ghost use Rattle.abs_value.specs.Numbers as numbers;
 
 use bpf_insn::results_fit;
+use bpf_semantics::helpers::numbers_are_within;
 
 /// What an interval and known bits tell one another keeps the numbers that they stand for, and adds
 /// none; so does a result. What is found empty has no number.
@@ -66,7 +67,9 @@ pub fn lookups_cover()
 /// What a CALL leaves covers the state after it, whichever helper it calls.
 pub fn calls_cover()
     ensures { laws.CoversCalls }
-{}
+{
+    numbers_are_within();
+}
 
 /// A join stands for all that either side stands for.
 pub fn joins_cover()

@@ -10,7 +10,7 @@ use crate::number::Number;
 use crate::origin::{Lookup, Origin};
 use crate::places::{Places, moved_in_stack};
 use bpf_insn::{AluOp, Bits, ByteOrder, Condition, EndSize, Extension, LoadKind};
-use bpf_semantics::helpers::{ATTR_IS, ATTR_LEN, BUCKET, LOOKUP};
+use bpf_semantics::helpers::Prototype;
 
 /// What is known of a register, or of a slot of the stack that keeps a value.
 #[derive(Clone, Copy, Debug, PartialEq, Eq)]
@@ -171,11 +171,19 @@ impl Abs {
     pub(crate) fn called(self, helper: i32, slot: u16) -> Abs
         ensures { result ≡ lookups.call_value helper slot self }
     {
-        match (helper, self) {
-            (LOOKUP, Abs::Map { index }) => Abs::MayCell(Lookup { array: index, slot }),
-            (ATTR_IS, _) => Abs::Num(Number::up_to(1)),
-            (ATTR_LEN, _) => Abs::Num(Number::up_to(1024)),
-            (BUCKET, _) => Abs::Num(Number::up_to(9999)),
+        self.given(Prototype::called(helper), slot)
+    }
+
+    /// What a helper of this prototype leaves in R0.
+    fn given(self, called: Option<Prototype>, slot: u16) -> Abs
+        ensures { result ≡ lookups.value_given called slot self }
+    {
+        match (called, self) {
+            (Some(Prototype::OfMap), Abs::Map { index }) => {
+                Abs::MayCell(Lookup { array: index, slot })
+            }
+            (Some(Prototype::OfText), _) => Abs::Num(Number::up_to(1)),
+            (Some(Prototype::OfNumber { most }), _) => Abs::Num(Number::up_to(most)),
             _ => Abs::Unusable,
         }
     }

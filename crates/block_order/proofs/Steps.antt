@@ -1,6 +1,6 @@
 -- One step of the old program is one of the new one: from a state that differs in slot and count
 -- the same instruction comes to the same, and goes on where the old one does.
-use Rattle.std.proofs.Common.{◌≡◌, ℕ, ◌+◌, ◌-◌, ℤ, pos, negsuc, Option, Some, None}
+use Rattle.std.proofs.Common.{◌≡◌, ℕ, ◌+◌, ◌-◌, ℤ, Option, Some, None}
 use Rattle.std.proofs.Common.{Bool, true, false, refl, sym, subst, inl}
 use Rattle.std.specs.Prelude.{◌==◌, if◌then◌else◌}
 use Rattle.cells.specs.Arrays.{AppShape}
@@ -23,7 +23,11 @@ use Rattle.bpf_semantics.specs.Outcome.{Outcome, Asks, Trap, needed, write, bran
 use Rattle.bpf_semantics.specs.Outcome.{finish, jump_to, go_to, moved, moved_to, ask, answer}
 use Rattle.bpf_semantics.specs.Counters.{reach, store_cell, store_asks, atomic_asks}
 use Rattle.bpf_semantics.specs.Counters.{atomic_count, cell_op, fetched, expected, cut}
-use Rattle.bpf_semantics.specs.Calls.{helper_result}
+use Rattle.bpf_semantics.specs.Calls.{result_by, known_result, helper_result}
+use Rattle.bpf_semantics.specs.declared.helpers.Helper.{Helper}
+use Rattle.bpf_semantics.specs.declared.helpers.Prototype.{Prototype}
+use Rattle.bpf_semantics.specs.declared.helpers.Prototype.TheVariants.{OfMap, OfText, OfNumber}
+use Rattle.bpf_semantics.specs.Helpers.{helper_of, prototype_of, given_of_number}
 use Rattle.bpf_semantics.specs.Step.{store}
 use Rattle.block_order.specs.Order.{Places, GoesOnAt}
 use Rattle.block_order.proofs.Lockstep.{Matches}
@@ -42,10 +46,21 @@ expected_same : (s : State) (v m : ℕ) (op : AtomicOp) → expected op (set s v
 expected_same s v m CompareExchange = refl
 expected_same s v m op = refl
 
-pub result_same : (shape : AppShape) (s : State) (v m : ℕ) (helper : ℤ)
-    → helper_result shape (set s v m) helper ≡ helper_result shape s helper
-result_same shape s v m (negsuc n) = refl
-result_same shape s v m (pos n) = refl
+given_same : (shape : AppShape) (s : State) (v m : ℕ) (f : ℕ → ℕ) (prototype : Prototype)
+    → result_by shape (set s v m) f prototype ≡ result_by shape s f prototype
+given_same shape s v m f OfMap = refl
+given_same shape s v m f OfText = refl
+given_same shape s v m f (OfNumber most) = refl
+
+pub result_same : (shape : AppShape) (s : State) (v m : ℕ) (number : ℤ)
+    → helper_result shape (set s v m) number ≡ helper_result shape s number
+result_same shape s v m number = by_helper (helper_of number)
+  where
+    by_helper : (o : Option Helper)
+        → (o >>= known_result shape (set s v m)) ≡ (o >>= known_result shape s)
+    by_helper None = refl
+    by_helper (Some helper) =
+        given_same shape s v m (given_of_number helper s.attributes) (prototype_of helper)
 
 module _ (places : Places) (q : Program) where
   -- the new state is the old one at a slot that leads to where the old one is

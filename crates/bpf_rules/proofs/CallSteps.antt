@@ -1,10 +1,11 @@
 -- Calls: where no rule fails the helper is there and gives a result, which R0 stands for.
-use Rattle.std.proofs.Common.{◌≡◌, ℕ, ◌+◌, ◌-◌, ◌≤◌, min, ℤ, pos, negsuc, ◌+ℤ◌, List}
+use Rattle.std.proofs.Common.{◌≡◌, ℕ, ◌+◌, ◌-◌, ◌≤◌, min, ℤ, pos, ◌+ℤ◌, List}
 use Rattle.std.proofs.Common.{Option, Some, None, Bool, true, false, refl, ap, arith}
-use Rattle.std.specs.Prelude.{IsSome, slice_get, nat_lt, nat_le, ◌==◌, ◌&&◌, ◌||◌, if◌then◌else◌}
+use Rattle.std.specs.Prelude.{IsSome, option_map, slice_get, nat_lt, nat_le, ◌==◌, ◌&&◌, ◌||◌}
+use Rattle.std.specs.Prelude.{if◌then◌else◌}
 use Rattle.std.specs.List.{list_any}
 use Rattle.std.proofs.lemmas.Bool.{leb-true}
-use Rattle.attrs.specs.Helpers.{attr_is, attr_len, bucket_of}
+use Rattle.attrs.specs.Helpers.{attr_is}
 use Rattle.bpf_insn.specs.declared.reg.Reg.TheVariants.{R1, R2, R3}
 use Rattle.bpf_insn.specs.declared.insn.Insn.TheVariants.{Call}
 use Rattle.bpf_insn.specs.Program.{◌>>=◌}
@@ -14,7 +15,13 @@ use Rattle.bpf_semantics.specs.Memory.{cell_address, map_start, stack_size}
 use Rattle.bpf_semantics.specs.Memory.{stack_start, is_in_stack, set_bytes}
 use Rattle.bpf_semantics.specs.State.{State, HasWords, with_result}
 use Rattle.bpf_semantics.specs.Reads.{only}
-use Rattle.bpf_semantics.specs.Calls.{array_of, lookup, compared, helper_result}
+use Rattle.bpf_semantics.specs.Calls.{array_of, lookup, compared}
+use Rattle.bpf_semantics.specs.Calls.{result_by, known_result, helper_result}
+use Rattle.bpf_semantics.specs.declared.helpers.Helper.{Helper}
+use Rattle.bpf_semantics.specs.declared.helpers.Prototype.{Prototype}
+use Rattle.bpf_semantics.specs.declared.helpers.Prototype.TheVariants.{OfMap, OfText, OfNumber}
+use Rattle.bpf_semantics.specs.Helpers.{helper_of, prototype_of, given_of_number}
+use Rattle.bpf_semantics.specs.Helpers.{called_prototype}
 use Rattle.bpf_semantics.specs.Outcome.{moved_to}
 use Rattle.bpf_semantics.specs.Step.{act}
 use Rattle.abs_value.specs.declared.value.Abs.{Abs}
@@ -27,10 +34,8 @@ use Rattle.abs_value.specs.Stack.{has_unset}
 use Rattle.abs_value.specs.States.{value_of}
 use Rattle.abs_value.specs.Lookups.{called}
 use Rattle.abs_value.specs.Covers.{Answers, Includes, answering, IsStoodFor}
-use Rattle.bpf_rules.specs.declared.helper.Helper.{Helper}
-use Rattle.bpf_rules.specs.declared.helper.Helper.TheVariants.{Lookup, AttrIs, AttrLen, Bucket}
 use Rattle.bpf_rules.specs.Memory.{text_unset}
-use Rattle.bpf_rules.specs.Reads.{helper_of, arguments}
+use Rattle.bpf_rules.specs.Reads.{arguments}
 use Rattle.bpf_rules.specs.Rules.{compares_unset, is_map, is_stack_text, takes}
 use Rattle.bpf_rules.specs.Sound.{IsSafe}
 use Rattle.bpf_rules.specs.Transfer.{edges}
@@ -125,16 +130,16 @@ text_there given shape e s (Stk place) (Num m) number address n h words is set a
     rw at (text_at given shape e s place n number h words short within (rw (start, read) at unset))
 text_there given shape e s v w number address n h words is set at length = absurd cc
 
--- ---- each helper
+-- ---- each prototype
 
--- a helper of a number, and what is asked of its arguments
-record Asked (e : AbsState) (helper : Option Helper) : Type 0 where
-  usable : (list_any (λ r. is_unusable (value_of e r)) (arguments helper)
-      || compares_unset e helper) ≡ false
-  taken : takes e helper ≡ true
+-- what is asked of the arguments of a helper
+record Asked (e : AbsState) (prototype : Option Prototype) : Type 0 where
+  usable : (list_any (λ r. is_unusable (value_of e r)) (arguments prototype)
+      || compares_unset e prototype) ≡ false
+  taken : takes e prototype ≡ true
 
 lookup_gives : (given : Given) (shape : AppShape) (e : AbsState) (s : State)
-    (h : IsStoodFor shape e s) → Asked e (Some Lookup)
+    (h : IsStoodFor shape e s) → Asked e (Some OfMap)
     → IsSome (s.registers 1 >>= λ map. s.registers 2 >>= λ key. lookup shape map key)
 lookup_gives given shape e s h asked =
     let usable =
@@ -146,7 +151,7 @@ lookup_gives given shape e s h asked =
     (looked_up (answers h) (value_of e R1) map.number key.number taken.0 map.included)
 
 text_gives : (given : Given) (shape : AppShape) (e : AbsState) (s : State)
-    (h : IsStoodFor shape e s) → HasWords s → Asked e (Some AttrIs)
+    (h : IsStoodFor shape e s) → HasWords s → Asked e (Some OfText)
     → IsSome (s.registers 1 >>= λ number. s.registers 2 >>= λ address. s.registers 3 >>= λ k.
     compared s number address k)
 text_gives given shape e s h words asked =
@@ -170,27 +175,25 @@ only_gives given shape e s f h u =
     let number = there given shape e s R1 h usable.0 in
     rw number.is refl
 
-by_test : (b : Bool) (o q : Option ℕ) → (b ≡ true → IsSome o) → (b ≡ false → IsSome q)
-    → IsSome (if b then o else q)
-by_test true o q h k = h refl
-by_test false o q h k = k refl
+result_gives : (given : Given) (shape : AppShape) (e : AbsState) (s : State) (f : ℕ → ℕ)
+    (prototype : Prototype) (h : IsStoodFor shape e s) → HasWords s → Asked e (Some prototype)
+    → IsSome (result_by shape s f prototype)
+result_gives given shape e s f OfMap h words asked = lookup_gives given shape e s h asked
+result_gives given shape e s f OfText h words asked = text_gives given shape e s h words asked
+result_gives given shape e s f (OfNumber most) h words asked =
+    only_gives given shape e s f h asked.usable
 
-no_helper : (e : AbsState) (n : ℕ) → (n == 1) ≡ false → (n == 2) ≡ false → (n == 3) ≡ false
-    → (n == 4) ≡ false → takes e (helper_of (pos n)) ≡ true → ⊥
-no_helper e n a b c d taken = let none : takes e None ≡ true = rw (a, b, c, d) at taken in cc
-
-helper_gives : (given : Given) (shape : AppShape) (e : AbsState) (s : State) (helper : ℤ)
-    (h : IsStoodFor shape e s) → HasWords s → Asked e (helper_of helper)
-    → IsSome (helper_result shape s helper)
-helper_gives given shape e s (negsuc n) h words asked = let none = asked.taken in absurd cc
-helper_gives given shape e s (pos n) h words asked =
-    by_test (n == 1) _ _ (λ a. lookup_gives given shape e s h (rw a at asked)) (λ a.
-    by_test (n == 2) _ _ (λ b. text_gives given shape e s h words (rw (a, b) at asked)) (λ b.
-    by_test (n == 3) _ _ (λ c. only_gives given shape e s (attr_len s.attributes) h
-    (let one : Asked e (Some AttrLen) = rw (a, b, c) at asked in one.usable)) (λ c.
-    by_test (n == 4) _ _ (λ d. only_gives given shape e s (bucket_of s.attributes) h
-    (let one : Asked e (Some Bucket) = rw (a, b, c, d) at asked in one.usable))
-    (λ d. absurd (no_helper e n a b c d asked.taken)))))
+helper_gives : (given : Given) (shape : AppShape) (e : AbsState) (s : State) (number : ℤ)
+    (h : IsStoodFor shape e s) → HasWords s → Asked e (called_prototype number)
+    → IsSome (helper_result shape s number)
+helper_gives given shape e s number h words asked = by_helper (helper_of number) asked
+  where
+    by_helper : (o : Option Helper) → Asked e (option_map prototype_of o)
+        → IsSome (o >>= known_result shape s)
+    by_helper None asked = let none = asked.taken in absurd cc
+    by_helper (Some helper) asked =
+        result_gives given shape e s (given_of_number helper s.attributes) (prototype_of helper) h
+        words asked
 
 -- ---- the step
 
@@ -199,8 +202,11 @@ pub call_safe : (given : Given) (shape : AppShape) (e : AbsState) (s : State) (h
     → IsSafe shape (edges shape s.slot e (Call helper)) (act shape s (Call helper))
 unfolding edges
 call_safe given shape e s helper h words ok =
-    let asked : Asked e (helper_of helper) =
-    record { usable = ok.usable; taken = not_false (takes e (helper_of helper)) ok.helper } in
+    let asked : Asked e (called_prototype helper) =
+    record {
+      usable = ok.usable;
+      taken = not_false (takes e (called_prototype helper)) ok.helper;
+    } in
     let given_result =
     gives (helper_result shape s helper) (helper_gives given shape e s helper h words asked) in
     let x = given_result.result in

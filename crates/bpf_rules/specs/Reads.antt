@@ -1,7 +1,6 @@
 -- What an instruction reads, writes and accesses (RFC 9669, "Arithmetic and Jump Instructions" and
 -- "Load and Store Instructions").
-use Rattle.std.specs.Prelude.{ℕ, ℤ, pos, negsuc, List, [], ◌∷◌, Option, Some, None}
-use Rattle.std.specs.Prelude.{◌==◌, if◌then◌else◌}
+use Rattle.std.specs.Prelude.{ℕ, ℤ, List, [], ◌∷◌, Option, Some, None}
 use Rattle.bpf_insn.specs.declared.reg.Reg.{Reg}
 use Rattle.bpf_insn.specs.declared.reg.Reg.TheVariants.{R0, R1, R2, R3}
 use Rattle.bpf_insn.specs.declared.operand.AtomicOp.{AtomicOp}
@@ -16,37 +15,23 @@ use Rattle.bpf_insn.specs.declared.insn.Insn.{Insn}
 use Rattle.bpf_insn.specs.declared.insn.Insn.TheVariants.{Alu, Mov, MovSx, Neg, End, Jump, JumpIf}
 use Rattle.bpf_insn.specs.declared.insn.Insn.TheVariants.{Call, Exit, Load, StoreImm, Store}
 use Rattle.bpf_insn.specs.declared.insn.Insn.TheVariants.{Atomic, Wide}
-use Rattle.bpf_semantics.specs.Helpers.{lookup_number, attr_is_number, attr_len_number}
-use Rattle.bpf_semantics.specs.Helpers.{bucket_number}
+use Rattle.bpf_semantics.specs.declared.helpers.Prototype.{Prototype}
+use Rattle.bpf_semantics.specs.declared.helpers.Prototype.TheVariants.{OfMap, OfText, OfNumber}
+use Rattle.bpf_semantics.specs.Helpers.{called_prototype}
 use Rattle.bpf_semantics.specs.Reads.{byte_count, load_count}
 use Rattle.bpf_semantics.specs.Counters.{atomic_count, fetched}
 use Rattle.bpf_rules.specs.declared.access.Use.{Use}
 use Rattle.bpf_rules.specs.declared.access.Use.TheVariants.{Loads, Extends, Stores, Exchanges}
 use Rattle.bpf_rules.specs.declared.access.Access.{Access}
-use Rattle.bpf_rules.specs.declared.helper.Helper.{Helper}
-use Rattle.bpf_rules.specs.declared.helper.Helper.TheVariants.{Lookup, AttrIs, AttrLen, Bucket}
-
--- ---- helpers
-
--- by the number that a CALL names
-abbrev pub helper_of : ℤ → Option Helper
-helper_of (negsuc n) = None
-helper_of (pos n) =
-    if n == lookup_number then Some Lookup
-    else if n == attr_is_number then Some AttrIs
-    else if n == attr_len_number then Some AttrLen
-    else if n == bucket_number then Some Bucket
-    else None
-
--- the registers that a helper takes
-abbrev pub arguments : Option Helper → List Reg
-arguments None = []
-arguments (Some Lookup) = R1 ∷ R2 ∷ []
-arguments (Some AttrIs) = R1 ∷ R2 ∷ R3 ∷ []
-arguments (Some AttrLen) = R1 ∷ []
-arguments (Some Bucket) = R1 ∷ []
 
 -- ---- registers
+
+-- the registers that a helper takes
+abbrev pub arguments : Option Prototype → List Reg
+arguments None = []
+arguments (Some OfMap) = R1 ∷ R2 ∷ []
+arguments (Some OfText) = R1 ∷ R2 ∷ R3 ∷ []
+arguments (Some (OfNumber most)) = R1 ∷ []
 
 abbrev pub operand_register : Operand → List Reg
 operand_register (Imm k) = []
@@ -66,7 +51,7 @@ reads (Neg bits dst) = dst ∷ []
 reads (End order size dst) = dst ∷ []
 reads (Jump distance) = []
 reads (JumpIf bits condition left right offset) = left ∷ operand_register right
-reads (Call helper) = arguments (helper_of helper)
+reads (Call helper) = arguments (called_prototype helper)
 reads Exit = R0 ∷ []
 reads (Load kind dst src offset) = src ∷ []
 reads (StoreImm size dst offset imm) = dst ∷ []

@@ -14,6 +14,9 @@ use Rattle.bpf_insn.specs.declared.insn.Insn.TheVariants.{Alu, Mov, MovSx, Neg, 
 use Rattle.bpf_insn.specs.declared.insn.Insn.TheVariants.{Call, Exit, Load, Store}
 use Rattle.bpf_insn.specs.declared.insn.Insn.TheVariants.{Atomic, Wide}
 use Rattle.bpf_insn.specs.Table.{number_of}
+use Rattle.bpf_semantics.specs.declared.helpers.Prototype.{Prototype}
+use Rattle.bpf_semantics.specs.declared.helpers.Prototype.TheVariants.{OfMap, OfText, OfNumber}
+use Rattle.bpf_semantics.specs.Helpers.{called_prototype}
 use Rattle.bpf_semantics.specs.Memory.{stack_size}
 use Rattle.bpf_semantics.specs.Reads.{byte_count, load_count}
 use Rattle.cells.specs.Arrays.{AppShape}
@@ -24,11 +27,9 @@ use Rattle.abs_value.specs.Numbers.{is_single, least, is_only, is_at_most}
 use Rattle.abs_value.specs.Values.{is_unusable, is_pointer, is_number, pointer_result}
 use Rattle.abs_value.specs.States.{value_of, operand_value}
 use Rattle.abs_value.specs.Lookups.{compares_with_zero}
-use Rattle.bpf_rules.specs.declared.helper.Helper.{Helper}
-use Rattle.bpf_rules.specs.declared.helper.Helper.TheVariants.{Lookup, AttrIs, AttrLen, Bucket}
 use Rattle.bpf_rules.specs.declared.refusal.VerifierRule.{VerifierRule}
 use Rattle.bpf_rules.specs.declared.refusal.VerifierRule.TheVariants as rule
-use Rattle.bpf_rules.specs.Reads.{helper_of, reads, writes, compared_register}
+use Rattle.bpf_rules.specs.Reads.{reads, writes, compared_register}
 use Rattle.bpf_rules.specs.Arrays.{wide_abs}
 use Rattle.bpf_rules.specs.Memory.{accesses, is_outside, changes_context, is_no_address}
 use Rattle.bpf_rules.specs.Memory.{exchanges_stack, reaches_quota, stack_place, is_slot}
@@ -36,14 +37,14 @@ use Rattle.bpf_rules.specs.Memory.{meets_unset, text_unset}
 
 -- ---- V1: what is read may be unset
 
-abbrev pub compares_unset : AbsState → Option Helper → Bool
-compares_unset e (Some AttrIs) = text_unset e (value_of e R2) (value_of e R3)
+abbrev pub compares_unset : AbsState → Option Prototype → Bool
+compares_unset e (Some OfText) = text_unset e (value_of e R2) (value_of e R3)
 compares_unset e helper = false
 
 -- a byte of the stack, by a load or by a text that is compared
 abbrev pub reads_unset : AbsState → Insn → Bool
 reads_unset e (Load kind dst src offset) = meets_unset e (value_of e src) offset (load_count kind)
-reads_unset e (Call helper) = compares_unset e (helper_of helper)
+reads_unset e (Call helper) = compares_unset e (called_prototype helper)
 reads_unset e i = false
 
 abbrev pub reads_unusable : AbsState → Insn → Bool
@@ -161,15 +162,14 @@ is_stack_text (Stk place) (Num n) =
     is_single n && nat_le (least n) 64 && nat_le (place + least n) stack_size
 is_stack_text address length = false
 
-abbrev pub takes : AbsState → Option Helper → Bool
+abbrev pub takes : AbsState → Option Prototype → Bool
 takes e None = false
-takes e (Some Lookup) = is_map (value_of e R1) && is_number (value_of e R2)
-takes e (Some AttrIs) = is_number (value_of e R1) && is_stack_text (value_of e R2) (value_of e R3)
-takes e (Some AttrLen) = is_number (value_of e R1)
-takes e (Some Bucket) = is_number (value_of e R1)
+takes e (Some OfMap) = is_map (value_of e R1) && is_number (value_of e R2)
+takes e (Some OfText) = is_number (value_of e R1) && is_stack_text (value_of e R2) (value_of e R3)
+takes e (Some (OfNumber most)) = is_number (value_of e R1)
 
 abbrev pub misuses_helper : AbsState → Insn → Bool
-misuses_helper e (Call helper) = not (takes e (helper_of helper))
+misuses_helper e (Call helper) = not (takes e (called_prototype helper))
 misuses_helper e i = false
 
 -- ---- V11: an array or a cell that the shape doesn't have

@@ -8,39 +8,41 @@ ghost use Rattle.abs_value.specs.Values.{is_unusable};
 ghost use Rattle.bpf_rules.specs.Reads as reads;
 ghost use Rattle.bpf_rules.specs.Rules as rules;
 
-use crate::helper::Helper;
 use crate::memory::text_unset;
 use crate::refusal::VerifierRule;
 use abs_value::{Abs, AbsState};
 use bpf_insn::{Insn, Reg};
 use bpf_semantics::STACK_SIZE;
+use bpf_semantics::helpers::Prototype;
 use cells::Shape;
 
 /// The most bytes of a text that attr_is compares.
 const MAX_TEXT: u64 = 64;
 
 /// Whether a register of the arguments may be unset.
-fn reads_unusable(e: &AbsState, helper: Option<Helper>) -> bool
-    ensures { result ≡ list_any (λ r. is_unusable (value_of e.now r)) (reads.arguments helper) }
+fn reads_unusable(e: &AbsState, called: Option<Prototype>) -> bool
+    ensures { result ≡ list_any (λ r. is_unusable (value_of e.now r)) (reads.arguments called) }
 {
-    match helper {
-        Some(Helper::Lookup) => { e.value(Reg::R1).is_unusable() || e.value(Reg::R2).is_unusable() }
-        Some(Helper::AttrIs) => {
+    match called {
+        Some(Prototype::OfMap) => {
+            e.value(Reg::R1).is_unusable() || e.value(Reg::R2).is_unusable()
+        }
+        Some(Prototype::OfText) => {
             e.value(Reg::R1).is_unusable()
                 || e.value(Reg::R2).is_unusable()
                 || e.value(Reg::R3).is_unusable()
         }
-        Some(_) => e.value(Reg::R1).is_unusable(),
+        Some(Prototype::OfNumber { .. }) => e.value(Reg::R1).is_unusable(),
         None => false,
     }
 }
 
 /// Whether a byte of a text that is compared may be unset.
-fn compares_unset(e: &AbsState, helper: Option<Helper>) -> bool
-    ensures { result ≡ rules.compares_unset e.now helper }
+fn compares_unset(e: &AbsState, called: Option<Prototype>) -> bool
+    ensures { result ≡ rules.compares_unset e.now called }
 {
-    match helper {
-        Some(Helper::AttrIs) => text_unset(e, e.value(Reg::R2), e.value(Reg::R3)),
+    match called {
+        Some(Prototype::OfText) => text_unset(e, e.value(Reg::R2), e.value(Reg::R3)),
         _ => false,
     }
 }
@@ -65,15 +67,15 @@ fn is_map(value: Abs) -> bool
 }
 
 /// Whether a helper takes its arguments.
-fn takes(e: &AbsState, helper: Option<Helper>) -> bool
-    ensures { result ≡ rules.takes e.now helper }
+fn takes(e: &AbsState, called: Option<Prototype>) -> bool
+    ensures { result ≡ rules.takes e.now called }
 {
-    match helper {
-        Some(Helper::Lookup) => is_map(e.value(Reg::R1)) && e.value(Reg::R2).is_number(),
-        Some(Helper::AttrIs) => {
+    match called {
+        Some(Prototype::OfMap) => is_map(e.value(Reg::R1)) && e.value(Reg::R2).is_number(),
+        Some(Prototype::OfText) => {
             e.value(Reg::R1).is_number() && is_stack_text(e.value(Reg::R2), e.value(Reg::R3))
         }
-        Some(_) => e.value(Reg::R1).is_number(),
+        Some(Prototype::OfNumber { .. }) => e.value(Reg::R1).is_number(),
         None => false,
     }
 }
@@ -83,7 +85,7 @@ fn takes(e: &AbsState, helper: Option<Helper>) -> bool
 pub fn call_rule(e: &AbsState, helper: i32) -> Option<VerifierRule>
     ensures { (shape : AppShape) → rules.first_rule shape e.now (Insn.Call helper) ≡ result }
 {
-    let called = Helper::of(helper);
+    let called = Prototype::called(helper);
     if reads_unusable(e, called) || compares_unset(e, called) {
         Some(VerifierRule::Unusable)
     } else if !takes(e, called) {

@@ -32,7 +32,6 @@ mod arrays;
 mod atomics;
 mod calls;
 mod compared;
-mod helper;
 mod jumps;
 mod laws;
 mod loads;

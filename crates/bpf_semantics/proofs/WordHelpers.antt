@@ -1,14 +1,14 @@
 -- What helpers and wide loads give is a word.
-use Rattle.std.proofs.Common.{◌≡◌, ℕ, zero, suc, ◌+◌, ◌-◌, ◌^◌, ◌≤◌, ℤ, pos, negsuc}
+use Rattle.std.proofs.Common.{◌≡◌, ℕ, zero, suc, ◌+◌, ◌-◌, ◌^◌, ◌<◌, ◌≤◌, ℤ, pos, negsuc}
 use Rattle.std.proofs.Common.{List, [], ◌∷◌, length, All, FitsSigned}
 use Rattle.std.proofs.Common.{Option, Some, None, Bool, true, false, refl, arith}
-use Rattle.std.specs.Prelude.{IfSome, slice_get, bytes_eq, nat_le, nat_lt, ◌==◌, if◌then◌else◌}
+use Rattle.std.specs.Prelude.{IfSome, slice_get, bytes_eq, nat_le, nat_lt, if◌then◌else◌}
 use Rattle.std.specs.Int.{w32, w64, cast_unsigned}
 use Rattle.std.proofs.lemmas.Int.{ints}
 use Rattle.std.proofs.lemmas.Nat.{mod_below}
 use Rattle.std.proofs.lemmas.List.Elements.{All-head, All-tail}
-use Rattle.attrs.specs.Attributes.{Attributes}
-use Rattle.attrs.specs.Helpers.{attribute, is_text, attr_is, text_length, attr_len, bucket_of}
+use Rattle.attrs.specs.Attributes.{Attributes, AreShort}
+use Rattle.attrs.specs.Helpers.{attribute, is_text, attr_is, text_length}
 use Rattle.cells.specs.Arrays.{AppShape, IsShape, IsArray, first_cell}
 use Rattle.cells.specs.declared.array.CellWidth.{CellWidth}
 use Rattle.cells.specs.declared.array.CellWidth.TheVariants.{Bits32, Bits64}
@@ -20,7 +20,14 @@ use Rattle.bpf_insn.specs.Spelling.{IsWideNumber, wide_imm}
 use Rattle.bpf_semantics.specs.Memory.{address_of, cell_address, map_start}
 use Rattle.bpf_semantics.specs.State.{State, HasWords, stack_bytes}
 use Rattle.bpf_semantics.specs.Reads.{both, only}
-use Rattle.bpf_semantics.specs.Calls.{wide_value, array_of, lookup, compared, helper_result}
+use Rattle.bpf_semantics.specs.declared.helpers.Helper.{Helper}
+use Rattle.bpf_semantics.specs.declared.helpers.Helper.TheVariants.{Lookup, AttrIs, AttrLen, Bucket}
+use Rattle.bpf_semantics.specs.declared.helpers.Prototype.{Prototype}
+use Rattle.bpf_semantics.specs.declared.helpers.Prototype.TheVariants.{OfMap, OfText, OfNumber}
+use Rattle.bpf_semantics.specs.Helpers.{helper_of, prototype_of, given_of_number, most_given}
+use Rattle.bpf_semantics.specs.Helpers.{AllKeepMost}
+use Rattle.bpf_semantics.specs.Calls.{wide_value, array_of, lookup, compared}
+use Rattle.bpf_semantics.specs.Calls.{result_by, known_result, helper_result}
 use Rattle.bpf_semantics.proofs.WordResults.{IsWord}
 
 -- a word, where there is a number
@@ -109,34 +116,60 @@ compared_word s number address n = either_word (nat_le n 64)
     (after (stack_bytes s address n) (λ bytes. Some (attr_is s.attributes number bytes))
     (λ bytes. text_is_word bytes (attribute s.attributes number))) tt
 
-length_word : (o : Option (List ℕ)) → IfSome o (λ text. length text ≤ 1024) → IsWord (text_length o)
-length_word None h = omega arith
-length_word (Some text) h = omega (arith, h)
+length_within : (o : Option (List ℕ)) → IfSome o (λ text. length text ≤ 1024)
+    → text_length o ≤ 1024
+length_within None h = omega arith
+length_within (Some text) h = h
 
-bucket_word : (a : Attributes) (salt : ℕ) → IsWord (bucket_of a salt)
-bucket_word a salt = omega arith
+-- ---- what a helper gives of a number
+
+pub given_within : (a : Attributes) (helper : Helper) (n : ℕ) → AreShort a.texts
+    → given_of_number helper a n ≤ most_given (prototype_of helper)
+given_within a Lookup n short = omega arith
+given_within a AttrIs n short = omega arith
+given_within a AttrLen n short = length_within (attribute a n)
+    (all_at (λ text. length text ≤ 1024) a.texts n short)
+given_within a Bucket n short = omega arith
+
+most_is_word : (helper : Helper) → most_given (prototype_of helper) < 2 ^ 64
+most_is_word Lookup = omega arith
+most_is_word AttrIs = omega arith
+most_is_word AttrLen = omega arith
+most_is_word Bucket = omega arith
+
+pub all_keep_most : (a : Attributes) → AreShort a.texts → AllKeepMost a
+all_keep_most a short helper = record {
+  within = λ n. given_within a helper n short;
+  word = most_is_word helper;
+}
+
+given_word : (a : Attributes) (helper : Helper) (n : ℕ) → AreShort a.texts
+    → IsWord (given_of_number helper a n)
+given_word a helper n short =
+    let most = given_within a helper n short in
+    let word = most_is_word helper in
+    omega (arith, most, word)
 
 -- ---- calls
 
-pub helper_word : (shape : AppShape) (s : State) (helper : ℤ) → IsShape shape → HasWords s
-    → Words (helper_result shape s helper)
-helper_word shape s (negsuc n) shaped h = tt
-helper_word shape s (pos n) shaped h =
-    either_word (n == 1) (s.registers 1 >>= λ map. s.registers 2 >>= λ key. lookup shape map key) _
-    (after (s.registers 1) (λ map. s.registers 2 >>= λ key. lookup shape map key) (λ map.
-    after (s.registers 2) (λ key. lookup shape map key) (λ key. lookup_word shape map key shaped)))
-    (either_word (n == 2) (s.registers 1 >>= λ number. s.registers 2 >>= λ address.
-    s.registers 3 >>= λ k. compared s number address k) _
-    (after (s.registers 1) (λ number. s.registers 2 >>= λ address. s.registers 3 >>= λ k.
+result_word : (shape : AppShape) (s : State) (f : ℕ → ℕ) (prototype : Prototype) → IsShape shape
+    → ((n : ℕ) → IsWord (f n)) → Words (result_by shape s f prototype)
+result_word shape s f OfMap shaped words =
+    after (s.registers 1) (λ map. s.registers 2 >>= λ key. lookup shape map key) (λ map.
+    after (s.registers 2) (λ key. lookup shape map key) (λ key. lookup_word shape map key shaped))
+result_word shape s f OfText shaped words =
+    after (s.registers 1) (λ number. s.registers 2 >>= λ address. s.registers 3 >>= λ k.
     compared s number address k) (λ number.
     after (s.registers 2)
     (λ address. s.registers 3 >>= λ k. compared s number address k) (λ address.
     after (s.registers 3) (λ k. compared s number address k)
-    (λ k. compared_word s number address k))))
-    (either_word (n == 3) (only (attr_len s.attributes) (s.registers 1)) _
-    (after (s.registers 1) (λ number. Some (attr_len s.attributes number))
-    (λ number. length_word (attribute s.attributes number)
-    (all_at (λ text. length text ≤ 1024) s.attributes.texts number h.texts)))
-    (either_word (n == 4) (only (bucket_of s.attributes) (s.registers 1)) None
-    (after (s.registers 1) (λ salt. Some (bucket_of s.attributes salt)) (bucket_word s.attributes))
-    tt)))
+    (λ k. compared_word s number address k)))
+result_word shape s f (OfNumber most) shaped words =
+    after (s.registers 1) (λ n. Some (f n)) words
+
+pub helper_word : (shape : AppShape) (s : State) (number : ℤ) → IsShape shape → HasWords s
+    → Words (helper_result shape s number)
+helper_word shape s number shaped h =
+    after (helper_of number) (known_result shape s) (λ helper.
+    result_word shape s (given_of_number helper s.attributes) (prototype_of helper) shaped
+    (λ n. given_word s.attributes helper n h.texts))

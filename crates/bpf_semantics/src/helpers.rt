@@ -1,6 +1,8 @@
-//! The numbers by which CALL names the helpers. No other number is one's.
+//! The helpers that a program may call (RFC 9669, "Helper Functions"), a row each: the number by
+//! which CALL names it, what it takes from R1 on, and the greatest number that it gives.
 
-ghost use Rattle.std.specs.Prelude.{◌≡◌, pos};
+ghost use Rattle.std.specs.Prelude.{◌≡◌, Some};
+ghost use Rattle.attrs.specs.Attributes.{Attributes, AreShort};
 ghost use Rattle.bpf_semantics.specs.Helpers as helpers;
 
 /// The address of an array's counter at a key, or 0 where the array has no such key.
@@ -12,10 +14,87 @@ pub const ATTR_LEN: i32 = 3;
 /// The bucket of a salt.
 pub const BUCKET: i32 = 4;
 
-/// Each helper has the number that the definitions give it.
+/// A helper: a function that a program calls.
+#[derive(Clone, Copy)]
+pub enum Helper {
+    /// The address of an array's counter at a key, or 0.
+    Lookup,
+    /// Whether an attribute is a text on the stack.
+    AttrIs,
+    /// The length of an attribute.
+    AttrLen,
+    /// The bucket of a salt.
+    Bucket,
+}
+
+/// What a helper takes from R1 on, and what it gives.
+#[derive(Clone, Copy)]
+pub enum Prototype {
+    /// A map and a key. It gives the address of the map's counter at the key, or 0.
+    OfMap,
+    /// An attribute's number, and the address and the length of a text on the stack. It gives 0 or
+    /// 1.
+    OfText,
+    /// A number. It gives one of at most `most`.
+    OfNumber { most: u64 },
+}
+
+impl Helper {
+    /// The helper of a number, if there is one.
+    #[inline]
+    pub fn of(number: i32) -> Option<Helper>
+        ensures { result ≡ helpers.helper_of number }
+    {
+        if number == LOOKUP {
+            Some(Helper::Lookup)
+        } else if number == ATTR_IS {
+            Some(Helper::AttrIs)
+        } else if number == ATTR_LEN {
+            Some(Helper::AttrLen)
+        } else if number == BUCKET {
+            Some(Helper::Bucket)
+        } else {
+            None
+        }
+    }
+
+    /// What it takes, and what it gives.
+    #[inline]
+    pub fn prototype(self) -> Prototype
+        ensures { result ≡ helpers.prototype_of self }
+    {
+        match self {
+            Helper::Lookup => Prototype::OfMap,
+            Helper::AttrIs => Prototype::OfText,
+            Helper::AttrLen => Prototype::OfNumber { most: 1024 },
+            Helper::Bucket => Prototype::OfNumber { most: 9999 },
+        }
+    }
+}
+
+impl Prototype {
+    /// That of the helper which a CALL names, if there is one.
+    #[inline]
+    pub fn called(number: i32) -> Option<Prototype>
+        ensures { result ≡ helpers.called_prototype number }
+    {
+        match Helper::of(number) {
+            Some(helper) => Some(helper.prototype()),
+            None => None,
+        }
+    }
+}
+
+/// Each constant is the number of its helper.
 pub fn helper_numbers()
-    ensures lookup { LOOKUP ≡ pos helpers.lookup_number }
-    ensures attr_is { ATTR_IS ≡ pos helpers.attr_is_number }
-    ensures attr_len { ATTR_LEN ≡ pos helpers.attr_len_number }
-    ensures bucket { BUCKET ≡ pos helpers.bucket_number }
+    ensures lookup { helpers.helper_of LOOKUP ≡ Some Helper.Lookup }
+    ensures attr_is { helpers.helper_of ATTR_IS ≡ Some Helper.AttrIs }
+    ensures attr_len { helpers.helper_of ATTR_LEN ≡ Some Helper.AttrLen }
+    ensures bucket { helpers.helper_of BUCKET ≡ Some Helper.Bucket }
+{}
+
+/// What a helper gives of a number is no more than its prototype says, of texts of at most 1024
+/// bytes.
+pub fn numbers_are_within()
+    ensures { (a : Attributes) → AreShort a.texts → helpers.AllKeepMost a }
 {}

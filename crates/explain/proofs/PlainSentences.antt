@@ -19,9 +19,9 @@ use Rattle.abs_value.specs.declared.value.Abs.{Abs}
 use Rattle.abs_value.specs.declared.value.Abs.TheVariants.{Num, Stk, MayCell, Cell}
 use Rattle.abs_value.specs.Numbers.{is_single, least}
 use Rattle.abs_value.specs.States.{value_of, operand_value}
-use Rattle.bpf_rules.specs.Reads.{helper_of}
-use Rattle.bpf_rules.specs.declared.helper.Helper.{Helper}
-use Rattle.bpf_rules.specs.declared.helper.Helper.TheVariants as helper
+use Rattle.bpf_semantics.specs.declared.helpers.Prototype.{Prototype}
+use Rattle.bpf_semantics.specs.declared.helpers.Prototype.TheVariants.{OfMap, OfText, OfNumber}
+use Rattle.bpf_semantics.specs.Helpers.{called_prototype}
 use Rattle.bpf_rules.specs.declared.refusal.VerifierRule.{VerifierRule}
 use Rattle.bpf_rules.specs.declared.refusal.VerifierRule.TheVariants as rule
 use Rattle.explain.specs.declared.reads.TouchedMemory.{TouchedMemory}
@@ -140,21 +140,21 @@ module _ (shape : AppShape) (names : AreNamedPlainly shape.arrays) where
   three_plain : (e : AbsState) → IsPlain (sentences.three_are shape e)
   three_plain e = both (both (two_plain e) (word (codes ", ") refl)) (register_is_plain e R3)
 
-  call_plain : (e : AbsState) (number : ℤ) (h : Option Helper)
-      → IsPlain (sentences.call_text shape e number h)
+  call_plain : (e : AbsState) (number : ℤ) (prototype : Option Prototype)
+      → IsPlain (sentences.call_text shape e number prototype)
   unfolding asked.lookup_takes asked.attr_is_takes
   call_plain e number None = both (asked_plain rule.Helper) (signed_plain number)
-  call_plain e number (Some helper.Lookup) =
+  call_plain e number (Some OfMap) =
       both (word asked.lookup_takes refl) (two_plain e)
-  call_plain e number (Some helper.AttrIs) =
+  call_plain e number (Some OfText) =
       both (both (word asked.attr_is_takes refl) (three_plain e))
       (past_top_plain (value_of e R2) (value_of e R3))
-  call_plain e number (Some h) =
+  call_plain e number (Some (OfNumber most)) =
       both (both (both (word (codes "helper ") refl) (signed_plain number))
       (word (codes " takes a number: ") refl)) (register_is_plain e R1)
 
   helper_plain : (e : AbsState) (i : Insn) → IsPlain (sentences.helper_text shape e i)
-  helper_plain e (Call number) = call_plain e number (helper_of number)
+  helper_plain e (Call number) = call_plain e number (called_prototype number)
   helper_plain e i = word [] refl
 
   no_cell_plain : (arrays : List CellArray) (i : ℕ) (j n : ℤ) → AreNamedPlainly arrays

@@ -14,9 +14,10 @@ use Rattle.bpf_insn.specs.declared.reg.Reg.{Reg}
 use Rattle.bpf_insn.specs.declared.reg.Reg.TheVariants.{R0, R1, R2, R3}
 use Rattle.bpf_insn.specs.Table.{number_of}
 use Rattle.bpf_rules.specs.declared.access.Access.{Access}
-use Rattle.bpf_rules.specs.declared.helper.Helper.{Helper}
-use Rattle.bpf_rules.specs.declared.helper.Helper.TheVariants.{Lookup, AttrIs}
-use Rattle.bpf_rules.specs.Reads.{reads, access, helper_of}
+use Rattle.bpf_semantics.specs.declared.helpers.Prototype.{Prototype}
+use Rattle.bpf_semantics.specs.declared.helpers.Prototype.TheVariants.{OfMap, OfText, OfNumber}
+use Rattle.bpf_semantics.specs.Helpers.{called_prototype}
+use Rattle.bpf_rules.specs.Reads.{reads, access}
 use Rattle.explain.specs.declared.reads.ReadRegisters.{ReadRegisters}
 use Rattle.explain.specs.declared.reads.TouchedMemory.{TouchedMemory}
 
@@ -45,11 +46,11 @@ abbrev pub operand_registers : Operand → ReadRegisters
 operand_registers (Imm k) = no_register
 operand_registers (Register r) = one_register r
 
-abbrev pub argument_registers : Option Helper → ReadRegisters
+abbrev pub argument_registers : Option Prototype → ReadRegisters
 argument_registers None = no_register
-argument_registers (Some Lookup) = two_registers R1 R2
-argument_registers (Some AttrIs) = three_registers R1 R2 R3
-argument_registers (Some helper) = one_register R1
+argument_registers (Some OfMap) = two_registers R1 R2
+argument_registers (Some OfText) = three_registers R1 R2 R3
+argument_registers (Some (OfNumber most)) = one_register R1
 
 abbrev pub exchanged_registers : AtomicOp → Reg → Reg → ReadRegisters
 exchanged_registers atomic.CompareExchange dst src = three_registers dst src R0
@@ -64,7 +65,7 @@ read_registers (Neg bits dst) = one_register dst
 read_registers (End order size dst) = one_register dst
 read_registers (Jump distance) = no_register
 read_registers (JumpIf bits condition left right offset) = with_operand left right
-read_registers (Call number) = argument_registers (helper_of number)
+read_registers (Call number) = argument_registers (called_prototype number)
 read_registers Exit = one_register R0
 read_registers (Load kind dst src offset) = one_register src
 read_registers (StoreImm size dst offset imm) = one_register dst

@@ -21,9 +21,9 @@ use Rattle.abs_value.specs.declared.value.Abs.TheVariants.{Num, Ctx, Stk, MayCel
 use Rattle.abs_value.specs.Numbers.{is_single, least}
 use Rattle.abs_value.specs.States.{value_of, operand_value}
 use Rattle.abs_value.specs.Values.{is_unusable, is_pointer}
-use Rattle.bpf_rules.specs.Reads.{helper_of}
-use Rattle.bpf_rules.specs.declared.helper.Helper.{Helper}
-use Rattle.bpf_rules.specs.declared.helper.Helper.TheVariants as helper
+use Rattle.bpf_semantics.specs.declared.helpers.Prototype.{Prototype}
+use Rattle.bpf_semantics.specs.declared.helpers.Prototype.TheVariants.{OfMap, OfText, OfNumber}
+use Rattle.bpf_semantics.specs.Helpers.{called_prototype}
 use Rattle.bpf_rules.specs.declared.refusal.VerifierRule.{VerifierRule}
 use Rattle.bpf_rules.specs.declared.refusal.VerifierRule.TheVariants as rule
 use Rattle.explain.specs.declared.reads.ReadRegisters.{ReadRegisters}
@@ -168,15 +168,15 @@ taker_text number = codes "helper " ++ signed_decimal number ++ codes " takes a 
 abbrev pub number_is_taken : AppShape → AbsState → ℤ → List ℕ
 number_is_taken shape e number = taker_text number ++ register_is shape e R1
 
-abbrev pub call_text : AppShape → AbsState → ℤ → Option Helper → List ℕ
+abbrev pub call_text : AppShape → AbsState → ℤ → Option Prototype → List ℕ
 call_text shape e number None = asked_of rule.Helper ++ signed_decimal number
-call_text shape e number (Some helper.Lookup) = lookup_takes ++ two_are shape e
-call_text shape e number (Some helper.AttrIs) =
+call_text shape e number (Some OfMap) = lookup_takes ++ two_are shape e
+call_text shape e number (Some OfText) =
     attr_is_takes ++ three_are shape e ++ past_top_text (value_of e R2) (value_of e R3)
-call_text shape e number (Some h) = number_is_taken shape e number
+call_text shape e number (Some (OfNumber most)) = number_is_taken shape e number
 
 abbrev pub helper_text : AppShape → AbsState → Insn → List ℕ
-helper_text shape e (Call number) = call_text shape e number (helper_of number)
+helper_text shape e (Call number) = call_text shape e number (called_prototype number)
 helper_text shape e i = []
 
 -- ---- V11

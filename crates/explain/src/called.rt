@@ -2,7 +2,7 @@
 
 ghost use Rattle.std.specs.Prelude.{◌≡◌, OnOk};
 ghost use Rattle.bpf_text.specs.Listing.{Appends};
-ghost use Rattle.bpf_rules.specs.Reads.{helper_of};
+ghost use Rattle.bpf_semantics.specs.Helpers.{called_prototype};
 ghost use Rattle.explain.specs.Sentences as specs;
 
 use crate::asks::{asked_by, attr_is_takes, lookup_takes, past_top};
@@ -11,7 +11,7 @@ use crate::wrong::push_so_many;
 use abs_value::{Abs, AbsState};
 use bpf_insn::{Insn, Reg};
 use bpf_semantics::STACK_SIZE;
-use bpf_semantics::helpers::{ATTR_IS, ATTR_LEN, BUCKET, LOOKUP};
+use bpf_semantics::helpers::Prototype;
 use bpf_verify::VerifierRule;
 use cells::Shape;
 use std::alloc::AllocError;
@@ -86,22 +86,23 @@ fn push_number_taker(
 
 fn push_call(text: &mut String, shape: &Shape, e: &AbsState, number: i32) -> Result<(), AllocError>
     ensures { OnOk result (Appends text.old text.new
-        (specs.call_text shape.now e.now number (helper_of number))) }
+        (specs.call_text shape.now e.now number (called_prototype number))) }
 {
-    if number == LOOKUP {
-        text.push_str(lookup_takes())?;
-        push_two(text, shape, e)
-    } else if number == ATTR_IS {
-        text.push_str(attr_is_takes())?;
-        push_three(text, shape, e)?;
-        push_past_top(text, e.value(Reg::R2), e.value(Reg::R3))
-    } else if number == ATTR_LEN {
-        push_number_taker(text, shape, e, number)
-    } else if number == BUCKET {
-        push_number_taker(text, shape, e, number)
-    } else {
-        text.push_str(asked_by(VerifierRule::Helper))?;
-        write!(text, "{number}")
+    match Prototype::called(number) {
+        Some(Prototype::OfMap) => {
+            text.push_str(lookup_takes())?;
+            push_two(text, shape, e)
+        }
+        Some(Prototype::OfText) => {
+            text.push_str(attr_is_takes())?;
+            push_three(text, shape, e)?;
+            push_past_top(text, e.value(Reg::R2), e.value(Reg::R3))
+        }
+        Some(Prototype::OfNumber { .. }) => push_number_taker(text, shape, e, number),
+        None => {
+            text.push_str(asked_by(VerifierRule::Helper))?;
+            write!(text, "{number}")
+        }
     }
 }
 

@@ -1,13 +1,13 @@
 //! The registers that an instruction reads, and the memory that it accesses.
 
 ghost use Rattle.std.specs.Prelude.{◌≡◌};
-ghost use Rattle.bpf_rules.specs.Reads.{helper_of};
+ghost use Rattle.bpf_semantics.specs.Helpers.{called_prototype};
 ghost use Rattle.explain.specs.Reads as specs;
 ghost use Rattle.explain.specs.Sentences as sentences;
 
 use abs_value::AbsState;
 use bpf_insn::{AtomicOp, Insn, Operand, Reg};
-use bpf_semantics::helpers::{ATTR_IS, ATTR_LEN, BUCKET, LOOKUP};
+use bpf_semantics::helpers::Prototype;
 use bpf_semantics::{atomic_count, byte_count, load_count};
 
 /// The registers that an instruction reads, in their order; at most three.
@@ -86,18 +86,13 @@ impl ReadRegisters {
     }
 
     fn of_helper(number: i32) -> ReadRegisters
-        ensures { result ≡ specs.argument_registers (helper_of number) }
+        ensures { result ≡ specs.argument_registers (called_prototype number) }
     {
-        if number == LOOKUP {
-            ReadRegisters::two(Reg::R1, Reg::R2)
-        } else if number == ATTR_IS {
-            ReadRegisters::three(Reg::R1, Reg::R2, Reg::R3)
-        } else if number == ATTR_LEN {
-            ReadRegisters::one(Reg::R1)
-        } else if number == BUCKET {
-            ReadRegisters::one(Reg::R1)
-        } else {
-            ReadRegisters::none()
+        match Prototype::called(number) {
+            Some(Prototype::OfMap) => ReadRegisters::two(Reg::R1, Reg::R2),
+            Some(Prototype::OfText) => ReadRegisters::three(Reg::R1, Reg::R2, Reg::R3),
+            Some(Prototype::OfNumber { .. }) => ReadRegisters::one(Reg::R1),
+            None => ReadRegisters::none(),
         }
     }
 

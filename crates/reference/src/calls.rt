@@ -1,4 +1,4 @@
-//! Helpers by their number, and what wide loads of maps and counters give.
+//! What a call of a helper gives, and what wide loads of maps and counters give.
 
 ghost use Rattle.std.specs.Prelude.{◌≡◌};
 ghost use Rattle.bpf_semantics.specs.Calls as calls;
@@ -7,7 +7,7 @@ ghost use Rattle.reference.specs.Marks.{state_of};
 use crate::state::Interpreter;
 use attrs::{helper_attr_len, helper_bucket};
 use bpf_insn::{Reg, WideValue};
-use bpf_semantics::helpers::{ATTR_IS, ATTR_LEN, BUCKET, LOOKUP};
+use bpf_semantics::helpers::Helper;
 use bpf_semantics::{MAP_START, add_long_offset, cell_address};
 use cells::Shape;
 
@@ -47,16 +47,24 @@ impl Interpreter {
     pub(crate) fn helper_result(&self, shape: &Shape, helper: i32) -> Option<u64>
         ensures { result ≡ calls.helper_result shape.now (state_of self.now) helper }
     {
+        match Helper::of(helper) {
+            Some(known) => self.known_result(shape, known),
+            None => None,
+        }
+    }
+
+    fn known_result(&self, shape: &Shape, helper: Helper) -> Option<u64>
+        ensures { result ≡ calls.known_result shape.now (state_of self.now) helper }
+    {
         match helper {
-            LOOKUP => lookup(shape, self.register(Reg::R1)?, self.register(Reg::R2)?),
-            ATTR_IS => {
+            Helper::Lookup => lookup(shape, self.register(Reg::R1)?, self.register(Reg::R2)?),
+            Helper::AttrIs => {
                 let number = self.register(Reg::R1)?;
                 let address = self.register(Reg::R2)?;
                 self.compared(number, address, self.register(Reg::R3)?)
             }
-            ATTR_LEN => Some(helper_attr_len(self.attrs(), self.register(Reg::R1)?)),
-            BUCKET => Some(helper_bucket(self.attrs(), self.register(Reg::R1)?)),
-            _ => None,
+            Helper::AttrLen => Some(helper_attr_len(self.attrs(), self.register(Reg::R1)?)),
+            Helper::Bucket => Some(helper_bucket(self.attrs(), self.register(Reg::R1)?)),
         }
     }
 }

@@ -17,21 +17,22 @@ use Rattle.bpf_insn.specs.declared.operand.WideValue.{WideValue}
 use Rattle.bpf_insn.specs.declared.operand.WideValue.TheVariants as wide
 use Rattle.cells.specs.Arrays.{AppShape}
 use Rattle.cells.specs.declared.array.CellArray.{CellArray}
-use Rattle.bpf_semantics.specs.Helpers.{lookup_number, attr_is_number}
-use Rattle.bpf_semantics.specs.Helpers.{attr_len_number, bucket_number}
+use Rattle.bpf_semantics.specs.declared.helpers.Prototype.{Prototype}
+use Rattle.bpf_semantics.specs.declared.helpers.Prototype.TheVariants.{OfMap, OfText, OfNumber}
+use Rattle.bpf_semantics.specs.Helpers.{called_prototype}
 use Rattle.abs_value.specs.declared.origin.Lookup.{Lookup}
 use Rattle.abs_value.specs.declared.origin.Origin.TheVariants.{Found}
 use Rattle.abs_value.specs.declared.places.Places.{Places}
 use Rattle.abs_value.specs.declared.value.Abs.{Abs}
 use Rattle.abs_value.specs.declared.value.Abs.TheVariants.{Unusable, Num, Ctx}
 use Rattle.abs_value.specs.declared.value.Abs.TheVariants.{Stk, Map, MayCell, Cell}
-use Rattle.abs_value.specs.Numbers.{single, up_to}
+use Rattle.abs_value.specs.Numbers.{single}
 use Rattle.abs_value.specs.Narrowing.{NumberPair, narrowed}
 use Rattle.abs_value.specs.Values.{moved_in_context, moved_in_stack, or_unusable}
 use Rattle.abs_value.specs.Values.{alu_value, copied_value, negated_value, extended_value}
 use Rattle.abs_value.specs.Values.{reordered_value, loaded_value, refined, numbers}
 use Rattle.abs_value.specs.Values.{same_lookup, is_found_by, same_origin, join_values}
-use Rattle.abs_value.specs.Lookups.{answer_of, with_answer, lookup_value, call_value}
+use Rattle.abs_value.specs.Lookups.{answer_of, with_answer, lookup_value, value_given, call_value}
 use Rattle.bpf_rules.specs.Arrays.{cell_behind, fixed_cell, wide_abs}
 use Rattle.worked.specs.LooksBack.{LooksBack, NamesNone}
 
@@ -157,11 +158,13 @@ lookup_back : (s call : ℕ) (v : Abs) → call < s → LooksBack s (lookup_valu
 lookup_back s call (Map index) lt = lt
 lookup_back s call v lt = tt
 
+given_back : (s call : ℕ) (prototype : Option Prototype) (v : Abs) → call < s
+    → LooksBack s (value_given prototype call v)
+given_back s call None v lt = tt
+given_back s call (Some OfMap) v lt = lookup_back s call v lt
+given_back s call (Some OfText) v lt = tt
+given_back s call (Some (OfNumber most)) v lt = tt
+
 pub call_back : (s call : ℕ) (helper : ℤ) (v : Abs) → call < s
     → LooksBack s (call_value helper call v)
-call_back s call (negsuc n) v lt = tt
-call_back s call (pos n) v lt =
-    one_of s (n == lookup_number) (lookup_value call v) _ (lookup_back s call v lt)
-    (one_of s (n == attr_is_number) (Num (up_to 1)) _ tt
-    (one_of s (n == attr_len_number) (Num (up_to 1024)) _ tt
-    (one_of s (n == bucket_number) (Num (up_to 9999)) Unusable tt tt)))
+call_back s call helper v lt = given_back s call (called_prototype helper) v lt

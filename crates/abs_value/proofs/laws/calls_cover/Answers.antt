@@ -2,4 +2,4 @@ use Rattle.abs_value.proofs.Calls.{covers_call}
 use Rattle.abs_value.proofs.laws.calls_cover.Goals as goal
 
 pub returns : goal.returns
-returns c = covers_call
+returns c = covers_call c.numbers_are_within.ensures
