@@ -1,2 +1,3 @@
 pub mod Program
 pub mod Rule
+pub mod Texts

@@ -1,23 +1,23 @@
 //! Why bytes come to no program.
 
-ghost use Rattle.std.specs.Prelude.{◌≡◌};
+ghost use Rattle.std.specs.Prelude.{◌≡◌, Some};
 ghost use Rattle.acceptance.specs.Program as programs;
 ghost use Rattle.acceptance.specs.Rule as rules;
+ghost use Rattle.acceptance.specs.Texts.{program_fault_text, rule_refusal_text};
 
 use bpf_verify::Refusal;
 use flow_check::FlowFault;
 use rule_compile::CompileFault;
 use rule_lang::RuleFault;
-use thiserror::Error;
+use std::error::Error;
+use std::fmt;
 
 /// Why bytes are no program of a shape.
-#[derive(Debug, Drop, PartialEq, Eq, Error)]
+#[derive(Debug, Drop, PartialEq, Eq)]
 pub enum ProgramFault {
     /// F1 to F9: they are no program whose edges lead forward.
-    #[error("{0}")]
     Flow(FlowFault),
     /// V1 to V15: the verifier refuses the program.
-    #[error("{0}")]
     Verify(Refusal),
 }
 
@@ -35,14 +35,25 @@ impl ProgramFault {
     }
 }
 
+impl fmt::Display for ProgramFault {
+    ghost output = { λ fault. Some (program_fault_text fault) };
+
+    fn fmt<W: fmt::Write>(&self, f: &mut fmt::Formatter<W>) -> fmt::Result {
+        match self {
+            ProgramFault::Flow(fault) => write!(f, "{fault}"),
+            ProgramFault::Verify(refusal) => write!(f, "{refusal}"),
+        }
+    }
+}
+
+impl Error for ProgramFault {}
+
 /// Why a text gives no program of a shape.
-#[derive(Debug, Drop, PartialEq, Eq, Error)]
+#[derive(Debug, Drop, PartialEq, Eq)]
 pub enum RuleTextFault {
     /// L1 to L5: it spells no rule.
-    #[error("{0}")]
     Text(RuleFault),
     /// C1 and C2: its rule has no program.
-    #[error("{0}")]
     Compile(CompileFault),
 }
 
@@ -59,3 +70,16 @@ impl RuleTextFault {
         }
     }
 }
+
+impl fmt::Display for RuleTextFault {
+    ghost output = { λ fault. Some (rule_refusal_text fault) };
+
+    fn fmt<W: fmt::Write>(&self, f: &mut fmt::Formatter<W>) -> fmt::Result {
+        match self {
+            RuleTextFault::Text(fault) => write!(f, "{fault}"),
+            RuleTextFault::Compile(fault) => write!(f, "{fault}"),
+        }
+    }
+}
+
+impl Error for RuleTextFault {}

@@ -4,3 +4,4 @@ pub mod Memory
 pub mod Rules
 pub mod Transfer
 pub mod Sound
+pub mod Texts

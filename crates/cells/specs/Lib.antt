@@ -6,3 +6,4 @@ pub mod Directory
 pub mod OneWay
 pub mod Apart
 pub mod Widths
+pub mod Texts

@@ -6,7 +6,6 @@ pub mod Unused
 pub mod Warned
 pub mod Asked
 pub mod Reason
-pub mod Named
 pub mod Refusal
 pub mod Undeclared
 pub mod Others

@@ -4,3 +4,4 @@ pub mod Flow
 pub mod Fault
 pub mod Reading
 pub mod Sweep
+pub mod Texts

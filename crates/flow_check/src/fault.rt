@@ -1,50 +1,72 @@
 //! Why bytes are refused: a rule, and the slot where it is broken.
 
-ghost use Rattle.std.specs.Prelude.{◌≡◌};
+ghost use Rattle.std.specs.Prelude.{◌≡◌, Some};
+ghost use Rattle.flow_check.specs.Texts.{flow_rule_text, flow_fault_text};
 ghost use Rattle.flow_check.specs.declared.fault.FlowFault.TheVariants.{Memory};
 
 use bpf_insn::InsnFault;
 use std::alloc::AllocError;
-use thiserror::Error;
+use std::error::Error;
+use std::fmt;
 
 /// What is wrong, in the order of the numbers F1 to F8 that are printed.
-#[derive(Clone, Copy, Debug, PartialEq, Eq, Error)]
+#[derive(Clone, Copy, Debug, PartialEq, Eq)]
 pub enum FlowRule {
     /// A jump leads to its own slot or below.
-    #[error("F1 BackJump")]
     BackJump,
     /// A jump leads to the end or past it.
-    #[error("F2 Outside")]
     Outside,
     /// A jump leads to the second half of a wide instruction.
-    #[error("F3 InsideWide")]
     InsideWide,
     /// The end comes after an instruction that is neither EXIT nor JA.
-    #[error("F4 FallsOff")]
     FallsOff,
     /// No run of edges leads from slot 0 to the instruction.
-    #[error("F5 Unreached")]
     Unreached,
     /// There are no bytes.
-    #[error("F6 Empty")]
     Empty,
     /// There are more than 32768 bytes, which is 4096 slots.
-    #[error("F7 TooLong")]
     TooLong,
     /// The bytes from the slot on spell no instruction.
-    #[error("F8 Insn {0}")]
     Insn(InsnFault),
 }
 
+impl fmt::Display for FlowRule {
+    ghost output = { λ rule. Some (flow_rule_text rule) };
+
+    fn fmt<W: fmt::Write>(&self, f: &mut fmt::Formatter<W>) -> fmt::Result {
+        match *self {
+            FlowRule::BackJump => f.write_str("F1 BackJump"),
+            FlowRule::Outside => f.write_str("F2 Outside"),
+            FlowRule::InsideWide => f.write_str("F3 InsideWide"),
+            FlowRule::FallsOff => f.write_str("F4 FallsOff"),
+            FlowRule::Unreached => f.write_str("F5 Unreached"),
+            FlowRule::Empty => f.write_str("F6 Empty"),
+            FlowRule::TooLong => f.write_str("F7 TooLong"),
+            FlowRule::Insn(fault) => write!(f, "F8 Insn {fault}"),
+        }
+    }
+}
+
 /// Why `Flow::check` refuses bytes.
-#[derive(Debug, Drop, PartialEq, Eq, Error)]
+#[derive(Debug, Drop, PartialEq, Eq)]
 pub enum FlowFault {
-    #[error("{rule} at slot {slot}")]
     Rule { slot: usize, rule: FlowRule },
     /// F9: no memory was left.
-    #[error("F9 Memory")]
     Memory,
 }
+
+impl fmt::Display for FlowFault {
+    ghost output = { λ fault. Some (flow_fault_text fault) };
+
+    fn fmt<W: fmt::Write>(&self, f: &mut fmt::Formatter<W>) -> fmt::Result {
+        match self {
+            FlowFault::Rule { slot, rule } => write!(f, "{rule} at slot {slot}"),
+            FlowFault::Memory => f.write_str("F9 Memory"),
+        }
+    }
+}
+
+impl Error for FlowFault {}
 
 impl From<AllocError> for FlowFault {
     ghost from_gives = { λ _ fault. fault ≡ Memory };

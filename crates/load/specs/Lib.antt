@@ -9,3 +9,4 @@ pub mod Loaded
 pub mod Gathered
 pub mod Judged
 pub mod OneLoad
+pub mod Texts

@@ -1,6 +1,8 @@
 -- The texts of what doesn't fit: the path of the member, and what is wanted there. Tables of a list
 -- are numbered from 1. A key or a name of the manifest is told as it is printed.
 use Rattle.std.specs.Prelude.{ℕ, List, ◌++◌, codes, decimal}
+use Rattle.manifest.specs.declared.fault.ManifestFault.{ManifestFault}
+use Rattle.manifest.specs.declared.fault.ManifestFault.TheVariants as unread
 use Rattle.manifest.specs.declared.fault.Twice.{Twice}
 use Rattle.manifest.specs.declared.fault.Twice.TheVariants as twice
 use Rattle.manifest.specs.declared.misfit.InList.{InList}
@@ -70,3 +72,11 @@ misfit_text (misfit.Apps list) = list_text app_text (codes "app") (codes "1 to 2
 abbrev pub twice_text : Twice → List ℕ
 twice_text (twice.Array name) = codes "array " ++ printed name
 twice_text (twice.App appid) = codes "app " ++ printed appid
+
+-- ---- a refusal, by number and name alone
+
+abbrev pub manifest_fault_text : ManifestFault → List ℕ
+manifest_fault_text (unread.Toml fault) = codes "M1 Toml"
+manifest_fault_text (unread.Field misfit) = codes "M2 Field"
+manifest_fault_text (unread.Duplicate twice) = codes "M3 Duplicate"
+manifest_fault_text unread.Memory = codes "M8 Memory"

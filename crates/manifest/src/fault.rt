@@ -1,31 +1,42 @@
 //! Why a manifest is refused.
 
 ghost use Rattle.std.specs.Prelude.{Some};
-ghost use Rattle.manifest.specs.Texts.{twice_text};
+ghost use Rattle.manifest.specs.Texts.{manifest_fault_text, twice_text};
 
 use crate::misfit::Misfit;
 use crate::quote::Quote;
+use std::error::Error;
 use std::fmt;
 use std::fmt::{Display, Formatter, Write};
-use thiserror::Error;
 
 /// What is wrong, with the numbers that are printed. `Display` gives number and name alone; what
 /// the variants hold tells more.
-#[derive(Debug, Drop, Error)]
+#[derive(Debug, Drop)]
 pub enum ManifestFault {
     /// It is no TOML document of at most 1048576 bytes.
-    #[error("M1 Toml")]
     Toml(TomlFault),
     /// A member is wrong, is not there, or is none of a manifest's.
-    #[error("M2 Field")]
     Field(Misfit),
     /// The name of an array or an appid stands twice.
-    #[error("M3 Duplicate")]
     Duplicate(Twice),
     /// Memory was refused.
-    #[error("M8 Memory")]
     Memory,
 }
+
+impl Display for ManifestFault {
+    ghost output = { λ fault. Some (manifest_fault_text fault) };
+
+    fn fmt<W: Write>(&self, f: &mut Formatter<W>) -> fmt::Result {
+        match self {
+            ManifestFault::Toml(_) => f.write_str("M1 Toml"),
+            ManifestFault::Field(_) => f.write_str("M2 Field"),
+            ManifestFault::Duplicate(_) => f.write_str("M3 Duplicate"),
+            ManifestFault::Memory => f.write_str("M8 Memory"),
+        }
+    }
+}
+
+impl Error for ManifestFault {}
 
 /// Why bytes are no document.
 #[derive(Clone, Copy, Debug, Drop, PartialEq, Eq)]

@@ -4,3 +4,4 @@ pub mod Code
 pub mod Ranges
 pub mod Writing
 pub mod Means
+pub mod Texts

@@ -15,3 +15,4 @@ pub mod Tests
 pub mod Grammar
 pub mod Says
 pub mod Verdicts
+pub mod Texts

@@ -1,0 +1,8 @@
+-- The texts of why a rule isn't compiled, as they are printed.
+use Rattle.std.specs.Prelude.{ℕ, List, codes}
+use Rattle.rule_compile.specs.declared.fault.CompileFault.{CompileFault}
+use Rattle.rule_compile.specs.declared.fault.CompileFault.TheVariants.{TooLong, Memory}
+
+abbrev pub compile_fault_text : CompileFault → List ℕ
+compile_fault_text TooLong = codes "C1 TooLong"
+compile_fault_text Memory = codes "C2 Memory"
