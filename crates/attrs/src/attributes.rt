@@ -1,7 +1,7 @@
-//! The attributes of an app: its context, and seven texts by number. The texts are those of what its
-//! request says, which they share with the request; one over 1024 bytes counts as an empty one.
+//! The attributes of an app: its context, and seven texts by number. The texts are those of what
+//! its request says, which they share with the request; one over 1024 bytes counts as an empty one.
 
-ghost use Rattle.std.specs.Prelude.{◌≡◌, ◌<◌, [], slice_index_or, IfOk, option_copied};
+ghost use Rattle.std.specs.Prelude.{◌≡◌, ◌<◌, [], Some, codes, slice_index_or, IfOk, option_copied};
 ghost use Rattle.attrs.specs.Bucket as specs;
 ghost use Rattle.attrs.specs.Context.{HasContextRanges};
 ghost use Rattle.attrs.specs.Attributes.{AreShort};
@@ -15,16 +15,26 @@ use crate::moment::Moment;
 use crate::shared_facts::SharedFacts;
 use crate::text::{Text, lent};
 use std::alloc::Global;
+use std::error::Error;
+use std::fmt;
 use std::marker::Model;
-use thiserror::Error;
 
 /// Why no attributes were made.
-#[derive(Clone, Copy, Debug, Error, PartialEq, Eq)]
+#[derive(Clone, Copy, Debug, PartialEq, Eq)]
 pub enum AttrFault {
     /// Memory was refused.
-    #[error("out of memory")]
     Memory,
 }
+
+impl fmt::Display for AttrFault {
+    ghost output = { λ _. Some (codes "out of memory") };
+
+    fn fmt<W: fmt::Write>(&self, f: &mut fmt::Formatter<W>) -> fmt::Result {
+        f.write_str("out of memory")
+    }
+}
+
+impl Error for AttrFault {}
 
 /// The attributes of one app of a request at a moment.
 #[derive(Drop)]

@@ -1,5 +1,5 @@
 -- What a command has done where its status is 0, and what its words are where it is 2.
-use Rattle.std.specs.Prelude.{◌≡◌, ◌⊎◌, ℕ, List, [], ◌∷◌, Option, IfSome}
+use Rattle.std.specs.Prelude.{◌≡◌, ◌⊎◌, ℕ, List, [], ◌∷◌, Option}
 use Rattle.std.specs.Io.KnownBytes.{Appends}
 use Rattle.command_line.specs.declared.request.CommandRequest.{CommandRequest}
 use Rattle.command_line.specs.Requests.{AreFaulty, AskFor, AskForHelp, AskForNothing}
@@ -32,10 +32,9 @@ IsDone known words before after IsTold =
     ⊎ ((request : CommandRequest) × AskFor words request
     × IsAnswered known request before after IsTold)
 
--- the line of a refusal is printed, where its text is stated
+-- the line of a refusal is printed
 abbrev pub PrintsRefusal : Fault → Option (List ℕ) → Option (List ℕ) → Type 0
-PrintsRefusal fault before after =
-    IfSome (fault_text fault) (λ text. Appends before after (refused_line text))
+PrintsRefusal fault before after = Appends before after (refused_line (fault_text fault))
 
 -- that line, and behind it where and why a manifest is refused
 abbrev pub TellsRefusal : Fault → Option (List ℕ) → Option (List ℕ) → Type 0

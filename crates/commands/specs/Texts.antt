@@ -1,5 +1,5 @@
 -- The texts that the program prints for an answer and for a refusal.
-use Rattle.std.specs.Prelude.{ℕ, ◌/◌, List, [], ◌++◌, length, codes, Option, Some}
+use Rattle.std.specs.Prelude.{ℕ, ◌/◌, List, [], ◌++◌, length, codes}
 use Rattle.std.specs.Fmt.{decimal}
 use Rattle.std.specs.String.{string_bytes}
 use Rattle.commands.specs.declared.answer.Answer.{Answer}
@@ -56,15 +56,15 @@ abbrev pub refusal_reason : Fault → List ℕ
 refusal_reason (Manifest (tool.Diagnosed refused)) = string_bytes refused.reason
 refusal_reason fault = []
 
-abbrev pub fault_text : Fault → Option (List ℕ)
-fault_text (Resource fault) = Some (resource_text fault)
+abbrev pub fault_text : Fault → List ℕ
+fault_text (Resource fault) = resource_text fault
 fault_text (Program fault) = program.fault_text fault
 fault_text (Manifest fault) = manifest.fault_text fault
 fault_text (DryRun fault) = dry_run_text fault
 fault_text (Serving fault) = serving_text fault
-fault_text (Ask fault) = Some (ask_text fault)
+fault_text (Ask fault) = ask_text fault
 -- the words of a server, or of who else listens at its port
-fault_text (fault.Told text) = Some (printed (string_bytes text))
+fault_text (fault.Told text) = printed (string_bytes text)
 
 abbrev pub refused_line : List ℕ → List ℕ
 refused_line text = line (codes "refused " ++ text)

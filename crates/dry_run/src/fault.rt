@@ -1,6 +1,6 @@
 //! Why no reply is found.
 
-ghost use Rattle.std.specs.Prelude.{◌≡◌};
+ghost use Rattle.std.specs.Prelude.{◌≡◌, Some};
 ghost use Rattle.dry_run.specs.Texts.{dry_run_text};
 ghost use Rattle.omaha_json.specs.Faults.{omaha_name};
 
@@ -25,7 +25,7 @@ pub enum DryRunFault {
 }
 
 impl Display for DryRunFault {
-    ghost output = { dry_run_text };
+    ghost output = { λ fault. Some (dry_run_text fault) };
 
     fn fmt<W: fmt::Write>(&self, f: &mut fmt::Formatter<W>) -> fmt::Result {
         match self {

@@ -1,9 +1,10 @@
 -- Manifests that are checked, and scripts that are replayed.
-use Rattle.std.specs.Prelude.{◌≡◌, ℕ, List, Option, None, Some}
+use Rattle.std.specs.Prelude.{◌≡◌, ℕ, List, ◌++◌, codes, None}
 use Rattle.std.specs.List.{flat_map}
 use Rattle.std.specs.String.{string_bytes}
 use Rattle.diagnosis.specs.Check.{PassesCheck, FailsCheck}
 use Rattle.load.specs.Folder.{known_beside}
+use Rattle.load.specs.Texts.{load_fault_text, path_fault_text}
 use Rattle.bounded_files.specs.Files.{KnownFiles, Gives, OfFile, regular_files}
 use Rattle.bounded_files.specs.Texts.{resource_text}
 use Rattle.bounded_files.specs.declared.fault.ResourceFault.TheVariants as resource
@@ -11,6 +12,7 @@ use Rattle.manifest_tools.specs.declared.fault.ManifestToolFault.{ManifestToolFa
 use Rattle.manifest_tools.specs.declared.fault.ManifestToolFault.TheVariants as fault
 use Rattle.replay.specs.Replays.{IsReplay, IsReplayFault}
 use Rattle.replay.specs.Replies.{reply_text}
+use Rattle.replay.specs.Texts.{replay_fault_text}
 use Rattle.replay.specs.declared.reply.Reply.{Reply}
 use Rattle.ruleset.specs.Texts.{line}
 
@@ -53,7 +55,9 @@ module _ (known : KnownFiles) where
 
 -- ---- texts
 
--- no text is stated of manifests and scripts that are refused
-abbrev pub fault_text : ManifestToolFault → Option (List ℕ)
-fault_text (fault.Resource refused) = Some (resource_text refused)
-fault_text refused = None
+abbrev pub fault_text : ManifestToolFault → List ℕ
+fault_text (fault.Resource refused) = resource_text refused
+fault_text (fault.Diagnosed refused) = load_fault_text refused.fault
+fault_text (fault.Load refused) = path_fault_text refused
+fault_text (fault.Against refused) = path_fault_text refused ++ codes " in --against"
+fault_text (fault.Replay refused) = replay_fault_text refused

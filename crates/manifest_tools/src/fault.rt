@@ -1,5 +1,6 @@
 //! Why a command on a manifest is refused.
 
+ghost use Rattle.std.specs.Prelude.{Some};
 ghost use Rattle.manifest_tools.specs.Manifests.{fault_text};
 
 use bounded_files::ResourceFault;
@@ -24,7 +25,7 @@ pub enum ManifestToolFault {
 }
 
 impl fmt::Display for ManifestToolFault {
-    ghost output = { fault_text };
+    ghost output = { λ fault. Some (fault_text fault) };
 
     fn fmt<W: fmt::Write>(&self, f: &mut fmt::Formatter<W>) -> fmt::Result {
         match self {

@@ -1,14 +1,18 @@
 -- The texts of refusals.
-use Rattle.std.specs.Prelude.{ℕ, List, Option, Some, None}
+use Rattle.std.specs.Prelude.{ℕ, List}
 use Rattle.bounded_files.specs.Texts.{resource_text}
+use Rattle.cells.specs.Texts.{cells_fault_text}
+use Rattle.bpf_rules.specs.Texts.{verifier_refusal_text}
 use Rattle.bpf_text.specs.Faults.{asm_fault_text, list_fault_text}
+use Rattle.acceptance.specs.Texts.{program_fault_text, rule_refusal_text}
 use Rattle.program_tools.specs.declared.fault.ProgramToolFault.{ProgramToolFault}
-use Rattle.program_tools.specs.declared.fault.ProgramToolFault.TheVariants.{Resource, Text, Bytes}
+use Rattle.program_tools.specs.declared.fault.ProgramToolFault.TheVariants as tool
 
--- no text is stated of arrays and rules that are refused, the graph's faults and the verifier's
--- refusals
-abbrev pub fault_text : ProgramToolFault → Option (List ℕ)
-fault_text (Resource fault) = Some (resource_text fault)
-fault_text (Text fault) = Some (asm_fault_text fault)
-fault_text (Bytes fault) = Some (list_fault_text fault)
-fault_text fault = None
+abbrev pub fault_text : ProgramToolFault → List ℕ
+fault_text (tool.Resource fault) = resource_text fault
+fault_text (tool.Arrays fault) = cells_fault_text fault
+fault_text (tool.Text fault) = asm_fault_text fault
+fault_text (tool.Rule fault) = rule_refusal_text fault
+fault_text (tool.Bytes fault) = list_fault_text fault
+fault_text (tool.Program fault) = program_fault_text fault
+fault_text (tool.Explained text refusal) = verifier_refusal_text refusal

@@ -1,5 +1,6 @@
 //! Why a command on a program is refused.
 
+ghost use Rattle.std.specs.Prelude.{Some};
 ghost use Rattle.program_tools.specs.Texts.{fault_text};
 
 use acceptance::{ProgramFault, RuleTextFault};
@@ -29,7 +30,7 @@ pub enum ProgramToolFault {
 }
 
 impl fmt::Display for ProgramToolFault {
-    ghost output = { fault_text };
+    ghost output = { λ fault. Some (fault_text fault) };
 
     fn fmt<W: fmt::Write>(&self, f: &mut fmt::Formatter<W>) -> fmt::Result {
         match self {

@@ -4,3 +4,4 @@ pub mod Asked
 pub mod Replies
 pub mod Played
 pub mod Replays
+pub mod Texts

@@ -1,6 +1,6 @@
 //! Why there is no server, or none that serves.
 
-ghost use Rattle.std.specs.Prelude.{◌≡◌, ◌↔◌, IsTrue};
+ghost use Rattle.std.specs.Prelude.{◌≡◌, ◌↔◌, IsTrue, Some};
 ghost use Rattle.serving.specs.Texts.{serving_text};
 
 use bounded_files::ResourceFault;
@@ -36,7 +36,7 @@ impl ServingFault {
 }
 
 impl Display for ServingFault {
-    ghost output = { serving_text };
+    ghost output = { λ fault. Some (serving_text fault) };
 
     fn fmt<W: fmt::Write>(&self, f: &mut fmt::Formatter<W>) -> fmt::Result {
         match self {
