@@ -6,3 +6,4 @@ pub mod Hash
 pub mod Helpers
 pub mod Moment
 pub mod Version
+pub mod Vocabulary

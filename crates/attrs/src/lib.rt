@@ -16,6 +16,7 @@ mod moment;
 mod shared_facts;
 mod text;
 mod version;
+mod vocabulary;
 
 pub use attributes::{AttrFault, Attrs};
 pub use bucket::{
@@ -29,3 +30,4 @@ pub use moment::{Elapsed, Moment};
 pub use shared_facts::SharedFacts;
 pub use text::Text;
 pub use version::read_version;
+pub use vocabulary::{Attribute, Flag, attribute_named, flag_named};

@@ -12,13 +12,13 @@ use Rattle.bpf_insn.specs.declared.operand.LoadKind.TheVariants as load
 use Rattle.bpf_insn.specs.declared.reg.Reg.TheVariants.{R0, R1, R2, R3}
 use Rattle.bpf_insn.specs.Program.{Program}
 use Rattle.cells.specs.Arrays.{AppShape}
+use Rattle.attrs.specs.Vocabulary.{flag_bit, attribute_number}
 use Rattle.rule_lang.specs.declared.rule.Statement.{Statement}
 use Rattle.rule_lang.specs.declared.rule.Statement.TheVariants.{Count, When}
 use Rattle.rule_lang.specs.declared.test.Comparison.{Comparison}
 use Rattle.rule_lang.specs.declared.test.Comparison.TheVariants as comparison
 use Rattle.rule_lang.specs.declared.test.Test as the_test
 use Rattle.rule_lang.specs.declared.test.Test.TheVariants as test
-use Rattle.rule_lang.specs.Meaning.{flag_bit, attribute_number}
 use Rattle.rule_lang.specs.Shapes.{array_named, quota_of}
 use Rattle.rule_lang.specs.Trees.{Tree, Asked, Negated, Both, Either, trees_from}
 use Rattle.rule_compile.specs.declared.goals.Goal.{Goal}

@@ -5,6 +5,7 @@ use Rattle.std.specs.Prelude.{not, option_and_then, if◌then◌else◌}
 use Rattle.bpf_insn.specs.declared.operand.Condition.TheVariants as jump
 use Rattle.bpf_insn.specs.Program.{Program}
 use Rattle.cells.specs.Arrays.{AppShape}
+use Rattle.attrs.specs.Vocabulary.{flag_bit, attribute_number}
 use Rattle.rule_lang.specs.declared.condition.Step.{Step}
 use Rattle.rule_lang.specs.declared.condition.Step.TheVariants as step
 use Rattle.rule_lang.specs.declared.rule.Statement.{Statement}
@@ -14,7 +15,6 @@ use Rattle.rule_lang.specs.declared.test.Comparison.TheVariants as comparison
 use Rattle.rule_lang.specs.declared.test.Test as the_test
 use Rattle.rule_lang.specs.declared.test.Test.TheVariants as test
 use Rattle.rule_lang.specs.Cost.{tests_in, tests_of, cost}
-use Rattle.rule_lang.specs.Meaning.{flag_bit, attribute_number}
 use Rattle.rule_lang.specs.Trees.{Tree, Asked, Negated, Both, Either, with_step, trees_from}
 use Rattle.rule_compile.specs.declared.goals.Goal.{Goal}
 use Rattle.bpf_insn.specs.declared.reg.Reg.TheVariants.{R0}

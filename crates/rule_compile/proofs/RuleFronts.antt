@@ -6,14 +6,14 @@ use Rattle.bpf_insn.specs.declared.operand.LoadKind.TheVariants as load
 use Rattle.bpf_insn.specs.Program.{Program}
 use Rattle.cells.specs.Arrays.{AppShape, IsShape}
 use Rattle.bpf_verify.specs.Table.{Known}
-use Rattle.rule_lang.specs.declared.test.Attribute.{Attribute}
-use Rattle.rule_lang.specs.declared.test.Attribute.TheVariants as attribute
+use Rattle.attrs.specs.declared.vocabulary.Attribute.{Attribute}
+use Rattle.attrs.specs.declared.vocabulary.Attribute.TheVariants as attribute
+use Rattle.attrs.specs.Vocabulary.{flag_bit, attribute_number}
 use Rattle.rule_lang.specs.declared.test.Comparison.{Comparison}
 use Rattle.rule_lang.specs.declared.test.Comparison.TheVariants as comparison
 use Rattle.rule_lang.specs.declared.test.Test as the_test
 use Rattle.rule_lang.specs.declared.test.Test.TheVariants as test
 use Rattle.rule_lang.specs.Fits.{test_fits}
-use Rattle.rule_lang.specs.Meaning.{flag_bit, attribute_number}
 use Rattle.rule_lang.specs.Shapes.{array_named, cell_of, quota_of}
 use Rattle.rule_lang.specs.Trees.{Tree, Asked, Negated, Both, Either}
 use Rattle.rule_compile.specs.Instructions as insn

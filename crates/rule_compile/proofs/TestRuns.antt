@@ -14,9 +14,10 @@ use Rattle.bpf_insn.specs.Conditions.{compares}
 use Rattle.bpf_insn.specs.Program.{Program}
 use Rattle.bpf_semantics.specs.Program.{ShapedProgram}
 use Rattle.cells.specs.Arrays.{IsShape}
-use Rattle.rule_lang.specs.declared.test.Flag as the_flag
-use Rattle.rule_lang.specs.declared.test.Flag.TheVariants.{VersionKnown, Updatecheck, Ping}
-use Rattle.rule_lang.specs.declared.test.Flag.TheVariants.{Event, CohortKnown, InstalldateKnown}
+use Rattle.attrs.specs.declared.vocabulary.Flag as the_flag
+use Rattle.attrs.specs.declared.vocabulary.Flag.TheVariants.{VersionKnown, Updatecheck, Ping}
+use Rattle.attrs.specs.declared.vocabulary.Flag.TheVariants.{Event, CohortKnown, InstalldateKnown}
+use Rattle.attrs.specs.Vocabulary.{flag_bit, attribute_number}
 use Rattle.rule_lang.specs.declared.test.Comparison.{Comparison}
 use Rattle.rule_lang.specs.declared.test.Comparison.TheVariants as comparison
 use Rattle.rule_lang.specs.declared.test.Test as the_test
@@ -24,7 +25,7 @@ use Rattle.rule_lang.specs.declared.test.Test.TheVariants as test
 use Rattle.rule_lang.specs.Fits.{test_fits}
 use Rattle.rule_lang.specs.Literals.{IsLiteral, is_literal_byte, is_printable}
 use Rattle.rule_lang.specs.Meaning.{Behaviour, allows, version_cmp, bucket_by}
-use Rattle.rule_lang.specs.Meaning.{remainder, flag_bit, attribute_number, test_then}
+use Rattle.rule_lang.specs.Meaning.{remainder, test_then}
 use Rattle.rule_lang.specs.Shapes.{array_named, cell_of, quota_of}
 use Rattle.rule_compile.specs.Instructions.{turned}
 use Rattle.rule_compile.specs.Blocks as code

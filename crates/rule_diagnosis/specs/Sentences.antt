@@ -4,15 +4,14 @@ use Rattle.std.specs.Prelude.{ℕ, ◌+◌, ◌*◌, ◌%◌, List, [], ◌∷�
 use Rattle.std.specs.Prelude.{Bool, true, ◌==◌, ◌&&◌, ◌||◌, nat_le, nat_lt, if◌then◌else◌}
 use Rattle.std.specs.Prelude.{Option, Some, None, is_some, flat_map, length}
 use Rattle.std.specs.Fmt.{digits}
-use Rattle.std.specs.List.{list_any}
 use Rattle.std.specs.Str.{bytes_eq}
+use Rattle.attrs.specs.Vocabulary.{attribute_named, flag_named}
 use Rattle.cells.specs.Arrays.{AppShape}
 use Rattle.cells.specs.declared.array.CellArray.{CellArray}
 use Rattle.printing.specs.Printed.{printed}
 use Rattle.rule_diagnosis.specs.Lexemes.{byte_at, is_relation, is_word}
 use Rattle.rule_lang.specs.Shapes.{array_named}
 use Rattle.rule_lang.specs.Tokens.{Text}
-use Rattle.rule_lang.specs.Words.{all_attributes, all_flags, attribute_text, flag_text}
 
 -- ---- how a lexeme is told
 
@@ -105,10 +104,10 @@ token_sentence found = lexeme_text found ++ no_word ++ hint found
 -- ---- L2: the name of a flag or an attribute that stands alone where a test is expected
 
 abbrev pub names_flag : Text → Bool
-names_flag word = list_any (λ f. bytes_eq word (flag_text f)) all_flags
+names_flag word = is_some (flag_named word)
 
 abbrev pub names_attribute : Text → Bool
-names_attribute word = list_any (λ a. bytes_eq word (attribute_text a)) all_attributes
+names_attribute word = is_some (attribute_named word)
 
 abbrev pub test_hint : (found : Text) → Text
 test_hint found =

@@ -6,6 +6,7 @@ ghost use Rattle.rule_diagnosis.specs.Sentences as sentences;
 
 use crate::lexeme::{byte_at, is_relation, is_word};
 use crate::quoting::character_code;
+use attrs::{attribute_named, flag_named};
 use std::alloc::AllocError;
 use std::fmt::Write;
 
@@ -95,20 +96,13 @@ pub fn hint(lexeme: &str) -> &'static str
 fn names_flag(word: &str) -> bool
     ensures { result ≡ sentences.names_flag word.now }
 {
-    match word {
-        "version_known" | "updatecheck" | "ping" | "event" | "cohort_known" | "installdate_known" =>
-            true,
-        _ => false,
-    }
+    flag_named(word).is_some()
 }
 
 fn names_attribute(word: &str) -> bool
     ensures { result ≡ sentences.names_attribute word.now }
 {
-    match word {
-        "appid" | "version" | "brand" | "ap" | "lang" | "cohort" | "platform" => true,
-        _ => false,
-    }
+    attribute_named(word).is_some()
 }
 
 /// What is written where a test is expected and the name of a flag or an attribute stands alone.

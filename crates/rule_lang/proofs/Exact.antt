@@ -4,15 +4,15 @@ use Rattle.std.proofs.Common.{Bool, true, false, cond, refl, ap, ◌∙◌, subs
 use Rattle.std.proofs.lemmas.Slice.Eq.{bytes_eq-Decides}
 use Rattle.std.specs.List.{find}
 use Rattle.std.specs.Str.{bytes_eq}
+use Rattle.attrs.specs.Vocabulary.{flag_text, all_flags, flag_named}
+use Rattle.attrs.specs.Vocabulary.{attribute_text, all_attributes, attribute_named}
+use Rattle.attrs.specs.declared.vocabulary.Attribute.{Attribute}
+use Rattle.attrs.specs.declared.vocabulary.Attribute.TheVariants as attribute
+use Rattle.attrs.specs.declared.vocabulary.Flag.{Flag}
+use Rattle.attrs.specs.declared.vocabulary.Flag.TheVariants as flag
 use Rattle.rule_lang.specs.declared.keyword.Keyword.{Keyword}
 use Rattle.rule_lang.specs.declared.keyword.Keyword.TheVariants as keyword
-use Rattle.rule_lang.specs.declared.test.Attribute.{Attribute}
-use Rattle.rule_lang.specs.declared.test.Attribute.TheVariants as attribute
-use Rattle.rule_lang.specs.declared.test.Flag.{Flag}
-use Rattle.rule_lang.specs.declared.test.Flag.TheVariants as flag
-use Rattle.rule_lang.specs.Words.{keyword_text, flag_text, attribute_text}
-use Rattle.rule_lang.specs.Words.{all_keywords, all_flags, all_attributes}
-use Rattle.rule_lang.specs.Words.{keyword_named, flag_named, attribute_named, AreExact}
+use Rattle.rule_lang.specs.Words.{keyword_text, all_keywords, keyword_named, AreExact}
 
 -- ---- what is found has the text
 

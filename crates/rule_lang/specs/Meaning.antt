@@ -7,8 +7,8 @@ use Rattle.std.specs.Ordering.{nat_cmp, ordering_then}
 use Rattle.std.specs.declared.cmp.Ordering.{Ordering}
 use Rattle.std.specs.declared.cmp.Ordering.TheVariants.{Less, Equal, Greater}
 use Rattle.attrs.specs.Attributes.{Attributes}
-use Rattle.attrs.specs.Context as context
 use Rattle.attrs.specs.Helpers.{attr_is, bucket_of}
+use Rattle.attrs.specs.Vocabulary.{flag_bit, attribute_number}
 use Rattle.cells.specs.Arrays.{AppShape}
 use Rattle.cells.specs.declared.event.CellOp.{CellOp}
 use Rattle.cells.specs.declared.event.CellOp.TheVariants.{Add}
@@ -16,11 +16,6 @@ use Rattle.cells.specs.declared.event.CellEvent.{CellEvent}
 use Rattle.rule_lang.specs.declared.condition.Step.{Step}
 use Rattle.rule_lang.specs.declared.rule.Statement.{Statement}
 use Rattle.rule_lang.specs.declared.rule.Statement.TheVariants.{Count, When}
-use Rattle.rule_lang.specs.declared.test.Attribute.{Attribute}
-use Rattle.rule_lang.specs.declared.test.Attribute.TheVariants as attribute
-use Rattle.rule_lang.specs.declared.test.Flag as the_flag
-use Rattle.rule_lang.specs.declared.test.Flag.TheVariants.{VersionKnown, Updatecheck, Ping, Event}
-use Rattle.rule_lang.specs.declared.test.Flag.TheVariants.{CohortKnown, InstalldateKnown}
 use Rattle.rule_lang.specs.declared.test.Comparison.{Comparison}
 use Rattle.rule_lang.specs.declared.test.Comparison.TheVariants.{Lt, Le, Eq, Ne, Ge, Gt}
 use Rattle.rule_lang.specs.declared.test.Test as the_test
@@ -28,7 +23,7 @@ use Rattle.rule_lang.specs.declared.test.Test.TheVariants as test
 use Rattle.rule_lang.specs.Shapes.{array_named, cell_of, quota_of}
 use Rattle.rule_lang.specs.Trees.{Tree, Asked, Negated, Both, Either, trees_from}
 
--- ---- numbers, versions, flags and attributes
+-- ---- numbers and versions
 
 -- which orders a comparison allows
 abbrev pub allows : Comparison → Ordering → Bool
@@ -62,25 +57,6 @@ bucket_by a (Some salt) = bucket_of a salt
 abbrev pub remainder : (modulus : Option ℕ) → ℕ → ℕ
 remainder None n = n
 remainder (Some m) n = n % m
-
--- the bit of a flag in an app's context
-abbrev pub flag_bit : the_flag.Flag → ℕ
-flag_bit VersionKnown = context.version_known
-flag_bit Updatecheck = context.updatecheck
-flag_bit Ping = context.ping
-flag_bit Event = context.event
-flag_bit CohortKnown = context.cohort_known
-flag_bit InstalldateKnown = context.installdate_known
-
--- the number by which a program asks for an attribute
-abbrev pub attribute_number : Attribute → ℕ
-attribute_number attribute.Appid = 0
-attribute_number attribute.Version = 1
-attribute_number attribute.Brand = 2
-attribute_number attribute.Ap = 3
-attribute_number attribute.Lang = 4
-attribute_number attribute.Cohort = 5
-attribute_number attribute.Platform = 6
 
 -- ---- behaviours
 

@@ -4,6 +4,10 @@ use Rattle.std.specs.Prelude.{ℕ, List, [], Option, Some, None, is_some, Result
 use Rattle.std.specs.Prelude.{ok_or, slice_index_or}
 use Rattle.std.specs.Prelude.{Bool, true, false, nat_le, nat_lt, if◌then◌else◌}
 use Rattle.attrs.specs.Version.{version_of}
+use Rattle.attrs.specs.Vocabulary.{flag_named, attribute_named}
+use Rattle.attrs.specs.declared.vocabulary.Attribute.{Attribute}
+use Rattle.attrs.specs.declared.vocabulary.Attribute.TheVariants as attributes
+use Rattle.attrs.specs.declared.vocabulary.Flag.{Flag}
 use Rattle.cells.specs.Arrays.{AppShape}
 use Rattle.cells.specs.declared.array.CellArray.{CellArray}
 use Rattle.lexing.specs.Digits.{magnitude}
@@ -11,9 +15,6 @@ use Rattle.rule_lang.specs.declared.fault.RuleFault.{RuleFault}
 use Rattle.rule_lang.specs.declared.fault.RuleFault.TheVariants.{At}
 use Rattle.rule_lang.specs.declared.fault.RuleFaultKind.TheVariants as kind
 use Rattle.rule_lang.specs.declared.keyword.Keyword.TheVariants as keyword
-use Rattle.rule_lang.specs.declared.test.Attribute.{Attribute}
-use Rattle.rule_lang.specs.declared.test.Attribute.TheVariants as attributes
-use Rattle.rule_lang.specs.declared.test.Flag.{Flag}
 use Rattle.rule_lang.specs.declared.test.Comparison.{Comparison}
 use Rattle.rule_lang.specs.declared.test.Comparison.TheVariants as comparisons
 use Rattle.rule_lang.specs.declared.token.Token.TheVariants as token
@@ -21,7 +22,6 @@ use Rattle.rule_lang.specs.Fits.{is_release}
 use Rattle.rule_lang.specs.Lexed.{Placed, on}
 use Rattle.rule_lang.specs.Shapes.{array_named}
 use Rattle.rule_lang.specs.Tokens.{Token, Text}
-use Rattle.rule_lang.specs.Words.{flag_named, attribute_named}
 
 abbrev pub OrFault : Type 0 → Type 0
 OrFault A = Result A RuleFault

@@ -1,13 +1,12 @@
--- The words of the grammar, which are no names, and the names of flags and attributes.
+-- The words of the grammar, which are no names.
 use Rattle.std.specs.Prelude.{◌≡◌, ◌↔◌, ℕ, List, [], ◌∷◌, codes, Option, Some, Bool, ◌==◌}
 use Rattle.std.specs.Str.{bytes_eq}
 use Rattle.std.specs.List.{find}
+use Rattle.attrs.specs.Vocabulary.{flag_text, flag_named, attribute_text, attribute_named}
+use Rattle.attrs.specs.declared.vocabulary.Attribute.{Attribute}
+use Rattle.attrs.specs.declared.vocabulary.Flag.{Flag}
 use Rattle.rule_lang.specs.declared.keyword.Keyword.{Keyword}
 use Rattle.rule_lang.specs.declared.keyword.Keyword.TheVariants as keyword
-use Rattle.rule_lang.specs.declared.test.Attribute.{Attribute}
-use Rattle.rule_lang.specs.declared.test.Attribute.TheVariants as attribute
-use Rattle.rule_lang.specs.declared.test.Flag.{Flag}
-use Rattle.rule_lang.specs.declared.test.Flag.TheVariants as flag
 
 -- ---- texts
 
@@ -30,25 +29,6 @@ keyword_text keyword.Attr = codes "attr"
 keyword_text keyword.Is = codes "is"
 keyword_text keyword.Take = codes "take"
 
--- the flags, as they are written
-abbrev pub flag_text : Flag → List ℕ
-flag_text flag.VersionKnown = codes "version_known"
-flag_text flag.Updatecheck = codes "updatecheck"
-flag_text flag.Ping = codes "ping"
-flag_text flag.Event = codes "event"
-flag_text flag.CohortKnown = codes "cohort_known"
-flag_text flag.InstalldateKnown = codes "installdate_known"
-
--- the attributes, as they are written
-abbrev pub attribute_text : Attribute → List ℕ
-attribute_text attribute.Appid = codes "appid"
-attribute_text attribute.Version = codes "version"
-attribute_text attribute.Brand = codes "brand"
-attribute_text attribute.Ap = codes "ap"
-attribute_text attribute.Lang = codes "lang"
-attribute_text attribute.Cohort = codes "cohort"
-attribute_text attribute.Platform = codes "platform"
-
 -- the word before a modulus; it isn't kept from names
 abbrev pub modulus_word : List ℕ
 modulus_word = codes "mod"
@@ -61,28 +41,12 @@ all_keywords =
     ∷ keyword.And ∷ keyword.Not ∷ keyword.Version ∷ keyword.Bucket ∷ keyword.Today
     ∷ keyword.Installed ∷ keyword.Flag ∷ keyword.Attr ∷ keyword.Is ∷ keyword.Take ∷ []
 
-abbrev pub all_flags : List Flag
-all_flags =
-    flag.VersionKnown ∷ flag.Updatecheck ∷ flag.Ping ∷ flag.Event ∷ flag.CohortKnown
-    ∷ flag.InstalldateKnown ∷ []
-
-abbrev pub all_attributes : List Attribute
-all_attributes =
-    attribute.Appid ∷ attribute.Version ∷ attribute.Brand ∷ attribute.Ap ∷ attribute.Lang
-    ∷ attribute.Cohort ∷ attribute.Platform ∷ []
-
 -- ---- what a text is: the one that has this text, if any has
 
 unfoldable pub keyword_named : List ℕ → Option Keyword
 keyword_named w = find (λ k. bytes_eq w (keyword_text k)) all_keywords
 
-unfoldable pub flag_named : List ℕ → Option Flag
-flag_named w = find (λ f. bytes_eq w (flag_text f)) all_flags
-
-unfoldable pub attribute_named : List ℕ → Option Attribute
-attribute_named w = find (λ a. bytes_eq w (attribute_text a)) all_attributes
-
--- a law: each is found by its own text, and by no other
+-- a law: each word, flag and attribute is found by its own text, and by no other
 pub record AreExact : Type 0 where
   pub keywords : (w : List ℕ) (k : Keyword) → (keyword_named w ≡ Some k) ↔ (w ≡ keyword_text k)
   pub flags : (w : List ℕ) (f : Flag) → (flag_named w ≡ Some f) ↔ (w ≡ flag_text f)

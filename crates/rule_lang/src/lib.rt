@@ -73,4 +73,4 @@ pub use law::{one_verdict, some_verdict, words_are_exact};
 pub use literal::Literal;
 pub use parser::{MOST_RULE, parse};
 pub use rule::{Rule, Statement};
-pub use test::{Attribute, Comparison, Flag, Test};
+pub use test::{Comparison, Test};

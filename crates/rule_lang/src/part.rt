@@ -6,11 +6,11 @@ ghost use Rattle.rule_lang.specs.Parts as parts;
 
 use crate::fault::{RuleFault, RuleFaultKind};
 use crate::fits::array_named;
-use crate::keyword::{Keyword, attribute_named, flag_named};
+use crate::keyword::Keyword;
 use crate::lexer::Placed;
-use crate::test::{Attribute, Comparison, Flag};
+use crate::test::Comparison;
 use crate::token::Token;
-use attrs::read_version;
+use attrs::{Attribute, Flag, attribute_named, flag_named, read_version};
 use cells::{CellArray, Shape};
 use lexing::magnitude;
 

@@ -1,10 +1,7 @@
 //! The tests of which conditions are made: what is asked of an app and its counters.
 
-ghost use Rattle.std.specs.Prelude.{◌≡◌};
-ghost use Rattle.rule_lang.specs.Meaning as meaning;
-
 use crate::literal::Literal;
-use attrs::Context;
+use attrs::{Attribute, Flag};
 use cells::ArrayName;
 
 /// How two numbers, or two versions, compare.
@@ -16,62 +13,6 @@ pub enum Comparison {
     Ne,
     Ge,
     Gt,
-}
-
-/// A flag of an app's context.
-#[derive(Clone, Copy, Debug, PartialEq, Eq)]
-pub enum Flag {
-    VersionKnown,
-    Updatecheck,
-    Ping,
-    Event,
-    CohortKnown,
-    InstalldateKnown,
-}
-
-impl Flag {
-    /// Its bit in the context's flags.
-    pub fn bit(self) -> u8
-        ensures { result ≡ meaning.flag_bit self }
-    {
-        match self {
-            Flag::VersionKnown => Context::VERSION_KNOWN,
-            Flag::Updatecheck => Context::UPDATECHECK,
-            Flag::Ping => Context::PING,
-            Flag::Event => Context::EVENT,
-            Flag::CohortKnown => Context::COHORT_KNOWN,
-            Flag::InstalldateKnown => Context::INSTALLDATE_KNOWN,
-        }
-    }
-}
-
-/// A text of an app.
-#[derive(Clone, Copy, Debug, PartialEq, Eq)]
-pub enum Attribute {
-    Appid,
-    Version,
-    Brand,
-    Ap,
-    Lang,
-    Cohort,
-    Platform,
-}
-
-impl Attribute {
-    /// The number by which a helper knows it.
-    pub fn number(self) -> u8
-        ensures { result ≡ meaning.attribute_number self }
-    {
-        match self {
-            Attribute::Appid => 0,
-            Attribute::Version => 1,
-            Attribute::Brand => 2,
-            Attribute::Ap => 3,
-            Attribute::Lang => 4,
-            Attribute::Cohort => 5,
-            Attribute::Platform => 6,
-        }
-    }
 }
 
 /// One test of an app. Days are counted from 2007-01-01 UTC.

@@ -14,11 +14,12 @@ use Rattle.attrs.specs.Hash.{fnv1a}
 use Rattle.attrs.specs.Helpers.{attr_is}
 use Rattle.cells.specs.Arrays.{AppShape}
 use Rattle.cells.specs.declared.event.CellEvent.{CellEvent}
+use Rattle.attrs.specs.Vocabulary.{attribute_number, flag_bit}
 use Rattle.rule_lang.specs.declared.test.Comparison.{Comparison}
 use Rattle.rule_lang.specs.declared.test.Test.{Test}
 use Rattle.rule_lang.specs.declared.test.Test.TheVariants as test
-use Rattle.rule_lang.specs.Meaning.{Behaviour, HasTrace, allows, attribute_number}
-use Rattle.rule_lang.specs.Meaning.{bucket_by, flag_bit}
+use Rattle.rule_lang.specs.Meaning.{Behaviour, HasTrace, allows}
+use Rattle.rule_lang.specs.Meaning.{bucket_by}
 use Rattle.rule_lang.specs.Meaning.{remainder, take_then, test_then, version_cmp}
 use Rattle.rule_lang.specs.Shapes.{array_named, cell_of, quota_of}
 use Rattle.warnings.specs.declared.possible.Possible.{Possible}

@@ -11,13 +11,14 @@ use Rattle.attrs.specs.Helpers.{attr_is}
 use Rattle.cells.specs.Arrays.{AppShape}
 use Rattle.cells.specs.declared.event.CellEvent.{CellEvent}
 use Rattle.cells.specs.declared.event.CellOp.TheVariants.{Add}
+use Rattle.attrs.specs.Vocabulary.{attribute_number, flag_bit}
 use Rattle.rule_lang.specs.declared.rule.Statement.{Statement}
 use Rattle.rule_lang.specs.declared.rule.Statement.TheVariants.{Count, When}
 use Rattle.rule_lang.specs.declared.test.Test.{Test}
 use Rattle.rule_lang.specs.declared.test.Test.TheVariants as test
 use Rattle.rule_lang.specs.Meaning.{Asks, Behaviour, Chooses, HasTrace, allows}
-use Rattle.rule_lang.specs.Meaning.{attribute_number, behaviour, bucket_by, decide}
-use Rattle.rule_lang.specs.Meaning.{decide_one, flag_bit, remainder, take_then}
+use Rattle.rule_lang.specs.Meaning.{behaviour, bucket_by, decide}
+use Rattle.rule_lang.specs.Meaning.{decide_one, remainder, take_then}
 use Rattle.rule_lang.specs.Meaning.{test_then, version_cmp}
 use Rattle.rule_lang.specs.Shapes.{array_named, cell_of, quota_of}
 use Rattle.rule_lang.specs.Trees.{Tree, Asked, Negated, Both, Either, trees_from}
