@@ -10,7 +10,7 @@ ghost use Rattle.block_order.specs.Order.{IsKeptAs, IsOrderOf};
 
 use crate::leaving::all_leave_jumps;
 use crate::same::is_same;
-use bpf_insn::{Distance, Insn};
+use bpf_insn::{Distance, Insn, MOST_SLOTS};
 use flow_check::{Flow, jump_target};
 
 /// The place of the instruction that began at the slot.
@@ -27,7 +27,7 @@ pub fn place_of(places: &[Option<usize>], slot: usize) -> Option<usize>
 fn is_jump(flow: &Flow, slot: usize, target: usize) -> bool
     ensures { IsTrue result → IsJump flow.now slot target }
 {
-    if slot >= 4096 {
+    if slot >= MOST_SLOTS {
         return false;
     }
     match flow.at(slot) {
@@ -152,7 +152,7 @@ fn is_kept(flow: &Flow, places: &[Option<usize>], old: usize, slot: usize, insn:
     requires { old < 4096 }
     ensures { IsTrue result → IsKeptAs (place_at places.now) flow.now old slot insn }
 {
-    if slot >= 4096 {
+    if slot >= MOST_SLOTS {
         return false;
     }
     if is_straight(insn) {

@@ -36,4 +36,5 @@ pub use operand::{
     LoadKind, Operand, Size, WideValue,
 };
 pub use reg::Reg;
+pub use slots::MOST_SLOTS;
 pub use words::{low_byte, low_half, low_word};

@@ -8,6 +8,9 @@ ghost use Rattle.bpf_insn.specs.Spelling.{width_of, slots_of};
 use crate::insn::{Insn, Width};
 use crate::operand::Distance;
 
+/// The most slots of a program.
+pub const MOST_SLOTS: usize = 4096;
+
 impl Distance {
     /// The slots that it moves, from the instruction after the jump.
     #[inline]

@@ -30,6 +30,7 @@ use crate::fault::{AsmFault, AsmFaultKind};
 use crate::label::{Labels, add_label, label_slot};
 use crate::line::{AsmStatement, Line};
 use crate::mnemonic::Mnemonic;
+use bpf_insn::MOST_SLOTS;
 use std::alloc::AllocError;
 
 /// A statement with its line, from 1, and its slot.
@@ -72,7 +73,7 @@ fn is_taken<'a>(labels: &Labels<'a>, label: Option<&'a [u8]>) -> bool
 fn too_long(slots: u16) -> Option<AsmFaultKind>
     ensures { result ≡ too_long slots }
 {
-    if slots > 4096 {
+    if slots as usize > MOST_SLOTS {
         Some(AsmFaultKind::TooLong)
     } else {
         None

@@ -5,11 +5,9 @@ ghost use Rattle.std.specs.Prelude.{true, false, length, OnOk};
 ghost use Rattle.flow_check.specs.Laid.{is_wide, laid};
 
 use crate::fault::CompileFault;
-use bpf_insn::Insn;
+use bpf_insn::{Insn, MOST_SLOTS};
 use std::alloc::{AllocError, Global};
 use std::marker::Model;
-
-const MAX_SLOTS: usize = 4096;
 
 /// The end of a program: its slots, the last one first. A filler stands at the second half of a
 /// wide load.
@@ -80,7 +78,7 @@ impl Code {
         ensures code { OnOk result (self.new ≡ Some insn ∷ self.old) }
         ensures long { result ≡ Err CompileFault.TooLong → 4096 ≤ length self.old }
     {
-        if self.len() >= MAX_SLOTS {
+        if self.len() >= MOST_SLOTS {
             return Err(CompileFault::TooLong);
         }
         match self.slots.push(insn) {
@@ -95,7 +93,7 @@ impl Code {
         ensures code { OnOk result (self.new ≡ Some insn ∷ None ∷ self.old) }
         ensures long { result ≡ Err CompileFault.TooLong → 4096 < length self.old + 2 }
     {
-        if self.len() + 2 > MAX_SLOTS {
+        if self.len() + 2 > MOST_SLOTS {
             return Err(CompileFault::TooLong);
         }
         match push_wide(&mut self.slots, insn) {

@@ -7,5 +7,5 @@ invariant_of-self c =
     let long = length_code c.self.inside.slots.items in
     let count = rw (← c.self.view_is) at c.len.ensures.length in
     let room : length c.self.inside.slots.items < 4096 =
-    omega (arith, long, count, c.if-len-ge-MAX_SLOTS.false) in
+    omega (arith, long, count, c.if-len-ge-MOST_SLOTS.false) in
     search (rules, room)

@@ -6,4 +6,4 @@ pub invariant_of-self : goal.invariant_of-self
 invariant_of-self c =
     let long = length_code c.self.inside.slots.items in
     let count = rw (← c.self.view_is) at c.len.ensures.length in
-    omega (arith, long, count, c.if-len-gt-MAX_SLOTS.false, c.push_wide.ensures.short)
+    omega (arith, long, count, c.if-len-gt-MOST_SLOTS.false, c.push_wide.ensures.short)
