@@ -25,8 +25,7 @@ no page.
   `x.new` are values before and after the call, and `x.now` is one that the call doesn't change.
 - **Inside the crate** are calls that aren't handed out, and carry what is.
 
-Texts of refusals that `thiserror` writes are in no clause. Those that the program prints are rows
-of tests.
+The texts of help, of usage and of what is wrong with words are in no clause; tests have some.
 """
 
 

@@ -2,23 +2,33 @@
 
 use crate::option_misfit::OptionMisfit;
 use clap::Error as ClapError;
-use thiserror::Error;
+use std::error::Error;
+use std::fmt;
 
 /// Why there is no request. What is shown of the first three is for the caller, with its line
 /// feeds.
-#[derive(Debug, Drop, Error)]
+#[derive(Debug, Drop)]
 pub enum WordsFault {
     /// The words ask for help: its page.
-    #[error("{0}")]
     Help(ClapError),
     /// The grammar doesn't take the words: what is wrong, and the usage.
-    #[error("{0}")]
     Usage(ClapError),
     /// The grammar takes them, and they ask for nothing: this option isn't well written, or a value
     /// is missing.
-    #[error("error: {0}\n")]
     Nothing(OptionMisfit),
     /// Memory was refused.
-    #[error("Memory")]
     Memory,
 }
+
+impl fmt::Display for WordsFault {
+    fn fmt<W: fmt::Write>(&self, f: &mut fmt::Formatter<W>) -> fmt::Result {
+        match self {
+            WordsFault::Help(error) => write!(f, "{error}"),
+            WordsFault::Usage(error) => write!(f, "{error}"),
+            WordsFault::Nothing(misfit) => writeln!(f, "error: {misfit}"),
+            WordsFault::Memory => f.write_str("Memory"),
+        }
+    }
+}
+
+impl Error for WordsFault {}

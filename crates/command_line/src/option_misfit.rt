@@ -19,48 +19,85 @@ use crate::simulate_words::simulation_of;
 use crate::verb::{Verb, verb_named};
 use clap::ArgMatches;
 use std::alloc::Global;
-use thiserror::Error;
+use std::error::Error;
+use std::fmt;
 
 /// The option that makes the words ask for nothing. What is shown of it is for the caller.
-#[derive(Clone, Copy, Debug, PartialEq, Eq, Error)]
+#[derive(Clone, Copy, Debug, PartialEq, Eq)]
 pub enum OptionMisfit {
-    #[error("'--arrays' wants name:width:length, or name:64:length:quota, joined by commas")]
     Arrays,
-    #[error("{0}")]
     Moment(MomentMisfit),
-    #[error("'--installed' wants a day from 0 to 4294967294, or a date from 2007-01-01 on")]
     Installed,
-    #[error("'--attr' wants NAME=TEXT: appid, brand, ap, lang, cohort or platform, each once")]
     Attributes,
-    #[error("'--attr' of a simulation is no appid and no cohort: each app is asked in each bucket")]
     OneClient,
-    #[error("'--svg' names a manifest of the simulation, which the picture would be written over")]
     Overwritten,
-    #[error("'--since' wants a time by RFC 3339, or how long ago, as 90s, 10m, 2h or 3d")]
     Since,
-    #[error("'--until' wants a time by RFC 3339, or how long ago, as 90s, 10m, 2h or 3d")]
     Until,
-    #[error("MANIFEST is missing")]
     Manifest,
-    #[error("REQUEST is missing")]
     Request,
-    #[error("'--cells' wants NAME[INDEX]=VALUE, as early[0]=283")]
     Cells,
-    #[error("'--bucket' can't stand beside a cohort that names a bucket")]
     Bucket,
-    #[error("a value that the command requires is missing, or out of its range")]
     Missing,
 }
 
+impl fmt::Display for OptionMisfit {
+    fn fmt<W: fmt::Write>(&self, f: &mut fmt::Formatter<W>) -> fmt::Result {
+        f.write_str(match self {
+            OptionMisfit::Arrays => {
+                "'--arrays' wants name:width:length, or name:64:length:quota, joined by commas"
+            }
+            OptionMisfit::Moment(misfit) => moment_text(*misfit),
+            OptionMisfit::Installed => {
+                "'--installed' wants a day from 0 to 4294967294, or a date from 2007-01-01 on"
+            }
+            OptionMisfit::Attributes => {
+                "'--attr' wants NAME=TEXT: appid, brand, ap, lang, cohort or platform, each once"
+            }
+            OptionMisfit::OneClient => {
+                "'--attr' of a simulation is no appid and no cohort: each app is asked in each \
+                 bucket"
+            }
+            OptionMisfit::Overwritten => {
+                "'--svg' names a manifest of the simulation, which the picture would be written \
+                 over"
+            }
+            OptionMisfit::Since => {
+                "'--since' wants a time by RFC 3339, or how long ago, as 90s, 10m, 2h or 3d"
+            }
+            OptionMisfit::Until => {
+                "'--until' wants a time by RFC 3339, or how long ago, as 90s, 10m, 2h or 3d"
+            }
+            OptionMisfit::Manifest => "MANIFEST is missing",
+            OptionMisfit::Request => "REQUEST is missing",
+            OptionMisfit::Cells => "'--cells' wants NAME[INDEX]=VALUE, as early[0]=283",
+            OptionMisfit::Bucket => { "'--bucket' can't stand beside a cohort that names a bucket" }
+            OptionMisfit::Missing => {
+                "a value that the command requires is missing, or out of its range"
+            }
+        })
+    }
+}
+
+impl Error for OptionMisfit {}
+
 /// What is wrong with the options that tell a moment.
-#[derive(Clone, Copy, Debug, PartialEq, Eq, Error)]
+#[derive(Clone, Copy, Debug, PartialEq, Eq)]
 pub enum MomentMisfit {
-    #[error("'--today' wants a day from 0 to 2919382, or a date from 2007-01-01 to 9999-12-31")]
     Today,
-    #[error("'--at' wants a time by RFC 3339, as 2026-12-01T03:00:00Z, or a Unix second")]
     At,
-    #[error("'--at' and '--today' can't stand beside each other")]
     Both,
+}
+
+fn moment_text(misfit: MomentMisfit) -> &'static str {
+    match misfit {
+        MomentMisfit::Today => {
+            "'--today' wants a day from 0 to 2919382, or a date from 2007-01-01 to 9999-12-31"
+        }
+        MomentMisfit::At => {
+            "'--at' wants a time by RFC 3339, as 2026-12-01T03:00:00Z, or a Unix second"
+        }
+        MomentMisfit::Both => "'--at' and '--today' can't stand beside each other",
+    }
 }
 
 /// Why words of which options may be ill-written ask for nothing.
