@@ -1,8 +1,8 @@
 //! The apps of a request: each is looked up, and run if it asks for an update, app after app.
 
-ghost use Rattle.std.specs.Prelude.{◌≡◌, ◌<◌, false, length, IfOk, MatchResult};
+ghost use Rattle.std.specs.Prelude.{◌≡◌, false, length, IfOk, MatchResult};
 ghost use Rattle.std.specs.Arc.{arc_value};
-ghost use Rattle.attrs.specs.Bucket.{app_bucket, hashed_bucket};
+ghost use Rattle.attrs.specs.Bucket.{hashed_bucket};
 ghost use Rattle.attrs.specs.Facts.{attributes_of};
 ghost use Rattle.bpf_semantics.specs.State.{opening};
 ghost use Rattle.bpf_machine.specs.StandsFor.{RunStandsFor};
@@ -10,7 +10,7 @@ ghost use Rattle.cells.specs.Grown.{Grows};
 ghost use Rattle.answering.specs.Apps.{FindsApp, FindsApps, RunsFew};
 
 use crate::turn::Turn;
-use attrs::{Attrs, Moment, RequestFacts, SharedFacts, hashed_bucket, named_or_hashed};
+use attrs::{Attrs, Bucket, Moment, RequestFacts, SharedFacts, hashed_bucket, named_or_hashed};
 use bpf_machine::Run;
 use bpf_verify::Verified;
 use cells::{CellSteps, growth};
@@ -19,31 +19,29 @@ use ruleset::Ruleset;
 use std::alloc::{AllocError, Global};
 use std::sync::Arc;
 
-// The run of a program on the attributes of an app, and the bucket that they have.
+// The run of a program on the attributes of an app.
 fn start(
     alloc: Global,
     program: &Arc<Verified>,
     app: &SharedFacts,
     facts: &RequestFacts,
-    hashed: u16,
+    hashed: Bucket,
     moment: &Moment,
-) -> Result<(Run, u16), AllocError>
+) -> Result<Run, AllocError>
     requires { hashed ≡ hashed_bucket facts.now }
-    ensures program { IfOk result (λ r. r.0.program ≡ arc_value program.now) }
-    ensures stands { IfOk result (λ r. RunStandsFor r.0
+    ensures program { IfOk result (λ r. r.program ≡ arc_value program.now) }
+    ensures stands { IfOk result (λ r. RunStandsFor r
         (opening (attributes_of app.now facts.now moment.now))) }
-    ensures going { IfOk result (λ r. r.0.is_done ≡ false) }
-    ensures bucket { IfOk result (λ r. r.1 ≡ app_bucket app.now facts.now) }
+    ensures going { IfOk result (λ r. r.is_done ≡ false) }
 {
     let Ok(attrs) = Attrs::of_hashed(alloc, app, facts, hashed, *moment) else {
         return Err(AllocError);
     };
-    let bucket = attrs.context().bucket;
     let Ok(attrs) = Arc::new(alloc, attrs) else {
         return Err(AllocError);
     };
     match Arc::try_clone(program) {
-        Ok(program) => Ok((Run::start(program, attrs), bucket)),
+        Ok(program) => Ok(Run::start(program, attrs)),
         Err(_) => Err(AllocError),
     }
 }
@@ -54,13 +52,12 @@ fn run_app<'r, C: CellSteps>(
     turn: &Turn<'_, C>,
     app: &SharedFacts,
     facts: &RequestFacts,
-    hashed: u16,
+    hashed: Bucket,
     rules: &'r Ruleset,
     pass: &mut C::Pass,
 ) -> Result<Option<FoundApp<'r>>, AllocError>
     requires belongs { C.belongs turn.now.cells.now pass.old }
     requires hashed { hashed ≡ hashed_bucket facts.now }
-    requires range { hashed < 10000 }
     ensures belongs { C.belongs turn.now.cells.now pass.new }
     ensures finds { MatchResult result
         (λ found. Grows C.grew pass.old pass.new
@@ -71,12 +68,12 @@ fn run_app<'r, C: CellSteps>(
         return Ok(None);
     };
     let told = app.facts();
+    let bucket = named_or_hashed(told, hashed);
     if !told.updatecheck {
-        return Ok(Some(FoundApp::new(known, named_or_hashed(told, hashed), None)));
+        return Ok(Some(FoundApp::new(known, bucket, None)));
     }
     known.keeps();
-    let Ok((run, bucket)) = start(turn.alloc, known.program(), app, facts, hashed, turn.moment)
-    else {
+    let Ok(run) = start(turn.alloc, known.program(), app, facts, hashed, turn.moment) else {
         return Err(AllocError);
     };
     let (choice, _) = run.run(turn.cells, pass);

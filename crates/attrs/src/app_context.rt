@@ -1,11 +1,11 @@
 //! The context of an app: from what its request says and the moment at which it asks, or from a
 //! version and a bucket alone.
 
-ghost use Rattle.std.specs.Prelude.{◌≡◌, ◌<◌, ◌≤◌, option_copied};
+ghost use Rattle.std.specs.Prelude.{◌≡◌, ◌≤◌, option_copied};
 ghost use Rattle.attrs.specs.Attributes.{plain_context};
 ghost use Rattle.attrs.specs.Facts as specs;
 
-use crate::bucket::named_bucket;
+use crate::bucket::{Bucket, named_bucket};
 use crate::context::Context;
 use crate::facts::AppFacts;
 use crate::moment::{Elapsed, Moment};
@@ -13,8 +13,7 @@ use crate::text::lent;
 use crate::version::read_version;
 
 /// The context of an app at a moment, in the bucket that it names or else the request's.
-pub(crate) fn context_in(app: &AppFacts, hashed: u16, moment: Moment) -> Context
-    requires { hashed < 10000 }
+pub(crate) fn context_in(app: &AppFacts, hashed: Bucket, moment: Moment) -> Context
     ensures { result ≡ specs.context_in app.now hashed moment }
 {
     let version = app_version(app);
@@ -26,7 +25,7 @@ pub(crate) fn context_in(app: &AppFacts, hashed: u16, moment: Moment) -> Context
     let elapsed = Elapsed::at(moment);
     Context {
         version: version.unwrap_or([0; 4]),
-        bucket: named.unwrap_or(hashed),
+        bucket: named.unwrap_or(hashed).number(),
         flags: known + asked_flags(app),
         install_day: installed.unwrap_or(Context::UNKNOWN_DAY),
         today: elapsed.days,
@@ -35,8 +34,7 @@ pub(crate) fn context_in(app: &AppFacts, hashed: u16, moment: Moment) -> Context
 }
 
 /// The context of an app that asks for an update on day 0 at second 0.
-pub(crate) fn plain_context(version: Option<&str>, bucket: u16) -> Context
-    requires { bucket < 10000 }
+pub(crate) fn plain_context(version: Option<&str>, bucket: Bucket) -> Context
     ensures { result ≡ plain_context (option_copied version.entry) bucket }
 {
     let (version, known) = match version.and_then(read_version) {
@@ -45,7 +43,7 @@ pub(crate) fn plain_context(version: Option<&str>, bucket: u16) -> Context
     };
     Context {
         version,
-        bucket,
+        bucket: bucket.number(),
         flags: Context::UPDATECHECK + known,
         install_day: Context::UNKNOWN_DAY,
         today: 0,

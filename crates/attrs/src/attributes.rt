@@ -7,7 +7,7 @@ ghost use Rattle.attrs.specs.Context.{HasContextRanges};
 ghost use Rattle.attrs.specs.Attributes.{AreShort};
 
 use crate::app_context::{context_in, plain_context};
-use crate::bucket::hashed_bucket;
+use crate::bucket::{Bucket, hashed_bucket};
 use crate::context::Context;
 use crate::facts::{AppFacts, RequestFacts};
 use crate::kept::{copied, keep_some, keep_text, own, short, short_or_none};
@@ -86,7 +86,7 @@ impl Attrs {
             event: false,
         };
         Ok(Attrs {
-            context: plain_context(version, bucket),
+            context: plain_context(version, Bucket::new(bucket)),
             app: own(alloc, app)?,
             platform: None,
         })
@@ -116,7 +116,7 @@ impl Attrs {
         alloc: Global,
         app: &SharedFacts,
         request: &RequestFacts,
-        hashed: u16,
+        hashed: Bucket,
         moment: Moment,
     ) -> Result<Attrs, AttrFault>
         requires { hashed ≡ specs.hashed_bucket request.now }
@@ -132,13 +132,12 @@ impl Attrs {
         })
     }
 
-    /// The same attributes in another bucket, 0 to 9999, which no cohort names.
-    pub fn in_bucket(self, bucket: u16) -> Attrs
-        requires { bucket < 10000 }
+    /// The same attributes in another bucket, which no cohort names.
+    pub fn in_bucket(self, bucket: Bucket) -> Attrs
         ensures { result ≡ record self { context = record self.context { bucket = bucket } } }
     {
         let context = Context {
-            bucket,
+            bucket: bucket.number(),
             ..self.context
         };
         Attrs { context, ..self }

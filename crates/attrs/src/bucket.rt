@@ -1,7 +1,7 @@
 //! Which of 10000 buckets an app is in: the one that its cohort names, or else a hash of the
 //! request's id or its session's, so that all apps of one request are in one bucket.
 
-ghost use Rattle.std.specs.Prelude.{◌≡◌, ℕ, ◌<◌, IfSome, unwrap_or};
+ghost use Rattle.std.specs.Prelude.{◌≡◌, ℕ, ◌<◌, unwrap_or};
 ghost use Rattle.attrs.specs.Bucket as specs;
 
 use crate::facts::{AppFacts, RequestFacts};
@@ -77,42 +77,38 @@ pub fn cohort_keeps_bucket()
     ensures { (n : ℕ) → n < 10000 → specs.cohort_bucket (specs.told_cohort n) ≡ Some n }
 {}
 
-/// The bucket of an app, from 0 to 9999, of a request whose hashed bucket is known.
-pub fn named_or_hashed(app: &AppFacts, hashed: u16) -> u16
-    requires { hashed < 10000 }
-    ensures value { result ≡ unwrap_or (specs.named_bucket app.now) hashed }
-    ensures range { result < 10000 }
+/// The bucket of an app of a request whose hashed bucket is known.
+pub fn named_or_hashed(app: &AppFacts, hashed: Bucket) -> Bucket
+    ensures { result ≡ unwrap_or (specs.named_bucket app.now) hashed }
 {
     named_bucket(app).unwrap_or(hashed)
 }
 
 /// The bucket of all apps of a request that name none: a hash of who asks. It takes time by the
 /// length of the request's id, so who asks for many apps makes it once.
-pub fn hashed_bucket(request: &RequestFacts) -> u16
-    ensures value { result ≡ specs.hashed_bucket request.now }
-    ensures range { result < 10000 }
+pub fn hashed_bucket(request: &RequestFacts) -> Bucket
+    ensures { result ≡ specs.hashed_bucket request.now }
 {
-    (fnv1a(asker(request).as_bytes()) % Bucket::COUNT as u64) as u16
+    let hash = fnv1a(asker(request).as_bytes());
+    Bucket::new((hash % Bucket::COUNT as u64) as u16)
 }
 
 /// The bucket that the app's cohort names, if it does.
-pub(crate) fn named_bucket(app: &AppFacts) -> Option<u16>
-    ensures value { result ≡ specs.named_bucket app.now }
-    ensures range { IfSome result (λ bucket. bucket < 10000) }
+pub(crate) fn named_bucket(app: &AppFacts) -> Option<Bucket>
+    ensures { result ≡ specs.named_bucket app.now }
 {
     cohort_bucket(lent(&app.cohort)?)
 }
 
-/// The bucket that a cohort names, from 0 to 9999: `b:` and exactly four ASCII digits.
-pub fn cohort_bucket(cohort: &str) -> Option<u16>
-    ensures value { result ≡ specs.cohort_bucket cohort.now }
-    ensures range { IfSome result (λ bucket. bucket < 10000) }
+/// The bucket that a cohort names: `b:` and exactly four ASCII digits.
+pub fn cohort_bucket(cohort: &str) -> Option<Bucket>
+    ensures { result ≡ specs.cohort_bucket cohort.now }
 {
     if cohort.len() != COHORT_LENGTH {
         return None;
     }
     match read_number(cohort.strip_prefix("b:")?) {
-        Some(bucket) => Some(bucket as u16),
+        Some(bucket) => Some(Bucket::new(bucket as u16)),
         None => None,
     }
 }

@@ -187,7 +187,7 @@ pub fn place_of(found: &ArgMatches<'_>, cohort: Option<&str>) -> Result<Option<B
 
 fn place_beside(
     found: &ArgMatches<'_>,
-    named: Option<u16>,
+    named: Option<Bucket>,
     text: Option<&str>,
 ) -> Result<Option<Bucket>, NoRequest>
     ensures given { IfOk result
@@ -204,7 +204,7 @@ fn place_beside(
 }
 
 // The bucket that a cohort names.
-fn bucket_named(cohort: Option<&str>) -> Option<u16>
+fn bucket_named(cohort: Option<&str>) -> Option<Bucket>
     ensures { result ≡ option_and_then cohort_bucket (option_copied cohort.entry) }
 {
     match cohort {

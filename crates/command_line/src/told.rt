@@ -75,7 +75,7 @@ impl<'a> ToldApp<'a> {
             return Err(AllocError);
         };
         match bucket {
-            Some(bucket) => Ok(attrs.in_bucket(bucket.number())),
+            Some(bucket) => Ok(attrs.in_bucket(bucket)),
             None => Ok(attrs),
         }
     }

@@ -4,15 +4,15 @@ ghost use Rattle.std.specs.Prelude.{◌≡◌};
 ghost use Rattle.std.specs.Str.{IsAscii};
 ghost use Rattle.attrs.specs.Bucket as specs;
 
-use attrs::four_digits;
+use attrs::{Bucket, four_digits};
 
 /// `b:` and the four digits of the bucket.
 #[tactic(auto, using(crate::proofs::Cohorts::cohort_is_ascii))]
-pub fn told_cohort(bucket: u16) -> [u8; 6]
+pub fn told_cohort(bucket: Bucket) -> [u8; 6]
     ensures value { result ≡ specs.told_cohort bucket }
     ensures ascii { IsAscii result }
 {
-    let digits = four_digits(bucket);
+    let digits = four_digits(bucket.number());
     [b'b', b':', digits[0], digits[1], digits[2], digits[3]]
 }
 

@@ -4,7 +4,7 @@ ghost use Rattle.std.specs.Prelude.{◌≡◌, ◌<◌, length, slice_index_or, 
 ghost use Rattle.attrs.specs.Bucket.{hashed_bucket};
 ghost use Rattle.omaha_json.specs.Found as specs;
 
-use attrs::{RequestFacts, SharedFacts, hashed_bucket, named_or_hashed};
+use attrs::{Bucket, RequestFacts, SharedFacts, hashed_bucket, named_or_hashed};
 use releases::Release;
 use ruleset::{App, Ruleset};
 use std::alloc::{AllocError, Global};
@@ -15,7 +15,7 @@ use std::marker::Model;
 #[derive(Drop)]
 pub struct FoundApp<'a> {
     releases: &'a [Release],
-    bucket: u16,
+    bucket: Bucket,
     choice: Option<u8>,
 }
 
@@ -34,7 +34,7 @@ impl<'a> Model for FoundApp<'a> {
 impl<'a> FoundApp<'a> {
     /// The app that a ruleset has for an appid, the bucket of the request's app, and the choice of
     /// its run: `None` where none was made, since it asked for none.
-    pub fn new(known: &'a App, bucket: u16, choice: Option<u8>) -> FoundApp<'a>
+    pub fn new(known: &'a App, bucket: Bucket, choice: Option<u8>) -> FoundApp<'a>
         ensures { result ≡ specs.found_with known.now choice bucket }
     {
         FoundApp {
@@ -52,7 +52,7 @@ impl<'a> FoundApp<'a> {
     }
 
     /// The bucket of the app.
-    pub fn bucket(&self) -> u16
+    pub fn bucket(&self) -> Bucket
         ensures { result ≡ self.now.bucket }
     {
         self.bucket
@@ -98,11 +98,10 @@ fn choice_at(choices: &[Option<u8>], place: usize) -> Option<u8>
 // What a ruleset has for an app of a request whose hashed bucket is known.
 fn find_app<'a>(
     app: &SharedFacts,
-    hashed: u16,
+    hashed: Bucket,
     rules: &'a Ruleset,
     choice: Option<u8>,
 ) -> Option<FoundApp<'a>>
-    requires { hashed < 10000 }
     ensures { (facts : _) → hashed ≡ hashed_bucket facts
         → result ≡ specs.found_app rules.now facts app.now choice }
 {

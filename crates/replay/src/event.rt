@@ -1,7 +1,7 @@
 //! The events that the lines of a script ask for, one after another: that of a swap line has the
 //! ruleset of its manifest.
 
-ghost use Rattle.std.specs.Prelude.{◌≡◌, ◌<◌, IfOk, IfErr};
+ghost use Rattle.std.specs.Prelude.{◌≡◌, IfOk, IfErr};
 ghost use Rattle.std.specs.Arc.{arc_value};
 ghost use Rattle.attrs.specs.Attributes.{plain};
 ghost use Rattle.replay.specs.Asked.{AreEventsOf, IsEventOf, RefusesLine, RefusesLines};
@@ -9,7 +9,7 @@ ghost use Rattle.replay.specs.Asked.{AreEventsOf, IsEventOf, RefusesLine, Refuse
 use crate::fault::ReplayFault;
 use crate::line::EventLine;
 use crate::loaded::load_rules;
-use attrs::{Attrs, Text};
+use attrs::{Attrs, Bucket, Text};
 use bounded_files::ResourceFault;
 use cells::Directory;
 use load::Disk;
@@ -56,7 +56,7 @@ fn event_of<D: Disk>(
             appid,
             bucket,
             version,
-        } => match plain_attrs(alloc, appid, version, bucket.number()) {
+        } => match plain_attrs(alloc, appid, version, *bucket) {
             Ok(attrs) => Ok(Event::Start {
                 worker: *worker as usize,
                 attrs,
@@ -81,16 +81,15 @@ fn plain_attrs(
     alloc: Global,
     appid: &Text,
     version: &Option<Text>,
-    bucket: u16,
+    bucket: Bucket,
 ) -> Result<Arc<Attrs>, AllocError>
-    requires { bucket < 10000 }
     ensures { IfOk result (λ a. arc_value a ≡ plain appid.now version.now bucket) }
 {
     let version = match version {
         Some(text) => Some(text.as_str()),
         None => None,
     };
-    let Ok(attrs) = Attrs::plain(alloc, appid.as_str(), version, bucket) else {
+    let Ok(attrs) = Attrs::plain(alloc, appid.as_str(), version, bucket.number()) else {
         return Err(AllocError);
     };
     match Arc::new(alloc, attrs) {

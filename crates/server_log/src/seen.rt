@@ -237,7 +237,7 @@ impl Witness for Seen {
 fn bucket_of_unknown(request: &Request, found: &[Option<FoundApp<'_>>]) -> Bucket {
     for app in found {
         if app.is_none() {
-            return Bucket::new(hashed_bucket(request.facts()));
+            return hashed_bucket(request.facts());
         }
     }
     Bucket::new(0)

@@ -11,7 +11,7 @@ use std::alloc::AllocError;
 #[derive(Drop)]
 pub(crate) struct SeenApp {
     said: SharedFacts,
-    bucket: u16,
+    bucket: Bucket,
     /// Whether the server has such an app.
     pub(crate) is_known: bool,
     choice: Option<u8>,
@@ -58,7 +58,7 @@ impl SeenApp {
     ) -> Result<SeenApp, AllocError> {
         let (bucket, choice, release) = match found {
             Some(found) => (found.bucket(), found.choice(), release_of(texts, found)?),
-            None => (named_or_hashed(said.facts(), hashed.number()), None, None),
+            None => (named_or_hashed(said.facts(), hashed), None, None),
         };
         Ok(SeenApp {
             said,
@@ -76,7 +76,7 @@ impl SeenApp {
         AskedApp {
             appid: Excerpt::brief(said.appid.as_str()),
             version: brief_of(&said.version),
-            bucket: self.bucket,
+            bucket: self.bucket.number(),
             named: is_named(&said.cohort),
             outcome: self.outcome(texts),
             event: excerpt_of(texts, self.event),

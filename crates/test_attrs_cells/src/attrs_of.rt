@@ -117,7 +117,7 @@ const REQUESTS: [(&str, u16); 6] = [
 fn bucket_of(alloc: Global, facts: &str) -> Result<u16, Fail> {
     let app = app_of(alloc, "none=")?;
     let hashed = hashed_bucket(&request_of(alloc, facts)?);
-    Ok(named_or_hashed(&app, hashed))
+    Ok(named_or_hashed(&app, hashed).number())
 }
 
 #[test]

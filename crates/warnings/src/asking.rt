@@ -97,7 +97,8 @@ pub(crate) fn gets_in_some_bucket(
     let mut stack = Vec::new(alloc);
     let mut bucket = 0;
     while bucket < Bucket::COUNT {
-        attrs = attrs.in_bucket(bucket);
+        let place = Bucket::new(bucket);
+        attrs = attrs.in_bucket(place);
         if gets(&mut stack, asked, by, version, &attrs)? {
             return Ok(true);
         }

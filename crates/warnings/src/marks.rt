@@ -111,7 +111,8 @@ fn mark_buckets(
         if are_settled(reached, ends) {
             return Ok(());
         }
-        attrs = attrs.in_bucket(bucket);
+        let place = Bucket::new(bucket);
+        attrs = attrs.in_bucket(place);
         mark_way(&mut stack, asked, Asker::AllAt(spot), &attrs, reached, ends)?;
         bucket += 1;
     }

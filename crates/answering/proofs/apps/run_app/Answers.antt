@@ -25,11 +25,12 @@ returns-then-not-told-clause-finds g c =
     let same = ap (λ (z : List ℕ). app_of rules' z) c.appid.ensures in
     let knows = sym same ∙ sym c.in-Some.ensures.found in
     let bucket =
-    c.named_or_hashed.ensures.value
+    c.named_or_hashed-bucket.ensures
     ∙ ap (λ (f : AppFacts). unwrap_or (named_bucket f) c.args.hashed) told
     ∙ ap (unwrap_or (named_bucket app')) c.requires.hashed in
     let is =
-    found_is rules' facts' app' None c.in-Some.known.now c.named_or_hashed.result c.new.result
+    found_is rules' facts' app' None c.in-Some.known.now c.named_or_hashed-bucket.result
+    c.new.result
     knows bucket c.new.ensures in
     grows_none (g.C.CellSteps.grew) _ _
     (finds_unasked rules' facts' c.args.turn.now.moment.now app' (Some c.new.result)
@@ -46,9 +47,13 @@ returns-clause-finds g c =
     let same = ap (λ (z : List ℕ). app_of rules' z) c.appid.ensures in
     let knows = sym same ∙ sym c.in-Some.ensures.found in
     let choice = Some c.run-choice.result.0 in
+    let bucket =
+    c.named_or_hashed-bucket.ensures
+    ∙ ap (λ (f : AppFacts). unwrap_or (named_bucket f) c.args.hashed) c.facts-told.ensures
+    ∙ ap (unwrap_or (named_bucket app')) c.requires.hashed in
     let is =
-    found_is rules' facts' app' choice c.in-Some.known.now c.in-Ok.bucket c.new-2.result
-    knows c.in-Ok.ensures.bucket c.new-2.ensures in
+    found_is rules' facts' app' choice c.in-Some.known.now c.named_or_hashed-bucket.result
+    c.new-2.result knows bucket c.new-2.ensures in
     grows_found (g.C.CellSteps.grew) rules' facts' c.args.turn.now.moment.now _ _ app' choice
     (Some c.new-2.result) is
     (grows_ran (g.C.CellSteps.grew) _ _ _ _ _ _ c.in-Some.known.now c.in-Ok.run' _ _ asks

@@ -15,5 +15,5 @@ in_range c =
 pub overflow_cast-result : goal.overflow_cast-result
 overflow_cast-result c = omega (arith, in_range c)
 
-pub returns-in-Some-clause-range : goal.returns-in-Some-clause-range
-returns-in-Some-clause-range c = in_range c
+pub new-requires : goal.new-requires
+new-requires c = in_range c

@@ -8,7 +8,7 @@ use Rattle.omaha_json.proofs.found.find_app.Goals as goal
 pub returns-in-Some : goal.returns-in-Some
 returns-in-Some c facts is =
     let hashed =
-    c.named_or_hashed.ensures.value
+    c.named_or_hashed.ensures
     ∙ ap (λ (f : AppFacts). unwrap_or (named_bucket f) c.args.hashed) c.facts.ensures
     ∙ ap (unwrap_or (named_bucket c.args.app.now)) is in
     found_is c.args.rules.now facts c.args.app.now c.args.choice

@@ -18,7 +18,8 @@ returns-then-branch c =
     let r = rule_of c.args.asked.now in
     found r (gets r c.args.by c.args.version.now One) (Some c.args.version.now)
     c.loop-bucket.attrs c.in_bucket-attrs.result c.loop-bucket.bucket c.in_ok-gets.field-0
-    c.loop-bucket.invariant.asker c.in_bucket-attrs.ensures c.loop-bucket-test.true
+    c.loop-bucket.invariant.asker (rw c.new-place.ensures at c.in_bucket-attrs.ensures)
+    c.loop-bucket-test.true
     c.in_ok-gets.ensures c.if-branch.true
 
 pub loop-bucket-preserved : goal.loop-bucket-preserved
@@ -28,10 +29,11 @@ loop-bucket-preserved c =
       within = search rules;
       asker = moves r.appid (Some c.args.version.now) c.loop-bucket.attrs
           c.in_bucket-attrs.result c.loop-bucket.bucket c.loop-bucket.invariant.asker
-          c.in_bucket-attrs.ensures;
+          (rw c.new-place.ensures at c.in_bucket-attrs.ensures);
       none = not_found (gets r c.args.by c.args.version.now One) r.appid
           (Some c.args.version.now)
           c.loop-bucket.attrs c.in_bucket-attrs.result c.loop-bucket.bucket
-          c.in_ok-gets.field-0 c.loop-bucket.invariant.asker c.in_bucket-attrs.ensures
+          c.in_ok-gets.field-0 c.loop-bucket.invariant.asker
+          (rw c.new-place.ensures at c.in_bucket-attrs.ensures)
           c.in_ok-gets.ensures c.if-branch.false c.loop-bucket.invariant.none;
     }

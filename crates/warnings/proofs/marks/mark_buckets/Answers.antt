@@ -21,7 +21,8 @@ pub loop-bucket-preserved : goal.loop-bucket-preserved
 loop-bucket-preserved c =
     next_bucket (rule_of c.args.asked.now) c.args.reached.now c.args.ends.now c.args.spot
     c.loop-bucket.attrs c.in_bucket-attrs.result c.loop-bucket.bucket _ _ _ _
-    c.loop-bucket.invariant c.loop-bucket-test.true c.in_bucket-attrs.ensures
+    c.loop-bucket.invariant c.loop-bucket-test.true
+    (rw c.new-place.ensures at c.in_bucket-attrs.ensures)
     c.mark_way.auto.reached c.mark_way.auto.ends c.in_ok-mark_way.ensures
 
 pub returns-then-are_settled : goal.returns-then-are_settled
