@@ -15,15 +15,13 @@ use crate::twice::repeated_name;
 use crate::unread::{Unread, copy, quote};
 use attrs::Text;
 use declarations::ArrayDeclaration;
+use releases::MOST_APPS;
 use std::alloc::Global;
 use std::marker::Model;
 use toml::Table;
 
 /// The most arrays.
 pub(crate) const MAX_ARRAYS: usize = 64;
-
-/// The most apps.
-pub(crate) const MAX_APPS: usize = 256;
 
 /// What an operator tells a server: its name, its arrays of counters, and its apps.
 #[derive(Drop)]
@@ -130,7 +128,7 @@ fn read_arrays(
 fn read_apps(alloc: Global, table: &Table) -> Result<Vec<AppEntry>, Unread<InList<AppMisfit>>>
     ensures { ReadsListAs (specs.apps_of (table_view table.now)) result }
 {
-    read_rows(alloc, table, "app", 1, MAX_APPS)
+    read_rows(alloc, table, "app", 1, MOST_APPS)
 }
 
 /// A manifest in which no name stands twice.

@@ -13,7 +13,7 @@ ghost use Rattle.manifest.specs.declared.misfit.Misfit.TheVariants as misfit;
 
 use crate::app::AppEntry;
 use crate::kind::{Kind, unknown_member};
-use crate::manifest::{MAX_APPS, MAX_ARRAYS};
+use crate::manifest::MAX_ARRAYS;
 use crate::member::{member, text};
 use crate::misfit::{AppMisfit, ArrayMisfit, InList, Misfit};
 use crate::quote::Quote;
@@ -21,6 +21,7 @@ use crate::read::read_tree;
 use crate::rows::{TableRow, has_count, items_of, read_item};
 use crate::unread::Unread;
 use declarations::ArrayDeclaration;
+use releases::MOST_APPS;
 use std::alloc::{AllocError, Global};
 use toml::{Table, Value};
 
@@ -46,7 +47,7 @@ fn misfits_of(alloc: Global, table: &Table) -> Result<Vec<Misfit>, AllocError>
 {
     let mut misfits = own(alloc, table)?;
     push_rows::<ArrayDeclaration>(alloc, &mut misfits, table, "array", 0, MAX_ARRAYS)?;
-    push_rows::<AppEntry>(alloc, &mut misfits, table, "app", 1, MAX_APPS)?;
+    push_rows::<AppEntry>(alloc, &mut misfits, table, "app", 1, MOST_APPS)?;
     Ok(misfits)
 }
 

@@ -14,11 +14,9 @@ use crate::request::Request;
 use crate::request_members::{RequestMembers, request_members};
 use crate::value::object_in;
 use attrs::{RequestFacts, SharedFacts};
+use releases::MOST_APPS;
 use serde_json::{Map, Value};
 use std::alloc::Global;
-
-/// The most apps that a request may have.
-const MAX_APPS: usize = 256;
 
 /// The request that a body is. A member that stands twice has its last value, and members that the
 /// profile doesn't name are ignored. The witness is shown the apps; where the request is refused,
@@ -86,7 +84,7 @@ fn of_members<H: HearsApps>(
     let Some(apps) = listed(alloc, apps) else {
         return Err(OmahaFault::Shape);
     };
-    if apps.as_slice().len() > MAX_APPS {
+    if apps.as_slice().len() > MOST_APPS {
         return Err(OmahaFault::TooManyApps);
     }
     let facts = RequestFacts {

@@ -8,6 +8,6 @@ mod appid;
 mod package;
 mod release;
 
-pub use appid::is_appid;
+pub use appid::{MOST_APPS, is_appid};
 pub use package::Package;
 pub use release::Release;
