@@ -1,6 +1,7 @@
 pub mod Event
 pub mod Faults
 pub mod Found
+pub mod Ignored
 pub mod Members
 pub mod Reply
 pub mod Request

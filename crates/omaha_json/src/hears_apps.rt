@@ -4,6 +4,7 @@
 ghost use Rattle.std.specs.Prelude.{◌≡◌, IfOk, option_map, string_bytes};
 ghost use Rattle.serde_json.specs.View.{view};
 ghost use Rattle.omaha_json.specs.Event.{IsEventText, event_in};
+ghost use Rattle.omaha_json.specs.Ignored.{ignores_text, ignores_installdate};
 
 use serde_json::Value;
 use std::alloc::{AllocError, Global};
@@ -33,6 +34,26 @@ impl<'a> WrittenApp<'a> {
         match event_of(self.value) {
             Some(event) => Ok(Some(event.to_string(alloc)?)),
             None => Ok(None),
+        }
+    }
+
+    /// Whether its member of this name is there and counts as absent, since it is no text.
+    pub fn ignores_text(&self, name: &str) -> bool
+        ensures { result ≡ ignores_text name.now (view self.now.value.now) }
+    {
+        match self.value.get(name) {
+            Some(member) => member.as_str().is_none(),
+            None => false,
+        }
+    }
+
+    /// The same of `installdate`, since it is no whole number from 0 on that 64 bits hold.
+    pub fn ignores_installdate(&self) -> bool
+        ensures { result ≡ ignores_installdate (view self.now.value.now) }
+    {
+        match self.value.get("installdate") {
+            Some(member) => member.as_u64().is_none(),
+            None => false,
         }
     }
 }
