@@ -12,12 +12,14 @@ use Rattle.access_log.specs.Apps.{app_object, app_objects, head_of, list_of}
 use Rattle.access_log.specs.Apps.{told_event, offers_in, unknown_in, left_out_members}
 use Rattle.access_log.specs.Apps.{first_apps}
 use Rattle.access_log.specs.Members.{count_member, excerpt_members}
-use Rattle.access_log.specs.Room.{behind_event}
+use Rattle.access_log.specs.More.{behind_more, told_more, more_members}
+use Rattle.access_log.specs.Room.{behind_event, behind_events}
 use Rattle.access_log.specs.Spelled.{spelled_from, spelled_quoted}
 use Rattle.access_log.specs.Tokens.{AddsTokens, ends_behind}
 use Rattle.access_log.specs.declared.asked.AskedApp.{AskedApp}
 use Rattle.access_log.specs.declared.excerpt.Excerpt.{Excerpt}
-use Rattle.access_log.proofs.Added.{spelled_from-append, ends_joined, then_adds}
+use Rattle.access_log.specs.declared.more.AskedMore.{AskedMore}
+use Rattle.access_log.proofs.Added.{spelled_from-append, ends_joined, then_adds, adds_nothing}
 
 three_texts : (a x y z : List ℕ) → ((a ++ x) ++ y) ++ z ≡ a ++ (x ++ (y ++ (z ++ [])))
 three_texts a x y z =
@@ -49,33 +51,40 @@ pub adds_end : {a b : List ℕ} → b ≡ a ++ 125 ∷ [] → AddsTokens true tr
 unfolding spelled_from
 adds_end is = record { text = is; ended = refl }
 
--- the app at a place behind those before it, and what it leaves to the events behind its own
-pub one_more : {all line new : List ℕ} {comma : Bool} (apps : List AskedApp) (i room left : ℕ)
-    (d : AskedApp) → i < length apps → left ≡ behind_event room (get_or apps i d).event
-    → AddsTokens comma true line new (app_object room (get_or apps i d))
-    → line ++ spelled_from comma (app_objects room (drop i apps)) ≡ all
-    → new ++ spelled_from true (app_objects left (drop (i + 1) apps)) ≡ all
+-- the app at a place behind those before it, and what it leaves to those behind it
+pub one_more : {all line new : List ℕ} {comma : Bool} (apps : List AskedApp)
+    (i room left more beside : ℕ) (d : AskedApp)
+    → i < length apps → left ≡ behind_event room (get_or apps i d).event
+    → beside ≡ behind_more more (get_or apps i d).more
+    → AddsTokens comma true line new (app_object room more (get_or apps i d))
+    → line ++ spelled_from comma (app_objects room more (drop i apps)) ≡ all
+    → new ++ spelled_from true (app_objects left beside (drop (i + 1) apps)) ≡ all
 unfolding app_objects
-one_more {all} {line} {new} {comma} apps i room left d within behind adds before =
+one_more {all} {line} {new} {comma} apps i room left more beside d within behind other adds
+    before =
     let app = get_or apps i d in
-    let rest = app_objects (behind_event room app.event) (drop (i + 1) apps) in
-    ap (λ (n : ℕ). new ++ spelled_from true (app_objects n (drop (i + 1) apps))) behind
+    let after = drop (i + 1) apps in
+    let one = app_object room more app in
+    let rest = app_objects (behind_event room app.event) (behind_more more app.more) after in
+    ap (λ (n : ℕ). new ++ spelled_from true (app_objects n beside after)) behind
+    ∙ ap (λ (n : ℕ). new ++ spelled_from true (app_objects (behind_event room app.event) n after))
+    other
     ∙ ap (λ l. l ++ spelled_from true rest) adds.text
-    ∙ append_assoc line (spelled_from comma (app_object room app)) (spelled_from true rest)
-    ∙ ap (λ s. line ++ (spelled_from comma (app_object room app) ++ spelled_from s rest))
-    (sym adds.ended)
-    ∙ ap (λ l. line ++ l) (sym (spelled_from-append comma (app_object room app) rest))
-    ∙ ap (λ l. line ++ spelled_from comma (app_objects room l)) (sym (drop_more apps i d within))
+    ∙ append_assoc line (spelled_from comma one) (spelled_from true rest)
+    ∙ ap (λ s. line ++ (spelled_from comma one ++ spelled_from s rest)) (sym adds.ended)
+    ∙ ap (λ l. line ++ l) (sym (spelled_from-append comma one rest))
+    ∙ ap (λ l. line ++ spelled_from comma (app_objects room more l))
+    (sym (drop_more apps i d within))
     ∙ before
 
-pub no_more : {all line : List ℕ} (comma : Bool) (apps : List AskedApp) (i room : ℕ)
+pub no_more : {all line : List ℕ} (comma : Bool) (apps : List AskedApp) (i room more : ℕ)
     → length apps ≤ i
-    → line ++ spelled_from comma (app_objects room (drop i apps)) ≡ all
+    → line ++ spelled_from comma (app_objects room more (drop i apps)) ≡ all
     → line ≡ all
 unfolding spelled_from app_objects
-no_more {all} {line} comma apps i room past before =
+no_more {all} {line} comma apps i room more past before =
     sym (append-nil line)
-    ∙ ap (λ l. line ++ spelled_from comma (app_objects room l)) (sym (drop_all i apps past))
+    ∙ ap (λ l. line ++ spelled_from comma (app_objects room more l)) (sym (drop_all i apps past))
     ∙ before
 
 closed : (before : Bool) → spelled_from before (end_array ∷ []) ≡ 93 ∷ []
@@ -83,18 +92,20 @@ unfolding spelled_from
 closed true = refl
 closed false = refl
 
-pub adds_list : {a b c d : List ℕ} (room : ℕ) (apps : List AskedApp)
+pub adds_list : {a b c d : List ℕ} (room more : ℕ) (apps : List AskedApp)
+    → more ≡ behind_events room apps
     → b ≡ a ++ codes ",\"apps\":["
-    → c ≡ b ++ spelled_from false (app_objects room apps) → d ≡ c ++ 93 ∷ []
+    → c ≡ b ++ spelled_from false (app_objects room more apps) → d ≡ c ++ 93 ∷ []
     → AddsTokens true true a d (list_of room apps)
 unfolding spelled_from escape_byte chars
-adds_list {a} {b} {c} {d} room apps first next last =
-    let objects = app_objects room apps in
+adds_list {a} {b} {c} {d} room more apps beside first next last =
+    let objects = app_objects room (behind_events room apps) apps in
     let name = codes ",\"apps\":[" in
     let shown = spelled_from false objects in
+    let same = ap (λ (n : ℕ). b ++ spelled_from false (app_objects room n apps)) beside in
     record {
       text =
-          last ∙ ap (λ l. l ++ 93 ∷ []) (next ∙ ap (λ l. l ++ shown) first)
+          last ∙ ap (λ l. l ++ 93 ∷ []) (next ∙ same ∙ ap (λ l. l ++ shown) first)
           ∙ append_assoc (a ++ name) shown (93 ∷ []) ∙ append_assoc a name (shown ++ 93 ∷ [])
           ∙ ap (λ l. a ++ (name ++ (shown ++ l)))
           (sym (closed (ends_behind false objects)))
@@ -120,6 +131,19 @@ adds_event {a} {b} room size e enough adds =
     (λ (full : Bool). AddsTokens true true a b
     (if full then count_member (codes "event_left_out") e.length
     else excerpt_members (codes "event") (codes "event_left_out") e))
+    (sym (le-ltb room size enough)) adds
+
+pub adds_no_more : {a : List ℕ} (room size : ℕ) (m : AskedMore) → room < size
+    → AddsTokens true true a a (told_more room size m)
+adds_no_more {a} room size m less =
+    subst (λ (full : Bool). AddsTokens true true a a (if full then [] else more_members m))
+    (sym (lt-ltb room size less)) (adds_nothing true a)
+
+pub adds_more : {a b : List ℕ} (room size : ℕ) (m : AskedMore) → size ≤ room
+    → AddsTokens true true a b (more_members m)
+    → AddsTokens true true a b (told_more room size m)
+adds_more {a} {b} room size m enough adds =
+    subst (λ (full : Bool). AddsTokens true true a b (if full then [] else more_members m))
     (sym (le-ltb room size enough)) adds
 
 pub adds_others : {a b c d : List ℕ} {offers unknown : ℕ} (apps : List AskedApp)

@@ -5,33 +5,33 @@ use Rattle.std.specs.Str.{IsCharBoundary}
 use Rattle.std.proofs.lemmas.Bool.{cases_order}
 use Rattle.access_log.specs.Room.{text_room}
 
--- no place from one up to 64 is right
-abbrev pub IsTooLong : List ℕ → ℕ → Type 0
-IsTooLong text end =
-    (i : ℕ) → end < i → i ≤ 64 → IsCharBoundary text i → 64 < text_room (take i text)
+-- no place from one up to the most is right
+abbrev pub IsTooLong : ℕ → List ℕ → ℕ → Type 0
+IsTooLong most text end =
+    (i : ℕ) → end < i → i ≤ most → IsCharBoundary text i → most < text_room (take i text)
 
-at_one : (text : List ℕ) (end next i : ℕ) → 64 < text_room (take end text)
+at_one : (most : ℕ) (text : List ℕ) (end next i : ℕ) → most < text_room (take end text)
     → ((k : ℕ) → next < k → k ≤ end - 1 → ¬ IsCharBoundary text k)
-    → IsTooLong text end → next < i → i ≤ 64 → IsCharBoundary text i
-    → (i ≡ end) ⊎ ((i < end) ⊎ (end < i)) → 64 < text_room (take i text)
-at_one text end next i over none before above few bound (inl same) =
-    subst (λ (k : ℕ). 64 < text_room (take k text)) (sym same) over
-at_one text end next i over none before above few bound (inr (inl less)) =
+    → IsTooLong most text end → next < i → i ≤ most → IsCharBoundary text i
+    → (i ≡ end) ⊎ ((i < end) ⊎ (end < i)) → most < text_room (take i text)
+at_one most text end next i over none before above few bound (inl same) =
+    subst (λ (k : ℕ). most < text_room (take k text)) (sym same) over
+at_one most text end next i over none before above few bound (inr (inl less)) =
     absurd (none i above (omega (arith, less)) bound)
-at_one text end next i over none before above few bound (inr (inr more)) =
+at_one most text end next i over none before above few bound (inr (inr more)) =
     before i more few bound
 
 -- one place further to the front
-pub further : (text : List ℕ) (end next : ℕ) → 64 < text_room (take end text)
+pub further : (most : ℕ) (text : List ℕ) (end next : ℕ) → most < text_room (take end text)
     → ((k : ℕ) → next < k → k ≤ end - 1 → ¬ IsCharBoundary text k)
-    → IsTooLong text end → IsTooLong text next
-further text end next over none before i above few bound =
-    at_one text end next i over none before above few bound (cases_order i end)
+    → IsTooLong most text end → IsTooLong most text next
+further most text end next over none before i above few bound =
+    at_one most text end next i over none before above few bound (cases_order i end)
 
 -- what stands before a place takes more, as it was reckoned
-pub over_at : (text : List ℕ) (end room : ℕ) {part : List ℕ} → part ≡ slice_range text 0 end
-    → room ≡ text_room part → 64 < room → 64 < text_room (take end text)
-over_at text end room is value more =
+pub over_at : (most : ℕ) (text : List ℕ) (end room : ℕ) {part : List ℕ}
+    → part ≡ slice_range text 0 end → room ≡ text_room part → most < room → most < text_room (take end text)
+over_at most text end room is value more =
     let all : end - 0 ≡ end = omega arith in
-    subst (λ (n : ℕ). 64 < n)
+    subst (λ (n : ℕ). most < n)
     (value ∙ ap text_room is ∙ ap (λ (n : ℕ). text_room (take n text)) all) more

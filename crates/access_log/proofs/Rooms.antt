@@ -9,7 +9,7 @@ use Rattle.std.proofs.lemmas.List.{drop_all, drop_more}
 use Rattle.std.proofs.lemmas.Str.{chars-nil, length-encode}
 use Rattle.access_log.specs.Apps.{offers_of, offers_in, unknown_of, unknown_in}
 use Rattle.access_log.specs.Room.{char_room, chars_room, app_room, count_fitting}
-use Rattle.access_log.specs.Room.{left_behind}
+use Rattle.access_log.specs.Room.{left_behind, behind_event, behind_events}
 use Rattle.access_log.specs.declared.asked.AskedApp.{AskedApp}
 use Rattle.access_log.specs.declared.asked.Outcome.TheVariants.{Unknown}
 
@@ -67,6 +67,14 @@ nobody = record {
   named = false;
   outcome = Unknown;
   event = None;
+  more = record {
+    ap = None;
+    lang = None;
+    brand = None;
+    platform = None;
+    installdate = None;
+    ignored = None;
+  };
 }
 
 module _ (apps : List AskedApp) (i : ℕ) (d : AskedApp) (within : i < length apps) where
@@ -117,3 +125,16 @@ module _ (apps : List AskedApp) (i room : ℕ) (d : AskedApp) (within : i < leng
       → left_behind room (drop i apps)
       ≡ left_behind (room - app_room app) (drop (i + 1) apps)
   left_by_one enough = left false (le-ltb room (app_room app) enough)
+
+-- ---- events
+
+pub all_passed : (apps : List AskedApp) (i room : ℕ) → length apps ≤ i
+    → behind_events room (drop i apps) ≡ room
+unfolding behind_events
+all_passed apps i room past = ap (behind_events room) (drop_all i apps past)
+
+pub one_passed : (apps : List AskedApp) (i room : ℕ) (d : AskedApp) → i < length apps
+    → behind_events room (drop i apps)
+    ≡ behind_events (behind_event room (get_or apps i d).event) (drop (i + 1) apps)
+unfolding behind_events
+one_passed apps i room d within = ap (behind_events room) (drop_more apps i d within)

@@ -1,18 +1,21 @@
 -- The members of apps and of texts have harmless numbers.
 use Rattle.std.proofs.Common.{ℕ, List, [], ◌∷◌, ◌++◌, length, take, drop, codes}
 use Rattle.std.proofs.Common.{Bool, true, false, cond, Option, Some, None, ◌==◌}
-use Rattle.std.specs.Prelude.{nat_lt}
+use Rattle.std.specs.Prelude.{nat_lt, option_copied}
 use Rattle.json.specs.Token.{Token, begin_object, end_object, begin_array, end_array, key}
 use Rattle.access_log.specs.Apps.{outcome_members, told_event, event_members, app_object}
 use Rattle.access_log.specs.Apps.{app_objects, offers_in, unknown_in, left_out_members}
 use Rattle.access_log.specs.Apps.{first_apps, apps_members}
 use Rattle.access_log.specs.Members.{text_member, number_member, flag_member, optional_member}
 use Rattle.access_log.specs.Members.{count_member, left_out, excerpt_members, optional_excerpt}
-use Rattle.access_log.specs.Room.{behind_event, event_room, room_of_events, told_apps}
+use Rattle.access_log.specs.More.{day_member, more_members, more_room, told_more, behind_more}
+use Rattle.access_log.specs.Room.{behind_event, behind_events, event_room, room_of_events}
+use Rattle.access_log.specs.Room.{told_apps}
 use Rattle.access_log.specs.declared.asked.AskedApp.{AskedApp}
 use Rattle.access_log.specs.declared.asked.Outcome.{Outcome}
 use Rattle.access_log.specs.declared.asked.Outcome.TheVariants.{Unknown, Unasked, NoUpdate, Offered}
 use Rattle.access_log.specs.declared.excerpt.Excerpt.{Excerpt}
+use Rattle.access_log.specs.declared.more.AskedMore.{AskedMore}
 use Rattle.access_log.proofs.Harmless.{HaveHarmlessNumbers, all_harmless, decimal_is_harmless}
 
 -- ---- members
@@ -75,7 +78,33 @@ event_of : (room : ℕ) (e : Option Excerpt) → HaveHarmlessNumbers (event_memb
 event_of room (Some e) = told_one room (event_room e) e
 event_of room None = tt
 
-module _ (room : ℕ) (a : AskedApp) where
+day : (o : Option ℕ) → HaveHarmlessNumbers (day_member o)
+day (Some n) = count (codes "installdate") n
+day None = tt
+
+beside : (m : AskedMore) → HaveHarmlessNumbers (more_members m)
+beside m =
+    let first = optional_excerpt (codes "ap") (codes "ap_left_out") m.ap in
+    let second = optional_excerpt (codes "lang") (codes "lang_left_out") m.lang in
+    let third = optional_excerpt (codes "brand") (codes "brand_left_out") m.brand in
+    let fourth = optional_excerpt (codes "platform") (codes "platform_left_out") m.platform in
+    let fifth = day_member m.installdate in
+    let last = optional_member (codes "ignored") (option_copied m.ignored) in
+    all_harmless (first ++ second ++ third ++ fourth ++ fifth) last
+    (all_harmless (first ++ second ++ third ++ fourth) fifth
+    (all_harmless (first ++ second ++ third) fourth
+    (all_harmless (first ++ second) third
+    (all_harmless first second
+    (maybe_excerpt (codes "ap") (codes "ap_left_out") m.ap)
+    (maybe_excerpt (codes "lang") (codes "lang_left_out") m.lang))
+    (maybe_excerpt (codes "brand") (codes "brand_left_out") m.brand))
+    (maybe_excerpt (codes "platform") (codes "platform_left_out") m.platform))
+    (day m.installdate)) (maybe (codes "ignored") (option_copied m.ignored))
+
+more_of : (room size : ℕ) (m : AskedMore) → HaveHarmlessNumbers (told_more room size m)
+more_of room size m = unless (nat_lt room size) (more_members m) (beside m)
+
+module _ (room more : ℕ) (a : AskedApp) where
   abbrev appid : List Token
   appid = (begin_object ∷ []) ++ text_member (codes "appid") a.appid.text.now
 
@@ -97,11 +126,17 @@ module _ (room : ℕ) (a : AskedApp) where
       (tt, text (codes "appid") a.appid.text.now)
       (counted (codes "appid_left_out") (left_out a.appid))
 
-  object : HaveHarmlessNumbers (app_object room a)
+  abbrev answered : List Token
+  answered = named ++ outcome_members a.outcome
+
+  abbrev said : List Token
+  said = answered ++ told_more more (more_room a.more) a.more
+
+  object : HaveHarmlessNumbers (app_object room more a)
   object =
-      all_harmless (named ++ outcome_members a.outcome ++ event_members room a.event)
-      (end_object ∷ [])
-      (all_harmless (named ++ outcome_members a.outcome) (event_members room a.event)
+      all_harmless (said ++ event_members room a.event) (end_object ∷ [])
+      (all_harmless said (event_members room a.event)
+      (all_harmless answered (told_more more (more_room a.more) a.more)
       (all_harmless named (outcome_members a.outcome)
       (all_harmless bucket (flag_member (codes "named") a.named)
       (all_harmless version (number_member (codes "bucket") a.bucket)
@@ -109,14 +144,17 @@ module _ (room : ℕ) (a : AskedApp) where
       (optional_excerpt (codes "version") (codes "version_left_out") a.version)
       headed (maybe_excerpt (codes "version") (codes "version_left_out") a.version))
       (count (codes "bucket") a.bucket)) (flag (codes "named") a.named))
-      (outcome a.outcome)) (event_of room a.event)) (tt, tt)
+      (outcome a.outcome)) (more_of more (more_room a.more) a.more))
+      (event_of room a.event)) (tt, tt)
 
-objects : (room : ℕ) (apps : List AskedApp) → HaveHarmlessNumbers (app_objects room apps)
+objects : (room more : ℕ) (apps : List AskedApp)
+    → HaveHarmlessNumbers (app_objects room more apps)
 unfolding app_objects
-objects room [] = tt
-objects room (a ∷ apps) =
-    all_harmless (app_object room a) (app_objects (behind_event room a.event) apps)
-    (object room a) (objects (behind_event room a.event) apps)
+objects room more [] = tt
+objects room more (a ∷ apps) =
+    all_harmless (app_object room more a)
+    (app_objects (behind_event room a.event) (behind_more more a.more) apps)
+    (object room more a) (objects (behind_event room a.event) (behind_more more a.more) apps)
 
 others : (apps : List AskedApp) → HaveHarmlessNumbers (left_out_members apps)
 others apps =
@@ -130,10 +168,11 @@ others apps =
 first : (n room : ℕ) (apps : List AskedApp) → HaveHarmlessNumbers (first_apps n room apps)
 first n room apps =
     let opened = (key (codes "apps") ∷ []) ++ (begin_array ∷ []) in
-    let each = app_objects room (take n apps) in
+    let beside = behind_events room (take n apps) in
+    let each = app_objects room beside (take n apps) in
     all_harmless (opened ++ each ++ (end_array ∷ [])) (left_out_members (drop n apps))
     (all_harmless (opened ++ each) (end_array ∷ [])
-    (all_harmless opened each (tt, (tt, tt)) (objects room (take n apps))) (tt, tt))
+    (all_harmless opened each (tt, (tt, tt)) (objects room beside (take n apps))) (tt, tt))
     (others (drop n apps))
 
 pub asked : (apps : List AskedApp) → HaveHarmlessNumbers (apps_members apps)

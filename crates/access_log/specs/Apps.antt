@@ -5,6 +5,8 @@ use Rattle.json.specs.Token.{Token, begin_object, end_object, begin_array, end_a
 use Rattle.access_log.specs.Members.{text_member, number_member, flag_member, count_member}
 use Rattle.access_log.specs.Members.{left_out, excerpt_members, optional_excerpt}
 use Rattle.access_log.specs.Room.{told_apps, room_of_events, event_room, behind_event}
+use Rattle.access_log.specs.Room.{behind_events}
+use Rattle.access_log.specs.More.{told_more, more_room, behind_more}
 use Rattle.access_log.specs.declared.asked.AskedApp.{AskedApp}
 use Rattle.access_log.specs.declared.asked.Outcome.{Outcome}
 use Rattle.access_log.specs.declared.asked.Outcome.TheVariants.{Unknown, Unasked, NoUpdate, Offered}
@@ -36,27 +38,31 @@ event_members room None = []
 abbrev pub head_of : List ℕ → List Token
 head_of appid = (begin_object ∷ []) ++ text_member (codes "appid") appid
 
--- an app, of whose event so many bytes have room
-abbrev pub app_object : ℕ → AskedApp → List Token
-app_object room app =
+-- an app, of whose event so many bytes have room, and so many of what it says beside
+abbrev pub app_object : ℕ → ℕ → AskedApp → List Token
+app_object room more app =
     head_of app.appid.text.now
     ++ count_member (codes "appid_left_out") (left_out app.appid)
     ++ optional_excerpt (codes "version") (codes "version_left_out") app.version
     ++ number_member (codes "bucket") app.bucket
     ++ flag_member (codes "named") app.named
     ++ outcome_members app.outcome
+    ++ told_more more (more_room app.more) app.more
     ++ event_members room app.event
     ++ (end_object ∷ [])
 
--- apps, whose events share so much room
-unfoldable pub app_objects : ℕ → List AskedApp → List Token
-app_objects room [] = []
-app_objects room (app ∷ apps) =
-    app_object room app ++ app_objects (behind_event room app.event) apps
+-- apps, whose events share so much room, and what they say beside so much
+unfoldable pub app_objects : ℕ → ℕ → List AskedApp → List Token
+app_objects room more [] = []
+app_objects room more (app ∷ apps) =
+    app_object room more app
+    ++ app_objects (behind_event room app.event) (behind_more more app.more) apps
 
+-- what they say beside has what the events leave
 abbrev pub list_of : ℕ → List AskedApp → List Token
 list_of room apps =
-    (key (codes "apps") ∷ []) ++ (begin_array ∷ []) ++ app_objects room apps
+    (key (codes "apps") ∷ []) ++ (begin_array ∷ [])
+    ++ app_objects room (behind_events room apps) apps
     ++ (end_array ∷ [])
 
 -- ---- what is left out

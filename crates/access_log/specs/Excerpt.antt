@@ -11,12 +11,12 @@ pub record IsExcerpt (whole : List ℕ) (e : Excerpt) : Type 0 where
   pub longest : (i : ℕ) → length e.text.now < i → i ≤ 512 → ¬ IsCharBoundary whole i
   pub counted : e.length ≡ length whole
 
--- the longest beginning of whole characters that takes at most 64 bytes in a line, with its
+-- the longest beginning of whole characters that takes at most so many bytes in a line, with its
 -- escapes, and the text's length
-pub record IsBriefExcerpt (whole : List ℕ) (e : Excerpt) : Type 0 where
+pub record IsBriefExcerpt (most : ℕ) (whole : List ℕ) (e : Excerpt) : Type 0 where
   pub beginning : e.text.now ≡ take (length e.text.now) whole
-  pub brief : text_room e.text.now ≤ 64
+  pub brief : text_room e.text.now ≤ most
   pub longest :
-      (i : ℕ) → length e.text.now < i → i ≤ 64 → IsCharBoundary whole i
-      → 64 < text_room (take i whole)
+      (i : ℕ) → length e.text.now < i → i ≤ most → IsCharBoundary whole i
+      → most < text_room (take i whole)
   pub counted : e.length ≡ length whole

@@ -1,5 +1,6 @@
 pub mod Spelled
 pub mod Members
+pub mod More
 pub mod Plain
 pub mod Tokens
 pub mod Utc

@@ -85,6 +85,11 @@ abbrev pub behind_event : ℕ → Option Excerpt → ℕ
 behind_event room (Some e) = left_after room (event_room e)
 behind_event room None = room
 
+-- and the events of these apps
+unfoldable pub behind_events : ℕ → List AskedApp → ℕ
+behind_events room [] = room
+behind_events room (app ∷ apps) = behind_events (behind_event room app.event) apps
+
 -- ---- apps as a server tells them
 
 -- a release has at most four numbers of ten digits

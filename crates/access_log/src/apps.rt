@@ -14,7 +14,8 @@ use crate::member::{
     write_count, write_excerpt, write_flag, write_left_out_of, write_number,
     write_optional_excerpt, write_text,
 };
-use crate::room::{Told, behind_event, event_room, told_apps};
+use crate::more::{behind_more, write_more};
+use crate::room::{Told, behind_event, behind_events, event_room, told_apps};
 use crate::text::write_quoted;
 use std::alloc::AllocError;
 
@@ -46,20 +47,28 @@ fn write_list(line: &mut LineRoom, apps: &[AskedApp<'_>], room: usize) -> Result
     ensures { OnOk result (AddsMembers line.old line.new (specs.list_of room apps.now)) }
 {
     line.put(b",\"apps\":[")?;
-    write_each(line, apps, room)?;
+    write_each(line, apps, room, behind_events(room, apps))?;
     line.put(b"]")?;
     Ok(())
 }
 
-fn write_each(line: &mut LineRoom, apps: &[AskedApp<'_>], room: usize) -> Result<(), AllocError>
+// These apps; what they say beside has so much room of its own.
+fn write_each(
+    line: &mut LineRoom,
+    apps: &[AskedApp<'_>],
+    room: usize,
+    more: usize,
+) -> Result<(), AllocError>
     ensures { OnOk result (line.new
-        ≡ line.old ++ spelled_from false (specs.app_objects room apps.now)) }
+        ≡ line.old ++ spelled_from false (specs.app_objects room more apps.now)) }
 {
     let mut comma = false;
     let mut left = room;
+    let mut beside = more;
     for app in apps {
-        write_app(line, comma, app, left)?;
+        write_app(line, comma, app, left, beside)?;
         left = behind_event(left, &app.event);
+        beside = behind_more(beside, &app.more);
         comma = true;
     }
     Ok(())
@@ -71,9 +80,10 @@ fn write_app(
     comma: bool,
     app: &AskedApp<'_>,
     room: usize,
+    more: usize,
 ) -> Result<(), AllocError>
     ensures { OnOk result (AddsTokens comma true line.old line.new
-        (specs.app_object room app.now)) }
+        (specs.app_object room more app.now)) }
 {
     write_head(line, comma, app.appid.text)?;
     write_left_out_of(line, "appid_left_out", &app.appid)?;
@@ -81,6 +91,7 @@ fn write_app(
     write_number(line, "bucket", app.bucket as u64)?;
     write_flag(line, "named", app.named)?;
     write_outcome(line, &app.outcome)?;
+    write_more(line, &app.more, more)?;
     write_event(line, &app.event, room)?;
     line.put(b"}")?;
     Ok(())

@@ -1,6 +1,7 @@
 //! An app that a request asks of, and what it was answered.
 
 use crate::excerpt::Excerpt;
+use crate::more::AskedMore;
 
 /// What an app was answered.
 #[derive(Clone, Copy)]
@@ -26,6 +27,8 @@ pub struct AskedApp<'a> {
     /// Whether the client's cohort named the bucket.
     pub named: bool,
     pub outcome: Outcome<'a>,
-    /// The member `event`, as the client wrote it, if it did.
+    /// The member `event` that the client wrote, as JSON, if it did.
     pub event: Option<Excerpt<'a>>,
+    /// What it says beside these.
+    pub more: AskedMore<'a>,
 }

@@ -14,6 +14,9 @@ const EXCERPT_LIMIT: usize = 512;
 /// The most bytes that a text takes in a line with its escapes, where it has to be brief.
 const BRIEF_ROOM: usize = 64;
 
+/// The most that one takes which is told only where there is room for it.
+const SHORT_ROOM: usize = 32;
+
 /// The beginning of a text, and how many bytes the whole text has.
 #[derive(Clone, Copy)]
 pub struct Excerpt<'a> {
@@ -35,10 +38,20 @@ impl<'a> Excerpt<'a> {
 
     /// As many whole characters of a text as take 64 bytes in a line, with their escapes.
     pub fn brief(text: &'a str) -> Excerpt<'a>
-        ensures { IsBriefExcerpt text.now result }
+        ensures { IsBriefExcerpt 64 text.now result }
     {
         Excerpt {
-            text: &text[..brief_end(text)],
+            text: &text[..brief_end(text, BRIEF_ROOM)],
+            length: text.len() as u64,
+        }
+    }
+
+    /// As many as take 32 bytes.
+    pub fn short(text: &'a str) -> Excerpt<'a>
+        ensures { IsBriefExcerpt 32 text.now result }
+    {
+        Excerpt {
+            text: &text[..brief_end(text, SHORT_ROOM)],
             length: text.len() as u64,
         }
     }
@@ -51,15 +64,15 @@ impl<'a> Excerpt<'a> {
     }
 }
 
-// Where such a beginning ends.
-fn brief_end(text: &str) -> usize
+// Where a beginning ends that takes so many bytes at most.
+fn brief_end(text: &str, most: usize) -> usize
     ensures boundary { IsCharBoundary text.now result }
-    ensures brief { text_room (take result text.now) ≤ 64 }
-    ensures longest { (i : ℕ) → result < i → i ≤ 64 → IsCharBoundary text.now i
-        → 64 < text_room (take i text.now) }
+    ensures brief { text_room (take result text.now) ≤ most }
+    ensures longest { (i : ℕ) → result < i → i ≤ most → IsCharBoundary text.now i
+        → most < text_room (take i text.now) }
 {
-    let mut end = text.floor_char_boundary(BRIEF_ROOM);
-    while text_room(&text[..end]) > BRIEF_ROOM {
+    let mut end = text.floor_char_boundary(most);
+    while text_room(&text[..end]) > most {
         end = text.floor_char_boundary(end - 1);
     }
     end

@@ -90,7 +90,8 @@ fn event_count_room(event: &Option<Excerpt<'_>>) -> usize
     }
 }
 
-fn excerpt_room(excerpt: &Excerpt<'_>) -> usize
+/// What the text of an excerpt takes, and the member that tells what is left out of it.
+pub fn excerpt_room(excerpt: &Excerpt<'_>) -> usize
     ensures value { result ≡ specs.excerpt_room excerpt.now }
     ensures bound { result ≤ 24603 }
 {
@@ -109,6 +110,17 @@ pub fn event_room(event: &Excerpt<'_>) -> usize
     11 + text_room(event.text)
 }
 
+/// What the events of these apps leave of this room.
+pub fn behind_events(room: usize, apps: &[AskedApp<'_>]) -> usize
+    ensures { result ≡ specs.behind_events room apps.now }
+{
+    let mut left = room;
+    for app in apps {
+        left = behind_event(left, &app.event);
+    }
+    left
+}
+
 /// What an event leaves of this room.
 pub fn behind_event(room: usize, event: &Option<Excerpt<'_>>) -> usize
     ensures { result ≡ specs.behind_event room event.now }
@@ -119,8 +131,8 @@ pub fn behind_event(room: usize, event: &Option<Excerpt<'_>>) -> usize
     }
 }
 
-// What is left behind so much, where it has room.
-fn behind_excerpt(room: usize, size: usize) -> usize
+/// What is left behind so much, where it has room.
+pub fn behind_excerpt(room: usize, size: usize) -> usize
     ensures { result ≡ specs.left_after room size }
 {
     if room < size { room } else { room - size }

@@ -9,15 +9,15 @@ abbrev pub is_no_text : Option Data → Bool
 is_no_text (Some d) = is_none (as_str d)
 is_no_text None = false
 
--- the member of this name is there, and is no text
+-- the member of this name is there, and is no text, as null is none
 abbrev pub ignores_text : List ℕ → Data → Bool
 ignores_text name app = is_no_text (get name app)
 
 -- a member is there, and is no whole number from 0 on, or one that 64 bits don't hold
-abbrev pub is_no_day : Option Data → Bool
-is_no_day (Some d) = is_none (option_and_then as_u64 (as_number d))
-is_no_day None = false
+abbrev pub is_no_number : Option Data → Bool
+is_no_number (Some d) = is_none (option_and_then as_u64 (as_number d))
+is_no_number None = false
 
 -- `installdate` is there, and is no such number
 abbrev pub ignores_installdate : Data → Bool
-ignores_installdate app = is_no_day (get (codes "installdate") app)
+ignores_installdate app = is_no_number (get (codes "installdate") app)

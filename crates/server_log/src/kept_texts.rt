@@ -47,6 +47,20 @@ impl KeptTexts {
         Ok(self.since(begin))
     }
 
+    /// Keeps a name behind those of a list of names, divided by blanks.
+    pub(crate) fn keep_name(
+        &mut self,
+        names: Option<TextPlace>,
+        name: &str,
+    ) -> Result<TextPlace, AllocError> {
+        let Some(names) = names else {
+            return self.keep(name);
+        };
+        self.all.push_str(" ")?;
+        self.all.push_str(name)?;
+        Ok(self.since(names.begin))
+    }
+
     /// Keeps the text of an address and a port.
     pub(crate) fn keep_socket(&mut self, socket: SocketAddr) -> Result<TextPlace, AllocError> {
         let begin = self.all.len();

@@ -17,6 +17,7 @@
 mod clock;
 mod connection_line;
 mod heard;
+mod heard_app;
 mod kept_texts;
 mod load_line;
 mod log;

@@ -7,8 +7,9 @@ ghost use Rattle.std.specs.Prelude.{◌≡◌, [], None, Some};
 ghost use Rattle.server_log.specs.Seen.{IsUnseen, IsSameRequest};
 
 use crate::heard::Heard;
+use crate::heard_app::HeardApp;
 use crate::kept_texts::{KeptTexts, TextPlace};
-use crate::seen_app::{KeptExcerpt, SeenApp};
+use crate::seen_app::{Beside, KeptExcerpt, SeenApp};
 use access_log::{AskedApp, Excerpt};
 use answering::Witness;
 use attrs::{Bucket, hashed_bucket};
@@ -36,7 +37,8 @@ pub struct Seen {
     /// Room for what is read.
     room: Vec<u8>,
     texts: KeptTexts,
-    events: Vec<Option<KeptExcerpt>>,
+    /// What was heard of each app, one a place.
+    events: Vec<HeardApp>,
     apps: Vec<SeenApp>,
     /// Whether memory was refused to some of it.
     is_cut: bool,
@@ -180,31 +182,34 @@ impl Seen {
         found: &[Option<FoundApp<'_>>],
     ) -> Result<(), AllocError> {
         let hashed = bucket_of_unknown(request, found);
+        let platform = match &request.facts().platform {
+            Some(text) => Some(KeptExcerpt::of(&mut self.texts, Excerpt::short(text.as_str()))?),
+            None => None,
+        };
         for (place, app) in request.apps().iter().enumerate() {
             let Some(found) = found.get(place) else {
                 return Ok(());
             };
-            let event = self.event(place);
-            let seen = SeenApp::of(&mut self.texts, app.share()?, found, hashed, event)?;
+            let heard = self.heard_at(place, platform);
+            let seen = SeenApp::of(&mut self.texts, app.share()?, found, hashed, heard)?;
             self.apps.push(seen)?;
         }
         Ok(())
     }
 
-    fn event(&self, place: usize) -> Option<KeptExcerpt> {
-        match self.events.get(place) {
-            Some(event) => *event,
-            None => None,
-        }
+    // What was heard of the app at a place, and the request's platform.
+    fn heard_at(&self, place: usize, platform: Option<KeptExcerpt>) -> Beside {
+        let heard = match self.events.get(place) {
+            Some(heard) => *heard,
+            None => HeardApp::NONE,
+        };
+        Beside { heard, platform }
     }
 
-    // Keeps the event of the next app.
-    fn keep_event(&mut self, app: WrittenApp<'_>) -> Result<(), AllocError> {
-        let kept = match app.event_text(self.alloc)? {
-            Some(text) => Some(KeptExcerpt::of(&mut self.texts, Excerpt::of(&text))?),
-            None => None,
-        };
-        self.events.push(kept)?;
+    // Keeps what is heard of the next app.
+    fn keep_heard(&mut self, app: WrittenApp<'_>) -> Result<(), AllocError> {
+        let heard = HeardApp::of(self.alloc, &mut self.texts, app)?;
+        self.events.push(heard)?;
         Ok(())
     }
 
@@ -217,7 +222,7 @@ impl Seen {
 impl HearsApps for Seen {
     fn hear_app(&mut self, app: WrittenApp<'_>) {
         if self.is_kept {
-            let is_kept = self.keep_event(app).is_ok();
+            let is_kept = self.keep_heard(app).is_ok();
             self.is_cut = self.is_cut || !is_kept;
         }
     }

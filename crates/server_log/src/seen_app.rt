@@ -1,8 +1,9 @@
 //! An app of a request, as the log keeps it: what it said and was answered, and where the texts
 //! beside these stand.
 
+use crate::heard_app::HeardApp;
 use crate::kept_texts::{KeptTexts, TextPlace};
-use access_log::{AskedApp, Excerpt, Outcome};
+use access_log::{AskedApp, AskedMore, Excerpt, Outcome};
 use attrs::{Bucket, SharedFacts, Text, cohort_bucket, named_or_hashed};
 use omaha_json::{FoundApp, release_at};
 use std::alloc::AllocError;
@@ -16,7 +17,15 @@ pub(crate) struct SeenApp {
     pub(crate) is_known: bool,
     choice: Option<u8>,
     release: Option<TextPlace>,
-    event: Option<KeptExcerpt>,
+    beside: Beside,
+}
+
+/// What a line tells of an app that its facts don't have.
+#[derive(Clone, Copy)]
+pub(crate) struct Beside {
+    pub(crate) heard: HeardApp,
+    /// The request's platform.
+    pub(crate) platform: Option<KeptExcerpt>,
 }
 
 /// Where the beginning of a text stands, and how many bytes the whole text has.
@@ -54,7 +63,7 @@ impl SeenApp {
         said: SharedFacts,
         found: &Option<FoundApp<'_>>,
         hashed: Bucket,
-        event: Option<KeptExcerpt>,
+        beside: Beside,
     ) -> Result<SeenApp, AllocError> {
         let (bucket, choice, release) = match found {
             Some(found) => (found.bucket(), found.choice(), release_of(texts, found)?),
@@ -66,7 +75,7 @@ impl SeenApp {
             is_known: found.is_some(),
             choice,
             release,
-            event,
+            beside,
         })
     }
 
@@ -79,7 +88,21 @@ impl SeenApp {
             bucket: self.bucket.number(),
             named: is_named(&said.cohort),
             outcome: self.outcome(texts),
-            event: excerpt_of(texts, self.event),
+            event: excerpt_of(texts, self.beside.heard.event),
+            more: self.more(texts),
+        }
+    }
+
+    // What it says beside its id and its version.
+    fn more<'x>(&'x self, texts: &'x KeptTexts) -> AskedMore<'x> {
+        let said = self.said.facts();
+        AskedMore {
+            ap: short_of(&said.ap),
+            lang: short_of(&said.lang),
+            brand: short_of(&said.brand),
+            platform: excerpt_of(texts, self.beside.platform),
+            installdate: said.installdate,
+            ignored: texts.at_some(self.beside.heard.ignored),
         }
     }
 
@@ -113,6 +136,14 @@ fn release_of(
 fn brief_of(text: &Option<Text>) -> Option<Excerpt<'_>> {
     match text {
         Some(text) => Some(Excerpt::brief(text.as_str())),
+        None => None,
+    }
+}
+
+// The same, where there is room for it.
+fn short_of(text: &Option<Text>) -> Option<Excerpt<'_>> {
+    match text {
+        Some(text) => Some(Excerpt::short(text.as_str())),
         None => None,
     }
 }

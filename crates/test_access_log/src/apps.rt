@@ -1,8 +1,8 @@
 //! Requests of many apps: how many of them stand in a line, what is left out, and which events have
 //! room.
 
-use crate::given::{AT, NOTES, answered, line_at, repeated};
-use access_log::{AskedApp, Connection, Excerpt, LogEvent, Outcome};
+use crate::given::{AT, NO_MORE, NOTES, answered, line_at, repeated};
+use access_log::{AskedApp, AskedMore, Connection, Excerpt, LogEvent, Outcome};
 use std::alloc::Global;
 use std::test::Fail;
 
@@ -179,5 +179,48 @@ fn no_line_of_a_connection_is_too_long(rt: HostRuntime) -> Result<(), Fail> {
     let end = "],\"left_out\":229,\"offers_left_out\":126,\"unknown_left_out\":103}\n";
     assert!(rt; line.ends_with(end), "{line}");
     assert_eq!(rt; line.len(), 4071);
+    Ok(())
+}
+
+/// What an app says beside, which takes 145 bytes.
+fn beside<'a>(text: &'a str) -> AskedMore<'a> {
+    AskedMore {
+        ap: Some(Excerpt::short(text)),
+        lang: Some(Excerpt::short("de\u{9b}")),
+        installdate: Some(0),
+        ignored: Some("brand cohort"),
+        ..NO_MORE
+    }
+}
+
+/// How that stands in a line.
+const BESIDE: &str = "\"release\":\"1.1\",\"ap\":\"aaaaaaaaaaaaaaaaaaaaaaaaaaaaaaaa\",\
+    \"ap_left_out\":8,\"lang\":\"de\\u009b\",\"installdate\":0,\"ignored\":\"brand cohort\"}";
+
+/// It takes no room of apps or of events: thirty apps leave room for that of six, and eight apps
+/// with five events for none.
+#[test]
+fn what_stands_beside_has_what_is_left(rt: HostRuntime) -> Result<(), Fail> {
+    let text = repeated(rt.alloc(), 40, "")?;
+    let app = AskedApp {
+        more: beside(&text),
+        ..NOTES
+    };
+    let line = line_of(rt.alloc(), app, 1)?;
+    assert!(rt; line.contains(BESIDE), "{line}");
+    let line = line_of(rt.alloc(), app, 30)?;
+    assert_eq!(rt; times(&line, "\"appid\""), 30);
+    assert_eq!(rt; times(&line, BESIDE), 6);
+    assert_eq!(rt; times(&line, "\"ap\":"), 6);
+    assert!(rt; line.len() <= 4096);
+    let event = repeated(rt.alloc(), 512, "")?;
+    let app = AskedApp {
+        event: Some(Excerpt::of(&event)),
+        ..app
+    };
+    let line = line_of(rt.alloc(), app, 8)?;
+    assert_eq!(rt; times(&line, "\"event\":"), 5);
+    assert_eq!(rt; times(&line, "\"ap\":"), 0);
+    assert!(rt; line.len() <= 4096);
     Ok(())
 }

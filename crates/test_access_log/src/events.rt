@@ -1,6 +1,6 @@
 //! Each kind of event, and its line.
 
-use crate::given::{AT, NOTES, answered, line_at};
+use crate::given::{AT, NO_MORE, NOTES, answered, line_at};
 use access_log::{AskedApp, Connection, Counter, Excerpt, Load, LogEvent, Outcome, Start, Totals};
 use std::alloc::Global;
 use std::test::Fail;
@@ -148,6 +148,7 @@ fn app(
         named: false,
         outcome,
         event,
+        more: NO_MORE,
     }
 }
 

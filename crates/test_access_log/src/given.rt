@@ -1,6 +1,6 @@
 //! What the tests are given: a time, an app, a connection, and the line of an event.
 
-use access_log::{AskedApp, Connection, Excerpt, LogEvent, Outcome, Utc, log_line};
+use access_log::{AskedApp, AskedMore, Connection, Excerpt, LogEvent, Outcome, Utc, log_line};
 use std::alloc::{AllocError, Global};
 use std::io::{self, ErrorKind};
 
@@ -13,6 +13,16 @@ pub(crate) const AT: Utc = Utc {
     minute: 19,
     second: 16,
     millis: 42,
+};
+
+/// Nothing beside an id and a version.
+pub(crate) const NO_MORE: AskedMore<'static> = AskedMore {
+    ap: None,
+    lang: None,
+    brand: None,
+    platform: None,
+    installdate: None,
+    ignored: None,
 };
 
 /// An app that is offered a release.
@@ -29,6 +39,7 @@ pub(crate) const NOTES: AskedApp<'static> = AskedApp {
     named: true,
     outcome: Outcome::Offered(2, "1.1"),
     event: None,
+    more: NO_MORE,
 };
 
 /// A connection by way of a proxy, whose request was answered.

@@ -62,6 +62,28 @@ fn brief_excerpts_take_64_bytes(rt: HostRuntime) -> Result<(), Fail> {
     Ok(())
 }
 
+/// The same of a short one.
+const SHORT: &[(usize, &str, usize, u64)] = &[
+    (32, "", 32, 32),
+    (33, "", 32, 33),
+    (31, "é", 31, 33),
+    (30, "é", 32, 32),
+    (26, "\u{9b}", 28, 28),
+    (27, "\u{9b}", 27, 29),
+];
+
+#[test]
+fn short_excerpts_take_32_bytes(rt: HostRuntime) -> Result<(), Fail> {
+    for (count, end, told, length) in SHORT {
+        let text = repeated(rt.alloc(), *count, *end)?;
+        let excerpt = Excerpt::short(&text);
+        assert!(rt; excerpt.text.len() == *told, "{count} {end}");
+        assert!(rt; excerpt.length == *length, "{count} {end}");
+        assert!(rt; text.starts_with(excerpt.text), "{count} {end}");
+    }
+    Ok(())
+}
+
 /// How long a reason of as many `a` is, and the line: of the first 4096 bytes are the line's.
 const REASONS: &[(usize, &str)] = &[
     (4028, ""),

@@ -64,6 +64,16 @@ Content-Length: 69;X-Forwarded-For: ::1
 "forwarded":"::1","status":200,"generation":1,
 ,"apps":[{"appid":"y","bucket":6037,"named":false,"unknown":true,"event":"[{}]"}]
 
+Content-Length: 92
+{"request":{"protocol":"3.1","os":{"platform":"w"},"app":[{"appid":"x","ap":"a","lang":5}]}}
+"status":200,"generation":1,
+,"apps":[{"appid":"x","bucket":6037,"named":false,"ap":"a","platform":"w","ignored":"lang"}]
+
+Content-Length: 82
+{"request":{"protocol":"3.1","app":[{"appid":"x","cohort":[],"installdate":"7"}]}}
+"status":200,"generation":1,
+,"apps":[{"appid":"x","bucket":6037,"named":false,"ignored":"cohort installdate"}]
+
 Content-Length: 2;X-Forwarded-For: ::1, ::2
 []
 "status":400,"refusal":"O2 Shape",

@@ -6,10 +6,11 @@ use Rattle.access_log.proofs.apps.write_each.Goals as goal
 pub loop-app-preserved : goal.loop-app-preserved
 loop-app-preserved c =
     let below : c.loop-app.app-index < length c.args.apps.now = c.loop-app-test.true in
-    one_more c.args.apps.now c.loop-app.app-index c.loop-app.left _ nobody below
-    c.behind_event-left.ensures c.in_ok-write_app.ensures c.loop-app.invariant
+    one_more c.args.apps.now c.loop-app.app-index c.loop-app.left _ c.loop-app.beside _ nobody
+    below c.behind_event-left.ensures c.behind_more-beside.ensures c.in_ok-write_app.ensures
+    c.loop-app.invariant
 
 pub returns : goal.returns
 returns c =
-    no_more c.loop-app.comma c.args.apps.now c.loop-app.app-index c.loop-app.left (omega arith)
-    c.loop-app.invariant
+    no_more c.loop-app.comma c.args.apps.now c.loop-app.app-index c.loop-app.left
+    c.loop-app.beside (omega arith) c.loop-app.invariant

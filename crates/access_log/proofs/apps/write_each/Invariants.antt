@@ -6,5 +6,5 @@ use Rattle.access_log.proofs.apps.write_each.Given as goal
 -- those that are left, behind what is written, are all
 abbrev pub invariant-loop-app : goal.invariant-loop-app
 invariant-loop-app l =
-    l.line ++ spelled_from l.comma (app_objects l.left (drop l.app-index l.apps))
-    ≡ l.initial.line ++ spelled_from false (app_objects l.fn.room l.apps)
+    l.line ++ spelled_from l.comma (app_objects l.left l.beside (drop l.app-index l.apps))
+    ≡ l.initial.line ++ spelled_from false (app_objects l.fn.room l.fn.more l.apps)

@@ -1,0 +1,123 @@
+//! What a line tells of an app beside its id, its version, its outcome and its event, where these
+//! leave room for it: all of it, or nothing.
+
+ghost use Rattle.std.specs.Prelude.{◌≡◌, ◌≤◌, OnOk, option_copied};
+ghost use Rattle.access_log.specs.Tokens.{AddsMembers};
+ghost use Rattle.access_log.specs.More as specs;
+ghost use Rattle.access_log.specs.Room.{left_after};
+
+use crate::excerpt::Excerpt;
+use crate::line_room::LineRoom;
+use crate::member::{write_number, write_optional, write_optional_excerpt};
+use crate::room::{behind_excerpt, excerpt_room, text_room};
+use std::alloc::AllocError;
+
+/// What a client says of an app beside its id and its version.
+#[derive(Clone, Copy)]
+pub struct AskedMore<'a> {
+    pub ap: Option<Excerpt<'a>>,
+    pub lang: Option<Excerpt<'a>>,
+    pub brand: Option<Excerpt<'a>>,
+    /// The member `platform` of the request's `os`.
+    pub platform: Option<Excerpt<'a>>,
+    pub installdate: Option<u64>,
+    /// The names of members that count as absent, since they are of another kind, divided by
+    /// blanks.
+    pub ignored: Option<&'a str>,
+}
+
+/// The members, where there is so much room.
+pub fn write_more(line: &mut LineRoom, more: &AskedMore<'_>, room: usize) -> Result<(), AllocError>
+    ensures { OnOk result (AddsMembers line.old line.new
+        (specs.told_more room (specs.more_room more.now) more.now)) }
+{
+    write_sized_more(line, more, room, more_room(more))
+}
+
+// The same of what takes so much.
+fn write_sized_more(
+    line: &mut LineRoom,
+    more: &AskedMore<'_>,
+    room: usize,
+    size: usize,
+) -> Result<(), AllocError>
+    ensures { OnOk result (AddsMembers line.old line.new
+        (specs.told_more room size more.now)) }
+{
+    if room < size {
+        return Ok(());
+    }
+    write_all_more(line, more)
+}
+
+fn write_all_more(line: &mut LineRoom, more: &AskedMore<'_>) -> Result<(), AllocError>
+    ensures { OnOk result (AddsMembers line.old line.new (specs.more_members more.now)) }
+{
+    write_optional_excerpt(line, "ap", "ap_left_out", &more.ap)?;
+    write_optional_excerpt(line, "lang", "lang_left_out", &more.lang)?;
+    write_optional_excerpt(line, "brand", "brand_left_out", &more.brand)?;
+    write_optional_excerpt(line, "platform", "platform_left_out", &more.platform)?;
+    write_day(line, more.installdate)?;
+    write_optional(line, "ignored", more.ignored)?;
+    Ok(())
+}
+
+#[tactic(auto, using(crate::proofs::Added::adds_nothing))]
+fn write_day(line: &mut LineRoom, installdate: Option<u64>) -> Result<(), AllocError>
+    ensures { OnOk result (AddsMembers line.old line.new (specs.day_member installdate)) }
+{
+    match installdate {
+        Some(day) => write_number(line, "installdate", day),
+        None => Ok(()),
+    }
+}
+
+/// What they leave of this room.
+pub fn behind_more(room: usize, more: &AskedMore<'_>) -> usize
+    ensures { result ≡ specs.behind_more room more.now }
+{
+    behind_excerpt(room, more_room(more))
+}
+
+fn more_room(more: &AskedMore<'_>) -> usize
+    ensures { result ≡ specs.more_room more.now }
+{
+    named_room(8, &more.ap)
+        + named_room(10, &more.lang)
+        + named_room(11, &more.brand)
+        + named_room(15, &more.platform)
+        + day_room(more.installdate)
+        + ignored_room(more.ignored)
+}
+
+// What an excerpt takes whose name and quotes take so much.
+fn named_room(name: usize, excerpt: &Option<Excerpt<'_>>) -> usize
+    requires { name ≤ 15 }
+    ensures value { result ≡ specs.named_room name excerpt.now }
+    ensures bound { result ≤ 24640 }
+{
+    match excerpt {
+        Some(excerpt) => name + excerpt_room(excerpt),
+        None => 0,
+    }
+}
+
+fn day_room(installdate: Option<u64>) -> usize
+    ensures value { result ≡ specs.day_room installdate }
+    ensures bound { result ≤ 35 }
+{
+    match installdate {
+        Some(_) => 35,
+        None => 0,
+    }
+}
+
+fn ignored_room(ignored: Option<&str>) -> usize
+    ensures value { result ≡ specs.ignored_room (option_copied ignored.entry) }
+    ensures bound { result ≤ 24640 }
+{
+    match ignored {
+        Some(names) => 13 + text_room(names),
+        None => 0,
+    }
+}

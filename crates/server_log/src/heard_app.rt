@@ -1,0 +1,48 @@
+//! What the log keeps of an app as its client wrote it: its event, and which members are ignored.
+
+use crate::kept_texts::{KeptTexts, TextPlace};
+use crate::seen_app::KeptExcerpt;
+use access_log::Excerpt;
+use omaha_json::WrittenApp;
+use std::alloc::{AllocError, Global};
+
+/// The members that would be texts.
+const TEXTS: [&str; 5] = ["ap", "brand", "cohort", "lang", "version"];
+
+/// An app.
+#[derive(Clone, Copy)]
+pub(crate) struct HeardApp {
+    pub(crate) event: Option<KeptExcerpt>,
+    /// The names of members that are ignored.
+    pub(crate) ignored: Option<TextPlace>,
+}
+
+impl HeardApp {
+    /// An app of which nothing was heard.
+    pub(crate) const NONE: HeardApp = HeardApp {
+        event: None,
+        ignored: None,
+    };
+
+    /// Keeps what is to be told of an app.
+    pub(crate) fn of(
+        alloc: Global,
+        texts: &mut KeptTexts,
+        app: WrittenApp<'_>,
+    ) -> Result<HeardApp, AllocError> {
+        let event = match app.event_text(alloc)? {
+            Some(text) => Some(KeptExcerpt::of(texts, Excerpt::of(&text))?),
+            None => None,
+        };
+        let mut ignored = None;
+        for name in TEXTS {
+            if app.ignores_text(name) {
+                ignored = Some(texts.keep_name(ignored, name)?);
+            }
+        }
+        if app.ignores_installdate() {
+            ignored = Some(texts.keep_name(ignored, "installdate")?);
+        }
+        Ok(HeardApp { event, ignored })
+    }
+}
