@@ -3,8 +3,8 @@ use Rattle.std.specs.Prelude.{◌≡◌, ℕ, List, Bool, true, false}
 use Rattle.bpf_insn.specs.Program.{Program}
 use Rattle.bpf_semantics.specs.Program.{ShapedProgram}
 use Rattle.bpf_verify.specs.Accepted.{IsAccepted, IsRefusal}
-use Rattle.bpf_rules.specs.declared.refusal.Refusal.{Refusal}
-use Rattle.bpf_rules.specs.declared.refusal.Refusal.TheVariants as refusal
+use Rattle.bpf_checks.specs.declared.refusal.Refusal.{Refusal}
+use Rattle.bpf_checks.specs.declared.refusal.Refusal.TheVariants as refusal
 use Rattle.cells.specs.Arrays.{AppShape}
 use Rattle.flow_check.specs.Fault.{HasOneVerdict, IsFlowFault}
 use Rattle.flow_check.specs.Flow.{IsAcceptedAs}

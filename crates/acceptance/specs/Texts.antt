@@ -1,6 +1,6 @@
 -- The texts of why bytes come to no program, as they are printed.
 use Rattle.std.specs.Prelude.{ℕ, List}
-use Rattle.bpf_rules.specs.Texts.{verifier_refusal_text}
+use Rattle.bpf_checks.specs.Texts.{verifier_refusal_text}
 use Rattle.flow_check.specs.Texts.{flow_fault_text}
 use Rattle.rule_lang.specs.Texts.{rule_fault_text}
 use Rattle.rule_compile.specs.Texts.{compile_fault_text}

@@ -3,7 +3,7 @@ use Rattle.std.specs.Prelude.{◌≡◌, ◌≢◌, ℕ, ◌+◌, ◌≤◌, ℤ
 use Rattle.std.specs.Prelude.{Result, Err, IfOk, IfErr}
 use Rattle.std.specs.Io.KnownBytes.{Appends}
 use Rattle.cells.specs.declared.event.CellEvent.{CellEvent}
-use Rattle.devices.specs.declared.counted.Counted.{Counted}
+use Rattle.net_io.specs.declared.counted.Counted.{Counted}
 use Rattle.hot_swap.specs.Published.{Beginning}
 use Rattle.http_front.specs.Post.{AnswersPost}
 use Rattle.http_front.specs.Reply.{code_of}

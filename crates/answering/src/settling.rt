@@ -2,7 +2,7 @@
 
 ghost use Rattle.std.specs.Prelude.{◌≡◌, ◌+◌, ◌-◌, ◌^◌, ◌<◌, Err, IfOk};
 ghost use Rattle.hot_swap.specs.Published.{GoesOnwards};
-ghost use Rattle.devices.specs.Device.{CountsFailure, WritesBeginning};
+ghost use Rattle.net_io.specs.Device.{CountsFailure, WritesBeginning};
 ghost use Rattle.http_front.specs.Post.{AnswersPost};
 ghost use Rattle.http_front.specs.Reply.{code_of};
 ghost use Rattle.http_front.specs.declared.fault.PostFault.TheVariants as fault;

@@ -13,7 +13,7 @@ use Rattle.flow_check.specs.Edges.{next_of}
 use Rattle.flow_check.specs.Flow.{IsForward}
 use Rattle.abs_value.specs.declared.state.AbsState.{AbsState}
 use Rattle.abs_value.specs.States.{join_states}
-use Rattle.bpf_rules.specs.Transfer.{Edge, edge}
+use Rattle.bpf_checks.specs.Transfer.{Edge, edge}
 use Rattle.bpf_verify.specs.Pool.{Waiting, waits_at, held, joined_with}
 use Rattle.bpf_verify.specs.Accepted.{to_place, joined, join_all, edges_of, incoming}
 use Rattle.bpf_verify.specs.Sweep.{arrived, IsAdded}

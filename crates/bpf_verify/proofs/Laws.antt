@@ -6,8 +6,8 @@ use Rattle.bpf_insn.specs.Program.{Program}
 use Rattle.bpf_semantics.specs.Program.{ShapedProgram, shaped}
 use Rattle.cells.specs.Arrays.{AppShape}
 use Rattle.abs_value.specs.declared.state.AbsState.{AbsState}
-use Rattle.bpf_rules.specs.declared.refusal.VerifierRule.{VerifierRule}
-use Rattle.bpf_rules.specs.Rules.{first_rule}
+use Rattle.bpf_checks.specs.declared.refusal.VerifierRule.{VerifierRule}
+use Rattle.bpf_checks.specs.Rules.{first_rule}
 use Rattle.bpf_verify.specs.Accepted.{IsFine, Fails, IsRefusedAt, ProgramHasOneVerdict}
 
 fails_not_fine : (p : ShapedProgram) (s : ℕ) (rule : VerifierRule) → Fails p s rule → IsFine p s → ⊥

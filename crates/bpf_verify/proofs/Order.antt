@@ -11,8 +11,8 @@ use Rattle.flow_check.specs.Edges.{target_of, next_target}
 use Rattle.abs_value.specs.declared.state.AbsState.{AbsState}
 use Rattle.abs_value.specs.States.{join_states, opening_state}
 use Rattle.abs_value.specs.Order.{IsStateInOrder, OpeningInOrder, StateJoinsInOrder}
-use Rattle.bpf_rules.specs.Transfer.{Edge, edge, edges, jumping, going_on}
-use Rattle.bpf_rules.specs.Sound.{JumpingInOrder, GoingOnInOrder}
+use Rattle.bpf_checks.specs.Transfer.{Edge, edge, edges, jumping, going_on}
+use Rattle.bpf_checks.specs.Sound.{JumpingInOrder, GoingOnInOrder}
 use Rattle.bpf_verify.specs.Accepted.{to_place, joined, join_all, edges_of}
 use Rattle.bpf_verify.specs.Accepted.{incoming, entry_of, HasEndsInOrder}
 

@@ -11,7 +11,7 @@ use Rattle.bpf_semantics.specs.Program.{ShapedProgram}
 use Rattle.flow_check.specs.Edges.{next_of}
 use Rattle.flow_check.specs.Flow.{IsForward}
 use Rattle.abs_value.specs.declared.state.AbsState.{AbsState}
-use Rattle.bpf_rules.specs.Transfer.{Edge, edge}
+use Rattle.bpf_checks.specs.Transfer.{Edge, edge}
 use Rattle.bpf_verify.specs.Count.{count}
 use Rattle.bpf_verify.specs.Pool.{Waiting, waits_at, held, IsChanged}
 use Rattle.bpf_verify.specs.Accepted.{join_all, edges_of, incoming, entry_of, IsFine}

@@ -33,7 +33,7 @@ use Rattle.abs_value.specs.Values.{same_lookup, same_origin, is_unusable, join_v
 use Rattle.abs_value.specs.Stack.{mask_of, slot_at, is_set, kept_slot, join_slots, join_stacks}
 use Rattle.abs_value.specs.States.{register_at, value_at, join_registers}
 use Rattle.abs_value.specs.States.{join_states, opening_state}
-use Rattle.bpf_rules.specs.Transfer.{Edge}
+use Rattle.bpf_checks.specs.Transfer.{Edge}
 use Rattle.bpf_verify.specs.Accepted.{to_place, joined, join_all, edges_of, incoming, IsAccepted}
 use Rattle.bpf_verify.specs.Table.{Known, LiesIn, IsWider, Knows, IsTable}
 

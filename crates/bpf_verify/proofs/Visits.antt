@@ -13,9 +13,9 @@ use Rattle.flow_check.specs.Edges.{target_of, goes_on, next_of, next_target}
 use Rattle.flow_check.specs.Flow.{IsForward, IsAhead}
 use Rattle.abs_value.specs.declared.state.AbsState.{AbsState}
 use Rattle.abs_value.specs.States.{opening_state}
-use Rattle.bpf_rules.specs.declared.refusal.VerifierRule.{VerifierRule}
-use Rattle.bpf_rules.specs.Rules.{first_rule}
-use Rattle.bpf_rules.specs.Transfer.{edges, next_edge, jumping, going_on}
+use Rattle.bpf_checks.specs.declared.refusal.VerifierRule.{VerifierRule}
+use Rattle.bpf_checks.specs.Rules.{first_rule}
+use Rattle.bpf_checks.specs.Transfer.{edges, next_edge, jumping, going_on}
 use Rattle.bpf_verify.specs.Pool.{Waiting, waits_at, held, IsChanged}
 use Rattle.bpf_verify.specs.Accepted.{join_all, incoming, entry_of, IsFine, IsRefusedAt}
 use Rattle.bpf_verify.specs.Kept.{jumps_to, most_ahead, greatest_ahead, greatest_kept}

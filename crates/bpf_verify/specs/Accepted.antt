@@ -8,11 +8,11 @@ use Rattle.cells.specs.Arrays.{AppShape}
 use Rattle.abs_value.specs.declared.state.AbsState.{AbsState}
 use Rattle.abs_value.specs.States.{join_states, opening_state}
 use Rattle.abs_value.specs.Order.{IsStateInOrder}
-use Rattle.bpf_rules.specs.declared.refusal.VerifierRule.{VerifierRule}
-use Rattle.bpf_rules.specs.declared.refusal.Refusal.{Refusal}
-use Rattle.bpf_rules.specs.declared.refusal.Refusal.TheVariants as refusal
-use Rattle.bpf_rules.specs.Rules.{first_rule}
-use Rattle.bpf_rules.specs.Transfer.{Edge, edges}
+use Rattle.bpf_checks.specs.declared.refusal.VerifierRule.{VerifierRule}
+use Rattle.bpf_checks.specs.declared.refusal.Refusal.{Refusal}
+use Rattle.bpf_checks.specs.declared.refusal.Refusal.TheVariants as refusal
+use Rattle.bpf_checks.specs.Rules.{first_rule}
+use Rattle.bpf_checks.specs.Transfer.{Edge, edges}
 
 -- ---- the entry of a place: the join over its incoming edges, in the order of their slots
 

@@ -12,7 +12,7 @@ use Rattle.cells.specs.declared.event.CellEvent.{CellEvent}
 use Rattle.cells.specs.declared.event.CellOp.{CellOp}
 use Rattle.abs_value.specs.declared.state.AbsState.{AbsState}
 use Rattle.abs_value.specs.Covers.{IsStoodFor}
-use Rattle.bpf_rules.specs.Sound.{IsLawful}
+use Rattle.bpf_checks.specs.Sound.{IsLawful}
 use Rattle.bpf_verify.specs.Accepted.{entry_of}
 
 -- the state stands at a place, and the place's entry stands for it, given some answers of the calls

@@ -7,9 +7,9 @@ use Rattle.bpf_insn.specs.Program.{Program, at, ◌>>=◌}
 use Rattle.bpf_semantics.specs.Program.{ShapedProgram}
 use Rattle.flow_check.specs.Edges.{target_of}
 use Rattle.abs_value.specs.declared.state.AbsState.{AbsState}
-use Rattle.bpf_rules.specs.declared.refusal.Refusal.{Refusal}
-use Rattle.bpf_rules.specs.declared.refusal.Refusal.TheVariants as refusal
-use Rattle.bpf_rules.specs.Transfer.{Edge, jump_edge}
+use Rattle.bpf_checks.specs.declared.refusal.Refusal.{Refusal}
+use Rattle.bpf_checks.specs.declared.refusal.Refusal.TheVariants as refusal
+use Rattle.bpf_checks.specs.Transfer.{Edge, jump_edge}
 use Rattle.bpf_verify.specs.Count.{count}
 use Rattle.bpf_verify.specs.Accepted.{to_place, join_all, incoming, entry_of}
 

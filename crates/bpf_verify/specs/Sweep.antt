@@ -8,7 +8,7 @@ use Rattle.cells.specs.Arrays.{AppShape}
 use Rattle.flow_check.specs.Edges.{goes_on}
 use Rattle.abs_value.specs.declared.state.AbsState.{AbsState}
 use Rattle.abs_value.specs.States.{join_states}
-use Rattle.bpf_rules.specs.Transfer.{going_on}
+use Rattle.bpf_checks.specs.Transfer.{going_on}
 use Rattle.bpf_verify.specs.Pool.{Waiting, waits_at, held, joined_with, IsChanged}
 use Rattle.bpf_verify.specs.Accepted.{join_all, incoming, entry_of, IsFine}
 use Rattle.bpf_verify.specs.Kept.{jumps_to, most_ahead, greatest_kept}

@@ -12,8 +12,8 @@ use Rattle.abs_value.specs.declared.state.AbsState.{AbsState}
 use Rattle.abs_value.specs.Numbers.{least, most}
 use Rattle.abs_value.specs.Stack.{is_set}
 use Rattle.abs_value.specs.States.{register_at, value_at, opening_state}
-use Rattle.bpf_rules.specs.Rules.{first_rule}
-use Rattle.bpf_rules.specs.Transfer.{Edge, edges}
+use Rattle.bpf_checks.specs.Rules.{first_rule}
+use Rattle.bpf_checks.specs.Transfer.{Edge, edges}
 
 -- what a table says of a place: a value for each register, and which bytes of the stack are set
 pub record Known : Type 0 where

@@ -6,15 +6,15 @@ ghost use Rattle.std.specs.Prelude.{length, replicate, IfOk, OnOk, OnErr};
 ghost use Rattle.std.specs.Prelude.{Some, None, IsSome, true, IfSome};
 ghost use Rattle.abs_value.specs.States.{opening_state};
 ghost use Rattle.flow_check.specs.Edges.{target_of};
-ghost use Rattle.bpf_rules.specs.Transfer.{jumping};
+ghost use Rattle.bpf_checks.specs.Transfer.{jumping};
 ghost use Rattle.bpf_verify.specs.Pool.{held, IsChanged};
 ghost use Rattle.bpf_verify.specs.Sweep.{falling, IsAdded};
 ghost use Rattle.bpf_verify.specs.Entries.{at_hand, arriving};
 
 use crate::pool::Pool;
 use abs_value::{AbsState, joins_commute};
+use bpf_checks::{Compared, go_on_in, is_lookup_check, jump_in};
 use bpf_insn::Insn;
-use bpf_rules::{Compared, go_on_in, is_lookup_check, jump_in};
 use cells::Shape;
 use flow_check::{jump_target, next_place};
 use std::alloc::{AllocError, Global};

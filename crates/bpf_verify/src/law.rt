@@ -7,7 +7,7 @@ ghost use Rattle.cells.specs.Arrays.{AppShape};
 ghost use Rattle.bpf_verify.specs.Accepted.{ProgramHasOneVerdict, HasEndsInOrder};
 
 use abs_value::states_stay_in_order;
-use bpf_rules::edges_stay_in_order;
+use bpf_checks::edges_stay_in_order;
 
 /// A law: a program under a shape is accepted, or refused at one place by one rule.
 pub fn one_verdict()

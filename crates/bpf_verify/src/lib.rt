@@ -9,7 +9,7 @@
 // stack when a run comes there. The first place has the entry where a run starts, and a place that
 // no edge reaches has none and isn't judged. The instruction is held against the rules, and then
 // makes of its entry one for each edge that it leads along; an edge that no run takes is dropped.
-// What one instruction does is told in `bpf_rules`, and what is known of values in `abs_value`.
+// What one instruction does is told in `bpf_checks`, and what is known of values in `abs_value`.
 //
 // What the sweep keeps. The entry at hand is changed in place from instruction to instruction.
 // Where one jumps, the entry of that edge waits for its target: it is joined into the entry that
@@ -33,7 +33,7 @@ mod table;
 mod verified;
 mod walk;
 
-pub use bpf_rules::{Refusal, VerifierRule};
+pub use bpf_checks::{Refusal, VerifierRule};
 pub use cells::Shape;
 pub use law::{ends_are_in_order, one_verdict};
 pub use table::table_is_enough;

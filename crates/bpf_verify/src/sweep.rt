@@ -11,8 +11,8 @@ ghost use Rattle.bpf_verify.specs.Entries.{AreSwept, HaveArrived};
 ghost use Rattle.bpf_verify.specs.Kept.{IsPeak, IsPeakBefore, greatest_ahead};
 
 use crate::entries::Entries;
+use bpf_checks::{Refusal, first_rule};
 use bpf_insn::Insn;
-use bpf_rules::{Refusal, first_rule};
 use cells::Shape;
 use flow_check::Flow;
 use std::alloc::AllocError;

@@ -12,8 +12,8 @@ ghost use Rattle.bpf_verify.specs.Walk.{entry_here, IsWalkBefore, IsWalkAt, EndI
 use crate::entries::Entries;
 use crate::sweep;
 use abs_value::AbsState;
+use bpf_checks::Refusal;
 use bpf_insn::Insn;
-use bpf_rules::Refusal;
 use cells::Shape;
 use flow_check::Flow;
 use std::alloc::{AllocError, Global};

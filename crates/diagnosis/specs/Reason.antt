@@ -14,7 +14,7 @@ use Rattle.load.specs.declared.fault.LoadFault.{LoadFault}
 use Rattle.load.specs.declared.fault.LoadFault.TheVariants.{Manifest as NoManifest, Cells, File}
 use Rattle.load.specs.declared.fault.LoadFault.TheVariants.{Program, Rule, Memory}
 use Rattle.load.specs.declared.gathering.GatheredApp.{GatheredApp}
-use Rattle.bpf_rules.specs.declared.refusal.Refusal.TheVariants as verify
+use Rattle.bpf_checks.specs.declared.refusal.Refusal.TheVariants as verify
 use Rattle.acceptance.specs.declared.fault.ProgramFault.{ProgramFault}
 use Rattle.acceptance.specs.declared.fault.ProgramFault.TheVariants.{Flow, Verify}
 use Rattle.acceptance.specs.declared.fault.RuleTextFault.{RuleTextFault}

@@ -26,7 +26,7 @@ use Rattle.abs_value.specs.declared.value.Abs.TheVariants.{Map, MayCell, Cell}
 use Rattle.abs_value.specs.Known.{unknown}
 use Rattle.abs_value.specs.States.{value_of}
 use Rattle.abs_value.specs.Stack.{loaded_from}
-use Rattle.bpf_rules.specs.Memory.{stack_place}
+use Rattle.bpf_checks.specs.Memory.{stack_place}
 use Rattle.bpf_semantics.specs.Memory.{stack_size}
 use Rattle.bpf_semantics.specs.Reads.{load_count}
 use Rattle.explain.specs.declared.reads.ReadRegisters.{ReadRegisters}

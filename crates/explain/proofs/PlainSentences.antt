@@ -22,8 +22,8 @@ use Rattle.abs_value.specs.States.{value_of, operand_value}
 use Rattle.bpf_semantics.specs.declared.helpers.Prototype.{Prototype}
 use Rattle.bpf_semantics.specs.declared.helpers.Prototype.TheVariants.{OfMap, OfText, OfNumber}
 use Rattle.bpf_semantics.specs.Helpers.{called_prototype}
-use Rattle.bpf_rules.specs.declared.refusal.VerifierRule.{VerifierRule}
-use Rattle.bpf_rules.specs.declared.refusal.VerifierRule.TheVariants as rule
+use Rattle.bpf_checks.specs.declared.refusal.VerifierRule.{VerifierRule}
+use Rattle.bpf_checks.specs.declared.refusal.VerifierRule.TheVariants as rule
 use Rattle.explain.specs.declared.reads.TouchedMemory.{TouchedMemory}
 use Rattle.explain.specs.Asked as asked
 use Rattle.explain.specs.Sentences as sentences

@@ -3,7 +3,7 @@ use Rattle.std.proofs.Common.{◌≡◌, ℕ, List, Some, sym, ap, ◌∙◌}
 use Rattle.std.proofs.lemmas.Option.{same_Some}
 use Rattle.bpf_insn.specs.declared.insn.Insn.{Insn}
 use Rattle.bpf_insn.specs.Program.{at}
-use Rattle.bpf_rules.specs.declared.refusal.VerifierRule.{VerifierRule}
+use Rattle.bpf_checks.specs.declared.refusal.VerifierRule.{VerifierRule}
 use Rattle.bpf_semantics.specs.Program.{ShapedProgram}
 use Rattle.bpf_verify.specs.Accepted.{entry_of, IsRefusedAt}
 use Rattle.abs_value.specs.declared.state.AbsState.{AbsState}

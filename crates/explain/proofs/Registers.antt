@@ -7,7 +7,7 @@ use Rattle.bpf_insn.specs.declared.operand.Operand.TheVariants.{Imm, Register}
 use Rattle.bpf_semantics.specs.declared.helpers.Prototype.{Prototype}
 use Rattle.bpf_semantics.specs.declared.helpers.Prototype.TheVariants.{OfMap, OfText, OfNumber}
 use Rattle.bpf_semantics.specs.Helpers.{called_prototype}
-use Rattle.bpf_rules.specs.Reads.{arguments}
+use Rattle.bpf_checks.specs.Reads.{arguments}
 use Rattle.explain.specs.Reads.{AreRead, registers_of, argument_registers}
 
 of_prototype : (p : Option Prototype) → registers_of (argument_registers p) ≡ arguments p

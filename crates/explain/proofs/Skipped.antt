@@ -13,8 +13,8 @@ use Rattle.bpf_text.specs.Remarks.{is_blank_or_comment, IsRemark, RemarkedInsn}
 use Rattle.bpf_text.specs.Remarks.{remarked_listing, insns_of, RemarksAreSkipped}
 use Rattle.bpf_verify.specs.Accepted.{entry_of}
 use Rattle.abs_value.specs.declared.state.AbsState.{AbsState}
-use Rattle.bpf_rules.specs.Rules.{first_rule}
-use Rattle.bpf_rules.specs.declared.refusal.VerifierRule.{VerifierRule}
+use Rattle.bpf_checks.specs.Rules.{first_rule}
+use Rattle.bpf_checks.specs.declared.refusal.VerifierRule.{VerifierRule}
 use Rattle.bpf_semantics.specs.Program.{ShapedProgram}
 use Rattle.flow_check.specs.Edges.{next_of}
 use Rattle.flow_check.specs.Flow.{program_bytes}

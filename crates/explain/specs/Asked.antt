@@ -1,8 +1,8 @@
 -- The words of the rules: what each asks, or what is wrong with what it finds. The sentences are
 -- made of them.
 use Rattle.std.specs.Prelude.{ℕ, List, codes}
-use Rattle.bpf_rules.specs.declared.refusal.VerifierRule.{VerifierRule}
-use Rattle.bpf_rules.specs.declared.refusal.VerifierRule.TheVariants as rule
+use Rattle.bpf_checks.specs.declared.refusal.VerifierRule.{VerifierRule}
+use Rattle.bpf_checks.specs.declared.refusal.VerifierRule.TheVariants as rule
 
 -- what a rule asks, in words
 unfoldable pub asked_of : VerifierRule → List ℕ

@@ -16,7 +16,7 @@ use Rattle.abs_value.specs.declared.state.AbsState.{AbsState}
 use Rattle.abs_value.specs.declared.value.Abs.{Abs}
 use Rattle.abs_value.specs.Stack.{loaded_from}
 use Rattle.abs_value.specs.States.{value_of}
-use Rattle.bpf_rules.specs.Memory.{stack_place}
+use Rattle.bpf_checks.specs.Memory.{stack_place}
 use Rattle.explain.specs.declared.reads.ReadRegisters.{ReadRegisters}
 use Rattle.explain.specs.declared.way.Way.{Way}
 use Rattle.explain.specs.Reads.{is_among}

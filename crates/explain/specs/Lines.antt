@@ -12,10 +12,10 @@ use Rattle.flow_check.specs.Edges.{next_of}
 use Rattle.bpf_semantics.specs.Program.{ShapedProgram, shaped}
 use Rattle.bpf_verify.specs.Accepted.{entry_of, IsAccepted, IsRefusedAt}
 use Rattle.abs_value.specs.declared.state.AbsState.{AbsState}
-use Rattle.bpf_rules.specs.Rules.{first_rule}
-use Rattle.bpf_rules.specs.declared.refusal.VerifierRule.{VerifierRule}
-use Rattle.bpf_rules.specs.declared.refusal.Refusal.{Refusal}
-use Rattle.bpf_rules.specs.declared.refusal.Refusal.TheVariants as refusal
+use Rattle.bpf_checks.specs.Rules.{first_rule}
+use Rattle.bpf_checks.specs.declared.refusal.VerifierRule.{VerifierRule}
+use Rattle.bpf_checks.specs.declared.refusal.Refusal.{Refusal}
+use Rattle.bpf_checks.specs.declared.refusal.Refusal.TheVariants as refusal
 use Rattle.explain.specs.declared.way.Way.{Way}
 use Rattle.explain.specs.Known.{registers_text, all_registers, stack_text}
 use Rattle.explain.specs.Reads.{read_registers}

@@ -13,11 +13,11 @@ use Rattle.bpf_insn.specs.declared.operand.Operand.TheVariants.{Imm, Register}
 use Rattle.bpf_insn.specs.declared.reg.Reg.{Reg}
 use Rattle.bpf_insn.specs.declared.reg.Reg.TheVariants.{R0, R1, R2, R3}
 use Rattle.bpf_insn.specs.Table.{number_of}
-use Rattle.bpf_rules.specs.declared.access.Access.{Access}
+use Rattle.bpf_checks.specs.declared.access.Access.{Access}
 use Rattle.bpf_semantics.specs.declared.helpers.Prototype.{Prototype}
 use Rattle.bpf_semantics.specs.declared.helpers.Prototype.TheVariants.{OfMap, OfText, OfNumber}
 use Rattle.bpf_semantics.specs.Helpers.{called_prototype}
-use Rattle.bpf_rules.specs.Reads.{reads, access}
+use Rattle.bpf_checks.specs.Reads.{reads, access}
 use Rattle.explain.specs.declared.reads.ReadRegisters.{ReadRegisters}
 use Rattle.explain.specs.declared.reads.TouchedMemory.{TouchedMemory}
 

@@ -1,6 +1,6 @@
 -- Where and why a program is refused, in a sentence.
 use Rattle.std.specs.Prelude.{◌≡◌, ℕ, List}
-use Rattle.bpf_rules.specs.declared.refusal.VerifierRule.{VerifierRule}
+use Rattle.bpf_checks.specs.declared.refusal.VerifierRule.{VerifierRule}
 use Rattle.bpf_semantics.specs.Program.{ShapedProgram}
 use Rattle.bpf_verify.specs.Accepted.{IsRefusedAt}
 use Rattle.explain.specs.Sentences.{cited_rule}

@@ -24,8 +24,8 @@ use Rattle.abs_value.specs.Values.{is_unusable, is_pointer}
 use Rattle.bpf_semantics.specs.declared.helpers.Prototype.{Prototype}
 use Rattle.bpf_semantics.specs.declared.helpers.Prototype.TheVariants.{OfMap, OfText, OfNumber}
 use Rattle.bpf_semantics.specs.Helpers.{called_prototype}
-use Rattle.bpf_rules.specs.declared.refusal.VerifierRule.{VerifierRule}
-use Rattle.bpf_rules.specs.declared.refusal.VerifierRule.TheVariants as rule
+use Rattle.bpf_checks.specs.declared.refusal.VerifierRule.{VerifierRule}
+use Rattle.bpf_checks.specs.declared.refusal.VerifierRule.TheVariants as rule
 use Rattle.explain.specs.declared.reads.ReadRegisters.{ReadRegisters}
 use Rattle.explain.specs.declared.reads.TouchedMemory.{TouchedMemory}
 use Rattle.explain.specs.Asked.{asked_of, unset_byte, no_cell_at, cells_ask}

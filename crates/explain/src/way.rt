@@ -4,8 +4,8 @@ ghost use Rattle.std.specs.Prelude.{◌≡◌, ◌<◌};
 ghost use Rattle.explain.specs.Way as specs;
 
 use abs_value::{Abs, AbsState};
+use bpf_checks::go_on_in;
 use bpf_insn::{Insn, Reg};
-use bpf_rules::go_on_in;
 use cells::Shape;
 use flow_check::next_place;
 

@@ -14,7 +14,7 @@ use Rattle.httparse.specs.declared.spans.RequestSpans.{RequestSpans}
 use Rattle.httparse.specs.Grammar.{NeverHasRequest, RequestHead, print_request}
 use Rattle.httparse.specs.Spans.{RequestExceeds, IsRequestAt, IsRequestOf, IsRequestWithin}
 use Rattle.httparse.specs.Spans.{span_bytes, header_bytes, name_and_value}
-use Rattle.devices.specs.declared.counted.Failed.{Failed}
+use Rattle.net_io.specs.declared.counted.Failed.{Failed}
 use Rattle.http_front.specs.declared.fault.PostFault.{PostFault}
 use Rattle.http_front.specs.declared.fault.PostFault.TheVariants as fault
 use Rattle.http_front.specs.declared.head.Found.{Found}

@@ -8,7 +8,7 @@ ghost use Rattle.http_front.specs.Reading.{IsBodyBehind, FillsBody};
 use crate::fault::PostFault;
 use crate::head::read_more;
 use crate::room::{begin_body, put_body};
-use devices::Counted;
+use net_io::Counted;
 use std::io::Read;
 
 // Reads until the body is whole; its first bytes stand there already.

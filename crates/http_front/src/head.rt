@@ -4,14 +4,14 @@ ghost use Rattle.std.specs.Prelude.{◌≡◌, ◌+◌, ◌-◌, ◌^◌, ◌<�
 ghost use Rattle.std.specs.Prelude.{Err, IfOk, IfErr, MatchOption};
 ghost use Rattle.std.specs.Io.KnownBytes.{IsAtEnd};
 ghost use Rattle.httparse.specs.Spans.{IsRequestOf, IsRequestWithin};
-ghost use Rattle.devices.specs.Device.{CountsFailure};
+ghost use Rattle.net_io.specs.Device.{CountsFailure};
 ghost use Rattle.http_front.specs.Post.{IsBegun, IsFrugal, IsHeadFault, AnswersPost, CountsDevice};
 ghost use Rattle.http_front.specs.Reading.{GainsBytes, IsFound};
 
 use crate::fault::PostFault;
-use devices::{Counted, Failed};
 use httparse::spans::{HeaderSpan, RequestSpans, parse_request};
 use httparse::{Error, Status};
+use net_io::{Counted, Failed};
 use std::io::Read;
 
 /// A head at the front of the bytes that were read so far.

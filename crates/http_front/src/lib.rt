@@ -27,7 +27,7 @@ pub use room::PostRoom;
 pub use status::Status;
 
 // The words of the contracts here come with them.
-pub use devices::{Counted, FailAt, Failed, WriteFault};
+pub use net_io::{Counted, FailAt, Failed, WriteFault};
 
 #[cfg(test)]
 mod tests;

@@ -8,8 +8,8 @@ use crate::body::read_body;
 use crate::fault::PostFault;
 use crate::head::read_head;
 use crate::room::PostRoom;
-use devices::Counted;
 use httparse::spans::HeaderSpan;
+use net_io::Counted;
 use std::alloc::Global;
 use std::io::Read;
 

@@ -4,12 +4,12 @@
 
 ghost use Rattle.std.specs.Prelude.{◌≡◌, ◌+◌, ◌-◌, ◌^◌, ◌<◌, ◌≤◌, ◌++◌, [], IsTrue, length};
 ghost use Rattle.arrayvec.specs.ArrayVec.{array_vec_len};
-ghost use Rattle.devices.specs.Device.{CountsFailure, WritesBeginning};
+ghost use Rattle.net_io.specs.Device.{CountsFailure, WritesBeginning};
 ghost use Rattle.http_front.specs.Reply.{crlf, reply_head, reply_bytes};
 
 use crate::status::Status;
 use arrayvec::ArrayVec;
-use devices::{Counted, WriteFault};
+use net_io::{Counted, WriteFault};
 use std::io::Write;
 
 /// More bytes than the head of any reply has.

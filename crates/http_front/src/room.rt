@@ -5,8 +5,8 @@ ghost use Rattle.http_front.specs.Post.{ReadsPost};
 
 use crate::fault::PostFault;
 use crate::post::read_by;
-use devices::Counted;
 use httparse::spans::EMPTY_HEADER_SPAN;
+use net_io::Counted;
 use std::alloc::{AllocError, Global};
 use std::io::Read;
 use std::marker::Model;

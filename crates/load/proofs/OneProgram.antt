@@ -7,8 +7,8 @@ use Rattle.bpf_insn.specs.Program.{Program}
 use Rattle.bpf_semantics.specs.Program.{shaped}
 use Rattle.bpf_verify.specs.Accepted as verify
 use Rattle.bpf_verify.specs.Accepted.{IsRefusedAt}
-use Rattle.bpf_rules.specs.declared.refusal.Refusal.TheVariants as refusal
-use Rattle.bpf_rules.specs.declared.refusal.VerifierRule.{VerifierRule}
+use Rattle.bpf_checks.specs.declared.refusal.Refusal.TheVariants as refusal
+use Rattle.bpf_checks.specs.declared.refusal.VerifierRule.{VerifierRule}
 use Rattle.acceptance.specs.declared.fault.ProgramFault.TheVariants.{Flow, Verify}
 use Rattle.acceptance.specs.declared.fault.RuleTextFault.TheVariants.{Text, Compile}
 use Rattle.cells.specs.Arrays.{AppShape}

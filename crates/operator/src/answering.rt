@@ -13,7 +13,7 @@ use crate::loader::Loader;
 use crate::performing::perform;
 use crate::reply::OperatorReply;
 use cells::CellSteps;
-use devices::Counted;
+use net_io::Counted;
 use operator_request::{LINE_LIMIT, OperatorRequest};
 use std::alloc::Global;
 use std::fmt::Display;

@@ -3,11 +3,11 @@
 
 ghost use Rattle.std.specs.Prelude.{◌≡◌, ◌-◌, ◌^◌, ◌<◌, ◌≤◌, length, take, IfOk, IfSome};
 ghost use Rattle.std.specs.List.{position};
-ghost use Rattle.devices.specs.Device.{CountsFailure};
+ghost use Rattle.net_io.specs.Device.{CountsFailure};
 ghost use Rattle.operator_request.specs.Requests.{is_line_feed};
 ghost use Rattle.operator.specs.Line.{IsPiece, line_of};
 
-use devices::{Counted, Failed};
+use net_io::{Counted, Failed};
 use std::io::Read;
 
 /// A piece of a line: so many bytes of it.

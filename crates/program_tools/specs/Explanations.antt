@@ -4,8 +4,8 @@ use Rattle.std.specs.String.{string_bytes}
 use Rattle.acceptance.specs.Program.{AreOnly}
 use Rattle.bpf_insn.specs.Program.{Program as Code}
 use Rattle.bpf_semantics.specs.Program.{shaped}
-use Rattle.bpf_rules.specs.declared.refusal.Refusal.{Refusal}
-use Rattle.bpf_rules.specs.declared.refusal.Refusal.TheVariants as refusal
+use Rattle.bpf_checks.specs.declared.refusal.Refusal.{Refusal}
+use Rattle.bpf_checks.specs.declared.refusal.Refusal.TheVariants as refusal
 use Rattle.acceptance.specs.declared.fault.ProgramFault.TheVariants.{Verify}
 use Rattle.bounded_files.specs.Files.{KnownFiles, OfFile}
 use Rattle.cells.specs.Arrays.{AppShape}

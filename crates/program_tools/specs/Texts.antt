@@ -2,7 +2,7 @@
 use Rattle.std.specs.Prelude.{ℕ, List}
 use Rattle.bounded_files.specs.Texts.{resource_text}
 use Rattle.cells.specs.Texts.{cells_fault_text}
-use Rattle.bpf_rules.specs.Texts.{verifier_refusal_text}
+use Rattle.bpf_checks.specs.Texts.{verifier_refusal_text}
 use Rattle.bpf_text.specs.Faults.{asm_fault_text, list_fault_text}
 use Rattle.acceptance.specs.Texts.{program_fault_text, rule_refusal_text}
 use Rattle.program_tools.specs.declared.fault.ProgramToolFault.{ProgramToolFault}

@@ -19,9 +19,9 @@ use Rattle.abs_value.specs.declared.value.Abs.TheVariants.{Num, Cell}
 use Rattle.abs_value.specs.declared.state.AbsState.{AbsState}
 use Rattle.abs_value.specs.Numbers.{single, least, most}
 use Rattle.abs_value.specs.States.{register_at, value_at, with_value}
-use Rattle.bpf_rules.specs.Arrays.{wide_abs, has_quota_cell, has_quota}
-use Rattle.bpf_rules.specs.Rules.{first_rule}
-use Rattle.bpf_rules.specs.Transfer.{after, fetched_value}
+use Rattle.bpf_checks.specs.Arrays.{wide_abs, has_quota_cell, has_quota}
+use Rattle.bpf_checks.specs.Rules.{first_rule}
+use Rattle.bpf_checks.specs.Transfer.{after, fetched_value}
 use Rattle.bpf_verify.specs.Table.{Known, Knows}
 use Rattle.rule_compile.specs.Instructions as insn
 use Rattle.rule_compile.proofs.Counters.{IsCellOf}

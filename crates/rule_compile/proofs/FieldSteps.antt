@@ -30,10 +30,10 @@ use Rattle.abs_value.specs.Numbers.{single, least, most, are_single, cut, tidied
 use Rattle.abs_value.specs.Results.{result, alu_number}
 use Rattle.abs_value.specs.Values.{places, loaded_value}
 use Rattle.abs_value.specs.States.{register_at, value_at, value_of, with_value}
-use Rattle.bpf_rules.specs.Memory.{changes, lies_in, stack_place}
-use Rattle.bpf_rules.specs.Reads.{load_use}
-use Rattle.bpf_rules.specs.Rules.{first_rule}
-use Rattle.bpf_rules.specs.Transfer.{after, loaded_at}
+use Rattle.bpf_checks.specs.Memory.{changes, lies_in, stack_place}
+use Rattle.bpf_checks.specs.Reads.{load_use}
+use Rattle.bpf_checks.specs.Rules.{first_rule}
+use Rattle.bpf_checks.specs.Transfer.{after, loaded_at}
 use Rattle.bpf_verify.specs.Table.{Known, LiesIn, IsWider, Knows}
 use Rattle.rule_compile.specs.Instructions as insn
 use Rattle.rule_compile.proofs.Typed.{IsStep}

@@ -21,7 +21,7 @@ use Rattle.abs_value.specs.Numbers.{single, up_to, least, most}
 use Rattle.abs_value.specs.Values.{is_unusable, copied_value}
 use Rattle.abs_value.specs.Lookups.{called_registers, called}
 use Rattle.abs_value.specs.States.{register_at, value_at, value_of, with_value}
-use Rattle.bpf_rules.specs.Rules.{first_rule}
+use Rattle.bpf_checks.specs.Rules.{first_rule}
 use Rattle.bpf_verify.specs.Table.{Known, IsWider, Knows}
 use Rattle.rule_compile.specs.Instructions as insn
 use Rattle.rule_compile.proofs.Typed.{IsStep, Leads, entry_at}

@@ -21,7 +21,7 @@ use Rattle.abs_value.specs.Narrowing.{NumberPair, narrowed}
 use Rattle.abs_value.specs.Values.{numbers}
 use Rattle.abs_value.specs.Lookups.{compares_with_zero, with_both, refined_state}
 use Rattle.abs_value.specs.States.{register_at, value_at, value_of, with_value}
-use Rattle.bpf_rules.specs.Rules.{first_rule}
+use Rattle.bpf_checks.specs.Rules.{first_rule}
 use Rattle.bpf_verify.specs.Table.{Known, IsWider, Knows}
 use Rattle.rule_compile.specs.Instructions as insn
 use Rattle.rule_compile.proofs.Typed.{IsStep}

@@ -17,9 +17,9 @@ use Rattle.abs_value.specs.Numbers.{single, up_to, least, most}
 use Rattle.abs_value.specs.Stack.{is_set, is_unset, has_unset}
 use Rattle.abs_value.specs.Lookups.{called}
 use Rattle.abs_value.specs.States.{register_at, value_at}
-use Rattle.bpf_rules.specs.Memory.{lies_in, stack_place}
-use Rattle.bpf_rules.specs.Rules.{first_rule}
-use Rattle.bpf_rules.specs.Transfer.{after}
+use Rattle.bpf_checks.specs.Memory.{lies_in, stack_place}
+use Rattle.bpf_checks.specs.Rules.{first_rule}
+use Rattle.bpf_checks.specs.Transfer.{after}
 use Rattle.bpf_verify.specs.Table.{Known, Knows}
 use Rattle.rule_compile.specs.Instructions as insn
 use Rattle.rule_compile.proofs.Typed.{IsStep}

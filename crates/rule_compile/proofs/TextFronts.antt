@@ -14,7 +14,7 @@ use Rattle.abs_value.specs.declared.origin.Origin.TheVariants.{Fixed}
 use Rattle.abs_value.specs.declared.value.Abs.{Abs}
 use Rattle.abs_value.specs.declared.value.Abs.TheVariants.{Unusable, Num, Stk, Cell}
 use Rattle.abs_value.specs.Numbers.{single}
-use Rattle.bpf_rules.specs.Arrays.{has_quota}
+use Rattle.bpf_checks.specs.Arrays.{has_quota}
 use Rattle.bpf_verify.specs.Table.{Known}
 use Rattle.rule_compile.specs.Instructions as insn
 use Rattle.rule_compile.specs.Blocks as code

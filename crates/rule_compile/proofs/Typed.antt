@@ -15,9 +15,9 @@ use Rattle.flow_check.specs.Edges.{jump_of, target_of, goes_on, next_of, next_ta
 use Rattle.cells.specs.Arrays.{AppShape}
 use Rattle.abs_value.specs.declared.state.AbsState.{AbsState}
 use Rattle.abs_value.specs.States.{opening_state}
-use Rattle.bpf_rules.specs.Rules.{first_rule}
-use Rattle.bpf_rules.specs.Transfer.{Edge, edge, edges, jumping, going_on}
-use Rattle.bpf_rules.specs.Transfer.{jump_edge, next_edge}
+use Rattle.bpf_checks.specs.Rules.{first_rule}
+use Rattle.bpf_checks.specs.Transfer.{Edge, edge, edges, jumping, going_on}
+use Rattle.bpf_checks.specs.Transfer.{jump_edge, next_edge}
 use Rattle.bpf_verify.specs.Table.{Known, Knows, IsTable}
 
 -- past the list nothing is known

@@ -4,7 +4,7 @@
 
 use crate::row::must;
 use abs_value::{Abs, Interval, KnownBits, Lookup, Number, Origin, Places};
-use bpf_rules::stack_place;
+use bpf_checks::stack_place;
 use std::test::Fail;
 
 /// What is tested, and two numbers: the ends of the range, the bits that are there, and those that

@@ -15,7 +15,7 @@ use Rattle.bpf_semantics.specs.Run as whole
 use Rattle.bpf_semantics.specs.State.{State, opening}
 use Rattle.bpf_verify.specs.Covers.{IsCovered, IsSafeOutcome, HasPossibleReply}
 use Rattle.bpf_verify.specs.Covers.{StepsAreSafe, AreLawful}
-use Rattle.bpf_rules.specs.Sound.{IsLawful, KeepsQuota}
+use Rattle.bpf_checks.specs.Sound.{IsLawful, KeepsQuota}
 use Rattle.thread_laws.specs.Runs.{Reaches, stays, goes, asks, Stage, UnderWay, AtEnd}
 use Rattle.thread_laws.specs.Runs.{ComesAsFar, AppRun}
 use Rattle.thread_laws.specs.Quotas.{HasOnlyQuotasAt, OnlyCountsAt}

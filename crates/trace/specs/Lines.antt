@@ -9,7 +9,7 @@ use Rattle.bpf_insn.specs.declared.reg.Reg.{Reg}
 use Rattle.bpf_insn.specs.Program.{at, ◌>>=◌}
 use Rattle.bpf_insn.specs.Table.{number_of}
 use Rattle.bpf_text.specs.Listing.{bare_line}
-use Rattle.bpf_rules.specs.Reads.{writes}
+use Rattle.bpf_checks.specs.Reads.{writes}
 use Rattle.bpf_semantics.specs.Memory.{address_of, stack_top}
 use Rattle.bpf_semantics.specs.Program.{ShapedProgram}
 use Rattle.bpf_semantics.specs.Reads.{register, byte_count}

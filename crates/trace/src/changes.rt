@@ -3,7 +3,7 @@
 ghost use Rattle.std.specs.Prelude.{◌≡◌, ◌++◌, OnOk, codes, string_bytes};
 ghost use Rattle.bpf_semantics.specs.Reads as reads;
 ghost use Rattle.bpf_semantics.specs.State.{read_at};
-ghost use Rattle.bpf_rules.specs.Reads.{writes};
+ghost use Rattle.bpf_checks.specs.Reads.{writes};
 ghost use Rattle.reference.specs.Marks.{state_of};
 ghost use Rattle.trace.specs.Lines as specs;
 

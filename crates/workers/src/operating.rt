@@ -9,7 +9,7 @@ use crate::accept::Port;
 use crate::clock::Limits;
 use crate::worker::Service;
 use cells::{CellSteps, growth};
-use devices::{Counted, Timed, drain};
+use net_io::{Counted, Timed, drain};
 use operator::{Control, Loader, OperatorReply, answer, write_reply};
 use server_log::{Heard, note_load};
 use std::fmt::Display;

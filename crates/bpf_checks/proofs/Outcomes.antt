@@ -1,0 +1,81 @@
+-- A step that goes on to one edge, at once or with a counter's reply.
+use Rattle.std.proofs.Common.{◌≡◌, ℕ, ◌+◌, ◌≤◌, [], ◌∷◌, Option, Some, None, false, refl, arith}
+use Rattle.std.specs.Prelude.{◌==◌}
+use Rattle.bpf_insn.specs.declared.reg.Reg.{Reg}
+use Rattle.bpf_insn.specs.Table.{number_of}
+use Rattle.cells.specs.declared.event.CellOp.{CellOp}
+use Rattle.cells.specs.Arrays.{AppShape}
+use Rattle.cells.specs.Events.{CanReply}
+use Rattle.bpf_semantics.specs.State.{State, with_register}
+use Rattle.bpf_semantics.specs.Outcome.{moved_to, write, ask}
+use Rattle.abs_value.specs.declared.value.Abs.{Abs}
+use Rattle.abs_value.specs.declared.state.AbsState.{AbsState}
+use Rattle.abs_value.specs.States.{with_value}
+use Rattle.abs_value.specs.Covers.{Answers, AreBefore, Includes, Covers, IsStoodFor}
+use Rattle.bpf_checks.specs.Sound.{IsLawful, Leads, IsSafe}
+use Rattle.bpf_checks.specs.Transfer.{edge_to}
+use Rattle.bpf_checks.proofs.Given.{Given}
+
+-- the answers with which an entry stands for a state
+abbrev pub answers : {shape : AppShape} {e : AbsState} {s : State} → IsStoodFor shape e s → Answers
+answers {shape = shape} h = record { shape = shape; by = h.by }
+
+-- slot and count are no part of what is covered
+pub moved_covers : (g : Answers) (e : AbsState) (s : State) (slot : ℕ) → Covers g e s
+    → Covers g e (moved_to s slot)
+moved_covers g e s slot h = record { registers = h.registers; stack = h.stack }
+
+-- at a later slot the answers are still before it
+pub stands_later : (given : Given) (shape : AppShape) (by : ℕ → Option ℕ) (slot : ℕ) (e : AbsState)
+    (t : State) → slot ≤ t.slot → AreBefore slot (record { shape = shape; by = by })
+    → Covers (record { shape = shape; by = by }) e t
+    → IsStoodFor shape e t
+stands_later given shape by slot e t le before covers = record {
+  by = by;
+  before = given.before (record { shape = shape; by = by }) slot t.slot le before;
+  covers = covers;
+}
+
+pub leads : (shape : AppShape) (e : AbsState) (t : State) → IsStoodFor shape e t
+    → Leads shape (edge_to t.slot e ∷ []) t
+leads shape e t h = record { entry = e; along = (0, omega arith, refl); stands = h }
+
+-- the state that is covered after it was moved on
+pub leads_on : (given : Given) (shape : AppShape) (e f : AbsState) (s t : State) (k : ℕ)
+    (h : IsStoodFor shape e s) → t.slot ≡ s.slot → Covers (answers h) f t
+    → Leads shape (edge_to (s.slot + k) f ∷ []) (moved_to t (s.slot + k))
+leads_on given shape e f s t k h same covers =
+    leads shape f (moved_to t (s.slot + k))
+    (stands_later given shape h.by s.slot f (moved_to t (s.slot + k)) (omega arith) h.before
+    (moved_covers (answers h) f t (s.slot + k) covers))
+
+-- a register is written that a value stands for
+pub write_safe : (given : Given) (shape : AppShape) (e : AbsState) (s : State) (k : ℕ) (dst : Reg)
+    (v : Abs) (w : Option ℕ) (x : ℕ) (h : IsStoodFor shape e s)
+    → (number_of dst == 10) ≡ false → w ≡ Some x → Includes (answers h) v x
+    → IsSafe shape (edge_to (s.slot + k) (with_value e dst v) ∷ []) (write s k dst w)
+write_safe given shape e s k dst v w x h frame is inc =
+    rw (is, frame)
+    (leads_on given shape e (with_value e dst v) s (with_register s (number_of dst) x) k h refl
+    (given.writes (answers h) e s dst v x h.covers inc))
+
+-- a counter is asked, and its reply goes into a register
+pub fetch_safe : (given : Given) (shape : AppShape) (e : AbsState) (s : State) (cell : ℕ)
+    (op : CellOp) (dst : Reg) (v : Abs) (h : IsStoodFor shape e s) → (number_of dst == 10) ≡ false
+    → IsLawful shape cell op
+    → ((reply : ℕ) → CanReply cell op reply → Includes (answers h) v reply)
+    → IsSafe shape (edge_to (s.slot + 1) (with_value e dst v) ∷ []) (ask s cell op (Some dst))
+fetch_safe given shape e s cell op dst v h frame lawful inc =
+    rw frame (
+      lawful,
+      λ reply fits.
+          leads_on given shape e (with_value e dst v) s (with_register s (number_of dst) reply) 1 h
+          refl (given.writes (answers h) e s dst v reply h.covers (inc reply fits)),
+    )
+
+-- or nowhere
+pub ask_safe : (given : Given) (shape : AppShape) (e : AbsState) (s : State) (cell : ℕ)
+    (op : CellOp) (h : IsStoodFor shape e s) → IsLawful shape cell op
+    → IsSafe shape (edge_to (s.slot + 1) e ∷ []) (ask s cell op None)
+ask_safe given shape e s cell op h lawful =
+    (lawful, λ reply fits. leads_on given shape e e s s 1 h refl h.covers)

@@ -1,0 +1,87 @@
+-- What one step comes to where no rule fails: it is no trap, leads along an edge whose entry stands
+-- for the state that it makes, and asks of counters only what the shape allows.
+use Rattle.std.specs.Prelude.{◌≡◌, ℕ, ◌≤◌, List, Contains, None, IsSome, IfSome}
+use Rattle.attrs.specs.Attributes.{Attributes}
+use Rattle.bpf_insn.specs.declared.insn.Insn.{Insn}
+use Rattle.bpf_insn.specs.Spelling.{IsEncodable}
+use Rattle.cells.specs.declared.array.CellArray.{CellArray}
+use Rattle.cells.specs.declared.event.CellOp.{CellOp}
+use Rattle.cells.specs.declared.event.CellOp.TheVariants.{Load, Add}
+use Rattle.cells.specs.Arrays.{AppShape, IsShape, HasCell}
+use Rattle.cells.specs.Events.{CanReply}
+use Rattle.bpf_semantics.specs.State.{State, HasWords, opening}
+use Rattle.bpf_semantics.specs.Outcome.{Outcome, Going, Asks, Done, Trap}
+use Rattle.bpf_semantics.specs.Step.{act}
+use Rattle.flow_check.specs.Edges.{JumpsForward}
+use Rattle.abs_value.specs.declared.state.AbsState.{AbsState}
+use Rattle.abs_value.specs.States.{opening_state, join_states}
+use Rattle.abs_value.specs.Covers.{IsStoodFor}
+use Rattle.abs_value.specs.Order.{IsStateInOrder}
+use Rattle.bpf_checks.specs.Rules.{first_rule}
+use Rattle.bpf_checks.specs.Transfer.{Edge, edge_to, edges, jumping, going_on}
+
+-- ---- what is asked of a counter
+
+-- what may be done to a cell of an array with a quota
+abbrev pub KeepsQuota : CellOp → Type 0
+KeepsQuota Load = Unit {0}
+KeepsQuota (Add n) = n ≡ 1
+KeepsQuota op = ⊥
+
+-- the cell is one of an array of the shape, and where that has a quota, the operation keeps it
+pub record IsLawful (shape : AppShape) (cell : ℕ) (op : CellOp) : Type 0 where
+  pub array : CellArray
+  pub there : Contains shape.arrays array
+  pub has : HasCell array cell
+  pub quota : (a : CellArray) → Contains shape.arrays a → HasCell a cell → IsSome a.quota
+      → KeepsQuota op
+
+-- ---- where a step leads
+
+-- along one of these edges, with an entry that stands for the state
+pub record Leads (shape : AppShape) (edges : List Edge) (t : State) : Type 0 where
+  pub entry : AbsState
+  pub along : Contains edges (edge_to t.slot entry)
+  pub stands : IsStoodFor shape entry t
+
+-- with each reply that fits the cell, too
+abbrev pub IsSafe : AppShape → List Edge → Outcome → Type 0
+IsSafe shape edges (Going t) = Leads shape edges t
+IsSafe shape edges (Asks cell op next) =
+    IsLawful shape cell op
+    × ((reply : ℕ) → CanReply cell op reply → Leads shape edges (next reply))
+IsSafe shape edges (Done n) = n ≤ shape.releases
+IsSafe shape edges Trap = ⊥
+
+-- ---- laws
+
+-- from a state that is stood for, where no rule fails
+abbrev pub EveryStepIsSafe : Type 0
+EveryStepIsSafe =
+    (shape : AppShape) (e : AbsState) (s : State) (i : Insn)
+    → IsShape shape → IsEncodable i → JumpsForward i → HasWords s → IsStoodFor shape e s
+    → first_rule shape e i ≡ None → IsSafe shape (edges shape s.slot e i) (act shape s i)
+
+-- a join stands for all that either side stands for
+abbrev pub FirstStands : Type 0
+FirstStands =
+    (shape : AppShape) (e f : AbsState) (s : State)
+    → IsStoodFor shape e s → IsStoodFor shape (join_states e f) s
+
+abbrev pub SecondStands : Type 0
+SecondStands =
+    (shape : AppShape) (e f : AbsState) (s : State)
+    → IsStoodFor shape f s → IsStoodFor shape (join_states e f) s
+
+abbrev pub OpeningStands : Type 0
+OpeningStands = (shape : AppShape) (a : Attributes) → IsStoodFor shape opening_state (opening a)
+
+-- ends that are in order stay so
+abbrev pub JumpingInOrder : Type 0
+JumpingInOrder =
+    (e : AbsState) (i : Insn) → IsStateInOrder e → IfSome (jumping e i) IsStateInOrder
+
+abbrev pub GoingOnInOrder : Type 0
+GoingOnInOrder =
+    (shape : AppShape) (slot : ℕ) (e : AbsState) (i : Insn)
+    → IsStateInOrder e → IfSome (going_on shape slot e i) IsStateInOrder

@@ -1,0 +1,76 @@
+//! The memory that an instruction accesses: what it does there, and from which address on.
+
+ghost use Rattle.std.specs.Prelude.{◌≡◌, ◌≤◌};
+ghost use Rattle.bpf_checks.specs.Reads as reads;
+
+use bpf_insn::{AtomicSize, LoadKind, Reg, Size};
+use bpf_semantics::{atomic_count, byte_count, load_count};
+
+/// What is done to memory.
+#[derive(Clone, Copy, Debug, PartialEq, Eq)]
+pub enum Use {
+    /// A load that fills with zeroes.
+    Loads,
+    /// A load that extends the sign.
+    Extends,
+    /// A store.
+    Stores,
+    /// One atomic operation.
+    Exchanges,
+}
+
+/// An access of so many bytes from an address on: that in the register `base`, plus the offset.
+#[derive(Clone, Copy, Debug, PartialEq, Eq)]
+pub struct Access {
+    pub how: Use,
+    pub base: Reg,
+    pub offset: i16,
+    pub count: u16,
+}
+
+fn load_use(kind: LoadKind) -> Use
+    ensures { result ≡ reads.load_use kind }
+{
+    match kind {
+        LoadKind::SignedByte | LoadKind::SignedHalf | LoadKind::SignedWord => Use::Extends,
+        _ => Use::Loads,
+    }
+}
+
+impl Access {
+    pub fn load(kind: LoadKind, src: Reg, offset: i16) -> Access
+        ensures access { result ≡ reads.load_access kind src offset }
+        ensures most { result.count ≤ 8 }
+    {
+        Access {
+            how: load_use(kind),
+            base: src,
+            offset,
+            count: load_count(kind),
+        }
+    }
+
+    pub fn store(size: Size, dst: Reg, offset: i16) -> Access
+        ensures access { result ≡ reads.store_access size dst offset }
+        ensures most { result.count ≤ 8 }
+    {
+        Access {
+            how: Use::Stores,
+            base: dst,
+            offset,
+            count: byte_count(size),
+        }
+    }
+
+    pub fn atomic(size: AtomicSize, dst: Reg, offset: i16) -> Access
+        ensures access { result ≡ reads.atomic_access size dst offset }
+        ensures most { result.count ≤ 8 }
+    {
+        Access {
+            how: Use::Exchanges,
+            base: dst,
+            offset,
+            count: atomic_count(size),
+        }
+    }
+}

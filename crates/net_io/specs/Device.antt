@@ -1,0 +1,16 @@
+-- What a counted device did in one call: its failures, and the bytes that a writer took.
+use Rattle.std.specs.Prelude.{◌≡◌, ℕ, ◌+◌, ◌≤◌, List, length, take, Option, Result, Ok, Err}
+use Rattle.std.specs.Io.KnownBytes.{Appends}
+use Rattle.net_io.specs.declared.counted.WriteFault.{WriteFault}
+
+-- an error is one failure, and without one there was none
+abbrev pub CountsFailure : {A E : Type 0} → ℕ → ℕ → Result A E → Type 0
+CountsFailure old new (Ok a) = new ≡ old
+CountsFailure old new (Err e) = new ≡ old + 1
+
+-- all bytes were taken, or as many as the fault says, from their beginning on
+abbrev pub WritesBeginning :
+    {A : Type 0} → Option (List ℕ) → Option (List ℕ) → List ℕ → Result A WriteFault → Type 0
+WritesBeginning old new bytes (Ok a) = Appends old new bytes
+WritesBeginning old new bytes (Err e) =
+    (e.written ≤ length bytes) × Appends old new (take e.written bytes)

@@ -1,5 +1,0 @@
-use Rattle.worked.proofs.AnswersBack.{covers_before}
-use Rattle.worked.proofs.looking_back.covers_are_before.Goals as goal
-
-pub returns : goal.returns
-returns c = covers_before

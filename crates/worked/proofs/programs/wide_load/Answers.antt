@@ -1,6 +1,0 @@
-use Rattle.std.proofs.Common.{refl}
-use Rattle.bpf_semantics.specs.Run.{last, more}
-use Rattle.worked.proofs.programs.wide_load.Goals as goal
-
-pub returns : goal.returns
-returns c = λ a shape. more refl (more refl (last refl refl))
