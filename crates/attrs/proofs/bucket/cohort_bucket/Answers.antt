@@ -12,8 +12,8 @@ in_range c =
     let number = sym c.read_number.ensures ∙ c.in-Some.is in
     decimal_number-short c.in_ok-strip_prefix.field-0.now c.in-Some.bucket short number
 
-pub overflow_cast-result : goal.overflow_cast-result
-overflow_cast-result c = omega (arith, in_range c)
+pub overflow_cast-bucket : goal.overflow_cast-bucket
+overflow_cast-bucket c = omega (arith, in_range c)
 
 pub new-requires : goal.new-requires
 new-requires c = in_range c
