@@ -11,21 +11,20 @@ INDEX = """<!-- docs/check.py --write writes this page from crates.txt and crate
 
 # Reference
 
-A page for each crate, from its sources: what it hands out, with the comments and the contracts, and
-its definitions. The crates stand by storeys, the lowest first; those of tests alone have
-no page.
+A page for each crate, from its sources: what it exports, with the comments and the contracts, and
+its definitions. The crates are ordered by storeys, the lowest first; crates of tests have no page.
 
-- **Open** says at a call what no clause of it pins. Most often it is whether memory is refused:
-  that may come at any growth, so no clause says that a call succeeds, and a test of each such call
-  with ample memory does.
+- **Open** says what no clause of a call pins, and [OPEN](OPEN.md) has these on one page. Most often
+  it is whether memory is refused: this may happen at any allocation, so no clause says that a call
+  succeeds, but a test makes each such call with ample memory.
 - **In contracts** says what a contract reads in a value of a type, and by which definitions the
   type has a trait.
-- **Terms** lead to the definitions that a contract names. What isn't among them is of the
-  toolchain's library `std`: `IfOk result P` says that P holds of what an Ok holds. `x.old` and
+- **Terms** lead to the definitions that a contract names. Those that aren't among them are in the
+  toolchain's library `std`: `IfOk result P` says that P holds for the value of an Ok. `x.old` and
   `x.new` are values before and after the call, and `x.now` is one that the call doesn't change.
-- **Inside the crate** are calls that aren't handed out, and carry what is.
+- **Inside the crate** are calls that aren't exported, and on which exported ones rest.
 
-The texts of help, of usage and of what is wrong with words are in no clause; tests have some.
+The texts of help, of usage and of wrong command lines are in no clause; tests have some.
 """
 
 

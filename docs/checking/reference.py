@@ -2,6 +2,7 @@
 contracts, and its definitions."""
 import os
 
+from checking import left_open
 from checking.crates_page import index
 from checking.definitions import SpecFile, prose, titled
 from checking.exports import TYPES, Crate, calls_of, ordered
@@ -103,7 +104,8 @@ def texts(told):
     """The text of each page by its path."""
     pages = {it.name: Page(it) for it in told}
     written = {name: page.text() for name, page in pages.items() if not page.is_empty()}
-    return {REFERENCE / f"{k}.md": v for k, v in [("README", index(written)), *written.items()]}
+    whole = {"README": index(written), "OPEN": left_open.text(told, written)}
+    return {REFERENCE / f"{k}.md": v for k, v in {**whole, **written}.items()}
 
 
 def write():
