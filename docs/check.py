@@ -5,8 +5,8 @@ comment that tells it. Each link leads to a file, and each clause that is cited 
 in that call's contract. What PROOF quotes is to the letter what its file has, each name that it
 cites is one of the sources, each definition stands in the file of its link, and its sizes are no
 more than a tenth off. README is short, and names the logic of the toolchain that there is; VERSION,
-README and CHANGELOG name one version. Each wrong body can be put in place: what it replaces stands
-once in its file.
+README and CHANGELOG name one version. The pages by hand have few long sentences. Each wrong body
+can be put in place: what it replaces stands once in its file.
 
 usage: docs/check.py [--write | --long]     --write writes those pages, quotes and sizes anew, and
 --long prints the sentences of over 35 words of each page by hand
@@ -15,7 +15,9 @@ import sys
 
 from checking import crates_page, quotes, reference
 from checking.names import contracts, false_clauses, lost_edits, strangers, unknown_names
-from checking.pages import dead_links, other_logic, other_versions, tell_long, too_long
+from checking.pages import (
+    dead_links, other_logic, other_versions, tell_long, too_long, too_many_long
+)
 from checking.places import CITING, CRATES_PAGE, PROOF, README, pages
 
 WRITTEN = {CRATES_PAGE: crates_page.anew, PROOF: quotes.anew}
@@ -45,6 +47,7 @@ def faults():
         yield f"{CRATES_PAGE.name}: not as the sources have it (docs/check.py --write)"
     yield from reference.faults()
     yield from other_versions()
+    yield from too_many_long()
     yield from lost_edits()
 
 

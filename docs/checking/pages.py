@@ -12,6 +12,8 @@ LOGIC = re.compile(r"\blogic ([0-9a-f]+)")
 # What is no sentence: code, tables, headings, and where a link leads to.
 NO_SENTENCE = re.compile(r"^```.*?^```|^\|.*?$|^#.*?$|^ {4}.*?$|(?<=\])\([^)]*\)", re.M | re.S)
 MOST_IN_SENTENCE = 35
+# How many longer sentences all pages by hand may have together.
+MOST_LONG = 10
 LINK = re.compile(r"\]\(([^)#]+)(?:#[^)]*)?\)")
 
 
@@ -50,15 +52,24 @@ def other_versions():
 
 
 def long_sentences(text):
-    plain = NO_SENTENCE.sub("", text)
+    plain = NO_SENTENCE.sub("", re.sub(r"^> ?", "", text, flags=re.M))
     found = re.split(r"(?<=[.!?:])[*)]*\s|\n(?:\n| *- )", plain)
     return [it for it in found if len(it.split()) > MOST_IN_SENTENCE]
 
 
+def long_by_page():
+    by_hand = [it for it in pages() if it.parent != REFERENCE]
+    return {page: long_sentences(page.read_text()) for page in by_hand}
+
+
+def too_many_long():
+    if (count := sum(map(len, long_by_page().values()))) > MOST_LONG:
+        yield (f"pages: {count} sentences of over {MOST_IN_SENTENCE} words, which are more than "
+               f"{MOST_LONG} (docs/check.py --long)")
+
+
 def tell_long():
-    for page in pages():
-        if page.parent != REFERENCE:
-            found = long_sentences(page.read_text())
-            for it in found:
-                print(f"{page.name}: {' '.join(it.split())}\n")
-            print(f"{page.name}: {len(found)} of over {MOST_IN_SENTENCE} words\n")
+    for page, found in long_by_page().items():
+        for it in found:
+            print(f"{page.name}: {' '.join(it.split())}\n")
+        print(f"{page.name}: {len(found)} of over {MOST_IN_SENTENCE} words\n")
