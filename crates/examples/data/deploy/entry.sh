@@ -1,8 +1,8 @@
 #!/bin/sh
-# Runs `rollout serve` with the words that it is given, as the first process of a container. Linux
-# gives such a process no default action for a signal, so by itself the server would pass over
-# SIGTERM, by which a container is stopped. Here SIGTERM and SIGINT do what `rollout stop --wait`
-# does: all that was accepted is answered, and then the container ends.
+# Runs `rollout serve` with its own arguments, as the first process of a container. Linux gives such
+# a process no default action for a signal, so by itself the server would ignore SIGTERM, by which a
+# container is stopped. Here SIGTERM and SIGINT do what `rollout stop --wait` does: all accepted
+# connections are answered, and then the container ends.
 set -u
 operator= before=
 for word; do
@@ -14,7 +14,7 @@ done
 rollout serve "$@" &
 server=$!
 
-# Where nobody is answered yet SIGTERM ends the server, which isn't the first process.
+# If nobody is answered yet, SIGTERM ends the server, which isn't the first process.
 stop() {
     asked=yes
     rollout stop --operator "$operator" --wait || kill "$server" 2>/dev/null
