@@ -1,6 +1,6 @@
 /* A share that grows by itself: from day 7273 (2026-11-30) on the first release goes to 1 percent of
-   the machines below 2.0.4, and each day to so many more as days have gone by: 1, 4, 9 percent and so
-   on, until it is all of them. A machine that was installed in the last week waits.
+   the machines below 2.0.4, then to 4, 9, 16 percent and so on from day to day, up to all of them. A
+   machine that was installed in the last week waits.
    --releases 1 */
 #include "rollout.h"
 

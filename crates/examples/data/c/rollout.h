@@ -1,6 +1,6 @@
-/* What a rule in C is written with (docs/C.md): the context, attributes, helpers and counters. For
-   clang from 14 on. On the host the helpers are functions that a test brings, and a rule is C as any
-   other (bench/programs/host.c has them). */
+/* The header for rules in C (docs/C.md): the context, attributes, helpers and counters. For clang
+   from 14 on. On the host the helpers are functions that a test supplies (bench/programs/host.c has
+   them), and a rule is C like any other. */
 #ifndef ROLLOUT_H
 #define ROLLOUT_H
 
@@ -12,7 +12,7 @@ typedef __INT32_TYPE__ int32_t;
 typedef __INT64_TYPE__ int64_t;
 
 /* The app that asks, and the moment. A missing number of the version is 0. Days are counted from
-   2007-01-01; the day of an installation that isn't known is 4294967295. */
+   2007-01-01; an unknown day of installation is 4294967295. */
 struct context {
     uint32_t version[4];
     uint16_t bucket; /* 0 to 9999 */
@@ -39,10 +39,10 @@ enum attribute { APPID, VERSION, BRAND, AP, LANG, COHORT, PLATFORM };
 
 #ifdef __bpf__
 
-/* Stands before a loop, which has to run a number of times that is known. */
+/* Goes before a loop whose number of turns is known. */
 #define UNROLL _Pragma("clang loop unroll(full)")
 
-/* The address of the array's cell at the key, or 0 where it has none: compare it with 0. */
+/* The address of the array's cell at the key, or 0 if it has none: compare it with 0. */
 static void *(*const lookup)(const void *map, uint64_t key) = (void *)1;
 /* Whether the attribute is these bytes of the stack, 0 to 64 of them. ATTR_IS takes a literal. */
 static uint64_t (*const attr_is)(uint64_t number, const void *text, uint64_t length) = (void *)2;
@@ -84,7 +84,7 @@ void *host_cell(unsigned array, unsigned index);
 
 #endif
 
-/* The number as the compiler can't see through it: what it knows of it is forgotten here. */
+/* The number, hidden from the compiler, which forgets here what it knows about it. */
 #define OPAQUE(number)                                                                         \
     ({                                                                                         \
         uint64_t opaque_ = (number);                                                           \
@@ -100,12 +100,12 @@ void *host_cell(unsigned array, unsigned index);
     })
 
 /* Takes one of so many from a 64-bit cell: whether there was one left. The old value is made opaque,
-   since a compiler that has no use for it takes an addition that gives none (V14). */
+   since a compiler that doesn't need it uses an addition that gives none (V14). */
 #define TAKE(array, index, quota)                                                              \
     (OPAQUE(__sync_fetch_and_add((uint64_t *)CELL(array, index), 1)) < (quota))
 
-/* The release of this number, or none where there isn't one. Without OPAQUE a compiler drops a
-   comparison that it knows to be idle, and the verifier, which doesn't know, refuses (V13). */
+/* The release of this number, or none if there isn't one. Without OPAQUE a compiler drops a
+   comparison that it knows to be useless, and the verifier, which doesn't know, refuses (V13). */
 #define OFFER(release, most)                                                                   \
     ({                                                                                         \
         uint64_t release_ = OPAQUE(release);                                                   \
