@@ -1,8 +1,9 @@
 //! A reply is written: its head is put into a fixed buffer, since a reply has to be made where
 //! memory is refused too. A body that fits another fixed buffer behind the head goes out with it in
-//! one piece, since each piece is a call of the system; any other goes out behind the head.
+//! one piece, since each piece is a call of the system; any other goes out behind the head. This
+//! buffer is a plain array, which is cleared at once; an `ArrayVec` clears itself byte by byte.
 
-ghost use Rattle.std.specs.Prelude.{◌≡◌, ◌+◌, ◌-◌, ◌^◌, ◌<◌, ◌≤◌, ◌++◌, [], IsTrue, length};
+ghost use Rattle.std.specs.Prelude.{◌≡◌, ◌+◌, ◌-◌, ◌^◌, ◌<◌, ◌≤◌, ◌++◌, IsTrue, length, take};
 ghost use Rattle.arrayvec.specs.ArrayVec.{array_vec_len};
 ghost use Rattle.net_io.specs.Device.{CountsFailure, WritesBeginning};
 ghost use Rattle.http_front.specs.Reply.{crlf, reply_head, reply_bytes};
@@ -57,12 +58,20 @@ fn head_of(status: Status, size: usize) -> ArrayVec<u8, HEAD_ROOM>
     head
 }
 
-// Whether the two texts fit the piece, which then has the one behind the other.
-fn fits(piece: &mut ArrayVec<u8, PIECE_ROOM>, head: &[u8], body: &[u8]) -> bool
-    requires { piece.old.items ≡ [] }
-    ensures { IsTrue result → piece.new.items ≡ head.now ++ body.now }
+// Puts the two texts one behind the other to the front of the room, if both fit there.
+fn fits(room: &mut [u8], head: &[u8], body: &[u8]) -> bool
+    ensures len { length room.new ≡ length room.old }
+    ensures size { IsTrue result → length head.now + length body.now ≤ length room.old }
+    ensures front { IsTrue result
+        → take (length head.now + length body.now) room.new ≡ head.now ++ body.now }
 {
-    piece.try_extend_from_slice(head).is_ok() && piece.try_extend_from_slice(body).is_ok()
+    let size = head.len() + body.len();
+    if room.len() < size {
+        return false;
+    }
+    room[..head.len()].copy_from_slice(head);
+    room[head.len()..size].copy_from_slice(body);
+    true
 }
 
 // Writes one text, and then the other.
@@ -94,9 +103,9 @@ pub fn write_reply<W: Write>(
     ensures count { CountsFailure writer.old.failures writer.new.failures result }
 {
     let head = head_of(status, body.len());
-    let mut piece = ArrayVec::new();
-    if fits(&mut piece, head.as_slice(), body) {
-        writer.write_whole(piece.as_slice())
+    let mut room = [0; PIECE_ROOM];
+    if fits(&mut room, head.as_slice(), body) {
+        writer.write_whole(&room[..head.len() + body.len()])
     } else {
         write_both(writer, head.as_slice(), body)
     }
