@@ -10,7 +10,7 @@ use Rattle.json.specs.Print.{escape_byte}
 use Rattle.json.specs.Token.{end_object, end_array}
 use Rattle.access_log.specs.Apps.{app_object, app_objects, head_of, list_of}
 use Rattle.access_log.specs.Apps.{told_event, offers_in, unknown_in, left_out_members}
-use Rattle.access_log.specs.Apps.{first_apps}
+use Rattle.access_log.specs.Apps.{more_left_out_member, first_apps}
 use Rattle.access_log.specs.Members.{count_member, excerpt_members}
 use Rattle.access_log.specs.More.{behind_more, told_more, more_members}
 use Rattle.access_log.specs.Room.{behind_event, behind_events}
@@ -160,11 +160,14 @@ adds_others {a} {b} {c} {d} apps is also first next last =
     (subst
     (λ (n : ℕ). AddsTokens true true c d (count_member (codes "unknown_left_out") n)) also last)
 
-pub adds_first : {a b c : List ℕ} {front back : List AskedApp} (n room : ℕ) (apps : List AskedApp)
-    → front ≡ take n apps → back ≡ drop n apps → AddsTokens true true a b (list_of room front)
-    → AddsTokens true true b c (left_out_members back)
-    → AddsTokens true true a c (first_apps n room apps)
-adds_first {a} {b} {c} n room apps is also first last =
+pub adds_first : {a b c d : List ℕ} {front back : List AskedApp} (n room : ℕ)
+    (apps : List AskedApp) → front ≡ take n apps → back ≡ drop n apps
+    → AddsTokens true true a b (list_of room front)
+    → AddsTokens true true b c (more_left_out_member room front)
+    → AddsTokens true true c d (left_out_members back)
+    → AddsTokens true true a d (first_apps n room apps)
+adds_first {a} {b} {c} {d} n room apps is also first next last =
     then_adds
-    (subst (λ (xs : List AskedApp). AddsTokens true true a b (list_of room xs)) is first)
-    (subst (λ (xs : List AskedApp). AddsTokens true true b c (left_out_members xs)) also last)
+    (then_adds (subst (λ (xs : List AskedApp). AddsTokens true true a b (list_of room xs)) is first)
+    (subst (λ (xs : List AskedApp). AddsTokens true true b c (more_left_out_member room xs)) is next))
+    (subst (λ (xs : List AskedApp). AddsTokens true true c d (left_out_members xs)) also last)

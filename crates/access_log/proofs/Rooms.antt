@@ -7,7 +7,8 @@ use Rattle.std.specs.Str.{chars}
 use Rattle.std.proofs.lemmas.Bool.{lt-ltb, le-ltb}
 use Rattle.std.proofs.lemmas.List.{drop_all, drop_more}
 use Rattle.std.proofs.lemmas.Str.{chars-nil, length-encode}
-use Rattle.access_log.specs.Apps.{offers_of, offers_in, unknown_of, unknown_in}
+use Rattle.access_log.specs.Apps.{offers_of, offers_in, unknown_of, unknown_in, more_left_out}
+use Rattle.access_log.specs.More.{more_room, behind_more, without_more}
 use Rattle.access_log.specs.Room.{char_room, chars_room, app_room, count_fitting}
 use Rattle.access_log.specs.Room.{left_behind, behind_event, behind_events}
 use Rattle.access_log.specs.declared.asked.AskedApp.{AskedApp}
@@ -58,6 +59,11 @@ pub no_unknown_from : (apps : List AskedApp) (i : ℕ) → length apps ≤ i
 unfolding unknown_in
 no_unknown_from apps i past = ap unknown_in (drop_all i apps past)
 
+pub no_more_from : (apps : List AskedApp) (i room : ℕ) → length apps ≤ i
+    → more_left_out room (drop i apps) ≡ 0
+unfolding more_left_out
+no_more_from apps i room past = ap (more_left_out room) (drop_all i apps past)
+
 -- what a reading past the end of a list of apps gives
 abbrev pub nobody : AskedApp
 nobody = record {
@@ -87,6 +93,13 @@ module _ (apps : List AskedApp) (i : ℕ) (d : AskedApp) (within : i < length ap
       ≡ unknown_of (get_or apps i d).outcome + unknown_in (drop (i + 1) apps)
   unfolding unknown_in
   unknown_from = ap unknown_in (drop_more apps i d within)
+
+pub more_from : (apps : List AskedApp) (i room : ℕ) (d : AskedApp) → i < length apps
+    → more_left_out room (drop i apps)
+    ≡ without_more room (more_room (get_or apps i d).more)
+    + more_left_out (behind_more room (get_or apps i d).more) (drop (i + 1) apps)
+unfolding more_left_out
+more_from apps i room d within = ap (more_left_out room) (drop_more apps i d within)
 
 module _ (apps : List AskedApp) (i room : ℕ) (d : AskedApp) (within : i < length apps) where
   abbrev app : AskedApp

@@ -5,7 +5,7 @@ use Rattle.std.specs.Prelude.{nat_lt, option_copied}
 use Rattle.json.specs.Token.{Token, begin_object, end_object, begin_array, end_array, key}
 use Rattle.access_log.specs.Apps.{outcome_members, told_event, event_members, app_object}
 use Rattle.access_log.specs.Apps.{app_objects, offers_in, unknown_in, left_out_members}
-use Rattle.access_log.specs.Apps.{first_apps, apps_members}
+use Rattle.access_log.specs.Apps.{more_left_out, more_left_out_member, first_apps, apps_members}
 use Rattle.access_log.specs.Members.{text_member, number_member, flag_member, optional_member}
 use Rattle.access_log.specs.Members.{count_member, left_out, excerpt_members, optional_excerpt}
 use Rattle.access_log.specs.More.{day_member, more_members, more_room, told_more, behind_more}
@@ -170,9 +170,13 @@ first n room apps =
     let opened = (key (codes "apps") ∷ []) ++ (begin_array ∷ []) in
     let beside = behind_events room (take n apps) in
     let each = app_objects room beside (take n apps) in
-    all_harmless (opened ++ each ++ (end_array ∷ [])) (left_out_members (drop n apps))
+    let list = opened ++ each ++ (end_array ∷ []) in
+    let cut = more_left_out_member room (take n apps) in
+    all_harmless (list ++ cut) (left_out_members (drop n apps))
+    (all_harmless list cut
     (all_harmless (opened ++ each) (end_array ∷ [])
     (all_harmless opened each (tt, (tt, tt)) (objects room beside (take n apps))) (tt, tt))
+    (counted (codes "more_left_out") (more_left_out beside (take n apps))))
     (others (drop n apps))
 
 pub asked : (apps : List AskedApp) → HaveHarmlessNumbers (apps_members apps)

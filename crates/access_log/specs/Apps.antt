@@ -6,7 +6,7 @@ use Rattle.access_log.specs.Members.{text_member, number_member, flag_member, co
 use Rattle.access_log.specs.Members.{left_out, excerpt_members, optional_excerpt}
 use Rattle.access_log.specs.Room.{told_apps, room_of_events, event_room, behind_event}
 use Rattle.access_log.specs.Room.{behind_events}
-use Rattle.access_log.specs.More.{told_more, more_room, behind_more}
+use Rattle.access_log.specs.More.{told_more, more_room, behind_more, without_more}
 use Rattle.access_log.specs.declared.asked.AskedApp.{AskedApp}
 use Rattle.access_log.specs.declared.asked.Outcome.{Outcome}
 use Rattle.access_log.specs.declared.asked.Outcome.TheVariants.{Unknown, Unasked, NoUpdate, Offered}
@@ -85,6 +85,17 @@ unfoldable pub unknown_in : List AskedApp → ℕ
 unknown_in [] = 0
 unknown_in (app ∷ apps) = unknown_of app.outcome + unknown_in apps
 
+-- how many of these apps are told without what they say beside, for which there is so much room
+unfoldable pub more_left_out : ℕ → List AskedApp → ℕ
+more_left_out room [] = 0
+more_left_out room (app ∷ apps) =
+    without_more room (more_room app.more) + more_left_out (behind_more room app.more) apps
+
+-- of those whose events share so much room: it has what these leave
+abbrev pub more_left_out_member : ℕ → List AskedApp → List Token
+more_left_out_member room apps =
+    count_member (codes "more_left_out") (more_left_out (behind_events room apps) apps)
+
 -- how many they are, and how many of them are offers and how many are unknown
 abbrev pub left_out_members : List AskedApp → List Token
 left_out_members apps =
@@ -92,9 +103,11 @@ left_out_members apps =
     ++ count_member (codes "offers_left_out") (offers_in apps)
     ++ count_member (codes "unknown_left_out") (unknown_in apps)
 
--- the first apps, and what is left out
+-- the first apps, and what is left out of them and behind them
 abbrev pub first_apps : ℕ → ℕ → List AskedApp → List Token
-first_apps n room apps = list_of room (take n apps) ++ left_out_members (drop n apps)
+first_apps n room apps =
+    list_of room (take n apps) ++ more_left_out_member room (take n apps)
+    ++ left_out_members (drop n apps)
 
 -- nothing of what asks of no app
 abbrev pub apps_members : List AskedApp → List Token

@@ -132,7 +132,7 @@ abbrev pub line_with : Utc → List Token → List ℕ
 line_with time members = with_line_feed (object_at time members)
 
 -- What stands in the place of a line of so many bytes. By what a server tells none of a connection
--- comes to that: its apps have 3660 bytes, and what stands round them 412 at most. No clause says
+-- comes to that: its apps have 3660 bytes, and what stands round them 431 at most. No clause says
 -- so; a row of test_access_log has the longest.
 abbrev pub too_long_members : ℕ → List Token
 too_long_members bytes = kind_member (codes "too-long") ++ number_member (codes "bytes") bytes

@@ -42,6 +42,10 @@ more_room m =
 abbrev pub told_more : ℕ → ℕ → AskedMore → List Token
 told_more room size m = if nat_lt room size then [] else more_members m
 
+-- 1 where it is left out, and else 0
+abbrev pub without_more : ℕ → ℕ → ℕ
+without_more room size = if nat_lt room size then 1 else 0
+
 -- what is left to the apps behind it
 abbrev pub behind_more : ℕ → AskedMore → ℕ
 behind_more room m = left_after room (more_room m)

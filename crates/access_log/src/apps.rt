@@ -8,7 +8,7 @@ ghost use Rattle.access_log.specs.Room.{event_room};
 
 use crate::asked::{AskedApp, Outcome};
 use crate::excerpt::Excerpt;
-use crate::left_out::write_left_out;
+use crate::left_out::{write_left_out, write_more_left_out};
 use crate::line_room::LineRoom;
 use crate::member::{
     write_count, write_excerpt, write_flag, write_left_out_of, write_number,
@@ -19,7 +19,7 @@ use crate::room::{Told, behind_event, behind_events, event_room, told_apps};
 use crate::text::write_quoted;
 use std::alloc::AllocError;
 
-/// The member `apps`, unless there is none, and how many are left out of it.
+/// The member `apps`, unless there is none, and what is left out of it.
 #[tactic(auto, using(crate::proofs::Added::adds_nothing))]
 pub fn write_apps(line: &mut LineRoom, apps: &[AskedApp<'_>]) -> Result<(), AllocError>
     ensures { OnOk result (AddsMembers line.old line.new (specs.apps_members apps.now)) }
@@ -38,6 +38,7 @@ fn write_first(line: &mut LineRoom, apps: &[AskedApp<'_>], told: Told) -> Result
 {
     let (first, others) = apps.split_at(told.count);
     write_list(line, first, told.room)?;
+    write_more_left_out(line, first, told.room)?;
     write_left_out(line, others)?;
     Ok(())
 }

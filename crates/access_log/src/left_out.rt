@@ -1,5 +1,5 @@
-//! The apps of a request that a line leaves out: how many, how many of them are offered a release,
-//! and how many the server doesn't know.
+//! What a line leaves out of a request's apps: of how many that it tells what they say beside, how
+//! many more there are, how many of these are offered a release, and how many aren't known.
 
 ghost use Rattle.std.specs.Prelude.{◌≡◌, ◌≤◌, OnOk};
 ghost use Rattle.access_log.specs.Tokens.{AddsMembers};
@@ -8,6 +8,8 @@ ghost use Rattle.access_log.specs.Apps as specs;
 use crate::asked::{AskedApp, Outcome};
 use crate::line_room::LineRoom;
 use crate::member::write_count;
+use crate::more::{behind_more, without_more};
+use crate::room::behind_events;
 use std::alloc::AllocError;
 
 /// The members of what is left out, unless they are 0.
@@ -18,6 +20,32 @@ pub fn write_left_out(line: &mut LineRoom, apps: &[AskedApp<'_>]) -> Result<(), 
     write_count(line, "offers_left_out", offers_in(apps) as u64)?;
     write_count(line, "unknown_left_out", unknown_in(apps) as u64)?;
     Ok(())
+}
+
+/// Of how many of these apps, whose events have so much room, all that they say beside is left out,
+/// unless it is of none.
+pub fn write_more_left_out(
+    line: &mut LineRoom,
+    apps: &[AskedApp<'_>],
+    room: usize,
+) -> Result<(), AllocError>
+    ensures { OnOk result (AddsMembers line.old line.new
+        (specs.more_left_out_member room apps.now)) }
+{
+    let count = more_left_out(apps, behind_events(room, apps));
+    write_count(line, "more_left_out", count as u64)
+}
+
+fn more_left_out(apps: &[AskedApp<'_>], room: usize) -> usize
+    ensures { result ≡ specs.more_left_out room apps.now }
+{
+    let mut left = room;
+    let mut count = 0;
+    for app in apps {
+        count += without_more(left, &app.more);
+        left = behind_more(left, &app.more);
+    }
+    count
 }
 
 fn offers_in(apps: &[AskedApp<'_>]) -> usize

@@ -72,6 +72,14 @@ fn write_day(line: &mut LineRoom, installdate: Option<u64>) -> Result<(), AllocE
     }
 }
 
+/// 1 where they are left out, and else 0.
+pub fn without_more(room: usize, more: &AskedMore<'_>) -> usize
+    ensures value { result ≡ specs.without_more room (specs.more_room more.now) }
+    ensures bound { result ≤ 1 }
+{
+    if room < more_room(more) { 1 } else { 0 }
+}
+
 /// What they leave of this room.
 pub fn behind_more(room: usize, more: &AskedMore<'_>) -> usize
     ensures { result ≡ specs.behind_more room more.now }

@@ -157,7 +157,7 @@ fn long<'a>(apps: &'a [AskedApp<'a>]) -> LogEvent<'a> {
 }
 
 /// 256 apps that take as much as they may: 26 with 64 bytes and one with 52 fill 3660 bytes, but
-/// for the comma before the first, and 412 stand round them.
+/// for the comma before the first, and 431 stand round them.
 #[test]
 fn no_line_of_a_connection_is_too_long(rt: HostRuntime) -> Result<(), Fail> {
     let texts = [repeated(rt.alloc(), 64, "")?, repeated(rt.alloc(), 52, "")?];
@@ -172,13 +172,15 @@ fn no_line_of_a_connection_is_too_long(rt: HostRuntime) -> Result<(), Fail> {
             } else {
                 Outcome::Offered(64, "1.0")
             },
+            more: beside("x"),
             ..NOTES
         })?;
     }
     let line = line_at(rt.alloc(), &AT, &long(&apps))?;
-    let end = "],\"left_out\":229,\"offers_left_out\":126,\"unknown_left_out\":103}\n";
+    let end = "],\"more_left_out\":27,\"left_out\":229,\"offers_left_out\":126,\
+        \"unknown_left_out\":103}\n";
     assert!(rt; line.ends_with(end), "{line}");
-    assert_eq!(rt; line.len(), 4071);
+    assert_eq!(rt; line.len(), 4090);
     Ok(())
 }
 
@@ -207,11 +209,12 @@ fn what_stands_beside_has_what_is_left(rt: HostRuntime) -> Result<(), Fail> {
         ..NOTES
     };
     let line = line_of(rt.alloc(), app, 1)?;
-    assert!(rt; line.contains(BESIDE), "{line}");
+    assert!(rt; line.contains(BESIDE) && line.ends_with("]}\n"), "{line}");
     let line = line_of(rt.alloc(), app, 30)?;
     assert_eq!(rt; times(&line, "\"appid\""), 30);
     assert_eq!(rt; times(&line, BESIDE), 6);
     assert_eq!(rt; times(&line, "\"ap\":"), 6);
+    assert!(rt; line.ends_with("],\"more_left_out\":24}\n"), "{line}");
     assert!(rt; line.len() <= 4096);
     let event = repeated(rt.alloc(), 512, "")?;
     let app = AskedApp {
@@ -221,6 +224,7 @@ fn what_stands_beside_has_what_is_left(rt: HostRuntime) -> Result<(), Fail> {
     let line = line_of(rt.alloc(), app, 8)?;
     assert_eq!(rt; times(&line, "\"event\":"), 5);
     assert_eq!(rt; times(&line, "\"ap\":"), 0);
+    assert!(rt; line.ends_with("],\"more_left_out\":8}\n"), "{line}");
     assert!(rt; line.len() <= 4096);
     Ok(())
 }
