@@ -21,7 +21,7 @@ use Rattle.access_log.specs.declared.excerpt.Excerpt.{Excerpt}
 use Rattle.access_log.specs.declared.utc.Utc.{Utc}
 use Rattle.access_log.proofs.Harmless.{HaveHarmlessNumbers, all_harmless, decimal_is_harmless}
 use Rattle.access_log.proofs.Harmless.{print_is_harmless}
-use Rattle.access_log.proofs.Told.{text, count, maybe, counted, excerpt, asked}
+use Rattle.access_log.proofs.Told.{text, count, maybe, counted, excerpt, maybe_excerpt, asked}
 
 -- ---- events
 
@@ -44,11 +44,14 @@ load : (l : Load) → HaveHarmlessNumbers (load_members l)
 load l =
     let kind = text_member (codes "kind") (codes "load") in
     let generation = count_member (codes "generation") l.generation in
-    all_harmless (kind ++ path_members l.path ++ generation) _
+    let refusal = optional_member (codes "refusal") (option_copied l.refusal) in
+    all_harmless (kind ++ path_members l.path ++ generation ++ refusal) _
+    (all_harmless (kind ++ path_members l.path ++ generation) refusal
     (all_harmless (kind ++ path_members l.path) generation
     (all_harmless kind (path_members l.path) (text (codes "kind") (codes "load")) (path l.path))
     (counted (codes "generation") l.generation))
-    (maybe (codes "refusal") (option_copied l.refusal))
+    (maybe (codes "refusal") (option_copied l.refusal)))
+    (maybe_excerpt (codes "cause") (codes "cause_left_out") l.cause)
 
 reply : (a : Connection) → HaveHarmlessNumbers (reply_members a)
 reply a =

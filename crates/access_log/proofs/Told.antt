@@ -47,7 +47,7 @@ excerpt name count e =
     all_harmless (text_member name e.text.now) (count_member count (left_out e))
     (text name e.text.now) (counted count (left_out e))
 
-maybe_excerpt : (name count : List ℕ) (e : Option Excerpt)
+pub maybe_excerpt : (name count : List ℕ) (e : Option Excerpt)
     → HaveHarmlessNumbers (optional_excerpt name count e)
 maybe_excerpt name count (Some e) = excerpt name count e
 maybe_excerpt name count None = tt

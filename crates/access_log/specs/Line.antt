@@ -8,7 +8,7 @@ use Rattle.json.specs.Token.{Token, begin_object, end_object}
 use Rattle.printing.specs.Printed.{is_control}
 use Rattle.access_log.specs.Apps.{apps_members}
 use Rattle.access_log.specs.Members.{text_member, number_member, optional_member}
-use Rattle.access_log.specs.Members.{count_member, excerpt_members}
+use Rattle.access_log.specs.Members.{count_member, excerpt_members, optional_excerpt}
 use Rattle.access_log.specs.Room.{TellsEnough}
 use Rattle.access_log.specs.Spelled.{spelled}
 use Rattle.access_log.specs.Utc.{utc_text}
@@ -47,6 +47,7 @@ load_members load =
     kind_member (codes "load") ++ path_members load.path
     ++ count_member (codes "generation") load.generation
     ++ optional_member (codes "refusal") (option_copied load.refusal)
+    ++ optional_excerpt (codes "cause") (codes "cause_left_out") load.cause
 
 -- what was replied, if anything was
 abbrev pub reply_members : Connection → List Token

@@ -22,6 +22,8 @@ pub struct Load<'a> {
     /// The generation that is served from then on; 0 where the load was refused.
     pub generation: u64,
     pub refusal: Option<&'a str>,
+    /// What is told of the refusal beside: which array changes, or which member is wrong.
+    pub cause: Option<Excerpt<'a>>,
 }
 
 /// A client's connection, at its end.

@@ -11,7 +11,8 @@ use crate::event::{Connection, Counter, Load, LogEvent, Start, Totals};
 use crate::excerpt::Excerpt;
 use crate::line_room::LineRoom;
 use crate::member::{
-    write_count, write_excerpt, write_number, write_optional, write_text, write_word,
+    write_count, write_excerpt, write_number, write_optional, write_optional_excerpt, write_text,
+    write_word,
 };
 use std::alloc::AllocError;
 
@@ -58,6 +59,7 @@ fn write_load(line: &mut LineRoom, load: &Load<'_>) -> Result<(), AllocError>
     write_path(line, &load.path)?;
     write_count(line, "generation", load.generation)?;
     write_optional(line, "refusal", load.refusal)?;
+    write_optional_excerpt(line, "cause", "cause_left_out", &load.cause)?;
     Ok(())
 }
 

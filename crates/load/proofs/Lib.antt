@@ -11,3 +11,4 @@ mod OneApp
 mod OneOutcome
 mod OnePath
 mod OneJudgement
+mod Causes

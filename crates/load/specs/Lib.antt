@@ -6,6 +6,7 @@ pub mod App
 pub mod Apps
 pub mod Load
 pub mod Loaded
+pub mod Cause
 pub mod Gathered
 pub mod Judged
 pub mod OneLoad

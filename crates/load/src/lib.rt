@@ -25,6 +25,7 @@
 
 mod app;
 mod apps;
+mod cause;
 mod fault;
 mod files;
 mod folder;
@@ -35,6 +36,7 @@ mod law;
 mod loading;
 mod path;
 mod programs;
+mod refusal;
 
 pub use apps::in_app;
 pub use bounded_files::{Device, Disk};
@@ -45,5 +47,6 @@ pub use gathering::{Gathered, GatheredApp, Ungathered, gather};
 pub use kept::{KeptFile, file_of};
 pub use law::{gathered_is_loaded, one_load};
 pub use loading::{load_over, load_ruleset};
-pub use path::{MOST_MANIFEST, load_path};
+pub use path::{MOST_MANIFEST, load_path, load_with_cause};
 pub use programs::{judge, judge_app, supply};
+pub use refusal::LoadRefusal;

@@ -8,7 +8,7 @@ use std::fmt::Display;
 
 /// What makes a ruleset of the manifest at a path.
 pub trait Loader {
-    ghost use Rattle.std.specs.Prelude.{IfOk};
+    ghost use Rattle.std.specs.Prelude.{ℕ, List, Option, option_copied, IfOk};
     ghost use mathlib.Core.List.{IsPrefix};
     ghost use Rattle.ruleset.specs.Rules.{KnowsOnly};
     ghost use Rattle.operator.specs.Control.{Loading};
@@ -19,6 +19,9 @@ pub trait Loader {
     /// What may come of a load: the path, the arrays before it, and the ruleset with the arrays
     /// after it, or the fault.
     ghost loads: { Self → Loading Self.Fault };
+
+    /// What may be told of a fault beside its text.
+    ghost has_cause: { Self.Fault → Option (List ℕ) → Type 0 };
 
     /// The ruleset of a manifest, and a directory of the arrays before it and of its own, which are
     /// all that its programs know.
@@ -31,4 +34,8 @@ pub trait Loader {
         ensures outcome { loads self.now path.now directory.now result }
         ensures only { IfOk result (λ loaded. KnowsOnly loaded.1 loaded.0) }
         ensures grown { IfOk result (λ loaded. IsPrefix directory.now loaded.1) };
+
+    /// What the log tells of a fault beside its text, if it tells more.
+    fn cause<'x>(&self, fault: &'x Self::Fault) -> Option<&'x str>
+        ensures { has_cause fault.now (option_copied result) };
 }

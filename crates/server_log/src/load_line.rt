@@ -5,8 +5,7 @@ use crate::heard::Heard;
 use crate::log_queue::LogQueue;
 use access_log::{Excerpt, Load, LogEvent};
 use hot_swap::Generation;
-use operator::OperatorReply;
-use std::fmt::Display;
+use operator::{Loader, OperatorRefusal, OperatorReply};
 use std::sync::Wait;
 use std::time::Clock;
 
@@ -25,13 +24,20 @@ where
     }
 }
 
-/// Puts the line of a load into the queue, if there is one and a load was asked for. It is lost
-/// where memory is refused, or where it has waited for a place in vain.
-pub fn note_load<H, R, F>(rt: &H, log: Option<&LogQueue>, heard: Heard<R>, reply: &OperatorReply<F>)
+/// Puts the line of a load into the queue, if there is one and a load was asked for: of one that is
+/// refused with what its loader tells of the fault. It is lost where memory is refused, or where it
+/// has waited for a place in vain.
+pub fn note_load<H, R, L>(
+    rt: &H,
+    log: Option<&LogQueue>,
+    heard: Heard<R>,
+    loader: &L,
+    reply: &OperatorReply<L::Fault>,
+)
 where
     H: Wait + AllocGlobal + Clock,
     R: Drop,
-    F: Display,
+    L: Loader,
 {
     let Some(queue) = log else {
         return;
@@ -43,12 +49,24 @@ where
         return;
     };
     match reply {
-        OperatorReply::Loaded(generation) => note_outcome(rt, queue, path, *generation, None),
+        OperatorReply::Loaded(generation) => {
+            note_outcome(rt, queue, path, *generation, None, None);
+        }
         OperatorReply::Refused(refusal) => match refusal.to_string(rt.alloc()) {
-            Ok(refusal) => note_outcome(rt, queue, path, 0, Some(&refusal)),
+            Ok(text) => {
+                note_outcome(rt, queue, path, 0, Some(&text), cause_of(loader, refusal));
+            }
             Err(_) => queue.lose(1),
         },
         _ => (),
+    }
+}
+
+// What is told of a refused load beside the refusal.
+fn cause_of<'x, L: Loader>(loader: &L, refusal: &'x OperatorRefusal<L::Fault>) -> Option<&'x str> {
+    match refusal {
+        OperatorRefusal::Load(fault) => loader.cause(fault),
+        _ => None,
     }
 }
 
@@ -58,6 +76,7 @@ fn note_outcome<'x, H>(
     path: &'x str,
     generation: u64,
     refusal: Option<&'x str>,
+    cause: Option<&'x str>,
 )
 where
     H: Wait + AllocGlobal + Clock,
@@ -66,7 +85,15 @@ where
         path: Excerpt::of(path),
         generation,
         refusal,
+        cause: excerpt_of(cause),
     };
     let until = seconds_from_now(rt, LOAD_SECONDS);
     let _noted = queue.note_until(rt, &LogEvent::Load(load), until);
+}
+
+fn excerpt_of<'x>(cause: Option<&'x str>) -> Option<Excerpt<'x>> {
+    match cause {
+        Some(cause) => Some(Excerpt::of(cause)),
+        None => None,
+    }
 }

@@ -3,7 +3,7 @@
 ghost use Rattle.std.specs.Prelude.{◌≡◌};
 
 use cells::Directory;
-use load::{Disk, PathFault, load_path};
+use load::{Disk, LoadRefusal, load_with_cause};
 use operator::Loader;
 use ruleset::Ruleset;
 use std::alloc::Global;
@@ -25,18 +25,28 @@ impl<'a, D> Manifests<'a, D> {
 }
 
 impl<'a, D: Disk> Loader for Manifests<'a, D> {
-    ghost use Rattle.load.specs.Loaded.{LoadsFrom};
+    ghost use Rattle.std.specs.Prelude.{◌≡◌, option_map, string_bytes};
+    ghost use Rattle.load.specs.Cause.{LoadsTelling};
 
-    type Fault = PathFault;
+    type Fault = LoadRefusal;
 
-    ghost loads = { λ manifests. LoadsFrom (D.known manifests.disk.now) };
+    ghost has_cause = { λ refusal told. told ≡ option_map string_bytes refusal.cause };
+
+    ghost loads = { λ manifests. LoadsTelling (D.known manifests.disk.now) };
 
     fn load(
         &self,
         alloc: Global,
         path: &str,
         directory: &Directory,
-    ) -> Result<(Ruleset, Directory), PathFault> {
-        load_path(alloc, self.disk, path, directory)
+    ) -> Result<(Ruleset, Directory), LoadRefusal> {
+        load_with_cause(alloc, self.disk, path, directory)
+    }
+
+    fn cause<'x>(&self, fault: &'x LoadRefusal) -> Option<&'x str> {
+        match &fault.cause {
+            Some(cause) => Some(cause.as_str()),
+            None => None,
+        }
     }
 }

@@ -20,6 +20,11 @@ const LINES: &str = r##"
 
 "kind":"load","path":"a\tb","path_left_out":9,"refusal":"M2 Field"}
 
+"kind":"load","path":"m.toml","refusal":"M7 Cells N2 Redefined in array 1",
+"cause":"q:64:1:2 to q:64:1:3"}
+
+"kind":"load","path":"m.toml","refusal":"M2 Field","cause":"a\tb","cause_left_out":9}
+
 "kind":"unaccepted","reason":"Too many open files (os error 24)"}
 
 "kind":"lost","lines":18446744073709551615}
@@ -63,6 +68,9 @@ const LINES: &str = r##"
 "release":"2.0"}]}
 "##;
 
+/// An array that stands otherwise.
+const REDEFINED: &str = "M7 Cells N2 Redefined in array 1";
+
 /// Another number each.
 const TOTALS: Totals = Totals {
     success: 1,
@@ -105,11 +113,13 @@ fn load(
     path: Excerpt<'static>,
     generation: u64,
     refusal: Option<&'static str>,
+    cause: Option<Excerpt<'static>>,
 ) -> LogEvent<'static> {
     LogEvent::Load(Load {
         path,
         generation,
         refusal,
+        cause,
     })
 }
 
@@ -161,8 +171,15 @@ fn told(alloc: Global) -> Result<String, Fail> {
         start(whole("m.toml"), Some("B6 Bind"), 80),
         start(cut, None, 80),
         LogEvent::Serving(1),
-        load(whole("next.toml"), 2, None),
-        load(cut, 0, Some("M2 Field")),
+        load(whole("next.toml"), 2, None, None),
+        load(cut, 0, Some("M2 Field"), None),
+        load(
+            whole("m.toml"),
+            0,
+            Some(REDEFINED),
+            Some(whole("q:64:1:2 to q:64:1:3")),
+        ),
+        load(whole("m.toml"), 0, Some("M2 Field"), Some(cut)),
         LogEvent::Unaccepted("Too many open files (os error 24)"),
         LogEvent::Lost(18446744073709551615),
         LogEvent::Totals(TOTALS),

@@ -117,17 +117,19 @@ unknown apps
 /// Lines and members that a server has since it serves; what `totals` sums up is told already.
 const SERVING: &str = r##"{"time":"2026-11-25T08:00:00.020Z","kind":"serving","generation":1}
 {"time":"2026-11-25T08:00:01.000Z","kind":"connection","peer":"127.0.0.1:41248","forwarded":"203.0.113.7","status":200,"generation":1,"bytes":566,"micros":68,"waited":7,"apps":[{"appid":"editor","version":"1.9","bucket":7,"named":true,"choice":1,"release":"2.1","ap":"beta","ap_left_out":8,"lang":"de","installdate":0,"ignored":"brand version"}],"more_left_out":1}
+{"time":"2026-11-25T08:00:02.000Z","kind":"load","path":"next.toml","refusal":"M7 Cells N2 Redefined in array 1","cause":"first:64:1:2 to first:64:1:3"}
 {"time":"2026-11-25T08:01:00.000Z","kind":"totals","status_200":1,"status_400":2,"status_404":3,"status_405":4,"status_411":5,"status_413":6,"status_431":7,"status_500":8,"dropped":9,"longest_wait":1234,"busy":4}
 "##;
 
 const SERVING_TOLD: &str = "lines
-3\tcounted
+4\tcounted
 0\tnot the server's
 0\tlost
 0\tapps left out
 0\toffers left out
 kinds of lines
 1\tconnection
+1\tload
 1\tserving
 1\ttotals
 asks

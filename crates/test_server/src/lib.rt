@@ -6,6 +6,8 @@
 #[cfg(test)]
 mod both_ends;
 #[cfg(test)]
+mod causes;
+#[cfg(test)]
 mod clients;
 #[cfg(test)]
 mod clocks;

@@ -46,6 +46,8 @@ impl Loader for Shelf {
 
     ghost loads = { λ _ _ _ _. Unit {0} };
 
+    ghost has_cause = { λ _ _. Unit {0} };
+
     fn load(
         &self,
         alloc: Global,
@@ -57,6 +59,13 @@ impl Loader for Shelf {
         };
         let rules = ruleset(alloc, path, &mut grown)?;
         Ok((rules, grown))
+    }
+
+    fn cause<'x>(&self, fault: &'x &'static str) -> Option<&'x str> {
+        if *fault == "an array" {
+            return Some("q:64:1:2 to q:64:1:3");
+        }
+        None
     }
 }
 

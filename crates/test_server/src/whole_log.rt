@@ -48,7 +48,7 @@ stop;|stopping;";
 /// What the log tells of that.
 const LOADS_TOLD: &str = r#"serving","generation":1}
 load","path":"unset","refusal":"a program"}
-load","path":"other_quota","refusal":"an array"}
+load","path":"other_quota","refusal":"an array","cause":"q:64:1:2 to q:64:1:3"}
 load","path":"yes","generation":2}
 load","path":"quota","generation":3}
 stop"}

@@ -111,7 +111,7 @@ where
         return false;
     };
     let _sent = send(rt, stream, &reply, service.timeout);
-    note_load(rt, service.log, reader.into_inner(), &reply);
+    note_load(rt, service.log, reader.into_inner(), seat.loader, &reply);
     matches!(reply, OperatorReply::Stopping)
 }
 

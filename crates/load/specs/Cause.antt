@@ -1,0 +1,77 @@
+-- What a log tells of a load that is refused, beside the fault's own text.
+use Rattle.std.specs.Prelude.{◌≡◌, ℕ, ◌-◌, List, ◌++◌, codes, slice_get, IfSome}
+use Rattle.std.specs.Prelude.{Option, Some, None, option_map, option_and_then, Result, Ok, Err}
+use Rattle.std.specs.String.{string_bytes}
+use Rattle.std.specs.declared.alloc.Global.{Global}
+use Rattle.std.specs.declared.string.String.{String}
+use Rattle.bounded_files.specs.Files.{KnownFiles, Gives, regular_files}
+use Rattle.cells.specs.declared.array.CellArray.{CellArray}
+use Rattle.cells.specs.declared.fault.CellsFault.{CellsFault}
+use Rattle.cells.specs.declared.fault.CellsFault.TheVariants as cells
+use Rattle.cells.specs.Directory.{Declaration, declaration, array_named}
+use Rattle.declarations.specs.Texts.{declaration_text}
+use Rattle.manifest.specs.Manifest.{Manifest, ReadsManifest}
+use Rattle.manifest.specs.Texts.{misfit_text, twice_text}
+use Rattle.manifest.specs.declared.fault.ManifestFault.{ManifestFault}
+use Rattle.manifest.specs.declared.fault.ManifestFault.TheVariants as unread
+use Rattle.ruleset.specs.Rules.{Rules}
+use Rattle.load.specs.Folder.{known_beside}
+use Rattle.load.specs.Load.{IsLoadFault}
+use Rattle.load.specs.Loaded.{IsLoadedFrom, RefusesPath}
+use Rattle.load.specs.declared.fault.LoadFault.{LoadFault}
+use Rattle.load.specs.declared.fault.LoadFault.TheVariants as load
+use Rattle.load.specs.declared.fault.PathFault.{PathFault}
+use Rattle.load.specs.declared.fault.PathFault.TheVariants.{Resource, Load}
+use Rattle.load.specs.declared.refusal.LoadRefusal.{LoadRefusal}
+
+-- the member that doesn't fit, and what is wanted there; or what stands twice
+abbrev pub manifest_cause : ManifestFault → Option (List ℕ)
+manifest_cause (unread.Field misfit) = Some (misfit_text misfit)
+manifest_cause (unread.Duplicate twice) = Some (twice_text twice)
+manifest_cause fault = None
+
+-- an array as it would be declared
+abbrev pub as_declared : CellArray → Declaration
+as_declared a = declaration a.name a.width a.length a.quota
+
+-- an array as it stands, and as the manifest has it
+abbrev pub change_text : CellArray → Declaration → List ℕ
+change_text a d = declaration_text (as_declared a) ++ codes " to " ++ declaration_text d
+
+abbrev pub full_text : Declaration → List ℕ
+full_text d = declaration_text d ++ codes " passes 4096 cells"
+
+-- how a declaration doesn't go with the arrays that stand
+abbrev pub array_cause : List CellArray → Declaration → CellsFault → Option (List ℕ)
+array_cause old d cells.Redefined = option_map (λ a. change_text a d) (array_named d.name old)
+array_cause old d cells.CellsFull = Some (full_text d)
+array_cause old d cells.Memory = None
+
+-- of the array of this number, counted from 1
+abbrev pub cause_in : List CellArray → List Declaration → ℕ → CellsFault → Option (List ℕ)
+cause_in old arrays number fault =
+    option_and_then (λ d. array_cause old d fault) (slice_get arrays (number - 1))
+
+-- what is told of a fault of these bytes
+abbrev pub IsCause : List CellArray → List ℕ → LoadFault → List ℕ → Type 0
+IsCause old bytes (load.Manifest fault) text = manifest_cause fault ≡ Some text
+IsCause old bytes (load.Cells number fault) text =
+    (manifest : Manifest) × ReadsManifest bytes (Ok manifest)
+    × (cause_in old manifest.arrays number fault ≡ Some text)
+IsCause old bytes fault text = ⊥
+
+module _ (known : KnownFiles) (path : List ℕ) (old : List CellArray) where
+  -- the file can't be read, and nothing is told beside; or it gives bytes of which this is the
+  -- fault, and of which the cause is, if it is told
+  abbrev pub RefusesTelling : PathFault → Option (String Global) → Type 0
+  RefusesTelling (Load fault) cause =
+      (bytes : List ℕ) × Gives (regular_files known) path (Some bytes)
+      × IsLoadFault (known_beside known path) old bytes fault
+      × IfSome cause (λ text. IsCause old bytes fault (string_bytes text))
+  RefusesTelling (Resource fault) cause =
+      RefusesPath known path old (Resource fault) × (cause ≡ None)
+
+  -- the ruleset; or the fault, and its cause, if it is told
+  abbrev pub LoadsTelling : Result (Rules × List CellArray) LoadRefusal → Type 0
+  LoadsTelling (Ok loaded) = IsLoadedFrom known path old loaded.0 loaded.1
+  LoadsTelling (Err refused) = RefusesTelling refused.fault refused.cause
