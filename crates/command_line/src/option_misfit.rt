@@ -40,13 +40,14 @@ pub enum OptionMisfit {
     Missing,
 }
 
-impl fmt::Display for OptionMisfit {
-    fn fmt<W: fmt::Write>(&self, f: &mut fmt::Formatter<W>) -> fmt::Result {
-        f.write_str(match self {
+impl OptionMisfit {
+    // What is wanted of the option, as it is printed.
+    fn text(self) -> &'static str {
+        match self {
             OptionMisfit::Arrays => {
                 "'--arrays' wants name:width:length, or name:64:length:quota, joined by commas"
             }
-            OptionMisfit::Moment(misfit) => moment_text(*misfit),
+            OptionMisfit::Moment(misfit) => moment_text(misfit),
             OptionMisfit::Installed => {
                 "'--installed' wants a day from 0 to 4294967294, or a date from 2007-01-01 on"
             }
@@ -74,7 +75,13 @@ impl fmt::Display for OptionMisfit {
             OptionMisfit::Missing => {
                 "a value that the command requires is missing, or out of its range"
             }
-        })
+        }
+    }
+}
+
+impl fmt::Display for OptionMisfit {
+    fn fmt<W: fmt::Write>(&self, f: &mut fmt::Formatter<W>) -> fmt::Result {
+        f.write_str(self.text())
     }
 }
 

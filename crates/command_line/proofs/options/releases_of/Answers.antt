@@ -5,7 +5,7 @@ use Rattle.command_line.proofs.options.releases_of.Goals as goal
 
 pub returns-in-Some-clause-given : goal.returns-in-Some-clause-given
 returns-in-Some-clause-given c = (
-  c.if-releases-le64.true,
+  c.if-releases-le-MOST_RELEASES.true,
   number_read 8 (found_of c.args.found.now) (codes "releases") _ _
       c.get_one.ensures.none c.get_one.ensures.value c.in-Some.is,
 )
@@ -15,7 +15,7 @@ returns-in_default-clause-lacking c = λ n has.
     let same : n ≡ c.in-Some.releases =
     number_same 8 (found_of c.args.found.now) (codes "releases") c.get_one.result _ _
     c.get_one.ensures.none c.get_one.ensures.value c.in-Some.is has.1 in
-    omega (arith, has.0, c.if-releases-le64.false)
+    omega (arith, has.0, c.if-releases-le-MOST_RELEASES.false)
 
 pub returns-in_default-2-clause-lacking : goal.returns-in_default-2-clause-lacking
 returns-in_default-2-clause-lacking c = λ n has.
