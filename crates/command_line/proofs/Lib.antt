@@ -1,4 +1,5 @@
 mod Built
+mod Found
 mod Reading
 mod Asking
 mod Parsed

@@ -1,5 +1,5 @@
 -- Words of `ask` of which one is ill-written ask for nothing.
-use Rattle.std.proofs.Common.{◌≡◌, ◌∙◌, sym, subst, List, Option, Some, None, codes}
+use Rattle.std.proofs.Common.{◌≡◌, subst, List, Some, None, codes}
 use Rattle.std.specs.Prelude.{IfErr, Result, Ok, Err}
 use Rattle.clap.specs.Words.{Row, Text, first_of}
 use Rattle.command_line.specs.ReplyWords.{AsksForReply, IsReplyMisfit, LacksCellsTold, LacksReply}

@@ -1,186 +1,178 @@
 -- The commands of the command line, with their arguments.
-use Rattle.std.specs.Prelude.{ℕ, pos, List, [], ◌∷◌, map, Some, true, false, codes}
+use Rattle.std.specs.Prelude.{ℕ, ℤ, pos, Bool, List, [], ◌∷◌, map, Some, true, false, codes, Option}
+use Rattle.std.specs.Prelude.{None, if◌then◌else◌}
+use Rattle.std.specs.Str.{bytes_eq}
+use Rattle.clap.specs.declared.builder.action.ArgAction.{ArgAction}
 use Rattle.clap.specs.declared.builder.action.ArgAction.TheVariants.{Append, Set, SetTrue}
 use Rattle.clap.specs.declared.builder.value_parser.ValueParser.TheVariants.{Signed}
 use Rattle.clap.specs.Simple.{Shape, new_shape}
 use Rattle.clap.specs.Words.{App, Rule, Text, new_rule}
+use Rattle.command_line.specs.declared.argument.Argument.{Argument}
+use Rattle.command_line.specs.declared.argument.Argument.TheVariants as argument
+use Rattle.command_line.specs.declared.argument.Limits.{Limits}
 use Rattle.command_line.specs.declared.verb.Verb.{Verb}
 use Rattle.command_line.specs.declared.verb.Verb.TheVariants as verb
-use Rattle.command_line.specs.declared.verb.Verb.TheVariants.{Assemble, Check, Compile, Verify, Run}
-use Rattle.command_line.specs.declared.verb.Verb.TheVariants.{Replay, Serve, Load}
-use Rattle.command_line.specs.declared.verb.Verb.TheVariants.{Explain, Order, Show, Cells, Stop}
-use Rattle.command_line.specs.declared.verb.Verb.TheVariants.{Simulate, Ask}
+use Rattle.command_line.specs.declared.verb_rows.VerbRow.{VerbRow}
+
+-- ---- arguments and options
 
 -- a word by its place, which has to be there
+abbrev pub word : Text → ArgAction → Rule
+word id action = record (new_rule id) { required = true; action = Some action }
+
 abbrev pub file : Text → Rule
-file id = record (new_rule id) { required = true; action = Some Set }
+file id = word id Set
 
--- `--releases N`, which has to be there
-abbrev pub releases : Rule
-releases = record (new_rule (codes "releases")) {
-  long = Some (codes "releases");
-  value_names = 1;
-  required = true;
-  action = Some Set;
-  parser = Some (Signed (pos 0) (pos 64));
-}
-
--- `--NAME VALUE`
-abbrev pub option : Text → Rule
-option name = record (new_rule name) { long = Some name; value_names = 1; action = Some Set }
-
--- `--arrays SPEC`
-abbrev pub arrays : Rule
-arrays = option (codes "arrays")
-
--- `--version T`
-abbrev pub version : Rule
-version = option (codes "version")
-
--- `--bucket N`
-abbrev pub bucket : Rule
-bucket = record (option (codes "bucket")) { parser = Some (Signed (pos 0) (pos 9999)) }
-
--- `--attr NAME=TEXT`, any number of times
-abbrev pub attr : Rule
-attr = record (option (codes "attr")) { action = Some Append }
-
--- `--NAME N`, which has to be there, from 1
-abbrev pub number : Text → ℕ → Rule
-number name most = record (option name) {
-  required = true;
-  parser = Some (Signed (pos 1) (pos most));
-}
-
--- `--operator P`, the operator's port
-abbrev pub operator : Rule
-operator = number (codes "operator") 65535
-
--- `--NAME N` that may be left out, from 1
-abbrev pub optional_number : Text → ℕ → Rule
-optional_number name most = record (option name) { parser = Some (Signed (pos 1) (pos most)) }
-
--- `--NAME VALUE`, any number of times
-abbrev pub repeated : Text → Rule
-repeated name = record (option name) { action = Some Append }
-
--- `--timeout S`, 30 by default
-abbrev pub timeout : Rule
-timeout = record (option (codes "timeout")) {
-  defaults = codes "30" ∷ [];
-  parser = Some (Signed (pos 1) (pos 3600));
-}
+-- words by their places, of which there has to be one
+abbrev pub files : Text → Rule
+files id = word id Append
 
 -- `--NAME`, a flag
 abbrev pub flag : Text → Rule
 flag name = record (new_rule name) { long = Some name; action = Some SetTrue }
 
--- `--log`
-abbrev pub log : Rule
-log = flag (codes "log")
+-- `--NAME VALUE`
+abbrev pub with_value : Text → ArgAction → Rule
+with_value name action =
+    record (new_rule name) { long = Some name; value_names = 1; action = Some action }
 
--- what is told of an app that asks
-abbrev pub told : List Rule
-told = version ∷ attr ∷ flag (codes "ping") ∷ flag (codes "event") ∷ option (codes "today")
-    ∷ option (codes "at") ∷ option (codes "installed") ∷ []
+abbrev pub option : Text → Rule
+option name = with_value name Set
 
--- ---- commands
+-- any number of times
+abbrev pub repeated : Text → Rule
+repeated name = with_value name Append
+
+-- whose value is a number from one to another
+abbrev pub ranged : Text → ℤ → ℤ → (required : Bool) → (defaults : List Text) → Rule
+ranged name least most required defaults = record (option name) {
+  required = required;
+  defaults = defaults;
+  parser = Some (Signed least most);
+}
+
+abbrev pub limited : Text → Limits → (required : Bool) → (defaults : List Text) → Rule
+limited name limits required defaults = ranged name limits.0 limits.1 required defaults
+
+-- what clap is told of an argument
+abbrev pub rule_told : Argument → Rule
+rule_told (argument.Word id help) = file id.now
+rule_told (argument.Words id help) = files id.now
+rule_told (argument.Flag name help) = flag name.now
+rule_told (argument.Text name value help) = option name.now
+rule_told (argument.Texts name value help) = repeated name.now
+rule_told (argument.Number name value limits help) = limited name.now limits true []
+rule_told (argument.OptionalNumber name value limits help) = limited name.now limits false []
+rule_told (argument.NumberByDefault name value limits default help) =
+    limited name.now limits false (default.now ∷ [])
 
 abbrev pub command : Text → List Rule → Shape
 command name arguments = record (new_shape name) { rules = arguments }
 
-abbrev pub ask_command : Shape
-ask_command = command (codes "ask")
-    (file (codes "MANIFEST") ∷ file (codes "REQUEST") ∷ option (codes "at")
-    ∷ repeated (codes "cells") ∷ optional_number (codes "operator") 65535 ∷ [])
+-- what clap is told of a command
+abbrev pub shape_told : VerbRow → Shape
+shape_told row = command row.name.now (map rule_told row.arguments.now)
 
-abbrev pub assemble_command : Shape
-assemble_command = command (codes "asm") (file (codes "IN") ∷ file (codes "OUT") ∷ [])
+-- ---- the commands
 
-abbrev pub check_command : Shape
-check_command = command (codes "check") (file (codes "MANIFEST") ∷ [])
+-- `--NAME N`, from one number to another
+abbrev pub number : Text → ℕ → ℕ → Rule
+number name least most = ranged name (pos least) (pos most) false []
 
-abbrev pub compile_command : Shape
-compile_command =
-    command (codes "compile") (file (codes "IN") ∷ file (codes "OUT") ∷ releases ∷ arrays ∷ [])
+-- which has to be there
+abbrev pub required_number : Text → ℕ → ℕ → Rule
+required_number name least most = ranged name (pos least) (pos most) true []
 
-abbrev pub explain_command : Shape
-explain_command = command (codes "explain") (file (codes "IN") ∷ releases ∷ arrays ∷ [])
+-- the file of a manifest, and that of a program or a text
+abbrev pub manifest : Rule
+manifest = file (codes "MANIFEST")
 
-abbrev pub list_command : Shape
-list_command = command (codes "list") (file (codes "IN") ∷ [])
+abbrev pub input : Rule
+input = file (codes "IN")
 
-abbrev pub order_command : Shape
-order_command = command (codes "order") (file (codes "IN") ∷ file (codes "OUT") ∷ [])
+-- `--releases N`, which has to be there
+abbrev pub releases : Rule
+releases = required_number (codes "releases") 0 64
 
-abbrev pub verify_command : Shape
-verify_command = command (codes "verify") (file (codes "IN") ∷ releases ∷ arrays ∷ [])
+-- `--arrays SPEC`
+abbrev pub arrays : Rule
+arrays = option (codes "arrays")
 
-abbrev pub run_command : Shape
-run_command =
-    command (codes "run")
-    (file (codes "IN") ∷ releases ∷ arrays ∷ bucket ∷ flag (codes "trace") ∷ told)
+-- `--operator P`, the operator's port
+abbrev pub operator : Rule
+operator = required_number (codes "operator") 1 65535
 
-abbrev pub replay_command : Shape
-replay_command =
-    command (codes "replay") (file (codes "MANIFEST") ∷ file (codes "SCRIPT") ∷ [])
+-- `--timeout S`, 30 by default
+abbrev pub timeout : Rule
+timeout = ranged (codes "timeout") (pos 1) (pos 3600) false (codes "30" ∷ [])
 
-abbrev pub simulate_command : Shape
-simulate_command =
-    command (codes "simulate")
-    (file (codes "MANIFEST") ∷ option (codes "against") ∷ option (codes "svg") ∷ told)
+-- what is told of an app that asks
+abbrev pub told : List Rule
+told = option (codes "version") ∷ repeated (codes "attr") ∷ flag (codes "ping")
+    ∷ flag (codes "event") ∷ option (codes "today") ∷ option (codes "at")
+    ∷ option (codes "installed") ∷ []
 
--- words by their places, of which there has to be one
-abbrev pub files : Text → Rule
-files id = record (new_rule id) { required = true; action = Some Append }
+-- a command of the grammar: its name, and its arguments
+pub record VerbRules : Type 0 where
+  pub name : Text
+  pub verb : Verb
+  pub rules : List Rule
 
-abbrev pub report_command : Shape
-report_command =
-    command (codes "report")
-    (files (codes "LOG") ∷ option (codes "since") ∷ option (codes "until")
-    ∷ flag (codes "prometheus") ∷ [])
-
-abbrev pub serve_command : Shape
-serve_command = command (codes "serve")
-    (file (codes "MANIFEST") ∷ number (codes "port") 65535 ∷ operator
-    ∷ number (codes "workers") 64 ∷ timeout ∷ log ∷ [])
-
-abbrev pub load_command : Shape
-load_command = command (codes "load") (file (codes "PATH") ∷ operator ∷ [])
-
--- of the operator's port alone
-abbrev pub operator_command : Text → Shape
-operator_command name = command name (operator ∷ [])
-
-abbrev pub stop_command : Shape
-stop_command = command (codes "stop") (operator ∷ flag (codes "wait") ∷ [])
-
-abbrev pub verb_command : Verb → Shape
-verb_command Ask = ask_command
-verb_command Assemble = assemble_command
-verb_command Cells = operator_command (codes "cells")
-verb_command Check = check_command
-verb_command Compile = compile_command
-verb_command Explain = explain_command
-verb_command verb.List = list_command
-verb_command Load = load_command
-verb_command Order = order_command
-verb_command Replay = replay_command
-verb_command verb.Report = report_command
-verb_command Run = run_command
-verb_command Serve = serve_command
-verb_command Show = operator_command (codes "show")
-verb_command Simulate = simulate_command
-verb_command Stop = stop_command
-verb_command Verify = verify_command
-
-abbrev pub verbs : List Verb
-verbs = Ask ∷ Assemble ∷ Cells ∷ Check ∷ Compile ∷ Explain ∷ verb.List ∷ Load ∷ Order ∷ Replay
-    ∷ verb.Report ∷ Run ∷ Serve ∷ Show ∷ Simulate ∷ Stop ∷ Verify ∷ []
+abbrev pub named : Text → Verb → List Rule → VerbRules
+named name verb rules = record { name = name; verb = verb; rules = rules }
 
 -- all of them, in the order of their names
+abbrev pub verbs : List VerbRules
+verbs =
+    named (codes "ask") verb.Ask (manifest ∷ file (codes "REQUEST") ∷ option (codes "at")
+    ∷ repeated (codes "cells") ∷ number (codes "operator") 1 65535 ∷ [])
+    ∷ named (codes "asm") verb.Assemble (input ∷ file (codes "OUT") ∷ [])
+    ∷ named (codes "cells") verb.Cells (operator ∷ [])
+    ∷ named (codes "check") verb.Check (manifest ∷ [])
+    ∷ named (codes "compile") verb.Compile
+    (input ∷ file (codes "OUT") ∷ releases ∷ arrays ∷ [])
+    ∷ named (codes "explain") verb.Explain (input ∷ releases ∷ arrays ∷ [])
+    ∷ named (codes "list") verb.List (input ∷ [])
+    ∷ named (codes "load") verb.Load (file (codes "PATH") ∷ operator ∷ [])
+    ∷ named (codes "order") verb.Order (input ∷ file (codes "OUT") ∷ [])
+    ∷ named (codes "replay") verb.Replay (manifest ∷ file (codes "SCRIPT") ∷ [])
+    ∷ named (codes "report") verb.Report
+    (files (codes "LOG") ∷ option (codes "since") ∷ option (codes "until")
+    ∷ flag (codes "prometheus") ∷ [])
+    ∷ named (codes "run") verb.Run
+    (input ∷ releases ∷ arrays ∷ number (codes "bucket") 0 9999 ∷ flag (codes "trace") ∷ told)
+    ∷ named (codes "serve") verb.Serve
+    (manifest ∷ required_number (codes "port") 1 65535 ∷ operator
+    ∷ required_number (codes "workers") 1 64 ∷ timeout ∷ flag (codes "log") ∷ [])
+    ∷ named (codes "show") verb.Show (operator ∷ [])
+    ∷ named (codes "simulate") verb.Simulate
+    (manifest ∷ option (codes "against") ∷ option (codes "svg") ∷ told)
+    ∷ named (codes "stop") verb.Stop (operator ∷ flag (codes "wait") ∷ [])
+    ∷ named (codes "verify") verb.Verify (input ∷ releases ∷ arrays ∷ []) ∷ []
+
+-- ---- by their names
+
+abbrev pub names : List (Text × Verb)
+names = map (λ r. (r.name, r.verb)) verbs
+
+-- the names of a table, as it is written
+abbrev pub names_told : List VerbRow → List (Text × Verb)
+names_told rows = map (λ r. (r.name.now, r.verb)) rows
+
+-- the first one of this name
+abbrev pub verb_in : Text → List (Text × Verb) → Option Verb
+verb_in name [] = None
+verb_in name (row ∷ more) = if bytes_eq name row.0 then Some row.1 else verb_in name more
+
+-- the command of a name
+abbrev pub verb_named : Text → Option Verb
+verb_named name = verb_in name names
+
+abbrev pub shapes : List Shape
+shapes = map (λ r. command r.name r.rules) verbs
+
 abbrev pub commands : App
 commands = record {
   top = record (new_shape (codes "rollout")) { is_leaf = false; subcommand_required = true };
-  subs = map verb_command verbs;
+  subs = shapes;
 }

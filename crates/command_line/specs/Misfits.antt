@@ -5,11 +5,12 @@ use Rattle.std.specs.Prelude.{List, Option, Some, None, codes}
 use Rattle.clap.specs.Words.{Row, Text, first_of}
 use Rattle.command_line.specs.AppOptions.{LacksAttributes, LacksInstalled, LacksPlace}
 use Rattle.command_line.specs.AppOptions.{LacksTold, TellsOneClient, given, value_in}
+use Rattle.command_line.specs.Grammar.{verb_named}
 use Rattle.command_line.specs.ReplyWords.{IsReplyMisfit}
 use Rattle.command_line.specs.ReportWords.{IsReportMisfit}
 use Rattle.command_line.specs.Seconds.{LacksMoment}
 use Rattle.command_line.specs.Values.{LacksArrays, LacksText}
-use Rattle.command_line.specs.Words.{WritesOver, verb_named}
+use Rattle.command_line.specs.Words.{WritesOver}
 use Rattle.command_line.specs.declared.option_misfit.OptionMisfit.{OptionMisfit}
 use Rattle.command_line.specs.declared.option_misfit.OptionMisfit.TheVariants as misfit
 use Rattle.command_line.specs.declared.verb.Verb.{Verb}

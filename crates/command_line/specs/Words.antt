@@ -1,8 +1,8 @@
 -- What the words of a command line ask for.
-use Rattle.std.specs.Prelude.{◌≡◌, ◌⊎◌, List, Option, Some, None, if◌then◌else◌, true, false}
-use Rattle.std.specs.Prelude.{codes, option_copied}
-use Rattle.std.specs.Str.{bytes_eq}
+use Rattle.std.specs.Prelude.{◌≡◌, ◌⊎◌, List, Option, Some, None, true, false, codes}
+use Rattle.std.specs.Prelude.{option_copied}
 use Rattle.clap.specs.Words.{Row, Text, first_of}
+use Rattle.command_line.specs.Grammar.{verb_named}
 use Rattle.command_line.specs.AppOptions.{HasTold, IsAnyones, IsPlace}
 use Rattle.command_line.specs.ReportWords.{AsksToReport}
 use Rattle.command_line.specs.Values.{HasFlag, HasPlan, HasShape, HasShort, HasText}
@@ -14,30 +14,6 @@ use Rattle.command_line.specs.declared.request.CommandRequest.{CommandRequest}
 use Rattle.command_line.specs.declared.request.CommandRequest.TheVariants as request
 use Rattle.command_line.specs.declared.verb.Verb.{Verb}
 use Rattle.command_line.specs.declared.verb.Verb.TheVariants as verb
-
--- ---- commands
-
--- the command of a name
-abbrev pub verb_named : Text → Option Verb
-verb_named name =
-    if bytes_eq name (codes "ask") then Some verb.Ask
-    else if bytes_eq name (codes "asm") then Some verb.Assemble
-    else if bytes_eq name (codes "check") then Some verb.Check
-    else if bytes_eq name (codes "compile") then Some verb.Compile
-    else if bytes_eq name (codes "explain") then Some verb.Explain
-    else if bytes_eq name (codes "list") then Some verb.List
-    else if bytes_eq name (codes "order") then Some verb.Order
-    else if bytes_eq name (codes "verify") then Some verb.Verify
-    else if bytes_eq name (codes "run") then Some verb.Run
-    else if bytes_eq name (codes "replay") then Some verb.Replay
-    else if bytes_eq name (codes "report") then Some verb.Report
-    else if bytes_eq name (codes "simulate") then Some verb.Simulate
-    else if bytes_eq name (codes "serve") then Some verb.Serve
-    else if bytes_eq name (codes "load") then Some verb.Load
-    else if bytes_eq name (codes "show") then Some verb.Show
-    else if bytes_eq name (codes "cells") then Some verb.Cells
-    else if bytes_eq name (codes "stop") then Some verb.Stop
-    else None
 
 -- a run of a file's program, for an app in a bucket
 pub record AsksToRun (rows : List Row) (run : AskedRun) : Type 0 where

@@ -2,60 +2,74 @@
 
 ghost use Rattle.std.specs.Prelude.{◌≡◌, IfOk, false, map};
 ghost use Rattle.std.specs.List.{AllByRecursion};
-ghost use Rattle.clap.specs.Words.{app_of, shape_of};
+ghost use Rattle.clap.specs.Words.{app_of, rule_of, shape_of};
 ghost use Rattle.clap.specs.declared.builder.command.Command.TheViews.{out-Command as fields_of};
 ghost use Rattle.command_line.specs.Grammar as grammar;
 
-use crate::ask_command::ask_command;
-use crate::program_commands::{
-    assemble_command, compile_command, explain_command, list_command, order_command, run_command,
-    simulate_command, verify_command,
-};
-use crate::report_command::report_command;
-use crate::server_commands::{
-    cells_command, check_command, load_command, replay_command, serve_command, show_command,
-    stop_command,
-};
-use crate::verb::{VERBS, Verb};
-use clap::Command;
+use crate::argument::{Argument, arg_of};
+use crate::verb_rows::{VerbRow, verb_rows};
+use clap::{Arg, Command};
 use std::alloc::{AllocError, Global};
 
-// The command of a verb.
-fn verb_command<'a>(alloc: Global, verb: Verb) -> Result<Command<'a>, AllocError>
-    ensures shape { IfOk result (λ c. shape_of c ≡ grammar.verb_command verb) }
+// What clap is told of these arguments, in their order. None is for other commands, too.
+fn args_of<'a>(alloc: Global, arguments: &[Argument]) -> Result<Vec<Arg<'a>>, AllocError>
+    ensures rules { IfOk result (λ args.
+        map rule_of args.items ≡ map grammar.rule_told arguments.now) }
+    ensures local { IfOk result (λ args. AllByRecursion (λ a. a.global ≡ false) args.items) }
+{
+    let mut args = Vec::new(alloc);
+    for argument in arguments {
+        args.push(arg_of(alloc, argument))?;
+    }
+    Ok(args)
+}
+
+// A command of these arguments, each of which it has to itself.
+fn command_with<'a>(
+    alloc: Global,
+    name: &'a str,
+    about: &'a str,
+    args: Vec<Arg<'a>>,
+) -> Result<Command<'a>, AllocError>
+    requires { AllByRecursion (λ a. a.global ≡ false) args.items }
+    ensures shape { IfOk result (λ c.
+        shape_of c ≡ grammar.command name.now (map rule_of args.entry.items)) }
     ensures local { IfOk result (λ c. (fields_of c).has_globals ≡ false) }
 {
-    match verb {
-        Verb::Ask => ask_command(alloc),
-        Verb::Assemble => assemble_command(alloc),
-        Verb::Cells => cells_command(alloc),
-        Verb::Check => check_command(alloc),
-        Verb::Compile => compile_command(alloc),
-        Verb::Explain => explain_command(alloc),
-        Verb::List => list_command(alloc),
-        Verb::Load => load_command(alloc),
-        Verb::Order => order_command(alloc),
-        Verb::Replay => replay_command(alloc),
-        Verb::Report => report_command(alloc),
-        Verb::Run => run_command(alloc),
-        Verb::Serve => serve_command(alloc),
-        Verb::Show => show_command(alloc),
-        Verb::Simulate => simulate_command(alloc),
-        Verb::Stop => stop_command(alloc),
-        Verb::Verify => verify_command(alloc),
+    Command::new(alloc, name).about(about).args(args)
+}
+
+// The command of a row.
+fn command_of<'a>(alloc: Global, row: &VerbRow) -> Result<Command<'a>, AllocError>
+    ensures shape { IfOk result (λ c. shape_of c ≡ grammar.shape_told row.now) }
+    ensures local { IfOk result (λ c. (fields_of c).has_globals ≡ false) }
+{
+    let args = args_of(alloc, row.arguments)?;
+    let command = command_with(alloc, row.name, row.about, args)?;
+    Ok(with_end(command, row.after))
+}
+
+// The command, and behind its help this text.
+fn with_end<'a>(command: Command<'a>, end: Option<&'a str>) -> Command<'a>
+    ensures shape { shape_of result ≡ shape_of command.entry }
+    ensures local { (fields_of result).has_globals ≡ (fields_of command.entry).has_globals }
+{
+    match end {
+        Some(text) => command.after_help(text),
+        None => command,
     }
 }
 
-// The commands of these verbs, in their order.
-fn commands<'a>(alloc: Global, verbs: &[Verb]) -> Result<Vec<Command<'a>>, AllocError>
+// The commands of these rows, in their order.
+fn commands<'a>(alloc: Global, rows: &[VerbRow]) -> Result<Vec<Command<'a>>, AllocError>
     ensures shapes { IfOk result (λ cs.
-        map shape_of cs.items ≡ map grammar.verb_command verbs.now) }
+        map shape_of cs.items ≡ map grammar.shape_told rows.now) }
     ensures local { IfOk result (λ cs.
         AllByRecursion (λ c. (fields_of c).has_globals ≡ false) cs.items) }
 {
     let mut commands = Vec::new(alloc);
-    for verb in verbs {
-        commands.push(verb_command(alloc, *verb)?)?;
+    for row in rows {
+        commands.push(command_of(alloc, row)?)?;
     }
     Ok(commands)
 }
@@ -73,5 +87,5 @@ pub fn grammar<'a>(alloc: Global) -> Result<Command<'a>, AllocError>
         .after_help(PROGRAMS)
         .about("Decide by verified BPF programs which release an app is offered")
         .subcommand_required(true)
-        .subcommands(commands(alloc, &VERBS)?)
+        .subcommands(commands(alloc, verb_rows())?)
 }

@@ -10,26 +10,27 @@
 // they are.
 
 mod app_options;
-mod arguments;
-mod ask_command;
+mod argument;
 mod ask_words;
 mod date;
 mod day;
 mod fault;
 mod grammar;
+mod manifest_rows;
 mod option_misfit;
 mod options;
-mod program_commands;
+mod program_rows;
 mod program_words;
-mod report_command;
 mod report_words;
 mod request;
 mod second;
-mod server_commands;
+mod server_rows;
 mod server_words;
+mod shared_arguments;
 mod simulate_words;
 mod told;
 mod verb;
+mod verb_rows;
 mod words;
 
 pub use fault::WordsFault;

@@ -1,73 +1,55 @@
-//! The commands, by their names.
+//! The commands, and how one is found by its name.
 
 ghost use Rattle.std.specs.Prelude.{◌≡◌};
-ghost use Rattle.command_line.specs.Words.{verb_named};
+ghost use Rattle.std.specs.Str.{bytes_eq};
+ghost use Rattle.command_line.specs.Grammar as grammar;
+
+use crate::verb_rows::{VerbRow, verb_rows};
 
 /// A command.
 #[derive(Clone, Copy)]
 pub enum Verb {
     Ask,
     Assemble,
+    Cells,
     Check,
     Compile,
     Explain,
     List,
+    Load,
     Order,
-    Verify,
-    Run,
     Replay,
     Report,
-    Simulate,
+    Run,
     Serve,
-    Load,
     Show,
-    Cells,
+    Simulate,
     Stop,
+    Verify,
 }
-
-/// All commands, by their names' order.
-pub const VERBS: [Verb; 17] = [
-    Verb::Ask,
-    Verb::Assemble,
-    Verb::Cells,
-    Verb::Check,
-    Verb::Compile,
-    Verb::Explain,
-    Verb::List,
-    Verb::Load,
-    Verb::Order,
-    Verb::Replay,
-    Verb::Report,
-    Verb::Run,
-    Verb::Serve,
-    Verb::Show,
-    Verb::Simulate,
-    Verb::Stop,
-    Verb::Verify,
-];
 
 /// The command of a name.
 pub fn verb_named(name: &str) -> Option<Verb>
-    ensures { result ≡ verb_named name.now }
+    ensures { result ≡ grammar.verb_named name.now }
 {
-    match name {
-        "ask" => Some(Verb::Ask),
-        "asm" => Some(Verb::Assemble),
-        "check" => Some(Verb::Check),
-        "compile" => Some(Verb::Compile),
-        "explain" => Some(Verb::Explain),
-        "list" => Some(Verb::List),
-        "order" => Some(Verb::Order),
-        "verify" => Some(Verb::Verify),
-        "run" => Some(Verb::Run),
-        "replay" => Some(Verb::Replay),
-        "report" => Some(Verb::Report),
-        "simulate" => Some(Verb::Simulate),
-        "serve" => Some(Verb::Serve),
-        "load" => Some(Verb::Load),
-        "show" => Some(Verb::Show),
-        "cells" => Some(Verb::Cells),
-        "stop" => Some(Verb::Stop),
-        _ => None,
+    find_verb(verb_rows(), name)
+}
+
+fn is_named(row: &VerbRow, name: &str) -> bool
+    ensures { result ≡ bytes_eq name.now row.now.name.now }
+{
+    name == row.name
+}
+
+fn find_verb(rows: &[VerbRow], name: &str) -> Option<Verb>
+    ensures { result ≡ grammar.verb_in name.now (grammar.names_told rows.now) }
+{
+    let mut left = rows;
+    while let [row, rest @ ..] = left {
+        if is_named(row, name) {
+            return Some(row.verb);
+        }
+        left = rest;
     }
+    None
 }

@@ -5,8 +5,8 @@ use Rattle.clap.specs.declared.builder.command.Command.TheViews.{out-Command as 
 use Rattle.command_line.specs.Grammar as grammar
 use Rattle.command_line.proofs.grammar.commands.Given as goal
 
-abbrev pub invariant-loop-verb : goal.invariant-loop-verb
-invariant-loop-verb l = record {
-  shapes : map shape_of l.commands.items ≡ map grammar.verb_command (take l.verb-index l.verbs);
+abbrev pub invariant-loop-row : goal.invariant-loop-row
+invariant-loop-row l = record {
+  shapes : map shape_of l.commands.items ≡ map grammar.shape_told (take l.row-index l.rows);
   local : AllByRecursion (λ c. (fields_of c).has_globals ≡ false) l.commands.items;
 }

@@ -10,5 +10,5 @@ returns c =
     let top = required_top _ _ _ _ _ new c.about.ensures c.subcommand_required.ensures in
     IfOk-weaker _ _ _ (λ d adds.
     with_more _ _ d _ top c.in_ok-commands.ensures.local adds
-    ∙ ap (with_subcommands _) c.in_ok-commands.ensures.shapes)
+    ∙ ap (with_subcommands _) (c.in_ok-commands.ensures.shapes ∙ c.verb_rows.ensures.shapes))
     c.subcommands.ensures

@@ -4,7 +4,7 @@ use Rattle.clap.specs.declared.builder.command.Command.TheViews.{out-Command}
 use Rattle.clap.specs.Simple.{app_of_fields}
 use Rattle.clap.specs.Words.{App}
 use Rattle.command_line.proofs.Built.{in_turn}
-use Rattle.command_line.proofs.arguments.command_of.Goals as goal
+use Rattle.command_line.proofs.grammar.command_with.Goals as goal
 
 pub returns : goal.returns
 returns c =

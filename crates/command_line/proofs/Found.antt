@@ -1,0 +1,25 @@
+-- Rows of another name are passed over.
+use Rattle.std.proofs.Common.{◌≡◌, ◌∙◌, ap, sym, arith, ◌<◌, ◌-◌, Bool, false, List, [], ◌∷◌}
+use Rattle.std.proofs.Common.{length, take, drop, get_or, Some}
+use Rattle.std.proofs.lemmas.List.{take_rest}
+use Rattle.std.specs.Prelude.{if◌then◌else◌}
+use Rattle.std.specs.Str.{bytes_eq}
+use Rattle.clap.specs.Words.{Text}
+use Rattle.command_line.specs.Grammar.{names_told, verb_in}
+use Rattle.command_line.specs.declared.verb_rows.VerbRow.{VerbRow}
+
+passed_first : (name : Text) (row : VerbRow) (rest : List VerbRow)
+    → bytes_eq name row.name.now ≡ false
+    → verb_in name (names_told (row ∷ rest)) ≡ verb_in name (names_told rest)
+passed_first name row rest other =
+    ap (λ (b : Bool). if b then Some row.verb else verb_in name (names_told rest)) other
+
+pub passed : (name : Text) (left rows : List VerbRow) (d : VerbRow) → 0 < length left
+    → bytes_eq name (get_or left 0 d).name.now ≡ false
+    → verb_in name (names_told left) ≡ verb_in name (names_told rows)
+    → verb_in name (names_told (take (length left - 1) (drop 1 left)))
+    ≡ verb_in name (names_told rows)
+passed name [] rows d some other so_far = absurd (omega (arith, some))
+passed name (first ∷ rest) rows d some other so_far =
+    ap (λ (l : List VerbRow). verb_in name (names_told l)) (take_rest (first ∷ rest) 1)
+    ∙ sym (passed_first name first rest other) ∙ so_far

@@ -1,0 +1,132 @@
+//! An argument of a command, or an option, and what clap is told of it.
+
+ghost use Rattle.std.specs.Prelude.{◌≡◌, ◌∷◌, [], false};
+ghost use Rattle.clap.specs.Words.{rule_of};
+ghost use Rattle.command_line.specs.Grammar as grammar;
+
+use clap::builder::ValueParser;
+use clap::{Arg, ArgAction};
+use std::alloc::Global;
+
+/// An argument or option: its name, of an option with a value what the value is called, of a
+/// number its limits, and last what `--help` says of it.
+#[derive(Clone, Copy)]
+pub enum Argument {
+    /// A word by its place, which has to be there.
+    Word(&'static str, &'static str),
+    /// Words by their places, of which there has to be one.
+    Words(&'static str, &'static str),
+    /// `--NAME`.
+    Flag(&'static str, &'static str),
+    /// `--NAME VALUE`.
+    Text(&'static str, &'static str, &'static str),
+    /// `--NAME VALUE`, any number of times.
+    Texts(&'static str, &'static str, &'static str),
+    /// `--NAME N`, which has to be there.
+    Number(&'static str, &'static str, Limits, &'static str),
+    /// `--NAME N`, which may be left out.
+    OptionalNumber(&'static str, &'static str, Limits, &'static str),
+    /// `--NAME N`, and its value where it is left out.
+    NumberByDefault(&'static str, &'static str, Limits, &'static str, &'static str),
+}
+
+/// The least value of a number, and its greatest.
+#[derive(Clone, Copy)]
+pub struct Limits(pub i64, pub i64);
+
+/// What clap is told of an argument.
+pub fn arg_of<'a>(alloc: Global, argument: &Argument) -> Arg<'a>
+    ensures rule { rule_of result ≡ grammar.rule_told argument.now }
+    ensures local { result.global ≡ false }
+{
+    match *argument {
+        Argument::Word(id, help) => word(alloc, id, ArgAction::Set, help),
+        Argument::Words(id, help) => word(alloc, id, ArgAction::Append, help),
+        Argument::Flag(name, help) => flag(alloc, name, help),
+        Argument::Text(name, value, help) => option(alloc, name, value, ArgAction::Set, help),
+        Argument::Texts(name, value, help) => option(alloc, name, value, ArgAction::Append, help),
+        Argument::Number(name, value, limits, help) => {
+            number(alloc, name, value, limits, true, help)
+        }
+        Argument::OptionalNumber(name, value, limits, help) => {
+            number(alloc, name, value, limits, false, help)
+        }
+        Argument::NumberByDefault(name, value, limits, default, help) => {
+            number_by_default(alloc, name, value, limits, default, help)
+        }
+    }
+}
+
+fn word<'a>(alloc: Global, id: &'a str, action: ArgAction, help: &'a str) -> Arg<'a>
+    ensures rule { rule_of result ≡ grammar.word id.now action }
+    ensures local { result.global ≡ false }
+{
+    Arg::new(alloc, id).required(true).action(action).help(help)
+}
+
+fn flag<'a>(alloc: Global, name: &'a str, help: &'a str) -> Arg<'a>
+    ensures rule { rule_of result ≡ grammar.flag name.now }
+    ensures local { result.global ≡ false }
+{
+    Arg::new(alloc, name)
+        .long(name)
+        .action(ArgAction::SetTrue)
+        .help(help)
+}
+
+fn option<'a>(
+    alloc: Global,
+    name: &'a str,
+    value: &'a str,
+    action: ArgAction,
+    help: &'a str,
+) -> Arg<'a>
+    ensures rule { rule_of result ≡ grammar.with_value name.now action }
+    ensures local { result.global ≡ false }
+{
+    Arg::new(alloc, name)
+        .long(name)
+        .value_name(value)
+        .action(action)
+        .help(help)
+}
+
+fn number<'a>(
+    alloc: Global,
+    name: &'a str,
+    value: &'a str,
+    limits: Limits,
+    required: bool,
+    help: &'a str,
+) -> Arg<'a>
+    ensures rule { rule_of result ≡ grammar.limited name.now limits required [] }
+    ensures local { result.global ≡ false }
+{
+    Arg::new(alloc, name)
+        .long(name)
+        .value_name(value)
+        .required(required)
+        .action(ArgAction::Set)
+        .value_parser(ValueParser::Signed(limits.0, limits.1))
+        .help(help)
+}
+
+fn number_by_default<'a>(
+    alloc: Global,
+    name: &'a str,
+    value: &'a str,
+    limits: Limits,
+    default: &'a str,
+    help: &'a str,
+) -> Arg<'a>
+    ensures rule { rule_of result ≡ grammar.limited name.now limits false (default.now ∷ []) }
+    ensures local { result.global ≡ false }
+{
+    Arg::new(alloc, name)
+        .long(name)
+        .value_name(value)
+        .action(ArgAction::Set)
+        .default_value(default)
+        .value_parser(ValueParser::Signed(limits.0, limits.1))
+        .help(help)
+}

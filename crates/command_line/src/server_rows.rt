@@ -1,0 +1,107 @@
+//! The commands to a server, and on what it logs.
+
+use crate::argument::{Argument, Limits};
+use crate::shared_arguments::{MANIFEST, OPERATOR, PORTS};
+use crate::verb::Verb;
+use crate::verb_rows::VerbRow;
+
+/// The command `cells`.
+pub const CELLS: VerbRow = VerbRow {
+    verb: Verb::Cells,
+    name: "cells",
+    about: "Tell a server's counters that aren't 0; prints `NAME[I] V` for each",
+    arguments: &[OPERATOR],
+    after: None,
+};
+
+/// The command `load`.
+pub const LOAD: VerbRow = VerbRow {
+    verb: Verb::Load,
+    name: "load",
+    about: "Have a server load a manifest; prints `generation G`, or its refusal",
+    arguments: &[
+        Argument::Word(
+            "PATH",
+            "Manifest, as the server sees it: write its path whole, from / on",
+        ),
+        OPERATOR,
+    ],
+    after: None,
+};
+
+/// The command `report`.
+pub const REPORT: VerbRow = VerbRow {
+    verb: Verb::Report,
+    name: "report",
+    about: "Tell what a server's log comes to: asks, offers, installs and refusals",
+    arguments: &[
+        Argument::Words(
+            "LOG",
+            "Files of a server's log, as `serve --log` writes it; - is standard input",
+        ),
+        Argument::Text(
+            "since",
+            "MOMENT",
+            "Lines from this time on (RFC 3339), or since so long ago: 90s, 10m, 2h, 3d",
+        ),
+        Argument::Text(
+            "until",
+            "MOMENT",
+            "Lines before this time, by the same forms",
+        ),
+        Argument::Flag("prometheus", "Print the counts as Prometheus reads them"),
+    ],
+    after: None,
+};
+
+/// The command `serve`.
+pub const SERVE: VerbRow = VerbRow {
+    verb: Verb::Serve,
+    name: "serve",
+    about: "Serve a manifest's ruleset until the operator stops it; prints `serving generation 1`",
+    arguments: &[
+        MANIFEST,
+        Argument::Number(
+            "port",
+            "P",
+            PORTS,
+            "Port of the service, on loopback: 1 to 65535",
+        ),
+        OPERATOR,
+        Argument::Number("workers", "N", Limits(1, 64), "Worker threads: 1 to 64"),
+        Argument::NumberByDefault(
+            "timeout",
+            "S",
+            Limits(1, 3600),
+            "30",
+            "Seconds that a connection may last: 1 to 3600",
+        ),
+        Argument::Flag(
+            "log",
+            "Write the log to standard error: a JSON object a line, for each connection, start, load, \
+             stop and counter",
+        ),
+    ],
+    after: None,
+};
+
+/// The command `show`.
+pub const SHOW: VerbRow = VerbRow {
+    verb: Verb::Show,
+    name: "show",
+    about: "Tell a server's generation and its apps",
+    arguments: &[OPERATOR],
+    after: None,
+};
+
+/// The command `stop`.
+pub const STOP: VerbRow = VerbRow {
+    verb: Verb::Stop,
+    name: "stop",
+    about: "End a server; prints `stopping`",
+    arguments: &[
+        OPERATOR,
+        Argument::Flag("wait", "Wait until the server has ended"),
+    ],
+    after: None,
+};
