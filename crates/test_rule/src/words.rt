@@ -2,8 +2,9 @@
 //! attribute, and the array of a name. The calls have no clauses here.
 
 use crate::given::{must, shape};
+use attrs::{Attribute, Flag};
 use cells::CellArray;
-use rule_lang::{Attribute, Flag, array_named};
+use rule_lang::array_named;
 use std::test::Fail;
 
 const FLAGS: [(&str, Flag, u8); 6] = [
