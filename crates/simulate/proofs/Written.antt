@@ -3,9 +3,7 @@ use Rattle.std.proofs.Common.{Bool, None, ap₂, drop, get_or, take}
 use Rattle.std.proofs.Common.{◌≡◌, ◌∙◌, refl, sym, ap, ℕ, zero, suc, ◌+◌, ◌-◌, ◌<◌, ◌≤◌}
 use Rattle.std.proofs.Common.{List, [], ◌∷◌, ◌++◌, append_assoc, arith, length, replicate}
 use Rattle.std.proofs.lemmas.List.{append-nil, take_all}
-use Rattle.std.proofs.lemmas.Str.{chars-nil}
 use Rattle.std.specs.List.{flat_map, range_with_len}
-use Rattle.std.specs.Str.{chars}
 use Rattle.simulate.specs.Moving.{move_if_any}
 use Rattle.simulate.specs.Pictures.{entry_height, entry_if_any, legend_rows, path_if_any}
 use Rattle.simulate.specs.Pictures.{panel, panel_height, panels}
@@ -142,17 +140,6 @@ pub no_choices_left : (apps : List AppRule) (chosen : List (List ℕ)) (appid : 
 no_choices_left [] chosen appid none = refl
 no_choices_left (app ∷ apps) [] appid none = refl
 no_choices_left (app ∷ apps) (choices ∷ chosen) appid none = absurd (omega (arith, none))
-
--- no characters are left
-nothing : (text : List ℕ) → length text ≡ 0 → text ≡ []
-nothing [] none = refl
-nothing (b ∷ text) none = absurd (omega (arith, none))
-
-pub characters_done : (f : ℕ → List ℕ) (rest o whole : List ℕ) → length rest ≡ 0
-    → o ++ flat_map f (chars rest) ≡ whole → o ≡ whole
-characters_done f rest o whole none is =
-    let no_chars : chars rest ≡ [] = ap chars (nothing rest none) ∙ chars-nil in
-    at_end o whole (ap (λ (l : List ℕ). o ++ flat_map f l) (sym no_chars) ∙ is)
 
 -- ---- parts
 

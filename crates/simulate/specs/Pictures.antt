@@ -9,26 +9,11 @@ use Rattle.std.specs.List.{flat_map, range_with_len}
 use Rattle.simulate.specs.Columns.{percent}
 use Rattle.simulate.specs.Shares.{choice_label}
 use Rattle.simulate.specs.Shown.{Simulation, choices_among, versions_of}
-use Rattle.simulate.specs.Xml.{xml_text}
 use Rattle.simulate.specs.Counts.{buckets_with}
 use Rattle.ruleset.specs.Rules.{AppRule}
-
--- ---- colours
-
--- none is light grey; of 64 colours, four levels of red, green and blue each, every release has
--- one, in an order in which those of the first releases are far apart. The shade of a release is 0
--- to 63, in its three digits to the base 4; a level is 20, 80, 140 or 200
-abbrev pub shade : ℕ → ℕ
-shade release = (39 * release + 61) % 64
-
-abbrev pub level : ℕ → List ℕ
-level n = decimal (20 + 60 * (n % 4))
-
-abbrev pub colour_of : ℕ → List ℕ
-colour_of choice =
-    if choice == 0 then codes "rgb(232,232,232)"
-    else codes "rgb(" ++ level (shade choice) ++ codes "," ++ level (shade choice / 4)
-    ++ codes "," ++ level (shade choice / 16) ++ codes ")"
+use Rattle.svg.specs.Colours.{colour_of}
+use Rattle.svg.specs.Frames.{frame}
+use Rattle.svg.specs.Xml.{xml_text}
 
 -- ---- the square
 
@@ -166,21 +151,6 @@ panels top (app ∷ apps) (choices ∷ chosen) =
 abbrev pub height_from : (top : ℕ) → List AppRule → ℕ
 height_from top [] = top
 height_from top (app ∷ apps) = height_from (top + panel_height app) apps
-
--- the file begins, with its width of 880, its height and a white ground
-unfoldable pub picture_opens : List ℕ
-picture_opens = codes "<svg xmlns=\"http://www.w3.org/2000/svg\" width=\"880\" height=\""
-
-unfoldable pub ground_opens : List ℕ
-ground_opens =
-    codes "\" font-family=\"sans-serif\" font-size=\"14\">\n<rect width=\"880\" height=\""
-
-unfoldable pub ground_closes : List ℕ
-ground_closes = codes "\" fill=\"rgb(255,255,255)\"/>\n"
-
-abbrev pub frame : (height : ℕ) → List ℕ
-frame height =
-    picture_opens ++ decimal height ++ ground_opens ++ decimal height ++ ground_closes
 
 -- the whole file; the first app begins 20 below the top
 abbrev pub picture : Simulation → List ℕ

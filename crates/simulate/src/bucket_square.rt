@@ -6,12 +6,12 @@ ghost use Rattle.simulate.specs.Pictures as specs;
 ghost use Rattle.simulate.specs.Shown.{versions_of};
 
 use crate::choices::Choices;
-use crate::colours::push_colour;
 use crate::counts::count_buckets;
 use crate::labels::release_count;
 use ruleset::App;
 use std::alloc::AllocError;
 use std::fmt::Write;
+use svg::push_colour;
 
 #[tactic(auto, unfolding(crate::specs::Pictures::square_opens))]
 fn square_opens() -> &'static str

@@ -5,17 +5,16 @@ ghost use Rattle.simulate.specs.Columns.{Puts};
 ghost use Rattle.simulate.specs.Pictures as specs;
 ghost use Rattle.simulate.specs.Shares.{choice_label};
 ghost use Rattle.simulate.specs.Shown.{versions_of};
-ghost use Rattle.simulate.specs.Xml.{xml_text};
+ghost use Rattle.svg.specs.Xml.{xml_text};
 
 use crate::choices::Choices;
-use crate::colours::push_colour;
 use crate::columns::push_percent;
 use crate::counts::count_buckets;
 use crate::labels::{push_choice_label, release_count};
-use crate::xml::push_xml;
 use ruleset::App;
 use std::alloc::AllocError;
 use std::fmt::Write;
+use svg::{push_colour, push_xml};
 
 #[tactic(auto, unfolding(crate::specs::Pictures::patch_opens))]
 fn patch_opens() -> &'static str

@@ -16,7 +16,6 @@ mod asking;
 mod bucket_square;
 mod choices;
 mod client;
-mod colours;
 mod columns;
 mod counts;
 mod course;
@@ -27,7 +26,6 @@ mod moves;
 mod picturing;
 mod shares;
 mod simulated;
-mod xml;
 
 pub use choices::Choices;
 pub use client::Client;

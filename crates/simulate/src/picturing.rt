@@ -9,31 +9,10 @@ use crate::choices::Choices;
 use crate::labels::release_count;
 use crate::legends::push_legend;
 use crate::simulated::Simulated;
-use crate::xml::push_xml;
 use ruleset::App;
 use std::alloc::{AllocError, Global};
 use std::fmt::Write;
-
-#[tactic(auto, unfolding(crate::specs::Pictures::picture_opens))]
-fn picture_opens() -> &'static str
-    ensures { result.now ≡ specs.picture_opens }
-{
-    "<svg xmlns=\"http://www.w3.org/2000/svg\" width=\"880\" height=\""
-}
-
-#[tactic(auto, unfolding(crate::specs::Pictures::ground_opens))]
-fn ground_opens() -> &'static str
-    ensures { result.now ≡ specs.ground_opens }
-{
-    "\" font-family=\"sans-serif\" font-size=\"14\">\n<rect width=\"880\" height=\""
-}
-
-#[tactic(auto, unfolding(crate::specs::Pictures::ground_closes))]
-fn ground_closes() -> &'static str
-    ensures { result.now ≡ specs.ground_closes }
-{
-    "\" fill=\"rgb(255,255,255)\"/>\n"
-}
+use svg::{push_frame, push_xml};
 
 /// The picture of a simulation, as the text of an SVG file. Want of memory is answered, too, where
 /// its height passes 64 bits.
@@ -49,16 +28,6 @@ pub fn draw(alloc: Global, simulated: &Simulated) -> Result<String, AllocError>
     push_panels(&mut text, simulated)?;
     text.push_str("</svg>\n")?;
     Ok(text)
-}
-
-fn push_frame(text: &mut String, height: u64) -> Result<(), AllocError>
-    ensures { OnOk result (Puts text.old text.new (specs.frame height)) }
-{
-    text.push_str(picture_opens())?;
-    write!(text, "{height}")?;
-    text.push_str(ground_opens())?;
-    write!(text, "{height}")?;
-    text.push_str(ground_closes())
 }
 
 // How high the apps reach, from a height on.

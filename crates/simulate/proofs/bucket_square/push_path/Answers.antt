@@ -1,6 +1,7 @@
 use Rattle.std.proofs.Common.{codes, string_bytes}
 use Rattle.simulate.proofs.Written.{five_parts}
-use Rattle.simulate.specs.Pictures.{buckets_path, colour_of}
+use Rattle.simulate.specs.Pictures.{buckets_path}
+use Rattle.svg.specs.Colours.{colour_of}
 use Rattle.simulate.proofs.bucket_square.push_path.Goals as goal
 
 pub returns : goal.returns

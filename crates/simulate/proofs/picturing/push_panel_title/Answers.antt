@@ -1,6 +1,6 @@
 use Rattle.std.proofs.Common.{codes, string_bytes}
 use Rattle.simulate.proofs.Written.{three_parts}
-use Rattle.simulate.specs.Xml.{xml_text}
+use Rattle.svg.specs.Xml.{xml_text}
 use Rattle.simulate.proofs.picturing.push_panel_title.Goals as goal
 
 pub returns : goal.returns

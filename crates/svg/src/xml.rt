@@ -1,8 +1,7 @@
 //! Texts as character data of XML.
 
 ghost use Rattle.std.specs.Prelude.{OnOk};
-ghost use Rattle.simulate.specs.Columns.{Puts};
-ghost use Rattle.simulate.specs.Xml.{xml_char, xml_text};
+ghost use Rattle.svg.specs.Xml.{Puts, xml_char, xml_text};
 
 use std::alloc::AllocError;
 

@@ -1,0 +1,3 @@
+pub mod Colours
+pub mod Frames
+pub mod Xml
