@@ -1,11 +1,12 @@
 -- The lines of one log more are counted.
 use Rattle.std.proofs.Common.{◌≡◌, ◌∙◌, refl, sym, ap, subst, ℕ, ◌+◌, List, [], ◌∷◌, ◌++◌}
 use Rattle.std.proofs.Common.{append_assoc, append-nil, length, flat_map, Option, arith}
-use Rattle.std.proofs.Common.{Bool, is_some}
+use Rattle.std.proofs.Common.{Bool, is_some, option_map, string_bytes}
 use Rattle.std.proofs.lemmas.Grind.{flat_map-append}
 use Rattle.std.proofs.lemmas.List.{length-append}
 use Rattle.std.proofs.lemmas.List.Concat.{flat_map-cons}
-use Rattle.log_tools.specs.Reports.{CountsLogs, HasReported, told_by}
+use Rattle.log_tools.specs.Reports.{CountsLogs, HasReported, picture_by, told_by}
+use Rattle.log_tools.specs.declared.reporting.ToldReport.{ToldReport}
 use Rattle.moments.specs.declared.moment.NamedTime.{NamedTime}
 use Rattle.report.specs.Counts.{Counts}
 use Rattle.report.specs.Lines.{lines_in}
@@ -16,16 +17,17 @@ use Rattle.report.specs.declared.window.Window.{Window}
 module _ (window : Window) where
   counts_none : (r : Report) → CountsLines window [] r r
   counts_none r = record {
-    behind = λ before counted.
-        subst (λ (lines : List (List ℕ)). Counts window lines r) (sym (append-nil before)) counted;
+    behind = λ drawn before counted.
+        subst (λ (lines : List (List ℕ)). Counts window lines drawn r) (sym (append-nil before))
+        counted;
   }
 
   counts_both : (xs ys : List (List ℕ)) (a b c : Report)
       → CountsLines window xs a b → CountsLines window ys b c → CountsLines window (xs ++ ys) a c
   counts_both xs ys a b c first last = record {
-    behind = λ before counted.
-        subst (λ (lines : List (List ℕ)). Counts window lines c) (append_assoc before xs ys)
-        (last.behind (before ++ xs) (first.behind before counted));
+    behind = λ drawn before counted.
+        subst (λ (lines : List (List ℕ)). Counts window lines drawn c) (append_assoc before xs ys)
+        (last.behind drawn (before ++ xs) (first.behind drawn before counted));
   }
 
   pub no_logs : (r : Report) → CountsLogs window 0 r r
@@ -54,17 +56,22 @@ module _ (window : Window) where
         first.counted last.counted);
   }
 
-pub has_reported : (n : ℕ) (since until : Option NamedTime) (prometheus : Bool) (text : List ℕ)
-    (window : Window) (start last : Report) → is_some window.since ≡ is_some since
-    → is_some window.until ≡ is_some until → Counts window [] start
-    → CountsLogs window n start last → text ≡ told_by prometheus last
-    → HasReported n since until prometheus text
-has_reported n since until prometheus text window start last from to none reads is = record {
-  window = window;
-  asked_for = record { since_is = from; until_is = to };
-  logs = reads.logs;
-  each = reads.each;
-  report = last;
-  counted = reads.counted.behind [] none;
-  text_is = is;
-}
+pub has_reported : (n : ℕ) (since until : Option NamedTime) (prometheus drawn : Bool)
+    (told : ToldReport) (window : Window) (start last : Report)
+    → is_some window.since ≡ is_some since → is_some window.until ≡ is_some until
+    → Counts window [] drawn start → CountsLogs window n start last
+    → string_bytes told.text ≡ told_by prometheus last
+    → option_map string_bytes told.picture ≡ picture_by drawn last
+    → HasReported n since until prometheus drawn told
+has_reported n since until prometheus drawn told window start last from to none reads text
+    picture =
+    record {
+      window = window;
+      asked_for = record { since_is = from; until_is = to };
+      logs = reads.logs;
+      each = reads.each;
+      report = last;
+      counted = reads.counted.behind drawn [] none;
+      text_is = text;
+      picture_is = picture;
+    }

@@ -1,7 +1,7 @@
 -- What a report of logs tells. Of the files of a device nothing is known, so what each log has are
 -- some bytes; and of its clock nothing is, so the window of what was asked is from some times on.
-use Rattle.std.specs.Prelude.{◌≡◌, ℕ, List, Option, length, flat_map, is_some}
-use Rattle.std.specs.Prelude.{Bool, if◌then◌else◌}
+use Rattle.std.specs.Prelude.{◌≡◌, ℕ, List, Option, Some, None, length, flat_map, is_some}
+use Rattle.std.specs.Prelude.{Bool, if◌then◌else◌, option_map, string_bytes}
 use Rattle.moments.specs.declared.moment.NamedTime.{NamedTime}
 use Rattle.report.specs.Counts.{Counts}
 use Rattle.report.specs.Exposition.{exposition}
@@ -10,6 +10,8 @@ use Rattle.report.specs.Reading.{CountsLines}
 use Rattle.report.specs.Screen.{screen}
 use Rattle.report.specs.declared.counting.Report.{Report}
 use Rattle.report.specs.declared.window.Window.{Window}
+use Rattle.timeline.specs.Pictures.{picture}
+use Rattle.log_tools.specs.declared.reporting.ToldReport.{ToldReport}
 
 -- the window begins where a beginning was asked for, and ends where an end was
 pub record IsWindowOf (since until : Option NamedTime) (window : Window) : Type 0 where
@@ -26,13 +28,19 @@ pub record CountsLogs (window : Window) (n : ℕ) (old new : Report) : Type 0 wh
 abbrev pub told_by : Bool → Report → List ℕ
 told_by prometheus report = if prometheus then exposition report else screen report
 
--- the text of a report that counts the lines of so many logs, each from its first byte to its last
-pub record HasReported (n : ℕ) (since until : Option NamedTime) (prometheus : Bool) (text : List ℕ)
-    : Type 0 where
+-- and as a picture, where one is drawn
+abbrev pub picture_by : Bool → Report → Option (List ℕ)
+picture_by drawn report = if drawn then Some (picture report) else None
+
+-- What is told of a report that counts the lines of so many logs, each from its first byte to its
+-- last.
+pub record HasReported (n : ℕ) (since until : Option NamedTime) (prometheus drawn : Bool)
+    (told : ToldReport) : Type 0 where
   pub window : Window
   pub asked_for : IsWindowOf since until window
   pub logs : List (List ℕ)
   pub each : length logs ≡ n
   pub report : Report
-  pub counted : Counts window (flat_map lines_in logs) report
-  pub text_is : text ≡ told_by prometheus report
+  pub counted : Counts window (flat_map lines_in logs) drawn report
+  pub text_is : string_bytes told.text ≡ told_by prometheus report
+  pub picture_is : option_map string_bytes told.picture ≡ picture_by drawn report

@@ -1,7 +1,8 @@
 //! The command on logs: `report`, over the files of a runtime.
 #![tactic(auto)]
 
+mod picture_file;
 mod progress_lines;
 mod reporting;
 
-pub use reporting::report_logs;
+pub use reporting::{ToldReport, report_logs};

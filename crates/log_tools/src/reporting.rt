@@ -1,9 +1,10 @@
 //! `report`: what the lines of logs come to.
 
-ghost use Rattle.std.specs.Prelude.{◌≡◌, IfOk, OnOk, is_some, length};
+ghost use Rattle.std.specs.Prelude.{◌≡◌, IfOk, OnOk, is_some, length, option_map};
 ghost use Rattle.std.specs.String.{string_bytes};
-ghost use Rattle.log_tools.specs.Reports.{CountsLogs, HasReported, told_by};
+ghost use Rattle.log_tools.specs.Reports.{CountsLogs, HasReported, picture_by, told_by};
 
+use crate::picture_file::{require_drawable, write_picture};
 use crate::progress_lines::ProgressLines;
 use bounded_files::ResourceFault;
 use jiff_core::Timestamp;
@@ -14,25 +15,59 @@ use std::fs;
 use std::io::{self, ErrorKind};
 use std::rt::Files;
 use std::time::{Clock, SystemTime, UNIX_EPOCH};
+use timeline::draw_course;
 
 /// Where standard input stands as a file, which is read in blocks.
 const STANDARD_INPUT: &str = "/dev/stdin";
 
-/// The text of a report on logs, of which `-` is standard input: of the lines from one moment on
-/// and before another, as a screen or as Prometheus reads it. B3 where one can't be read, or the
-/// clock can't where a moment is told by it; B4 where memory is refused. A reading that takes over
-/// a second says by the runtime how far it is.
+/// What is told of logs: a text, and a picture as the text of an SVG file, where a file is named
+/// for one.
+#[derive(Drop)]
+pub struct ToldReport {
+    pub text: String,
+    pub picture: Option<String>,
+}
+
+/// What a report on logs tells, of which `-` is standard input: of the lines from one moment on and
+/// before another, as a screen or as Prometheus reads it; and their course as a picture, which is
+/// written into the file that is named, once all logs are read.
+///
+/// B3 comes where the picture would be written over a log, or over what is none and isn't empty;
+/// where a log can't be read, or the clock can't where a moment is told by it; and where the
+/// picture can't be written. B4 comes where memory is refused. A reading that takes over a second
+/// says by the runtime how far it is.
+// open: whether memory is refused; what is told of how far it is; that the file gets the picture.
 pub fn report_logs<R>(
     rt: &R,
     logs: &[&str],
     since: Option<NamedTime>,
     until: Option<NamedTime>,
     prometheus: bool,
-) -> Result<String, ResourceFault>
+    file: Option<&str>,
+) -> Result<ToldReport, ResourceFault>
 where
     R: Files + AllocGlobal + Clock + Eprint,
-    ensures { IfOk result (λ text.
-        HasReported (length logs.now) since until prometheus (string_bytes text)) }
+    ensures { IfOk result
+        (HasReported (length logs.now) since until prometheus (is_some file.entry)) }
+{
+    require_drawable(rt, logs, file)?;
+    let told = told_of_logs(rt, logs, since, until, prometheus, file.is_some())?;
+    write_picture(rt, file, &told.picture)?;
+    Ok(told)
+}
+
+// What is told of the logs, of which no picture is written yet.
+fn told_of_logs<R>(
+    rt: &R,
+    logs: &[&str],
+    since: Option<NamedTime>,
+    until: Option<NamedTime>,
+    prometheus: bool,
+    drawn: bool,
+) -> Result<ToldReport, ResourceFault>
+where
+    R: Files + AllocGlobal + Clock + Eprint,
+    ensures { IfOk result (HasReported (length logs.now) since until prometheus drawn) }
 {
     let since = time_of(rt, since)?;
     let until = time_of(rt, until)?;
@@ -40,12 +75,32 @@ where
         since: text_of(&since),
         until: text_of(&until),
     };
-    let mut report = Report::new(rt.alloc());
+    let mut report = Report::new(rt.alloc(), drawn);
     count_logs(rt, logs, &window, &mut report)?;
-    match text_by(rt.alloc(), prometheus, &report) {
-        Ok(text) => Ok(text),
+    match told_of(rt.alloc(), prometheus, drawn, &report) {
+        Ok(told) => Ok(told),
         Err(_) => Err(ResourceFault::Memory),
     }
+}
+
+fn told_of(
+    alloc: Global,
+    prometheus: bool,
+    drawn: bool,
+    report: &Report,
+) -> Result<ToldReport, AllocError>
+    ensures text { IfOk result
+        (λ told. string_bytes told.text ≡ told_by prometheus report.now) }
+    ensures picture { IfOk result
+        (λ told. option_map string_bytes told.picture ≡ picture_by drawn report.now) }
+{
+    let text = text_by(alloc, prometheus, report)?;
+    let picture = if drawn {
+        Some(draw_course(alloc, report)?)
+    } else {
+        None
+    };
+    Ok(ToldReport { text, picture })
 }
 
 fn text_by(alloc: Global, prometheus: bool, report: &Report) -> Result<String, AllocError>
@@ -141,7 +196,7 @@ where
     count_log(rt.alloc(), &mut file, window, report, &mut onlooker)
 }
 
-// A hyphen is standard input.
-fn path_of<'a>(path: &'a str) -> &'a str {
+/// The path of a log, of which a hyphen is standard input.
+pub(crate) fn path_of<'a>(path: &'a str) -> &'a str {
     if path == "-" { STANDARD_INPUT } else { path }
 }

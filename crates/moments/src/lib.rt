@@ -2,6 +2,8 @@
 //! their times.
 #![tactic(auto)]
 
+mod calendar;
 mod moment;
 
+pub use calendar::{CivilDate, minute_in};
 pub use moment::{NamedTime, moment_in, time_text};

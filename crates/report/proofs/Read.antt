@@ -12,16 +12,17 @@ use Rattle.report.specs.declared.window.Window.{Window}
 
 pub counts_none : (window : Window) (r : Report) → CountsLines window [] r r
 counts_none window r = record {
-  behind = λ before counted.
-      subst (λ (lines : List (List ℕ)). Counts window lines r) (sym (append-nil before)) counted;
+  behind = λ drawn before counted.
+      subst (λ (lines : List (List ℕ)). Counts window lines drawn r) (sym (append-nil before))
+      counted;
 }
 
 pub counts_both : (window : Window) (xs ys : List (List ℕ)) (a b c : Report)
     → CountsLines window xs a b → CountsLines window ys b c → CountsLines window (xs ++ ys) a c
 counts_both window xs ys a b c first last = record {
-  behind = λ before counted.
-      subst (λ (lines : List (List ℕ)). Counts window lines c) (append_assoc before xs ys)
-      (last.behind (before ++ xs) (first.behind before counted));
+  behind = λ drawn before counted.
+      subst (λ (lines : List (List ℕ)). Counts window lines drawn c) (append_assoc before xs ys)
+      (last.behind drawn (before ++ xs) (first.behind drawn before counted));
 }
 
 if_true : {A : Type 0} (b : Bool) (x y : A) → b ≡ true → (if b then x else y) ≡ x

@@ -3,6 +3,7 @@ use Rattle.std.specs.Prelude.{◌≡◌, ℕ, ◌+◌, List, [], ◌∷◌, ◌+
 use Rattle.std.specs.Prelude.{Bool, Option, Some, None, is_some, is_none, unwrap_or}
 use Rattle.std.specs.Prelude.{if◌then◌else◌}
 use Rattle.serde_json.specs.Data.{Data}
+use Rattle.report.specs.Courses.{AddsCourse, if_drawn, hour_names, minute_names, version_names}
 use Rattle.report.specs.Events.{event_names}
 use Rattle.report.specs.Names.{app_names, line_names, is_kind}
 use Rattle.report.specs.Tallies.{Name, capped, IsTally, Notes}
@@ -41,8 +42,10 @@ module _ (window : Window) (lines : List (List ℕ)) where
   total number = capped (sum_by (λ line. number_if number (told window line)) lines)
 
   -- Of each question the table counts the names that the lines tell: those of the server's, in the
-  -- window. Of all others nothing is counted, but of those that aren't the server's how many.
-  pub record Counts (r : Report) : Type 0 where
+  -- window. Of all others nothing is counted, but of those that aren't the server's how many. For a
+  -- picture something is counted if one is drawn.
+  pub record Counts (drawn : Bool) (r : Report) : Type 0 where
+    pub drawn_is : r.course.drawn ≡ drawn
     pub lines_told : r.lines ≡ capped (count_by (λ line. is_some (told window line)) lines)
     pub foreign : r.foreign ≡ capped (count_by (λ line. is_none (event_in line)) lines)
     pub lost : r.lost ≡ total lost_in
@@ -62,6 +65,10 @@ module _ (window : Window) (lines : List (List ℕ)) where
     pub cut_events : IsTally 256 (all_names (app_names of_app.CutEvent)) r.cut_events
     pub ended : IsTally 256 (all_names (event_names of_event.Ended)) r.ended
     pub results : IsTally 256 (all_names (event_names of_event.Result)) r.results
+    pub versions : IsTally 256 (all_names (if_drawn drawn version_names)) r.course.versions
+    pub by_minute :
+        IsTally 65536 (all_names (if_drawn drawn minute_names)) r.course.by_minute
+    pub by_hour : IsTally 262144 (all_names (if_drawn drawn hour_names)) r.course.by_hour
 
 -- ---- of one line more
 
@@ -97,3 +104,4 @@ pub record Adds (event line : Option Data) (old new : Report) : Type 0 where
   pub cut_events : Notes old.cut_events new.cut_events (names_if (app_names of_app.CutEvent) line)
   pub ended : Notes old.ended new.ended (names_if (event_names of_event.Ended) line)
   pub results : Notes old.results new.results (names_if (event_names of_event.Result) line)
+  pub course : AddsCourse line old.course new.course

@@ -8,9 +8,10 @@ use Rattle.std.specs.Str.{byte}
 use Rattle.serde_json.specs.Data.{Data, Items, no_items, item}
 use Rattle.report.specs.Tallies.{Name}
 use Rattle.report.specs.Told.{text_in, number_in, list_in, is_number, value_of}
-use Rattle.report.specs.Names.{three, if_holds, listed, text_or_mark}
+use Rattle.report.specs.Names.{two, three, mark, if_holds, listed, text_or_mark}
 use Rattle.report.specs.declared.question.EventQuestion.{EventQuestion}
-use Rattle.report.specs.declared.question.EventQuestion.TheVariants.{Ended, Result}
+use Rattle.report.specs.declared.question.EventQuestion.TheVariants.{Ended, Result, FailedTo}
+use Rattle.report.specs.declared.question.EventQuestion.TheVariants.{FailedAt}
 
 -- ---- the objects of a text
 
@@ -44,10 +45,13 @@ from_version app event =
     unwrap_or (text_in (codes "previousversion") event)
     (text_or_mark (text_in (codes "version") app))
 
+-- and the one to which it was
+abbrev pub to_version : Data → List ℕ
+to_version event = text_or_mark (text_in (codes "nextversion") event)
+
 -- from that version to the one that the event tells
 abbrev pub install_name : Data → List ℕ → Data → Name
-install_name app appid event =
-    three appid (from_version app event) (text_or_mark (text_in (codes "nextversion") event))
+install_name app appid event = three appid (from_version app event) (to_version event)
 
 -- 1 is a success and 0 a failure (Omaha 3.1)
 abbrev pub result_text : Option ℕ → List ℕ
@@ -59,13 +63,28 @@ result_name app appid event =
     result_text (number_in (codes "eventresult") event) ++ codes "\t"
     ++ install_name app appid event
 
+-- an install that failed
+abbrev pub is_failure : Data → Bool
+is_failure event =
+    is_install event && is_number 0 (number_in (codes "eventresult") event)
+
 abbrev pub install_told : EventQuestion → Data → List ℕ → Data → Name
 install_told Ended app appid event = install_name app appid event
 install_told Result app appid event = result_name app appid event
+install_told FailedTo app appid event = two appid (to_version event)
+install_told (FailedAt moment) app appid event =
+    mark (codes "failures") appid (to_version event) moment
+
+-- whether the question is about such an event
+abbrev pub is_asked : EventQuestion → Data → Bool
+is_asked Ended event = is_install event
+is_asked Result event = is_install event
+is_asked FailedTo event = is_failure event
+is_asked (FailedAt moment) event = is_failure event
 
 abbrev pub event_name : EventQuestion → Data → List ℕ → Data → Option Name
 event_name question app appid event =
-    if_holds (is_install event) (install_told question app appid event)
+    if_holds (is_asked question event) (install_told question app appid event)
 
 -- ---- the events of an app, and of all apps of a line
 

@@ -4,6 +4,7 @@ pub mod Told
 pub mod Names
 pub mod Events
 pub mod Counts
+pub mod Courses
 pub mod Reading
 pub mod Screen
 pub mod Exposition

@@ -13,7 +13,8 @@ use Rattle.report.specs.declared.question.AppQuestion.{AppQuestion}
 use Rattle.report.specs.declared.question.AppQuestion.TheVariants.{Asked, Offered, Unoffered}
 use Rattle.report.specs.declared.question.AppQuestion.TheVariants.{Hour, Bucket, Unknown}
 use Rattle.report.specs.declared.question.AppQuestion.TheVariants.{WithoutCohort, WithoutId}
-use Rattle.report.specs.declared.question.AppQuestion.TheVariants.{CutEvent}
+use Rattle.report.specs.declared.question.AppQuestion.TheVariants.{CutEvent, AskedBy, AskedAt}
+use Rattle.report.specs.declared.question.AppQuestion.TheVariants.{OfferedAt}
 use Rattle.report.specs.declared.question.LineQuestion.{LineQuestion}
 use Rattle.report.specs.declared.question.LineQuestion.TheVariants.{Kind, Refusal, Load}
 
@@ -30,6 +31,11 @@ three a b c = printed a ++ codes "\t" ++ printed b ++ codes "\t" ++ printed c
 
 abbrev pub decimal_text : ℕ → List ℕ
 decimal_text n = decimal n
+
+-- what is counted, of which app and version, and in which minute or hour
+abbrev pub mark : List ℕ → List ℕ → List ℕ → ℕ → Name
+mark what appid version moment =
+    three what appid version ++ codes "\t" ++ decimal_text moment
 
 abbrev pub if_holds : Bool → Name → Option Name
 if_holds holds name = if holds then Some name else None
@@ -94,6 +100,22 @@ bucket_name line app appid =
     if has_asked line app
     then option_map (λ n. two appid (decimal n)) (number_in (codes "bucket") app) else None
 
+abbrev pub asked_by : Data → Data → List ℕ → Option Name
+asked_by line app appid = if_holds (has_asked line app) (two appid (version_of app))
+
+-- in this minute or hour
+abbrev pub asked_at : ℕ → Data → Data → List ℕ → Option Name
+asked_at moment line app appid =
+    if_holds (has_asked line app) (mark (codes "asks") appid (version_of app) moment)
+
+abbrev pub offer_at : ℕ → List ℕ → List ℕ → Name
+offer_at moment appid release = mark (codes "offers") appid release moment
+
+abbrev pub offered_at : ℕ → Data → Data → List ℕ → Option Name
+offered_at moment line app appid =
+    if is_answered line
+    then option_map (offer_at moment appid) (text_in (codes "release") app) else None
+
 abbrev pub named : AppQuestion → Data → Data → List ℕ → Option Name
 named Asked line app appid = if_holds (has_asked line app) (one appid)
 named Offered line app appid = offered line app appid
@@ -104,6 +126,9 @@ named Unknown line app appid = if_holds (is_unknown app) (one appid)
 named WithoutCohort line app appid = if_holds (is_unnamed app) (one appid)
 named WithoutId line app appid = if_holds (has_no_id app) (one appid)
 named CutEvent line app appid = if_holds (has_cut_event app) (one appid)
+named AskedBy line app appid = asked_by line app appid
+named (AskedAt moment) line app appid = asked_at moment line app appid
+named (OfferedAt moment) line app appid = offered_at moment line app appid
 
 -- one name of each app, at most
 abbrev pub app_name : AppQuestion → Data → Data → Option Name

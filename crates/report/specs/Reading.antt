@@ -1,14 +1,14 @@
 -- What is counted of bytes that are read one piece after another.
-use Rattle.std.specs.Prelude.{◌≡◌, List, ℕ, ◌++◌, Option, IfSome}
+use Rattle.std.specs.Prelude.{◌≡◌, List, ℕ, ◌++◌, Bool, Option, IfSome}
 use Rattle.report.specs.Counts.{Counts}
 use Rattle.report.specs.Lines.{lines_behind, lines_in}
 use Rattle.report.specs.declared.counting.Report.{Report}
 use Rattle.report.specs.declared.window.Window.{Window}
 
--- whatever lines were counted before, these are counted behind them
+-- whatever lines were counted before, for a picture or not, these are counted behind them
 pub record CountsLines (window : Window) (lines : List (List ℕ)) (old new : Report) : Type 0 where
-  pub behind : (before : List (List ℕ))
-      → Counts window before old → Counts window (before ++ lines) new
+  pub behind : (drawn : Bool) (before : List (List ℕ))
+      → Counts window before drawn old → Counts window (before ++ lines) drawn new
 
 -- Behind a block: whatever bytes follow it, when their lines are counted then those of both are.
 -- Each time a beginning of a line stands before the bytes.

@@ -7,6 +7,7 @@ ghost use Rattle.report.specs.Counts as specs;
 ghost use Rattle.report.specs.Reading.{CountsLines};
 ghost use Rattle.report.specs.Told.{event_in, if_within, told};
 
+use crate::course::Course;
 use crate::names::is_kind;
 use crate::note::{note_apps, note_ends, note_line};
 use crate::question::{AppQuestion, EventQuestion, LineQuestion};
@@ -59,12 +60,14 @@ pub struct Report {
     /// Installs by app, version and next version, and by these and the result.
     pub ended: Tally,
     pub results: Tally,
+    /// What a picture is drawn by.
+    pub course: Course,
 }
 
 impl Report {
-    /// Nothing yet.
-    pub fn new(alloc: Global) -> Report
-        ensures { (window : Window) → specs.Counts window [] result }
+    /// Nothing yet, of logs of which a picture is drawn or none.
+    pub fn new(alloc: Global, drawn: bool) -> Report
+        ensures { (window : Window) → specs.Counts window [] drawn result }
     {
         Report {
             lines: 0,
@@ -86,6 +89,7 @@ impl Report {
             cut_events: Tally::new(alloc, NAMES),
             ended: Tally::new(alloc, NAMES),
             results: Tally::new(alloc, NAMES),
+            course: Course::new(alloc, drawn),
         }
     }
 
@@ -179,6 +183,7 @@ impl Report {
         note_apps(alloc, &mut self.cut_events, AppQuestion::CutEvent, event)?;
         note_ends(alloc, &mut self.ended, EventQuestion::Ended, event)?;
         note_ends(alloc, &mut self.results, EventQuestion::Result, event)?;
+        self.course.note(alloc, event)?;
         Ok(())
     }
 }

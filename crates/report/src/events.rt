@@ -8,7 +8,7 @@ ghost use Rattle.serde_json.specs.View.{view, items_view};
 ghost use Rattle.report.specs.Events as specs;
 ghost use Rattle.report.specs.Tallies.{Notes};
 
-use crate::names::{decimal, text_or_mark, three};
+use crate::names::{decimal, mark, text_or_mark, three, two};
 use crate::question::EventQuestion;
 use crate::tally::{Tally, note_if, note_nothing};
 use crate::told::{is_number, number_in, text_in, value_of};
@@ -159,13 +159,34 @@ fn event_name(
     ensures { IfOk result (λ name. option_map string_bytes name
         ≡ specs.event_name question (view app.now) appid.now (view event.now)) }
 {
-    if !is_install(event) {
+    if !is_asked(question, event) {
         return Ok(None);
     }
     match question {
         EventQuestion::Ended => Ok(Some(install_name(alloc, app, appid, event)?)),
         EventQuestion::Result => Ok(Some(result_name(alloc, app, appid, event)?)),
+        EventQuestion::FailedTo => Ok(Some(two(alloc, appid, to_version(event))?)),
+        EventQuestion::FailedAt(moment) => {
+            let name = mark(alloc, "failures", appid, to_version(event), moment)?;
+            Ok(Some(name))
+        }
     }
+}
+
+// Whether the question is about such an event.
+fn is_asked(question: EventQuestion, event: &Value) -> bool
+    ensures { result ≡ specs.is_asked question (view event.now) }
+{
+    match question {
+        EventQuestion::Ended | EventQuestion::Result => is_install(event),
+        EventQuestion::FailedTo | EventQuestion::FailedAt(_) => is_failure(event),
+    }
+}
+
+fn is_failure(event: &Value) -> bool
+    ensures { result ≡ specs.is_failure (view event.now) }
+{
+    is_install(event) && is_number(0, number_in(event, "eventresult"))
 }
 
 fn is_install(event: &Value) -> bool
@@ -184,8 +205,13 @@ fn install_name(
     ensures { IfOk result (λ name. string_bytes name
         ≡ specs.install_name (view app.now) appid.now (view event.now)) }
 {
-    let to = text_or_mark(text_in(event, "nextversion"));
-    three(alloc, appid, from_version(app, event), to)
+    three(alloc, appid, from_version(app, event), to_version(event))
+}
+
+fn to_version<'a>(event: &'a Value) -> &'a str
+    ensures { result.now ≡ specs.to_version (view event.now) }
+{
+    text_or_mark(text_in(event, "nextversion"))
 }
 
 fn from_version<'a>(app: &'a Value, event: &'a Value) -> &'a str

@@ -7,6 +7,7 @@
 #![tactic(auto)]
 
 mod counting;
+mod course;
 mod events;
 mod exposition;
 mod labels;
@@ -21,6 +22,7 @@ mod told;
 mod window;
 
 pub use counting::Report;
+pub use course::Course;
 pub use exposition::exposition_text;
 pub use lines::{LogOnlooker, count_log};
 pub use question::{AppQuestion, EventQuestion, LineQuestion};

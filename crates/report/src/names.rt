@@ -52,6 +52,9 @@ fn named(
         AppQuestion::WithoutCohort => if_holds(alloc, is_unnamed(app), appid),
         AppQuestion::WithoutId => if_holds(alloc, has_no_id(app), appid),
         AppQuestion::CutEvent => if_holds(alloc, has_cut_event(app), appid),
+        AppQuestion::AskedBy => asked_by(alloc, line, app, appid),
+        AppQuestion::AskedAt(moment) => asked_at(alloc, line, app, appid, moment),
+        AppQuestion::OfferedAt(moment) => offered_at(alloc, line, app, appid, moment),
     }
 }
 
@@ -167,6 +170,56 @@ fn hour_of<'a>(line: &'a Value) -> &'a str
     match time.split_once(':') {
         Some((hour, _)) => hour,
         None => time,
+    }
+}
+
+fn asked_by(
+    alloc: Global,
+    line: &Value,
+    app: &Value,
+    appid: &str,
+) -> Result<Option<String>, AllocError>
+    ensures { IfOk result (λ name. option_map string_bytes name
+        ≡ specs.asked_by (view line.now) (view app.now) appid.now) }
+{
+    if !has_asked(line, app) {
+        return Ok(None);
+    }
+    Ok(Some(two(alloc, appid, version_of(app))?))
+}
+
+fn asked_at(
+    alloc: Global,
+    line: &Value,
+    app: &Value,
+    appid: &str,
+    moment: u64,
+) -> Result<Option<String>, AllocError>
+    ensures { IfOk result (λ name. option_map string_bytes name
+        ≡ specs.asked_at moment (view line.now) (view app.now) appid.now) }
+{
+    if !has_asked(line, app) {
+        return Ok(None);
+    }
+    Ok(Some(mark(alloc, "asks", appid, version_of(app), moment)?))
+}
+
+fn offered_at(
+    alloc: Global,
+    line: &Value,
+    app: &Value,
+    appid: &str,
+    moment: u64,
+) -> Result<Option<String>, AllocError>
+    ensures { IfOk result (λ name. option_map string_bytes name
+        ≡ specs.offered_at moment (view line.now) (view app.now) appid.now) }
+{
+    if !is_answered(line) {
+        return Ok(None);
+    }
+    match text_in(app, "release") {
+        Some(release) => Ok(Some(mark(alloc, "offers", appid, release, moment)?)),
+        None => Ok(None),
     }
 }
 
@@ -292,7 +345,8 @@ fn push_printed(name: &mut String, text: &str) -> Result<(), AllocError>
     write!(name, "{text}")
 }
 
-fn two(alloc: Global, a: &str, b: &str) -> Result<String, AllocError>
+/// Two texts.
+pub(crate) fn two(alloc: Global, a: &str, b: &str) -> Result<String, AllocError>
     ensures { IfOk result (λ s. string_bytes s ≡ specs.two a.now b.now) }
 {
     let mut name = one(alloc, a)?;
@@ -308,6 +362,22 @@ pub(crate) fn three(alloc: Global, a: &str, b: &str, c: &str) -> Result<String, 
     let mut name = two(alloc, a, b)?;
     name.push_str("\t")?;
     push_printed(&mut name, c)?;
+    Ok(name)
+}
+
+/// What is counted, of which app and version, and in which minute or hour.
+pub(crate) fn mark(
+    alloc: Global,
+    what: &str,
+    appid: &str,
+    version: &str,
+    moment: u64,
+) -> Result<String, AllocError>
+    ensures { IfOk result (λ s. string_bytes s ≡ specs.mark what.now appid.now version.now moment) }
+{
+    let mut name = three(alloc, what, appid, version)?;
+    name.push_str("\t")?;
+    name.push_str(decimal(alloc, moment)?.as_str())?;
     Ok(name)
 }
 

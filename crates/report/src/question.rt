@@ -21,6 +21,12 @@ pub enum AppQuestion {
     WithoutId,
     /// Some of its event is left out.
     CutEvent,
+    /// The version that asked.
+    AskedBy,
+    /// The same in this minute or hour, counted from 1970 on.
+    AskedAt(u64),
+    /// The release that was offered in this minute or hour.
+    OfferedAt(u64),
 }
 
 /// Of a line.
@@ -41,4 +47,8 @@ pub enum EventQuestion {
     Ended,
     /// These and the result.
     Result,
+    /// A failure: the version to which it was.
+    FailedTo,
+    /// The same in this minute or hour, counted from 1970 on.
+    FailedAt(u64),
 }

@@ -37,6 +37,13 @@ impl Tally {
         self.rows.get(name).copied()
     }
 
+    /// The rows, by their names.
+    pub fn rows(&self) -> &BTreeMap<String, u64>
+        ensures { result.now ≡ self.now.rows }
+    {
+        &self.rows
+    }
+
     /// How often names were counted that have none.
     pub fn others(&self) -> u64
         ensures { result ≡ self.now.others }

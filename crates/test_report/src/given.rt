@@ -20,7 +20,16 @@ impl LogOnlooker for Nobody {
 
 /// The report of these lines.
 pub(crate) fn report_of(alloc: Global, log: &str, window: &Window<'_>) -> io::Result<Report> {
-    let mut report = Report::new(alloc);
+    report_by(alloc, log, window, false)
+}
+
+/// The same, by which a picture may be drawn.
+pub(crate) fn drawn_report_of(alloc: Global, log: &str) -> io::Result<Report> {
+    report_by(alloc, log, &ALWAYS, true)
+}
+
+fn report_by(alloc: Global, log: &str, window: &Window<'_>, drawn: bool) -> io::Result<Report> {
+    let mut report = Report::new(alloc, drawn);
     let mut bytes = log.as_bytes();
     count_log(alloc, &mut bytes, window, &mut report, &mut Nobody {})?;
     Ok(report)

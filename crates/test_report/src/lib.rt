@@ -2,9 +2,13 @@
 #![tactic(auto)]
 
 #[cfg(test)]
+mod calendars;
+#[cfg(test)]
 mod given;
 #[cfg(test)]
 mod limits;
+#[cfg(test)]
+mod pictures;
 #[cfg(test)]
 mod texts;
 #[cfg(test)]

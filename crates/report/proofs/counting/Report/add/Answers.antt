@@ -28,4 +28,5 @@ returns c = record {
   cut_events = c.in_ok-note_apps-9.ensures;
   ended = c.in_ok-note_ends.ensures;
   results = c.in_ok-note_ends-2.ensures;
+  course = c.in_ok-note.ensures;
 }

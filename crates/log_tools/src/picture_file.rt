@@ -1,0 +1,58 @@
+//! The file of a report's picture, which is none of the logs.
+
+use crate::reporting::path_of;
+use bounded_files::{ResourceFault, may_write_over, write_file};
+use std::fs::{self, Metadata};
+use std::os::unix::fs::MetadataExt;
+use std::rt::Files;
+
+/// How a file begins that a picture may be written over.
+const BEGINNING: &[u8; 4] = b"<svg";
+
+/// Refuses to draw into a file that is one of the logs, by whatever path, and into one that is no
+/// picture and not empty.
+pub(crate) fn require_drawable<R: Files>(
+    rt: &R,
+    logs: &[&str],
+    file: Option<&str>,
+) -> Result<(), ResourceFault> {
+    let Some(path) = file else {
+        return Ok(());
+    };
+    if is_among(rt, path, logs) || !may_write_over(rt, path, BEGINNING) {
+        return Err(ResourceFault::File);
+    }
+    Ok(())
+}
+
+/// Writes the picture into the file that is named.
+pub(crate) fn write_picture<R: Files + AllocGlobal>(
+    rt: &R,
+    file: Option<&str>,
+    picture: &Option<String>,
+) -> Result<(), ResourceFault> {
+    match (file, picture) {
+        (Some(path), Some(picture)) => write_file(rt, path, picture.as_bytes()),
+        _ => Ok(()),
+    }
+}
+
+// Whether a path leads to one of the logs, links followed.
+fn is_among<R: Files>(rt: &R, path: &str, logs: &[&str]) -> bool {
+    let Ok(found) = fs::metadata(rt, path) else {
+        return false;
+    };
+    for log in logs {
+        if is_same(rt, &found, path_of(*log)) {
+            return true;
+        }
+    }
+    false
+}
+
+fn is_same<R: Files>(rt: &R, found: &Metadata, log: &str) -> bool {
+    match fs::metadata(rt, log) {
+        Ok(other) => other.dev() == found.dev() && other.ino() == found.ino(),
+        Err(_) => false,
+    }
+}

@@ -1,0 +1,55 @@
+//! Days of the Gregorian calendar in UTC, counted from the beginning of 1970, and minutes.
+
+ghost use Rattle.std.specs.Prelude.{◌≡◌, ◌≤◌};
+ghost use Rattle.moments.specs.Calendar as specs;
+
+use jiff_core::civil::Date;
+use jiff_fmt::temporal::parse_timestamp;
+
+/// A date of the Gregorian calendar. `of_day` gives it.
+#[derive(Clone, Copy)]
+pub struct CivilDate {
+    pub year: u64,
+    /// From 1 to 12.
+    pub month: u64,
+    /// From 1 to 31.
+    pub day: u64,
+}
+
+impl CivilDate {
+    /// The date so many days after the first of January 1970; the last is that of 9999.
+    pub fn of_day(day: u64) -> CivilDate
+        requires { day ≤ 2932896 }
+        ensures { result ≡ specs.date_of day }
+    {
+        match Date::from_unix_epoch_day(day as i64) {
+            Ok(date) => CivilDate {
+                year: date.year as u64,
+                month: date.month as u64,
+                day: date.day as u64,
+            },
+            Err(_) => unreachable!(),
+        }
+    }
+}
+
+/// How many minutes after 1970 began the time is that a text names by RFC 3339, as a server's log
+/// has it: `2026-11-25T08:00:00.012Z`. None of a time before 1970.
+pub fn minute_in(text: &str) -> Option<u64>
+    ensures { result ≡ specs.minute_in text.now }
+{
+    match parse_timestamp(text.as_bytes()) {
+        Ok(time) => minute_of_second(time.floor_second()),
+        Err(_) => None,
+    }
+}
+
+fn minute_of_second(second: i64) -> Option<u64>
+    ensures { result ≡ specs.minute_of_second second }
+{
+    if second < 0 {
+        None
+    } else {
+        Some(second as u64 / 60)
+    }
+}

@@ -1,0 +1,152 @@
+//! What is counted for a picture of a log's course: how often each version asked, was offered, and
+//! failed to be installed, by the minute and by the hour.
+
+ghost use Rattle.std.specs.Prelude.{◌≡◌, [], None, Some, OnOk, Option, true, false};
+ghost use Rattle.serde_json.specs.Data.{Data};
+ghost use Rattle.serde_json.specs.View.{view};
+ghost use Rattle.report.specs.Courses as specs;
+ghost use Rattle.report.specs.Tallies.{IsTally, Notes};
+
+use crate::note::{note_apps, note_ends};
+use crate::question::{AppQuestion, EventQuestion};
+use crate::tally::{Tally, note_nothing};
+use crate::told::text_in;
+use moments::minute_in;
+use serde_json::Value;
+use std::alloc::{AllocError, Global};
+
+/// How many rows the tables have: versions, by the minute, and by the hour.
+const VERSIONS: usize = 256;
+
+const MINUTE_ROWS: usize = 65536;
+
+const HOUR_ROWS: usize = 262144;
+
+/// The tables of a picture.
+#[derive(Drop)]
+pub struct Course {
+    /// Whether anything is counted.
+    pub drawn: bool,
+    /// The versions of each app, as `editor 2.1` with a tab between them.
+    pub versions: Tally,
+    /// What is counted, of which app and version, in which minute from 1970 on: `asks`, `offers` or
+    /// `failures`, with tabs between the four.
+    pub by_minute: Tally,
+    /// The same by the hour.
+    pub by_hour: Tally,
+}
+
+impl Course {
+    /// Nothing yet, and nothing ever where no picture is drawn.
+    pub fn new(alloc: Global, drawn: bool) -> Course
+        ensures drawn { result.drawn ≡ drawn }
+        ensures versions { IsTally 256 [] result.versions }
+        ensures by_minute { IsTally 65536 [] result.by_minute }
+        ensures by_hour { IsTally 262144 [] result.by_hour }
+    {
+        Course {
+            drawn,
+            versions: Tally::new(alloc, VERSIONS),
+            by_minute: Tally::new(alloc, MINUTE_ROWS),
+            by_hour: Tally::new(alloc, HOUR_ROWS),
+        }
+    }
+
+    /// Counts what a line says.
+    pub(crate) fn note(&mut self, alloc: Global, line: &Value) -> Result<(), AllocError>
+        ensures { OnOk result (specs.AddsCourse (Some (view line.now)) self.old self.new) }
+    {
+        if self.drawn {
+            return self.note_drawn(alloc, line);
+        }
+        self.note_none();
+        Ok(())
+    }
+
+    #[tactic(auto, using(crate::proofs::Tallied::notes_none))]
+    fn note_none(&mut self)
+        requires { self.old.drawn ≡ false }
+        ensures { (line : Option Data) → specs.AddsCourse line self.old self.new }
+    {}
+
+    fn note_drawn(&mut self, alloc: Global, line: &Value) -> Result<(), AllocError>
+        requires { self.old.drawn ≡ true }
+        ensures { OnOk result (specs.AddsCourse (Some (view line.now)) self.old self.new) }
+    {
+        let minute = minute_of(line);
+        note_versions(alloc, &mut self.versions, line)?;
+        note_moment(alloc, &mut self.by_minute, minute, line)?;
+        note_moment(alloc, &mut self.by_hour, hour_from(minute), line)?;
+        Ok(())
+    }
+}
+
+// The minute of a line, and its hour.
+fn minute_of(line: &Value) -> Option<u64>
+    ensures { result ≡ specs.minute_of (view line.now) }
+{
+    match text_in(line, "time") {
+        Some(time) => minute_in(time),
+        None => None,
+    }
+}
+
+fn hour_from(minute: Option<u64>) -> Option<u64>
+    ensures { result ≡ specs.hour_from minute }
+{
+    match minute {
+        Some(minute) => Some(minute / 60),
+        None => None,
+    }
+}
+
+fn note_versions(alloc: Global, tally: &mut Tally, line: &Value) -> Result<(), AllocError>
+    ensures { OnOk result (Notes tally.old tally.new (specs.version_names (view line.now))) }
+{
+    note_three(
+        alloc,
+        tally,
+        AppQuestion::AskedBy,
+        AppQuestion::Offered,
+        EventQuestion::FailedTo,
+        line,
+    )
+}
+
+fn note_moment(
+    alloc: Global,
+    tally: &mut Tally,
+    moment: Option<u64>,
+    line: &Value,
+) -> Result<(), AllocError>
+    ensures { OnOk result (Notes tally.old tally.new (specs.names_at (view line.now) moment)) }
+{
+    match moment {
+        Some(moment) => note_three(
+            alloc,
+            tally,
+            AppQuestion::AskedAt(moment),
+            AppQuestion::OfferedAt(moment),
+            EventQuestion::FailedAt(moment),
+            line,
+        ),
+        None => note_nothing(tally),
+    }
+}
+
+fn note_three(
+    alloc: Global,
+    tally: &mut Tally,
+    asks: AppQuestion,
+    offers: AppQuestion,
+    failures: EventQuestion,
+    line: &Value,
+) -> Result<(), AllocError>
+    ensures { OnOk result (Notes tally.old tally.new
+        (specs.three_names asks offers failures (view line.now))) }
+{
+    note_apps(alloc, tally, asks, line)?;
+    note_apps(alloc, tally, offers, line)?;
+    note_ends(alloc, tally, failures, line)?;
+    Ok(())
+}

@@ -1,0 +1,53 @@
+//! Days of the calendar, and minutes of a log's times.
+
+use moments::{CivilDate, minute_in};
+use std::alloc::Global;
+use std::test::Fail;
+
+/// A date, its year, month and day, and how many days after 1970 began it is.
+const DAYS: [(&str, u64, u64, u64, u64); 11] = [
+    ("1970-01-01", 1970, 1, 1, 0),
+    ("1972-02-29", 1972, 2, 29, 789),
+    ("1999-12-31", 1999, 12, 31, 10956),
+    ("2000-02-29", 2000, 2, 29, 11016),
+    ("2000-03-01", 2000, 3, 1, 11017),
+    ("2024-02-29", 2024, 2, 29, 19782),
+    ("2026-11-25", 2026, 11, 25, 20782),
+    ("2100-02-28", 2100, 2, 28, 47540),
+    ("2100-03-01", 2100, 3, 1, 47541),
+    ("2400-02-29", 2400, 2, 29, 157113),
+    ("9999-12-30", 9999, 12, 30, 2932895),
+];
+
+#[test]
+fn days_have_dates(rt: HostRuntime) -> Result<(), Fail> {
+    for (text, year, month, day, number) in &DAYS {
+        let date = CivilDate::of_day(*number);
+        assert_eq!(rt; (date.year, date.month, date.day), (*year, *month, *day));
+        let time = format!(in rt.alloc(); "{text}T12:34:56.789Z")?;
+        assert_eq!(rt; minute_in(&time), Some(*number * 1440 + 754));
+    }
+    let last = CivilDate::of_day(2932896);
+    assert_eq!(rt; (last.year, last.month, last.day), (9999, 12, 31));
+    Ok(())
+}
+
+/// What is no time of a log.
+const NONE: [&str; 8] = [
+    "",
+    "2026-11-25",
+    "2026-02-30T00:00:00.000Z",
+    "2026-11-25T24:00:00.000Z",
+    "2026-11-25T23:60:00.000Z",
+    "2026-13-01T00:00:00.000Z",
+    "1969-12-31T23:59:59.999Z",
+    "today",
+];
+
+#[test]
+fn other_texts_have_no_minute(rt: HostRuntime) -> Result<(), Fail> {
+    for text in &NONE {
+        assert_eq!(rt; minute_in(text), None);
+    }
+    Ok(())
+}

@@ -1,0 +1,12 @@
+use Rattle.std.proofs.Common.{◌≡◌, length}
+use Rattle.timeline.specs.Marks.{drawn_by}
+use Rattle.timeline.proofs.Raised.{raised_each}
+use Rattle.timeline.proofs.counts.raise.Given as goal
+
+-- the numbers so far, raised by the rows that are left, are those raised by all
+abbrev pub invariant-loop-name : goal.invariant-loop-name
+invariant-loop-name l = record {
+  each : raised_each l.bins (drawn_by l.drawn) l.name-iterator l.numbers
+      ≡ raised_each l.bins (drawn_by l.drawn) l.rows.entries l.fn.numbers;
+  all : length l.numbers ≡ length l.fn.numbers;
+}

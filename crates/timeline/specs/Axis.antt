@@ -1,0 +1,64 @@
+-- The axis of time: a tick at each multiple of a step that lies within the bins, with the time and
+-- the date below it. Minutes are counted from 1970 on, in UTC, and places in pixels.
+use Rattle.std.specs.Prelude.{ℕ, ◌+◌, ◌-◌, ◌*◌, ◌/◌, List, [], ◌∷◌, ◌++◌, codes, decimal, nat_lt}
+use Rattle.std.specs.Prelude.{Bool, ◌&&◌, if◌then◌else◌}
+use Rattle.std.specs.Int.{div_ceil}
+use Rattle.std.specs.List.{flat_map, range_with_len}
+use Rattle.timeline.specs.Clocks.{clock_of_minute, date_of_minute}
+use Rattle.timeline.specs.declared.bins.Bins.{Bins}
+
+-- where a minute stands: strips are 780 wide, 60 from the left
+abbrev pub across : Bins → ℕ → ℕ
+across bins minute = 60 + (minute - bins.start) * 780 / bins.span
+
+-- ---- the step
+
+abbrev pub is_wide : (span step : ℕ) → Bool
+is_wide span step = nat_lt 0 step && nat_lt (span / step) 8
+
+-- the first of these by which there are at most 9 ticks, or else one that is wide enough
+abbrev pub step_among : ℕ → List ℕ → ℕ
+step_among span [] = span / 7 + 1
+step_among span (step ∷ steps) =
+    if is_wide span step then step else step_among span steps
+
+-- from a minute up to eight weeks
+abbrev pub steps : List ℕ
+steps =
+    1 ∷ 2 ∷ 5 ∷ 10 ∷ 15 ∷ 30 ∷ 60 ∷ 120 ∷ 180 ∷ 360 ∷ 720 ∷ 1440 ∷ 2880 ∷ 5760 ∷ 10080 ∷ 20160
+    ∷ 40320 ∷ 80640 ∷ []
+
+-- ---- ticks
+
+-- a text whose middle stands there
+unfoldable pub place_opens : List ℕ
+place_opens = codes "<text text-anchor=\"middle\" font-size=\"12\" x=\""
+
+abbrev pub text_at : (x y : ℕ) → List ℕ
+text_at x y = place_opens ++ decimal x ++ codes "\" y=\"" ++ decimal y ++ codes "\">"
+
+abbrev pub time_at : (x minute : ℕ) → List ℕ
+time_at x minute =
+    text_at x 410 ++ clock_of_minute minute ++ codes "</text>" ++ text_at x 425
+    ++ date_of_minute minute ++ codes "</text>\n"
+
+unfoldable pub line_opens : List ℕ
+line_opens = codes "<path stroke=\"rgb(90,90,90)\" d=\"M"
+
+abbrev pub tick_line : (x : ℕ) → List ℕ
+tick_line x = line_opens ++ decimal x ++ codes " 390v6\"/>"
+
+abbrev pub tick : Bins → (minute : ℕ) → List ℕ
+tick bins minute = tick_line (across bins minute) ++ time_at (across bins minute) minute
+
+abbrev pub tick_at : Bins → (step number : ℕ) → List ℕ
+tick_at bins step number = tick bins (number * step)
+
+-- from the first multiple in the bins to the last
+abbrev pub ticks : Bins → (step : ℕ) → List ℕ
+ticks bins step =
+    flat_map (tick_at bins step) (range_with_len (div_ceil bins.start step)
+    ((bins.start + bins.span) / step + 1 - div_ceil bins.start step))
+
+abbrev pub axis : Bins → List ℕ
+axis bins = ticks bins (step_among bins.span steps)

@@ -1,0 +1,125 @@
+-- The bins into which a log's time is cut: at most 200, of one width, that begin at round times. A
+-- number is a minute or an hour, counted from 1970 on.
+use Rattle.std.specs.Prelude.{ℕ, ◌+◌, ◌-◌, ◌*◌, ◌/◌, ◌<◌, ◌≤◌, List, [], ◌∷◌, ◌==◌, ◌&&◌}
+use Rattle.std.specs.Prelude.{nat_le, nat_lt, Bool, false, max, min, option_and_then, sum_by}
+use Rattle.std.specs.Prelude.{Option, Some, None, if◌then◌else◌, String, string_bytes, slice_index}
+use Rattle.std.specs.Prelude.{slice_set, replicate}
+use Rattle.std.specs.declared.alloc.Global.{Global}
+use Rattle.report.specs.Screen.{Rows}
+use Rattle.timeline.specs.Marks.{Drawn, any_moment, moment_of}
+use Rattle.timeline.specs.declared.bins.Bins.{Bins}
+use Rattle.timeline.specs.declared.bins.Reach.{Reach}
+
+-- ---- how far the rows reach
+
+abbrev pub wider : Option Reach → Option ℕ → Option Reach
+wider (Some reach) (Some n) =
+    Some (record { least = min reach.least n; greatest = max reach.greatest n })
+wider (Some reach) None = Some reach
+wider None (Some n) = Some (record { least = n; greatest = n })
+wider None None = None
+
+-- from the least number of these rows to the greatest
+abbrev pub reach_from : Option Reach → Rows → Option Reach
+reach_from so_far [] = so_far
+reach_from so_far (row ∷ rows) = reach_from (wider so_far (any_moment (string_bytes row.0))) rows
+
+-- ---- their width
+
+-- how many bins follow the first, where a bin has so many numbers
+abbrev pub further_bins : Reach → ℕ → ℕ
+further_bins reach width = reach.greatest / width - reach.least / width
+
+abbrev pub fits : Reach → ℕ → Bool
+fits reach width = nat_lt 0 width && nat_lt (further_bins reach width) 200
+
+-- the first of these widths by which there are at most 200 bins, or else one that is wide enough
+abbrev pub width_among : Reach → List ℕ → ℕ
+width_among reach [] = (reach.greatest - reach.least) / 199 + 1
+width_among reach (width ∷ widths) =
+    if fits reach width then width else width_among reach widths
+
+-- in minutes, and in hours
+abbrev pub minute_widths : List ℕ
+minute_widths = 1 ∷ 2 ∷ 5 ∷ 10 ∷ 15 ∷ 30 ∷ 60 ∷ []
+
+abbrev pub hour_widths : List ℕ
+hour_widths = 1 ∷ 2 ∷ 3 ∷ 6 ∷ 12 ∷ 24 ∷ 48 ∷ 168 ∷ 672 ∷ []
+
+-- ---- bins
+
+-- those of a width, of numbers that have so many minutes each
+abbrev pub bins_of : Reach → (unit width : ℕ) → Bins
+bins_of reach unit width = record {
+  unit = unit;
+  width = width;
+  first = reach.least / width;
+  count = further_bins reach width + 1;
+  start = reach.least / width * width * unit;
+  span = (further_bins reach width + 1) * width * unit;
+}
+
+abbrev pub bins_over : Reach → Bool → Bins
+bins_over reach by_hour =
+    if by_hour then bins_of reach 60 (width_among reach hour_widths)
+    else bins_of reach 1 (width_among reach minute_widths)
+
+-- there are at most 200 of them, and they end within the year 9999
+pub record AreBins (bins : Bins) : Type 0 where
+  pub wide : 0 < bins.width
+  pub few : bins.count ≤ 200
+  pub long : 0 < bins.span
+  pub early : bins.start + bins.span ≤ 4223371679
+
+-- the place of a number's bin, from 0 on
+abbrev pub place_in : Bins → ℕ → Option ℕ
+place_in bins place = if nat_lt place bins.count then Some place else None
+
+abbrev pub place_at : Bins → ℕ → Option ℕ
+place_at bins number =
+    if nat_le bins.first (number / bins.width)
+    then place_in bins (number / bins.width - bins.first) else None
+
+-- that of what was counted under a name, if it is drawn
+abbrev pub bin_of : Bins → Drawn → List ℕ → Option ℕ
+bin_of bins drawn name = option_and_then (place_at bins) (moment_of drawn name)
+
+-- ---- counts
+
+abbrev pub is_place : ℕ → Option ℕ → Bool
+is_place place (Some other) = other == place
+is_place place None = false
+
+-- how often this was counted in a bin
+abbrev pub count_at : Bins → Drawn → ℕ → String Global × ℕ → ℕ
+count_at bins drawn place row =
+    if is_place place (bin_of bins drawn (string_bytes row.0)) then row.1 else 0
+
+abbrev pub count_in : Bins → Drawn → Rows → ℕ → ℕ
+count_in bins drawn rows place = sum_by (count_at bins drawn place) rows
+
+-- numbers, each with so many more by its place
+abbrev pub raised_from : (place : ℕ) → (ℕ → ℕ) → List ℕ → List ℕ
+raised_from place more [] = []
+raised_from place more (n ∷ numbers) =
+    (n + more place) ∷ raised_from (place + 1) more numbers
+
+-- and what was counted in each bin
+abbrev pub raised : Bins → Drawn → Rows → List ℕ → List ℕ
+raised bins drawn rows numbers = raised_from 0 (count_in bins drawn rows) numbers
+
+-- none in any bin, and what was counted in each
+abbrev pub zeros : Bins → List ℕ
+zeros bins = replicate bins.count 0
+
+abbrev pub counted : Bins → Drawn → Rows → List ℕ
+counted bins drawn rows = raised bins drawn rows (zeros bins)
+
+-- of one row: the number at its place is raised, if it has one
+abbrev pub raised_one : (place more : ℕ) → List ℕ → List ℕ
+raised_one place more numbers =
+    slice_set numbers place (slice_index numbers place + more)
+
+abbrev pub raised_at : Option ℕ → ℕ → List ℕ → List ℕ
+raised_at (Some place) more numbers = raised_one place more numbers
+raised_at None more numbers = numbers

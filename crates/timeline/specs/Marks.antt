@@ -1,0 +1,61 @@
+-- The rows that a picture is drawn by: each tells what was counted, of which app and version, in
+-- which minute or hour from 1970 on, with tabs between the four, and how often.
+use Rattle.std.specs.Prelude.{ℕ, List, [], ◌∷◌, ◌==◌, Option, Some, None, option_and_then}
+use Rattle.std.specs.Prelude.{Bool, is_some, option_copied, if◌then◌else◌, sum_by}
+use Rattle.std.specs.Prelude.{String, string_bytes}
+use Rattle.std.specs.Str.{bytes_eq}
+use Rattle.std.specs.declared.alloc.Global.{Global}
+use Rattle.lexing.specs.Decimal.{decimal_within}
+use Rattle.report.specs.Exposition.{first, rest}
+use Rattle.report.specs.Screen.{Rows}
+use Rattle.timeline.specs.declared.marks.Series.{Series}
+
+-- ---- the texts of a name
+
+-- what stands behind this text, if the name begins with it
+abbrev pub rest_behind : List ℕ → List ℕ → Option (List ℕ)
+rest_behind text name = if bytes_eq (first name) text then Some (rest name) else None
+
+-- the same of any text, where none is asked for
+abbrev pub behind_any : Option (List ℕ) → List ℕ → Option (List ℕ)
+behind_any (Some text) name = rest_behind text name
+behind_any None name = Some (rest name)
+
+-- ---- rows by what they count
+
+-- what is drawn: asks, offers or failures of an app, of one of its versions or of all
+pub record Drawn : Type 0 where
+  pub what : List ℕ
+  pub app : List ℕ
+  pub version : Option (List ℕ)
+
+abbrev pub drawn_by : Series → Drawn
+drawn_by series = record {
+  what = series.what.now;
+  app = series.app.now;
+  version = option_copied series.version;
+}
+
+-- the minute or hour of a text; a server's log has times up to the year 9999
+abbrev pub moment_in : List ℕ → Option ℕ
+moment_in text = decimal_within 0 4300000000 text
+
+-- the minute or the hour of a name, if it counts this
+abbrev pub moment_of : Drawn → List ℕ → Option ℕ
+moment_of drawn name =
+    option_and_then (λ a. option_and_then (λ b. option_and_then moment_in
+    (behind_any drawn.version b)) (rest_behind drawn.app a)) (rest_behind drawn.what name)
+
+-- of any name
+abbrev pub any_moment : List ℕ → Option ℕ
+any_moment name = moment_in (rest (rest (rest name)))
+
+-- how often this was counted: of a name with its count, and of all rows
+abbrev pub count_if_named : Drawn → List ℕ → ℕ → ℕ
+count_if_named drawn name count = if is_some (moment_of drawn name) then count else 0
+
+abbrev pub count_if : Drawn → String Global × ℕ → ℕ
+count_if drawn row = count_if_named drawn (string_bytes row.0) row.1
+
+abbrev pub count_of : Rows → Drawn → ℕ
+count_of rows drawn = sum_by (count_if drawn) rows

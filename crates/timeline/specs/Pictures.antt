@@ -1,0 +1,174 @@
+-- The picture of a log's course, in SVG 1.1: for each app that was asked for a panel, in the order
+-- of their appids. Lengths and places are in pixels, and heights grow downwards.
+use Rattle.std.specs.Prelude.{ℕ, ◌+◌, ◌-◌, ◌*◌, List, [], ◌∷◌, ◌++◌, codes, decimal, length}
+use Rattle.std.specs.Prelude.{nat_lt, Bool, true, not, ◌&&◌, ◌==◌, Option, Some, None}
+use Rattle.std.specs.Prelude.{if◌then◌else◌, string_bytes}
+use Rattle.report.specs.declared.counting.Report.{Report}
+use Rattle.report.specs.declared.course.Course.{Course}
+use Rattle.report.specs.declared.tally.Tally.{Tally}
+use Rattle.svg.specs.Frames.{frame}
+use Rattle.svg.specs.Xml.{xml_text}
+use Rattle.timeline.specs.Axis.{axis}
+use Rattle.timeline.specs.Bins.{bins_over, reach_from}
+use Rattle.timeline.specs.Legends.{legend}
+use Rattle.timeline.specs.Loads.{loads}
+use Rattle.report.specs.Screen.{Rows}
+use Rattle.timeline.specs.Strips.{strips}
+use Rattle.timeline.specs.Versions.{versions_of}
+use Rattle.timeline.specs.declared.app_panel.PictureSource.{PictureSource}
+use Rattle.timeline.specs.declared.bins.Bins.{Bins}
+use Rattle.timeline.specs.declared.bins.Reach.{Reach}
+use Rattle.timeline.specs.declared.picture.Undrawn.{Undrawn}
+
+-- ---- what a picture is drawn by
+
+-- the rows of a table and their bins, and those of the versions and of the loads
+pub record Drawing : Type 0 where
+  pub rows : Rows
+  pub bins : Bins
+  pub versions : Rows
+  pub loads : Rows
+
+abbrev pub drawing_by : PictureSource → Drawing
+drawing_by source = record {
+  rows = source.rows.now.entries;
+  bins = source.bins;
+  versions = source.versions.now.entries;
+  loads = source.loads.now.entries;
+}
+
+-- ---- the panel of an app
+
+unfoldable pub panel_opens : List ℕ
+panel_opens = codes "<g transform=\"translate(0,"
+
+unfoldable pub title_opens : List ℕ
+title_opens = codes ")\">\n<text x=\"20\" y=\"20\">app "
+
+abbrev pub title_place : (top : ℕ) → List ℕ
+title_place top = panel_opens ++ decimal top ++ title_opens
+
+abbrev pub app_heading : (top : ℕ) → List ℕ → List ℕ
+app_heading top app = title_place top ++ xml_text app ++ codes "</text>\n"
+
+module _ (drawing : Drawing) where
+  abbrev pub times : List ℕ
+  times = axis drawing.bins ++ loads drawing.bins 0 drawing.loads
+
+  abbrev pub panel_of : (top : ℕ) → List ℕ → List (List ℕ) → List ℕ
+  panel_of top app versions =
+      app_heading top app ++ strips drawing.rows drawing.bins versions app ++ times
+      ++ legend drawing.rows app versions ++ codes "</g>\n"
+
+  abbrev pub versions_in : List ℕ → List (List ℕ)
+  versions_in app = versions_of app drawing.versions
+
+  unfoldable pub panel : (top : ℕ) → List ℕ → List ℕ
+  panel top app = panel_of top app (versions_in app)
+
+-- each version has 20 pixels, and 500 are around them
+abbrev pub end_of : (top : ℕ) → List (List ℕ) → ℕ
+end_of top versions = top + 500 + length versions * 20
+
+unfoldable pub panel_end : Drawing → (top : ℕ) → List ℕ → ℕ
+panel_end drawing top app = end_of top (versions_in drawing app)
+
+-- ---- all panels, from a height on
+
+abbrev pub panels : Drawing → (top : ℕ) → Rows → List ℕ
+panels drawing top [] = []
+panels drawing top (row ∷ rows) =
+    panel drawing top (string_bytes row.0)
+    ++ panels drawing (panel_end drawing top (string_bytes row.0)) rows
+
+abbrev pub panels_end : Drawing → (top : ℕ) → Rows → ℕ
+panels_end drawing top [] = top
+panels_end drawing top (row ∷ rows) =
+    panels_end drawing (panel_end drawing top (string_bytes row.0)) rows
+
+-- ---- above them
+
+unfoldable pub heading : List ℕ
+heading =
+    codes "<text x=\"20\" y=\"30\">The share of each version (grey: those beyond 256); "
+
+unfoldable pub bins_heading : List ℕ
+bins_heading = codes "dashed lines are loads. Times are in UTC. Minutes a bin: "
+
+abbrev pub heading_of : Bins → List ℕ
+heading_of bins =
+    heading ++ bins_heading ++ decimal (bins.width * bins.unit) ++ codes "</text>\n"
+
+-- what has no place in the picture, if anything
+abbrev pub number_of : ℕ → List ℕ → List ℕ
+number_of n what = if n == 0 then [] else codes " " ++ decimal n ++ what
+
+unfoldable pub undrawn_opens : List ℕ
+undrawn_opens = codes "<text x=\"20\" y=\"50\">Not drawn:"
+
+abbrev pub undrawn_text : Undrawn → List ℕ
+undrawn_text undrawn =
+    if (undrawn.counts == 0) && (undrawn.asks == 0) && (undrawn.loads == 0) then []
+    else undrawn_opens ++ number_of undrawn.counts (codes " counts")
+    ++ number_of undrawn.asks (codes " asks of other apps")
+    ++ number_of undrawn.loads (codes " loads") ++ codes "</text>\n"
+
+abbrev pub picture_head : (end : ℕ) → Bins → Undrawn → List ℕ
+picture_head end bins undrawn = frame end ++ heading_of bins ++ undrawn_text undrawn
+
+-- ---- the picture
+
+abbrev pub picture_by : Drawing → Rows → Undrawn → List ℕ
+picture_by drawing apps undrawn =
+    picture_head (panels_end drawing 60 apps) drawing.bins undrawn ++ panels drawing 60 apps
+    ++ codes "</svg>\n"
+
+unfoldable pub no_asks : List ℕ
+no_asks = codes "<text x=\"20\" y=\"30\">No ask with a time from 1970 on.</text>\n"
+
+abbrev pub picture_of_none : List ℕ
+picture_of_none = frame 60 ++ no_asks ++ codes "</svg>\n"
+
+-- The table by the minute is taken where it has all, and its time is shorter than 6000 minutes; or
+-- else the one by the hour.
+abbrev pub is_short : Option Reach → Bool
+is_short (Some reach) = nat_lt (reach.greatest - reach.least) 6000
+is_short None = true
+
+abbrev pub is_fine : Tally → Bool
+is_fine by_minute = (by_minute.others == 0) && is_short (reach_from None by_minute.rows.entries)
+
+abbrev pub table_of : Course → Bool → Tally
+table_of course by_hour = if by_hour then course.by_hour else course.by_minute
+
+abbrev pub drawing_over : Report → Tally → Bins → Drawing
+drawing_over r t bins = record {
+  rows = t.rows.entries;
+  bins = bins;
+  versions = r.course.versions.rows.entries;
+  loads = r.loads.rows.entries;
+}
+
+-- counts beyond the table's rows, and beyond 256 apps and loads
+abbrev pub undrawn_of : Report → Tally → Undrawn
+undrawn_of r t =
+    record { counts = t.others; asks = r.asked.others; loads = r.loads.others }
+
+abbrev pub picture_over : Report → Tally → Bins → List ℕ
+picture_over r t bins = picture_by (drawing_over r t bins) r.asked.rows.entries (undrawn_of r t)
+
+abbrev pub picture_if : Report → Tally → Bool → Option Reach → List ℕ
+picture_if r t by_hour (Some reach) = picture_over r t (bins_over reach by_hour)
+picture_if r t by_hour None = picture_of_none
+
+abbrev pub picture_by_table : Report → Tally → Bool → List ℕ
+picture_by_table r t by_hour = picture_if r t by_hour (reach_from None t.rows.entries)
+
+abbrev pub picture_when : Report → Bool → List ℕ
+picture_when r by_hour = picture_by_table r (table_of r.course by_hour) by_hour
+
+-- where no app was asked for, or nothing has a time from 1970 on, none is drawn
+abbrev pub picture : Report → List ℕ
+picture r =
+    if length r.asked.rows.entries == 0 then picture_of_none
+    else picture_when r (not (is_fine r.course.by_minute))

@@ -1,0 +1,121 @@
+//! An app: its title, its loads and strips with their axis, and its legend.
+
+ghost use Rattle.std.specs.Prelude.{◌≡◌, OnOk, IfOk, map, string_bytes};
+ghost use Rattle.svg.specs.Xml.{Puts};
+ghost use Rattle.timeline.specs.Bins.{AreBins};
+ghost use Rattle.timeline.specs.Pictures as specs;
+
+use crate::axis::push_axis;
+use crate::bins::Bins;
+use crate::legend::push_legend;
+use crate::load_marks::push_loads;
+use crate::marks::added;
+use crate::strips::push_strips;
+use crate::versions::versions_of;
+use report::Report;
+use std::alloc::{AllocError, Global};
+use std::collections::BTreeMap;
+use std::fmt::Write;
+use svg::push_xml;
+
+/// What a picture is drawn by.
+#[derive(Clone, Copy)]
+pub(crate) struct PictureSource<'a> {
+    /// Its rows, by the minute or by the hour, and their bins.
+    pub rows: &'a BTreeMap<String, u64>,
+    pub bins: Bins,
+    /// The rows of the versions, and of the loads.
+    pub versions: &'a BTreeMap<String, u64>,
+    pub loads: &'a BTreeMap<String, u64>,
+}
+
+/// Puts the panel of an app from a height on, and answers where the next one begins.
+#[tactic(auto, unfolding(crate::specs::Pictures::panel, crate::specs::Pictures::panel_end))]
+pub(crate) fn push_panel(
+    alloc: Global,
+    text: &mut String,
+    source: &PictureSource<'_>,
+    top: u64,
+    app: &str,
+) -> Result<u64, AllocError>
+    requires { AreBins source.now.bins }
+    ensures text { OnOk result (Puts text.old text.new
+        (specs.panel (specs.drawing_by source.now) top app.now)) }
+    ensures next { IfOk result
+        (λ next. next ≡ specs.panel_end (specs.drawing_by source.now) top app.now) }
+{
+    let versions = versions_of(alloc, source.versions, app)?;
+    push_versions(alloc, text, source, top, app, versions.as_slice())?;
+    end_of(top, versions.as_slice())
+}
+
+// Where a panel with these versions ends: each has 20 pixels, and 500 are around them.
+#[tactic(auto, using(crate::proofs::Written::as_many))]
+fn end_of(top: u64, versions: &[String]) -> Result<u64, AllocError>
+    ensures { IfOk result (λ end. end ≡ specs.end_of top (map string_bytes versions.now)) }
+{
+    let Some(rows) = (versions.len() as u64).checked_mul(20) else {
+        return Err(AllocError);
+    };
+    added(added(top, 500)?, rows)
+}
+
+fn push_versions(
+    alloc: Global,
+    text: &mut String,
+    source: &PictureSource<'_>,
+    top: u64,
+    app: &str,
+    versions: &[String],
+) -> Result<(), AllocError>
+    requires { AreBins source.now.bins }
+    ensures { OnOk result (Puts text.old text.new (specs.panel_of
+        (specs.drawing_by source.now) top app.now (map string_bytes versions.now))) }
+{
+    push_title(text, top, app)?;
+    push_strips(alloc, text, source.rows, app, versions, &source.bins)?;
+    push_times(text, source)?;
+    push_legend(text, source.rows, app, versions)?;
+    text.push_str("</g>\n")?;
+    Ok(())
+}
+
+fn push_title(text: &mut String, top: u64, app: &str) -> Result<(), AllocError>
+    ensures { OnOk result (Puts text.old text.new (specs.app_heading top app.now)) }
+{
+    push_title_place(text, top)?;
+    push_xml(text, app)?;
+    text.push_str("</text>\n")?;
+    Ok(())
+}
+
+fn push_title_place(text: &mut String, top: u64) -> Result<(), AllocError>
+    ensures { OnOk result (Puts text.old text.new (specs.title_place top)) }
+{
+    text.push_str(panel_opens())?;
+    write!(text, "{top}")?;
+    text.push_str(title_opens())
+}
+
+#[tactic(auto, unfolding(crate::specs::Pictures::panel_opens))]
+fn panel_opens() -> &'static str
+    ensures { result.now ≡ specs.panel_opens }
+{
+    "<g transform=\"translate(0,"
+}
+
+#[tactic(auto, unfolding(crate::specs::Pictures::title_opens))]
+fn title_opens() -> &'static str
+    ensures { result.now ≡ specs.title_opens }
+{
+    ")\">\n<text x=\"20\" y=\"20\">app "
+}
+
+fn push_times(text: &mut String, source: &PictureSource<'_>) -> Result<(), AllocError>
+    requires { AreBins source.now.bins }
+    ensures { OnOk result (Puts text.old text.new (specs.times (specs.drawing_by source.now))) }
+{
+    push_axis(text, &source.bins)?;
+    push_loads(text, &source.bins, source.loads)?;
+    Ok(())
+}

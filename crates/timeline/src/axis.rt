@@ -1,0 +1,137 @@
+//! The axis of time below an app's strips, with ticks at round times.
+
+ghost use Rattle.std.specs.Prelude.{◌≡◌, ◌*◌, ◌<◌, ◌≤◌, OnOk, IfOk, true};
+ghost use Rattle.svg.specs.Xml.{Puts};
+ghost use Rattle.timeline.specs.Axis as specs;
+ghost use Rattle.timeline.specs.Bins.{AreBins};
+
+use crate::bins::Bins;
+use crate::clock::{push_clock, push_date};
+use std::alloc::AllocError;
+use std::fmt::Write;
+
+/// From tick to tick, in minutes.
+const STEPS: [u64; 18] = [
+    1, 2, 5, 10, 15, 30, 60, 120, 180, 360, 720, 1440, 2880, 5760, 10080, 20160, 40320, 80640,
+];
+
+/// How many pixels a strip is wide, and how far it is from the left.
+const WIDTH: u128 = 780;
+
+const LEFT: u128 = 60;
+
+/// Where a minute from the first bin's begin on stands, in pixels from the left.
+pub(crate) fn across(bins: &Bins, minute: u64) -> u128
+    requires { 0 < bins.now.span }
+    ensures { result ≡ specs.across bins.now minute }
+{
+    LEFT + minute.saturating_sub(bins.start) as u128 * WIDTH / bins.span as u128
+}
+
+/// Puts the ticks: at most 9, at multiples of a step.
+#[tactic(auto, using(crate::proofs::Written::number_further, crate::proofs::Written::numbers_done))]
+pub(crate) fn push_axis(text: &mut String, bins: &Bins) -> Result<(), AllocError>
+    requires { AreBins bins.now }
+    ensures { OnOk result (Puts text.old text.new (specs.axis bins.now)) }
+{
+    let step = step_among(bins.span, &STEPS);
+    let last = (bins.start + bins.span) / step;
+    let mut number = bins.start.div_ceil(step);
+    while number <= last {
+        let minute = minute_at(number, step, bins.start + bins.span)?;
+        push_tick(text, bins, minute)?;
+        number += 1;
+    }
+    Ok(())
+}
+
+fn step_among(span: u64, steps: &[u64]) -> u64
+    ensures step { result ≡ specs.step_among span steps.now }
+    ensures some { 0 < result }
+{
+    let mut left = steps;
+    while let [step, rest @ ..] = left {
+        if is_wide(span, *step) {
+            return *step;
+        }
+        left = rest;
+    }
+    span / 7 + 1
+}
+
+fn is_wide(span: u64, step: u64) -> bool
+    ensures wide { result ≡ specs.is_wide span step }
+    ensures some { result ≡ true → 0 < step }
+{
+    step > 0 && span / step < 8
+}
+
+// The minute of a tick, which isn't behind the last. Want of memory is answered where it would be.
+fn minute_at(number: u64, step: u64, last: u64) -> Result<u64, AllocError>
+    ensures minute { IfOk result (λ minute. minute ≡ number * step) }
+    ensures within { IfOk result (λ minute. minute ≤ last) }
+{
+    match number.checked_mul(step) {
+        Some(minute) if minute <= last => Ok(minute),
+        _ => Err(AllocError),
+    }
+}
+
+fn push_tick(text: &mut String, bins: &Bins, minute: u64) -> Result<(), AllocError>
+    requires some { 0 < bins.now.span }
+    requires early { minute ≤ 4223371679 }
+    ensures { OnOk result (Puts text.old text.new (specs.tick bins.now minute)) }
+{
+    let x = across(bins, minute);
+    push_line(text, x)?;
+    push_time(text, x, minute)?;
+    Ok(())
+}
+
+fn push_line(text: &mut String, x: u128) -> Result<(), AllocError>
+    ensures { OnOk result (Puts text.old text.new (specs.tick_line x)) }
+{
+    text.push_str(line_opens())?;
+    write!(text, "{x}")?;
+    text.push_str(" 390v6\"/>")
+}
+
+// The time at a tick, and its date below it.
+fn push_time(text: &mut String, x: u128, minute: u64) -> Result<(), AllocError>
+    requires { minute ≤ 4223371679 }
+    ensures { OnOk result (Puts text.old text.new (specs.time_at x minute)) }
+{
+    push_place(text, x, 410)?;
+    push_clock(text, minute)?;
+    text.push_str("</text>")?;
+    push_place(text, x, 425)?;
+    push_date(text, minute)?;
+    text.push_str("</text>\n")?;
+    Ok(())
+}
+
+// A text begins whose middle stands there.
+fn push_place(text: &mut String, x: u128, y: u64) -> Result<(), AllocError>
+    ensures { OnOk result (Puts text.old text.new (specs.text_at x y)) }
+{
+    text.push_str(place_opens())?;
+    write!(text, "{x}")?;
+    text.push_str("\" y=\"")?;
+    write!(text, "{y}")?;
+    text.push_str("\">")?;
+    Ok(())
+}
+
+#[tactic(auto, unfolding(crate::specs::Axis::place_opens))]
+fn place_opens() -> &'static str
+    ensures { result.now ≡ specs.place_opens }
+{
+    "<text text-anchor=\"middle\" font-size=\"12\" x=\""
+}
+
+#[tactic(auto, unfolding(crate::specs::Axis::line_opens))]
+fn line_opens() -> &'static str
+    ensures { result.now ≡ specs.line_opens }
+{
+    "<path stroke=\"rgb(90,90,90)\" d=\"M"
+}

@@ -1,0 +1,47 @@
+//! Minutes as a person reads them: a date, and a clock's time, in UTC.
+
+ghost use Rattle.std.specs.Prelude.{◌≡◌, ◌≤◌, OnOk};
+ghost use Rattle.svg.specs.Xml.{Puts};
+ghost use Rattle.timeline.specs.Clocks as specs;
+
+use moments::CivilDate;
+use std::alloc::AllocError;
+use std::fmt::Write;
+
+/// Puts the date of a minute, as `2026-11-25`.
+pub(crate) fn push_date(text: &mut String, minute: u64) -> Result<(), AllocError>
+    requires { minute ≤ 4223371679 }
+    ensures { OnOk result (Puts text.old text.new (specs.date_of_minute minute)) }
+{
+    push_civil(text, CivilDate::of_day(minute / 1440))
+}
+
+fn push_civil(text: &mut String, date: CivilDate) -> Result<(), AllocError>
+    ensures { OnOk result (Puts text.old text.new (specs.date_text date)) }
+{
+    let year = date.year;
+    write!(text, "{year}-")?;
+    push_two(text, date.month)?;
+    text.push_str("-")?;
+    push_two(text, date.day)
+}
+
+/// Puts the time of day of a minute, as `08:00`.
+pub(crate) fn push_clock(text: &mut String, minute: u64) -> Result<(), AllocError>
+    ensures { OnOk result (Puts text.old text.new (specs.clock_of_minute minute)) }
+{
+    push_two(text, minute / 60 % 24)?;
+    text.push_str(":")?;
+    push_two(text, minute % 60)
+}
+
+// A number, with two digits at least.
+fn push_two(text: &mut String, n: u64) -> Result<(), AllocError>
+    ensures { OnOk result (Puts text.old text.new (specs.padded n)) }
+{
+    if n < 10 {
+        write!(text, "0{n}")
+    } else {
+        write!(text, "{n}")
+    }
+}

@@ -1,0 +1,86 @@
+//! What was counted in each bin.
+
+ghost use Rattle.std.specs.Prelude.{◌≡◌, ◌<◌, ◌≤◌, OnOk, IfOk, length};
+ghost use Rattle.timeline.specs.Bins as specs;
+ghost use Rattle.timeline.specs.Marks.{drawn_by};
+
+use crate::bins::{Bins, bin_of};
+use crate::marks::{Series, added};
+use std::alloc::{AllocError, Global};
+use std::collections::BTreeMap;
+
+/// How often this was counted in each bin.
+pub(crate) fn counted(
+    alloc: Global,
+    rows: &BTreeMap<String, u64>,
+    drawn: Series<'_>,
+    bins: &Bins,
+) -> Result<Vec<u64>, AllocError>
+    requires wide { 0 < bins.now.width }
+    requires few { bins.now.count ≤ 200 }
+    ensures { IfOk result (λ counts. counts.items
+        ≡ specs.counted bins.now (drawn_by drawn.entry) rows.now.entries) }
+{
+    let mut counts = zeros(alloc, bins)?;
+    raise(counts.as_mut_slice(), rows, drawn, bins)?;
+    Ok(counts)
+}
+
+/// A zero for each bin.
+pub(crate) fn zeros(alloc: Global, bins: &Bins) -> Result<Vec<u64>, AllocError>
+    requires { bins.now.count ≤ 200 }
+    ensures zeros { IfOk result (λ zeros. zeros.items ≡ specs.zeros bins.now) }
+    ensures len { IfOk result (λ zeros. length zeros.items ≡ bins.now.count) }
+{
+    let zeros = Vec::from_elem(alloc, 0, bins.count as usize)?;
+    Ok(zeros)
+}
+
+/// Adds to the number of each bin how often this was counted in it. Want of memory is answered,
+/// too, where a number passes 64 bits.
+pub(crate) fn raise(
+    numbers: &mut [u64],
+    rows: &BTreeMap<String, u64>,
+    drawn: Series<'_>,
+    bins: &Bins,
+) -> Result<(), AllocError>
+    requires wide { 0 < bins.now.width }
+    requires all { length numbers.old ≡ bins.now.count }
+    ensures raised { OnOk result
+        (numbers.new
+        ≡ specs.raised bins.now (drawn_by drawn.entry) rows.now.entries numbers.old) }
+    ensures all { length numbers.new ≡ length numbers.old }
+{
+    for (name, n) in rows.iter() {
+        raise_by(numbers, bins, drawn, name.as_str(), *n)?;
+    }
+    Ok(())
+}
+
+fn raise_by(
+    numbers: &mut [u64],
+    bins: &Bins,
+    drawn: Series<'_>,
+    name: &str,
+    n: u64,
+) -> Result<(), AllocError>
+    requires wide { 0 < bins.now.width }
+    requires all { length numbers.old ≡ bins.now.count }
+    ensures raised { OnOk result (numbers.new ≡ specs.raised_at
+        (specs.bin_of bins.now (drawn_by drawn.entry) name.now) n numbers.old) }
+    ensures all { length numbers.new ≡ length numbers.old }
+{
+    match bin_of(bins, drawn, name) {
+        Some(place) => raise_one(numbers, place as usize, n),
+        None => Ok(()),
+    }
+}
+
+fn raise_one(numbers: &mut [u64], place: usize, n: u64) -> Result<(), AllocError>
+    requires { place < length numbers.old }
+    ensures raised { OnOk result (numbers.new ≡ specs.raised_one place n numbers.old) }
+    ensures all { length numbers.new ≡ length numbers.old }
+{
+    numbers[place] = added(numbers[place], n)?;
+    Ok(())
+}

@@ -1,0 +1,120 @@
+//! The rows that a picture is drawn by, and what they count.
+
+ghost use Rattle.std.specs.Prelude.{◌≡◌, ◌+◌, ◌≤◌, IfOk, IfSome};
+ghost use Rattle.std.specs.Option.{option_copied};
+ghost use Rattle.report.specs.Exposition.{first, rest};
+ghost use Rattle.timeline.specs.Marks as specs;
+
+use lexing::decimal_within;
+use std::alloc::AllocError;
+use std::collections::BTreeMap;
+
+/// No time of a server's log has more minutes behind 1970: it is before the year 10000.
+const MOST_MINUTES: u64 = 4300000000;
+
+/// What is drawn: asks, offers or failures of an app, of one of its versions or of all.
+#[derive(Clone, Copy)]
+pub(crate) struct Series<'a> {
+    pub what: &'a str,
+    pub app: &'a str,
+    pub version: Option<&'a str>,
+}
+
+/// The minute or the hour of a name, if it counts this.
+pub(crate) fn moment_of(drawn: Series<'_>, name: &str) -> Option<u64>
+    ensures moment { result ≡ specs.moment_of (specs.drawn_by drawn.entry) name.now }
+    ensures within { IfSome result (λ n. n ≤ 4300000000) }
+{
+    let name = behind(drawn.what, name)?;
+    let name = behind(drawn.app, name)?;
+    let text = behind_any(drawn.version, name)?;
+    moment_in(text)
+}
+
+/// The same of any name.
+pub(crate) fn any_moment(name: &str) -> Option<u64>
+    ensures moment { result ≡ specs.any_moment name.now }
+    ensures within { IfSome result (λ n. n ≤ 4300000000) }
+{
+    moment_in(rest(rest(rest(name))))
+}
+
+fn moment_in(text: &str) -> Option<u64>
+    ensures moment { result ≡ specs.moment_in text.now }
+    ensures within { IfSome result (λ n. n ≤ 4300000000) }
+{
+    decimal_within(text, 0, MOST_MINUTES)
+}
+
+/// How often this was counted. Want of memory is answered, too, where that passes 64 bits.
+pub(crate) fn count_of(rows: &BTreeMap<String, u64>, drawn: Series<'_>) -> Result<u64, AllocError>
+    ensures { IfOk result (λ n. n ≡ specs.count_of rows.now.entries (specs.drawn_by drawn.entry)) }
+{
+    let mut count = 0;
+    for (name, n) in rows.iter() {
+        count = added(count, count_if(drawn, name.as_str(), *n))?;
+    }
+    Ok(count)
+}
+
+fn count_if(drawn: Series<'_>, name: &str, n: u64) -> u64
+    ensures { result ≡ specs.count_if_named (specs.drawn_by drawn.entry) name.now n }
+{
+    if moment_of(drawn, name).is_some() {
+        n
+    } else {
+        0
+    }
+}
+
+/// The sum of two numbers. Want of memory is answered where it passes 64 bits.
+pub(crate) fn added(n: u64, more: u64) -> Result<u64, AllocError>
+    ensures { IfOk result (λ sum. sum ≡ n + more) }
+{
+    match n.checked_add(more) {
+        Some(sum) => Ok(sum),
+        None => Err(AllocError),
+    }
+}
+
+// ---- the texts of a name
+
+/// What stands behind this text, if the name begins with it.
+pub(crate) fn behind<'a>(text: &str, name: &'a str) -> Option<&'a str>
+    ensures { option_copied result ≡ specs.rest_behind text.now name.now }
+{
+    if first(name) == text {
+        Some(rest(name))
+    } else {
+        None
+    }
+}
+
+fn behind_any<'a>(text: Option<&str>, name: &'a str) -> Option<&'a str>
+    ensures { option_copied result ≡ specs.behind_any (option_copied text.entry) name.now }
+{
+    match text {
+        Some(text) => behind(text, name),
+        None => Some(rest(name)),
+    }
+}
+
+/// The first text of a name.
+pub(crate) fn first<'a>(name: &'a str) -> &'a str
+    ensures { result.now ≡ first name.now }
+{
+    match name.split_once('\t') {
+        Some((text, _)) => text,
+        None => name,
+    }
+}
+
+/// The others.
+pub(crate) fn rest<'a>(name: &'a str) -> &'a str
+    ensures { result.now ≡ rest name.now }
+{
+    match name.split_once('\t') {
+        Some((_, others)) => others,
+        None => "",
+    }
+}

@@ -1,0 +1,28 @@
+//! The versions of an app, in the order of their texts.
+
+ghost use Rattle.std.specs.Prelude.{◌≡◌, IfOk, map, string_bytes};
+ghost use Rattle.std.specs.Option.{option_copied};
+ghost use Rattle.timeline.specs.Versions as specs;
+
+use crate::marks::behind;
+use std::alloc::{AllocError, Global};
+use std::collections::BTreeMap;
+
+/// The versions that rows have of an app.
+#[tactic(auto, using(crate::proofs::Written::text_further))]
+pub(crate) fn versions_of(
+    alloc: Global,
+    rows: &BTreeMap<String, u64>,
+    app: &str,
+) -> Result<Vec<String>, AllocError>
+    ensures { IfOk result (λ versions. map string_bytes versions.items
+        ≡ specs.versions_of app.now rows.now.entries) }
+{
+    let mut versions = Vec::new(alloc);
+    for (name, _count) in rows.iter() {
+        if let Some(version) = behind(app, name.as_str()) {
+            versions.push(String::from_str(alloc, version)?)?;
+        }
+    }
+    Ok(versions)
+}
