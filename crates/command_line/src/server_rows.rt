@@ -78,8 +78,8 @@ pub const SERVE: VerbRow = VerbRow {
         ),
         Argument::Flag(
             "log",
-            "Write the log to standard error: a JSON object a line, for each connection, start, load, \
-             stop and counter",
+            "Write the log to standard error: a JSON object a line, for each connection, start, \
+             load, stop and counter",
         ),
     ],
     after: None,
