@@ -13,8 +13,8 @@ LINE = re.compile(r"refused ([A-Z]\d+ Memory(?: in --against)?)\n")
 WARNINGS = re.compile(r"(warning [a-z-]+: .*\n)*")
 # How far `simulate` is.
 PROGRESS = re.compile(r"^simulated .*\n", re.M)
-# Bytes that stand in an OUT before a command.
-BEFORE = b"as it was"
+# Bytes that stand in an OUT before a command; a picture is written over a picture alone.
+BEFORE = b"<svg> as it was"
 
 RULES = {
     "none.rule": "otherwise none;\n",
@@ -34,6 +34,8 @@ MANIFESTS = {
     "script.txt": "start 0 x 99 1.0\nstep 0 4097\nswap next.toml\nstart 1 z 7 -\nstep 1 4097\n"
     "finish 0\nfinish 1\n",
     "ask.json": request("x", "y"),
+    "a.log": '{"time":"2026-11-25T08:30:00.000Z","kind":"connection","status":200,"apps":'
+    '[{"appid":"x","version":"1.9","bucket":7,"named":true,"choice":1,"release":"2.1"}]}\n',
 }
 
 COMMANDS = {
@@ -47,6 +49,7 @@ COMMANDS = {
     "explain": ["explain", "a.bin", "--releases", "1"],
     "check": ["check", "next.toml"],
     "replay": ["replay", "first.toml", "script.txt"],
+    "report": ["report", "a.log", "--svg", "OUT"],
     "simulate": ["simulate", "one.toml", "--against", "one.toml", "--svg", "OUT"],
     "ask": ["ask", "first.toml", "ask.json", "--at", "0", "--cells", "q[0]=3"],
 }

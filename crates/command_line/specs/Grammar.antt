@@ -138,7 +138,7 @@ verbs =
     ∷ named (codes "replay") verb.Replay (manifest ∷ file (codes "SCRIPT") ∷ [])
     ∷ named (codes "report") verb.Report
     (files (codes "LOG") ∷ option (codes "since") ∷ option (codes "until")
-    ∷ flag (codes "prometheus") ∷ [])
+    ∷ flag (codes "prometheus") ∷ option (codes "svg") ∷ [])
     ∷ named (codes "run") verb.Run
     (input ∷ releases ∷ arrays ∷ number (codes "bucket") 0 9999 ∷ flag (codes "trace") ∷ told)
     ∷ named (codes "serve") verb.Serve

@@ -1,5 +1,5 @@
 -- What the words of `report` ask for.
-use Rattle.std.specs.Prelude.{◌≡◌, List, Option, Some, None, codes, map}
+use Rattle.std.specs.Prelude.{◌≡◌, List, Option, Some, None, codes, map, option_copied}
 use Rattle.clap.specs.Words.{Row, Text, first_of}
 use Rattle.moments.specs.Moments.{Names, NamesNone}
 use Rattle.moments.specs.declared.moment.NamedTime.{NamedTime}
@@ -28,6 +28,7 @@ pub record AsksToReport (rows : List Row) (asked : AskedReport) : Type 0 where
   pub since : IsNamedTime (first_of (codes "since") rows) asked.since
   pub until : IsNamedTime (first_of (codes "until") rows) asked.until
   pub prometheus : HasFlag (codes "prometheus") rows asked.prometheus
+  pub picture : option_copied asked.picture ≡ first_of (codes "svg") rows
 
 abbrev pub IsReportMisfit : List Row → OptionMisfit → Type 0
 IsReportMisfit rows misfit.Since = LacksNamedTime (first_of (codes "since") rows)

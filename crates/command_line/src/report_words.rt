@@ -52,6 +52,7 @@ pub fn report_of<'a>(alloc: Global, found: &ArgMatches<'a>) -> Result<AskedRepor
         since,
         until,
         prometheus: flag_of(found, "prometheus"),
+        picture: optional_text(found, "svg"),
     })
 }
 

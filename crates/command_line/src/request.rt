@@ -47,6 +47,8 @@ pub struct AskedReport<'a> {
     pub until: Option<NamedTime>,
     /// Whether it is told as Prometheus reads it.
     pub prometheus: bool,
+    /// The file that gets a picture of the logs' course.
+    pub picture: Option<&'a str>,
 }
 
 /// A reply that is asked for beforehand: of a manifest's server to a request's body, at a moment or

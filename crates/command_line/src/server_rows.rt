@@ -50,6 +50,11 @@ pub const REPORT: VerbRow = VerbRow {
             "Lines before this time, by the same forms",
         ),
         Argument::Flag("prometheus", "Print the counts as Prometheus reads them"),
+        Argument::Text(
+            "svg",
+            "FILE",
+            "File that gets a picture of the versions' shares over time, in SVG",
+        ),
     ],
     after: None,
 };

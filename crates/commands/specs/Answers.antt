@@ -1,7 +1,7 @@
 -- What each request is answered, and why it is refused: by what the files give, as far as that is
 -- known. Of a device's files nothing is known, so of these it is what some bytes come to. What a
 -- server replies no contract can say; of memory that was refused no claim is made.
-use Rattle.std.specs.Prelude.{◌≡◌, [], length, option_copied}
+use Rattle.std.specs.Prelude.{◌≡◌, [], is_some, length, option_copied}
 use Rattle.std.specs.String.{string_bytes}
 use Rattle.command_line.specs.declared.request.CommandRequest.{CommandRequest}
 use Rattle.command_line.specs.declared.request.CommandRequest.TheVariants as request
@@ -53,9 +53,9 @@ module _ (known : KnownFiles) where
       HasTraced known run choice instructions (string_bytes lines)
   IsAnswer (request.Replay manifest script) (Replayed text) =
       HasReplayed known manifest.now script.now (string_bytes text)
-  IsAnswer (request.Report asked) (answer.Reported text) =
+  IsAnswer (request.Report asked) (answer.Reported told) =
       HasReported (length asked.logs.items) asked.since asked.until asked.prometheus
-      (string_bytes text)
+      (is_some asked.picture) told
   IsAnswer (request.Simulate asked) (Simulated told) =
       HasSimulated known (client_told asked.app) asked.manifest.now (option_copied asked.against)
       (option_copied asked.picture) told

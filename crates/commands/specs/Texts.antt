@@ -39,7 +39,7 @@ answer_text (Traced lines choice instructions) =
     line (string_bytes lines ++ codes "choice " ++ decimal choice
     ++ codes " after " ++ decimal instructions ++ codes " instructions")
 answer_text (Replayed text) = string_bytes text
-answer_text (answer.Reported text) = string_bytes text
+answer_text (answer.Reported told) = string_bytes told.text
 answer_text (answer.Simulated told) = string_bytes told.text
 answer_text (answer.DryRun body) = body.items
 answer_text (answer.Told text) = string_bytes text

@@ -5,6 +5,7 @@ ghost use Rattle.commands.specs.Texts.{answer_text, warnings_of};
 
 use command_line::Plan;
 use hot_swap::Generation;
+use log_tools::ToldReport;
 use manifest_tools::{CheckedManifest, ToldSimulation};
 use serving::Server;
 use std::{fmt, str};
@@ -53,10 +54,8 @@ pub enum Answer {
     Replayed {
         text: String,
     },
-    /// What the logs come to, a line a number.
-    Reported {
-        text: String,
-    },
+    /// What is told of logs, of which the lines are printed, a line a number.
+    Reported(ToldReport),
     /// What is told of a simulation, of which the lines are printed.
     Simulated(ToldSimulation),
     /// The body of a reply that a server would send.
@@ -117,7 +116,7 @@ impl fmt::Display for Answer {
                 "{lines}choice {choice} after {instructions} instructions"
             ),
             Answer::Replayed { text } => f.write_str(text),
-            Answer::Reported { text } => f.write_str(text),
+            Answer::Reported(told) => f.write_str(told.text.as_str()),
             Answer::Simulated(told) => f.write_str(told.text.as_str()),
             Answer::DryRun { body } => match str::from_utf8(body.as_slice()) {
                 Ok(text) => f.write_str(text),

@@ -21,8 +21,9 @@ where
         → IfErr result (IsRefused known (CommandRequest.Report asked.now)) }
 {
     let logs = asked.logs.as_slice();
-    match report_logs(rt, logs, asked.since, asked.until, asked.prometheus) {
-        Ok(text) => Ok(Answer::Reported { text }),
+    let (since, until) = (asked.since, asked.until);
+    match report_logs(rt, logs, since, until, asked.prometheus, asked.picture) {
+        Ok(told) => Ok(Answer::Reported(told)),
         Err(fault) => Err(Fault::Resource(fault)),
     }
 }

@@ -66,6 +66,54 @@ fn logs_are_told(rt: HostRuntime) -> Result<(), Fail> {
     Ok(())
 }
 
+/// What a picture of the first log has: its asks, and a version's row in the legend.
+const DRAWN: [&str; 3] = [
+    "<svg xmlns=\"http://www.w3.org/2000/svg\"",
+    "<text x=\"60\" y=\"54\">asks: 1</text>",
+    "<text x=\"80\" y=\"473\">1.9</text>",
+];
+
+/// A picture is written once, and again over itself, and never over a log or another file.
+#[test]
+fn a_picture_is_drawn(rt: HostRuntime) -> Result<(), Fail> {
+    fs::write(&rt, "drawn.log", FIRST)?;
+    fs::write(&rt, "no.svg", SECOND)?;
+    for _ in 0..2u64 {
+        let told = told(&rt, "rollout report drawn.log --svg drawn.svg")?;
+        assert!(rt; told.status == 0 && told.err.is_empty());
+        let text = fs::read_to_string(&rt, "drawn.svg")?;
+        for part in DRAWN {
+            assert!(rt; text.contains(part), "{part}");
+        }
+    }
+    prints(
+        &rt,
+        "rollout report drawn.log --svg drawn.log",
+        "refused B3 File",
+    )?;
+    prints(
+        &rt,
+        "rollout report drawn.log --svg ./drawn.log",
+        "refused B3 File",
+    )?;
+    prints(
+        &rt,
+        "rollout report drawn.log --svg no.svg",
+        "refused B3 File",
+    )?;
+    prints(
+        &rt,
+        "rollout report drawn.log --svg no/drawn.svg",
+        "refused B3 File",
+    )?;
+    let kept = fs::read_to_string(&rt, "drawn.log")?;
+    assert_eq!(rt; kept.as_str(), FIRST);
+    for file in ["drawn.log", "drawn.svg", "no.svg"] {
+        fs::remove_file(&rt, file)?;
+    }
+    Ok(())
+}
+
 /// Words that are wrong, and a log that can't be read.
 const REFUSALS: &str = "rollout report -> usage
 rollout report a.log --since -> usage

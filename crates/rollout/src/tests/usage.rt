@@ -83,6 +83,8 @@ rollout replay --help -> start 0 agent 4998 -
 rollout replay --help -> step 0 8
 rollout simulate --help -> --against <MANIFEST>
 rollout simulate --help -> --svg <FILE>
+rollout report --help -> <LOG>...
+rollout report --help -> --svg <FILE>
 rollout serve --help -> --workers <N>
 rollout load --help -> <PATH>
 rollout show --help -> --operator <P>
