@@ -39,7 +39,7 @@ abbrev pub change_text : CellArray → Declaration → List ℕ
 change_text a d = declaration_text (as_declared a) ++ codes " to " ++ declaration_text d
 
 abbrev pub full_text : Declaration → List ℕ
-full_text d = declaration_text d ++ codes " passes 4096 cells"
+full_text d = declaration_text d ++ codes " passes the 4096 cells that all arrays of a width have"
 
 -- how a declaration doesn't go with the arrays that stand
 abbrev pub array_cause : List CellArray → Declaration → CellsFault → Option (List ℕ)

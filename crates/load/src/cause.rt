@@ -113,7 +113,7 @@ fn change_text(
 fn full_text(alloc: Global, array: &ArrayDeclaration) -> Result<String, AllocError>
     ensures { IfOk result (λ text. string_bytes text ≡ specs.full_text array.now) }
 {
-    format!(in alloc; "{array} passes 4096 cells")
+    format!(in alloc; "{array} passes the 4096 cells that all arrays of a width have")
 }
 
 // An array, as a declaration of it is written.

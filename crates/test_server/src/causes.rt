@@ -16,7 +16,8 @@ const CAUSES: &str = "[[array]];name = \"q\";width = 64;length = 1;quota = 2\
 [[array]];name = \"p\";width = 32;length = 1;[[array]];name = \"q\";width = 32;length = 3\
     |M7 Cells N2 Redefined in array 2|q:64:1:3 to q:32:3
 [[array]];name = \"r\";width = 64;length = 4096\
-    |M7 Cells N1 CellsFull in array 1|r:64:4096 passes 4096 cells
+    |M7 Cells N1 CellsFull in array 1|r:64:4096 passes the 4096 cells \
+    that all arrays of a width have
 [[array]];name = \"r\";width = 16;length = 1|M2 Field|array[1].width: 32 or 64
 cohort = 1|M2 Field|cohort: no member of a manifest
 [[array]];name = \"r\";width = 32;length = 1;[[array]];name = \"r\";width = 32;length = 1\
