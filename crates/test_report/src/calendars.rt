@@ -25,7 +25,8 @@ fn days_have_dates(rt: HostRuntime) -> Result<(), Fail> {
         let date = CivilDate::of_day(*number);
         assert_eq!(rt; (date.year, date.month, date.day), (*year, *month, *day));
         let time = format!(in rt.alloc(); "{text}T12:34:56.789Z")?;
-        assert_eq!(rt; minute_in(&time), Some(*number * 1440 + 754));
+        let minute = number.wrapping_mul(1440).wrapping_add(754);
+        assert_eq!(rt; minute_in(&time), Some(minute));
     }
     let last = CivilDate::of_day(2932896);
     assert_eq!(rt; (last.year, last.month, last.day), (9999, 12, 31));
