@@ -6,7 +6,7 @@
 //!     server_peer serve PORT WORKERS     serves until it is killed
 //!     server_peer answer TIMES RULESET   answers the request on standard input so often, over memory
 //!
-//! A RULESET is `worked_examples`, which knows the app `x` with one release, or `many`, which knows 256 apps,
+//! A RULESET is `worked`, which knows the app `x` with one release, or `many`, which knows 256 apps,
 //! each with 64 releases of 16 packages.
 
 use serde_json::{json, Map, Value};

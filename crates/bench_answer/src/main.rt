@@ -25,7 +25,7 @@ use std::thread::Threads;
 /// The most apps that a request may have.
 const MAX_APPS: u16 = 256;
 
-/// Answers the request that a word names: `worked_examples`, or a number of apps.
+/// Answers the request that a word names: `worked`, or a number of apps.
 fn tally_of<H: Wait>(rt: &H, alloc: Global, word: &str, times: u32) -> Result<Tally> {
     if word == "worked" {
         let input = post(alloc, WORKED)?;
