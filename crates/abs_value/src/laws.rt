@@ -9,17 +9,17 @@ ghost use Rattle.abs_value.specs.Numbers as numbers;
 use bpf_insn::results_fit;
 use bpf_semantics::helpers::numbers_are_within;
 
-/// What an interval and known bits tell one another keeps the numbers that they stand for, and adds
-/// none; so does a result. What is found empty has no number.
+/// When an interval and known bits inform each other, the numbers that they stand for stay the
+/// same; so it is with a result. What is found empty has no number.
 pub fn numbers_are_kept()
     ensures tidy { laws.IsTidy numbers.tidy }
     ensures tidied { laws.IsTidy numbers.tidied }
     ensures empty { laws.EmptyHasNone }
 {}
 
-/// Of numbers that two values include, each operation gives a number that its result includes:
-/// arithmetic, MOV, NEG, MOVSX, END, and a load of bytes of which nothing is known. So does what is
-/// known of a number alone, and of one up to a most.
+/// For numbers that two values include, each operation gives a number that its result includes:
+/// arithmetic, MOV, NEG, MOVSX, END, and a load of bytes of which nothing is known. The same holds
+/// for what is known of a single number, and of a number up to a bound.
 pub fn results_are_included()
     ensures alu { laws.IncludesResults }
     ensures copied { laws.IncludesCopies }
@@ -97,7 +97,7 @@ pub fn bytes_are_there()
     ensures { laws.BytesAreThere }
 {}
 
-/// Of values whose ends are in order each operation gives one whose ends are in order.
+/// If the ends of values are in order, each operation gives a value whose ends are in order.
 pub fn values_stay_in_order()
     ensures alu { ranges.ResultsInOrder }
     ensures copied { ranges.CopiesInOrder }
@@ -111,7 +111,7 @@ pub fn values_stay_in_order()
     ensures called { ranges.CallsInOrder }
 {}
 
-/// Of states in which all ends are in order each operation makes one in which they are.
+/// If all ends of states are in order, each operation makes a state in which they are.
 pub fn states_stay_in_order()
     ensures opening { ranges.OpeningInOrder }
     ensures operands { ranges.OperandsInOrder }

@@ -93,9 +93,9 @@ impl AbsState {
         }
     }
 
-    /// Learns what an edge of a conditional jump tells, the one that jumps or the one that goes on.
-    /// `false` where no run takes it, and then nothing is changed. Of a register that is compared
-    /// with itself nothing is learnt.
+    /// Learns what an edge of a conditional jump implies, the edge that jumps or the one that goes
+    /// on. `false` if no run takes it, and then nothing is changed. From a register that is
+    /// compared with itself nothing is learnt.
     pub fn refine(
         &mut self,
         bits: Bits,

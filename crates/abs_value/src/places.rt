@@ -1,5 +1,5 @@
 //! Places in a region, counted from its start: 0 to 64 in the context, 0 to 512 in the stack. The
-//! end of a region is a place too, so that a pointer may stand behind the last byte.
+//! end of a region is a place too, so that a pointer may be just past the last byte.
 
 ghost use Rattle.std.specs.Prelude.{◌≡◌};
 ghost use Rattle.bpf_semantics.specs.Memory.{context_size, stack_size};

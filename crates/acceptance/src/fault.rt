@@ -1,4 +1,4 @@
-//! Why bytes come to no program.
+//! Why bytes are no program.
 
 ghost use Rattle.std.specs.Prelude.{◌≡◌, Some};
 ghost use Rattle.acceptance.specs.Program as programs;

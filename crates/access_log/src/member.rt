@@ -134,7 +134,7 @@ pub fn write_excerpt(
     Ok(())
 }
 
-/// The same, where there is one.
+/// Writes the member of an excerpt, if there is one.
 #[tactic(auto, using(crate::proofs::Added::adds_nothing))]
 pub fn write_optional_excerpt(
     line: &mut LineRoom,

@@ -109,7 +109,7 @@ impl Attrs {
         })
     }
 
-    /// The same, of an app of a request whose hashed bucket is known. What the request says of the
+    /// As `of`, for an app of a request whose hashed bucket is known. What the request says of the
     /// app is shared; of what it says of itself the platform is copied.
     // open: whether memory is refused, its one error.
     pub fn of_hashed(
@@ -132,7 +132,7 @@ impl Attrs {
         })
     }
 
-    /// The same attributes in another bucket, which no cohort names.
+    /// These attributes in another bucket, which no cohort names.
     pub fn in_bucket(self, bucket: Bucket) -> Attrs
         ensures { result ≡ record self { context = record self.context { bucket = bucket } } }
     {

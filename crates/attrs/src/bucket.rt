@@ -84,8 +84,9 @@ pub fn named_or_hashed(app: &AppFacts, hashed: Bucket) -> Bucket
     named_bucket(app).unwrap_or(hashed)
 }
 
-/// The bucket of all apps of a request that name none: a hash of who asks. It takes time by the
-/// length of the request's id, so who asks for many apps makes it once.
+/// The bucket of all apps of a request that name none: a hash of the request's id, or its
+/// session's. Its time grows with the length of that id, so for many apps it should be computed
+/// once.
 pub fn hashed_bucket(request: &RequestFacts) -> Bucket
     ensures { result ≡ specs.hashed_bucket request.now }
 {

@@ -33,8 +33,8 @@ impl SharedFacts {
         }
     }
 
-    /// The same for one more owner. It takes no memory, and is refused only where there is no place
-    /// for one more.
+    /// One more owner of the same facts. It takes no memory, and is refused only if there is no
+    /// place for one more.
     pub fn share(&self) -> Result<SharedFacts, AllocError>
         ensures { IfOk result (λ s. s ≡ self.now) }
     {

@@ -1,5 +1,5 @@
 //! Whether one program is another one in order: each instruction that has a place is compared with
-//! what stands there, and where it leads with where that leads.
+//! the one there, and its targets with those of the other.
 
 ghost use Rattle.std.specs.Prelude.{◌≡◌, ℕ, ◌<◌, ◌≤◌, Some, IsTrue, length};
 ghost use Rattle.bpf_insn.specs.declared.insn.Insn.{Insn};

@@ -1,5 +1,6 @@
-//! Loops of JAs. In a program in order nothing has to stand for a JA, and so nothing for a loop of
-//! JAs alone: whether each run of them comes to another instruction is asked of the old program.
+//! Loops of JAs. A program in order needs nothing in the place of a JA, and so nothing for a loop
+//! of JAs alone. So whether each run of JAs reaches another instruction is checked in the old
+//! program.
 
 ghost use Rattle.std.specs.Prelude.{◌≡◌, ℕ, ◌<◌, ◌≤◌, Some, IfSome, IsTrue, length};
 ghost use Rattle.bpf_insn.specs.declared.operand.Distance.{Distance};

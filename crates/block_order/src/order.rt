@@ -137,15 +137,15 @@ fn copied(alloc: Global, bytes: &[u8], flow: &Flow) -> Result<Vec<u8>, AllocErro
 
 /// The bytes of the program with its basic blocks in an order in which every jump leads forward.
 ///
-/// The entry comes first, and then of the blocks that are ready, to which only blocks lead that
-/// stand already, the one that was lowest. Slots that aren't reached are dropped, and a JA is put
-/// in or taken out where the order asks for it. The bytes of a program that the flow check accepts
-/// are those that were read.
+/// The entry comes first. Then comes, of the blocks that are ready (all blocks that lead there are
+/// placed already), the one that was lowest. Slots that aren't reached are dropped, and a JA is
+/// inserted or removed where the order requires it. If the flow check accepts the program, its
+/// bytes stay as they were read.
 ///
-/// F6, F7 and F8 come as `Flow::check` tells them. F1 to F4 are told of reached slots alone: of the
-/// lowest that jumps below slot 0, out of the program or into a wide load, or lets it fall off its
-/// end, and else F1 of the lowest jump that closes a cycle. F7 also comes where there is neither,
-/// and the program in order has more than 4096 slots. F9 may come at any time.
+/// F6, F7 and F8 are those of `Flow::check`. F1 to F4 are only about reached slots: the lowest one
+/// that jumps below slot 0, out of the program or into a wide load, or falls off its end; otherwise
+/// F1 of the lowest jump that closes a cycle. F7 also comes if there is no such slot and the
+/// program in order has more than 4096 slots. F9 may come at any time.
 // open: which order is found; that F7 comes of no program that has 4096 slots or fewer once it is
 // in order; the count of instructions, which may be another; whether memory is refused.
 pub fn ordered(alloc: Global, bytes: &[u8]) -> Result<Vec<u8>, FlowFault>

@@ -1,6 +1,6 @@
-//! Which slot is next. Of the blocks that are ready, to which no instruction leads that has no
-//! place yet, it is the lowest; and within a block it is the next instruction. A block begins at
-//! the entry, where a jump lands, and behind a conditional jump.
+//! Which slot is next. A block is ready if each instruction that leads to it has a place. The next
+//! block is the lowest that is ready; within a block it is the next instruction. A block begins at
+//! the entry, at the target of a jump, and after a conditional jump.
 
 ghost use Rattle.std.specs.Prelude.{ℕ, ◌<◌, ◌≤◌, IfSome, length};
 
@@ -23,7 +23,7 @@ fn set_mark(marks: &mut [bool], place: Option<usize>, mark: bool) {
     }
 }
 
-/// Marks the slots behind the entry at which a block begins.
+/// Marks the slots after the entry at which a block begins.
 pub fn mark_heads(heads: &mut [bool], code: &[Option<Insn>], reached: &[bool])
     requires { length code.now ≤ 4096 }
 {

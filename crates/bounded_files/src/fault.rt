@@ -6,7 +6,7 @@ ghost use Rattle.bounded_files.specs.Texts.{resource_text};
 use std::fmt;
 use std::io::{Error, ErrorKind};
 
-/// What isn't to be had of the machine.
+/// What the machine couldn't provide.
 #[derive(Clone, Copy, Debug, Drop, PartialEq, Eq)]
 pub enum ResourceFault {
     /// B3: a file can't be read or written.

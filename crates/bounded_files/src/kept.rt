@@ -1,5 +1,5 @@
-//! What is kept of a file that may be longer than is wanted: all of it; or its beginning, how long
-//! it is, and whether it is a text to its end. Behind the beginning no piece of it is kept.
+//! What is kept of a file that may be longer than is needed: all of it; or its beginning, how long
+//! it is, and whether it is a text to its end. No piece after the beginning is kept.
 
 ghost use Rattle.std.specs.Prelude.{◌≡◌, ◌++◌, ◌+◌, ◌<◌, ◌≤◌, ◌^◌, length, take, List, [], ℕ};
 ghost use Rattle.std.specs.Prelude.{◌↔◌, IfOk, OnOk, IsTrue, IsUtf8};

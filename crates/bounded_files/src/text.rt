@@ -1,5 +1,5 @@
-//! A text that comes in pieces, of which none is kept: at most the first bytes of a character are,
-//! whose others stand in the next piece.
+//! A text that comes in pieces, which aren't kept, except for the first bytes of a character whose
+//! others are in the next piece.
 
 ghost use Rattle.std.specs.Prelude.{◌↔◌, ◌++◌, List, ℕ, IfOk, IsTrue, IsUtf8};
 ghost use Rattle.std.specs.Str.{IsValidUpTo};

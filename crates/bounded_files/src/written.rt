@@ -23,8 +23,8 @@ pub fn write_file<R: Files + AllocGlobal>(
     write_anew(rt, path, bytes).map_err(|error| fault_of(&error))
 }
 
-/// Whether a path may be written over by a file that begins so: nothing stands there, or what is no
-/// regular file, or one that is empty or begins so, too.
+/// Whether a path may be overwritten by a file with this beginning: there is nothing, or no regular
+/// file, or a file that is empty or has this beginning, too.
 // open: what it answers: `bench/outside`.
 pub fn may_write_over<R: Files>(rt: &R, path: &str, beginning: &[u8; 4]) -> bool {
     match fs::metadata(rt, path) {

@@ -24,8 +24,8 @@ pub enum Compared {
 }
 
 impl Compared {
-    /// What an instruction compares. Where it doesn't tell what a lookup gave, nothing else changes
-    /// on the edge that jumps.
+    /// What an instruction compares. Unless it checks a lookup's answer, nothing else changes on
+    /// the edge that jumps.
     // open: what it gives at a lookup's check, of which no edge is taken back.
     pub fn of(e: &AbsState, insn: &Insn) -> Compared
         ensures { rules.is_lookup_check e.now insn.now ≡ false

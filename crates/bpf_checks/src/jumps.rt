@@ -40,8 +40,8 @@ pub fn jump_rule(
     }
 }
 
-/// Whether it is a jump whose edges tell what a lookup gave. Then each copy of the answer changes
-/// on the edge that jumps, and a copy of what is known takes that edge.
+/// Whether it is a jump whose edges check a lookup's answer. Then each copy of the answer changes
+/// on the edge that jumps, and that edge takes a copy of what is known.
 pub fn is_lookup_check(e: &AbsState, insn: &Insn) -> bool
     ensures { result ≡ rules.is_lookup_check e.now insn.now }
 {

@@ -10,9 +10,9 @@ use abs_value::{
     values_stay_in_order,
 };
 
-/// A step from a state that is stood for, at an instruction that breaks no rule: it is no trap, an
-/// edge that isn't dropped stands for the state that it leads to, what it asks of a counter is
-/// lawful, and a choice is 0 or one of the releases.
+/// A step from a state that is stood for, at an instruction that breaks no rule. It is no trap; an
+/// edge that isn't dropped stands for the state that it leads to; its operation on a counter is
+/// lawful; and a choice is 0 or one of the releases.
 pub fn steps_are_safe()
     ensures { sound.EveryStepIsSafe }
 {
@@ -26,8 +26,8 @@ pub fn steps_are_safe()
     bytes_are_there();
 }
 
-/// A join stands for all that either side stands for, and where a run starts, the opening state is
-/// stood for.
+/// A join stands for all states that either side stands for, and the opening state is stood for at
+/// the start of a run.
 pub fn states_are_stood_for()
     ensures first { sound.FirstStands }
     ensures second { sound.SecondStands }

@@ -1,5 +1,5 @@
-//! The rules, asked in the order of their codes. Each class of instructions can break some of them
-//! alone, and asks those.
+//! The rules, checked in the order of their codes. Each class of instructions can break only some
+//! of them, and checks those.
 
 ghost use Rattle.std.specs.Prelude.{◌≡◌};
 ghost use Rattle.bpf_checks.specs.Rules as rules;

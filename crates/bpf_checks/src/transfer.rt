@@ -1,4 +1,4 @@
-//! What an instruction makes of what is known at its place. The one entry at hand is changed in
+//! The effect of an instruction on what is known at its place. The current entry is changed in
 //! place.
 
 ghost use Rattle.std.specs.Prelude.{◌≡◌};

@@ -90,7 +90,7 @@ pub fn stack_place(address: u64, size: Size) -> usize
     (address - STACK_START) as usize
 }
 
-/// So many bytes of the stack at an address in it; of none nothing is asked.
+/// This many bytes of the stack at an address in it; with a count of 0 any address will do.
 #[inline]
 pub fn stack_bytes(words: &Words, address: u64, count: u64) -> &[u8]
     requires few { count ≤ 64 }

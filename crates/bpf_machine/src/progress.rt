@@ -1,4 +1,4 @@
-//! What a step comes to.
+//! The result of a step.
 
 /// The choice that a program ends with: 0 for no update, or a release by its number from 1 on, at
 /// most 64.

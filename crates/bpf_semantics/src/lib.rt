@@ -1,7 +1,7 @@
 //! What the machine means (RFC 9669): the memory of a run, its state, one step, and a whole run.
-//! The definitions stand in `specs/`; the crates above cite them. The laws of all runs have no work
-//! to do. The machine's numbers stand here once for code, too: its regions, its helpers, and what
-//! each access has and does.
+//! The definitions are in `specs/`; the crates above cite them. The laws about all runs have no
+//! code to run. The machine's numbers are also here, once, for code: its regions, its helpers, and
+//! what each access has and does.
 //!
 //! See docs/DECISIONS.md, "The machine".
 #![tactic(auto)]

@@ -1,4 +1,4 @@
-//! What stands behind an instruction's word: registers, numbers, memory and distances, by form.
+//! The arguments after an instruction's word: registers, numbers, memory and distances, by form.
 
 ghost use Rattle.std.specs.Prelude.{◌≡◌};
 ghost use Rattle.bpf_text.specs.Three.{three};

@@ -176,14 +176,14 @@ fn assembled(alloc: Global, text: &[u8]) -> Result<Vec<u8>, AsmFault>
     write_bytes(alloc, &reading)
 }
 
-/// The bytes that a text stands for, in 8 bytes a slot: a line holds an optional label `name:` and
-/// an optional instruction, in the words of the listing. LF or CR LF ends a line, spaces and tabs
-/// stand between tokens, and `;` begins a comment. A jump goes to a label or a distance with its
-/// sign; an imm is -2147483648 to 4294967295, the number of `lddw` -2^63 to 2^64 - 1.
+/// The bytes that a text stands for, 8 bytes a slot: a line has an optional label `name:` and an
+/// optional instruction, in the words of the listing. LF or CR LF ends a line, spaces and tabs
+/// separate tokens, and `;` begins a comment. A jump goes to a label or a distance with its sign;
+/// an imm is -2147483648 to 4294967295, the number of `lddw` -2^63 to 2^64 - 1.
 ///
-/// Refused with the first line that has a fault of its own (of several the lowest: `Token`,
-/// `Mnemonic`, `Operand`, `Label` for one given twice, `Range`, `TooLong` past slot 4096), else
-/// with the first jump to an unknown label; or with `Memory` where a growth was refused.
+/// Refused with the first line that has a fault of its own (the lowest if it has several: `Token`,
+/// `Mnemonic`, `Operand`, `Label` for one that occurs twice, `Range`, `TooLong` past slot 4096),
+/// otherwise with the first jump to an unknown label; or with `Memory` if a growth was refused.
 // open: whether memory is refused (A7).
 pub fn assemble(alloc: Global, text: &str) -> Result<Vec<u8>, AsmFault>
     ensures bytes { IfOk result (λ v. Assembles text.now (Ok v.items)) }

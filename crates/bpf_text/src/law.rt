@@ -11,8 +11,8 @@ ghost use Rattle.bpf_text.specs.Vocabulary.{Vocabulary, IsExact};
 
 use bpf_insn::decode_at;
 
-/// A law: the kinds of a word and the arguments of its instructions tell the same. So operands that
-/// are read as their kinds are always those of an instruction.
+/// A law: the kinds of a word's operands agree with the arguments of its instructions. So operands
+/// that are read as their kinds are always those of an instruction.
 pub fn kinds_agree()
     ensures { KindsAgree }
 {}
@@ -28,7 +28,7 @@ pub fn one_assembly()
     ensures { (text : List ℕ) → HasOneAssembly text }
 {}
 
-/// A law: with a comment behind each of its lines a listing stands for the same bytes.
+/// A law: with a comment at the end of each of its lines a listing stands for the same bytes.
 pub fn remarks_are_skipped()
     ensures { (lines : List RemarkedInsn) → RemarksAreSkipped lines }
 {}

@@ -1,7 +1,7 @@
-//! The text of BPF instructions: `assemble` reads it into bytes, and `listing` writes it of bytes.
-//! Both go by one word and one signature an instruction: `mnemonic` has the words, `argument` the
-//! arguments behind them, which the listing writes, and `signature` the kinds of operands that the
-//! assembler reads them from.
+//! The text of BPF instructions: `assemble` reads it into bytes, and `listing` writes it from
+//! bytes. Both use one word and one signature for each instruction: `mnemonic` has the words,
+//! `argument` the arguments after them, which the listing writes, and `signature` the kinds of
+//! operands from which the assembler reads them.
 //!
 //! See docs/PROGRAM.md, "Assembly text"; docs/DECISIONS.md, "The assembly text".
 #![tactic(auto)]

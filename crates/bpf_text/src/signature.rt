@@ -1,4 +1,4 @@
-//! The signature of each instruction: which operands stand behind its word.
+//! The signature of each instruction: which operands follow its word.
 
 ghost use Rattle.std.specs.Prelude.{◌≡◌};
 ghost use Rattle.bpf_text.specs.Signatures.{kinds_of};

@@ -1,4 +1,4 @@
-//! Up to three of a kind, in their order: what stands behind an instruction's word.
+//! Up to three of a kind, in their order: the operands or arguments after an instruction's word.
 
 ghost use Rattle.std.specs.Prelude.{◌≡◌};
 ghost use Rattle.bpf_text.specs.Three.{none, one, two, three};

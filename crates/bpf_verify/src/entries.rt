@@ -1,4 +1,4 @@
-//! The entries that the sweep keeps: the one at hand, which is changed in place from instruction to
+//! The entries that the sweep holds: the current one, which is changed in place from instruction to
 //! instruction, and those that wait for the targets of jumps ahead.
 
 ghost use Rattle.std.specs.Prelude.{◌≡◌, ◌+◌, ◌-◌, ◌<◌, ◌≤◌, ◌∷◌};
@@ -19,7 +19,7 @@ use cells::Shape;
 use flow_check::{jump_target, next_place};
 use std::alloc::{AllocError, Global};
 
-/// The entry at hand, if a run goes on to the place, and those that wait.
+/// The current entry, if a run continues to the place, and those that wait.
 #[derive(Drop)]
 pub struct Entries {
     pub here: AbsState,
@@ -67,7 +67,7 @@ impl Entries {
         }
     }
 
-    /// Makes the entry of the place be the one at hand, and gives up the one that waited for it.
+    /// Makes the entry of the place the current one, and frees the one that waited for it.
     pub fn arrive(&mut self, slot: usize) -> Result<(), AllocError>
         ensures here { OnOk result (at_hand self.new ≡ arriving self.old slot) }
         ensures waiting { OnOk result (IsChanged self.old.waiting self.new.waiting slot None) }
@@ -103,8 +103,9 @@ impl Entries {
         Ok(())
     }
 
-    /// The same where the jump checks what a lookup gave. Each copy of that answer changes, so the
-    /// edge gets an entry of its own, which no other instruction is to have room for.
+    /// As the other jumps, for one that checks a lookup's answer. Each copy of that answer changes,
+    /// so the edge gets an entry of its own, for which no other instruction should have to have
+    /// room.
     #[inline(never)]
     fn jump_at_check(&mut self, target: usize, insn: &Insn) -> Result<(), AllocError>
         requires { target < length self.old.waiting.entries }
@@ -121,7 +122,8 @@ impl Entries {
         Ok(())
     }
 
-    /// Changes the entry at hand to that of the place after the instruction, if a run goes on.
+    /// Changes the current entry to that of the place after the instruction, if a run continues
+    /// there.
     pub fn go_on(&mut self, shape: &Shape, slot: usize, insn: &Insn)
         requires { slot < 4096 }
         ensures here { at_hand self.new ≡ falling shape.now slot self.old.here insn.now }

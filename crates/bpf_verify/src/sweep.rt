@@ -17,7 +17,7 @@ use cells::Shape;
 use flow_check::Flow;
 use std::alloc::AllocError;
 
-/// Judges the instruction at the slot by the entry at hand; where there is none, nothing is judged.
+/// Judges the instruction at the slot by the current entry; without one, nothing is judged.
 pub fn judge(
     entries: &Entries,
     flow: &Flow,
@@ -43,7 +43,7 @@ pub fn judge(
     }
 }
 
-/// Carries the entry at hand on along the edges of the instruction, at which no rule fails.
+/// Carries the current entry along the edges of the instruction, at which no rule fails.
 pub fn carry_on(
     entries: &mut Entries,
     flow: &Flow,

@@ -1,5 +1,5 @@
-//! A walk over the places of a program, for those who tell what is known at each. It goes as the
-//! sweep does, and its user drives it: arrive, look at the entry, judge, carry on.
+//! A walk over the places of a program, for callers that report what is known at each. It goes as
+//! the sweep does, and its caller drives it: arrive, look at the entry, judge, carry on.
 
 ghost use Rattle.std.specs.Prelude.{◌≡◌, ◌<◌, length, option_copied, IfOk, IfErr, OnOk, Some};
 ghost use Rattle.bpf_insn.specs.Program.{Program, at};
@@ -18,15 +18,15 @@ use cells::Shape;
 use flow_check::Flow;
 use std::alloc::{AllocError, Global};
 
-/// The entries of a program's places, one after the other, upwards. It keeps what `verify` keeps:
-/// the entry at hand, which is changed in place, and those that wait for targets ahead.
+/// The entries of a program's places, one after the other, upwards. It holds what `verify` holds:
+/// the current entry, which is changed in place, and those that wait for targets ahead.
 #[derive(Drop)]
 pub struct Walk {
     entries: Entries,
 }
 
 impl Walk {
-    /// A walk that stands before the first place, under whatever shape.
+    /// A walk before the first place, under any shape.
     // open: whether memory is refused.
     pub fn start(alloc: Global, flow: &Flow) -> Result<Walk, AllocError>
         ensures { IfOk result (λ w. (shape : AppShape) → IsWalkBefore flow.now shape 0 w) }
@@ -90,7 +90,7 @@ impl Walk {
     }
 }
 
-/// A law: a walk that comes to the end has found that the program is accepted.
+/// A law: a walk that reaches the end has found that the program is accepted.
 pub fn end_is_accepted()
     ensures { (code : Program) (shape : AppShape) → EndIsAccepted code shape }
 {}

@@ -119,7 +119,7 @@ impl CellArray {
     /// The greatest quota, 2^63 - 1.
     pub const MOST_QUOTA: u64 = 9223372036854775807;
 
-    /// The same array once more, with a name of its own.
+    /// A copy of the array, with a name of its own.
     // open: whether memory is refused.
     pub fn copy(&self, alloc: Global) -> Result<CellArray, AllocError>
         ensures { IfOk result (λ a. a ≡ self.now) }

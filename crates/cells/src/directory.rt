@@ -46,11 +46,11 @@ impl Directory {
         }
     }
 
-    /// Declares an array of 1 to 4096 cells, with a quota of 1 to 2^63 - 1 over 64-bit cells alone.
+    /// Declares an array of 1 to 4096 cells, with a quota of 1 to 2^63 - 1 over 64-bit cells only.
     ///
-    /// One that stands with these same values is given again. N2 where the name stands with others,
-    /// N1 where the name is new and fewer cells of the width are left, N3 where memory is refused.
-    /// Of a new array the cells are the lowest of its width that no array has.
+    /// An array that exists with the same values is returned. N2 if the name exists with other
+    /// values, N1 if the name is new and fewer cells of the width are left, N3 if memory is
+    /// refused. A new array gets the lowest cells of its width that no array has.
     // open: whether memory is refused (N3).
     pub fn declare(
         &mut self,
@@ -80,7 +80,7 @@ impl Directory {
         self.add(name, width, length, quota)
     }
 
-    /// The same directory once more. N3 where memory is refused.
+    /// A copy of the directory. N3 if memory is refused.
     // open: whether memory is refused (N3).
     pub fn copy(&self, alloc: Global) -> Result<Directory, CellsFault>
         ensures same { IfOk result (λ d. d ≡ self.now) }

@@ -63,7 +63,7 @@ impl Shape {
         }
     }
 
-    /// The same shape once more. N3 where memory is refused.
+    /// A copy of the shape. N3 if memory is refused.
     // open: whether memory is refused (N3).
     pub fn copy(&self, alloc: Global) -> Result<Shape, CellsFault>
         ensures same { IfOk result (λ s. s ≡ self.now) }

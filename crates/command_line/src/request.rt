@@ -126,7 +126,7 @@ pub enum CommandRequest<'a> {
     },
     /// Verify a file's program, and run it.
     Run(AskedRun<'a>),
-    /// The same, and tell each step of the run.
+    /// Verify a file's program, run it, and print each step of the run.
     Trace(AskedRun<'a>),
 }
 

@@ -44,7 +44,8 @@ pub enum Answer {
         choice: u8,
         instructions: u32,
     },
-    /// The same, behind the lines of the program's run.
+    /// The program chose a release, or none, after so many instructions; the lines of its run come
+    /// first.
     Traced {
         lines: String,
         choice: u8,

@@ -22,7 +22,7 @@ pub fn chosen<D: Disk>(alloc: Global, disk: &D, asked: &AskedRun<'_>) -> Result<
     })
 }
 
-/// The same, behind a line for each of its instructions.
+/// As `chosen`, with a line before it for each of its instructions.
 pub fn traced<D: Disk>(alloc: Global, disk: &D, asked: &AskedRun<'_>) -> Result<Answer, Fault>
     ensures answer { IfOk result (IsAnswer (D.known disk.now) (CommandRequest.Trace asked.now)) }
     ensures fault { IfErr result (IsRefused (D.known disk.now) (CommandRequest.Trace asked.now)) }

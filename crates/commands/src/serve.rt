@@ -49,7 +49,7 @@ where
     }
 }
 
-/// The same, where the lines of the log go to a queue, if there is one.
+/// As `serve`, with a queue for the lines of the log, if there is one.
 pub fn serve_by<R, D, O>(
     rt: &R,
     disk: &D,

@@ -17,8 +17,8 @@ pub struct RefusedArray {
     pub fault: CellsFault,
 }
 
-/// Declares the arrays in their order, and gives their numbers: of equal declarations the same one.
-/// At the first that is refused it stops; those before it stand.
+/// Declares the arrays in their order, and gives their numbers: equal declarations have the same
+/// one. It stops at the first that is refused; those before it stay declared.
 // open: whether memory is refused.
 pub fn declare_all(
     alloc: Global,

@@ -19,7 +19,7 @@ pub enum SpecFault {
     Memory,
 }
 
-/// The declarations of a text, in their order. A name may stand twice, and the empty text is
+/// The declarations of a text, in their order. A name may occur twice, and the empty text is
 /// malformed.
 // open: whether memory is refused.
 pub fn read_spec(alloc: Global, text: &str) -> Result<Vec<ArrayDeclaration>, SpecFault>

@@ -23,53 +23,54 @@ pub struct Refused {
     pub reason: String,
 }
 
-/// Checks a manifest: it is loaded with its files, into a directory of its own. It is read once,
-/// and so is each file; what is told of a file is told of the bytes that were judged. What is told
-/// of the manifest's texts and of its files' is printed with no control.
+/// Checks a manifest: it is loaded with its files, into a directory of its own. It and each file
+/// are read once, and messages about a file are about the bytes that were judged. Quotes from the
+/// manifest and its files are printed without control characters.
 ///
-/// Of one that is accepted the text has a line an array, in its order, as `array q:64:1:2` (a quota
-/// comes last, where there is one), and then a line an app: `app APPID releases R slots S`. Lines
-/// are ended by a line feed.
+/// For an accepted manifest the text has a line for each array, in its order, such as `array
+/// q:64:1:2` (a quota comes last, if there is one), and then a line for each app: `app APPID
+/// releases R slots S`. Lines are ended by a line feed.
 ///
-/// The warnings have a line for each array that no program uses, as `warning unused-array:
-/// array[2]: no program uses it, and no rule`. Then app by app they have one for an appid with a
-/// character that isn't printed, for each release whose version a later one has, too, by its four
-/// numbers, whose codebase doesn't end in `/`, or begins with neither `https://` nor `http://`. Last
-/// come those of the app's rule (`tell_rule` of `warnings`).
+/// The warnings have a line for each array that no program uses, such as `warning unused-array:
+/// array[2]: no program uses it, and no rule`. Then app by app there is one for an appid with a
+/// character that isn't printed, and for each release whose version a later one has, too, by its
+/// four numbers, or whose codebase doesn't end in `/`, or begins with neither `https://` nor
+/// `http://`. Those of the app's rule come last (`tell_rule` of `warnings`).
 ///
-/// Of one that is refused the reason begins with the path of a member and what is wanted there, in
+/// For a refused manifest the reason begins with the path of a member and what is wanted there, in
 /// which tables of a list are numbered from 1:
 ///
-/// - M1: that the bytes are too many, or what the crate `toml` says, of which nothing is promised
-///   but how it is printed, and how tables begin. What it says quotes the manifest, so it is left
-///   out where the manifest itself is a symbolic link.
+/// - M1: that the bytes are too many, or what the crate `toml` says, about which nothing is
+///   promised except how it is printed, and how tables begin. What it says quotes the manifest, so
+///   it is left out if the manifest itself is a symbolic link.
 /// - M2: `app[2].release[1].size: a whole number from 0 to 9007199254740991`.
 /// - M3: `array q stands twice` or `app x stands twice`.
-/// - M4 to M6: `app[1].rule: x.rule`, the name of the file as the manifest has it. Where M6 has a
-///   line, what stands there and what is expected follows, as `line 2, column 9: ..`, and below it
-///   the line and a caret (`tell_rule_fault` of `rule_diagnosis`); or, where that can't be told,
-///   the line alone, as `line 2: count q[0];`; or that the file is no text in UTF-8. Where M5 has a
-///   slot at which an instruction begins, it follows as it is listed: `slot 1: exit`; and behind
-///   it, where the verifier refuses it, the sentence of `refused_place`. These lines are left out
-///   where the file lies outside the manifest's folder, by a name that is absolute or has a part
-///   `..`, and where the disk says that it, or a folder on its way, is a symbolic link.
+/// - M4 to M6: `app[1].rule: x.rule`, the name of the file as the manifest has it. If M6 has a
+///   line, it is followed by what is there and what is expected, such as `line 2, column 9: ..`,
+///   and below it the line and a caret (`tell_rule_fault` of `rule_diagnosis`); or, if that isn't
+///   available, by the line alone, such as `line 2: count q[0];`; or by the message that the file
+///   is no text in UTF-8. If M5 has a slot at which an instruction begins, the instruction follows
+///   as it is listed: `slot 1: exit`; and if the verifier refuses it, the sentence of
+///   `refused_place`. These lines are left out if the file is outside the manifest's folder, by a
+///   name that is absolute or has a part `..`, or if the disk says that it, or a folder on its way,
+///   is a symbolic link.
 /// - M7: `array[2].length: r passes the 4096 cells that all arrays of a width have`.
 ///
-/// Behind the reason of M4 to M6 the apps behind the first refused one are judged, each by itself;
-/// behind that of M7 the arrays behind it are, each beside those before it that can be declared.
-/// Behind that of M2 follows all else that doesn't fit: the first member that there isn't, the
-/// server, and of each array and each app the first misfit; behind that of M3 each other name that
-/// stands twice. The first nine of these faults are told as the first is, by the line of the
-/// refusal and its own reason, and a last line says how many there are more: `and 3 more`.
+/// After the reason of M4 to M6 the apps after the first refused one are judged, each by itself;
+/// after that of M7 the arrays after it, each with those before it that can be declared. After that
+/// of M2 comes everything else that doesn't fit: the first unknown member, the server, and the
+/// first misfit of each array and each app; after that of M3 each other name that occurs twice. The
+/// first nine of these faults are printed as the first is, by the line of the refusal and its own
+/// reason, and a last line says how many more there are: `and 3 more`.
 ///
-/// A file that is longer than it may be is a fault, whatever it says. Once such files have more
-/// than 64 MiB in all no further file is read, and the last line says so: `behind app 5 no file is
-/// read: those before that are too long have more than 64 MiB`.
+/// A file that is too long is a fault, whatever its contents. Once such files have more than 64 MiB
+/// in all, no further file is read, and the last line says so: `behind app 5 no file is read: those
+/// before that are too long have more than 64 MiB`.
 ///
-/// M8 comes where memory for the load or for what is told of an accepted manifest is refused, and
-/// where as many files couldn't be read as can be counted. Where memory is refused for the reason,
-/// the reason is left out, in whole or but for the file's name; and so are the further faults, in
-/// whole or but for their own reasons.
+/// M8 comes if memory for the load or for the text about an accepted manifest is refused, and if as
+/// many files couldn't be read as can be counted. If memory is refused for the reason, the reason
+/// is left out, entirely or except for the file's name; and so are the further faults, entirely or
+/// except for their own reasons.
 // open: whether memory is refused; that there is a reason beside the fault: tests; what `toml` says
 // of M1.
 pub fn check<F: Files>(

@@ -1,4 +1,4 @@
-//! What each rule asks, or what is wrong with what it finds.
+//! What each rule requires, or what is wrong with what it finds.
 
 ghost use Rattle.std.specs.Prelude.{◌≡◌};
 ghost use Rattle.explain.specs.Asked as asked;
@@ -81,7 +81,7 @@ pub fn cells_ask() -> &'static str
     ": a cell is accessed as a whole, at its own address and without a sign"
 }
 
-/// What is wrong with memory of which a byte may be unset.
+/// What is wrong with memory in which a byte may be unset.
 #[tactic(auto, unfolding(crate::specs::Asked::unset_byte))]
 pub fn unset_byte() -> &'static str
     ensures { result.now ≡ asked.unset_byte }
@@ -89,7 +89,7 @@ pub fn unset_byte() -> &'static str
     " has a byte that may be unset"
 }
 
-/// What is wrong with an array that has no cell so many bytes behind its first.
+/// What is wrong with an array that has no cell at so many bytes after its first.
 #[tactic(auto, unfolding(crate::specs::Asked::no_cell_at))]
 pub fn no_cell_at() -> &'static str
     ensures { result.now ≡ asked.no_cell_at }

@@ -1,4 +1,5 @@
-//! What is told of an instruction's registers, and of the slot of the stack that it reads.
+//! What comments say about an instruction's registers, and about the slot of the stack that it
+//! reads.
 
 ghost use Rattle.std.specs.Prelude.{◌≡◌, OnOk, true};
 ghost use Rattle.bpf_text.specs.Listing.{Appends, with_sign};

@@ -3,7 +3,7 @@
 ghost use Rattle.bpf_insn.specs.declared.insn.Insn.{Insn as SomeInsn};
 ghost use Rattle.explain.specs.Reads.{AreRead};
 
-/// A law: the registers that are told of an instruction are those that the rules say it reads.
+/// A law: the registers in an instruction's comment are those that it reads by the rules.
 pub fn registers_are_read()
     ensures { (i : SomeInsn) → AreRead i }
 {}

@@ -1,5 +1,5 @@
-//! A program with what is known before each of its instructions, in words: its listing, each line
-//! with a comment behind it, so that the text assembles to the same bytes.
+//! A program with what is known before each of its instructions, in words: its listing, with a
+//! comment at the end of each line, so that the text assembles to the same bytes.
 //!
 //! See docs/PROGRAM.md, "explain".
 #![tactic(auto)]

@@ -92,7 +92,7 @@ fn push_padded(text: &mut String, insn: Insn) -> Result<(), AllocError>
     Ok(())
 }
 
-/// Writes the line of an instruction, with what is known before it behind it.
+/// Writes the line of an instruction, with a comment that says what is known before it.
 pub fn push_line(
     text: &mut String,
     shape: &Shape,

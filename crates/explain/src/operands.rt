@@ -30,7 +30,7 @@ pub fn push_register_is(
     push_value(text, shape, e.value(r))
 }
 
-/// Writes a register, if there is one, with what is known of it, and what a rule asks.
+/// Writes a register, if there is one, with what is known of it, and what a rule requires.
 pub fn push_pointer(
     text: &mut String,
     shape: &Shape,

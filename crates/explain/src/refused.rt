@@ -1,5 +1,5 @@
-//! Where and why a program is refused, in a sentence: of the first instruction that breaks a rule
-//! what the rule asks, and what is known instead.
+//! Where and why a program is refused, in a sentence: for the first instruction that breaks a rule,
+//! what the rule requires, and what is known instead.
 
 ghost use Rattle.std.specs.Prelude.{◌≡◌, IfOk, IfSome, Ok, None, Some};
 ghost use Rattle.std.specs.Prelude.{option_copied, string_bytes};

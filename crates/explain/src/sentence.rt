@@ -87,7 +87,7 @@ pub fn push_cited_rule(
     push_sentence(text, shape, e, insn, rule)
 }
 
-/// Writes that behind a blank, as it stands behind a slot.
+/// Writes the refusal after a blank, as it follows a slot.
 pub fn push_refusal(
     text: &mut String,
     shape: &Shape,

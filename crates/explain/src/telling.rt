@@ -21,7 +21,7 @@ use cells::Shape;
 use flow_check::Flow;
 use std::alloc::{AllocError, Global};
 
-/// What is told of a program: its listing with comments, and why it is refused, if it is.
+/// The explanation of a program: its listing with comments, and why it is refused, if it is.
 #[derive(Drop)]
 pub struct Explained {
     pub text: String,
@@ -89,9 +89,9 @@ fn tell(alloc: Global, flow: &Flow, shape: &Shape) -> Result<Explained, AllocErr
     })
 }
 
-/// The listing of a program with what is known before each instruction as a comment behind it, up
-/// to the first instruction that breaks a rule: of that one the comment has the rule and what is
-/// known instead of what it asks. A refusal that is told is never V15.
+/// The listing of a program with a comment after each instruction that says what is known before
+/// it, up to the first instruction that breaks a rule: there the comment has the rule, and what is
+/// known instead of what it requires. A refusal that is returned is never V15.
 // open: whether memory is refused.
 pub fn explain(alloc: Global, flow: &Flow, shape: &Shape) -> Result<Explained, AllocError>
     ensures text { IfOk result

@@ -66,7 +66,7 @@ fn push_no_address(
     }
 }
 
-/// Writes the address of an access, and what a rule asks of it.
+/// Writes the address of an access, and what a rule requires of it.
 pub fn push_access(
     text: &mut String,
     shape: &Shape,

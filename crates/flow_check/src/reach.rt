@@ -1,5 +1,5 @@
 //! The places that are reached. Every edge leads forward, so one upward sweep finds them: when it
-//! comes to a place, all edges onto that place lie behind it.
+//! reaches a place, it has passed all edges that lead there.
 
 ghost use Rattle.std.specs.Prelude.{◌≡◌, true, false, ℕ, ◌<◌, ◌≤◌, ◌∷◌, ◌-◌, IfOk, IfSome};
 ghost use Rattle.std.specs.Prelude.{All, Contains, length, replicate, slice_set};

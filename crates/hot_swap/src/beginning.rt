@@ -57,7 +57,7 @@ impl Beginning {
         self.generation
     }
 
-    /// The same again.
+    /// A copy of it.
     pub(crate) fn again(&self) -> Beginning
         ensures { result ≡ self.now }
     {

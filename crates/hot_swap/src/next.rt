@@ -14,7 +14,7 @@ use ruleset::Ruleset;
 use std::alloc::AllocError;
 use std::sync::Arc;
 
-/// The install of a ruleset behind all that was known.
+/// The install of a ruleset after all that was known.
 #[derive(Drop)]
 pub struct NextInstall {
     generation: Generation,

@@ -1,4 +1,4 @@
-//! The publisher: it installs rulesets one after another, makes watchers, and tells them.
+//! The publisher: it installs rulesets one after another, makes watchers, and gives them notices.
 
 ghost use Rattle.std.specs.Prelude.{◌≡◌, ◌≢◌, ◌↔◌, ◌+◌, ◌-◌, ◌^◌, ◌≤◌, [], ◌∷◌};
 ghost use Rattle.std.specs.Prelude.{Err, IfOk, IfErr, All};
@@ -18,8 +18,8 @@ use std::alloc::Global;
 use std::marker::Model;
 use std::sync::{Arc, Wait};
 
-/// What installs rulesets, and makes watchers of them. It is ended by `close`, and has to live as
-/// long as its watchers are asked.
+/// Installs rulesets, and makes watchers of them. It is ended by `close`, and has to live as long
+/// as its watchers are used.
 pub struct Publisher {
     writer: ShownWriter,
     end: Arc<ListEnd>,

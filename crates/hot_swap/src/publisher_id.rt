@@ -1,6 +1,6 @@
 //! Which publisher it is.
 
-/// What tells a publisher from all others in proofs: its book. No value of it is made.
+/// Distinguishes a publisher from all others in proofs, by its book. No value of it is made.
 pub struct PublisherId {
     pub number: u64,
     pub log_name: u64,

@@ -1,7 +1,7 @@
-//! A reply is written: its head is put into a fixed buffer, since a reply has to be made where
-//! memory is refused too. A body that fits another fixed buffer behind the head goes out with it in
-//! one piece, since each piece is a call of the system; any other goes out behind the head. This
-//! buffer is a plain array, which is cleared at once; an `ArrayVec` clears itself byte by byte.
+//! A reply is written. Its head is put into a fixed buffer, since a reply has to be made even if
+//! memory is refused. A body that fits another fixed buffer after the head is sent with it in one
+//! piece, since each piece is a system call; any other is sent after the head. This second buffer
+//! is a plain array, which is cleared at once; an `ArrayVec` clears itself byte by byte.
 
 ghost use Rattle.std.specs.Prelude.{◌≡◌, ◌+◌, ◌-◌, ◌^◌, ◌<◌, ◌≤◌, ◌++◌, IsTrue, length, take};
 ghost use Rattle.arrayvec.specs.ArrayVec.{array_vec_len};

@@ -67,7 +67,7 @@ impl PostRoom {
     }
 
     /// Reads the one POST of a connection, and keeps its body. What the room has after a refusal
-    /// isn't told.
+    /// isn't specified.
     // open: what `read_post` leaves open.
     pub fn read_post<R: Read>(&mut self, reader: &mut Counted<R>) -> Result<(), PostFault>
         requires { reader.old.failures < 2 ^ 64 - 1 }

@@ -41,7 +41,7 @@ impl Status {
         }
     }
 
-    /// The reason that stands behind the number in the status line.
+    /// The reason phrase after the number in the status line.
     pub fn reason(self) -> &'static [u8]
         ensures text { result.now ≡ reason_of self }
         ensures short { length result.now ≤ 31 }

@@ -18,7 +18,7 @@ pub enum ManifestToolFault {
     Diagnosed(Refused),
     /// B3, B4, M1 to M8: a manifest comes to no ruleset.
     Load(PathFault),
-    /// The same of the manifest that serves now.
+    /// B3, B4, M1 to M8: the manifest that is served now gives no ruleset.
     Against(PathFault),
     /// B2 to B4, M1 to M8: a script, or a manifest of it, isn't taken.
     Replay(ReplayFault),

@@ -22,8 +22,8 @@ pub enum NamedTime {
     At(Timestamp),
 }
 
-/// The moment that a text names: a number with `s`, `m`, `h` or `d` behind it is so long ago, and
-/// all else a time by RFC 3339.
+/// The moment that a text names: a number followed by `s`, `m`, `h` or `d` is so long ago, and any
+/// other text a time by RFC 3339.
 pub fn moment_in(text: &str) -> Option<NamedTime>
     ensures moment { IfSome result (specs.Names text.now) }
     ensures none { IfNone result (specs.NamesNone text.now) }

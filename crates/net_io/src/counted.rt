@@ -69,8 +69,8 @@ impl<R: Read> Counted<R> {
 }
 
 impl<W: Write> Counted<W> {
-    /// Writes all bytes, or those before the first failure. After a write that took a part of
-    /// them it goes on behind that part.
+    /// Writes all bytes, or those before the first failure. After a write that took only part of
+    /// them it continues with the rest.
     // open: when a device fails.
     pub fn write_whole(&mut self, bytes: &[u8]) -> Result<(), WriteFault>
         requires { self.old.failures < 2 ^ 64 - 1 }

@@ -1,7 +1,7 @@
-//! One direction of a connection, with its limit of time, and what is read at a connection's end. A
+//! One direction of a connection, with its time limit, and what is read at a connection's end. A
 //! call that a signal interrupts is made again, within the same time.
 //!
-//! At its end what a client sent beyond its request is read and let go, since a socket that is
+//! At its end what a client sent beyond its request is read and dropped, since a socket that is
 //! closed with bytes unread is reset, and the reply may be lost with it (RFC 9112, section 9.6).
 
 ghost use Rattle.std.specs.Prelude.{◌≡◌};

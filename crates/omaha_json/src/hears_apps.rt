@@ -47,7 +47,7 @@ impl<'a> WrittenApp<'a> {
         }
     }
 
-    /// The same of `installdate`, since it is no whole number from 0 on that 64 bits hold.
+    /// Whether `installdate` is ignored, since it is no whole number from 0 on that fits 64 bits.
     pub fn ignores_installdate(&self) -> bool
         ensures { result ≡ ignores_installdate (view self.now.value.now) }
     {

@@ -23,8 +23,8 @@ use std::sync::Wait;
 /// More bytes by one than a line may have, so that a longer one shows.
 const LINE_ROOM: usize = LINE_LIMIT + 1;
 
-/// Reads a line, does what it asks, and gives the reply. None where the reader failed; then nothing
-/// was done.
+/// Reads a line, does what it requests, and gives the reply. None if the reader failed; then
+/// nothing was done.
 // open: whether memory is refused (B4); which line a socket gave. Of the counters each reply is of
 // the moment of its load.
 pub fn answer<H: Wait, R: Read, L: Loader, C: CellSteps>(

@@ -1,5 +1,5 @@
-//! What an operator is told, as it is printed: lines, of which a refusal's begins with `refused `
-//! and has the number and name of what is wrong.
+//! The replies to an operator, as they are printed: lines, of which a refusal's begins with
+//! `refused ` and has the number and name of what is wrong.
 
 ghost use Rattle.operator.specs.Texts.{refusal_text, reply_text};
 

@@ -1,5 +1,5 @@
-//! The lines of what an operator asks for: the ruleset's apps, and the counters, each as it was at
-//! the moment of its own load.
+//! The lines that an operator requests: the ruleset's apps, and the counters, each as it was at the
+//! moment of its own load.
 
 ghost use Rattle.std.specs.Prelude.{◌≡◌, ◌+◌, ◌++◌, ◌≤◌, All, OnOk, OnErr, IfOk};
 ghost use Rattle.std.specs.String.{string_bytes};

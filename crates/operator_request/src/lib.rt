@@ -1,7 +1,7 @@
-//! What an operator asks a server, and the lines that spell it.
+//! What an operator requests of a server, and the lines that spell it.
 //!
-//! The command line makes a request of its words, and a server's operator's port reads one of the
-//! line that it is sent. Both are one type, so that what is sent is what is read.
+//! The command line makes a request from its words, and a server's operator's port reads one from
+//! the line that it is sent. Both have one type, so that what is sent is what is read.
 //!
 //! See docs/DECISIONS.md, "The operator's port".
 #![tactic(auto)]

@@ -27,9 +27,9 @@ pub enum OperatorRequest<'a> {
 }
 
 impl<'a> OperatorRequest<'a> {
-    /// The request of a line, which is given without its line feed. None where the line has more
-    /// than 4096 bytes or a line feed, is none of the words, or is `load` without a path or with
-    /// one that isn't UTF-8.
+    /// The request of a line, which is passed without its line feed. None if the line has more than
+    /// 4096 bytes or a line feed, is none of the words, or is `load` without a path or with one
+    /// that isn't UTF-8.
     // open: whether memory is refused.
     pub fn of(line: &'a [u8]) -> Option<OperatorRequest<'a>>
         ensures some { IfSome result (SpellsRequest line.now) }

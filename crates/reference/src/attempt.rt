@@ -1,4 +1,4 @@
-//! What one instruction comes to, before a counter that it asks has replied.
+//! The result of one instruction, before a counter that it uses has replied.
 
 ghost use Rattle.std.specs.Prelude.{◌≡◌, ◌+◌, ◌<◌, ◌≤◌, ◌^◌};
 ghost use Rattle.bpf_semantics.specs.Outcome as outcome;

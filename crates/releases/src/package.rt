@@ -10,7 +10,7 @@ use std::marker::Model;
 /// How many hexadecimal digits a SHA-256 has.
 const HASH_LENGTH: usize = 64;
 
-/// A file of a release, by the members that a reply tells of it.
+/// A file of a release, by the members that a reply has about it.
 #[derive(Drop)]
 pub struct Package {
     name: Text,

@@ -20,15 +20,14 @@ use std::alloc::{AllocError, Global};
 use std::sync::Arc;
 use world::{Event, World};
 
-/// What the lines of a script come to, each in turn, on a world of 64 workers whose first ruleset
-/// is that of the manifest. Both are paths, and so is the manifest of a swap line; where they
-/// aren't absolute they are all taken from the working folder, and the files that a manifest names
-/// from that manifest's folder.
+/// The replies to the lines of a script, each in turn, on a world of 64 workers whose first ruleset
+/// is the manifest's. Both are paths, as is the manifest of a swap line; relative ones are relative
+/// to the working folder, and the files that a manifest names to that manifest's folder.
 ///
 /// The faults come in this order: B3 of a script that can't be read, or is longer than 16 MiB; B2
 /// of its first malformed line; B3 of the manifest, or M1 to M7 of its load; and then those of the
 /// swap lines' manifests, one by one. After any of them no line was played. B4, or M8 in a load,
-/// comes where memory is refused.
+/// comes if memory is refused.
 // open: whether memory is refused; what a device's files give.
 pub fn replay_files<D: Disk>(
     alloc: Global,

@@ -22,7 +22,7 @@ pub(crate) fn text_in<'a>(value: &'a Value, name: &str) -> Option<&'a str>
     }
 }
 
-/// The same of a number from 0 on.
+/// The member of this name, if it is a number from 0 on.
 pub(crate) fn number_in(value: &Value, name: &str) -> Option<u64>
     ensures { result ≡ specs.number_in name.now (view value.now) }
 {
@@ -32,7 +32,7 @@ pub(crate) fn number_in(value: &Value, name: &str) -> Option<u64>
     }
 }
 
-/// The same of true or false.
+/// The member of this name, if it is `true` or `false`.
 pub(crate) fn flag_in(value: &Value, name: &str) -> Option<bool>
     ensures { result ≡ specs.flag_in name.now (view value.now) }
 {
@@ -42,7 +42,7 @@ pub(crate) fn flag_in(value: &Value, name: &str) -> Option<bool>
     }
 }
 
-/// The same of a list.
+/// The member of this name, if it is a list.
 pub(crate) fn list_in<'a>(value: &'a Value, name: &str) -> Option<&'a [Value]>
     ensures { option_map (λ list. items_view list.now) result
         ≡ specs.list_in name.now (view value.now) }

@@ -10,8 +10,8 @@ use bpf_insn::{Insn, encode};
 use flow_check::is_wide;
 use std::alloc::{AllocError, Global};
 
-/// The bytes of the slots of a program (RFC 9669, "Instruction Encoding"), at each of which an
-/// instruction stands, and at a second half a filler.
+/// The bytes of a program's slots (RFC 9669, "Instruction Encoding"). Each slot has an instruction,
+/// or at a second half a filler.
 pub fn program_bytes(alloc: Global, slots: &[Insn]) -> Result<Vec<u8>, AllocError>
     ensures bytes { IfOk result (λ bytes. bytes.items ≡ flow.program_bytes (laid slots.now)) }
     ensures encodable { OnOk result (AllByRecursion CanEncode (laid slots.now)) }

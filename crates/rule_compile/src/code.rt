@@ -1,4 +1,4 @@
-//! Code that is written from its end, so that the target of each jump stands before the jump.
+//! Code that is written from its end, so that the target of each jump exists before the jump.
 
 ghost use Rattle.std.specs.Prelude.{◌≡◌, ◌<◌, ◌≤◌, ◌+◌, ◌-◌, [], ◌∷◌, ◌++◌, Some, None};
 ghost use Rattle.std.specs.Prelude.{true, false, length, OnOk};
@@ -9,8 +9,8 @@ use bpf_insn::{Insn, MOST_SLOTS};
 use std::alloc::{AllocError, Global};
 use std::marker::Model;
 
-/// The end of a program: its slots, the last one first. A filler stands at the second half of a
-/// wide load.
+/// The end of a program: its slots, the last one first. The second half of a wide load has a
+/// filler.
 #[derive(Drop)]
 pub struct Code {
     slots: Vec<Insn>,
@@ -48,7 +48,7 @@ impl Code {
         }
     }
 
-    /// How many slots stand: the label of the place where they begin.
+    /// How many slots there are: the label of the place where they begin.
     pub fn len(&self) -> usize
         ensures length { result ≡ length self.now }
         ensures in_range { result ≤ 4096 }

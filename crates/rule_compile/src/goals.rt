@@ -6,14 +6,15 @@ use crate::fault::CompileFault;
 use std::alloc::Global;
 use std::marker::Model;
 
-/// The code goes to the label where its condition is of the sense, and else on to what is behind.
+/// The code jumps to the label if its condition has this truth value, and otherwise goes on to the
+/// code after it.
 #[derive(Clone, Copy, Debug)]
 pub struct Goal {
     pub sense: bool,
     pub label: usize,
 }
 
-/// The goals of conditions that are still to be written: that of the next one stands last.
+/// The goals of conditions that are still to be written, the next one last.
 #[derive(Drop)]
 pub struct Goals {
     goals: Vec<Goal>,

@@ -1,9 +1,10 @@
-//! From rules to programs. The code of a rule is written from its end, so that each jump is written
-//! when its target stands: a label is a place by its distance from the end, and no code that is put
-//! in front moves it. R6 is the address of the context and R7 the choice so far. The choice is set
-//! before its condition is asked, and stays where the condition holds; `mov r0, r7 / exit` is one
-//! place at the end. A condition's code goes to one label where the condition is of one sense, and
-//! else falls on to what is behind it, so that each test has one jump out and none leads to a jump.
+//! From rules to programs. The code of a rule is written from its end, so that the target of each
+//! jump exists when the jump is written: a label is a place by its distance from the end, and code
+//! that is put in front moves none. R6 is the address of the context and R7 the choice so far. The
+//! choice is set before its condition is evaluated, and stays if the condition holds; `mov r0, r7 /
+//! exit` is one place at the end. A condition's code jumps to one label if the condition has a
+//! given truth value, and otherwise falls through to the code after it, so that each test has one
+//! jump out and none leads to a jump.
 //!
 //! See docs/DECISIONS.md, "Rules".
 #![tactic(auto)]

@@ -33,9 +33,9 @@ fn flow_of(alloc: Global, slots: Vec<Insn>) -> Result<Flow, AllocError>
 /// The program of a rule that fits the shape, accepted under it. Its run makes the additions to
 /// cells that the rule means, whatever they reply, and ends with the rule's choice.
 ///
-/// C1 comes only where the code would pass 4096 slots, which no rule does whose cost is at most
-/// 4096, and C2 only for want of memory. (A shape with 2^31 arrays, which an instruction can't
-/// number, counts as want of memory.) The bytes to be kept in a file are the program's `bytes`.
+/// C1 comes only if the code would exceed 4096 slots, which no rule with a cost of at most 4096
+/// does, and C2 only if memory is refused. (A shape with 2^31 arrays, which an instruction can't
+/// number, counts as refused memory.) The bytes for a file are the program's `bytes`.
 // open: whether memory is refused (C2).
 pub fn compile(alloc: Global, rule: &Rule, shape: &Shape) -> Result<Verified, CompileFault>
     requires { fits shape.now rule.now ≡ true }

@@ -1,4 +1,4 @@
-//! What may stand behind the beginning of a rule, one by one, and how it is told.
+//! The words and kinds of words that may follow the beginning of a rule, and how each is printed.
 
 ghost use Rattle.std.specs.Prelude.{◌≡◌, ◌++◌, OnOk, option_map, string_bytes};
 ghost use Rattle.std.specs.List.{list_any};
@@ -46,7 +46,7 @@ pub enum Follower {
     End,
 }
 
-/// Each once, in the order in which they are told.
+/// Each once, in the order in which they are printed.
 pub static FOLLOWERS: [Follower; 29] = [
     Follower::When,
     Follower::Count,

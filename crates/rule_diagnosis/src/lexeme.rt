@@ -74,7 +74,7 @@ fn fresh(c: u8, next: u8) -> Lexeme
     }
 }
 
-/// The kind of a byte that stands behind one of a kind, and in front of the next.
+/// The kind of a byte that comes after one of this kind, and before the next byte.
 pub fn lexeme_after(before: Lexeme, c: u8, next: u8) -> Lexeme
     ensures { result ≡ lexemes.lexeme_after before c next }
 {

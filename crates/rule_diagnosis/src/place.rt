@@ -16,7 +16,7 @@ pub fn front(text: &[u8], count: usize) -> &[u8]
     }
 }
 
-/// The text of a line, counted from 1, which is empty behind the last.
+/// The text of a line, counted from 1; empty after the last line.
 pub fn line_text(number: usize, text: &str) -> &str
     ensures { result.now ≡ places.line_text number text.now }
 {

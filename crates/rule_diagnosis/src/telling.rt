@@ -20,8 +20,8 @@ use rule_lang::{MOST_RULE, RuleFault, RuleFaultKind, parse};
 use std::alloc::{AllocError, Global};
 use std::str;
 
-/// What is told of a text whose fault has this line and kind, under the shape of its app: lines,
-/// each ended by a line feed, as
+/// Explains the fault of a text, of which the line and the kind are known, under the shape of its
+/// app. It gives lines, each ended by a line feed, such as
 ///
 /// ```text
 /// line 1, column 31: "when" stands where ";" is expected
@@ -29,10 +29,10 @@ use std::str;
 ///                               ^
 /// ```
 ///
-/// Columns are counted in characters from 1. A control in the line is shown as `\u{1b}`, but for a
-/// tab. Where nothing but a semicolon may stand the place is behind the last word. None where memory
-/// is refused, where the fault isn't this text's, and where the text's words, a line each, are more
-/// than 65536 bytes.
+/// Columns are counted in characters from 1. A control character in the line is shown as `\u{1b}`,
+/// except for a tab. Where only a semicolon may come, the place is right after the last word. None
+/// if memory is refused, if the fault isn't this text's, or if the text's words, one to a line, are
+/// more than 65536 bytes.
 // open: that there is an answer: None comes where memory is refused, where the fault isn't this
 // text's, and where its words, a line each, are over 65536 bytes.
 pub fn tell_rule_fault(

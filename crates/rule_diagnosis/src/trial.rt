@@ -107,8 +107,8 @@ fn add_followers(
     }
 }
 
-/// What may stand behind the beginning of a rule, which takes a trial for each follower; None where
-/// memory is refused.
+/// What may follow the beginning of a rule, which takes a trial for each follower; None if memory
+/// is refused.
 pub fn followers_of(alloc: Global, shape: &Shape, before: &[u8]) -> Option<Vec<Follower>>
     ensures { IfSome result (λ v. specs.AreFollowers shape.now before.now v.items) }
 {

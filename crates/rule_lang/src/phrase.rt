@@ -193,7 +193,7 @@ fn behind_place<'t, 'a>(
     }
 }
 
-/// The tokens behind a phrase, which is short; or L2 at the first that isn't of it.
+/// The tokens after a phrase, which is short; or L2 at the first token that doesn't belong to it.
 pub fn behind<'t, 'a>(
     wants: &[Want],
     tokens: &'t [Placed<&'a str>],

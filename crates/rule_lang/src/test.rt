@@ -1,4 +1,4 @@
-//! The tests of which conditions are made: what is asked of an app and its counters.
+//! The tests of which conditions are made: queries about an app and its counters.
 
 use crate::literal::Literal;
 use attrs::{Attribute, Flag};

@@ -1,4 +1,4 @@
-//! The kinds of tests: the first word of each, and what stands behind it.
+//! The kinds of tests: the first word of each, and what follows it.
 
 ghost use Rattle.std.specs.Prelude.{◌≡◌, ◌≤◌};
 ghost use Rattle.rule_lang.specs.Named.{token_named};

@@ -52,7 +52,7 @@ impl Ruleset {
         }
     }
 
-    /// The ruleset of apps of which the caller knows that no appid stands twice.
+    /// The ruleset of apps, of which the caller knows that no appid occurs twice.
     // open: whether memory is refused.
     pub fn known(server: String, apps: Vec<App>) -> Result<Ruleset, AllocError>
         requires { ¬ HasTwice (appids_of apps.items) }

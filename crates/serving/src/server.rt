@@ -25,9 +25,9 @@ pub struct Server {
     ghost only: { KnowsOnly directory rules },
 }
 
-/// Loads the manifest at a path, and binds both ports of loopback, of which 0 is any that is free.
-/// The fault of the manifest, and else B6 where a port can't be bound, or the system has fewer
-/// descriptors left than a server wants at least.
+/// Loads the manifest at a path, and binds both ports on loopback, where 0 is any free port. The
+/// fault is the manifest's, or else B6 if a port can't be bound, or if the system has fewer
+/// descriptors left than a server needs at least.
 // open: what a device's files give.
 pub fn prepare<H, D>(
     rt: &H,

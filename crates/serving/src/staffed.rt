@@ -113,12 +113,12 @@ impl StaffedServer {
         &self.ports
     }
 
-    /// Serves until the operator stops the server, and gives the counters as they are left; those
-    /// that aren't 0 have a line of the log. Once all threads are there, `out` is told that the
-    /// server serves, by one write of the whole line. Later rulesets come from the loader. B4 where
-    /// memory or a thread was refused, which is before any client is answered and before anything
-    /// is written; B3 where `out` can't be written; and H2 where a worker can't be asked at the end
-    /// what it has seen, which the log tells with the counters.
+    /// Serves until the operator stops the server, and returns the counters with their last values;
+    /// those that aren't 0 have a line of the log. Once all threads exist, `out` gets the line that
+    /// the server serves, by one write. Later rulesets come from the loader. B4 if memory or a
+    /// thread is refused, before any client is answered and before anything is written; B3 if `out`
+    /// can't be written; and H2 if a worker can't be asked at the end what it has seen: the log
+    /// then has this with the counters.
     // open: when which of B4, B3 and H2 comes; that the log has the last values, and that the line
     // takes one write: tests.
     pub fn serve<H, L, O>(

@@ -42,8 +42,8 @@ impl Model for Closed {
 }
 
 impl SharedCells {
-    /// Ends all work on the cells, and tells what the passes left. All passes that `new` gave are
-    /// handed over, in any order. It takes no memory, so S1 never comes.
+    /// Ends all work on the cells, and returns what the passes left. All passes that `new` made
+    /// have to be passed in, in any order. It takes no memory, so S1 never comes.
     pub fn close(self, mut passes: Vec<SharedPass>) -> Result<Closed, SharedFault>
         requires all { length passes.items ≡ self.passes }
         requires own { All (IsPassOf self) passes.items }

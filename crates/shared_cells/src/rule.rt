@@ -15,7 +15,7 @@ pub struct Account {
 /// What a seat knows: the accounts of passes.
 pub type View = LinkedList<Account>;
 
-/// The rule of the table, which is told how many passes there are.
+/// The rule of the table, which knows how many passes there are.
 pub struct OneHistory;
 
 impl TableRule<(), View, usize> for OneHistory {

@@ -35,7 +35,7 @@ pub fn push_left(text: &mut String, width: usize, more: &str) -> Result<(), Allo
     push_blanks(text, width.saturating_sub(width_of(more)))
 }
 
-/// The same, with the blanks before it.
+/// Puts a text with the blanks before it that fill it up to a width.
 pub fn push_right(text: &mut String, width: usize, more: &str) -> Result<(), AllocError>
     ensures { OnOk result (Puts text.old text.new (specs.at_right width more.now)) }
 {
@@ -68,7 +68,7 @@ pub fn push_percent(text: &mut String, count: u32) -> Result<(), AllocError>
     write!(text, "{whole}.{tenths}{hundredths}")
 }
 
-/// The same, at the right of a column.
+/// Puts a percentage with two decimals at the right of a column of this width.
 pub fn push_percent_right(text: &mut String, width: usize, count: u32) -> Result<(), AllocError>
     ensures { OnOk result (Puts text.old text.new (specs.at_right width (specs.percent count))) }
 {

@@ -38,7 +38,7 @@ impl<'a> ToldCell<'a> {
         }
     }
 
-    /// The same of a text `NAME[INDEX] VALUE`.
+    /// The counter with its value that a text `NAME[INDEX] VALUE` names.
     pub fn listed(text: &'a str) -> Option<ToldCell<'a>>
         ensures { result ≡ specs.listed text.now }
     {

@@ -48,9 +48,9 @@ where
     }
 }
 
-/// The same, and gives the workers back, in their order. The room for them is taken before the
-/// first thread is started. Once all threads are there, and before the first connection is
-/// accepted, `started` gets a message; where one is refused it gets none.
+/// As `serve`, but gives the workers back, in their order. The memory for them is allocated before
+/// the first thread is started. Once all threads exist, and before the first connection is
+/// accepted, `started` gets a message; if a thread is refused it gets none.
 // open: what `run` leaves open; that the gate is called round each answer: tests.
 pub fn serve_returning<H, G, C>(
     rt: &H,

@@ -1,19 +1,19 @@
 //! The threads of a server: those of its workers, and its operator's.
 //!
 //! One thread accepts the clients' connections and puts them into a queue, from which the workers
-//! take them, each in a thread of its own: that is `serve`. In `run` another serves the operator's
-//! port beside it, whose connections come one after another. The operator's `stop` ends both: the
-//! clients' port is told by a flag and woken by one more connection, and the operator's stays open
+//! take them, each in a thread of its own: that is `serve`. In `run` another thread serves the
+//! operator's port beside it, one connection after another. The operator's `stop` ends both: a flag
+//! informs the clients' port, and one more connection wakes it; the operator's port stays open
 //! until all are answered.
 //!
-//! What they do is told to the log (`server_log`).
+//! What they do is reported to the log (`server_log`).
 //!
-//! What a connection is answered is proved of `answer` here and of `answer` in `operator`. All
-//! threads give back what they were given once the server ends: a worker gave its answers one after
+//! What a connection is answered is proved for `answer` here and for `answer` in `operator`. All
+//! threads give back what they were given once the server ends. A worker gave its answers one after
 //! the other, under rulesets that never went back, and its pass made the events of their runs and
-//! nothing else; the operator's made Loads alone. A server says that it serves once its threads are
-//! there. Which bytes a socket carried nothing tells. Of clocks nothing is proved, and of a server
-//! that gives up that it does so for want of memory or of a thread, or since it can't say that it
+//! nothing else; the operator's pass made only Loads. A server says that it serves once its threads
+//! exist. Nothing says which bytes a socket carried, and nothing is proved about clocks, nor about
+//! a server that gives up: that memory or a thread was refused, or that it couldn't say that it
 //! serves.
 //!
 //! See docs/DECISIONS.md, "The server".

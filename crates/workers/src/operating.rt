@@ -1,5 +1,5 @@
-//! The operator's port: one connection after another, each with a limit of time. It ends with the
-//! connection that asks to stop, or once it is told to.
+//! The operator's port: one connection after another, each with a time limit. It ends with the
+//! connection that requests a stop, or once its caller says so.
 
 ghost use Rattle.std.specs.Prelude.{◌≡◌};
 ghost use Rattle.operator.specs.Leading.{LoadsLead};

@@ -55,10 +55,10 @@ impl Ports {
     }
 }
 
-/// Binds both ports, of which 0 is any that is free. Where the system has fewer descriptors left
-/// than a server wants at least, that is an error, too: else it would listen, and could accept
-/// nobody. These are one by which the operator's port is kept open (`operator_handle`), one of a
-/// client's connection, one of the operator's, and one of a file that is loaded.
+/// Binds both ports; 0 is any free port. If the system has fewer descriptors left than a server
+/// needs at least, this is an error, too: otherwise it would listen and could accept nobody. It
+/// needs one by which the operator's port stays open (`operator_handle`), one for a client's
+/// connection, one for the operator's, and one for a file that is loaded.
 // open: that both ports are on loopback: std says nothing of an address, so tests do.
 pub fn bind<H>(rt: &H, service: u16, operator: u16) -> io::Result<Ports>
 where

@@ -1,6 +1,6 @@
-//! What a server says once it is ready, which is when all its threads are made. It says so in the
-//! closure of `thread::scope`, of which nothing is known of what it wrote through a `&mut` that it
-//! holds. So it holds a value of a type parameter, which gives back what it wrote to.
+//! What a server writes once it is ready, which is when all its threads are made. It is written in
+//! the closure of `thread::scope`, and nothing is known of what that wrote through a `&mut` that it
+//! holds. So the closure holds a value of a type parameter, which gives back what it wrote to.
 
 ghost use Rattle.std.specs.Io.KnownBytes.{Appends};
 ghost use Rattle.std.specs.Prelude.{◌≡◌, ℕ, IfOk, OnOk};

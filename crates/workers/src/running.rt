@@ -153,12 +153,12 @@ where
     )
 }
 
-/// Serves clients with these workers, of which there are 1 to 64, as `serve` does, and the
-/// operator's port beside them, until the operator has asked to stop. The operator is answered in
-/// this thread. Once all threads are there, `out` is told which generation is served, by one write
-/// of the whole line. Where nothing was refused all passes and watchers are given back. B4, of
-/// memory or of a thread, comes before any client is answered and before anything is written, and
-/// B3 where `out` can't be written.
+/// Serves clients with these 1 to 64 workers, as `serve` does, and the operator's port beside them,
+/// until the operator has requested a stop. The operator is answered in this thread. Once all
+/// threads exist, the generation that is served is written to `out`, by one write of the whole
+/// line. If nothing was refused, all passes and watchers are given back. B4, if memory or a thread
+/// is refused, comes before any client is answered and before anything is written; B3 if `out`
+/// can't be written.
 // open: which bytes a socket carries, and which moment a clock gives: nothing tells. That
 // connections are answered side by side, or the operator's one after another, their limits of time,
 // the log, that all threads end by a stop, also of a server that may not connect, and that the line

@@ -1,5 +1,5 @@
-//! The operator's port while a server ends: it stays open, and whoever connects is told that the
-//! server stops, whatever is asked.
+//! The operator's port while a server ends: it stays open, and everybody who connects is answered
+//! that the server stops, whatever the request.
 
 use crate::accept::Port;
 use crate::operating::send;

@@ -14,8 +14,8 @@ pub fn takes_its_step()
     ensures { TakesItsStep }
 {}
 
-/// After as many Steps as its program has slots a run is done: one of them was answered with its
-/// end, which is what the machine comes to from the run's state.
+/// A run is done after as many Steps as its program has slots: one of them was answered with its
+/// end, which is the machine's result from the run's state.
 pub fn ends_in_time()
     ensures { EndsInTime }
 {

@@ -1,6 +1,7 @@
-//! A world: the rulesets of a server and the seats of its workers. Each event is said for every
-//! world of the definitions that this one stands for; the type keeps that it stands for at least
-//! one, and that each of its runs is of the program that the ruleset of its number has for its app.
+//! A world: the rulesets of a server and the seats of its workers. Each event's contract is for
+//! every world of the definitions that this one stands for; the type keeps that it stands for at
+//! least one, and that each of its runs is of the program that the ruleset of its number has for
+//! its app.
 
 ghost use Rattle.std.specs.Prelude.{◌≡◌, ◌<◌, ◌≤◌, length, slice_index};
 ghost use Rattle.std.specs.Prelude.{List, All, IfOk, IfErr, Some};
