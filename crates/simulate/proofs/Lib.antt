@@ -1,3 +1,4 @@
 mod Courses
 mod Counted
 mod Written
+mod Places

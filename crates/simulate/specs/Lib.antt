@@ -3,6 +3,7 @@ pub mod Course
 pub mod Counts
 pub mod Columns
 pub mod Shown
+pub mod Picked
 pub mod Shares
 pub mod Moving
 pub mod Pictures

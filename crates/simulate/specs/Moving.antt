@@ -4,7 +4,7 @@
 use Rattle.std.specs.Prelude.{ℕ, ◌+◌, List, [], ◌∷◌, ◌++◌, codes, decimal}
 use Rattle.std.specs.Prelude.{slice_index, max, nat_lt, ◌==◌, ◌&&◌, ◌||◌, if◌then◌else◌}
 use Rattle.std.specs.Prelude.{Bool, true, false, Option, Some, None}
-use Rattle.std.specs.List.{flat_map}
+use Rattle.std.specs.List.{flat_map, list_any, zip}
 use Rattle.attrs.specs.Version.{version_of}
 use Rattle.simulate.specs.Columns.{at_left, at_right, blanks, widest, width_of}
 use Rattle.simulate.specs.Shares.{app_title}
@@ -44,6 +44,12 @@ loses now next from to =
     if from == 0 then false
     else if to == 0 then true
     else is_lower (version_at next to) (version_at now from)
+
+-- some bucket of an app does
+abbrev pub some_lose : (now next : Offer) → Bool
+some_lose now next =
+    list_any (λ move. loses now.versions next.versions move.0 move.1)
+    (zip now.choices next.choices)
 
 -- ---- the table of an app
 
@@ -115,6 +121,11 @@ moves_of now next appid = moves_table appid (offer_of now appid) (offer_of next 
 -- the tables of these apps
 abbrev pub moves_of_apps : (now next : Simulation) → List AppRule → List ℕ
 moves_of_apps now next apps = flat_map (λ app. moves_of now next app.appid) apps
+
+-- some bucket loses a release of some app
+abbrev pub is_lossy : (now next : Simulation) → Bool
+is_lossy now next =
+    list_any (λ app. some_lose (offer_of now app.appid) (offer_of next app.appid)) now.apps
 
 -- the tables of the next ruleset's apps, and of those that it doesn't have any more
 abbrev pub moves_text : (now next : Simulation) → List ℕ

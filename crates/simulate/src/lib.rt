@@ -31,6 +31,7 @@ pub use choices::Choices;
 pub use client::Client;
 pub use counts::{count_buckets, count_moves};
 pub use course::{Onlooker, simulate};
+pub use lost::is_lossy;
 pub use moves::push_moves;
 pub use picturing::draw;
 pub use shares::push_shares;

@@ -1,6 +1,8 @@
 //! A ruleset with what the buckets choose of each of its apps.
 
-ghost use Rattle.std.specs.Prelude.{◌≡◌, None, IfOk, is_none, option_copied};
+ghost use Rattle.std.specs.Prelude.{◌≡◌, ◌<◌, None, IfOk, IfSome, IfNone, is_none, length};
+ghost use Rattle.std.specs.Prelude.{option_copied, take, drop};
+ghost use Rattle.simulate.specs.Picked.{HasPicked, StandsAt};
 ghost use Rattle.simulate.specs.Shown as specs;
 ghost use Rattle.simulate.specs.Clients.{IsSameButApp};
 ghost use Rattle.simulate.specs.Counts.{choices_or_none};
@@ -17,19 +19,29 @@ use std::marker::Model;
 /// The app of an appid, if there is one, and what each bucket chooses.
 pub(crate) type Offered<'a> = (Option<&'a App>, &'a Choices);
 
-/// What a simulation of a ruleset came to.
+/// What a simulation of a ruleset came to: of all its apps, or of one.
 #[derive(Drop)]
 pub struct Simulated {
     rules: Ruleset,
+    // The apps that it is of: those from this place on, and before that one.
+    first: usize,
+    end: usize,
     chosen: Vec<Choices>,
 }
 
 impl Model for Simulated {
+    ghost use Rattle.std.specs.Prelude.{◌-◌, take, drop};
     ghost use Rattle.simulate.specs.Shown.{Simulation};
+    ghost use Rattle.simulate.specs.Picked.{ArePlaces};
 
     ghost Value = { Simulation };
 
-    ghost view = { λ s. record { apps = s.rules.apps; chosen = s.chosen.items } };
+    ghost view = { λ s. record {
+      apps = take (s.end - s.first) (drop s.first s.rules.apps);
+      chosen = s.chosen.items;
+    } };
+
+    ghost invariant = { λ s. ArePlaces s.first s.end s.rules.apps };
 }
 
 impl Simulated {
@@ -47,14 +59,51 @@ impl Simulated {
         ensures client { IsSameButApp client.old client.new }
     {
         let chosen = simulate(alloc, &rules, client, onlooker)?;
-        Ok(Simulated { rules, chosen })
+        let end = rules.apps().len();
+        Ok(Simulated {
+            rules,
+            first: 0,
+            end,
+            chosen,
+        })
+    }
+
+    /// The same of the app of an appid alone. All apps are asked, as above, and what is chosen of
+    /// this one is kept; of a ruleset that doesn't have it nothing is.
+    // open: whether memory is refused.
+    pub fn of_app<O: Onlooker>(
+        alloc: Global,
+        rules: Ruleset,
+        appid: &str,
+        client: &mut Client,
+        onlooker: &mut O,
+    ) -> Result<Simulated, AllocError>
+        ensures picked { IfOk result (HasPicked client.old rules.apps appid.now) }
+        ensures client { IsSameButApp client.old client.new }
+    {
+        let Some(place) = place_of(rules.apps(), appid) else {
+            return Ok(Simulated {
+                rules,
+                first: 0,
+                end: 0,
+                chosen: Vec::new(alloc),
+            });
+        };
+        let chosen = simulate(alloc, &rules, client, onlooker)?;
+        let chosen = one_of(chosen, place)?;
+        Ok(Simulated {
+            rules,
+            first: place,
+            end: place + 1,
+            chosen,
+        })
     }
 
     /// The apps, in the ruleset's order.
     pub(crate) fn apps(&self) -> &[App]
         ensures { result.now ≡ self.now.apps }
     {
-        self.rules.apps()
+        &self.rules.apps()[self.first..self.end]
     }
 
     /// What the buckets choose of each.
@@ -64,11 +113,14 @@ impl Simulated {
         self.chosen.as_slice()
     }
 
-    /// Whether the ruleset has no app of an appid.
+    /// Whether none of the apps has an appid.
     pub(crate) fn lacks(&self, appid: &str) -> bool
         ensures { result ≡ is_none (app_in self.now.apps appid.now) }
     {
-        self.rules.find(appid).is_none()
+        match place_of(self.apps(), appid) {
+            Some(_) => false,
+            None => true,
+        }
     }
 
     /// The app of an appid, and what the buckets choose of it; these choices of none where there is
@@ -80,6 +132,33 @@ impl Simulated {
     {
         offer_in(self.apps(), self.chosen(), none, appid)
     }
+}
+
+// The place of the first app of an appid, from 0.
+fn place_of(apps: &[App], appid: &str) -> Option<usize>
+    ensures some { IfSome result (StandsAt apps.now appid.now) }
+    ensures none { IfNone result (app_in apps.now appid.now ≡ None) }
+{
+    let mut place = 0;
+    let mut left = apps;
+    while let [app, others @ ..] = left {
+        if app.appid() == appid {
+            return Some(place);
+        }
+        place += 1;
+        left = others;
+    }
+    None
+}
+
+// The choices at a place, and no others.
+fn one_of(mut chosen: Vec<Choices>, place: usize) -> Result<Vec<Choices>, AllocError>
+    requires { place < length chosen.items }
+    ensures { IfOk result (λ one. one.items ≡ take 1 (drop place chosen.items)) }
+{
+    let mut one = chosen.split_off(place)?;
+    one.truncate(1);
+    Ok(one)
 }
 
 fn offer_in<'a>(

@@ -1,0 +1,29 @@
+-- A simulation of which one app alone is told.
+use Rattle.std.specs.Prelude.{◌≡◌, ℕ, ◌<◌, ◌≤◌, List, [], take, drop, length, Option, Some, None}
+use Rattle.std.specs.Prelude.{slice_get}
+use Rattle.ruleset.specs.Rules.{AppRule, app_in}
+use Rattle.simulate.specs.Course.{IsSimulated}
+use Rattle.simulate.specs.Shown.{Simulation}
+use Rattle.simulate.specs.declared.client.Client.{Client}
+
+-- places of apps: from the first on, and before the end
+pub record ArePlaces (first end : ℕ) (apps : List AppRule) : Type 0 where
+  pub ordered : first ≤ end
+  pub within : end ≤ length apps
+
+-- the app of an appid stands at a place, from 0, among others
+pub record StandsAt (apps : List AppRule) (appid : List ℕ) (place : ℕ) : Type 0 where
+  pub app : AppRule
+  pub found : app_in apps appid ≡ Some app
+  pub stands : slice_get apps place ≡ Some app
+  pub within : place < length apps
+
+-- of the app of an appid its choices in a simulation of all apps; where there is no such app, of no
+-- app
+pub data HasPicked (client : Client) (apps : List AppRule) (appid : List ℕ) (s : Simulation)
+    : Type 0 where
+  nothing : app_in apps appid ≡ None → s.apps ≡ [] → s.chosen ≡ []
+      → HasPicked client apps appid s
+  picked : (chosen : List (List ℕ)) (place : ℕ) → IsSimulated client apps chosen
+      → StandsAt apps appid place → s.apps ≡ take 1 (drop place apps)
+      → s.chosen ≡ take 1 (drop place chosen) → HasPicked client apps appid s
