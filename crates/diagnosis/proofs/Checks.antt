@@ -20,6 +20,7 @@ use Rattle.diagnosis.specs.Check.{FailsCheck, PassesCheck}
 use Rattle.diagnosis.specs.OneCheck.{HasOneCheck}
 use Rattle.diagnosis.specs.Texts.{accepted_text}
 use Rattle.diagnosis.proofs.OneTold.{warned_once}
+use Rattle.warnings.specs.declared.warning.Warning.{Warning}
 
 empty : IsDirectory []
 empty = record {
@@ -55,7 +56,8 @@ module _ (load : HasOneLoad) (gathered : GatheredIsLoaded)
       ap (λ (r : Result Manifest ManifestFault). manifest_in r other)
       (reading bytes (Ok m) (Ok other) h k (λ x. absurd cc) (λ x. absurd cc))
 
-  same_text : (text other warnings others : List ℕ) → PassesCheck (Some files) bytes text warnings
+  same_text : (text other : List ℕ) (warnings others : List Warning)
+      → PassesCheck (Some files) bytes text warnings
       → PassesCheck (Some files) bytes other others → (text ≡ other) × (warnings ≡ others)
   same_text text other warnings others p q =
       let loads = load files [] bytes (Ok p.rules) (Ok q.rules) p.g.directory q.g.directory empty
@@ -86,7 +88,7 @@ module _ (load : HasOneLoad) (gathered : GatheredIsLoaded)
       (k.refused, refl) (λ x. known (ap fault_in x)) (λ x. also (ap fault_in x)) in
       ap fault_in loads.0
 
-  not_both : (text warnings : List ℕ) (e : LoadFault) (reason : List ℕ)
+  not_both : (text : List ℕ) (warnings : List Warning) (e : LoadFault) (reason : List ℕ)
       → PassesCheck (Some files) bytes text warnings → FailsCheck (Some files) bytes e reason
       → e ≢ Memory → ⊥
   not_both text warnings e reason p h known =

@@ -32,7 +32,6 @@ use Rattle.diagnosis.specs.Warned.{app_rule, app_warnings}
 use Rattle.diagnosis.specs.Warned.WarnsOfApps.{no_app as none_told, next as next_told}
 use Rattle.warnings.specs.Asked.{all_room, room_left, rule_warnings}
 use Rattle.warnings.specs.Asking.{RuleOfApp}
-use Rattle.warnings.specs.Warnings.{warnings_text}
 use Rattle.warnings.specs.declared.warning.Warning.{Warning}
 
 kept_whole : (most : ℕ) (given : Given) (v : Vec ℕ Global) → Keeps most given (Whole v)
@@ -175,7 +174,7 @@ module _ (verdict : (s : AppShape) (text : Text) → RuleHasOneVerdict s text)
         ap (λ t. t ++ rest) one.0 ∙ ap (λ t. second ++ t) rest_is
 
   pub warned_once : (bytes : List ℕ) (g h : Gathered) (programs also : List ShapedProgram)
-      (warnings others : List ℕ) (p : IsGathered (Some files) [] bytes g)
+      (warnings others : List Warning) (p : IsGathered (Some files) [] bytes g)
       (q : IsGathered (Some files) [] bytes h)
       → AreGathered (Some files) g.directory p.numbers p.manifest.apps g.apps.items
       → AreGathered (Some files) h.directory q.numbers q.manifest.apps h.apps.items
@@ -191,14 +190,11 @@ module _ (verdict : (s : AppShape) (text : Text) → RuleHasOneVerdict s text)
       (subst (λ (m : Manifest).
       AreGathered (Some files) g.directory p.numbers m.apps g.apps.items) read of_g) in
       v.warnings_are
-      ∙ ap (λ (t : List Warning).
-      warnings_text (unused_from 0 g.directory (apps_of g.apps.items programs)) ++ warnings_text t)
+      ∙ ap (λ t. unused_from 0 g.directory (apps_of g.apps.items programs) ++ t)
       (told_once h.directory p.numbers q.numbers 1 all_room q.manifest.apps g.apps.items
       h.apps.items programs also v.told w.told there of_h judged_g judged_h same v.of_apps
       w.of_apps)
       ∙ ap (λ (d : List CellArray).
-      warnings_text (unused_from 0 d (apps_of g.apps.items programs))
-      ++ warnings_text w.told) directories
-      ∙ ap (λ (a : List AppRule).
-      warnings_text (unused_from 0 h.directory a) ++ warnings_text w.told) same
+      unused_from 0 d (apps_of g.apps.items programs) ++ w.told) directories
+      ∙ ap (λ (a : List AppRule). unused_from 0 h.directory a ++ w.told) same
       ∙ sym w.warnings_are

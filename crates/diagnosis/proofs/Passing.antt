@@ -22,7 +22,6 @@ use Rattle.load.specs.declared.gathering.GatheredApp.{GatheredApp}
 use Rattle.load.specs.declared.gathering.Ungathered.{Ungathered}
 use Rattle.ruleset.specs.Rules.{AppRule}
 use Rattle.warnings.specs.Asked.{all_room}
-use Rattle.warnings.specs.Warnings.{warnings_text}
 use Rattle.warnings.specs.declared.warning.Warning.{Warning}
 
 pub ok_by : {X E : Type 0} {P Q : X → Type 0} (r : Result X E) → ((x : X) → P x → Q x)
@@ -36,13 +35,12 @@ err_by (Ok x) f h = tt
 err_by (Err e) f h = f e h
 
 pub passes_apps : (g : Gathered) (programs : List ShapedProgram) (gone : List GatheredApp)
-    (text warnings : List ℕ) (told lent : List Warning) (arrays : List CellArray)
+    (text : List ℕ) (warnings told lent : List Warning) (arrays : List CellArray)
     (apps supplied : List AppRule)
     → AreJudged g.apps.items programs → gone ≡ g.apps.items → arrays ≡ g.directory
     → apps ≡ supplied → supplied ≡ apps_of g.apps.items programs → text ≡ loaded_text arrays apps
     → WarnsOfApps 1 all_room gone told → lent ≡ told
-    → warnings ≡ warnings_text (unused_from 0 arrays apps) ++ warnings_text lent
-    → PassesApps g text warnings
+    → warnings ≡ unused_from 0 arrays apps ++ lent → PassesApps g text warnings
 passes_apps g programs gone text warnings told lent arrays apps supplied judged gone_are arrays_are
     lent_are supplied_are text_is of_apps same warnings_are =
     let apps_are : apps ≡ apps_of g.apps.items programs = lent_are ∙ supplied_are in
@@ -55,19 +53,15 @@ passes_apps g programs gone text warnings told lent arrays apps supplied judged 
         told = told;
         of_apps = subst (λ (l : List GatheredApp). WarnsOfApps 1 all_room l told) gone_are of_apps;
         warnings_are = warnings_are
-            ∙ ap (λ (l : List CellArray).
-            warnings_text (unused_from 0 l apps) ++ warnings_text lent) arrays_are
-            ∙ ap (λ (l : List AppRule).
-            warnings_text (unused_from 0 g.directory l) ++ warnings_text lent) apps_are
-            ∙ ap (λ (t : List Warning).
-            warnings_text (unused_from 0 g.directory (apps_of g.apps.items programs))
-            ++ warnings_text t) same;
+            ∙ ap (λ (l : List CellArray). unused_from 0 l apps ++ lent) arrays_are
+            ∙ ap (λ (l : List AppRule). unused_from 0 g.directory l ++ lent) apps_are
+            ∙ ap (λ t. unused_from 0 g.directory (apps_of g.apps.items programs) ++ t) same;
       };
     }
 
 module _ (known : KnownFiles) (bytes : List ℕ) (g : Gathered) (is : IsGathered known [] bytes g)
     (load : IsLoadOf known [] bytes g is) where
-  pub passes : (text warnings : List ℕ) → PassesApps g text warnings
+  pub passes : (text : List ℕ) (warnings : List Warning) → PassesApps g text warnings
       → PassesCheck known bytes text warnings
   passes text warnings h = record {
     g = g;

@@ -14,11 +14,12 @@ use Rattle.load.specs.declared.fault.LoadFault.{LoadFault}
 use Rattle.load.specs.declared.gathering.Gathered.{Gathered}
 use Rattle.load.specs.declared.gathering.GatheredApp.{GatheredApp}
 use Rattle.ruleset.specs.Rules.{Rules}
+use Rattle.warnings.specs.declared.warning.Warning.{Warning}
 
 -- ---- of the apps that were gathered
 
 -- each has its program, this is told of arrays and apps, and these are the warnings
-pub record PassesApps (g : Gathered) (text warnings : List ℕ) : Type 0 where
+pub record PassesApps (g : Gathered) (text : List ℕ) (warnings : List Warning) : Type 0 where
   pub programs : List ShapedProgram
   pub judged : AreJudged g.apps.items programs
   pub text_is : text ≡ loaded_text g.directory (apps_of g.apps.items programs)
@@ -35,7 +36,7 @@ pub record FailsApps (bytes : List ℕ) (g : Gathered) (fault : LoadFault) (reas
 
 module _ (known : KnownFiles) (bytes : List ℕ) where
   -- it comes to a ruleset, of whose arrays and apps this is told, and these are the warnings
-  pub record PassesCheck (text warnings : List ℕ) : Type 0 where
+  pub record PassesCheck (text : List ℕ) (warnings : List Warning) : Type 0 where
     pub g : Gathered
     pub gathered : IsGathered known [] bytes g
     pub passes : PassesApps g text warnings

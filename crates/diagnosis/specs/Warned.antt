@@ -16,7 +16,6 @@ use Rattle.diagnosis.specs.Unused.{unused_from}
 use Rattle.warnings.specs.Asked.{all_room, room_left, rule_warnings}
 use Rattle.warnings.specs.Asking.{RuleOfApp}
 use Rattle.warnings.specs.Releases.{appid_warning, releases_from}
-use Rattle.warnings.specs.Warnings.{warnings_text}
 use Rattle.warnings.specs.declared.warning.Warning.{Warning}
 
 -- ---- the appid and the releases of an app
@@ -66,11 +65,10 @@ pub data WarnsOfApps : (number room : ℕ) → List GatheredApp → List Warning
       → WarnsOfApps (number + 1) left apps rest
       → WarnsOfApps number room (app ∷ apps) (told ++ rest)
 
--- the lines of those of the arrays, and of the apps
-pub record WarnsOf (g : Gathered) (programs : List ShapedProgram) (warnings : List ℕ) : Type 0
+-- of the arrays, and of the apps
+pub record WarnsOf (g : Gathered) (programs : List ShapedProgram) (warnings : List Warning) : Type 0
   where
     pub told : List Warning
     pub of_apps : WarnsOfApps 1 all_room g.apps.items told
     pub warnings_are : warnings
-        ≡ warnings_text (unused_from 0 g.directory (apps_of g.apps.items programs))
-        ++ warnings_text told
+        ≡ unused_from 0 g.directory (apps_of g.apps.items programs) ++ told

@@ -15,14 +15,15 @@ use printing::Printed;
 use ruleset::App;
 use std::alloc::{AllocError, Global};
 use std::fmt::Write;
+use warnings::Warning;
 
-/// What is told of a manifest that is accepted: lines, each ended by a line feed.
+/// What is told of a manifest that is accepted.
 #[derive(Debug, Drop)]
 pub struct CheckedManifest {
-    /// What it declares.
+    /// What it declares: lines, each ended by a line feed.
     pub text: String,
-    /// What it hardly means.
-    pub warnings: String,
+    /// What it hardly means, in the order in which it is told.
+    pub warnings: Vec<Warning>,
 }
 
 /// A line an array, and then a line an app; and the warnings.
@@ -34,7 +35,7 @@ pub(crate) fn tell_accepted(
     requires shaped { All HasItsReleases gathered.apps.items }
     requires judged { AreJudged gathered.apps.items programs.items }
     ensures { IfOk result (λ told. PassesApps gathered (string_bytes told.text)
-        (string_bytes told.warnings)) }
+        told.warnings.items) }
 {
     let told = told_of_apps(alloc, gathered.apps.as_slice())?;
     let Gathered {

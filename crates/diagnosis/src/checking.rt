@@ -31,11 +31,10 @@ pub struct Refused {
 /// q:64:1:2` (a quota comes last, if there is one), and then a line for each app: `app APPID
 /// releases R slots S`. Lines are ended by a line feed.
 ///
-/// The warnings have a line for each array that no program uses, such as `warning unused-array:
-/// array[2]: no program uses it, and no rule`. Then app by app there is one for an appid with a
-/// character that isn't printed, and for each release whose version a later one has, too, by its
-/// four numbers, or whose codebase doesn't end in `/`, or begins with neither `https://` nor
-/// `http://`. Those of the app's rule come last (`tell_rule` of `warnings`).
+/// There is a warning for each array that no program uses. Then, app by app, there is one for an
+/// appid with a character that isn't printed, and for each release whose version a later one has,
+/// too, by its four numbers, or whose codebase doesn't end in `/`, or begins with neither
+/// `https://` nor `http://`. Those of the app's rule come last (`tell_rule` of `warnings`).
 ///
 /// For a refused manifest the reason begins with the path of a member and what is wanted there, in
 /// which tables of a list are numbered from 1:
@@ -80,7 +79,7 @@ pub fn check<F: Files>(
 ) -> Result<CheckedManifest, Refused>
     ensures known { F.known files.new ≡ F.known files.old }
     ensures passes { IfOk result (λ told. PassesCheck (F.known files.old) manifest.now
-        (string_bytes told.text) (string_bytes told.warnings)) }
+        (string_bytes told.text) told.warnings.items) }
     ensures fails { IfErr result (λ r.
         FailsCheck (F.known files.old) manifest.now r.fault (string_bytes r.reason)) }
 {
@@ -103,7 +102,7 @@ fn check_apps(
 ) -> Result<CheckedManifest, Refused>
     requires { All HasItsReleases gathered.apps.items }
     ensures passes { IfOk result (λ told. PassesApps gathered
-        (string_bytes told.text) (string_bytes told.warnings)) }
+        (string_bytes told.text) told.warnings.items) }
     ensures fails { IfErr result (λ r.
         FailsApps manifest.now gathered r.fault (string_bytes r.reason)) }
 {

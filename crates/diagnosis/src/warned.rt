@@ -1,10 +1,9 @@
 //! What a manifest that is accepted hardly means.
 
-ghost use Rattle.std.specs.Prelude.{◌≡◌, ◌++◌, IfOk, string_bytes};
+ghost use Rattle.std.specs.Prelude.{◌≡◌, ◌++◌, IfOk};
 ghost use Rattle.diagnosis.specs.Unused.{unused_from};
 ghost use Rattle.diagnosis.specs.Warned.{WarnsOfApps};
 ghost use Rattle.warnings.specs.Asked.{all_room};
-ghost use Rattle.warnings.specs.Warnings.{warnings_text};
 
 use crate::asked::tell_app;
 use crate::unused::tell_unused;
@@ -12,28 +11,26 @@ use cells::CellArray;
 use load::GatheredApp;
 use ruleset::App;
 use std::alloc::{AllocError, Global};
-use warnings::{Warning, push_warnings};
+use warnings::Warning;
 
 /// How many steps of conditions the rules of a manifest are asked in all, each at one version: each
 /// of these takes 10,000 buckets.
 const ROOM: u64 = 10000;
 
-/// The lines of the warnings on arrays, and of those on apps behind them.
+/// The warnings on arrays, and those on apps behind them.
 pub(crate) fn tell_warnings(
     alloc: Global,
     arrays: &[CellArray],
     apps: &[App],
     told: &[Warning],
-) -> Result<String, AllocError>
-    ensures { IfOk result (λ text. string_bytes text
-        ≡ warnings_text (unused_from 0 arrays.now apps.now) ++ warnings_text told.now) }
+) -> Result<Vec<Warning>, AllocError>
+    ensures { IfOk result (λ warnings.
+        warnings.items ≡ unused_from 0 arrays.now apps.now ++ told.now) }
 {
-    let mut unused = Vec::new(alloc);
-    tell_unused(&mut unused, arrays, apps)?;
-    let mut text = String::new(alloc);
-    push_warnings(&mut text, unused.as_slice())?;
-    push_warnings(&mut text, told)?;
-    Ok(text)
+    let mut warnings = Vec::new(alloc);
+    tell_unused(&mut warnings, arrays, apps)?;
+    warnings.extend_from_slice(told)?;
+    Ok(warnings)
 }
 
 /// The warnings on apps, in their order.

@@ -12,6 +12,7 @@ use load::FolderFiles;
 use replay::replay_files;
 use std::rt::Files;
 use std::{fs, str};
+use warnings::push_warnings;
 
 const MANIFESTS: [&str; 2] = ["staged/manifest.toml", "staged/next.toml"];
 
@@ -43,7 +44,9 @@ fn tell<R: Files + AllocGlobal + Print>(rt: &R, manifest: &str) -> Result<()> {
     let told = check(rt.alloc(), &bytes, &mut files)
         .ok()
         .context("a ruleset")?;
-    print!(rt; "{manifest}:\n{}{}", told.text, told.warnings)?;
+    let mut warnings = String::new(rt.alloc());
+    push_warnings(&mut warnings, told.warnings.as_slice())?;
+    print!(rt; "{manifest}:\n{}{warnings}", told.text)?;
     Ok(())
 }
 

@@ -1,11 +1,15 @@
 -- Clients that say the same, but for appid and cohort, are asked alike.
-use Rattle.std.proofs.Common.{◌≡◌, ap, subst, ℕ, List}
+use Rattle.std.proofs.Common.{◌≡◌, ap, subst, ℕ, List, Option, Some, None}
 use Rattle.simulate.specs.Clients.{IsSameButApp, asking_for, attributes, clients}
 use Rattle.simulate.specs.Course.{AppByApp, AsksForApp, InTurn, IsSimulated}
 use Rattle.simulate.specs.Course.AppByApp.{none as no_app, next as next_app}
 use Rattle.attrs.specs.Attributes.{Attributes}
 use Rattle.simulate.specs.declared.client.Client.{Client}
-use Rattle.ruleset.specs.Rules.{AppRule}
+use Rattle.manifest_tools.specs.Simulations.{IsSimulationBy}
+use Rattle.ruleset.specs.Rules.{AppRule, Rules}
+use Rattle.simulate.specs.Picked.{HasPicked}
+use Rattle.simulate.specs.Picked.HasPicked.{nothing, picked}
+use Rattle.simulate.specs.Shown.{Simulation}
 
 asks_alike : (c d : Client) (app : AppRule) (old choices new : List ℕ) → IsSameButApp c d
     → AsksForApp d app old choices new → AsksForApp c app old choices new
@@ -24,7 +28,7 @@ course_alike c d old apps chosen new same
     (course_alike c d old before so_far between same course)
     (asks_alike c d app between choices left same asks)
 
-pub simulated_alike : (c d : Client) (apps : List AppRule) (chosen : List (List ℕ))
+simulated_alike : (c d : Client) (apps : List AppRule) (chosen : List (List ℕ))
     → IsSameButApp c d → IsSimulated d apps chosen → IsSimulated c apps chosen
 simulated_alike c d apps chosen same is = record {
   zeros = is.zeros;
@@ -32,3 +36,19 @@ simulated_alike c d apps chosen same is = record {
   left = is.left;
   course = course_alike c d is.zeros apps chosen is.left same is.course;
 }
+
+-- so are those of one app
+picked_alike : (c d : Client) (apps : List AppRule) (appid : List ℕ) (s : Simulation)
+    → IsSameButApp c d → HasPicked d apps appid s → HasPicked c apps appid s
+picked_alike c d apps appid s same (nothing lacks apps_none chosen_none) =
+    nothing lacks apps_none chosen_none
+picked_alike c d apps appid s same (picked chosen place asked stands apps_are chosen_are) =
+    picked chosen place (simulated_alike c d apps chosen same asked) stands apps_are chosen_are
+
+pub told_alike : (c d : Client) (rules : Rules) (appid : Option (List ℕ)) (s : Simulation)
+    → IsSameButApp c d → IsSimulationBy d rules appid s → IsSimulationBy c rules appid s
+told_alike c d rules None s same by = record {
+  apps_are = by.apps_are;
+  asked = simulated_alike c d rules.apps s.chosen same by.asked;
+}
+told_alike c d rules (Some appid) s same by = picked_alike c d rules.apps appid s same by

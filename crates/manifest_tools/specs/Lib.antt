@@ -1,2 +1,3 @@
 pub mod Manifests
+pub mod Checks
 pub mod Simulations

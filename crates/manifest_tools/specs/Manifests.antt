@@ -15,6 +15,7 @@ use Rattle.replay.specs.Replies.{reply_text}
 use Rattle.replay.specs.Texts.{replay_fault_text}
 use Rattle.replay.specs.declared.reply.Reply.{Reply}
 use Rattle.ruleset.specs.Texts.{line}
+use Rattle.warnings.specs.declared.warning.Warning.{Warning}
 
 abbrev pub reply_line : Reply → List ℕ
 reply_line reply = line (reply_text reply)
@@ -24,7 +25,7 @@ module _ (known : KnownFiles) where
 
   -- the manifest of the file comes to a ruleset with these lines of arrays and apps, and with these
   -- warnings
-  abbrev pub IsChecked : (path text warnings : List ℕ) → Type 0
+  abbrev pub IsChecked : (path text : List ℕ) → List Warning → Type 0
   IsChecked path text warnings = OfFile (regular_files known) path (λ bytes.
       PassesCheck (known_beside known path) bytes text warnings)
 
@@ -59,5 +60,6 @@ abbrev pub fault_text : ManifestToolFault → List ℕ
 fault_text (fault.Resource refused) = resource_text refused
 fault_text (fault.Diagnosed refused) = load_fault_text refused.fault
 fault_text (fault.Load refused) = path_fault_text refused
+fault_text fault.NoApp = codes "B8 App"
 fault_text (fault.Against refused) = path_fault_text refused ++ codes " in --against"
 fault_text (fault.Replay refused) = replay_fault_text refused

@@ -1,9 +1,11 @@
 -- Manifests that are simulated: each is loaded over no arrays, and asked for the clients in all
 -- buckets. Of want of memory nothing is said.
-use Rattle.std.specs.Prelude.{◌≡◌, ◌++◌, ℕ, List, [], Option, Some, None, IsSome}
+use Rattle.std.specs.Prelude.{◌≡◌, ◌++◌, ℕ, List, [], Option, Some, None, IsSome, is_none}
+use Rattle.std.specs.Prelude.{Bool, true, false}
 use Rattle.std.specs.Option.{option_map}
 use Rattle.std.specs.String.{string_bytes}
-use Rattle.simulate.specs.Moving.{moves_text}
+use Rattle.simulate.specs.Moving.{is_lossy, moves_text}
+use Rattle.simulate.specs.Picked.{HasPicked}
 use Rattle.simulate.specs.Pictures.{picture}
 use Rattle.simulate.specs.Shares.{shares_text}
 use Rattle.simulate.specs.Shown.{Simulation}
@@ -14,7 +16,7 @@ use Rattle.bounded_files.specs.Files.{KnownFiles}
 use Rattle.bounded_files.specs.declared.fault.ResourceFault.TheVariants as resource
 use Rattle.load.specs.declared.fault.PathFault.{PathFault}
 use Rattle.cells.specs.declared.array.CellArray.{CellArray}
-use Rattle.ruleset.specs.Rules.{Rules}
+use Rattle.ruleset.specs.Rules.{Rules, app_in}
 use Rattle.manifest_tools.specs.declared.fault.ManifestToolFault.{ManifestToolFault}
 use Rattle.manifest_tools.specs.declared.fault.ManifestToolFault.TheVariants as fault
 use Rattle.manifest_tools.specs.declared.simulating.ToldSimulation.{ToldSimulation}
@@ -22,9 +24,19 @@ use Rattle.manifest_tools.specs.declared.simulating.ToldSimulation.{ToldSimulati
 -- ---- what is told of rulesets
 
 -- what the clients in all buckets get by a ruleset
-pub record IsSimulationBy (client : Client) (rules : Rules) (s : Simulation) : Type 0 where
+pub record IsSimulationOfAll (client : Client) (rules : Rules) (s : Simulation) : Type 0 where
   pub apps_are : s.apps ≡ rules.apps
   pub asked : IsSimulated client rules.apps s.chosen
+
+-- of all its apps, or of the one of an appid
+abbrev pub IsSimulationBy : Client → Rules → (appid : Option (List ℕ)) → Simulation → Type 0
+IsSimulationBy client rules None s = IsSimulationOfAll client rules s
+IsSimulationBy client rules (Some appid) s = HasPicked client rules.apps appid s
+
+-- it doesn't have the app of which alone is to be told
+abbrev pub lacks_app : (appid : Option (List ℕ)) → Rules → Bool
+lacks_app None rules = false
+lacks_app (Some appid) rules = is_none (app_in rules.apps appid)
 
 -- its picture, where a file is named for one
 abbrev pub picture_if : (file : Option (List ℕ)) → Simulation → Option (List ℕ)
@@ -36,27 +48,29 @@ pub record TellsAlone (next : Simulation) (file : Option (List ℕ)) (told : Tol
     : Type 0 where
   pub text_is : string_bytes told.text ≡ shares_text next
   pub picture_is : option_map string_bytes told.picture ≡ picture_if file next
+  pub loses_is : told.loses ≡ false
 
 -- the same, and how many move from which release to which
 pub record TellsAgainst (next now : Simulation) (file : Option (List ℕ)) (told : ToldSimulation)
     : Type 0 where
   pub text_is : string_bytes told.text ≡ shares_text next ++ moves_text now next
   pub picture_is : option_map string_bytes told.picture ≡ picture_if file next
+  pub loses_is : told.loses ≡ is_lossy now next
 
 -- of a ruleset alone
-pub record ShowsAlone (client : Client) (rules : Rules) (file : Option (List ℕ))
+pub record ShowsAlone (client : Client) (rules : Rules) (appid file : Option (List ℕ))
     (told : ToldSimulation) : Type 0 where
   pub next : Simulation
-  pub simulated : IsSimulationBy client rules next
+  pub simulated : IsSimulationBy client rules appid next
   pub tells : TellsAlone next file told
 
 -- of a ruleset, against another one
-pub record ShowsAgainst (client : Client) (rules serving : Rules) (file : Option (List ℕ))
+pub record ShowsAgainst (client : Client) (rules serving : Rules) (appid file : Option (List ℕ))
     (told : ToldSimulation) : Type 0 where
   pub next : Simulation
-  pub simulated : IsSimulationBy client rules next
+  pub simulated : IsSimulationBy client rules appid next
   pub now : Simulation
-  pub served : IsSimulationBy client serving now
+  pub served : IsSimulationBy client serving appid now
   pub tells : TellsAgainst next now file told
 
 -- ---- and of manifests
@@ -66,42 +80,54 @@ module _ (known : KnownFiles) where
   abbrev pub IsLoadedAlone : (path : List ℕ) → Rules → Type 0
   IsLoadedAlone path rules = (arrays : List CellArray) × IsLoadedFrom known path [] rules arrays
 
+  -- that of one which has the app of which alone is to be told
+  abbrev pub IsLoadedFor : (path : List ℕ) → (appid : Option (List ℕ)) → Rules → Type 0
+  IsLoadedFor path appid rules = IsLoadedAlone path rules × (lacks_app appid rules ≡ false)
+
   -- the lines of a simulation, and its picture
-  abbrev pub HasSimulated : Client → (manifest : List ℕ) → (against file : Option (List ℕ))
+  abbrev pub HasSimulated : Client → (manifest : List ℕ) → (against appid file : Option (List ℕ))
       → ToldSimulation → Type 0
-  HasSimulated client manifest None file told =
-      (rules : Rules) × IsLoadedAlone manifest rules × ShowsAlone client rules file told
-  HasSimulated client manifest (Some path) file told =
-      (rules : Rules) × IsLoadedAlone manifest rules
+  HasSimulated client manifest None appid file told =
+      (rules : Rules) × IsLoadedFor manifest appid rules
+      × ShowsAlone client rules appid file told
+  HasSimulated client manifest (Some path) appid file told =
+      (rules : Rules) × IsLoadedFor manifest appid rules
       × (serving : Rules) × IsLoadedAlone path serving
-      × ShowsAgainst client rules serving file told
+      × ShowsAgainst client rules serving appid file told
 
   -- the other manifest isn't loaded, and the first one is
-  abbrev pub RefusesAgainst : (manifest : List ℕ) → (against : Option (List ℕ))
+  abbrev pub RefusesAgainst : (manifest : List ℕ) → (against appid : Option (List ℕ))
       → PathFault → Type 0
-  RefusesAgainst manifest None why = ⊥
-  RefusesAgainst manifest (Some path) why =
-      (rules : Rules) × IsLoadedAlone manifest rules × RefusesPath known path [] why
+  RefusesAgainst manifest None appid why = ⊥
+  RefusesAgainst manifest (Some path) appid why =
+      (rules : Rules) × IsLoadedFor manifest appid rules × RefusesPath known path [] why
 
-  -- a manifest isn't loaded
-  abbrev pub IsLoadRefusal : (manifest : List ℕ) → (against : Option (List ℕ))
+  -- the manifest is loaded, and doesn't have the app
+  abbrev pub LacksApp : (manifest : List ℕ) → (appid : Option (List ℕ)) → Type 0
+  LacksApp manifest appid =
+      (rules : Rules) × IsLoadedAlone manifest rules × (lacks_app appid rules ≡ true)
+
+  -- a manifest isn't loaded, or the first lacks the app
+  abbrev pub IsLoadRefusal : (manifest : List ℕ) → (against appid : Option (List ℕ))
       → ManifestToolFault → Type 0
-  IsLoadRefusal manifest against (fault.Load why) = RefusesPath known manifest [] why
-  IsLoadRefusal manifest against (fault.Against why) = RefusesAgainst manifest against why
-  IsLoadRefusal manifest against (fault.Resource resource.Memory) = Unit {0}
-  IsLoadRefusal manifest against refused = ⊥
+  IsLoadRefusal manifest against appid (fault.Load why) = RefusesPath known manifest [] why
+  IsLoadRefusal manifest against appid fault.NoApp = LacksApp manifest appid
+  IsLoadRefusal manifest against appid (fault.Against why) =
+      RefusesAgainst manifest against appid why
+  IsLoadRefusal manifest against appid (fault.Resource resource.Memory) = Unit {0}
+  IsLoadRefusal manifest against appid refused = ⊥
 
   -- a file is named for the picture, which can't be written; the manifests are loaded
   pub record IsPictureRefusal (client : Client) (manifest : List ℕ)
-      (against file : Option (List ℕ)) : Type 0 where
+      (against appid file : Option (List ℕ)) : Type 0 where
     pub named : IsSome file
     pub told : ToldSimulation
-    pub simulated : HasSimulated client manifest against file told
+    pub simulated : HasSimulated client manifest against appid file told
 
-  -- a manifest isn't loaded, or else the picture can't be written
-  abbrev pub IsSimulationRefusal : Client → (manifest : List ℕ) → (against file : Option (List ℕ))
-      → ManifestToolFault → Type 0
-  IsSimulationRefusal client manifest against file (fault.Resource resource.File) =
-      IsPictureRefusal client manifest against file
-  IsSimulationRefusal client manifest against file refused =
-      IsLoadRefusal manifest against refused
+  -- nothing is told of the manifests, or else the picture can't be written
+  abbrev pub IsSimulationRefusal : Client → (manifest : List ℕ)
+      → (against appid file : Option (List ℕ)) → ManifestToolFault → Type 0
+  IsSimulationRefusal client manifest against appid file (fault.Resource resource.File) =
+      IsPictureRefusal client manifest against appid file
+  IsSimulationRefusal client manifest against appid file refused =
+      IsLoadRefusal manifest against appid refused

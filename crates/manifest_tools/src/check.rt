@@ -14,13 +14,13 @@ use std::alloc::Global;
 /// lie in its folder. It has to be a regular file, as have they; B3 comes where it isn't, or can't
 /// be read.
 // open: what `check` of `diagnosis` leaves open.
-pub fn check_file<D: Disk>(
+pub(crate) fn check_file<D: Disk>(
     alloc: Global,
     disk: &D,
     path: &str,
 ) -> Result<CheckedManifest, ManifestToolFault>
     ensures text { IfOk result (λ told. IsChecked (D.known disk.now) path.now
-        (string_bytes told.text) (string_bytes told.warnings)) }
+        (string_bytes told.text) told.warnings.items) }
     ensures fault { IfErr result (IsCheckRefusal (D.known disk.now) path.now) }
 {
     let bytes = match disk.read_regular(path, MOST_MANIFEST) {

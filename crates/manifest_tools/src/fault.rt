@@ -18,6 +18,8 @@ pub enum ManifestToolFault {
     Diagnosed(Refused),
     /// B3, B4, M1 to M8: a manifest comes to no ruleset.
     Load(PathFault),
+    /// B8: a manifest doesn't have the one app that is to be told.
+    NoApp,
     /// B3, B4, M1 to M8: the manifest that is served now gives no ruleset.
     Against(PathFault),
     /// B2 to B4, M1 to M8: a script, or a manifest of it, isn't taken.
@@ -32,6 +34,7 @@ impl fmt::Display for ManifestToolFault {
             ManifestToolFault::Resource(fault) => write!(f, "{fault}"),
             ManifestToolFault::Diagnosed(refused) => write!(f, "{}", refused.fault),
             ManifestToolFault::Load(fault) => write!(f, "{fault}"),
+            ManifestToolFault::NoApp => f.write_str("B8 App"),
             ManifestToolFault::Against(fault) => write!(f, "{fault} in --against"),
             ManifestToolFault::Replay(fault) => write!(f, "{fault}"),
         }

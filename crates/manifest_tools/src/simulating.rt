@@ -1,11 +1,12 @@
 //! `simulate`: what the clients in all buckets get by a manifest, and what changes for them against
-//! one that serves now.
+//! one that serves now; of all apps, or of one.
 
 ghost use Rattle.std.specs.Prelude.{◌≡◌, [], IfOk, IfErr, IsSome, OnErr, option_copied};
 ghost use Rattle.std.specs.Option.{option_map};
 ghost use Rattle.std.specs.String.{string_bytes};
 ghost use Rattle.load.specs.Loaded.{RefusesPath};
 ghost use Rattle.manifest_tools.specs.Simulations as specs;
+ghost use Rattle.simulate.specs.Clients.{IsSameButApp};
 
 use crate::fault::ManifestToolFault;
 use crate::progress_lines::ProgressLines;
@@ -13,7 +14,7 @@ use bounded_files::{Disk, ResourceFault, may_write_over, write_file};
 use cells::Directory;
 use load::{PathFault, load_path};
 use ruleset::Ruleset;
-use simulate::{Client, Simulated, draw, push_moves, push_shares};
+use simulate::{Client, Simulated, draw, is_lossy, push_moves, push_shares};
 use std::alloc::{AllocError, Global};
 use std::rt::Files;
 use std::time::Clock;
@@ -24,22 +25,26 @@ use std::time::Clock;
 pub struct ToldSimulation {
     pub text: String,
     pub picture: Option<String>,
+    /// Against another manifest some bucket loses the release that it has of an app that is told,
+    /// as a row of the lines is marked.
+    pub loses: bool,
 }
 
 /// What the clients in all buckets get by a manifest, and with another one what changes for them
-/// against it. Each is loaded over no arrays, as a server's first manifest is. The picture is
-/// written last, into the file that is named. Where it takes over a second, standard error is told
-/// how far it is.
+/// against it. Each is loaded over no arrays, as a server's first manifest is. With an appid all
+/// apps are asked as without it, and that app alone is told. The picture is written last, into the
+/// file that is named. Where it takes over a second, standard error is told how far it is.
 ///
-/// The faults come in this order: B3 of the manifest, or M1 to M7 of its load; those of the other
-/// one; B3 where the picture can't be written, or would be written over what is none. B4, or M8 in
-/// a load, comes where memory is refused.
+/// The faults come in this order: B3 of the manifest, or M1 to M7 of its load; B8 where it doesn't
+/// have the app; those of the other one, which may lack it; B3 where the picture can't be written,
+/// or would be written over what is none. B4, or M8 in a load, comes where memory is refused.
 // open: whether memory is refused; what is told of how far it is; that the file gets the picture.
 pub fn simulate_files<R, D>(
     rt: &R,
     disk: &D,
     manifest: &str,
     against: Option<&str>,
+    appid: Option<&str>,
     file: Option<&str>,
     client: Client,
 ) -> Result<ToldSimulation, ManifestToolFault>
@@ -47,11 +52,11 @@ where
     R: Files + AllocGlobal + Clock + Eprint,
     D: Disk,
     ensures told { IfOk result (specs.HasSimulated (D.known disk.now) client manifest.now
-        (option_copied against.entry) (option_copied file.entry)) }
+        (option_copied against.entry) (option_copied appid.entry) (option_copied file.entry)) }
     ensures fault { IfErr result (specs.IsSimulationRefusal (D.known disk.now) client manifest.now
-        (option_copied against.entry) (option_copied file.entry)) }
+        (option_copied against.entry) (option_copied appid.entry) (option_copied file.entry)) }
 {
-    let told = told_of_files(rt, disk, manifest, against, file, client)?;
+    let told = told_of_files(rt, disk, manifest, against, appid, file, client)?;
     match write_picture(rt, file, &told) {
         Ok(()) => Ok(told),
         Err(ResourceFault::File) => Err(ManifestToolFault::Resource(ResourceFault::File)),
@@ -83,6 +88,7 @@ fn told_of_files<R, D>(
     disk: &D,
     manifest: &str,
     against: Option<&str>,
+    appid: Option<&str>,
     file: Option<&str>,
     client: Client,
 ) -> Result<ToldSimulation, ManifestToolFault>
@@ -90,21 +96,24 @@ where
     R: AllocGlobal + Clock + Eprint,
     D: Disk,
     ensures told { IfOk result (specs.HasSimulated (D.known disk.now) client manifest.now
-        (option_copied against.entry) (option_copied file.entry)) }
+        (option_copied against.entry) (option_copied appid.entry) (option_copied file.entry)) }
     ensures fault { IfErr result (specs.IsLoadRefusal (D.known disk.now)
-        manifest.now (option_copied against.entry)) }
+        manifest.now (option_copied against.entry) (option_copied appid.entry)) }
 {
     let rules = match load_alone(rt.alloc(), disk, manifest) {
         Ok(rules) => rules,
         Err(fault) => return Err(ManifestToolFault::Load(fault)),
     };
+    if lacks_app(&rules, appid) {
+        return Err(ManifestToolFault::NoApp);
+    }
     match against {
-        None => match told_alone(rt, rules, file, client) {
+        None => match told_alone(rt, rules, appid, file, client) {
             Ok(told) => Ok(told),
             Err(_) => Err(ManifestToolFault::Resource(ResourceFault::Memory)),
         },
         Some(path) => match load_alone(rt.alloc(), disk, path) {
-            Ok(serving) => match told_against(rt, rules, serving, file, client) {
+            Ok(serving) => match told_against(rt, rules, serving, appid, file, client) {
                 Ok(told) => Ok(told),
                 Err(_) => Err(ManifestToolFault::Resource(ResourceFault::Memory)),
             },
@@ -125,20 +134,61 @@ fn load_alone<D: Disk>(alloc: Global, disk: &D, path: &str) -> Result<Ruleset, P
     }
 }
 
+// Whether a ruleset doesn't have the app of which alone is to be told.
+fn lacks_app(rules: &Ruleset, appid: Option<&str>) -> bool
+    ensures { result ≡ specs.lacks_app (option_copied appid.entry) rules.now }
+{
+    match appid {
+        None => false,
+        Some(appid) => match rules.find(appid) {
+            Some(_) => false,
+            None => true,
+        },
+    }
+}
+
 // What is told of a ruleset alone.
 fn told_alone<R>(
     rt: &R,
     rules: Ruleset,
+    appid: Option<&str>,
     file: Option<&str>,
     mut client: Client,
 ) -> Result<ToldSimulation, AllocError>
 where
     R: AllocGlobal + Clock + Eprint,
-    ensures { IfOk result (specs.ShowsAlone client rules (option_copied file.entry)) }
+    ensures { IfOk result (specs.ShowsAlone client rules (option_copied appid.entry)
+        (option_copied file.entry)) }
 {
-    let next = Simulated::of(rt.alloc(), rules, &mut client, &mut ProgressLines::new(rt))?;
+    let next = simulation_of(rt, rules, appid, &mut client, &mut ProgressLines::new(rt))?;
     let told = tell_alone(rt.alloc(), &next, file)?;
     Ok(told)
+}
+
+// The simulation of a ruleset: of all its apps, or of one alone.
+fn simulation_of<R>(
+    rt: &R,
+    rules: Ruleset,
+    appid: Option<&str>,
+    client: &mut Client,
+    progress: &mut ProgressLines<'_, R>,
+) -> Result<Simulated, AllocError>
+where
+    R: AllocGlobal + Clock + Eprint,
+    ensures simulated { IfOk result
+        (specs.IsSimulationBy client.old rules (option_copied appid.entry)) }
+    ensures client { IsSameButApp client.old client.new }
+{
+    match appid {
+        None => {
+            let all = Simulated::of(rt.alloc(), rules, client, progress)?;
+            Ok(all)
+        }
+        Some(appid) => {
+            let one = Simulated::of_app(rt.alloc(), rules, appid, client, progress)?;
+            Ok(one)
+        }
+    }
 }
 
 // The lines of a simulation, and its picture.
@@ -152,7 +202,11 @@ fn tell_alone(
     let mut text = String::new(alloc);
     push_shares(&mut text, next)?;
     let picture = picture_if(alloc, file, next)?;
-    Ok(ToldSimulation { text, picture })
+    Ok(ToldSimulation {
+        text,
+        picture,
+        loses: false,
+    })
 }
 
 // What is told of a ruleset against another, which serves now.
@@ -160,16 +214,18 @@ fn told_against<R>(
     rt: &R,
     rules: Ruleset,
     serving: Ruleset,
+    appid: Option<&str>,
     file: Option<&str>,
     mut client: Client,
 ) -> Result<ToldSimulation, AllocError>
 where
     R: AllocGlobal + Clock + Eprint,
-    ensures { IfOk result (specs.ShowsAgainst client rules serving (option_copied file.entry)) }
+    ensures { IfOk result (specs.ShowsAgainst client rules serving (option_copied appid.entry)
+        (option_copied file.entry)) }
 {
     let mut progress = ProgressLines::new(rt);
-    let next = Simulated::of(rt.alloc(), rules, &mut client, &mut progress)?;
-    let now = Simulated::of(rt.alloc(), serving, &mut client, &mut progress)?;
+    let next = simulation_of(rt, rules, appid, &mut client, &mut progress)?;
+    let now = simulation_of(rt, serving, appid, &mut client, &mut progress)?;
     let told = tell_against(rt.alloc(), &now, &next, file)?;
     Ok(told)
 }
@@ -186,8 +242,13 @@ fn tell_against(
     let mut text = String::new(alloc);
     push_shares(&mut text, next)?;
     push_moves(alloc, &mut text, now, next)?;
+    let loses = is_lossy(alloc, now, next)?;
     let picture = picture_if(alloc, file, next)?;
-    Ok(ToldSimulation { text, picture })
+    Ok(ToldSimulation {
+        text,
+        picture,
+        loses,
+    })
 }
 
 // The picture of a simulation, where a file is named for one.

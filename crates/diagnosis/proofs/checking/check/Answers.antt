@@ -16,7 +16,7 @@ returns-in-Ok-clause-passes g c =
     c.new-directory.ensures c.in-Ok.ensures.gathered in
     let load = c.gathered_is_loaded.ensures.manifest _ [] _ _ is in
     ok_by c.check_apps.result
-    (λ told. passes _ _ _ is load (string_bytes told.text) (string_bytes told.warnings))
+    (λ told. passes _ _ _ is load (string_bytes told.text) told.warnings.items)
     c.check_apps.ensures.passes
 
 pub returns-in-Ok-clause-fails : goal.returns-in-Ok-clause-fails

@@ -1,0 +1,74 @@
+-- Manifests that are checked, one after the other.
+use Rattle.std.proofs.Common.{◌≡◌, ◌∙◌, ap, sym, ℕ, ◌+◌, ◌<◌, List, [], ◌∷◌, ◌++◌, length}
+use Rattle.std.proofs.Common.{Bool, true, false, ◌&&◌, add-one, append-nil, get_or, refl, take}
+use Rattle.std.proofs.Math.Seq.{take-suc}
+use Rattle.std.specs.Borrow.{Bor}
+use Rattle.std.specs.String.{string_bytes}
+use Rattle.bounded_files.specs.Files.{KnownFiles}
+use Rattle.manifest_tools.specs.Checks.{AddsAccepted, AddsChecked, AddsRefused, AreCheckedEach}
+use Rattle.manifest_tools.specs.Checks.{IsCheckedAlone, refusal_text, titled, titled_if_any}
+use Rattle.manifest_tools.specs.Checks.IsCheckedAmong.{accepted, refused}
+use Rattle.manifest_tools.specs.Checks.AreCheckedEach.{none, next}
+use Rattle.manifest_tools.specs.declared.checks.ToldChecks.{ToldChecks}
+use Rattle.manifest_tools.specs.Manifests.{IsCheckRefusal}
+use Rattle.manifest_tools.specs.declared.fault.ManifestToolFault.{ManifestToolFault}
+
+-- ---- one more
+
+pub accepted_more : (known : KnownFiles) (strict : Bool) (allowed : List (Bor (List ℕ)))
+    (path : List ℕ) (one old new : ToldChecks) → IsCheckedAlone known strict allowed path one
+    → AddsAccepted path one old new → AddsChecked known strict allowed path old new
+accepted_more known strict allowed path one old new checked added = record {
+  text = titled path (string_bytes one.text);
+  beside = titled_if_any path (string_bytes one.warnings);
+  one = one.passes;
+  checked = accepted one checked;
+  text_is = added.text_is;
+  beside_is = added.beside_is;
+  passes_is = added.passes_is;
+}
+
+and_no : (b : Bool) → (b && false) ≡ false
+and_no true = refl
+and_no false = refl
+
+pub refused_more : (known : KnownFiles) (strict : Bool) (allowed : List (Bor (List ℕ)))
+    (path : List ℕ) (fault : ManifestToolFault) (old new : ToldChecks)
+    → IsCheckRefusal known path fault → AddsRefused path fault old new
+    → AddsChecked known strict allowed path old new
+refused_more known strict allowed path fault old new checked added = record {
+  text = [];
+  beside = titled path (refusal_text fault);
+  one = false;
+  checked = refused fault checked;
+  text_is =
+      ap (λ t. string_bytes t) added.text_is ∙ sym (append-nil (string_bytes old.text));
+  beside_is = added.beside_is;
+  passes_is = added.passes_is ∙ sym (and_no old.passes);
+}
+
+-- ---- one after the other
+
+-- so many of the manifests are told
+abbrev pub AreToldSoFar : KnownFiles → (strict : Bool) → (allowed paths : List (Bor (List ℕ)))
+    → (n : ℕ) → ToldChecks → Type 0
+AreToldSoFar known strict allowed paths n told =
+    AreCheckedEach known strict allowed (take n paths) (string_bytes told.text)
+    (string_bytes told.warnings) told.passes
+
+pub none_told : (known : KnownFiles) (strict : Bool) (allowed paths : List (Bor (List ℕ)))
+    (text beside : List ℕ) → text ≡ [] → beside ≡ []
+    → AreCheckedEach known strict allowed (take 0 paths) text beside true
+none_told known strict allowed paths text beside no_text nothing = rw (no_text, nothing) none
+
+pub one_told_more : (known : KnownFiles) (strict : Bool) (allowed paths : List (Bor (List ℕ)))
+    (n : ℕ) (d : Bor (List ℕ)) (old new : ToldChecks)
+    → AreToldSoFar known strict allowed paths n old → n < length paths
+    → AddsChecked known strict allowed (get_or paths n d).now old new
+    → AreToldSoFar known strict allowed paths (n + 1) new
+one_told_more known strict allowed paths n d old new so_far within added =
+    let paths_are : take (n + 1) paths ≡ take n paths ++ get_or paths n d ∷ [] =
+    rw add-one (take-suc paths n d within) in
+    rw (paths_are, added.text_is, added.beside_is, added.passes_is)
+    (next (take n paths) (get_or paths n d) (string_bytes old.text) (string_bytes old.warnings)
+    added.text added.beside old.passes added.one so_far added.checked)

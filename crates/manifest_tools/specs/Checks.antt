@@ -1,0 +1,112 @@
+-- Manifests that are checked, one alone or several, and which of them pass.
+use Rattle.std.specs.Prelude.{◌≡◌, ℕ, List, [], ◌∷◌, ◌++◌, Bool, true, false, not, ◌&&◌, codes}
+use Rattle.std.specs.Borrow.{Bor}
+use Rattle.std.specs.String.{string_bytes}
+use Rattle.bounded_files.specs.Files.{KnownFiles}
+use Rattle.bounded_files.specs.declared.fault.ResourceFault.TheVariants as resource
+use Rattle.manifest_tools.specs.Manifests.{IsChecked, IsCheckRefusal, fault_text}
+use Rattle.manifest_tools.specs.declared.checks.ToldChecks.{ToldChecks}
+use Rattle.manifest_tools.specs.declared.fault.ManifestToolFault.{ManifestToolFault}
+use Rattle.manifest_tools.specs.declared.fault.ManifestToolFault.TheVariants as fault
+use Rattle.printing.specs.Printed.{printed}
+use Rattle.ruleset.specs.Texts.{line}
+use Rattle.warnings.specs.Names.{some_counts}
+use Rattle.warnings.specs.Warnings.{warnings_text}
+use Rattle.warnings.specs.declared.warning.Warning.{Warning}
+
+-- ---- of one manifest
+
+-- one that is accepted passes, but where the check is strict and a warning isn't allowed
+abbrev pub passes : (strict : Bool) → (allowed : List (Bor (List ℕ))) → List Warning → Bool
+passes strict allowed warnings = not (strict && some_counts allowed warnings)
+
+-- of an accepted one: its lines, those of its warnings, and whether it passes
+pub record TellsChecked (strict : Bool) (allowed : List (Bor (List ℕ))) (text : List ℕ)
+    (warnings : List Warning) (told : ToldChecks) : Type 0 where
+  pub text_is : string_bytes told.text ≡ text
+  pub warnings_are : string_bytes told.warnings ≡ warnings_text warnings
+  pub passes_is : told.passes ≡ passes strict allowed warnings
+
+-- of a refused one: the line of its refusal, and behind it where and why
+abbrev pub reason_behind : ManifestToolFault → List ℕ
+reason_behind (fault.Diagnosed refused) = string_bytes refused.reason
+reason_behind refused = []
+
+abbrev pub refusal_text : ManifestToolFault → List ℕ
+refusal_text refused = line (codes "refused " ++ fault_text refused) ++ reason_behind refused
+
+-- ---- of several: lines under the name of their manifest
+
+abbrev pub title : (path : List ℕ) → List ℕ
+title path = line (codes "manifest " ++ printed path)
+
+abbrev pub titled : (path lines : List ℕ) → List ℕ
+titled path lines = title path ++ lines
+
+abbrev pub titled_if_any : (path lines : List ℕ) → List ℕ
+titled_if_any path [] = []
+titled_if_any path (c ∷ cs) = titled path (c ∷ cs)
+
+-- behind what was told, of one that is accepted: its lines, and those of its warnings
+pub record AddsAccepted (path : List ℕ) (one old new : ToldChecks) : Type 0 where
+  pub text_is : string_bytes new.text ≡ string_bytes old.text ++ titled path (string_bytes one.text)
+  pub beside_is : string_bytes new.warnings
+      ≡ string_bytes old.warnings ++ titled_if_any path (string_bytes one.warnings)
+  pub passes_is : new.passes ≡ (old.passes && one.passes)
+
+-- and of one that is refused: why it is
+pub record AddsRefused (path : List ℕ) (fault : ManifestToolFault) (old new : ToldChecks) : Type 0
+  where
+    pub text_is : new.text ≡ old.text
+    pub beside_is : string_bytes new.warnings
+        ≡ string_bytes old.warnings ++ titled path (refusal_text fault)
+    pub passes_is : new.passes ≡ false
+
+-- ---- which are told
+
+module _ (known : KnownFiles) (strict : Bool) (allowed : List (Bor (List ℕ))) where
+  -- one alone
+  pub record IsCheckedAlone (path : List ℕ) (told : ToldChecks) : Type 0 where
+    pub text : List ℕ
+    pub warnings : List Warning
+    pub checked : IsChecked known path text warnings
+    pub tells : TellsChecked strict allowed text warnings told
+
+  -- one of several: its lines, what is told beside them, and whether it passes
+  pub data IsCheckedAmong (path : List ℕ) : (text beside : List ℕ) → (passes : Bool) → Type 0
+    where
+      accepted : (told : ToldChecks) → IsCheckedAlone path told
+          → IsCheckedAmong path (titled path (string_bytes told.text))
+          (titled_if_any path (string_bytes told.warnings)) told.passes
+      refused : (fault : ManifestToolFault) → IsCheckRefusal known path fault
+          → IsCheckedAmong path [] (titled path (refusal_text fault)) false
+
+  -- one more, behind what was told; all of them have to pass
+  pub record AddsChecked (path : List ℕ) (old new : ToldChecks) : Type 0 where
+    pub text : List ℕ
+    pub beside : List ℕ
+    pub one : Bool
+    pub checked : IsCheckedAmong path text beside one
+    pub text_is : string_bytes new.text ≡ string_bytes old.text ++ text
+    pub beside_is : string_bytes new.warnings ≡ string_bytes old.warnings ++ beside
+    pub passes_is : new.passes ≡ (old.passes && one)
+
+  -- several, one after the other
+  pub data AreCheckedEach : List (Bor (List ℕ)) → (text beside : List ℕ) → (passes : Bool)
+      → Type 0 where
+    none : AreCheckedEach [] [] [] true
+    next : (paths : List (Bor (List ℕ))) (path : Bor (List ℕ))
+        (texts besides text beside : List ℕ) (all one : Bool)
+        → AreCheckedEach paths texts besides all → IsCheckedAmong path.now text beside one
+        → AreCheckedEach (paths ++ path ∷ []) (texts ++ text) (besides ++ beside) (all && one)
+
+  abbrev pub AreChecked : List (Bor (List ℕ)) → ToldChecks → Type 0
+  AreChecked (path ∷ []) told = IsCheckedAlone path.now told
+  AreChecked paths told =
+      AreCheckedEach paths (string_bytes told.text) (string_bytes told.warnings) told.passes
+
+-- one alone is refused; of several each is told, where there is memory
+abbrev pub AreCheckRefusal : KnownFiles → List (Bor (List ℕ)) → ManifestToolFault → Type 0
+AreCheckRefusal known (path ∷ []) why = IsCheckRefusal known path.now why
+AreCheckRefusal known paths (fault.Resource resource.Memory) = Unit {0}
+AreCheckRefusal known paths why = ⊥

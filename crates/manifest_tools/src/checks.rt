@@ -1,0 +1,216 @@
+//! `check` of one manifest, or of several: what is printed, and whether they pass.
+
+ghost use Rattle.std.specs.Prelude.{◌≡◌, ◌++◌, IfOk, IfErr, OnOk, string_bytes};
+ghost use Rattle.manifest_tools.specs.Checks as specs;
+ghost use Rattle.manifest_tools.specs.Manifests.{IsCheckRefusal};
+
+use crate::check::check_file;
+use crate::fault::ManifestToolFault;
+use bounded_files::{Disk, ResourceFault};
+use diagnosis::CheckedManifest;
+use printing::Printed;
+use std::alloc::{AllocError, Global};
+use std::fmt::Write;
+use warnings::{Warning, push_warnings, some_counts};
+
+/// What is told of manifests that were checked.
+#[derive(Drop)]
+pub struct ToldChecks {
+    /// What they declare: lines, each ended by a line feed.
+    pub text: String,
+    /// What they hardly mean, and why some are refused: lines, each ended by a line feed.
+    pub warnings: String,
+    /// None is refused, and no warning counts.
+    pub passes: bool,
+}
+
+/// Checks manifests, each by itself. In a strict check a warning counts whose name isn't allowed.
+///
+/// Of one alone its own lines are told, and it is a fault where it is refused. Of several each is
+/// told under a line `manifest PATH`, in both texts, where there is something to tell of it; one
+/// that is refused is told by the line of its refusal and its reason, among the warnings.
+// open: what `check_file` leaves open.
+pub fn check_files<D: Disk>(
+    alloc: Global,
+    disk: &D,
+    paths: &[&str],
+    strict: bool,
+    allowed: &[&str],
+) -> Result<ToldChecks, ManifestToolFault>
+    ensures told { IfOk result (specs.AreChecked (D.known disk.now) strict allowed.now paths.now) }
+    ensures fault { IfErr result (specs.AreCheckRefusal (D.known disk.now) paths.now) }
+{
+    match paths {
+        [path] => check_alone(alloc, disk, *path, strict, allowed),
+        _ => match check_each(alloc, disk, paths, strict, allowed) {
+            Ok(told) => Ok(told),
+            Err(_) => Err(ManifestToolFault::Resource(ResourceFault::Memory)),
+        },
+    }
+}
+
+// The check of one manifest.
+fn check_alone<D: Disk>(
+    alloc: Global,
+    disk: &D,
+    path: &str,
+    strict: bool,
+    allowed: &[&str],
+) -> Result<ToldChecks, ManifestToolFault>
+    ensures told { IfOk result
+        (specs.IsCheckedAlone (D.known disk.now) strict allowed.now path.now) }
+    ensures fault { IfErr result (IsCheckRefusal (D.known disk.now) path.now) }
+{
+    let checked = check_file(alloc, disk, path)?;
+    match tell_alone(alloc, checked, strict, allowed) {
+        Ok(told) => Ok(told),
+        Err(_) => Err(ManifestToolFault::Resource(ResourceFault::Memory)),
+    }
+}
+
+fn tell_alone(
+    alloc: Global,
+    checked: CheckedManifest,
+    strict: bool,
+    allowed: &[&str],
+) -> Result<ToldChecks, AllocError>
+    ensures { IfOk result (specs.TellsChecked strict allowed.now (string_bytes checked.text)
+        checked.warnings.items) }
+{
+    let passes = passes(strict, allowed, checked.warnings.as_slice());
+    let mut warnings = String::new(alloc);
+    push_warnings(&mut warnings, checked.warnings.as_slice())?;
+    Ok(ToldChecks {
+        text: checked.text,
+        warnings,
+        passes,
+    })
+}
+
+fn passes(strict: bool, allowed: &[&str], warnings: &[Warning]) -> bool
+    ensures { result ≡ specs.passes strict allowed.now warnings.now }
+{
+    !(strict && some_counts(warnings, allowed))
+}
+
+// ---- several manifests
+
+// The checks of manifests, one after the other.
+fn check_each<D: Disk>(
+    alloc: Global,
+    disk: &D,
+    paths: &[&str],
+    strict: bool,
+    allowed: &[&str],
+) -> Result<ToldChecks, AllocError>
+    ensures { IfOk result (λ told. specs.AreCheckedEach (D.known disk.now) strict allowed.now
+        paths.now (string_bytes told.text) (string_bytes told.warnings) told.passes) }
+{
+    let mut told = ToldChecks {
+        text: String::new(alloc),
+        warnings: String::new(alloc),
+        passes: true,
+    };
+    for path in paths {
+        told = add_checked(alloc, disk, *path, strict, allowed, told)?;
+    }
+    Ok(told)
+}
+
+// That of one more.
+#[tactic(auto, using(crate::proofs::Checked::accepted_more, crate::proofs::Checked::refused_more))]
+fn add_checked<D: Disk>(
+    alloc: Global,
+    disk: &D,
+    path: &str,
+    strict: bool,
+    allowed: &[&str],
+    told: ToldChecks,
+) -> Result<ToldChecks, AllocError>
+    ensures { IfOk result
+        (specs.AddsChecked (D.known disk.now) strict allowed.now path.now told) }
+{
+    match check_alone(alloc, disk, path, strict, allowed) {
+        Ok(one) => {
+            let longer = add_accepted(path, &one, told)?;
+            Ok(longer)
+        }
+        Err(fault) => {
+            let longer = add_refused(path, &fault, told)?;
+            Ok(longer)
+        }
+    }
+}
+
+// Adds what is told of a manifest that is accepted.
+fn add_accepted(
+    path: &str,
+    one: &ToldChecks,
+    mut told: ToldChecks,
+) -> Result<ToldChecks, AllocError>
+    ensures { IfOk result (specs.AddsAccepted path.now one.now told) }
+{
+    push_titled(&mut told.text, path, one.text.as_str())?;
+    push_if_any(&mut told.warnings, path, one.warnings.as_str())?;
+    told.passes = told.passes && one.passes;
+    Ok(told)
+}
+
+// Adds why one is refused.
+fn add_refused(
+    path: &str,
+    fault: &ManifestToolFault,
+    mut told: ToldChecks,
+) -> Result<ToldChecks, AllocError>
+    ensures { IfOk result (specs.AddsRefused path.now fault.now told) }
+{
+    push_title(&mut told.warnings, path)?;
+    push_refusal(&mut told.warnings, fault)?;
+    told.passes = false;
+    Ok(told)
+}
+
+// ---- lines
+
+fn push_title(text: &mut String, path: &str) -> Result<(), AllocError>
+    ensures { OnOk result (string_bytes text.new ≡ string_bytes text.old ++ specs.title path.now) }
+{
+    let path = Printed(path);
+    writeln!(text, "manifest {path}")
+}
+
+fn push_titled(text: &mut String, path: &str, lines: &str) -> Result<(), AllocError>
+    ensures { OnOk result
+        (string_bytes text.new ≡ string_bytes text.old ++ specs.titled path.now lines.now) }
+{
+    push_title(text, path)?;
+    text.push_str(lines)
+}
+
+fn push_if_any(text: &mut String, path: &str, lines: &str) -> Result<(), AllocError>
+    ensures { OnOk result
+        (string_bytes text.new ≡ string_bytes text.old ++ specs.titled_if_any path.now lines.now) }
+{
+    if lines.is_empty() {
+        return Ok(());
+    }
+    push_titled(text, path, lines)
+}
+
+// The line of a refusal, and where and why behind it.
+fn push_refusal(text: &mut String, fault: &ManifestToolFault) -> Result<(), AllocError>
+    ensures { OnOk result
+        (string_bytes text.new ≡ string_bytes text.old ++ specs.refusal_text fault.now) }
+{
+    writeln!(text, "refused {fault}")?;
+    text.push_str(reason_behind(fault))
+}
+
+fn reason_behind(fault: &ManifestToolFault) -> &str
+    ensures { result.now ≡ specs.reason_behind fault.now }
+{
+    match fault {
+        ManifestToolFault::Diagnosed(refused) => refused.reason.as_str(),
+        _ => "",
+    }
+}
