@@ -9,8 +9,8 @@ from refusing import Wrong, told
 
 PATIENCE = 60
 LINE = re.compile(r"refused ([A-Z]\d+ Memory(?: in --against)?)\n")
-# What `check` writes of a manifest that is accepted.
-WARNINGS = re.compile(r"(warning [a-z-]+: .*\n)*")
+# What `check` writes of manifests that are accepted.
+WARNINGS = re.compile(r"((warning [a-z-]+: |manifest ).*\n)*")
 # How far `simulate` is.
 PROGRESS = re.compile(r"^simulated .*\n", re.M)
 # Bytes that stand in an OUT before a command; a picture is written over a picture alone.
@@ -48,6 +48,7 @@ COMMANDS = {
     "order": ["order", "a.bin", "OUT"],
     "explain": ["explain", "a.bin", "--releases", "1"],
     "check": ["check", "next.toml"],
+    "check, several": ["check", "first.toml", "next.toml", "--allow", "never-holds"],
     "replay": ["replay", "first.toml", "script.txt"],
     "report": ["report", "a.log", "--svg", "OUT"],
     "simulate": ["simulate", "one.toml", "--against", "one.toml", "--svg", "OUT"],

@@ -7,4 +7,5 @@ mod Attributes
 mod Lacking
 mod SimulationMisfits
 mod ReportMisfits
+mod CheckMisfits
 mod ReplyMisfits

@@ -39,6 +39,7 @@ not_simulated rows misfit.Attributes asked lacks asks =
 not_simulated rows misfit.OneClient asked lacks asks =
     one_client rows asked.app lacks asks.clients
 not_simulated rows misfit.Overwritten asked over asks = asks.kept over
+not_simulated rows misfit.Against asked wants asks = asks.compared wants
 not_simulated rows m asked lacks asks = lacks
 
 pub misfit_asks_nothing : (rows : List Row) (m : OptionMisfit) → IsSimulationMisfit rows m

@@ -128,7 +128,8 @@ verbs =
     ∷ repeated (codes "cells") ∷ number (codes "operator") 1 65535 ∷ [])
     ∷ named (codes "asm") verb.Assemble (input ∷ file (codes "OUT") ∷ [])
     ∷ named (codes "cells") verb.Cells (operator ∷ [])
-    ∷ named (codes "check") verb.Check (manifest ∷ [])
+    ∷ named (codes "check") verb.Check
+    (files (codes "MANIFEST") ∷ flag (codes "strict") ∷ repeated (codes "allow") ∷ [])
     ∷ named (codes "compile") verb.Compile
     (input ∷ file (codes "OUT") ∷ releases ∷ arrays ∷ [])
     ∷ named (codes "explain") verb.Explain (input ∷ releases ∷ arrays ∷ [])
@@ -146,7 +147,8 @@ verbs =
     ∷ required_number (codes "workers") 1 64 ∷ timeout ∷ flag (codes "log") ∷ [])
     ∷ named (codes "show") verb.Show (operator ∷ [])
     ∷ named (codes "simulate") verb.Simulate
-    (manifest ∷ option (codes "against") ∷ option (codes "svg") ∷ told)
+    (manifest ∷ option (codes "against") ∷ option (codes "svg") ∷ option (codes "app")
+    ∷ flag (codes "fail-on-lost") ∷ told)
     ∷ named (codes "stop") verb.Stop (operator ∷ flag (codes "wait") ∷ [])
     ∷ named (codes "verify") verb.Verify (input ∷ releases ∷ arrays ∷ []) ∷ []
 

@@ -6,6 +6,7 @@ pub mod Apps
 pub mod AppOptions
 pub mod ReplyWords
 pub mod Misfits
+pub mod CheckWords
 pub mod ReportWords
 pub mod Words
 pub mod Requests

@@ -5,12 +5,13 @@ use Rattle.std.specs.Prelude.{List, Option, Some, None, codes}
 use Rattle.clap.specs.Words.{Row, Text, first_of}
 use Rattle.command_line.specs.AppOptions.{LacksAttributes, LacksInstalled, LacksPlace}
 use Rattle.command_line.specs.AppOptions.{LacksTold, TellsOneClient, given, value_in}
+use Rattle.command_line.specs.CheckWords.{IsCheckMisfit}
 use Rattle.command_line.specs.Grammar.{verb_named}
 use Rattle.command_line.specs.ReplyWords.{IsReplyMisfit}
 use Rattle.command_line.specs.ReportWords.{IsReportMisfit}
 use Rattle.command_line.specs.Seconds.{LacksMoment}
 use Rattle.command_line.specs.Values.{LacksArrays, LacksText}
-use Rattle.command_line.specs.Words.{WritesOver}
+use Rattle.command_line.specs.Words.{WantsAgainst, WritesOver}
 use Rattle.command_line.specs.declared.option_misfit.OptionMisfit.{OptionMisfit}
 use Rattle.command_line.specs.declared.option_misfit.OptionMisfit.TheVariants as misfit
 use Rattle.command_line.specs.declared.verb.Verb.{Verb}
@@ -24,6 +25,7 @@ IsSimulationMisfit rows misfit.Installed = LacksInstalled (first_of (codes "inst
 IsSimulationMisfit rows misfit.Attributes = LacksAttributes rows
 IsSimulationMisfit rows misfit.OneClient = TellsOneClient rows
 IsSimulationMisfit rows misfit.Overwritten = WritesOver rows
+IsSimulationMisfit rows misfit.Against = WantsAgainst rows
 IsSimulationMisfit rows misfit = ⊥
 
 -- the cohort that the words tell
@@ -49,6 +51,7 @@ IsAnyMisfit rows misfit = ⊥
 
 abbrev pub IsMisfit : Option Verb → List Row → OptionMisfit → Type 0
 IsMisfit (Some verb.Ask) rows misfit = IsReplyMisfit rows misfit
+IsMisfit (Some verb.Check) rows misfit = IsCheckMisfit rows misfit
 IsMisfit (Some verb.Simulate) rows misfit = IsSimulationMisfit rows misfit
 IsMisfit (Some verb.Run) rows misfit = IsRunMisfit rows misfit
 IsMisfit (Some verb.Report) rows misfit = IsReportMisfit rows misfit

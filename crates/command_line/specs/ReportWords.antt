@@ -8,10 +8,6 @@ use Rattle.command_line.specs.declared.option_misfit.OptionMisfit.{OptionMisfit}
 use Rattle.command_line.specs.declared.option_misfit.OptionMisfit.TheVariants as misfit
 use Rattle.command_line.specs.declared.request.AskedReport.{AskedReport}
 
--- all logs that are named
-abbrev pub logs_told : List Row → List Text
-logs_told rows = texts_of (codes "LOG") rows
-
 -- the moment that an option names, if it stands
 abbrev pub IsNamedTime : Option Text → Option NamedTime → Type 0
 IsNamedTime None moment = moment ≡ None
@@ -24,7 +20,7 @@ LacksNamedTime (Some text) = NamesNone text
 
 -- a report of logs, from one moment on and before another
 pub record AsksToReport (rows : List Row) (asked : AskedReport) : Type 0 where
-  pub logs : map (λ log. log.now) asked.logs.items ≡ logs_told rows
+  pub logs : map (λ log. log.now) asked.logs.items ≡ texts_of (codes "LOG") rows
   pub since : IsNamedTime (first_of (codes "since") rows) asked.since
   pub until : IsNamedTime (first_of (codes "until") rows) asked.until
   pub prometheus : HasFlag (codes "prometheus") rows asked.prometheus

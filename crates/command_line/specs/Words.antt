@@ -1,9 +1,10 @@
 -- What the words of a command line ask for.
 use Rattle.std.specs.Prelude.{◌≡◌, ◌⊎◌, List, Option, Some, None, true, false, codes}
-use Rattle.std.specs.Prelude.{option_copied}
+use Rattle.std.specs.Prelude.{IsNone, option_copied}
 use Rattle.clap.specs.Words.{Row, Text, first_of}
 use Rattle.command_line.specs.Grammar.{verb_named}
 use Rattle.command_line.specs.AppOptions.{HasTold, IsAnyones, IsPlace}
+use Rattle.command_line.specs.CheckWords.{AsksToCheck}
 use Rattle.command_line.specs.ReportWords.{AsksToReport}
 use Rattle.command_line.specs.Values.{HasFlag, HasPlan, HasShape, HasShort, HasText}
 use Rattle.command_line.specs.ReplyWords.{AsksForReply}
@@ -28,6 +29,11 @@ WritesOver rows =
     (file : Text) × HasText (codes "svg") rows file
     × (HasText (codes "MANIFEST") rows file ⊎ HasText (codes "against") rows file)
 
+-- what is lost shall make it fail, and nothing is there to compare with
+abbrev pub WantsAgainst : List Row → Type 0
+WantsAgainst rows =
+    HasText (codes "fail-on-lost") rows (codes "true") × IsNone (first_of (codes "against") rows)
+
 -- a simulation of a manifest's ruleset, and of one that serves now
 pub record AsksToSimulate (rows : List Row) (asked : AskedSimulation) : Type 0 where
   pub file : HasText (codes "MANIFEST") rows asked.manifest.now
@@ -35,14 +41,16 @@ pub record AsksToSimulate (rows : List Row) (asked : AskedSimulation) : Type 0 w
   pub picture : option_copied asked.picture ≡ first_of (codes "svg") rows
   pub kept : ¬ WritesOver rows
   pub clients : IsAnyones rows asked.app
+  pub appid : option_copied asked.appid ≡ first_of (codes "app") rows
+  pub lost : HasFlag (codes "fail-on-lost") rows asked.fail_on_lost
+  pub compared : ¬ WantsAgainst rows
 
 -- the command, with these arguments, asks for this
 abbrev pub VerbAsks : Option Verb → List Row → CommandRequest → Type 0
 VerbAsks (Some verb.Ask) rows (request.DryRun asked) = AsksForReply rows asked
 VerbAsks (Some verb.Assemble) rows (request.Assemble text out) =
     HasText (codes "IN") rows text.now × HasText (codes "OUT") rows out.now
-VerbAsks (Some verb.Check) rows (request.Check manifest) =
-    HasText (codes "MANIFEST") rows manifest.now
+VerbAsks (Some verb.Check) rows (request.Check asked) = AsksToCheck rows asked
 VerbAsks (Some verb.Compile) rows (request.Compile text shape out) =
     HasText (codes "IN") rows text.now × HasText (codes "OUT") rows out.now × HasShape rows shape
 VerbAsks (Some verb.Explain) rows (request.Explain path shape) =

@@ -12,6 +12,7 @@
 mod app_options;
 mod argument;
 mod ask_words;
+mod check_words;
 mod date;
 mod day;
 mod fault;
@@ -36,7 +37,8 @@ mod words;
 pub use fault::WordsFault;
 pub use option_misfit::{MomentMisfit, OptionMisfit};
 pub use request::{
-    AskedReply, AskedReport, AskedRun, AskedSimulation, CommandRequest, DeclaredShape, Plan,
+    AskedCheck, AskedReply, AskedReport, AskedRun, AskedSimulation, CommandRequest, DeclaredShape,
+    Plan,
 };
 pub use told::ToldApp;
 pub use words::read_words;

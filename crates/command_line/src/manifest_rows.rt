@@ -56,8 +56,16 @@ pub const ASK: VerbRow = VerbRow {
 pub const CHECK: VerbRow = VerbRow {
     verb: Verb::Check,
     name: "check",
-    about: "Tell what a manifest declares, or where and why it is refused",
-    arguments: &[MANIFEST],
+    about: "Tell what manifests declare, or where and why they are refused",
+    arguments: &[
+        Argument::Words("MANIFEST", "Files of the manifests"),
+        Argument::Flag("strict", "End with status 1 where a warning is told"),
+        Argument::Texts(
+            "allow",
+            "NAME",
+            "Name of a warning that doesn't count for --strict, any number of times",
+        ),
+    ],
     after: None,
 };
 
@@ -86,6 +94,15 @@ pub const SIMULATE: VerbRow = VerbRow {
             "File of the manifest that serves now",
         ),
         Argument::Text("svg", "FILE", "File that gets a picture, in SVG"),
+        Argument::Text(
+            "app",
+            "APPID",
+            "The one app that is told of; all by default",
+        ),
+        Argument::Flag(
+            "fail-on-lost",
+            "End with status 1 where a bucket loses its release; wants --against",
+        ),
         VERSION,
         ATTR,
         Argument::Flag("ping", "The clients send a ping"),

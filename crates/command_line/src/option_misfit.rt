@@ -2,6 +2,7 @@
 
 ghost use Rattle.std.specs.Prelude.{IfSome, Some};
 ghost use Rattle.clap.specs.Words.{subcommand_rows_of, found_of, rows_of};
+ghost use Rattle.command_line.specs.CheckWords.{IsCheckMisfit};
 ghost use Rattle.command_line.specs.Misfits.{IsAnyMisfit, IsMisfit, IsMisfitOf, IsRunMisfit};
 ghost use Rattle.command_line.specs.Misfits.{IsSimulationMisfit};
 ghost use Rattle.command_line.specs.ReplyWords.{IsReplyMisfit};
@@ -11,6 +12,7 @@ ghost use Rattle.command_line.specs.Words.{IsNothingAsked, VerbAsksNothing};
 
 use crate::app_options::{installed_of, place_of, told_at};
 use crate::ask_words::reply_of;
+use crate::check_words::check_of;
 use crate::options::arrays_of;
 use crate::report_words::report_of;
 use crate::request::NoRequest;
@@ -31,6 +33,8 @@ pub enum OptionMisfit {
     Attributes,
     OneClient,
     Overwritten,
+    Against,
+    Allow,
     Since,
     Until,
     Manifest,
@@ -61,6 +65,10 @@ impl OptionMisfit {
             OptionMisfit::Overwritten => {
                 "'--svg' names a manifest of the simulation, which the picture would be written \
                  over"
+            }
+            OptionMisfit::Against => "'--fail-on-lost' wants '--against'",
+            OptionMisfit::Allow => {
+                "'--allow' wants the name of a warning, as 'check' prints it: codebase-slash, say"
             }
             OptionMisfit::Since => {
                 "'--since' wants a time by RFC 3339, or how long ago, as 90s, 10m, 2h or 3d"
@@ -134,6 +142,7 @@ fn misfit_among(alloc: Global, verb: Option<Verb>, found: &ArgMatches<'_>) -> Op
 {
     match verb {
         Some(Verb::Ask) => reply_misfit(alloc, found),
+        Some(Verb::Check) => check_misfit(alloc, found),
         Some(Verb::Simulate) => Some(simulation_misfit(found)),
         Some(Verb::Run) => run_misfit(alloc, found),
         Some(Verb::Report) => report_misfit(alloc, found),
@@ -148,6 +157,17 @@ fn simulation_misfit(found: &ArgMatches<'_>) -> OptionMisfit
     match simulation_of(found) {
         Ok(_asked) => unreachable!(),
         Err(misfit) => misfit,
+    }
+}
+
+fn check_misfit(alloc: Global, found: &ArgMatches<'_>) -> Option<OptionMisfit>
+    requires { VerbAsksNothing (Some Verb.Check) (rows_of (found_of found.now)) }
+    ensures { IfSome result (IsCheckMisfit (rows_of (found_of found.now))) }
+{
+    match check_of(alloc, found) {
+        Ok(_asked) => unreachable!(),
+        Err(Unasked::Misfit(misfit)) => Some(misfit),
+        Err(Unasked::Memory) => None,
     }
 }
 

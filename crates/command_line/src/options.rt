@@ -1,10 +1,12 @@
 //! What the values of arguments and options are.
 
-ghost use Rattle.std.specs.Prelude.{◌≡◌, ℕ, ◌≤◌, IfNone, IfOk, IfSome, Err, option_copied};
+ghost use Rattle.std.specs.Prelude.{◌≡◌, ◌↔◌, ℕ, ◌≤◌, IfNone, IfOk, IfSome, Err};
+ghost use Rattle.std.specs.Prelude.{IsTrue, map, option_copied};
 ghost use Rattle.clap.specs.Words.{first_of, found_of, rows_of};
 ghost use Rattle.command_line.specs.Values.{HasArrays, HasBucket, HasFlag, HasPlan, HasReleases};
 ghost use Rattle.command_line.specs.Values.{HasShape};
 ghost use Rattle.command_line.specs.Values.{HasShort, HasText, LacksArrays, LacksBucket, LacksPlan};
+ghost use Rattle.command_line.specs.Values as values;
 ghost use Rattle.command_line.specs.Values.{LacksReleases, LacksShape, LacksShort, LacksText};
 
 use crate::request::{DeclaredShape, NoRequest, Plan};
@@ -12,7 +14,7 @@ use attrs::Bucket;
 use cells::Shape;
 use clap::ArgMatches;
 use declarations::{ArrayDeclaration, SpecFault, read_spec};
-use std::alloc::Global;
+use std::alloc::{AllocError, Global};
 
 /// How the options say that a server serves.
 pub fn plan_of(found: &ArgMatches<'_>) -> Result<Plan, NoRequest>
@@ -66,6 +68,31 @@ pub fn optional_text<'a>(found: &ArgMatches<'a>, id: &str) -> Option<&'a str>
     ensures { option_copied result ≡ first_of id.now (rows_of (found_of found.now)) }
 {
     found.get_str(id)
+}
+
+/// All texts of an argument, in their order.
+pub fn texts_of<'a>(
+    alloc: Global,
+    found: &ArgMatches<'a>,
+    id: &str,
+) -> Result<Vec<&'a str>, AllocError>
+    ensures { IfOk result (λ texts. map (λ text. text.now) texts.items
+        ≡ values.texts_of id.now (rows_of (found_of found.now))) }
+{
+    match found.get_strs(id) {
+        Some(texts) => Vec::from_slice(alloc, texts),
+        None => Ok(Vec::new(alloc)),
+    }
+}
+
+/// Whether an argument was given this text.
+pub fn is_text(found: &ArgMatches<'_>, id: &str, text: &str) -> bool
+    ensures { IsTrue result ↔ HasText id.now (rows_of (found_of found.now)) text.now }
+{
+    match optional_text(found, id) {
+        Some(given) => given == text,
+        None => false,
+    }
 }
 
 /// Whether a flag stands.

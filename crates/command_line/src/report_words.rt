@@ -1,20 +1,20 @@
 //! What `report` asks for.
 
-ghost use Rattle.std.specs.Prelude.{◌≡◌, IfOk, Err, OnErr, Some, codes, map};
+ghost use Rattle.std.specs.Prelude.{◌≡◌, IfOk, Err, OnErr, Some};
 ghost use Rattle.std.specs.Option.{option_copied};
 ghost use Rattle.clap.specs.Words.{first_of, found_of, rows_of};
 ghost use Rattle.command_line.specs.ReportWords.{AsksToReport, IsNamedTime, IsReportMisfit};
-ghost use Rattle.command_line.specs.ReportWords.{LacksNamedTime, logs_told};
+ghost use Rattle.command_line.specs.ReportWords.{LacksNamedTime};
 ghost use Rattle.command_line.specs.ReportWords as specs;
 ghost use Rattle.command_line.specs.Words.{VerbAsks, VerbAsksNothing};
 
 use crate::option_misfit::{OptionMisfit, Unasked};
-use crate::options::{flag_of, optional_text};
+use crate::options::{flag_of, optional_text, texts_of};
 use crate::request::{AskedReport, CommandRequest, NoRequest};
 use crate::verb::Verb;
 use clap::ArgMatches;
 use moments::{NamedTime, moment_in};
-use std::alloc::{AllocError, Global};
+use std::alloc::Global;
 
 /// What `report` asks for.
 pub fn report_asked<'a>(
@@ -44,7 +44,7 @@ pub fn report_of<'a>(alloc: Global, found: &ArgMatches<'a>) -> Result<AskedRepor
     let Ok(until) = moment_of(found, "until") else {
         return Err(Unasked::Misfit(OptionMisfit::Until));
     };
-    let Ok(logs) = logs_of(alloc, found) else {
+    let Ok(logs) = texts_of(alloc, found, "LOG") else {
         return Err(Unasked::Memory);
     };
     Ok(AskedReport {
@@ -75,16 +75,5 @@ fn moment_told(text: Option<&str>) -> Result<Option<NamedTime>, NoRequest>
             None => Err(NoRequest::Wrong),
         },
         None => Ok(None),
-    }
-}
-
-// The logs that are named.
-fn logs_of<'a>(alloc: Global, found: &ArgMatches<'a>) -> Result<Vec<&'a str>, AllocError>
-    ensures { IfOk result (λ logs. map (λ log. log.now) logs.items
-        ≡ logs_told (rows_of (found_of found.now))) }
-{
-    match found.get_strs("LOG") {
-        Some(logs) => Vec::from_slice(alloc, logs),
-        None => Ok(Vec::new(alloc)),
     }
 }

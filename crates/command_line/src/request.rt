@@ -28,6 +28,15 @@ pub struct AskedRun<'a> {
     pub bucket: Option<Bucket>,
 }
 
+/// A check that is asked for: of these manifests. If it is strict, a warning counts whose name isn't
+/// among those that are allowed.
+#[derive(Drop)]
+pub struct AskedCheck<'a> {
+    pub manifests: Vec<&'a str>,
+    pub strict: bool,
+    pub allowed: Vec<&'a str>,
+}
+
 /// A simulation that is asked for: of a manifest's ruleset, against that of one that serves now,
 /// for clients of which this is told. A picture is written into the file that is named.
 #[derive(Clone, Copy)]
@@ -36,6 +45,10 @@ pub struct AskedSimulation<'a> {
     pub against: Option<&'a str>,
     pub picture: Option<&'a str>,
     pub app: ToldApp<'a>,
+    /// The one app of which it tells; without it all.
+    pub appid: Option<&'a str>,
+    /// Whether a release that a bucket loses makes it fail.
+    pub fail_on_lost: bool,
 }
 
 /// A report that is asked for: of these logs, of which `-` is standard input, from one moment on
@@ -78,10 +91,8 @@ pub enum CommandRequest<'a> {
         shape: DeclaredShape,
         out: &'a str,
     },
-    /// Tell where and why a manifest is refused, or what it declares.
-    Check {
-        manifest: &'a str,
-    },
+    /// Tell where and why manifests are refused, or what they declare.
+    Check(AskedCheck<'a>),
     /// List a file's program, with what is known before each instruction.
     Explain {
         path: &'a str,

@@ -11,16 +11,6 @@ use crate::verb::Verb;
 use clap::ArgMatches;
 use operator_request::OperatorRequest;
 
-/// What `check` asks for.
-pub fn check_asked<'a>(found: &ArgMatches<'a>) -> Result<CommandRequest<'a>, NoRequest>
-    ensures asked { IfOk result (VerbAsks (Some Verb.Check) (rows_of (found_of found.now))) }
-    ensures nothing { result ≡ Err NoRequest.Wrong
-        → VerbAsksNothing (Some Verb.Check) (rows_of (found_of found.now)) }
-{
-    let manifest = text_of(found, "MANIFEST")?;
-    Ok(CommandRequest::Check { manifest })
-}
-
 /// What `replay` asks for.
 pub fn replay_asked<'a>(found: &ArgMatches<'a>) -> Result<CommandRequest<'a>, NoRequest>
     ensures asked { IfOk result (VerbAsks (Some Verb.Replay) (rows_of (found_of found.now))) }

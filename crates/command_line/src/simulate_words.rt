@@ -6,11 +6,12 @@ ghost use Rattle.clap.specs.Words.{found_of, rows_of};
 ghost use Rattle.command_line.specs.AppOptions.{IsAnyones};
 ghost use Rattle.command_line.specs.Misfits.{IsSimulationMisfit};
 ghost use Rattle.command_line.specs.Values.{HasText};
-ghost use Rattle.command_line.specs.Words.{AsksToSimulate, VerbAsks, VerbAsksNothing, WritesOver};
+ghost use Rattle.command_line.specs.Words.{AsksToSimulate, VerbAsks, VerbAsksNothing, WantsAgainst};
+ghost use Rattle.command_line.specs.Words.{WritesOver};
 
 use crate::app_options::{installed_of, told_at};
 use crate::option_misfit::OptionMisfit;
-use crate::options::optional_text;
+use crate::options::{flag_of, is_text, optional_text};
 use crate::request::{AskedSimulation, CommandRequest, NoRequest};
 use crate::second::moment_of;
 use crate::told::ToldApp;
@@ -52,11 +53,16 @@ fn simulation_of_manifest<'a>(
     if writes_over(found) {
         return Err(OptionMisfit::Overwritten);
     }
+    if wants_against(found) {
+        return Err(OptionMisfit::Against);
+    }
     Ok(AskedSimulation {
         manifest,
         against: optional_text(found, "against"),
         picture: optional_text(found, "svg"),
         app,
+        appid: optional_text(found, "app"),
+        fail_on_lost: flag_of(found, "fail-on-lost"),
     })
 }
 
@@ -96,12 +102,9 @@ fn writes_over(found: &ArgMatches<'_>) -> bool
     }
 }
 
-// Whether an argument was given this text.
-fn is_text(found: &ArgMatches<'_>, id: &str, text: &str) -> bool
-    ensures { IsTrue result ↔ HasText id.now (rows_of (found_of found.now)) text.now }
+// Whether a release that is lost shall make it fail, where nothing is there to compare with.
+fn wants_against(found: &ArgMatches<'_>) -> bool
+    ensures { IsTrue result ↔ WantsAgainst (rows_of (found_of found.now)) }
 {
-    match optional_text(found, id) {
-        Some(given) => given == text,
-        None => false,
-    }
+    is_text(found, "fail-on-lost", "true") && is_untold(optional_text(found, "against"))
 }

@@ -10,6 +10,7 @@ ghost use Rattle.command_line.specs.Requests.{AskFor, IsWordsFault};
 ghost use Rattle.command_line.specs.Words.{IsAsked, IsNothingAsked, VerbAsks, VerbAsksNothing};
 
 use crate::ask_words::reply_asked;
+use crate::check_words::check_asked;
 use crate::fault::WordsFault;
 use crate::grammar::grammar;
 use crate::option_misfit::misfit_of;
@@ -19,7 +20,7 @@ use crate::program_words::{
 use crate::report_words::report_asked;
 use crate::request::{CommandRequest, NoRequest};
 use crate::server_words::{
-    cells_asked, check_asked, load_asked, replay_asked, serve_asked, show_asked, stop_asked,
+    cells_asked, load_asked, replay_asked, serve_asked, show_asked, stop_asked,
 };
 use crate::simulate_words::simulate_asked;
 use crate::verb::{Verb, verb_named};
@@ -146,7 +147,7 @@ fn request_named<'a>(
     match verb {
         Some(Verb::Ask) => reply_asked(alloc, found),
         Some(Verb::Assemble) => assemble_asked(found),
-        Some(Verb::Check) => check_asked(found),
+        Some(Verb::Check) => check_asked(alloc, found),
         Some(Verb::Compile) => compile_asked(alloc, found),
         Some(Verb::Explain) => explain_asked(alloc, found),
         Some(Verb::List) => list_asked(found),

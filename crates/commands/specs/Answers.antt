@@ -1,7 +1,7 @@
 -- What each request is answered, and why it is refused: by what the files give, as far as that is
 -- known. Of a device's files nothing is known, so of these it is what some bytes come to. What a
 -- server replies no contract can say; of memory that was refused no claim is made.
-use Rattle.std.specs.Prelude.{◌≡◌, [], is_some, length, option_copied}
+use Rattle.std.specs.Prelude.{◌≡◌, ◌&&◌, [], is_some, length, not, option_copied}
 use Rattle.std.specs.String.{string_bytes}
 use Rattle.command_line.specs.declared.request.CommandRequest.{CommandRequest}
 use Rattle.command_line.specs.declared.request.CommandRequest.TheVariants as request
@@ -19,7 +19,8 @@ use Rattle.commands.specs.declared.fault.Fault.{Fault}
 use Rattle.commands.specs.declared.fault.Fault.TheVariants.{Manifest, Program, Resource, Serving}
 use Rattle.load.specs.Loaded.{IsLoadedFrom}
 use Rattle.program_tools.specs.Programs.{IsProgramRefusal, IsRunRefusal}
-use Rattle.manifest_tools.specs.Manifests.{HasReplayed, IsChecked, IsCheckRefusal}
+use Rattle.manifest_tools.specs.Checks.{AreChecked, AreCheckRefusal}
+use Rattle.manifest_tools.specs.Manifests.{HasReplayed}
 use Rattle.manifest_tools.specs.Manifests.{IsReplayRefusal}
 use Rattle.manifest_tools.specs.Simulations.{HasSimulated, IsSimulationRefusal}
 use Rattle.bounded_files.specs.Files.{KnownFiles}
@@ -37,8 +38,8 @@ module _ (known : KnownFiles) where
   IsAnswer (request.DryRun asked) (answer.DryRun body) = HasDryRun known asked body.items
   IsAnswer (request.Assemble text out) (Assembled program) =
       IsAssembledFrom known text.now program.items
-  IsAnswer (request.Check manifest) (Checked told) =
-      IsChecked known manifest.now (string_bytes told.text) (string_bytes told.warnings)
+  IsAnswer (request.Check asked) (Checked told) =
+      AreChecked known asked.strict asked.allowed.items asked.manifests.items told
   IsAnswer (request.Compile text shape out) (Compiled slots) =
       HasCompiled known text.now shape slots
   IsAnswer (request.Explain path shape) (Explained text) =
@@ -56,9 +57,10 @@ module _ (known : KnownFiles) where
   IsAnswer (request.Report asked) (answer.Reported told) =
       HasReported (length asked.logs.items) asked.since asked.until asked.prometheus
       (is_some asked.picture) told
-  IsAnswer (request.Simulate asked) (Simulated told) =
+  IsAnswer (request.Simulate asked) (Simulated told passes) =
       HasSimulated known (client_told asked.app) asked.manifest.now (option_copied asked.against)
-      (option_copied asked.picture) told
+      (option_copied asked.appid) (option_copied asked.picture) told
+      × (passes ≡ not (asked.fail_on_lost && told.loses))
   IsAnswer (request.Ask asked port) (Told text) = IsDoneAs asked (string_bytes text)
   IsAnswer (request.StopAndWait port) (Told text) = IsDoneAs sent.Stop (string_bytes text)
   IsAnswer (request.Serve manifest plan) (Ready server kept) =
@@ -68,7 +70,8 @@ module _ (known : KnownFiles) where
   abbrev pub IsRefused : CommandRequest → Fault → Type 0
   IsRefused (request.DryRun asked) fault = IsDryRunRefusal known asked fault
   IsRefused (request.Assemble text out) (Program fault) = IsAssemblyRefusal known text.now fault
-  IsRefused (request.Check manifest) (Manifest fault) = IsCheckRefusal known manifest.now fault
+  IsRefused (request.Check asked) (Manifest fault) =
+      AreCheckRefusal known asked.manifests.items fault
   IsRefused (request.Compile text shape out) (Program fault) =
       IsCompileRefusal known text.now shape fault
   IsRefused (request.Explain path shape) (Program fault) =
@@ -87,7 +90,8 @@ module _ (known : KnownFiles) where
   IsRefused (request.Report asked) (Resource fault) = Unit {0}
   IsRefused (request.Simulate asked) (Manifest fault) =
       IsSimulationRefusal known (client_told asked.app) asked.manifest.now
-      (option_copied asked.against) (option_copied asked.picture) fault
+      (option_copied asked.against) (option_copied asked.appid) (option_copied asked.picture)
+      fault
   IsRefused (request.Ask asked port) fault = IsAskRefusal asked fault
   IsRefused (request.StopAndWait port) fault = IsAskRefusal sent.Stop fault
   IsRefused (request.Serve manifest plan) (Serving fault) =

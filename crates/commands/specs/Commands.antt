@@ -1,5 +1,5 @@
 -- What a command has done where its status is 0, and what its words are where it is 2.
-use Rattle.std.specs.Prelude.{◌≡◌, ◌⊎◌, ℕ, List, [], ◌∷◌, Option}
+use Rattle.std.specs.Prelude.{◌≡◌, ◌⊎◌, ℕ, List, [], ◌∷◌, Option, true}
 use Rattle.std.specs.Io.KnownBytes.{Appends}
 use Rattle.command_line.specs.declared.request.CommandRequest.{CommandRequest}
 use Rattle.command_line.specs.Requests.{AreFaulty, AskFor, AskForHelp, AskForNothing}
@@ -7,7 +7,8 @@ use Rattle.commands.specs.declared.answer.Answer.{Answer}
 use Rattle.commands.specs.declared.fault.Fault.{Fault}
 use Rattle.commands.specs.Answers.{IsAnswer}
 use Rattle.bounded_files.specs.Files.{KnownFiles}
-use Rattle.commands.specs.Texts.{answer_text, fault_text, refusal_reason, refused_line, warnings_of}
+use Rattle.commands.specs.Texts.{answer_text, fault_text, passes, refusal_reason}
+use Rattle.commands.specs.Texts.{refused_line, warnings_of}
 
 -- the lines are what a writer was given; where there are none, nothing was done to it
 abbrev pub IsGiven : {W : Type 0} → (W → Option (List ℕ)) → (before after : W) → List ℕ → Type 0
@@ -15,13 +16,14 @@ IsGiven contents before after [] = after ≡ before
 IsGiven contents before after (c ∷ cs) = Appends (contents before) (contents after) (c ∷ cs)
 
 -- the request was answered, the output ends with the answer's lines, and standard error is given
--- the warnings of a check, and of all else nothing
+-- the warnings of a check, of which none counts, and of all else nothing
 pub record IsAnswered (known : KnownFiles) (request : CommandRequest)
     (before after : Option (List ℕ)) (IsTold : List ℕ → Type 0) : Type 0 where
   pub answer : Answer
   pub answers : IsAnswer known request answer
   pub printed : Appends before after (answer_text answer)
   pub warned : IsTold (warnings_of answer)
+  pub passed : passes answer ≡ true
 
 -- the words ask for help, of which standard error is given nothing, or what they ask for was
 -- answered

@@ -1,5 +1,5 @@
 -- The texts that the program prints for an answer and for a refusal.
-use Rattle.std.specs.Prelude.{ℕ, ◌/◌, List, [], ◌++◌, length, codes}
+use Rattle.std.specs.Prelude.{ℕ, ◌/◌, List, [], ◌++◌, length, codes, Bool, true}
 use Rattle.std.specs.Fmt.{decimal}
 use Rattle.std.specs.String.{string_bytes}
 use Rattle.commands.specs.declared.answer.Answer.{Answer}
@@ -40,7 +40,7 @@ answer_text (Traced lines choice instructions) =
     ++ codes " after " ++ decimal instructions ++ codes " instructions")
 answer_text (Replayed text) = string_bytes text
 answer_text (answer.Reported told) = string_bytes told.text
-answer_text (answer.Simulated told) = string_bytes told.text
+answer_text (answer.Simulated told does) = string_bytes told.text
 answer_text (answer.DryRun body) = body.items
 answer_text (answer.Told text) = string_bytes text
 -- the first generation
@@ -50,6 +50,12 @@ answer_text (Ready server plan) = serving_line 1
 abbrev pub warnings_of : Answer → List ℕ
 warnings_of (Checked told) = string_bytes told.warnings
 warnings_of answer = []
+
+-- a check may find what counts, and a simulation what is lost; all else passes
+abbrev pub passes : Answer → Bool
+passes (Checked told) = told.passes
+passes (answer.Simulated told does) = does
+passes answer = true
 
 -- what is told of where and why a manifest is refused, which goes there behind the refusal
 abbrev pub refusal_reason : Fault → List ℕ

@@ -1,12 +1,12 @@
 //! What a request is answered.
 
 ghost use Rattle.std.specs.Prelude.{◌≡◌, Some};
-ghost use Rattle.commands.specs.Texts.{answer_text, warnings_of};
+ghost use Rattle.commands.specs.Texts.{answer_text, passes, warnings_of};
 
 use command_line::Plan;
 use hot_swap::Generation;
 use log_tools::ToldReport;
-use manifest_tools::{CheckedManifest, ToldSimulation};
+use manifest_tools::{ToldChecks, ToldSimulation};
 use serving::Server;
 use std::{fmt, str};
 
@@ -17,8 +17,9 @@ pub enum Answer {
     Assembled {
         program: Vec<u8>,
     },
-    /// The manifest comes to a ruleset; the lines of its arrays and apps, and its warnings.
-    Checked(CheckedManifest),
+    /// What is told of manifests that were checked: of one that comes to a ruleset the lines of its
+    /// arrays and apps, and its warnings; or of several.
+    Checked(ToldChecks),
     /// The rule was compiled into a program of so many slots.
     Compiled {
         slots: usize,
@@ -57,8 +58,11 @@ pub enum Answer {
     },
     /// What is told of logs, of which the lines are printed, a line a number.
     Reported(ToldReport),
-    /// What is told of a simulation, of which the lines are printed.
-    Simulated(ToldSimulation),
+    /// What is told of a simulation, of which the lines are printed, and whether it passes.
+    Simulated {
+        told: ToldSimulation,
+        passes: bool,
+    },
     /// The body of a reply that a server would send.
     DryRun {
         body: Vec<u8>,
@@ -82,6 +86,17 @@ impl Answer {
         match self {
             Answer::Checked(told) => told.warnings.as_str(),
             _ => "",
+        }
+    }
+
+    /// Whether a check or a simulation passes; all else does.
+    pub fn passes(&self) -> bool
+        ensures { result ≡ passes self.now }
+    {
+        match self {
+            Answer::Checked(told) => told.passes,
+            Answer::Simulated { passes, .. } => *passes,
+            _ => true,
         }
     }
 }
@@ -118,7 +133,7 @@ impl fmt::Display for Answer {
             ),
             Answer::Replayed { text } => f.write_str(text),
             Answer::Reported(told) => f.write_str(told.text.as_str()),
-            Answer::Simulated(told) => f.write_str(told.text.as_str()),
+            Answer::Simulated { told, .. } => f.write_str(told.text.as_str()),
             Answer::DryRun { body } => match str::from_utf8(body.as_slice()) {
                 Ok(text) => f.write_str(text),
                 Err(_) => Err(fmt::Error),

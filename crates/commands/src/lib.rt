@@ -11,6 +11,7 @@
 
 mod answer;
 mod ask;
+mod checks;
 mod dry_runs;
 mod fault;
 mod logged;

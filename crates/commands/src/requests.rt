@@ -5,6 +5,7 @@ ghost use Rattle.commands.specs.Answers.{IsAnswer, IsRefused};
 
 use crate::answer::Answer;
 use crate::ask::{ask_server, stop_and_wait};
+use crate::checks::checked;
 use crate::dry_runs::dry_run_of;
 use crate::fault::Fault;
 use crate::reports::reported;
@@ -12,7 +13,7 @@ use crate::runs::{chosen, traced};
 use crate::simulations::simulated;
 use command_line::CommandRequest;
 use load::Disk;
-use manifest_tools::{check_file, replay_script};
+use manifest_tools::replay_script;
 use program_tools::{
     assemble_file, compile_file, explain_file, list_file, order_file, verify_file,
 };
@@ -39,10 +40,7 @@ where
         CommandRequest::Assemble { text, out } => Ok(Answer::Assembled {
             program: assemble_file(rt, disk, text, out).map_err(Fault::Program)?,
         }),
-        CommandRequest::Check { manifest } => {
-            let told = check_file(alloc, disk, manifest).map_err(Fault::Manifest)?;
-            Ok(Answer::Checked(told))
-        }
+        CommandRequest::Check(asked) => checked(alloc, disk, asked),
         CommandRequest::Compile { text, shape, out } => Ok(Answer::Compiled {
             slots: compile_file(rt, disk, text, shape, out).map_err(Fault::Program)?,
         }),

@@ -28,9 +28,12 @@ where
         let fault = ManifestToolFault::Resource(ResourceFault::Memory);
         return Err(Fault::Manifest(fault));
     };
-    let (manifest, against) = (asked.manifest, asked.against);
-    match simulate_files(rt, disk, manifest, against, asked.picture, client) {
-        Ok(told) => Ok(Answer::Simulated(told)),
+    let (manifest, against, appid) = (asked.manifest, asked.against, asked.appid);
+    match simulate_files(rt, disk, manifest, against, appid, asked.picture, client) {
+        Ok(told) => {
+            let passes = !(asked.fail_on_lost && told.loses);
+            Ok(Answer::Simulated { told, passes })
+        }
         Err(fault) => Err(Fault::Manifest(fault)),
     }
 }

@@ -1,12 +1,12 @@
 //! The status of a command, and what it prints: on standard output, or on standard error.
 
-ghost use Rattle.std.specs.Prelude.{◌≡◌, ◌≤◌, List, ℕ, map, OnOk, if◌then◌else◌};
+ghost use Rattle.std.specs.Prelude.{◌≡◌, ◌≤◌, List, ℕ, map, true, OnOk, if◌then◌else◌};
 ghost use Rattle.std.specs.IoError.{error_kind};
 ghost use Rattle.std.specs.Io.KnownBytes.{Appends};
 ghost use Rattle.command_line.specs.Requests.{AskForHelp, IsWordsFault};
 ghost use Rattle.commands.specs.Commands.{AreWrong, IsAnswered, IsDone, IsGiven};
 ghost use Rattle.commands.specs.Commands.{PrintsRefusal, TellsRefusal};
-ghost use Rattle.commands.specs.Texts.{answer_text, warnings_of};
+ghost use Rattle.commands.specs.Texts.{answer_text, passes, warnings_of};
 ghost use Rattle.workers.specs.Texts.{serving_line};
 
 use crate::answer::Answer;
@@ -38,8 +38,8 @@ const USAGE: u8 = 2;
 /// Does what the words ask, the first of which is the program's name, with files of the disk.
 /// Results go to `out`, and refusals, usage and the warnings of `check` to `err`, which is left
 /// alone by all else that is done. A simulation that takes over a second says by the runtime itself
-/// how far it is. The status is 0 done, 1 refused or after a failed write, 2 usage. A server has
-/// served once the status is there.
+/// how far it is. The status is 0 done, 1 refused, after a failed write, or where a check or a
+/// simulation doesn't pass, 2 usage. A server has served once the status is there.
 // open: `clap`'s texts; that it doesn't give up with 1, since a read or a write may fail at any
 // time: the tests compare each command's lines and status.
 pub fn command<R, D, S, O, E>(rt: &R, disk: &D, words: &[S], out: &mut O, err: &mut E) -> u8
@@ -112,25 +112,34 @@ fn print_answer<O: Write, E: Write>(answer: &Answer, out: &mut O, err: &mut E) -
     ensures printed { result ≡ 0 → Appends (O.contents out.old) (O.contents out.new)
         (answer_text answer.now) }
     ensures warned { result ≡ 0 → IsGiven E.contents err.old err.new (warnings_of answer.now) }
+    ensures passed { result ≡ 0 → passes answer.now ≡ true }
 {
     match write!(out, "{answer}") {
-        Ok(()) => print_warnings(answer.warnings(), err),
+        Ok(()) => print_warnings(answer.warnings(), answer.passes(), err),
         Err(_) => refused(err, &Fault::Resource(ResourceFault::File)),
     }
 }
 
-// Prints warnings, where there are any.
-fn print_warnings<E: Write>(warnings: &str, err: &mut E) -> u8
+// Prints warnings, where there are any; and whether what was asked passes, with them.
+fn print_warnings<E: Write>(warnings: &str, passes: bool, err: &mut E) -> u8
     ensures within { result ≤ 1 }
     ensures given { result ≡ 0 → IsGiven E.contents err.old err.new warnings.now }
+    ensures passed { result ≡ 0 → passes ≡ true }
 {
     if warnings.is_empty() {
-        return DONE;
+        return passed(passes);
     }
     match print_lines(err, warnings) {
-        Ok(()) => DONE,
+        Ok(()) => passed(passes),
         Err(_) => REFUSED,
     }
+}
+
+// The status of what is printed and passes, or doesn't.
+fn passed(passes: bool) -> u8
+    ensures { result ≡ (if passes then 0 else 1) }
+{
+    if passes { DONE } else { REFUSED }
 }
 
 // Serves until the operator stops the server, which says when it does.

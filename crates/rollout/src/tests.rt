@@ -17,6 +17,7 @@ mod rules;
 mod server;
 mod simulations;
 mod stops;
+mod strict;
 mod texts;
 mod usage;
 

@@ -60,6 +60,9 @@ const REFUSALS: &str = "rollout simulate -> usage
 rollout simulate z_7.toml z_8.toml -> usage
 rollout simulate z_7.toml --bucket 1 -> usage
 rollout simulate z_7.toml --against -> usage
+rollout simulate z_7.toml --app -> usage
+rollout simulate z_7.toml --app x --app x -> usage
+rollout simulate z_7.toml --app z -> refused B8 App
 rollout simulate z_no.toml --svg z_no.toml -> usage
 rollout simulate z_no.toml --against z_8.toml --svg z_8.toml -> usage
 rollout simulate z_no.toml -> refused B3 File
@@ -82,6 +85,8 @@ rollout simulate z_7.toml --today 2919383 --attr appid=x -> '--today' wants a da
 rollout simulate z_7.toml --at x --attr appid=x -> '--at' wants a time
 rollout simulate z_7.toml --at 0 --today 0 --svg z_7.toml -> can't stand beside each other
 rollout simulate z_7.toml --installed x --svg z_7.toml -> '--installed' wants a day
+rollout simulate z_7.toml --fail-on-lost -> '--fail-on-lost' wants '--against'
+rollout simulate z_7.toml --fail-on-lost --svg z_7.toml -> '--svg' names a manifest
 rollout simulate z_7.toml --svg z_7.toml -> '--svg' names a manifest
 rollout simulate z_7.toml --against z_8.toml --svg z_8.toml -> '--svg' names a manifest";
 

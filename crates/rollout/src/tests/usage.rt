@@ -35,7 +35,9 @@ rollout verify a.bin b.bin --releases 0 -> usage
 rollout explain a.bin -> usage
 rollout explain a.bin --releases 0 --bucket 1 -> usage
 rollout check -> usage
-rollout check a.toml b.toml -> usage
+rollout check --strict -> usage
+rollout check a.toml --allow no-such-warning -> usage
+rollout check a.toml --strict --allow never-holds --allow -> usage
 rollout replay a.toml -> usage
 rollout replay a.toml a.script --bucket 1 -> usage
 rollout stop -> usage
@@ -76,13 +78,17 @@ rollout list --help -> <IN>
 rollout order --help -> <IN> <OUT>
 rollout verify --help -> name:width:length
 rollout run --help -> --bucket
-rollout check --help -> MANIFEST
+rollout check --help -> <MANIFEST>...
+rollout check --help -> --strict
+rollout check --help -> --allow <NAME>
 rollout ask --help -> <MANIFEST> <REQUEST>
 rollout ask --help -> --cells <NAME[I]=V>
 rollout replay --help -> start 0 agent 4998 -
 rollout replay --help -> step 0 8
 rollout simulate --help -> --against <MANIFEST>
 rollout simulate --help -> --svg <FILE>
+rollout simulate --help -> --app <APPID>
+rollout simulate --help -> --fail-on-lost
 rollout report --help -> <LOG>...
 rollout report --help -> --svg <FILE>
 rollout serve --help -> --workers <N>

@@ -1,4 +1,4 @@
-use Rattle.std.proofs.Common.{subst}
+use Rattle.std.proofs.Common.{refl, subst}
 use Rattle.commands.specs.Answers.{IsAnswer}
 use Rattle.commands.specs.declared.answer.Answer.TheVariants.{Ready}
 use Rattle.commands.proofs.status.perform.Goals as goal
@@ -9,6 +9,7 @@ returns-in-Ok-clause-done g c zero = record {
   answers = c.in-Ok.ensures.answer;
   printed = c.print_answer.ensures.printed zero;
   warned = c.print_answer.ensures.warned zero;
+  passed = c.print_answer.ensures.passed zero;
 }
 
 pub returns-in-Ok-Ready-clause-done : goal.returns-in-Ok-Ready-clause-done
@@ -18,4 +19,5 @@ returns-in-Ok-Ready-clause-done g c zero = record {
       c.in-Ok-Ready.field-0-is c.in-Ok-Ready.ensures.answer;
   printed = c.serve.ensures.done zero;
   warned = c.serve.ensures.silent zero;
+  passed = refl;
 }
