@@ -1,6 +1,6 @@
 //! The lines of warnings.
 
-ghost use Rattle.std.specs.Prelude.{◌≡◌, ◌++◌, OnOk, flat_map, string_bytes};
+ghost use Rattle.std.specs.Prelude.{◌≡◌, ◌++◌, OnOk, string_bytes};
 ghost use Rattle.warnings.specs.Warnings as specs;
 
 use crate::warning::{Warning, WarningKind, WarningPlace};

@@ -15,7 +15,7 @@ use Rattle.world.specs.Happens.{Answer, Happens}
 use Rattle.world.specs.Headline.{IsApplied}
 use Rattle.world.specs.Seats.{SeatStandsFor, WorkerSteps, WorkerFinishes, SeatSteps, SeatFinishes}
 use Rattle.world.specs.Seats.{Opens}
-use Rattle.world.specs.StandsFor.{Parts, WorldStandsFor, AreKept}
+use Rattle.world.specs.StandsFor.{Parts, WorldStandsFor}
 use Rattle.world.specs.declared.seat.Seat.{Seat}
 use Rattle.world.specs.declared.seat.Seat.TheVariants.{Empty, Taken}
 use Rattle.world.specs.declared.event.Event.TheVariants.{Start, Step, Finish}
@@ -24,7 +24,7 @@ use Rattle.world.specs.declared.event.WorldFault.{WorldFault}
 use Rattle.world.specs.declared.event.WorldFault.TheVariants as fault
 use Rattle.world.proofs.Changes.{with_seat, with_cells, worker_at, is_worker, seat_found}
 use Rattle.world.proofs.Rulesets.{some_rules, offered_at}
-use Rattle.world.proofs.Changes.{found_stands, stands_with, kept_with, same_world}
+use Rattle.world.proofs.Changes.{found_stands, stands_with, same_world}
 
 -- ---- Step
 
@@ -205,14 +205,3 @@ opened parts k n attrs rules seat run within found empty newest_is number opens 
                 opens.stands;
           }),
     )
-
-pub opened_kept : (parts : Parts) (k n : ℕ) (a : Attributes) (rules : Rules) (run : Held)
-    → k < length parts.seats → AreKept parts
-    → ruleset_at parts.rulesets (newest parts.rulesets) ≡ Some rules → n ≡ length parts.rulesets
-    → Opens rules a (Ok run) → AreKept (with_seat parts parts.cells k (Taken run n None))
-opened_kept parts k n a rules run within kept newest_is number opens =
-    kept_with parts parts.cells k (Taken run n None) within kept opens.goes
-    (offered_at parts.rulesets n rules (appid_of run.attributes) run.program
-    (ap (ruleset_at parts.rulesets) number ∙ newest_is)
-    (subst (λ (b : Attributes). Offers rules (appid_of b) run.program)
-    (sym opens.attributes_are) opens.offered))
