@@ -6,8 +6,9 @@ use Rattle.std.proofs.lemmas.List.Sums.{sum_by_push}
 use Rattle.std.proofs.lemmas.List.Concat.{flat_map-cons}
 use Rattle.std.proofs.lemmas.Grind.{flat_map-append}
 use Rattle.serde_json.specs.Data.{Data}
-use Rattle.report.specs.Counts.{Adds, Counts, GoesUp, all_names, names_if, one_if, total}
-use Rattle.report.specs.Courses.{if_drawn, hour_names, minute_names, names_told, version_names}
+use Rattle.report.specs.Counts.{Adds, Counts, GoesUp, all_names, one_if, total}
+use Rattle.report.specs.Courses.{if_drawn, hour_names, minute_names, version_names}
+use Rattle.report.specs.Names.{names_if}
 use Rattle.report.specs.Reading.{CountsLines}
 use Rattle.report.specs.Tallies.{Name, capped, IsTally, Notes}
 use Rattle.report.specs.Told.{event_in, told}
@@ -32,11 +33,6 @@ more_sum f before line old new by up by_is old_is =
     up (sum_by f before) old_is
     ∙ ap capped (ap (λ (k : ℕ). sum_by f before + k) by_is ∙ sym (sum_by_push f before line))
 
-as_told : (names : Data → List Name) (line : Option Data)
-    → names_told names line ≡ names_if names line
-as_told names None = refl
-as_told names (Some line) = refl
-
 module _ (window : Window) (before : List (List ℕ)) (line : List ℕ) where
   more_names : (names : Data → List Name)
       → all_names window (before ++ line ∷ []) names
@@ -58,15 +54,13 @@ module _ (window : Window) (before : List (List ℕ)) (line : List ℕ) where
   -- of a picture, if one is drawn
   more_course : (drawn : Bool) (limit : ℕ) (names : Data → List Name) (was : Bool)
       (old new : Tally) → was ≡ drawn
-      → Notes old new (names_told (if_drawn was names) (told window line))
+      → Notes old new (names_if (if_drawn was names) (told window line))
       → IsTally limit (all_names window before (if_drawn drawn names)) old
       → IsTally limit (all_names window (before ++ line ∷ []) (if_drawn drawn names)) new
   more_course drawn limit names was old new same notes counted =
       more_tally limit (if_drawn drawn names) old new
-      (subst (λ (all : List Name). Notes old new all)
-      (as_told (if_drawn drawn names) (told window line))
-      (subst (λ (b : Bool). Notes old new (names_told (if_drawn b names) (told window line))) same
-      notes)) counted
+      (subst (λ (b : Bool). Notes old new (names_if (if_drawn b names) (told window line))) same
+      notes) counted
 
 pub counts_one : (window : Window) (line : List ℕ) (old new : Report)
     → Adds (event_in line) (told window line) old new → CountsLines window (line ∷ []) old new

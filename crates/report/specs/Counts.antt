@@ -5,7 +5,7 @@ use Rattle.std.specs.Prelude.{if◌then◌else◌}
 use Rattle.serde_json.specs.Data.{Data}
 use Rattle.report.specs.Courses.{AddsCourse, if_drawn, hour_names, minute_names, version_names}
 use Rattle.report.specs.Events.{event_names}
-use Rattle.report.specs.Names.{app_names, line_names, is_kind}
+use Rattle.report.specs.Names.{app_names, line_names, is_kind, names_if}
 use Rattle.report.specs.Tallies.{Name, capped, IsTally, Notes}
 use Rattle.report.specs.Told.{event_in, number_in, told}
 use Rattle.report.specs.declared.question.AppQuestion.TheVariants as of_app
@@ -15,10 +15,6 @@ use Rattle.report.specs.declared.counting.Report.{Report}
 use Rattle.report.specs.declared.window.Window.{Window}
 
 -- ---- of a line, if it is told
-
-abbrev pub names_if : (Data → List Name) → Option Data → List Name
-names_if names (Some line) = names line
-names_if names None = []
 
 abbrev pub number_if : (Data → ℕ) → Option Data → ℕ
 number_if number (Some line) = number line

@@ -7,7 +7,7 @@ use Rattle.std.specs.Prelude.{if◌then◌else◌, option_and_then}
 use Rattle.moments.specs.Calendar.{minute_in}
 use Rattle.serde_json.specs.Data.{Data}
 use Rattle.report.specs.Events.{event_names}
-use Rattle.report.specs.Names.{app_names}
+use Rattle.report.specs.Names.{app_names, names_if}
 use Rattle.report.specs.Tallies.{Name, Notes}
 use Rattle.report.specs.Told.{text_in}
 use Rattle.report.specs.declared.course.Course.{Course}
@@ -26,40 +26,35 @@ abbrev pub version_names : Data → List Name
 version_names line = three_names of_app.AskedBy of_app.Offered of_event.FailedTo line
 
 -- the same at this moment
-abbrev pub names_at : Data → Option ℕ → List Name
-names_at line (Some moment) =
+abbrev pub names_in_moment : Data → Option ℕ → List Name
+names_in_moment line (Some moment) =
     three_names (of_app.AskedAt moment) (of_app.OfferedAt moment) (of_event.FailedAt moment) line
-names_at line None = []
+names_in_moment line None = []
 
 -- the minute of a line, counted from 1970 on, and its hour; none where its time isn't a server's
-abbrev pub minute_of : Data → Option ℕ
-minute_of line = option_and_then minute_in (text_in (codes "time") line)
+abbrev pub minute_of_line : Data → Option ℕ
+minute_of_line line = option_and_then minute_in (text_in (codes "time") line)
 
-abbrev pub hour_from : Option ℕ → Option ℕ
-hour_from (Some minute) = Some (minute / 60)
-hour_from None = None
+abbrev pub hour_of_minute : Option ℕ → Option ℕ
+hour_of_minute (Some minute) = Some (minute / 60)
+hour_of_minute None = None
 
 abbrev pub minute_names : Data → List Name
-minute_names line = names_at line (minute_of line)
+minute_names line = names_in_moment line (minute_of_line line)
 
 abbrev pub hour_names : Data → List Name
-hour_names line = names_at line (hour_from (minute_of line))
+hour_names line = names_in_moment line (hour_of_minute (minute_of_line line))
 
 -- where no picture is drawn nothing is counted for it
 abbrev pub if_drawn : Bool → (Data → List Name) → Data → List Name
 if_drawn drawn names line = if drawn then names line else []
 
--- what is counted of a line that is told with these names
-abbrev pub names_told : (Data → List Name) → Option Data → List Name
-names_told names (Some line) = names line
-names_told names None = []
-
 -- what a line more counts, if it is told
 pub record AddsCourse (line : Option Data) (old new : Course) : Type 0 where
   pub drawn : new.drawn ≡ old.drawn
   pub versions :
-      Notes old.versions new.versions (names_told (if_drawn old.drawn version_names) line)
+      Notes old.versions new.versions (names_if (if_drawn old.drawn version_names) line)
   pub by_minute :
-      Notes old.by_minute new.by_minute (names_told (if_drawn old.drawn minute_names) line)
+      Notes old.by_minute new.by_minute (names_if (if_drawn old.drawn minute_names) line)
   pub by_hour :
-      Notes old.by_hour new.by_hour (names_told (if_drawn old.drawn hour_names) line)
+      Notes old.by_hour new.by_hour (names_if (if_drawn old.drawn hour_names) line)

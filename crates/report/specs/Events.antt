@@ -8,7 +8,7 @@ use Rattle.std.specs.Str.{byte}
 use Rattle.serde_json.specs.Data.{Data, Items, no_items, item}
 use Rattle.report.specs.Tallies.{Name}
 use Rattle.report.specs.Told.{text_in, number_in, list_in, is_number, value_of}
-use Rattle.report.specs.Names.{two, three, mark, if_holds, listed, text_or_mark}
+use Rattle.report.specs.Names.{two, three, course_name, if_holds, listed, text_or_mark}
 use Rattle.report.specs.declared.question.EventQuestion.{EventQuestion}
 use Rattle.report.specs.declared.question.EventQuestion.TheVariants.{Ended, Result, FailedTo}
 use Rattle.report.specs.declared.question.EventQuestion.TheVariants.{FailedAt}
@@ -73,7 +73,7 @@ install_told Ended app appid event = install_name app appid event
 install_told Result app appid event = result_name app appid event
 install_told FailedTo app appid event = two appid (to_version event)
 install_told (FailedAt moment) app appid event =
-    mark (codes "failures") appid (to_version event) moment
+    course_name (codes "failures") appid (to_version event) moment
 
 -- whether the question is about such an event
 abbrev pub is_asked : EventQuestion → Data → Bool
@@ -88,19 +88,19 @@ event_name question app appid event =
 
 -- ---- the events of an app, and of all apps of a line
 
-abbrev pub name_at : EventQuestion → Data → List ℕ → List ℕ → Option Name
-name_at question app appid text =
+abbrev pub event_name_at : EventQuestion → Data → List ℕ → List ℕ → Option Name
+event_name_at question app appid text =
     option_and_then (λ object. option_and_then (event_name question app appid) (value_of object))
     (object_at text)
 
-abbrev pub names_at : EventQuestion → Data → List ℕ → List ℕ → List Name
-names_at question app appid text = listed (name_at question app appid text)
+abbrev pub event_names_at : EventQuestion → Data → List ℕ → List ℕ → List Name
+event_names_at question app appid text = listed (event_name_at question app appid text)
 
 -- at each place of the text
 abbrev pub names_in_text : EventQuestion → Data → List ℕ → List ℕ → List Name
 names_in_text question app appid [] = []
 names_in_text question app appid (b ∷ text) =
-    names_at question app appid (b ∷ text) ++ names_in_text question app appid text
+    event_names_at question app appid (b ∷ text) ++ names_in_text question app appid text
 
 abbrev pub names_in : EventQuestion → Data → Option (List ℕ) → Option (List ℕ) → List Name
 names_in question app (Some appid) (Some text) = names_in_text question app appid text
@@ -116,9 +116,9 @@ names_of_events question no_items = []
 names_of_events question (item app apps) =
     names_of_app question app ++ names_of_events question apps
 
-abbrev pub names_of_list : EventQuestion → Option Items → List Name
-names_of_list question (Some apps) = names_of_events question apps
-names_of_list question None = []
+abbrev pub event_names_in : EventQuestion → Option Items → List Name
+event_names_in question (Some apps) = names_of_events question apps
+event_names_in question None = []
 
 abbrev pub event_names : EventQuestion → Data → List Name
-event_names question line = names_of_list question (list_in (codes "apps") line)
+event_names question line = event_names_in question (list_in (codes "apps") line)

@@ -33,8 +33,8 @@ abbrev pub decimal_text : ℕ → List ℕ
 decimal_text n = decimal n
 
 -- what is counted, of which app and version, and in which minute or hour
-abbrev pub mark : List ℕ → List ℕ → List ℕ → ℕ → Name
-mark what appid version moment =
+abbrev pub course_name : List ℕ → List ℕ → List ℕ → ℕ → Name
+course_name what appid version moment =
     three what appid version ++ codes "\t" ++ decimal_text moment
 
 abbrev pub if_holds : Bool → Name → Option Name
@@ -84,8 +84,8 @@ is_colon b = b == byte ":"
 abbrev pub hour_of : Data → List ℕ
 hour_of line = before_first is_colon (text_or_mark (text_in (codes "time") line))
 
-abbrev pub version_of : Data → List ℕ
-version_of app = text_or_mark (text_in (codes "version") app)
+abbrev pub version_told : Data → List ℕ
+version_told app = text_or_mark (text_in (codes "version") app)
 
 abbrev pub offered : Data → Data → List ℕ → Option Name
 offered line app appid =
@@ -93,7 +93,7 @@ offered line app appid =
 
 abbrev pub hour_name : Data → Data → List ℕ → Option Name
 hour_name line app appid =
-    if_holds (has_asked line app) (three appid (hour_of line) (version_of app))
+    if_holds (has_asked line app) (three appid (hour_of line) (version_told app))
 
 abbrev pub bucket_name : Data → Data → List ℕ → Option Name
 bucket_name line app appid =
@@ -101,15 +101,15 @@ bucket_name line app appid =
     then option_map (λ n. two appid (decimal n)) (number_in (codes "bucket") app) else None
 
 abbrev pub asked_by : Data → Data → List ℕ → Option Name
-asked_by line app appid = if_holds (has_asked line app) (two appid (version_of app))
+asked_by line app appid = if_holds (has_asked line app) (two appid (version_told app))
 
 -- in this minute or hour
 abbrev pub asked_at : ℕ → Data → Data → List ℕ → Option Name
 asked_at moment line app appid =
-    if_holds (has_asked line app) (mark (codes "asks") appid (version_of app) moment)
+    if_holds (has_asked line app) (course_name (codes "asks") appid (version_told app) moment)
 
 abbrev pub offer_at : ℕ → List ℕ → List ℕ → Name
-offer_at moment appid release = mark (codes "offers") appid release moment
+offer_at moment appid release = course_name (codes "offers") appid release moment
 
 abbrev pub offered_at : ℕ → Data → Data → List ℕ → Option Name
 offered_at moment line app appid =
@@ -140,12 +140,12 @@ names_of_apps question line no_items = []
 names_of_apps question line (item app apps) =
     listed (app_name question line app) ++ names_of_apps question line apps
 
-abbrev pub names_of_list : AppQuestion → Data → Option Items → List Name
-names_of_list question line (Some apps) = names_of_apps question line apps
-names_of_list question line None = []
+abbrev pub app_names_in : AppQuestion → Data → Option Items → List Name
+app_names_in question line (Some apps) = names_of_apps question line apps
+app_names_in question line None = []
 
 abbrev pub app_names : AppQuestion → Data → List Name
-app_names question line = names_of_list question line (list_in (codes "apps") line)
+app_names question line = app_names_in question line (list_in (codes "apps") line)
 
 -- ---- of a line
 
@@ -188,3 +188,8 @@ line_name Load line = load_name line
 
 abbrev pub line_names : LineQuestion → Data → List Name
 line_names question line = listed (line_name question line)
+
+-- of a line, if it is told
+abbrev pub names_if : (Data → List Name) → Option Data → List Name
+names_if names (Some line) = names line
+names_if names None = []

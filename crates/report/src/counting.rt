@@ -8,7 +8,7 @@ ghost use Rattle.report.specs.Reading.{CountsLines};
 ghost use Rattle.report.specs.Told.{event_in, if_within, told};
 
 use crate::course::Course;
-use crate::names::is_kind;
+use crate::line_names::is_kind;
 use crate::note::{note_apps, note_ends, note_line};
 use crate::question::{AppQuestion, EventQuestion, LineQuestion};
 use crate::tally::Tally;

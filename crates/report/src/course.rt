@@ -73,17 +73,17 @@ impl Course {
         requires { self.old.drawn ≡ true }
         ensures { OnOk result (specs.AddsCourse (Some (view line.now)) self.old self.new) }
     {
-        let minute = minute_of(line);
+        let minute = minute_of_line(line);
         note_versions(alloc, &mut self.versions, line)?;
         note_moment(alloc, &mut self.by_minute, minute, line)?;
-        note_moment(alloc, &mut self.by_hour, hour_from(minute), line)?;
+        note_moment(alloc, &mut self.by_hour, hour_of_minute(minute), line)?;
         Ok(())
     }
 }
 
 // The minute of a line, and its hour.
-fn minute_of(line: &Value) -> Option<u64>
-    ensures { result ≡ specs.minute_of (view line.now) }
+fn minute_of_line(line: &Value) -> Option<u64>
+    ensures { result ≡ specs.minute_of_line (view line.now) }
 {
     match text_in(line, "time") {
         Some(time) => minute_in(time),
@@ -91,8 +91,8 @@ fn minute_of(line: &Value) -> Option<u64>
     }
 }
 
-fn hour_from(minute: Option<u64>) -> Option<u64>
-    ensures { result ≡ specs.hour_from minute }
+fn hour_of_minute(minute: Option<u64>) -> Option<u64>
+    ensures { result ≡ specs.hour_of_minute minute }
 {
     match minute {
         Some(minute) => Some(minute / 60),
@@ -119,7 +119,7 @@ fn note_moment(
     moment: Option<u64>,
     line: &Value,
 ) -> Result<(), AllocError>
-    ensures { OnOk result (Notes tally.old tally.new (specs.names_at (view line.now) moment)) }
+    ensures { OnOk result (Notes tally.old tally.new (specs.names_in_moment (view line.now) moment)) }
 {
     match moment {
         Some(moment) => note_three(

@@ -8,7 +8,7 @@ ghost use Rattle.serde_json.specs.View.{view, items_view};
 ghost use Rattle.report.specs.Events as specs;
 ghost use Rattle.report.specs.Tallies.{Notes};
 
-use crate::names::{decimal, mark, text_or_mark, three, two};
+use crate::name_text::{course_name, decimal, text_or_mark, three, two};
 use crate::question::EventQuestion;
 use crate::tally::{Tally, note_if, note_nothing};
 use crate::told::{is_number, number_in, text_in, value_of};
@@ -79,13 +79,13 @@ fn note_object(
     text: &[u8],
 ) -> Result<(), AllocError>
     ensures { OnOk result (Notes tally.old tally.new
-        (specs.names_at question (view app.now) appid.now text.now)) }
+        (specs.event_names_at question (view app.now) appid.now text.now)) }
 {
-    let name = name_at(alloc, question, app, appid, text)?;
+    let name = event_name_at(alloc, question, app, appid, text)?;
     note_if(tally, name)
 }
 
-fn name_at(
+fn event_name_at(
     alloc: Global,
     question: EventQuestion,
     app: &Value,
@@ -93,7 +93,7 @@ fn name_at(
     text: &[u8],
 ) -> Result<Option<String>, AllocError>
     ensures { IfOk result (λ name. option_map string_bytes name
-        ≡ specs.name_at question (view app.now) appid.now text.now) }
+        ≡ specs.event_name_at question (view app.now) appid.now text.now) }
 {
     let Some(object) = object_at(text) else {
         return Ok(None);
@@ -167,7 +167,7 @@ fn event_name(
         EventQuestion::Result => Ok(Some(result_name(alloc, app, appid, event)?)),
         EventQuestion::FailedTo => Ok(Some(two(alloc, appid, to_version(event))?)),
         EventQuestion::FailedAt(moment) => {
-            let name = mark(alloc, "failures", appid, to_version(event), moment)?;
+            let name = course_name(alloc, "failures", appid, to_version(event), moment)?;
             Ok(Some(name))
         }
     }

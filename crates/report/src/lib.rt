@@ -6,13 +6,15 @@
 //! more memory than that. A log is read in blocks, and no more of it is kept than a line.
 #![tactic(auto)]
 
+mod app_names;
 mod counting;
 mod course;
 mod events;
 mod exposition;
 mod labels;
+mod line_names;
 mod lines;
-mod names;
+mod name_text;
 mod note;
 mod question;
 mod rows;

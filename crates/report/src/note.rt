@@ -6,8 +6,9 @@ ghost use Rattle.report.specs.Events.{event_names};
 ghost use Rattle.report.specs.Names as specs;
 ghost use Rattle.report.specs.Tallies.{Notes};
 
+use crate::app_names::app_name;
 use crate::events::note_events;
-use crate::names::{app_name, line_name};
+use crate::line_names::line_name;
 use crate::question::{AppQuestion, EventQuestion, LineQuestion};
 use crate::tally::{Tally, note_if, note_nothing};
 use crate::told::list_in;

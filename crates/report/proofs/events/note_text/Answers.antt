@@ -1,6 +1,6 @@
 use Rattle.std.proofs.Common.{refl, ap, sym, arith, List, ℕ, ◌-◌, ◌++◌, drop, length, take}
 use Rattle.serde_json.specs.View.{view}
-use Rattle.report.specs.Events.{names_at, names_in_text}
+use Rattle.report.specs.Events.{event_names_at, names_in_text}
 use Rattle.report.proofs.Loops.{all_noted, more_noted, none_left, split_first}
 use Rattle.report.proofs.events.note_text.Goals as goal
 
@@ -11,8 +11,8 @@ loop-left-preserved c = λ last rest.
     more_noted
     (λ (text : List ℕ). names_in_text c.args.question app c.args.appid.now text)
     _ _ _ _ c.loop-left.invariant _ _
-    (names_at c.args.question app c.args.appid.now c.loop-left.left.now) _ last is
-    (ap (λ (text : List ℕ). names_at c.args.question app c.args.appid.now text
+    (event_names_at c.args.question app c.args.appid.now c.loop-left.left.now) _ last is
+    (ap (λ (text : List ℕ). event_names_at c.args.question app c.args.appid.now text
     ++ names_in_text c.args.question app c.args.appid.now
     (take (length c.loop-left.left.now - 1) (drop 1 c.loop-left.left.now))) (sym is))
     c.in_ok-note_object.ensures rest

@@ -1,0 +1,90 @@
+//! How a name is written: one text or several, with a tab between them. A control in a text is
+//! escaped, so none of them has a tab of its own.
+
+ghost use Rattle.std.specs.Prelude.{◌≡◌, ◌++◌, IfOk, OnOk, option_map};
+ghost use Rattle.std.specs.Option.{option_copied};
+ghost use Rattle.std.specs.String.{string_bytes};
+ghost use Rattle.report.specs.Names as specs;
+
+use printing::Printed;
+use std::alloc::{AllocError, Global};
+use std::fmt::Write;
+
+/// One text as a name, if something holds.
+pub(crate) fn if_holds(alloc: Global, holds: bool, text: &str) -> Result<Option<String>, AllocError>
+    ensures { IfOk result (λ name. option_map string_bytes name
+        ≡ specs.if_holds holds (specs.one text.now)) }
+{
+    if !holds {
+        return Ok(None);
+    }
+    Ok(Some(one(alloc, text)?))
+}
+
+/// One text.
+pub(crate) fn one(alloc: Global, text: &str) -> Result<String, AllocError>
+    ensures { IfOk result (λ s. string_bytes s ≡ specs.one text.now) }
+{
+    Printed(text).to_string(alloc)
+}
+
+fn push_printed(name: &mut String, text: &str) -> Result<(), AllocError>
+    ensures { OnOk result (string_bytes name.new ≡ string_bytes name.old ++ specs.one text.now) }
+{
+    let text = Printed(text);
+    write!(name, "{text}")
+}
+
+/// Two texts.
+pub(crate) fn two(alloc: Global, a: &str, b: &str) -> Result<String, AllocError>
+    ensures { IfOk result (λ s. string_bytes s ≡ specs.two a.now b.now) }
+{
+    let mut name = one(alloc, a)?;
+    name.push_str("\t")?;
+    push_printed(&mut name, b)?;
+    Ok(name)
+}
+
+/// Three texts.
+pub(crate) fn three(alloc: Global, a: &str, b: &str, c: &str) -> Result<String, AllocError>
+    ensures { IfOk result (λ s. string_bytes s ≡ specs.three a.now b.now c.now) }
+{
+    let mut name = two(alloc, a, b)?;
+    name.push_str("\t")?;
+    push_printed(&mut name, c)?;
+    Ok(name)
+}
+
+/// What is counted, of which app and version, and in which minute or hour.
+pub(crate) fn course_name(
+    alloc: Global,
+    what: &str,
+    appid: &str,
+    version: &str,
+    moment: u64,
+) -> Result<String, AllocError>
+    ensures { IfOk result (λ s. string_bytes s
+        ≡ specs.course_name what.now appid.now version.now moment) }
+{
+    let mut name = three(alloc, what, appid, version)?;
+    name.push_str("\t")?;
+    name.push_str(decimal(alloc, moment)?.as_str())?;
+    Ok(name)
+}
+
+/// A number in decimal digits.
+pub(crate) fn decimal(alloc: Global, n: u64) -> Result<String, AllocError>
+    ensures { IfOk result (λ s. string_bytes s ≡ specs.decimal_text n) }
+{
+    n.to_string(alloc)
+}
+
+/// A text, or a question mark in its place.
+pub(crate) fn text_or_mark<'a>(text: Option<&'a str>) -> &'a str
+    ensures { result.now ≡ specs.text_or_mark (option_copied text.entry) }
+{
+    match text {
+        Some(text) => text,
+        None => "?",
+    }
+}
