@@ -1,3 +1,4 @@
 pub mod Loops
+pub mod Page
 pub mod Raised
 pub mod Written

@@ -1,14 +1,13 @@
 -- Loops over versions and over bins: the first of them, and then the others.
-use Rattle.std.proofs.Common.{◌≡◌, ◌∙◌, refl, sym, ap, ap₂, ℕ, ◌+◌, ◌-◌, ◌<◌, List, [], ◌∷◌, ◌++◌}
+use Rattle.std.proofs.Common.{◌≡◌, ◌∙◌, ap, ap₂, ℕ, ◌+◌, ◌-◌, ◌<◌, List, [], ◌∷◌, ◌++◌}
 use Rattle.std.proofs.Common.{length, get_or, take, drop, map, arith, String, string_bytes}
 use Rattle.std.proofs.lemmas.List.{take_all}
 use Rattle.std.specs.declared.alloc.Global.{Global}
 use Rattle.timeline.specs.Bins.{raised}
 use Rattle.timeline.specs.Layers.{share_bar, share_bars, layer, layers, next_colour, of_version}
-use Rattle.timeline.specs.Legends.{legend_row, legend_rows}
+use Rattle.timeline.specs.Legends.{version_row, version_rows}
 use Rattle.report.specs.Screen.{Rows}
 use Rattle.timeline.specs.Marks.{Drawn}
-use Rattle.timeline.specs.Pictures.{Drawing, panel, panel_end, panels, panels_end}
 use Rattle.timeline.specs.declared.bins.Bins.{Bins}
 use Rattle.timeline.proofs.Written.{one_further}
 
@@ -46,21 +45,21 @@ layer_further rows drawn bins totals colour next (v ∷ vs) version stood then_s
 pub row_further : (rows : Rows) (app : List ℕ) (top below colour next : ℕ)
     (versions : List (String Global)) (version : String Global) (o new whole : List ℕ)
     → 0 < length versions → version ≡ get_or versions 0 version → below ≡ top + 20
-    → next ≡ next_colour colour → new ≡ o ++ legend_row rows app top colour (string_bytes version)
-    → o ++ legend_rows rows app top colour (map string_bytes versions) ≡ whole
-    → new ++ legend_rows rows app below next (map string_bytes (others versions)) ≡ whole
+    → next ≡ next_colour colour → new ≡ o ++ version_row rows app top colour (string_bytes version)
+    → o ++ version_rows rows app top colour (map string_bytes versions) ≡ whole
+    → new ++ version_rows rows app below next (map string_bytes (others versions)) ≡ whole
 row_further rows app top below colour next [] version o new whole some first below_is next_is grown
     is = absurd (omega (arith, some))
 row_further rows app top below colour next (v ∷ vs) version o new whole some first below_is next_is
     grown is =
-    let rest = legend_rows rows app (top + 20) (next_colour colour) (map string_bytes vs) in
-    let put : new ≡ o ++ legend_row rows app top colour (string_bytes v) =
-    grown ∙ ap (λ (x : String Global). o ++ legend_row rows app top colour (string_bytes x)) first
+    let rest = version_rows rows app (top + 20) (next_colour colour) (map string_bytes vs) in
+    let put : new ≡ o ++ version_row rows app top colour (string_bytes v) =
+    grown ∙ ap (λ (x : String Global). o ++ version_row rows app top colour (string_bytes x)) first
     in
-    ap (λ (l : List (String Global)). new ++ legend_rows rows app below next (map string_bytes l))
+    ap (λ (l : List (String Global)). new ++ version_rows rows app below next (map string_bytes l))
     (others_are v vs)
-    ∙ ap₂ (λ (t c : ℕ). new ++ legend_rows rows app t c (map string_bytes vs)) below_is next_is
-    ∙ one_further o (legend_row rows app top colour (string_bytes v)) rest new whole put is
+    ∙ ap₂ (λ (t c : ℕ). new ++ version_rows rows app t c (map string_bytes vs)) below_is next_is
+    ∙ one_further o (version_row rows app top colour (string_bytes v)) rest new whole put is
 
 pub bar_further : (place : ℕ) (totals stood : List ℕ) (total below : ℕ) (o new whole : List ℕ)
     → 0 < length totals → 0 < length stood → total ≡ get_or totals 0 total
@@ -76,20 +75,3 @@ bar_further place (t ∷ ts) (s ∷ ss) total below o new whole some also first 
     grown ∙ ap₂ (λ (a b : ℕ). o ++ share_bar place a b) first second in
     ap₂ (λ (a b : List ℕ). new ++ share_bars (place + 1) a b) (others_are t ts) (others_are s ss)
     ∙ one_further o (share_bar place t s) (share_bars (place + 1) ts ss) new whole put is
-
--- a panel further: the next is below it
-pub panel_further : (drawing : Drawing) (top next : ℕ) (app : List ℕ) (rows : Rows)
-    (o new whole : List ℕ) → next ≡ panel_end drawing top app → new ≡ o ++ panel drawing top app
-    → o ++ (panel drawing top app ++ panels drawing (panel_end drawing top app) rows) ≡ whole
-    → new ++ panels drawing next rows ≡ whole
-panel_further drawing top next app rows o new whole below grown is =
-    ap (λ (t : ℕ). new ++ panels drawing t rows) below
-    ∙ one_further o (panel drawing top app) (panels drawing (panel_end drawing top app) rows) new
-    whole grown is
-
-pub end_further : (drawing : Drawing) (top next : ℕ) (app : List ℕ) (rows : Rows) (end : ℕ)
-    → next ≡ panel_end drawing top app
-    → panels_end drawing (panel_end drawing top app) rows ≡ end
-    → panels_end drawing next rows ≡ end
-end_further drawing top next app rows end below is =
-    ap (λ (t : ℕ). panels_end drawing t rows) below ∙ is

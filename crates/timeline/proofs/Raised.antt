@@ -1,5 +1,5 @@
 -- Numbers that are raised row by row are raised by the sum.
-use Rattle.std.proofs.Common.{◌≡◌, ◌≢◌, ◌∙◌, refl, sym, ap, ap₂, ℕ, zero, suc, ◌+◌, ◌<◌, ◌≤◌}
+use Rattle.std.proofs.Common.{◌≡◌, ◌∙◌, refl, sym, ap, ap₂, ℕ, zero, suc, ◌+◌, ◌<◌, ◌≤◌}
 use Rattle.std.proofs.Common.{List, [], ◌∷◌, length, get_or, set, arith, Bool, true, false}
 use Rattle.std.proofs.Common.{◌==◌, if◌then◌else◌, Option, Some, None, sum_by}
 use Rattle.std.proofs.Common.{◌-◌, ◌/◌, String, string_bytes, subst, nat_le, nat_lt}
@@ -7,8 +7,8 @@ use Rattle.std.specs.Prelude.{option_and_then}
 use Rattle.std.specs.declared.alloc.Global.{Global}
 use Rattle.std.proofs.lemmas.List.{length-set}
 use Rattle.std.proofs.lemmas.List.Sums.{sum_by-cons}
-use Rattle.timeline.specs.Bins.{bin_of, count_at, count_in, is_place, place_at, place_in}
-use Rattle.timeline.specs.Bins.{raised, raised_at, raised_from, raised_one}
+use Rattle.timeline.specs.Bins.{bin_of, count_at, count_in, is_place, bin_at, bin_within}
+use Rattle.timeline.specs.Bins.{raised, raised_at, raised_from}
 use Rattle.report.specs.Screen.{Rows}
 use Rattle.timeline.specs.Marks.{Drawn, moment_of}
 use Rattle.timeline.specs.declared.bins.Bins.{Bins}
@@ -102,11 +102,11 @@ either_place true o p n less is = less is
 either_place false o p n less is = cc
 
 place_within : (bins : Bins) (moment : Option ℕ) (p : ℕ)
-    → option_and_then (place_at bins) moment ≡ Some p → p < bins.count
+    → option_and_then (bin_at bins) moment ≡ Some p → p < bins.count
 place_within bins None p is = cc
 place_within bins (Some n) p is =
     either_place (nat_le bins.first (n / bins.width))
-    (place_in bins (n / bins.width - bins.first)) p bins.count
+    (bin_within bins (n / bins.width - bins.first)) p bins.count
     (some_place (nat_lt (n / bins.width - bins.first) bins.count) (n / bins.width - bins.first) p
     bins.count (is_less (n / bins.width - bins.first) bins.count)) is
 

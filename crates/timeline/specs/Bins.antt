@@ -30,14 +30,14 @@ reach_from so_far (row ∷ rows) = reach_from (wider so_far (any_moment (string_
 abbrev pub further_bins : Reach → ℕ → ℕ
 further_bins reach width = reach.greatest / width - reach.least / width
 
-abbrev pub fits : Reach → ℕ → Bool
-fits reach width = nat_lt 0 width && nat_lt (further_bins reach width) 200
+abbrev pub is_wide_enough : Reach → ℕ → Bool
+is_wide_enough reach width = nat_lt 0 width && nat_lt (further_bins reach width) 200
 
 -- the first of these widths by which there are at most 200 bins, or else one that is wide enough
 abbrev pub width_among : Reach → List ℕ → ℕ
 width_among reach [] = (reach.greatest - reach.least) / 199 + 1
 width_among reach (width ∷ widths) =
-    if fits reach width then width else width_among reach widths
+    if is_wide_enough reach width then width else width_among reach widths
 
 -- in minutes, and in hours
 abbrev pub minute_widths : List ℕ
@@ -64,25 +64,25 @@ bins_over reach by_hour =
     if by_hour then bins_of reach 60 (width_among reach hour_widths)
     else bins_of reach 1 (width_among reach minute_widths)
 
--- there are at most 200 of them, and they end within the year 9999
+-- there are at most 200 of them, and they end within 64 bits
 pub record AreBins (bins : Bins) : Type 0 where
   pub wide : 0 < bins.width
   pub few : bins.count ≤ 200
   pub long : 0 < bins.span
-  pub early : bins.start + bins.span ≤ 4223371679
+  pub early : bins.start + bins.span ≤ 18446744073709551615
 
 -- the place of a number's bin, from 0 on
-abbrev pub place_in : Bins → ℕ → Option ℕ
-place_in bins place = if nat_lt place bins.count then Some place else None
+abbrev pub bin_within : Bins → ℕ → Option ℕ
+bin_within bins place = if nat_lt place bins.count then Some place else None
 
-abbrev pub place_at : Bins → ℕ → Option ℕ
-place_at bins number =
+abbrev pub bin_at : Bins → ℕ → Option ℕ
+bin_at bins number =
     if nat_le bins.first (number / bins.width)
-    then place_in bins (number / bins.width - bins.first) else None
+    then bin_within bins (number / bins.width - bins.first) else None
 
 -- that of what was counted under a name, if it is drawn
 abbrev pub bin_of : Bins → Drawn → List ℕ → Option ℕ
-bin_of bins drawn name = option_and_then (place_at bins) (moment_of drawn name)
+bin_of bins drawn name = option_and_then (bin_at bins) (moment_of drawn name)
 
 -- ---- counts
 
@@ -109,11 +109,11 @@ abbrev pub raised : Bins → Drawn → Rows → List ℕ → List ℕ
 raised bins drawn rows numbers = raised_from 0 (count_in bins drawn rows) numbers
 
 -- none in any bin, and what was counted in each
-abbrev pub zeros : Bins → List ℕ
-zeros bins = replicate bins.count 0
+abbrev pub no_counts : Bins → List ℕ
+no_counts bins = replicate bins.count 0
 
-abbrev pub counted : Bins → Drawn → Rows → List ℕ
-counted bins drawn rows = raised bins drawn rows (zeros bins)
+abbrev pub counts_by_bin : Bins → Drawn → Rows → List ℕ
+counts_by_bin bins drawn rows = raised bins drawn rows (no_counts bins)
 
 -- of one row: the number at its place is raised, if it has one
 abbrev pub raised_one : (place more : ℕ) → List ℕ → List ℕ

@@ -4,17 +4,17 @@ use Rattle.moments.specs.Calendar.{date_of}
 use Rattle.moments.specs.declared.calendar.CivilDate.{CivilDate}
 
 -- with two digits at least
-abbrev pub padded : ℕ → List ℕ
-padded n = if nat_lt n 10 then codes "0" ++ decimal n else decimal n
+abbrev pub padded_two : ℕ → List ℕ
+padded_two n = if nat_lt n 10 then codes "0" ++ decimal n else decimal n
 
 -- as `2026-11-25`
-abbrev pub date_text : CivilDate → List ℕ
-date_text date =
-    decimal date.year ++ codes "-" ++ padded date.month ++ codes "-" ++ padded date.day
+abbrev pub civil_text : CivilDate → List ℕ
+civil_text date =
+    decimal date.year ++ codes "-" ++ padded_two date.month ++ codes "-" ++ padded_two date.day
 
 abbrev pub date_of_minute : ℕ → List ℕ
-date_of_minute minute = date_text (date_of (minute / 1440))
+date_of_minute minute = civil_text (date_of (minute / 1440))
 
 -- as `08:00`
 abbrev pub clock_of_minute : ℕ → List ℕ
-clock_of_minute minute = padded (minute / 60 % 24) ++ codes ":" ++ padded (minute % 60)
+clock_of_minute minute = padded_two (minute / 60 % 24) ++ codes ":" ++ padded_two (minute % 60)

@@ -3,7 +3,8 @@
 -- the path, in the order of the times.
 use Rattle.std.specs.Prelude.{ℕ, ◌+◌, ◌-◌, ◌^◌, List, [], ◌∷◌, ◌++◌, codes, decimal, string_bytes}
 use Rattle.std.specs.Prelude.{nat_lt, nat_le, ◌&&◌, min, Option, Some, None, option_and_then}
-use Rattle.std.specs.Prelude.{if◌then◌else◌}
+use Rattle.std.specs.Prelude.{String, is_none, sum_by, if◌then◌else◌}
+use Rattle.std.specs.declared.alloc.Global.{Global}
 use Rattle.moments.specs.Calendar.{minute_in}
 use Rattle.svg.specs.Xml.{xml_text}
 use Rattle.timeline.specs.Axis.{across}
@@ -20,6 +21,16 @@ x_within bins minute =
 abbrev pub load_x : Bins → List ℕ → Option ℕ
 load_x bins name = option_and_then (x_within bins) (minute_in (first name))
 
+-- how often a load stands outside the bins: of a name with its count, and of all rows
+abbrev pub outside : Bins → List ℕ → ℕ → ℕ
+outside bins name count = if is_none (load_x bins name) then count else 0
+
+abbrev pub count_outside : Bins → String Global × ℕ → ℕ
+count_outside bins row = outside bins (string_bytes row.0) row.1
+
+abbrev pub loads_outside : Bins → Rows → ℕ
+loads_outside bins rows = sum_by (count_outside bins) rows
+
 -- ---- a mark
 
 -- across the three strips: a dashed line on a white one
@@ -35,8 +46,8 @@ path_closes = codes " 60v90m0 30v90m0 30v90\"/>"
 abbrev pub path_at : List ℕ → (x : ℕ) → List ℕ
 path_at opens x = opens ++ decimal x ++ path_closes
 
-abbrev pub line_at : (x : ℕ) → List ℕ
-line_at x = path_at white_opens x ++ path_at dashed_opens x ++ codes "\n"
+abbrev pub load_line : (x : ℕ) → List ℕ
+load_line x = path_at white_opens x ++ path_at dashed_opens x ++ codes "\n"
 
 -- its generation, in the middle above it
 unfoldable pub label_opens : List ℕ
@@ -45,13 +56,13 @@ label_opens = codes "<text text-anchor=\"middle\" font-size=\"12\" y=\"36\" x=\"
 abbrev pub label_place : (x : ℕ) → List ℕ
 label_place x = label_opens ++ decimal x ++ codes "\">load "
 
-abbrev pub label : (x : ℕ) → List ℕ → List ℕ
-label x generation = label_place x ++ xml_text generation ++ codes "</text>\n"
+abbrev pub load_label : (x : ℕ) → List ℕ → List ℕ
+load_label x generation = label_place x ++ xml_text generation ++ codes "</text>\n"
 
 -- with its label, unless that would stand before where there is room
 abbrev pub load_mark : (free : ℕ) → Option ℕ → List ℕ → List ℕ
 load_mark free (Some x) name =
-    line_at x ++ (if nat_lt x free then [] else label x (first (rest name)))
+    load_line x ++ (if nat_lt x free then [] else load_label x (first (rest name)))
 load_mark free None name = []
 
 -- a label takes 70 pixels

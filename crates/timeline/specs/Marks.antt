@@ -1,7 +1,7 @@
 -- The rows that a picture is drawn by: each tells what was counted, of which app and version, in
 -- which minute or hour from 1970 on, with tabs between the four, and how often.
-use Rattle.std.specs.Prelude.{ℕ, List, [], ◌∷◌, ◌==◌, Option, Some, None, option_and_then}
-use Rattle.std.specs.Prelude.{Bool, is_some, option_copied, if◌then◌else◌, sum_by}
+use Rattle.std.specs.Prelude.{ℕ, List, Option, Some, None, option_and_then}
+use Rattle.std.specs.Prelude.{is_some, option_copied, if◌then◌else◌, sum_by}
 use Rattle.std.specs.Prelude.{String, string_bytes}
 use Rattle.std.specs.Str.{bytes_eq}
 use Rattle.std.specs.declared.alloc.Global.{Global}
@@ -36,9 +36,9 @@ drawn_by series = record {
   version = option_copied series.version;
 }
 
--- the minute or hour of a text; a server's log has times up to the year 9999
+-- the minute or hour of a text: at most the last minute of the year 9999
 abbrev pub moment_in : List ℕ → Option ℕ
-moment_in text = decimal_within 0 4300000000 text
+moment_in text = decimal_within 0 4223371679 text
 
 -- the minute or the hour of a name, if it counts this
 abbrev pub moment_of : Drawn → List ℕ → Option ℕ
@@ -57,5 +57,5 @@ count_if_named drawn name count = if is_some (moment_of drawn name) then count e
 abbrev pub count_if : Drawn → String Global × ℕ → ℕ
 count_if drawn row = count_if_named drawn (string_bytes row.0) row.1
 
-abbrev pub count_of : Rows → Drawn → ℕ
-count_of rows drawn = sum_by (count_if drawn) rows
+abbrev pub drawn_count : Rows → Drawn → ℕ
+drawn_count rows drawn = sum_by (count_if drawn) rows

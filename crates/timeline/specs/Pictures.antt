@@ -10,11 +10,11 @@ use Rattle.svg.specs.Frames.{frame}
 use Rattle.svg.specs.Xml.{xml_text}
 use Rattle.timeline.specs.Axis.{axis}
 use Rattle.timeline.specs.Bins.{bins_over, reach_from}
-use Rattle.timeline.specs.Legends.{legend}
-use Rattle.timeline.specs.Loads.{loads}
+use Rattle.timeline.specs.Legends.{app_legend}
+use Rattle.timeline.specs.Loads.{loads, loads_outside}
 use Rattle.report.specs.Screen.{Rows}
 use Rattle.timeline.specs.Strips.{strips}
-use Rattle.timeline.specs.Versions.{versions_of}
+use Rattle.timeline.specs.Versions.{versions_in_rows}
 use Rattle.timeline.specs.declared.app_panel.PictureSource.{PictureSource}
 use Rattle.timeline.specs.declared.bins.Bins.{Bins}
 use Rattle.timeline.specs.declared.bins.Reach.{Reach}
@@ -45,11 +45,11 @@ panel_opens = codes "<g transform=\"translate(0,"
 unfoldable pub title_opens : List ℕ
 title_opens = codes ")\">\n<text x=\"20\" y=\"20\">app "
 
-abbrev pub title_place : (top : ℕ) → List ℕ
-title_place top = panel_opens ++ decimal top ++ title_opens
+abbrev pub app_heading_place : (top : ℕ) → List ℕ
+app_heading_place top = panel_opens ++ decimal top ++ title_opens
 
 abbrev pub app_heading : (top : ℕ) → List ℕ → List ℕ
-app_heading top app = title_place top ++ xml_text app ++ codes "</text>\n"
+app_heading top app = app_heading_place top ++ xml_text app ++ codes "</text>\n"
 
 module _ (drawing : Drawing) where
   abbrev pub times : List ℕ
@@ -58,13 +58,13 @@ module _ (drawing : Drawing) where
   abbrev pub panel_of : (top : ℕ) → List ℕ → List (List ℕ) → List ℕ
   panel_of top app versions =
       app_heading top app ++ strips drawing.rows drawing.bins versions app ++ times
-      ++ legend drawing.rows app versions ++ codes "</g>\n"
+      ++ app_legend drawing.rows app versions ++ codes "</g>\n"
 
   abbrev pub versions_in : List ℕ → List (List ℕ)
-  versions_in app = versions_of app drawing.versions
+  versions_in app = versions_in_rows app drawing.versions
 
-  unfoldable pub panel : (top : ℕ) → List ℕ → List ℕ
-  panel top app = panel_of top app (versions_in app)
+  unfoldable pub app_panel : (top : ℕ) → List ℕ → List ℕ
+  app_panel top app = panel_of top app (versions_in app)
 
 -- each version has 20 pixels, and 500 are around them
 abbrev pub end_of : (top : ℕ) → List (List ℕ) → ℕ
@@ -75,11 +75,11 @@ panel_end drawing top app = end_of top (versions_in drawing app)
 
 -- ---- all panels, from a height on
 
-abbrev pub panels : Drawing → (top : ℕ) → Rows → List ℕ
-panels drawing top [] = []
-panels drawing top (row ∷ rows) =
-    panel drawing top (string_bytes row.0)
-    ++ panels drawing (panel_end drawing top (string_bytes row.0)) rows
+abbrev pub app_panels : Drawing → (top : ℕ) → Rows → List ℕ
+app_panels drawing top [] = []
+app_panels drawing top (row ∷ rows) =
+    app_panel drawing top (string_bytes row.0)
+    ++ app_panels drawing (panel_end drawing top (string_bytes row.0)) rows
 
 abbrev pub panels_end : Drawing → (top : ℕ) → Rows → ℕ
 panels_end drawing top [] = top
@@ -100,8 +100,8 @@ heading_of bins =
     heading ++ bins_heading ++ decimal (bins.width * bins.unit) ++ codes "</text>\n"
 
 -- what has no place in the picture, if anything
-abbrev pub number_of : ℕ → List ℕ → List ℕ
-number_of n what = if n == 0 then [] else codes " " ++ decimal n ++ what
+abbrev pub undrawn_number : ℕ → List ℕ → List ℕ
+undrawn_number n what = if n == 0 then [] else codes " " ++ decimal n ++ what
 
 unfoldable pub undrawn_opens : List ℕ
 undrawn_opens = codes "<text x=\"20\" y=\"50\">Not drawn:"
@@ -109,18 +109,18 @@ undrawn_opens = codes "<text x=\"20\" y=\"50\">Not drawn:"
 abbrev pub undrawn_text : Undrawn → List ℕ
 undrawn_text undrawn =
     if (undrawn.counts == 0) && (undrawn.asks == 0) && (undrawn.loads == 0) then []
-    else undrawn_opens ++ number_of undrawn.counts (codes " counts")
-    ++ number_of undrawn.asks (codes " asks of other apps")
-    ++ number_of undrawn.loads (codes " loads") ++ codes "</text>\n"
+    else undrawn_opens ++ undrawn_number undrawn.counts (codes " counts")
+    ++ undrawn_number undrawn.asks (codes " asks of other apps")
+    ++ undrawn_number undrawn.loads (codes " loads") ++ codes "</text>\n"
 
 abbrev pub picture_head : (end : ℕ) → Bins → Undrawn → List ℕ
 picture_head end bins undrawn = frame end ++ heading_of bins ++ undrawn_text undrawn
 
 -- ---- the picture
 
-abbrev pub picture_by : Drawing → Rows → Undrawn → List ℕ
-picture_by drawing apps undrawn =
-    picture_head (panels_end drawing 60 apps) drawing.bins undrawn ++ panels drawing 60 apps
+abbrev pub picture_with : Drawing → Rows → Undrawn → List ℕ
+picture_with drawing apps undrawn =
+    picture_head (panels_end drawing 60 apps) drawing.bins undrawn ++ app_panels drawing 60 apps
     ++ codes "</svg>\n"
 
 unfoldable pub no_asks : List ℕ
@@ -149,26 +149,30 @@ drawing_over r t bins = record {
   loads = r.loads.rows.entries;
 }
 
--- counts beyond the table's rows, and beyond 256 apps and loads
-abbrev pub undrawn_of : Report → Tally → Undrawn
-undrawn_of r t =
-    record { counts = t.others; asks = r.asked.others; loads = r.loads.others }
+-- counts beyond the table's rows, asks beyond 256 apps, and loads beyond 256 or outside the bins
+abbrev pub undrawn_of : Report → Tally → Bins → Undrawn
+undrawn_of r t bins = record {
+  counts = t.others;
+  asks = r.asked.others;
+  loads = r.loads.others + loads_outside bins r.loads.rows.entries;
+}
 
 abbrev pub picture_over : Report → Tally → Bins → List ℕ
-picture_over r t bins = picture_by (drawing_over r t bins) r.asked.rows.entries (undrawn_of r t)
+picture_over r t bins =
+    picture_with (drawing_over r t bins) r.asked.rows.entries (undrawn_of r t bins)
 
-abbrev pub picture_if : Report → Tally → Bool → Option Reach → List ℕ
-picture_if r t by_hour (Some reach) = picture_over r t (bins_over reach by_hour)
-picture_if r t by_hour None = picture_of_none
+abbrev pub picture_of_reach : Report → Tally → Bool → Option Reach → List ℕ
+picture_of_reach r t by_hour (Some reach) = picture_over r t (bins_over reach by_hour)
+picture_of_reach r t by_hour None = picture_of_none
 
 abbrev pub picture_by_table : Report → Tally → Bool → List ℕ
-picture_by_table r t by_hour = picture_if r t by_hour (reach_from None t.rows.entries)
+picture_by_table r t by_hour = picture_of_reach r t by_hour (reach_from None t.rows.entries)
 
 abbrev pub picture_when : Report → Bool → List ℕ
 picture_when r by_hour = picture_by_table r (table_of r.course by_hour) by_hour
 
 -- where no app was asked for, or nothing has a time from 1970 on, none is drawn
-abbrev pub picture : Report → List ℕ
-picture r =
+abbrev pub course_picture : Report → List ℕ
+course_picture r =
     if length r.asked.rows.entries == 0 then picture_of_none
     else picture_when r (not (is_fine r.course.by_minute))

@@ -1,9 +1,10 @@
 -- The versions of an app, in the order of their texts, which is that of the rows.
-use Rattle.std.specs.Prelude.{ℕ, List, [], ◌∷◌, ◌++◌, Option, Some, None, string_bytes}
+use Rattle.std.specs.Prelude.{ℕ, List, [], ◌∷◌, ◌++◌, string_bytes}
 use Rattle.report.specs.Screen.{Rows}
 use Rattle.report.specs.Names.{listed}
 use Rattle.timeline.specs.Marks.{rest_behind}
 
-abbrev pub versions_of : List ℕ → Rows → List (List ℕ)
-versions_of app [] = []
-versions_of app (row ∷ rows) = listed (rest_behind app (string_bytes row.0)) ++ versions_of app rows
+abbrev pub versions_in_rows : List ℕ → Rows → List (List ℕ)
+versions_in_rows app [] = []
+versions_in_rows app (row ∷ rows) =
+    listed (rest_behind app (string_bytes row.0)) ++ versions_in_rows app rows

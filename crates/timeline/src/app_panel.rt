@@ -7,12 +7,11 @@ ghost use Rattle.timeline.specs.Pictures as specs;
 
 use crate::axis::push_axis;
 use crate::bins::Bins;
-use crate::legend::push_legend;
+use crate::legend::push_app_legend;
 use crate::load_marks::push_loads;
 use crate::marks::added;
 use crate::strips::push_strips;
-use crate::versions::versions_of;
-use report::Report;
+use crate::versions::versions_in_rows;
 use std::alloc::{AllocError, Global};
 use std::collections::BTreeMap;
 use std::fmt::Write;
@@ -30,7 +29,7 @@ pub(crate) struct PictureSource<'a> {
 }
 
 /// Puts the panel of an app from a height on, and answers where the next one begins.
-#[tactic(auto, unfolding(crate::specs::Pictures::panel, crate::specs::Pictures::panel_end))]
+#[tactic(auto, unfolding(crate::specs::Pictures::app_panel, crate::specs::Pictures::panel_end))]
 pub(crate) fn push_panel(
     alloc: Global,
     text: &mut String,
@@ -40,11 +39,11 @@ pub(crate) fn push_panel(
 ) -> Result<u64, AllocError>
     requires { AreBins source.now.bins }
     ensures text { OnOk result (Puts text.old text.new
-        (specs.panel (specs.drawing_by source.now) top app.now)) }
+        (specs.app_panel (specs.drawing_by source.now) top app.now)) }
     ensures next { IfOk result
         (λ next. next ≡ specs.panel_end (specs.drawing_by source.now) top app.now) }
 {
-    let versions = versions_of(alloc, source.versions, app)?;
+    let versions = versions_in_rows(alloc, source.versions, app)?;
     push_versions(alloc, text, source, top, app, versions.as_slice())?;
     end_of(top, versions.as_slice())
 }
@@ -75,7 +74,7 @@ fn push_versions(
     push_title(text, top, app)?;
     push_strips(alloc, text, source.rows, app, versions, &source.bins)?;
     push_times(text, source)?;
-    push_legend(text, source.rows, app, versions)?;
+    push_app_legend(text, source.rows, app, versions)?;
     text.push_str("</g>\n")?;
     Ok(())
 }
@@ -83,14 +82,14 @@ fn push_versions(
 fn push_title(text: &mut String, top: u64, app: &str) -> Result<(), AllocError>
     ensures { OnOk result (Puts text.old text.new (specs.app_heading top app.now)) }
 {
-    push_title_place(text, top)?;
+    push_app_heading_place(text, top)?;
     push_xml(text, app)?;
     text.push_str("</text>\n")?;
     Ok(())
 }
 
-fn push_title_place(text: &mut String, top: u64) -> Result<(), AllocError>
-    ensures { OnOk result (Puts text.old text.new (specs.title_place top)) }
+fn push_app_heading_place(text: &mut String, top: u64) -> Result<(), AllocError>
+    ensures { OnOk result (Puts text.old text.new (specs.app_heading_place top)) }
 {
     text.push_str(panel_opens())?;
     write!(text, "{top}")?;

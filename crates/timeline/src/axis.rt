@@ -7,6 +7,7 @@ ghost use Rattle.timeline.specs.Bins.{AreBins};
 
 use crate::bins::Bins;
 use crate::clock::{push_clock, push_date};
+use crate::marks::LAST_MINUTE;
 use std::alloc::AllocError;
 use std::fmt::Write;
 
@@ -28,21 +29,31 @@ pub(crate) fn across(bins: &Bins, minute: u64) -> u128
     LEFT + minute.saturating_sub(bins.start) as u128 * WIDTH / bins.span as u128
 }
 
-/// Puts the ticks: at most 9, at multiples of a step.
+/// Puts the ticks: at most 8, at multiples of a step.
 #[tactic(auto, using(crate::proofs::Written::number_further, crate::proofs::Written::numbers_done))]
 pub(crate) fn push_axis(text: &mut String, bins: &Bins) -> Result<(), AllocError>
     requires { AreBins bins.now }
     ensures { OnOk result (Puts text.old text.new (specs.axis bins.now)) }
 {
     let step = step_among(bins.span, &STEPS);
-    let last = (bins.start + bins.span) / step;
+    let end = last_minute(bins);
+    let last = end / step;
     let mut number = bins.start.div_ceil(step);
     while number <= last {
-        let minute = minute_at(number, step, bins.start + bins.span)?;
+        let minute = minute_at(number, step, end)?;
         push_tick(text, bins, minute)?;
         number += 1;
     }
     Ok(())
+}
+
+// No tick is behind the bins, nor behind the year 9999.
+fn last_minute(bins: &Bins) -> u64
+    requires { AreBins bins.now }
+    ensures last { result ≡ specs.last_minute bins.now }
+    ensures within { result ≤ 4223371679 }
+{
+    (bins.start + bins.span).min(LAST_MINUTE)
 }
 
 fn step_among(span: u64, steps: &[u64]) -> u64
@@ -51,7 +62,7 @@ fn step_among(span: u64, steps: &[u64]) -> u64
 {
     let mut left = steps;
     while let [step, rest @ ..] = left {
-        if is_wide(span, *step) {
+        if is_far_enough(span, *step) {
             return *step;
         }
         left = rest;
@@ -59,8 +70,8 @@ fn step_among(span: u64, steps: &[u64]) -> u64
     span / 7 + 1
 }
 
-fn is_wide(span: u64, step: u64) -> bool
-    ensures wide { result ≡ specs.is_wide span step }
+fn is_far_enough(span: u64, step: u64) -> bool
+    ensures wide { result ≡ specs.is_far_enough span step }
     ensures some { result ≡ true → 0 < step }
 {
     step > 0 && span / step < 8
@@ -112,7 +123,7 @@ fn push_time(text: &mut String, x: u128, minute: u64) -> Result<(), AllocError>
 
 // A text begins whose middle stands there.
 fn push_place(text: &mut String, x: u128, y: u64) -> Result<(), AllocError>
-    ensures { OnOk result (Puts text.old text.new (specs.text_at x y)) }
+    ensures { OnOk result (Puts text.old text.new (specs.middle_text_at x y)) }
 {
     text.push_str(place_opens())?;
     write!(text, "{x}")?;

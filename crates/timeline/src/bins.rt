@@ -10,9 +10,6 @@ use std::collections::BTreeMap;
 /// The most bins.
 const MOST_BINS: u64 = 200;
 
-/// Where the last bin ends at the latest: the end of the year 9999.
-const LAST_MINUTE: u64 = 4223371679;
-
 /// The widths of bins, in minutes and in hours.
 const MINUTE_WIDTHS: [u64; 7] = [1, 2, 5, 10, 15, 30, 60];
 
@@ -66,7 +63,7 @@ fn wider(reach: Option<Reach>, number: Option<u64>) -> Option<Reach>
     }
 }
 
-/// The bins of rows that reach so far, by minutes or by hours; none where they end too late.
+/// The bins of rows that reach so far, by minutes or by hours; none where they end past 64 bits.
 pub(crate) fn bins_over(reach: Reach, by_hour: bool) -> Option<Bins>
     ensures bins { IfSome result (λ bins. bins ≡ specs.bins_over reach by_hour) }
     ensures are { IfSome result specs.AreBins }
@@ -84,7 +81,7 @@ fn width_among(reach: Reach, widths: &[u64]) -> u64
 {
     let mut left = widths;
     while let [width, rest @ ..] = left {
-        if fits(reach, *width) {
+        if is_wide_enough(reach, *width) {
             return *width;
         }
         left = rest;
@@ -92,8 +89,8 @@ fn width_among(reach: Reach, widths: &[u64]) -> u64
     reach.greatest.saturating_sub(reach.least) / 199 + 1
 }
 
-fn fits(reach: Reach, width: u64) -> bool
-    ensures fits { result ≡ specs.fits reach width }
+fn is_wide_enough(reach: Reach, width: u64) -> bool
+    ensures enough { result ≡ specs.is_wide_enough reach width }
     ensures wide { result ≡ true → 0 < width }
 {
     width > 0 && further_bins(reach, width) < MOST_BINS
@@ -115,7 +112,7 @@ fn bins_of(reach: Reach, unit: u64, width: u64) -> Option<Bins>
     let count = further_bins(reach, width).checked_add(1)?;
     let start = first.checked_mul(width)?.checked_mul(unit)?;
     let span = count.checked_mul(width)?.checked_mul(unit)?;
-    if count > MOST_BINS || span == 0 || start > LAST_MINUTE || span > LAST_MINUTE - start {
+    if count > MOST_BINS || span == 0 || span > u64::MAX - start {
         return None;
     }
     Some(Bins {
@@ -137,14 +134,14 @@ pub(crate) fn bin_of(bins: &Bins, drawn: Series<'_>, name: &str) -> Option<u64>
     ensures within { IfSome result (λ place. place < bins.now.count) }
 {
     match moment_of(drawn, name) {
-        Some(moment) => place_at(bins, moment),
+        Some(moment) => bin_at(bins, moment),
         None => None,
     }
 }
 
-fn place_at(bins: &Bins, number: u64) -> Option<u64>
+fn bin_at(bins: &Bins, number: u64) -> Option<u64>
     requires { 0 < bins.now.width }
-    ensures place { result ≡ specs.place_at bins.now number }
+    ensures place { result ≡ specs.bin_at bins.now number }
     ensures within { IfSome result (λ place. place < bins.now.count) }
 {
     let number = number / bins.width;

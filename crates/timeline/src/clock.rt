@@ -1,6 +1,6 @@
 //! Minutes as a person reads them: a date, and a clock's time, in UTC.
 
-ghost use Rattle.std.specs.Prelude.{◌≡◌, ◌≤◌, OnOk};
+ghost use Rattle.std.specs.Prelude.{◌≤◌, OnOk};
 ghost use Rattle.svg.specs.Xml.{Puts};
 ghost use Rattle.timeline.specs.Clocks as specs;
 
@@ -17,7 +17,7 @@ pub(crate) fn push_date(text: &mut String, minute: u64) -> Result<(), AllocError
 }
 
 fn push_civil(text: &mut String, date: CivilDate) -> Result<(), AllocError>
-    ensures { OnOk result (Puts text.old text.new (specs.date_text date)) }
+    ensures { OnOk result (Puts text.old text.new (specs.civil_text date)) }
 {
     let year = date.year;
     write!(text, "{year}-")?;
@@ -37,7 +37,7 @@ pub(crate) fn push_clock(text: &mut String, minute: u64) -> Result<(), AllocErro
 
 // A number, with two digits at least.
 fn push_two(text: &mut String, n: u64) -> Result<(), AllocError>
-    ensures { OnOk result (Puts text.old text.new (specs.padded n)) }
+    ensures { OnOk result (Puts text.old text.new (specs.padded_two n)) }
 {
     if n < 10 {
         write!(text, "0{n}")

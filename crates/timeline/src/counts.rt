@@ -10,7 +10,7 @@ use std::alloc::{AllocError, Global};
 use std::collections::BTreeMap;
 
 /// How often this was counted in each bin.
-pub(crate) fn counted(
+pub(crate) fn counts_by_bin(
     alloc: Global,
     rows: &BTreeMap<String, u64>,
     drawn: Series<'_>,
@@ -19,17 +19,17 @@ pub(crate) fn counted(
     requires wide { 0 < bins.now.width }
     requires few { bins.now.count ≤ 200 }
     ensures { IfOk result (λ counts. counts.items
-        ≡ specs.counted bins.now (drawn_by drawn.entry) rows.now.entries) }
+        ≡ specs.counts_by_bin bins.now (drawn_by drawn.entry) rows.now.entries) }
 {
-    let mut counts = zeros(alloc, bins)?;
+    let mut counts = no_counts(alloc, bins)?;
     raise(counts.as_mut_slice(), rows, drawn, bins)?;
     Ok(counts)
 }
 
 /// A zero for each bin.
-pub(crate) fn zeros(alloc: Global, bins: &Bins) -> Result<Vec<u64>, AllocError>
+pub(crate) fn no_counts(alloc: Global, bins: &Bins) -> Result<Vec<u64>, AllocError>
     requires { bins.now.count ≤ 200 }
-    ensures zeros { IfOk result (λ zeros. zeros.items ≡ specs.zeros bins.now) }
+    ensures zeros { IfOk result (λ zeros. zeros.items ≡ specs.no_counts bins.now) }
     ensures len { IfOk result (λ zeros. length zeros.items ≡ bins.now.count) }
 {
     let zeros = Vec::from_elem(alloc, 0, bins.count as usize)?;

@@ -1,40 +1,40 @@
 //! The legend of an app: its versions with their colours and their counts.
 
-ghost use Rattle.std.specs.Prelude.{◌≡◌, ◌≤◌, OnOk, IfOk, map, string_bytes};
+ghost use Rattle.std.specs.Prelude.{◌≡◌, ◌≤◌, OnOk, map, string_bytes};
 ghost use Rattle.svg.specs.Xml.{Puts};
 ghost use Rattle.timeline.specs.Legends as specs;
-ghost use Rattle.timeline.specs.Marks.{count_of, drawn_by};
+ghost use Rattle.timeline.specs.Marks.{drawn_count, drawn_by};
 
 use crate::layers::{next_colour, of_version};
-use crate::marks::{Series, added, count_of};
-use crate::strips::all_of;
+use crate::marks::{Series, added, drawn_count};
+use crate::strips::all_versions;
 use std::alloc::AllocError;
 use std::collections::BTreeMap;
 use std::fmt::Write;
 use svg::{push_colour, push_xml};
 
-#[tactic(auto, unfolding(crate::specs::Legends::patch_opens))]
-fn patch_opens() -> &'static str
-    ensures { result.now ≡ specs.patch_opens }
+#[tactic(auto, unfolding(crate::specs::Legends::colour_opens))]
+fn colour_opens() -> &'static str
+    ensures { result.now ≡ specs.colour_opens }
 {
     "<rect width=\"12\" height=\"12\" x=\"60\" y=\""
 }
 
-#[tactic(auto, unfolding(crate::specs::Legends::number_opens))]
-fn number_opens() -> &'static str
-    ensures { result.now ≡ specs.number_opens }
+#[tactic(auto, unfolding(crate::specs::Legends::count_opens))]
+fn count_opens() -> &'static str
+    ensures { result.now ≡ specs.count_opens }
 {
     "<text text-anchor=\"end\" x=\""
 }
 
 /// Puts a row for each version, from the first colour on.
-pub(crate) fn push_legend<'a>(
+pub(crate) fn push_app_legend<'a>(
     text: &mut String,
     rows: &BTreeMap<String, u64>,
     app: &'a str,
     versions: &'a [String],
 ) -> Result<(), AllocError>
-    ensures { OnOk result (Puts text.old text.new (specs.legend rows.now.entries app.now
+    ensures { OnOk result (Puts text.old text.new (specs.app_legend rows.now.entries app.now
         (map string_bytes versions.now))) }
 {
     text.push_str(version_head())?;
@@ -63,16 +63,16 @@ fn push_heads(text: &mut String) -> Result<(), AllocError>
 fn push_head(text: &mut String, x: u64, what: &str) -> Result<(), AllocError>
     ensures { OnOk result (Puts text.old text.new (specs.column_head x what.now)) }
 {
-    push_number_place(text, x, 455)?;
+    push_count_place(text, x, 455)?;
     text.push_str(what)?;
     text.push_str("</text>")
 }
 
 // A text begins that ends there.
-fn push_number_place(text: &mut String, x: u64, y: u64) -> Result<(), AllocError>
-    ensures { OnOk result (Puts text.old text.new (specs.number_place x y)) }
+fn push_count_place(text: &mut String, x: u64, y: u64) -> Result<(), AllocError>
+    ensures { OnOk result (Puts text.old text.new (specs.count_place x y)) }
 {
-    text.push_str(number_opens())?;
+    text.push_str(count_opens())?;
     write!(text, "{x}")?;
     text.push_str("\" y=\"")?;
     write!(text, "{y}")?;
@@ -87,7 +87,7 @@ fn push_rows<'a>(
     app: &'a str,
     versions: &'a [String],
 ) -> Result<(), AllocError>
-    ensures { OnOk result (Puts text.old text.new (specs.legend_rows rows.now.entries app.now
+    ensures { OnOk result (Puts text.old text.new (specs.version_rows rows.now.entries app.now
         462 1 (map string_bytes versions.now))) }
 {
     let mut top = 462;
@@ -112,7 +112,7 @@ fn push_row<'a>(
 ) -> Result<(), AllocError>
     requires { colour ≤ 64 }
     ensures { OnOk result (Puts text.old text.new
-        (specs.legend_row rows.now.entries app.now top colour version.now)) }
+        (specs.version_row rows.now.entries app.now top colour version.now)) }
 {
     push_patch(text, top, colour)?;
     let y = added(top, 11)?;
@@ -123,9 +123,9 @@ fn push_row<'a>(
 
 fn push_patch(text: &mut String, top: u64, colour: usize) -> Result<(), AllocError>
     requires { colour ≤ 64 }
-    ensures { OnOk result (Puts text.old text.new (specs.patch top colour)) }
+    ensures { OnOk result (Puts text.old text.new (specs.colour_patch top colour)) }
 {
-    text.push_str(patch_opens())?;
+    text.push_str(colour_opens())?;
     write!(text, "{top}")?;
     text.push_str("\" fill=\"")?;
     push_colour(text, colour)?;
@@ -133,7 +133,7 @@ fn push_patch(text: &mut String, top: u64, colour: usize) -> Result<(), AllocErr
 }
 
 fn push_version(text: &mut String, y: u64, version: &str) -> Result<(), AllocError>
-    ensures { OnOk result (Puts text.old text.new (specs.version_at y version.now)) }
+    ensures { OnOk result (Puts text.old text.new (specs.version_text_at y version.now)) }
 {
     push_version_place(text, y)?;
     push_xml(text, version)?;
@@ -160,18 +160,24 @@ fn push_counts<'a>(
     ensures { OnOk result (Puts text.old text.new
         (specs.counts_at rows.now.entries app.now y version.now)) }
 {
-    push_count_of(text, rows, of_version(all_of("asks", app), version), 640, y)?;
     push_count_of(
         text,
         rows,
-        of_version(all_of("offers", app), version),
+        of_version(all_versions("asks", app), version),
+        640,
+        y,
+    )?;
+    push_count_of(
+        text,
+        rows,
+        of_version(all_versions("offers", app), version),
         740,
         y,
     )?;
     push_count_of(
         text,
         rows,
-        of_version(all_of("failures", app), version),
+        of_version(all_versions("failures", app), version),
         840,
         y,
     )?;
@@ -188,16 +194,16 @@ fn push_count_of(
     y: u64,
 ) -> Result<(), AllocError>
     ensures { OnOk result (Puts text.old text.new
-        (specs.count_text x y (count_of rows.now.entries (drawn_by drawn.entry)))) }
+        (specs.column_count x y (drawn_count rows.now.entries (drawn_by drawn.entry)))) }
 {
-    let count = count_of(rows, drawn)?;
+    let count = drawn_count(rows, drawn)?;
     push_count(text, x, y, count)
 }
 
 fn push_count(text: &mut String, x: u64, y: u64, count: u64) -> Result<(), AllocError>
-    ensures { OnOk result (Puts text.old text.new (specs.count_text x y count)) }
+    ensures { OnOk result (Puts text.old text.new (specs.column_count x y count)) }
 {
-    push_number_place(text, x, y)?;
+    push_count_place(text, x, y)?;
     write!(text, "{count}")?;
     text.push_str("</text>")
 }

@@ -1,12 +1,12 @@
 //! The loads of a log, as lines across an app's strips.
 
-ghost use Rattle.std.specs.Prelude.{◌≡◌, ◌<◌, OnOk};
+ghost use Rattle.std.specs.Prelude.{◌≡◌, ◌<◌, IfOk, OnOk};
 ghost use Rattle.svg.specs.Xml.{Puts};
 ghost use Rattle.timeline.specs.Loads as specs;
 
 use crate::axis::across;
 use crate::bins::Bins;
-use crate::marks::{first, rest};
+use crate::marks::{added, first, rest};
 use moments::minute_in;
 use std::alloc::AllocError;
 use std::collections::BTreeMap;
@@ -31,6 +31,25 @@ pub(crate) fn push_loads(
         free = free_behind(free, at);
     }
     Ok(())
+}
+
+/// How many loads stand outside the bins. Want of memory is answered where that passes 64 bits.
+pub(crate) fn loads_outside(bins: &Bins, loads: &BTreeMap<String, u64>) -> Result<u64, AllocError>
+    requires { 0 < bins.now.span }
+    ensures { IfOk result (λ n. n ≡ specs.loads_outside bins.now loads.now.entries) }
+{
+    let mut count = 0;
+    for (name, n) in loads.iter() {
+        count = added(count, outside(bins, name.as_str(), *n))?;
+    }
+    Ok(count)
+}
+
+fn outside(bins: &Bins, name: &str, n: u64) -> u64
+    requires { 0 < bins.now.span }
+    ensures { result ≡ specs.outside bins.now name.now n }
+{
+    if load_x(bins, name).is_none() { n } else { 0 }
 }
 
 // Where a load stands, if that is within the bins.
@@ -79,7 +98,7 @@ fn push_load(text: &mut String, free: u128, at: Option<u128>, name: &str) -> Res
 
 // A dashed line across the three strips, on a white one.
 fn push_line(text: &mut String, x: u128) -> Result<(), AllocError>
-    ensures { OnOk result (Puts text.old text.new (specs.line_at x)) }
+    ensures { OnOk result (Puts text.old text.new (specs.load_line x)) }
 {
     push_path(text, white_opens(), x)?;
     push_path(text, dashed_opens(), x)?;
@@ -124,7 +143,7 @@ fn push_path(text: &mut String, opens: &str, x: u128) -> Result<(), AllocError>
 }
 
 fn push_label(text: &mut String, x: u128, generation: &str) -> Result<(), AllocError>
-    ensures { OnOk result (Puts text.old text.new (specs.label x generation.now)) }
+    ensures { OnOk result (Puts text.old text.new (specs.load_label x generation.now)) }
 {
     push_label_place(text, x)?;
     push_xml(text, generation)?;

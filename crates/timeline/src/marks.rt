@@ -9,8 +9,8 @@ use lexing::decimal_within;
 use std::alloc::AllocError;
 use std::collections::BTreeMap;
 
-/// No time of a server's log has more minutes behind 1970: it is before the year 10000.
-const MOST_MINUTES: u64 = 4300000000;
+/// The last minute of the year 9999, counted from 1970 on; no time of a server's log is behind it.
+pub(crate) const LAST_MINUTE: u64 = 4223371679;
 
 /// What is drawn: asks, offers or failures of an app, of one of its versions or of all.
 #[derive(Clone, Copy)]
@@ -23,7 +23,7 @@ pub(crate) struct Series<'a> {
 /// The minute or the hour of a name, if it counts this.
 pub(crate) fn moment_of(drawn: Series<'_>, name: &str) -> Option<u64>
     ensures moment { result ≡ specs.moment_of (specs.drawn_by drawn.entry) name.now }
-    ensures within { IfSome result (λ n. n ≤ 4300000000) }
+    ensures within { IfSome result (λ n. n ≤ 4223371679) }
 {
     let name = behind(drawn.what, name)?;
     let name = behind(drawn.app, name)?;
@@ -34,21 +34,25 @@ pub(crate) fn moment_of(drawn: Series<'_>, name: &str) -> Option<u64>
 /// The same of any name.
 pub(crate) fn any_moment(name: &str) -> Option<u64>
     ensures moment { result ≡ specs.any_moment name.now }
-    ensures within { IfSome result (λ n. n ≤ 4300000000) }
+    ensures within { IfSome result (λ n. n ≤ 4223371679) }
 {
     moment_in(rest(rest(rest(name))))
 }
 
 fn moment_in(text: &str) -> Option<u64>
     ensures moment { result ≡ specs.moment_in text.now }
-    ensures within { IfSome result (λ n. n ≤ 4300000000) }
+    ensures within { IfSome result (λ n. n ≤ 4223371679) }
 {
-    decimal_within(text, 0, MOST_MINUTES)
+    decimal_within(text, 0, LAST_MINUTE)
 }
 
 /// How often this was counted. Want of memory is answered, too, where that passes 64 bits.
-pub(crate) fn count_of(rows: &BTreeMap<String, u64>, drawn: Series<'_>) -> Result<u64, AllocError>
-    ensures { IfOk result (λ n. n ≡ specs.count_of rows.now.entries (specs.drawn_by drawn.entry)) }
+pub(crate) fn drawn_count(
+    rows: &BTreeMap<String, u64>,
+    drawn: Series<'_>,
+) -> Result<u64, AllocError>
+    ensures { IfOk result
+        (λ n. n ≡ specs.drawn_count rows.now.entries (specs.drawn_by drawn.entry)) }
 {
     let mut count = 0;
     for (name, n) in rows.iter() {

@@ -8,6 +8,8 @@ ghost use Rattle.timeline.specs.Pictures as specs;
 
 use crate::app_panel::{PictureSource, push_panel};
 use crate::bins::{Bins, Reach, bins_over, reach_of};
+use crate::load_marks::loads_outside;
+use crate::marks::added;
 use report::{Course, Report, Tally};
 use std::alloc::{AllocError, Global};
 use std::collections::BTreeMap;
@@ -43,17 +45,17 @@ fn bins_heading() -> &'static str
 pub(crate) struct Undrawn {
     /// Counts that have no row in its table.
     pub counts: u64,
-    /// Asks of apps beyond 256, and loads beyond as many.
+    /// Asks of apps beyond 256.
     pub asks: u64,
+    /// Loads beyond 256, and those outside the bins.
     pub loads: u64,
 }
 
 /// The picture of the course that a report counted, as the text of an SVG file. Want of memory is
-/// answered, too, where a number passes 64 bits, and where the bins of time end behind the year
-/// 9999.
+/// answered, too, where a number passes 64 bits.
 // open: whether memory is refused.
 pub fn draw_course(alloc: Global, report: &Report) -> Result<String, AllocError>
-    ensures { IfOk result (λ text. string_bytes text ≡ specs.picture report.now) }
+    ensures { IfOk result (λ text. string_bytes text ≡ specs.course_picture report.now) }
 {
     if report.asked.rows().is_empty() {
         return drawn_none(alloc);
@@ -130,18 +132,21 @@ fn drawn_with<'a>(
         ≡ specs.picture_over report.now tally.now bins) }
 {
     let source = source_of(report, tally, bins);
-    let undrawn = undrawn_of(report, tally);
-    drawn_by(alloc, &source, report.asked.rows(), undrawn)
+    let undrawn = undrawn_of(report, tally, &bins)?;
+    picture_with(alloc, &source, report.asked.rows(), undrawn)
 }
 
-fn undrawn_of(report: &Report, tally: &Tally) -> Undrawn
-    ensures { result ≡ specs.undrawn_of report.now tally.now }
+fn undrawn_of(report: &Report, tally: &Tally, bins: &Bins) -> Result<Undrawn, AllocError>
+    requires { AreBins bins.now }
+    ensures { IfOk result
+        (λ undrawn. undrawn ≡ specs.undrawn_of report.now tally.now bins.now) }
 {
-    Undrawn {
+    let outside = loads_outside(bins, report.loads.rows())?;
+    Ok(Undrawn {
         counts: tally.others(),
         asks: report.asked.others(),
-        loads: report.loads.others(),
-    }
+        loads: added(report.loads.others(), outside)?,
+    })
 }
 
 fn source_of<'a>(report: &'a Report, tally: &'a Tally, bins: Bins) -> PictureSource<'a>
@@ -156,7 +161,7 @@ fn source_of<'a>(report: &'a Report, tally: &'a Tally, bins: Bins) -> PictureSou
     }
 }
 
-fn drawn_by(
+fn picture_with(
     alloc: Global,
     source: &PictureSource<'_>,
     apps: &BTreeMap<String, u64>,
@@ -164,7 +169,7 @@ fn drawn_by(
 ) -> Result<String, AllocError>
     requires { AreBins source.now.bins }
     ensures { IfOk result (λ text. string_bytes text
-        ≡ specs.picture_by (specs.drawing_by source.now) apps.now.entries undrawn) }
+        ≡ specs.picture_with (specs.drawing_by source.now) apps.now.entries undrawn) }
 {
     let mut panels = String::new(alloc);
     let end = push_panels(alloc, &mut panels, source, apps)?;
@@ -203,16 +208,16 @@ fn push_undrawn(text: &mut String, undrawn: Undrawn) -> Result<(), AllocError>
         return Ok(());
     }
     text.push_str(undrawn_opens())?;
-    push_number_of(text, undrawn.counts, " counts")?;
-    push_number_of(text, undrawn.asks, " asks of other apps")?;
-    push_number_of(text, undrawn.loads, " loads")?;
+    push_undrawn_number(text, undrawn.counts, " counts")?;
+    push_undrawn_number(text, undrawn.asks, " asks of other apps")?;
+    push_undrawn_number(text, undrawn.loads, " loads")?;
     text.push_str("</text>\n")?;
     Ok(())
 }
 
 // How many of these there are, if there are any.
-fn push_number_of(text: &mut String, n: u64, what: &str) -> Result<(), AllocError>
-    ensures { OnOk result (Puts text.old text.new (specs.number_of n what.now)) }
+fn push_undrawn_number(text: &mut String, n: u64, what: &str) -> Result<(), AllocError>
+    ensures { OnOk result (Puts text.old text.new (specs.undrawn_number n what.now)) }
 {
     if n == 0 {
         return Ok(());
@@ -230,7 +235,7 @@ fn undrawn_opens() -> &'static str
 }
 
 // The panels of all apps, one below the other, and where they end.
-#[tactic(auto, using(crate::proofs::Loops::panel_further, crate::proofs::Loops::end_further, crate::proofs::Written::at_end))]
+#[tactic(auto, using(crate::proofs::Page::put, crate::proofs::Page::end, crate::proofs::Page::all))]
 fn push_panels(
     alloc: Global,
     text: &mut String,
@@ -239,7 +244,7 @@ fn push_panels(
 ) -> Result<u64, AllocError>
     requires { AreBins source.now.bins }
     ensures text { OnOk result (Puts text.old text.new
-        (specs.panels (specs.drawing_by source.now) 60 apps.now.entries)) }
+        (specs.app_panels (specs.drawing_by source.now) 60 apps.now.entries)) }
     ensures end { IfOk result
         (λ end. end ≡ specs.panels_end (specs.drawing_by source.now) 60 apps.now.entries) }
 {

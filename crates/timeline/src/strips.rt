@@ -7,9 +7,9 @@ ghost use Rattle.timeline.specs.Strips as specs;
 ghost use Rattle.timeline.specs.Marks.{drawn_by};
 
 use crate::bins::Bins;
-use crate::counts::{counted, zeros};
+use crate::counts::{counts_by_bin, no_counts};
 use crate::layers::push_layers;
-use crate::marks::{Series, count_of};
+use crate::marks::{Series, drawn_count};
 use std::alloc::{AllocError, Global};
 use std::collections::BTreeMap;
 use std::fmt::Write;
@@ -68,14 +68,22 @@ fn push_strip_of<'a>(
     requires low { 6 ≤ top }
     requires high { top ≤ 1000 }
     ensures { OnOk result (Puts text.old text.new (specs.strip rows.now.entries bins.now
-        (map string_bytes versions.now) (specs.all_of what.now app.now) top)) }
+        (map string_bytes versions.now) (specs.all_versions what.now app.now) top)) }
 {
-    push_strip(alloc, text, rows, all_of(what, app), versions, bins, top)
+    push_strip(
+        alloc,
+        text,
+        rows,
+        all_versions(what, app),
+        versions,
+        bins,
+        top,
+    )
 }
 
 /// What is drawn of all versions.
-pub(crate) fn all_of<'a>(what: &'a str, app: &'a str) -> Series<'a>
-    ensures { drawn_by result ≡ specs.all_of what.now app.now }
+pub(crate) fn all_versions<'a>(what: &'a str, app: &'a str) -> Series<'a>
+    ensures { drawn_by result ≡ specs.all_versions what.now app.now }
 {
     Series {
         what,
@@ -99,7 +107,7 @@ fn push_strip<'a>(
     ensures { OnOk result (Puts text.old text.new (specs.strip rows.now.entries bins.now
         (map string_bytes versions.now) (drawn_by drawn.entry) top)) }
 {
-    let count = count_of(rows, drawn)?;
+    let count = drawn_count(rows, drawn)?;
     push_title(text, drawn.what, count, top)?;
     push_shares(alloc, text, rows, drawn, versions, bins, top)?;
     push_border(text, top)?;
@@ -111,15 +119,15 @@ fn push_title(text: &mut String, what: &str, count: u64, top: u64) -> Result<(),
     requires { 6 ≤ top }
     ensures { OnOk result (Puts text.old text.new (specs.strip_title what.now count top)) }
 {
-    push_title_place(text, top - 6)?;
+    push_strip_title_place(text, top - 6)?;
     text.push_str(what)?;
     push_count(text, count)?;
     text.push_str("</text>\n")?;
     Ok(())
 }
 
-fn push_title_place(text: &mut String, y: u64) -> Result<(), AllocError>
-    ensures { OnOk result (Puts text.old text.new (specs.title_place y)) }
+fn push_strip_title_place(text: &mut String, y: u64) -> Result<(), AllocError>
+    ensures { OnOk result (Puts text.old text.new (specs.strip_title_place y)) }
 {
     text.push_str("<text x=\"60\" y=\"")?;
     write!(text, "{y}")?;
@@ -184,8 +192,8 @@ fn push_shares<'a>(
     ensures { OnOk result (Puts text.old text.new (specs.shares rows.now.entries bins.now
         (map string_bytes versions.now) (drawn_by drawn.entry) top)) }
 {
-    let totals = counted(alloc, rows, drawn, bins)?;
-    let mut stood = zeros(alloc, bins)?;
+    let totals = counts_by_bin(alloc, rows, drawn, bins)?;
+    let mut stood = no_counts(alloc, bins)?;
     push_opening(text, bins, top)?;
     push_layers(
         text,
@@ -201,7 +209,7 @@ fn push_shares<'a>(
 }
 
 fn push_opening(text: &mut String, bins: &Bins, top: u64) -> Result<(), AllocError>
-    ensures { OnOk result (Puts text.old text.new (specs.opening bins.now top)) }
+    ensures { OnOk result (Puts text.old text.new (specs.strip_opening bins.now top)) }
 {
     let count = bins.count;
     text.push_str(strip_opens())?;

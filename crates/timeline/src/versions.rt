@@ -1,7 +1,6 @@
 //! The versions of an app, in the order of their texts.
 
 ghost use Rattle.std.specs.Prelude.{◌≡◌, IfOk, map, string_bytes};
-ghost use Rattle.std.specs.Option.{option_copied};
 ghost use Rattle.timeline.specs.Versions as specs;
 
 use crate::marks::behind;
@@ -10,13 +9,13 @@ use std::collections::BTreeMap;
 
 /// The versions that rows have of an app.
 #[tactic(auto, using(crate::proofs::Written::text_further))]
-pub(crate) fn versions_of(
+pub(crate) fn versions_in_rows(
     alloc: Global,
     rows: &BTreeMap<String, u64>,
     app: &str,
 ) -> Result<Vec<String>, AllocError>
     ensures { IfOk result (λ versions. map string_bytes versions.items
-        ≡ specs.versions_of app.now rows.now.entries) }
+        ≡ specs.versions_in_rows app.now rows.now.entries) }
 {
     let mut versions = Vec::new(alloc);
     for (name, _count) in rows.iter() {

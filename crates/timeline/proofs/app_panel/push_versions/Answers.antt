@@ -9,5 +9,5 @@ returns c =
     (and_then _ _ _ _ _ c.in_ok-push_title.ensures
     c.in_ok-push_strips.ensures)
     c.in_ok-push_times.ensures)
-    c.in_ok-push_legend.ensures)
+    c.in_ok-push_app_legend.ensures)
     c.in_ok-push_str.ensures.bytes

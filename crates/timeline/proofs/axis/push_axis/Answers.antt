@@ -1,4 +1,4 @@
-use Rattle.std.proofs.Common.{◌∙◌, ap, ℕ, ◌+◌, ◌/◌, ◌++◌, string_bytes}
+use Rattle.std.proofs.Common.{◌∙◌, ap, ℕ, ◌/◌, ◌++◌, string_bytes}
 use Rattle.timeline.specs.Axis.{tick, tick_at}
 use Rattle.timeline.proofs.Written.{number_further}
 use Rattle.timeline.proofs.axis.push_axis.Goals as goal
@@ -6,7 +6,7 @@ use Rattle.timeline.proofs.axis.push_axis.Goals as goal
 pub loop-number-preserved : goal.loop-number-preserved
 loop-number-preserved c =
     number_further (tick_at c.args.bins.now c.step_among-step.result) c.loop-number.number
-    ((c.args.bins.now.start + c.args.bins.now.span) / c.step_among-step.result) _ _ _
+    (c.last_minute-end.result / c.step_among-step.result) _ _ _
     c.loop-number-test.true
     (c.in_ok-push_tick.ensures
     ∙ ap (λ (m : ℕ). string_bytes c.loop-number.text ++ tick c.args.bins.now m)

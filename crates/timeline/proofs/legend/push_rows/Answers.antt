@@ -1,6 +1,6 @@
 use Rattle.std.proofs.Common.{◌≡◌, ◌++◌, List, ℕ, arith, string_bytes, subst}
 use Rattle.timeline.proofs.Loops.{row_further}
-use Rattle.timeline.specs.Legends.{legend_row}
+use Rattle.timeline.specs.Legends.{version_row}
 use Rattle.timeline.proofs.legend.push_rows.Goals as goal
 
 pub loop-left-preserved : goal.loop-left-preserved
@@ -10,7 +10,7 @@ loop-left-preserved c = record {
       _ _ _ (omega (arith, c.in-len1-up.len_at_least)) c.version-item.is c.in_ok-top.ensures
       c.next_colour-colour.ensures.next
       (subst (λ (v : List ℕ). string_bytes c.push_row.new.text ≡ string_bytes c.loop-left.text
-      ++ legend_row c.args.rows.now.entries c.args.app.now c.loop-left.top c.loop-left.colour v)
+      ++ version_row c.args.rows.now.entries c.args.app.now c.loop-left.top c.loop-left.colour v)
       c.as_str.ensures.value c.in_ok-push_row.ensures) c.loop-left.invariant.text;
   within = c.next_colour-colour.ensures.within;
 }

@@ -1,13 +1,13 @@
 use Rattle.std.proofs.Common.{◌≡◌, ◌≤◌, ◌++◌, length, map, string_bytes}
-use Rattle.timeline.specs.Legends.{legend_rows}
+use Rattle.timeline.specs.Legends.{version_rows}
 use Rattle.timeline.proofs.legend.push_rows.Given as goal
 
 -- with the rows of the versions that are left the text is the whole
 abbrev pub invariant-loop-left : goal.invariant-loop-left
 invariant-loop-left l = record {
-  text : string_bytes l.text ++ legend_rows l.rows.entries l.app l.top l.colour
+  text : string_bytes l.text ++ version_rows l.rows.entries l.app l.top l.colour
       (map string_bytes l.left)
-      ≡ string_bytes l.fn.text ++ legend_rows l.rows.entries l.app 462 1
+      ≡ string_bytes l.fn.text ++ version_rows l.rows.entries l.app 462 1
       (map string_bytes l.versions);
   within : l.colour ≤ 64;
 }

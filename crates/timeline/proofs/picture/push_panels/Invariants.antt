@@ -1,12 +1,12 @@
 use Rattle.std.proofs.Common.{◌≡◌, ◌++◌, string_bytes}
-use Rattle.timeline.specs.Pictures.{drawing_by, panels, panels_end}
+use Rattle.timeline.specs.Pictures.{drawing_by, app_panels, panels_end}
 use Rattle.timeline.proofs.picture.push_panels.Given as goal
 
 -- with the panels of the apps that are left the text is the whole, and they end with all
 abbrev pub invariant-loop-app : goal.invariant-loop-app
 invariant-loop-app l = record {
-  text : string_bytes l.text ++ panels (drawing_by l.source) l.top l.app-iterator
-      ≡ string_bytes l.fn.text ++ panels (drawing_by l.source) 60 l.apps.entries;
+  text : string_bytes l.text ++ app_panels (drawing_by l.source) l.top l.app-iterator
+      ≡ string_bytes l.fn.text ++ app_panels (drawing_by l.source) 60 l.apps.entries;
   end : panels_end (drawing_by l.source) l.top l.app-iterator
       ≡ panels_end (drawing_by l.source) 60 l.apps.entries;
 }

@@ -8,4 +8,4 @@ pub returns : goal.returns
 returns c =
     subst (λ (d : Drawn). OnOk c.push_strip.result (Puts c.args.text.now c.push_strip.new.text
     (strip c.args.rows.now.entries c.args.bins.now (map string_bytes c.args.versions.now) d
-    c.args.top))) c.all_of.ensures c.push_strip.ensures
+    c.args.top))) c.all_versions.ensures c.push_strip.ensures

@@ -1,7 +1,7 @@
 use Rattle.std.proofs.Common.{codes, string_bytes}
 use Rattle.std.specs.Fmt.{decimal}
 use Rattle.timeline.proofs.Written.{three_parts}
-use Rattle.timeline.proofs.strips.push_title_place.Goals as goal
+use Rattle.timeline.proofs.strips.push_strip_title_place.Goals as goal
 
 pub returns : goal.returns
 returns c =

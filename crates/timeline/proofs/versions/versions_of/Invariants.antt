@@ -1,9 +1,0 @@
-use Rattle.std.proofs.Common.{◌≡◌, ◌++◌, map, string_bytes}
-use Rattle.timeline.specs.Versions.{versions_of}
-use Rattle.timeline.proofs.versions.versions_of.Given as goal
-
--- those so far, and those that are left, are all
-abbrev pub invariant-loop-name : goal.invariant-loop-name
-invariant-loop-name l =
-    map string_bytes l.versions.items ++ versions_of l.app l.name-iterator
-    ≡ versions_of l.app l.rows.entries
