@@ -1,11 +1,11 @@
 -- The lines of one log more are counted.
-use Rattle.std.proofs.Common.{◌≡◌, ◌∙◌, refl, sym, ap, subst, ℕ, ◌+◌, List, [], ◌∷◌, ◌++◌}
+use Rattle.std.proofs.Common.{◌≡◌, ◌∙◌, refl, sym, subst, ℕ, ◌+◌, List, [], ◌∷◌, ◌++◌}
 use Rattle.std.proofs.Common.{append_assoc, append-nil, length, flat_map, Option, arith}
 use Rattle.std.proofs.Common.{Bool, is_some, option_map, string_bytes}
 use Rattle.std.proofs.lemmas.Grind.{flat_map-append}
 use Rattle.std.proofs.lemmas.List.{length-append}
 use Rattle.std.proofs.lemmas.List.Concat.{flat_map-cons}
-use Rattle.log_tools.specs.Reports.{CountsLogs, HasReported, picture_by, told_by}
+use Rattle.log_tools.specs.Reports.{CountsLogs, HasReported, picture_told, text_told}
 use Rattle.log_tools.specs.declared.reporting.ToldReport.{ToldReport}
 use Rattle.moments.specs.declared.moment.NamedTime.{NamedTime}
 use Rattle.report.specs.Counts.{Counts}
@@ -60,8 +60,8 @@ pub has_reported : (n : ℕ) (since until : Option NamedTime) (prometheus drawn 
     (told : ToldReport) (window : Window) (start last : Report)
     → is_some window.since ≡ is_some since → is_some window.until ≡ is_some until
     → Counts window [] drawn start → CountsLogs window n start last
-    → string_bytes told.text ≡ told_by prometheus last
-    → option_map string_bytes told.picture ≡ picture_by drawn last
+    → string_bytes told.text ≡ text_told prometheus last
+    → option_map string_bytes told.picture ≡ picture_told drawn last
     → HasReported n since until prometheus drawn told
 has_reported n since until prometheus drawn told window start last from to none reads text
     picture =

@@ -10,7 +10,7 @@ use Rattle.report.specs.Reading.{CountsLines}
 use Rattle.report.specs.Screen.{screen}
 use Rattle.report.specs.declared.counting.Report.{Report}
 use Rattle.report.specs.declared.window.Window.{Window}
-use Rattle.timeline.specs.Pictures.{picture}
+use Rattle.timeline.specs.Pictures.{course_picture}
 use Rattle.log_tools.specs.declared.reporting.ToldReport.{ToldReport}
 
 -- the window begins where a beginning was asked for, and ends where an end was
@@ -25,12 +25,12 @@ pub record CountsLogs (window : Window) (n : ℕ) (old new : Report) : Type 0 wh
   pub counted : CountsLines window (flat_map lines_in logs) old new
 
 -- as a screen, or as Prometheus reads it
-abbrev pub told_by : Bool → Report → List ℕ
-told_by prometheus report = if prometheus then exposition report else screen report
+abbrev pub text_told : Bool → Report → List ℕ
+text_told prometheus report = if prometheus then exposition report else screen report
 
 -- and as a picture, where one is drawn
-abbrev pub picture_by : Bool → Report → Option (List ℕ)
-picture_by drawn report = if drawn then Some (picture report) else None
+abbrev pub picture_told : Bool → Report → Option (List ℕ)
+picture_told drawn report = if drawn then Some (course_picture report) else None
 
 -- What is told of a report that counts the lines of so many logs, each from its first byte to its
 -- last.
@@ -42,5 +42,5 @@ pub record HasReported (n : ℕ) (since until : Option NamedTime) (prometheus dr
   pub each : length logs ≡ n
   pub report : Report
   pub counted : Counts window (flat_map lines_in logs) drawn report
-  pub text_is : string_bytes told.text ≡ told_by prometheus report
-  pub picture_is : option_map string_bytes told.picture ≡ picture_by drawn report
+  pub text_is : string_bytes told.text ≡ text_told prometheus report
+  pub picture_is : option_map string_bytes told.picture ≡ picture_told drawn report

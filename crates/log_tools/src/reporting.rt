@@ -2,7 +2,7 @@
 
 ghost use Rattle.std.specs.Prelude.{◌≡◌, IfOk, OnOk, is_some, length, option_map};
 ghost use Rattle.std.specs.String.{string_bytes};
-ghost use Rattle.log_tools.specs.Reports.{CountsLogs, HasReported, picture_by, told_by};
+ghost use Rattle.log_tools.specs.Reports.{CountsLogs, HasReported, picture_told, text_told};
 
 use crate::picture_file::{require_drawable, write_picture};
 use crate::progress_lines::ProgressLines;
@@ -90,9 +90,9 @@ fn told_of(
     report: &Report,
 ) -> Result<ToldReport, AllocError>
     ensures text { IfOk result
-        (λ told. string_bytes told.text ≡ told_by prometheus report.now) }
+        (λ told. string_bytes told.text ≡ text_told prometheus report.now) }
     ensures picture { IfOk result
-        (λ told. option_map string_bytes told.picture ≡ picture_by drawn report.now) }
+        (λ told. option_map string_bytes told.picture ≡ picture_told drawn report.now) }
 {
     let text = text_by(alloc, prometheus, report)?;
     let picture = if drawn {
@@ -104,7 +104,7 @@ fn told_of(
 }
 
 fn text_by(alloc: Global, prometheus: bool, report: &Report) -> Result<String, AllocError>
-    ensures { IfOk result (λ text. string_bytes text ≡ told_by prometheus report.now) }
+    ensures { IfOk result (λ text. string_bytes text ≡ text_told prometheus report.now) }
 {
     if prometheus {
         exposition_text(alloc, report)
