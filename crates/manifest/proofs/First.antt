@@ -168,11 +168,10 @@ one_tree : (bytes : List ℕ) (t u : Members) → IsTree bytes t → IsTree byte
 one_tree bytes t u is are = same_Some t u (sym is.document ∙ are.document)
 
 pub misfit_first : (bytes : List ℕ) → HasMisfitFirst bytes
-misfit_first bytes misfit misfits read has =
-    begins misfits misfit
-    (ap first has.misfits_are ∙ first_of_tree has.tree
-    ∙ ap (λ t. fault_in (tables_of t))
-    (one_tree bytes has.tree read.tree has.spelled read.spelled)
+misfit_first bytes misfit tree read is =
+    begins (misfits_of tree) misfit
+    (first_of_tree tree
+    ∙ ap (λ t. fault_in (tables_of t)) (one_tree bytes tree read.tree is read.spelled)
     ∙ ap fault_in read.tables_are)
 
 abbrev twice_in : Result Manifest Misfit → Option Twice
@@ -180,11 +179,10 @@ twice_in (Ok manifest) = fault_in (once manifest)
 twice_in (Err misfit) = None
 
 pub twice_first : (bytes : List ℕ) → HasTwiceFirst bytes
-twice_first bytes twice twices read has =
+twice_first bytes twice tree twices read is has =
     begins twices twice
     (ap first has.twices_are ∙ first_of_once has.manifest
-    ∙ ap twice_in (sym has.tables.tables_are)
-    ∙ ap (λ t. twice_in (tables_of t))
-    (one_tree bytes has.tables.tree read.1.tree has.tables.spelled read.1.spelled)
+    ∙ ap twice_in (sym has.tables_are)
+    ∙ ap (λ t. twice_in (tables_of t)) (one_tree bytes tree read.1.tree is read.1.spelled)
     ∙ ap twice_in read.1.tables_are
     ∙ ap fault_in read.2)

@@ -1,10 +1,11 @@
 -- All names that stand twice in a manifest: of its arrays, and its appids.
-use Rattle.std.specs.Prelude.{◌≡◌, ℕ, List, ◌++◌, map, Ok}
+use Rattle.std.specs.Prelude.{◌≡◌, List, ◌++◌, map, Ok}
+use Rattle.toml.specs.Data.{Members}
 use Rattle.cells.specs.Directory.{Declaration}
 use Rattle.manifest.specs.declared.fault.Twice.{Twice}
 use Rattle.manifest.specs.declared.fault.Twice.TheVariants as twice
 use Rattle.manifest.specs.App.{AppEntry}
-use Rattle.manifest.specs.Manifest.{HasTables, Manifest}
+use Rattle.manifest.specs.Manifest.{Manifest, tables_of}
 use Rattle.manifest.specs.Twice.{names_twice}
 
 -- in the order in which a manifest is read
@@ -13,8 +14,8 @@ all_twice manifest =
     map twice.Array (names_twice (map (λ (a : Declaration). a.name) manifest.arrays))
     ++ map twice.App (names_twice (map (λ (a : AppEntry). a.appid) manifest.apps))
 
--- those of the bytes' tables
-pub record HasAllTwice (bytes : List ℕ) (twices : List Twice) : Type 0 where
+-- those of a document's tables, if these fit
+pub record HasAllTwice (tree : Members) (twices : List Twice) : Type 0 where
   pub manifest : Manifest
-  pub tables : HasTables bytes (Ok manifest)
+  pub tables_are : tables_of tree ≡ Ok manifest
   pub twices_are : twices ≡ all_twice manifest

@@ -8,6 +8,7 @@ pub mod Array
 pub mod App
 pub mod Twice
 pub mod Manifest
+pub mod Parsed
 pub mod Misfits
 pub mod AllTwice
 pub mod FirstFault

@@ -85,10 +85,3 @@ ReadsManifest bytes (Err (Field misfit)) = HasTables bytes (Err misfit)
 ReadsManifest bytes (Err (Duplicate twice)) =
     (manifest : Manifest) × HasTables bytes (Ok manifest) × (once manifest ≡ Err twice)
 ReadsManifest bytes (Err Memory) = Unit {0}
-
--- what is answered where there is no tree
-abbrev pub RefusesTree : List ℕ → ManifestFault → Type 0
-RefusesTree bytes (Toml fault) = HasNoTree bytes fault
-RefusesTree bytes (Field misfit) = ⊥
-RefusesTree bytes (Duplicate twice) = ⊥
-RefusesTree bytes Memory = Unit {0}

@@ -1,5 +1,5 @@
 -- All that doesn't fit in a manifest: of each table of its two lists what doesn't fit first.
-use Rattle.std.specs.Prelude.{◌≡◌, ℕ, ◌+◌, ◌==◌, if◌then◌else◌, List, [], ◌∷◌, ◌++◌, map, codes}
+use Rattle.std.specs.Prelude.{ℕ, ◌+◌, ◌==◌, if◌then◌else◌, List, [], ◌∷◌, ◌++◌, map, codes}
 use Rattle.std.specs.Prelude.{Option, Some, None, option_to_list, Result, Ok, Err}
 use Rattle.toml.specs.Data.{Data, Members, get_member, as_str}
 use Rattle.manifest.specs.declared.kind.Kind.TheVariants as kind
@@ -12,7 +12,6 @@ use Rattle.manifest.specs.declared.misfit.Misfit.TheVariants as misfit
 use Rattle.manifest.specs.App.{app_of}
 use Rattle.manifest.specs.Array.{array_of}
 use Rattle.manifest.specs.Kind.{unknown_member}
-use Rattle.manifest.specs.Manifest.{IsTree}
 use Rattle.manifest.specs.Member.{required}
 use Rattle.manifest.specs.Rows.{are_between, item_of, items_in}
 
@@ -58,9 +57,3 @@ abbrev pub misfits_of : Members → List Misfit
 misfits_of table =
     own_misfits table
     ++ map misfit.Arrays (array_misfits table) ++ map misfit.Apps (app_misfits table)
-
--- those of the bytes' tree
-pub record HasMisfits (bytes : List ℕ) (misfits : List Misfit) : Type 0 where
-  pub tree : Members
-  pub spelled : IsTree bytes tree
-  pub misfits_are : misfits ≡ misfits_of tree

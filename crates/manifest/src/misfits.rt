@@ -1,11 +1,10 @@
 //! All that doesn't fit in a manifest: of each table of its two lists what doesn't fit first.
 
-ghost use Rattle.std.specs.Prelude.{◌≡◌, ◌++◌, map, IfOk, IfSome, OnOk};
+ghost use Rattle.std.specs.Prelude.{◌≡◌, ◌++◌, map, IfOk, OnOk};
 ghost use Rattle.toml.specs.Data.{get_member};
 ghost use Rattle.toml.specs.View.{view, table_view};
-ghost use Rattle.manifest.specs.Misfits.{HasMisfits, misfit_in, misfits_from, misfits_of_rows};
+ghost use Rattle.manifest.specs.Misfits.{misfit_in, misfits_from, misfits_of, misfits_of_rows};
 ghost use Rattle.manifest.specs.Misfits.{own_misfits};
-ghost use Rattle.manifest.specs.Misfits as specs;
 ghost use Rattle.manifest.specs.Rows.{item_of};
 ghost use Rattle.manifest.specs.declared.misfit.InList.{InList};
 ghost use Rattle.manifest.specs.declared.misfit.Misfit.{Misfit};
@@ -17,7 +16,6 @@ use crate::manifest::MAX_ARRAYS;
 use crate::member::{member, text};
 use crate::misfit::{AppMisfit, ArrayMisfit, InList, Misfit};
 use crate::quote::Quote;
-use crate::read::read_tree;
 use crate::rows::{TableRow, has_count, items_of, read_item};
 use crate::unread::Unread;
 use declarations::ArrayDeclaration;
@@ -25,29 +23,16 @@ use releases::MOST_APPS;
 use std::alloc::{AllocError, Global};
 use toml::{Table, Value};
 
-/// All that doesn't fit in a manifest: the first member that it doesn't have, its server, and then
-/// of each array and each app the first that doesn't fit; so the first is that of `read_manifest`.
-/// None where memory is refused, and of bytes that are no document.
-// open: when None is the answer: it comes where memory is refused, or the bytes have no tables to
-// ask.
-pub fn all_misfits(alloc: Global, bytes: &[u8]) -> Option<Vec<Misfit>>
-    ensures { IfSome result (λ v. HasMisfits bytes.now v.items) }
+/// All that doesn't fit in the document of a manifest: the first member that it doesn't have, its
+/// server, and then of each array and each app the first that doesn't fit; so the first is that of
+/// `read_manifest`.
+// open: whether memory is refused.
+pub fn all_misfits(alloc: Global, document: &Table) -> Result<Vec<Misfit>, AllocError>
+    ensures { IfOk result (λ v. v.items ≡ misfits_of (table_view document.now)) }
 {
-    let Ok(table) = read_tree(alloc, bytes) else {
-        return None;
-    };
-    match misfits_of(alloc, &table) {
-        Ok(misfits) => Some(misfits),
-        Err(_) => None,
-    }
-}
-
-fn misfits_of(alloc: Global, table: &Table) -> Result<Vec<Misfit>, AllocError>
-    ensures { IfOk result (λ v. v.items ≡ specs.misfits_of (table_view table.now)) }
-{
-    let mut misfits = own(alloc, table)?;
-    push_rows::<ArrayDeclaration>(alloc, &mut misfits, table, "array", 0, MAX_ARRAYS)?;
-    push_rows::<AppEntry>(alloc, &mut misfits, table, "app", 1, MOST_APPS)?;
+    let mut misfits = own(alloc, document)?;
+    push_rows::<ArrayDeclaration>(alloc, &mut misfits, document, "array", 0, MAX_ARRAYS)?;
+    push_rows::<AppEntry>(alloc, &mut misfits, document, "app", 1, MOST_APPS)?;
     Ok(misfits)
 }
 

@@ -1,11 +1,13 @@
 //! From the bytes of a manifest to what it tells.
 
-ghost use Rattle.std.specs.Prelude.{◌≡◌, IfOk, IfErr};
+ghost use Rattle.std.specs.Prelude.{◌≡◌, IfOk, IfErr, Ok};
 ghost use Rattle.toml.specs.View.{table_view};
-ghost use Rattle.manifest.specs.Manifest.{IsTree, RefusesTree, ReadsManifest};
+ghost use Rattle.manifest.specs.Manifest.{IsTree, ReadsManifest};
+ghost use Rattle.manifest.specs.Parsed.{IsRefused};
 
 use crate::fault::{ManifestFault, TomlFault};
 use crate::manifest::{Manifest, read_once, read_tables};
+use crate::refused::{Parsed, RefusedManifest};
 use crate::unread::Unread;
 use std::alloc::Global;
 use toml::{Table, table_from_slice};
@@ -21,30 +23,66 @@ pub const MOST_MANIFEST: usize = 1048576;
 pub fn read_manifest(alloc: Global, bytes: &[u8]) -> Result<Manifest, ManifestFault>
     ensures { ReadsManifest bytes.now result }
 {
-    let table = read_tree(alloc, bytes)?;
-    let manifest = match read_tables(alloc, &table) {
-        Ok(manifest) => manifest,
-        Err(Unread::Misfit(misfit)) => return Err(ManifestFault::Field(misfit)),
-        Err(Unread::Memory) => return Err(ManifestFault::Memory),
-    };
-    match read_once(alloc, manifest) {
+    match parse_manifest(alloc, bytes) {
         Ok(manifest) => Ok(manifest),
-        Err(Unread::Misfit(twice)) => Err(ManifestFault::Duplicate(twice)),
-        Err(Unread::Memory) => Err(ManifestFault::Memory),
+        Err(refused) => Err(refused.fault),
     }
 }
 
-/// The document of the bytes.
-pub(crate) fn read_tree(alloc: Global, bytes: &[u8]) -> Result<Table, ManifestFault>
+/// Reads a manifest as `read_manifest` does, and hands out what its bytes were parsed as where it
+/// is refused: `all_misfits` and `all_twice` go on from that.
+// open: whether memory is refused (M8); what the error of M1 says.
+pub fn parse_manifest(alloc: Global, bytes: &[u8]) -> Result<Manifest, RefusedManifest>
+    ensures manifest { IfOk result (λ manifest. ReadsManifest bytes.now (Ok manifest)) }
+    ensures refused { IfErr result (IsRefused bytes.now) }
+{
+    let table = parse_document(alloc, bytes)?;
+    let manifest = match read_tables(alloc, &table) {
+        Ok(manifest) => manifest,
+        Err(Unread::Misfit(misfit)) => return Err(unfit(ManifestFault::Field(misfit), table)),
+        Err(Unread::Memory) => return Err(unparsed(ManifestFault::Memory)),
+    };
+    match read_once(alloc, manifest) {
+        Ok(manifest) => Ok(manifest),
+        Err(Unread::Misfit(twice)) => Err(unfit(ManifestFault::Duplicate(twice), table)),
+        Err(Unread::Memory) => Err(unparsed(ManifestFault::Memory)),
+    }
+}
+
+// The document of the bytes.
+fn parse_document(alloc: Global, bytes: &[u8]) -> Result<Table, RefusedManifest>
     ensures ok { IfOk result (λ table. IsTree bytes.now (table_view table)) }
-    ensures err { IfErr result (RefusesTree bytes.now) }
+    ensures err { IfErr result (IsRefused bytes.now) }
 {
     if bytes.len() > MOST_MANIFEST {
-        return Err(ManifestFault::Toml(TomlFault::TooLong));
+        return Err(unparsed(ManifestFault::Toml(TomlFault::TooLong)));
     }
     match table_from_slice(alloc, bytes) {
         Ok(table) => Ok(table),
-        Err(error) if error.is_memory() => Err(ManifestFault::Memory),
-        Err(_) => Err(ManifestFault::Toml(TomlFault::Text)),
+        Err(error) if error.is_memory() => Err(unparsed(ManifestFault::Memory)),
+        Err(error) => Err(RefusedManifest {
+            fault: ManifestFault::Toml(TomlFault::Text),
+            parsed: Parsed::Error(error),
+        }),
+    }
+}
+
+fn unfit(fault: ManifestFault, document: Table) -> RefusedManifest
+    ensures fault { result.fault ≡ fault }
+    ensures parsed { result.parsed ≡ Parsed.Document document }
+{
+    RefusedManifest {
+        fault,
+        parsed: Parsed::Document(document),
+    }
+}
+
+fn unparsed(fault: ManifestFault) -> RefusedManifest
+    ensures fault { result.fault ≡ fault }
+    ensures parsed { result.parsed ≡ Parsed.Nothing }
+{
+    RefusedManifest {
+        fault,
+        parsed: Parsed::Nothing,
     }
 }

@@ -1,27 +1,24 @@
 //! All names that stand twice in a manifest: of its arrays, and its appids.
 
 ghost use Rattle.std.specs.Prelude.{◌≡◌, IfOk, IfSome};
+ghost use Rattle.toml.specs.View.{table_view};
 ghost use Rattle.manifest.specs.AllTwice.{HasAllTwice};
 ghost use Rattle.manifest.specs.AllTwice as specs;
 
 use crate::fault::Twice;
 use crate::manifest::{Manifest, read_tables};
-use crate::read::read_tree;
 use crate::twice::push_names_twice;
 use std::alloc::{AllocError, Global};
+use toml::Table;
 
-/// Each name that stands twice in a manifest that fits but for such names: of its arrays, and then
-/// the appids; so the first is that of `read_manifest`. None where memory is refused, and of bytes
-/// that don't fit.
-// open: when None is the answer: it comes where memory is refused, or the bytes have no tables to
-// ask.
-pub fn all_twice(alloc: Global, bytes: &[u8]) -> Option<Vec<Twice>>
-    ensures { IfSome result (λ v. HasAllTwice bytes.now v.items) }
+/// Each name that stands twice in the document of a manifest that fits but for such names: of its
+/// arrays, and then the appids; so the first is that of `read_manifest`. None where memory is
+/// refused, and of a document that doesn't fit.
+// open: when None is the answer: it comes where memory is refused, or the document doesn't fit.
+pub fn all_twice(alloc: Global, document: &Table) -> Option<Vec<Twice>>
+    ensures { IfSome result (λ v. HasAllTwice (table_view document.now) v.items) }
 {
-    let Ok(table) = read_tree(alloc, bytes) else {
-        return None;
-    };
-    let Ok(manifest) = read_tables(alloc, &table) else {
+    let Ok(manifest) = read_tables(alloc, document) else {
         return None;
     };
     match twices_of(alloc, &manifest) {

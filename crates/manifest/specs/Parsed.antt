@@ -1,0 +1,24 @@
+-- What comes with the refusal of a manifest: what the crate `toml` gave for its bytes.
+use Rattle.std.specs.Prelude.{ℕ, List, Err}
+use Rattle.toml.specs.View.{table_view}
+use Rattle.manifest.specs.declared.fault.ManifestFault.{ManifestFault}
+use Rattle.manifest.specs.declared.fault.ManifestFault.TheVariants.{Toml, Field, Duplicate, Memory}
+use Rattle.manifest.specs.declared.fault.TomlFault.TheVariants.{TooLong, Text}
+use Rattle.manifest.specs.declared.refused.Parsed.{Parsed}
+use Rattle.manifest.specs.declared.refused.Parsed.TheVariants.{Document, Error, Nothing}
+use Rattle.manifest.specs.declared.refused.RefusedManifest.{RefusedManifest}
+use Rattle.manifest.specs.Manifest.{IsTree, ReadsManifest}
+
+-- the document of the bytes, if they are one; an error, of which nothing is said; or nothing
+abbrev pub IsParsed : List ℕ → ManifestFault → Parsed → Type 0
+IsParsed bytes (Field misfit) (Document table) = IsTree bytes (table_view table)
+IsParsed bytes (Duplicate twice) (Document table) = IsTree bytes (table_view table)
+IsParsed bytes (Toml Text) (Error error) = Unit {0}
+IsParsed bytes (Toml TooLong) Nothing = Unit {0}
+IsParsed bytes Memory Nothing = Unit {0}
+IsParsed bytes fault parsed = ⊥
+
+-- why the bytes are no manifest, and what they were parsed as
+pub record IsRefused (bytes : List ℕ) (refused : RefusedManifest) : Type 0 where
+  pub fault_is : ReadsManifest bytes (Err refused.fault)
+  pub parsed_is : IsParsed bytes refused.fault refused.parsed
