@@ -12,3 +12,4 @@ mod OneOutcome
 mod OnePath
 mod OneJudgement
 mod Causes
+mod Early

@@ -7,6 +7,11 @@ use Rattle.cells.specs.declared.array.CellArray.{CellArray}
 use Rattle.declarations.specs.Order.{AreDeclared}
 use Rattle.manifest.specs.App.{AppEntry}
 use Rattle.manifest.specs.Manifest.{Manifest, ReadsManifest}
+use Rattle.manifest.specs.Parsed.{IsParsed}
+use Rattle.manifest.specs.declared.refused.Parsed.{Parsed}
+use Rattle.manifest.specs.declared.refused.Parsed.TheVariants.{Nothing}
+use Rattle.load.specs.declared.fault.LoadFault.{LoadFault}
+use Rattle.load.specs.declared.fault.LoadFault.TheVariants.{Manifest as NoManifest}
 use Rattle.load.specs.declared.gathering.Gathered.{Gathered}
 use Rattle.load.specs.declared.gathering.GatheredApp.{GatheredApp}
 use Rattle.load.specs.declared.gathering.Ungathered.{Ungathered}
@@ -64,7 +69,13 @@ AreArraysOf bytes arrays =
     0 < length arrays
     → (manifest : Manifest) × ReadsManifest bytes (Ok manifest) × (arrays ≡ manifest.arrays)
 
+-- what the bytes were parsed as, if they are no manifest; beside any other fault it is nothing
+abbrev pub IsParsedBeside : List ℕ → LoadFault → Parsed → Type 0
+IsParsedBeside bytes (NoManifest fault) parsed = IsParsed bytes fault parsed
+IsParsedBeside bytes fault parsed = parsed ≡ Nothing
+
 -- why no file is asked for, whatever it would give
 pub record IsUngathered (old : List CellArray) (bytes : List ℕ) (u : Ungathered) : Type 0 where
   pub fault_is : (known : KnownFiles) → IsLoadFault known old bytes u.fault
   pub arrays_are : AreArraysOf bytes u.arrays.items
+  pub parsed_is : IsParsedBeside bytes u.fault u.parsed

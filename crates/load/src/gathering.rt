@@ -1,18 +1,21 @@
 //! All that is taken of a manifest and its files, gathered before any app is judged.
 
 ghost use Rattle.std.specs.Prelude.{◌≡◌, ◌^◌, ◌-◌, ◌<◌, ℕ, List, length};
-ghost use Rattle.std.specs.Prelude.{All, IsTrue, IfOk, IfErr};
+ghost use Rattle.std.specs.Prelude.{All, IsTrue, IfOk, IfErr, Ok};
 ghost use Rattle.cells.specs.declared.array.CellArray.{CellArray};
 ghost use Rattle.load.specs.Gathered.{AreArraysOf, AreTaken, IsGathered, IsGatheredApp};
 ghost use Rattle.load.specs.Gathered.{IsUngathered};
+ghost use Rattle.manifest.specs.Manifest.{ReadsManifest};
 
 use crate::fault::LoadFault;
 use crate::files::Files;
 use crate::kept::{KeptFile, file_of, gather_file, long_count};
-use crate::loading::{declare_arrays, read};
+use crate::loading::declare_arrays;
 use cells::{ArrayNo, Directory, Shape};
 use declarations::ArrayDeclaration;
-use manifest::{AppEntry, ManifestParts};
+use manifest::{
+    AppEntry, Manifest, ManifestFault, ManifestParts, Parsed, RefusedManifest, parse_manifest,
+};
 use std::alloc::{AllocError, Global};
 
 /// The most bytes that are read of files that are longer than they may be, before no further file
@@ -48,11 +51,13 @@ struct ReadApps {
     unread: usize,
 }
 
-/// Why no files are asked for, M1 to M3, M7 or M8, and the arrays of the manifest if it was read.
+/// Why no files are asked for, M1 to M3, M7 or M8; the arrays of the manifest if it was read, and
+/// what its bytes were parsed as if they are none.
 #[derive(Drop)]
 pub struct Ungathered {
     pub fault: LoadFault,
     pub arrays: Vec<ArrayDeclaration>,
+    pub parsed: Parsed,
 }
 
 /// Gathers a manifest and its files, each of which is read once, and none behind more than 64 MiB
@@ -68,14 +73,9 @@ pub fn gather<F: Files>(
     ensures gathered { IfOk result (IsGathered (F.known files.old) directory.now manifest.now) }
     ensures fault { IfErr result (IsUngathered directory.now manifest.now) }
 {
-    let manifest = match read(alloc, manifest) {
+    let manifest = match parse(alloc, manifest) {
         Ok(manifest) => manifest,
-        Err(fault) => {
-            return Err(Ungathered {
-                fault,
-                arrays: Vec::new(alloc),
-            });
-        }
+        Err(ungathered) => return Err(ungathered),
     };
     let ManifestParts {
         server: _server,
@@ -87,7 +87,13 @@ pub fn gather<F: Files>(
     };
     let numbers = match declare_arrays(alloc, &mut grown, &arrays) {
         Ok(numbers) => numbers,
-        Err(fault) => return Err(Ungathered { fault, arrays }),
+        Err(fault) => {
+            return Err(Ungathered {
+                fault,
+                arrays,
+                parsed: Parsed::Nothing,
+            });
+        }
     };
     let _arrays = grown.arrays();
     match gather_apps(alloc, files, &grown, &numbers, apps) {
@@ -101,6 +107,27 @@ pub fn gather<F: Files>(
     }
 }
 
+// The manifest that bytes spell.
+fn parse(alloc: Global, bytes: &[u8]) -> Result<Manifest, Ungathered>
+    ensures manifest { IfOk result (λ manifest. ReadsManifest bytes.now (Ok manifest)) }
+    ensures fault { IfErr result (λ u. (old : List CellArray) → IsUngathered old bytes.now u) }
+{
+    match parse_manifest(alloc, bytes) {
+        Ok(manifest) => Ok(manifest),
+        Err(
+            RefusedManifest {
+                fault: ManifestFault::Memory,
+                ..
+            },
+        ) => Err(out_of_memory(Vec::new(alloc))),
+        Err(RefusedManifest { fault, parsed }) => Err(Ungathered {
+            fault: LoadFault::Manifest(fault),
+            arrays: Vec::new(alloc),
+            parsed,
+        }),
+    }
+}
+
 fn out_of_memory(arrays: Vec<ArrayDeclaration>) -> Ungathered
     ensures { (old : List CellArray) (bytes : List ℕ) → AreArraysOf bytes arrays.items
         → IsUngathered old bytes result }
@@ -108,6 +135,7 @@ fn out_of_memory(arrays: Vec<ArrayDeclaration>) -> Ungathered
     Ungathered {
         fault: LoadFault::Memory,
         arrays,
+        parsed: Parsed::Nothing,
     }
 }
 

@@ -1,12 +1,10 @@
-use Rattle.std.proofs.Common.{ap, arith, length, rules}
-use Rattle.load.specs.Load.{RefusesArrays, of_arrays, of_bytes}
+use Rattle.std.proofs.Common.{rules}
+use Rattle.load.specs.Load.{RefusesArrays, of_arrays}
+use Rattle.load.proofs.Early.{nothing_parsed}
 use Rattle.load.proofs.gathering.gather.Goals as goal
 
 pub returns-in-Err-clause-fault : goal.returns-in-Err-clause-fault
-returns-in-Err-clause-fault g c = record {
-  fault_is = λ known. of_bytes c.in-Err.ensures.fault;
-  arrays_are = λ some. absurd (omega (arith, some, ap length c.new.ensures.items));
-}
+returns-in-Err-clause-fault g c = c.in-Err.ensures.fault c.args.directory.now
 
 pub returns-in_default-clause-fault : goal.returns-in_default-clause-fault
 returns-in_default-clause-fault g c =
@@ -21,6 +19,7 @@ returns-in-Err-declare_arrays-clause-fault g c =
       fault_is = λ known. of_arrays c.in-Ok.ensures.manifest fault;
       arrays_are = λ some.
           (c.in-Ok.manifest, c.in-Ok.ensures.manifest, c.into_parts-server.ensures.arrays);
+      parsed_is = nothing_parsed c.args.manifest.now c.args.directory.now _ _ fault;
     }
 
 pub returns-clause-fault : goal.returns-clause-fault
