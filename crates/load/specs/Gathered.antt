@@ -8,10 +8,12 @@ use Rattle.declarations.specs.Order.{AreDeclared}
 use Rattle.manifest.specs.App.{AppEntry}
 use Rattle.manifest.specs.Manifest.{Manifest, ReadsManifest}
 use Rattle.manifest.specs.Parsed.{IsParsed}
+use Rattle.manifest.specs.declared.fault.ManifestFault.{ManifestFault}
+use Rattle.manifest.specs.declared.fault.ManifestFault.TheVariants as unread
 use Rattle.manifest.specs.declared.refused.Parsed.{Parsed}
 use Rattle.manifest.specs.declared.refused.Parsed.TheVariants.{Nothing}
 use Rattle.load.specs.declared.fault.LoadFault.{LoadFault}
-use Rattle.load.specs.declared.fault.LoadFault.TheVariants.{Manifest as NoManifest}
+use Rattle.load.specs.declared.fault.LoadFault.TheVariants.{Manifest as NoManifest, Memory}
 use Rattle.load.specs.declared.gathering.Gathered.{Gathered}
 use Rattle.load.specs.declared.gathering.GatheredApp.{GatheredApp}
 use Rattle.load.specs.declared.gathering.Ungathered.{Ungathered}
@@ -68,6 +70,11 @@ abbrev pub AreArraysOf : List ℕ → List Declaration → Type 0
 AreArraysOf bytes arrays =
     0 < length arrays
     → (manifest : Manifest) × ReadsManifest bytes (Ok manifest) × (arrays ≡ manifest.arrays)
+
+-- the fault of a manifest, as that of its load
+abbrev pub of_manifest : ManifestFault → LoadFault
+of_manifest unread.Memory = Memory
+of_manifest fault = NoManifest fault
 
 -- what the bytes were parsed as, if they are no manifest; beside any other fault it is nothing
 abbrev pub IsParsedBeside : List ℕ → LoadFault → Parsed → Type 0

@@ -5,7 +5,9 @@ ghost use Rattle.std.specs.Prelude.{All, IsTrue, IfOk, IfErr, Ok};
 ghost use Rattle.cells.specs.declared.array.CellArray.{CellArray};
 ghost use Rattle.load.specs.Gathered.{AreArraysOf, AreTaken, IsGathered, IsGatheredApp};
 ghost use Rattle.load.specs.Gathered.{IsUngathered};
+ghost use Rattle.load.specs.Gathered as specs;
 ghost use Rattle.manifest.specs.Manifest.{ReadsManifest};
+ghost use Rattle.manifest.specs.Parsed.{IsRefused};
 
 use crate::fault::LoadFault;
 use crate::files::Files;
@@ -114,17 +116,30 @@ fn parse(alloc: Global, bytes: &[u8]) -> Result<Manifest, Ungathered>
 {
     match parse_manifest(alloc, bytes) {
         Ok(manifest) => Ok(manifest),
-        Err(
-            RefusedManifest {
-                fault: ManifestFault::Memory,
-                ..
-            },
-        ) => Err(out_of_memory(Vec::new(alloc))),
-        Err(RefusedManifest { fault, parsed }) => Err(Ungathered {
-            fault: LoadFault::Manifest(fault),
-            arrays: Vec::new(alloc),
-            parsed,
-        }),
+        Err(refused) => Err(unparsed(alloc, refused)),
+    }
+}
+
+fn unparsed(alloc: Global, refused: RefusedManifest) -> Ungathered
+    ensures { (old : List CellArray) (bytes : List ℕ) → IsRefused bytes refused
+        → IsUngathered old bytes result }
+{
+    let RefusedManifest { fault, parsed } = refused;
+    Ungathered {
+        fault: of_manifest(fault),
+        arrays: Vec::new(alloc),
+        parsed,
+    }
+}
+
+fn of_manifest(fault: ManifestFault) -> LoadFault
+    ensures { result ≡ specs.of_manifest fault }
+{
+    match fault {
+        ManifestFault::Toml(fault) => LoadFault::Manifest(ManifestFault::Toml(fault)),
+        ManifestFault::Field(misfit) => LoadFault::Manifest(ManifestFault::Field(misfit)),
+        ManifestFault::Duplicate(twice) => LoadFault::Manifest(ManifestFault::Duplicate(twice)),
+        ManifestFault::Memory => LoadFault::Memory,
     }
 }
 
