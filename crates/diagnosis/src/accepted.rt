@@ -39,6 +39,7 @@ pub(crate) fn tell_accepted(
 {
     let told = told_of_apps(alloc, gathered.apps.as_slice())?;
     let Gathered {
+        server: _server,
         arrays: _arrays,
         directory,
         apps,

@@ -1,11 +1,17 @@
--- A fault that is told with its cause is a fault.
-use Rattle.std.proofs.Common.{ℕ, List, Option}
+-- A fault that is told with its cause is a fault, and a cause of its arrays is one of its bytes.
+use Rattle.std.proofs.Common.{◌≡◌, ℕ, List, [], ◌∷◌, Option, Some, None, refl, sym, subst, arith}
+use Rattle.std.specs.Prelude.{IfSome}
+use Rattle.std.specs.String.{string_bytes}
 use Rattle.std.specs.declared.alloc.Global.{Global}
 use Rattle.std.specs.declared.string.String.{String}
 use Rattle.bounded_files.specs.Files.{KnownFiles}
+use Rattle.cells.specs.Directory.{Declaration}
 use Rattle.cells.specs.declared.array.CellArray.{CellArray}
-use Rattle.load.specs.Cause.{RefusesTelling}
+use Rattle.load.specs.Cause.{IsCause, RefusesTelling, cause_in, cause_of}
+use Rattle.load.specs.Gathered.{AreArraysOf}
 use Rattle.load.specs.Loaded.{RefusesPath}
+use Rattle.load.specs.declared.fault.LoadFault.{LoadFault}
+use Rattle.load.specs.declared.fault.LoadFault.TheVariants as load
 use Rattle.load.specs.declared.fault.PathFault.{PathFault}
 use Rattle.load.specs.declared.fault.PathFault.TheVariants.{Resource, Load}
 
@@ -14,3 +20,38 @@ pub refuses : (known : KnownFiles) (path : List ℕ) (old : List CellArray) (fau
     → RefusesPath known path old fault
 refuses known path old (Resource fault) cause told = told.0
 refuses known path old (Load fault) cause told = (told.0, told.1, told.2)
+
+no_cause : (known : KnownFiles) (path : List ℕ) (old : List CellArray) (fault : PathFault)
+    → RefusesPath known path old fault → RefusesTelling known path old fault None
+no_cause known path old (Resource fault) refused = (refused, refl)
+no_cause known path old (Load fault) refused = (refused.0, refused.1, refused.2, tt)
+
+-- where nothing is told beside
+pub untold : (known : KnownFiles) (path : List ℕ) (old : List CellArray) (fault told : PathFault)
+    (cause : Option (String Global)) → told ≡ fault → cause ≡ None
+    → RefusesPath known path old fault → RefusesTelling known path old told cause
+untold known path old fault told cause fault_is cause_is refused =
+    subst (λ (c : Option (String Global)). RefusesTelling known path old told c) (sym cause_is)
+    (subst (λ (f : PathFault). RefusesTelling known path old f None) (sym fault_is)
+    (no_cause known path old fault refused))
+
+is_cause : (old : List CellArray) (bytes : List ℕ) (arrays : List Declaration) (fault : LoadFault)
+    (text : List ℕ) → AreArraysOf bytes arrays → cause_of old arrays fault ≡ Some text
+    → IsCause old bytes fault text
+is_cause old bytes arrays (load.Manifest fault) text are is = is
+is_cause old bytes [] (load.Cells number fault) text are is = absurd cc
+is_cause old bytes (a ∷ arrays) (load.Cells number fault) text are is =
+    let of = are (omega arith) in
+    (of.0, of.1, subst (λ (l : List Declaration). cause_in old l number fault ≡ Some text) of.2 is)
+is_cause old bytes arrays (load.File app) text are is = absurd cc
+is_cause old bytes arrays (load.Program app fault) text are is = absurd cc
+is_cause old bytes arrays (load.Rule app fault) text are is = absurd cc
+is_cause old bytes arrays load.Memory text are is = absurd cc
+
+pub cause_told : (old : List CellArray) (bytes : List ℕ) (arrays : List Declaration)
+    (fault : LoadFault) (cause : Option (String Global)) → AreArraysOf bytes arrays
+    → IfSome cause (λ text. cause_of old arrays fault ≡ Some (string_bytes text))
+    → IfSome cause (λ text. IsCause old bytes fault (string_bytes text))
+cause_told old bytes arrays fault None are told = tt
+cause_told old bytes arrays fault (Some text) are told =
+    is_cause old bytes arrays fault (string_bytes text) are told

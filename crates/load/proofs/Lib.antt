@@ -3,9 +3,11 @@ mod Long
 mod Keeping
 mod Slices
 mod Gathers
+mod Framing
 mod InTurn
 mod Knowing
 mod Names
+mod Making
 mod OneProgram
 mod OneApp
 mod OneOutcome

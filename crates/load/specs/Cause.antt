@@ -1,4 +1,4 @@
--- What a log tells of a load that is refused, beside the fault's own text.
+-- What a log tells of a load: of what its ruleset was made, or beside a fault's text the cause.
 use Rattle.std.specs.Prelude.{◌≡◌, ℕ, ◌-◌, List, ◌++◌, codes, slice_get, IfSome}
 use Rattle.std.specs.Prelude.{Option, Some, None, option_map, option_and_then, Result, Ok, Err}
 use Rattle.std.specs.String.{string_bytes}
@@ -18,10 +18,12 @@ use Rattle.ruleset.specs.Rules.{Rules}
 use Rattle.load.specs.Folder.{known_beside}
 use Rattle.load.specs.Load.{IsLoadFault}
 use Rattle.load.specs.Loaded.{IsLoadedFrom, RefusesPath}
+use Rattle.load.specs.Made.{IsMadeFrom}
 use Rattle.load.specs.declared.fault.LoadFault.{LoadFault}
 use Rattle.load.specs.declared.fault.LoadFault.TheVariants as load
 use Rattle.load.specs.declared.fault.PathFault.{PathFault}
 use Rattle.load.specs.declared.fault.PathFault.TheVariants.{Resource, Load}
+use Rattle.load.specs.declared.made.MadeRuleset.{MadeRuleset}
 use Rattle.load.specs.declared.refusal.LoadRefusal.{LoadRefusal}
 
 -- the member that doesn't fit, and what is wanted there; or what stands twice
@@ -52,6 +54,12 @@ abbrev pub cause_in : List CellArray → List Declaration → ℕ → CellsFault
 cause_in old arrays number fault =
     option_and_then (λ d. array_cause old d fault) (slice_get arrays (number - 1))
 
+-- of a fault of a manifest of these arrays
+abbrev pub cause_of : List CellArray → List Declaration → LoadFault → Option (List ℕ)
+cause_of old arrays (load.Manifest fault) = manifest_cause fault
+cause_of old arrays (load.Cells number fault) = cause_in old arrays number fault
+cause_of old arrays fault = None
+
 -- what is told of a fault of these bytes
 abbrev pub IsCause : List CellArray → List ℕ → LoadFault → List ℕ → Type 0
 IsCause old bytes (load.Manifest fault) text = manifest_cause fault ≡ Some text
@@ -75,3 +83,8 @@ module _ (known : KnownFiles) (path : List ℕ) (old : List CellArray) where
   abbrev pub LoadsTelling : Result (Rules × List CellArray) LoadRefusal → Type 0
   LoadsTelling (Ok loaded) = IsLoadedFrom known path old loaded.0 loaded.1
   LoadsTelling (Err refused) = RefusesTelling refused.fault refused.cause
+
+  -- the same, and the ruleset with its digest
+  abbrev pub MakesTelling : Result MadeRuleset LoadRefusal → Type 0
+  MakesTelling (Ok made) = IsMadeFrom known path old made
+  MakesTelling (Err refused) = RefusesTelling refused.fault refused.cause

@@ -54,12 +54,13 @@ module _ (known : KnownFiles) (directory : List CellArray) (numbers : List Array
 abbrev pub HasItsReleases : GatheredApp → Type 0
 HasItsReleases app = app.shape.releases ≡ length app.entry.releases
 
--- of the manifest of these bytes: its arrays, declared behind those that stand, and those of its
--- apps whose files are read
+-- of the manifest of these bytes: its server's text, its arrays, declared behind those that stand,
+-- and those of its apps whose files are read
 pub record IsGathered (known : KnownFiles) (old : List CellArray) (bytes : List ℕ) (g : Gathered)
     : Type 0 where
   pub manifest : Manifest
   pub read : ReadsManifest bytes (Ok manifest)
+  pub server_is : g.server ≡ manifest.server
   pub arrays_are : g.arrays.items ≡ manifest.arrays
   pub numbers : List ArrayNo
   pub declared : AreDeclared old manifest.arrays numbers g.directory

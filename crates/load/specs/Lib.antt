@@ -8,6 +8,8 @@ pub mod Load
 pub mod Loaded
 pub mod Cause
 pub mod Gathered
+pub mod Digest
 pub mod Judged
+pub mod Made
 pub mod OneLoad
 pub mod Texts

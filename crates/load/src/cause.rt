@@ -7,27 +7,25 @@ ghost use Rattle.load.specs.Cause as specs;
 use crate::fault::LoadFault;
 use cells::{CellArray, CellWidth, CellsFault, Directory};
 use declarations::ArrayDeclaration;
-use manifest::{ManifestFault, read_manifest};
+use manifest::ManifestFault;
 use rule_lang::array_named;
 use std::alloc::{AllocError, Global};
 use std::fmt::Write;
 
-/// What is told of the fault of a manifest over the arrays that stand, if anything is, and memory
-/// isn't refused.
+/// What is told of the fault of a manifest of these arrays over those that stand, if anything is,
+/// and memory isn't refused.
 pub(crate) fn cause_of(
     alloc: Global,
     directory: &Directory,
-    manifest: &[u8],
+    arrays: &[ArrayDeclaration],
     fault: &LoadFault,
 ) -> Option<String>
     ensures { IfSome result
-        (λ text. specs.IsCause directory.now manifest.now fault.now (string_bytes text)) }
+        (λ text. specs.cause_of directory.now arrays.now fault.now ≡ Some (string_bytes text)) }
 {
     match fault {
         LoadFault::Manifest(fault) => manifest_cause(alloc, fault),
-        LoadFault::Cells { array, fault } => {
-            cells_cause(alloc, directory, manifest, *array, *fault)
-        }
+        LoadFault::Cells { array, fault } => cause_in(alloc, directory, arrays, *array, *fault),
         _ => None,
     }
 }
@@ -40,25 +38,6 @@ fn manifest_cause(alloc: Global, fault: &ManifestFault) -> Option<String>
         ManifestFault::Duplicate(twice) => twice.to_string(alloc).ok(),
         _ => None,
     }
-}
-
-// The manifest is read once more, since its arrays went with the load.
-fn cells_cause(
-    alloc: Global,
-    directory: &Directory,
-    manifest: &[u8],
-    number: usize,
-    fault: CellsFault,
-) -> Option<String>
-    ensures { IfSome result (λ text.
-        specs.IsCause directory.now manifest.now (LoadFault.Cells number fault)
-        (string_bytes text)) }
-{
-    let Ok(manifest) = read_manifest(alloc, manifest) else {
-        return None;
-    };
-    let parts = manifest.into_parts();
-    cause_in(alloc, directory, &parts.arrays, number, fault)
 }
 
 fn cause_in(

@@ -2,6 +2,7 @@
 
 ghost use Rattle.std.specs.Prelude.{◌≡◌, ◌^◌, ◌-◌, ◌<◌, ℕ, List, length};
 ghost use Rattle.std.specs.Prelude.{All, IsTrue, IfOk, IfErr, Ok};
+ghost use mathlib.Core.List.{IsPrefix};
 ghost use Rattle.cells.specs.declared.array.CellArray.{CellArray};
 ghost use Rattle.load.specs.Gathered.{AreArraysOf, AreTaken, IsGathered, IsGatheredApp};
 ghost use Rattle.load.specs.Gathered.{IsUngathered};
@@ -13,6 +14,7 @@ use crate::fault::LoadFault;
 use crate::files::Files;
 use crate::kept::{KeptFile, file_of, gather_file, long_count};
 use crate::loading::declare_arrays;
+use attrs::Text;
 use cells::{ArrayNo, Directory, Shape};
 use declarations::ArrayDeclaration;
 use manifest::{
@@ -34,10 +36,12 @@ pub struct GatheredApp {
     pub behind_link: bool,
 }
 
-/// A manifest that was read: its arrays, the directory in which they are declared behind those that
-/// stand, and its apps. Of 256 files at most 64 KiB each are kept.
+/// A manifest that was read: the text that names its server, its arrays, the directory in which
+/// they are declared behind those that stand, and its apps. Of 256 files at most 64 KiB each are
+/// kept.
 #[derive(Drop)]
 pub struct Gathered {
+    pub server: Text,
     pub arrays: Vec<ArrayDeclaration>,
     pub directory: Directory,
     pub apps: Vec<GatheredApp>,
@@ -73,6 +77,7 @@ pub fn gather<F: Files>(
 ) -> Result<Gathered, Ungathered>
     ensures known { F.known files.new ≡ F.known files.old }
     ensures gathered { IfOk result (IsGathered (F.known files.old) directory.now manifest.now) }
+    ensures grown { IfOk result (λ g. IsPrefix directory.now g.directory) }
     ensures fault { IfErr result (IsUngathered directory.now manifest.now) }
 {
     let manifest = match parse(alloc, manifest) {
@@ -80,7 +85,7 @@ pub fn gather<F: Files>(
         Err(ungathered) => return Err(ungathered),
     };
     let ManifestParts {
-        server: _server,
+        server,
         arrays,
         apps,
     } = manifest.into_parts();
@@ -100,6 +105,7 @@ pub fn gather<F: Files>(
     let _arrays = grown.arrays();
     match gather_apps(alloc, files, &grown, &numbers, apps) {
         Ok(ReadApps { apps, unread }) => Ok(Gathered {
+            server,
             arrays,
             directory: grown,
             apps,

@@ -1,6 +1,7 @@
 //! Laws of the definitions: a manifest has one load, and what is gathered of it comes to that.
 
 ghost use Rattle.load.specs.Judged.{GatheredIsLoaded};
+ghost use Rattle.load.specs.Made.{GatheredIsMade};
 ghost use Rattle.load.specs.OneLoad.{HasOneJudgement, HasOneLoad, HasOneLoadFrom};
 
 use declarations::lists_declare_one_way;
@@ -25,4 +26,10 @@ pub fn one_load()
 /// by itself to what its entry does. It does nothing: a proof calls it for its clause.
 pub fn gathered_is_loaded()
     ensures { GatheredIsLoaded }
+{}
+
+/// A law: what is made of what was gathered of a manifest is the ruleset that it comes to. It does
+/// nothing: a proof calls it for its clause.
+pub fn gathered_is_made()
+    ensures { GatheredIsMade }
 {}

@@ -3,17 +3,17 @@
 //! See docs/DECISIONS.md, "Manifests".
 #![tactic(auto)]
 
-// How a load goes. The manifest is read first. Then its arrays are declared, in a copy of the
-// directory, and they make with the number of its releases the shape of each app. Then the apps
-// come in their order: the file of each is read, and so much of it is kept as judging it takes
-// (`kept.rt`); that is taken as a program and verified, or as the text of a rule and compiled
-// (`judging.rt`). The first fault ends the load, and no further file is read. Only when all apps
-// have their programs is the directory exchanged for the copy, so a load that is refused declares
-// nothing.
+// How a load goes. First all of it is gathered (`gathering.rt`): the manifest is read, and its
+// arrays are declared, in a copy of the directory; they make with the number of its releases the
+// shape of each app. Then of the file of each app so much is kept as judging it takes (`kept.rt`).
+// What was gathered is judged in the order of the apps (`programs.rt`), as often as one likes, and
+// no file is read again: each is taken as a program and verified, or as the text of a rule and
+// compiled (`judging.rt`), and the first fault counts. Where all apps have their programs a ruleset
+// is made of them, with the digest of the very bytes that were judged (`made.rt`, `digest.rt`). Only
+// then is the directory exchanged for the copy, so a load that is refused declares nothing.
 //
-// Who wants more than the first fault gathers first (`gathering.rt`): the manifest is read, its
-// arrays are declared, and of each app the shape and what is kept of its file stand ready. Then
-// what was gathered is judged (`programs.rt`), as often as one likes, and no file is read again.
+// `load_over` comes to the same ruleset or fault, app by app (`apps.rt`): it keeps no file longer
+// than it takes to judge it, and reads none behind the first that is refused.
 //
 // A file is read to its end, but of one that is longer than it may be only the beginning is kept,
 // how many bytes it has, and whether they are a text. Such a file is a fault of its own, so once
@@ -26,6 +26,7 @@
 mod app;
 mod apps;
 mod cause;
+mod digest;
 mod fault;
 mod files;
 mod folder;
@@ -34,19 +35,22 @@ mod judging;
 mod kept;
 mod law;
 mod loading;
+mod made;
 mod path;
 mod programs;
 mod refusal;
 
 pub use apps::in_app;
 pub use bounded_files::{Device, Disk};
+pub use digest::digest_of;
 pub use fault::{AppFault, LoadFault, PathFault};
 pub use files::Files;
 pub use folder::FolderFiles;
 pub use gathering::{Gathered, GatheredApp, Ungathered, gather};
 pub use kept::{KeptFile, file_of};
-pub use law::{gathered_is_loaded, one_load};
+pub use law::{gathered_is_loaded, gathered_is_made, one_load};
 pub use loading::{load_over, load_ruleset};
-pub use path::{MOST_MANIFEST, load_path, load_with_cause};
+pub use made::{MadeRuleset, make_ruleset};
+pub use path::{MOST_MANIFEST, load_path, load_told, load_with_cause, manifest_bytes};
 pub use programs::{judge, judge_app, supply};
 pub use refusal::LoadRefusal;

@@ -1,18 +1,23 @@
 //! From the path of a manifest to a ruleset.
 
-ghost use Rattle.std.specs.Prelude.{IfOk};
-ghost use Rattle.load.specs.Cause.{LoadsTelling};
-ghost use Rattle.load.specs.Loaded.{LoadsFrom};
-ghost use Rattle.ruleset.specs.Rules.{KnowsOnly};
+ghost use Rattle.std.specs.Prelude.{ℕ, List, IfOk, IfErr, Some};
 ghost use mathlib.Core.List.{IsPrefix};
+ghost use Rattle.bounded_files.specs.Files.{Gives, KnownFiles, regular_files};
+ghost use Rattle.cells.specs.declared.array.CellArray.{CellArray};
+ghost use Rattle.load.specs.Cause.{LoadsTelling, MakesTelling, RefusesTelling};
+ghost use Rattle.load.specs.Gathered.{IsUngathered};
+ghost use Rattle.load.specs.Loaded.{IsLoadedFrom, LoadsFrom, RefusesPath};
+ghost use Rattle.ruleset.specs.Rules.{KnowsOnly};
 
 use crate::cause::cause_of;
 use crate::fault::{LoadFault, PathFault};
 use crate::folder::FolderFiles;
-use crate::loading::load_over;
+use crate::gathering::{Ungathered, gather};
+use crate::law::{gathered_is_loaded, gathered_is_made};
+use crate::made::{MadeRuleset, make_ruleset};
 use crate::refusal::LoadRefusal;
 use bounded_files::Disk;
-use cells::Directory;
+use cells::{Directory, arrays_stay};
 use manifest::{ManifestFault, TomlFault};
 use ruleset::Ruleset;
 use std::alloc::Global;
@@ -58,31 +63,100 @@ pub fn load_with_cause<D: Disk>(
     ensures only { IfOk result (λ loaded. KnowsOnly loaded.1 loaded.0) }
     ensures grown { IfOk result (λ loaded. IsPrefix directory.now loaded.1) }
 {
-    let bytes = match disk.read_regular(path, MOST_MANIFEST) {
-        Ok(Some(bytes)) => bytes,
+    match load_told(alloc, disk, path, directory) {
+        Ok(
+            MadeRuleset {
+                rules,
+                directory,
+                digest: _,
+            },
+        ) => Ok((rules, directory)),
+        Err(refusal) => Err(refusal),
+    }
+}
+
+/// The same, and of a ruleset the digest of all that was judged. All files are read before the
+/// first is judged.
+// open: whether memory is refused (M8, B4), also to a cause; what a device's files give.
+#[tactic(auto, using(crate::proofs::Making::is_loaded))]
+pub fn load_told<D: Disk>(
+    alloc: Global,
+    disk: &D,
+    path: &str,
+    directory: &Directory,
+) -> Result<MadeRuleset, LoadRefusal>
+    ensures loads { MakesTelling (D.known disk.now) path.now directory.now result }
+    ensures rules { IfOk result (λ made. IsLoadedFrom (D.known disk.now) path.now directory.now
+        made.rules made.directory) }
+    ensures only { IfOk result (λ made. KnowsOnly made.directory made.rules) }
+    ensures grown { IfOk result (λ made. IsPrefix directory.now made.directory) }
+{
+    match manifest_bytes(disk, path) {
+        Ok(bytes) => load_bytes(alloc, disk, path, &bytes, directory),
+        Err(fault) => Err(LoadRefusal::of(fault)),
+    }
+}
+
+/// The bytes of the manifest at a path, at most 1048576: M1 where it has more, and B3 where it is no
+/// regular file, or can't be read.
+// open: whether memory is refused (B4); what a device's files give.
+pub fn manifest_bytes<D: Disk>(disk: &D, path: &str) -> Result<Vec<u8>, PathFault>
+    ensures given { IfOk result
+        (λ bytes. Gives (regular_files (D.known disk.now)) path.now (Some bytes.items)) }
+    // Whatever the arrays are over which it would be loaded.
+    ensures fault { IfErr result (λ fault.
+        (old : List CellArray) → RefusesPath (D.known disk.now) path.now old fault) }
+{
+    match disk.read_regular(path, MOST_MANIFEST) {
+        Ok(Some(bytes)) => Ok(bytes),
         Ok(None) => {
-            let fault = LoadFault::Manifest(ManifestFault::Toml(TomlFault::TooLong));
-            return Err(LoadRefusal {
-                fault: PathFault::Load(fault),
-                cause: None,
-            });
+            let fault = ManifestFault::Toml(TomlFault::TooLong);
+            Err(PathFault::Load(LoadFault::Manifest(fault)))
         }
-        Err(fault) => {
-            return Err(LoadRefusal {
-                fault: PathFault::Resource(fault),
-                cause: None,
-            });
-        }
-    };
+        Err(fault) => Err(PathFault::Resource(fault)),
+    }
+}
+
+// What these bytes, of the manifest at a path, and the files of its folder come to.
+fn load_bytes<D: Disk>(
+    alloc: Global,
+    disk: &D,
+    path: &str,
+    bytes: &[u8],
+    directory: &Directory,
+) -> Result<MadeRuleset, LoadRefusal>
+    requires { Gives (regular_files (D.known disk.now)) path.now (Some bytes.now) }
+    ensures loads { MakesTelling (D.known disk.now) path.now directory.now result }
+    ensures only { IfOk result (λ made. KnowsOnly made.directory made.rules) }
+    ensures grown { IfOk result (λ made. IsPrefix directory.now made.directory) }
+{
+    gathered_is_loaded();
+    gathered_is_made();
+    arrays_stay();
     let mut files = FolderFiles::beside(alloc, disk, path);
-    match load_over(alloc, &bytes, &mut files, directory) {
-        Ok(loaded) => Ok(loaded),
-        Err(fault) => {
-            let cause = cause_of(alloc, directory, &bytes, &fault);
-            Err(LoadRefusal {
-                fault: PathFault::Load(fault),
-                cause,
-            })
+    match gather(alloc, bytes, &mut files, directory) {
+        Ok(gathered) => {
+            let _arrays = gathered.directory.arrays();
+            match make_ruleset(alloc, bytes, gathered) {
+                Ok(made) => Ok(made),
+                Err(fault) => Err(LoadRefusal::of(PathFault::Load(fault))),
+            }
         }
+        Err(ungathered) => Err(refused(alloc, directory, ungathered)),
+    }
+}
+
+// Why nothing is gathered of a manifest's bytes, with its cause.
+fn refused(alloc: Global, directory: &Directory, ungathered: Ungathered) -> LoadRefusal
+    ensures { (known : KnownFiles) (path bytes : List ℕ)
+        → Gives (regular_files known) path (Some bytes)
+        → IsUngathered directory.now bytes ungathered
+        → RefusesTelling known path directory.now result.fault result.cause }
+{
+    let Ungathered { fault, arrays, .. } = ungathered;
+    let cause = cause_of(alloc, directory, &arrays, &fault);
+    LoadRefusal {
+        fault: PathFault::Load(fault),
+        cause,
     }
 }

@@ -1,6 +1,6 @@
 //! Why a load is refused, with what a log tells of it beside.
 
-ghost use Rattle.std.specs.Prelude.{Some};
+ghost use Rattle.std.specs.Prelude.{◌≡◌, Some, None};
 ghost use Rattle.load.specs.Texts.{path_fault_text};
 
 use crate::fault::PathFault;
@@ -15,6 +15,16 @@ pub struct LoadRefusal {
     /// twice; or an array as it stands, and as the manifest has it. None of other faults, nor where
     /// memory for it was refused.
     pub cause: Option<String>,
+}
+
+impl LoadRefusal {
+    // A fault of which nothing is told beside.
+    pub(crate) fn of(fault: PathFault) -> LoadRefusal
+        ensures fault { result.fault ≡ fault }
+        ensures cause { result.cause ≡ None }
+    {
+        LoadRefusal { fault, cause: None }
+    }
 }
 
 impl fmt::Display for LoadRefusal {

@@ -22,7 +22,7 @@ returns-in-Err-declare_arrays-clause-fault g c =
       parsed_is = nothing_parsed c.args.manifest.now c.args.directory.now _ _ fault;
     }
 
-pub returns-clause-fault : goal.returns-clause-fault
-returns-clause-fault g c =
+pub returns-in-Err-gather_apps-clause-fault : goal.returns-in-Err-gather_apps-clause-fault
+returns-in-Err-gather_apps-clause-fault g c =
     c.out_of_memory-in-Err-gather_apps.ensures c.args.directory.now c.args.manifest.now
     (λ some. (c.in-Ok.manifest, c.in-Ok.ensures.manifest, c.into_parts-server.ensures.arrays))

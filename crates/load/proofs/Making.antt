@@ -1,0 +1,80 @@
+-- What is made of what was gathered is what is loaded.
+use Rattle.std.proofs.Common.{◌≡◌, ℕ, List, sym, ◌∙◌, subst}
+use Rattle.std.specs.Prelude.{Ok}
+use Rattle.bounded_files.specs.Files.{KnownFiles}
+use Rattle.bpf_semantics.specs.Program.{ShapedProgram}
+use Rattle.cells.specs.Apart.{NumberedArraysAreNamed}
+use Rattle.cells.specs.Directory.{IsDirectory}
+use Rattle.cells.specs.declared.array.CellArray.{CellArray}
+use Rattle.declarations.specs.Order.{AreDeclared}
+use Rattle.ruleset.specs.Rules.{AppRule, HasTwice, KnowsOnly, Rules, appids_of}
+use Rattle.load.specs.Apps.{AreAppsOf}
+use Rattle.load.specs.Folder.{known_beside}
+use Rattle.load.specs.Gathered.{IsGathered}
+use Rattle.load.specs.Judged.{AreJudged, IsLoadOf, apps_of}
+use Rattle.load.specs.Load.{IsRulesetOf}
+use Rattle.load.specs.Loaded.{IsLoadedFrom}
+use Rattle.load.specs.Made.{GatheredIsMade, IsMadeFrom, IsMadeOf}
+use Rattle.load.specs.declared.gathering.Gathered.{Gathered}
+use Rattle.load.specs.declared.made.MadeRuleset.{MadeRuleset}
+use Rattle.load.proofs.Gathers.{gathered_is_loaded}
+use Rattle.load.proofs.Knowing.{apps_know}
+use Rattle.load.proofs.Names.{never_twice}
+
+module _ (known : KnownFiles) (old : List CellArray) (bytes : List ℕ) (g : Gathered)
+    (is : IsGathered known old bytes g) where
+  of_programs : (programs : List ShapedProgram) → AreJudged g.apps.items programs
+      → IsRulesetOf known old bytes
+      (record { server = is.manifest.server; apps = apps_of g.apps.items programs }) g.directory
+  of_programs programs judged =
+      let load : IsLoadOf known old bytes g is = gathered_is_loaded.manifest known old bytes g is in
+      load.supplied programs judged
+
+  once : (programs : List ShapedProgram) → AreJudged g.apps.items programs
+      → ¬ HasTwice (appids_of (apps_of g.apps.items programs))
+  once programs judged =
+      let r = of_programs programs judged in
+      never_twice known g.directory r.numbers r.manifest (apps_of g.apps.items programs) r.read.1
+      r.apps_are
+
+  is_ruleset : (made : MadeRuleset) → IsMadeOf bytes g made
+      → IsRulesetOf known old bytes made.rules made.directory
+  is_ruleset made m =
+      let r = of_programs m.programs m.judged in
+      let apps = subst
+      (λ (apps : List AppRule). AreAppsOf known g.directory r.numbers r.manifest.apps apps)
+      (sym m.apps_are) r.apps_are in
+      record {
+        manifest = r.manifest;
+        read = r.read;
+        numbers = r.numbers;
+        declared = subst
+            (λ (d : List CellArray). AreDeclared old r.manifest.arrays r.numbers d)
+            (sym m.directory_is) r.declared;
+        server_is = m.server_is ∙ is.server_is ∙ r.server_is;
+        apps_are = subst
+            (λ (d : List CellArray). AreAppsOf known d r.numbers r.manifest.apps made.rules.apps)
+            (sym m.directory_is) apps;
+      }
+
+pub gathered_is_made : GatheredIsMade
+gathered_is_made = λ known old bytes g is. record {
+  once = once known old bytes g is;
+  made = is_ruleset known old bytes g is;
+}
+
+-- the programs of a ruleset know only the arrays of the directory after it
+pub knows : NumberedArraysAreNamed → (known : KnownFiles) (old : List CellArray) (bytes : List ℕ)
+    (rules : Rules) (new : List CellArray) → IsDirectory new
+    → IsRulesetOf known old bytes rules new → KnowsOnly new rules
+knows law known old bytes rules new directory r =
+    apps_know law known new r.numbers directory.names r.manifest.apps rules.apps r.apps_are
+
+pub is_loaded : (known : KnownFiles) (path : List ℕ) (old : List CellArray) (made : MadeRuleset)
+    → IsMadeFrom known path old made → IsLoadedFrom known path old made.rules made.directory
+is_loaded known path old made from = record {
+  bytes = from.bytes;
+  given = from.given;
+  loaded = is_ruleset (known_beside known path) old from.bytes from.gathered from.is_gathered made
+      from.made_of;
+}

@@ -1,0 +1,29 @@
+-- The digest of a manifest and of its apps' files: SHA-256 (FIPS 180-4).
+use Rattle.std.specs.Prelude.{ℕ, List, [], ◌∷◌, ◌++◌, length, Option, Some, None}
+use Rattle.std.specs.Prelude.{option_map, option_and_then}
+use Rattle.std.specs.Int.{w64, to_be_bytes}
+use Rattle.sha2.specs.Sha256.{sha256}
+use Rattle.load.specs.declared.gathering.GatheredApp.{GatheredApp}
+use Rattle.load.specs.declared.kept.KeptFile.{KeptFile}
+use Rattle.load.specs.declared.kept.KeptFile.TheVariants.{Whole}
+
+-- a piece, behind its length in eight bytes, of which the high one is the first
+abbrev pub framed : List ℕ → List ℕ
+framed piece = to_be_bytes w64 (length piece) ++ piece
+
+-- the bytes of a file, where all are kept
+abbrev pub framed_file : KeptFile → Option (List ℕ)
+framed_file (Whole bytes) = Some (framed bytes.items)
+framed_file kept = None
+
+-- the files of apps, in their order
+unfoldable pub framed_files : List GatheredApp → Option (List ℕ)
+framed_files [] = Some []
+framed_files (app ∷ apps) =
+    option_and_then (λ file. option_map (λ files. file ++ files) (framed_files apps))
+    (framed_file app.kept)
+
+-- of a manifest, and of its apps' files, where all bytes of each are kept
+abbrev pub digest_of : List ℕ → List GatheredApp → Option (List ℕ)
+digest_of manifest apps =
+    option_map (λ files. sha256 (framed manifest ++ files)) (framed_files apps)

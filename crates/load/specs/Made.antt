@@ -1,0 +1,48 @@
+-- A ruleset that is made of a manifest and its files, as they were gathered, with the digest of all
+-- of it.
+use Rattle.std.specs.Prelude.{◌≡◌, ℕ, List, Some}
+use Rattle.bounded_files.specs.Files.{KnownFiles, Gives, regular_files}
+use Rattle.bpf_semantics.specs.Program.{ShapedProgram}
+use Rattle.cells.specs.declared.array.CellArray.{CellArray}
+use Rattle.load.specs.Digest.{digest_of}
+use Rattle.load.specs.Folder.{known_beside}
+use Rattle.load.specs.Gathered.{IsGathered}
+use Rattle.load.specs.Judged.{AreJudged, apps_of}
+use Rattle.load.specs.Load.{IsRulesetOf}
+use Rattle.load.specs.declared.gathering.Gathered.{Gathered}
+use Rattle.load.specs.declared.made.MadeRuleset.{MadeRuleset}
+use Rattle.ruleset.specs.Rules.{HasTwice, appids_of}
+
+-- Each app has the program that its file is judged to be, and the digest is that of the manifest's
+-- bytes and of the very bytes that were judged.
+pub record IsMadeOf (bytes : List ℕ) (g : Gathered) (made : MadeRuleset) : Type 0 where
+  pub programs : List ShapedProgram
+  pub judged : AreJudged g.apps.items programs
+  pub server_is : made.rules.server ≡ g.server
+  pub apps_are : made.rules.apps ≡ apps_of g.apps.items programs
+  pub directory_is : made.directory ≡ g.directory
+  pub digest_is : digest_of bytes g.apps.items ≡ Some made.digest
+
+-- The file at a path gives these bytes, this is gathered of them and of the files of its folder
+-- over the arrays that stand, and of that the ruleset is made.
+pub record IsMadeFrom (known : KnownFiles) (path : List ℕ) (old : List CellArray)
+    (made : MadeRuleset) : Type 0 where
+  pub bytes : List ℕ
+  pub given : Gives (regular_files known) path (Some bytes)
+  pub gathered : Gathered
+  pub is_gathered : IsGathered (known_beside known path) old bytes gathered
+  pub made_of : IsMadeOf bytes gathered made
+
+-- ---- what is made of what was gathered is what is loaded
+
+-- whatever its programs, no appid stands twice; and what is made of it is the manifest's ruleset
+pub record IsMadeLoad (known : KnownFiles) (old : List CellArray) (bytes : List ℕ) (g : Gathered)
+    : Type 0 where
+  pub once : (programs : List ShapedProgram) → AreJudged g.apps.items programs
+      → ¬ HasTwice (appids_of (apps_of g.apps.items programs))
+  pub made : (made : MadeRuleset) → IsMadeOf bytes g made
+      → IsRulesetOf known old bytes made.rules made.directory
+
+abbrev pub GatheredIsMade : Type 0
+GatheredIsMade = (known : KnownFiles) (old : List CellArray) (bytes : List ℕ) (g : Gathered)
+    → IsGathered known old bytes g → IsMadeLoad known old bytes g

@@ -1,0 +1,63 @@
+//! A ruleset that is made of what was gathered, with the digest of all that was judged.
+
+ghost use Rattle.std.specs.Prelude.{All, List, IfOk, IfErr};
+ghost use Rattle.bpf_semantics.specs.Program.{ShapedProgram};
+ghost use Rattle.load.specs.Gathered.{HasItsReleases};
+ghost use Rattle.load.specs.Judged.{AreJudged, RefusesFirst, apps_of};
+ghost use Rattle.load.specs.Made.{IsMadeOf};
+ghost use Rattle.ruleset.specs.Rules.{HasTwice, appids_of};
+
+use crate::digest::digest_of;
+use crate::fault::LoadFault;
+use crate::gathering::Gathered;
+use crate::programs::{judge, supply};
+use cells::Directory;
+use ruleset::Ruleset;
+use std::alloc::Global;
+
+/// A ruleset, the directory with its arrays declared behind those that stood, and the digest of the
+/// manifest and of the files of which it was made (`digest_of`).
+#[derive(Drop)]
+pub struct MadeRuleset {
+    pub rules: Ruleset,
+    pub directory: Directory,
+    pub digest: [u8; 32],
+}
+
+/// The ruleset of what was gathered of a manifest of these bytes, or the fault of the first app that
+/// has no program.
+// open: whether memory is refused (M8).
+pub fn make_ruleset(
+    alloc: Global,
+    manifest: &[u8],
+    gathered: Gathered,
+) -> Result<MadeRuleset, LoadFault>
+    requires shaped { All HasItsReleases gathered.apps.items }
+    requires once { (programs : List ShapedProgram) → AreJudged gathered.apps.items programs
+        → ¬ HasTwice (appids_of (apps_of gathered.apps.items programs)) }
+    ensures made { IfOk result (IsMadeOf manifest.now gathered) }
+    ensures fault { IfErr result (RefusesFirst gathered.apps.items) }
+{
+    let programs = judge(alloc, &gathered.apps)?;
+    let Some(digest) = digest_of(manifest, &gathered.apps) else {
+        return Err(LoadFault::Memory);
+    };
+    let Gathered {
+        server,
+        arrays: _arrays,
+        directory,
+        apps,
+        unread: _unread,
+    } = gathered;
+    let Ok(apps) = supply(alloc, apps, programs) else {
+        return Err(LoadFault::Memory);
+    };
+    let Ok(rules) = Ruleset::known(server.into_string(), apps) else {
+        return Err(LoadFault::Memory);
+    };
+    Ok(MadeRuleset {
+        rules,
+        directory,
+        digest,
+    })
+}
