@@ -123,8 +123,9 @@ picture_with drawing apps undrawn =
     picture_head (panels_end drawing 60 apps) drawing.bins undrawn ++ app_panels drawing 60 apps
     ++ codes "</svg>\n"
 
+-- the times that can be read by RFC 3339, to the second
 unfoldable pub no_asks : List ℕ
-no_asks = codes "<text x=\"20\" y=\"30\">No ask with a time from 1970 on.</text>\n"
+no_asks = codes "<text x=\"20\" y=\"30\">No ask with a time from 1970-01-01T00:00:00Z to 9999-12-30T22:00:00Z.</text>\n"
 
 abbrev pub picture_of_none : List ℕ
 picture_of_none = frame 60 ++ no_asks ++ codes "</svg>\n"
@@ -171,7 +172,7 @@ picture_by_table r t by_hour = picture_of_reach r t by_hour (reach_from None t.r
 abbrev pub picture_when : Report → Bool → List ℕ
 picture_when r by_hour = picture_by_table r (table_of r.course by_hour) by_hour
 
--- where no app was asked for, or nothing has a time from 1970 on, none is drawn
+-- where no app was asked for, or nothing has a time from 1970 on that can be read, none is drawn
 abbrev pub course_picture : Report → List ℕ
 course_picture r =
     if length r.asked.rows.entries == 0 then picture_of_none

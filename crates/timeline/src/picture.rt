@@ -23,7 +23,7 @@ const MOST_MINUTES: u64 = 6000;
 fn no_asks() -> &'static str
     ensures { result.now ≡ specs.no_asks }
 {
-    "<text x=\"20\" y=\"30\">No ask with a time from 1970 on.</text>\n"
+    "<text x=\"20\" y=\"30\">No ask with a time from 1970-01-01T00:00:00Z to 9999-12-30T22:00:00Z.</text>\n"
 }
 
 #[tactic(auto, unfolding(crate::specs::Pictures::heading))]
