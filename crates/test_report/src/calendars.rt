@@ -1,7 +1,6 @@
 //! Days of the calendar, and minutes of a log's times.
 
 use moments::{CivilDate, minute_in};
-use std::alloc::Global;
 use std::test::Fail;
 
 /// A date, its year, month and day, and how many days after 1970 began it is.

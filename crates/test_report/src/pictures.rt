@@ -64,7 +64,7 @@ const PICTURE: &str =
 const PICTURE_OF_NONE: &str =
     r##"<svg xmlns="http://www.w3.org/2000/svg" width="880" height="60" font-family="sans-serif" font-size="14">
 <rect width="880" height="60" fill="rgb(255,255,255)"/>
-<text x="20" y="30">No ask with a time from 1970 on.</text>
+<text x="20" y="30">No ask with a time from 1970-01-01T00:00:00Z to 9999-12-30T22:00:00Z.</text>
 </svg>
 "##;
 
@@ -115,6 +115,66 @@ fn what_isnt_drawn_is_told(rt: HostRuntime) -> Result<(), Fail> {
         let text = draw_course(rt.alloc(), &report)?;
         assert!(rt; text.contains(*wanted));
         assert!(rt; text.contains("Not drawn") == (*count > 256));
+    }
+    Ok(())
+}
+
+/// An ask between two loads, of which none is in its minute; a third one is.
+const LOADS_BESIDE: &str =
+    r##"{"time":"2026-11-25T07:59:59.999Z","kind":"load","path":"a.toml","generation":2}
+{"time":"2026-11-25T08:00:30.000Z","kind":"connection","status":200,"apps":[{"version":"1","choice":0,"appid":"app"}]}
+{"time":"2026-11-25T08:00:59.999Z","kind":"load","path":"b.toml","generation":3}
+{"time":"2026-11-25T08:01:00.000Z","kind":"load","path":"c.toml","generation":4}
+"##;
+
+/// An ask in the last second that can be read.
+const LAST_ASK: &str =
+    r##"{"time":"9999-12-30T22:00:00.999Z","kind":"connection","status":200,"apps":[{"version":"1","choice":0,"appid":"app"}]}
+"##;
+
+/// And one in the first minute of 1970, too: the last bin ends behind the year 9999.
+const FIRST_AND_LAST: &str =
+    r##"{"time":"1970-01-01T00:00:00.000Z","kind":"connection","status":200,"apps":[{"version":"1","choice":0,"appid":"app"}]}
+{"time":"9999-12-30T22:00:00.999Z","kind":"connection","status":200,"apps":[{"version":"1","choice":0,"appid":"app"}]}
+"##;
+
+/// An ask behind that isn't drawn.
+const LATE_ASK: &str =
+    r##"{"time":"9999-12-31T23:59:00.000Z","kind":"connection","status":200,"apps":[{"version":"1","choice":0,"appid":"app"}]}
+"##;
+
+/// Nor is one before 1970.
+const EARLY_ASK: &str =
+    r##"{"time":"1969-12-31T23:59:59.999Z","kind":"connection","status":200,"apps":[{"version":"1","choice":0,"appid":"app"}]}
+"##;
+
+/// A log, and what its picture has.
+const EDGES: [(&str, &str); 8] = [
+    (
+        LOADS_BESIDE,
+        "<text x=\"20\" y=\"50\">Not drawn: 2 loads</text>",
+    ),
+    (LOADS_BESIDE, ">load 3</text>"),
+    (LAST_ASK, ">22:00</text>"),
+    (LAST_ASK, ">9999-12-30</text>"),
+    (FIRST_AND_LAST, ">asks: 2</text>"),
+    (FIRST_AND_LAST, "Minutes a bin: 21223020</text>"),
+    (
+        LATE_ASK,
+        ">No ask with a time from 1970-01-01T00:00:00Z to 9999-12-30T22:00:00Z.</text>",
+    ),
+    (
+        EARLY_ASK,
+        ">No ask with a time from 1970-01-01T00:00:00Z to 9999-12-30T22:00:00Z.</text>",
+    ),
+];
+
+#[test]
+fn edges_of_time_are_drawn(rt: HostRuntime) -> Result<(), Fail> {
+    for (log, wanted) in &EDGES {
+        let report = drawn_report_of(rt.alloc(), log)?;
+        let text = draw_course(rt.alloc(), &report)?;
+        assert!(rt; text.contains(*wanted), "{wanted}");
     }
     Ok(())
 }
