@@ -1,12 +1,12 @@
 -- What a line more does to what is counted of lines.
 use Rattle.std.proofs.Common.{◌≡◌, ℕ, ◌+◌, ◌^◌, ◌-◌, List, [], ◌∷◌, ◌++◌, refl, sym, ap, ◌∙◌, arith}
-use Rattle.std.proofs.Common.{Bool, cond, min, Option, Some, None, append-nil, subst, flat_map}
-use Rattle.std.proofs.Common.{sum_by, count_by, is_some, is_none, if◌then◌else◌, codes}
+use Rattle.std.proofs.Common.{Bool, min, append-nil, subst, flat_map}
+use Rattle.std.proofs.Common.{sum_by, is_some, is_none}
 use Rattle.std.proofs.lemmas.List.Sums.{sum_by_push}
 use Rattle.std.proofs.lemmas.List.Concat.{flat_map-cons}
 use Rattle.std.proofs.lemmas.Grind.{flat_map-append}
 use Rattle.serde_json.specs.Data.{Data}
-use Rattle.report.specs.Counts.{Adds, Counts, GoesUp, all_names, one_if, total}
+use Rattle.report.specs.Counts.{Adds, GoesUp, all_names, one_if}
 use Rattle.report.specs.Courses.{if_drawn, hour_names, minute_names, version_names}
 use Rattle.report.specs.Names.{names_if}
 use Rattle.report.specs.Reading.{CountsLines}

@@ -1,7 +1,7 @@
 -- What is counted of bytes, one piece after another.
 use Rattle.std.proofs.Common.{◌≡◌, ◌≢◌, ℕ, suc, List, [], ◌∷◌, ◌++◌, refl, sym, ap, ◌∙◌, subst}
 use Rattle.std.proofs.Common.{append_assoc, append-nil, length, Bool, true, false, ◌==◌}
-use Rattle.std.proofs.Common.{if◌then◌else◌, eq-eqb, arith}
+use Rattle.std.proofs.Common.{if◌then◌else◌, arith}
 use Rattle.std.specs.Io.KnownBytes.{Consumes, IsAtEnd}
 use Rattle.std.specs.Prelude.{IfNone, IfSome, Option, None, Some}
 use Rattle.report.specs.Counts.{Counts}

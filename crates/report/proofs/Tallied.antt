@@ -4,8 +4,7 @@ use Rattle.std.proofs.Common.{◌≡◌, ℕ, ◌+◌, ◌^◌, ◌-◌, ◌<◌
 use Rattle.std.proofs.Common.{sym, ap, ◌∙◌}
 use Rattle.std.proofs.Common.{Bool, true, false, cond, Option, Some, None, is_none, is_some, min}
 use Rattle.std.proofs.Common.{arith}
-use Rattle.std.proofs.Common.{append_assoc, append-nil, count_by, subst, if◌then◌else◌, option_map}
-use Rattle.std.proofs.Common.{String, string_bytes}
+use Rattle.std.proofs.Common.{append_assoc, append-nil, count_by, subst, if◌then◌else◌}
 use Rattle.std.specs.BTreeMap.{btree_map_len, get_by_text}
 use Rattle.std.specs.Str.{bytes_eq}
 use Rattle.std.specs.Cmp.Lexicographic.{bytes_decides, nat_list_eq_equiv}

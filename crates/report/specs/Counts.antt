@@ -1,5 +1,5 @@
 -- What a report counts of the lines of a log.
-use Rattle.std.specs.Prelude.{◌≡◌, ℕ, ◌+◌, List, [], ◌∷◌, ◌++◌, codes, count_by, flat_map, sum_by}
+use Rattle.std.specs.Prelude.{◌≡◌, ℕ, ◌+◌, List, codes, count_by, flat_map, sum_by}
 use Rattle.std.specs.Prelude.{Bool, Option, Some, None, is_some, is_none, unwrap_or}
 use Rattle.std.specs.Prelude.{if◌then◌else◌}
 use Rattle.serde_json.specs.Data.{Data}

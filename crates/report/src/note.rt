@@ -1,6 +1,6 @@
 //! The names that a line's questions have, counted in their tables.
 
-ghost use Rattle.std.specs.Prelude.{◌≡◌, OnOk};
+ghost use Rattle.std.specs.Prelude.{OnOk};
 ghost use Rattle.serde_json.specs.View.{view, items_view};
 ghost use Rattle.report.specs.Events.{event_names};
 ghost use Rattle.report.specs.Names as specs;

@@ -1,6 +1,6 @@
 //! The rows of a report's text: a number, and what it counts.
 
-ghost use Rattle.std.specs.Prelude.{◌≡◌, ◌++◌, OnOk, codes};
+ghost use Rattle.std.specs.Prelude.{OnOk};
 ghost use Rattle.report.specs.Screen.{Puts};
 ghost use Rattle.report.specs.Screen as specs;
 

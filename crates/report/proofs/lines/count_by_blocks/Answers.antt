@@ -1,4 +1,4 @@
-use Rattle.std.proofs.Common.{List, ℕ, [], ◌++◌, ◌∙◌, rules, sym, subst, take}
+use Rattle.std.proofs.Common.{List, ℕ, [], ◌++◌, rules, sym, subst, take}
 use Rattle.std.specs.Io.KnownBytes.{Consumes, IsAtEnd}
 use Rattle.report.specs.Lines.{lines_behind}
 use Rattle.report.specs.Reading.{CountsLines, ReadsOn}
