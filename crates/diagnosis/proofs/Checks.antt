@@ -6,7 +6,7 @@ use Rattle.std.proofs.lemmas.Option.{none-some}
 use Rattle.rule_lang.specs.Tokens.{Text}
 use Rattle.rule_lang.specs.Verdicts.{RuleHasOneVerdict}
 use Rattle.cells.specs.Arrays.{AppShape}
-use Rattle.cells.specs.Directory.{IsDirectory}
+use Rattle.cells.specs.Directory.{Declaration, IsDirectory}
 use Rattle.manifest.specs.Manifest.{Manifest, ReadsManifest}
 use Rattle.manifest.specs.OneReading.{HasOneManifest}
 use Rattle.manifest.specs.declared.fault.ManifestFault.{ManifestFault}
@@ -17,10 +17,11 @@ use Rattle.load.specs.Judged.{GatheredIsLoaded}
 use Rattle.load.specs.OneLoad.{HasOneLoad}
 use Rattle.ruleset.specs.Rules.{AppRule, Rules}
 use Rattle.diagnosis.specs.Check.{FailsCheck, PassesCheck}
-use Rattle.diagnosis.specs.OneCheck.{HasOneCheck}
+use Rattle.diagnosis.specs.OneCheck.{AreToldAlike, HasOneCheck}
 use Rattle.diagnosis.specs.Texts.{accepted_text}
 use Rattle.diagnosis.proofs.OneTold.{warned_once}
-use Rattle.warnings.specs.declared.warning.Warning.{Warning}
+use Rattle.diagnosis.specs.declared.accepted.CheckedManifest.{CheckedManifest}
+use Rattle.diagnosis.specs.declared.told.Refused.{Refused}
 
 empty : IsDirectory []
 empty = record {
@@ -56,49 +57,54 @@ module _ (load : HasOneLoad) (gathered : GatheredIsLoaded)
       ap (λ (r : Result Manifest ManifestFault). manifest_in r other)
       (reading bytes (Ok m) (Ok other) h k (λ x. absurd cc) (λ x. absurd cc))
 
-  same_text : (text other : List ℕ) (warnings others : List Warning)
-      → PassesCheck (Some files) bytes text warnings
-      → PassesCheck (Some files) bytes other others → (text ≡ other) × (warnings ≡ others)
-  same_text text other warnings others p q =
+  same_told : (told other : CheckedManifest) → PassesCheck (Some files) bytes told
+      → PassesCheck (Some files) bytes other → AreToldAlike told other
+  same_told told other p q =
       let loads = load files [] bytes (Ok p.rules) (Ok q.rules) p.g.directory q.g.directory empty
       p.loaded q.loaded (λ x. absurd cc) (λ x. absurd cc) in
       let same : p.rules ≡ q.rules =
       ap (λ (r : Result Rules LoadFault). rules_in r q.rules) loads.0 in
-      let apps : p.rules.apps ≡ q.rules.apps = ap (λ (r : Rules). r.apps) same in
-      let read : p.loaded.manifest ≡ q.loaded.manifest =
-      same_manifest p.loaded.manifest q.loaded.manifest p.loaded.read q.loaded.read in (
-        p.text_is ∙ ap (λ (m : Manifest). accepted_text m.arrays p.rules.apps) read
-            ∙ ap (λ (a : List AppRule). accepted_text q.loaded.manifest.arrays a) apps
-            ∙ sym q.text_is,
-        warned_once verdict files bytes p.g q.g p.passes.programs q.passes.programs warnings others
-            p.gathered q.gathered
+      let apps : told.apps.items ≡ other.apps.items =
+      p.apps_are ∙ ap (λ (r : Rules). r.apps) same ∙ sym q.apps_are in
+      let read : p.gathered.manifest ≡ q.gathered.manifest =
+      same_manifest p.gathered.manifest q.gathered.manifest p.gathered.read q.gathered.read in
+      let arrays : told.arrays.items ≡ other.arrays.items =
+      p.arrays_are ∙ ap (λ (m : Manifest). m.arrays) read ∙ sym q.arrays_are in
+      record {
+        arrays = arrays;
+        apps = apps;
+        text = p.passes.text_is
+            ∙ ap (λ (d : List Declaration). accepted_text d told.apps.items) arrays
+            ∙ ap (λ (a : List AppRule). accepted_text other.arrays.items a) apps
+            ∙ sym q.passes.text_is;
+        warnings = warned_once verdict files bytes p.g q.g p.passes.programs q.passes.programs
+            told.warnings.items other.warnings.items p.gathered q.gathered
             ((gathered.manifest (Some files) [] bytes p.g p.gathered).gathered p.passes.programs
             p.passes.judged)
             ((gathered.manifest (Some files) [] bytes q.g q.gathered).gathered q.passes.programs
             q.passes.judged)
-            (same_manifest p.gathered.manifest q.gathered.manifest p.gathered.read
-            q.gathered.read) loads.1 (sym p.apps_are ∙ apps ∙ q.apps_are) p.passes.judged
-            q.passes.judged p.passes.warned q.passes.warned,
-      )
+            read loads.1 (sym p.passes.apps_are ∙ apps ∙ q.passes.apps_are) p.passes.judged
+            q.passes.judged p.passes.warned q.passes.warned;
+      }
 
-  same_fault : (e f : LoadFault) (reason other : List ℕ) → FailsCheck (Some files) bytes e reason
-      → FailsCheck (Some files) bytes f other → e ≢ Memory → f ≢ Memory → e ≡ f
-  same_fault e f reason other h k known also =
-      let loads = load files [] bytes (Err e) (Err f) [] [] empty (h.refused, refl)
+  same_fault : (r other : Refused) → FailsCheck (Some files) bytes r
+      → FailsCheck (Some files) bytes other → r.fault ≢ Memory → other.fault ≢ Memory
+      → r.fault ≡ other.fault
+  same_fault r other h k known also =
+      let loads = load files [] bytes (Err r.fault) (Err other.fault) [] [] empty (h.refused, refl)
       (k.refused, refl) (λ x. known (ap fault_in x)) (λ x. also (ap fault_in x)) in
       ap fault_in loads.0
 
-  not_both : (text : List ℕ) (warnings : List Warning) (e : LoadFault) (reason : List ℕ)
-      → PassesCheck (Some files) bytes text warnings → FailsCheck (Some files) bytes e reason
-      → e ≢ Memory → ⊥
-  not_both text warnings e reason p h known =
-      let loads = load files [] bytes (Ok p.rules) (Err e) p.g.directory [] empty p.loaded
+  not_both : (told : CheckedManifest) (r : Refused) → PassesCheck (Some files) bytes told
+      → FailsCheck (Some files) bytes r → r.fault ≢ Memory → ⊥
+  not_both told r p h known =
+      let loads = load files [] bytes (Ok p.rules) (Err r.fault) p.g.directory [] empty p.loaded
       (h.refused, refl) (λ x. absurd cc) (λ x. known (ap fault_in x)) in
       let same = loads.0 in absurd cc
 
   pub one_check : HasOneCheck files bytes
   one_check = record {
-    text = same_text;
+    passes = same_told;
     fault = same_fault;
-    either = λ text warnings e reason p h. is_memory e (not_both text warnings e reason p h);
+    either = λ told r p h. is_memory r.fault (not_both told r p h);
   }

@@ -1,68 +1,81 @@
--- The lines of faults, one after the other.
-use Rattle.std.proofs.Common.{◌≡◌, ◌⊎◌, ℕ, ◌-◌, List, [], ◌∷◌, ◌++◌, length, take}
-use Rattle.std.proofs.Common.{◌+◌, min, inl, arith}
-use Rattle.std.proofs.Common.{refl, sym, ap, ◌∙◌, subst, append_assoc, append-nil}
-use Rattle.std.proofs.lemmas.List.{take_min}
+-- Faults, each with its own lines.
+use Rattle.std.proofs.Common.{◌≡◌, ℕ, ◌-◌, List, [], ◌∷◌, ◌++◌, length, map, flat_map, take, All}
+use Rattle.std.proofs.Common.{sym, ap, ◌∙◌, subst, append_assoc, append-nil}
+use Rattle.std.proofs.lemmas.List.{map-append}
+use Rattle.std.proofs.lemmas.List.Elements.{All-append, All-cons, All-nil}
 use Rattle.cells.specs.Directory.{Declaration}
 use Rattle.diagnosis.specs.Further.{AreFurther}
-use Rattle.diagnosis.specs.Reason.{IsReason}
-use Rattle.diagnosis.specs.Told.{AreFaultsTold, IsFaultTold, TellsFurther, TellsRefused, more_line}
-use Rattle.diagnosis.specs.Told.AreFaultsTold.{none, next}
+use Rattle.diagnosis.specs.Lines.{fault_lines}
+use Rattle.diagnosis.specs.Told.{AreFaultsTold, IsFaultTold, TellsFurther}
+use Rattle.diagnosis.specs.declared.told.ToldFault.{ToldFault}
 use Rattle.load.specs.declared.fault.LoadFault.{LoadFault}
 use Rattle.load.specs.declared.gathering.GatheredApp.{GatheredApp}
+use Rattle.manifest.specs.declared.refused.Parsed.{Parsed}
+
+abbrev pub faults_in : List ToldFault → List LoadFault
+faults_in told = map (λ (t : ToldFault). t.fault) told
+
+pub none_yet : (old : List ToldFault) (left all : List LoadFault) → old ≡ [] → left ≡ all
+    → faults_in old ++ left ≡ all
+none_yet old left all empty is = ap (λ l. faults_in l ++ left) empty ∙ is
+
+-- the lines so far, and those of what is left, are all lines
+pub lines_more : (old new : List ℕ) (told : ToldFault) (left rest : List ToldFault) (all : List ℕ)
+    → old ++ flat_map fault_lines left ≡ all → left ≡ told ∷ rest
+    → new ≡ old ++ fault_lines told → new ++ flat_map fault_lines rest ≡ all
+lines_more old new told left rest all so_far left_is new_is =
+    ap (λ n. n ++ flat_map fault_lines rest) new_is
+    ∙ append_assoc old (fault_lines told) (flat_map fault_lines rest)
+    ∙ ap (λ (l : List ToldFault). old ++ flat_map fault_lines l) (sym left_is) ∙ so_far
+
+pub all_lines : (text : List ℕ) (left : List ToldFault) (all : List ℕ)
+    → text ++ flat_map fault_lines left ≡ all → left ≡ [] → text ≡ all
+all_lines text left all so_far is =
+    sym (append-nil text)
+    ∙ ap (λ (l : List ToldFault). text ++ flat_map fault_lines l) (sym is) ∙ so_far
+
+-- those so far, and those that are left, are all
+pub faults_more : (old new : List ToldFault) (t : ToldFault) (fault : LoadFault)
+    (left rest all : List LoadFault) → faults_in old ++ left ≡ all → left ≡ fault ∷ rest
+    → t.fault ≡ fault → new ≡ old ++ t ∷ [] → faults_in new ++ rest ≡ all
+faults_more old new t fault left rest all so_far left_is same new_is =
+    ap (λ l. faults_in l ++ rest) new_is
+    ∙ ap (λ l. l ++ rest) (map-append (λ (s : ToldFault). s.fault) old (t ∷ []))
+    ∙ append_assoc (faults_in old) (t.fault ∷ []) rest
+    ∙ ap (λ (f : LoadFault). faults_in old ++ f ∷ rest) same
+    ∙ ap (λ l. faults_in old ++ l) (sym left_is) ∙ so_far
 
 module _ (arrays : List Declaration) (apps : List GatheredApp) where
-  -- one fault more
-  pub told_more : (fault : LoadFault) (left others : List LoadFault) (old told new rest : List ℕ)
-      (all : List ℕ → Type 0)
-      → ((more : List ℕ) → AreFaultsTold arrays apps left more → all (old ++ more))
-      → IsFaultTold arrays apps fault told → left ≡ fault ∷ others → new ≡ old ++ told
-      → AreFaultsTold arrays apps others rest → all (new ++ rest)
-  told_more fault left others old told new rest all so_far is left_is new_is later =
-      let lines : AreFaultsTold arrays apps left (told ++ rest) = rw left_is (next is later) in
-      subst all (sym (ap (λ n. n ++ rest) new_is ∙ append_assoc old told rest))
-      (so_far (told ++ rest) lines)
+  pub none_told : (old : List ToldFault) → old ≡ [] → All (IsFaultTold arrays apps) old
+  none_told old is =
+      subst (λ (l : List ToldFault). All (IsFaultTold arrays apps) l) (sym is)
+      (All-nil (IsFaultTold arrays apps))
 
-  -- there is none more
-  pub told_all : (left : List LoadFault) (text : List ℕ) (all : List ℕ → Type 0)
-      → ((more : List ℕ) → AreFaultsTold arrays apps left more → all (text ++ more))
-      → left ≡ [] → all text
-  told_all left text all so_far is =
-      let nothing : AreFaultsTold arrays apps left [] = rw is none in
-      subst all (append-nil text) (so_far [] nothing)
+  pub each_more : (old new : List ToldFault) (t : ToldFault) → All (IsFaultTold arrays apps) old
+      → IsFaultTold arrays apps t → new ≡ old ++ t ∷ [] → All (IsFaultTold arrays apps) new
+  each_more old new t each is new_is =
+      subst (λ (l : List ToldFault). All (IsFaultTold arrays apps) l) (sym new_is)
+      (All-append (IsFaultTold arrays apps) old (t ∷ []) each
+      (All-cons (IsFaultTold arrays apps) t [] is (All-nil (IsFaultTold arrays apps))))
 
-module _ (bytes : List ℕ) (arrays : List Declaration) (apps : List GatheredApp) where
+  pub all_told : (told : List ToldFault) (left faults : List LoadFault)
+      → faults_in told ++ left ≡ faults → left ≡ [] → All (IsFaultTold arrays apps) told
+      → AreFaultsTold arrays apps faults told
+  all_told told left faults are is each = record {
+    faults_are = sym (append-nil (faults_in told)) ∙ ap (λ l. faults_in told ++ l) (sym is) ∙ are;
+    each = each;
+  }
+
+module _ (parsed : Parsed) (arrays : List Declaration) (apps : List GatheredApp) where
   -- nine of them, and how many there are more
-  pub nine_told : (fault : LoadFault) (faults lent first others : List LoadFault)
-      (count : ℕ) (told text : List ℕ) → AreFurther bytes arrays apps fault faults
-      → lent ≡ faults → count ≡ min 9 (length lent) → first ≡ take count lent
-      → length others + count ≡ length lent → AreFaultsTold arrays apps first told
-      → text ≡ told ++ more_line (length others) → TellsFurther bytes arrays apps fault text
-  nine_told fault faults lent first others count told text further whole is first_is rest lines
-      text_is =
-      let nine : first ≡ take 9 faults =
-      first_is ∙ ap (λ n. take n lent) is ∙ take_min 9 lent
-      ∙ ap (λ (l : List LoadFault). take 9 l) whole in
-      let all : length lent ≡ length faults = ap (λ (l : List LoadFault). length l) whole in
-      let left : length others ≡ length faults - 9 = omega (arith, rest, is, all) in
+  pub nine_told : (fault : LoadFault) (faults few : List LoadFault) (told : List ToldFault)
+      (count left_out : ℕ) → AreFurther parsed arrays apps fault faults → few ≡ take 9 faults
+      → AreFaultsTold arrays apps few told → count ≡ length faults → left_out ≡ count - 9
+      → TellsFurther parsed arrays apps fault told left_out
+  nine_told fault faults few told count left_out further few_are lines count_is left_out_is =
       record {
         faults = faults;
         further = further;
-        told = told;
-        first = subst (λ (l : List LoadFault). AreFaultsTold arrays apps l told) nine lines;
-        text_is = text_is ∙ ap (λ n. told ++ more_line n) left;
+        first = subst (λ (l : List LoadFault). AreFaultsTold arrays apps l told) few_are lines;
+        left_out_is = left_out_is ∙ ap (λ n. n - 9) count_is;
       }
-
-  -- ---- all that is told
-
-  -- where and why alone
-  pub told_alone : (fault : LoadFault) (reason : List ℕ)
-      → (reason ≡ []) ⊎ IsReason arrays apps fault reason
-      → TellsRefused bytes arrays apps fault reason
-  told_alone fault reason why = record {
-    reason = reason;
-    why = why;
-    behind = [];
-    further = inl refl;
-    text_is = sym (append-nil reason);
-  }

@@ -1,4 +1,3 @@
-mod Once
 mod Parts
 mod Slots
 mod AppsTold

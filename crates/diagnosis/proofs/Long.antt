@@ -1,24 +1,25 @@
 -- A manifest that is too long fails for this, whatever its bytes are.
-use Rattle.std.proofs.Common.{◌≡◌, ◌⊎◌, List, ℕ, [], arith, refl}
-use Rattle.load.specs.Load.{of_bytes}
+use Rattle.std.proofs.Common.{◌≡◌, [], sym, subst, arith}
+use Rattle.load.specs.Load.{IsLoadFault, of_bytes}
+use Rattle.load.specs.Gathered.{IsParsedBeside}
+use Rattle.load.specs.declared.fault.LoadFault.{LoadFault}
 use Rattle.load.specs.declared.fault.LoadFault.TheVariants.{Manifest}
 use Rattle.manifest.specs.declared.fault.ManifestFault.TheVariants.{Toml}
 use Rattle.manifest.specs.declared.fault.TomlFault.TheVariants.{TooLong}
+use Rattle.manifest.specs.declared.refused.Parsed.TheVariants.{Nothing}
 use Rattle.diagnosis.specs.Check.{FailsIfLong, no_file}
-use Rattle.diagnosis.specs.Reason.{IsTomlReason}
-use Rattle.diagnosis.proofs.FaultsTold.{told_alone}
+use Rattle.diagnosis.specs.Told.{TellsRefused}
+use Rattle.diagnosis.specs.declared.told.Refused.{Refused}
 
-pub fails_if_long : (text : List ℕ) → (text ≡ []) ⊎ IsTomlReason TooLong text
-    → FailsIfLong (Manifest (Toml TooLong)) text
-fails_if_long text why known bytes long = record {
-  refused = of_bytes long;
+pub fails_if_long : (r : Refused) → r.fault ≡ Manifest (Toml TooLong)
+    → TellsRefused Nothing [] [] 0 r → FailsIfLong r
+fails_if_long r is told known bytes long = record {
+  refused = subst (λ (f : LoadFault). IsLoadFault known [] bytes f) (sym is) (of_bytes long);
+  parsed = Nothing;
+  parsed_is = subst (λ (f : LoadFault). IsParsedBeside bytes f Nothing) (sym is) tt;
   arrays = [];
   apps = [];
   unread = 0;
   seen = no_file (λ some. absurd (omega (arith, some)));
-  told = record {
-    told = text;
-    refused = told_alone bytes [] [] (Manifest (Toml TooLong)) text why;
-    ends = refl;
-  };
+  told = told;
 }

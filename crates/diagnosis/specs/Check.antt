@@ -1,49 +1,55 @@
 -- What comes of the check of a manifest, which is loaded over no arrays. All of it is by what was
 -- gathered: of each file that an app names the same bytes are judged, shown and asked.
-use Rattle.std.specs.Prelude.{◌≡◌, ◌<◌, ℕ, List, [], length}
+use Rattle.std.specs.Prelude.{◌≡◌, ◌<◌, ℕ, List, [], length, string_bytes, Some}
 use Rattle.bpf_semantics.specs.Program.{ShapedProgram}
 use Rattle.cells.specs.Directory.{Declaration}
-use Rattle.diagnosis.specs.Texts.{accepted_text, loaded_text}
-use Rattle.diagnosis.specs.Told.{TellsAll}
+use Rattle.diagnosis.specs.Texts.{accepted_text}
+use Rattle.diagnosis.specs.Told.{TellsRefused}
 use Rattle.diagnosis.specs.Warned.{WarnsOf}
+use Rattle.diagnosis.specs.declared.accepted.CheckedManifest.{CheckedManifest}
+use Rattle.diagnosis.specs.declared.told.Refused.{Refused}
 use Rattle.bounded_files.specs.Files.{KnownFiles}
-use Rattle.load.specs.Gathered.{AreArraysOf, IsGathered}
+use Rattle.load.specs.Digest.{digest_of}
+use Rattle.load.specs.Gathered.{AreArraysOf, IsGathered, IsParsedBeside}
 use Rattle.load.specs.Judged.{AreJudged, RefusesFirst, apps_of}
 use Rattle.load.specs.Load.{IsRulesetOf, IsLoadFault}
-use Rattle.load.specs.declared.fault.LoadFault.{LoadFault}
 use Rattle.load.specs.declared.gathering.Gathered.{Gathered}
 use Rattle.load.specs.declared.gathering.GatheredApp.{GatheredApp}
+use Rattle.manifest.specs.declared.refused.Parsed.{Parsed}
+use Rattle.manifest.specs.declared.refused.Parsed.TheVariants.{Nothing}
 use Rattle.ruleset.specs.Rules.{Rules}
-use Rattle.warnings.specs.declared.warning.Warning.{Warning}
 
 -- ---- of the apps that were gathered
 
--- each has its program, this is told of arrays and apps, and these are the warnings
-pub record PassesApps (g : Gathered) (text : List ℕ) (warnings : List Warning) : Type 0 where
+-- each has its program, and these are the arrays and the apps, their lines, the warnings, and the
+-- digest of the manifest's bytes and of its files
+pub record PassesApps (bytes : List ℕ) (g : Gathered) (told : CheckedManifest) : Type 0 where
   pub programs : List ShapedProgram
   pub judged : AreJudged g.apps.items programs
-  pub text_is : text ≡ loaded_text g.directory (apps_of g.apps.items programs)
-  pub warned : WarnsOf g programs warnings
+  pub arrays_are : told.arrays.items ≡ g.arrays.items
+  pub apps_are : told.apps.items ≡ apps_of g.apps.items programs
+  pub text_is : string_bytes told.text ≡ accepted_text told.arrays.items told.apps.items
+  pub warned : WarnsOf g programs told.warnings.items
+  pub digest_is : digest_of bytes g.apps.items ≡ Some told.digest
 
--- the first that has none has this fault, and this is told of where and why, and of the further
--- faults, and where there are apps left, whose files aren't read
-pub record FailsApps (bytes : List ℕ) (g : Gathered) (fault : LoadFault) (reason : List ℕ)
-    : Type 0 where
-  pub refused : RefusesFirst g.apps.items fault
-  pub told : TellsAll bytes g.arrays.items g.apps.items g.unread fault reason
+-- the first that has none has this fault, and this is told of it, of the further faults, and of the
+-- apps whose files aren't read
+pub record FailsApps (g : Gathered) (r : Refused) : Type 0 where
+  pub refused : RefusesFirst g.apps.items r.fault
+  pub told : TellsRefused Nothing g.arrays.items g.apps.items g.unread r
 
 -- ---- of the manifest
 
 module _ (known : KnownFiles) (bytes : List ℕ) where
-  -- it comes to a ruleset, of whose arrays and apps this is told, and these are the warnings
-  pub record PassesCheck (text : List ℕ) (warnings : List Warning) : Type 0 where
+  -- it comes to a ruleset, whose arrays and apps these are
+  pub record PassesCheck (told : CheckedManifest) : Type 0 where
     pub g : Gathered
     pub gathered : IsGathered known [] bytes g
-    pub passes : PassesApps g text warnings
+    pub passes : PassesApps bytes g told
     pub rules : Rules
     pub loaded : IsRulesetOf known [] bytes rules g.directory
-    pub apps_are : rules.apps ≡ apps_of g.apps.items passes.programs
-    pub text_is : text ≡ accepted_text loaded.manifest.arrays rules.apps
+    pub arrays_are : told.arrays.items ≡ gathered.manifest.arrays
+    pub apps_are : told.apps.items ≡ rules.apps
 
   -- what was gathered until it was refused: nothing, its arrays, or its apps, too, and how many
   -- there are behind these
@@ -52,17 +58,19 @@ module _ (known : KnownFiles) (bytes : List ℕ) where
     files : (g : Gathered) → IsGathered known [] bytes g
         → IsSeen g.arrays.items g.apps.items g.unread
 
-  -- it has this fault, and this is told of where and why, and of the further faults
-  pub record FailsCheck (fault : LoadFault) (reason : List ℕ) : Type 0 where
-    pub refused : IsLoadFault known [] bytes fault
+  -- it has this fault, and this is told of it and of the further faults, by what its bytes were
+  -- parsed as and what was gathered
+  pub record FailsCheck (r : Refused) : Type 0 where
+    pub refused : IsLoadFault known [] bytes r.fault
+    pub parsed : Parsed
+    pub parsed_is : IsParsedBeside bytes r.fault parsed
     pub arrays : List Declaration
     pub apps : List GatheredApp
     pub unread : ℕ
     pub seen : IsSeen arrays apps unread
-    pub told : TellsAll bytes arrays apps unread fault reason
+    pub told : TellsRefused parsed arrays apps unread r
 
--- every manifest of more than 1048576 bytes comes to this fault, whatever its files give
-abbrev pub FailsIfLong : LoadFault → List ℕ → Type 0
-FailsIfLong fault reason =
-    (known : KnownFiles) (bytes : List ℕ) → 1048576 < length bytes
-    → FailsCheck known bytes fault reason
+-- every manifest of more than 1048576 bytes comes to this, whatever its files give
+abbrev pub FailsIfLong : Refused → Type 0
+FailsIfLong r =
+    (known : KnownFiles) (bytes : List ℕ) → 1048576 < length bytes → FailsCheck known bytes r

@@ -16,6 +16,7 @@ use Rattle.load.specs.declared.fault.LoadFault.TheVariants.{Manifest as NoManife
 use Rattle.load.specs.declared.fault.LoadFault.TheVariants.{Rule, Cells, Memory}
 use Rattle.load.specs.declared.gathering.GatheredApp.{GatheredApp}
 use Rattle.manifest.specs.declared.fault.ManifestFault.TheVariants as unread
+use Rattle.manifest.specs.declared.refused.Parsed.{Parsed}
 
 -- the fault of the app of this number, if it has one
 abbrev pub fault_of_app : ℕ → Option AppFault → List LoadFault
@@ -39,14 +40,14 @@ pub data AreFaultsOf : ℕ → List GatheredApp → List LoadFault → Type 0 wh
 abbrev pub AreBehind : List GatheredApp → ℕ → List LoadFault → Type 0
 AreBehind apps number faults = AreFaultsOf (number + 1) (drop number apps) faults
 
-module _ (bytes : List ℕ) (arrays : List Declaration) (apps : List GatheredApp) where
-  -- those behind this fault of a manifest
+module _ (parsed : Parsed) (arrays : List Declaration) (apps : List GatheredApp) where
+  -- those behind this fault of a manifest, by what its bytes were parsed as and what was gathered
   abbrev pub AreFurther : LoadFault → List LoadFault → Type 0
   AreFurther (File number) faults = AreBehind apps number faults
   AreFurther (Program number fault) faults = AreBehind apps number faults
   AreFurther (Rule number fault) faults = AreBehind apps number faults
-  AreFurther (NoManifest (unread.Field misfit)) faults = AreOtherMisfits bytes faults
-  AreFurther (NoManifest (unread.Duplicate twice)) faults = AreOtherTwice bytes faults
+  AreFurther (NoManifest (unread.Field misfit)) faults = AreOtherMisfits parsed faults
+  AreFurther (NoManifest (unread.Duplicate twice)) faults = AreOtherTwice parsed faults
   AreFurther (NoManifest fault) faults = faults ≡ []
   AreFurther (Cells number fault) faults = AreUndeclared arrays number faults
   AreFurther Memory faults = faults ≡ []

@@ -6,7 +6,7 @@ pub mod Unused
 pub mod Warned
 pub mod Asked
 pub mod Reason
-pub mod Refusal
+pub mod Lines
 pub mod Undeclared
 pub mod Others
 pub mod Further

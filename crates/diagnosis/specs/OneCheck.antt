@@ -1,22 +1,27 @@
 -- A manifest has one check.
-use Rattle.std.specs.Prelude.{◌≡◌, ◌≢◌, ℕ, List, Option, Some}
+use Rattle.std.specs.Prelude.{◌≡◌, ◌≢◌, ℕ, List, Option, Some, string_bytes}
 use Rattle.bounded_files.specs.Files.{KnownFile}
-use Rattle.load.specs.declared.fault.LoadFault.{LoadFault}
 use Rattle.load.specs.declared.fault.LoadFault.TheVariants.{Memory}
 use Rattle.diagnosis.specs.Check.{FailsCheck, PassesCheck}
-use Rattle.warnings.specs.declared.warning.Warning.{Warning}
+use Rattle.diagnosis.specs.declared.accepted.CheckedManifest.{CheckedManifest}
+use Rattle.diagnosis.specs.declared.told.Refused.{Refused}
 
--- of files that tell their bytes a manifest passes with one text and the same warnings, or has one
--- fault, want of memory aside
+-- with the same arrays and apps, the same lines of these, and the same warnings
+pub record AreToldAlike (told other : CheckedManifest) : Type 0 where
+  pub arrays : told.arrays.items ≡ other.arrays.items
+  pub apps : told.apps.items ≡ other.apps.items
+  pub text : string_bytes told.text ≡ string_bytes other.text
+  pub warnings : told.warnings.items ≡ other.warnings.items
+
+-- of files that tell their bytes a manifest passes one way, or has one fault, want of memory aside
 pub record HasOneCheck (files : List ℕ → Option KnownFile) (bytes : List ℕ) : Type 0 where
-  pub text : (text other : List ℕ) (warnings others : List Warning)
-      → PassesCheck (Some files) bytes text warnings
-      → PassesCheck (Some files) bytes other others → (text ≡ other) × (warnings ≡ others)
-  pub fault : (e f : LoadFault) (reason other : List ℕ) → FailsCheck (Some files) bytes e reason
-      → FailsCheck (Some files) bytes f other → e ≢ Memory → f ≢ Memory → e ≡ f
-  pub either : (text : List ℕ) (warnings : List Warning) (e : LoadFault) (reason : List ℕ)
-      → PassesCheck (Some files) bytes text warnings → FailsCheck (Some files) bytes e reason
-      → e ≡ Memory
+  pub passes : (told other : CheckedManifest) → PassesCheck (Some files) bytes told
+      → PassesCheck (Some files) bytes other → AreToldAlike told other
+  pub fault : (r other : Refused) → FailsCheck (Some files) bytes r
+      → FailsCheck (Some files) bytes other → r.fault ≢ Memory → other.fault ≢ Memory
+      → r.fault ≡ other.fault
+  pub either : (told : CheckedManifest) (r : Refused) → PassesCheck (Some files) bytes told
+      → FailsCheck (Some files) bytes r → r.fault ≡ Memory
 
 abbrev pub ChecksOneWay : Type 0
 ChecksOneWay = (files : List ℕ → Option KnownFile) (bytes : List ℕ)

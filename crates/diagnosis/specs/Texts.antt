@@ -1,8 +1,7 @@
 -- The lines that are told of a manifest, each ended by a line feed. An appid and the name of a file
 -- are told as they are printed, so that neither begins a line.
 use Rattle.std.specs.Prelude.{ℕ, List, ◌++◌, length, codes, decimal, flat_map}
-use Rattle.cells.specs.Directory.{Declaration, declaration}
-use Rattle.cells.specs.declared.array.CellArray.{CellArray}
+use Rattle.cells.specs.Directory.{Declaration}
 use Rattle.declarations.specs.Texts.{declaration_text}
 use Rattle.load.specs.Source.{file_of}
 use Rattle.manifest.specs.declared.app.ProgramSource.{ProgramSource}
@@ -26,16 +25,6 @@ printed_app_line app = line (codes "app " ++ printed app.appid
 -- a line an array, and then a line an app
 abbrev pub accepted_text : List Declaration → List AppRule → List ℕ
 accepted_text arrays apps = flat_map array_line arrays ++ flat_map printed_app_line apps
-
--- an array of a directory as it was declared
-abbrev pub as_declared : CellArray → Declaration
-as_declared a = declaration a.name a.width a.length a.quota
-
-abbrev pub declared_line : CellArray → List ℕ
-declared_line a = array_line (as_declared a)
-
-abbrev pub loaded_text : List CellArray → List AppRule → List ℕ
-loaded_text arrays apps = flat_map declared_line arrays ++ flat_map printed_app_line apps
 
 -- ---- of one that is refused: the path of a member, in which tables are numbered from 1
 

@@ -1,15 +1,15 @@
 //! What is told of a manifest that is accepted.
 
-ghost use Rattle.std.specs.Prelude.{◌≡◌, ◌++◌, flat_map, All, IfOk, OnOk, string_bytes};
-ghost use Rattle.declarations.specs.Texts as declarations;
+ghost use Rattle.std.specs.Prelude.{◌≡◌, ◌++◌, flat_map, All, IfOk, OnOk, Some, string_bytes};
 ghost use Rattle.diagnosis.specs.Check.{PassesApps};
-ghost use Rattle.diagnosis.specs.Texts.{declared_line, loaded_text, printed_app_line};
+ghost use Rattle.diagnosis.specs.Texts.{accepted_text, array_line, printed_app_line};
+ghost use Rattle.load.specs.Digest.{digest_of};
 ghost use Rattle.load.specs.Gathered.{HasItsReleases};
 ghost use Rattle.load.specs.Judged.{AreJudged};
 
 use crate::warned::{tell_warnings, told_of_apps};
 use bpf_verify::Verified;
-use cells::{CellArray, CellWidth};
+use declarations::ArrayDeclaration;
 use load::{Gathered, supply};
 use printing::Printed;
 use ruleset::App;
@@ -18,43 +18,70 @@ use std::fmt::Write;
 use warnings::Warning;
 
 /// What is told of a manifest that is accepted.
-#[derive(Debug, Drop)]
+#[derive(Drop)]
 pub struct CheckedManifest {
-    /// What it declares: lines, each ended by a line feed.
+    /// Its arrays, in order.
+    pub arrays: Vec<ArrayDeclaration>,
+    /// Its apps, in order, each with its program and its releases.
+    pub apps: Vec<App>,
+    /// What it declares: a line an array, and then a line an app, each ended by a line feed.
     pub text: String,
     /// What it hardly means, in the order in which it is told.
     pub warnings: Vec<Warning>,
+    /// The digest of its bytes and of those of its apps' files (`digest_of` of `load`), by which a
+    /// server says what it loaded.
+    pub digest: [u8; 32],
 }
 
-/// A line an array, and then a line an app; and the warnings.
+/// Its arrays and its apps, a line for each; the warnings, and the digest.
 pub(crate) fn tell_accepted(
     alloc: Global,
+    manifest: &[u8],
     gathered: Gathered,
     programs: Vec<Verified>,
 ) -> Result<CheckedManifest, AllocError>
     requires shaped { All HasItsReleases gathered.apps.items }
     requires judged { AreJudged gathered.apps.items programs.items }
-    ensures { IfOk result (λ told. PassesApps gathered (string_bytes told.text)
-        told.warnings.items) }
+    ensures { IfOk result (PassesApps manifest.now gathered) }
 {
     let told = told_of_apps(alloc, gathered.apps.as_slice())?;
+    let digest = digest_told(manifest, &gathered)?;
     let Gathered {
         server: _server,
-        arrays: _arrays,
+        arrays,
         directory,
-        apps,
+        apps: gathered_apps,
         unread: _unread,
     } = gathered;
-    let supplied = supply(alloc, apps, programs)?;
-    let arrays = directory.arrays();
-    let apps = supplied.as_slice();
-    let text = tell_loaded(alloc, arrays, apps)?;
-    let warnings = tell_warnings(alloc, arrays, apps, told.as_slice())?;
-    Ok(CheckedManifest { text, warnings })
+    let apps = supply(alloc, gathered_apps, programs)?;
+    let text = tell_loaded(alloc, arrays.as_slice(), apps.as_slice())?;
+    let warnings = tell_warnings(alloc, directory.arrays(), apps.as_slice(), told.as_slice())?;
+    Ok(CheckedManifest {
+        arrays,
+        apps,
+        text,
+        warnings,
+        digest,
+    })
 }
 
-fn tell_loaded(alloc: Global, arrays: &[CellArray], apps: &[App]) -> Result<String, AllocError>
-    ensures { IfOk result (λ text. string_bytes text ≡ loaded_text arrays.now apps.now) }
+// Of an accepted app all bytes of its file are kept: were they not, nothing would be told.
+fn digest_told(manifest: &[u8], gathered: &Gathered) -> Result<[u8; 32], AllocError>
+    ensures { IfOk result (λ digest.
+        digest_of manifest.now gathered.now.apps.items ≡ Some digest) }
+{
+    match load::digest_of(manifest, gathered.apps.as_slice()) {
+        Some(digest) => Ok(digest),
+        None => Err(AllocError),
+    }
+}
+
+fn tell_loaded(
+    alloc: Global,
+    arrays: &[ArrayDeclaration],
+    apps: &[App],
+) -> Result<String, AllocError>
+    ensures { IfOk result (λ text. string_bytes text ≡ accepted_text arrays.now apps.now) }
 {
     let mut text = String::new(alloc);
     tell_arrays(&mut text, arrays)?;
@@ -62,9 +89,9 @@ fn tell_loaded(alloc: Global, arrays: &[CellArray], apps: &[App]) -> Result<Stri
     Ok(text)
 }
 
-fn tell_arrays(text: &mut String, arrays: &[CellArray]) -> Result<(), AllocError>
+fn tell_arrays(text: &mut String, arrays: &[ArrayDeclaration]) -> Result<(), AllocError>
     ensures { OnOk result
-        (string_bytes text.new ≡ string_bytes text.old ++ flat_map declared_line arrays.now) }
+        (string_bytes text.new ≡ string_bytes text.old ++ flat_map array_line arrays.now) }
 {
     for array in arrays {
         tell_array(text, array)?;
@@ -72,17 +99,11 @@ fn tell_arrays(text: &mut String, arrays: &[CellArray]) -> Result<(), AllocError
     Ok(())
 }
 
-fn tell_array(text: &mut String, array: &CellArray) -> Result<(), AllocError>
+fn tell_array(text: &mut String, array: &ArrayDeclaration) -> Result<(), AllocError>
     ensures { OnOk result
-        (string_bytes text.new ≡ string_bytes text.old ++ declared_line array.now) }
+        (string_bytes text.new ≡ string_bytes text.old ++ array_line array.now) }
 {
-    let name = array.name.as_str();
-    let width = width_text(array.width);
-    let length = array.length;
-    match array.quota {
-        None => writeln!(text, "array {name}:{width}:{length}"),
-        Some(quota) => writeln!(text, "array {name}:{width}:{length}:{quota}"),
-    }
+    writeln!(text, "array {array}")
 }
 
 fn tell_apps(text: &mut String, apps: &[App]) -> Result<(), AllocError>
@@ -104,13 +125,4 @@ fn tell_app(text: &mut String, app: &App) -> Result<(), AllocError>
     let releases = app.releases().len();
     let slots = program.len();
     writeln!(text, "app {appid} releases {releases} slots {slots}")
-}
-
-fn width_text(width: CellWidth) -> &'static str
-    ensures { result.now ≡ declarations.width_text width }
-{
-    match width {
-        CellWidth::Bits32 => "32",
-        CellWidth::Bits64 => "64",
-    }
 }

@@ -1,27 +1,19 @@
 //! From the bytes of a manifest to what is told of them.
 
-ghost use Rattle.std.specs.Prelude.{◌≡◌, [], All, IfOk, IfErr, string_bytes};
+ghost use Rattle.std.specs.Prelude.{◌≡◌, [], length, All, IfOk, IfErr};
 ghost use Rattle.diagnosis.specs.Check.{FailsApps, FailsCheck, FailsIfLong, PassesApps};
 ghost use Rattle.diagnosis.specs.Check.{PassesCheck};
 ghost use Rattle.diagnosis.specs.Told.{TellsRefused};
 ghost use Rattle.load.specs.Gathered.{HasItsReleases};
+ghost use Rattle.load.specs.declared.gathering.Gathered.{Gathered};
 
 use crate::accepted::{CheckedManifest, tell_accepted};
-use crate::reason::tell_toml;
-use crate::telling::{tell_all, tell_refused};
+use crate::telling::tell_refused;
+use crate::told::Refused;
 use cells::Directory;
 use load::{Files, Gathered, LoadFault, Ungathered, gather, gathered_is_loaded, judge};
-use manifest::{ManifestFault, TomlFault};
+use manifest::{ManifestFault, Parsed, TomlFault};
 use std::alloc::Global;
-
-/// Why a manifest is refused, and where.
-#[derive(Debug, Drop)]
-pub struct Refused {
-    /// The fault that the load of the manifest has.
-    pub fault: LoadFault,
-    /// Lines, each ended by a line feed. There are none where memory for them was refused.
-    pub reason: String,
-}
 
 /// Checks a manifest: it is loaded with its files, into a directory of its own. It and each file
 /// are read once, and messages about a file are about the bytes that were judged. Quotes from the
@@ -78,10 +70,8 @@ pub fn check<F: Files>(
     files: &mut F,
 ) -> Result<CheckedManifest, Refused>
     ensures known { F.known files.new ≡ F.known files.old }
-    ensures passes { IfOk result (λ told. PassesCheck (F.known files.old) manifest.now
-        (string_bytes told.text) told.warnings.items) }
-    ensures fails { IfErr result (λ r.
-        FailsCheck (F.known files.old) manifest.now r.fault (string_bytes r.reason)) }
+    ensures passes { IfOk result (PassesCheck (F.known files.old) manifest.now) }
+    ensures fails { IfErr result (FailsCheck (F.known files.old) manifest.now) }
 {
     gathered_is_loaded();
     let directory = Directory::new(alloc);
@@ -89,7 +79,7 @@ pub fn check<F: Files>(
         Ok(gathered) => check_apps(alloc, manifest, gathered),
         Err(ungathered) => {
             let is_link = files.is_manifest_link();
-            Err(refuse_ungathered(alloc, manifest, is_link, ungathered))
+            Err(refuse_ungathered(alloc, is_link, ungathered))
         }
     }
 }
@@ -101,60 +91,70 @@ fn check_apps(
     gathered: Gathered,
 ) -> Result<CheckedManifest, Refused>
     requires { All HasItsReleases gathered.apps.items }
-    ensures passes { IfOk result (λ told. PassesApps gathered
-        (string_bytes told.text) told.warnings.items) }
-    ensures fails { IfErr result (λ r.
-        FailsApps manifest.now gathered r.fault (string_bytes r.reason)) }
+    ensures passes { IfOk result (PassesApps manifest.now gathered) }
+    ensures fails { IfErr result (FailsApps gathered) }
 {
+    let read = gathered.apps.len();
+    let unread = gathered.unread;
     match judge(alloc, gathered.apps.as_slice()) {
-        Ok(programs) => match tell_accepted(alloc, gathered, programs) {
+        Ok(programs) => match tell_accepted(alloc, manifest, gathered, programs) {
             Ok(told) => Ok(told),
-            Err(_) => Err(out_of_memory(alloc)),
+            Err(_) => Err(out_of_memory(alloc, read, unread)),
         },
-        Err(fault) => {
-            let arrays = gathered.arrays.as_slice();
-            let apps = gathered.apps.as_slice();
-            let reason = tell_all(alloc, manifest, arrays, apps, gathered.unread, &fault);
-            Err(Refused { fault, reason })
-        }
+        Err(fault) => Err(refuse_gathered(alloc, &gathered, fault)),
     }
 }
 
-fn refuse_ungathered(
-    alloc: Global,
-    manifest: &[u8],
-    is_link: bool,
-    ungathered: Ungathered,
-) -> Refused
-    ensures fault { result.fault ≡ ungathered.fault }
-    ensures told { TellsRefused manifest.now ungathered.arrays.items [] ungathered.fault
-        (string_bytes result.reason) }
+fn refuse_gathered(alloc: Global, gathered: &Gathered, fault: LoadFault) -> Refused
+    ensures fault { result.fault ≡ fault }
+    ensures told { TellsRefused Parsed.Nothing gathered.now.arrays.items gathered.now.apps.items
+        gathered.now.unread result }
 {
-    let Ungathered { fault, arrays } = ungathered;
-    let reason = tell_refused(alloc, manifest, is_link, arrays.as_slice(), &[], &fault);
-    Refused { fault, reason }
+    let arrays = gathered.arrays.as_slice();
+    let apps = gathered.apps.as_slice();
+    tell_refused(
+        alloc,
+        &Parsed::Nothing,
+        false,
+        arrays,
+        apps,
+        gathered.unread,
+        fault,
+    )
 }
 
-fn out_of_memory(alloc: Global) -> Refused
+fn refuse_ungathered(alloc: Global, is_link: bool, ungathered: Ungathered) -> Refused
+    ensures fault { result.fault ≡ ungathered.fault }
+    ensures told { TellsRefused ungathered.parsed ungathered.arrays.items [] 0 result }
+{
+    let Ungathered {
+        fault,
+        arrays,
+        parsed,
+    } = ungathered;
+    tell_refused(alloc, &parsed, is_link, arrays.as_slice(), &[], 0, fault)
+}
+
+fn out_of_memory(alloc: Global, read: usize, unread: usize) -> Refused
     ensures fault { result.fault ≡ LoadFault.Memory }
-    ensures reason { string_bytes result.reason ≡ [] }
+    ensures told { (g : Gathered) → read ≡ length g.apps.items → unread ≡ g.unread
+        → FailsApps g result }
 {
     Refused {
         fault: LoadFault::Memory,
         reason: String::new(alloc),
+        own: String::new(alloc),
+        further: Vec::new(alloc),
+        left_out: 0,
+        read,
+        unread,
     }
 }
 
 /// Why a manifest of more than 1048576 bytes is refused: M1, which needs none of them.
 pub fn too_long(alloc: Global) -> Refused
-    ensures { FailsIfLong result.fault (string_bytes result.reason) }
+    ensures { FailsIfLong result }
 {
     let fault = LoadFault::Manifest(ManifestFault::Toml(TomlFault::TooLong));
-    match tell_toml(alloc, &[], false, TomlFault::TooLong) {
-        Some(reason) => Refused { fault, reason },
-        None => Refused {
-            fault,
-            reason: String::new(alloc),
-        },
-    }
+    tell_refused(alloc, &Parsed::Nothing, false, &[], &[], 0, fault)
 }

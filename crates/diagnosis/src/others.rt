@@ -6,7 +6,7 @@ ghost use Rattle.diagnosis.specs.Others as specs;
 ghost use Rattle.load.specs.declared.fault.LoadFault.{LoadFault};
 
 use load::LoadFault;
-use manifest::{ManifestFault, Misfit, Twice, all_misfits, all_twice};
+use manifest::{ManifestFault, Misfit, Parsed, Twice, all_misfits, all_twice};
 use std::alloc::{AllocError, Global};
 
 /// What of a manifest makes it none.
@@ -33,11 +33,14 @@ impl Unfit for Twice {
     }
 }
 
-/// What doesn't fit, but for the first; None where memory is refused.
-pub(crate) fn other_misfits(alloc: Global, manifest: &[u8]) -> Option<Vec<LoadFault>>
-    ensures { IfSome result (λ v. AreOtherMisfits manifest.now v.items) }
+/// What doesn't fit, but for the first; None where memory is refused, and without a document.
+pub(crate) fn other_misfits(alloc: Global, parsed: &Parsed) -> Option<Vec<LoadFault>>
+    ensures { IfSome result (λ v. AreOtherMisfits parsed.now v.items) }
 {
-    let Some(misfits) = all_misfits(alloc, manifest) else {
+    let Parsed::Document(document) = parsed else {
+        return None;
+    };
+    let Ok(misfits) = all_misfits(alloc, document) else {
         return None;
     };
     let Ok(faults) = faults_but_first(alloc, misfits) else {
@@ -46,11 +49,14 @@ pub(crate) fn other_misfits(alloc: Global, manifest: &[u8]) -> Option<Vec<LoadFa
     Some(faults)
 }
 
-/// What stands twice, but for the first; None where memory is refused.
-pub(crate) fn other_twice(alloc: Global, manifest: &[u8]) -> Option<Vec<LoadFault>>
-    ensures { IfSome result (λ v. AreOtherTwice manifest.now v.items) }
+/// What stands twice, but for the first; None where memory is refused, and without a document.
+pub(crate) fn other_twice(alloc: Global, parsed: &Parsed) -> Option<Vec<LoadFault>>
+    ensures { IfSome result (λ v. AreOtherTwice parsed.now v.items) }
 {
-    let Some(twices) = all_twice(alloc, manifest) else {
+    let Parsed::Document(document) = parsed else {
+        return None;
+    };
+    let Some(twices) = all_twice(alloc, document) else {
         return None;
     };
     let Ok(faults) = faults_but_first(alloc, twices) else {

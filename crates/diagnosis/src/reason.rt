@@ -19,18 +19,17 @@ use cells::CellsFault;
 use declarations::ArrayDeclaration;
 use flow_check::FlowFault;
 use load::{GatheredApp, LoadFault};
-use manifest::{ManifestFault, Misfit, TomlFault};
+use manifest::{ManifestFault, Misfit, Parsed, TomlFault};
 use printing::PrintedLines;
 use rule_compile::CompileFault;
 use rule_lang::RuleFault;
 use std::alloc::{AllocError, Global};
 use std::fmt::Write;
-use toml::table_from_slice;
 
 /// The lines beside the refusal of a manifest; none where memory for them is refused.
 pub(crate) fn reason_of(
     alloc: Global,
-    manifest: &[u8],
+    parsed: &Parsed,
     is_link: bool,
     arrays: &[ArrayDeclaration],
     apps: &[GatheredApp],
@@ -39,7 +38,7 @@ pub(crate) fn reason_of(
     ensures { (string_bytes result ≡ [])
         ⊎ IsReason arrays.now apps.now fault.now (string_bytes result) }
 {
-    match tell_reason(alloc, manifest, is_link, arrays, apps, fault) {
+    match tell_reason(alloc, parsed, is_link, arrays, apps, fault) {
         Some(text) => text,
         None => String::new(alloc),
     }
@@ -47,7 +46,7 @@ pub(crate) fn reason_of(
 
 fn tell_reason(
     alloc: Global,
-    manifest: &[u8],
+    parsed: &Parsed,
     is_link: bool,
     arrays: &[ArrayDeclaration],
     apps: &[GatheredApp],
@@ -57,7 +56,7 @@ fn tell_reason(
         IsReason arrays.now apps.now fault.now (string_bytes text)) }
 {
     match fault {
-        LoadFault::Manifest(fault) => tell_manifest(alloc, manifest, is_link, fault),
+        LoadFault::Manifest(fault) => tell_manifest(alloc, parsed, is_link, fault),
         LoadFault::File { app } => tell_file(alloc, apps, *app, Place::Whole),
         LoadFault::Program { app, fault } => tell_file(alloc, apps, *app, slot_of(fault)),
         LoadFault::Rule { app, fault } => tell_file(alloc, apps, *app, rule_place(fault)),
@@ -69,14 +68,14 @@ fn tell_reason(
 // What is wrong with a manifest itself.
 fn tell_manifest(
     alloc: Global,
-    manifest: &[u8],
+    parsed: &Parsed,
     is_link: bool,
     fault: &ManifestFault,
 ) -> Option<String>
     ensures { IfSome result (λ text. IsManifestReason fault.now (string_bytes text)) }
 {
     match fault {
-        ManifestFault::Toml(fault) => tell_toml(alloc, manifest, is_link, *fault),
+        ManifestFault::Toml(fault) => tell_toml(alloc, parsed, is_link, *fault),
         ManifestFault::Field(misfit) => tell_misfit(alloc, misfit),
         ManifestFault::Duplicate(twice) => format!(in alloc; "{twice} stands twice\n").ok(),
         ManifestFault::Memory => None,
@@ -102,29 +101,28 @@ fn push_misfit(text: &mut String, misfit: &Misfit) -> Result<(), AllocError>
     text.push_str(advice(misfit))
 }
 
-// That the bytes are too many, or what the reader of TOML says of them, which it is asked once more
-// and which ends its own lines. Of a manifest that is a link it isn't asked, since it quotes it.
-pub(crate) fn tell_toml(
-    alloc: Global,
-    manifest: &[u8],
-    is_link: bool,
-    fault: TomlFault,
-) -> Option<String>
+// That the bytes are too many, or what the reader of TOML says of them, which ends its own lines.
+// Of a manifest that is a link that isn't told, since it quotes it.
+fn tell_toml(alloc: Global, parsed: &Parsed, is_link: bool, fault: TomlFault) -> Option<String>
     ensures { IfSome result (λ text. IsTomlReason fault (string_bytes text)) }
 {
     match fault {
         TomlFault::TooLong => format!(in alloc; "more than 1048576 bytes\n").ok(),
         TomlFault::Text if is_link => with_tables(alloc, ""),
-        TomlFault::Text => match table_from_slice(alloc, manifest) {
-            Err(error) if !error.is_memory() => {
-                let Ok(said) = format!(in alloc; "{error}") else {
-                    return None;
-                };
-                with_tables(alloc, said.as_str())
-            }
-            _ => None,
-        },
+        TomlFault::Text => tell_error(alloc, parsed),
     }
+}
+
+fn tell_error(alloc: Global, parsed: &Parsed) -> Option<String>
+    ensures { IfSome result (λ text. IsTomlReason TomlFault.Text (string_bytes text)) }
+{
+    let Parsed::Error(error) = parsed else {
+        return None;
+    };
+    let Ok(said) = format!(in alloc; "{error}") else {
+        return None;
+    };
+    with_tables(alloc, said.as_str())
 }
 
 // Its lines end as they do, and quote the manifest, so each is printed as what somebody else wrote.

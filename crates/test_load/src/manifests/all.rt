@@ -3,9 +3,10 @@
 use super::SAMPLE;
 use crate::sample::{changed, must};
 use manifest::{Misfit, Twice, all_misfits, all_twice};
-use std::alloc::Global;
+use std::alloc::{AllocError, Global};
 use std::fmt::Write;
 use std::test::Fail;
+use toml::{Table, table_from_slice};
 
 /// No unknown key, no text of the server, an array and a package that don't fit.
 const CHANGES: &str =
@@ -25,17 +26,22 @@ app = [{ appid = "x", rule = "x" }, { appid = "y", rule = "x" }, { appid = "y", 
     { appid = "z", rule = "x" }, { appid = "x", rule = "x" }]
 "#;
 
-/// What doesn't fit. It has no clauses, so that no proof reads the bytes of a test.
-fn misfits(alloc: Global, bytes: &[u8]) -> Option<Vec<Misfit>> {
-    all_misfits(alloc, bytes)
+/// The document of the bytes. It has no clauses, so that no proof reads the bytes of a test.
+fn document(alloc: Global, bytes: &[u8]) -> Option<Table> {
+    table_from_slice(alloc, bytes).ok()
 }
 
-fn twices(alloc: Global, bytes: &[u8]) -> Option<Vec<Twice>> {
-    all_twice(alloc, bytes)
+fn misfits(alloc: Global, document: &Table) -> Result<Vec<Misfit>, AllocError> {
+    all_misfits(alloc, document)
+}
+
+fn twices(alloc: Global, document: &Table) -> Option<Vec<Twice>> {
+    all_twice(alloc, document)
 }
 
 fn misfits_told(alloc: Global, bytes: &[u8]) -> Result<String, Fail> {
-    let misfits = misfits(alloc, bytes).ok_or("no misfits")?;
+    let document = document(alloc, bytes).ok_or("no document")?;
+    let misfits = misfits(alloc, &document)?;
     let mut text = String::new(alloc);
     for misfit in &misfits {
         writeln!(text, "{misfit}")?;
@@ -44,7 +50,8 @@ fn misfits_told(alloc: Global, bytes: &[u8]) -> Result<String, Fail> {
 }
 
 fn twices_told(alloc: Global, bytes: &[u8]) -> Result<String, Fail> {
-    let twices = twices(alloc, bytes).ok_or("no names")?;
+    let document = document(alloc, bytes).ok_or("no document")?;
+    let twices = twices(alloc, &document).ok_or("no names")?;
     let mut text = String::new(alloc);
     for twice in &twices {
         writeln!(text, "{twice}")?;

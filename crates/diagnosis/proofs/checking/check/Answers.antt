@@ -1,5 +1,4 @@
 use Rattle.std.proofs.Common.{[], List, subst}
-use Rattle.std.specs.String.{string_bytes}
 use Rattle.cells.specs.declared.array.CellArray.{CellArray}
 use Rattle.load.specs.Gathered.{IsGathered, IsUngathered}
 use Rattle.diagnosis.proofs.Passing.{err_by, fails, fails_early, ok_by, passes}
@@ -15,9 +14,7 @@ returns-in-Ok-clause-passes g c =
     IsGathered (g.F.Files.known c.args.files.now) old c.args.manifest.now c.in-Ok.gathered)
     c.new-directory.ensures c.in-Ok.ensures.gathered in
     let load = c.gathered_is_loaded.ensures.manifest _ [] _ _ is in
-    ok_by c.check_apps.result
-    (λ told. passes _ _ _ is load (string_bytes told.text) told.warnings.items)
-    c.check_apps.ensures.passes
+    ok_by c.check_apps.result (passes _ _ _ is load) c.check_apps.ensures.passes
 
 pub returns-in-Ok-clause-fails : goal.returns-in-Ok-clause-fails
 returns-in-Ok-clause-fails g c =
@@ -25,12 +22,11 @@ returns-in-Ok-clause-fails g c =
     IsGathered (g.F.Files.known c.args.files.now) old c.args.manifest.now c.in-Ok.gathered)
     c.new-directory.ensures c.in-Ok.ensures.gathered in
     let load = c.gathered_is_loaded.ensures.manifest _ [] _ _ is in
-    err_by c.check_apps.result
-    (λ r. fails _ _ _ is load r.fault (string_bytes r.reason)) c.check_apps.ensures.fails
+    err_by c.check_apps.result (fails _ _ _ is load) c.check_apps.ensures.fails
 
 pub returns-clause-fails : goal.returns-clause-fails
 returns-clause-fails g c =
-    fails_early _ _ c.in-Err.ungathered _ _
+    fails_early _ _ c.in-Err.ungathered _
     (subst (λ (old : List CellArray). IsUngathered old c.args.manifest.now c.in-Err.ungathered)
     c.new-directory.ensures c.in-Err.ensures.fault) c.refuse_ungathered.ensures.fault
     c.refuse_ungathered.ensures.told

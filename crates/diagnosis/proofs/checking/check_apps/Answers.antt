@@ -1,6 +1,13 @@
-use Rattle.diagnosis.proofs.Passing.{nothing_told}
+use Rattle.std.proofs.Common.{◌∙◌, refl}
+use Rattle.diagnosis.proofs.Passing.{fails_by}
 use Rattle.diagnosis.proofs.checking.check_apps.Goals as goal
 
 pub returns-in-Err-tell_accepted-clause-fails : goal.returns-in-Err-tell_accepted-clause-fails
 returns-in-Err-tell_accepted-clause-fails c =
-    nothing_told _ _ _ _ c.out_of_memory.ensures.fault c.out_of_memory.ensures.reason
+    c.out_of_memory.ensures.told c.args.gathered (c.len-read.ensures ∙ c.args.gathered.apps.ok.0)
+    refl
+
+pub returns-in-Err-clause-fails : goal.returns-in-Err-clause-fails
+returns-in-Err-clause-fails c =
+    fails_by _ _ _ _ c.in-Err.ensures.fault c.as_slice.ensures.value c.refuse_gathered.ensures.fault
+    c.refuse_gathered.ensures.told

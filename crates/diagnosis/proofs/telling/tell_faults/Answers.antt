@@ -1,20 +1,32 @@
-use Rattle.std.proofs.Common.{List, ℕ, ap, ◌∙◌, ◌++◌, string_bytes, arith}
-use Rattle.diagnosis.specs.Told.{AreFaultsTold}
-use Rattle.diagnosis.proofs.AppsTold.{first_rest, none_left}
-use Rattle.diagnosis.proofs.FaultsTold.{told_all, told_more}
+use Rattle.std.proofs.Common.{◌∙◌, length, sym, ap, arith, rules}
+use Rattle.diagnosis.proofs.AppsTold.{none_left}
+use Rattle.diagnosis.proofs.FaultsTold.{all_told, each_more, faults_more, none_told, none_yet}
 use Rattle.diagnosis.proofs.telling.tell_faults.Goals as goal
 
-pub loop-left-preserved : goal.loop-left-preserved
-loop-left-preserved c = λ rest later.
-    told_more _ _ _ _ _ _ _ _ rest
-    (λ (t : List ℕ). AreFaultsTold c.args.arrays.now c.args.apps.now c.args.faults.now t)
-    c.loop-left.invariant c.in_ok-told.ensures
-    (first_rest c.loop-left.left.now c.fault-item.result (omega arith) c.fault-item.is)
-    (c.in_ok-push_str.ensures.bytes
-    ∙ ap (λ (s : List ℕ). string_bytes c.loop-left.text ++ s) c.as_str.ensures.value) later
+pub loop-fault-init : goal.loop-fault-init
+loop-fault-init c =
+    let gives = c.into_iter-fault-iterator.ensures.into_iter_gives in
+    let empty = c.new-all.ensures.items in
+    record {
+      so_far = none_yet _ _ _ empty gives.0;
+      each = none_told c.args.arrays.now c.args.apps.now _ empty;
+      count = gives.1 ∙ c.args.faults.ok.0 ∙ ap length (sym gives.0);
+    }
+
+pub loop-fault-preserved : goal.loop-fault-preserved
+loop-fault-preserved c =
+    let i = c.loop-fault.invariant in
+    let left = c.in-Some.ensures.steps.0 in
+    let more = c.in_ok-push.ensures.items in
+    record {
+      so_far = faults_more _ _ _ _ _ _ _ i.so_far left c.tell_fault-told.ensures.fault more;
+      each = each_more c.args.arrays.now c.args.apps.now _ _ _ i.each
+          c.tell_fault-told.ensures.told more;
+      count = search rules;
+    }
 
 pub returns : goal.returns
 returns c =
-    told_all _ _ _ _
-    (λ (t : List ℕ). AreFaultsTold c.args.arrays.now c.args.apps.now c.args.faults.now t)
-    c.loop-left.invariant (none_left c.loop-left.left.now (omega arith))
+    let i = c.loop-fault.invariant in
+    all_told c.args.arrays.now c.args.apps.now _ _ _ i.so_far
+    (none_left _ (omega (arith, i.count, c.in-None.ensures.steps.0))) i.each

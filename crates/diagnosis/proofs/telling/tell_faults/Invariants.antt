@@ -1,12 +1,13 @@
-use Rattle.std.proofs.Common.{◌++◌, ℕ, List, length, string_bytes}
-use Rattle.diagnosis.specs.Told.{AreFaultsTold}
+use Rattle.std.proofs.Common.{◌≡◌, ◌++◌, length, All}
+use Rattle.std.specs.Vec.Iter.{into_iter_items, into_iter_len}
+use Rattle.diagnosis.specs.Told.{IsFaultTold}
+use Rattle.diagnosis.proofs.FaultsTold.{faults_in}
 use Rattle.diagnosis.proofs.telling.tell_faults.Given as goal
 
--- the lines of the faults that are left, behind those so far, are the lines of all
-abbrev pub invariant-loop-left : goal.invariant-loop-left
-invariant-loop-left l =
-    (rest : List ℕ) → AreFaultsTold l.arrays l.apps l.left rest
-    → AreFaultsTold l.arrays l.apps l.faults (string_bytes l.text ++ rest)
-
-abbrev pub decreases-loop-left : goal.decreases-loop-left
-decreases-loop-left l = length l.left
+-- each so far is told, and these, and those that are left, are all
+abbrev pub invariant-loop-fault : goal.invariant-loop-fault
+invariant-loop-fault l = record {
+  so_far : faults_in l.all.items ++ into_iter_items l.fault-iterator ≡ l.fn.faults.items;
+  each : All (IsFaultTold l.arrays l.apps) l.all.items;
+  count : into_iter_len l.fault-iterator ≡ length (into_iter_items l.fault-iterator);
+}

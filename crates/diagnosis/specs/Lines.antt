@@ -1,0 +1,39 @@
+-- The lines behind that of a refusal: where and why, then the further faults, how many more there
+-- are, and last behind which app no file is read.
+use Rattle.std.specs.Prelude.{◌≡◌, ◌⊎◌, ℕ, zero, suc, List, [], ◌++◌, codes, decimal, flat_map}
+use Rattle.std.specs.Prelude.{string_bytes}
+use Rattle.load.specs.Texts.{load_fault_text}
+use Rattle.load.specs.declared.fault.LoadFault.{LoadFault}
+use Rattle.diagnosis.specs.Texts.{unread_line}
+use Rattle.diagnosis.specs.declared.told.ToldFault.{ToldFault}
+use Rattle.ruleset.specs.Texts.{line}
+
+-- the line by which a manifest is refused
+abbrev pub refusal_line : LoadFault → List ℕ
+refusal_line fault = line (codes "refused " ++ load_fault_text fault)
+
+-- a further fault: the line of its refusal, and then where and why
+abbrev pub fault_lines : ToldFault → List ℕ
+fault_lines told = refusal_line told.fault ++ string_bytes told.reason
+
+-- so many faults more
+abbrev pub more_line : ℕ → List ℕ
+more_line zero = []
+more_line (suc n) = line (codes "and " ++ decimal (suc n) ++ codes " more")
+
+-- that no further file is read, if there are apps left
+abbrev pub unread_lines : (read unread : ℕ) → List ℕ
+unread_lines read zero = []
+unread_lines read (suc left) = unread_line read
+
+-- all lines
+abbrev pub refused_lines :
+    (own : List ℕ) → List ToldFault → (left_out read unread : ℕ) → List ℕ
+refused_lines own further left_out read unread =
+    own ++ flat_map fault_lines further ++ more_line left_out ++ unread_lines read unread
+
+-- all lines; or for want of memory those of the first fault alone, or none
+abbrev pub AreLines :
+    (own : List ℕ) → List ToldFault → (left_out read unread : ℕ) → List ℕ → Type 0
+AreLines own further left_out read unread text =
+    (text ≡ refused_lines own further left_out read unread) ⊎ ((text ≡ own) ⊎ (text ≡ []))
