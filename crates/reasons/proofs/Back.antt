@@ -1,0 +1,25 @@
+-- Takes that are given back leave the counters as they were.
+use Rattle.std.proofs.Common.{◌≡◌, ◌∙◌, ℕ, List, [], ◌∷◌, ◌++◌, refl, ap}
+use Rattle.std.specs.Prelude.{Option, Some, None, slice_index, slice_set}
+use Rattle.std.proofs.lemmas.List.{set-set, set-get_or}
+use Rattle.reasons.specs.Stack.{given_back}
+use Rattle.reasons.specs.Truth.{CellTake, left_at, taken_at}
+
+pub back_by_parts : (ts us : List CellTake) (counters : List ℕ)
+    → given_back (ts ++ us) counters ≡ given_back ts (given_back us counters)
+back_by_parts [] us counters = refl
+back_by_parts (t ∷ ts) us counters =
+    ap (λ cs. slice_set cs t.cell t.value) (back_by_parts ts us counters)
+
+pub test_is_back : (counters : List ℕ) (cell : Option ℕ)
+    → given_back (taken_at counters cell) (left_at counters cell) ≡ counters
+test_is_back counters None = refl
+test_is_back counters (Some cell) =
+    set-set counters cell _ (slice_index counters cell) ∙ set-get_or counters cell 0
+
+-- the last of some takes is given back first
+pub last_goes_first : (before : List CellTake) (one : CellTake) (all : List CellTake)
+    (counters : List ℕ) → all ≡ before ++ one ∷ []
+    → given_back before (slice_set counters one.cell one.value) ≡ given_back all counters
+last_goes_first before one all counters is =
+    rw is (rw (back_by_parts before (one ∷ []) counters) refl)

@@ -1,0 +1,17 @@
+use Rattle.std.proofs.Common.{◌≡◌, ◌++◌, length, string_bytes}
+use Rattle.rule_lang.specs.Meaning.{behaviour}
+use Rattle.reasons.specs.Ending.{ending_on}
+use Rattle.reasons.specs.Told.{rule_text}
+use Rattle.reasons.proofs.telling.tell_statements.Given as goal
+
+-- the text so far, and that of the statements that are left, is that of all; and the rule ends as
+-- they do on the counters as they are
+abbrev pub invariant-loop-left : goal.invariant-loop-left
+invariant-loop-left l =
+    (string_bytes l.text ++ rule_text l.attrs l.shape l.counters l.left
+    ≡ string_bytes l.initial.text ++ rule_text l.attrs l.shape l.initial.counters l.statements)
+    × (ending_on l.counters (behaviour l.attrs l.shape l.left)
+    ≡ ending_on l.initial.counters (behaviour l.attrs l.shape l.statements))
+
+abbrev pub decreases-loop-left : goal.decreases-loop-left
+decreases-loop-left l = length l.left

@@ -1,0 +1,7 @@
+pub mod Ending
+pub mod Quoted
+pub mod Texts
+pub mod Reading
+pub mod Told
+pub mod Truth
+pub mod Stack

@@ -1,0 +1,52 @@
+-- What is told of a condition: each test that is asked, with its truth, from left to right, until
+-- the condition is decided.
+use Rattle.std.specs.Prelude.{ℕ, List, [], ◌∷◌, ◌++◌, codes, Option, Some}
+use Rattle.std.specs.Prelude.{Bool, false, not, if◌then◌else◌}
+use Rattle.attrs.specs.Attributes.{Attributes}
+use Rattle.cells.specs.Arrays.{AppShape}
+use Rattle.rule_lang.specs.Trees.{Tree, Asked, Negated, Both, Either, trees_from}
+use Rattle.rule_lang.specs.declared.condition.Step.{Step}
+use Rattle.rule_lang.specs.declared.test.Test.{Test}
+use Rattle.reasons.specs.Ending.{alone, holds_on, left_by, value_found}
+use Rattle.reasons.specs.Texts.{answer_text}
+
+-- the text of what is told, whether the condition holds, and the values of the counters then
+pub record Reading : Type 0 where
+  pub text : List ℕ
+  pub holds : Bool
+  pub counters : List ℕ
+
+-- the one, and then the other
+abbrev pub read_behind : Reading → Reading → Reading
+read_behind first second =
+    record second { text = first.text ++ codes "; " ++ second.text }
+
+module _ (a : Attributes) (s : AppShape) where
+  -- a test
+  abbrev pub read_test : (counters : List ℕ) → Test → Reading
+  read_test counters t = record {
+    text = answer_text a s (value_found counters (alone a s t)) (holds_on a s counters t) t;
+    holds = holds_on a s counters t;
+    counters = left_by a s counters t;
+  }
+
+  -- the second part of `and` is asked where the first holds, and that of `or` where it doesn't
+  abbrev pub read_tree : (counters : List ℕ) → Tree → Reading
+  read_tree counters (Asked line t) = read_test counters t
+  read_tree counters (Negated c) =
+      let r = read_tree counters c in record r { holds = not r.holds }
+  read_tree counters (Both b c) =
+      let r = read_tree counters b in
+      if r.holds then read_behind r (read_tree r.counters c) else r
+  read_tree counters (Either b c) =
+      let r = read_tree counters b in
+      if r.holds then r else read_behind r (read_tree r.counters c)
+
+  -- the steps of a condition make one tree
+  abbrev pub read_one : (counters : List ℕ) → Option (List Tree) → Reading
+  read_one counters (Some (c ∷ [])) = read_tree counters c
+  read_one counters trees = record { text = []; holds = false; counters = counters }
+
+  -- of a condition's steps
+  abbrev pub read_steps : (counters : List ℕ) → List Step → Reading
+  read_steps counters steps = read_one counters (trees_from [] steps)

@@ -1,0 +1,85 @@
+-- A condition, step by step, over a stack of what was read of its parts, the newest first. The
+-- second part of `and` and `or` is read before it is known whether it is asked. Where it isn't, its
+-- takes are given back.
+use Rattle.std.specs.Prelude.{ℕ, List, [], ◌∷◌, ◌++◌, codes, slice_set}
+use Rattle.std.specs.Prelude.{Option, Some, None, option_and_then}
+use Rattle.std.specs.Prelude.{Bool, true, false, not, if◌then◌else◌}
+use Rattle.attrs.specs.Attributes.{Attributes}
+use Rattle.cells.specs.Arrays.{AppShape}
+use Rattle.rule_lang.specs.declared.condition.Step.{Step}
+use Rattle.rule_lang.specs.declared.condition.Step.TheVariants as step
+use Rattle.rule_lang.specs.declared.test.Test.{Test}
+use Rattle.reasons.specs.Texts.{answer_text}
+use Rattle.reasons.specs.Truth.{CellTake, cell_asked, left_at, taken_at, truth_of, value_at}
+
+-- what was read of a part: its text, whether it holds, and its takes in their order
+pub record Part : Type 0 where
+  pub text : List ℕ
+  pub holds : Bool
+  pub taken : List CellTake
+
+-- the counters as they were before these takes: the last is given back first
+abbrev pub given_back : List CellTake → (counters : List ℕ) → List ℕ
+given_back [] counters = counters
+given_back (t ∷ ts) counters = slice_set (given_back ts counters) t.cell t.value
+
+-- the parts, and the counters then
+pub record Stacked : Type 0 where
+  pub parts : List Part
+  pub counters : List ℕ
+
+-- these parts and counters
+abbrev pub stacked : List Part → (counters : List ℕ) → Stacked
+stacked parts counters = record { parts = parts; counters = counters }
+
+-- of `not`
+abbrev pub negated : Part → Part
+negated p = record p { holds = not p.holds }
+
+-- the one and then the other
+abbrev pub followed : Part → Part → Part
+followed first second = record {
+  text = first.text ++ codes "; " ++ second.text;
+  holds = second.holds;
+  taken = first.taken ++ second.taken;
+}
+
+-- whether the second part is asked: of `and` where the first holds, of `or` where it doesn't
+abbrev pub asks_second : (goes_on : Bool) → Part → Bool
+asks_second true first = first.holds
+asks_second false first = not first.holds
+
+-- the newest is negated, if there is one
+abbrev pub not_newest : List Part → (counters : List ℕ) → Option Stacked
+not_newest (p ∷ ps) counters = Some (stacked (negated p ∷ ps) counters)
+not_newest [] counters = None
+
+-- the two newest are joined, if there are two
+abbrev pub join_two : (goes_on : Bool) → List Part → (counters : List ℕ) → Option Stacked
+join_two goes_on (second ∷ first ∷ ps) counters =
+    if asks_second goes_on first then Some (stacked (followed first second ∷ ps) counters)
+    else Some (stacked (first ∷ ps) (given_back second.taken counters))
+join_two goes_on ps counters = None
+
+module _ (a : Attributes) (s : AppShape) where
+  -- what is read of a test
+  abbrev pub tested : (counters : List ℕ) → Test → Part
+  tested counters t = let value = value_at counters (cell_asked s t) in record {
+    text = answer_text a s value (truth_of a s value t) t;
+    holds = truth_of a s value t;
+    taken = taken_at counters (cell_asked s t);
+  }
+
+  -- one step more
+  abbrev pub stepped : Step → List Part → (counters : List ℕ) → Option Stacked
+  stepped (step.Test line t) ps counters =
+      Some (stacked (tested counters t ∷ ps) (left_at counters (cell_asked s t)))
+  stepped step.Not ps counters = not_newest ps counters
+  stepped step.And ps counters = join_two true ps counters
+  stepped step.Or ps counters = join_two false ps counters
+
+  -- and several
+  abbrev pub after_steps : List Part → (counters : List ℕ) → List Step → Option Stacked
+  after_steps ps counters [] = Some (stacked ps counters)
+  after_steps ps counters (x ∷ xs) =
+      option_and_then (λ st. after_steps st.parts st.counters xs) (stepped x ps counters)

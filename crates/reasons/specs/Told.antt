@@ -1,0 +1,89 @@
+-- What is told of a rule: a line for each `when`, up to the one that chooses.
+use Rattle.std.specs.Prelude.{◌≡◌, ℕ, List, [], ◌∷◌, ◌++◌, codes, decimal, Bool}
+use Rattle.std.specs.Prelude.{if◌then◌else◌}
+use Rattle.attrs.specs.Attributes.{Attributes}
+use Rattle.cells.specs.Arrays.{AppShape}
+use Rattle.cells.specs.Events.{AreCells}
+use Rattle.cells.specs.declared.event.CellOp.TheVariants.{Add}
+use Rattle.rule_lang.specs.Meaning.{behaviour, Behaviour, decide, test_then}
+use Rattle.rule_lang.specs.Shapes.{array_named, cell_of}
+use Rattle.rule_lang.specs.Trees.{Tree}
+use Rattle.rule_lang.specs.declared.condition.Step.{Step}
+use Rattle.rule_lang.specs.declared.condition.Step.TheVariants as step
+use Rattle.rule_lang.specs.declared.rule.Statement.{Statement}
+use Rattle.rule_lang.specs.declared.rule.Statement.TheVariants.{Count, When}
+use Rattle.rule_lang.specs.declared.test.Test.{Test}
+use Rattle.reasons.specs.Ending.{IsMeant, counters_after, ending, ending_on, holds_on, left_by}
+use Rattle.reasons.specs.Reading.{read_steps, read_tree}
+
+-- the line of a condition's first test, which may stand behind its `when`
+abbrev pub first_line : List Step → ℕ
+first_line (step.Test line t ∷ rest) = line
+first_line steps = 0
+
+-- the line of a `when`, of which this was told
+abbrev pub when_text : List Step → (told : List ℕ) → List ℕ
+when_text steps told =
+    codes "  line " ++ decimal (first_line steps) ++ codes ": " ++ told ++ codes "\n"
+
+-- the line of the rule's end
+abbrev pub otherwise_text : List ℕ
+otherwise_text = codes "  otherwise none\n"
+
+-- the counters behind a count
+abbrev pub counted : AppShape → (counters : List ℕ) → (name : List ℕ) → (index : ℕ) → List ℕ
+counted s counters name index =
+    counters_after counters (cell_of (array_named name s.arrays) index) (Add 1)
+
+module _ (a : Attributes) (s : AppShape) where
+  -- line by line, up to the one that chooses
+  abbrev pub rule_text : (counters : List ℕ) → List Statement → List ℕ
+  rule_text counters [] = otherwise_text
+  rule_text counters (Count name index ∷ rest) = rule_text (counted s counters name index) rest
+  rule_text counters (When steps release ∷ rest) =
+      let r = read_steps a s counters steps in
+      when_text steps r.text ++ (if r.holds then [] else rule_text r.counters rest)
+
+-- what is told of a `when`: its line behind a text, whether it holds, and the counters then
+pub record TellsWhen (a : Attributes) (s : AppShape) (steps : List Step) (old : List ℕ)
+    (before after : List ℕ) (holds : Bool) (new : List ℕ) : Type 0 where
+  pub text_is : after ≡ before ++ when_text steps (read_steps a s old steps).text
+  pub holds_is : holds ≡ (read_steps a s old steps).holds
+  pub counters_are : new ≡ (read_steps a s old steps).counters
+
+-- what is told of a rule on counters of some values: its lines behind a text; and the choice and
+-- the counters are those that the rule means
+pub record TellsRule (a : Attributes) (s : AppShape) (rule : List Statement) (old : List ℕ)
+    (before after : List ℕ) (choice : ℕ) (new : List ℕ) : Type 0 where
+  pub text_is : after ≡ before ++ rule_text a s old rule
+  pub meant : IsMeant a s rule old choice new
+
+-- ---- laws
+
+-- each truth that is told is that of the test: whatever comes where it holds, and where it doesn't,
+-- on counters of these values the test leads to the one that is told
+abbrev pub TruthsAreSo : Type 0
+TruthsAreSo = (a : Attributes) (s : AppShape) (counters : List ℕ) (t : Test)
+    (met unmet : Behaviour) → ending_on counters (test_then a s t met unmet)
+    ≡ ending_on (left_by a s counters t) (if holds_on a s counters t then met else unmet)
+
+-- so a condition that is decided goes on where it is told to hold, and else where it isn't
+abbrev pub ConditionsAreSo : Type 0
+ConditionsAreSo = (a : Attributes) (s : AppShape) (counters : List ℕ) (c : Tree)
+    (met unmet : Behaviour) → (let r = read_tree a s counters c in
+    ending_on counters (decide a s c met unmet)
+    ≡ ending_on r.counters (if r.holds then met else unmet))
+
+-- and a `when` that is told to hold ends the rule with its release, and else the rest of the rule
+-- chooses: so the line that is told last is the one that chooses
+abbrev pub LastLineChooses : Type 0
+LastLineChooses = (a : Attributes) (s : AppShape) (counters : List ℕ) (steps : List Step)
+    (release : ℕ) (rest : List Statement) → (let r = read_steps a s counters steps in
+    ending_on counters (behaviour a s (When steps release ∷ rest))
+    ≡ (if r.holds then ending release r.counters else ending_on r.counters (behaviour a s rest)))
+
+-- what a rule comes to on counters is what it means
+abbrev pub EndingsAreMeant : Type 0
+EndingsAreMeant = (a : Attributes) (s : AppShape) (rule : List Statement) (counters : List ℕ)
+    → AreCells counters → (let e = ending_on counters (behaviour a s rule) in
+    IsMeant a s rule counters e.choice e.counters)

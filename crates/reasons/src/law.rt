@@ -1,0 +1,24 @@
+//! Laws of the definitions: what is told is so. They are called for their clauses alone.
+
+ghost use Rattle.reasons.specs.Told as specs;
+
+/// A law: each truth that is told of a test is what the test means.
+pub fn truths_are_so()
+    ensures { specs.TruthsAreSo }
+{}
+
+/// A law: a condition that is told to hold leads to what comes where it holds, and else to what
+/// comes where it doesn't.
+pub fn conditions_are_so()
+    ensures { specs.ConditionsAreSo }
+{}
+
+/// A law: the line that is told last is the one by which the rule chooses.
+pub fn last_line_chooses()
+    ensures { specs.LastLineChooses }
+{}
+
+/// A law: what a rule comes to on counters is what it means.
+pub fn endings_are_meant()
+    ensures { specs.EndingsAreMeant }
+{}

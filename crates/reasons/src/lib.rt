@@ -1,0 +1,30 @@
+//! Reasons: why a rule chooses what it chooses, test by test, on counters of some values.
+//!
+//! See docs/PROGRAM.md, "ask".
+#![tactic(auto)]
+
+// How a condition is read. Its tests are told from left to right, until it is decided, as its
+// meaning asks them (`specs/Reading.antt`). Its steps stand in post-fix order, and nothing here
+// calls itself, however deep and long a condition is. So the steps are taken as they stand, and a
+// stack has what was read of each part (`condition.rt`): the second part of an `and` is read before
+// the `and` is seen. Where it turns out that the part isn't asked, its text is dropped, and what
+// its takes added is given back to the counters. A part keeps for that which cells it took from,
+// and their values before.
+//
+// That each truth that is told is that of its test, and that the line that is told last is the one
+// by which the rule chooses, are laws of the definitions (`law.rt`).
+
+mod condition;
+mod counters;
+mod found;
+mod holding;
+mod law;
+mod line;
+mod quoted;
+mod telling;
+mod test_text;
+mod words;
+
+pub use law::{conditions_are_so, endings_are_meant, last_line_chooses, truths_are_so};
+pub use quoted::push_quoted;
+pub use telling::tell_rule;

@@ -1,0 +1,34 @@
+//! The lines of a rule.
+
+ghost use Rattle.std.specs.Prelude.{◌≡◌, ◌++◌, OnOk, string_bytes};
+ghost use Rattle.reasons.specs.Told as specs;
+
+use rule_lang::Step;
+use std::alloc::AllocError;
+use std::fmt::Write;
+
+fn first_line(steps: &[Step]) -> usize
+    ensures { result ≡ specs.first_line steps.now }
+{
+    match steps {
+        [Step::Test { line, .. }, ..] => *line,
+        _ => 0,
+    }
+}
+
+/// Adds the line of a `when`, of which this was told.
+pub(crate) fn push_when(text: &mut String, steps: &[Step], told: &str) -> Result<(), AllocError>
+    ensures { OnOk result (string_bytes text.new
+        ≡ string_bytes text.old ++ specs.when_text steps.now told.now) }
+{
+    let line = first_line(steps);
+    writeln!(text, "  line {line}: {told}")
+}
+
+/// Adds the line of the end of a rule.
+pub(crate) fn push_otherwise(text: &mut String) -> Result<(), AllocError>
+    ensures { OnOk result
+        (string_bytes text.new ≡ string_bytes text.old ++ specs.otherwise_text) }
+{
+    text.push_str("  otherwise none\n")
+}

@@ -1,0 +1,90 @@
+//! What is told of a rule.
+
+ghost use Rattle.std.specs.Prelude.{◌≡◌, ◌++◌, IfOk, OnOk, string_bytes};
+ghost use Rattle.reasons.specs.Ending.{ending, ending_on};
+ghost use Rattle.reasons.specs.Told as specs;
+ghost use Rattle.rule_lang.specs.Meaning.{behaviour};
+
+use crate::condition::read_condition;
+use crate::counters::{add_one, cell_of};
+use crate::law::{endings_are_meant, last_line_chooses};
+use crate::line::{push_otherwise, push_when};
+use attrs::Attrs;
+use cells::{ArrayName, PlainPass, Shape};
+use rule_lang::{Rule, RuleCondition, Statement, array_named};
+use std::alloc::{AllocError, Global};
+
+/// Adds the lines of a rule to a text: what it tests for an app on counters of some values, up to
+/// the `when` that chooses, or to `otherwise none`. Answers what the rule chooses, 0 for none, and
+/// leaves the counters as the rule leaves them.
+// open: whether memory is refused, its one error.
+pub fn tell_rule(
+    alloc: Global,
+    text: &mut String,
+    attrs: &Attrs,
+    shape: &Shape,
+    rule: &Rule,
+    counters: &mut PlainPass,
+) -> Result<u8, AllocError>
+    ensures { IfOk result (λ choice. specs.TellsRule attrs.now shape.now rule.now counters.old
+        (string_bytes text.old) (string_bytes text.new) choice counters.new) }
+{
+    endings_are_meant();
+    counters.keeps();
+    tell_statements(alloc, text, attrs, shape, rule.statements(), counters)
+}
+
+fn tell_statements(
+    alloc: Global,
+    text: &mut String,
+    attrs: &Attrs,
+    shape: &Shape,
+    statements: &[Statement],
+    counters: &mut PlainPass,
+) -> Result<u8, AllocError>
+    ensures text { OnOk result (string_bytes text.new ≡ string_bytes text.old
+        ++ specs.rule_text attrs.now shape.now counters.old statements.now) }
+    ensures ending { IfOk result (λ choice. ending_on counters.old
+        (behaviour attrs.now shape.now statements.now) ≡ ending choice counters.new) }
+{
+    last_line_chooses();
+    let mut left = statements;
+    while let [statement, others @ ..] = left {
+        match statement {
+            Statement::Count { array, index } => count(shape, array, *index, counters),
+            Statement::When { condition, release } => {
+                if tell_when(alloc, text, attrs, shape, condition, counters)? {
+                    return Ok(*release);
+                }
+            }
+        }
+        left = others;
+    }
+    push_otherwise(text)?;
+    Ok(0)
+}
+
+fn count(shape: &Shape, array: &ArrayName, index: u16, counters: &mut PlainPass)
+    ensures { counters.new ≡ specs.counted shape.now counters.old array.now index }
+{
+    let cell = cell_of(array_named(shape.arrays(), array.as_str()), index);
+    let _value = add_one(counters, cell);
+}
+
+// Adds the line of a `when`; answers whether it holds.
+fn tell_when(
+    alloc: Global,
+    text: &mut String,
+    attrs: &Attrs,
+    shape: &Shape,
+    condition: &RuleCondition,
+    counters: &mut PlainPass,
+) -> Result<bool, AllocError>
+    ensures { IfOk result (λ holds. specs.TellsWhen attrs.now shape.now condition.now counters.old
+        (string_bytes text.old) (string_bytes text.new) holds counters.new) }
+{
+    let steps = condition.steps();
+    let part = read_condition(alloc, attrs, shape, counters, steps)?;
+    push_when(text, steps, part.text.as_str())?;
+    Ok(part.holds)
+}

@@ -1,0 +1,88 @@
+//! The smaller parts of a test's text: comparisons, numbers of a version, salts.
+
+ghost use Rattle.std.specs.Prelude.{◌≡◌, ◌++◌, OnOk, string_bytes};
+ghost use Rattle.reasons.specs.Texts as texts;
+
+use rule_lang::Comparison;
+use std::alloc::AllocError;
+use std::fmt::Write;
+
+/// A comparison, as a rule has it.
+pub(crate) fn comparison_text(comparison: Comparison) -> &'static str
+    ensures { result.now ≡ texts.comparison_text comparison }
+{
+    match comparison {
+        Comparison::Lt => "<",
+        Comparison::Le => "<=",
+        Comparison::Eq => "==",
+        Comparison::Ne => "!=",
+        Comparison::Ge => ">=",
+        Comparison::Gt => ">",
+    }
+}
+
+/// Adds a comparison with a number.
+pub(crate) fn push_compared(
+    text: &mut String,
+    comparison: Comparison,
+    number: u32,
+) -> Result<(), AllocError>
+    ensures { OnOk result (string_bytes text.new
+        ≡ string_bytes text.old ++ texts.compared_text comparison number) }
+{
+    let sign = comparison_text(comparison);
+    write!(text, " {sign} {number}")
+}
+
+/// Adds the numbers of a version: two, and those behind them up to the last that isn't 0.
+pub(crate) fn push_numbers(text: &mut String, version: [u32; 4]) -> Result<(), AllocError>
+    ensures { OnOk result (string_bytes text.new
+        ≡ string_bytes text.old ++ texts.numbers_text version) }
+{
+    let [first, second, third, fourth] = version;
+    write!(text, "{first}.{second}")?;
+    push_third(text, third, fourth)
+}
+
+fn push_third(text: &mut String, third: u32, fourth: u32) -> Result<(), AllocError>
+    ensures { OnOk result (string_bytes text.new
+        ≡ string_bytes text.old ++ texts.third_text third fourth) }
+{
+    if third == 0 && fourth == 0 {
+        return Ok(());
+    }
+    write!(text, ".{third}")?;
+    push_fourth(text, fourth)
+}
+
+fn push_fourth(text: &mut String, fourth: u32) -> Result<(), AllocError>
+    ensures { OnOk result (string_bytes text.new
+        ≡ string_bytes text.old ++ texts.fourth_text fourth) }
+{
+    if fourth == 0 {
+        return Ok(());
+    }
+    write!(text, ".{fourth}")
+}
+
+/// Adds a bucket's salt, if there is one.
+pub(crate) fn push_salt(text: &mut String, salt: Option<u64>) -> Result<(), AllocError>
+    ensures { OnOk result (string_bytes text.new
+        ≡ string_bytes text.old ++ texts.salt_text salt) }
+{
+    match salt {
+        Some(salt) => write!(text, "({salt})"),
+        None => Ok(()),
+    }
+}
+
+/// Adds what a bucket is divided by, if it is.
+pub(crate) fn push_modulus(text: &mut String, modulus: Option<u32>) -> Result<(), AllocError>
+    ensures { OnOk result (string_bytes text.new
+        ≡ string_bytes text.old ++ texts.modulus_text modulus) }
+{
+    match modulus {
+        Some(modulus) => write!(text, " mod {modulus}"),
+        None => Ok(()),
+    }
+}
