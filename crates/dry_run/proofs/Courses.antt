@@ -41,39 +41,39 @@ same_event old new new' d d' cell op g g' = record {
 
 -- ---- outcomes
 
-abbrev choice_of : Outcome → ℕ
+abbrev pub choice_of : Outcome → ℕ
 choice_of (Done choice) = choice
 choice_of outcome = 0
 
-abbrev state_of : State → Outcome → State
+abbrev pub state_of : State → Outcome → State
 state_of s (Going t) = t
 state_of s outcome = s
 
-abbrev cell_of : Outcome → ℕ
+abbrev pub cell_of : Outcome → ℕ
 cell_of (Asks cell op next) = cell
 cell_of outcome = 0
 
-abbrev op_of : CellOp → Outcome → CellOp
+abbrev pub op_of : CellOp → Outcome → CellOp
 op_of other (Asks cell op next) = op
 op_of other outcome = other
 
-abbrev next_of : (ℕ → State) → Outcome → ℕ → State
+abbrev pub next_of : (ℕ → State) → Outcome → ℕ → State
 next_of other (Asks cell op next) = next
 next_of other outcome = other
 
-data Kind : Type 0 where
+pub data Kind : Type 0 where
   goes : Kind
   asks : Kind
   ends : Kind
   traps : Kind
 
-abbrev kind_of : Outcome → Kind
+abbrev pub kind_of : Outcome → Kind
 kind_of (Going t) = goes
 kind_of (Asks cell op next) = asks
 kind_of (Done choice) = ends
 kind_of Trap = traps
 
-differs : {A : Type 0} (o p q : Outcome) → o ≡ p → o ≡ q → (kind_of p ≡ kind_of q → A) → A
+pub differs : {A : Type 0} (o p q : Outcome) → o ≡ p → o ≡ q → (kind_of p ≡ kind_of q → A) → A
 differs o p q e e' f = f (ap kind_of (sym e ∙ e'))
 
 -- ---- a run

@@ -2,3 +2,10 @@ mod Courses
 mod Requests
 mod Sending
 mod Finding
+mod Opening
+mod Spelled
+mod WholeRuns
+mod Noting
+mod Explaining
+mod Replying
+mod Telling

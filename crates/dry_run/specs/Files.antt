@@ -26,6 +26,18 @@ pub record AreOpened (known : KnownFiles) (manifest request : List ℕ) (rules :
   pub given : Gives known (body_path request) (Some body)
   pub short : length body ≤ most_body
 
+-- a body
+pub record IsBodyOf (known : KnownFiles) (request body : List ℕ) : Type 0 where
+  pub given : Gives known (body_path request) (Some body)
+  pub short : length body ≤ most_body
+
+-- why there is none
+abbrev pub IsBodyFault : KnownFiles → (request : List ℕ) → DryRunFault → Type 0
+IsBodyFault known request (fault.Resource File) = Gives known (body_path request) None
+IsBodyFault known request (fault.Resource resource.Memory) = Unit {0}
+IsBodyFault known request fault.TooLarge = HasMore most_body known (body_path request)
+IsBodyFault known request why = ⊥
+
 -- the manifest comes to a ruleset
 pub record IsLoadable (known : KnownFiles) (manifest : List ℕ) : Type 0 where
   pub rules : Rules

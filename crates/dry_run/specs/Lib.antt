@@ -4,3 +4,9 @@ pub mod Counters
 pub mod Told
 pub mod Files
 pub mod Texts
+pub mod AppLines
+pub mod IgnoredLines
+pub mod Meanings
+pub mod KeptRules
+pub mod Courses
+pub mod Why

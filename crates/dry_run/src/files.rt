@@ -25,6 +25,7 @@ pub struct Opened {
 /// Loads a manifest over no arrays, as a server's first one, and reads a body, of a file of any
 /// kind; `-` is standard input. The manifest's faults come first, M1 to M8 or B3; then B3 of the
 /// body, and P5 where it has more than 1 MiB. B4 comes where memory is refused.
+#[tactic(auto, using(crate::proofs::Opening::no_body))]
 pub fn open_files<D: Disk>(
     alloc: Global,
     disk: &D,
@@ -39,12 +40,23 @@ pub fn open_files<D: Disk>(
         Ok(loaded) => loaded,
         Err(fault) => return Err(DryRunFault::Manifest(fault)),
     };
-    match disk.read(body_path(request), MOST_BODY) {
-        Ok(Some(body)) => Ok(Opened {
+    match read_body(disk, request) {
+        Ok(body) => Ok(Opened {
             rules,
             directory,
             body,
         }),
+        Err(fault) => Err(fault),
+    }
+}
+
+/// Reads a body, of a file of any kind; `-` is standard input.
+pub(crate) fn read_body<D: Disk>(disk: &D, request: &str) -> Result<Vec<u8>, DryRunFault>
+    ensures body { IfOk result (λ body. specs.IsBodyOf (D.known disk.now) request.now body.items) }
+    ensures fault { IfErr result (specs.IsBodyFault (D.known disk.now) request.now) }
+{
+    match disk.read(body_path(request), MOST_BODY) {
+        Ok(Some(body)) => Ok(body),
         Ok(None) => Err(DryRunFault::TooLarge),
         Err(fault) => Err(DryRunFault::Resource(fault)),
     }

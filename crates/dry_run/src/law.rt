@@ -1,6 +1,7 @@
 //! Laws of the definitions: a server sends what is found beforehand. They are called by nothing.
 
 ghost use Rattle.dry_run.specs.Sent as specs;
+ghost use Rattle.dry_run.specs.Why.{TellsTheReply};
 
 /// A law: the texts that a server may send as Omaha's reply, whose newest ruleset is this one, are
 /// those by which its apps are answered under it.
@@ -23,4 +24,10 @@ pub fn sends_what_is_found()
 /// A law: a body that is no request a server refuses by the same fault.
 pub fn refuses_alike()
     ensures { specs.RefusesAlike }
+{}
+
+/// A law: the choices of which it is told why are those of the reply to the same body, at the same
+/// moment, on counters as they are told alike.
+pub fn tells_the_reply()
+    ensures { TellsTheReply }
 {}

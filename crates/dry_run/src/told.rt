@@ -37,8 +37,8 @@ pub fn reply_as_told(
     }
 }
 
-// The counters.
-fn counters_as_told(
+/// The counters.
+pub(crate) fn counters_as_told(
     alloc: Global,
     arrays: &[CellArray],
     served: &[ToldCell<'_>],

@@ -1,6 +1,6 @@
 //! Tests of replies that are found beforehand: with counters of all kinds, byte for byte, and
-//! each refusal. The replies are written out by docs/CLIENTS.md; days and seconds are those of
-//! `date -u`.
+//! each refusal; and why apps get what they get. The replies are written out by docs/CLIENTS.md;
+//! days and seconds are those of `date -u`.
 #![tactic(auto)]
 
 #[cfg(test)]
@@ -11,3 +11,5 @@ mod replies;
 mod sample;
 #[cfg(test)]
 mod told_texts;
+#[cfg(test)]
+mod why;

@@ -1,8 +1,8 @@
-//! A manifest of one app with a quota of two from day 1 on, bodies of requests, and what is found
-//! of one of them.
+//! A manifest of an app with a quota of two from day 1 on and of one with a program, bodies of
+//! requests, and what is found of one of them.
 
 use bounded_files::Device;
-use dry_run::{open_files, reply_as_told};
+use dry_run::{open_files, open_why, reply_as_told, why_as_told};
 use std::alloc::{AllocError, Global};
 use std::fs;
 use std::rt::Files;
@@ -25,10 +25,24 @@ name = "x.bin"
 hash_sha256 = "ba7816bf8f01cfea414140de5dae2223b00361a396177a9cb410ff61f20015ad"
 size = 3
 required = true
+[[app]]
+appid = "z"
+program = "d.bin"
+[[app.release]]
+version = "7"
+codebase = "http://dl.example/"
+[[app.release.package]]
+name = "z.bin"
+hash_sha256 = "ba7816bf8f01cfea414140de5dae2223b00361a396177a9cb410ff61f20015ad"
+size = 3
+required = true
 "#;
 
 const RULE: &[u8] =
     b"when version < 1.2 and today >= 1 and take(early, 0) offer 1;\notherwise none;\n";
+
+/// `mov r0, 1` and `exit`.
+const PROGRAM: [u8; 16] = [183, 0, 0, 0, 1, 0, 0, 0, 149, 0, 0, 0, 0, 0, 0, 0];
 
 /// Bodies, by the names of their files.
 const BODIES: [(&str, &[u8]); 5] = [
@@ -51,6 +65,7 @@ const BODIES: [(&str, &[u8]); 5] = [
 pub fn write_all<R: Files + AllocGlobal>(rt: &R) -> Result<(), Fail> {
     fs::write(rt, "d.toml", MANIFEST)?;
     fs::write(rt, "d.rule", RULE)?;
+    fs::write(rt, "d.bin", &PROGRAM)?;
     for (name, body) in BODIES {
         fs::write(rt, name, body)?;
     }
@@ -93,6 +108,23 @@ pub fn found<R: Files + AllocGlobal>(
     let words = told_words(alloc, words)?;
     match reply_as_told(alloc, &opened, &second, &served, &words) {
         Ok(body) => String::from_utf8(body).map_err(|_| Fail::from("no text")),
+        Err(fault) => Ok(format!(in alloc; "{fault}")?),
+    }
+}
+
+/// What is told of the apps of a request at the second 1167696001, or the refusal.
+pub fn explained<R: Files + AllocGlobal>(rt: &R, apps: &str, words: &str) -> Result<String, Fail> {
+    let alloc = rt.alloc();
+    let front = r#"{"request":{"protocol":"3.1","requestid":"r","app":["#;
+    let body = format!(in alloc; "{front}{apps}]}}}}")?;
+    fs::write(rt, "d_why.json", body.as_bytes())?;
+    let opened = match open_why(alloc, &Device::new(rt), "d.toml", "d_why.json") {
+        Ok(opened) => opened,
+        Err(fault) => return Ok(format!(in alloc; "{fault}")?),
+    };
+    let words = told_words(alloc, words)?;
+    match why_as_told(alloc, &opened, &1167696001, &[], &words) {
+        Ok(text) => Ok(text),
         Err(fault) => Ok(format!(in alloc; "{fault}")?),
     }
 }

@@ -1,0 +1,158 @@
+-- What is told of an app, and of one app more.
+use Rattle.std.proofs.Common.{◌≡◌, ◌∙◌, ℕ, ◌+◌, ◌<◌, List, [], ◌∷◌, ◌++◌, length, take, get_or}
+use Rattle.std.proofs.Common.{refl, ap, sym, subst, Bool, true, false, Option, Some, None}
+use Rattle.std.proofs.Common.{if◌then◌else◌, arith, ◌≤◌}
+use Rattle.std.proofs.lemmas.List.{length-take-le, take_all, take_more}
+use Rattle.std.specs.Prelude.{ℤ, slice_index_or}
+use Rattle.std.specs.Str.{bytes_eq}
+use Rattle.attrs.specs.Attributes.{Attributes}
+use Rattle.attrs.specs.Context.{Context}
+use Rattle.attrs.specs.Facts.{attributes_of}
+use Rattle.attrs.specs.declared.facts.AppFacts.{AppFacts}
+use Rattle.attrs.specs.declared.facts.RequestFacts.{RequestFacts}
+use Rattle.ruleset.specs.Rules.{AppRule, Rules, IsApp, ListsApp, app_in, app_of}
+use Rattle.dry_run.specs.AppLines.{head_line, offer_line, unasked_line, unknown_lines}
+use Rattle.dry_run.specs.Courses.{TellsCourse}
+use Rattle.dry_run.specs.Meanings.{HasMeaning, HaveMeanings, Meaning, meaning_of}
+use Rattle.dry_run.specs.Meanings.{no_meaning, next_meaning}
+use Rattle.dry_run.specs.Why.{ExplainsAll, ExplainsApp, ExplainsApps, ExplainsOne}
+use Rattle.dry_run.specs.Why.{RunIsTold, not_known, not_asked, was_run}
+use Rattle.dry_run.specs.Why.{no_reason, next_reason}
+use Rattle.dry_run.proofs.WholeRuns.{runs_app}
+
+-- ---- the rule of an app
+
+abbrev app_or : AppRule → Option AppRule → AppRule
+app_or other (Some app) = app
+app_or other None = other
+
+meant_if : (b : Bool) (app known : AppRule) (rule rest : Meaning) (more : Option AppRule)
+    → HasMeaning app.program rule → (more ≡ Some known → HasMeaning known.program rest)
+    → (if b then Some app else more) ≡ Some known
+    → HasMeaning known.program (if b then rule else rest)
+meant_if true app known rule rest more here there is =
+    subst (λ (k : AppRule). HasMeaning k.program rule) (ap (app_or app) is) here
+meant_if false app known rule rest more here there is = there is
+
+pub meant : {apps : List AppRule} {rules : List Meaning} (appid : List ℕ) (known : AppRule)
+    → HaveMeanings apps rules → app_in apps appid ≡ Some known
+    → HasMeaning known.program (meaning_of apps rules appid)
+meant appid known no_meaning is = absurd cc
+meant appid known (next_meaning {app} {rule} {apps} {rules} here there) is =
+    meant_if (bytes_eq app.appid appid) app known rule (meaning_of apps rules appid)
+    (app_in apps appid) here (meant appid known there) is
+
+pub rule_meant : (rules : Rules) (apps : List AppRule) (meanings : List Meaning)
+    (appid : List ℕ) (known : AppRule) (rule : Meaning) → HaveMeanings rules.apps meanings
+    → apps ≡ rules.apps → rule ≡ meaning_of apps meanings appid
+    → Some known ≡ app_of rules appid → HasMeaning known.program rule
+rule_meant rules apps meanings appid known rule have same is found =
+    subst (HasMeaning known.program)
+    (ap (λ (as_listed : List AppRule). meaning_of as_listed meanings appid) (sym same) ∙ sym is)
+    (meant appid known have (sym found))
+
+-- ---- an app
+
+module _ (rules : Rules) (meanings : List Meaning) (facts : RequestFacts) (moment : ℤ) where
+  pub unknown_told : (app : AppFacts) (appid note old text : List ℕ) → appid ≡ app.appid
+      → None ≡ app_of rules appid → text ≡ unknown_lines appid ++ note
+      → ExplainsOne rules meanings facts moment app note old old text
+  unknown_told app appid note old text named found is = (
+    None,
+    not_known (ap (app_of rules) (sym named) ∙ sym found)
+        (is ∙ ap (λ (name : List ℕ). unknown_lines name ++ note) named),
+  )
+
+  pub unasked_told : (app told : AppFacts) (appid note old text : List ℕ) (known : AppRule)
+      (a : Attributes) (context : Context) → appid ≡ app.appid
+      → Some known ≡ app_of rules appid → told ≡ app → a ≡ attributes_of told facts moment
+      → context ≡ a.context → told.updatecheck ≡ false
+      → text ≡ head_line told context ++ unasked_line ++ note
+      → ExplainsOne rules meanings facts moment app note old old text
+  unasked_told app told appid note old text known a context named found same made by asks is =
+      let of = made ∙ ap (λ (x : AppFacts). attributes_of x facts moment) same in
+      let H : AppFacts → Context → List ℕ = λ x c. head_line x c ++ unasked_line ++ note in (
+        None,
+        not_asked known (ap (app_of rules) (sym named) ∙ sym found)
+            (ap (λ (x : AppFacts). x.updatecheck) (sym same) ∙ asks)
+            (is ∙ ap (λ (x : AppFacts). H x context) same
+            ∙ ap (H app) (by ∙ ap (λ (b : Attributes). b.context) of)),
+      )
+
+  pub run_told : (app told : AppFacts) (appid note old new text : List ℕ) (known : AppRule)
+      (rule : Meaning) (a : Attributes) (apps : List AppRule) → apps ≡ rules.apps
+      → appid ≡ app.appid → told ≡ app
+      → a ≡ attributes_of told facts moment → rule ≡ meaning_of apps meanings appid
+      → told.updatecheck ≡ true → Some known ≡ app_of rules appid → IsApp known
+      → ListsApp rules appid known → RunIsTold known rule told a note old new text
+      → ExplainsOne rules meanings facts moment app note old new text
+  run_told app told appid note old new text known rule a apps listed_as named same made ruled asks
+      found kept listed run =
+      let of = made ∙ ap (λ (x : AppFacts). attributes_of x facts moment) same in
+      let here = ruled ∙ ap (λ (all : List AppRule). meaning_of all meanings appid) listed_as
+      ∙ ap (meaning_of rules.apps meanings) named in
+      let asked = ap (λ (x : AppFacts). x.updatecheck) (sym same) ∙ asks in
+      let known_as = ap (app_of rules) (sym named) ∙ sym found in
+      let has = subst (λ (name : List ℕ). ListsApp rules name known) named listed in
+      let course = subst (λ (b : Attributes). TellsCourse known.program
+      (meaning_of rules.apps meanings app.appid) b old run.choice new run.course) of
+      (subst (λ (m : Meaning). TellsCourse known.program m a old run.choice new run.course) here
+      run.told) in
+      let T : AppFacts → Attributes → Type 0 = λ x b. text ≡ head_line x b.context ++ run.course
+      ++ offer_line known.releases run.choice ++ note in (
+        Some run.choice,
+        was_run (record {
+          known = known;
+          found = known_as;
+          course = run.course;
+          told = course;
+          runs = runs_app rules facts moment app known old run.choice course.count new
+              course.run asked known_as kept has;
+          text_is = subst (T app) of (subst (λ (x : AppFacts). T x a) same run.text_is);
+        }),
+      )
+
+  -- ---- app after app
+
+  pub none_yet : (notes : List (List ℕ)) (old text : List ℕ) → text ≡ []
+      → ExplainsAll rules meanings facts moment notes old [] old text
+  none_yet notes old text none = (
+    [],
+    subst (λ (t : List ℕ). ExplainsApps rules meanings facts moment notes old [] [] old t)
+        (sym none) no_reason,
+  )
+
+  pub one_more : (notes : List (List ℕ)) (old : List ℕ) (apps : List AppFacts) (i place : ℕ)
+      (app : AppFacts) (note between before new text after : List ℕ) → i < length apps
+      → app ≡ get_or apps i app → place ≡ i → note ≡ slice_index_or notes place []
+      → ExplainsAll rules meanings facts moment notes old (take i apps) between before
+      → ExplainsOne rules meanings facts moment app note between new text
+      → after ≡ before ++ text
+      → ExplainsAll rules meanings facts moment notes old (take (i + 1) apps) new after
+  one_more notes old apps i place app note between before new text after below found at noted told
+      next is =
+      let longer : take (i + 1) apps ≡ take i apps ++ app ∷ [] =
+      take_more apps i app below ∙ ap (λ (x : AppFacts). take i apps ++ x ∷ []) (sym found) in
+      let long : length (take i apps) ≡ i = length-take-le i apps (omega (arith, below)) in
+      let N : List ℕ → Type 0 = λ n. ExplainsApp rules meanings facts moment app n between next.0
+      new text in
+      let here =
+      subst N (noted ∙ ap (λ (k : ℕ). slice_index_or notes k []) (at ∙ sym long)) next.1 in
+      let choices = told.0 ++ next.0 ∷ [] in
+      let A : List AppFacts → Type 0 = λ few. ExplainsApps rules meanings facts moment notes old few
+      choices new (before ++ text) in
+      let T : List ℕ → Type 0 = λ t. ExplainsApps rules meanings facts moment notes old
+      (take (i + 1) apps) choices new t in
+      (choices, subst T (sym is) (subst A (sym longer) (next_reason told.1 here)))
+
+pub all_told : (rules : Rules) (meanings : List Meaning) (facts facts' : RequestFacts) (moment : ℤ)
+    (notes : List (List ℕ)) (old : List ℕ) (apps apps' : List AppFacts) (few : ℕ)
+    (new text : List ℕ) → facts ≡ facts' → apps ≡ apps' → length apps ≤ few
+    → ExplainsAll rules meanings facts moment notes old (take few apps) new text
+    → ExplainsAll rules meanings facts' moment notes old apps' new text
+all_told rules meanings facts facts' moment notes old apps apps' few new text same alike past told =
+    let A : List AppFacts → Type 0 = λ all.
+    ExplainsAll rules meanings facts moment notes old all new text in
+    let F : RequestFacts → Type 0 = λ f.
+    ExplainsAll rules meanings f moment notes old apps' new text in
+    subst F same (subst A (take_all few apps past ∙ alike) told)

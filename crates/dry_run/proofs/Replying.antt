@@ -1,0 +1,101 @@
+-- What is told of a request is of its reply.
+use Rattle.std.proofs.Common.{◌≡◌, ◌∙◌, ℕ, List, [], ◌∷◌, ◌++◌, refl, ap, sym, subst}
+use Rattle.std.proofs.Common.{Option, Some, None}
+use Rattle.std.proofs.lemmas.Grind.{same_number_lists}
+use Rattle.std.specs.Prelude.{ℤ}
+use Rattle.attrs.specs.declared.facts.AppFacts.{AppFacts}
+use Rattle.attrs.specs.declared.facts.RequestFacts.{RequestFacts}
+use Rattle.answering.specs.Apps.{RunsApp, RunsApps, unasked, unknown, none, then}
+use Rattle.cells.specs.Events.{AreZeros, IsEvent}
+use Rattle.cells.specs.Grown.{GrewBy}
+use Rattle.cells.specs.declared.array.CellArray.{CellArray}
+use Rattle.cells.specs.declared.event.CellEvent.{CellEvent}
+use Rattle.omaha_json.specs.Reply.{reply_text}
+use Rattle.ruleset.specs.Rules.{Rules}
+use Rattle.told_cells.specs.Told.{Told}
+use Rattle.dry_run.specs.Counters.{AreSetAsTold, with_cells, with_known}
+use Rattle.dry_run.specs.Meanings.{Meaning}
+use Rattle.dry_run.specs.Reply.{RepliesToBodyOn}
+use Rattle.dry_run.specs.Told.{RepliesAsTold}
+use Rattle.dry_run.specs.Why.{ExplainsApp, ExplainsApps, TellsTheReply, TellsWhy}
+use Rattle.dry_run.specs.Why.{not_known, not_asked, was_run, no_reason, next_reason}
+use Rattle.dry_run.specs.declared.why_files.OpenedWhy.{OpenedWhy}
+use Rattle.dry_run.proofs.Requests.{one_reply_to_body}
+
+-- ---- counters as they are told are the same
+
+same_zeros : (n : ℕ) (xs ys : List ℕ) → AreZeros n xs → AreZeros n ys → xs ≡ ys
+same_zeros n xs ys x y =
+    same_number_lists xs ys (x.count ∙ sym y.count) (λ k below. x.zero k ∙ sym (y.zero k))
+
+abbrev list_or : List ℕ → Option (List ℕ) → List ℕ
+list_or other (Some xs) = xs
+list_or other None = other
+
+same_counters : (arrays : List CellArray) (served words : List Told) (c d : List ℕ)
+    → AreSetAsTold arrays served words c → AreSetAsTold arrays served words d → c ≡ d
+same_counters arrays served words c d x y =
+    let W : List ℕ → Option (List ℕ) = λ z. with_cells arrays (with_known arrays z served) words in
+    ap (list_or c) (sym x.set ∙ ap W (same_zeros 8192 x.zeros y.zeros x.opens y.opens) ∙ y.set)
+
+-- ---- the runs
+
+joined : (a b : List CellEvent) (p m q : List ℕ) → GrewBy IsEvent p a m → GrewBy IsEvent m b q
+    → GrewBy IsEvent p (a ++ b) q
+joined [] b p m q g h = subst (λ (x : List ℕ). GrewBy IsEvent x b q) g h
+joined (e ∷ es) b p m q g h = (g.0, g.1, joined es b g.0 m q g.2 h)
+
+module _ (rules : Rules) (meanings : List Meaning) (facts : RequestFacts) (moment : ℤ) where
+  pub record OneRuns (app : AppFacts) (choice : Option ℕ) (old new : List ℕ) : Type 0 where
+    pub events : List CellEvent
+    pub runs : RunsApp rules facts moment app choice events
+    pub grown : GrewBy IsEvent old events new
+
+  one_runs : {app : AppFacts} {note old : List ℕ} {choice : Option ℕ} {new text : List ℕ}
+      → ExplainsApp rules meanings facts moment app note old choice new text
+      → OneRuns app choice old new
+  one_runs (not_known found is) = record { events = []; runs = unknown found; grown = refl }
+  one_runs (not_asked known found asks is) =
+      record { events = []; runs = unasked asks; grown = refl }
+  one_runs (was_run told) =
+      record { events = told.told.run.events; runs = told.runs; grown = told.told.run.grown }
+
+  pub record AllRun (apps : List AppFacts) (choices : List (Option ℕ)) (old new : List ℕ)
+      : Type 0 where
+    pub events : List CellEvent
+    pub runs : RunsApps rules facts moment apps choices events
+    pub grown : GrewBy IsEvent old events new
+
+  pub all_run : {notes : List (List ℕ)} {old : List ℕ} {apps : List AppFacts}
+      {choices : List (Option ℕ)} {new text : List ℕ}
+      → ExplainsApps rules meanings facts moment notes old apps choices new text
+      → AllRun apps choices old new
+  all_run no_reason = record { events = []; runs = none; grown = refl }
+  all_run {old} (next_reason {between} {new} before here) =
+      let first = all_run before in
+      let one = one_runs here in
+      record {
+        events = first.events ++ one.events;
+        runs = then first.runs one.runs;
+        grown = joined first.events one.events old between new first.grown one.grown;
+      }
+
+pub tells_the_reply : TellsTheReply
+tells_the_reply o moment served words text reply told replied =
+    let runs = all_run o.rules o.meanings.items told.request.facts moment told.reasons in
+    let mine : RepliesToBodyOn o.rules moment o.body.items told.counters
+    (reply_text told.request o.rules told.choices moment) told.left = (
+      told.request,
+      told.asked,
+      record {
+        events = runs.events;
+        legal = runs.grown;
+        replies = record { choices = told.choices; runs = runs.runs; text_is = refl };
+      },
+    ) in
+    let same =
+    same_counters o.directory served words replied.counters told.counters replied.set told.set in
+    (one_reply_to_body o.rules moment o.body.items told.counters reply
+    (reply_text told.request o.rules told.choices moment) replied.left told.left
+    (subst (λ (c : List ℕ). RepliesToBodyOn o.rules moment o.body.items c reply replied.left) same
+    replied.replies) mine).0

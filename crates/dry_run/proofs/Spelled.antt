@@ -1,0 +1,105 @@
+-- A text spells one rule, and what is read of apps are their rules.
+use Rattle.std.proofs.Common.{◌≡◌, ◌∙◌, ℕ, List, [], ◌∷◌, ◌++◌, Some, None, Ok, Err, ap, sym, subst}
+use Rattle.std.proofs.Common.{append_assoc, append-nil, refl, length, ◌≤◌, ◌<◌, Bool, IsUtf8, arith}
+use Rattle.std.proofs.Common.{inl, inr}
+use Rattle.std.proofs.Common.{◌-◌, get_or, take, drop}
+use Rattle.std.proofs.Math.Seq.{take-length}
+use Rattle.std.specs.Prelude.{Vec}
+use Rattle.std.specs.declared.alloc.Global.{Global}
+use Rattle.cells.specs.Arrays.{AppShape}
+use Rattle.rule_lang.specs.Parts.{OrFault}
+use Rattle.rule_lang.specs.Verdicts.{IsVerdict, IsRuleFault, RuleHasOneVerdict}
+use Rattle.rule_lang.specs.Verdicts.{too_long, no_token, no_rule as not_rule, a_rule}
+use Rattle.rule_lang.specs.declared.fault.RuleFault.TheVariants.{At}
+use Rattle.rule_lang.specs.declared.fault.RuleFaultKind.{RuleFaultKind}
+use Rattle.rule_lang.specs.declared.rule.Statement.{Statement}
+use Rattle.load.specs.declared.gathering.GatheredApp.{GatheredApp}
+use Rattle.dry_run.specs.KeptRules.{AreReadFrom, IsReadFrom, IsReadOfKept, IsRuleOfText}
+use Rattle.dry_run.specs.KeptRules.{nothing_read, next_read}
+use Rattle.load.specs.declared.kept.KeptFile.{KeptFile}
+use Rattle.load.specs.declared.kept.KeptFile.TheVariants.{Whole, Longer}
+use Rattle.dry_run.specs.Meanings.{Meaning}
+
+abbrev rule_or : List Statement → OrFault (List Statement) → List Statement
+rule_or other (Ok rule) = rule
+rule_or other (Err fault) = other
+
+pub one_rule : (s : AppShape) (text : List ℕ) (rule : List Statement)
+    → ((shape : AppShape) (all : List ℕ) → RuleHasOneVerdict shape all)
+    → IsVerdict s text (Ok rule) → IsRuleOfText text s (Some rule)
+one_rule s text rule one is spelled other =
+    ap (λ (v : OrFault (List Statement)). Some (rule_or rule v))
+    (one s text (Ok rule) (Ok spelled) is other.spelled)
+
+none_of : (s : AppShape) (text : List ℕ) (line : ℕ) (kind : RuleFaultKind)
+    (spelled : List Statement) → RuleHasOneVerdict s text
+    → IsRuleFault s text (At line kind) → IsVerdict s text (Ok spelled) → None ≡ Some spelled
+none_of s text line kind spelled one (inl memory) other = absurd cc
+none_of s text line kind spelled one (inr is) other =
+    let same = one (Err (At line kind)) (Ok spelled) is other in absurd cc
+
+pub no_rule : (s : AppShape) (text : List ℕ) (line : ℕ) (kind : RuleFaultKind)
+    → ((shape : AppShape) (all : List ℕ) → RuleHasOneVerdict shape all)
+    → IsRuleFault s text (At line kind) → IsRuleOfText text s None
+no_rule s text line kind one is spelled other =
+    none_of s text line kind spelled (one s text) is other.spelled
+
+pub same_text : (s : AppShape) (text bytes : List ℕ) (rule : Meaning) → text ≡ bytes
+    → IsRuleOfText text s rule → IsRuleOfText bytes s rule
+same_text s text bytes rule same is = subst (λ (t : List ℕ). IsRuleOfText t s rule) same is
+
+pub no_text : (s : AppShape) (bytes : List ℕ) → ¬ IsUtf8 bytes → IsRuleOfText bytes s None
+no_text s bytes not_text spelled other = absurd (not_text other.utf8)
+
+-- ---- of what is kept
+
+pub whole_read : (s : AppShape) (v : Vec ℕ Global) (rule : Meaning) → IsRuleOfText v.items s rule
+    → IsReadOfKept (Whole v) s rule
+whole_read s v rule is bytes keeps =
+    subst (λ (t : List ℕ). IsRuleOfText t s rule) keeps.0 is
+
+within : (s : AppShape) (bytes : List ℕ) (v : OrFault (List Statement)) (rule : List Statement)
+    → IsVerdict s bytes v → v ≡ Ok rule → length bytes ≤ 65536
+within s bytes v rule (too_long long) is = absurd cc
+within s bytes v rule (no_token few found) is = absurd cc
+within s bytes v rule (not_rule before after p few found begins stops) is = absurd cc
+within s bytes v rule (a_rule few found r) is = few
+
+longer : (s : AppShape) (v : Vec ℕ Global) (count : ℕ) (is_text : Bool)
+    → IsReadOfKept (Longer v count is_text) s None
+longer s v count is_text bytes keeps spelled other =
+    let few = within s bytes (Ok spelled) spelled other.spelled refl in
+    let many = keeps.1 in absurd (omega (arith, few, many))
+
+pub longer_read : (s : AppShape) (kept : KeptFile) (v : Vec ℕ Global) (count : ℕ)
+    (is_text : Bool) → kept ≡ Longer v count is_text → IsReadOfKept kept s None
+longer_read s kept v count is_text is =
+    subst (λ (k : KeptFile). IsReadOfKept k s None) (sym is) (longer s v count is_text)
+
+-- ---- the rules of apps, one app more
+
+pub read_more : (all left behind : List GatheredApp) (rules more : List Meaning)
+    (app : GatheredApp) (rule : Meaning)
+    → ((rest : List Meaning) → AreReadFrom left rest → AreReadFrom all (rules ++ rest))
+    → left ≡ app ∷ behind → more ≡ rules ++ rule ∷ [] → IsReadFrom app rule
+    → (rest : List Meaning) → AreReadFrom behind rest → AreReadFrom all (more ++ rest)
+read_more all left behind rules more app rule so_far is pushed read rest others =
+    subst (AreReadFrom all)
+    (sym (append_assoc rules (rule ∷ []) rest) ∙ ap (λ (l : List Meaning). l ++ rest) (sym pushed))
+    (so_far (rule ∷ rest)
+    (subst (λ (l : List GatheredApp). AreReadFrom l (rule ∷ rest)) (sym is)
+    (next_read read others)))
+
+pub read_all : (all left : List GatheredApp) (rules : List Meaning)
+    → ((rest : List Meaning) → AreReadFrom left rest → AreReadFrom all (rules ++ rest))
+    → length left < 1 → AreReadFrom all rules
+read_all all [] rules so_far few =
+    subst (AreReadFrom all) (append-nil rules) (so_far [] nothing_read)
+read_all all (app ∷ apps) rules so_far few = absurd (omega (arith, few))
+
+pub first_rest : (xs : List GatheredApp) (x : GatheredApp) → 0 < length xs → x ≡ get_or xs 0 x
+    → xs ≡ x ∷ take (length xs - 1) (drop 1 xs)
+first_rest [] x some is = absurd (omega (arith, some))
+first_rest (y ∷ ys) x some is =
+    let n : length (y ∷ ys) - 1 ≡ length ys = omega arith in
+    ap (λ z. z ∷ ys) (sym is) ∙ ap (λ t. x ∷ t) (sym (ap (λ m. take m ys) n ∙ take-length ys))

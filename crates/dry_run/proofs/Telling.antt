@@ -1,0 +1,56 @@
+-- What is told of a request, and why nothing is.
+use Rattle.std.proofs.Common.{◌≡◌, ◌≢◌, ℕ, List, Ok, Err, sym, subst}
+use Rattle.std.specs.Prelude.{ℤ, Result}
+use Rattle.cells.specs.declared.array.CellArray.{CellArray}
+use Rattle.omaha_json.specs.Request.{Request, request_in}
+use Rattle.omaha_json.specs.declared.fault.OmahaFault.{OmahaFault}
+use Rattle.omaha_json.specs.declared.fault.OmahaFault.TheVariants.{Json, Shape, Protocol}
+use Rattle.omaha_json.specs.declared.fault.OmahaFault.TheVariants.{TooManyApps, Memory}
+use Rattle.told_cells.specs.Told.{Told}
+use Rattle.dry_run.specs.Counters.{AreSetAsTold}
+use Rattle.dry_run.specs.IgnoredLines.{notes_in}
+use Rattle.dry_run.specs.Told.{IsUnanswered}
+use Rattle.dry_run.specs.Why.{ExplainsAll, TellsWhy}
+use Rattle.dry_run.specs.declared.fault.DryRunFault.TheVariants as fault
+use Rattle.dry_run.specs.declared.why_files.OpenedWhy.{OpenedWhy}
+
+-- the body was read as this request
+abbrev ReadsAs : (body : List ℕ) → Result Request OmahaFault → Type 0
+ReadsAs body read = read ≢ Err Memory → read ≡ request_in body
+
+pub told_why : (o : OpenedWhy) (moment : ℤ) (served words : List Told) (arrays : List CellArray)
+    (counters : List ℕ) (request : Request) (notes : List (List ℕ)) (left text : List ℕ)
+    → arrays ≡ o.directory → AreSetAsTold arrays served words counters
+    → ReadsAs o.body.items (Ok request) → notes ≡ notes_in o.body.items
+    → ExplainsAll o.rules o.meanings.items request.facts moment notes counters request.apps left
+    text
+    → TellsWhy o moment served words text
+told_why o moment served words arrays counters request notes left text same set read noted told =
+    let N : List (List ℕ) → Type 0 = λ n. ExplainsAll o.rules o.meanings.items request.facts moment
+    n counters request.apps left text in
+    let all = subst N noted told in
+    record {
+      counters = counters;
+      set = subst (λ (a : List CellArray). AreSetAsTold a served words counters) same set;
+      request = request;
+      asked = sym (read (λ e. cc));
+      choices = all.0;
+      left = left;
+      reasons = all.1;
+    }
+
+module _ (directory : List CellArray) (body : List ℕ) (served words : List Told) where
+  because : (counters : List ℕ) (why : OmahaFault) → AreSetAsTold directory served words counters
+      → ReadsAs body (Err why) → IsUnanswered directory body served words (fault.Omaha why)
+  because counters Json set read = ((counters, set), sym (read (λ e. cc)))
+  because counters Shape set read = ((counters, set), sym (read (λ e. cc)))
+  because counters Protocol set read = ((counters, set), sym (read (λ e. cc)))
+  because counters TooManyApps set read = ((counters, set), sym (read (λ e. cc)))
+  because counters Memory set read = tt
+
+  pub unread : (arrays : List CellArray) (counters : List ℕ) (why : OmahaFault)
+      → arrays ≡ directory → AreSetAsTold arrays served words counters
+      → ReadsAs body (Err why) → IsUnanswered directory body served words (fault.Omaha why)
+  unread arrays counters why same set read =
+      because counters why
+      (subst (λ (a : List CellArray). AreSetAsTold a served words counters) same set) read

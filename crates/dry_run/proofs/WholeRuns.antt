@@ -1,0 +1,131 @@
+-- Whole runs of an app's program: by the machine, and by a rule that means the same.
+use Rattle.std.proofs.Common.{◌≡◌, ◌∙◌, ℕ, ◌≤◌, List, [], ◌∷◌, length, ap, sym, subst, arith}
+use Rattle.std.proofs.Common.{Some, true}
+use Rattle.std.specs.Prelude.{ℤ, All}
+use Rattle.std.proofs.lemmas.List.Elements.{All-head, All-tail}
+use Rattle.attrs.specs.Attributes.{Attributes, AreShort, kept_text}
+use Rattle.attrs.specs.Context.{HasContextRanges}
+use Rattle.attrs.specs.Facts.{attributes_of}
+use Rattle.attrs.specs.declared.facts.AppFacts.{AppFacts}
+use Rattle.attrs.specs.declared.facts.RequestFacts.{RequestFacts}
+use Rattle.answering.specs.Apps.{RunsApp, ran}
+use Rattle.bpf_machine.specs.StandsFor.{Held, RunStandsFor, Runs}
+use Rattle.bpf_semantics.specs.Program.{ShapedProgram}
+use Rattle.bpf_semantics.specs.Run.{Ends, last, more, asked}
+use Rattle.bpf_semantics.specs.State.{State, opening}
+use Rattle.bpf_verify.specs.Covers.{AreLawful, HasPossibleReply, IsCovered}
+use Rattle.bpf_verify.specs.Covers.{EndsWell, RunsAreLawful, RunsEndWell, ends, goes, asks}
+use Rattle.cells.specs.Arrays.{AppShape}
+use Rattle.cells.specs.Events.{CanReply, IsEvent}
+use Rattle.cells.specs.declared.event.CellEvent.{CellEvent}
+use Rattle.cells.specs.declared.event.CellOp.{CellOp}
+use Rattle.reasons.specs.Told.{TellsRule}
+use Rattle.rule_compile.specs.Means.{Means}
+use Rattle.rule_lang.specs.declared.rule.Statement.{Statement}
+use Rattle.ruleset.specs.Rules.{AppRule, Rules, IsApp, ListsApp, app_of, appid_of}
+use Rattle.dry_run.specs.Courses.{TellsCourse, WholeRun}
+use Rattle.dry_run.proofs.Courses.{differs, choice_of, state_of, cell_of, op_of, next_of}
+
+-- ---- a run that ends well is short, and chooses among the releases
+
+record IsBrief (p : ShapedProgram) (choice count : ℕ) : Type 0 where
+  pub short : count ≤ length p.code
+  pub among : choice ≤ p.shape.releases
+
+brief : {p : ShapedProgram} {s : State} {es : List CellEvent} {choice count : ℕ}
+    → EndsWell p s → All HasPossibleReply es → Ends p s es choice count
+    → IsBrief p choice count
+brief {p} (ends e among short) fits (last e' q) = record {
+  short = subst (λ (n : ℕ). n ≤ length p.code) (sym q) short;
+  among = subst (λ (n : ℕ). n ≤ p.shape.releases) (ap choice_of (sym e ∙ e')) among;
+}
+brief (ends e among short) fits (more e' r) = differs _ _ _ e e' (λ k. absurd cc)
+brief (ends e among short) fits (asked e' r) = differs _ _ _ e e' (λ k. absurd cc)
+brief (goes e w) fits (last e' q) = differs _ _ _ e e' (λ k. absurd cc)
+brief {p} {s} (goes e w) fits (more e' r) =
+    brief (subst (EndsWell p) (ap (state_of s) (sym e ∙ e')) w) fits r
+brief (goes e w) fits (asked e' r) = differs _ _ _ e e' (λ k. absurd cc)
+brief (asks e w) fits (last e' q) = differs _ _ _ e e' (λ k. absurd cc)
+brief (asks e w) fits (more e' r) = differs _ _ _ e e' (λ k. absurd cc)
+brief {p} (asks {cell} {op} {next} e w) fits (asked {e = d} {es} e' r) =
+    let same = sym e ∙ e' in
+    let first = All-head HasPossibleReply d es fits in
+    let by_op : CanReply d.cell op d.reply =
+    subst (λ (o : CellOp). CanReply d.cell o d.reply) (sym (ap (op_of op) same)) first in
+    let fit : CanReply cell op d.reply =
+    subst (λ (c : ℕ). CanReply c op d.reply) (sym (ap cell_of same)) by_op in
+    brief (subst (EndsWell p) (ap (λ o. next_of next o d.reply) same) (w d.reply fit))
+    (All-tail HasPossibleReply d es fits) r
+
+-- ---- by a rule, and by the machine
+
+pub by_meaning : (p : ShapedProgram) (a : Attributes) (rule : List Statement)
+    (old : List ℕ) (choice : ℕ) (new text : List ℕ) (shape : AppShape) (before : List ℕ)
+    → shape ≡ p.shape → before ≡ [] → ((b : Attributes) → Means b rule p)
+    → HasContextRanges a.context → AreShort a.texts
+    → ((b : Attributes) → AreShort b.texts → IsCovered p (opening b)) → RunsEndWell p
+    → RunsAreLawful p → TellsRule a shape rule old before text choice new
+    → TellsCourse p (Some rule) a old choice new text
+by_meaning p a rule old choice new text shape before same fresh means ranges short opens well
+    lawful given =
+    let behind : TellsRule a shape rule old [] text choice new =
+    subst (λ (b : List ℕ). TellsRule a shape rule old b text choice new) fresh given in
+    let told : TellsRule a p.shape rule old [] text choice new =
+    subst (λ (s : AppShape). TellsRule a s rule old [] text choice new) same behind in
+    let m = told.meant in
+    let run = means a ranges m.events choice m.trace in
+    let covered = opens a short in
+    let few = brief (well (opening a) covered (omega arith)) m.fits run.1 in
+    record {
+      count = run.0;
+      run = record {
+        events = m.events;
+        grown = m.grown;
+        ends = run.1;
+        short = few.short;
+        among = few.among;
+        fits = m.fits;
+        lawful = lawful (opening a) m.events choice run.0 covered m.fits run.1;
+      };
+      text_is = told;
+    }
+
+pub by_machine : (p : ShapedProgram) (a : Attributes) (run : Held) (old : List ℕ)
+    (choice count : ℕ) (new : List ℕ) → run.program ≡ p → RunStandsFor run (opening a)
+    → Runs IsEvent run old new choice count → count ≤ length run.program.code
+    → choice ≤ run.program.shape.releases → WholeRun p a old choice count new
+by_machine p a run old choice count new same stands runs short among = record {
+  events = runs.events;
+  grown = runs.grown;
+  ends =
+      subst (λ (z : ShapedProgram). Ends z (opening a) runs.events choice count) same
+      (runs.ends (opening a) stands);
+  short = subst (λ (z : ShapedProgram). count ≤ length z.code) same short;
+  among = subst (λ (z : ShapedProgram). choice ≤ z.shape.releases) same among;
+  fits = runs.fits;
+  lawful = subst (λ (z : ShapedProgram). AreLawful z.shape runs.events) same runs.lawful;
+}
+
+-- ---- an app is answered by it
+
+-- the appid of an app is kept as it is
+kept_appid : (app : AppRule) → IsApp app → app.appid ≡ kept_text (Some app.appid)
+kept_appid app kept = let named = kept.named in grind (arith, named)
+
+-- so attribute 0 is the appid, where the ruleset has the app
+known_by : (rules : Rules) (app : AppFacts) (facts : RequestFacts) (moment : ℤ) (known : AppRule)
+    → IsApp known → ListsApp rules app.appid known
+    → ListsApp rules (appid_of (attributes_of app facts moment)) known
+known_by rules app facts moment known kept is =
+    subst (λ (appid : List ℕ). ListsApp rules appid known)
+    (sym is.appid_is ∙ kept_appid known kept
+    ∙ ap (λ (text : List ℕ). kept_text (Some text)) is.appid_is) is
+
+pub runs_app : (rules : Rules) (facts : RequestFacts) (moment : ℤ) (app : AppFacts)
+    (known : AppRule) (old : List ℕ) (choice count : ℕ) (new : List ℕ)
+    (run : WholeRun known.program (attributes_of app facts moment) old choice count new)
+    → app.updatecheck ≡ true → app_of rules app.appid ≡ Some known → IsApp known
+    → ListsApp rules app.appid known → RunsApp rules facts moment app (Some choice) run.events
+runs_app rules facts moment app known old choice count new run updates found kept is =
+    ran known count updates found (known_by rules app facts moment known kept is) run.ends
+    run.short (subst (λ (n : ℕ). choice ≤ n) (sym kept.all) run.among) run.fits run.lawful

@@ -1,0 +1,10 @@
+use Rattle.std.proofs.Common.{◌≡◌, map, take, string_bytes}
+use Rattle.dry_run.specs.Why.{ExplainsAll}
+use Rattle.dry_run.proofs.why.explain_apps.Given as goal
+
+-- what is told so far is told of the apps that were passed
+abbrev pub invariant-loop-app : goal.invariant-loop-app
+invariant-loop-app l =
+    (l.place ≡ l.app-index)
+    × ExplainsAll l.why.rules l.why.meanings.items l.facts l.moment (map string_bytes l.notes)
+    l.initial.counters (take l.app-index l.apps) l.counters (string_bytes l.text)

@@ -1,0 +1,42 @@
+-- A whole run of an app's program, and what is told of it.
+use Rattle.std.specs.Prelude.{◌≡◌, ℕ, ◌≤◌, List, [], length, All, Some, None}
+use Rattle.attrs.specs.Attributes.{Attributes}
+use Rattle.bpf_semantics.specs.Program.{ShapedProgram}
+use Rattle.bpf_semantics.specs.Run.{Ends}
+use Rattle.bpf_semantics.specs.State.{opening}
+use Rattle.bpf_verify.specs.Covers.{AreLawful, HasPossibleReply}
+use Rattle.cells.specs.Events.{IsEvent}
+use Rattle.cells.specs.Grown.{GrewBy}
+use Rattle.cells.specs.declared.event.CellEvent.{CellEvent}
+use Rattle.reasons.specs.Told.{TellsRule}
+use Rattle.dry_run.specs.AppLines.{program_line}
+use Rattle.dry_run.specs.Meanings.{Meaning}
+
+-- from its first instruction to its end, on counters of the values `old`, each of which replies by
+-- its value: it leaves them the values `new`. It takes at most as many instructions as the program
+-- has slots, and chooses 0 or a release; its events are such as the program's arrays allow
+pub record WholeRun (program : ShapedProgram) (a : Attributes) (old : List ℕ) (choice count : ℕ)
+    (new : List ℕ) : Type 0 where
+  pub events : List CellEvent
+  pub grown : GrewBy IsEvent old events new
+  pub ends : Ends program (opening a) events choice count
+  pub short : count ≤ length program.code
+  pub among : choice ≤ program.shape.releases
+  pub fits : All HasPossibleReply events
+  pub lawful : AreLawful program.shape events
+
+-- how it comes to its choice: by the lines of the program's rule, which means this choice and these
+-- values; or, where the program is no rule, in so many instructions
+abbrev pub IsCourse : Attributes → ShapedProgram → Meaning → (old : List ℕ) → (choice count : ℕ)
+    → (new text : List ℕ) → Type 0
+IsCourse a program (Some rule) old choice count new text =
+    TellsRule a program.shape rule old [] text choice new
+IsCourse a program None old choice count new text =
+    text ≡ program_line (length program.code) count
+
+-- what is told of a run
+pub record TellsCourse (program : ShapedProgram) (rule : Meaning) (a : Attributes) (old : List ℕ)
+    (choice : ℕ) (new text : List ℕ) : Type 0 where
+  pub count : ℕ
+  pub run : WholeRun program a old choice count new
+  pub text_is : IsCourse a program rule old choice count new text

@@ -1,0 +1,97 @@
+-- Why the apps of a request get what they get: what is told of each, on the counters as the apps
+-- before it leave them.
+use Rattle.std.specs.Prelude.{◌≡◌, ℕ, ℤ, List, [], ◌∷◌, ◌++◌, length, slice_index_or}
+use Rattle.std.specs.Prelude.{Option, Some, None, Ok, false}
+use Rattle.attrs.specs.Attributes.{Attributes}
+use Rattle.attrs.specs.Facts.{attributes_of, context_of}
+use Rattle.attrs.specs.declared.facts.AppFacts.{AppFacts}
+use Rattle.attrs.specs.declared.facts.RequestFacts.{RequestFacts}
+use Rattle.answering.specs.Apps.{RunsApp}
+use Rattle.omaha_json.specs.Reply.{reply_text}
+use Rattle.omaha_json.specs.Request.{Request, request_in}
+use Rattle.ruleset.specs.Rules.{AppRule, Rules, app_of}
+use Rattle.told_cells.specs.Told.{Told}
+use Rattle.dry_run.specs.AppLines.{head_line, offer_line, unasked_line, unknown_lines}
+use Rattle.dry_run.specs.Counters.{AreSetAsTold}
+use Rattle.dry_run.specs.Courses.{TellsCourse}
+use Rattle.dry_run.specs.IgnoredLines.{notes_in}
+use Rattle.dry_run.specs.Meanings.{Meaning, meaning_of}
+use Rattle.dry_run.specs.Told.{RepliesAsTold}
+use Rattle.dry_run.specs.declared.why_files.OpenedWhy.{OpenedWhy}
+
+-- what is told of an app whose program was run, with some choice
+pub record RunIsTold (known : AppRule) (rule : Meaning) (app : AppFacts) (a : Attributes)
+    (note old new text : List ℕ) : Type 0 where
+  pub choice : ℕ
+  pub course : List ℕ
+  pub told : TellsCourse known.program rule a old choice new course
+  pub text_is : text ≡ head_line app a.context ++ course ++ offer_line known.releases choice
+      ++ note
+
+module _ (rules : Rules) (meanings : List Meaning) (facts : RequestFacts) (moment : ℤ) where
+  -- what is told of an app whose program was run, which is the run by which the app is answered
+  pub record TellsRun (app : AppFacts) (note old : List ℕ) (choice : ℕ) (new text : List ℕ)
+      : Type 0 where
+    pub known : AppRule
+    pub found : app_of rules app.appid ≡ Some known
+    pub course : List ℕ
+    pub told : TellsCourse known.program (meaning_of rules.apps meanings app.appid)
+        (attributes_of app facts moment) old choice new course
+    pub runs : RunsApp rules facts moment app (Some choice) told.run.events
+    pub text_is : text ≡ head_line app (context_of app facts moment) ++ course
+        ++ offer_line known.releases choice ++ note
+
+  -- what is told of an app, behind which a note stands, with the choice of its run, if it has one
+  pub data ExplainsApp (app : AppFacts) (note old : List ℕ) : Option ℕ → (new text : List ℕ)
+      → Type 0 where
+    -- the ruleset doesn't know it
+    not_known : {text : List ℕ} → app_of rules app.appid ≡ None
+        → text ≡ unknown_lines app.appid ++ note → ExplainsApp app note old None old text
+    -- it does, and the app asks for no update
+    not_asked : {text : List ℕ} (known : AppRule) → app_of rules app.appid ≡ Some known
+        → app.updatecheck ≡ false
+        → text ≡ head_line app (context_of app facts moment) ++ unasked_line ++ note
+        → ExplainsApp app note old None old text
+    -- its program was run
+    was_run : {choice : ℕ} {new text : List ℕ} → TellsRun app note old choice new text
+        → ExplainsApp app note old (Some choice) new text
+
+  -- app after app, each with the note of its place
+  pub data ExplainsApps (notes : List (List ℕ)) (old : List ℕ) : (apps : List AppFacts)
+      → (choices : List (Option ℕ)) → (new text : List ℕ) → Type 0 where
+    no_reason : ExplainsApps notes old [] [] old []
+    next_reason : {apps : List AppFacts} {choices : List (Option ℕ)} {between before : List ℕ}
+        {app : AppFacts} {choice : Option ℕ} {new text : List ℕ}
+        → ExplainsApps notes old apps choices between before
+        → ExplainsApp app (slice_index_or notes (length apps) []) between choice new text
+        → ExplainsApps notes old (apps ++ app ∷ []) (choices ++ choice ∷ []) new (before ++ text)
+
+  -- with some choices
+  abbrev pub ExplainsOne : AppFacts → (note old new text : List ℕ) → Type 0
+  ExplainsOne app note old new text =
+      (choice : Option ℕ) × ExplainsApp app note old choice new text
+
+  abbrev pub ExplainsAll : (notes : List (List ℕ)) → (old : List ℕ) → List AppFacts
+      → (new text : List ℕ) → Type 0
+  ExplainsAll notes old apps new text =
+      (choices : List (Option ℕ)) × ExplainsApps notes old apps choices new text
+
+-- what is told of the request that a body is, at a moment, where the counters are those that a
+-- server and the words tell
+pub record TellsWhy (o : OpenedWhy) (moment : ℤ) (served words : List Told) (text : List ℕ)
+    : Type 0 where
+  pub counters : List ℕ
+  pub set : AreSetAsTold o.directory served words counters
+  pub request : Request
+  pub asked : request_in o.body.items ≡ Ok request
+  pub choices : List (Option ℕ)
+  pub left : List ℕ
+  pub reasons : ExplainsApps o.rules o.meanings.items request.facts moment (notes_in o.body.items)
+      counters request.apps choices left text
+
+-- the choices told are those of the reply
+abbrev pub TellsTheReply : Type 0
+TellsTheReply = (o : OpenedWhy) (moment : ℤ) (served words : List Told) (text reply : List ℕ)
+    (told : TellsWhy o moment served words text)
+    → RepliesAsTold o.rules o.directory o.body.items moment served words reply
+    → reply ≡ reply_text told.request o.rules told.choices moment

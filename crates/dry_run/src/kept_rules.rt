@@ -1,0 +1,88 @@
+//! The rules of apps that were gathered, read once more for their meaning from what is kept of
+//! their files: a text has one verdict, so they are the rules that were compiled.
+
+ghost use Rattle.std.specs.Prelude.{IfOk};
+ghost use Rattle.dry_run.specs.KeptRules as specs;
+
+use cells::Shape;
+use load::{GatheredApp, KeptFile};
+use manifest::ProgramSource;
+use rule_lang::{Rule, RuleFault, one_verdict, parse};
+use std::alloc::{AllocError, Global};
+use std::str;
+
+/// The rule of each app, in their order: that of its file's text, or none.
+#[tactic(auto, using(crate::proofs::Spelled::read_all))]
+pub(crate) fn read_rules(
+    alloc: Global,
+    apps: &[GatheredApp],
+) -> Result<Vec<Option<Rule>>, AllocError>
+    ensures { IfOk result (λ rules. specs.AreReadFrom apps.now rules.items) }
+{
+    let mut rules = Vec::new(alloc);
+    let mut left = apps;
+    while let [app, others @ ..] = left {
+        let rule = rule_of_app(alloc, app)?;
+        rules.push(rule)?;
+        left = others;
+    }
+    Ok(rules)
+}
+
+fn rule_of_app(alloc: Global, app: &GatheredApp) -> Result<Option<Rule>, AllocError>
+    ensures { IfOk result (specs.IsReadFrom app.now) }
+{
+    rule_from(alloc, app.entry.source(), &app.kept, &app.shape)
+}
+
+fn rule_from(
+    alloc: Global,
+    source: &ProgramSource,
+    kept: &KeptFile,
+    shape: &Shape,
+) -> Result<Option<Rule>, AllocError>
+    ensures { IfOk result (specs.IsReadOf source.now kept.now shape.now) }
+{
+    match source {
+        ProgramSource::Program(_) => Ok(None),
+        ProgramSource::Rule(_) => rule_kept(alloc, kept, shape),
+    }
+}
+
+#[tactic(auto, using(crate::proofs::Spelled::whole_read))]
+fn rule_kept(alloc: Global, kept: &KeptFile, shape: &Shape) -> Result<Option<Rule>, AllocError>
+    ensures { IfOk result (specs.IsReadOfKept kept.now shape.now) }
+{
+    match kept {
+        KeptFile::Unread => Ok(None),
+        KeptFile::Whole(bytes) => {
+            let rule = rule_in(alloc, bytes, shape)?;
+            Ok(rule)
+        }
+        KeptFile::Longer { .. } => Ok(None),
+    }
+}
+
+// The rule that bytes spell, if they spell one.
+#[tactic(auto, using(crate::proofs::Spelled::no_text, crate::proofs::Spelled::same_text))]
+fn rule_in(alloc: Global, bytes: &[u8], shape: &Shape) -> Result<Option<Rule>, AllocError>
+    ensures { IfOk result (specs.IsRuleOfText bytes.now shape.now) }
+{
+    let Ok(text) = str::from_utf8(bytes) else {
+        return Ok(None);
+    };
+    let rule = rule_of_text(alloc, text, shape)?;
+    Ok(rule)
+}
+
+#[tactic(auto, using(crate::proofs::Spelled::one_rule, crate::proofs::Spelled::no_rule))]
+fn rule_of_text(alloc: Global, text: &str, shape: &Shape) -> Result<Option<Rule>, AllocError>
+    ensures { IfOk result (specs.IsRuleOfText text.now shape.now) }
+{
+    one_verdict();
+    match parse(alloc, text, shape) {
+        Ok(rule) => Ok(Some(rule)),
+        Err(RuleFault::Memory) => Err(AllocError),
+        Err(RuleFault::At { .. }) => Ok(None),
+    }
+}

@@ -1,0 +1,212 @@
+//! Why the apps of a request get what they get.
+
+ghost use Rattle.std.specs.Prelude.{◌≡◌, ◌++◌, ℕ, Option, IfOk, IfErr, map, string_bytes};
+ghost use Rattle.std.specs.Prelude.{option_copied};
+ghost use Rattle.attrs.specs.Facts.{attributes_of};
+ghost use Rattle.dry_run.specs.AppLines as lines;
+ghost use Rattle.dry_run.specs.Meanings.{HasMeaning, HaveMeanings, meaning_of};
+ghost use Rattle.dry_run.specs.Told.{IsUnanswered};
+ghost use Rattle.dry_run.specs.Why as specs;
+
+use crate::app_lines::{push_head, push_offer, push_unknown};
+use crate::app_runs::{Course, tell_course};
+use crate::fault::DryRunFault;
+use crate::ignored::{note_at, notes_in};
+use crate::told::counters_as_told;
+use crate::why_files::OpenedWhy;
+use answering::Nobody;
+use attrs::{AppFacts, Attrs, Context, Moment, RequestFacts, SharedFacts};
+use cells::PlainPass;
+use omaha_json::{OmahaFault, Request, read_request};
+use rule_lang::Rule;
+use ruleset::App;
+use std::alloc::{AllocError, Global};
+use told_cells::ToldCell;
+
+/// Why the apps of a body's request get what they get, at a moment, on counters as `reply_as_told`
+/// has them: of each app a first line, of its rule what was tested, and what it is offered; then
+/// its members that count as absent. B7 where the manifest hasn't a cell of the words, or a value
+/// doesn't fit; then O1 to O4. B4 and O5 come where memory is refused.
+// open: whether memory is refused (B4, O5).
+#[tactic(auto, using(crate::proofs::Telling::told_why, crate::proofs::Telling::unread))]
+pub fn why_as_told(
+    alloc: Global,
+    why: &OpenedWhy,
+    moment: &Moment,
+    served: &[ToldCell<'_>],
+    words: &[ToldCell<'_>],
+) -> Result<String, DryRunFault>
+    requires { HaveMeanings why.now.rules.apps why.now.meanings.items }
+    ensures told { IfOk result (λ text.
+        specs.TellsWhy why.now moment.now served.now words.now (string_bytes text)) }
+    ensures fault { IfErr result
+        (IsUnanswered why.now.directory why.now.body.items served.now words.now) }
+{
+    let mut counters = counters_as_told(alloc, why.directory.arrays(), served, words)?;
+    let request = match read_request(alloc, &why.body, &mut Nobody) {
+        Ok(request) => request,
+        Err(fault) => return Err(DryRunFault::Omaha(fault)),
+    };
+    let Ok(notes) = notes_in(alloc, &why.body) else {
+        return Err(DryRunFault::Omaha(OmahaFault::Memory));
+    };
+    match explain_apps(alloc, why, &request, moment, &notes, &mut counters) {
+        Ok(text) => Ok(text),
+        Err(_) => Err(DryRunFault::Omaha(OmahaFault::Memory)),
+    }
+}
+
+#[tactic(auto, using(crate::proofs::Explaining::none_yet, crate::proofs::Explaining::all_told))]
+fn explain_apps(
+    alloc: Global,
+    why: &OpenedWhy,
+    request: &Request,
+    moment: &Moment,
+    notes: &[String],
+    counters: &mut PlainPass,
+) -> Result<String, AllocError>
+    requires { HaveMeanings why.now.rules.apps why.now.meanings.items }
+    ensures { IfOk result (λ text. specs.ExplainsAll why.now.rules why.now.meanings.items
+        request.now.facts moment.now (map string_bytes notes.now) counters.old request.now.apps
+        counters.new (string_bytes text)) }
+{
+    let mut text = String::new(alloc);
+    let facts = request.facts();
+    let apps = request.apps();
+    let mut place = 0;
+    for app in apps {
+        let note = note_at(notes, place);
+        let lines = explain_app(alloc, why, facts, moment, app, note, counters)?;
+        text.push_str(lines.as_str())?;
+        place += 1;
+    }
+    Ok(text)
+}
+
+#[tactic(auto, using(crate::proofs::Explaining::rule_meant))]
+fn explain_app(
+    alloc: Global,
+    why: &OpenedWhy,
+    facts: &RequestFacts,
+    moment: &Moment,
+    app: &SharedFacts,
+    note: &str,
+    counters: &mut PlainPass,
+) -> Result<String, AllocError>
+    requires { HaveMeanings why.now.rules.apps why.now.meanings.items }
+    ensures { IfOk result (λ text. specs.ExplainsOne why.now.rules why.now.meanings.items
+        facts.now moment.now app.now note.now counters.old counters.new (string_bytes text)) }
+{
+    let appid = app.appid();
+    let told = app.facts();
+    let Some(known) = why.rules.find(appid) else {
+        let text = unknown_app(alloc, appid, note)?;
+        return Ok(text);
+    };
+    let Ok(attrs) = attrs_of(alloc, told, facts, moment) else {
+        return Err(AllocError);
+    };
+    if !told.updatecheck {
+        let text = unasked_app(alloc, told, attrs.context(), note)?;
+        return Ok(text);
+    }
+    known.keeps();
+    let rule = rule_of(why.rules.apps(), &why.meanings, appid);
+    let text = run_app(alloc, known, rule, told, attrs, note, counters)?;
+    Ok(text)
+}
+
+// The attributes of an app at a moment.
+fn attrs_of(
+    alloc: Global,
+    app: &AppFacts,
+    facts: &RequestFacts,
+    moment: &Moment,
+) -> Result<Attrs, AllocError>
+    ensures { IfOk result (λ a. a ≡ attributes_of app.now facts.now moment.now) }
+{
+    match Attrs::of(alloc, app, facts, *moment) {
+        Ok(attrs) => Ok(attrs),
+        Err(_) => Err(AllocError),
+    }
+}
+
+fn unknown_app(alloc: Global, appid: &str, note: &str) -> Result<String, AllocError>
+    ensures { IfOk result (λ text. string_bytes text
+        ≡ lines.unknown_lines appid.now ++ note.now) }
+{
+    let mut text = String::new(alloc);
+    push_unknown(&mut text, appid)?;
+    text.push_str(note)?;
+    Ok(text)
+}
+
+fn unasked_app(
+    alloc: Global,
+    app: &AppFacts,
+    context: Context,
+    note: &str,
+) -> Result<String, AllocError>
+    ensures { IfOk result (λ text. string_bytes text
+        ≡ lines.head_line app.now context ++ lines.unasked_line ++ note.now) }
+{
+    let mut text = String::new(alloc);
+    push_head(&mut text, app, context)?;
+    text.push_str("  asks for no update\n")?;
+    text.push_str(note)?;
+    Ok(text)
+}
+
+// The lines of an app whose program is run.
+fn run_app(
+    alloc: Global,
+    known: &App,
+    rule: Option<&Rule>,
+    app: &AppFacts,
+    attrs: Attrs,
+    note: &str,
+    counters: &mut PlainPass,
+) -> Result<String, AllocError>
+    requires { HasMeaning known.now.program (option_copied rule) }
+    ensures { IfOk result (λ text. specs.RunIsTold known.now (option_copied rule.entry) app.now
+        attrs note.now counters.old counters.new (string_bytes text)) }
+{
+    let mut text = String::new(alloc);
+    push_head(&mut text, app, attrs.context())?;
+    let Course {
+        choice,
+        text: course,
+    } = tell_course(alloc, known.program(), rule, attrs, counters)?;
+    text.push_str(course.as_str())?;
+    push_offer(&mut text, known.releases(), choice)?;
+    text.push_str(note)?;
+    Ok(text)
+}
+
+// The rule of the first app of an appid.
+fn rule_of<'a>(apps: &[App], rules: &'a [Option<Rule>], appid: &str) -> Option<&'a Rule>
+    ensures { option_copied result ≡ meaning_of apps.now rules.now appid.now }
+{
+    let mut left = apps;
+    let mut others = rules;
+    while let [app, apps_behind @ ..] = left {
+        let [rule, rules_behind @ ..] = others else {
+            return None;
+        };
+        if app.appid() == appid {
+            return lent(rule);
+        }
+        left = apps_behind;
+        others = rules_behind;
+    }
+    None
+}
+
+fn lent(rule: &Option<Rule>) -> Option<&Rule>
+    ensures { option_copied result ≡ rule.now }
+{
+    match rule {
+        Some(rule) => Some(rule),
+        None => None,
+    }
+}

@@ -1,0 +1,100 @@
+//! The files of a dry run, with the rule of each app of the manifest.
+
+ghost use Rattle.std.specs.Prelude.{◌≡◌, [], IfOk, IfErr};
+ghost use Rattle.load.specs.Loaded.{RefusesPath};
+ghost use Rattle.dry_run.specs.Files.{IsOpenFault};
+ghost use Rattle.dry_run.specs.Meanings as specs;
+
+use crate::fault::DryRunFault;
+use crate::files::read_body;
+use crate::kept_rules::read_rules;
+use bounded_files::{Disk, ResourceFault};
+use cells::Directory;
+use load::{
+    FolderFiles, MadeRuleset, PathFault, Ungathered, gather, gathered_is_loaded, gathered_is_made,
+    make_ruleset, manifest_bytes,
+};
+use rule_lang::Rule;
+use ruleset::Ruleset;
+use std::alloc::Global;
+
+/// A ruleset with the arrays of its manifest, a body, and the rule of each app, in the ruleset's
+/// order: none where its program is no rule's.
+#[derive(Drop)]
+pub struct OpenedWhy {
+    pub rules: Ruleset,
+    pub directory: Directory,
+    pub body: Vec<u8>,
+    pub meanings: Vec<Option<Rule>>,
+}
+
+/// A ruleset that was loaded, and the rule of each app.
+#[derive(Drop)]
+struct LoadedWhy {
+    made: MadeRuleset,
+    meanings: Vec<Option<Rule>>,
+}
+
+/// Opens what `open_files` does, with the same faults. Each file is read once, and the text of a
+/// rule is parsed twice: for its program and for its meaning.
+#[tactic(auto, using(crate::proofs::Opening::no_body_why))]
+pub fn open_why<D: Disk>(
+    alloc: Global,
+    disk: &D,
+    manifest: &str,
+    request: &str,
+) -> Result<OpenedWhy, DryRunFault>
+    ensures opened { IfOk result
+        (specs.AreOpenedWhy (D.known disk.now) manifest.now request.now) }
+    ensures meanings { IfOk result (λ o. specs.HaveMeanings o.rules.apps o.meanings.items) }
+    ensures fault { IfErr result (IsOpenFault (D.known disk.now) manifest.now request.now) }
+{
+    let LoadedWhy { made, meanings } = match load_why(alloc, disk, manifest) {
+        Ok(loaded) => loaded,
+        Err(fault) => return Err(DryRunFault::Manifest(fault)),
+    };
+    let MadeRuleset {
+        rules,
+        directory,
+        ..
+    } = made;
+    match read_body(disk, request) {
+        Ok(body) => Ok(OpenedWhy {
+            rules,
+            directory,
+            body,
+            meanings,
+        }),
+        Err(fault) => Err(fault),
+    }
+}
+
+// The ruleset of a manifest over no arrays, and the rules of its apps, by one reading.
+#[tactic(auto, using(crate::proofs::Opening::loaded_meanings))]
+fn load_why<D: Disk>(alloc: Global, disk: &D, path: &str) -> Result<LoadedWhy, PathFault>
+    ensures loaded { IfOk result (λ l. specs.IsLoadedWhy (D.known disk.now) path.now
+        l.made.rules l.made.directory l.meanings.items) }
+    ensures meanings { IfOk result (λ l.
+        specs.HaveMeanings l.made.rules.apps l.meanings.items) }
+    ensures fault { IfErr result (RefusesPath (D.known disk.now) path.now []) }
+{
+    gathered_is_loaded();
+    gathered_is_made();
+    let bytes = match manifest_bytes(disk, path) {
+        Ok(bytes) => bytes,
+        Err(fault) => return Err(fault),
+    };
+    let mut files = FolderFiles::beside(alloc, disk, path);
+    let none = Directory::new(alloc);
+    let gathered = match gather(alloc, &bytes, &mut files, &none) {
+        Ok(gathered) => gathered,
+        Err(Ungathered { fault, .. }) => return Err(PathFault::Load(fault)),
+    };
+    let Ok(meanings) = read_rules(alloc, &gathered.apps) else {
+        return Err(PathFault::Resource(ResourceFault::Memory));
+    };
+    match make_ruleset(alloc, &bytes, gathered) {
+        Ok(made) => Ok(LoadedWhy { made, meanings }),
+        Err(fault) => Err(PathFault::Load(fault)),
+    }
+}
