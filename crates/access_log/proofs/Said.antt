@@ -33,23 +33,32 @@ start s =
     let kind = text_member (codes "kind") (codes "start") in
     let port = number_member (codes "port") s.port in
     let operator = number_member (codes "operator") s.operator in
-    all_harmless (kind ++ path_members s.manifest ++ port ++ operator) _
+    let digest = optional_member (codes "digest") (option_copied s.digest) in
+    let refusal = optional_member (codes "refusal") (option_copied s.refusal) in
+    all_harmless (kind ++ path_members s.manifest ++ port ++ operator ++ digest ++ refusal) _
+    (all_harmless (kind ++ path_members s.manifest ++ port ++ operator ++ digest) refusal
+    (all_harmless (kind ++ path_members s.manifest ++ port ++ operator) digest
     (all_harmless (kind ++ path_members s.manifest ++ port) operator
     (all_harmless (kind ++ path_members s.manifest) port
     (all_harmless kind (path_members s.manifest) (text (codes "kind") (codes "start"))
     (path s.manifest)) (count (codes "port") s.port)) (count (codes "operator") s.operator))
-    (maybe (codes "refusal") (option_copied s.refusal))
+    (maybe (codes "digest") (option_copied s.digest)))
+    (maybe (codes "refusal") (option_copied s.refusal)))
+    (maybe_excerpt (codes "cause") (codes "cause_left_out") s.cause)
 
 load : (l : Load) → HaveHarmlessNumbers (load_members l)
 load l =
     let kind = text_member (codes "kind") (codes "load") in
     let generation = count_member (codes "generation") l.generation in
+    let digest = optional_member (codes "digest") (option_copied l.digest) in
     let refusal = optional_member (codes "refusal") (option_copied l.refusal) in
-    all_harmless (kind ++ path_members l.path ++ generation ++ refusal) _
-    (all_harmless (kind ++ path_members l.path ++ generation) refusal
+    all_harmless (kind ++ path_members l.path ++ generation ++ digest ++ refusal) _
+    (all_harmless (kind ++ path_members l.path ++ generation ++ digest) refusal
+    (all_harmless (kind ++ path_members l.path ++ generation) digest
     (all_harmless (kind ++ path_members l.path) generation
     (all_harmless kind (path_members l.path) (text (codes "kind") (codes "load")) (path l.path))
     (counted (codes "generation") l.generation))
+    (maybe (codes "digest") (option_copied l.digest)))
     (maybe (codes "refusal") (option_copied l.refusal)))
     (maybe_excerpt (codes "cause") (codes "cause_left_out") l.cause)
 

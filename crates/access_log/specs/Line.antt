@@ -35,7 +35,9 @@ start_members start =
     kind_member (codes "start") ++ path_members start.manifest
     ++ number_member (codes "port") start.port
     ++ number_member (codes "operator") start.operator
+    ++ optional_member (codes "digest") (option_copied start.digest)
     ++ optional_member (codes "refusal") (option_copied start.refusal)
+    ++ optional_excerpt (codes "cause") (codes "cause_left_out") start.cause
 
 -- the server is ready
 abbrev pub serving_members : ℕ → List Token
@@ -46,6 +48,7 @@ abbrev pub load_members : Load → List Token
 load_members load =
     kind_member (codes "load") ++ path_members load.path
     ++ count_member (codes "generation") load.generation
+    ++ optional_member (codes "digest") (option_copied load.digest)
     ++ optional_member (codes "refusal") (option_copied load.refusal)
     ++ optional_excerpt (codes "cause") (codes "cause_left_out") load.cause
 

@@ -11,7 +11,11 @@ pub struct Start<'a> {
     /// The clients' port, and the operator's.
     pub port: u16,
     pub operator: u16,
+    /// The digest of its manifest and of the files that this names, in hexadecimal digits.
+    pub digest: Option<&'a str>,
     pub refusal: Option<&'a str>,
+    /// What is told of the refusal beside: which array or which member is wrong.
+    pub cause: Option<Excerpt<'a>>,
 }
 
 /// A load that the operator asked for.
@@ -21,6 +25,8 @@ pub struct Load<'a> {
     pub path: Excerpt<'a>,
     /// The generation that is served from then on; 0 where the load was refused.
     pub generation: u64,
+    /// The digest of the manifest and of the files that it names, in hexadecimal digits.
+    pub digest: Option<&'a str>,
     pub refusal: Option<&'a str>,
     /// What is told of the refusal beside: which array changes, or which member is wrong.
     pub cause: Option<Excerpt<'a>>,

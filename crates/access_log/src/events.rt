@@ -40,7 +40,9 @@ fn write_start(line: &mut LineRoom, start: &Start<'_>) -> Result<(), AllocError>
     write_path(line, &start.manifest)?;
     write_number(line, "port", start.port as u64)?;
     write_number(line, "operator", start.operator as u64)?;
+    write_optional(line, "digest", start.digest)?;
     write_optional(line, "refusal", start.refusal)?;
+    write_optional_excerpt(line, "cause", "cause_left_out", &start.cause)?;
     Ok(())
 }
 
@@ -58,6 +60,7 @@ fn write_load(line: &mut LineRoom, load: &Load<'_>) -> Result<(), AllocError>
     write_kind(line, "load")?;
     write_path(line, &load.path)?;
     write_count(line, "generation", load.generation)?;
+    write_optional(line, "digest", load.digest)?;
     write_optional(line, "refusal", load.refusal)?;
     write_optional_excerpt(line, "cause", "cause_left_out", &load.cause)?;
     Ok(())

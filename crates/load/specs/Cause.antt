@@ -14,10 +14,9 @@ use Rattle.manifest.specs.Manifest.{Manifest, ReadsManifest}
 use Rattle.manifest.specs.Texts.{misfit_text, twice_text}
 use Rattle.manifest.specs.declared.fault.ManifestFault.{ManifestFault}
 use Rattle.manifest.specs.declared.fault.ManifestFault.TheVariants as unread
-use Rattle.ruleset.specs.Rules.{Rules}
 use Rattle.load.specs.Folder.{known_beside}
 use Rattle.load.specs.Load.{IsLoadFault}
-use Rattle.load.specs.Loaded.{IsLoadedFrom, RefusesPath}
+use Rattle.load.specs.Loaded.{RefusesPath}
 use Rattle.load.specs.Made.{IsMadeFrom}
 use Rattle.load.specs.declared.fault.LoadFault.{LoadFault}
 use Rattle.load.specs.declared.fault.LoadFault.TheVariants as load
@@ -79,12 +78,7 @@ module _ (known : KnownFiles) (path : List ℕ) (old : List CellArray) where
   RefusesTelling (Resource fault) cause =
       RefusesPath known path old (Resource fault) × (cause ≡ None)
 
-  -- the ruleset; or the fault, and its cause, if it is told
-  abbrev pub LoadsTelling : Result (Rules × List CellArray) LoadRefusal → Type 0
-  LoadsTelling (Ok loaded) = IsLoadedFrom known path old loaded.0 loaded.1
+  -- the ruleset with its digest; or the fault, and its cause, if it is told
+  abbrev pub LoadsTelling : Result MadeRuleset LoadRefusal → Type 0
+  LoadsTelling (Ok made) = IsMadeFrom known path old made
   LoadsTelling (Err refused) = RefusesTelling refused.fault refused.cause
-
-  -- the same, and the ruleset with its digest
-  abbrev pub MakesTelling : Result MadeRuleset LoadRefusal → Type 0
-  MakesTelling (Ok made) = IsMadeFrom known path old made
-  MakesTelling (Err refused) = RefusesTelling refused.fault refused.cause

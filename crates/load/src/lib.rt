@@ -51,6 +51,6 @@ pub use kept::{KeptFile, file_of};
 pub use law::{gathered_is_loaded, gathered_is_made, one_load};
 pub use loading::{load_over, load_ruleset};
 pub use made::{MadeRuleset, make_ruleset};
-pub use path::{MOST_MANIFEST, load_path, load_told, load_with_cause, manifest_bytes};
+pub use path::{MOST_MANIFEST, load_path, load_told, manifest_bytes};
 pub use programs::{judge, judge_app, supply};
 pub use refusal::LoadRefusal;

@@ -4,7 +4,7 @@ ghost use Rattle.std.specs.Prelude.{ℕ, List, IfOk, IfErr, Some};
 ghost use mathlib.Core.List.{IsPrefix};
 ghost use Rattle.bounded_files.specs.Files.{Gives, KnownFiles, regular_files};
 ghost use Rattle.cells.specs.declared.array.CellArray.{CellArray};
-ghost use Rattle.load.specs.Cause.{LoadsTelling, MakesTelling, RefusesTelling};
+ghost use Rattle.load.specs.Cause.{LoadsTelling, RefusesTelling};
 ghost use Rattle.load.specs.Gathered.{IsUngathered};
 ghost use Rattle.load.specs.Loaded.{IsLoadedFrom, LoadsFrom, RefusesPath};
 ghost use Rattle.ruleset.specs.Rules.{KnowsOnly};
@@ -40,8 +40,14 @@ pub fn load_path<D: Disk>(
     ensures only { IfOk result (λ loaded. KnowsOnly loaded.1 loaded.0) }
     ensures grown { IfOk result (λ loaded. IsPrefix directory.now loaded.1) }
 {
-    match load_with_cause(alloc, disk, path, directory) {
-        Ok(loaded) => Ok(loaded),
+    match load_told(alloc, disk, path, directory) {
+        Ok(
+            MadeRuleset {
+                rules,
+                directory,
+                digest: _,
+            },
+        ) => Ok((rules, directory)),
         Err(
             LoadRefusal {
                 fault,
@@ -51,32 +57,8 @@ pub fn load_path<D: Disk>(
     }
 }
 
-/// The same, where a refusal has what a log tells of it beside.
-// open: whether memory is refused (M8, B4), also to a cause; what a device's files give.
-pub fn load_with_cause<D: Disk>(
-    alloc: Global,
-    disk: &D,
-    path: &str,
-    directory: &Directory,
-) -> Result<(Ruleset, Directory), LoadRefusal>
-    ensures loads { LoadsTelling (D.known disk.now) path.now directory.now result }
-    ensures only { IfOk result (λ loaded. KnowsOnly loaded.1 loaded.0) }
-    ensures grown { IfOk result (λ loaded. IsPrefix directory.now loaded.1) }
-{
-    match load_told(alloc, disk, path, directory) {
-        Ok(
-            MadeRuleset {
-                rules,
-                directory,
-                digest: _,
-            },
-        ) => Ok((rules, directory)),
-        Err(refusal) => Err(refusal),
-    }
-}
-
-/// The same, and of a ruleset the digest of all that was judged. All files are read before the
-/// first is judged.
+/// The same, with what a log tells of it: the digest of all that was judged, or beside a fault its
+/// cause. All files are read before the first is judged.
 // open: whether memory is refused (M8, B4), also to a cause; what a device's files give.
 #[tactic(auto, using(crate::proofs::Making::is_loaded))]
 pub fn load_told<D: Disk>(
@@ -85,7 +67,7 @@ pub fn load_told<D: Disk>(
     path: &str,
     directory: &Directory,
 ) -> Result<MadeRuleset, LoadRefusal>
-    ensures loads { MakesTelling (D.known disk.now) path.now directory.now result }
+    ensures loads { LoadsTelling (D.known disk.now) path.now directory.now result }
     ensures rules { IfOk result (λ made. IsLoadedFrom (D.known disk.now) path.now directory.now
         made.rules made.directory) }
     ensures only { IfOk result (λ made. KnowsOnly made.directory made.rules) }
@@ -126,7 +108,7 @@ fn load_bytes<D: Disk>(
     directory: &Directory,
 ) -> Result<MadeRuleset, LoadRefusal>
     requires { Gives (regular_files (D.known disk.now)) path.now (Some bytes.now) }
-    ensures loads { MakesTelling (D.known disk.now) path.now directory.now result }
+    ensures loads { LoadsTelling (D.known disk.now) path.now directory.now result }
     ensures only { IfOk result (λ made. KnowsOnly made.directory made.rules) }
     ensures grown { IfOk result (λ made. IsPrefix directory.now made.directory) }
 {

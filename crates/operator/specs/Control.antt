@@ -1,18 +1,21 @@
 -- What an operator rules: which ruleset was installed last, and the server's arrays.
-use Rattle.std.specs.Prelude.{◌≡◌, ◌^◌, ◌-◌, ℕ, List, All, Result, Ok, Err}
+use Rattle.std.specs.Prelude.{◌≡◌, ◌^◌, ◌-◌, ℕ, List, All, Option, Result, Ok, Err}
 use mathlib.Core.List.{IsPrefix}
 use Rattle.cells.specs.declared.array.CellArray.{CellArray}
 use Rattle.hot_swap.specs.Latest.{Publishing, Installs}
 use Rattle.hot_swap.specs.declared.fault.SwapFault.{SwapFault}
 use Rattle.hot_swap.specs.declared.fault.SwapFault.TheVariants as swap
+use Rattle.operator.specs.declared.loader.Loaded.{Loaded}
 use Rattle.operator.specs.declared.reply.OperatorRefusal.{OperatorRefusal}
 use Rattle.operator.specs.declared.reply.OperatorRefusal.TheVariants as refusal
 use Rattle.ruleset.specs.Rules.{Rules, KnowsOnly}
 
--- which ruleset was installed last, and the server's arrays
+-- which ruleset was installed last, the server's arrays, and the digest of what the last load was
+-- made of
 pub record Controlled : Type 0 where
   pub publishing : Publishing
   pub arrays : List CellArray
+  pub digest : Option (List ℕ)
 
 -- the programs of all that was published know no arrays but the server's
 abbrev pub KnowOnlyItsArrays : Controlled → Type 0
@@ -25,9 +28,9 @@ IsUninstallable publishing swap.NoPlace = ⊥
 IsUninstallable publishing swap.Memory = Unit {0}
 
 -- what may come of a load: the path, the arrays before it, and the ruleset with the arrays after
--- it, or the fault
+-- it and its digest, or the fault
 abbrev pub Loading : Type 0 → Type 1
-Loading F = List ℕ → List CellArray → Result (Rules × List CellArray) F → Type 0
+Loading F = List ℕ → List CellArray → Result Loaded F → Type 0
 
 module _ {F : Type 0} (loads : Loading F) where
   -- The ruleset that was loaded is installed, and its arrays are declared, under this generation.
@@ -35,7 +38,8 @@ module _ {F : Type 0} (loads : Loading F) where
   pub record IsInstalled (path : List ℕ) (old : Controlled) (generation : ℕ) (new : Controlled)
       : Type 0 where
     pub rules : Rules
-    pub loaded : loads path old.arrays (Ok (rules, new.arrays))
+    pub loaded : loads path old.arrays
+        (Ok (record { rules = rules; directory = new.arrays; digest = new.digest }))
     pub installed : Installs old.publishing rules generation new.publishing
     pub only : KnowsOnly new.arrays rules
     pub grown : IsPrefix old.arrays new.arrays

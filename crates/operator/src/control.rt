@@ -1,10 +1,10 @@
 //! The ruleset and the arrays of a server, which its operator alone changes: both at a load, or
 //! neither.
 
-ghost use Rattle.std.specs.Prelude.{◌≡◌, All, IfOk, IfErr, OnErr};
+ghost use Rattle.std.specs.Prelude.{◌≡◌, All, IfOk, IfErr, OnErr, None};
 ghost use Rattle.operator.specs.Control.{IsInstalled, IsRefusedLoad};
 
-use crate::loader::Loader;
+use crate::loader::{Loaded, Loader};
 use crate::reply::OperatorRefusal;
 use cells::{CellArray, Directory};
 use hot_swap::{Generation, Notice, Publisher};
@@ -18,6 +18,8 @@ use std::sync::{Arc, Wait};
 pub struct Control {
     publisher: Publisher,
     directory: Directory,
+    /// That of the ruleset that was loaded last, if its loader tells one.
+    digest: Option<[u8; 32]>,
 }
 
 impl Model for Control {
@@ -25,7 +27,8 @@ impl Model for Control {
 
     ghost Value = { Controlled };
 
-    ghost view = { λ c. record { publishing = c.publisher; arrays = c.directory } };
+    ghost view = { λ c.
+        record { publishing = c.publisher; arrays = c.directory; digest = c.digest } };
 }
 
 impl Control {
@@ -37,10 +40,12 @@ impl Control {
     pub fn new(publisher: Publisher, directory: Directory) -> Control
         ensures publishing { result.publishing ≡ publisher }
         ensures arrays { result.arrays ≡ directory }
+        ensures digest { result.digest ≡ None }
     {
         Control {
             publisher,
             directory,
+            digest: None,
         }
     }
 
@@ -67,6 +72,13 @@ impl Control {
         ensures { result.now ≡ self.now.publishing.latest.rules }
     {
         self.publisher.ruleset()
+    }
+
+    /// The digest of what that was made of, if it was loaded and its loader tells one.
+    pub fn digest(&self) -> Option<[u8; 32]>
+        ensures { result ≡ self.now.digest }
+    {
+        self.digest
     }
 
     /// A notice of all that was installed, for the publisher's watchers to learn.
@@ -100,7 +112,11 @@ impl Control {
         ensures fault { IfErr result (IsRefusedLoad (L.loads loader.now) path.now self.old) }
         ensures same { OnErr result (self.new ≡ self.old) }
     {
-        let (rules, directory) = match loader.load(alloc, path, &self.directory) {
+        let Loaded {
+            rules,
+            directory,
+            digest,
+        } = match loader.load(alloc, path, &self.directory) {
             Ok(loaded) => loaded,
             Err(fault) => return Err(OperatorRefusal::Load(fault)),
         };
@@ -110,6 +126,7 @@ impl Control {
         match self.publisher.install(rt, rules) {
             Ok(generation) => {
                 self.directory = directory;
+                self.digest = digest;
                 Ok(generation)
             }
             Err(fault) => Err(OperatorRefusal::Install(fault)),
@@ -122,6 +139,7 @@ impl Control {
         let Control {
             publisher,
             directory: _directory,
+            digest: _digest,
         } = self;
         publisher.close(rt);
     }

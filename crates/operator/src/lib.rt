@@ -26,5 +26,5 @@ pub use answering::{answer, write_reply};
 pub use asking::{AskFault, ask};
 pub use control::Control;
 pub use law::loads_go_on;
-pub use loader::Loader;
+pub use loader::{Loaded, Loader};
 pub use reply::{OperatorRefusal, OperatorReply};

@@ -6,6 +6,16 @@ use ruleset::Ruleset;
 use std::alloc::Global;
 use std::fmt::Display;
 
+/// What a load comes to.
+#[derive(Drop)]
+pub struct Loaded {
+    pub rules: Ruleset,
+    /// The arrays before it, and behind them its own.
+    pub directory: Directory,
+    /// The digest of what it was made of, if its loader tells one.
+    pub digest: Option<[u8; 32]>,
+}
+
 /// What makes a ruleset of the manifest at a path.
 pub trait Loader {
     ghost use Rattle.std.specs.Prelude.{ℕ, List, Option, option_copied, IfOk};
@@ -17,7 +27,7 @@ pub trait Loader {
     type Fault: Display + Drop;
 
     /// What may come of a load: the path, the arrays before it, and the ruleset with the arrays
-    /// after it, or the fault.
+    /// after it and its digest, or the fault.
     ghost loads: { Self → Loading Self.Fault };
 
     /// What may be told of a fault beside its text.
@@ -25,15 +35,10 @@ pub trait Loader {
 
     /// The ruleset of a manifest, and a directory of the arrays before it and of its own, which are
     /// all that its programs know.
-    fn load(
-        &self,
-        alloc: Global,
-        path: &str,
-        directory: &Directory,
-    ) -> Result<(Ruleset, Directory), Self::Fault>
+    fn load(&self, alloc: Global, path: &str, directory: &Directory) -> Result<Loaded, Self::Fault>
         ensures outcome { loads self.now path.now directory.now result }
-        ensures only { IfOk result (λ loaded. KnowsOnly loaded.1 loaded.0) }
-        ensures grown { IfOk result (λ loaded. IsPrefix directory.now loaded.1) };
+        ensures only { IfOk result (λ loaded. KnowsOnly loaded.directory loaded.rules) }
+        ensures grown { IfOk result (λ loaded. IsPrefix directory.now loaded.directory) };
 
     /// What the log tells of a fault beside its text, if it tells more.
     fn cause<'x>(&self, fault: &'x Self::Fault) -> Option<&'x str>

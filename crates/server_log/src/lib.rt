@@ -31,7 +31,7 @@ mod tally;
 pub use clock::seconds_from_now;
 pub use connection_line::{note_connection, note_unaccepted};
 pub use heard::Heard;
-pub use load_line::{note_load, note_serving};
+pub use load_line::{digest_text, note_load, note_serving};
 pub use log::Log;
 pub use log_output::LogOutput;
 pub use log_queue::{LogPiece, LogQueue};

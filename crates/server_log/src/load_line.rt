@@ -1,11 +1,16 @@
 //! What the log tells of what is served: that the server is ready, and each load.
 
+ghost use Rattle.std.specs.Prelude.{◌≡◌, IfOk, option_map, string_bytes};
+ghost use Rattle.hex.specs.Hex.{encode_lower};
+
 use crate::clock::seconds_from_now;
 use crate::heard::Heard;
 use crate::log_queue::LogQueue;
 use access_log::{Excerpt, Load, LogEvent};
+use hex::encode;
 use hot_swap::Generation;
 use operator::{Loader, OperatorRefusal, OperatorReply};
+use std::alloc::{AllocError, Global};
 use std::sync::Wait;
 use std::time::Clock;
 
@@ -25,13 +30,15 @@ where
 }
 
 /// Puts the line of a load into the queue, if there is one and a load was asked for: of one that is
-/// refused with what its loader tells of the fault. It is lost where memory is refused, or where it
-/// has waited for a place in vain.
+/// installed with this digest, and of one that is refused with what its loader tells of the fault.
+/// It is lost where memory is refused, or where it has waited for a place in vain.
+// open: all but the line of an event: tests.
 pub fn note_load<H, R, L>(
     rt: &H,
     log: Option<&LogQueue>,
     heard: Heard<R>,
     loader: &L,
+    digest: Option<[u8; 32]>,
     reply: &OperatorReply<L::Fault>,
 )
 where
@@ -49,12 +56,10 @@ where
         return;
     };
     match reply {
-        OperatorReply::Loaded(generation) => {
-            note_outcome(rt, queue, path, *generation, None, None);
-        }
+        OperatorReply::Loaded(generation) => note_loaded(rt, queue, path, *generation, digest),
         OperatorReply::Refused(refusal) => match refusal.to_string(rt.alloc()) {
             Ok(text) => {
-                note_outcome(rt, queue, path, 0, Some(&text), cause_of(loader, refusal));
+                note_outcome(rt, queue, refused(path, &text, cause_of(loader, refusal)));
             }
             Err(_) => queue.lose(1),
         },
@@ -70,23 +75,58 @@ fn cause_of<'x, L: Loader>(loader: &L, refusal: &'x OperatorRefusal<L::Fault>) -
     }
 }
 
-fn note_outcome<'x, H>(
+fn note_loaded<H>(
     rt: &H,
     queue: &LogQueue,
-    path: &'x str,
-    generation: u64,
-    refusal: Option<&'x str>,
-    cause: Option<&'x str>,
+    path: &str,
+    generation: Generation,
+    digest: Option<[u8; 32]>,
 )
 where
     H: Wait + AllocGlobal + Clock,
 {
-    let load = Load {
+    match digest_text(rt.alloc(), digest) {
+        Ok(digest) => note_outcome(rt, queue, installed(path, generation, digest.as_deref())),
+        Err(_) => queue.lose(1),
+    }
+}
+
+/// A digest in hexadecimal digits, in lower case.
+// open: whether memory is refused.
+pub fn digest_text(alloc: Global, digest: Option<[u8; 32]>) -> Result<Option<String>, AllocError>
+    ensures { IfOk result
+        (λ text. option_map string_bytes text ≡ option_map encode_lower digest) }
+{
+    match digest {
+        Some(digest) => Ok(Some(encode(alloc, digest)?)),
+        None => Ok(None),
+    }
+}
+
+fn installed<'x>(path: &'x str, generation: Generation, digest: Option<&'x str>) -> Load<'x> {
+    Load {
         path: Excerpt::of(path),
         generation,
-        refusal,
+        digest,
+        refusal: None,
+        cause: None,
+    }
+}
+
+fn refused<'x>(path: &'x str, refusal: &'x str, cause: Option<&'x str>) -> Load<'x> {
+    Load {
+        path: Excerpt::of(path),
+        generation: 0,
+        digest: None,
+        refusal: Some(refusal),
         cause: excerpt_of(cause),
-    };
+    }
+}
+
+fn note_outcome<H>(rt: &H, queue: &LogQueue, load: Load<'_>)
+where
+    H: Wait + AllocGlobal + Clock,
+{
     let until = seconds_from_now(rt, LOAD_SECONDS);
     let _noted = queue.note_until(rt, &LogEvent::Load(load), until);
 }

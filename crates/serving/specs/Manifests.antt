@@ -1,8 +1,12 @@
--- Why a server isn't ready.
-use Rattle.std.specs.Prelude.{ℕ, List, []}
+-- As what a server loads manifests, and why it isn't ready.
+use Rattle.std.specs.Prelude.{◌≡◌, ℕ, List, [], Some, Ok, Err}
 use Rattle.cells.specs.declared.array.CellArray.{CellArray}
 use Rattle.bounded_files.specs.Files.{KnownFiles}
-use Rattle.load.specs.Loaded.{IsLoadedFrom, RefusesPath}
+use Rattle.load.specs.Cause.{RefusesTelling}
+use Rattle.load.specs.declared.refusal.LoadRefusal.{LoadRefusal}
+use Rattle.load.specs.Loaded.{IsLoadedFrom}
+use Rattle.load.specs.Made.{IsMadeFrom}
+use Rattle.operator.specs.Control.{Loading}
 use Rattle.ruleset.specs.Rules.{Rules}
 use Rattle.serving.specs.declared.fault.ServingFault.{ServingFault}
 use Rattle.serving.specs.declared.fault.ServingFault.TheVariants as serving
@@ -15,6 +19,16 @@ pub record HasRuleset (known : KnownFiles) (manifest : List ℕ) : Type 0 where
 
 -- the manifest comes to no ruleset; or it does, and one of the ports can't be bound
 abbrev pub RefusesToServe : KnownFiles → List ℕ → ServingFault → Type 0
-RefusesToServe known manifest (serving.Manifest fault) = RefusesPath known manifest [] fault
+RefusesToServe known manifest (serving.Manifest refusal) =
+    RefusesTelling known manifest [] refusal.fault refusal.cause
 RefusesToServe known manifest serving.Bind = HasRuleset known manifest
 RefusesToServe known manifest fault = ⊥
+
+-- what the manifest at a path is loaded as: its ruleset, the directory after it and its digest; or
+-- the fault, and its cause, if it is told
+abbrev pub LoadsManifest : KnownFiles → Loading LoadRefusal
+LoadsManifest known path old (Ok loaded) =
+    (digest : List ℕ) × (loaded.digest ≡ Some digest) × IsMadeFrom known path old
+    (record { rules = loaded.rules; directory = loaded.directory; digest = digest })
+LoadsManifest known path old (Err refusal) =
+    RefusesTelling known path old refusal.fault refusal.cause

@@ -1,5 +1,5 @@
--- The texts of a server's faults, as they are printed.
-use Rattle.std.specs.Prelude.{ℕ, List, codes}
+-- The texts of a server's faults, as they are printed, and what its log tells beside.
+use Rattle.std.specs.Prelude.{ℕ, List, codes, Option, None, option_map, string_bytes}
 use Rattle.shared_cells.specs.Texts.{shared_text}
 use Rattle.bounded_files.specs.Texts.{resource_text}
 use Rattle.load.specs.Texts.{path_fault_text}
@@ -8,8 +8,13 @@ use Rattle.serving.specs.declared.fault.ServingFault.{ServingFault}
 use Rattle.serving.specs.declared.fault.ServingFault.TheVariants as serving
 
 abbrev pub serving_text : ServingFault → List ℕ
-serving_text (serving.Manifest fault) = path_fault_text fault
+serving_text (serving.Manifest refusal) = path_fault_text refusal.fault
 serving_text serving.Bind = codes "B6 Bind"
 serving_text (serving.Cells fault) = shared_text fault
 serving_text (serving.Publisher fault) = swap_text fault
 serving_text (serving.Resource fault) = resource_text fault
+
+-- the cause of a manifest's fault, if it is told
+abbrev pub cause_of : ServingFault → Option (List ℕ)
+cause_of (serving.Manifest refusal) = option_map string_bytes refusal.cause
+cause_of fault = None

@@ -1,11 +1,11 @@
 //! Why there is no server, or none that serves.
 
-ghost use Rattle.std.specs.Prelude.{◌≡◌, ◌↔◌, IsTrue, Some};
-ghost use Rattle.serving.specs.Texts.{serving_text};
+ghost use Rattle.std.specs.Prelude.{◌≡◌, ◌↔◌, IsTrue, Some, option_copied};
+ghost use Rattle.serving.specs.Texts.{cause_of, serving_text};
 
 use bounded_files::ResourceFault;
 use hot_swap::SwapFault;
-use load::PathFault;
+use load::LoadRefusal;
 use shared_cells::SharedFault;
 use std::error::Error;
 use std::fmt::{self, Display};
@@ -14,7 +14,7 @@ use std::fmt::{self, Display};
 #[derive(Debug, Drop)]
 pub enum ServingFault {
     /// B3, B4, M1 to M8: the manifest comes to no ruleset.
-    Manifest(PathFault),
+    Manifest(LoadRefusal),
     /// B6: a port can't be bound, or too few descriptors are left.
     Bind,
     /// S1: the counters are refused memory.
@@ -33,6 +33,19 @@ impl ServingFault {
     {
         matches!(self, ServingFault::Publisher(SwapFault::NoPlace))
     }
+
+    /// What a log tells of it beside its text, if it tells more: the cause of a manifest's fault.
+    pub fn cause(&self) -> Option<&str>
+        ensures { option_copied result ≡ cause_of self.now }
+    {
+        let ServingFault::Manifest(refusal) = self else {
+            return None;
+        };
+        match &refusal.cause {
+            Some(cause) => Some(cause.as_str()),
+            None => None,
+        }
+    }
 }
 
 impl Display for ServingFault {
@@ -40,7 +53,7 @@ impl Display for ServingFault {
 
     fn fmt<W: fmt::Write>(&self, f: &mut fmt::Formatter<W>) -> fmt::Result {
         match self {
-            ServingFault::Manifest(fault) => write!(f, "{fault}"),
+            ServingFault::Manifest(refusal) => write!(f, "{refusal}"),
             ServingFault::Bind => f.write_str("B6 Bind"),
             ServingFault::Cells(fault) => f.write_str(fault.name()),
             ServingFault::Publisher(fault) => f.write_str(fault.name()),

@@ -3,6 +3,7 @@
 
 ghost use Rattle.std.specs.Prelude.{◌≡◌, ◌≤◌, [], ◌∷◌, IfOk, IfErr, length};
 ghost use Rattle.load.specs.Loaded.{IsLoadedFrom};
+ghost use Rattle.load.specs.Made.{IsMadeFrom};
 ghost use Rattle.ruleset.specs.Rules.{KnowsOnly};
 ghost use Rattle.serving.specs.Manifests.{RefusesToServe};
 ghost use Rattle.serving.specs.Staffed.{IsStaffFault};
@@ -10,7 +11,7 @@ ghost use Rattle.serving.specs.Staffed.{IsStaffFault};
 use crate::fault::ServingFault;
 use crate::staffed::{StaffedServer, staff};
 use cells::Directory;
-use load::{Disk, load_path};
+use load::{Disk, MadeRuleset, load_told};
 use ruleset::Ruleset;
 use std::net::{Net, TcpListener, TcpStream};
 use std::sync::Wait;
@@ -22,6 +23,8 @@ pub struct Server {
     ports: Ports,
     rules: Ruleset,
     directory: Directory,
+    /// That of the manifest and of the files that it names.
+    digest: [u8; 32],
     ghost only: { KnowsOnly directory rules },
 }
 
@@ -41,18 +44,28 @@ where
     D: Disk,
     ensures loaded { IfOk result
         (λ s. IsLoadedFrom (D.known disk.now) path.now [] s.rules s.directory) }
+    // Its digest is that of the bytes that were judged.
+    ensures made { IfOk result (λ s. IsMadeFrom (D.known disk.now) path.now []
+        (record { rules = s.rules; directory = s.directory; digest = s.digest })) }
     ensures refused { IfErr result (RefusesToServe (D.known disk.now) path.now) }
 {
     let alloc = rt.alloc();
-    let (rules, directory) = match load_path(alloc, disk, path, &Directory::new(alloc)) {
-        Ok(loaded) => loaded,
-        Err(fault) => return Err(ServingFault::Manifest(fault)),
+    let made = match load_told(alloc, disk, path, &Directory::new(alloc)) {
+        Ok(made) => made,
+        Err(refusal) => return Err(ServingFault::Manifest(refusal)),
     };
+    let digest = made.digest;
+    let MadeRuleset {
+        rules,
+        directory,
+        digest: _,
+    } = made;
     match bind(rt, service, operator) {
         Ok(ports) => Ok(Server {
             ports,
             rules,
             directory,
+            digest,
         }),
         Err(_) => Err(ServingFault::Bind),
     }
@@ -64,6 +77,14 @@ impl Server {
         ensures { result.now ≡ self.now.ports }
     {
         &self.ports
+    }
+
+    /// The digest of the manifest and of the files that it names, as they were judged.
+    pub fn digest(&self) -> [u8; 32]
+        ensures { result ≡ self.now.digest }
+    {
+        let digest = self.digest;
+        digest
     }
 
     /// The server with so many workers, to serve the ruleset as generation 1. S1 where the counters
@@ -87,6 +108,7 @@ impl Server {
             ports,
             rules,
             directory,
+            digest: _,
         } = self;
         staff(rt, ports, rules, directory, workers)
     }

@@ -3,7 +3,7 @@
 use crate::exchange::is_printed;
 use cells::Directory;
 use declarations::{declare_all, read_spec};
-use load::{Device, LoadRefusal, load_with_cause};
+use load::{Device, LoadRefusal, load_told};
 use std::alloc::Global;
 use std::fs;
 use std::rt::Files;
@@ -44,7 +44,7 @@ where
     let mut directory = Directory::new(alloc);
     let declared = read_spec(alloc, "q:64:1:3").map_err(|_| "an array")?;
     let _numbers = declare_all(alloc, &mut directory, &declared).map_err(|_| "an array")?;
-    let refused = match load_with_cause(alloc, &Device::new(rt), "told.toml", &directory) {
+    let refused = match load_told(alloc, &Device::new(rt), "told.toml", &directory) {
         Ok(_loaded) => None,
         Err(refusal) => Some(refusal),
     };

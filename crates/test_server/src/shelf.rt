@@ -12,7 +12,7 @@ use bpf_verify::Verified;
 use cells::{Directory, Shape, arrays_stay};
 use declarations::{declare_all, read_spec};
 use hot_swap::Publisher;
-use operator::Loader;
+use operator::{Loaded, Loader};
 use releases::{Package, Release};
 use ruleset::{App, Ruleset};
 use std::alloc::{AllocError, Global};
@@ -53,12 +53,16 @@ impl Loader for Shelf {
         alloc: Global,
         path: &str,
         directory: &Directory,
-    ) -> Result<(Ruleset, Directory), &'static str> {
+    ) -> Result<Loaded, &'static str> {
         let Ok(mut grown) = directory.copy(alloc) else {
             return Err("memory");
         };
         let rules = ruleset(alloc, path, &mut grown)?;
-        Ok((rules, grown))
+        Ok(Loaded {
+            rules,
+            directory: grown,
+            digest: Some([0xf9; 32]),
+        })
     }
 
     fn cause<'x>(&self, fault: &'x &'static str) -> Option<&'x str> {

@@ -111,7 +111,14 @@ where
         return false;
     };
     let _sent = send(rt, stream, &reply, service.timeout);
-    note_load(rt, service.log, reader.into_inner(), seat.loader, &reply);
+    note_load(
+        rt,
+        service.log,
+        reader.into_inner(),
+        seat.loader,
+        control.digest(),
+        &reply,
+    );
     matches!(reply, OperatorReply::Stopping)
 }
 

@@ -5,7 +5,7 @@ use Rattle.operator.proofs.control.Control.load.Goals as goal
 
 pub returns-in-Ok-install-clause-done : goal.returns-in-Ok-install-clause-done
 returns-in-Ok-install-clause-done g c = rw (← c.self.view_is) (record {
-  rules = c.in-Ok.loaded.0;
+  rules = c.in-Ok.loaded.rules;
   loaded = c.in-Ok.ensures.outcome;
   installed = subst
       (λ (rules : Rules). Installs c.self.inside.publisher rules c.in-Ok-install.generation
