@@ -1,5 +1,5 @@
 -- The texts that the program prints for an answer and for a refusal.
-use Rattle.std.specs.Prelude.{ℕ, ◌/◌, List, [], ◌++◌, length, codes, Bool, true}
+use Rattle.std.specs.Prelude.{ℕ, ◌/◌, List, [], ◌++◌, length, codes, Bool, true, Option, None}
 use Rattle.std.specs.Fmt.{decimal}
 use Rattle.std.specs.String.{string_bytes}
 use Rattle.commands.specs.declared.answer.Answer.{Answer}
@@ -20,7 +20,7 @@ use Rattle.dry_run.specs.Texts.{dry_run_text}
 use Rattle.printing.specs.Printed.{printed}
 use Rattle.ruleset.specs.Texts.{line}
 use Rattle.operator.specs.Texts.{ask_text}
-use Rattle.serving.specs.Texts.{serving_text}
+use Rattle.serving.specs.Texts.{cause_of, serving_text}
 use Rattle.workers.specs.Texts.{serving_line}
 
 -- what is printed of an answer
@@ -61,6 +61,11 @@ passes answer = true
 abbrev pub refusal_reason : Fault → List ℕ
 refusal_reason (Manifest (tool.Diagnosed refused)) = string_bytes refused.reason
 refusal_reason fault = []
+
+-- what a server's log tells of it beside its text, if it tells more
+abbrev pub fault_cause : Fault → Option (List ℕ)
+fault_cause (Serving fault) = cause_of fault
+fault_cause fault = None
 
 abbrev pub fault_text : Fault → List ℕ
 fault_text (Resource fault) = resource_text fault

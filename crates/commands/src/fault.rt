@@ -1,7 +1,7 @@
 //! Why a request is refused.
 
-ghost use Rattle.std.specs.Prelude.{◌≡◌, Some};
-ghost use Rattle.commands.specs.Texts.{fault_text, refusal_reason};
+ghost use Rattle.std.specs.Prelude.{◌≡◌, Some, option_copied};
+ghost use Rattle.commands.specs.Texts.{fault_cause, fault_text, refusal_reason};
 
 use bounded_files::ResourceFault;
 use dry_run::DryRunFault;
@@ -39,6 +39,16 @@ impl Fault {
         match self {
             Fault::Manifest(ManifestToolFault::Diagnosed(refused)) => refused.reason.as_str(),
             _ => "",
+        }
+    }
+
+    /// What a server's log tells of it beside its text, if it tells more.
+    pub fn cause(&self) -> Option<&str>
+        ensures { option_copied result ≡ fault_cause self.now }
+    {
+        match self {
+            Fault::Serving(fault) => fault.cause(),
+            _ => None,
         }
     }
 }

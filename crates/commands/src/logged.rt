@@ -6,13 +6,13 @@ ghost use Rattle.std.specs.Prelude.{◌⊎◌, OnOk, IfErr};
 ghost use Rattle.serving.specs.Staffed.{IsStaffFault, IsEndFault};
 ghost use Rattle.workers.specs.Texts.{serving_line};
 
+use crate::fault::Fault;
 use crate::serve::serve_by;
 use access_log::{Excerpt, LogEvent, Start};
 use command_line::{CommandRequest, Plan};
 use load::Disk;
-use server_log::{LogOutput, LogQueue, note_at_once, start_log};
+use server_log::{LogOutput, LogQueue, digest_text, note_at_once, start_log};
 use serving::{Server, ServingFault};
-use std::fmt::Display;
 use std::io::Write;
 use std::net::{Net, TcpListener, TcpStream};
 use std::sync::Wait;
@@ -43,7 +43,7 @@ where
     };
     let ports = server.ports();
     let (port, operator) = (ports.service().port(), ports.operator().port());
-    queue.note(rt, &start_event(manifest, port, operator, None));
+    note_start(rt, &queue, manifest, port, operator, server.digest());
     let outcome = serve_by(rt, disk, server, plan, Some(&queue), out);
     note_outcome(rt, &queue, manifest, port, operator, &outcome);
     drop(queue);
@@ -70,16 +70,37 @@ where
         return;
     }
     if let Ok(refusal) = fault.to_string(rt.alloc()) {
-        queue.note(rt, &start_event(manifest, port, operator, Some(&refusal)));
+        queue.note(
+            rt,
+            &refused_start(manifest, port, operator, &refusal, fault.cause()),
+        );
     }
 }
 
-/// Logs that a server doesn't start, where a log was asked for. The line is lost where memory is
-/// refused.
-pub fn note_refusal<R, F>(rt: &R, request: &CommandRequest<'_>, fault: &F)
+// That it starts, with the digest of what it serves, which is left out where memory is refused.
+fn note_start<R>(
+    rt: &R,
+    queue: &LogQueue,
+    manifest: &str,
+    port: u16,
+    operator: u16,
+    digest: [u8; 32],
+)
+where
+    R: Wait + AllocGlobal + Clock,
+{
+    match digest_text(rt.alloc(), Some(digest)) {
+        Ok(digest) => queue.note(rt, &start(manifest, port, operator, digest.as_deref())),
+        Err(_) => queue.note(rt, &start(manifest, port, operator, None)),
+    }
+}
+
+/// Logs that a server doesn't start, and why, where a log was asked for. The line is lost where
+/// memory is refused.
+// open: all but that it is a line: tests.
+pub fn note_refusal<R>(rt: &R, request: &CommandRequest<'_>, fault: &Fault)
 where
     R: AllocGlobal + Clock + LogOutput,
-    F: Display,
 {
     let CommandRequest::Serve { manifest, plan } = request else {
         return;
@@ -88,21 +109,43 @@ where
         return;
     }
     if let Ok(refusal) = fault.to_string(rt.alloc()) {
-        let event = start_event(manifest, plan.port, plan.operator, Some(&refusal));
+        let (port, operator) = (plan.port, plan.operator);
+        let event = refused_start(manifest, port, operator, &refusal, fault.cause());
         note_at_once(rt, &event);
     }
 }
 
-fn start_event<'x>(
+fn start<'x>(manifest: &'x str, port: u16, operator: u16, digest: Option<&'x str>) -> LogEvent<'x> {
+    LogEvent::Start(Start {
+        manifest: Excerpt::of(manifest),
+        port,
+        operator,
+        digest,
+        refusal: None,
+        cause: None,
+    })
+}
+
+fn refused_start<'x>(
     manifest: &'x str,
     port: u16,
     operator: u16,
-    refusal: Option<&'x str>,
+    refusal: &'x str,
+    cause: Option<&'x str>,
 ) -> LogEvent<'x> {
     LogEvent::Start(Start {
         manifest: Excerpt::of(manifest),
         port,
         operator,
-        refusal,
+        digest: None,
+        refusal: Some(refusal),
+        cause: excerpt_of(cause),
     })
+}
+
+fn excerpt_of<'x>(cause: Option<&'x str>) -> Option<Excerpt<'x>> {
+    match cause {
+        Some(cause) => Some(Excerpt::of(cause)),
+        None => None,
+    }
 }
