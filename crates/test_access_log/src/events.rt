@@ -10,13 +10,22 @@ use std::test::Fail;
 const LINES: &str = r##"
 "kind":"start","path":"m.toml","port":8080,"operator":8081}
 
-"kind":"start","path":"m.toml","port":80,"operator":8081,"refusal":"B6 Bind"}
+"kind":"start","path":"m.toml","port":8080,"operator":8081,
+"digest":"e3b0c44298fc1c149afbf4c8996fb92427ae41e4649b934ca495991b7852b855"}
 
 "kind":"start","path":"a\tb","path_left_out":9,"port":80,"operator":8081}
+
+"kind":"start","path":"m.toml","port":80,"operator":8081,"refusal":"B6 Bind"}
+
+"kind":"start","path":"m.toml","port":80,"operator":8081,"refusal":"M2 Field",
+"cause":"a\tb","cause_left_out":9}
 
 "kind":"serving","generation":1}
 
 "kind":"load","path":"next.toml","generation":2}
+
+"kind":"load","path":"next.toml","generation":2,
+"digest":"e3b0c44298fc1c149afbf4c8996fb92427ae41e4649b934ca495991b7852b855"}
 
 "kind":"load","path":"a\tb","path_left_out":9,"refusal":"M2 Field"}
 
@@ -71,6 +80,9 @@ const LINES: &str = r##"
 /// An array that stands otherwise.
 const REDEFINED: &str = "M7 Cells N2 Redefined in array 1";
 
+/// A digest: SHA-256 of no bytes.
+const DIGEST: &str = "e3b0c44298fc1c149afbf4c8996fb92427ae41e4649b934ca495991b7852b855";
+
 /// Another number each.
 const TOTALS: Totals = Totals {
     success: 1,
@@ -96,29 +108,48 @@ fn cut(text: &str, left_out: u64) -> Excerpt<'_> {
     Excerpt { text, length }
 }
 
-fn start(
-    manifest: Excerpt<'static>,
-    refusal: Option<&'static str>,
-    port: u16,
-) -> LogEvent<'static> {
+fn start(manifest: Excerpt<'static>, port: u16, digest: Option<&'static str>) -> LogEvent<'static> {
     LogEvent::Start(Start {
         manifest,
         port,
         operator: 8081,
-        refusal,
+        digest,
+        refusal: None,
+        cause: None,
     })
 }
 
-fn load(
+fn refused_start(refusal: &'static str, cause: Option<Excerpt<'static>>) -> LogEvent<'static> {
+    LogEvent::Start(Start {
+        manifest: whole("m.toml"),
+        port: 80,
+        operator: 8081,
+        digest: None,
+        refusal: Some(refusal),
+        cause,
+    })
+}
+
+fn load(path: &'static str, generation: u64, digest: Option<&'static str>) -> LogEvent<'static> {
+    LogEvent::Load(Load {
+        path: whole(path),
+        generation,
+        digest,
+        refusal: None,
+        cause: None,
+    })
+}
+
+fn refused_load(
     path: Excerpt<'static>,
-    generation: u64,
-    refusal: Option<&'static str>,
+    refusal: &'static str,
     cause: Option<Excerpt<'static>>,
 ) -> LogEvent<'static> {
     LogEvent::Load(Load {
         path,
-        generation,
-        refusal,
+        generation: 0,
+        digest: None,
+        refusal: Some(refusal),
         cause,
     })
 }
@@ -167,19 +198,21 @@ fn told(alloc: Global) -> Result<String, Fail> {
     let cut = cut("a\tb", 9);
     let mut lines = String::new(alloc);
     for event in [
-        start(whole("m.toml"), None, 8080),
-        start(whole("m.toml"), Some("B6 Bind"), 80),
-        start(cut, None, 80),
+        start(whole("m.toml"), 8080, None),
+        start(whole("m.toml"), 8080, Some(DIGEST)),
+        start(cut, 80, None),
+        refused_start("B6 Bind", None),
+        refused_start("M2 Field", Some(cut)),
         LogEvent::Serving(1),
-        load(whole("next.toml"), 2, None, None),
-        load(cut, 0, Some("M2 Field"), None),
-        load(
+        load("next.toml", 2, None),
+        load("next.toml", 2, Some(DIGEST)),
+        refused_load(cut, "M2 Field", None),
+        refused_load(
             whole("m.toml"),
-            0,
-            Some(REDEFINED),
+            REDEFINED,
             Some(whole("q:64:1:2 to q:64:1:3")),
         ),
-        load(whole("m.toml"), 0, Some("M2 Field"), Some(cut)),
+        refused_load(whole("m.toml"), "M2 Field", Some(cut)),
         LogEvent::Unaccepted("Too many open files (os error 24)"),
         LogEvent::Lost(18446744073709551615),
         LogEvent::Totals(TOTALS),

@@ -1,6 +1,7 @@
 //! Loads: a manifest of two apps with its files, and what comes of a load.
 
 mod counts;
+mod digests;
 mod good;
 mod memory;
 mod refusals;

@@ -4,6 +4,7 @@ use crate::exchange::is_printed;
 use crate::session::first_wrong;
 use crate::whole_server::service_of;
 use load::Device;
+use server_log::digest_text;
 use serving::{Manifests, Server, ServingFault, prepare};
 use std::alloc::{AllocError, Global};
 use std::fs::{self, File, OpenFile};
@@ -68,6 +69,20 @@ where
     H: Files + AllocGlobal + Net<Listener = TcpListener, Stream = TcpStream>,
 {
     prepare(rt, &Device::new(rt), path, port, 0)
+}
+
+/// SHA-256 of `staged/yes.toml` and `staged/yes.bin`, each behind its length in eight bytes, by the
+/// `hashlib` of Python.
+const DIGEST: &str = "d09ffd242ce4b1b5aba3c27752ddd3df9543d7af6f6972ed30fc5e8590e16c16";
+
+/// Whether a server's digest is that of its files.
+fn has_digest<H>(rt: &H) -> Result<bool, Fail>
+where
+    H: Files + AllocGlobal + Net<Listener = TcpListener, Stream = TcpStream>,
+{
+    let server = prepared(rt, "staged/yes.toml", 0)?;
+    let told = digest_text(rt.alloc(), Some(server.digest()))?;
+    Ok(told.as_deref() == Some(DIGEST))
 }
 
 /// Why no server is ready, if none is.
@@ -139,13 +154,14 @@ where
 }
 
 /// Serves a manifest, answers the rows of the session, and is stopped. No server is ready without
-/// its manifest, its program, or its ports.
+/// its manifest, its program, or its ports. One that is has the digest of its files.
 #[test]
 fn server_over_files(rt: HostRuntime) -> Result<(), Fail> {
     write_folder(&rt, rt.alloc())?;
     assert!(rt; is_refused(&rt, "none.toml", 0, "B3 File")?);
     assert!(rt; is_refused(&rt, "staged/gone.toml", 0, "M4 File in app 1")?);
     assert!(rt; is_taken(&rt)?);
+    assert!(rt; has_digest(&rt)?);
     assert_eq!(rt; served_wrong(&rt)?, None);
     Ok(())
 }

@@ -49,8 +49,8 @@ stop;|stopping;";
 const LOADS_TOLD: &str = r#"serving","generation":1}
 load","path":"unset","refusal":"a program"}
 load","path":"other_quota","refusal":"an array","cause":"q:64:1:2 to q:64:1:3"}
-load","path":"yes","generation":2}
-load","path":"quota","generation":3}
+load","path":"yes","generation":2,"digest":"f9f9f9f9f9f9f9f9f9f9f9f9f9f9f9f9f9f9f9f9f9f9f9f9f9f9f9f9f9f9f9f9"}
+load","path":"quota","generation":3,"digest":"f9f9f9f9f9f9f9f9f9f9f9f9f9f9f9f9f9f9f9f9f9f9f9f9f9f9f9f9f9f9f9f9"}
 stop"}
 counter","array":"q","index":0,"value":3}
 "#;

@@ -1,0 +1,52 @@
+//! The digest of a manifest and of the files that it names.
+
+use super::{RULES, SAMPLE};
+use crate::sample::{changed, files, halves, must};
+use cells::Directory;
+use load::{digest_of, gather};
+use std::alloc::Global;
+use std::test::Fail;
+
+/// What is changed of the sample, how, and the digest: what the `hashlib` of Python makes of the
+/// manifest and of its two files, each behind its length in eight bytes. `-` stands for none.
+const ROWS: &str = r#"
+- a program and a rule | "x.bpf" => "first.bpf"
+ | 285e0083d9ad2a2b79f7701e150ac1972c83e09ce8da1365ab848d01c8b57c63
+- a space in the manifest | "x.bpf" =>  "first.bpf"
+ | 06d631786067e5299746024af3076d8f1e0e5034b68b9cf2c373b29ed8dd9dbd
+- other files | "x.bpf" => "truncated.bpf" & "y.rule" => "ended.rule"
+ | 38b8077e3f48bc7b0b4a10023ad4633f403efad7876d5471ecc0b3a808984277
+- a file of no bytes | "x.bpf" => "empty.bpf"
+ | b2a9215919a6bd45b782980ed711b623fabcb0fc7d9be802a1ce6f941d1f2b07
+- no such file | "x.bpf" => "z.bpf" | -
+- a longer file | "y.rule" => "long.rule" | -
+"#;
+
+/// The digest of what a manifest and its files come to, if they have one.
+fn digest(alloc: Global, manifest: &str) -> Result<String, Fail> {
+    let mut files = files(alloc, RULES)?;
+    let directory = Directory::new(alloc);
+    let Ok(gathered) = gather(alloc, manifest.as_bytes(), &mut files, &directory) else {
+        return Err("a manifest".into());
+    };
+    match digest_of(manifest.as_bytes(), &gathered.apps) {
+        Some(digest) => Ok(hex::encode(alloc, digest)?),
+        None => Ok(String::from_str(alloc, "-")?),
+    }
+}
+
+fn must_have(alloc: Global, row: &str) -> Result<(), Fail> {
+    let (_name, rest) = halves(row.trim_end(), " | ")?;
+    let (changes, want) = halves(rest, " | ")?;
+    let manifest = changed(alloc, SAMPLE, changes.trim_end())?;
+    let found = digest(alloc, manifest.as_str())?;
+    must(row, found.as_str(), found.as_str() == want)
+}
+
+#[test]
+fn each_digest(rt: HostRuntime) -> Result<(), Fail> {
+    for row in ROWS.split("\n- ").skip(1) {
+        must_have(rt.alloc(), row)?;
+    }
+    Ok(())
+}
