@@ -1,3 +1,4 @@
+mod Loading
 mod Staffing
 mod Ending
 mod Turns
