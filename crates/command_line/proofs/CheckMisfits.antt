@@ -13,7 +13,7 @@ use Rattle.command_line.specs.declared.verb.Verb.TheVariants as verb
 not_checked : (rows : List Row) (m : OptionMisfit) (asked : AskedCheck)
     → IsCheckMisfit rows m → AsksToCheck rows asked → ⊥
 not_checked rows misfit.Allow asked lacks asks =
-    let bad : true ≡ false = sym asks.known ∙ lacks in cc
+    let bad : true ≡ false = sym asks.named ∙ lacks in cc
 not_checked rows m asked lacks asks = lacks
 
 pub no_check_asked : (rows : List Row) (m : OptionMisfit) → IsCheckMisfit rows m

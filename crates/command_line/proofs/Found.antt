@@ -2,7 +2,8 @@
 use Rattle.std.proofs.Common.{◌≡◌, ◌∙◌, ap, sym, arith, ◌<◌, ◌-◌, Bool, false, List, [], ◌∷◌}
 use Rattle.std.proofs.Common.{length, take, drop, get_or, Some}
 use Rattle.std.proofs.lemmas.List.{take_rest}
-use Rattle.std.specs.Prelude.{if◌then◌else◌}
+use Rattle.std.specs.Prelude.{cond, option_map}
+use Rattle.std.specs.List.{find}
 use Rattle.std.specs.Str.{bytes_eq}
 use Rattle.clap.specs.Words.{Text}
 use Rattle.command_line.specs.Grammar.{names_told, verb_in}
@@ -12,7 +13,8 @@ passed_first : (name : Text) (row : VerbRow) (rest : List VerbRow)
     → bytes_eq name row.name.now ≡ false
     → verb_in name (names_told (row ∷ rest)) ≡ verb_in name (names_told rest)
 passed_first name row rest other =
-    ap (λ (b : Bool). if b then Some row.verb else verb_in name (names_told rest)) other
+    ap (λ (b : Bool). option_map (λ r. r.1) (cond b (Some (row.name.now, row.verb))
+    (find (λ r. bytes_eq name r.0) (names_told rest)))) other
 
 pub passed : (name : Text) (left rows : List VerbRow) (d : VerbRow) → 0 < length left
     → bytes_eq name (get_or left 0 d).name.now ≡ false

@@ -1,6 +1,6 @@
 -- Words of `report` of which one is ill-written ask for nothing.
 use Rattle.std.proofs.Common.{◌≡◌, ◌∙◌, sym, List, Option, Some, None}
-use Rattle.std.specs.Prelude.{Ok, Err, IsErr, Result}
+use Rattle.std.specs.Prelude.{Ok, IsErr, Result}
 use Rattle.clap.specs.Words.{Row, Text}
 use Rattle.moments.specs.declared.moment.NamedTime.{NamedTime}
 use Rattle.moments.specs.declared.moment.NamedTime.TheVariants.{Ago, At}

@@ -8,9 +8,9 @@ use Rattle.command_line.specs.declared.option_misfit.OptionMisfit.TheVariants as
 use Rattle.command_line.specs.declared.request.AskedCheck.{AskedCheck}
 use Rattle.warnings.specs.Names.{is_warning_name}
 
--- each warning that shall not count is told by its name
-abbrev pub are_allowed : List Row → Bool
-are_allowed rows = list_all is_warning_name (texts_of (codes "allow") rows)
+-- each text of `--allow` is the name of a warning
+abbrev pub are_warning_names : List Row → Bool
+are_warning_names rows = list_all is_warning_name (texts_of (codes "allow") rows)
 
 -- a check of manifests; with the flag a warning that isn't allowed counts
 pub record AsksToCheck (rows : List Row) (asked : AskedCheck) : Type 0 where
@@ -18,8 +18,9 @@ pub record AsksToCheck (rows : List Row) (asked : AskedCheck) : Type 0 where
       ≡ texts_of (codes "MANIFEST") rows
   pub strict : HasFlag (codes "strict") rows asked.strict
   pub allowed : map (λ name. name.now) asked.allowed.items ≡ texts_of (codes "allow") rows
-  pub known : are_allowed rows ≡ true
+  pub json : HasFlag (codes "json") rows asked.json
+  pub named : are_warning_names rows ≡ true
 
 abbrev pub IsCheckMisfit : List Row → OptionMisfit → Type 0
-IsCheckMisfit rows misfit.Allow = are_allowed rows ≡ false
+IsCheckMisfit rows misfit.Allow = are_warning_names rows ≡ false
 IsCheckMisfit rows misfit = ⊥

@@ -1,6 +1,7 @@
 -- The commands of the command line, with their arguments.
 use Rattle.std.specs.Prelude.{ℕ, ℤ, pos, Bool, List, [], ◌∷◌, map, Some, true, false, codes, Option}
-use Rattle.std.specs.Prelude.{None, if◌then◌else◌}
+use Rattle.std.specs.Prelude.{option_map}
+use Rattle.std.specs.List.{find}
 use Rattle.std.specs.Str.{bytes_eq}
 use Rattle.clap.specs.declared.builder.action.ArgAction.{ArgAction}
 use Rattle.clap.specs.declared.builder.action.ArgAction.TheVariants.{Append, Set, SetTrue}
@@ -17,31 +18,31 @@ use Rattle.command_line.specs.declared.verb_rows.VerbRow.{VerbRow}
 -- ---- arguments and options
 
 -- a word by its place, which has to be there
-abbrev pub word : Text → ArgAction → Rule
-word id action = record (new_rule id) { required = true; action = Some action }
+abbrev pub positional : Text → ArgAction → Rule
+positional id action = record (new_rule id) { required = true; action = Some action }
 
 abbrev pub file : Text → Rule
-file id = word id Set
+file id = positional id Set
 
 -- words by their places, of which there has to be one
 abbrev pub files : Text → Rule
-files id = word id Append
+files id = positional id Append
 
 -- `--NAME`, a flag
 abbrev pub flag : Text → Rule
 flag name = record (new_rule name) { long = Some name; action = Some SetTrue }
 
 -- `--NAME VALUE`
-abbrev pub with_value : Text → ArgAction → Rule
-with_value name action =
+abbrev pub taking_value : Text → ArgAction → Rule
+taking_value name action =
     record (new_rule name) { long = Some name; value_names = 1; action = Some action }
 
 abbrev pub option : Text → Rule
-option name = with_value name Set
+option name = taking_value name Set
 
 -- any number of times
 abbrev pub repeated : Text → Rule
-repeated name = with_value name Append
+repeated name = taking_value name Append
 
 -- whose value is a number from one to another
 abbrev pub ranged : Text → ℤ → ℤ → (required : Bool) → (defaults : List Text) → Rule
@@ -118,39 +119,40 @@ pub record VerbRules : Type 0 where
   pub verb : Verb
   pub rules : List Rule
 
-abbrev pub named : Text → Verb → List Rule → VerbRules
-named name verb rules = record { name = name; verb = verb; rules = rules }
+abbrev pub verb_rules : Text → Verb → List Rule → VerbRules
+verb_rules name verb rules = record { name = name; verb = verb; rules = rules }
 
 -- all of them, in the order of their names
 abbrev pub verbs : List VerbRules
 verbs =
-    named (codes "ask") verb.Ask (manifest ∷ file (codes "REQUEST") ∷ option (codes "at")
-    ∷ repeated (codes "cells") ∷ number (codes "operator") 1 65535 ∷ [])
-    ∷ named (codes "asm") verb.Assemble (input ∷ file (codes "OUT") ∷ [])
-    ∷ named (codes "cells") verb.Cells (operator ∷ [])
-    ∷ named (codes "check") verb.Check
-    (files (codes "MANIFEST") ∷ flag (codes "strict") ∷ repeated (codes "allow") ∷ [])
-    ∷ named (codes "compile") verb.Compile
+    verb_rules (codes "ask") verb.Ask (manifest ∷ file (codes "REQUEST") ∷ option (codes "at")
+    ∷ repeated (codes "cells") ∷ number (codes "operator") 1 65535 ∷ flag (codes "why") ∷ [])
+    ∷ verb_rules (codes "asm") verb.Assemble (input ∷ file (codes "OUT") ∷ [])
+    ∷ verb_rules (codes "cells") verb.Cells (operator ∷ [])
+    ∷ verb_rules (codes "check") verb.Check
+    (files (codes "MANIFEST") ∷ flag (codes "strict") ∷ repeated (codes "allow")
+    ∷ flag (codes "json") ∷ [])
+    ∷ verb_rules (codes "compile") verb.Compile
     (input ∷ file (codes "OUT") ∷ releases ∷ arrays ∷ [])
-    ∷ named (codes "explain") verb.Explain (input ∷ releases ∷ arrays ∷ [])
-    ∷ named (codes "list") verb.List (input ∷ [])
-    ∷ named (codes "load") verb.Load (file (codes "PATH") ∷ operator ∷ [])
-    ∷ named (codes "order") verb.Order (input ∷ file (codes "OUT") ∷ [])
-    ∷ named (codes "replay") verb.Replay (manifest ∷ file (codes "SCRIPT") ∷ [])
-    ∷ named (codes "report") verb.Report
+    ∷ verb_rules (codes "explain") verb.Explain (input ∷ releases ∷ arrays ∷ [])
+    ∷ verb_rules (codes "list") verb.List (input ∷ [])
+    ∷ verb_rules (codes "load") verb.Load (file (codes "PATH") ∷ operator ∷ [])
+    ∷ verb_rules (codes "order") verb.Order (input ∷ file (codes "OUT") ∷ [])
+    ∷ verb_rules (codes "replay") verb.Replay (manifest ∷ file (codes "SCRIPT") ∷ [])
+    ∷ verb_rules (codes "report") verb.Report
     (files (codes "LOG") ∷ option (codes "since") ∷ option (codes "until")
     ∷ flag (codes "prometheus") ∷ option (codes "svg") ∷ [])
-    ∷ named (codes "run") verb.Run
+    ∷ verb_rules (codes "run") verb.Run
     (input ∷ releases ∷ arrays ∷ number (codes "bucket") 0 9999 ∷ flag (codes "trace") ∷ told)
-    ∷ named (codes "serve") verb.Serve
+    ∷ verb_rules (codes "serve") verb.Serve
     (manifest ∷ required_number (codes "port") 1 65535 ∷ operator
     ∷ required_number (codes "workers") 1 64 ∷ timeout ∷ flag (codes "log") ∷ [])
-    ∷ named (codes "show") verb.Show (operator ∷ [])
-    ∷ named (codes "simulate") verb.Simulate
+    ∷ verb_rules (codes "show") verb.Show (operator ∷ [])
+    ∷ verb_rules (codes "simulate") verb.Simulate
     (manifest ∷ option (codes "against") ∷ option (codes "svg") ∷ option (codes "app")
-    ∷ flag (codes "fail-on-lost") ∷ told)
-    ∷ named (codes "stop") verb.Stop (operator ∷ flag (codes "wait") ∷ [])
-    ∷ named (codes "verify") verb.Verify (input ∷ releases ∷ arrays ∷ []) ∷ []
+    ∷ flag (codes "fail-on-lost") ∷ flag (codes "json") ∷ told)
+    ∷ verb_rules (codes "stop") verb.Stop (operator ∷ flag (codes "wait") ∷ [])
+    ∷ verb_rules (codes "verify") verb.Verify (input ∷ releases ∷ arrays ∷ []) ∷ []
 
 -- ---- by their names
 
@@ -161,10 +163,9 @@ names = map (λ r. (r.name, r.verb)) verbs
 abbrev pub names_told : List VerbRow → List (Text × Verb)
 names_told rows = map (λ r. (r.name.now, r.verb)) rows
 
--- the first one of this name
+-- the command of the first row of a name
 abbrev pub verb_in : Text → List (Text × Verb) → Option Verb
-verb_in name [] = None
-verb_in name (row ∷ more) = if bytes_eq name row.0 then Some row.1 else verb_in name more
+verb_in name rows = option_map (λ r. r.1) (find (λ r. bytes_eq name r.0) rows)
 
 -- the command of a name
 abbrev pub verb_named : Text → Option Verb

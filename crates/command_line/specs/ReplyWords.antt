@@ -4,7 +4,8 @@ use Rattle.std.specs.Prelude.{Option, Some, None, option_and_then, option_map}
 use Rattle.clap.specs.Words.{Row, Text, first_of}
 use Rattle.told_cells.specs.Told.{Told, assigned}
 use Rattle.command_line.specs.Seconds.{second_told}
-use Rattle.command_line.specs.Values.{HasShort, HasText, LacksShort, LacksText, texts_of}
+use Rattle.command_line.specs.Values.{HasFlag, HasShort, HasText, LacksShort, LacksText}
+use Rattle.command_line.specs.Values.{texts_of}
 use Rattle.command_line.specs.declared.option_misfit.MomentMisfit.TheVariants as moment
 use Rattle.command_line.specs.declared.option_misfit.OptionMisfit.{OptionMisfit}
 use Rattle.command_line.specs.declared.option_misfit.OptionMisfit.TheVariants as misfit
@@ -39,6 +40,7 @@ pub record AsksForReply (rows : List Row) (asked : AskedReply) : Type 0 where
   pub cells : HasCells rows asked.cells.items
   pub port : IfSome asked.operator (HasShort (codes "operator") rows)
   pub no_port : IfNone asked.operator (LacksShort (codes "operator") rows)
+  pub why : HasFlag (codes "why") rows asked.why
 
 -- ---- what is ill-written
 

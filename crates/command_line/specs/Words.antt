@@ -43,6 +43,7 @@ pub record AsksToSimulate (rows : List Row) (asked : AskedSimulation) : Type 0 w
   pub clients : IsAnyones rows asked.app
   pub appid : option_copied asked.appid ≡ first_of (codes "app") rows
   pub lost : HasFlag (codes "fail-on-lost") rows asked.fail_on_lost
+  pub json : HasFlag (codes "json") rows asked.json
   pub compared : ¬ WantsAgainst rows
 
 -- the command, with these arguments, asks for this

@@ -58,7 +58,7 @@ pub fn arg_of<'a>(alloc: Global, argument: &Argument) -> Arg<'a>
 }
 
 fn word<'a>(alloc: Global, id: &'a str, action: ArgAction, help: &'a str) -> Arg<'a>
-    ensures rule { rule_of result ≡ grammar.word id.now action }
+    ensures rule { rule_of result ≡ grammar.positional id.now action }
     ensures local { result.global ≡ false }
 {
     Arg::new(alloc, id).required(true).action(action).help(help)
@@ -81,7 +81,7 @@ fn option<'a>(
     action: ArgAction,
     help: &'a str,
 ) -> Arg<'a>
-    ensures rule { rule_of result ≡ grammar.with_value name.now action }
+    ensures rule { rule_of result ≡ grammar.taking_value name.now action }
     ensures local { result.global ≡ false }
 {
     Arg::new(alloc, name)

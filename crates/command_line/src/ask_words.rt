@@ -7,7 +7,7 @@ ghost use Rattle.command_line.specs.Values.{HasShort, LacksShort};
 ghost use Rattle.command_line.specs.Words.{VerbAsks, VerbAsksNothing};
 
 use crate::option_misfit::{MomentMisfit, OptionMisfit, Unasked};
-use crate::options::optional_text;
+use crate::options::{flag_of, optional_text};
 use crate::request::{AskedReply, CommandRequest, NoRequest};
 use crate::second::second_of;
 use crate::verb::Verb;
@@ -52,6 +52,7 @@ pub fn reply_of<'a>(alloc: Global, found: &ArgMatches<'a>) -> Result<AskedReply<
         at,
         cells,
         operator: operator_of(found),
+        why: flag_of(found, "why"),
     })
 }
 

@@ -50,6 +50,7 @@ pub fn check_of<'a>(alloc: Global, found: &ArgMatches<'a>) -> Result<AskedCheck<
         manifests,
         strict: flag_of(found, "strict"),
         allowed,
+        json: flag_of(found, "json"),
     })
 }
 

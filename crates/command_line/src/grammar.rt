@@ -7,6 +7,7 @@ ghost use Rattle.clap.specs.declared.builder.command.Command.TheViews.{out-Comma
 ghost use Rattle.command_line.specs.Grammar as grammar;
 
 use crate::argument::{Argument, arg_of};
+use crate::verb_help::{about, behind};
 use crate::verb_rows::{VerbRow, verb_rows};
 use clap::{Arg, Command};
 use std::alloc::{AllocError, Global};
@@ -45,8 +46,8 @@ fn command_of<'a>(alloc: Global, row: &VerbRow) -> Result<Command<'a>, AllocErro
     ensures local { IfOk result (λ c. (fields_of c).has_globals ≡ false) }
 {
     let args = args_of(alloc, row.arguments)?;
-    let command = command_with(alloc, row.name, row.about, args)?;
-    Ok(with_end(command, row.after))
+    let command = command_with(alloc, row.name, about(row.verb), args)?;
+    Ok(with_end(command, behind(row.verb)))
 }
 
 // The command, and behind its help this text.

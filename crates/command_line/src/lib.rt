@@ -31,6 +31,7 @@ mod shared_arguments;
 mod simulate_words;
 mod told;
 mod verb;
+mod verb_help;
 mod verb_rows;
 mod words;
 

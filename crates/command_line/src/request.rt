@@ -35,6 +35,8 @@ pub struct AskedCheck<'a> {
     pub manifests: Vec<&'a str>,
     pub strict: bool,
     pub allowed: Vec<&'a str>,
+    /// Whether it is told as JSON.
+    pub json: bool,
 }
 
 /// A simulation that is asked for: of a manifest's ruleset, against that of one that serves now,
@@ -49,6 +51,8 @@ pub struct AskedSimulation<'a> {
     pub appid: Option<&'a str>,
     /// Whether a release that a bucket loses makes it fail.
     pub fail_on_lost: bool,
+    /// Whether it is told as JSON.
+    pub json: bool,
 }
 
 /// A report that is asked for: of these logs, of which `-` is standard input, from one moment on
@@ -73,6 +77,8 @@ pub struct AskedReply<'a> {
     pub at: Option<Moment>,
     pub cells: Vec<ToldCell<'a>>,
     pub operator: Option<u16>,
+    /// Whether in place of the reply it is told why each app gets what it gets.
+    pub why: bool,
 }
 
 /// One request of the command line.

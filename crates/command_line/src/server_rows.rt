@@ -9,16 +9,13 @@ use crate::verb_rows::VerbRow;
 pub const CELLS: VerbRow = VerbRow {
     verb: Verb::Cells,
     name: "cells",
-    about: "Tell a server's counters that aren't 0; prints `NAME[I] V` for each",
     arguments: &[OPERATOR],
-    after: None,
 };
 
 /// The command `load`.
 pub const LOAD: VerbRow = VerbRow {
     verb: Verb::Load,
     name: "load",
-    about: "Have a server load a manifest; prints `generation G`, or its refusal",
     arguments: &[
         Argument::Word(
             "PATH",
@@ -26,14 +23,12 @@ pub const LOAD: VerbRow = VerbRow {
         ),
         OPERATOR,
     ],
-    after: None,
 };
 
 /// The command `report`.
 pub const REPORT: VerbRow = VerbRow {
     verb: Verb::Report,
     name: "report",
-    about: "Tell what a server's log comes to: asks, offers, installs and refusals",
     arguments: &[
         Argument::Words(
             "LOG",
@@ -56,14 +51,12 @@ pub const REPORT: VerbRow = VerbRow {
             "File that gets a picture of the versions' shares over time, in SVG",
         ),
     ],
-    after: None,
 };
 
 /// The command `serve`.
 pub const SERVE: VerbRow = VerbRow {
     verb: Verb::Serve,
     name: "serve",
-    about: "Serve a manifest's ruleset until the operator stops it; prints `serving generation 1`",
     arguments: &[
         MANIFEST,
         Argument::Number(
@@ -87,26 +80,21 @@ pub const SERVE: VerbRow = VerbRow {
              load, stop and counter",
         ),
     ],
-    after: None,
 };
 
 /// The command `show`.
 pub const SHOW: VerbRow = VerbRow {
     verb: Verb::Show,
     name: "show",
-    about: "Tell a server's generation and its apps",
     arguments: &[OPERATOR],
-    after: None,
 };
 
 /// The command `stop`.
 pub const STOP: VerbRow = VerbRow {
     verb: Verb::Stop,
     name: "stop",
-    about: "End a server; prints `stopping`",
     arguments: &[
         OPERATOR,
         Argument::Flag("wait", "Wait until the server has ended"),
     ],
-    after: None,
 };

@@ -63,6 +63,7 @@ fn simulation_of_manifest<'a>(
         app,
         appid: optional_text(found, "app"),
         fail_on_lost: flag_of(found, "fail-on-lost"),
+        json: flag_of(found, "json"),
     })
 }
 

@@ -9,14 +9,12 @@ use crate::program_rows::{ASSEMBLE, COMPILE, EXPLAIN, LIST, ORDER, RUN, VERIFY};
 use crate::server_rows::{CELLS, LOAD, REPORT, SERVE, SHOW, STOP};
 use crate::verb::Verb;
 
-/// A command: its name, its arguments, and what `--help` says of it, before them and behind them.
+/// A command: its name and its arguments.
 #[derive(Clone, Copy)]
 pub struct VerbRow {
     pub verb: Verb,
     pub name: &'static str,
-    pub about: &'static str,
     pub arguments: &'static [Argument],
-    pub after: Option<&'static str>,
 }
 
 /// Each command once, in the order of their names.
