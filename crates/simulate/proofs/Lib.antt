@@ -2,3 +2,4 @@ mod Courses
 mod Counted
 mod Written
 mod Places
+mod Floatless

@@ -1,6 +1,6 @@
 -- The place of an app is found by going along the apps.
 use Rattle.std.proofs.Common.{◌≡◌, ◌∙◌, sym, ap, refl, ℕ, ◌+◌, ◌-◌, ◌<◌, List, [], ◌∷◌, length}
-use Rattle.std.proofs.Common.{Bool, true, false, Some, None, arith, drop, get_or, take}
+use Rattle.std.proofs.Common.{true, false, Some, None, arith, drop, get_or, take}
 use Rattle.std.proofs.lemmas.List.{drop_more, get_or-drop, take_all}
 use Rattle.std.proofs.lemmas.Option.{slice_get_read}
 use Rattle.std.specs.Str.{bytes_eq}

@@ -4,7 +4,9 @@ use Rattle.std.proofs.Common.{◌≡◌, ◌∙◌, refl, sym, ap, ℕ, zero, su
 use Rattle.std.proofs.Common.{List, [], ◌∷◌, ◌++◌, append_assoc, arith, length, replicate}
 use Rattle.std.proofs.lemmas.List.{append-nil, take_all}
 use Rattle.std.specs.List.{flat_map, range_with_len}
+use Rattle.serde_json.specs.Data.{Data}
 use Rattle.simulate.specs.Moving.{move_if_any}
+use Rattle.simulate.specs.Objects.{move_object_if_any, share_if_any}
 use Rattle.simulate.specs.Pictures.{entry_height, entry_if_any, legend_rows, path_if_any}
 use Rattle.simulate.specs.Pictures.{panel, panel_height, panels}
 use Rattle.simulate.specs.Shares.{choice_label, row_if_any}
@@ -15,12 +17,12 @@ use Rattle.ruleset.specs.Rules.{AppRule}
 use native.Mathlib.Numerals.{unary_clauses}
 
 -- one part further, and at the end
-pub one_further : (o part rest new whole : List ℕ) → new ≡ o ++ part → o ++ (part ++ rest) ≡ whole
-    → new ++ rest ≡ whole
-one_further o part rest new whole grown is =
-    ap (λ (t : List ℕ). t ++ rest) grown ∙ append_assoc o part rest ∙ is
+pub one_further : {A : Type 0} (o part rest new whole : List A) → new ≡ o ++ part
+    → o ++ (part ++ rest) ≡ whole → new ++ rest ≡ whole
+one_further {A} o part rest new whole grown is =
+    ap (λ (t : List A). t ++ rest) grown ∙ append_assoc o part rest ∙ is
 
-pub at_end : (o whole : List ℕ) → o ++ [] ≡ whole → o ≡ whole
+pub at_end : {A : Type 0} (o whole : List A) → o ++ [] ≡ whole → o ≡ whole
 at_end o whole is = sym (append-nil o) ∙ is
 
 -- one of so many marks, and then the others
@@ -45,14 +47,14 @@ next_number i n within =
 no_number : (i n : ℕ) → n < i → range_with_len i (n + 1 - i) ≡ []
 no_number i n past = let none : n + 1 - i ≡ zero = omega arith in ap (range_with_len i) none
 
-pub number_further : (f : ℕ → List ℕ) (i n : ℕ) (o new whole : List ℕ) → i ≤ n → new ≡ o ++ f i
-    → o ++ flat_map f (range_with_len i (n + 1 - i)) ≡ whole
+pub number_further : {A : Type 0} (f : ℕ → List A) (i n : ℕ) (o new whole : List A) → i ≤ n
+    → new ≡ o ++ f i → o ++ flat_map f (range_with_len i (n + 1 - i)) ≡ whole
     → new ++ flat_map f (range_with_len (i + 1) (n + 1 - (i + 1))) ≡ whole
 number_further f i n o new whole within grown is =
     one_further o (f i) (flat_map f (range_with_len (i + 1) (n + 1 - (i + 1)))) new whole grown
     (ap (λ (l : List ℕ). o ++ flat_map f l) (sym (next_number i n within)) ∙ is)
 
-pub numbers_done : (f : ℕ → List ℕ) (i n : ℕ) (o whole : List ℕ) → n < i
+pub numbers_done : {A : Type 0} (f : ℕ → List A) (i n : ℕ) (o whole : List A) → n < i
     → o ++ flat_map f (range_with_len i (n + 1 - i)) ≡ whole → o ≡ whole
 numbers_done f i n o whole past is =
     at_end o whole
@@ -76,6 +78,18 @@ pub move_counted : (widths : MoveWidths) (from to : List ℕ) (count n : ℕ) (l
     → new ≡ old ++ move_if_any widths from to n lost
 move_counted widths from to count n lost old new grown is_count =
     grown ∙ ap (λ (m : ℕ). old ++ move_if_any widths from to m lost) is_count
+
+pub share_counted : (versions : List (List ℕ)) (choice count n : ℕ) (old new : List Data)
+    → new ≡ old ++ share_if_any versions choice count → count ≡ n
+    → new ≡ old ++ share_if_any versions choice n
+share_counted versions choice count n old new grown is_count =
+    grown ∙ ap (λ (m : ℕ). old ++ share_if_any versions choice m) is_count
+
+pub move_object_counted : (now next : List (List ℕ)) (from to count n : ℕ) (old new : List Data)
+    → new ≡ old ++ move_object_if_any now next from to count → count ≡ n
+    → new ≡ old ++ move_object_if_any now next from to n
+move_object_counted now next from to count n old new grown is_count =
+    grown ∙ ap (λ (m : ℕ). old ++ move_object_if_any now next from to m) is_count
 
 -- a row of a legend further: the next row is below the last
 pub entry_further : (versions : List (List ℕ)) (choices : List ℕ) (i n count top next : ℕ)

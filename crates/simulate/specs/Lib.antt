@@ -6,4 +6,5 @@ pub mod Shown
 pub mod Picked
 pub mod Shares
 pub mod Moving
+pub mod Objects
 pub mod Pictures

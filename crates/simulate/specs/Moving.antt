@@ -1,7 +1,7 @@
 -- How many buckets move from which release to which between two rulesets: a table an app, with a
 -- row for each move that some bucket makes, and a mark at those that lose a release. Choices are 0
 -- to 64; a width is counted in characters, a count in buckets: 0 to 10000.
-use Rattle.std.specs.Prelude.{ℕ, ◌+◌, List, [], ◌∷◌, ◌++◌, codes, decimal}
+use Rattle.std.specs.Prelude.{ℕ, ◌+◌, List, [], ◌++◌, codes, decimal}
 use Rattle.std.specs.Prelude.{slice_index, max, nat_lt, ◌==◌, ◌&&◌, ◌||◌, if◌then◌else◌}
 use Rattle.std.specs.Prelude.{Bool, true, false, Option, Some, None}
 use Rattle.std.specs.List.{flat_map, list_any, zip}

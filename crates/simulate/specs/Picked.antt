@@ -1,5 +1,5 @@
 -- A simulation of which one app alone is told.
-use Rattle.std.specs.Prelude.{◌≡◌, ℕ, ◌<◌, ◌≤◌, List, [], take, drop, length, Option, Some, None}
+use Rattle.std.specs.Prelude.{◌≡◌, ℕ, ◌<◌, ◌≤◌, List, [], take, drop, length, Some, None}
 use Rattle.std.specs.Prelude.{slice_get}
 use Rattle.ruleset.specs.Rules.{AppRule, app_in}
 use Rattle.simulate.specs.Course.{IsSimulated}

@@ -8,7 +8,7 @@ use Rattle.std.specs.Str.{bytes_eq}
 use Rattle.simulate.specs.Counts.{choices_or_none}
 use Rattle.ruleset.specs.Rules.{AppRule, app_in}
 
--- the apps of a ruleset, in their order, and what the buckets choose of each
+-- apps of a ruleset, in their order, and what the buckets choose of each
 pub record Simulation : Type 0 where
   pub apps : List AppRule
   pub chosen : List (List ℕ)

@@ -1,5 +1,5 @@
 //! Simulation: what a ruleset chooses for a client in each bucket, how many get which release, and
-//! what that comes to, as tables of text and as a picture.
+//! what that comes to, as tables of text, as JSON and as a picture.
 //!
 //! See docs/PROGRAM.md, "simulate".
 #![tactic(auto)]
@@ -22,8 +22,11 @@ mod course;
 mod labels;
 mod legends;
 mod lost;
+mod move_objects;
 mod moves;
+mod objects;
 mod picturing;
+mod share_objects;
 mod shares;
 mod simulated;
 
@@ -33,6 +36,8 @@ pub use counts::{count_buckets, count_moves};
 pub use course::{Onlooker, simulate};
 pub use lost::is_lossy;
 pub use moves::push_moves;
+pub use objects::{json_line, moves_json, shares_json};
 pub use picturing::draw;
+pub use share_objects::push_value;
 pub use shares::push_shares;
 pub use simulated::Simulated;

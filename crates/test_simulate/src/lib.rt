@@ -7,6 +7,10 @@
 #[cfg(test)]
 mod given;
 #[cfg(test)]
+mod lost;
+#[cfg(test)]
+mod objects;
+#[cfg(test)]
 mod pictures;
 #[cfg(test)]
 mod simulations;

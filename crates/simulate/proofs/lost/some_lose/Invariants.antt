@@ -1,4 +1,4 @@
-use Rattle.std.proofs.Common.{◌≡◌, ℕ, List, length}
+use Rattle.std.proofs.Common.{◌≡◌, length}
 use Rattle.std.specs.List.{list_any, zip}
 use Rattle.std.specs.Option.{option_copied}
 use Rattle.simulate.specs.Moving.{loses}

@@ -1,0 +1,192 @@
+//! How many buckets move from which release to which, as JSON: an object an app.
+
+ghost use Rattle.std.specs.Prelude.{◌≡◌, ◌≤◌, ◌∷◌, ◌++◌, [], None, IfOk, OnOk, length, map};
+ghost use Rattle.std.specs.Prelude.{option_copied};
+ghost use Rattle.serde_json.specs.View.{view};
+ghost use Rattle.simulate.specs.Counts.{AreMoves, choices_or_none};
+ghost use Rattle.simulate.specs.Objects as specs;
+ghost use Rattle.simulate.specs.Shown.{apps_gone, offered, versions_or_none};
+
+use crate::choices::Choices;
+use crate::counts::count_moves;
+use crate::labels::release_count;
+use crate::lost::loses;
+use crate::share_objects::{push_value, release_object};
+use crate::simulated::{Offered, Simulated};
+use ruleset::App;
+use serde_json::{Value, json};
+use std::alloc::{AllocError, Global};
+
+/// An object an app that one of two rulesets has.
+pub fn moving_objects(
+    alloc: Global,
+    now: &Simulated,
+    next: &Simulated,
+) -> Result<Vec<Value>, AllocError>
+    ensures { IfOk result (λ values. map view values.items
+        ≡ specs.moving_objects now.now next.now) }
+{
+    let none = Choices::none(alloc)?;
+    let mut values = Vec::new(alloc);
+    push_kept(&mut values, now, next, &none)?;
+    push_gone(&mut values, now, next, &none)?;
+    Ok(values)
+}
+
+// Those of the apps of the next ruleset.
+fn push_kept(
+    values: &mut Vec<Value>,
+    now: &Simulated,
+    next: &Simulated,
+    none: &Choices,
+) -> Result<(), AllocError>
+    requires { none.now ≡ choices_or_none None }
+    ensures { OnOk result (map view values.new.items ≡ map view values.old.items
+        ++ specs.moving_objects_of now.now next.now next.now.apps) }
+{
+    let mut left = next.apps();
+    while let [app, rest @ ..] = left {
+        push_moving(values, now, next, none, app.appid())?;
+        left = rest;
+    }
+    Ok(())
+}
+
+// Those of the apps that it doesn't have any more.
+fn push_gone(
+    values: &mut Vec<Value>,
+    now: &Simulated,
+    next: &Simulated,
+    none: &Choices,
+) -> Result<(), AllocError>
+    requires { none.now ≡ choices_or_none None }
+    ensures { OnOk result (map view values.new.items ≡ map view values.old.items
+        ++ specs.moving_objects_of now.now next.now (apps_gone next.now.apps now.now.apps)) }
+{
+    let mut left = now.apps();
+    while let [app, rest @ ..] = left {
+        if next.lacks(app.appid()) {
+            push_moving(values, now, next, none, app.appid())?;
+        }
+        left = rest;
+    }
+    Ok(())
+}
+
+fn push_moving(
+    values: &mut Vec<Value>,
+    now: &Simulated,
+    next: &Simulated,
+    none: &Choices,
+    appid: &str,
+) -> Result<(), AllocError>
+    requires { none.now ≡ choices_or_none None }
+    ensures { OnOk result (map view values.new.items ≡ map view values.old.items
+        ++ specs.moving_object now.now next.now appid.now ∷ []) }
+{
+    let value = moving_object(*values.allocator(), now, next, none, appid)?;
+    push_value(values, value)
+}
+
+fn moving_object(
+    alloc: Global,
+    now: &Simulated,
+    next: &Simulated,
+    none: &Choices,
+    appid: &str,
+) -> Result<Value, AllocError>
+    requires { none.now ≡ choices_or_none None }
+    ensures { IfOk result (λ value. view value
+        ≡ specs.moving_object now.now next.now appid.now) }
+{
+    let now = now.offer(none, appid);
+    let next = next.offer(none, appid);
+    let table = count_moves(alloc, now.1, next.1)?;
+    let moves = move_objects(alloc, now, next, table.as_slice())?;
+    json!(in alloc; {"appid": appid, "moves": moves})
+}
+
+// ---- moves
+
+fn move_objects(
+    alloc: Global,
+    now: Offered<'_>,
+    next: Offered<'_>,
+    table: &[u32],
+) -> Result<Vec<Value>, AllocError>
+    requires moves { AreMoves now.1.now next.1.now table.now }
+    requires all { length table.now ≡ 4225 }
+    ensures { IfOk result (λ values. map view values.items ≡ specs.move_objects
+        (offered (option_copied now.entry.0) now.entry.1.now)
+        (offered (option_copied next.entry.0) next.entry.1.now)) }
+{
+    let last = release_count(now.0);
+    let mut values = Vec::new(alloc);
+    let mut from = 0;
+    while from <= last {
+        push_moves_from(&mut values, now, next, table, from)?;
+        from += 1;
+    }
+    Ok(values)
+}
+
+fn push_moves_from(
+    values: &mut Vec<Value>,
+    now: Offered<'_>,
+    next: Offered<'_>,
+    table: &[u32],
+    from: usize,
+) -> Result<(), AllocError>
+    requires moves { AreMoves now.1.now next.1.now table.now }
+    requires all { length table.now ≡ 4225 }
+    requires from { from ≤ 64 }
+    ensures { OnOk result (map view values.new.items ≡ map view values.old.items
+        ++ specs.objects_from (offered (option_copied now.entry.0) now.entry.1.now)
+        (offered (option_copied next.entry.0) next.entry.1.now) from) }
+{
+    let last = release_count(next.0);
+    let mut to = 0;
+    while to <= last {
+        let buckets = table[65 * from + to];
+        push_move_if_any(values, (now.0, next.0), (from, to), buckets)?;
+        to += 1;
+    }
+    Ok(())
+}
+
+// A move that so many buckets make.
+#[tactic(auto, unfolding(crate::specs::Objects::move_object_if_any))]
+fn push_move_if_any(
+    values: &mut Vec<Value>,
+    apps: (Option<&App>, Option<&App>),
+    choices: (usize, usize),
+    count: u32,
+) -> Result<(), AllocError>
+    ensures { OnOk result (map view values.new.items ≡ map view values.old.items
+        ++ specs.move_object_if_any (versions_or_none (option_copied apps.entry.0))
+        (versions_or_none (option_copied apps.entry.1)) choices.0 choices.1 count) }
+{
+    if count == 0 {
+        return Ok(());
+    }
+    let value = move_object(*values.allocator(), apps, choices, count)?;
+    push_value(values, value)
+}
+
+fn move_object(
+    alloc: Global,
+    apps: (Option<&App>, Option<&App>),
+    choices: (usize, usize),
+    count: u32,
+) -> Result<Value, AllocError>
+    ensures { IfOk result (λ value. view value ≡ specs.move_object
+        (versions_or_none (option_copied apps.entry.0))
+        (versions_or_none (option_copied apps.entry.1)) choices.0 choices.1 count) }
+{
+    let (now, next) = apps;
+    let (from, to) = choices;
+    let lost = loses(now, next, from, to);
+    let before = release_object(alloc, now, from)?;
+    let after = release_object(alloc, next, to)?;
+    json!(in alloc; {"buckets": count, "lost": lost, "next": after, "now": before})
+}

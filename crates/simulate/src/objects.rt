@@ -1,0 +1,66 @@
+//! A simulation as a line of JSON.
+
+ghost use Rattle.std.specs.Prelude.{◌≡◌, false, IfOk, string_bytes};
+ghost use Rattle.serde_json.specs.View.{view};
+ghost use Rattle.serde_json.specs.Written.{has_float};
+ghost use Rattle.simulate.specs.Objects as specs;
+
+use crate::lost::is_lossy;
+use crate::move_objects::moving_objects;
+use crate::share_objects::app_objects;
+use crate::simulated::Simulated;
+use serde_json::{Value, json};
+use std::alloc::{AllocError, Global};
+
+/// A simulation as a line of JSON, ended by a line feed: `{"apps":[{"appid":"x","shares":[..]}]}`
+/// with an object in `shares` for each choice that some bucket makes, as
+/// `{"buckets":507,"offer":{"release":1,"version":"3.0.0"}}`. An offer of no release is null.
+// open: whether memory is refused.
+pub fn shares_json(alloc: Global, simulated: &Simulated) -> Result<String, AllocError>
+    ensures { IfOk result (λ text. string_bytes text
+        ≡ specs.json_line (specs.simulation_object simulated.now)) }
+{
+    let value = simulation_object(alloc, simulated)?;
+    json_line(alloc, &value)
+}
+
+fn simulation_object(alloc: Global, simulated: &Simulated) -> Result<Value, AllocError>
+    ensures { IfOk result (λ value. view value ≡ specs.simulation_object simulated.now) }
+{
+    let apps = app_objects(alloc, simulated)?;
+    json!(in alloc; {"apps": apps})
+}
+
+/// The next simulation in the same way, and behind it whether some bucket loses its release
+/// (`lost`), and `moves`, with an object for each app that one of the two has. Of an app there is
+/// an object for each move that some bucket makes, as
+/// `{"buckets":9493,"lost":false,"next":{"release":1,"version":"3.0.0"},"now":null}`.
+// open: whether memory is refused.
+pub fn moves_json(alloc: Global, now: &Simulated, next: &Simulated) -> Result<String, AllocError>
+    ensures { IfOk result (λ text. string_bytes text
+        ≡ specs.json_line (specs.comparison_object now.now next.now)) }
+{
+    let value = comparison_object(alloc, now, next)?;
+    json_line(alloc, &value)
+}
+
+fn comparison_object(alloc: Global, now: &Simulated, next: &Simulated) -> Result<Value, AllocError>
+    ensures { IfOk result (λ value. view value ≡ specs.comparison_object now.now next.now) }
+{
+    let apps = app_objects(alloc, next)?;
+    let lost = is_lossy(alloc, now, next)?;
+    let moves = moving_objects(alloc, now, next)?;
+    json!(in alloc; {"apps": apps, "lost": lost, "moves": moves})
+}
+
+/// A value without blanks, ended by a line feed; it has no float, whose text nothing pins.
+// open: whether memory is refused.
+#[tactic(auto, unfolding(crate::specs::Objects::json_line))]
+pub fn json_line(alloc: Global, value: &Value) -> Result<String, AllocError>
+    requires { has_float (view value.now) ≡ false }
+    ensures { IfOk result (λ text. string_bytes text ≡ specs.json_line (view value.now)) }
+{
+    let mut text = value.to_string(alloc)?;
+    text.push_str("\n")?;
+    Ok(text)
+}
