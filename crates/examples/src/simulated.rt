@@ -44,7 +44,7 @@ where
 {
     let clients = clients(rt.alloc(), version)?;
     let disk = Device::new(rt);
-    let told = simulate_files(rt, &disk, manifest, against, None, None, clients)
+    let told = simulate_files(rt, &disk, manifest, against, None, None, false, clients)
         .ok()
         .context("a simulation")?;
     print!(rt; "{manifest}, simulated:\n{}", told.text)?;
@@ -60,7 +60,8 @@ where
     let clients = clients(rt.alloc(), "1.9")?;
     let disk = Device::new(rt);
     let stages = "stages/manifest.toml";
-    let told = simulate_files(rt, &disk, stages, None, None, Some("drawn.svg"), clients)
+    let drawn = Some("drawn.svg");
+    let told = simulate_files(rt, &disk, stages, None, None, drawn, false, clients)
         .ok()
         .context("a simulation")?;
     print!(rt; "{stages}, simulated:\n{}", told.text)?;

@@ -20,7 +20,7 @@ pub accepted_more : (known : KnownFiles) (strict : Bool) (allowed : List (Bor (L
     → AddsAccepted path one old new → AddsChecked known strict allowed path old new
 accepted_more known strict allowed path one old new checked added = record {
   text = titled path (string_bytes one.text);
-  beside = titled_if_any path (string_bytes one.warnings);
+  beside = titled_if_any path (string_bytes one.beside);
   one = one.passes;
   checked = accepted one checked;
   text_is = added.text_is;
@@ -54,7 +54,7 @@ abbrev pub AreToldSoFar : KnownFiles → (strict : Bool) → (allowed paths : Li
     → (n : ℕ) → ToldChecks → Type 0
 AreToldSoFar known strict allowed paths n told =
     AreCheckedEach known strict allowed (take n paths) (string_bytes told.text)
-    (string_bytes told.warnings) told.passes
+    (string_bytes told.beside) told.passes
 
 pub none_told : (known : KnownFiles) (strict : Bool) (allowed paths : List (Bor (List ℕ)))
     (text beside : List ℕ) → text ≡ [] → beside ≡ []
@@ -70,5 +70,5 @@ one_told_more known strict allowed paths n d old new so_far within added =
     let paths_are : take (n + 1) paths ≡ take n paths ++ get_or paths n d ∷ [] =
     rw add-one (take-suc paths n d within) in
     rw (paths_are, added.text_is, added.beside_is, added.passes_is)
-    (next (take n paths) (get_or paths n d) (string_bytes old.text) (string_bytes old.warnings)
+    (next (take n paths) (get_or paths n d) (string_bytes old.text) (string_bytes old.beside)
     added.text added.beside old.passes added.one so_far added.checked)

@@ -1,2 +1,4 @@
 mod Alike
 mod Checked
+mod CheckFloatless
+mod CheckedObjects

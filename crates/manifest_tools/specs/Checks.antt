@@ -4,6 +4,8 @@ use Rattle.std.specs.Borrow.{Bor}
 use Rattle.std.specs.String.{string_bytes}
 use Rattle.bounded_files.specs.Files.{KnownFiles}
 use Rattle.bounded_files.specs.declared.fault.ResourceFault.TheVariants as resource
+use Rattle.diagnosis.specs.declared.accepted.CheckedManifest.{CheckedManifest}
+use Rattle.hex.specs.Hex.{encode_lower}
 use Rattle.manifest_tools.specs.Manifests.{IsChecked, IsCheckRefusal, fault_text}
 use Rattle.manifest_tools.specs.declared.checks.ToldChecks.{ToldChecks}
 use Rattle.manifest_tools.specs.declared.fault.ManifestToolFault.{ManifestToolFault}
@@ -20,12 +22,16 @@ use Rattle.warnings.specs.declared.warning.Warning.{Warning}
 abbrev pub passes : (strict : Bool) → (allowed : List (Bor (List ℕ))) → List Warning → Bool
 passes strict allowed warnings = not (strict && some_counts allowed warnings)
 
--- of an accepted one: its lines, those of its warnings, and whether it passes
-pub record TellsChecked (strict : Bool) (allowed : List (Bor (List ℕ))) (text : List ℕ)
-    (warnings : List Warning) (told : ToldChecks) : Type 0 where
-  pub text_is : string_bytes told.text ≡ text
-  pub warnings_are : string_bytes told.warnings ≡ warnings_text warnings
-  pub passes_is : told.passes ≡ passes strict allowed warnings
+-- the digest of its files, in hexadecimal digits
+abbrev pub digest_line : List ℕ → List ℕ
+digest_line digest = line (codes "digest " ++ encode_lower digest)
+
+-- of an accepted one: its lines with the digest, those of its warnings, and whether it passes
+pub record TellsChecked (strict : Bool) (allowed : List (Bor (List ℕ))) (one : CheckedManifest)
+    (told : ToldChecks) : Type 0 where
+  pub text_is : string_bytes told.text ≡ string_bytes one.text ++ digest_line one.digest
+  pub beside_is : string_bytes told.beside ≡ warnings_text one.warnings.items
+  pub passes_is : told.passes ≡ passes strict allowed one.warnings.items
 
 -- of a refused one: the line of its refusal, and behind it where and why
 abbrev pub reason_behind : ManifestToolFault → List ℕ
@@ -50,16 +56,16 @@ titled_if_any path (c ∷ cs) = titled path (c ∷ cs)
 -- behind what was told, of one that is accepted: its lines, and those of its warnings
 pub record AddsAccepted (path : List ℕ) (one old new : ToldChecks) : Type 0 where
   pub text_is : string_bytes new.text ≡ string_bytes old.text ++ titled path (string_bytes one.text)
-  pub beside_is : string_bytes new.warnings
-      ≡ string_bytes old.warnings ++ titled_if_any path (string_bytes one.warnings)
+  pub beside_is : string_bytes new.beside
+      ≡ string_bytes old.beside ++ titled_if_any path (string_bytes one.beside)
   pub passes_is : new.passes ≡ (old.passes && one.passes)
 
 -- and of one that is refused: why it is
 pub record AddsRefused (path : List ℕ) (fault : ManifestToolFault) (old new : ToldChecks) : Type 0
   where
     pub text_is : new.text ≡ old.text
-    pub beside_is : string_bytes new.warnings
-        ≡ string_bytes old.warnings ++ titled path (refusal_text fault)
+    pub beside_is : string_bytes new.beside
+        ≡ string_bytes old.beside ++ titled path (refusal_text fault)
     pub passes_is : new.passes ≡ false
 
 -- ---- which are told
@@ -67,17 +73,16 @@ pub record AddsRefused (path : List ℕ) (fault : ManifestToolFault) (old new : 
 module _ (known : KnownFiles) (strict : Bool) (allowed : List (Bor (List ℕ))) where
   -- one alone
   pub record IsCheckedAlone (path : List ℕ) (told : ToldChecks) : Type 0 where
-    pub text : List ℕ
-    pub warnings : List Warning
-    pub checked : IsChecked known path text warnings
-    pub tells : TellsChecked strict allowed text warnings told
+    pub one : CheckedManifest
+    pub checked : IsChecked known path one
+    pub tells : TellsChecked strict allowed one told
 
   -- one of several: its lines, what is told beside them, and whether it passes
   pub data IsCheckedAmong (path : List ℕ) : (text beside : List ℕ) → (passes : Bool) → Type 0
     where
       accepted : (told : ToldChecks) → IsCheckedAlone path told
           → IsCheckedAmong path (titled path (string_bytes told.text))
-          (titled_if_any path (string_bytes told.warnings)) told.passes
+          (titled_if_any path (string_bytes told.beside)) told.passes
       refused : (fault : ManifestToolFault) → IsCheckRefusal known path fault
           → IsCheckedAmong path [] (titled path (refusal_text fault)) false
 
@@ -88,7 +93,7 @@ module _ (known : KnownFiles) (strict : Bool) (allowed : List (Bor (List ℕ))) 
     pub one : Bool
     pub checked : IsCheckedAmong path text beside one
     pub text_is : string_bytes new.text ≡ string_bytes old.text ++ text
-    pub beside_is : string_bytes new.warnings ≡ string_bytes old.warnings ++ beside
+    pub beside_is : string_bytes new.beside ≡ string_bytes old.beside ++ beside
     pub passes_is : new.passes ≡ (old.passes && one)
 
   -- several, one after the other
@@ -103,7 +108,7 @@ module _ (known : KnownFiles) (strict : Bool) (allowed : List (Bor (List ℕ))) 
   abbrev pub AreChecked : List (Bor (List ℕ)) → ToldChecks → Type 0
   AreChecked (path ∷ []) told = IsCheckedAlone path.now told
   AreChecked paths told =
-      AreCheckedEach paths (string_bytes told.text) (string_bytes told.warnings) told.passes
+      AreCheckedEach paths (string_bytes told.text) (string_bytes told.beside) told.passes
 
 -- one alone is refused; of several each is told, where there is memory
 abbrev pub AreCheckRefusal : KnownFiles → List (Bor (List ℕ)) → ManifestToolFault → Type 0

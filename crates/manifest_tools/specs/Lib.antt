@@ -1,3 +1,5 @@
 pub mod Manifests
 pub mod Checks
+pub mod CheckObjects
+pub mod CheckedObjects
 pub mod Simulations

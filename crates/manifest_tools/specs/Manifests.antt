@@ -1,8 +1,8 @@
 -- Manifests that are checked, and scripts that are replayed.
 use Rattle.std.specs.Prelude.{◌≡◌, ℕ, List, ◌++◌, codes, None}
 use Rattle.std.specs.List.{flat_map}
-use Rattle.std.specs.String.{string_bytes}
 use Rattle.diagnosis.specs.Check.{PassesCheck, FailsCheck}
+use Rattle.diagnosis.specs.declared.accepted.CheckedManifest.{CheckedManifest}
 use Rattle.load.specs.Folder.{known_beside}
 use Rattle.load.specs.Texts.{load_fault_text, path_fault_text}
 use Rattle.bounded_files.specs.Files.{KnownFiles, Gives, OfFile, regular_files}
@@ -15,7 +15,6 @@ use Rattle.replay.specs.Replies.{reply_text}
 use Rattle.replay.specs.Texts.{replay_fault_text}
 use Rattle.replay.specs.declared.reply.Reply.{Reply}
 use Rattle.ruleset.specs.Texts.{line}
-use Rattle.warnings.specs.declared.warning.Warning.{Warning}
 
 abbrev pub reply_line : Reply → List ℕ
 reply_line reply = line (reply_text reply)
@@ -23,11 +22,11 @@ reply_line reply = line (reply_text reply)
 module _ (known : KnownFiles) where
   -- ---- check
 
-  -- the manifest of the file comes to a ruleset with these lines of arrays and apps, and with these
-  -- warnings
-  abbrev pub IsChecked : (path text : List ℕ) → List Warning → Type 0
-  IsChecked path text warnings = OfFile (regular_files known) path (λ bytes.
-      PassesCheck (known_beside known path) bytes text warnings)
+  -- the manifest of the file comes to a ruleset, of whose arrays and apps this is told, and these
+  -- are its warnings
+  abbrev pub IsChecked : (path : List ℕ) → CheckedManifest → Type 0
+  IsChecked path told = OfFile (regular_files known) path (λ bytes.
+      PassesCheck (known_beside known path) bytes told)
 
   -- it is no regular file that can be read, or its manifest comes to none, where and why this is;
   -- of want of memory for the file nothing is said
@@ -36,7 +35,7 @@ module _ (known : KnownFiles) where
   IsCheckRefusal path (fault.Resource resource.Memory) = Unit {0}
   IsCheckRefusal path (fault.Diagnosed refused) =
       OfFile (regular_files known) path (λ bytes.
-      FailsCheck (known_beside known path) bytes refused.fault (string_bytes refused.reason))
+      FailsCheck (known_beside known path) bytes refused)
   IsCheckRefusal path refused = ⊥
 
   -- ---- replay
@@ -54,7 +53,7 @@ module _ (known : KnownFiles) where
   IsReplayRefusal manifest script (fault.Resource resource.Memory) = Unit {0}
   IsReplayRefusal manifest script refused = ⊥
 
--- ---- texts
+-- ---- texts; B8: a manifest that is simulated doesn't have the one app that is to be told
 
 abbrev pub fault_text : ManifestToolFault → List ℕ
 fault_text (fault.Resource refused) = resource_text refused

@@ -5,6 +5,7 @@ use Rattle.std.specs.Prelude.{Bool, true, false}
 use Rattle.std.specs.Option.{option_map}
 use Rattle.std.specs.String.{string_bytes}
 use Rattle.simulate.specs.Moving.{is_lossy, moves_text}
+use Rattle.simulate.specs.Objects.{comparison_object, json_line, simulation_object}
 use Rattle.simulate.specs.Picked.{HasPicked}
 use Rattle.simulate.specs.Pictures.{picture}
 use Rattle.simulate.specs.Shares.{shares_text}
@@ -43,35 +44,45 @@ abbrev pub picture_if : (file : Option (List ℕ)) → Simulation → Option (Li
 picture_if None simulation = None
 picture_if (Some file) simulation = Some (picture simulation)
 
--- how many get which release of each app, and the picture of the same simulation
-pub record TellsAlone (next : Simulation) (file : Option (List ℕ)) (told : ToldSimulation)
-    : Type 0 where
-  pub text_is : string_bytes told.text ≡ shares_text next
+-- how many get which release of each app, as lines or as JSON
+abbrev pub text_alone : (json : Bool) → Simulation → List ℕ
+text_alone false next = shares_text next
+text_alone true next = json_line (simulation_object next)
+
+-- the same, and how many move from which release to which
+abbrev pub text_against : (json : Bool) → (now next : Simulation) → List ℕ
+text_against false now next = shares_text next ++ moves_text now next
+text_against true now next = json_line (comparison_object now next)
+
+-- what is told of a simulation alone, and the picture of the same one
+pub record TellsAlone (json : Bool) (next : Simulation) (file : Option (List ℕ))
+    (told : ToldSimulation) : Type 0 where
+  pub text_is : string_bytes told.text ≡ text_alone json next
   pub picture_is : option_map string_bytes told.picture ≡ picture_if file next
   pub loses_is : told.loses ≡ false
 
--- the same, and how many move from which release to which
-pub record TellsAgainst (next now : Simulation) (file : Option (List ℕ)) (told : ToldSimulation)
-    : Type 0 where
-  pub text_is : string_bytes told.text ≡ shares_text next ++ moves_text now next
+-- against another one
+pub record TellsAgainst (json : Bool) (next now : Simulation) (file : Option (List ℕ))
+    (told : ToldSimulation) : Type 0 where
+  pub text_is : string_bytes told.text ≡ text_against json now next
   pub picture_is : option_map string_bytes told.picture ≡ picture_if file next
   pub loses_is : told.loses ≡ is_lossy now next
 
 -- of a ruleset alone
-pub record ShowsAlone (client : Client) (rules : Rules) (appid file : Option (List ℕ))
-    (told : ToldSimulation) : Type 0 where
+pub record ShowsAlone (json : Bool) (client : Client) (rules : Rules)
+    (appid file : Option (List ℕ)) (told : ToldSimulation) : Type 0 where
   pub next : Simulation
   pub simulated : IsSimulationBy client rules appid next
-  pub tells : TellsAlone next file told
+  pub tells : TellsAlone json next file told
 
 -- of a ruleset, against another one
-pub record ShowsAgainst (client : Client) (rules serving : Rules) (appid file : Option (List ℕ))
-    (told : ToldSimulation) : Type 0 where
+pub record ShowsAgainst (json : Bool) (client : Client) (rules serving : Rules)
+    (appid file : Option (List ℕ)) (told : ToldSimulation) : Type 0 where
   pub next : Simulation
   pub simulated : IsSimulationBy client rules appid next
   pub now : Simulation
   pub served : IsSimulationBy client serving appid now
-  pub tells : TellsAgainst next now file told
+  pub tells : TellsAgainst json next now file told
 
 -- ---- and of manifests
 
@@ -84,16 +95,16 @@ module _ (known : KnownFiles) where
   abbrev pub IsLoadedFor : (path : List ℕ) → (appid : Option (List ℕ)) → Rules → Type 0
   IsLoadedFor path appid rules = IsLoadedAlone path rules × (lacks_app appid rules ≡ false)
 
-  -- the lines of a simulation, and its picture
-  abbrev pub HasSimulated : Client → (manifest : List ℕ) → (against appid file : Option (List ℕ))
-      → ToldSimulation → Type 0
-  HasSimulated client manifest None appid file told =
+  -- what is told of a simulation, and its picture
+  abbrev pub HasSimulated : (json : Bool) → Client → (manifest : List ℕ)
+      → (against appid file : Option (List ℕ)) → ToldSimulation → Type 0
+  HasSimulated json client manifest None appid file told =
       (rules : Rules) × IsLoadedFor manifest appid rules
-      × ShowsAlone client rules appid file told
-  HasSimulated client manifest (Some path) appid file told =
+      × ShowsAlone json client rules appid file told
+  HasSimulated json client manifest (Some path) appid file told =
       (rules : Rules) × IsLoadedFor manifest appid rules
       × (serving : Rules) × IsLoadedAlone path serving
-      × ShowsAgainst client rules serving appid file told
+      × ShowsAgainst json client rules serving appid file told
 
   -- the other manifest isn't loaded, and the first one is
   abbrev pub RefusesAgainst : (manifest : List ℕ) → (against appid : Option (List ℕ))
@@ -118,16 +129,16 @@ module _ (known : KnownFiles) where
   IsLoadRefusal manifest against appid refused = ⊥
 
   -- a file is named for the picture, which can't be written; the manifests are loaded
-  pub record IsPictureRefusal (client : Client) (manifest : List ℕ)
+  pub record IsPictureRefusal (json : Bool) (client : Client) (manifest : List ℕ)
       (against appid file : Option (List ℕ)) : Type 0 where
     pub named : IsSome file
     pub told : ToldSimulation
-    pub simulated : HasSimulated client manifest against appid file told
+    pub simulated : HasSimulated json client manifest against appid file told
 
   -- nothing is told of the manifests, or else the picture can't be written
-  abbrev pub IsSimulationRefusal : Client → (manifest : List ℕ)
+  abbrev pub IsSimulationRefusal : (json : Bool) → Client → (manifest : List ℕ)
       → (against appid file : Option (List ℕ)) → ManifestToolFault → Type 0
-  IsSimulationRefusal client manifest against appid file (fault.Resource resource.File) =
-      IsPictureRefusal client manifest against appid file
-  IsSimulationRefusal client manifest against appid file refused =
+  IsSimulationRefusal json client manifest against appid file (fault.Resource resource.File) =
+      IsPictureRefusal json client manifest against appid file
+  IsSimulationRefusal json client manifest against appid file refused =
       IsLoadRefusal manifest against appid refused

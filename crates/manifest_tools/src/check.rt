@@ -1,7 +1,6 @@
 //! `check`: what a manifest declares and hardly means, or where and why it is refused.
 
 ghost use Rattle.std.specs.Prelude.{IfOk, IfErr};
-ghost use Rattle.std.specs.String.{string_bytes};
 ghost use Rattle.manifest_tools.specs.Manifests.{IsChecked, IsCheckRefusal};
 
 use crate::fault::ManifestToolFault;
@@ -19,8 +18,7 @@ pub(crate) fn check_file<D: Disk>(
     disk: &D,
     path: &str,
 ) -> Result<CheckedManifest, ManifestToolFault>
-    ensures text { IfOk result (λ told. IsChecked (D.known disk.now) path.now
-        (string_bytes told.text) told.warnings.items) }
+    ensures told { IfOk result (IsChecked (D.known disk.now) path.now) }
     ensures fault { IfErr result (IsCheckRefusal (D.known disk.now) path.now) }
 {
     let bytes = match disk.read_regular(path, MOST_MANIFEST) {

@@ -1,10 +1,12 @@
 //! `check` of one manifest, or of several: what is printed, and whether they pass.
 
 ghost use Rattle.std.specs.Prelude.{◌≡◌, ◌++◌, IfOk, IfErr, OnOk, string_bytes};
+ghost use Rattle.manifest_tools.specs.CheckObjects.{AreTold, AreToldRefusal};
 ghost use Rattle.manifest_tools.specs.Checks as specs;
 ghost use Rattle.manifest_tools.specs.Manifests.{IsCheckRefusal};
 
 use crate::check::check_file;
+use crate::check_json::check_as_json;
 use crate::fault::ManifestToolFault;
 use bounded_files::{Disk, ResourceFault};
 use diagnosis::CheckedManifest;
@@ -18,19 +20,43 @@ use warnings::{Warning, push_warnings, some_counts};
 pub struct ToldChecks {
     /// What they declare: lines, each ended by a line feed.
     pub text: String,
-    /// What they hardly mean, and why some are refused: lines, each ended by a line feed.
-    pub warnings: String,
+    /// What is told beside it: what they hardly mean, and why some are refused, by lines, each ended
+    /// by a line feed.
+    pub beside: String,
     /// None is refused, and no warning counts.
     pub passes: bool,
 }
 
 /// Checks manifests, each by itself. In a strict check a warning counts whose name isn't allowed.
 ///
-/// Of one alone its own lines are told, and it is a fault where it is refused. Of several each is
-/// told under a line `manifest PATH`, in both texts, where there is something to tell of it; one
-/// that is refused is told by the line of its refusal and its reason, among the warnings.
+/// Of one alone its own lines are told, and last the digest of its files, in 64 hexadecimal digits;
+/// it is a fault if it is refused. Of several each is told
+/// under a line `manifest PATH`, in both texts, where there is something to tell of it; one that is
+/// refused is told beside the text, by the line of its refusal and its reason. With `json` all of
+/// it is one line of JSON, also of one that is refused, with nothing beside it.
 // open: what `check_file` leaves open.
 pub fn check_files<D: Disk>(
+    alloc: Global,
+    disk: &D,
+    paths: &[&str],
+    strict: bool,
+    allowed: &[&str],
+    json: bool,
+) -> Result<ToldChecks, ManifestToolFault>
+    ensures told { IfOk result
+        (AreTold (D.known disk.now) json strict allowed.now paths.now) }
+    ensures fault { IfErr result (AreToldRefusal (D.known disk.now) json paths.now) }
+{
+    if !json {
+        return check_as_lines(alloc, disk, paths, strict, allowed);
+    }
+    match check_as_json(alloc, disk, paths, strict, allowed) {
+        Ok(told) => Ok(told),
+        Err(_) => Err(ManifestToolFault::Resource(ResourceFault::Memory)),
+    }
+}
+
+fn check_as_lines<D: Disk>(
     alloc: Global,
     disk: &D,
     paths: &[&str],
@@ -74,20 +100,21 @@ fn tell_alone(
     strict: bool,
     allowed: &[&str],
 ) -> Result<ToldChecks, AllocError>
-    ensures { IfOk result (specs.TellsChecked strict allowed.now (string_bytes checked.text)
-        checked.warnings.items) }
+    ensures { IfOk result (specs.TellsChecked strict allowed.now checked) }
 {
     let passes = passes(strict, allowed, checked.warnings.as_slice());
-    let mut warnings = String::new(alloc);
-    push_warnings(&mut warnings, checked.warnings.as_slice())?;
+    let mut beside = String::new(alloc);
+    push_warnings(&mut beside, checked.warnings.as_slice())?;
+    let mut text = checked.text;
+    push_digest(&mut text, checked.digest)?;
     Ok(ToldChecks {
-        text: checked.text,
-        warnings,
+        text,
+        beside,
         passes,
     })
 }
 
-fn passes(strict: bool, allowed: &[&str], warnings: &[Warning]) -> bool
+pub(crate) fn passes(strict: bool, allowed: &[&str], warnings: &[Warning]) -> bool
     ensures { result ≡ specs.passes strict allowed.now warnings.now }
 {
     !(strict && some_counts(warnings, allowed))
@@ -104,11 +131,11 @@ fn check_each<D: Disk>(
     allowed: &[&str],
 ) -> Result<ToldChecks, AllocError>
     ensures { IfOk result (λ told. specs.AreCheckedEach (D.known disk.now) strict allowed.now
-        paths.now (string_bytes told.text) (string_bytes told.warnings) told.passes) }
+        paths.now (string_bytes told.text) (string_bytes told.beside) told.passes) }
 {
     let mut told = ToldChecks {
         text: String::new(alloc),
-        warnings: String::new(alloc),
+        beside: String::new(alloc),
         passes: true,
     };
     for path in paths {
@@ -151,7 +178,7 @@ fn add_accepted(
     ensures { IfOk result (specs.AddsAccepted path.now one.now told) }
 {
     push_titled(&mut told.text, path, one.text.as_str())?;
-    push_if_any(&mut told.warnings, path, one.warnings.as_str())?;
+    push_if_any(&mut told.beside, path, one.beside.as_str())?;
     told.passes = told.passes && one.passes;
     Ok(told)
 }
@@ -164,13 +191,21 @@ fn add_refused(
 ) -> Result<ToldChecks, AllocError>
     ensures { IfOk result (specs.AddsRefused path.now fault.now told) }
 {
-    push_title(&mut told.warnings, path)?;
-    push_refusal(&mut told.warnings, fault)?;
+    push_title(&mut told.beside, path)?;
+    push_refusal(&mut told.beside, fault)?;
     told.passes = false;
     Ok(told)
 }
 
 // ---- lines
+
+fn push_digest(text: &mut String, digest: [u8; 32]) -> Result<(), AllocError>
+    ensures { OnOk result
+        (string_bytes text.new ≡ string_bytes text.old ++ specs.digest_line digest) }
+{
+    let digest = hex::encode(*text.allocator(), digest)?;
+    writeln!(text, "digest {digest}")
+}
 
 fn push_title(text: &mut String, path: &str) -> Result<(), AllocError>
     ensures { OnOk result (string_bytes text.new ≡ string_bytes text.old ++ specs.title path.now) }

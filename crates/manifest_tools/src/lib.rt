@@ -10,6 +10,8 @@
 // which release, of all apps or of one.
 
 mod check;
+mod check_json;
+mod check_objects;
 mod checks;
 mod fault;
 mod playing;

@@ -1,5 +1,5 @@
 //! `simulate`: what the clients in all buckets get by a manifest, and what changes for them against
-//! one that serves now; of all apps, or of one.
+//! one that serves now; of all apps, or of one, as lines or as JSON.
 
 ghost use Rattle.std.specs.Prelude.{◌≡◌, [], IfOk, IfErr, IsSome, OnErr, option_copied};
 ghost use Rattle.std.specs.Option.{option_map};
@@ -14,13 +14,15 @@ use bounded_files::{Disk, ResourceFault, may_write_over, write_file};
 use cells::Directory;
 use load::{PathFault, load_path};
 use ruleset::Ruleset;
-use simulate::{Client, Simulated, draw, is_lossy, push_moves, push_shares};
+use simulate::{
+    Client, Simulated, draw, is_lossy, moves_json, push_moves, push_shares, shares_json,
+};
 use std::alloc::{AllocError, Global};
 use std::rt::Files;
 use std::time::Clock;
 
-/// What is told of a simulation: its lines, each ended by LF, and its picture as the text of an SVG
-/// file, where a file is named for it.
+/// What is told of a simulation: its lines, each ended by LF, or its line of JSON, and its picture
+/// as the text of an SVG file, where a file is named for it.
 #[derive(Drop)]
 pub struct ToldSimulation {
     pub text: String,
@@ -33,7 +35,8 @@ pub struct ToldSimulation {
 /// What the clients in all buckets get by a manifest, and with another one what changes for them
 /// against it. Each is loaded over no arrays, as a server's first manifest is. With an appid all
 /// apps are asked as without it, and that app alone is told. The picture is written last, into the
-/// file that is named. Where it takes over a second, standard error is told how far it is.
+/// file that is named. Where it takes over a second, standard error is told how far it is. With
+/// `json` it is told by `shares_json` or `moves_json` of `simulate`, and else by tables.
 ///
 /// The faults come in this order: B3 of the manifest, or M1 to M7 of its load; B8 where it doesn't
 /// have the app; those of the other one, which may lack it; B3 where the picture can't be written,
@@ -46,17 +49,19 @@ pub fn simulate_files<R, D>(
     against: Option<&str>,
     appid: Option<&str>,
     file: Option<&str>,
+    json: bool,
     client: Client,
 ) -> Result<ToldSimulation, ManifestToolFault>
 where
     R: Files + AllocGlobal + Clock + Eprint,
     D: Disk,
-    ensures told { IfOk result (specs.HasSimulated (D.known disk.now) client manifest.now
+    ensures told { IfOk result (specs.HasSimulated (D.known disk.now) json client manifest.now
         (option_copied against.entry) (option_copied appid.entry) (option_copied file.entry)) }
-    ensures fault { IfErr result (specs.IsSimulationRefusal (D.known disk.now) client manifest.now
-        (option_copied against.entry) (option_copied appid.entry) (option_copied file.entry)) }
+    ensures fault { IfErr result (specs.IsSimulationRefusal (D.known disk.now) json client
+        manifest.now (option_copied against.entry) (option_copied appid.entry)
+        (option_copied file.entry)) }
 {
-    let told = told_of_files(rt, disk, manifest, against, appid, file, client)?;
+    let told = told_of_files(rt, disk, manifest, against, appid, file, json, client)?;
     match write_picture(rt, file, &told) {
         Ok(()) => Ok(told),
         Err(ResourceFault::File) => Err(ManifestToolFault::Resource(ResourceFault::File)),
@@ -90,12 +95,13 @@ fn told_of_files<R, D>(
     against: Option<&str>,
     appid: Option<&str>,
     file: Option<&str>,
+    json: bool,
     client: Client,
 ) -> Result<ToldSimulation, ManifestToolFault>
 where
     R: AllocGlobal + Clock + Eprint,
     D: Disk,
-    ensures told { IfOk result (specs.HasSimulated (D.known disk.now) client manifest.now
+    ensures told { IfOk result (specs.HasSimulated (D.known disk.now) json client manifest.now
         (option_copied against.entry) (option_copied appid.entry) (option_copied file.entry)) }
     ensures fault { IfErr result (specs.IsLoadRefusal (D.known disk.now)
         manifest.now (option_copied against.entry) (option_copied appid.entry)) }
@@ -108,12 +114,12 @@ where
         return Err(ManifestToolFault::NoApp);
     }
     match against {
-        None => match told_alone(rt, rules, appid, file, client) {
+        None => match told_alone(rt, rules, appid, file, json, client) {
             Ok(told) => Ok(told),
             Err(_) => Err(ManifestToolFault::Resource(ResourceFault::Memory)),
         },
         Some(path) => match load_alone(rt.alloc(), disk, path) {
-            Ok(serving) => match told_against(rt, rules, serving, appid, file, client) {
+            Ok(serving) => match told_against(rt, rules, serving, appid, file, json, client) {
                 Ok(told) => Ok(told),
                 Err(_) => Err(ManifestToolFault::Resource(ResourceFault::Memory)),
             },
@@ -153,15 +159,16 @@ fn told_alone<R>(
     rules: Ruleset,
     appid: Option<&str>,
     file: Option<&str>,
+    json: bool,
     mut client: Client,
 ) -> Result<ToldSimulation, AllocError>
 where
     R: AllocGlobal + Clock + Eprint,
-    ensures { IfOk result (specs.ShowsAlone client rules (option_copied appid.entry)
+    ensures { IfOk result (specs.ShowsAlone json client rules (option_copied appid.entry)
         (option_copied file.entry)) }
 {
     let next = simulation_of(rt, rules, appid, &mut client, &mut ProgressLines::new(rt))?;
-    let told = tell_alone(rt.alloc(), &next, file)?;
+    let told = tell_alone(rt.alloc(), &next, file, json)?;
     Ok(told)
 }
 
@@ -191,16 +198,16 @@ where
     }
 }
 
-// The lines of a simulation, and its picture.
+// What is told of a simulation, and its picture.
 fn tell_alone(
     alloc: Global,
     next: &Simulated,
     file: Option<&str>,
+    json: bool,
 ) -> Result<ToldSimulation, AllocError>
-    ensures { IfOk result (specs.TellsAlone next.now (option_copied file.entry)) }
+    ensures { IfOk result (specs.TellsAlone json next.now (option_copied file.entry)) }
 {
-    let mut text = String::new(alloc);
-    push_shares(&mut text, next)?;
+    let text = text_alone(alloc, next, json)?;
     let picture = picture_if(alloc, file, next)?;
     Ok(ToldSimulation {
         text,
@@ -216,18 +223,31 @@ fn told_against<R>(
     serving: Ruleset,
     appid: Option<&str>,
     file: Option<&str>,
+    json: bool,
     mut client: Client,
 ) -> Result<ToldSimulation, AllocError>
 where
     R: AllocGlobal + Clock + Eprint,
-    ensures { IfOk result (specs.ShowsAgainst client rules serving (option_copied appid.entry)
+    ensures { IfOk result (specs.ShowsAgainst json client rules serving (option_copied appid.entry)
         (option_copied file.entry)) }
 {
     let mut progress = ProgressLines::new(rt);
     let next = simulation_of(rt, rules, appid, &mut client, &mut progress)?;
     let now = simulation_of(rt, serving, appid, &mut client, &mut progress)?;
-    let told = tell_against(rt.alloc(), &now, &next, file)?;
+    let told = tell_against(rt.alloc(), &now, &next, file, json)?;
     Ok(told)
+}
+
+// As lines, or as JSON.
+fn text_alone(alloc: Global, next: &Simulated, json: bool) -> Result<String, AllocError>
+    ensures { IfOk result (λ text. string_bytes text ≡ specs.text_alone json next.now) }
+{
+    if json {
+        return shares_json(alloc, next);
+    }
+    let mut text = String::new(alloc);
+    push_shares(&mut text, next)?;
+    Ok(text)
 }
 
 // The same, and who moves behind what serves now.
@@ -236,12 +256,11 @@ fn tell_against(
     now: &Simulated,
     next: &Simulated,
     file: Option<&str>,
+    json: bool,
 ) -> Result<ToldSimulation, AllocError>
-    ensures { IfOk result (specs.TellsAgainst next.now now.now (option_copied file.entry)) }
+    ensures { IfOk result (specs.TellsAgainst json next.now now.now (option_copied file.entry)) }
 {
-    let mut text = String::new(alloc);
-    push_shares(&mut text, next)?;
-    push_moves(alloc, &mut text, now, next)?;
+    let text = text_against(alloc, now, next, json)?;
     let loses = is_lossy(alloc, now, next)?;
     let picture = picture_if(alloc, file, next)?;
     Ok(ToldSimulation {
@@ -249,6 +268,23 @@ fn tell_against(
         picture,
         loses,
     })
+}
+
+fn text_against(
+    alloc: Global,
+    now: &Simulated,
+    next: &Simulated,
+    json: bool,
+) -> Result<String, AllocError>
+    ensures { IfOk result (λ text. string_bytes text ≡ specs.text_against json now.now next.now) }
+{
+    if json {
+        return moves_json(alloc, now, next);
+    }
+    let mut text = String::new(alloc);
+    push_shares(&mut text, next)?;
+    push_moves(alloc, &mut text, now, next)?;
+    Ok(text)
 }
 
 // The picture of a simulation, where a file is named for one.

@@ -1,0 +1,96 @@
+-- Values without a float: what is told of a check has none.
+use Rattle.std.proofs.Common.{◌≡◌, refl, ℕ, List, [], ◌∷◌, ◌++◌, Bool, true, false, ◌||◌, map}
+use Rattle.std.proofs.Common.{Option, None, Some}
+use Rattle.std.specs.Borrow.{Bor}
+use Rattle.bounded_files.specs.Files.{KnownFiles}
+use Rattle.cells.specs.Directory.{Declaration}
+use Rattle.diagnosis.specs.declared.accepted.CheckedManifest.{CheckedManifest}
+use Rattle.manifest_tools.specs.CheckObjects.{AreToldAs, IsToldAs, accepted_object, array_object}
+use Rattle.manifest_tools.specs.CheckObjects.{checked_app_object, checks_object, fault_objects}
+use Rattle.manifest_tools.specs.CheckObjects.{further_object, quota_object, refused_object}
+use Rattle.manifest_tools.specs.CheckObjects.{warning_object}
+use Rattle.manifest_tools.specs.CheckObjects.IsToldAs.{accepted, refused}
+use Rattle.manifest_tools.specs.CheckObjects.AreToldAs.{none, next}
+use Rattle.manifest_tools.specs.declared.fault.ManifestToolFault.{ManifestToolFault}
+use Rattle.manifest_tools.specs.declared.fault.ManifestToolFault.TheVariants as fault
+use Rattle.serde_json.specs.Data.{Data}
+use Rattle.serde_json.specs.View.{items_of}
+use Rattle.serde_json.specs.Written.{has_float, items_have_float}
+
+abbrev pub AreFloatless : List Data → Type 0
+AreFloatless values = items_have_float (items_of values) ≡ false
+
+or_neither : (a b : Bool) → a ≡ false → b ≡ false → (a || b) ≡ false
+or_neither true b first second = first
+or_neither false b first second = second
+
+or_first : (a b : Bool) → (a || b) ≡ false → a ≡ false
+or_first true b neither = neither
+or_first false b neither = refl
+
+or_second : (a b : Bool) → (a || b) ≡ false → b ≡ false
+or_second true true neither = neither
+or_second true false neither = refl
+or_second false b neither = neither
+
+mapped : {X : Type 0} (f : X → Data) (xs : List X) → ((x : X) → has_float (f x) ≡ false)
+    → AreFloatless (map f xs)
+mapped f [] each = refl
+mapped f (x ∷ xs) each = or_neither (has_float (f x)) _ (each x) (mapped f xs each)
+
+behind : (xs : List Data) (x : Data) → AreFloatless xs → has_float x ≡ false
+    → AreFloatless (xs ++ x ∷ [])
+behind [] x so_far last = or_neither (has_float x) false last refl
+behind (y ∷ xs) x so_far last =
+    or_neither (has_float y) (items_have_float (items_of (xs ++ x ∷ [])))
+    (or_first (has_float y) (items_have_float (items_of xs)) so_far)
+    (behind xs x (or_second (has_float y) (items_have_float (items_of xs)) so_far) last)
+
+-- ---- objects
+
+quota : (q : Option ℕ) → has_float (quota_object q) ≡ false
+quota None = refl
+quota (Some q) = refl
+
+of_array : (d : Declaration) → has_float (array_object d) ≡ false
+of_array d = or_neither (has_float (quota_object d.quota)) false (quota d.quota) refl
+
+of_accepted : (allowed : List (Bor (List ℕ))) (path : List ℕ) (told : CheckedManifest)
+    → has_float (accepted_object allowed path told) ≡ false
+of_accepted allowed path told =
+    or_neither _ _ (mapped checked_app_object told.apps.items (λ a. refl))
+    (or_neither _ _ (mapped array_object told.arrays.items of_array)
+    (or_neither _ false (mapped (warning_object allowed) told.warnings.items (λ w. refl)) refl))
+
+of_faults : (why : ManifestToolFault) → AreFloatless (fault_objects why)
+of_faults (fault.Diagnosed told) = mapped further_object told.further.items (λ f. refl)
+of_faults why = refl
+
+of_refused : (path : List ℕ) (why : ManifestToolFault)
+    → has_float (refused_object path why) ≡ false
+of_refused path why = or_neither _ false (of_faults why) refl
+
+-- ---- all of them
+
+of_told : (known : KnownFiles) (strict : Bool) (allowed : List (Bor (List ℕ))) (path : List ℕ)
+    (value : Data) (one : Bool) → IsToldAs known strict allowed path value one
+    → has_float value ≡ false
+of_told known strict allowed path value one (accepted told checked) =
+    of_accepted allowed path told
+of_told known strict allowed path value one (refused why refuses) = of_refused path why
+
+of_each : (known : KnownFiles) (strict : Bool) (allowed : List (Bor (List ℕ)))
+    (paths : List (Bor (List ℕ))) (values : List Data) (all : Bool)
+    → AreToldAs known strict allowed paths values all → AreFloatless values
+of_each known strict allowed paths values all none = refl
+of_each known strict allowed paths values all
+    (next before path so_far value passed one told last) =
+    behind so_far value (of_each known strict allowed before so_far passed told)
+    (of_told known strict allowed path.now value one last)
+
+pub of_checks : (known : KnownFiles) (strict : Bool) (allowed : List (Bor (List ℕ)))
+    (paths : List (Bor (List ℕ))) (values : List Data) (all : Bool)
+    → AreToldAs known strict allowed paths values all
+    → has_float (checks_object values all) ≡ false
+of_checks known strict allowed paths values all told =
+    or_neither _ false (of_each known strict allowed paths values all told) refl

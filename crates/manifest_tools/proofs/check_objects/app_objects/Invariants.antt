@@ -1,0 +1,10 @@
+use Rattle.std.proofs.Common.{◌≡◌, ◌++◌, drop, map}
+use Rattle.serde_json.specs.View.{view}
+use Rattle.manifest_tools.specs.CheckObjects.{checked_app_object}
+use Rattle.manifest_tools.proofs.check_objects.app_objects.Given as goal
+
+-- with the objects of those that are left they are all
+abbrev pub invariant-loop-app : goal.invariant-loop-app
+invariant-loop-app l =
+    map view l.values.items ++ map checked_app_object (drop l.app-index l.apps)
+    ≡ map checked_app_object l.apps

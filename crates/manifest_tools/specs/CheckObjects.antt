@@ -1,0 +1,164 @@
+-- Checks of manifests as JSON (RFC 8259): an object for each, and whether they pass. The members of
+-- an object are in the order of their names.
+use Rattle.std.specs.Prelude.{◌≡◌, ℕ, List, [], ◌∷◌, ◌++◌, Bool, true, false, ◌&&◌, codes, map}
+use Rattle.std.specs.Prelude.{Option, Some, None, length}
+use Rattle.std.specs.Borrow.{Bor}
+use Rattle.std.specs.String.{string_bytes}
+use Rattle.bounded_files.specs.Files.{KnownFiles}
+use Rattle.bounded_files.specs.declared.fault.ResourceFault.TheVariants as resource
+use Rattle.cells.specs.Directory.{Declaration}
+use Rattle.cells.specs.declared.array.CellWidth.{CellWidth}
+use Rattle.cells.specs.declared.array.CellWidth.TheVariants.{Bits32, Bits64}
+use Rattle.diagnosis.specs.declared.accepted.CheckedManifest.{CheckedManifest}
+use Rattle.diagnosis.specs.declared.told.Refused.{Refused}
+use Rattle.diagnosis.specs.declared.told.ToldFault.{ToldFault}
+use Rattle.hex.specs.Hex.{encode_lower}
+use Rattle.load.specs.Texts.{load_fault_text}
+use Rattle.manifest_tools.specs.Checks.{AreCheckRefusal, AreChecked, passes}
+use Rattle.manifest_tools.specs.Manifests.{IsChecked, IsCheckRefusal, fault_text}
+use Rattle.manifest_tools.specs.declared.checks.ToldChecks.{ToldChecks}
+use Rattle.manifest_tools.specs.declared.fault.ManifestToolFault.{ManifestToolFault}
+use Rattle.manifest_tools.specs.declared.fault.ManifestToolFault.TheVariants as fault
+use Rattle.ruleset.specs.Rules.{AppRule}
+use Rattle.serde_json.specs.Data.{Data, null, boolean, number, string, array, object, unsigned}
+use Rattle.serde_json.specs.Data.{no_members, member}
+use Rattle.serde_json.specs.View.{items_of}
+use Rattle.simulate.specs.Objects.{json_line}
+use Rattle.warnings.specs.Names.{some_counts}
+use Rattle.warnings.specs.Warnings.{name_of, warning_text}
+use Rattle.warnings.specs.declared.warning.Warning.{Warning}
+
+abbrev pub list_of : List Data → Data
+list_of values = array (items_of values)
+
+-- ---- of a manifest that is accepted
+
+abbrev pub bits_of : CellWidth → ℕ
+bits_of Bits32 = 32
+bits_of Bits64 = 64
+
+-- an array without a quota has null
+abbrev pub quota_object : Option ℕ → Data
+quota_object None = null
+quota_object (Some quota) = number (unsigned quota)
+
+abbrev pub array_object : Declaration → Data
+array_object d = object (
+    member (codes "length") (number (unsigned d.length)) (
+    member (codes "name") (string d.name) (
+    member (codes "quota") (quota_object d.quota) (
+    member (codes "width") (number (unsigned (bits_of d.width)))
+    no_members))))
+
+-- how many releases an app has, and how many slots its program
+abbrev pub checked_app_object : AppRule → Data
+checked_app_object app = object (
+    member (codes "appid") (string app.appid) (
+    member (codes "releases") (number (unsigned (length app.releases))) (
+    member (codes "slots") (number (unsigned (length app.program.code)))
+    no_members)))
+
+-- whether it counts in a strict check, its name, and where it is and what it says
+abbrev pub warning_object : (allowed : List (Bor (List ℕ))) → Warning → Data
+warning_object allowed w = object (
+    member (codes "counts") (boolean (some_counts allowed (w ∷ []))) (
+    member (codes "name") (string (name_of w.kind)) (
+    member (codes "text") (string (warning_text w))
+    no_members)))
+
+abbrev pub accepted_object : (allowed : List (Bor (List ℕ))) → (path : List ℕ)
+    → CheckedManifest → Data
+accepted_object allowed path told = object (
+    member (codes "accepted") (boolean true) (
+    member (codes "apps") (list_of (map checked_app_object told.apps.items)) (
+    member (codes "arrays") (list_of (map array_object told.arrays.items)) (
+    member (codes "digest") (string (encode_lower told.digest)) (
+    member (codes "manifest") (string path) (
+    member (codes "warnings") (list_of (map (warning_object allowed) told.warnings.items))
+    no_members))))))
+
+-- ---- of one that is refused
+
+-- the words of its refusal, and the lines of where and why
+abbrev pub fault_object : (refusal reason : List ℕ) → Data
+fault_object refusal reason = object (
+    member (codes "reason") (string reason) (
+    member (codes "refusal") (string refusal)
+    no_members))
+
+abbrev pub further_object : ToldFault → Data
+further_object told = fault_object (load_fault_text told.fault) (string_bytes told.reason)
+
+-- the fault that it is refused for, and further ones
+abbrev pub told_objects : Refused → List Data
+told_objects refused =
+    fault_object (load_fault_text refused.fault) (string_bytes refused.own)
+    ∷ map further_object refused.further.items
+
+abbrev pub fault_objects : ManifestToolFault → List Data
+fault_objects (fault.Diagnosed refused) = told_objects refused
+fault_objects refused = fault_object (fault_text refused) [] ∷ []
+
+-- how many further faults aren't told, and how many apps have files that weren't read
+abbrev pub left_out_of : ManifestToolFault → ℕ
+left_out_of (fault.Diagnosed refused) = refused.left_out
+left_out_of refused = 0
+
+abbrev pub unread_of : ManifestToolFault → ℕ
+unread_of (fault.Diagnosed refused) = refused.unread
+unread_of refused = 0
+
+abbrev pub refused_object : (path : List ℕ) → ManifestToolFault → Data
+refused_object path refused = object (
+    member (codes "accepted") (boolean false) (
+    member (codes "faults") (list_of (fault_objects refused)) (
+    member (codes "left_out") (number (unsigned (left_out_of refused))) (
+    member (codes "manifest") (string path) (
+    member (codes "unread_apps") (number (unsigned (unread_of refused)))
+    no_members)))))
+
+-- ---- of all
+
+abbrev pub checks_object : List Data → (passes : Bool) → Data
+checks_object manifests passes = object (
+    member (codes "manifests") (list_of manifests) (
+    member (codes "passes") (boolean passes)
+    no_members))
+
+module _ (known : KnownFiles) (strict : Bool) (allowed : List (Bor (List ℕ))) where
+  -- what is told of one, and whether it passes
+  pub data IsToldAs (path : List ℕ) : Data → (passes : Bool) → Type 0 where
+    accepted : (told : CheckedManifest) → IsChecked known path told
+        → IsToldAs path (accepted_object allowed path told)
+        (passes strict allowed told.warnings.items)
+    refused : (why : ManifestToolFault) → IsCheckRefusal known path why
+        → IsToldAs path (refused_object path why) false
+
+  -- of one after the other; all of them have to pass
+  pub data AreToldAs : List (Bor (List ℕ)) → List Data → (passes : Bool) → Type 0 where
+    none : AreToldAs [] [] true
+    next : (paths : List (Bor (List ℕ))) (path : Bor (List ℕ)) (values : List Data)
+        (value : Data) (all one : Bool) → AreToldAs paths values all
+        → IsToldAs path.now value one
+        → AreToldAs (paths ++ path ∷ []) (values ++ value ∷ []) (all && one)
+
+  -- a line of JSON, and nothing beside it
+  pub record AreCheckedAsJson (paths : List (Bor (List ℕ))) (told : ToldChecks) : Type 0 where
+    pub values : List Data
+    pub told_as : AreToldAs paths values told.passes
+    pub text_is : string_bytes told.text ≡ json_line (checks_object values told.passes)
+    pub beside_is : string_bytes told.beside ≡ []
+
+-- ---- as lines, or as JSON
+
+abbrev pub AreTold : KnownFiles → (json strict : Bool) → (allowed paths : List (Bor (List ℕ)))
+    → ToldChecks → Type 0
+AreTold known false strict allowed paths told = AreChecked known strict allowed paths told
+AreTold known true strict allowed paths told = AreCheckedAsJson known strict allowed paths told
+
+-- as JSON each is told, where there is memory
+abbrev pub AreToldRefusal : KnownFiles → (json : Bool) → List (Bor (List ℕ)) → ManifestToolFault
+    → Type 0
+AreToldRefusal known false paths why = AreCheckRefusal known paths why
+AreToldRefusal known true paths (fault.Resource resource.Memory) = Unit {0}
+AreToldRefusal known true paths why = ⊥

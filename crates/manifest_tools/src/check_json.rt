@@ -1,0 +1,104 @@
+//! `check --json`: all that is told of manifests, as a line of JSON.
+
+ghost use Rattle.std.specs.Prelude.{IfOk, map};
+ghost use Rattle.serde_json.specs.View.{view};
+ghost use Rattle.manifest_tools.specs.CheckObjects as specs;
+ghost use Rattle.manifest_tools.specs.CheckedObjects.{AddsToldAs};
+
+use crate::check::check_file;
+use crate::check_objects::{accepted_object, checks_object, refused_object};
+use crate::checks::{ToldChecks, passes};
+use bounded_files::Disk;
+use serde_json::Value;
+use simulate::{json_line, push_value};
+use std::alloc::{AllocError, Global};
+
+// An object for each manifest so far, and whether all of them pass.
+#[derive(Drop)]
+struct ToldObjects {
+    values: Vec<Value>,
+    passes: bool,
+}
+
+/// What is told of manifests, as a line of JSON.
+pub(crate) fn check_as_json<D: Disk>(
+    alloc: Global,
+    disk: &D,
+    paths: &[&str],
+    strict: bool,
+    allowed: &[&str],
+) -> Result<ToldChecks, AllocError>
+    ensures { IfOk result (specs.AreCheckedAsJson (D.known disk.now) strict allowed.now paths.now) }
+{
+    let told = objects_of(alloc, disk, paths, strict, allowed)?;
+    let passes = told.passes;
+    let value = checks_object(alloc, told.values, passes)?;
+    let text = json_line(alloc, &value)?;
+    Ok(ToldChecks {
+        text,
+        beside: String::new(alloc),
+        passes,
+    })
+}
+
+// An object a manifest, one after the other.
+fn objects_of<D: Disk>(
+    alloc: Global,
+    disk: &D,
+    paths: &[&str],
+    strict: bool,
+    allowed: &[&str],
+) -> Result<ToldObjects, AllocError>
+    ensures { IfOk result (λ told. specs.AreToldAs (D.known disk.now) strict allowed.now paths.now
+        (map view told.values.items) told.passes) }
+{
+    let mut told = ToldObjects {
+        values: Vec::new(alloc),
+        passes: true,
+    };
+    for path in paths {
+        told = add_object(alloc, disk, *path, strict, allowed, told)?;
+    }
+    Ok(told)
+}
+
+// That of one more.
+fn add_object<D: Disk>(
+    alloc: Global,
+    disk: &D,
+    path: &str,
+    strict: bool,
+    allowed: &[&str],
+    mut told: ToldObjects,
+) -> Result<ToldObjects, AllocError>
+    ensures { IfOk result (AddsToldAs (D.known disk.now) strict allowed.now path.now told) }
+{
+    let (value, passes) = object_of(alloc, disk, path, strict, allowed)?;
+    push_value(&mut told.values, value)?;
+    told.passes = told.passes && passes;
+    Ok(told)
+}
+
+// The object of one, and whether it passes.
+fn object_of<D: Disk>(
+    alloc: Global,
+    disk: &D,
+    path: &str,
+    strict: bool,
+    allowed: &[&str],
+) -> Result<(Value, bool), AllocError>
+    ensures { IfOk result (λ told. specs.IsToldAs (D.known disk.now) strict allowed.now path.now
+        (view told.0) told.1) }
+{
+    match check_file(alloc, disk, path) {
+        Ok(told) => {
+            let one = passes(strict, allowed, told.warnings.as_slice());
+            let value = accepted_object(alloc, allowed, path, &told)?;
+            Ok((value, one))
+        }
+        Err(fault) => {
+            let value = refused_object(alloc, path, &fault)?;
+            Ok((value, false))
+        }
+    }
+}

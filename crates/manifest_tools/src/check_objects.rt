@@ -1,0 +1,236 @@
+//! What is told of a manifest that was checked, as a JSON value.
+
+ghost use Rattle.std.specs.Prelude.{◌≡◌, ◌∷◌, ◌++◌, [], IfOk, OnOk, map, string_bytes};
+ghost use Rattle.serde_json.specs.View.{view};
+ghost use Rattle.manifest_tools.specs.CheckObjects as specs;
+ghost use Rattle.manifest_tools.specs.Manifests.{fault_text};
+
+use crate::fault::ManifestToolFault;
+use bpf_verify::Verified;
+use cells::CellWidth;
+use declarations::ArrayDeclaration;
+use diagnosis::{CheckedManifest, Refused, ToldFault};
+use ruleset::App;
+use serde_json::{Value, json};
+use simulate::push_value;
+use std::alloc::{AllocError, Global};
+use warnings::{Warning, push_warning_text, some_counts};
+
+/// A manifest that is accepted.
+pub(crate) fn accepted_object(
+    alloc: Global,
+    allowed: &[&str],
+    path: &str,
+    told: &CheckedManifest,
+) -> Result<Value, AllocError>
+    ensures { IfOk result (λ value. view value
+        ≡ specs.accepted_object allowed.now path.now told.now) }
+{
+    let apps = app_objects(alloc, told.apps.as_slice())?;
+    let arrays = array_objects(alloc, told.arrays.as_slice())?;
+    let warnings = warning_objects(alloc, allowed, told.warnings.as_slice())?;
+    let digest = hex::encode(alloc, told.digest)?;
+    json!(in alloc; {
+        "accepted": true,
+        "apps": apps,
+        "arrays": arrays,
+        "digest": digest,
+        "manifest": path,
+        "warnings": warnings
+    })
+}
+
+fn app_objects(alloc: Global, apps: &[App]) -> Result<Vec<Value>, AllocError>
+    ensures { IfOk result (λ values. map view values.items
+        ≡ map specs.checked_app_object apps.now) }
+{
+    let mut values = Vec::new(alloc);
+    for app in apps {
+        let value = app_object(alloc, app)?;
+        push_value(&mut values, value)?;
+    }
+    Ok(values)
+}
+
+fn app_object(alloc: Global, app: &App) -> Result<Value, AllocError>
+    ensures { IfOk result (λ value. view value ≡ specs.checked_app_object app.now) }
+{
+    let program: &Verified = app.program();
+    let (releases, slots) = (app.releases().len(), program.len());
+    json!(in alloc; {"appid": app.appid(), "releases": releases, "slots": slots})
+}
+
+fn array_objects(alloc: Global, arrays: &[ArrayDeclaration]) -> Result<Vec<Value>, AllocError>
+    ensures { IfOk result (λ values. map view values.items ≡ map specs.array_object arrays.now) }
+{
+    let mut values = Vec::new(alloc);
+    for array in arrays {
+        let value = array_object(alloc, array)?;
+        push_value(&mut values, value)?;
+    }
+    Ok(values)
+}
+
+fn array_object(alloc: Global, array: &ArrayDeclaration) -> Result<Value, AllocError>
+    ensures { IfOk result (λ value. view value ≡ specs.array_object array.now) }
+{
+    let quota = quota_object(array.quota());
+    let width = bits_of(array.width());
+    json!(in alloc; {
+        "length": array.length(),
+        "name": array.name(),
+        "quota": quota,
+        "width": width
+    })
+}
+
+fn quota_object(quota: Option<u64>) -> Value
+    ensures { view result ≡ specs.quota_object quota }
+{
+    match quota {
+        Some(quota) => Value::from(quota),
+        None => Value::Null,
+    }
+}
+
+fn bits_of(width: CellWidth) -> u8
+    ensures { result ≡ specs.bits_of width }
+{
+    match width {
+        CellWidth::Bits32 => 32,
+        CellWidth::Bits64 => 64,
+    }
+}
+
+fn warning_objects(
+    alloc: Global,
+    allowed: &[&str],
+    warnings: &[Warning],
+) -> Result<Vec<Value>, AllocError>
+    ensures { IfOk result (λ values. map view values.items
+        ≡ map (specs.warning_object allowed.now) warnings.now) }
+{
+    let mut values = Vec::new(alloc);
+    for warning in warnings {
+        let value = warning_object(alloc, allowed, warning)?;
+        push_value(&mut values, value)?;
+    }
+    Ok(values)
+}
+
+fn warning_object(alloc: Global, allowed: &[&str], warning: &Warning) -> Result<Value, AllocError>
+    ensures { IfOk result (λ value. view value
+        ≡ specs.warning_object allowed.now warning.now) }
+{
+    let mut text = String::new(alloc);
+    push_warning_text(&mut text, warning)?;
+    let counts = some_counts(&[*warning], allowed);
+    json!(in alloc; {"counts": counts, "name": warning.kind.name(), "text": text})
+}
+
+/// All manifests by their objects, and whether they pass.
+pub(crate) fn checks_object(
+    alloc: Global,
+    manifests: Vec<Value>,
+    passes: bool,
+) -> Result<Value, AllocError>
+    ensures { IfOk result (λ value. view value
+        ≡ specs.checks_object (map view manifests.items) passes) }
+{
+    json!(in alloc; {"manifests": manifests, "passes": passes})
+}
+
+// ---- refused
+
+/// A manifest that is refused.
+pub(crate) fn refused_object(
+    alloc: Global,
+    path: &str,
+    fault: &ManifestToolFault,
+) -> Result<Value, AllocError>
+    ensures { IfOk result (λ value. view value ≡ specs.refused_object path.now fault.now) }
+{
+    let faults = fault_objects(alloc, fault)?;
+    json!(in alloc; {
+        "accepted": false,
+        "faults": faults,
+        "left_out": left_out_of(fault),
+        "manifest": path,
+        "unread_apps": unread_of(fault)
+    })
+}
+
+fn fault_objects(alloc: Global, fault: &ManifestToolFault) -> Result<Vec<Value>, AllocError>
+    ensures { IfOk result (λ values. map view values.items ≡ specs.fault_objects fault.now) }
+{
+    match fault {
+        ManifestToolFault::Diagnosed(refused) => told_objects(alloc, refused),
+        _ => other_objects(alloc, fault),
+    }
+}
+
+// Of a fault of which nothing is told but its words.
+fn other_objects(alloc: Global, fault: &ManifestToolFault) -> Result<Vec<Value>, AllocError>
+    ensures { IfOk result (λ values. map view values.items
+        ≡ specs.fault_object (fault_text fault.now) [] ∷ []) }
+{
+    let refusal = fault.to_string(alloc)?;
+    let value = fault_object(alloc, refusal, "")?;
+    let mut values = Vec::new(alloc);
+    push_value(&mut values, value)?;
+    Ok(values)
+}
+
+fn told_objects(alloc: Global, refused: &Refused) -> Result<Vec<Value>, AllocError>
+    ensures { IfOk result (λ values. map view values.items ≡ specs.told_objects refused.now) }
+{
+    let refusal = refused.fault.to_string(alloc)?;
+    let value = fault_object(alloc, refusal, refused.own.as_str())?;
+    let mut values = Vec::new(alloc);
+    push_value(&mut values, value)?;
+    push_further(&mut values, refused.further.as_slice())?;
+    Ok(values)
+}
+
+fn push_further(values: &mut Vec<Value>, further: &[ToldFault]) -> Result<(), AllocError>
+    ensures { OnOk result (map view values.new.items
+        ≡ map view values.old.items ++ map specs.further_object further.now) }
+{
+    for told in further {
+        let value = further_object(*values.allocator(), told)?;
+        push_value(values, value)?;
+    }
+    Ok(())
+}
+
+fn further_object(alloc: Global, told: &ToldFault) -> Result<Value, AllocError>
+    ensures { IfOk result (λ value. view value ≡ specs.further_object told.now) }
+{
+    let refusal = told.fault.to_string(alloc)?;
+    fault_object(alloc, refusal, told.reason.as_str())
+}
+
+fn fault_object(alloc: Global, refusal: String, reason: &str) -> Result<Value, AllocError>
+    ensures { IfOk result (λ value. view value
+        ≡ specs.fault_object (string_bytes refusal) reason.now) }
+{
+    json!(in alloc; {"reason": reason, "refusal": refusal})
+}
+
+fn left_out_of(fault: &ManifestToolFault) -> usize
+    ensures { result ≡ specs.left_out_of fault.now }
+{
+    match fault {
+        ManifestToolFault::Diagnosed(refused) => refused.left_out,
+        _ => 0,
+    }
+}
+
+fn unread_of(fault: &ManifestToolFault) -> usize
+    ensures { result ≡ specs.unread_of fault.now }
+{
+    match fault {
+        ManifestToolFault::Diagnosed(refused) => refused.unread,
+        _ => 0,
+    }
+}
