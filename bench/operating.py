@@ -93,23 +93,35 @@ class Day:
             server.wait()
 
 
+def undigested(said):
+    """What is told, without the lines of a digest."""
+    return re.sub("^digest [0-9a-f]{64}\n", "", said, flags=re.MULTILINE)
+
+
+def asking():
+    """The block that asks a server as a machine does."""
+    return section("OPERATING.md", "What is being served")[1]
+
+
 def wrong_stages(day):
     """Of a stage that is raised, and then halted."""
     raising, moves, _ = section("OPERATING.md", "Raising a stage")
     [placing] = section("OPERATING.md", "Putting a manifest in place")
     halting, lost, putting = section("OPERATING.md", "Halting a release")
-    ask, buckets, _ = section("OPERATING.md", "What is being served")
+    comparing, ask, buckets, _ = section("OPERATING.md", "What is being served")
     if NOTHING not in (said := day.run(ask)):
         return f"before: {said}"
     if not (said := day.run(raising)).startswith(CHECKED) or not said.endswith(moves):
         return f"raising: {said}"
-    if (said := day.run(placing)) != CHECKED + "generation 2\n":
+    if undigested(said := day.run(placing)) != CHECKED + "generation 2\n":
         return f"placing: {said}"
+    if len(told := day.run(comparing).splitlines()) != 2 or told[0] != told[1]:
+        return f"comparing: {told}"
     if OFFERED not in (said := day.run(ask)):
         return f"after it: {said}"
     if not (said := day.run(halting)).startswith(HALTED) or not said.endswith(lost):
         return f"halting: {said}"
-    if (said := day.run(putting)) != HALTED + "generation 3\n":
+    if undigested(said := day.run(putting)) != HALTED + "generation 3\n":
         return f"putting: {said}"
     if NOTHING not in (said := day.run(ask)):
         return f"after a halt: {said}"
@@ -169,7 +181,7 @@ def day_of_the_page(folder, program=BUILT):
     if wrong := wrong_counts(day) or wrong_report(day):
         return wrong
     with day.served():
-        if NOTHING not in (said := day.run(section("OPERATING.md", "What is being served")[0])):
+        if NOTHING not in (said := day.run(asking())):
             return f"after a restart: {said}"
 
 
@@ -193,7 +205,7 @@ def wrong_with_few(day, server):
     """Of a server that has as many file descriptors as it wants at least."""
     if (said := server.stdout.readline()) != "serving generation 1\n":
         return f"with {LEAST}: {said!r}"
-    ask = section("OPERATING.md", "What is being served")[0]
+    ask = asking()
     for command, wanted in (
         (ask, NOTHING),
         ('rollout load "$PWD/current.toml" --operator 8081', "generation 2\n"),

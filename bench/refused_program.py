@@ -53,6 +53,7 @@ COMMANDS = {
     "report": ["report", "a.log", "--svg", "OUT"],
     "simulate": ["simulate", "one.toml", "--against", "one.toml", "--svg", "OUT"],
     "ask": ["ask", "first.toml", "ask.json", "--at", "0", "--cells", "q[0]=3"],
+    "ask, why": ["ask", "first.toml", "ask.json", "--at", "0", "--cells", "q[0]=3", "--why"],
 }
 
 
@@ -76,6 +77,23 @@ def is_refused_event(found, untroubled):
     """Whether a script was played up to an event that was refused memory, and then went on."""
     before, refused, _ = found[1].partition("refused E6 Memory\n")
     return found[0] == 0 and found[2] == "" and refused and untroubled[1].startswith(before)
+
+
+def by_manifest(text):
+    """What is told of each of several manifests, behind the line with its name."""
+    _, *parts = re.split(r"^manifest (.+)\n", text, flags=re.MULTILINE)
+    return dict(zip(parts[::2], parts[1::2]))
+
+
+def is_refused_check(found, untroubled):
+    """Whether one of several manifests was refused memory, and the others were told as ever."""
+    said, errors = by_manifest(found[1]), by_manifest(found[2])
+    wanted, warned = by_manifest(untroubled[1]), by_manifest(untroubled[2])
+    refused = [name for name in wanted if LINE.fullmatch(errors.get(name, ""))]
+    if found[0] != 1 or len(refused) != 1 or refused[0] in said:
+        return False
+    others = [name for name in wanted if name not in refused]
+    return all((said[it], errors.get(it)) == (wanted[it], warned.get(it)) for it in others)
 
 
 class Commands:
@@ -114,6 +132,8 @@ def kind(found, untroubled):
         return refused[1]
     if is_refused_event(found, untroubled):
         return "E6 Memory, of an event"
+    if is_refused_check(found, untroubled):
+        return f"{LINE.search(found[2])[1]} of one manifest"
     if found == untroubled:
         return "done all the same"
     raise Wrong(f"{found}")

@@ -1,2 +1,3 @@
+pub mod Untold
 mod Written
 mod Replied

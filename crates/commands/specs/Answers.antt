@@ -1,7 +1,8 @@
 -- What each request is answered, and why it is refused: by what the files give, as far as that is
 -- known. Of a device's files nothing is known, so of these it is what some bytes come to. What a
 -- server replies no contract can say; of memory that was refused no claim is made.
-use Rattle.std.specs.Prelude.{◌≡◌, ◌&&◌, [], is_some, length, not, option_copied}
+use Rattle.std.specs.Prelude.{◌≡◌, ◌⊎◌, ◌&&◌, [], false, is_some, length, not, option_copied}
+use Rattle.std.specs.Prelude.{true}
 use Rattle.std.specs.String.{string_bytes}
 use Rattle.command_line.specs.declared.request.CommandRequest.{CommandRequest}
 use Rattle.command_line.specs.declared.request.CommandRequest.TheVariants as request
@@ -9,6 +10,7 @@ use Rattle.operator_request.specs.declared.request.OperatorRequest.TheVariants a
 use Rattle.commands.specs.Asked.{IsAskRefusal, IsDoneAs}
 use Rattle.commands.specs.Clients.{client_told}
 use Rattle.commands.specs.DryRuns.{HasDryRun, IsDryRunRefusal}
+use Rattle.commands.specs.Whys.{HasWhy, IsWhyRefusal}
 use Rattle.commands.specs.declared.answer.Answer.{Answer}
 use Rattle.commands.specs.declared.answer.Answer.TheVariants.{Assembled, Checked, Compiled}
 use Rattle.commands.specs.declared.answer.Answer.TheVariants.{Explained, Simulated}
@@ -19,7 +21,7 @@ use Rattle.commands.specs.declared.fault.Fault.{Fault}
 use Rattle.commands.specs.declared.fault.Fault.TheVariants.{Manifest, Program, Resource, Serving}
 use Rattle.load.specs.Loaded.{IsLoadedFrom}
 use Rattle.program_tools.specs.Programs.{IsProgramRefusal, IsRunRefusal}
-use Rattle.manifest_tools.specs.Checks.{AreChecked, AreCheckRefusal}
+use Rattle.manifest_tools.specs.CheckObjects.{AreTold, AreToldRefusal}
 use Rattle.manifest_tools.specs.Manifests.{HasReplayed}
 use Rattle.manifest_tools.specs.Manifests.{IsReplayRefusal}
 use Rattle.manifest_tools.specs.Simulations.{HasSimulated, IsSimulationRefusal}
@@ -35,11 +37,14 @@ use Rattle.serving.specs.Manifests.{RefusesToServe}
 
 module _ (known : KnownFiles) where
   abbrev pub IsAnswer : CommandRequest → Answer → Type 0
-  IsAnswer (request.DryRun asked) (answer.DryRun body) = HasDryRun known asked body.items
+  IsAnswer (request.DryRun asked) (answer.DryRun body) =
+      (asked.why ≡ false) × HasDryRun known asked body.items
+  IsAnswer (request.DryRun asked) (answer.Why text) =
+      (asked.why ≡ true) × HasWhy known asked (string_bytes text)
   IsAnswer (request.Assemble text out) (Assembled program) =
       IsAssembledFrom known text.now program.items
   IsAnswer (request.Check asked) (Checked told) =
-      AreChecked known asked.strict asked.allowed.items asked.manifests.items told
+      AreTold known asked.json asked.strict asked.allowed.items asked.manifests.items told
   IsAnswer (request.Compile text shape out) (Compiled slots) =
       HasCompiled known text.now shape slots
   IsAnswer (request.Explain path shape) (Explained text) =
@@ -58,8 +63,8 @@ module _ (known : KnownFiles) where
       HasReported (length asked.logs.items) asked.since asked.until asked.prometheus
       (is_some asked.picture) told
   IsAnswer (request.Simulate asked) (Simulated told passes) =
-      HasSimulated known (client_told asked.app) asked.manifest.now (option_copied asked.against)
-      (option_copied asked.appid) (option_copied asked.picture) told
+      HasSimulated known asked.json (client_told asked.app) asked.manifest.now
+      (option_copied asked.against) (option_copied asked.appid) (option_copied asked.picture) told
       × (passes ≡ not (asked.fail_on_lost && told.loses))
   IsAnswer (request.Ask asked port) (Told text) = IsDoneAs asked (string_bytes text)
   IsAnswer (request.StopAndWait port) (Told text) = IsDoneAs sent.Stop (string_bytes text)
@@ -68,10 +73,12 @@ module _ (known : KnownFiles) where
   IsAnswer asked answer = ⊥
 
   abbrev pub IsRefused : CommandRequest → Fault → Type 0
-  IsRefused (request.DryRun asked) fault = IsDryRunRefusal known asked fault
+  IsRefused (request.DryRun asked) fault =
+      ((asked.why ≡ false) × IsDryRunRefusal known asked fault)
+      ⊎ ((asked.why ≡ true) × IsWhyRefusal known asked fault)
   IsRefused (request.Assemble text out) (Program fault) = IsAssemblyRefusal known text.now fault
   IsRefused (request.Check asked) (Manifest fault) =
-      AreCheckRefusal known asked.manifests.items fault
+      AreToldRefusal known asked.json asked.manifests.items fault
   IsRefused (request.Compile text shape out) (Program fault) =
       IsCompileRefusal known text.now shape fault
   IsRefused (request.Explain path shape) (Program fault) =
@@ -89,7 +96,7 @@ module _ (known : KnownFiles) where
   -- which log of a device can't be read, or whether its clock can't, nothing tells
   IsRefused (request.Report asked) (Resource fault) = Unit {0}
   IsRefused (request.Simulate asked) (Manifest fault) =
-      IsSimulationRefusal known (client_told asked.app) asked.manifest.now
+      IsSimulationRefusal known asked.json (client_told asked.app) asked.manifest.now
       (option_copied asked.against) (option_copied asked.appid) (option_copied asked.picture)
       fault
   IsRefused (request.Ask asked port) fault = IsAskRefusal asked fault

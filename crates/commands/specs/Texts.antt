@@ -42,13 +42,14 @@ answer_text (Replayed text) = string_bytes text
 answer_text (answer.Reported told) = string_bytes told.text
 answer_text (answer.Simulated told does) = string_bytes told.text
 answer_text (answer.DryRun body) = body.items
+answer_text (answer.Why text) = string_bytes text
 answer_text (answer.Told text) = string_bytes text
 -- the first generation
 answer_text (Ready server plan) = serving_line 1
 
 -- what goes to standard error beside an answer: the warnings of a check
 abbrev pub warnings_of : Answer → List ℕ
-warnings_of (Checked told) = string_bytes told.warnings
+warnings_of (Checked told) = string_bytes told.beside
 warnings_of answer = []
 
 -- a check may find what counts, and a simulation what is lost; all else passes

@@ -67,6 +67,10 @@ pub enum Answer {
     DryRun {
         body: Vec<u8>,
     },
+    /// Why each app of a request gets what it gets.
+    Why {
+        text: String,
+    },
     /// The lines of a server's reply.
     Told {
         text: String,
@@ -84,7 +88,7 @@ impl Answer {
         ensures { result.now ≡ warnings_of self.now }
     {
         match self {
-            Answer::Checked(told) => told.warnings.as_str(),
+            Answer::Checked(told) => told.beside.as_str(),
             _ => "",
         }
     }
@@ -138,6 +142,7 @@ impl fmt::Display for Answer {
                 Ok(text) => f.write_str(text),
                 Err(_) => Err(fmt::Error),
             },
+            Answer::Why { text } => f.write_str(text),
             Answer::Told { text } => f.write_str(text),
             Answer::Ready { .. } => {
                 let first: Generation = 1;

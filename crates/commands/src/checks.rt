@@ -22,6 +22,7 @@ pub fn checked<D: Disk>(alloc: Global, disk: &D, asked: &AskedCheck<'_>) -> Resu
         manifests,
         asked.strict,
         asked.allowed.as_slice(),
+        asked.json,
     ) {
         Ok(told) => Ok(Answer::Checked(told)),
         Err(fault) => Err(Fault::Manifest(fault)),

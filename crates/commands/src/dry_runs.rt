@@ -11,6 +11,7 @@ ghost use Rattle.commands.specs.DryRuns as specs;
 use crate::answer::Answer;
 use crate::ask::ask_server;
 use crate::fault::Fault;
+use crate::whys::why_of;
 use attrs::Moment;
 use bounded_files::ResourceFault;
 use command_line::{AskedReply, CommandRequest};
@@ -21,8 +22,8 @@ use std::net::{Net, TcpStream};
 use std::time::{Clock, SystemTime, UNIX_EPOCH};
 use told_cells::told_lines;
 
-/// The body of the reply. The files are opened first, then a server is asked for its counters,
-/// where a port is told.
+/// The body of the reply, or why each app gets what it gets. The files are opened first, then a
+/// server is asked for its counters, where a port is told.
 // open: which counters a server has, and which second the clock tells: tests.
 pub fn dry_run_of<R, D>(rt: &R, disk: &D, asked: &AskedReply<'_>) -> Result<Answer, Fault>
 where
@@ -31,12 +32,33 @@ where
     ensures answer { IfOk result (IsAnswer (D.known disk.now) (CommandRequest.DryRun asked.now)) }
     ensures fault { IfErr result (IsRefused (D.known disk.now) (CommandRequest.DryRun asked.now)) }
 {
+    if asked.why {
+        return match why_of(rt, disk, asked) {
+            Ok(text) => Ok(Answer::Why { text }),
+            Err(fault) => Err(fault),
+        };
+    }
+    match body_of(rt, disk, asked) {
+        Ok(body) => Ok(Answer::DryRun { body }),
+        Err(fault) => Err(fault),
+    }
+}
+
+// The body of the reply.
+fn body_of<R, D>(rt: &R, disk: &D, asked: &AskedReply<'_>) -> Result<Vec<u8>, Fault>
+where
+    R: AllocGlobal + Clock + Net<Stream = TcpStream>,
+    D: Disk,
+    ensures reply { IfOk result (λ body.
+        specs.HasDryRun (D.known disk.now) asked.now body.items) }
+    ensures fault { IfErr result (specs.IsDryRunRefusal (D.known disk.now) asked.now) }
+{
     let opened = match open_files(rt.alloc(), disk, asked.manifest, asked.request) {
         Ok(opened) => opened,
         Err(fault) => return Err(Fault::DryRun(fault)),
     };
     match reply_to(rt, &opened, asked) {
-        Ok(body) => Ok(Answer::DryRun { body }),
+        Ok(body) => Ok(body),
         Err(fault) => Err(fault),
     }
 }
@@ -64,8 +86,8 @@ where
     }
 }
 
-// The lines of a server's counters, and none without a port.
-fn served_reply<R>(rt: &R, port: Option<u16>) -> Result<String, Fault>
+/// The lines of a server's counters, and none without a port.
+pub fn served_reply<R>(rt: &R, port: Option<u16>) -> Result<String, Fault>
 where
     R: AllocGlobal + Net<Stream = TcpStream>,
     ensures served { IfOk result (λ t. specs.AreServed port (told_by (lines (string_bytes t)))) }
@@ -77,8 +99,8 @@ where
     }
 }
 
-// The moment of the words, or the clock's.
-fn moment_of<R: Clock>(rt: &R, at: Option<Moment>) -> Moment
+/// The moment of the words, or the clock's.
+pub fn moment_of<R: Clock>(rt: &R, at: Option<Moment>) -> Moment
     ensures { specs.IsAt at result }
 {
     match at {

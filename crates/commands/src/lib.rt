@@ -21,6 +21,7 @@ mod runs;
 mod serve;
 mod simulations;
 mod status;
+mod whys;
 
 pub use load::{Device, Disk};
 pub use server_log::LogOutput;

@@ -28,8 +28,17 @@ where
         let fault = ManifestToolFault::Resource(ResourceFault::Memory);
         return Err(Fault::Manifest(fault));
     };
-    let (manifest, against, appid) = (asked.manifest, asked.against, asked.appid);
-    match simulate_files(rt, disk, manifest, against, appid, asked.picture, client) {
+    let told = simulate_files(
+        rt,
+        disk,
+        asked.manifest,
+        asked.against,
+        asked.appid,
+        asked.picture,
+        asked.json,
+        client,
+    );
+    match told {
         Ok(told) => {
             let passes = !(asked.fail_on_lost && told.loses);
             Ok(Answer::Simulated { told, passes })

@@ -22,7 +22,7 @@ required = true
 ";
 
 /// Each row: words, the status, and what is told on standard output and on standard error.
-const ROWS: [(&str, u8, &str, &str); 13] = [
+const ROWS: [(&str, u8, &str, &str); 18] = [
     ("check s.toml", 0, ACCEPTED, WARNED),
     ("check s.toml --strict", 1, ACCEPTED, WARNED),
     (
@@ -42,7 +42,13 @@ const ROWS: [(&str, u8, &str, &str); 13] = [
     (
         "check s_good.toml s.toml --strict --allow never-holds",
         1,
-        "manifest s_good.toml\napp y releases 0 slots 2\nmanifest s.toml\napp x releases 1 slots 2\n",
+        "manifest s_good.toml
+app y releases 0 slots 2
+digest 9be8960220a5211633784db7f669b578c0c73def13a385e3866ae121fcfe15e9
+manifest s.toml
+app x releases 1 slots 2
+digest 9eddcd879f5fc8753f36338cf0fdf00b2209d1865c7b0f75df8141d0a417c8bd
+",
         "manifest s.toml
 warning codebase-slash: app[1].release[1].codebase: no / ends it, and a client joins it with a \
 package's name
@@ -52,7 +58,13 @@ warning no-bucket: app[1].release[1]: no bucket gets it
     (
         "check s.toml s_good.toml",
         0,
-        "manifest s.toml\napp x releases 1 slots 2\nmanifest s_good.toml\napp y releases 0 slots 2\n",
+        "manifest s.toml
+app x releases 1 slots 2
+digest 9eddcd879f5fc8753f36338cf0fdf00b2209d1865c7b0f75df8141d0a417c8bd
+manifest s_good.toml
+app y releases 0 slots 2
+digest 9be8960220a5211633784db7f669b578c0c73def13a385e3866ae121fcfe15e9
+",
         "manifest s.toml
 warning codebase-slash: app[1].release[1].codebase: no / ends it, and a client joins it with a \
 package's name
@@ -62,7 +74,10 @@ warning no-bucket: app[1].release[1]: no bucket gets it
     (
         "check s_wrong.toml s_no_file.toml s_good.toml",
         1,
-        "manifest s_good.toml\napp y releases 0 slots 2\n",
+        "manifest s_good.toml
+app y releases 0 slots 2
+digest 9be8960220a5211633784db7f669b578c0c73def13a385e3866ae121fcfe15e9
+",
         "manifest s_wrong.toml
 refused M2 Field
 server: a text
@@ -89,6 +104,31 @@ refused B3 File
         GAINED,
         "",
     ),
+    (
+        "check s.toml --json --strict --allow no-bucket",
+        1,
+        WARNED_AS_JSON,
+        "",
+    ),
+    (
+        "check s_good.toml s_wrong.toml --json",
+        1,
+        CHECKED_AS_JSON,
+        "",
+    ),
+    ("simulate s_all.toml --app x --json", 0, ALONE_AS_JSON, ""),
+    (
+        "simulate s.toml --against s_all.toml --json",
+        0,
+        LOST_AS_JSON,
+        "",
+    ),
+    (
+        "simulate s.toml --json --against s_all.toml --fail-on-lost",
+        1,
+        LOST_AS_JSON,
+        "",
+    ),
 ];
 
 /// What a rule comes to that offers nothing, against one that offers to all; and the other way.
@@ -104,16 +144,49 @@ app x            now        next       buckets
                  none       2            10000
 ";
 
+/// The same as JSON, and that of the other manifest alone.
+const LOST_AS_JSON: &str = "{\"apps\":[{\"appid\":\"x\",\"shares\":[{\"buckets\":10000,\
+\"offer\":null}]}],\"lost\":true,\"moves\":[{\"appid\":\"x\",\"moves\":[{\"buckets\":10000,\
+\"lost\":true,\"next\":null,\"now\":{\"release\":1,\"version\":\"2\"}}]}]}
+";
+
+const ALONE_AS_JSON: &str = "{\"apps\":[{\"appid\":\"x\",\"shares\":[{\"buckets\":10000,\
+\"offer\":{\"release\":1,\"version\":\"2\"}}]}]}
+";
+
 /// What is told of a manifest that nothing is warned of.
-const GOOD: &str = "app y releases 0 slots 2\n";
+const GOOD: &str = "app y releases 0 slots 2
+digest 9be8960220a5211633784db7f669b578c0c73def13a385e3866ae121fcfe15e9
+";
 
 /// What is told of the manifest above, and what it is warned of.
-const ACCEPTED: &str = "app x releases 1 slots 2\n";
+const ACCEPTED: &str = "app x releases 1 slots 2
+digest 9eddcd879f5fc8753f36338cf0fdf00b2209d1865c7b0f75df8141d0a417c8bd
+";
 
 const WARNED: &str = "\
 warning codebase-slash: app[1].release[1].codebase: no / ends it, and a client joins it with a \
 package's name
 warning no-bucket: app[1].release[1]: no bucket gets it
+";
+
+/// The same as JSON, where one of the names is allowed.
+const WARNED_AS_JSON: &str = "{\"manifests\":[{\"accepted\":true,\"apps\":[{\"appid\":\"x\",\
+\"releases\":1,\"slots\":2}],\"arrays\":[],\
+\"digest\":\"9eddcd879f5fc8753f36338cf0fdf00b2209d1865c7b0f75df8141d0a417c8bd\",\
+\"manifest\":\"s.toml\",\"warnings\":[{\"counts\":true,\
+\"name\":\"codebase-slash\",\"text\":\"app[1].release[1].codebase: no / ends it, and a client \
+joins it with a package's name\"},{\"counts\":false,\"name\":\"no-bucket\",\
+\"text\":\"app[1].release[1]: no bucket gets it\"}]}],\"passes\":false}
+";
+
+/// What is told of a manifest that is accepted, and of one that is refused.
+const CHECKED_AS_JSON: &str = "{\"manifests\":[{\"accepted\":true,\"apps\":[{\"appid\":\"y\",\
+\"releases\":0,\"slots\":2}],\"arrays\":[],\
+\"digest\":\"9be8960220a5211633784db7f669b578c0c73def13a385e3866ae121fcfe15e9\",\
+\"manifest\":\"s_good.toml\",\"warnings\":[]},\
+{\"accepted\":false,\"faults\":[{\"reason\":\"server: a text\\n\",\"refusal\":\"M2 Field\"}],\
+\"left_out\":0,\"manifest\":\"s_wrong.toml\",\"unread_apps\":0}],\"passes\":false}
 ";
 
 fn write_files<R: Files + AllocGlobal>(rt: &R) -> Result<(), Fail> {

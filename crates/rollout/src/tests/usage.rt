@@ -89,6 +89,7 @@ rollout simulate --help -> --against <MANIFEST>
 rollout simulate --help -> --svg <FILE>
 rollout simulate --help -> --app <APPID>
 rollout simulate --help -> --fail-on-lost
+rollout simulate --help -> --json
 rollout report --help -> <LOG>...
 rollout report --help -> --svg <FILE>
 rollout serve --help -> --workers <N>

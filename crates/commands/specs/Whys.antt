@@ -1,0 +1,40 @@
+-- What `ask --why` tells, and why it tells nothing.
+use Rattle.std.specs.Prelude.{◌⊎◌, ℕ, ℤ, List}
+use Rattle.bounded_files.specs.Files.{KnownFiles}
+use Rattle.command_line.specs.declared.request.AskedReply.{AskedReply}
+use Rattle.dry_run.specs.Files.{IsOpenFault}
+use Rattle.dry_run.specs.Why.{TellsWhy}
+use Rattle.dry_run.specs.Meanings.{AreOpenedWhy}
+use Rattle.dry_run.specs.declared.why_files.OpenedWhy.{OpenedWhy}
+use Rattle.told_cells.specs.Told.{Told}
+use Rattle.commands.specs.DryRuns.{AreServed, IsAt, IsReplyFault}
+use Rattle.commands.specs.declared.fault.Fault.{Fault}
+use Rattle.commands.specs.declared.fault.Fault.TheVariants.{DryRun}
+
+-- why each app of the body gets what it gets, at the moment of the words, with the counters of that
+-- server and of the words
+pub record IsWhyBy (opened : OpenedWhy) (asked : AskedReply) (text : List ℕ) : Type 0 where
+  pub moment : ℤ
+  pub at : IsAt asked.at moment
+  pub served : List Told
+  pub told : AreServed asked.operator served
+  pub tells : TellsWhy opened moment served asked.cells.items text
+
+-- by what the files come to
+pub record HasWhy (known : KnownFiles) (asked : AskedReply) (text : List ℕ) : Type 0 where
+  pub opened : OpenedWhy
+  pub files : AreOpenedWhy known asked.manifest.now asked.request.now opened
+  pub why : IsWhyBy opened asked text
+
+-- why nothing is told, where the files come to a ruleset and a body
+pub record IsUntoldFile (known : KnownFiles) (asked : AskedReply) (fault : Fault) : Type 0 where
+  pub opened : OpenedWhy
+  pub files : AreOpenedWhy known asked.manifest.now asked.request.now opened
+  pub because : IsReplyFault opened.directory opened.body.items asked fault
+
+-- and where they don't: that comes first
+abbrev pub IsWhyRefusal : KnownFiles → AskedReply → Fault → Type 0
+IsWhyRefusal known asked (DryRun fault) =
+    IsOpenFault known asked.manifest.now asked.request.now fault
+    ⊎ IsUntoldFile known asked (DryRun fault)
+IsWhyRefusal known asked fault = IsUntoldFile known asked fault

@@ -1,0 +1,63 @@
+//! `ask --why`: why each app of a request gets what it gets.
+
+ghost use Rattle.std.specs.Prelude.{IfOk, IfErr};
+ghost use Rattle.std.specs.String.{string_bytes};
+ghost use Rattle.commands.specs.DryRuns.{IsReplyFault};
+ghost use Rattle.commands.specs.Whys as specs;
+ghost use Rattle.dry_run.specs.Meanings.{HaveMeanings};
+
+use crate::dry_runs::{moment_of, served_reply};
+use crate::fault::Fault;
+use bounded_files::ResourceFault;
+use command_line::AskedReply;
+use dry_run::{OpenedWhy, open_why, why_as_told};
+use load::Disk;
+use std::net::{Net, TcpStream};
+use std::time::Clock;
+use told_cells::told_lines;
+
+/// Why each app gets what it gets. The files are opened first, then a server is asked for its
+/// counters, where a port is told.
+// open: which counters a server has, and which second the clock tells: tests.
+#[tactic(auto, using(crate::proofs::Untold::untold))]
+pub fn why_of<R, D>(rt: &R, disk: &D, asked: &AskedReply<'_>) -> Result<String, Fault>
+where
+    R: AllocGlobal + Clock + Net<Stream = TcpStream>,
+    D: Disk,
+    ensures told { IfOk result (λ text.
+        specs.HasWhy (D.known disk.now) asked.now (string_bytes text)) }
+    ensures fault { IfErr result (specs.IsWhyRefusal (D.known disk.now) asked.now) }
+{
+    let opened = match open_why(rt.alloc(), disk, asked.manifest, asked.request) {
+        Ok(opened) => opened,
+        Err(fault) => return Err(Fault::DryRun(fault)),
+    };
+    match told_why(rt, &opened, asked) {
+        Ok(text) => Ok(text),
+        Err(fault) => Err(fault),
+    }
+}
+
+// The same, by what the files come to.
+fn told_why<R>(rt: &R, opened: &OpenedWhy, asked: &AskedReply<'_>) -> Result<String, Fault>
+where
+    R: AllocGlobal + Clock + Net<Stream = TcpStream>,
+    requires { HaveMeanings opened.now.rules.apps opened.now.meanings.items }
+    ensures told { IfOk result (λ text.
+        specs.IsWhyBy opened.now asked.now (string_bytes text)) }
+    ensures fault { IfErr result
+        (IsReplyFault opened.now.directory opened.now.body.items asked.now) }
+{
+    let reply = match served_reply(rt, asked.operator) {
+        Ok(reply) => reply,
+        Err(fault) => return Err(fault),
+    };
+    let Ok(served) = told_lines(rt.alloc(), reply.as_str()) else {
+        return Err(Fault::Resource(ResourceFault::Memory));
+    };
+    let moment = moment_of(rt, asked.at);
+    match why_as_told(rt.alloc(), opened, &moment, &served, &asked.cells) {
+        Ok(text) => Ok(text),
+        Err(fault) => Err(Fault::DryRun(fault)),
+    }
+}
