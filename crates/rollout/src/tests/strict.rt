@@ -46,7 +46,7 @@ const ROWS: [(&str, u8, &str, &str); 18] = [
 app y releases 0 slots 2
 digest 9be8960220a5211633784db7f669b578c0c73def13a385e3866ae121fcfe15e9
 manifest s.toml
-app x releases 1 slots 2
+app x releases 1 slots 5
 digest 9eddcd879f5fc8753f36338cf0fdf00b2209d1865c7b0f75df8141d0a417c8bd
 ",
         "manifest s.toml
@@ -59,7 +59,7 @@ warning no-bucket: app[1].release[1]: no bucket gets it
         "check s.toml s_good.toml",
         0,
         "manifest s.toml
-app x releases 1 slots 2
+app x releases 1 slots 5
 digest 9eddcd879f5fc8753f36338cf0fdf00b2209d1865c7b0f75df8141d0a417c8bd
 manifest s_good.toml
 app y releases 0 slots 2
@@ -160,7 +160,7 @@ digest 9be8960220a5211633784db7f669b578c0c73def13a385e3866ae121fcfe15e9
 ";
 
 /// What is told of the manifest above, and what it is warned of.
-const ACCEPTED: &str = "app x releases 1 slots 2
+const ACCEPTED: &str = "app x releases 1 slots 5
 digest 9eddcd879f5fc8753f36338cf0fdf00b2209d1865c7b0f75df8141d0a417c8bd
 ";
 
@@ -172,7 +172,7 @@ warning no-bucket: app[1].release[1]: no bucket gets it
 
 /// The same as JSON, where one of the names is allowed.
 const WARNED_AS_JSON: &str = "{\"manifests\":[{\"accepted\":true,\"apps\":[{\"appid\":\"x\",\
-\"releases\":1,\"slots\":2}],\"arrays\":[],\
+\"releases\":1,\"slots\":5}],\"arrays\":[],\
 \"digest\":\"9eddcd879f5fc8753f36338cf0fdf00b2209d1865c7b0f75df8141d0a417c8bd\",\
 \"manifest\":\"s.toml\",\"warnings\":[{\"counts\":true,\
 \"name\":\"codebase-slash\",\"text\":\"app[1].release[1].codebase: no / ends it, and a client \
@@ -192,7 +192,11 @@ const CHECKED_AS_JSON: &str = "{\"manifests\":[{\"accepted\":true,\"apps\":[{\"a
 fn write_files<R: Files + AllocGlobal>(rt: &R) -> Result<(), Fail> {
     fs::write(rt, "s.rule", b"otherwise none;\n")?;
     fs::write(rt, "s.toml", MANIFEST.as_bytes())?;
-    fs::write(rt, "s_all.rule", b"otherwise offer 1;\n")?;
+    fs::write(
+        rt,
+        "s_all.rule",
+        b"when bucket < 10000 offer 1;\notherwise none;\n",
+    )?;
     let all = MANIFEST.replace(rt.alloc(), "s.rule", "s_all.rule")?;
     fs::write(rt, "s_all.toml", all.as_bytes())?;
     write_program(rt, "s_none.bin", "mov r0, 0 / exit")?;
