@@ -23,8 +23,10 @@ class Build:
     def __init__(self, kit, way, crates):
         self.kit, self.way, self.crates = kit, way, crates
         recorded = seconds_recorded()
+        # A crate that has none counts as an average one, so that it isn't left for the end.
+        average = sum(recorded.values()) // len(recorded)
         names = {it: it.crate.name if isinstance(it, Runs) else it.name for it in crates}
-        self.recorded = {it: recorded.get(names[it], 0) + 1 for it in crates}
+        self.recorded = {it: recorded.get(names[it], average) + 1 for it in crates}
         self.chain = {}
         for crate in reversed(self.crates):
             above = [self.chain[it] for it in self.chain if crate in it.below]
@@ -61,10 +63,9 @@ class Build:
         self.told = time.monotonic()
 
     def under_way(self, crate):
-        """How long a crate has been worked on, and of how long, where that is recorded."""
+        """How long a crate has been worked on, and of about how long."""
         whole = self.recorded[crate] * self.pace()
-        about = f" of about {whole:.0f}" if self.recorded[crate] > 1 else ""
-        return f"{crate.name} at {self.running[crate].seconds():.0f} s{about}"
+        return f"{crate.name} at {self.running[crate].seconds():.0f} s of about {whole:.0f}"
 
     def share_processors(self):
         """Gives each processor that is idle to a crate that nothing below holds up, and to the first
