@@ -1,10 +1,15 @@
 -- A run that is told step by step: whatever run there is from where it stands, behind the steps so
--- far it is a run from the first state, told by the text so far and then by its own lines.
+-- far it is a run from the first state, told by the text so far and then by its own lines; its last
+-- jump is its own, or else the last one so far.
 use Rattle.std.proofs.Common.{◌≡◌, ℕ, ◌+◌, ◌<◌, ◌≤◌, List, [], ◌∷◌, ◌++◌, subst, sym}
-use Rattle.std.proofs.Common.{refl, append_assoc, arith, Some, None}
+use Rattle.std.proofs.Common.{refl, append_assoc, arith, Option, Some, None}
+use Rattle.std.specs.Option.{option_or}
+use Rattle.std.specs.Prelude.{All}
+use Rattle.std.proofs.lemmas.List.Elements.{All-cons, All-nil}
 use Rattle.cells.specs.Events.{IsEvent}
 use Rattle.cells.specs.Grown.{GrewBy}
 use Rattle.cells.specs.declared.event.CellEvent.{CellEvent}
+use Rattle.bpf_checks.specs.Sound.{IsLawful}
 use Rattle.bpf_semantics.specs.Laws.{IsNext}
 use Rattle.bpf_semantics.specs.Outcome.{Going, Done, Trap}
 use Rattle.bpf_semantics.specs.Program.{ShapedProgram}
@@ -13,101 +18,134 @@ use Rattle.bpf_semantics.specs.Run.Ends.{last, more, asked}
 use Rattle.bpf_semantics.specs.State.{State}
 use Rattle.bpf_semantics.specs.Step.{step}
 use Rattle.bpf_verify.specs.Covers.{IsCovered, IsSafeOutcome, StepsAreSafe}
+use Rattle.bpf_verify.specs.Covers.{AreLawful, HasPossibleReply}
 use Rattle.reference.specs.Observed.{IsEventStep}
+use Rattle.trace.specs.Jumps.{jump_between, last_jump_of}
 use Rattle.trace.specs.Lines.{line_between}
 use Rattle.trace.specs.Trace.{trace_of, IsTraced}
+use Rattle.trace.specs.declared.jump.Jump.{Jump}
+
+-- the first of three that is there, from whichever side they are taken
+or_again : (a b c : Option Jump) → option_or (option_or a b) c ≡ option_or a (option_or b c)
+or_again None b c = refl
+or_again (Some jump) b c = refl
+
+or_none : (a : Option Jump) → option_or a None ≡ a
+or_none None = refl
+or_none (Some jump) = refl
 
 module _ (p : ShapedProgram) where
-  abbrev pub GoesOn : State → List ℕ → List ℕ → State → List ℕ → Type 0
-  GoesOn first zeros text s values =
+  abbrev pub GoesOn : State → List ℕ → List ℕ → Option Jump → State → List ℕ → Type 0
+  GoesOn first old text jump s values =
       (events : List CellEvent) (choice count : ℕ) (left : List ℕ)
       → (rest : Ends p s events choice count) → GrewBy IsEvent values events left
-      → IsTraced p first zeros left choice count (text ++ trace_of p s events choice count rest)
+      → All HasPossibleReply events → AreLawful p.shape events
+      → IsTraced p first old left choice count (text ++ trace_of p s events choice count rest)
+      (option_or (last_jump_of p s events choice count rest) jump)
 
   -- the state is covered, and no more instructions were done than lie before it
-  pub record IsTold (first : State) (zeros text : List ℕ) (s : State) (values : List ℕ)
-      : Type 0 where
+  pub record IsTold (first : State) (old text : List ℕ) (jump : Option Jump) (s : State)
+      (values : List ℕ) : Type 0 where
     pub covered : IsCovered p s
     pub counted : s.count ≤ s.slot
-    pub goes_on : GoesOn first zeros text s values
+    pub goes_on : GoesOn first old text jump s values
 
-  pub told_nothing : (first : State) (zeros : List ℕ) → IsCovered p first
-      → first.count ≤ first.slot → IsTold first zeros [] first zeros
-  told_nothing first zeros covered counted = record {
+  pub told_nothing : (first : State) (old : List ℕ) → IsCovered p first
+      → first.count ≤ first.slot → IsTold first old [] None first old
+  told_nothing first old covered counted = record {
     covered = covered;
     counted = counted;
-    goes_on = λ events choice count left rest grown. record {
+    goes_on = λ events choice count left rest grown fits lawful. record {
       events = events;
-      legal = grown;
+      grown = grown;
       ends = rest;
+      fits = fits;
+      lawful = lawful;
       text_is = refl;
+      jump_is = or_none (last_jump_of p first events choice count rest);
     };
   }
 
-  -- the text of a longer run, with its first line moved over
-  moved_over : (first : State) (zeros left : List ℕ) (choice count : ℕ) (text own rest : List ℕ)
-      → IsTraced p first zeros left choice count (text ++ (own ++ rest))
-      → IsTraced p first zeros left choice count (text ++ own ++ rest)
-  moved_over first zeros left choice count text own rest traced =
-      subst (λ (t : List ℕ). IsTraced p first zeros left choice count t)
-      (sym (append_assoc text own rest)) traced
+  -- the text and the last jump of a longer run, with those of its first step moved over
+  moved_over : (first : State) (old left : List ℕ) (choice count : ℕ) (text own rest : List ℕ)
+      (jump taken later : Option Jump)
+      → IsTraced p first old left choice count (text ++ (own ++ rest))
+      (option_or (option_or later taken) jump)
+      → IsTraced p first old left choice count (text ++ own ++ rest)
+      (option_or later (option_or taken jump))
+  moved_over first old left choice count text own rest jump taken later traced =
+      subst (λ (t : List ℕ). IsTraced p first old left choice count t
+      (option_or later (option_or taken jump))) (sym (append_assoc text own rest))
+      (subst (λ (j : Option Jump). IsTraced p first old left choice count (text ++ (own ++ rest)) j)
+      (or_again later taken jump) traced)
 
-  pub went : StepsAreSafe p → (first : State) (zeros text longer : List ℕ) (s t : State)
-      (values after : List ℕ) → IsNext s (step p s) → IsTold first zeros text s values
-      → step p s ≡ Going t → longer ≡ text ++ line_between p s None t → after ≡ values
-      → IsTold first zeros longer t after
-  unfolding trace_of
-  went safe first zeros text longer s t values after law told is grown same =
+  pub went : StepsAreSafe p → (first : State) (old text longer : List ℕ)
+      (jump later : Option Jump) (s t : State) (values after : List ℕ) → IsNext s (step p s)
+      → IsTold first old text jump s values → step p s ≡ Going t
+      → longer ≡ text ++ line_between p s None t
+      → later ≡ option_or (jump_between p s t) jump → after ≡ values
+      → IsTold first old longer later t after
+  unfolding trace_of last_jump_of
+  went safe first old text longer jump later s t values after law told is grown latest same =
       let ahead = subst (IsSafeOutcome p s) is (safe s told.covered) in
       let count = (subst (IsNext s) is law).count in
       let told_count = told.counted in
       let further = ahead.0 in
-      rw (grown, same) (record {
+      rw (grown, latest, same) (record {
         covered = ahead.1;
         counted = omega (arith, count, told_count, further);
-        goes_on = λ events choice number left rest legal.
-            moved_over first zeros left choice number text (line_between p s None t)
-            (trace_of p t events choice number rest)
-            (told.goes_on events choice number left (more is rest) legal);
+        goes_on = λ events choice number left rest legal fits lawful.
+            moved_over first old left choice number text (line_between p s None t)
+            (trace_of p t events choice number rest) jump (jump_between p s t)
+            (last_jump_of p t events choice number rest)
+            (told.goes_on events choice number left (more is rest) legal fits lawful);
       })
 
-  asked_there : StepsAreSafe p → (first : State) (zeros text : List ℕ) (s : State)
-      (values after : List ℕ) (e : CellEvent) (t : State) → IsNext s (step p s)
-      → IsTold first zeros text s values → (was : IsEventStep p s e t) → IsEvent values e after
-      → IsTold first zeros (text ++ line_between p s (Some e) (was.next e.reply))
-      (was.next e.reply) after
-  unfolding trace_of
-  asked_there safe first zeros text s values after e t law told was event =
-      let ahead = (subst (IsSafeOutcome p s) was.asks (safe s told.covered)).1 e.reply was.fits in
+  asked_there : StepsAreSafe p → (first : State) (old text : List ℕ) (jump : Option Jump)
+      (s : State) (values after : List ℕ) (e : CellEvent) (t : State) → IsNext s (step p s)
+      → IsTold first old text jump s values → (was : IsEventStep p s e t)
+      → IsEvent values e after
+      → IsTold first old (text ++ line_between p s (Some e) (was.next e.reply))
+      (option_or (jump_between p s (was.next e.reply)) jump) (was.next e.reply) after
+  unfolding trace_of last_jump_of
+  asked_there safe first old text jump s values after e t law told was event =
+      let asks = subst (IsSafeOutcome p s) was.asks (safe s told.covered) in
+      let ahead = asks.1 e.reply was.fits in
       let count = (subst (IsNext s) was.asks law e.reply).count in
       let told_count = told.counted in
       let further = ahead.0 in
       record {
         covered = ahead.1;
         counted = omega (arith, count, told_count, further);
-        goes_on = λ events choice number left rest legal.
-            moved_over first zeros left choice number text
+        goes_on = λ events choice number left rest legal fits lawful.
+            moved_over first old left choice number text
             (line_between p s (Some e) (was.next e.reply))
-            (trace_of p (was.next e.reply) events choice number rest)
+            (trace_of p (was.next e.reply) events choice number rest) jump
+            (jump_between p s (was.next e.reply))
+            (last_jump_of p (was.next e.reply) events choice number rest)
             (told.goes_on (e ∷ events) choice number left (asked was.asks rest)
-            (after, event, legal));
+            (after, event, legal) (All-cons HasPossibleReply e events was.fits fits)
+            (All-cons (λ d. IsLawful p.shape d.cell d.op) e events asks.0 lawful));
       }
 
-  pub replied : StepsAreSafe p → (first : State) (zeros text longer : List ℕ) (s t : State)
-      (values after : List ℕ) (e : CellEvent) → IsNext s (step p s)
-      → IsTold first zeros text s values → IsEventStep p s e t → IsEvent values e after
-      → longer ≡ text ++ line_between p s (Some e) t → IsTold first zeros longer t after
-  replied safe first zeros text longer s t values after e law told was event grown =
-      rw (grown, was.state)
-      (asked_there safe first zeros text s values after e t law told was event)
+  pub replied : StepsAreSafe p → (first : State) (old text longer : List ℕ)
+      (jump later : Option Jump) (s t : State) (values after : List ℕ) (e : CellEvent)
+      → IsNext s (step p s) → IsTold first old text jump s values → IsEventStep p s e t
+      → IsEvent values e after → longer ≡ text ++ line_between p s (Some e) t
+      → later ≡ option_or (jump_between p s t) jump → IsTold first old longer later t after
+  replied safe first old text longer jump later s t values after e law told was event grown
+      latest =
+      rw (grown, latest, was.state)
+      (asked_there safe first old text jump s values after e t law told was event)
 
-  pub ended : (first : State) (zeros text longer : List ℕ) (s t : State) (values : List ℕ)
-      (choice : ℕ) → IsTold first zeros text s values → step p s ≡ Done choice → t ≡ s
-      → longer ≡ text ++ line_between p s None t
-      → IsTraced p first zeros values choice (t.count + 1) longer
-  unfolding trace_of
-  ended first zeros text longer s t values choice told is same grown =
-      rw (grown, same) (told.goes_on [] choice (s.count + 1) values (last is refl) refl)
+  pub ended : (first : State) (old text longer : List ℕ) (jump : Option Jump) (s t : State)
+      (values : List ℕ) (choice : ℕ) → IsTold first old text jump s values
+      → step p s ≡ Done choice → t ≡ s → longer ≡ text ++ line_between p s None t
+      → IsTraced p first old values choice (t.count + 1) longer jump
+  unfolding trace_of last_jump_of
+  ended first old text longer jump s t values choice told is same grown =
+      rw (grown, same) (told.goes_on [] choice (s.count + 1) values (last is refl) refl
+      (All-nil HasPossibleReply) (All-nil (λ d. IsLawful p.shape d.cell d.op)))
 
   -- a step is none that the machine doesn't define, and it chooses a release
   pub no_trap : StepsAreSafe p → (s : State) → IsCovered p s → step p s ≡ Trap → ⊥

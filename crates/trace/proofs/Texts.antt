@@ -1,7 +1,8 @@
--- The slots of a program, and the line of a step.
+-- The slots of a program, and the line and the jump of a step.
 use Rattle.std.proofs.Common.{◌≡◌, ℕ, zero, suc, ◌+◌, ◌<◌, List, [], ◌∷◌, ◌++◌, length}
 use Rattle.std.proofs.Common.{ap, ◌∙◌, refl, arith, append_assoc}
 use Rattle.std.proofs.Common.{Option, Some, IsSome}
+use Rattle.std.specs.Option.{option_or}
 use Rattle.std.proofs.lemmas.Bool.{false≢true}
 use Rattle.bpf_insn.specs.declared.insn.Insn.{Insn}
 use Rattle.bpf_insn.specs.Program.{Program, at}
@@ -9,7 +10,9 @@ use Rattle.bpf_semantics.specs.Program.{ShapedProgram, shaped}
 use Rattle.cells.specs.Arrays.{AppShape}
 use Rattle.bpf_semantics.specs.State.{State}
 use Rattle.cells.specs.declared.event.CellEvent.{CellEvent}
+use Rattle.trace.specs.Jumps.{jump_by, jump_between}
 use Rattle.trace.specs.Lines.{step_line, line_between}
+use Rattle.trace.specs.declared.jump.Jump.{Jump}
 
 -- what is written part by part is written as a whole
 pub gathered : (o w a b c d e : List ℕ)
@@ -32,6 +35,15 @@ line_is p s shape slot i asked t old new of_shape of_slot found grown =
     let line : step_line shape slot i asked t ≡ line_between p s asked t =
     rw (of_shape, of_slot, there) refl in
     grown ∙ ap (λ (l : List ℕ). old ++ l) line
+
+-- the last jump after an instruction of this slot is that after the step
+pub jump_is : (p : ShapedProgram) (s t : State) (slot : ℕ) (i : Insn) (jump later : Option Jump)
+    → slot ≡ s.slot → at p.code slot ≡ Some i → later ≡ option_or (jump_by i slot t.slot) jump
+    → later ≡ option_or (jump_between p s t) jump
+jump_is p s t slot i jump later of_slot found latest =
+    let there : at p.code s.slot ≡ Some i = rw of_slot at found in
+    let same : jump_by i slot t.slot ≡ jump_between p s t = rw (of_slot, there) refl in
+    latest ∙ ap (λ (j : Option Jump). option_or j jump) same
 
 -- the program as it is taken apart
 pub whole : (p : ShapedProgram) (slots code : Program) (shape : AppShape)

@@ -1,14 +1,17 @@
--- The trace of a run: a line a step, in their order.
-use Rattle.std.specs.Prelude.{◌≡◌, ℕ, List, ◌++◌, Some, None}
+-- The trace of a run: a line a step, in their order; with the last jump that the run takes.
+use Rattle.std.specs.Prelude.{◌≡◌, ℕ, List, ◌++◌, All, Option, Some, None}
 use Rattle.attrs.specs.Attributes.{Attributes}
 use Rattle.bpf_semantics.specs.Program.{ShapedProgram}
 use Rattle.bpf_semantics.specs.Run.{Ends}
 use Rattle.bpf_semantics.specs.Run.Ends.{last, more, asked}
 use Rattle.bpf_semantics.specs.State.{State, opening}
+use Rattle.bpf_verify.specs.Covers.{AreLawful, HasPossibleReply}
 use Rattle.cells.specs.Events.{AreZeros, IsEvent}
 use Rattle.cells.specs.Grown.{GrewBy}
 use Rattle.cells.specs.declared.event.CellEvent.{CellEvent}
+use Rattle.trace.specs.Jumps.{last_jump_of}
 use Rattle.trace.specs.Lines.{line_between}
+use Rattle.trace.specs.declared.jump.Jump.{Jump}
 
 -- the lines of a run that ends: of each step from the state before it to the one after it, and of
 -- EXIT, which leaves the state as it was
@@ -20,18 +23,26 @@ trace_of p s events choice count (more {t = t} step rest) =
 trace_of p s events choice count (asked {next = next} {e = e} {es = es} step rest) =
     line_between p s (Some e) (next e.reply) ++ trace_of p (next e.reply) es choice count rest
 
--- a run from a state, by which the counters' values change from these to those, with its trace
+-- a run from a state, by which the counters' values change from these to those, with its trace and
+-- the last jump that it takes; its events are such as the program's arrays allow
 pub record IsTraced (p : ShapedProgram) (s : State) (old new : List ℕ) (choice count : ℕ)
-    (text : List ℕ) : Type 0 where
+    (text : List ℕ) (jump : Option Jump) : Type 0 where
   pub events : List CellEvent
-  pub legal : GrewBy IsEvent old events new
+  pub grown : GrewBy IsEvent old events new
   pub ends : Ends p s events choice count
+  pub fits : All HasPossibleReply events
+  pub lawful : AreLawful p.shape events
   pub text_is : text ≡ trace_of p s events choice count ends
+  pub jump_is : jump ≡ last_jump_of p s events choice count ends
 
 -- the run of a program for an app, on counters that are 0 before it
-pub record IsTrace (p : ShapedProgram) (a : Attributes) (choice count : ℕ) (text : List ℕ)
-    : Type 0 where
+pub record IsTracedRun (p : ShapedProgram) (a : Attributes) (choice count : ℕ) (text : List ℕ)
+    (jump : Option Jump) : Type 0 where
   pub zeros : List ℕ
   pub opens : AreZeros 8192 zeros
   pub left : List ℕ
-  pub run : IsTraced p (opening a) zeros left choice count text
+  pub run : IsTraced p (opening a) zeros left choice count text jump
+
+-- its trace
+abbrev pub IsTrace : ShapedProgram → Attributes → (choice count : ℕ) → (text : List ℕ) → Type 0
+IsTrace p a choice count text = (jump : Option Jump) × IsTracedRun p a choice count text jump

@@ -1,4 +1,5 @@
-//! The trace of a run: each step with its slot, its instruction and what it wrote.
+//! The trace of a run: each step with its slot, its instruction and what it wrote; and the last
+//! jump that it took.
 //!
 //! See docs/PROGRAM.md, "run --trace".
 #![tactic(auto)]
@@ -10,7 +11,9 @@
 
 mod changes;
 mod counter;
+mod jump;
 mod line;
 mod traced;
 
-pub use traced::{TracedRun, trace};
+pub use jump::Jump;
+pub use traced::{TracedRun, trace, trace_on};

@@ -1,33 +1,60 @@
 //! A whole run, step by step.
 
-ghost use Rattle.std.specs.Prelude.{◌≡◌, ◌≤◌, IfOk, string_bytes};
+ghost use Rattle.std.specs.Prelude.{◌≡◌, ◌≤◌, IfOk, length, string_bytes};
 ghost use Rattle.std.specs.Arc.{arc_value};
-ghost use Rattle.trace.specs.Trace.{IsTrace};
+ghost use Rattle.bpf_semantics.specs.State.{opening};
+ghost use Rattle.trace.specs.Trace.{IsTrace, IsTraced, IsTracedRun};
 
+use crate::jump::{Jump, latest_jump};
 use crate::line::push_step;
 use attrs::Attrs;
 use bpf_insn::Insn;
 use bpf_semantics::counts_instructions;
 use bpf_verify::Verified;
-use cells::PlainCells;
+use cells::{PlainCells, PlainPass};
 use flow_check::laid_out;
 use reference::{Interpreter, Observed};
 use std::alloc::{AllocError, Global};
 use std::sync::Arc;
 
-/// What a run came to: a line a step, its choice, and how many instructions it did; EXIT counts.
+/// What a run came to: a line a step, its choice, how many instructions it did, where EXIT counts,
+/// and the last jump that it took, if it took one.
 #[derive(Drop)]
 pub struct TracedRun {
     pub text: String,
     pub choice: u8,
     pub count: u32,
+    pub last_jump: Option<Jump>,
 }
 
 /// The trace of a program's run for an app, on counters of its own that open at 0.
 // open: whether memory is refused.
 pub fn trace(alloc: Global, program: &Verified, attrs: Arc<Attrs>) -> Result<TracedRun, AllocError>
+    ensures run { IfOk result (λ t. IsTracedRun program.now (arc_value attrs)
+        t.choice t.count (string_bytes t.text) t.last_jump) }
     ensures trace { IfOk result (λ t. IsTrace program.now (arc_value attrs)
         t.choice t.count (string_bytes t.text)) }
+    ensures release { IfOk result (λ t. t.choice ≤ program.now.shape.releases) }
+{
+    let Ok((_cells, mut counters)) = PlainCells::new(alloc) else {
+        return Err(AllocError);
+    };
+    let run = trace_on(alloc, program, attrs, &mut counters)?;
+    Ok(run)
+}
+
+/// The trace of a program's run for an app, on counters of these values, which it leaves as its
+/// operations make them.
+// open: whether memory is refused, and what the counters are then.
+pub fn trace_on(
+    alloc: Global,
+    program: &Verified,
+    attrs: Arc<Attrs>,
+    counters: &mut PlainPass,
+) -> Result<TracedRun, AllocError>
+    ensures run { IfOk result (λ t. IsTraced program.now (opening (arc_value attrs))
+        counters.old counters.new t.choice t.count (string_bytes t.text) t.last_jump) }
+    ensures short { IfOk result (λ t. t.count ≤ length program.now.code) }
     ensures release { IfOk result (λ t. t.choice ≤ program.now.shape.releases) }
 {
     program.keeps();
@@ -35,19 +62,21 @@ pub fn trace(alloc: Global, program: &Verified, attrs: Arc<Attrs>) -> Result<Tra
     facts.keeps();
     counts_instructions();
     let code = slots_of(alloc, program)?;
-    let Ok((cells, mut pass)) = PlainCells::new(alloc) else {
-        return Err(AllocError);
-    };
     let shape = program.shape();
     let mut text = String::new(alloc);
+    let mut last_jump = None;
     let mut run = Interpreter::start(attrs);
-    loop {
+    'steps: loop {
         let slot = run.slot();
         let insn = *program.insn(slot);
-        match run.step(&code, shape, &cells, &mut pass) {
-            Observed::Going => push_step(&mut text, shape, slot, insn, None, &run)?,
+        match run.step(&code, shape, &PlainCells, counters) {
+            Observed::Going => {
+                push_step(&mut text, shape, slot, insn, None, &run)?;
+                last_jump = latest_jump(last_jump, insn, slot, &run);
+            }
             Observed::Event(event) => {
                 push_step(&mut text, shape, slot, insn, Some(event), &run)?;
+                last_jump = latest_jump(last_jump, insn, slot, &run);
             }
             Observed::Done(choice) => {
                 push_step(&mut text, shape, slot, insn, None, &run)?;
@@ -55,6 +84,7 @@ pub fn trace(alloc: Global, program: &Verified, attrs: Arc<Attrs>) -> Result<Tra
                     text,
                     choice: choice as u8,
                     count: run.count() as u32 + 1,
+                    last_jump,
                 });
             }
             Observed::Trap => unreachable!(),
