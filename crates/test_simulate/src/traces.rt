@@ -1,9 +1,10 @@
 //! Traces of programs.
 
 use crate::given::{attributes, program_of, shape_of};
-use std::alloc::Global;
+use cells::{CellNo, CellOp, CellSteps, PlainCells, PlainPass};
+use std::alloc::{AllocError, Global};
 use std::test::Fail;
-use trace::{TracedRun, trace};
+use trace::{Jump, TracedRun, trace, trace_on};
 
 /// A program, with one release and q[0] of a quota of 2, and the trace of its run.
 const ROWS: &[(&str, &str)] = &[
@@ -58,6 +59,86 @@ choice 0 after 4
     ),
 ];
 
+/// The program of the first two rows jumps by what q[0] has.
+const BY_COUNTER: &str = "ldcell r6, 0, 0
+mov r2, 1
+fadddw [r6+0], r2
+jge r2, 2, +2
+mov r0, 1
+ja +1
+mov r0, 0
+exit
+";
+
+/// A program as above, what q[0] has before its run, and the trace; then what it comes to, the last
+/// jump that was taken, and what q[0] has after it.
+const ROWS_ON: &[(&str, u64, &str)] = &[
+    (
+        BY_COUNTER,
+        2,
+        "0: ldcell r6, 0, 0 ; r6 805306368
+2: mov r2, 1 ; r2 1
+3: fadddw [r6+0], r2 ; q[0] add 1 replied 2 ; r2 2
+4: jge r2, 2, +2
+7: mov r0, 0 ; r0 0
+8: exit
+choice 0 after 6; jump from 4 to 7; q[0] 3
+",
+    ),
+    (
+        BY_COUNTER,
+        1,
+        "0: ldcell r6, 0, 0 ; r6 805306368
+2: mov r2, 1 ; r2 1
+3: fadddw [r6+0], r2 ; q[0] add 1 replied 1 ; r2 1
+4: jge r2, 2, +2
+5: mov r0, 1 ; r0 1
+6: ja +1
+8: exit
+choice 1 after 7; jump from 6 to 8; q[0] 2
+",
+    ),
+    (
+        "mov r0, 1
+jeq r0, 1, +1
+mov r0, 0
+jeq r0, 0, +1
+ja +0
+exit
+",
+        7,
+        "0: mov r0, 1 ; r0 1
+1: jeq r0, 1, +1
+3: jeq r0, 0, +1
+4: ja +0
+5: exit
+choice 1 after 5; jump from 1 to 3; q[0] 7
+",
+    ),
+    (
+        "mov r0, 0
+jeq r0, 0, +0
+exit
+",
+        7,
+        "0: mov r0, 0 ; r0 0
+1: jeq r0, 0, +0
+2: exit
+choice 0 after 3; no jump; q[0] 7
+",
+    ),
+    (
+        "mov r0, 1
+exit
+",
+        7,
+        "0: mov r0, 1 ; r0 1
+1: exit
+choice 1 after 2; no jump; q[0] 7
+",
+    ),
+];
+
 fn traced(alloc: Global, text: &str) -> Result<TracedRun, Fail> {
     let program = program_of(alloc, text, &shape_of(alloc, 1, 2)?)?;
     Ok(trace(alloc, &program, attributes(alloc)?)?)
@@ -71,10 +152,44 @@ fn told(alloc: Global, text: &str) -> Result<String, Fail> {
     Ok(format!(in alloc; "{lines}choice {choice} after {count}\n")?)
 }
 
+fn counters_with(alloc: Global, value: u64) -> Result<PlainPass, Fail> {
+    let (cells, mut counters) = PlainCells::new(alloc)?;
+    let _reply = cells.act(&mut counters, CellNo::new(0), CellOp::Store(value));
+    Ok(counters)
+}
+
+fn jump_text(alloc: Global, jump: Option<Jump>) -> Result<String, AllocError> {
+    match jump {
+        Some(jump) => format!(in alloc; "jump from {} to {}", jump.from, jump.to),
+        None => String::from_str(alloc, "no jump"),
+    }
+}
+
+fn told_on(alloc: Global, text: &str, value: u64) -> Result<String, Fail> {
+    let program = program_of(alloc, text, &shape_of(alloc, 1, 2)?)?;
+    let mut counters = counters_with(alloc, value)?;
+    let run = trace_on(alloc, &program, attributes(alloc)?, &mut counters)?;
+    let left = counters.value(CellNo::new(0));
+    let lines = run.text.as_str();
+    let choice = run.choice;
+    let count = run.count;
+    let jump = jump_text(alloc, run.last_jump)?;
+    Ok(format!(in alloc; "{lines}choice {choice} after {count}; {jump}; q[0] {left}\n")?)
+}
+
 #[test]
 fn each_step_has_its_line(rt: HostRuntime) -> Result<(), Fail> {
     for (program, expected) in ROWS {
         let found = told(rt.alloc(), program)?;
+        assert_eq!(rt; found.as_str(), *expected);
+    }
+    Ok(())
+}
+
+#[test]
+fn the_last_jump_is_told_on_counters(rt: HostRuntime) -> Result<(), Fail> {
+    for (program, value, expected) in ROWS_ON {
+        let found = told_on(rt.alloc(), program, *value)?;
         assert_eq!(rt; found.as_str(), *expected);
     }
     Ok(())
