@@ -12,7 +12,7 @@ use Rattle.reasons.specs.Ending.{holds_on}
 use Rattle.reasons.specs.Reading.{Reading, read_behind, read_one, read_steps, read_tree}
 use Rattle.reasons.specs.Stack.{Part, Stacked, after_steps, followed, given_back, negated}
 use Rattle.reasons.specs.Stack.{stacked, stepped, tested}
-use Rattle.reasons.specs.Texts.{answer_text}
+use Rattle.reasons.specs.Texts.{answer_text, negated_text}
 use Rattle.reasons.specs.Truth.{cell_asked, left_at, value_at}
 use Rattle.reasons.proofs.Back.{back_by_parts, test_is_back}
 use Rattle.reasons.proofs.Conditions.{if_not}
@@ -92,8 +92,12 @@ module _ (a : Attributes) (s : AppShape) (first : List ℕ) where
 
   negated_is : (old new : List ℕ) (c : Tree) (p : Part) → IsPartOf (read_tree a s old c) old p new
       → IsPartOf (read_tree a s old (Negated c)) old (negated p) new
-  negated_is old new c p r =
-      record { text = r.text; holds = ap not r.holds; left = r.left; back = r.back }
+  negated_is old new c p r = record {
+    text = ap negated_text r.text;
+    holds = ap not r.holds;
+    left = r.left;
+    back = r.back;
+  }
 
   one_step : (x : Step) {ts : List Tree} {ps : List Part} {counters : List ℕ}
       → AreRead ts ps counters → Agree (with_step x ts) (stepped a s x ps counters)

@@ -8,7 +8,7 @@ use Rattle.rule_lang.specs.Trees.{Tree, Asked, Negated, Both, Either, trees_from
 use Rattle.rule_lang.specs.declared.condition.Step.{Step}
 use Rattle.rule_lang.specs.declared.test.Test.{Test}
 use Rattle.reasons.specs.Ending.{alone, holds_on, left_by, value_found}
-use Rattle.reasons.specs.Texts.{answer_text}
+use Rattle.reasons.specs.Texts.{answer_text, negated_text}
 
 -- the text of what is told, whether the condition holds, and the values of the counters then
 pub record Reading : Type 0 where
@@ -20,6 +20,10 @@ pub record Reading : Type 0 where
 abbrev pub read_behind : Reading → Reading → Reading
 read_behind first second =
     record second { text = first.text ++ codes "; " ++ second.text }
+
+-- of `not`
+abbrev pub read_negated : Reading → Reading
+read_negated r = record r { text = negated_text r.text; holds = not r.holds }
 
 module _ (a : Attributes) (s : AppShape) where
   -- a test
@@ -33,8 +37,7 @@ module _ (a : Attributes) (s : AppShape) where
   -- the second part of `and` is asked where the first holds, and that of `or` where it doesn't
   abbrev pub read_tree : (counters : List ℕ) → Tree → Reading
   read_tree counters (Asked line t) = read_test counters t
-  read_tree counters (Negated c) =
-      let r = read_tree counters c in record r { holds = not r.holds }
+  read_tree counters (Negated c) = read_negated (read_tree counters c)
   read_tree counters (Both b c) =
       let r = read_tree counters b in
       if r.holds then read_behind r (read_tree r.counters c) else r

@@ -9,7 +9,7 @@ use Rattle.cells.specs.Arrays.{AppShape}
 use Rattle.rule_lang.specs.declared.condition.Step.{Step}
 use Rattle.rule_lang.specs.declared.condition.Step.TheVariants as step
 use Rattle.rule_lang.specs.declared.test.Test.{Test}
-use Rattle.reasons.specs.Texts.{answer_text}
+use Rattle.reasons.specs.Texts.{answer_text, negated_text}
 use Rattle.reasons.specs.Truth.{CellTake, cell_asked, left_at, taken_at, truth_of, value_at}
 
 -- what was read of a part: its text, whether it holds, and its takes in their order
@@ -34,7 +34,7 @@ stacked parts counters = record { parts = parts; counters = counters }
 
 -- of `not`
 abbrev pub negated : Part → Part
-negated p = record p { holds = not p.holds }
+negated p = record p { text = negated_text p.text; holds = not p.holds }
 
 -- the one and then the other
 abbrev pub followed : Part → Part → Part

@@ -127,3 +127,9 @@ truth_text a s value false t = codes ": no" ++ found_text a s value t
 -- a test with its truth, and what was found
 abbrev pub answer_text : Attributes → AppShape → (value : ℕ) → (holds : Bool) → Test → List ℕ
 answer_text a s value holds t = test_text t ++ truth_text a s value holds t
+
+-- ---- a condition
+
+-- what was told of a part that stands under `not`: each truth in it is its test's own
+abbrev pub negated_text : (told : List ℕ) → List ℕ
+negated_text told = codes "not (" ++ told ++ codes ")"

@@ -1,135 +1,14 @@
 //! A condition, read step by step.
 
-ghost use Rattle.std.specs.Prelude.{◌≡◌, ◌++◌, ◌∷◌, [], Some, IfOk, OnOk, reverse, string_bytes};
+ghost use Rattle.std.specs.Prelude.{◌≡◌, ◌∷◌, [], Some, IfOk, OnOk, reverse};
 ghost use Rattle.reasons.specs.Reading.{read_steps};
 ghost use Rattle.reasons.specs.Stack as specs;
-ghost use Rattle.reasons.specs.Truth as truth;
 
-use crate::counters::{CellTake, cell_of, take_one};
-use crate::found::push_answer;
-use crate::holding::holds;
+use crate::part::{Part, followed, negated, read_test, without};
 use attrs::Attrs;
 use cells::{PlainPass, Shape};
-use rule_lang::{Step, Test, array_named};
+use rule_lang::Step;
 use std::alloc::{AllocError, Global};
-use std::marker::Model;
-
-/// What was read of a part of a condition: its text, whether it holds, and its takes in their
-/// order.
-#[derive(Drop)]
-pub(crate) struct Part {
-    pub text: String,
-    pub holds: bool,
-    taken: Vec<CellTake>,
-}
-
-impl Model for Part {
-    ghost use Rattle.std.specs.Prelude.{string_bytes};
-    ghost use Rattle.reasons.specs.Stack as specs;
-
-    ghost Value = { specs.Part };
-
-    ghost view = { λ p. record {
-      text = string_bytes p.text;
-      holds = p.holds;
-      taken = p.taken.items;
-    } };
-}
-
-// The cell that a test takes from.
-fn cell_asked(shape: &Shape, test: &Test) -> Option<u32>
-    ensures { result ≡ truth.cell_asked shape.now test.now }
-{
-    match test {
-        Test::Take { array, index } => {
-            Some(cell_of(array_named(shape.arrays(), array.as_str()), *index))
-        }
-        _ => None,
-    }
-}
-
-// Takes from a cell, if there is one, and keeps the take.
-fn ask_cell(
-    counters: &mut PlainPass,
-    cell: Option<u32>,
-    taken: &mut Vec<CellTake>,
-) -> Result<u64, AllocError>
-    ensures value { IfOk result (λ value. value ≡ truth.value_at counters.old cell) }
-    ensures left { OnOk result (counters.new ≡ truth.left_at counters.old cell) }
-    ensures taken { OnOk result
-        (taken.new.items ≡ taken.old.items ++ truth.taken_at counters.old cell) }
-{
-    let Some(cell) = cell else {
-        return Ok(0);
-    };
-    let one = take_one(counters, cell);
-    taken.push(one)?;
-    Ok(one.value())
-}
-
-// Reads a test.
-fn read_test(
-    alloc: Global,
-    attrs: &Attrs,
-    shape: &Shape,
-    counters: &mut PlainPass,
-    test: &Test,
-) -> Result<Part, AllocError>
-    ensures part { IfOk result (λ p.
-        p ≡ specs.tested attrs.now shape.now counters.old test.now) }
-    ensures left { OnOk result
-        (counters.new ≡ truth.left_at counters.old (truth.cell_asked shape.now test.now)) }
-{
-    let mut taken = Vec::new(alloc);
-    let value = ask_cell(counters, cell_asked(shape, test), &mut taken)?;
-    let holds = holds(attrs, shape, value, test);
-    let mut text = String::new(alloc);
-    push_answer(&mut text, attrs, shape, value, holds, test)?;
-    Ok(Part { text, holds, taken })
-}
-
-// The first part and then the second.
-fn followed(first: Part, second: Part) -> Result<Part, AllocError>
-    ensures { IfOk result (λ p. p ≡ specs.followed first second) }
-{
-    let Part {
-        mut text,
-        holds: _first_holds,
-        mut taken,
-    } = first;
-    text.push_str("; ")?;
-    text.push_str(second.text.as_str())?;
-    taken.extend_from_slice(second.taken.as_slice())?;
-    Ok(Part {
-        text,
-        holds: second.holds,
-        taken,
-    })
-}
-
-// The counters as they were before these takes: the last is given back first.
-fn give_back(taken: Vec<CellTake>, counters: &mut PlainPass)
-    ensures { counters.new ≡ specs.given_back taken.items counters.old }
-{
-    let mut left = taken;
-    while let Some(one) = left.pop() {
-        one.give_back(counters);
-    }
-}
-
-// Drops the second part, which isn't asked.
-fn without(first: Part, second: Part, counters: &mut PlainPass) -> Part
-    ensures part { result ≡ first }
-    ensures back { counters.new ≡ specs.given_back second.taken counters.old }
-{
-    let Part {
-        text: _text,
-        holds: _holds,
-        taken,
-    } = second;
-    give_back(taken, counters);
-    first
-}
 
 fn asks_second(goes_on: bool, first: &Part) -> bool
     ensures { result ≡ specs.asks_second goes_on first.now }
@@ -138,26 +17,16 @@ fn asks_second(goes_on: bool, first: &Part) -> bool
 }
 
 // The newest is negated, if there is one.
-fn negate(parts: &mut Vec<Part>) -> Result<(), AllocError>
+fn negate(alloc: Global, parts: &mut Vec<Part>) -> Result<(), AllocError>
     ensures { (counters : _) → OnOk result (specs.not_newest (reverse parts.old.items) counters
         ≡ Some (specs.stacked (reverse parts.new.items) counters)) }
 {
     let Some(newest) = parts.pop() else {
         return Err(AllocError);
     };
-    parts.push(negated(newest))?;
+    let turned = negated(alloc, newest)?;
+    parts.push(turned)?;
     Ok(())
-}
-
-fn negated(part: Part) -> Part
-    ensures { result ≡ specs.negated part }
-{
-    let Part { text, holds, taken } = part;
-    Part {
-        text,
-        holds: !holds,
-        taken,
-    }
 }
 
 // The two newest are joined, if there are two: by `and` if the second part is asked where the first
@@ -211,7 +80,7 @@ fn take_step(
             parts.push(part)?;
             Ok(())
         }
-        Step::Not => negate(parts),
+        Step::Not => negate(alloc, parts),
         Step::And => join(parts, true, counters),
         Step::Or => join(parts, false, counters),
     }

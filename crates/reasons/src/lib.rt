@@ -20,6 +20,7 @@ mod found;
 mod holding;
 mod law;
 mod line;
+mod part;
 mod quoted;
 mod telling;
 mod test_text;

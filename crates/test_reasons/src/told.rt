@@ -7,7 +7,7 @@ use std::test::Fail;
 
 /// A rule without its last line; and what is told of it the first time, and the second time where
 /// that is something else.
-const ROWS: [(&str, &str, &str); 20] = [
+const ROWS: [(&str, &str, &str); 26] = [
     ("", "  otherwise none\n0\n", ""),
     (
         "when version < 1.4.0.1 offer 2;",
@@ -73,9 +73,40 @@ const ROWS: [(&str, &str, &str); 20] = [
         "",
     ),
     (
-        "when not (flag updatecheck and flag ping) offer 1;",
-        "  line 1: flag updatecheck yes; flag ping: no\n1\n",
+        "when not bucket mod 5 == 2 offer 1;",
+        "  line 1: not (bucket mod 5 == 2 yes)\n  otherwise none\n0\n",
         "",
+    ),
+    (
+        "when not bucket mod 5 == 3 and not flag ping offer 1;",
+        "  line 1: not (bucket mod 5 == 3: no, 2); not (flag ping: no)\n1\n",
+        "",
+    ),
+    (
+        "when not (flag updatecheck and flag ping) offer 1;",
+        "  line 1: not (flag updatecheck yes; flag ping: no)\n1\n",
+        "",
+    ),
+    (
+        "when not (flag ping or today == 7274) or flag event offer 1;",
+        "  line 1: not (flag ping: no; today == 7274 yes); flag event: no\n\
+\x20 otherwise none\n0\n",
+        "",
+    ),
+    (
+        "when not not attr lang is \"de\" offer 1;",
+        "  line 1: not (not (attr lang is \"de\" yes))\n1\n",
+        "",
+    ),
+    (
+        "when not take(early, 0) offer 1;",
+        "  line 1: not (take(early, 0): yes, 1 of 2)\n  otherwise none\n0\n",
+        "  line 1: not (take(early, 0): no, 2 of 2)\n1\n",
+    ),
+    (
+        "when flag ping and not take(early, 0) or take(early, 0) offer 1;",
+        "  line 1: flag ping: no; take(early, 0): yes, 1 of 2\n1\n",
+        "  line 1: flag ping: no; take(early, 0): no, 2 of 2\n  otherwise none\n0\n",
     ),
     (
         "when take(early, 0) offer 1;",
@@ -106,7 +137,7 @@ const ROWS: [(&str, &str, &str); 20] = [
     ),
     (
         "count seen[0];\nwhen not\nflag updatecheck offer 1;",
-        "  line 3: flag updatecheck yes\n  otherwise none\n0\n",
+        "  line 3: not (flag updatecheck yes)\n  otherwise none\n0\n",
         "",
     ),
 ];

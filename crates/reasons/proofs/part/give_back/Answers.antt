@@ -1,7 +1,7 @@
 use Rattle.std.proofs.Common.{◌∙◌, ap}
 use Rattle.reasons.specs.Stack.{given_back}
 use Rattle.reasons.proofs.Back.{last_goes_first}
-use Rattle.reasons.proofs.condition.give_back.Goals as goal
+use Rattle.reasons.proofs.part.give_back.Goals as goal
 
 pub loop-one-preserved : goal.loop-one-preserved
 loop-one-preserved c =

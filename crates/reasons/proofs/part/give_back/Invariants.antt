@@ -1,6 +1,6 @@
 use Rattle.std.proofs.Common.{◌≡◌, length}
 use Rattle.reasons.specs.Stack.{given_back}
-use Rattle.reasons.proofs.condition.give_back.Given as goal
+use Rattle.reasons.proofs.part.give_back.Given as goal
 
 -- giving back those that are left does what giving back all does
 abbrev pub invariant-loop-one : goal.invariant-loop-one

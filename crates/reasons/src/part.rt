@@ -1,0 +1,158 @@
+//! A part of a condition: what was read of it, and its takes, which can be given back.
+
+ghost use Rattle.std.specs.Prelude.{◌≡◌, ◌++◌, IfOk, OnOk, string_bytes};
+ghost use Rattle.reasons.specs.Stack as specs;
+ghost use Rattle.reasons.specs.Texts as texts;
+ghost use Rattle.reasons.specs.Truth as truth;
+
+use crate::counters::{CellTake, cell_of, take_one};
+use crate::found::push_answer;
+use crate::holding::holds;
+use attrs::Attrs;
+use cells::{PlainPass, Shape};
+use rule_lang::{Test, array_named};
+use std::alloc::{AllocError, Global};
+use std::fmt::Write;
+use std::marker::Model;
+
+/// What was read of a part of a condition: its text, whether it holds, and its takes in their
+/// order.
+#[derive(Drop)]
+pub(crate) struct Part {
+    pub text: String,
+    pub holds: bool,
+    taken: Vec<CellTake>,
+}
+
+impl Model for Part {
+    ghost use Rattle.std.specs.Prelude.{string_bytes};
+    ghost use Rattle.reasons.specs.Stack as specs;
+
+    ghost Value = { specs.Part };
+
+    ghost view = { λ p. record {
+      text = string_bytes p.text;
+      holds = p.holds;
+      taken = p.taken.items;
+    } };
+}
+
+// The cell that a test takes from.
+fn cell_asked(shape: &Shape, test: &Test) -> Option<u32>
+    ensures { result ≡ truth.cell_asked shape.now test.now }
+{
+    match test {
+        Test::Take { array, index } => {
+            Some(cell_of(array_named(shape.arrays(), array.as_str()), *index))
+        }
+        _ => None,
+    }
+}
+
+// Takes from a cell, if there is one, and keeps the take.
+fn ask_cell(
+    counters: &mut PlainPass,
+    cell: Option<u32>,
+    taken: &mut Vec<CellTake>,
+) -> Result<u64, AllocError>
+    ensures value { IfOk result (λ value. value ≡ truth.value_at counters.old cell) }
+    ensures left { OnOk result (counters.new ≡ truth.left_at counters.old cell) }
+    ensures taken { OnOk result
+        (taken.new.items ≡ taken.old.items ++ truth.taken_at counters.old cell) }
+{
+    let Some(cell) = cell else {
+        return Ok(0);
+    };
+    let one = take_one(counters, cell);
+    taken.push(one)?;
+    Ok(one.value())
+}
+
+/// Reads a test.
+pub(crate) fn read_test(
+    alloc: Global,
+    attrs: &Attrs,
+    shape: &Shape,
+    counters: &mut PlainPass,
+    test: &Test,
+) -> Result<Part, AllocError>
+    ensures part { IfOk result (λ p.
+        p ≡ specs.tested attrs.now shape.now counters.old test.now) }
+    ensures left { OnOk result
+        (counters.new ≡ truth.left_at counters.old (truth.cell_asked shape.now test.now)) }
+{
+    let mut taken = Vec::new(alloc);
+    let value = ask_cell(counters, cell_asked(shape, test), &mut taken)?;
+    let holds = holds(attrs, shape, value, test);
+    let mut text = String::new(alloc);
+    push_answer(&mut text, attrs, shape, value, holds, test)?;
+    Ok(Part { text, holds, taken })
+}
+
+/// The first part and then the second.
+pub(crate) fn followed(first: Part, second: Part) -> Result<Part, AllocError>
+    ensures { IfOk result (λ p. p ≡ specs.followed first second) }
+{
+    let Part {
+        mut text,
+        holds: _first_holds,
+        mut taken,
+    } = first;
+    text.push_str("; ")?;
+    text.push_str(second.text.as_str())?;
+    taken.extend_from_slice(second.taken.as_slice())?;
+    Ok(Part {
+        text,
+        holds: second.holds,
+        taken,
+    })
+}
+
+// The counters as they were before these takes: the last is given back first.
+fn give_back(taken: Vec<CellTake>, counters: &mut PlainPass)
+    ensures { counters.new ≡ specs.given_back taken.items counters.old }
+{
+    let mut left = taken;
+    while let Some(one) = left.pop() {
+        one.give_back(counters);
+    }
+}
+
+/// Drops the second part, which isn't asked.
+pub(crate) fn without(first: Part, second: Part, counters: &mut PlainPass) -> Part
+    ensures part { result ≡ first }
+    ensures back { counters.new ≡ specs.given_back second.taken counters.old }
+{
+    let Part {
+        text: _text,
+        holds: _holds,
+        taken,
+    } = second;
+    give_back(taken, counters);
+    first
+}
+
+/// A part under `not`.
+pub(crate) fn negated(alloc: Global, part: Part) -> Result<Part, AllocError>
+    ensures { IfOk result (λ p. p ≡ specs.negated part) }
+{
+    let Part {
+        text: told,
+        holds,
+        taken,
+    } = part;
+    let mut text = String::new(alloc);
+    push_negated(&mut text, told.as_str())?;
+    Ok(Part {
+        text,
+        holds: !holds,
+        taken,
+    })
+}
+
+fn push_negated(text: &mut String, told: &str) -> Result<(), AllocError>
+    ensures { OnOk result
+        (string_bytes text.new ≡ string_bytes text.old ++ texts.negated_text told.now) }
+{
+    write!(text, "not ({told})")
+}
