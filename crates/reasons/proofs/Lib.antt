@@ -3,4 +3,5 @@ pub mod Conditions
 pub mod Meant
 pub mod Back
 pub mod Reading
+pub mod InQuotes
 mod Characters

@@ -1,5 +1,6 @@
 //! Laws of the definitions: what is told is so. They are called for their clauses alone.
 
+ghost use Rattle.reasons.specs.Quoted as quoted;
 ghost use Rattle.reasons.specs.Told as specs;
 
 /// A law: each truth that is told of a test is what the test means.
@@ -21,4 +22,9 @@ pub fn last_line_chooses()
 /// A law: what a rule comes to on counters is what it means.
 pub fn endings_are_meant()
     ensures { specs.EndingsAreMeant }
+{}
+
+/// A law: a text in quotes has none between them, so it ends where they do.
+pub fn quotes_end_texts()
+    ensures { quoted.QuotesEndTexts }
 {}

@@ -26,6 +26,8 @@ mod telling;
 mod test_text;
 mod words;
 
-pub use law::{conditions_are_so, endings_are_meant, last_line_chooses, truths_are_so};
+pub use law::{
+    conditions_are_so, endings_are_meant, last_line_chooses, quotes_end_texts, truths_are_so,
+};
 pub use quoted::push_quoted;
 pub use telling::tell_rule;

@@ -1,14 +1,15 @@
-//! A text of a client in quotes. A quote in it is escaped as a control is.
+//! A text of a client in quotes.
 
 ghost use Rattle.std.specs.Prelude.{◌≡◌, ◌++◌, OnOk, string_bytes};
 ghost use Rattle.printing.specs.Printed.{escape, printed_char};
 ghost use Rattle.reasons.specs.Quoted as specs;
 
-use printing::is_control;
 use std::alloc::AllocError;
 use std::fmt::Write;
 
-/// Adds a text in quotes. Its controls and quotes are shown as `\u{22}`, so it ends where they do.
+/// Adds a text in quotes. A quote or a backslash in it, and what isn't printable ASCII, is shown by
+/// its number, as `\u{22}`: so the text ends at the next quote, different texts are told
+/// differently, and a character that can't be seen shows.
 // open: whether memory is refused, its one error.
 pub fn push_quoted(text: &mut String, client: &str) -> Result<(), AllocError>
     ensures { OnOk result
@@ -32,13 +33,19 @@ fn push_escaped(text: &mut String, client: &str) -> Result<(), AllocError>
 
 fn push_char(text: &mut String, c: char) -> Result<(), AllocError>
     ensures { OnOk result (string_bytes text.new
-        ≡ string_bytes text.old ++ printed_char specs.ends_quotes c) }
+        ≡ string_bytes text.old ++ printed_char specs.is_shown_by_number c) }
 {
-    if is_control(c) || c == '"' {
+    if is_shown_by_number(c) {
         push_escape(text, c)
     } else {
         text.push(c)
     }
+}
+
+fn is_shown_by_number(c: char) -> bool
+    ensures { result ≡ specs.is_shown_by_number c }
+{
+    !(' ' <= c && c <= '~') || c == '"' || c == '\\'
 }
 
 fn push_escape(text: &mut String, c: char) -> Result<(), AllocError>

@@ -25,7 +25,7 @@ fn facts(alloc: Global) -> Result<AppFacts, AllocError> {
         appid: Text::new(String::from_str(alloc, "player")?),
         version: text(alloc, "1.4")?,
         brand: None,
-        ap: text(alloc, "a\n\"b")?,
+        ap: text(alloc, "a\n\"b\\")?,
         lang: text(alloc, "de")?,
         cohort: text(alloc, "b:0007")?,
         installdate: None,

@@ -26,7 +26,7 @@ const ROWS: [(&str, &str, &str); 26] = [
     ),
     (
         "when version < 3.0.0 and attr ap is \"canary\" offer 1;",
-        "  line 1: version < 3.0 yes; attr ap is \"canary\": no, it is \"a\\u{a}\\u{22}b\"\n\
+        "  line 1: version < 3.0 yes; attr ap is \"canary\": no, it is \"a\\u{a}\\u{22}b\\u{5c}\"\n\
 \x20 otherwise none\n0\n",
         "",
     ),
