@@ -4,4 +4,5 @@ pub mod Meant
 pub mod Back
 pub mod Reading
 pub mod InQuotes
+pub mod OneWay
 mod Characters

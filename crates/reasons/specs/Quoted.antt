@@ -27,3 +27,9 @@ quoted text = codes "\"" ++ escaped text ++ codes "\""
 pub record QuotesEndTexts : Type 0 where
   pub none_stands : EscapesAll is_kept_out escaped
   pub others_stand : KeepsOthers is_shown_by_number escaped
+
+-- whatever stands behind them, two texts of clients in quotes are told alike only where they are
+-- the same: so none passes for another, nor for another part of a line
+abbrev pub QuotesTellApart : Type 0
+QuotesTellApart = (text other behind more : List ℕ) → IsUtf8 text → IsUtf8 other
+    → quoted text ++ behind ≡ quoted other ++ more → (text ≡ other) × (behind ≡ more)

@@ -28,3 +28,9 @@ pub fn endings_are_meant()
 pub fn quotes_end_texts()
     ensures { quoted.QuotesEndTexts }
 {}
+
+/// A law: two texts in quotes are told alike only where they are the same, whatever stands behind
+/// them.
+pub fn quotes_tell_apart()
+    ensures { quoted.QuotesTellApart }
+{}

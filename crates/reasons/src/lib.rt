@@ -27,7 +27,8 @@ mod test_text;
 mod words;
 
 pub use law::{
-    conditions_are_so, endings_are_meant, last_line_chooses, quotes_end_texts, truths_are_so,
+    conditions_are_so, endings_are_meant, last_line_chooses, quotes_end_texts, quotes_tell_apart,
+    truths_are_so,
 };
 pub use quoted::push_quoted;
 pub use telling::tell_rule;
