@@ -1,6 +1,6 @@
 -- What is told of a rule: a line for each `when`, up to the one that chooses.
-use Rattle.std.specs.Prelude.{◌≡◌, ℕ, List, [], ◌∷◌, ◌++◌, codes, decimal, Bool}
-use Rattle.std.specs.Prelude.{if◌then◌else◌}
+use Rattle.std.specs.Prelude.{◌≡◌, ℕ, List, [], ◌∷◌, ◌++◌, codes, decimal}
+use Rattle.std.specs.Prelude.{Bool, true, false, if◌then◌else◌}
 use Rattle.attrs.specs.Attributes.{Attributes}
 use Rattle.cells.specs.Arrays.{AppShape}
 use Rattle.cells.specs.Events.{AreCells}
@@ -44,6 +44,31 @@ module _ (a : Attributes) (s : AppShape) where
       let r = read_steps a s counters steps in
       when_text steps r.text ++ (if r.holds then [] else rule_text r.counters rest)
 
+-- a rule that is asked on counters of the values `old` chooses by the last line of its text; its
+-- choice, and the counters then
+pub data ChoosesByLastLine (a : Attributes) (s : AppShape)
+    : (old : List ℕ) → List Statement → (text : List ℕ) → (choice : ℕ) → (new : List ℕ)
+    → Type 0 where
+  -- at the rule's end nothing is chosen
+  by_its_end : (old : List ℕ) → ChoosesByLastLine a s old [] otherwise_text 0 old
+  -- a `when` that holds chooses its release, and what stands behind it isn't asked
+  by_this_when : (old : List ℕ) (steps : List Step) (release : ℕ) (rest : List Statement)
+      → (read_steps a s old steps).holds ≡ true
+      → ChoosesByLastLine a s old (When steps release ∷ rest)
+      (when_text steps (read_steps a s old steps).text) release
+      (read_steps a s old steps).counters
+  -- behind one that doesn't hold the rest chooses
+  behind_when : (old : List ℕ) (steps : List Step) (release : ℕ) (rest : List Statement)
+      (text : List ℕ) (choice : ℕ) (new : List ℕ) → (read_steps a s old steps).holds ≡ false
+      → ChoosesByLastLine a s (read_steps a s old steps).counters rest text choice new
+      → ChoosesByLastLine a s old (When steps release ∷ rest)
+      (when_text steps (read_steps a s old steps).text ++ text) choice new
+  -- a count has no line
+  behind_count : (old name : List ℕ) (index : ℕ) (rest : List Statement) (text : List ℕ)
+      (choice : ℕ) (new : List ℕ)
+      → ChoosesByLastLine a s (counted s old name index) rest text choice new
+      → ChoosesByLastLine a s old (Count name index ∷ rest) text choice new
+
 -- what is told of a `when`: its line behind a text, whether it holds, and the counters then
 pub record TellsWhen (a : Attributes) (s : AppShape) (steps : List Step) (old : List ℕ)
     (before after : List ℕ) (holds : Bool) (new : List ℕ) : Type 0 where
@@ -75,9 +100,9 @@ ConditionsAreSo = (a : Attributes) (s : AppShape) (counters : List ℕ) (c : Tre
     ≡ ending_on r.counters (if r.holds then met else unmet))
 
 -- and a `when` that is told to hold ends the rule with its release, and else the rest of the rule
--- chooses: so the line that is told last is the one that chooses
-abbrev pub LastLineChooses : Type 0
-LastLineChooses = (a : Attributes) (s : AppShape) (counters : List ℕ) (steps : List Step)
+-- chooses
+abbrev pub WhensDecide : Type 0
+WhensDecide = (a : Attributes) (s : AppShape) (counters : List ℕ) (steps : List Step)
     (release : ℕ) (rest : List Statement) → (let r = read_steps a s counters steps in
     ending_on counters (behaviour a s (When steps release ∷ rest))
     ≡ (if r.holds then ending release r.counters else ending_on r.counters (behaviour a s rest)))
@@ -87,3 +112,9 @@ abbrev pub EndingsAreMeant : Type 0
 EndingsAreMeant = (a : Attributes) (s : AppShape) (rule : List Statement) (counters : List ℕ)
     → AreCells counters → (let e = ending_on counters (behaviour a s rule) in
     IsMeant a s rule counters e.choice e.counters)
+
+-- so whatever a rule means on counters, it chooses by the line that is told last
+abbrev pub LastLineChooses : Type 0
+LastLineChooses = (a : Attributes) (s : AppShape) (rule : List Statement) (old : List ℕ)
+    (choice : ℕ) (new : List ℕ) → IsMeant a s rule old choice new
+    → ChoosesByLastLine a s old rule (rule_text a s old rule) choice new

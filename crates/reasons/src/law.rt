@@ -14,6 +14,12 @@ pub fn conditions_are_so()
     ensures { specs.ConditionsAreSo }
 {}
 
+/// A law: a `when` that is told to hold ends the rule with its release, and behind another the rest
+/// of the rule chooses.
+pub fn whens_decide()
+    ensures { specs.WhensDecide }
+{}
+
 /// A law: the line that is told last is the one by which the rule chooses.
 pub fn last_line_chooses()
     ensures { specs.LastLineChooses }

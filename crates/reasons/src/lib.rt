@@ -11,8 +11,9 @@
 // its takes added is given back to the counters. A part keeps for that which cells it took from,
 // and their values before.
 //
-// That each truth that is told is that of its test, and that the line that is told last is the one
-// by which the rule chooses, are laws of the definitions (`law.rt`).
+// That each truth that is told is that of its test, that the line that is told last is the one by
+// which the rule chooses, and that texts of clients in quotes are told apart, are laws of the
+// definitions (`law.rt`).
 
 mod condition;
 mod counters;
@@ -28,7 +29,7 @@ mod words;
 
 pub use law::{
     conditions_are_so, endings_are_meant, last_line_chooses, quotes_end_texts, quotes_tell_apart,
-    truths_are_so,
+    truths_are_so, whens_decide,
 };
 pub use quoted::push_quoted;
 pub use telling::tell_rule;

@@ -7,7 +7,7 @@ ghost use Rattle.rule_lang.specs.Meaning.{behaviour};
 
 use crate::condition::read_condition;
 use crate::counters::{add_one, cell_of};
-use crate::law::{endings_are_meant, last_line_chooses};
+use crate::law::{endings_are_meant, whens_decide};
 use crate::line::{push_otherwise, push_when};
 use attrs::Attrs;
 use cells::{ArrayName, PlainPass, Shape};
@@ -47,7 +47,7 @@ fn tell_statements(
     ensures ending { IfOk result (λ choice. ending_on counters.old
         (behaviour attrs.now shape.now statements.now) ≡ ending choice counters.new) }
 {
-    last_line_chooses();
+    whens_decide();
     let mut left = statements;
     while let [statement, others @ ..] = left {
         match statement {

@@ -1,5 +1,5 @@
-use Rattle.reasons.proofs.Conditions.{when_is_so}
+use Rattle.reasons.proofs.LastLine.{last_line_chooses}
 use Rattle.reasons.proofs.law.last_line_chooses.Goals as goal
 
 pub returns : goal.returns
-returns c = when_is_so
+returns c = last_line_chooses
