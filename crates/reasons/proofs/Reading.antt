@@ -12,7 +12,7 @@ use Rattle.reasons.specs.Ending.{holds_on}
 use Rattle.reasons.specs.Reading.{Reading, read_behind, read_one, read_steps, read_tree}
 use Rattle.reasons.specs.Stack.{Part, Stacked, after_steps, followed, given_back, negated}
 use Rattle.reasons.specs.Stack.{stacked, stepped, tested}
-use Rattle.reasons.specs.Texts.{answer_text, negated_text}
+use Rattle.reasons.specs.Texts.{tested_text, negated_text}
 use Rattle.reasons.specs.Truth.{cell_asked, left_at, value_at}
 use Rattle.reasons.proofs.Back.{back_by_parts, test_is_back}
 use Rattle.reasons.proofs.Conditions.{if_not}
@@ -69,8 +69,8 @@ module _ (a : Attributes) (s : AppShape) (first : List ℕ) where
       let is = is_asked a s counters t in
       let value = value_at counters (cell_asked s t) in record {
         text =
-            sym (ap (λ v. answer_text a s v (holds_on a s counters t) t) is.value
-            ∙ ap (λ h. answer_text a s value h t) is.holds);
+            sym (ap (λ v. tested_text a s v (holds_on a s counters t) t) is.value
+            ∙ ap (λ h. tested_text a s value h t) is.holds);
         holds = sym is.holds;
         left = sym is.left;
         back = test_is_back counters (cell_asked s t);

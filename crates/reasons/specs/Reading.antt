@@ -8,7 +8,7 @@ use Rattle.rule_lang.specs.Trees.{Tree, Asked, Negated, Both, Either, trees_from
 use Rattle.rule_lang.specs.declared.condition.Step.{Step}
 use Rattle.rule_lang.specs.declared.test.Test.{Test}
 use Rattle.reasons.specs.Ending.{alone, holds_on, left_by, value_found}
-use Rattle.reasons.specs.Texts.{answer_text, negated_text}
+use Rattle.reasons.specs.Texts.{tested_text, negated_text}
 
 -- the text of what is told, whether the condition holds, and the values of the counters then
 pub record Reading : Type 0 where
@@ -29,7 +29,7 @@ module _ (a : Attributes) (s : AppShape) where
   -- a test
   abbrev pub read_test : (counters : List ℕ) → Test → Reading
   read_test counters t = record {
-    text = answer_text a s (value_found counters (alone a s t)) (holds_on a s counters t) t;
+    text = tested_text a s (value_found counters (alone a s t)) (holds_on a s counters t) t;
     holds = holds_on a s counters t;
     counters = left_by a s counters t;
   }

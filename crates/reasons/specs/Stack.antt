@@ -1,6 +1,7 @@
--- A condition, step by step, over a stack of what was read of its parts, the newest first. The
--- second part of `and` and `or` is read before it is known whether it is asked. Where it isn't, its
--- takes are given back.
+-- How the code reads a condition: step by step, over a stack of what was read of its parts, the
+-- newest first. The second part of `and` and `or` is read before it is known whether it is asked.
+-- Where it isn't, its takes are given back. No public clause cites this: what is promised stands in
+-- Reading.antt, and that the stack comes to it is proved.
 use Rattle.std.specs.Prelude.{ℕ, List, [], ◌∷◌, ◌++◌, codes, slice_set}
 use Rattle.std.specs.Prelude.{Option, Some, None, option_and_then}
 use Rattle.std.specs.Prelude.{Bool, true, false, not, if◌then◌else◌}
@@ -9,7 +10,7 @@ use Rattle.cells.specs.Arrays.{AppShape}
 use Rattle.rule_lang.specs.declared.condition.Step.{Step}
 use Rattle.rule_lang.specs.declared.condition.Step.TheVariants as step
 use Rattle.rule_lang.specs.declared.test.Test.{Test}
-use Rattle.reasons.specs.Texts.{answer_text, negated_text}
+use Rattle.reasons.specs.Texts.{tested_text, negated_text}
 use Rattle.reasons.specs.Truth.{CellTake, cell_asked, left_at, taken_at, truth_of, value_at}
 
 -- what was read of a part: its text, whether it holds, and its takes in their order
@@ -65,7 +66,7 @@ module _ (a : Attributes) (s : AppShape) where
   -- what is read of a test
   abbrev pub tested : (counters : List ℕ) → Test → Part
   tested counters t = let value = value_at counters (cell_asked s t) in record {
-    text = answer_text a s value (truth_of a s value t) t;
+    text = tested_text a s value (truth_of a s value t) t;
     holds = truth_of a s value t;
     taken = taken_at counters (cell_asked s t);
   }

@@ -114,19 +114,19 @@ found_text a s value (test.Take name index) =
     value_text value (quota_of (array_named name s.arrays))
 
 -- where it holds nothing is said of what was found, but of a counter
-abbrev pub kept_text : AppShape → (value : ℕ) → Test → List ℕ
-kept_text s value (test.Take name index) =
+abbrev pub held_text : AppShape → (value : ℕ) → Test → List ℕ
+held_text s value (test.Take name index) =
     codes ": yes" ++ value_text value (quota_of (array_named name s.arrays))
-kept_text s value t = codes " yes"
+held_text s value t = codes " yes"
 
 -- whether it holds, and what was found
 abbrev pub truth_text : Attributes → AppShape → (value : ℕ) → (holds : Bool) → Test → List ℕ
-truth_text a s value true t = kept_text s value t
+truth_text a s value true t = held_text s value t
 truth_text a s value false t = codes ": no" ++ found_text a s value t
 
 -- a test with its truth, and what was found
-abbrev pub answer_text : Attributes → AppShape → (value : ℕ) → (holds : Bool) → Test → List ℕ
-answer_text a s value holds t = test_text t ++ truth_text a s value holds t
+abbrev pub tested_text : Attributes → AppShape → (value : ℕ) → (holds : Bool) → Test → List ℕ
+tested_text a s value holds t = test_text t ++ truth_text a s value holds t
 
 -- ---- a condition
 

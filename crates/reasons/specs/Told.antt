@@ -16,15 +16,15 @@ use Rattle.rule_lang.specs.declared.test.Test.{Test}
 use Rattle.reasons.specs.Ending.{IsMeant, counters_after, ending, ending_on, holds_on, left_by}
 use Rattle.reasons.specs.Reading.{read_steps, read_tree}
 
--- the line of a condition's first test, which may stand behind its `when`
-abbrev pub first_line : List Step → ℕ
-first_line (step.Test line t ∷ rest) = line
-first_line steps = 0
+-- the number of the line of a condition's first test, which may stand below its `when`
+abbrev pub first_test_line : List Step → ℕ
+first_test_line (step.Test line t ∷ rest) = line
+first_test_line steps = 0
 
 -- the line of a `when`, of which this was told
 abbrev pub when_text : List Step → (told : List ℕ) → List ℕ
 when_text steps told =
-    codes "  line " ++ decimal (first_line steps) ++ codes ": " ++ told ++ codes "\n"
+    codes "  line " ++ decimal (first_test_line steps) ++ codes ": " ++ told ++ codes "\n"
 
 -- the line of the rule's end
 abbrev pub otherwise_text : List ℕ

@@ -1,5 +1,6 @@
--- The truth of a test, case by case, where its counter's value is at hand; and which counter that
--- is.
+-- How the code decides a test: case by case, where its counter's value is at hand; and which
+-- counter that is. No public clause cites this: what is promised is the test's meaning, in
+-- Ending.antt, and that the cases come to it is proved.
 use Rattle.std.specs.Prelude.{ℕ, List, [], ◌∷◌, nat_lt, slice_index, Option, Some, None}
 use Rattle.std.specs.Prelude.{Bool, not, ◌==◌, bit_and}
 use Rattle.std.specs.Ordering.{nat_cmp}

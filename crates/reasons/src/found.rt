@@ -49,7 +49,7 @@ pub(crate) fn quota_of(array: Option<&CellArray>) -> u64
 
 /// Adds a test with its truth, and with what was found. Of a take `value` is the cell's value
 /// before.
-pub(crate) fn push_answer(
+pub(crate) fn push_tested(
     text: &mut String,
     attrs: &Attrs,
     shape: &Shape,
@@ -58,7 +58,7 @@ pub(crate) fn push_answer(
     test: &Test,
 ) -> Result<(), AllocError>
     ensures { OnOk result (string_bytes text.new ≡ string_bytes text.old
-        ++ texts.answer_text attrs.now shape.now value holds test.now) }
+        ++ texts.tested_text attrs.now shape.now value holds test.now) }
 {
     push_test(text, test)?;
     push_truth(text, attrs, shape, value, holds, test)
@@ -76,16 +76,16 @@ fn push_truth(
         ++ texts.truth_text attrs.now shape.now value holds test.now) }
 {
     if holds {
-        push_kept(text, shape, value, test)
+        push_held(text, shape, value, test)
     } else {
         text.push_str(": no")?;
         push_found(text, attrs, shape, value, test)
     }
 }
 
-fn push_kept(text: &mut String, shape: &Shape, value: u64, test: &Test) -> Result<(), AllocError>
+fn push_held(text: &mut String, shape: &Shape, value: u64, test: &Test) -> Result<(), AllocError>
     ensures { OnOk result (string_bytes text.new ≡ string_bytes text.old
-        ++ texts.kept_text shape.now value test.now) }
+        ++ texts.held_text shape.now value test.now) }
 {
     match test {
         Test::Take { array, .. } => {

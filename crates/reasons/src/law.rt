@@ -1,4 +1,4 @@
-//! Laws of the definitions: what is told is so. They are called for their clauses alone.
+//! Laws of the definitions: what is told is so. Two of them are called, for their clauses alone.
 
 ghost use Rattle.reasons.specs.Quoted as quoted;
 ghost use Rattle.reasons.specs.Told as specs;

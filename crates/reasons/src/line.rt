@@ -7,8 +7,8 @@ use rule_lang::Step;
 use std::alloc::AllocError;
 use std::fmt::Write;
 
-fn first_line(steps: &[Step]) -> usize
-    ensures { result ≡ specs.first_line steps.now }
+fn first_test_line(steps: &[Step]) -> usize
+    ensures { result ≡ specs.first_test_line steps.now }
 {
     match steps {
         [Step::Test { line, .. }, ..] => *line,
@@ -21,7 +21,7 @@ pub(crate) fn push_when(text: &mut String, steps: &[Step], told: &str) -> Result
     ensures { OnOk result (string_bytes text.new
         ≡ string_bytes text.old ++ specs.when_text steps.now told.now) }
 {
-    let line = first_line(steps);
+    let line = first_test_line(steps);
     writeln!(text, "  line {line}: {told}")
 }
 

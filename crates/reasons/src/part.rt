@@ -6,7 +6,7 @@ ghost use Rattle.reasons.specs.Texts as texts;
 ghost use Rattle.reasons.specs.Truth as truth;
 
 use crate::counters::{CellTake, cell_of, take_one};
-use crate::found::push_answer;
+use crate::found::push_tested;
 use crate::holding::holds;
 use attrs::Attrs;
 use cells::{PlainPass, Shape};
@@ -85,7 +85,7 @@ pub(crate) fn read_test(
     let value = ask_cell(counters, cell_asked(shape, test), &mut taken)?;
     let holds = holds(attrs, shape, value, test);
     let mut text = String::new(alloc);
-    push_answer(&mut text, attrs, shape, value, holds, test)?;
+    push_tested(&mut text, attrs, shape, value, holds, test)?;
     Ok(Part { text, holds, taken })
 }
 
