@@ -20,6 +20,8 @@ fails_if_long r is told known bytes long = record {
   arrays = [];
   apps = [];
   unread = 0;
-  seen = no_file (λ some. absurd (omega (arith, some)));
+  seen = no_file (λ any.
+      subst (λ (f : LoadFault). IsLoadFault any [] bytes f) (sym is) (of_bytes long))
+      (λ some. absurd (omega (arith, some)));
   told = told;
 }

@@ -99,7 +99,7 @@ module _ (known : KnownFiles) (bytes : List ℕ) (g : Gathered) (is : IsGathered
     arrays = g.arrays.items;
     apps = g.apps.items;
     unread = g.unread;
-    seen = files g is;
+    seen = files g is h.refused;
     told = h.told;
   }
 
@@ -113,7 +113,9 @@ fails_early known bytes u r h is told = record {
   arrays = u.arrays.items;
   apps = [];
   unread = 0;
-  seen = no_file h.arrays_are;
+  seen = no_file (λ any.
+      subst (λ (f : LoadFault). IsLoadFault any [] bytes f) (sym is) (h.fault_is any))
+      h.arrays_are;
   told = told;
 }
 

@@ -13,6 +13,7 @@ use Rattle.load.specs.Digest.{digest_of}
 use Rattle.load.specs.Gathered.{AreArraysOf, IsGathered, IsParsedBeside}
 use Rattle.load.specs.Judged.{AreJudged, RefusesFirst, apps_of}
 use Rattle.load.specs.Load.{IsRulesetOf, IsLoadFault}
+use Rattle.load.specs.declared.fault.LoadFault.{LoadFault}
 use Rattle.load.specs.declared.gathering.Gathered.{Gathered}
 use Rattle.load.specs.declared.gathering.GatheredApp.{GatheredApp}
 use Rattle.manifest.specs.declared.refused.Parsed.{Parsed}
@@ -51,15 +52,18 @@ module _ (known : KnownFiles) (bytes : List ℕ) where
     pub arrays_are : told.arrays.items ≡ gathered.manifest.arrays
     pub apps_are : told.apps.items ≡ rules.apps
 
-  -- what was gathered until it was refused: nothing, its arrays, or its apps, too, and how many
-  -- there are behind these
-  pub data IsSeen : List Declaration → List GatheredApp → (unread : ℕ) → Type 0 where
-    no_file : {arrays : List Declaration} → AreArraysOf bytes arrays → IsSeen arrays [] 0
-    files : (g : Gathered) → IsGathered known [] bytes g
-        → IsSeen g.arrays.items g.apps.items g.unread
+  -- what was gathered of one that has this fault, and how many apps there are behind it: its arrays,
+  -- if it has the fault whatever its files give; or its apps, too, the first of which that has no
+  -- program has this fault
+  pub data IsSeen (fault : LoadFault) : List Declaration → List GatheredApp → (unread : ℕ)
+      → Type 0 where
+    no_file : {arrays : List Declaration} → ((any : KnownFiles) → IsLoadFault any [] bytes fault)
+        → AreArraysOf bytes arrays → IsSeen fault arrays [] 0
+    files : (g : Gathered) → IsGathered known [] bytes g → RefusesFirst g.apps.items fault
+        → IsSeen fault g.arrays.items g.apps.items g.unread
 
   -- it has this fault, and this is told of it and of the further faults, by what its bytes were
-  -- parsed as and what was gathered
+  -- parsed as and by what was gathered, which is what has this fault
   pub record FailsCheck (r : Refused) : Type 0 where
     pub refused : IsLoadFault known [] bytes r.fault
     pub parsed : Parsed
@@ -67,7 +71,7 @@ module _ (known : KnownFiles) (bytes : List ℕ) where
     pub arrays : List Declaration
     pub apps : List GatheredApp
     pub unread : ℕ
-    pub seen : IsSeen arrays apps unread
+    pub seen : IsSeen r.fault arrays apps unread
     pub told : TellsRefused parsed arrays apps unread r
 
 -- every manifest of more than 1048576 bytes comes to this, whatever its files give

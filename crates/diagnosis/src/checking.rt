@@ -15,9 +15,9 @@ use load::{Files, Gathered, LoadFault, Ungathered, gather, gathered_is_loaded, j
 use manifest::{ManifestFault, Parsed, TomlFault};
 use std::alloc::Global;
 
-/// Checks a manifest: it is loaded with its files, into a directory of its own. It and each file
-/// are read once, and messages about a file are about the bytes that were judged. Quotes from the
-/// manifest and its files are printed without control characters.
+/// Checks a manifest: it is loaded with its files, into a directory of its own. What is told of a
+/// file is of the very bytes that were judged. Quotes from the manifest and its files are printed
+/// without control characters.
 ///
 /// For an accepted manifest the text has a line for each array, in its order, such as `array
 /// q:64:1:2` (a quota comes last, if there is one), and then a line for each app: `app APPID
