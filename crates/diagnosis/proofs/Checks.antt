@@ -1,24 +1,31 @@
 -- A manifest has one check, since it has one load over no arrays.
 use Rattle.std.proofs.Common.{◌≡◌, ◌≢◌, ℕ, List, [], Option, Some, Result, Ok, Err}
-use Rattle.std.proofs.Common.{refl, sym, ◌∙◌, ap, arith}
+use Rattle.std.proofs.Common.{refl, sym, ◌∙◌, ap, subst, arith}
 use Rattle.std.proofs.lemmas.List.Elements.{All-nil}
 use Rattle.std.proofs.lemmas.Option.{none-some}
 use Rattle.rule_lang.specs.Tokens.{Text}
 use Rattle.rule_lang.specs.Verdicts.{RuleHasOneVerdict}
 use Rattle.cells.specs.Arrays.{AppShape}
 use Rattle.cells.specs.Directory.{Declaration, IsDirectory}
+use Rattle.cells.specs.declared.array.CellArray.{CellArray}
 use Rattle.manifest.specs.Manifest.{Manifest, ReadsManifest}
 use Rattle.manifest.specs.OneReading.{HasOneManifest}
 use Rattle.manifest.specs.declared.fault.ManifestFault.{ManifestFault}
 use Rattle.bounded_files.specs.Files.{KnownFile}
 use Rattle.load.specs.declared.fault.LoadFault.{LoadFault}
 use Rattle.load.specs.declared.fault.LoadFault.TheVariants.{Memory}
+use Rattle.load.specs.declared.gathering.Gathered.{Gathered}
+use Rattle.load.specs.declared.made.MadeRuleset.{MadeRuleset}
+use Rattle.load.specs.Digest.{digest_of, framed_files}
+use Rattle.load.specs.Gathered.{AreTaken, IsGathered}
 use Rattle.load.specs.Judged.{GatheredIsLoaded}
+use Rattle.load.specs.Made.{IsMadeOf}
 use Rattle.load.specs.OneLoad.{HasOneLoad}
 use Rattle.ruleset.specs.Rules.{AppRule, Rules}
 use Rattle.diagnosis.specs.Check.{FailsCheck, PassesCheck}
 use Rattle.diagnosis.specs.OneCheck.{AreToldAlike, HasOneCheck}
 use Rattle.diagnosis.specs.Texts.{accepted_text}
+use Rattle.diagnosis.proofs.OneDigest.{files_once, one_digest}
 use Rattle.diagnosis.proofs.OneTold.{warned_once}
 use Rattle.diagnosis.specs.declared.accepted.CheckedManifest.{CheckedManifest}
 use Rattle.diagnosis.specs.declared.told.Refused.{Refused}
@@ -57,6 +64,24 @@ module _ (load : HasOneLoad) (gathered : GatheredIsLoaded)
       ap (λ (r : Result Manifest ManifestFault). manifest_in r other)
       (reading bytes (Ok m) (Ok other) h k (λ x. absurd cc) (λ x. absurd cc))
 
+  same_files : (old other : List CellArray) (g h : Gathered)
+      → IsGathered (Some files) old bytes g → IsGathered (Some files) other bytes h
+      → framed_files g.apps.items ≡ framed_files h.apps.items
+  same_files old other g h p q =
+      let read : p.manifest ≡ q.manifest = same_manifest p.manifest q.manifest p.read q.read in
+      files_once files g.directory h.directory p.numbers q.numbers 0 q.manifest.apps g.apps.items
+      h.apps.items g.unread h.unread
+      (subst (λ (m : Manifest).
+      AreTaken (Some files) g.directory p.numbers 0 m.apps g.apps.items g.unread) read p.apps_are)
+      q.apps_are
+
+  same_digest : (old other : List CellArray) (g h : Gathered) (first second : List ℕ)
+      → IsGathered (Some files) old bytes g → IsGathered (Some files) other bytes h
+      → digest_of bytes g.apps.items ≡ Some first → digest_of bytes h.apps.items ≡ Some second
+      → first ≡ second
+  same_digest old other g h first second p q a b =
+      one_digest bytes g.apps.items h.apps.items first second (same_files old other g h p q) a b
+
   same_told : (told other : CheckedManifest) → PassesCheck (Some files) bytes told
       → PassesCheck (Some files) bytes other → AreToldAlike told other
   same_told told other p q =
@@ -85,6 +110,8 @@ module _ (load : HasOneLoad) (gathered : GatheredIsLoaded)
             q.passes.judged)
             read loads.1 (sym p.passes.apps_are ∙ apps ∙ q.passes.apps_are) p.passes.judged
             q.passes.judged p.passes.warned q.passes.warned;
+        digest = same_digest [] [] p.g q.g told.digest other.digest p.gathered q.gathered
+            p.passes.digest_is q.passes.digest_is;
       }
 
   same_fault : (r other : Refused) → FailsCheck (Some files) bytes r
@@ -107,4 +134,7 @@ module _ (load : HasOneLoad) (gathered : GatheredIsLoaded)
     passes = same_told;
     fault = same_fault;
     either = λ told r p h. is_memory r.fault (not_both told r p h);
+    digest = λ told old g made p is of_it.
+        same_digest [] old p.g g told.digest made.digest p.gathered is p.passes.digest_is
+        of_it.digest_is;
   }

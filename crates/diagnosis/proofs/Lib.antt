@@ -2,6 +2,7 @@ mod Parts
 mod Slots
 mod AppsTold
 mod OneTold
+mod OneDigest
 mod Passing
 mod Checks
 mod Judged

@@ -1,17 +1,23 @@
 -- A manifest has one check.
 use Rattle.std.specs.Prelude.{◌≡◌, ◌≢◌, ℕ, List, Option, Some, string_bytes}
 use Rattle.bounded_files.specs.Files.{KnownFile}
+use Rattle.cells.specs.declared.array.CellArray.{CellArray}
+use Rattle.load.specs.Gathered.{IsGathered}
+use Rattle.load.specs.Made.{IsMadeOf}
 use Rattle.load.specs.declared.fault.LoadFault.TheVariants.{Memory}
+use Rattle.load.specs.declared.gathering.Gathered.{Gathered}
+use Rattle.load.specs.declared.made.MadeRuleset.{MadeRuleset}
 use Rattle.diagnosis.specs.Check.{FailsCheck, PassesCheck}
 use Rattle.diagnosis.specs.declared.accepted.CheckedManifest.{CheckedManifest}
 use Rattle.diagnosis.specs.declared.told.Refused.{Refused}
 
--- with the same arrays and apps, the same lines of these, and the same warnings
+-- with the same arrays and apps, the same lines of these, the same warnings, and the same digest
 pub record AreToldAlike (told other : CheckedManifest) : Type 0 where
   pub arrays : told.arrays.items ≡ other.arrays.items
   pub apps : told.apps.items ≡ other.apps.items
   pub text : string_bytes told.text ≡ string_bytes other.text
   pub warnings : told.warnings.items ≡ other.warnings.items
+  pub digest : told.digest ≡ other.digest
 
 -- of files that tell their bytes a manifest passes one way, or has one fault, want of memory aside
 pub record HasOneCheck (files : List ℕ → Option KnownFile) (bytes : List ℕ) : Type 0 where
@@ -22,6 +28,10 @@ pub record HasOneCheck (files : List ℕ → Option KnownFile) (bytes : List ℕ
       → r.fault ≡ other.fault
   pub either : (told : CheckedManifest) (r : Refused) → PassesCheck (Some files) bytes told
       → FailsCheck (Some files) bytes r → r.fault ≡ Memory
+  -- and each load of it has the digest that is told, whatever arrays it is loaded over
+  pub digest : (told : CheckedManifest) (old : List CellArray) (g : Gathered) (made : MadeRuleset)
+      → PassesCheck (Some files) bytes told → IsGathered (Some files) old bytes g
+      → IsMadeOf bytes g made → told.digest ≡ made.digest
 
 abbrev pub ChecksOneWay : Type 0
 ChecksOneWay = (files : List ℕ → Option KnownFile) (bytes : List ℕ)

@@ -6,8 +6,9 @@ use load::{gathered_is_loaded, one_load};
 use manifest::one_reading;
 use rule_lang::one_verdict;
 
-/// A law: of files that tell their bytes, a manifest passes with one text, or has one fault, want
-/// of memory aside. It is called by nothing that runs.
+/// A law: of files that tell their bytes, a manifest passes with one text and one digest, which
+/// each load of it has, too, over whatever arrays; or it has one fault, want of memory aside. It is
+/// called by nothing that runs.
 pub fn one_check()
     ensures { ChecksOneWay }
 {
