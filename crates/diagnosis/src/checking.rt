@@ -62,8 +62,9 @@ use std::alloc::Global;
 /// many files couldn't be read as can be counted. If memory is refused for the reason, the reason
 /// is left out, entirely or except for the file's name; and so are the further faults, entirely or
 /// except for their own reasons.
-// open: whether memory is refused; that there is a reason beside the fault: tests; what `toml` says
-// of M1.
+// open: whether memory is refused; that there is a reason beside the fault, and that the further
+// faults are told at all: tests; that it asks whether the manifest or a file is behind a link:
+// `bench/hostile`; what `toml` says of M1.
 pub fn check<F: Files>(
     alloc: Global,
     manifest: &[u8],
@@ -152,6 +153,7 @@ fn out_of_memory(alloc: Global, read: usize, unread: usize) -> Refused
 }
 
 /// Why a manifest of more than 1048576 bytes is refused: M1, which needs none of them.
+// open: whether memory is refused; that there is a reason beside the fault: tests.
 pub fn too_long(alloc: Global) -> Refused
     ensures { FailsIfLong result }
 {
