@@ -17,7 +17,8 @@ pub struct Refused {
     pub further: Vec<ToldFault>,
     /// How many further faults there are behind these.
     pub left_out: usize,
-    /// How many apps were gathered: 0 where it is refused before any file is read.
+    /// How many apps were gathered: 0 where it is refused for its bytes or its arrays, or for want
+    /// of memory before all files are read.
     pub read: usize,
     /// How many apps there are behind these, of which no file is read.
     pub unread: usize,

@@ -22,7 +22,7 @@ use Rattle.warnings.specs.declared.warning.Warning.{Warning}
 abbrev pub passes : (strict : Bool) → (allowed : List (Bor (List ℕ))) → List Warning → Bool
 passes strict allowed warnings = not (strict && some_counts allowed warnings)
 
--- the digest of its files, in hexadecimal digits
+-- the digest of it and of its files, in hexadecimal digits
 abbrev pub digest_line : List ℕ → List ℕ
 digest_line digest = line (codes "digest " ++ encode_lower digest)
 
@@ -61,11 +61,11 @@ pub record AddsAccepted (path : List ℕ) (one old new : ToldChecks) : Type 0 wh
   pub passes_is : new.passes ≡ (old.passes && one.passes)
 
 -- and of one that is refused: why it is
-pub record AddsRefused (path : List ℕ) (fault : ManifestToolFault) (old new : ToldChecks) : Type 0
+pub record AddsRefused (path : List ℕ) (why : ManifestToolFault) (old new : ToldChecks) : Type 0
   where
     pub text_is : new.text ≡ old.text
     pub beside_is : string_bytes new.beside
-        ≡ string_bytes old.beside ++ titled path (refusal_text fault)
+        ≡ string_bytes old.beside ++ titled path (refusal_text why)
     pub passes_is : new.passes ≡ false
 
 -- ---- which are told
@@ -83,8 +83,8 @@ module _ (known : KnownFiles) (strict : Bool) (allowed : List (Bor (List ℕ))) 
       accepted : (told : ToldChecks) → IsCheckedAlone path told
           → IsCheckedAmong path (titled path (string_bytes told.text))
           (titled_if_any path (string_bytes told.beside)) told.passes
-      refused : (fault : ManifestToolFault) → IsCheckRefusal known path fault
-          → IsCheckedAmong path [] (titled path (refusal_text fault)) false
+      refused : (why : ManifestToolFault) → IsCheckRefusal known path why
+          → IsCheckedAmong path [] (titled path (refusal_text why)) false
 
   -- one more, behind what was told; all of them have to pass
   pub record AddsChecked (path : List ℕ) (old new : ToldChecks) : Type 0 where

@@ -9,9 +9,8 @@ use diagnosis::{CheckedManifest, check, too_long};
 use load::{FolderFiles, MOST_MANIFEST};
 use std::alloc::Global;
 
-/// The lines of the arrays and apps of a file's manifest, and its warnings. The files that it names
-/// lie in its folder. It has to be a regular file, as have they; B3 comes where it isn't, or can't
-/// be read.
+/// What is told of a file's manifest. The files that it names lie in its folder. It has to be a
+/// regular file, as have they; B3 comes where it isn't, or can't be read.
 // open: what `check` of `diagnosis` leaves open.
 pub(crate) fn check_file<D: Disk>(
     alloc: Global,

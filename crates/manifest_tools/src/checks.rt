@@ -20,8 +20,8 @@ use warnings::{Warning, push_warnings, some_counts};
 pub struct ToldChecks {
     /// What they declare: lines, each ended by a line feed.
     pub text: String,
-    /// What is told beside it: what they hardly mean, and why some are refused, by lines, each ended
-    /// by a line feed.
+    /// What is told beside it: what they hardly mean, and why some are refused. These are lines,
+    /// each ended by a line feed.
     pub beside: String,
     /// None is refused, and no warning counts.
     pub passes: bool,
@@ -29,11 +29,11 @@ pub struct ToldChecks {
 
 /// Checks manifests, each by itself. In a strict check a warning counts whose name isn't allowed.
 ///
-/// Of one alone its own lines are told, and last the digest of its files, in 64 hexadecimal digits;
-/// it is a fault if it is refused. Of several each is told
-/// under a line `manifest PATH`, in both texts, where there is something to tell of it; one that is
-/// refused is told beside the text, by the line of its refusal and its reason. With `json` all of
-/// it is one line of JSON, also of one that is refused, with nothing beside it.
+/// Of one alone its own lines are told, and last the digest of it and of its files, in 64
+/// hexadecimal digits; it is a fault if it is refused. Of several each is told under a line
+/// `manifest PATH`, in both texts, where there is something to tell of it; one that is refused is
+/// told beside the text, by the line of its refusal and its reason. With `json` all of it is one
+/// line of JSON, also of one that is refused, with nothing beside it.
 // open: what `check_file` leaves open.
 pub fn check_files<D: Disk>(
     alloc: Global,

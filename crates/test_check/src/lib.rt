@@ -1,6 +1,6 @@
-//! Tests of what `check` tells: of each fault of a rule's text the place, what stands there and what
-//! is expected, and the warnings on appids, on releases and on rules that are asked; and how texts
-//! are printed.
+//! Tests of what `check` tells: of each fault of a rule's text the place, what stands there and
+//! what is expected, and the warnings on appids, on releases and on rules that are asked; and how
+//! texts are printed.
 #![tactic(auto)]
 
 #[cfg(test)]

@@ -110,7 +110,8 @@ fn appids(rt: HostRuntime) -> Result<(), Fail> {
     Ok(())
 }
 
-/// Names that are allowed, and whether one of the warnings on the releases below counts beside them.
+/// Names that are allowed, and whether one of the warnings on the releases below counts beside
+/// them.
 const ALLOWED: [(&[&str], bool); 5] = [
     (&[], true),
     (&["codebase-slash"], true),
