@@ -10,12 +10,12 @@ abbrev pub is_between : (from to c : ℕ) → Bool
 is_between from to c = nat_le from c && nat_le c to
 
 -- controls: U+0000 to U+001F and U+007F to U+009F (Unicode's category Cc), the ends of lines and of
--- paragraphs, U+2028 and U+2029, and what turns the direction of writing (UAX #9, section 2):
--- U+200E, U+200F, U+202A to U+202E and U+2066 to U+2069
+-- paragraphs, U+2028 and U+2029, and what turns the direction of writing (UAX #9, section 2; the
+-- twelve of Unicode's Bidi_Control): U+061C, U+200E, U+200F, U+202A to U+202E and U+2066 to U+2069
 abbrev pub is_control : ℕ → Bool
 is_control c =
-    is_between 0 31 c || is_between 127 159 c || is_between 8206 8207 c || is_between 8232 8238 c
-    || is_between 8294 8297 c
+    is_between 0 31 c || is_between 127 159 c || (c == 1564) || is_between 8206 8207 c
+    || is_between 8232 8238 c || is_between 8294 8297 c
 
 -- of several lines: a tab and a line feed are none
 abbrev pub is_control_in_line : ℕ → Bool
