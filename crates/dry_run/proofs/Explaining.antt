@@ -16,6 +16,7 @@ use Rattle.dry_run.specs.Courses.{TellsCourse}
 use Rattle.dry_run.specs.Meanings.{HasMeaning, HaveMeanings, Meaning, meaning_of}
 use Rattle.dry_run.specs.Meanings.{no_meaning, next_meaning}
 use Rattle.dry_run.specs.Why.{ExplainsAll, ExplainsApp, ExplainsApps, ExplainsOne}
+use Rattle.dry_run.specs.Why.{ExplainsRequest}
 use Rattle.dry_run.specs.Why.{RunIsTold, not_known, not_asked, was_run}
 use Rattle.dry_run.specs.Why.{no_reason, next_reason}
 use Rattle.dry_run.proofs.WholeRuns.{runs_app}
@@ -156,3 +157,13 @@ all_told rules meanings facts facts' moment notes old apps apps' few new text sa
     let F : RequestFacts → Type 0 = λ f.
     ExplainsAll rules meanings f moment notes old apps' new text in
     subst F same (subst A (take_all few apps past ∙ alike) told)
+
+pub behind : (rules : Rules) (meanings : List Meaning) (facts : RequestFacts) (moment : ℤ)
+    (front : List ℕ) (notes notes' : List (List ℕ)) (old : List ℕ) (apps : List AppFacts)
+    (new lines text : List ℕ) → notes ≡ notes' → text ≡ front ++ lines
+    → ExplainsAll rules meanings facts moment notes old apps new lines
+    → ExplainsRequest rules meanings facts moment front notes' old apps new text
+behind rules meanings facts moment front notes notes' old apps new lines text same is told =
+    let N : List (List ℕ) → Type 0 = λ n.
+    ExplainsAll rules meanings facts moment n old apps new lines in
+    (lines, subst N same told, is)

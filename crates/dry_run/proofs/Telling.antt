@@ -1,5 +1,5 @@
 -- What is told of a request, and why nothing is.
-use Rattle.std.proofs.Common.{◌≡◌, ◌≢◌, ℕ, List, Ok, Err, sym, subst}
+use Rattle.std.proofs.Common.{◌≡◌, ◌≢◌, ◌∙◌, ◌++◌, ℕ, List, Ok, Err, ap, sym, subst}
 use Rattle.std.specs.Prelude.{ℤ, Result}
 use Rattle.cells.specs.declared.array.CellArray.{CellArray}
 use Rattle.omaha_json.specs.Request.{Request, request_in}
@@ -8,9 +8,9 @@ use Rattle.omaha_json.specs.declared.fault.OmahaFault.TheVariants.{Json, Shape, 
 use Rattle.omaha_json.specs.declared.fault.OmahaFault.TheVariants.{TooManyApps, Memory}
 use Rattle.told_cells.specs.Told.{Told}
 use Rattle.dry_run.specs.Counters.{AreSetAsTold}
-use Rattle.dry_run.specs.IgnoredLines.{notes_in}
+use Rattle.dry_run.specs.IgnoredLines.{app_notes_in, request_note_in}
 use Rattle.dry_run.specs.Told.{IsUnanswered}
-use Rattle.dry_run.specs.Why.{ExplainsAll, TellsWhy}
+use Rattle.dry_run.specs.Why.{ExplainsRequest, TellsWhy}
 use Rattle.dry_run.specs.declared.fault.DryRunFault.TheVariants as fault
 use Rattle.dry_run.specs.declared.why_files.OpenedWhy.{OpenedWhy}
 
@@ -19,24 +19,28 @@ abbrev ReadsAs : (body : List ℕ) → Result Request OmahaFault → Type 0
 ReadsAs body read = read ≢ Err Memory → read ≡ request_in body
 
 pub told_why : (o : OpenedWhy) (moment : ℤ) (served words : List Told) (arrays : List CellArray)
-    (counters : List ℕ) (request : Request) (notes : List (List ℕ)) (left text : List ℕ)
-    → arrays ≡ o.directory → AreSetAsTold arrays served words counters
-    → ReadsAs o.body.items (Ok request) → notes ≡ notes_in o.body.items
-    → ExplainsAll o.rules o.meanings.items request.facts moment notes counters request.apps left
-    text
+    (counters : List ℕ) (request : Request) (front : List ℕ) (notes : List (List ℕ))
+    (left text : List ℕ) → arrays ≡ o.directory → AreSetAsTold arrays served words counters
+    → ReadsAs o.body.items (Ok request) → front ≡ request_note_in o.body.items
+    → notes ≡ app_notes_in o.body.items
+    → ExplainsRequest o.rules o.meanings.items request.facts moment front notes counters
+    request.apps left text
     → TellsWhy o moment served words text
-told_why o moment served words arrays counters request notes left text same set read noted told =
-    let N : List (List ℕ) → Type 0 = λ n. ExplainsAll o.rules o.meanings.items request.facts moment
-    n counters request.apps left text in
+told_why o moment served words arrays counters request front notes left text same set read fronted
+    noted told =
+    let N : List (List ℕ) → Type 0 = λ n. ExplainsRequest o.rules o.meanings.items request.facts
+    moment front n counters request.apps left text in
     let all = subst N noted told in
     record {
       counters = counters;
       set = subst (λ (a : List CellArray). AreSetAsTold a served words counters) same set;
       request = request;
       asked = sym (read (λ e. cc));
-      choices = all.0;
+      choices = all.1.0;
       left = left;
-      reasons = all.1;
+      lines = all.0;
+      reasons = all.1.1;
+      text_is = all.2 ∙ ap (λ (f : List ℕ). f ++ all.0) fronted;
     }
 
 module _ (directory : List CellArray) (body : List ℕ) (served words : List Told) where

@@ -1,13 +1,17 @@
--- The members of a request's apps that are there and count as absent, since they are of another
--- kind: a line for each.
-use Rattle.std.specs.Prelude.{ℕ, List, [], ◌∷◌, ◌++◌, codes, is_some, if◌then◌else◌}
-use Rattle.std.specs.Prelude.{Option, Some, None, option_and_then, unwrap_or}
+-- Members of a request and of its apps that are there and count as absent, since they are of
+-- another kind or too long: a line for each. Those of an app are indented, as its other lines are.
+use Rattle.std.specs.Prelude.{ℕ, List, [], ◌∷◌, ◌++◌, codes, Bool, false, not, is_none}
+use Rattle.std.specs.Prelude.{Option, Some, None, option_and_then, option_map, unwrap_or}
+use Rattle.std.specs.Prelude.{decimal, length, nat_lt, if◌then◌else◌}
 use Rattle.serde_json.specs.Data.{Data, null, boolean, number, string, array, object}
 use Rattle.serde_json.specs.Data.{Items, no_items, item}
-use Rattle.serde_json.specs.Find.{get, as_array, as_number, as_str, as_u64}
-use Rattle.omaha_json.specs.Request.{value_in}
+use Rattle.serde_json.specs.Find.{get, as_array, as_object, as_str}
+use Rattle.omaha_json.specs.Ignored.{is_no_number, is_no_text}
+use Rattle.omaha_json.specs.Request.{is_value, value_in}
 
--- what it is
+-- ---- a line
+
+-- what a value is
 abbrev pub data_kind : Data → List ℕ
 data_kind null = codes "null"
 data_kind (boolean b) = codes "a truth value"
@@ -16,48 +20,161 @@ data_kind (string text) = codes "a text"
 data_kind (array items) = codes "a list"
 data_kind (object ms) = codes "an object"
 
-abbrev pub ignored_part : (name kind : List ℕ) → List ℕ
-ignored_part name kind = codes "  ignored: " ++ name ++ codes " is " ++ kind
+-- and what a member is
+abbrev pub kind_in : Option Data → List ℕ
+kind_in (Some d) = data_kind d
+kind_in None = []
 
+-- its beginning, by the member's name
+abbrev pub ignored_part : (name kind : List ℕ) → List ℕ
+ignored_part name kind = codes "ignored: " ++ name ++ codes " is " ++ kind
+
+-- its end, by what the member has to be
 abbrev pub wanted_part : (wanted : List ℕ) → List ℕ
 wanted_part wanted = codes ", where " ++ wanted ++ codes " is wanted\n"
 
-abbrev pub ignored_line : (name kind wanted : List ℕ) → List ℕ
-ignored_line name kind wanted = ignored_part name kind ++ wanted_part wanted
+-- the whole line
+abbrev pub ignored_line : (indent name kind wanted : List ℕ) → List ℕ
+ignored_line indent name kind wanted = indent ++ ignored_part name kind ++ wanted_part wanted
 
--- of a member that has to be a text
-abbrev pub text_note : (name : List ℕ) → Option Data → List ℕ
-text_note name (Some d) =
-    if is_some (as_str d) then [] else ignored_line name (data_kind d) (codes "a text")
-text_note name None = []
+-- the line of a member that counts as absent, and nothing of another one
+abbrev pub note_if : (ignored : Bool) → (indent name : List ℕ) → Option Data → (wanted : List ℕ)
+    → List ℕ
+note_if ignored indent name member wanted =
+    if ignored then ignored_line indent name (kind_in member) wanted else []
 
--- and of one that has to be a whole number from 0 on, of 64 bits
-abbrev pub number_note : (name : List ℕ) → Option Data → List ℕ
-number_note name (Some d) =
-    if is_some (option_and_then as_u64 (as_number d)) then []
-    else ignored_line name (data_kind d) (codes "a whole number")
-number_note name None = []
+-- the line of a member that is null
+unfoldable pub absent_words : List ℕ
+absent_words = codes ", which counts as absent\n"
 
--- of an app
-abbrev pub app_note : Data → List ℕ
+abbrev pub null_line : (indent name : List ℕ) → List ℕ
+null_line indent name = indent ++ ignored_part name (codes "null") ++ absent_words
+
+-- how many bytes a text has; 0 where there is none
+abbrev pub length_of : Data → ℕ
+length_of d = length (unwrap_or (as_str d) [])
+
+abbrev pub length_in : Option Data → ℕ
+length_in (Some d) = length_of d
+length_in None = 0
+
+-- the line of a text of so many bytes
+unfoldable pub length_words : List ℕ
+length_words = codes " bytes, where at most 1024 are wanted\n"
+
+abbrev pub length_part : (name : List ℕ) → (bytes : ℕ) → List ℕ
+length_part name bytes = codes "ignored: " ++ name ++ codes " has " ++ decimal bytes
+
+abbrev pub length_line : (indent name : List ℕ) → (bytes : ℕ) → List ℕ
+length_line indent name bytes = indent ++ length_part name bytes ++ length_words
+
+-- if that is so many that an attribute is kept as the empty text
+abbrev pub length_note : (indent name : List ℕ) → (bytes : ℕ) → List ℕ
+length_note indent name bytes =
+    if nat_lt 1024 bytes then length_line indent name bytes else []
+
+-- ---- by what a member has to be
+
+-- a member is there, and is no object
+abbrev pub is_no_object : Option Data → Bool
+is_no_object (Some d) = is_none (as_object d)
+is_no_object None = false
+
+-- it is there, and is null
+abbrev pub is_no_value : Option Data → Bool
+is_no_value (Some d) = not (is_value (Some d))
+is_no_value None = false
+
+-- of one that has to be a text
+unfoldable pub text_note : (indent name : List ℕ) → Option Data → List ℕ
+text_note indent name member =
+    note_if (is_no_text member) indent name member (codes "a text")
+
+-- of one that has to be a whole number from 0 on, of 64 bits
+unfoldable pub number_note : (indent name : List ℕ) → Option Data → List ℕ
+number_note indent name member =
+    note_if (is_no_number member) indent name member (codes "a whole number from 0 on")
+
+-- of a text that rules may ask for as an attribute: it has to be short, too
+unfoldable pub attribute_note : (indent name : List ℕ) → Option Data → List ℕ
+attribute_note indent name member =
+    text_note indent name member ++ length_note indent name (length_in member)
+
+-- of one that has to be an object
+unfoldable pub object_note : (indent name : List ℕ) → Option Data → List ℕ
+object_note indent name member =
+    note_if (is_no_object member) indent name member (codes "an object")
+
+-- of one that may be anything but null
+unfoldable pub value_note : (indent name : List ℕ) → Option Data → List ℕ
+value_note indent name member =
+    if is_no_value member then null_line indent name else []
+
+-- ---- of a request, and of its apps
+
+-- the platform that a request's `os` names
+abbrev pub platform_written : (os : Option Data) → Option Data
+platform_written os = option_and_then (get (codes "platform")) os
+
+-- of a request's own members
+unfoldable pub request_note : (request : Data) → List ℕ
+request_note request =
+    text_note [] (codes "requestid") (get (codes "requestid") request)
+    ++ text_note [] (codes "sessionid") (get (codes "sessionid") request)
+    ++ object_note [] (codes "os") (get (codes "os") request)
+    ++ attribute_note [] (codes "os.platform") (platform_written (get (codes "os") request))
+
+-- before the lines of an app
+abbrev pub indented : List ℕ
+indented = codes "  "
+
+-- of an app's texts; a version's numbers count, however long it is
+unfoldable pub texts_note : (app : Data) → List ℕ
+texts_note app =
+    text_note indented (codes "version") (get (codes "version") app)
+    ++ attribute_note indented (codes "brand") (get (codes "brand") app)
+    ++ attribute_note indented (codes "ap") (get (codes "ap") app)
+    ++ attribute_note indented (codes "lang") (get (codes "lang") app)
+    ++ attribute_note indented (codes "cohort") (get (codes "cohort") app)
+
+-- of all its members
+unfoldable pub app_note : (app : Data) → List ℕ
 app_note app =
-    text_note (codes "version") (get (codes "version") app)
-    ++ text_note (codes "brand") (get (codes "brand") app)
-    ++ text_note (codes "ap") (get (codes "ap") app)
-    ++ text_note (codes "lang") (get (codes "lang") app)
-    ++ text_note (codes "cohort") (get (codes "cohort") app)
-    ++ number_note (codes "installdate") (get (codes "installdate") app)
+    texts_note app
+    ++ number_note indented (codes "installdate") (get (codes "installdate") app)
+    ++ value_note indented (codes "updatecheck") (get (codes "updatecheck") app)
+    ++ value_note indented (codes "ping") (get (codes "ping") app)
+    ++ value_note indented (codes "event") (get (codes "event") app)
 
 -- of each app of a list
 abbrev pub notes_of : Items → List (List ℕ)
 notes_of no_items = []
 notes_of (item app apps) = app_note app ∷ notes_of apps
 
--- of each app of a body, in their order
-abbrev pub apps_written : Data → Option Items
-apps_written top =
-    option_and_then as_array
-    (option_and_then (get (codes "app")) (get (codes "request") top))
+-- the list of a request's apps
+abbrev pub apps_written : (request : Data) → Option Items
+apps_written request = option_and_then as_array (get (codes "app") request)
 
-abbrev pub notes_in : (body : List ℕ) → List (List ℕ)
-notes_in body = notes_of (unwrap_or (option_and_then apps_written (value_in body)) no_items)
+-- of each app of a request, in their order
+abbrev pub app_notes : (request : Data) → List (List ℕ)
+app_notes request = notes_of (unwrap_or (apps_written request) no_items)
+
+-- ---- of a body
+
+-- its member `request`
+abbrev pub request_written : (body : List ℕ) → Option Data
+request_written body = option_and_then (get (codes "request")) (value_in body)
+
+-- of a request, if there is one
+abbrev pub request_note_of : (request : Option Data) → List ℕ
+request_note_of request = unwrap_or (option_map request_note request) []
+
+abbrev pub app_notes_of : (request : Option Data) → List (List ℕ)
+app_notes_of request = unwrap_or (option_map app_notes request) []
+
+-- of the request that a body is
+abbrev pub request_note_in : (body : List ℕ) → List ℕ
+request_note_in body = request_note_of (request_written body)
+
+abbrev pub app_notes_in : (body : List ℕ) → List (List ℕ)
+app_notes_in body = app_notes_of (request_written body)

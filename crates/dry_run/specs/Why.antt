@@ -1,5 +1,5 @@
--- Why the apps of a request get what they get: what is told of each, on the counters as the apps
--- before it leave them.
+-- Why the apps of a request get what they get: what is told of the request itself, and of each app,
+-- on the counters as the apps before it leave them.
 use Rattle.std.specs.Prelude.{◌≡◌, ℕ, ℤ, List, [], ◌∷◌, ◌++◌, length, slice_index_or}
 use Rattle.std.specs.Prelude.{Option, Some, None, Ok, false}
 use Rattle.attrs.specs.Attributes.{Attributes}
@@ -14,7 +14,7 @@ use Rattle.told_cells.specs.Told.{Told}
 use Rattle.dry_run.specs.AppLines.{head_line, offer_line, unasked_line, unknown_lines}
 use Rattle.dry_run.specs.Counters.{AreSetAsTold}
 use Rattle.dry_run.specs.Courses.{TellsCourse}
-use Rattle.dry_run.specs.IgnoredLines.{notes_in}
+use Rattle.dry_run.specs.IgnoredLines.{app_notes_in, request_note_in}
 use Rattle.dry_run.specs.Meanings.{Meaning, meaning_of}
 use Rattle.dry_run.specs.Told.{RepliesAsTold}
 use Rattle.dry_run.specs.declared.why_files.OpenedWhy.{OpenedWhy}
@@ -66,15 +66,22 @@ module _ (rules : Rules) (meanings : List Meaning) (facts : RequestFacts) (momen
         → ExplainsApp app (slice_index_or notes (length apps) []) between choice new text
         → ExplainsApps notes old (apps ++ app ∷ []) (choices ++ choice ∷ []) new (before ++ text)
 
-  -- with some choices
+  -- with some choice
   abbrev pub ExplainsOne : AppFacts → (note old new text : List ℕ) → Type 0
   ExplainsOne app note old new text =
       (choice : Option ℕ) × ExplainsApp app note old choice new text
 
+  -- with some choices
   abbrev pub ExplainsAll : (notes : List (List ℕ)) → (old : List ℕ) → List AppFacts
       → (new text : List ℕ) → Type 0
   ExplainsAll notes old apps new text =
       (choices : List (Option ℕ)) × ExplainsApps notes old apps choices new text
+
+  -- and before them the lines of the request itself
+  abbrev pub ExplainsRequest : (front : List ℕ) → (notes : List (List ℕ)) → (old : List ℕ)
+      → List AppFacts → (new text : List ℕ) → Type 0
+  ExplainsRequest front notes old apps new text =
+      (lines : List ℕ) × ExplainsAll notes old apps new lines × (text ≡ front ++ lines)
 
 -- what is told of the request that a body is, at a moment, where the counters are those that a
 -- server and the words tell
@@ -86,8 +93,10 @@ pub record TellsWhy (o : OpenedWhy) (moment : ℤ) (served words : List Told) (t
   pub asked : request_in o.body.items ≡ Ok request
   pub choices : List (Option ℕ)
   pub left : List ℕ
-  pub reasons : ExplainsApps o.rules o.meanings.items request.facts moment (notes_in o.body.items)
-      counters request.apps choices left text
+  pub lines : List ℕ
+  pub reasons : ExplainsApps o.rules o.meanings.items request.facts moment
+      (app_notes_in o.body.items) counters request.apps choices left lines
+  pub text_is : text ≡ request_note_in o.body.items ++ lines
 
 -- the choices told are those of the reply
 abbrev pub TellsTheReply : Type 0

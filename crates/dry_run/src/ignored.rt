@@ -1,5 +1,6 @@
-//! Which members of a request's apps count as absent, since they are of another kind: the body's
-//! JSON is read once more for them, since who is shown the apps of a request promises nothing.
+//! Which members of a request and of its apps count as absent, since they are of another kind or
+//! too long: the body's JSON is read once more for them, since who is shown the apps of a request
+//! promises nothing.
 
 ghost use Rattle.std.specs.Prelude.{◌≡◌, ◌++◌, [], IfOk, OnOk, map, option_map, string_bytes};
 ghost use Rattle.std.specs.Prelude.{slice_index_or};
@@ -7,20 +8,29 @@ ghost use Rattle.serde_json.specs.View.{view, items_view};
 ghost use Rattle.omaha_json.specs.Request as requests;
 ghost use Rattle.dry_run.specs.IgnoredLines as specs;
 
+use crate::ignored_lines::{
+    push_attribute_note, push_number_note, push_object_note, push_text_note, push_value_note,
+};
 use serde_json::Value;
 use std::alloc::{AllocError, Global};
-use std::fmt::Write;
 
-/// Of each app of a body, in their order, the lines that tell of such members.
-pub(crate) fn notes_in(alloc: Global, body: &[u8]) -> Result<Vec<String>, AllocError>
-    ensures { IfOk result (λ notes. map string_bytes notes.items ≡ specs.notes_in body.now) }
+/// The lines of such members: of the request itself, and of each of its apps.
+#[derive(Drop)]
+pub(crate) struct Notes {
+    pub request: String,
+    pub apps: Vec<String>,
+}
+
+/// The notes of a body, of its apps in their order.
+pub(crate) fn notes_in(alloc: Global, body: &[u8]) -> Result<Notes, AllocError>
+    ensures request { IfOk result (λ notes.
+        string_bytes notes.request ≡ specs.request_note_in body.now) }
+    ensures apps { IfOk result (λ notes.
+        map string_bytes notes.apps.items ≡ specs.app_notes_in body.now) }
 {
-    let Some(top) = value_in(alloc, body)? else {
-        return Ok(Vec::new(alloc));
-    };
-    match apps_written(&top) {
-        Some(apps) => notes_of(alloc, apps.as_slice()),
-        None => Ok(Vec::new(alloc)),
+    match value_in(alloc, body)? {
+        Some(top) => notes_if_some(alloc, top.get("request")),
+        None => notes_if_some(alloc, None),
     }
 }
 
@@ -46,16 +56,75 @@ fn value_in(alloc: Global, body: &[u8]) -> Result<Option<Value>, AllocError>
     }
 }
 
-// The list of its apps.
-fn apps_written(top: &Value) -> Option<&Vec<Value>>
-    ensures { option_map (λ apps. items_view apps.now.items) result
-        ≡ specs.apps_written (view top.now) }
+fn notes_if_some(alloc: Global, request: Option<&Value>) -> Result<Notes, AllocError>
+    ensures request { IfOk result (λ notes. string_bytes notes.request
+        ≡ specs.request_note_of (option_map (λ v. view v.now) request.entry)) }
+    ensures apps { IfOk result (λ notes. map string_bytes notes.apps.items
+        ≡ specs.app_notes_of (option_map (λ v. view v.now) request.entry)) }
 {
-    match top.get("request") {
-        Some(request) => match request.get("app") {
-            Some(apps) => apps.as_array(),
-            None => None,
-        },
+    match request {
+        Some(request) => notes_of_request(alloc, request),
+        None => Ok(Notes {
+            request: String::new(alloc),
+            apps: Vec::new(alloc),
+        }),
+    }
+}
+
+fn notes_of_request(alloc: Global, request: &Value) -> Result<Notes, AllocError>
+    ensures request { IfOk result (λ notes.
+        string_bytes notes.request ≡ specs.request_note (view request.now)) }
+    ensures apps { IfOk result (λ notes.
+        map string_bytes notes.apps.items ≡ specs.app_notes (view request.now)) }
+{
+    let note = request_note(alloc, request)?;
+    let apps = app_notes(alloc, request)?;
+    Ok(Notes {
+        request: note,
+        apps,
+    })
+}
+
+#[tactic(auto, unfolding(crate::specs::IgnoredLines::request_note))]
+fn request_note(alloc: Global, request: &Value) -> Result<String, AllocError>
+    ensures { IfOk result (λ note. string_bytes note ≡ specs.request_note (view request.now)) }
+{
+    let os = request.get("os");
+    let mut note = String::new(alloc);
+    push_text_note(&mut note, "", "requestid", request.get("requestid"))?;
+    push_text_note(&mut note, "", "sessionid", request.get("sessionid"))?;
+    push_object_note(&mut note, "", "os", os)?;
+    push_attribute_note(&mut note, "", "os.platform", platform_written(os))?;
+    Ok(note)
+}
+
+fn platform_written(os: Option<&Value>) -> Option<&Value>
+    ensures { option_map (λ v. view v.now) result
+        ≡ specs.platform_written (option_map (λ v. view v.now) os.entry) }
+{
+    match os {
+        Some(os) => os.get("platform"),
+        None => None,
+    }
+}
+
+fn app_notes(alloc: Global, request: &Value) -> Result<Vec<String>, AllocError>
+    ensures { IfOk result (λ notes. map string_bytes notes.items
+        ≡ specs.app_notes (view request.now)) }
+{
+    match apps_written(request) {
+        Some(apps) => notes_of(alloc, apps.as_slice()),
+        None => Ok(Vec::new(alloc)),
+    }
+}
+
+// The list of its apps.
+fn apps_written(request: &Value) -> Option<&Vec<Value>>
+    ensures { option_map (λ apps. items_view apps.now.items) result
+        ≡ specs.apps_written (view request.now) }
+{
+    match request.get("app") {
+        Some(apps) => apps.as_array(),
         None => None,
     }
 }
@@ -74,73 +143,28 @@ fn notes_of(alloc: Global, apps: &[Value]) -> Result<Vec<String>, AllocError>
     Ok(notes)
 }
 
+#[tactic(auto, unfolding(crate::specs::IgnoredLines::app_note))]
 fn note_of(alloc: Global, app: &Value) -> Result<String, AllocError>
     ensures { IfOk result (λ note. string_bytes note ≡ specs.app_note (view app.now)) }
 {
     let mut note = String::new(alloc);
-    push_text_note(&mut note, "version", app.get("version"))?;
-    push_text_note(&mut note, "brand", app.get("brand"))?;
-    push_text_note(&mut note, "ap", app.get("ap"))?;
-    push_text_note(&mut note, "lang", app.get("lang"))?;
-    push_text_note(&mut note, "cohort", app.get("cohort"))?;
-    push_number_note(&mut note, "installdate", app.get("installdate"))?;
+    push_texts(&mut note, app)?;
+    push_number_note(&mut note, "  ", "installdate", app.get("installdate"))?;
+    push_value_note(&mut note, "  ", "updatecheck", app.get("updatecheck"))?;
+    push_value_note(&mut note, "  ", "ping", app.get("ping"))?;
+    push_value_note(&mut note, "  ", "event", app.get("event"))?;
     Ok(note)
 }
 
-fn push_text_note(note: &mut String, name: &str, member: Option<&Value>) -> Result<(), AllocError>
-    ensures { OnOk result (string_bytes note.new ≡ string_bytes note.old
-        ++ specs.text_note name.now (option_map (λ v. view v.now) member.entry)) }
-{
-    match member {
-        Some(value) if !value.is_string() => push_line(note, name, kind_of(value), "a text"),
-        _ => Ok(()),
-    }
-}
-
-fn push_number_note(note: &mut String, name: &str, member: Option<&Value>) -> Result<(), AllocError>
-    ensures { OnOk result (string_bytes note.new ≡ string_bytes note.old
-        ++ specs.number_note name.now (option_map (λ v. view v.now) member.entry)) }
-{
-    match member {
-        Some(value) if value.as_u64().is_none() => {
-            push_line(note, name, kind_of(value), "a whole number")
-        }
-        _ => Ok(()),
-    }
-}
-
-fn push_line(note: &mut String, name: &str, kind: &str, wanted: &str) -> Result<(), AllocError>
-    ensures { OnOk result (string_bytes note.new ≡ string_bytes note.old
-        ++ specs.ignored_line name.now kind.now wanted.now) }
-{
-    push_ignored(note, name, kind)?;
-    push_wanted(note, wanted)
-}
-
-fn push_ignored(note: &mut String, name: &str, kind: &str) -> Result<(), AllocError>
-    ensures { OnOk result (string_bytes note.new ≡ string_bytes note.old
-        ++ specs.ignored_part name.now kind.now) }
-{
-    write!(note, "  ignored: {name} is {kind}")
-}
-
-fn push_wanted(note: &mut String, wanted: &str) -> Result<(), AllocError>
+// Of the members that have to be texts.
+#[tactic(auto, unfolding(crate::specs::IgnoredLines::texts_note))]
+fn push_texts(note: &mut String, app: &Value) -> Result<(), AllocError>
     ensures { OnOk result
-        (string_bytes note.new ≡ string_bytes note.old ++ specs.wanted_part wanted.now) }
+        (string_bytes note.new ≡ string_bytes note.old ++ specs.texts_note (view app.now)) }
 {
-    writeln!(note, ", where {wanted} is wanted")
-}
-
-// What a value is.
-fn kind_of(value: &Value) -> &'static str
-    ensures { result.now ≡ specs.data_kind (view value.now) }
-{
-    match value {
-        Value::Null => "null",
-        Value::Bool(_) => "a truth value",
-        Value::Number(_) => "a number",
-        Value::String(_) => "a text",
-        Value::Array(_) => "a list",
-        Value::Object(_) => "an object",
-    }
+    push_text_note(note, "  ", "version", app.get("version"))?;
+    push_attribute_note(note, "  ", "brand", app.get("brand"))?;
+    push_attribute_note(note, "  ", "ap", app.get("ap"))?;
+    push_attribute_note(note, "  ", "lang", app.get("lang"))?;
+    push_attribute_note(note, "  ", "cohort", app.get("cohort"))
 }

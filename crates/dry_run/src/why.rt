@@ -11,7 +11,7 @@ ghost use Rattle.dry_run.specs.Why as specs;
 use crate::app_lines::{push_head, push_offer, push_unknown};
 use crate::app_runs::{Course, tell_course};
 use crate::fault::DryRunFault;
-use crate::ignored::{note_at, notes_in};
+use crate::ignored::{Notes, note_at, notes_in};
 use crate::told::counters_as_told;
 use crate::why_files::OpenedWhy;
 use answering::Nobody;
@@ -24,9 +24,10 @@ use std::alloc::{AllocError, Global};
 use told_cells::ToldCell;
 
 /// Why the apps of a body's request get what they get, at a moment, on counters as `reply_as_told`
-/// has them: of each app a first line, of its rule what was tested, and what it is offered; then
-/// its members that count as absent. B7 where the manifest hasn't a cell of the words, or a value
-/// doesn't fit; then O1 to O4. B4 and O5 come where memory is refused.
+/// has them: first the request's members that count as absent; then of each app a first line, of
+/// its rule what was tested, what it is offered, and its members that count as absent. B7 where the
+/// manifest hasn't a cell of the words, or a value doesn't fit; then O1 to O4. B4 and O5 come where
+/// memory is refused.
 // open: whether memory is refused (B4, O5).
 #[tactic(auto, using(crate::proofs::Telling::told_why, crate::proofs::Telling::unread))]
 pub fn why_as_told(
@@ -50,10 +51,35 @@ pub fn why_as_told(
     let Ok(notes) = notes_in(alloc, &why.body) else {
         return Err(DryRunFault::Omaha(OmahaFault::Memory));
     };
-    match explain_apps(alloc, why, &request, moment, &notes, &mut counters) {
+    match explain_request(alloc, why, &request, moment, notes, &mut counters) {
         Ok(text) => Ok(text),
         Err(_) => Err(DryRunFault::Omaha(OmahaFault::Memory)),
     }
+}
+
+// The lines of the request itself, and then those of its apps.
+#[tactic(auto, using(crate::proofs::Explaining::behind))]
+fn explain_request(
+    alloc: Global,
+    why: &OpenedWhy,
+    request: &Request,
+    moment: &Moment,
+    notes: Notes,
+    counters: &mut PlainPass,
+) -> Result<String, AllocError>
+    requires { HaveMeanings why.now.rules.apps why.now.meanings.items }
+    ensures { IfOk result (λ text. specs.ExplainsRequest why.now.rules why.now.meanings.items
+        request.now.facts moment.now (string_bytes notes.entry.request)
+        (map string_bytes notes.entry.apps.items) counters.old request.now.apps counters.new
+        (string_bytes text)) }
+{
+    let Notes {
+        request: mut text,
+        apps,
+    } = notes;
+    let lines = explain_apps(alloc, why, request, moment, &apps, counters)?;
+    text.push_str(lines.as_str())?;
+    Ok(text)
 }
 
 #[tactic(auto, using(crate::proofs::Explaining::none_yet, crate::proofs::Explaining::all_told))]

@@ -112,11 +112,15 @@ pub fn found<R: Files + AllocGlobal>(
     }
 }
 
-/// What is told of the apps of a request at the second 1167696001, or the refusal.
-pub fn explained<R: Files + AllocGlobal>(rt: &R, apps: &str, words: &str) -> Result<String, Fail> {
+/// What is told of a request with these members and apps, at the second 1167696001, or the refusal.
+pub fn explained<R: Files + AllocGlobal>(
+    rt: &R,
+    members: &str,
+    apps: &str,
+    words: &str,
+) -> Result<String, Fail> {
     let alloc = rt.alloc();
-    let front = r#"{"request":{"protocol":"3.1","requestid":"r","app":["#;
-    let body = format!(in alloc; "{front}{apps}]}}}}")?;
+    let body = body_of(alloc, members, apps)?;
     fs::write(rt, "d_why.json", body.as_bytes())?;
     let opened = match open_why(alloc, &Device::new(rt), "d.toml", "d_why.json") {
         Ok(opened) => opened,
@@ -127,4 +131,14 @@ pub fn explained<R: Files + AllocGlobal>(rt: &R, apps: &str, words: &str) -> Res
         Ok(text) => Ok(text),
         Err(fault) => Ok(format!(in alloc; "{fault}")?),
     }
+}
+
+// The body of a request.
+fn body_of(alloc: Global, members: &str, apps: &str) -> Result<String, AllocError> {
+    let mut body = String::from_str(alloc, r#"{"request":{"protocol":"3.1","#)?;
+    body.push_str(members)?;
+    body.push_str(r#""app":["#)?;
+    body.push_str(apps)?;
+    body.push_str("]}}")?;
+    Ok(body)
 }

@@ -1,0 +1,99 @@
+//! What a member of a request is: its kind, how long its text is, and whether it counts as absent,
+//! though it is there.
+
+ghost use Rattle.std.specs.Prelude.{◌≡◌, Some, option_map};
+ghost use Rattle.serde_json.specs.View.{view};
+ghost use Rattle.omaha_json.specs.Ignored as kinds;
+ghost use Rattle.omaha_json.specs.Request as requests;
+ghost use Rattle.dry_run.specs.IgnoredLines as specs;
+
+use serde_json::Value;
+
+/// Whether it is there, and is no text.
+pub(crate) fn is_no_text(member: Option<&Value>) -> bool
+    ensures { result ≡ kinds.is_no_text (option_map (λ v. view v.now) member.entry) }
+{
+    match member {
+        Some(value) => value.as_str().is_none(),
+        None => false,
+    }
+}
+
+/// Whether it is there, and is no whole number from 0 on that fits 64 bits.
+pub(crate) fn is_no_number(member: Option<&Value>) -> bool
+    ensures { result ≡ kinds.is_no_number (option_map (λ v. view v.now) member.entry) }
+{
+    match member {
+        Some(value) => value.as_u64().is_none(),
+        None => false,
+    }
+}
+
+/// Whether it is there, and is no object.
+pub(crate) fn is_no_object(member: Option<&Value>) -> bool
+    ensures { result ≡ specs.is_no_object (option_map (λ v. view v.now) member.entry) }
+{
+    match member {
+        Some(value) => value.as_object().is_none(),
+        None => false,
+    }
+}
+
+/// Whether it is there, and is null.
+pub(crate) fn is_no_value(member: Option<&Value>) -> bool
+    ensures { result ≡ specs.is_no_value (option_map (λ v. view v.now) member.entry) }
+{
+    match member {
+        Some(value) => !is_value(value),
+        None => false,
+    }
+}
+
+fn is_value(value: &Value) -> bool
+    ensures { result ≡ requests.is_value (Some (view value.now)) }
+{
+    !value.is_null()
+}
+
+/// What it is, in words; nothing where it isn't there.
+pub(crate) fn kind_in(member: Option<&Value>) -> &'static str
+    ensures { result.now ≡ specs.kind_in (option_map (λ v. view v.now) member.entry) }
+{
+    match member {
+        Some(value) => kind_of(value),
+        None => "",
+    }
+}
+
+// What a value is.
+fn kind_of(value: &Value) -> &'static str
+    ensures { result.now ≡ specs.data_kind (view value.now) }
+{
+    match value {
+        Value::Null => "null",
+        Value::Bool(_) => "a truth value",
+        Value::Number(_) => "a number",
+        Value::String(_) => "a text",
+        Value::Array(_) => "a list",
+        Value::Object(_) => "an object",
+    }
+}
+
+/// How many bytes its text has; 0 where it is none.
+pub(crate) fn length_in(member: Option<&Value>) -> usize
+    ensures { result ≡ specs.length_in (option_map (λ v. view v.now) member.entry) }
+{
+    match member {
+        Some(value) => length_of(value),
+        None => 0,
+    }
+}
+
+fn length_of(value: &Value) -> usize
+    ensures { result ≡ specs.length_of (view value.now) }
+{
+    match value.as_str() {
+        Some(text) => text.len(),
+        None => 0,
+    }
+}
