@@ -28,6 +28,9 @@ use told_cells::ToldCell;
 /// its rule what was tested, what it is offered, and its members that count as absent. B7 where the
 /// manifest hasn't a cell of the words, or a value doesn't fit; then O1 to O4. B4 and O5 come where
 /// memory is refused.
+///
+/// That an app's lines are those of its rule is by `meanings`, which `open_why` gives: an app for
+/// which they have none is told as a program.
 // open: whether memory is refused (B4, O5).
 #[tactic(auto, using(crate::proofs::Telling::told_why, crate::proofs::Telling::unread))]
 pub fn why_as_told(
