@@ -1,5 +1,5 @@
 -- Files come to no ruleset or no body; and a manifest's files come to rules with their apps.
-use Rattle.std.proofs.Common.{◌≡◌, ◌∙◌, ℕ, List, [], ◌∷◌, Some, None, refl, ap, sym, subst}
+use Rattle.std.proofs.Common.{◌≡◌, ℕ, List, [], Some, None, sym, subst}
 use Rattle.bounded_files.specs.Files.{KnownFiles, Gives, regular_files}
 use Rattle.bounded_files.specs.declared.fault.ResourceFault.TheVariants.{File}
 use Rattle.bounded_files.specs.declared.fault.ResourceFault.TheVariants as resource
@@ -8,16 +8,14 @@ use Rattle.cells.specs.Arrays.{AppShape}
 use Rattle.cells.specs.declared.array.ArrayNo.{ArrayNo}
 use Rattle.cells.specs.declared.array.CellArray.{CellArray}
 use Rattle.acceptance.specs.Rule.{IsTextOf}
-use Rattle.load.specs.App.{IsAppOf}
-use Rattle.load.specs.Apps.{AreAppsOf, none, next}
 use Rattle.load.specs.Gathered.{AreGathered, IsGathered, IsGatheredApp, no_app, next_app}
-use Rattle.load.specs.Judged.{AreJudged, GatheredIsLoaded, IsJudged, app_of, apps_of}
+use Rattle.load.specs.Judged.{AreJudged, GatheredIsLoaded, IsJudged, apps_of}
 use Rattle.load.specs.Judged.{no_program, next_program}
 use Rattle.load.specs.Kept.{IsKeptFrom, Keeps, most_of}
 use Rattle.load.specs.Folder.{known_beside}
 use Rattle.load.specs.Loaded.{IsLoadedFrom}
-use Rattle.load.specs.Made.{IsMadeOf}
-use Rattle.load.specs.Source.{Given, IsProgramGiven, file_of}
+use Rattle.load.specs.Made.{GatheredIsMade, IsMadeOf}
+use Rattle.load.specs.Source.{Given, IsProgramGiven}
 use Rattle.load.specs.declared.gathering.Gathered.{Gathered}
 use Rattle.load.specs.declared.gathering.GatheredApp.{GatheredApp}
 use Rattle.load.specs.declared.kept.KeptFile.{KeptFile}
@@ -28,8 +26,9 @@ use Rattle.manifest.specs.declared.app.ProgramSource.TheVariants as source
 use Rattle.ruleset.specs.Rules.{AppRule, Rules}
 use Rattle.dry_run.specs.Files.{IsBodyFault, IsLoadable, IsOpenFault}
 use Rattle.dry_run.specs.KeptRules.{AreReadFrom, IsReadFrom, IsReadOf, nothing_read, next_read}
-use Rattle.dry_run.specs.Meanings.{AreRulesIn, HasMeaning, HaveMeanings, IsLoadedWhy, IsRuleIn}
-use Rattle.dry_run.specs.Meanings.{Meaning, no_meaning, next_meaning, no_rule, next_rule}
+use Rattle.dry_run.specs.Meanings.{AreRulesKept, HasMeaning, HaveMeanings, IsLoadedWhy}
+use Rattle.dry_run.specs.Meanings.{IsRuleKept, Meaning, no_meaning, next_meaning, no_rule}
+use Rattle.dry_run.specs.Meanings.{next_rule}
 use Rattle.dry_run.specs.declared.fault.DryRunFault.{DryRunFault}
 use Rattle.dry_run.specs.declared.fault.DryRunFault.TheVariants as fault
 
@@ -59,17 +58,15 @@ no_body_why known manifest request rules arrays meanings why is wanting =
 
 -- ---- the rule of an app
 
-rule_from : (known : KnownFiles) (from : ProgramSource) (kept : KeptFile) (shape : AppShape)
-    (program : ShapedProgram) (rule : Meaning) (given : Given)
-    → Gives known (file_of from) given → Keeps (most_of from) given kept
+rule_from : (from : ProgramSource) (kept : KeptFile) (shape : AppShape) (program : ShapedProgram)
+    (rule : Meaning) (given : Given) → Keeps (most_of from) given kept
     → IsProgramGiven from given program → program.shape ≡ shape → IsReadOf from kept shape rule
-    → IsRuleIn known from program rule
-rule_from known (source.Program file) kept shape program rule given gives keeps is same read = read
-rule_from known (source.Rule file) kept shape program rule None gives keeps is same read =
-    absurd is
-rule_from known (source.Rule file) kept shape program rule (Some bytes) gives keeps is same read = (
+    → IsRuleKept from kept program rule
+rule_from (source.Program file) kept shape program rule given keeps is same read = read
+rule_from (source.Rule file) kept shape program rule None keeps is same read = absurd is
+rule_from (source.Rule file) kept shape program rule (Some bytes) keeps is same read = (
   bytes,
-  gives,
+  keeps,
   is,
   read bytes keeps is.rule
       (subst (λ (s : AppShape). IsTextOf bytes s is.rule) same is.text),
@@ -78,79 +75,70 @@ rule_from known (source.Rule file) kept shape program rule (Some bytes) gives ke
 module _ (known : KnownFiles) (directory : List CellArray) (numbers : List ArrayNo) where
   one_rule : (entry : AppEntry) (app : GatheredApp) (program : ShapedProgram) (rule : Meaning)
       → IsGatheredApp known directory numbers entry app → IsJudged app program
-      → IsReadFrom app rule → IsRuleIn known entry.source program rule
+      → IsReadFrom app rule → IsRuleKept app.entry.source app.kept program rule
   one_rule entry app program rule is judged read =
       let kept : IsKeptFrom known app.entry.source app.kept =
       subst (λ (e : AppEntry). IsKeptFrom known e.source app.kept) (sym is.entry_is) is.kept_is in
-      subst (λ (e : AppEntry). IsRuleIn known e.source program rule) is.entry_is
-      (rule_from known app.entry.source app.kept app.shape program rule kept.0 kept.1 kept.2
-      (judged.program_is kept.0 kept.2) judged.shape_is read)
+      rule_from app.entry.source app.kept app.shape program rule kept.0 kept.2
+      (judged.program_is kept.0 kept.2) judged.shape_is read
 
   pub rules_in : {entries : List AppEntry} {apps : List GatheredApp}
       {programs : List ShapedProgram} {rules : List Meaning}
       → AreGathered known directory numbers entries apps → AreJudged apps programs
-      → AreReadFrom apps rules → AreRulesIn known entries (apps_of apps programs) rules
+      → AreReadFrom apps rules → AreRulesKept apps programs rules
   rules_in no_app no_program nothing_read = no_rule
   rules_in (next_app {entry} {app} g gs) (next_program {program} j js)
       (next_read {rule} r rs) =
       next_rule (one_rule entry app program rule g j r) (rules_in gs js rs)
 
-  pub apps_in : {entries : List AppEntry} {apps : List GatheredApp}
-      {programs : List ShapedProgram} → GatheredIsLoaded
-      → AreGathered known directory numbers entries apps → AreJudged apps programs
-      → AreAppsOf known directory numbers entries (apps_of apps programs)
-  apps_in law no_app no_program = none
-  apps_in law (next_app {entry} {app} g gs) (next_program {program} j js) =
-      next ((law.app known directory numbers entry app g).supplied program j)
-      (apps_in law gs js)
-
 -- ---- what they mean
 
-has_meaning : (known : KnownFiles) (from : ProgramSource) (program : ShapedProgram)
-    (rule : Meaning) → IsRuleIn known from program rule → HasMeaning program rule
-has_meaning known (source.Program file) program rule is = subst (HasMeaning program) (sym is) tt
-has_meaning known (source.Rule file) program rule is =
+has_meaning : (from : ProgramSource) (kept : KeptFile) (program : ShapedProgram) (rule : Meaning)
+    → IsRuleKept from kept program rule → HasMeaning program rule
+has_meaning (source.Program file) kept program rule is = subst (HasMeaning program) (sym is) tt
+has_meaning (source.Rule file) kept program rule is =
     subst (HasMeaning program) (sym is.3) is.2.means
 
-pub have_meanings : {known : KnownFiles} {entries : List AppEntry} {apps : List AppRule}
-    {rules : List Meaning} → AreRulesIn known entries apps rules → HaveMeanings apps rules
+pub have_meanings : {apps : List GatheredApp} {programs : List ShapedProgram}
+    {rules : List Meaning} → AreRulesKept apps programs rules
+    → HaveMeanings (apps_of apps programs) rules
 have_meanings no_rule = no_meaning
-have_meanings {known} (next_rule {entry} {app} {rule} is more) =
-    next_meaning (has_meaning known entry.source app.program rule is) (have_meanings more)
+have_meanings (next_rule {app} {program} {rule} is more) =
+    next_meaning (has_meaning app.entry.source app.kept program rule is) (have_meanings more)
 
 -- ---- a load
 
 pub loaded : (known : KnownFiles) (path bytes : List ℕ) (g : Gathered) (made : MadeRuleset)
-    (rules : List Meaning) → GatheredIsLoaded
+    (rules : List Meaning) → GatheredIsLoaded → GatheredIsMade
     → Gives (regular_files known) path (Some bytes)
     → IsGathered (known_beside known path) [] bytes g → IsMadeOf bytes g made
     → AreReadFrom g.apps.items rules
     → IsLoadedWhy known path made.rules made.directory rules
-loaded known path bytes g made rules law given is of read =
+loaded known path bytes g made rules law makes given is of read =
     let beside = known_beside known path in
     let each = (law.manifest beside [] bytes g is).gathered of.programs of.judged in
-    let D : List CellArray → Type 0 = λ d. AreAppsOf beside d is.numbers is.manifest.apps
-    made.rules.apps in
     record {
       load = record {
         bytes = bytes;
         given = given;
-        loaded = record {
-          manifest = is.manifest;
-          read = is.read;
-          numbers = is.numbers;
-          declared = rw of.directory_is is.declared;
-          server_is = of.server_is ∙ is.server_is;
-          apps_are =
-              subst D (sym of.directory_is)
-              (subst (λ (apps : List AppRule). AreAppsOf beside g.directory is.numbers
-              is.manifest.apps apps) (sym of.apps_are)
-              (apps_in beside g.directory is.numbers law each of.judged));
+        loaded = (makes beside [] bytes g is).made made of;
+      };
+      digest = made.digest;
+      made = record {
+        bytes = bytes;
+        given = given;
+        gathered = g;
+        is_gathered = is;
+        made_of = record {
+          programs = of.programs;
+          judged = of.judged;
+          server_is = of.server_is;
+          apps_are = of.apps_are;
+          directory_is = of.directory_is;
+          digest_is = of.digest_is;
         };
       };
-      rules_are =
-          subst (λ (apps : List AppRule). AreRulesIn beside is.manifest.apps apps rules)
-          (sym of.apps_are) (rules_in beside g.directory is.numbers each of.judged read);
+      rules_are = rules_in beside g.directory is.numbers each of.judged read;
     }
 
 pub loaded_meanings : (known : KnownFiles) (path bytes : List ℕ) (g : Gathered)
@@ -159,4 +147,7 @@ pub loaded_meanings : (known : KnownFiles) (path bytes : List ℕ) (g : Gathered
     → IsGathered (known_beside known path) [] bytes g → IsMadeOf bytes g made
     → AreReadFrom g.apps.items rules → HaveMeanings made.rules.apps rules
 loaded_meanings known path bytes g made rules law given is of read =
-    have_meanings (loaded known path bytes g made rules law given is of read).rules_are
+    let beside = known_beside known path in
+    let each = (law.manifest beside [] bytes g is).gathered of.programs of.judged in
+    subst (λ (apps : List AppRule). HaveMeanings apps rules) (sym of.apps_are)
+    (have_meanings (rules_in beside g.directory is.numbers each of.judged read))

@@ -3,12 +3,14 @@ use Rattle.std.specs.Prelude.{◌≡◌, ℕ, List, [], ◌∷◌, Option, Some,
 use Rattle.std.specs.Str.{bytes_eq}
 use Rattle.attrs.specs.Attributes.{Attributes}
 use Rattle.acceptance.specs.Rule.{IsProgramOfRule}
-use Rattle.bounded_files.specs.Files.{KnownFiles, Gives}
+use Rattle.bounded_files.specs.Files.{KnownFiles}
 use Rattle.bpf_semantics.specs.Program.{ShapedProgram}
 use Rattle.cells.specs.declared.array.CellArray.{CellArray}
-use Rattle.load.specs.Folder.{known_beside}
+use Rattle.load.specs.Kept.{Keeps}
 use Rattle.load.specs.Loaded.{IsLoadedFrom}
-use Rattle.manifest.specs.App.{AppEntry}
+use Rattle.load.specs.Made.{IsMadeFrom}
+use Rattle.load.specs.declared.gathering.GatheredApp.{GatheredApp}
+use Rattle.load.specs.declared.kept.KeptFile.{KeptFile}
 use Rattle.manifest.specs.declared.app.ProgramSource.{ProgramSource}
 use Rattle.manifest.specs.declared.app.ProgramSource.TheVariants as source
 use Rattle.rule_compile.specs.Means.{Means}
@@ -39,29 +41,31 @@ pub data HaveMeanings : List AppRule → List Meaning → Type 0 where
       → HasMeaning app.program rule → HaveMeanings apps rules
       → HaveMeanings (app ∷ apps) (rule ∷ rules)
 
-module _ (known : KnownFiles) where
-  -- the rule that a file's text spells, and of which the program is; none where the file is a
-  -- program
-  abbrev pub IsRuleIn : ProgramSource → ShapedProgram → Meaning → Type 0
-  IsRuleIn (source.Program file) program rule = rule ≡ None
-  IsRuleIn (source.Rule file) program rule =
-      (bytes : List ℕ) × Gives known file (Some bytes)
-      × (is : IsProgramOfRule bytes program) × (rule ≡ Some is.rule)
+-- the rule that the kept bytes of an app's file spell, and of which its program is; none where the
+-- file is a program
+abbrev pub IsRuleKept : ProgramSource → KeptFile → ShapedProgram → Meaning → Type 0
+IsRuleKept (source.Program file) kept program rule = rule ≡ None
+IsRuleKept (source.Rule file) kept program rule =
+    (bytes : List ℕ) × Keeps 65536 (Some bytes) kept
+    × (is : IsProgramOfRule bytes program) × (rule ≡ Some is.rule)
 
-  -- of each entry of a manifest, with its app
-  pub data AreRulesIn : List AppEntry → List AppRule → List Meaning → Type 0 where
-    no_rule : AreRulesIn [] [] []
-    next_rule : {entry : AppEntry} {app : AppRule} {rule : Meaning} {entries : List AppEntry}
-        {apps : List AppRule} {rules : List Meaning} → IsRuleIn entry.source app.program rule
-        → AreRulesIn entries apps rules
-        → AreRulesIn (entry ∷ entries) (app ∷ apps) (rule ∷ rules)
+-- of each app that was gathered, with its program
+pub data AreRulesKept : List GatheredApp → List ShapedProgram → List Meaning → Type 0 where
+  no_rule : AreRulesKept [] [] []
+  next_rule : {app : GatheredApp} {program : ShapedProgram} {rule : Meaning}
+      {apps : List GatheredApp} {programs : List ShapedProgram} {rules : List Meaning}
+      → IsRuleKept app.entry.source app.kept program rule → AreRulesKept apps programs rules
+      → AreRulesKept (app ∷ apps) (program ∷ programs) (rule ∷ rules)
 
--- what a manifest comes to: a ruleset with its arrays, and the rule of each app
+-- what a manifest comes to: a ruleset with its arrays, and the rule of each app. The rules are of
+-- the very bytes that were gathered, of which the ruleset is made and its digest is
 pub record IsLoadedWhy (known : KnownFiles) (manifest : List ℕ) (rules : Rules)
     (arrays : List CellArray) (meanings : List Meaning) : Type 0 where
   pub load : IsLoadedFrom known manifest [] rules arrays
-  pub rules_are : AreRulesIn (known_beside known manifest) load.loaded.manifest.apps
-      rules.apps meanings
+  pub digest : List ℕ
+  pub made : IsMadeFrom known manifest []
+      (record { rules = rules; directory = arrays; digest = digest })
+  pub rules_are : AreRulesKept made.gathered.apps.items made.made_of.programs meanings
 
 -- what the files come to: that, and a body
 pub record AreOpenedWhy (known : KnownFiles) (manifest request : List ℕ) (o : OpenedWhy)
