@@ -11,9 +11,9 @@ use Rattle.attrs.specs.Facts.{attributes_of}
 use Rattle.attrs.specs.declared.facts.AppFacts.{AppFacts}
 use Rattle.attrs.specs.declared.facts.RequestFacts.{RequestFacts}
 use Rattle.ruleset.specs.Rules.{AppRule, Rules, IsApp, ListsApp, app_in, app_of}
-use Rattle.dry_run.specs.AppLines.{head_line, offer_line, unasked_line, unknown_lines}
+use Rattle.dry_run.specs.AppLines.{head_line, offer_line, unasked_line, unknown_line}
 use Rattle.dry_run.specs.Courses.{TellsCourse}
-use Rattle.dry_run.specs.Meanings.{HasMeaning, HaveMeanings, Meaning, meaning_of}
+use Rattle.dry_run.specs.Meanings.{HasMeaning, HaveMeanings, KnownRule, meaning_of}
 use Rattle.dry_run.specs.Meanings.{no_meaning, next_meaning}
 use Rattle.dry_run.specs.Why.{ExplainsAll, ExplainsApp, ExplainsApps, ExplainsOne}
 use Rattle.dry_run.specs.Why.{ExplainsRequest}
@@ -27,7 +27,7 @@ abbrev app_or : AppRule → Option AppRule → AppRule
 app_or other (Some app) = app
 app_or other None = other
 
-meant_if : (b : Bool) (app known : AppRule) (rule rest : Meaning) (more : Option AppRule)
+meant_if : (b : Bool) (app known : AppRule) (rule rest : KnownRule) (more : Option AppRule)
     → HasMeaning app.program rule → (more ≡ Some known → HasMeaning known.program rest)
     → (if b then Some app else more) ≡ Some known
     → HasMeaning known.program (if b then rule else rest)
@@ -35,7 +35,7 @@ meant_if true app known rule rest more here there is =
     subst (λ (k : AppRule). HasMeaning k.program rule) (ap (app_or app) is) here
 meant_if false app known rule rest more here there is = there is
 
-pub meant : {apps : List AppRule} {rules : List Meaning} (appid : List ℕ) (known : AppRule)
+pub meant : {apps : List AppRule} {rules : List KnownRule} (appid : List ℕ) (known : AppRule)
     → HaveMeanings apps rules → app_in apps appid ≡ Some known
     → HasMeaning known.program (meaning_of apps rules appid)
 meant appid known no_meaning is = absurd cc
@@ -43,8 +43,8 @@ meant appid known (next_meaning {app} {rule} {apps} {rules} here there) is =
     meant_if (bytes_eq app.appid appid) app known rule (meaning_of apps rules appid)
     (app_in apps appid) here (meant appid known there) is
 
-pub rule_meant : (rules : Rules) (apps : List AppRule) (meanings : List Meaning)
-    (appid : List ℕ) (known : AppRule) (rule : Meaning) → HaveMeanings rules.apps meanings
+pub rule_meant : (rules : Rules) (apps : List AppRule) (meanings : List KnownRule)
+    (appid : List ℕ) (known : AppRule) (rule : KnownRule) → HaveMeanings rules.apps meanings
     → apps ≡ rules.apps → rule ≡ meaning_of apps meanings appid
     → Some known ≡ app_of rules appid → HasMeaning known.program rule
 rule_meant rules apps meanings appid known rule have same is found =
@@ -54,14 +54,14 @@ rule_meant rules apps meanings appid known rule have same is found =
 
 -- ---- an app
 
-module _ (rules : Rules) (meanings : List Meaning) (facts : RequestFacts) (moment : ℤ) where
+module _ (rules : Rules) (meanings : List KnownRule) (facts : RequestFacts) (moment : ℤ) where
   pub unknown_told : (app : AppFacts) (appid note old text : List ℕ) → appid ≡ app.appid
-      → None ≡ app_of rules appid → text ≡ unknown_lines appid ++ note
+      → None ≡ app_of rules appid → text ≡ unknown_line appid ++ note
       → ExplainsOne rules meanings facts moment app note old old text
   unknown_told app appid note old text named found is = (
     None,
     not_known (ap (app_of rules) (sym named) ∙ sym found)
-        (is ∙ ap (λ (name : List ℕ). unknown_lines name ++ note) named),
+        (is ∙ ap (λ (name : List ℕ). unknown_line name ++ note) named),
   )
 
   pub unasked_told : (app told : AppFacts) (appid note old text : List ℕ) (known : AppRule)
@@ -81,7 +81,7 @@ module _ (rules : Rules) (meanings : List Meaning) (facts : RequestFacts) (momen
       )
 
   pub run_told : (app told : AppFacts) (appid note old new text : List ℕ) (known : AppRule)
-      (rule : Meaning) (a : Attributes) (apps : List AppRule) → apps ≡ rules.apps
+      (rule : KnownRule) (a : Attributes) (apps : List AppRule) → apps ≡ rules.apps
       → appid ≡ app.appid → told ≡ app
       → a ≡ attributes_of told facts moment → rule ≡ meaning_of apps meanings appid
       → told.updatecheck ≡ true → Some known ≡ app_of rules appid → IsApp known
@@ -97,8 +97,8 @@ module _ (rules : Rules) (meanings : List Meaning) (facts : RequestFacts) (momen
       let has = subst (λ (name : List ℕ). ListsApp rules name known) named listed in
       let course = subst (λ (b : Attributes). TellsCourse known.program
       (meaning_of rules.apps meanings app.appid) b old run.choice new run.course) of
-      (subst (λ (m : Meaning). TellsCourse known.program m a old run.choice new run.course) here
-      run.told) in
+      (subst (λ (m : KnownRule). TellsCourse known.program m a old run.choice new run.course) here
+      run.course_is) in
       let T : AppFacts → Attributes → Type 0 = λ x b. text ≡ head_line x b.context ++ run.course
       ++ offer_line known.releases run.choice ++ note in (
         Some run.choice,
@@ -106,7 +106,7 @@ module _ (rules : Rules) (meanings : List Meaning) (facts : RequestFacts) (momen
           known = known;
           found = known_as;
           course = run.course;
-          told = course;
+          course_is = course;
           runs = runs_app rules facts moment app known old run.choice course.count new
               course.run asked known_as kept has;
           text_is = subst (T app) of (subst (λ (x : AppFacts). T x a) same run.text_is);
@@ -146,8 +146,8 @@ module _ (rules : Rules) (meanings : List Meaning) (facts : RequestFacts) (momen
       (take (i + 1) apps) choices new t in
       (choices, subst T (sym is) (subst A (sym longer) (next_reason told.1 here)))
 
-pub all_told : (rules : Rules) (meanings : List Meaning) (facts facts' : RequestFacts) (moment : ℤ)
-    (notes : List (List ℕ)) (old : List ℕ) (apps apps' : List AppFacts) (few : ℕ)
+pub all_told : (rules : Rules) (meanings : List KnownRule) (facts facts' : RequestFacts)
+    (moment : ℤ) (notes : List (List ℕ)) (old : List ℕ) (apps apps' : List AppFacts) (few : ℕ)
     (new text : List ℕ) → facts ≡ facts' → apps ≡ apps' → length apps ≤ few
     → ExplainsAll rules meanings facts moment notes old (take few apps) new text
     → ExplainsAll rules meanings facts' moment notes old apps' new text
@@ -158,7 +158,7 @@ all_told rules meanings facts facts' moment notes old apps apps' few new text sa
     ExplainsAll rules meanings f moment notes old apps' new text in
     subst F same (subst A (take_all few apps past ∙ alike) told)
 
-pub behind : (rules : Rules) (meanings : List Meaning) (facts : RequestFacts) (moment : ℤ)
+pub behind : (rules : Rules) (meanings : List KnownRule) (facts : RequestFacts) (moment : ℤ)
     (front : List ℕ) (notes notes' : List (List ℕ)) (old : List ℕ) (apps : List AppFacts)
     (new lines text : List ℕ) → notes ≡ notes' → text ≡ front ++ lines
     → ExplainsAll rules meanings facts moment notes old apps new lines

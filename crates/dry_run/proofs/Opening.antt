@@ -27,7 +27,7 @@ use Rattle.ruleset.specs.Rules.{AppRule, Rules}
 use Rattle.dry_run.specs.Files.{IsBodyFault, IsLoadable, IsOpenFault}
 use Rattle.dry_run.specs.KeptRules.{AreReadFrom, IsReadFrom, IsReadOf, nothing_read, next_read}
 use Rattle.dry_run.specs.Meanings.{AreRulesKept, HasMeaning, HaveMeanings, IsLoadedWhy}
-use Rattle.dry_run.specs.Meanings.{IsRuleKept, Meaning, no_meaning, next_meaning, no_rule}
+use Rattle.dry_run.specs.Meanings.{IsRuleKept, KnownRule, no_meaning, next_meaning, no_rule}
 use Rattle.dry_run.specs.Meanings.{next_rule}
 use Rattle.dry_run.specs.declared.fault.DryRunFault.{DryRunFault}
 use Rattle.dry_run.specs.declared.fault.DryRunFault.TheVariants as fault
@@ -50,7 +50,7 @@ no_body known manifest request rules arrays why is wanting =
     (record { rules = rules; arrays = arrays; loaded = is }) wanting
 
 pub no_body_why : (known : KnownFiles) (manifest request : List ℕ) (rules : Rules)
-    (arrays : List CellArray) (meanings : List Meaning) (why : DryRunFault)
+    (arrays : List CellArray) (meanings : List KnownRule) (why : DryRunFault)
     → IsLoadedWhy known manifest rules arrays meanings → IsBodyFault known request why
     → IsOpenFault known manifest request why
 no_body_why known manifest request rules arrays meanings why is wanting =
@@ -59,7 +59,7 @@ no_body_why known manifest request rules arrays meanings why is wanting =
 -- ---- the rule of an app
 
 rule_from : (from : ProgramSource) (kept : KeptFile) (shape : AppShape) (program : ShapedProgram)
-    (rule : Meaning) (given : Given) → Keeps (most_of from) given kept
+    (rule : KnownRule) (given : Given) → Keeps (most_of from) given kept
     → IsProgramGiven from given program → program.shape ≡ shape → IsReadOf from kept shape rule
     → IsRuleKept from kept program rule
 rule_from (source.Program file) kept shape program rule given keeps is same read = read
@@ -73,7 +73,7 @@ rule_from (source.Rule file) kept shape program rule (Some bytes) keeps is same 
 )
 
 module _ (known : KnownFiles) (directory : List CellArray) (numbers : List ArrayNo) where
-  one_rule : (entry : AppEntry) (app : GatheredApp) (program : ShapedProgram) (rule : Meaning)
+  one_rule : (entry : AppEntry) (app : GatheredApp) (program : ShapedProgram) (rule : KnownRule)
       → IsGatheredApp known directory numbers entry app → IsJudged app program
       → IsReadFrom app rule → IsRuleKept app.entry.source app.kept program rule
   one_rule entry app program rule is judged read =
@@ -83,7 +83,7 @@ module _ (known : KnownFiles) (directory : List CellArray) (numbers : List Array
       (judged.program_is kept.0 kept.2) judged.shape_is read
 
   pub rules_in : {entries : List AppEntry} {apps : List GatheredApp}
-      {programs : List ShapedProgram} {rules : List Meaning}
+      {programs : List ShapedProgram} {rules : List KnownRule}
       → AreGathered known directory numbers entries apps → AreJudged apps programs
       → AreReadFrom apps rules → AreRulesKept apps programs rules
   rules_in no_app no_program nothing_read = no_rule
@@ -93,14 +93,14 @@ module _ (known : KnownFiles) (directory : List CellArray) (numbers : List Array
 
 -- ---- what they mean
 
-has_meaning : (from : ProgramSource) (kept : KeptFile) (program : ShapedProgram) (rule : Meaning)
+has_meaning : (from : ProgramSource) (kept : KeptFile) (program : ShapedProgram) (rule : KnownRule)
     → IsRuleKept from kept program rule → HasMeaning program rule
 has_meaning (source.Program file) kept program rule is = subst (HasMeaning program) (sym is) tt
 has_meaning (source.Rule file) kept program rule is =
     subst (HasMeaning program) (sym is.3) is.2.means
 
 pub have_meanings : {apps : List GatheredApp} {programs : List ShapedProgram}
-    {rules : List Meaning} → AreRulesKept apps programs rules
+    {rules : List KnownRule} → AreRulesKept apps programs rules
     → HaveMeanings (apps_of apps programs) rules
 have_meanings no_rule = no_meaning
 have_meanings (next_rule {app} {program} {rule} is more) =
@@ -109,7 +109,7 @@ have_meanings (next_rule {app} {program} {rule} is more) =
 -- ---- a load
 
 pub loaded : (known : KnownFiles) (path bytes : List ℕ) (g : Gathered) (made : MadeRuleset)
-    (rules : List Meaning) → GatheredIsLoaded → GatheredIsMade
+    (rules : List KnownRule) → GatheredIsLoaded → GatheredIsMade
     → Gives (regular_files known) path (Some bytes)
     → IsGathered (known_beside known path) [] bytes g → IsMadeOf bytes g made
     → AreReadFrom g.apps.items rules
@@ -142,7 +142,7 @@ loaded known path bytes g made rules law makes given is of read =
     }
 
 pub loaded_meanings : (known : KnownFiles) (path bytes : List ℕ) (g : Gathered)
-    (made : MadeRuleset) (rules : List Meaning) → GatheredIsLoaded
+    (made : MadeRuleset) (rules : List KnownRule) → GatheredIsLoaded
     → Gives (regular_files known) path (Some bytes)
     → IsGathered (known_beside known path) [] bytes g → IsMadeOf bytes g made
     → AreReadFrom g.apps.items rules → HaveMeanings made.rules.apps rules

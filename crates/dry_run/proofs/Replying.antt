@@ -14,7 +14,7 @@ use Rattle.omaha_json.specs.Reply.{reply_text}
 use Rattle.ruleset.specs.Rules.{Rules}
 use Rattle.told_cells.specs.Told.{Told}
 use Rattle.dry_run.specs.Counters.{AreSetAsTold, with_cells, with_known}
-use Rattle.dry_run.specs.Meanings.{Meaning}
+use Rattle.dry_run.specs.Meanings.{KnownRule}
 use Rattle.dry_run.specs.Reply.{RepliesToBodyOn}
 use Rattle.dry_run.specs.Told.{RepliesAsTold}
 use Rattle.dry_run.specs.Why.{ExplainsApp, ExplainsApps, TellsTheReply, TellsWhy}
@@ -45,7 +45,7 @@ joined : (a b : List CellEvent) (p m q : List ℕ) → GrewBy IsEvent p a m → 
 joined [] b p m q g h = subst (λ (x : List ℕ). GrewBy IsEvent x b q) g h
 joined (e ∷ es) b p m q g h = (g.0, g.1, joined es b g.0 m q g.2 h)
 
-module _ (rules : Rules) (meanings : List Meaning) (facts : RequestFacts) (moment : ℤ) where
+module _ (rules : Rules) (meanings : List KnownRule) (facts : RequestFacts) (moment : ℤ) where
   pub record OneRuns (app : AppFacts) (choice : Option ℕ) (old new : List ℕ) : Type 0 where
     pub events : List CellEvent
     pub runs : RunsApp rules facts moment app choice events
@@ -58,7 +58,8 @@ module _ (rules : Rules) (meanings : List Meaning) (facts : RequestFacts) (momen
   one_runs (not_asked known found asks is) =
       record { events = []; runs = unasked asks; grown = refl }
   one_runs (was_run told) =
-      record { events = told.told.run.events; runs = told.runs; grown = told.told.run.grown }
+      let run = told.course_is.run in
+      record { events = run.events; runs = told.runs; grown = run.grown }
 
   pub record AllRun (apps : List AppFacts) (choices : List (Option ℕ)) (old new : List ℕ)
       : Type 0 where

@@ -18,7 +18,7 @@ use Rattle.dry_run.specs.KeptRules.{AreReadFrom, IsReadFrom, IsReadOfKept, IsRul
 use Rattle.dry_run.specs.KeptRules.{nothing_read, next_read}
 use Rattle.load.specs.declared.kept.KeptFile.{KeptFile}
 use Rattle.load.specs.declared.kept.KeptFile.TheVariants.{Whole, Longer}
-use Rattle.dry_run.specs.Meanings.{Meaning}
+use Rattle.dry_run.specs.Meanings.{KnownRule}
 
 abbrev rule_or : List Statement → OrFault (List Statement) → List Statement
 rule_or other (Ok rule) = rule
@@ -44,7 +44,7 @@ pub no_rule : (s : AppShape) (text : List ℕ) (line : ℕ) (kind : RuleFaultKin
 no_rule s text line kind one is spelled other =
     none_of s text line kind spelled (one s text) is other.spelled
 
-pub same_text : (s : AppShape) (text bytes : List ℕ) (rule : Meaning) → text ≡ bytes
+pub same_text : (s : AppShape) (text bytes : List ℕ) (rule : KnownRule) → text ≡ bytes
     → IsRuleOfText text s rule → IsRuleOfText bytes s rule
 same_text s text bytes rule same is = subst (λ (t : List ℕ). IsRuleOfText t s rule) same is
 
@@ -53,8 +53,8 @@ no_text s bytes not_text spelled other = absurd (not_text other.utf8)
 
 -- ---- of what is kept
 
-pub whole_read : (s : AppShape) (v : Vec ℕ Global) (rule : Meaning) → IsRuleOfText v.items s rule
-    → IsReadOfKept (Whole v) s rule
+pub whole_read : (s : AppShape) (v : Vec ℕ Global) (rule : KnownRule)
+    → IsRuleOfText v.items s rule → IsReadOfKept (Whole v) s rule
 whole_read s v rule is bytes keeps =
     subst (λ (t : List ℕ). IsRuleOfText t s rule) keeps.0 is
 
@@ -78,20 +78,21 @@ longer_read s kept v count is_text is =
 
 -- ---- the rules of apps, one app more
 
-pub read_more : (all left behind : List GatheredApp) (rules more : List Meaning)
-    (app : GatheredApp) (rule : Meaning)
-    → ((rest : List Meaning) → AreReadFrom left rest → AreReadFrom all (rules ++ rest))
+pub read_more : (all left behind : List GatheredApp) (rules more : List KnownRule)
+    (app : GatheredApp) (rule : KnownRule)
+    → ((rest : List KnownRule) → AreReadFrom left rest → AreReadFrom all (rules ++ rest))
     → left ≡ app ∷ behind → more ≡ rules ++ rule ∷ [] → IsReadFrom app rule
-    → (rest : List Meaning) → AreReadFrom behind rest → AreReadFrom all (more ++ rest)
+    → (rest : List KnownRule) → AreReadFrom behind rest → AreReadFrom all (more ++ rest)
 read_more all left behind rules more app rule so_far is pushed read rest others =
     subst (AreReadFrom all)
-    (sym (append_assoc rules (rule ∷ []) rest) ∙ ap (λ (l : List Meaning). l ++ rest) (sym pushed))
+    (sym (append_assoc rules (rule ∷ []) rest)
+    ∙ ap (λ (l : List KnownRule). l ++ rest) (sym pushed))
     (so_far (rule ∷ rest)
     (subst (λ (l : List GatheredApp). AreReadFrom l (rule ∷ rest)) (sym is)
     (next_read read others)))
 
-pub read_all : (all left : List GatheredApp) (rules : List Meaning)
-    → ((rest : List Meaning) → AreReadFrom left rest → AreReadFrom all (rules ++ rest))
+pub read_all : (all left : List GatheredApp) (rules : List KnownRule)
+    → ((rest : List KnownRule) → AreReadFrom left rest → AreReadFrom all (rules ++ rest))
     → length left < 1 → AreReadFrom all rules
 read_all all [] rules so_far few =
     subst (AreReadFrom all) (append-nil rules) (so_far [] nothing_read)

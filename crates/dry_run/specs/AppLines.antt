@@ -14,8 +14,8 @@ abbrev pub app_front : (name : List ℕ) → List ℕ
 app_front name = codes "app " ++ name ++ codes ": "
 
 -- of an app that the ruleset doesn't know: its name is a client's text
-abbrev pub unknown_lines : (appid : List ℕ) → List ℕ
-unknown_lines appid = app_front (quoted appid) ++ codes "unknown\n"
+abbrev pub unknown_line : (appid : List ℕ) → List ℕ
+unknown_line appid = app_front (quoted appid) ++ codes "unknown\n"
 
 -- a version that can be read, or the client's text that is none
 abbrev pub version_written : (version : List ℕ) → (flags : ℕ) → List ℕ

@@ -16,8 +16,8 @@ cell_in index (Some a) = if nat_lt index a.length then cell_at (a.base + index) 
 cell_in index None = None
 
 -- the cell that is told, where the arrays have it
-abbrev pub cell_of : List CellArray → Told → Option ℕ
-cell_of arrays told = cell_in told.index (array_named told.array arrays)
+abbrev pub told_cell : List CellArray → Told → Option ℕ
+told_cell arrays told = cell_in told.index (array_named told.array arrays)
 
 -- the counters with a value in the place of a cell's, where it fits the cell
 abbrev pub with_value : (counters : List ℕ) → (value cell : ℕ) → Option (List ℕ)
@@ -27,7 +27,7 @@ with_value counters value cell =
 -- the counters with one cell as it is told
 abbrev pub with_cell : List CellArray → (counters : List ℕ) → Told → Option (List ℕ)
 with_cell arrays counters told =
-    option_and_then (with_value counters told.value) (cell_of arrays told)
+    option_and_then (with_value counters told.value) (told_cell arrays told)
 
 -- and with all cells: of one that is told twice the last value stays. There are none where one
 -- isn't there, or its value doesn't fit

@@ -10,7 +10,7 @@ use Rattle.cells.specs.Grown.{GrewBy}
 use Rattle.cells.specs.declared.event.CellEvent.{CellEvent}
 use Rattle.reasons.specs.Told.{TellsRule}
 use Rattle.dry_run.specs.AppLines.{program_line}
-use Rattle.dry_run.specs.Meanings.{Meaning}
+use Rattle.dry_run.specs.Meanings.{KnownRule}
 
 -- from its first instruction to its end, on counters of the values `old`, each of which replies by
 -- its value: it leaves them the values `new`. It takes at most as many instructions as the program
@@ -27,7 +27,7 @@ pub record WholeRun (program : ShapedProgram) (a : Attributes) (old : List ℕ) 
 
 -- how it comes to its choice: by the lines of the program's rule, which means this choice and these
 -- values; or, where the program is no rule, in so many instructions
-abbrev pub IsCourse : Attributes → ShapedProgram → Meaning → (old : List ℕ) → (choice count : ℕ)
+abbrev pub IsCourse : Attributes → ShapedProgram → KnownRule → (old : List ℕ) → (choice count : ℕ)
     → (new text : List ℕ) → Type 0
 IsCourse a program (Some rule) old choice count new text =
     TellsRule a program.shape rule old [] text choice new
@@ -35,7 +35,7 @@ IsCourse a program None old choice count new text =
     text ≡ program_line (length program.code) count
 
 -- what is told of a run
-pub record TellsCourse (program : ShapedProgram) (rule : Meaning) (a : Attributes) (old : List ℕ)
+pub record TellsCourse (program : ShapedProgram) (rule : KnownRule) (a : Attributes) (old : List ℕ)
     (choice : ℕ) (new text : List ℕ) : Type 0 where
   pub count : ℕ
   pub run : WholeRun program a old choice count new

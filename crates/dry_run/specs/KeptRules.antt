@@ -8,29 +8,29 @@ use Rattle.load.specs.declared.kept.KeptFile.{KeptFile}
 use Rattle.manifest.specs.declared.app.ProgramSource.{ProgramSource}
 use Rattle.manifest.specs.declared.app.ProgramSource.TheVariants as source
 use Rattle.rule_lang.specs.declared.rule.Statement.{Statement}
-use Rattle.dry_run.specs.Meanings.{Meaning}
+use Rattle.dry_run.specs.Meanings.{KnownRule}
 
 -- the rule that a text spells, if it spells one
-abbrev pub IsRuleOfText : (bytes : List ℕ) → AppShape → Meaning → Type 0
+abbrev pub IsRuleOfText : (bytes : List ℕ) → AppShape → KnownRule → Type 0
 IsRuleOfText bytes shape rule =
     (spelled : List Statement) → IsTextOf bytes shape spelled → rule ≡ Some spelled
 
 -- the one that the bytes spell of which this is kept
-abbrev pub IsReadOfKept : KeptFile → AppShape → Meaning → Type 0
+abbrev pub IsReadOfKept : KeptFile → AppShape → KnownRule → Type 0
 IsReadOfKept kept shape rule =
     (bytes : List ℕ) → Keeps 65536 (Some bytes) kept → IsRuleOfText bytes shape rule
 
 -- and none of a program's file
-abbrev pub IsReadOf : ProgramSource → KeptFile → AppShape → Meaning → Type 0
+abbrev pub IsReadOf : ProgramSource → KeptFile → AppShape → KnownRule → Type 0
 IsReadOf (source.Program file) kept shape rule = rule ≡ None
 IsReadOf (source.Rule file) kept shape rule = IsReadOfKept kept shape rule
 
-abbrev pub IsReadFrom : GatheredApp → Meaning → Type 0
+abbrev pub IsReadFrom : GatheredApp → KnownRule → Type 0
 IsReadFrom app rule = IsReadOf app.entry.source app.kept app.shape rule
 
 -- of each app
-pub data AreReadFrom : List GatheredApp → List Meaning → Type 0 where
+pub data AreReadFrom : List GatheredApp → List KnownRule → Type 0 where
   nothing_read : AreReadFrom [] []
-  next_read : {app : GatheredApp} {rule : Meaning} {apps : List GatheredApp}
-      {rules : List Meaning} → IsReadFrom app rule → AreReadFrom apps rules
+  next_read : {app : GatheredApp} {rule : KnownRule} {apps : List GatheredApp}
+      {rules : List KnownRule} → IsReadFrom app rule → AreReadFrom apps rules
       → AreReadFrom (app ∷ apps) (rule ∷ rules)

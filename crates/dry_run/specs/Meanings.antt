@@ -20,47 +20,47 @@ use Rattle.dry_run.specs.Files.{AreOpened}
 use Rattle.dry_run.specs.declared.why_files.OpenedWhy.{OpenedWhy}
 
 -- a rule, if there is one
-abbrev pub Meaning : Type 0
-Meaning = Option (List Statement)
+abbrev pub KnownRule : Type 0
+KnownRule = Option (List Statement)
 
 -- the rule of the first app of an appid
-abbrev pub meaning_of : List AppRule → List Meaning → (appid : List ℕ) → Meaning
+abbrev pub meaning_of : List AppRule → List KnownRule → (appid : List ℕ) → KnownRule
 meaning_of (app ∷ apps) (rule ∷ rules) appid =
     if bytes_eq app.appid appid then rule else meaning_of apps rules appid
 meaning_of apps rules appid = None
 
 -- the program has the meaning of the rule, whatever the attributes
-abbrev pub HasMeaning : ShapedProgram → Meaning → Type 0
+abbrev pub HasMeaning : ShapedProgram → KnownRule → Type 0
 HasMeaning program (Some rule) = (a : Attributes) → Means a rule program
 HasMeaning program None = Unit {0}
 
 -- so has each app's of its own
-pub data HaveMeanings : List AppRule → List Meaning → Type 0 where
+pub data HaveMeanings : List AppRule → List KnownRule → Type 0 where
   no_meaning : HaveMeanings [] []
-  next_meaning : {app : AppRule} {rule : Meaning} {apps : List AppRule} {rules : List Meaning}
+  next_meaning : {app : AppRule} {rule : KnownRule} {apps : List AppRule} {rules : List KnownRule}
       → HasMeaning app.program rule → HaveMeanings apps rules
       → HaveMeanings (app ∷ apps) (rule ∷ rules)
 
 -- the rule that the kept bytes of an app's file spell, and of which its program is; none where the
 -- file is a program
-abbrev pub IsRuleKept : ProgramSource → KeptFile → ShapedProgram → Meaning → Type 0
+abbrev pub IsRuleKept : ProgramSource → KeptFile → ShapedProgram → KnownRule → Type 0
 IsRuleKept (source.Program file) kept program rule = rule ≡ None
 IsRuleKept (source.Rule file) kept program rule =
     (bytes : List ℕ) × Keeps 65536 (Some bytes) kept
     × (is : IsProgramOfRule bytes program) × (rule ≡ Some is.rule)
 
 -- of each app that was gathered, with its program
-pub data AreRulesKept : List GatheredApp → List ShapedProgram → List Meaning → Type 0 where
+pub data AreRulesKept : List GatheredApp → List ShapedProgram → List KnownRule → Type 0 where
   no_rule : AreRulesKept [] [] []
-  next_rule : {app : GatheredApp} {program : ShapedProgram} {rule : Meaning}
-      {apps : List GatheredApp} {programs : List ShapedProgram} {rules : List Meaning}
+  next_rule : {app : GatheredApp} {program : ShapedProgram} {rule : KnownRule}
+      {apps : List GatheredApp} {programs : List ShapedProgram} {rules : List KnownRule}
       → IsRuleKept app.entry.source app.kept program rule → AreRulesKept apps programs rules
       → AreRulesKept (app ∷ apps) (program ∷ programs) (rule ∷ rules)
 
 -- what a manifest comes to: a ruleset with its arrays, and the rule of each app. The rules are of
 -- the very bytes that were gathered, of which the ruleset is made and its digest is
 pub record IsLoadedWhy (known : KnownFiles) (manifest : List ℕ) (rules : Rules)
-    (arrays : List CellArray) (meanings : List Meaning) : Type 0 where
+    (arrays : List CellArray) (meanings : List KnownRule) : Type 0 where
   pub load : IsLoadedFrom known manifest [] rules arrays
   pub digest : List ℕ
   pub made : IsMadeFrom known manifest []

@@ -11,33 +11,33 @@ use Rattle.omaha_json.specs.Reply.{reply_text}
 use Rattle.omaha_json.specs.Request.{Request, request_in}
 use Rattle.ruleset.specs.Rules.{AppRule, Rules, app_of}
 use Rattle.told_cells.specs.Told.{Told}
-use Rattle.dry_run.specs.AppLines.{head_line, offer_line, unasked_line, unknown_lines}
+use Rattle.dry_run.specs.AppLines.{head_line, offer_line, unasked_line, unknown_line}
 use Rattle.dry_run.specs.Counters.{AreSetAsTold}
 use Rattle.dry_run.specs.Courses.{TellsCourse}
 use Rattle.dry_run.specs.IgnoredLines.{app_notes_in, request_note_in}
-use Rattle.dry_run.specs.Meanings.{Meaning, meaning_of}
+use Rattle.dry_run.specs.Meanings.{KnownRule, meaning_of}
 use Rattle.dry_run.specs.Told.{RepliesAsTold}
 use Rattle.dry_run.specs.declared.why_files.OpenedWhy.{OpenedWhy}
 
 -- what is told of an app whose program was run, with some choice
-pub record RunIsTold (known : AppRule) (rule : Meaning) (app : AppFacts) (a : Attributes)
+pub record RunIsTold (known : AppRule) (rule : KnownRule) (app : AppFacts) (a : Attributes)
     (note old new text : List ℕ) : Type 0 where
   pub choice : ℕ
   pub course : List ℕ
-  pub told : TellsCourse known.program rule a old choice new course
+  pub course_is : TellsCourse known.program rule a old choice new course
   pub text_is : text ≡ head_line app a.context ++ course ++ offer_line known.releases choice
       ++ note
 
-module _ (rules : Rules) (meanings : List Meaning) (facts : RequestFacts) (moment : ℤ) where
+module _ (rules : Rules) (meanings : List KnownRule) (facts : RequestFacts) (moment : ℤ) where
   -- what is told of an app whose program was run, which is the run by which the app is answered
   pub record TellsRun (app : AppFacts) (note old : List ℕ) (choice : ℕ) (new text : List ℕ)
       : Type 0 where
     pub known : AppRule
     pub found : app_of rules app.appid ≡ Some known
     pub course : List ℕ
-    pub told : TellsCourse known.program (meaning_of rules.apps meanings app.appid)
+    pub course_is : TellsCourse known.program (meaning_of rules.apps meanings app.appid)
         (attributes_of app facts moment) old choice new course
-    pub runs : RunsApp rules facts moment app (Some choice) told.run.events
+    pub runs : RunsApp rules facts moment app (Some choice) course_is.run.events
     pub text_is : text ≡ head_line app (context_of app facts moment) ++ course
         ++ offer_line known.releases choice ++ note
 
@@ -46,7 +46,7 @@ module _ (rules : Rules) (meanings : List Meaning) (facts : RequestFacts) (momen
       → Type 0 where
     -- the ruleset doesn't know it
     not_known : {text : List ℕ} → app_of rules app.appid ≡ None
-        → text ≡ unknown_lines app.appid ++ note → ExplainsApp app note old None old text
+        → text ≡ unknown_line app.appid ++ note → ExplainsApp app note old None old text
     -- it does, and the app asks for no update
     not_asked : {text : List ℕ} (known : AppRule) → app_of rules app.appid ≡ Some known
         → app.updatecheck ≡ false

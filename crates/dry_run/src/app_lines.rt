@@ -14,7 +14,7 @@ use std::fmt::Write;
 /// Adds the lines of an app that the ruleset doesn't know.
 pub(crate) fn push_unknown(text: &mut String, appid: &str) -> Result<(), AllocError>
     ensures { OnOk result
-        (string_bytes text.new ≡ string_bytes text.old ++ specs.unknown_lines appid.now) }
+        (string_bytes text.new ≡ string_bytes text.old ++ specs.unknown_line appid.now) }
 {
     text.push_str("app ")?;
     push_quoted(text, appid)?;

@@ -27,7 +27,7 @@ pub(crate) fn zero_counters(alloc: Global) -> Result<PlainPass, AllocError>
 }
 
 /// Puts the values of cells in place, in their order. False where the arrays have no such cell, or
-/// its value doesn't fit it: the cells before it are set then.
+/// its value doesn't fit it.
 pub(crate) fn set_cells(
     arrays: &[CellArray],
     counters: &mut PlainPass,

@@ -72,15 +72,16 @@ fn explain_request(
 ) -> Result<String, AllocError>
     requires { HaveMeanings why.now.rules.apps why.now.meanings.items }
     ensures { IfOk result (λ text. specs.ExplainsRequest why.now.rules why.now.meanings.items
-        request.now.facts moment.now (string_bytes notes.entry.request)
-        (map string_bytes notes.entry.apps.items) counters.old request.now.apps counters.new
+        request.now.facts moment.now (string_bytes notes.request)
+        (map string_bytes notes.apps.items) counters.old request.now.apps counters.new
         (string_bytes text)) }
 {
     let Notes {
-        request: mut text,
+        request: front,
         apps,
     } = notes;
     let lines = explain_apps(alloc, why, request, moment, &apps, counters)?;
+    let mut text = front;
     text.push_str(lines.as_str())?;
     Ok(text)
 }
@@ -127,21 +128,21 @@ fn explain_app(
         facts.now moment.now app.now note.now counters.old counters.new (string_bytes text)) }
 {
     let appid = app.appid();
-    let told = app.facts();
+    let said = app.facts();
     let Some(known) = why.rules.find(appid) else {
         let text = unknown_app(alloc, appid, note)?;
         return Ok(text);
     };
-    let Ok(attrs) = attrs_of(alloc, told, facts, moment) else {
+    let Ok(attrs) = attrs_of(alloc, said, facts, moment) else {
         return Err(AllocError);
     };
-    if !told.updatecheck {
-        let text = unasked_app(alloc, told, attrs.context(), note)?;
+    if !said.updatecheck {
+        let text = unasked_app(alloc, said, attrs.context(), note)?;
         return Ok(text);
     }
     known.keeps();
     let rule = rule_of(why.rules.apps(), &why.meanings, appid);
-    let text = run_app(alloc, known, rule, told, attrs, note, counters)?;
+    let text = run_app(alloc, known, rule, said, attrs, note, counters)?;
     Ok(text)
 }
 
@@ -162,7 +163,7 @@ fn attrs_of(
 
 fn unknown_app(alloc: Global, appid: &str, note: &str) -> Result<String, AllocError>
     ensures { IfOk result (λ text. string_bytes text
-        ≡ lines.unknown_lines appid.now ++ note.now) }
+        ≡ lines.unknown_line appid.now ++ note.now) }
 {
     let mut text = String::new(alloc);
     push_unknown(&mut text, appid)?;

@@ -1,12 +1,12 @@
 use Rattle.std.proofs.Common.{◌++◌, List, length}
 use Rattle.dry_run.specs.KeptRules.{AreReadFrom}
-use Rattle.dry_run.specs.Meanings.{Meaning}
+use Rattle.dry_run.specs.Meanings.{KnownRule}
 use Rattle.dry_run.proofs.kept_rules.read_rules.Given as goal
 
 -- what is read of the apps that are left, behind the rules so far, is read of all
 abbrev pub invariant-loop-left : goal.invariant-loop-left
 invariant-loop-left l =
-    (rest : List Meaning) → AreReadFrom l.left rest
+    (rest : List KnownRule) → AreReadFrom l.left rest
     → AreReadFrom l.fn.apps (l.rules.items ++ rest)
 
 abbrev pub decreases-loop-left : goal.decreases-loop-left

@@ -1,6 +1,6 @@
 use Rattle.std.proofs.Common.{◌∙◌, List, ap}
 use Rattle.dry_run.proofs.Explaining.{run_told, unasked_told, unknown_told}
-use Rattle.dry_run.specs.Meanings.{Meaning, meaning_of}
+use Rattle.dry_run.specs.Meanings.{KnownRule, meaning_of}
 use Rattle.dry_run.proofs.why.explain_app.Goals as goal
 
 pub returns-in_default : goal.returns-in_default
@@ -9,13 +9,13 @@ returns-in_default c =
     c.args.moment.now c.args.app.now c.appid-appid.result.now c.args.note.now c.args.counters.now _
     c.appid-appid.ensures c.in_default.ensures.found c.in_ok-text.ensures
 
-pub returns-then-not-told : goal.returns-then-not-told
-returns-then-not-told c =
+pub returns-then-not-said : goal.returns-then-not-said
+returns-then-not-said c =
     unasked_told c.args.why.now.rules c.args.why.now.meanings.items c.args.facts.now
-    c.args.moment.now c.args.app.now c.facts-told.result.now c.appid-appid.result.now
+    c.args.moment.now c.args.app.now c.facts-said.result.now c.appid-appid.result.now
     c.args.note.now c.args.counters.now _ c.in-Some.known.now c.in-Ok.attrs c.context.result
-    c.appid-appid.ensures c.in-Some.ensures.found c.facts-told.ensures c.in-Ok.ensures
-    c.context.ensures c.if-not-told.true c.in_ok-text-2.ensures
+    c.appid-appid.ensures c.in-Some.ensures.found c.facts-said.ensures c.in-Ok.ensures
+    c.context.ensures c.if-not-said.true c.in_ok-text-2.ensures
 
 pub returns : goal.returns
 returns c =
@@ -23,9 +23,9 @@ returns c =
     let appid = c.appid-appid.result.now in
     let ruled =
     c.rule_of-rule.ensures
-    ∙ ap (λ (all : List Meaning). meaning_of apps all appid) c.deref.ensures.value in
+    ∙ ap (λ (all : List KnownRule). meaning_of apps all appid) c.deref.ensures.value in
     run_told c.args.why.now.rules c.args.why.now.meanings.items c.args.facts.now c.args.moment.now
-    c.args.app.now c.facts-told.result.now appid c.args.note.now c.args.counters.now _ _
+    c.args.app.now c.facts-said.result.now appid c.args.note.now c.args.counters.now _ _
     c.in-Some.known.now _ c.in-Ok.attrs apps c.apps.ensures c.appid-appid.ensures
-    c.facts-told.ensures c.in-Ok.ensures ruled c.if-not-told.false c.in-Some.ensures.found
+    c.facts-said.ensures c.in-Ok.ensures ruled c.if-not-said.false c.in-Some.ensures.found
     c.keeps.ensures c.in-Some.ensures.known c.in_ok-text-3.ensures
