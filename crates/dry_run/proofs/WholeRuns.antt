@@ -1,6 +1,6 @@
--- Whole runs of an app's program: by the machine, and by a rule that means the same.
+-- Whole runs of an app's program: step by step, and by a rule that means the same.
 use Rattle.std.proofs.Common.{◌≡◌, ◌∙◌, ℕ, ◌≤◌, List, [], ◌∷◌, length, ap, sym, subst, arith}
-use Rattle.std.proofs.Common.{Some, true}
+use Rattle.std.proofs.Common.{Option, Some, None, true}
 use Rattle.std.specs.Prelude.{ℤ, All}
 use Rattle.std.proofs.lemmas.List.Elements.{All-head, All-tail}
 use Rattle.attrs.specs.Attributes.{Attributes, AreShort, kept_text}
@@ -9,20 +9,22 @@ use Rattle.attrs.specs.Facts.{attributes_of}
 use Rattle.attrs.specs.declared.facts.AppFacts.{AppFacts}
 use Rattle.attrs.specs.declared.facts.RequestFacts.{RequestFacts}
 use Rattle.answering.specs.Apps.{RunsApp, ran}
-use Rattle.bpf_machine.specs.StandsFor.{Held, RunStandsFor, Runs}
 use Rattle.bpf_semantics.specs.Program.{ShapedProgram}
 use Rattle.bpf_semantics.specs.Run.{Ends, last, more, asked}
 use Rattle.bpf_semantics.specs.State.{State, opening}
 use Rattle.bpf_verify.specs.Covers.{AreLawful, HasPossibleReply, IsCovered}
 use Rattle.bpf_verify.specs.Covers.{EndsWell, RunsAreLawful, RunsEndWell, ends, goes, asks}
 use Rattle.cells.specs.Arrays.{AppShape}
-use Rattle.cells.specs.Events.{CanReply, IsEvent}
+use Rattle.cells.specs.Events.{CanReply}
 use Rattle.cells.specs.declared.event.CellEvent.{CellEvent}
 use Rattle.cells.specs.declared.event.CellOp.{CellOp}
 use Rattle.reasons.specs.Told.{TellsRule}
 use Rattle.rule_compile.specs.Means.{Means}
 use Rattle.rule_lang.specs.declared.rule.Statement.{Statement}
 use Rattle.ruleset.specs.Rules.{AppRule, Rules, IsApp, ListsApp, app_of, appid_of}
+use Rattle.trace.specs.Trace.{IsTraced}
+use Rattle.trace.specs.declared.jump.Jump.{Jump}
+use Rattle.dry_run.specs.AppLines.{program_line}
 use Rattle.dry_run.specs.Courses.{TellsCourse, WholeRun}
 use Rattle.dry_run.proofs.Courses.{differs, choice_of, state_of, cell_of, op_of, next_of}
 
@@ -57,7 +59,7 @@ brief {p} (asks {cell} {op} {next} e w) fits (asked {e = d} {es} e' r) =
     brief (subst (EndsWell p) (ap (λ o. next_of next o d.reply) same) (w d.reply fit))
     (All-tail HasPossibleReply d es fits) r
 
--- ---- by a rule, and by the machine
+-- ---- by a rule, and step by step
 
 pub by_meaning : (p : ShapedProgram) (a : Attributes) (rule : List Statement)
     (old : List ℕ) (choice : ℕ) (new text : List ℕ) (shape : AppShape) (before : List ℕ)
@@ -90,21 +92,28 @@ by_meaning p a rule old choice new text shape before same fresh means ranges sho
       text_is = told;
     }
 
-pub by_machine : (p : ShapedProgram) (a : Attributes) (run : Held) (old : List ℕ)
-    (choice count : ℕ) (new : List ℕ) → run.program ≡ p → RunStandsFor run (opening a)
-    → Runs IsEvent run old new choice count → count ≤ length run.program.code
-    → choice ≤ run.program.shape.releases → WholeRun p a old choice count new
-by_machine p a run old choice count new same stands runs short among = record {
-  events = runs.events;
-  grown = runs.grown;
-  ends =
-      subst (λ (z : ShapedProgram). Ends z (opening a) runs.events choice count) same
-      (runs.ends (opening a) stands);
-  short = subst (λ (z : ShapedProgram). count ≤ length z.code) same short;
-  among = subst (λ (z : ShapedProgram). choice ≤ z.shape.releases) same among;
-  fits = runs.fits;
-  lawful = subst (λ (z : ShapedProgram). AreLawful z.shape runs.events) same runs.lawful;
-}
+pub by_trace : (p : ShapedProgram) (a held : Attributes) (old new : List ℕ) (choice count : ℕ)
+    (steps text : List ℕ) (jump : Option Jump) → held ≡ a
+    → IsTraced p (opening held) old new choice count steps jump → count ≤ length p.code
+    → choice ≤ p.shape.releases → text ≡ program_line (length p.code) count jump
+    → TellsCourse p None a old choice new text
+by_trace p a held old new choice count steps text jump same traced short among is =
+    let run : IsTraced p (opening a) old new choice count steps jump =
+    subst (λ (b : Attributes). IsTraced p (opening b) old new choice count steps jump) same traced
+    in
+    record {
+      count = count;
+      run = record {
+        events = run.events;
+        grown = run.grown;
+        ends = run.ends;
+        short = short;
+        among = among;
+        fits = run.fits;
+        lawful = run.lawful;
+      };
+      text_is = is ∙ ap (program_line (length p.code) count) run.jump_is;
+    }
 
 -- ---- an app is answered by it
 

@@ -6,6 +6,7 @@ use Rattle.attrs.specs.declared.facts.AppFacts.{AppFacts}
 use Rattle.printing.specs.Printed.{printed}
 use Rattle.reasons.specs.Quoted.{quoted}
 use Rattle.releases.specs.Release.{Release}
+use Rattle.trace.specs.declared.jump.Jump.{Jump}
 
 -- ---- the first line
 
@@ -54,12 +55,27 @@ program_words = codes "  by a program of "
 abbrev pub slots_part : (slots : ℕ) → List ℕ
 slots_part slots = program_words ++ decimal slots ++ codes " slots"
 
-unfoldable pub trace_words : List ℕ
-trace_words = codes " instructions, which run --trace tells\n"
+-- how many instructions its run takes
+abbrev pub count_part : (count : ℕ) → List ℕ
+count_part count = codes ", in " ++ decimal count ++ codes " instructions, "
 
--- of a program that is no rule: how many slots it has, and in how many instructions its run ended
-abbrev pub program_line : (slots count : ℕ) → List ℕ
-program_line slots count = slots_part slots ++ codes ", in " ++ decimal count ++ trace_words
+-- a jump that a run took
+unfoldable pub jump_words : List ℕ
+jump_words = codes "the last jump from slot "
+
+abbrev pub taken_line : Jump → List ℕ
+taken_line jump =
+    jump_words ++ decimal jump.from ++ codes " to slot " ++ decimal jump.to ++ codes "\n"
+
+-- the last one, if a run took one
+abbrev pub jump_line : Option Jump → List ℕ
+jump_line (Some jump) = taken_line jump
+jump_line None = codes "without a jump\n"
+
+-- of a program that is no rule: how many slots it has, in how many instructions its run ended, and
+-- the last jump that the run took
+abbrev pub program_line : (slots count : ℕ) → Option Jump → List ℕ
+program_line slots count jump = slots_part slots ++ count_part count ++ jump_line jump
 
 abbrev pub update_line : (version : List ℕ) → List ℕ
 update_line version = codes "  update to " ++ printed version ++ codes "\n"

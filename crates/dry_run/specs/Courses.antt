@@ -9,6 +9,7 @@ use Rattle.cells.specs.Events.{IsEvent}
 use Rattle.cells.specs.Grown.{GrewBy}
 use Rattle.cells.specs.declared.event.CellEvent.{CellEvent}
 use Rattle.reasons.specs.Told.{TellsRule}
+use Rattle.trace.specs.Jumps.{last_jump_of}
 use Rattle.dry_run.specs.AppLines.{program_line}
 use Rattle.dry_run.specs.Meanings.{KnownRule}
 
@@ -26,17 +27,19 @@ pub record WholeRun (program : ShapedProgram) (a : Attributes) (old : List ℕ) 
   pub lawful : AreLawful program.shape events
 
 -- how it comes to its choice: by the lines of the program's rule, which means this choice and these
--- values; or, where the program is no rule, in so many instructions
-abbrev pub IsCourse : Attributes → ShapedProgram → KnownRule → (old : List ℕ) → (choice count : ℕ)
-    → (new text : List ℕ) → Type 0
-IsCourse a program (Some rule) old choice count new text =
+-- values; or, where the program is no rule, in so many instructions, and by which jump at last
+abbrev pub IsCourse : (a : Attributes) (program : ShapedProgram) → KnownRule → (old : List ℕ)
+    → (choice count : ℕ) → (new : List ℕ) → WholeRun program a old choice count new
+    → (text : List ℕ) → Type 0
+IsCourse a program (Some rule) old choice count new run text =
     TellsRule a program.shape rule old [] text choice new
-IsCourse a program None old choice count new text =
+IsCourse a program None old choice count new run text =
     text ≡ program_line (length program.code) count
+    (last_jump_of program (opening a) run.events choice count run.ends)
 
 -- what is told of a run
 pub record TellsCourse (program : ShapedProgram) (rule : KnownRule) (a : Attributes) (old : List ℕ)
     (choice : ℕ) (new text : List ℕ) : Type 0 where
   pub count : ℕ
   pub run : WholeRun program a old choice count new
-  pub text_is : IsCourse a program rule old choice count new text
+  pub text_is : IsCourse a program rule old choice count new run text

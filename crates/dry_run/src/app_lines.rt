@@ -10,6 +10,7 @@ use reasons::push_quoted;
 use releases::Release;
 use std::alloc::AllocError;
 use std::fmt::Write;
+use trace::Jump;
 
 /// Adds the lines of an app that the ruleset doesn't know.
 pub(crate) fn push_unknown(text: &mut String, appid: &str) -> Result<(), AllocError>
@@ -87,13 +88,38 @@ fn push_bucket(text: &mut String, context: Context) -> Result<(), AllocError>
 }
 
 /// Adds the line of a program that is no rule.
-pub(crate) fn push_program(text: &mut String, slots: usize, count: u32) -> Result<(), AllocError>
+pub(crate) fn push_program(
+    text: &mut String,
+    slots: usize,
+    count: u32,
+    last_jump: Option<Jump>,
+) -> Result<(), AllocError>
     ensures { OnOk result (string_bytes text.new
-        ≡ string_bytes text.old ++ specs.program_line slots count) }
+        ≡ string_bytes text.old ++ specs.program_line slots count last_jump) }
 {
     push_slots(text, slots)?;
-    write!(text, ", in {count}")?;
-    text.push_str(trace_words())
+    write!(text, ", in {count} instructions, ")?;
+    push_jump(text, last_jump)
+}
+
+fn push_jump(text: &mut String, last_jump: Option<Jump>) -> Result<(), AllocError>
+    ensures { OnOk result
+        (string_bytes text.new ≡ string_bytes text.old ++ specs.jump_line last_jump) }
+{
+    match last_jump {
+        Some(jump) => push_taken(text, jump),
+        None => text.push_str("without a jump\n"),
+    }
+}
+
+fn push_taken(text: &mut String, jump: Jump) -> Result<(), AllocError>
+    ensures { OnOk result
+        (string_bytes text.new ≡ string_bytes text.old ++ specs.taken_line jump) }
+{
+    let from = jump.from;
+    let to = jump.to;
+    text.push_str(jump_words())?;
+    writeln!(text, "{from} to slot {to}")
 }
 
 fn push_slots(text: &mut String, slots: usize) -> Result<(), AllocError>
@@ -111,11 +137,11 @@ fn program_words() -> &'static str
     "  by a program of "
 }
 
-#[tactic(auto, unfolding(crate::specs::AppLines::trace_words))]
-fn trace_words() -> &'static str
-    ensures { result.now ≡ specs.trace_words }
+#[tactic(auto, unfolding(crate::specs::AppLines::jump_words))]
+fn jump_words() -> &'static str
+    ensures { result.now ≡ specs.jump_words }
 {
-    " instructions, which run --trace tells\n"
+    "the last jump from slot "
 }
 
 /// Adds what a choice offers.

@@ -1,22 +1,20 @@
 //! How an app's program comes to its choice, on counters of one thread: by its rule, line by line;
-//! or, where it is no rule, as the machine runs it.
+//! or, where it is no rule, by a run of it, step by step.
 
-ghost use Rattle.std.specs.Prelude.{◌≡◌, false, IfOk, Some, None, option_copied, string_bytes};
+ghost use Rattle.std.specs.Prelude.{IfOk, Some, None, option_copied, string_bytes};
 ghost use Rattle.std.specs.Arc.{arc_value};
-ghost use Rattle.bpf_machine.specs.StandsFor.{RunStandsFor};
-ghost use Rattle.bpf_semantics.specs.State.{opening};
 ghost use Rattle.dry_run.specs.Courses as specs;
 ghost use Rattle.dry_run.specs.Meanings.{HasMeaning};
 
 use crate::app_lines::push_program;
 use attrs::Attrs;
-use bpf_machine::Run;
 use bpf_verify::Verified;
-use cells::{PlainCells, PlainPass};
+use cells::PlainPass;
 use reasons::tell_rule;
 use rule_lang::Rule;
 use std::alloc::{AllocError, Global};
 use std::sync::Arc;
+use trace::{TracedRun, trace_on};
 
 /// What a program chooses, and what is told of that.
 #[derive(Drop)]
@@ -64,48 +62,27 @@ fn tell_meaning(
     Ok(Course { choice, text })
 }
 
-// As the machine runs it.
+// By a run, whose steps are counted, and of whose jumps the last one is told.
+#[tactic(auto, using(crate::proofs::WholeRuns::by_trace))]
 fn tell_machine(
     alloc: Global,
-    program: &Arc<Verified>,
+    program: &Verified,
     attrs: Attrs,
     counters: &mut PlainPass,
 ) -> Result<Course, AllocError>
-    ensures { IfOk result (λ c. specs.TellsCourse (arc_value program.now) None attrs counters.old
-        c.choice counters.new (string_bytes c.text)) }
-{
-    let (choice, count) = run_program(alloc, program, attrs, counters)?;
-    let verified: &Verified = program;
-    let mut text = String::new(alloc);
-    push_program(&mut text, verified.len(), count)?;
-    Ok(Course { choice, text })
-}
-
-// The choice of a program, and how many instructions its run takes.
-#[tactic(auto, using(crate::proofs::WholeRuns::by_machine))]
-fn run_program(
-    alloc: Global,
-    program: &Arc<Verified>,
-    attrs: Attrs,
-    counters: &mut PlainPass,
-) -> Result<(u8, u32), AllocError>
-    ensures { IfOk result (λ r. specs.WholeRun (arc_value program.now) attrs counters.old r.0 r.1
-        counters.new) }
-{
-    let run = start(alloc, program, attrs)?;
-    Ok(run.run(&PlainCells, counters))
-}
-
-fn start(alloc: Global, program: &Arc<Verified>, attrs: Attrs) -> Result<Run, AllocError>
-    ensures program { IfOk result (λ r. r.program ≡ arc_value program.now) }
-    ensures stands { IfOk result (λ r. RunStandsFor r (opening attrs)) }
-    ensures going { IfOk result (λ r. r.is_done ≡ false) }
+    ensures { IfOk result (λ c. specs.TellsCourse program.now None attrs counters.old c.choice
+        counters.new (string_bytes c.text)) }
 {
     let Ok(attrs) = Arc::new(alloc, attrs) else {
         return Err(AllocError);
     };
-    match Arc::try_clone(program) {
-        Ok(program) => Ok(Run::start(program, attrs)),
-        Err(_) => Err(AllocError),
-    }
+    let TracedRun {
+        text: _steps,
+        choice,
+        count,
+        last_jump,
+    } = trace_on(alloc, program, attrs, counters)?;
+    let mut text = String::new(alloc);
+    push_program(&mut text, program.len(), count, last_jump)?;
+    Ok(Course { choice, text })
 }

@@ -11,8 +11,9 @@
 // Why an app gets what it gets is told app by app, on counters of the same values. Where an app has
 // a rule, its lines are told, and no program is run: the program was made of the very rule, so it
 // has its meaning, and on counters of given values a run has one course. Where a program is no
-// rule, the machine runs it. The manifest and its files are gathered once (`why_files.rt`), and the
-// text of a rule, which has one verdict, is parsed once more for its meaning (`kept_rules.rt`).
+// rule, it is run step by step, as `run --trace` runs it, but on these counters. The manifest and
+// its files are gathered once (`why_files.rt`), and the text of a rule, which has one verdict, is
+// parsed once more for its meaning (`kept_rules.rt`).
 
 mod app_lines;
 mod app_runs;

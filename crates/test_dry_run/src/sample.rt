@@ -41,8 +41,22 @@ required = true
 const RULE: &[u8] =
     b"when version < 1.2 and today >= 1 and take(early, 0) offer 1;\notherwise none;\n";
 
-/// `mov r0, 1` and `exit`.
-const PROGRAM: [u8; 16] = [183, 0, 0, 0, 1, 0, 0, 0, 149, 0, 0, 0, 0, 0, 0, 0];
+/// It counts in `seen[0]`, and chooses nothing the first time:
+///
+/// ```text
+/// 0: ldcell r6, 1, 0
+/// 2: mov r2, 1
+/// 3: faddw [r6+0], r2
+/// 4: mov r0, 1
+/// 5: jne r2, 0, +1
+/// 6: mov r0, 0
+/// 7: exit
+/// ```
+const PROGRAM: [u8; 64] = [
+    24, 102, 0, 0, 1, 0, 0, 0, 0, 0, 0, 0, 0, 0, 0, 0, 183, 2, 0, 0, 1, 0, 0, 0, 195, 38, 0, 0, 1,
+    0, 0, 0, 183, 0, 0, 0, 1, 0, 0, 0, 85, 2, 1, 0, 0, 0, 0, 0, 183, 0, 0, 0, 0, 0, 0, 0, 149, 0,
+    0, 0, 0, 0, 0, 0,
+];
 
 /// Bodies, by the names of their files.
 const BODIES: [(&str, &[u8]); 5] = [

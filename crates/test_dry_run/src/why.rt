@@ -8,7 +8,7 @@ use std::test::Fail;
 
 /// The apps of a request, the cells of words, and what is told at the second 1167696001, which lies
 /// on day 1.
-const ROWS: [(&str, &str, &str); 13] = [
+const ROWS: [(&str, &str, &str); 14] = [
     ("", "", ""),
     (
         r#"{"appid":"x","version":"1.1","cohort":"b:0007","updatecheck":{}}"#,
@@ -88,15 +88,27 @@ app \"y\": unknown
     (
         r#"{"appid":"z","version":"6","cohort":"b:0007","brand":{},"updatecheck":{}},
 {"appid":"x","cohort":"b:0008","installdate":-1,"updatecheck":{}}"#,
-        "",
+        "seen[0]=3",
         "app z: version 6, bucket 7 by its cohort, day 1
-  by a program of 2 slots, in 2 instructions, which run --trace tells
+  by a program of 8 slots, in 6 instructions, the last jump from slot 5 to slot 7
   update to 7
   ignored: brand is an object, where a text is wanted
 app x: no version, bucket 8 by its cohort, day 1
   line 1: version < 1.2 yes; today >= 1 yes; take(early, 0): yes, 0 of 2
   update to 1.2
   ignored: installdate is a number, where a whole number from 0 on is wanted
+",
+    ),
+    (
+        r#"{"appid":"z","cohort":"b:0007","updatecheck":{}},
+{"appid":"z","cohort":"b:0008","updatecheck":{}}"#,
+        "",
+        "app z: no version, bucket 7 by its cohort, day 1
+  by a program of 8 slots, in 7 instructions, without a jump
+  no update
+app z: no version, bucket 8 by its cohort, day 1
+  by a program of 8 slots, in 6 instructions, the last jump from slot 5 to slot 7
+  update to 7
 ",
     ),
     (
