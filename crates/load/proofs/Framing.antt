@@ -5,7 +5,7 @@ use Rattle.std.specs.Prelude.{option_map, option_and_then}
 use Rattle.sha2.specs.Hashers.{Holds256}
 use Rattle.sha2.specs.Sha256.{sha256}
 use Rattle.sha2.specs.declared.Sha256.{Sha256}
-use Rattle.load.specs.Digest.{framed, framed_file, framed_files, digest_of}
+use Rattle.load.specs.Digest.{framed, framed_file, framed_files}
 use Rattle.load.specs.declared.gathering.GatheredApp.{GatheredApp}
 use Rattle.load.specs.declared.kept.KeptFile.{KeptFile}
 use Rattle.load.specs.declared.kept.KeptFile.TheVariants.{Unread, Whole, Longer}

@@ -25,6 +25,7 @@ use Rattle.load.specs.Judged.{GatheredIsLoaded}
 use Rattle.load.specs.Kept.{IsKeptFrom, long_count}
 use Rattle.load.specs.Load.{IsLoadFault, of_apps}
 use Rattle.load.specs.Source.{IsProgramIn, RefusesSource}
+use Rattle.load.proofs.Failing.{first_failed}
 use Rattle.load.proofs.Keeping.{fault_of, none_long, program_of}
 
 -- ---- read one after another
@@ -91,15 +92,14 @@ module _ (known : KnownFiles) (directory : List CellArray) (numbers : List Array
       shape_is = subst (λ (s : AppShape). IsShapeOf directory numbers entry s)
           (sym judged.shape_is) h.shape_is;
       program_is = subst (λ (e : AppEntry). IsProgramIn known e.source program) h.entry_is
-          (program_of known one.entry.source program kept.0 kept.1
-          (judged.program_is kept.0 kept.2));
+          (program_of known one.entry.source one.kept kept program judged.program_is);
     }
 
     source_refused : (fault : AppFault) → RefusesGathered one fault
         → RefusesSource known entry.source one.shape fault
     source_refused fault refused =
         subst (λ (e : AppEntry). RefusesSource known e.source one.shape fault) h.entry_is
-        (fault_of known one.entry.source one.shape fault kept.0 kept.1 (refused kept.0 kept.2))
+        (fault_of known one.entry.source one.kept kept one.shape fault refused)
 
     app_refused : (fault : AppFault) → RefusesGathered one fault
         → RefusesApp known directory numbers entry fault
@@ -112,14 +112,10 @@ module _ (known : KnownFiles) (directory : List CellArray) (numbers : List Array
 
 module _ (known : KnownFiles) (directory : List CellArray) (numbers : List ArrayNo) where
   -- what has a program isn't longer than it may be
-  still_few : (long : ℕ) (entry : AppEntry) (one : GatheredApp) (p : ShapedProgram)
-      → IsGatheredApp known directory numbers entry one → IsJudged one p → long ≤ most_long
-      → long + long_count one.kept ≤ most_long
-  still_few long entry one p h j few =
-      let kept : IsKeptFrom known one.entry.source one.kept =
-      subst (λ (e : AppEntry). IsKeptFrom known e.source one.kept) (sym h.entry_is) h.kept_is in
-      let none = none_long one.entry.source one.kept kept.0 p kept.2 (j.program_is kept.0 kept.2) in
-      omega (arith, few, none)
+  still_few : (long : ℕ) (one : GatheredApp) (p : ShapedProgram) → IsJudged one p
+      → long ≤ most_long → long + long_count one.kept ≤ most_long
+  still_few long one p j few =
+      let none = none_long one.entry.source one.kept p j.program_is in omega (arith, few, none)
 
   all_gathered : (long : ℕ) (entries : List AppEntry) (apps : List GatheredApp)
       (programs : List ShapedProgram) {unread : ℕ} → long ≤ most_long
@@ -134,7 +130,7 @@ module _ (known : KnownFiles) (directory : List CellArray) (numbers : List Array
       (next_program j rest) =
       next_app h
       (all_gathered (long + long_count a.kept) entries apps programs
-      (still_few long e a p h j few) more rest)
+      (still_few long a p j few) more rest)
 
   are_apps : (entries : List AppEntry) (apps : List GatheredApp) (programs : List ShapedProgram)
       → AreGathered known directory numbers entries apps → AreJudged apps programs
@@ -228,5 +224,6 @@ gathered_is_loaded = record {
           (all_of known old bytes g is programs judged) judged;
     };
     refused = load_refused known old bytes g is;
+    failed = λ number refused. first_failed g.apps.items refused;
   };
 }

@@ -1,7 +1,6 @@
 -- From what is kept of a file to what its bytes come to, and to what is counted.
-use Rattle.std.proofs.Common.{◌≡◌, ◌≢◌, ℕ, ◌<◌, ◌≤◌, List, length, Vec, Bool, true, false}
+use Rattle.std.proofs.Common.{◌≡◌, ◌≢◌, ℕ, ◌<◌, List, length, Vec, Bool, true, false}
 use Rattle.std.proofs.Common.{Some, None, Result, Ok, Err, IfOk, IfErr, refl, sym, ap, ◌∙◌, subst}
-use Rattle.std.proofs.Common.{arith}
 use Rattle.std.specs.Prelude.{◌↔◌, IsTrue, IsUtf8}
 use Rattle.std.specs.declared.alloc.Global.{Global}
 use Rattle.acceptance.specs.Rule.{no_rule, no_text}
@@ -16,11 +15,7 @@ use Rattle.flow_check.specs.declared.fault.FlowFault.TheVariants as flow
 use Rattle.flow_check.specs.declared.fault.FlowRule.TheVariants.{TooLong}
 use Rattle.manifest.specs.declared.app.ProgramSource.{ProgramSource}
 use Rattle.manifest.specs.declared.app.ProgramSource.TheVariants as source
-use Rattle.rule_lang.specs.Parts.{OrFault}
-use Rattle.rule_lang.specs.Tokens.{Text as RuleText}
-use Rattle.rule_lang.specs.Verdicts.{IsVerdict, too_long, no_token, a_rule}
-use Rattle.rule_lang.specs.Verdicts.IsVerdict.{no_rule as no_grammar}
-use Rattle.rule_lang.specs.declared.rule.Statement.{Statement}
+use Rattle.rule_lang.specs.Verdicts.{too_long}
 use Rattle.rule_lang.specs.declared.fault.RuleFault.TheVariants.{At}
 use Rattle.rule_lang.specs.declared.fault.RuleFaultKind.TheVariants as kind
 use Rattle.load.specs.declared.fault.AppFault.{AppFault}
@@ -29,13 +24,13 @@ use Rattle.load.specs.declared.kept.KeptFile.{KeptFile}
 use Rattle.load.specs.declared.kept.KeptFile.TheVariants.{Unread, Whole, Longer}
 use Rattle.load.specs.App.{CountsApp}
 use Rattle.load.specs.Kept.{CountsFile, FailsIfUnread}
-use Rattle.load.specs.Kept.{IsKeptFrom, IsLonger, Keeps, long_count, most_of}
-use Rattle.load.specs.Source.{Given, IsProgramFrom, IsProgramGiven, IsProgramIn}
-use Rattle.load.specs.Source.{RefusesBytes, RefusesFile, RefusesGiven, RefusesSource, RefusesText}
-use Rattle.load.specs.Source.{file_of}
-use Rattle.load.proofs.Long.{long_verdict, no_program}
+use Rattle.load.specs.Kept.{IsKeptFrom, IsLonger, IsProgramKept, Keeps, RefusesKept}
+use Rattle.load.specs.Kept.{long_count, most_of}
+use Rattle.load.specs.Source.{Given, IsProgramFrom, IsProgramIn, RefusesBytes, RefusesFile}
+use Rattle.load.specs.Source.{RefusesSource, RefusesText, file_of}
+use Rattle.load.proofs.Long.{long_verdict}
 
-no_file : (from : ProgramSource) (bytes : List ℕ) (shape : AppShape)
+pub no_file : (from : ProgramSource) (bytes : List ℕ) (shape : AppShape)
     → RefusesFile from bytes shape app.File → ⊥
 no_file (source.Program file) bytes shape h = h
 no_file (source.Rule file) bytes shape h = h
@@ -46,44 +41,28 @@ in_result (Err fault) = fault
 
 -- ---- a file that couldn't be read
 
-unread_file : (from : ProgramSource) (most : ℕ) (shape : AppShape) (given : Given)
-    → Keeps most given Unread → RefusesGiven from given shape app.File
-unread_file from most shape None k = tt
-unread_file from most shape (Some bytes) k = absurd k
-
-pub unread_fault : (from : ProgramSource) (most : ℕ) (kept : KeptFile) (shape : AppShape)
-    → kept ≡ Unread → (given : Given) → Keeps most given kept
-    → RefusesGiven from given shape app.File
-unread_fault from most kept shape is given k =
-    unread_file from most shape given (subst (λ (x : KeptFile). Keeps most given x) is k)
+pub unread_fault : (from : ProgramSource) (kept : KeptFile) (shape : AppShape) → kept ≡ Unread
+    → RefusesKept from kept shape app.File
+unread_fault from kept shape is =
+    subst (λ (x : KeptFile). RefusesKept from x shape app.File) (sym is) tt
 
 -- ---- one that is kept whole
 
-whole_is : (most : ℕ) (v : Vec ℕ Global) (given : Given) → Keeps most given (Whole v)
-    → given ≡ Some v.items
-whole_is most v None k = absurd k
-whole_is most v (Some bytes) k = subst (λ (b : List ℕ). Some b ≡ Some v.items) k.0 refl
-
-module _ (from : ProgramSource) (most : ℕ) (kept : KeptFile) (v : Vec ℕ Global) (bytes : List ℕ)
+module _ (from : ProgramSource) (kept : KeptFile) (v : Vec ℕ Global) (bytes : List ℕ)
     (is : kept ≡ Whole v) (same : bytes ≡ v.items) where
-  gave : (given : Given) → Keeps most given kept → Some bytes ≡ given
-  gave given k =
-      subst (λ (b : List ℕ). Some b ≡ given) (sym same)
-      (sym (whole_is most v given (subst (λ (x : KeptFile). Keeps most given x) is k)))
-
   pub whole_program : (r : Result ShapedProgram AppFault) → IfOk r (IsProgramFrom from bytes)
-      → IfOk r (λ p. (given : Given) → Keeps most given kept → IsProgramGiven from given p)
-  whole_program (Ok p) h = λ given k.
-      subst (λ (g : Given). IsProgramGiven from g p) (gave given k) h
+      → IfOk r (IsProgramKept from kept)
+  whole_program (Ok p) h =
+      subst (λ (x : KeptFile). IsProgramKept from x p) (sym is)
+      (subst (λ (b : List ℕ). IsProgramFrom from b p) same h)
   whole_program (Err fault) h = tt
 
   pub whole_fault : (shape : AppShape) (r : Result ShapedProgram AppFault)
-      → IfErr r (RefusesFile from bytes shape)
-      → IfErr r (λ fault. (given : Given) → Keeps most given kept
-      → RefusesGiven from given shape fault)
+      → IfErr r (RefusesFile from bytes shape) → IfErr r (RefusesKept from kept shape)
   whole_fault shape (Ok p) h = tt
-  whole_fault shape (Err fault) h = λ given k.
-      subst (λ (g : Given). RefusesGiven from g shape fault) (gave given k) h
+  whole_fault shape (Err fault) h =
+      subst (λ (x : KeptFile). RefusesKept from x shape fault) (sym is)
+      (subst (λ (b : List ℕ). RefusesFile from b shape fault) same h)
 
   other_fault : (shape : AppShape) (r : Result ShapedProgram AppFault)
       → IfErr r (RefusesFile from bytes shape) → r ≢ Err app.File
@@ -114,25 +93,14 @@ pub no_text_at_all : (bytes : List ℕ) (shape : AppShape) (is_text : Bool) → 
 no_text_at_all bytes shape is_text fails utf8 =
     (no_text (λ h. let both = sym fails ∙ utf8.1 h in absurd cc), refl)
 
-longer_given : (from : ProgramSource) (beginning : Vec ℕ Global) (count : ℕ) (is_text : Bool)
-    (shape : AppShape) (fault : AppFault)
-    → ((bytes : List ℕ) (s : AppShape) → IsLonger from is_text bytes
-    → RefusesFile from bytes s fault)
-    → (given : Given) → Keeps (most_of from) given (Longer beginning count is_text)
-    → RefusesGiven from given shape fault
-longer_given from beginning count is_text shape fault refuses None k = absurd k
-longer_given from beginning count is_text shape fault refuses (Some bytes) k =
-    refuses bytes shape (k.1, k.3)
-
 module _ (from : ProgramSource) (kept : KeptFile) (beginning : Vec ℕ Global) (count : ℕ)
     (is_text : Bool) (fault : AppFault) (is : kept ≡ Longer beginning count is_text) where
   pub longer_fault : (shape : AppShape)
       → ((bytes : List ℕ) (s : AppShape) → IsLonger from is_text bytes
-      → RefusesFile from bytes s fault)
-      → (given : Given) → Keeps (most_of from) given kept → RefusesGiven from given shape fault
-  longer_fault shape refuses given k =
-      longer_given from beginning count is_text shape fault refuses given
-      (subst (λ (x : KeptFile). Keeps (most_of from) given x) is k)
+      → RefusesFile from bytes s fault) → RefusesKept from kept shape fault
+  longer_fault shape refuses =
+      subst (λ (x : KeptFile). RefusesKept from x shape fault) (sym is)
+      (λ bytes longer. refuses bytes shape longer)
 
   pub longer_read : (X : Type 0) → fault ≢ app.File → FailsIfUnread {X = X} kept (Err fault)
   longer_read X other =
@@ -141,26 +109,11 @@ module _ (from : ProgramSource) (kept : KeptFile) (beginning : Vec ℕ Global) (
 
 -- ---- what has a program isn't longer
 
-rule_short : {s : AppShape} {text : RuleText} {v : OrFault (List Statement)}
-    (rule : List Statement) → IsVerdict s text v → v ≡ Ok rule → length text ≤ 65536
-rule_short rule (too_long long) is = absurd cc
-rule_short rule (no_token short e) is = short
-rule_short rule (no_grammar before after p short lexed begins none) is = short
-rule_short rule (a_rule short lexed r) is = short
-
-none_longer : (from : ProgramSource) (bytes : List ℕ) (p : ShapedProgram)
-    → most_of from < length bytes → IsProgramFrom from bytes p → ⊥
-none_longer (source.Program file) bytes p long h = no_program bytes p.code long h.are.bytes_are
-none_longer (source.Rule file) bytes p long h =
-    omega (arith, long, rule_short h.rule h.text.spelled refl)
-
-pub none_long : (from : ProgramSource) (kept : KeptFile) (given : Given) (p : ShapedProgram)
-    → Keeps (most_of from) given kept → IsProgramGiven from given p → long_count kept ≡ 0
-none_long from Unread given p k h = refl
-none_long from (Whole v) given p k h = refl
-none_long from (Longer v n is_text) None p k h = absurd k
-none_long from (Longer v n is_text) (Some bytes) p k h =
-    absurd (none_longer from bytes p k.1 h)
+pub none_long : (from : ProgramSource) (kept : KeptFile) (p : ShapedProgram)
+    → IsProgramKept from kept p → long_count kept ≡ 0
+none_long from Unread p h = absurd h
+none_long from (Whole v) p h = refl
+none_long from (Longer v n is_text) p h = absurd h
 
 -- ---- what is counted
 
@@ -212,35 +165,68 @@ kept_counts known name old new most k file h as_file count =
 
 -- ---- the program of the file
 
-pub program_of : (known : KnownFiles) (from : ProgramSource) (p : ShapedProgram) (given : Given)
-    → Gives known (file_of from) given → IsProgramGiven from given p → IsProgramIn known from p
-program_of known from p None gives h = absurd h
-program_of known from p (Some bytes) gives h = (bytes, gives, h)
+whole_is : (most : ℕ) (v : Vec ℕ Global) (bytes : List ℕ) → Keeps most (Some bytes) (Whole v)
+    → v.items ≡ bytes
+whole_is most v bytes k = k.0
 
-pub fault_of : (known : KnownFiles) (from : ProgramSource) (shape : AppShape) (fault : AppFault)
-    (given : Given) → Gives known (file_of from) given → RefusesGiven from given shape fault
+file_refused : (known : KnownFiles) (from : ProgramSource) (shape : AppShape) (fault : AppFault)
+    (bytes : List ℕ) → Gives known (file_of from) (Some bytes) → RefusesFile from bytes shape fault
     → RefusesSource known from shape fault
-fault_of known from shape app.File None gives h = gives
-fault_of known from shape app.Memory None gives h = tt
-fault_of known from shape (app.Program fault) None gives h = absurd h
-fault_of known from shape (app.Rule fault) None gives h = absurd h
-fault_of known from shape app.File (Some bytes) gives h = absurd (no_file from bytes shape h)
-fault_of known from shape app.Memory (Some bytes) gives h = tt
-fault_of known from shape (app.Program fault) (Some bytes) gives h = (bytes, gives, h)
-fault_of known from shape (app.Rule fault) (Some bytes) gives h = (bytes, gives, h)
+file_refused known from shape app.File bytes gives h = absurd (no_file from bytes shape h)
+file_refused known from shape app.Memory bytes gives h = tt
+file_refused known from shape (app.Program fault) bytes gives h = (bytes, gives, h)
+file_refused known from shape (app.Rule fault) bytes gives h = (bytes, gives, h)
+
+unread_refused : (known : KnownFiles) (from : ProgramSource) (shape : AppShape) (fault : AppFault)
+    → Gives known (file_of from) None → RefusesKept from Unread shape fault
+    → RefusesSource known from shape fault
+unread_refused known from shape app.File gives h = gives
+unread_refused known from shape app.Memory gives h = tt
+unread_refused known from shape (app.Program fault) gives h = absurd h
+unread_refused known from shape (app.Rule fault) gives h = absurd h
+
+module _ (known : KnownFiles) (from : ProgramSource) where
+  program_given : (kept : KeptFile) (p : ShapedProgram) (given : Given)
+      → Gives known (file_of from) given → Keeps (most_of from) given kept
+      → IsProgramKept from kept p → IsProgramIn known from p
+  program_given Unread p given gives k h = absurd h
+  program_given (Longer v n is_text) p given gives k h = absurd h
+  program_given (Whole v) p None gives k h = absurd k
+  program_given (Whole v) p (Some bytes) gives k h = (
+    bytes,
+    gives,
+    subst (λ (b : List ℕ). IsProgramFrom from b p) (whole_is (most_of from) v bytes k) h,
+  )
+
+  fault_given : (kept : KeptFile) (shape : AppShape) (fault : AppFault) (given : Given)
+      → Gives known (file_of from) given → Keeps (most_of from) given kept
+      → RefusesKept from kept shape fault → RefusesSource known from shape fault
+  fault_given Unread shape fault None gives k h = unread_refused known from shape fault gives h
+  fault_given Unread shape fault (Some bytes) gives k h = absurd k
+  fault_given (Whole v) shape fault None gives k h = absurd k
+  fault_given (Whole v) shape fault (Some bytes) gives k h =
+      file_refused known from shape fault bytes gives
+      (subst (λ (b : List ℕ). RefusesFile from b shape fault)
+      (whole_is (most_of from) v bytes k) h)
+  fault_given (Longer v n is_text) shape fault None gives k h = absurd k
+  fault_given (Longer v n is_text) shape fault (Some bytes) gives k h =
+      file_refused known from shape fault bytes gives (h bytes (k.1, k.3))
 
 module _ (known : KnownFiles) (from : ProgramSource) (kept : KeptFile)
     (is : IsKeptFrom known from kept) where
-  pub program_in : (r : Result ShapedProgram AppFault)
-      → IfOk r (λ p. (given : Given) → Keeps (most_of from) given kept
-      → IsProgramGiven from given p)
+  pub program_of : (p : ShapedProgram) → IsProgramKept from kept p → IsProgramIn known from p
+  program_of p h = program_given known from kept p is.0 is.1 is.2 h
+
+  pub fault_of : (shape : AppShape) (fault : AppFault) → RefusesKept from kept shape fault
+      → RefusesSource known from shape fault
+  fault_of shape fault h = fault_given known from kept shape fault is.0 is.1 is.2 h
+
+  pub program_in : (r : Result ShapedProgram AppFault) → IfOk r (IsProgramKept from kept)
       → IfOk r (IsProgramIn known from)
-  program_in (Ok p) h = program_of known from p is.0 is.1 (h is.0 is.2)
+  program_in (Ok p) h = program_of p h
   program_in (Err fault) h = tt
 
   pub fault_in : (shape : AppShape) (r : Result ShapedProgram AppFault)
-      → IfErr r (λ fault. (given : Given) → Keeps (most_of from) given kept
-      → RefusesGiven from given shape fault)
-      → IfErr r (RefusesSource known from shape)
+      → IfErr r (RefusesKept from kept shape) → IfErr r (RefusesSource known from shape)
   fault_in shape (Ok p) h = tt
-  fault_in shape (Err fault) h = fault_of known from shape fault is.0 is.1 (h is.0 is.2)
+  fault_in shape (Err fault) h = fault_of shape fault h

@@ -3,7 +3,10 @@ mod Long
 mod Keeping
 mod Slices
 mod Gathers
+mod Failing
 mod Framing
+mod Whole
+mod LongBytes
 mod InTurn
 mod Knowing
 mod Names

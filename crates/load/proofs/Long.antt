@@ -30,7 +30,7 @@ laid_length (i ∷ is) =
     let slots : length (layout (i ∷ is)) ≡ 1 + length (layout is) = omega arith in
     omega (arith, long, bytes, slots, laid_length is)
 
-pub no_program : (bytes : List ℕ) (p : Program) → 32768 < length bytes → IsAcceptedAs bytes p → ⊥
+no_program : (bytes : List ℕ) (p : Program) → 32768 < length bytes → IsAcceptedAs bytes p → ⊥
 no_program bytes p long a =
     let laid : length (program_bytes p) ≡ 8 * length p =
     ap (λ (q : Program). length (program_bytes q)) a.0.program.1 ∙ laid_length a.0.program.0

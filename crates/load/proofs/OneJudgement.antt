@@ -1,7 +1,7 @@
 -- What is gathered of apps has one judgement: it is one list of programs, or one first fault.
-use Rattle.std.proofs.Common.{◌≡◌, ◌≢◌, ℕ, suc, List, [], ◌∷◌, Some, None, Result, Ok, Err}
+use Rattle.std.proofs.Common.{◌≡◌, ◌≢◌, ℕ, suc, List, [], ◌∷◌, Vec, Bool, Result, Ok, Err}
 use Rattle.std.proofs.Common.{refl, sym, ◌∙◌, ap, subst}
-use Rattle.std.specs.List.{AllByRecursion}
+use Rattle.std.specs.declared.alloc.Global.{Global}
 use Rattle.bpf_insn.specs.Program.{Program}
 use Rattle.bpf_semantics.specs.Program.{ShapedProgram, shaped}
 use Rattle.bpf_verify.specs.Accepted as verify
@@ -13,18 +13,22 @@ use Rattle.load.specs.declared.fault.LoadFault.{LoadFault}
 use Rattle.load.specs.declared.fault.LoadFault.TheVariants.{Manifest as NoManifest, Cells, File}
 use Rattle.load.specs.declared.fault.LoadFault.TheVariants.{Program as NoProgram, Rule, Memory}
 use Rattle.load.specs.declared.gathering.GatheredApp.{GatheredApp}
+use Rattle.load.specs.declared.kept.KeptFile.{KeptFile}
+use Rattle.load.specs.declared.kept.KeptFile.TheVariants.{Unread, Whole, Longer}
+use Rattle.manifest.specs.declared.app.ProgramSource.{ProgramSource}
 use Rattle.load.specs.Apps.{in_app}
 use Rattle.load.specs.Judged.{AreJudged, next_program, IsJudged, RefusesGathered}
 use Rattle.load.specs.Judged.{IsFirstRefused, here, there}
-use Rattle.load.specs.Kept.{Keeps, most_of}
-use Rattle.load.specs.OneLoad.{HasOneJudgement, Judges, WasGiven}
-use Rattle.load.specs.Source.{Given, IsProgramFrom}
+use Rattle.load.specs.Kept.{IsProgramKept, RefusesKept}
+use Rattle.load.specs.OneLoad.{HasOneJudgement, Judges}
+use Rattle.load.specs.Source.{IsProgramFrom}
+use Rattle.load.proofs.LongBytes.{longer}
 use Rattle.load.proofs.OneProgram.{ComesTo, same_program}
 
--- what an app comes to
-abbrev Comes : GatheredApp → Result ShapedProgram AppFault → Type 0
-Comes one (Ok p) = IsJudged one p
-Comes one (Err fault) = RefusesGathered one fault
+-- what is kept of a file comes to, under a shape
+abbrev Comes : ProgramSource → KeptFile → AppShape → Result ShapedProgram AppFault → Type 0
+Comes from kept shape (Ok p) = (p.shape ≡ shape) × IsProgramKept from kept p
+Comes from kept shape (Err fault) = RefusesKept from kept shape fault
 
 abbrev code_of : Result ShapedProgram AppFault → Result Program AppFault
 code_of (Ok p) = Ok p.code
@@ -42,103 +46,122 @@ abbrev program_in : Result ShapedProgram AppFault → ShapedProgram → ShapedPr
 program_in (Ok p) other = p
 program_in (Err fault) other = other
 
-of_bytes : (one : GatheredApp) (bytes : List ℕ)
-    → Keeps (most_of one.entry.source) (Some bytes) one.kept
-    → (r : Result ShapedProgram AppFault) → Comes one r
-    → ComesTo one.entry.source bytes one.shape (code_of r)
-of_bytes one bytes k (Ok p) h =
-    subst (λ (s : AppShape). IsProgramFrom one.entry.source bytes (shaped p.code s)) h.shape_is
-    (h.program_is (Some bytes) k)
-of_bytes one bytes k (Err fault) h = h (Some bytes) k
-
 known : (r : Result ShapedProgram AppFault) → r ≢ Err app.Memory → code_of r ≢ Err app.Memory
 known (Ok p) other = λ e. absurd cc
 known (Err fault) other = λ e. other (ap (λ f. Err f) (ap fault_in e))
 
 -- of a file that couldn't be read
-unread : (one : GatheredApp) → Keeps (most_of one.entry.source) None one.kept
-    → (r : Result ShapedProgram AppFault) → Comes one r → r ≢ Err app.Memory → r ≡ Err app.File
-unread one k (Ok p) h other = absurd (h.program_is None k)
-unread one k (Err app.File) h other = refl
-unread one k (Err app.Memory) h other = absurd (other refl)
-unread one k (Err (app.Program fault)) h other = absurd (h None k)
-unread one k (Err (app.Rule fault)) h other = absurd (h None k)
+unread : (from : ProgramSource) (shape : AppShape) (r : Result ShapedProgram AppFault)
+    → Comes from Unread shape r → r ≢ Err app.Memory → r ≡ Err app.File
+unread from shape (Ok p) h other = absurd h.1
+unread from shape (Err app.File) h other = refl
+unread from shape (Err app.Memory) h other = absurd (other refl)
+unread from shape (Err (app.Program fault)) h other = absurd h
+unread from shape (Err (app.Rule fault)) h other = absurd h
 
-same_parts : (one : GatheredApp) (r s : Result ShapedProgram AppFault) → Comes one r
-    → Comes one s → code_of r ≡ code_of s → r ≡ s
-same_parts one (Ok p) (Ok q) h k same =
+-- of its bytes, where all are kept; and of such bytes as a longer one may have
+whole_bytes : (from : ProgramSource) (v : Vec ℕ Global) (shape : AppShape)
+    (r : Result ShapedProgram AppFault) → Comes from (Whole v) shape r
+    → ComesTo from v.items shape (code_of r)
+whole_bytes from v shape (Ok p) h =
+    subst (λ (s : AppShape). IsProgramFrom from v.items (shaped p.code s)) h.0 h.1
+whole_bytes from v shape (Err fault) h = h
+
+longer_bytes : (from : ProgramSource) (v : Vec ℕ Global) (count : ℕ) (is_text : Bool)
+    (shape : AppShape) (r : Result ShapedProgram AppFault)
+    → Comes from (Longer v count is_text) shape r
+    → ComesTo from (longer from is_text).0 shape (code_of r)
+longer_bytes from v count is_text shape (Ok p) h = absurd h.1
+longer_bytes from v count is_text shape (Err fault) h =
+    h (longer from is_text).0 (longer from is_text).1
+
+same_parts : (from : ProgramSource) (kept : KeptFile) (shape : AppShape)
+    (r s : Result ShapedProgram AppFault) → Comes from kept shape r → Comes from kept shape s
+    → code_of r ≡ code_of s → r ≡ s
+same_parts from kept shape (Ok p) (Ok q) h k same =
     let code : p.code ≡ q.code = ap (λ (c : Result Program AppFault). code_in c q.code) same in
     ap (λ x. Ok x)
     (ap (λ (c : Program). shaped c p.shape) code
-    ∙ ap (λ (s : AppShape). shaped q.code s) (h.shape_is ∙ sym k.shape_is))
-same_parts one (Ok p) (Err f) h k same = absurd cc
-same_parts one (Err e) (Ok q) h k same = absurd cc
-same_parts one (Err e) (Err f) h k same = ap (λ x. Err x) (ap fault_in same)
+    ∙ ap (λ (s : AppShape). shaped q.code s) (h.0 ∙ sym k.0))
+same_parts from kept shape (Ok p) (Err f) h k same = absurd cc
+same_parts from kept shape (Err e) (Ok q) h k same = absurd cc
+same_parts from kept shape (Err e) (Err f) h k same = ap (λ x. Err x) (ap fault_in same)
 
 module _ (judged : (p : Program) (shape : AppShape) → verify.ProgramHasOneVerdict p shape)
     (told : (shape : AppShape) (text : List ℕ) → rules.RuleHasOneVerdict shape text) where
-  same_given : (one : GatheredApp) (given : Given)
-      → Keeps (most_of one.entry.source) given one.kept → (r s : Result ShapedProgram AppFault)
-      → Comes one r → Comes one s → r ≢ Err app.Memory → s ≢ Err app.Memory → r ≡ s
-  same_given one None kept r s h k other also =
-      unread one kept r h other ∙ sym (unread one kept s k also)
-  same_given one (Some bytes) kept r s h k other also =
-      same_parts one r s h k
-      (same_program judged told one.entry.source bytes one.shape (code_of r) (code_of s)
-      (of_bytes one bytes kept r h) (of_bytes one bytes kept s k) (known r other) (known s also))
+  same_kept : (from : ProgramSource) (kept : KeptFile) (shape : AppShape)
+      (r s : Result ShapedProgram AppFault) → Comes from kept shape r → Comes from kept shape s
+      → r ≢ Err app.Memory → s ≢ Err app.Memory → r ≡ s
+  same_kept from Unread shape r s h k other also =
+      unread from shape r h other ∙ sym (unread from shape s k also)
+  same_kept from (Whole v) shape r s h k other also =
+      same_parts from (Whole v) shape r s h k
+      (same_program judged told from v.items shape (code_of r) (code_of s)
+      (whole_bytes from v shape r h) (whole_bytes from v shape s k) (known r other)
+      (known s also))
+  same_kept from (Longer v count is_text) shape r s h k other also =
+      same_parts from (Longer v count is_text) shape r s h k
+      (same_program judged told from (longer from is_text).0 shape (code_of r) (code_of s)
+      (longer_bytes from v count is_text shape r h)
+      (longer_bytes from v count is_text shape s k) (known r other) (known s also))
 
-  same_one : (one : GatheredApp) → WasGiven one → (p q : ShapedProgram) → IsJudged one p
-      → IsJudged one q → p ≡ q
-  same_one one was p q h k =
+  same_of : (one : GatheredApp) (r s : Result ShapedProgram AppFault)
+      → Comes one.entry.source one.kept one.shape r → Comes one.entry.source one.kept one.shape s
+      → r ≢ Err app.Memory → s ≢ Err app.Memory → r ≡ s
+  same_of one r s = same_kept one.entry.source one.kept one.shape r s
+
+  same_one : (one : GatheredApp) (p q : ShapedProgram) → IsJudged one p → IsJudged one q → p ≡ q
+  same_one one p q h k =
       ap (λ (r : Result ShapedProgram AppFault). program_in r q)
-      (same_given one was.0 was.1 (Ok p) (Ok q) h k (λ e. absurd cc) (λ e. absurd cc))
+      (same_of one (Ok p) (Ok q) (h.shape_is, h.program_is) (k.shape_is, k.program_is)
+      (λ e. absurd cc) (λ e. absurd cc))
 
-  not_refused : (one : GatheredApp) → WasGiven one → (p : ShapedProgram) (fault : AppFault)
-      → IsJudged one p → RefusesGathered one fault → fault ≢ app.Memory → ⊥
-  not_refused one was p fault h k other =
-      let same = same_given one was.0 was.1 (Ok p) (Err fault) h k (λ e. absurd cc)
+  not_refused : (one : GatheredApp) (p : ShapedProgram) (fault : AppFault) → IsJudged one p
+      → RefusesGathered one fault → fault ≢ app.Memory → ⊥
+  not_refused one p fault h k other =
+      let same = same_of one (Ok p) (Err fault) (h.shape_is, h.program_is) k (λ e. absurd cc)
       (λ e. other (ap fault_in e)) in absurd cc
 
-  same_fault : (one : GatheredApp) → WasGiven one → (e f : AppFault) → RefusesGathered one e
+  same_fault : (one : GatheredApp) (e f : AppFault) → RefusesGathered one e
       → RefusesGathered one f → e ≢ app.Memory → f ≢ app.Memory → e ≡ f
-  same_fault one was e f h k other also =
-      ap fault_in (same_given one was.0 was.1 (Err e) (Err f) h k (λ x. other (ap fault_in x))
+  same_fault one e f h k other also =
+      ap fault_in (same_of one (Err e) (Err f) h k (λ x. other (ap fault_in x))
       (λ x. also (ap fault_in x)))
 
   same_programs : (apps : List GatheredApp) (ps qs : List ShapedProgram)
-      → AllByRecursion WasGiven apps → AreJudged apps ps → AreJudged apps qs → ps ≡ qs
-  same_programs [] [] [] was h k = refl
-  same_programs [] [] (q ∷ qs) was h k = elim k [ ]
-  same_programs [] (p ∷ ps) qs was h k = elim h [ ]
-  same_programs (a ∷ apps) [] qs was h k = elim h [ ]
-  same_programs (a ∷ apps) (p ∷ ps) [] was h k = elim k [ ]
-  same_programs (a ∷ apps) (p ∷ ps) (q ∷ qs) was (next_program h hs) (next_program k ks) =
-      let first = same_one a was.0 p q h k in
-      let rest = same_programs apps ps qs was.1 hs ks in cc
+      → AreJudged apps ps → AreJudged apps qs → ps ≡ qs
+  same_programs [] [] [] h k = refl
+  same_programs [] [] (q ∷ qs) h k = elim k [ ]
+  same_programs [] (p ∷ ps) qs h k = elim h [ ]
+  same_programs (a ∷ apps) [] qs h k = elim h [ ]
+  same_programs (a ∷ apps) (p ∷ ps) [] h k = elim k [ ]
+  same_programs (a ∷ apps) (p ∷ ps) (q ∷ qs) (next_program h hs) (next_program k ks) =
+      let first = same_one a p q h k in
+      let rest = same_programs apps ps qs hs ks in cc
 
   same_first : (apps : List GatheredApp) {m n : ℕ} {e f : AppFault}
-      → AllByRecursion WasGiven apps → IsFirstRefused apps m e → IsFirstRefused apps n f
+      → IsFirstRefused apps m e → IsFirstRefused apps n f
       → e ≢ app.Memory → f ≢ app.Memory → (m ≡ n) × (e ≡ f)
-  same_first [] was h k other also = elim h [ ]
-  same_first (a ∷ apps) {e = e} {f = f} was (here h) (here k) other also =
-      (refl, same_fault a was.0 e f h k other also)
-  same_first (a ∷ apps) {e = e} was (here h) (there p k more) other also =
-      absurd (not_refused a was.0 p e k h other)
-  same_first (a ∷ apps) {f = f} was (there p h more) (here k) other also =
-      absurd (not_refused a was.0 p f h k also)
-  same_first (a ∷ apps) was (there p h more) (there q k rest) other also =
-      let same = same_first apps was.1 more rest other also in
+  same_first [] h k other also = elim h [ ]
+  same_first (a ∷ apps) {e = e} {f = f} (here h) (here k) other also =
+      (refl, same_fault a e f h k other also)
+  same_first (a ∷ apps) {e = e} (here h) (there p k more) other also =
+      absurd (not_refused a p e k h other)
+  same_first (a ∷ apps) {f = f} (there p h more) (here k) other also =
+      absurd (not_refused a p f h k also)
+  same_first (a ∷ apps) (there p h more) (there q k rest) other also =
+      let same = same_first apps more rest other also in
       (ap (λ (n : ℕ). suc n) same.0, same.1)
 
   not_both : (apps : List GatheredApp) (ps : List ShapedProgram) {n : ℕ} {e : AppFault}
-      → AllByRecursion WasGiven apps → AreJudged apps ps → IsFirstRefused apps n e
+      → AreJudged apps ps → IsFirstRefused apps n e
       → e ≢ app.Memory → ⊥
-  not_both [] ps was h r other = elim r [ ]
-  not_both (a ∷ apps) [] was h r other = elim h [ ]
-  not_both (a ∷ apps) (p ∷ ps) {e = e} was (next_program h hs) (here k) other =
-      not_refused a was.0 p e h k other
-  not_both (a ∷ apps) (p ∷ ps) was (next_program h hs) (there q k more) other =
-      not_both apps ps was.1 hs more other
+  not_both [] ps h r other = elim r [ ]
+  not_both (a ∷ apps) [] h r other = elim h [ ]
+  not_both (a ∷ apps) (p ∷ ps) {e = e} (next_program h hs) (here k) other =
+      not_refused a p e h k other
+  not_both (a ∷ apps) (p ∷ ps) (next_program h hs) (there q k more) other =
+      not_both apps ps hs more other
 
   -- a judgement by its first fault, if it has one
   data Found (apps : List GatheredApp) : Result (List ShapedProgram) LoadFault → Type 0 where
@@ -157,17 +180,17 @@ module _ (judged : (p : Program) (shape : AppShape) → verify.ProgramHasOneVerd
   found apps (Err (Cells n fault)) h other = absurd h
 
   same_found : (apps : List GatheredApp) {r s : Result (List ShapedProgram) LoadFault}
-      → AllByRecursion WasGiven apps → Found apps r → Found apps s → r ≡ s
-  same_found apps was (programs ps h) (programs qs k) =
-      ap (λ x. Ok x) (same_programs apps ps qs was h k)
-  same_found apps was (programs ps h) (refused n e k other) =
-      absurd (not_both apps ps was h k other)
-  same_found apps was (refused n e h other) (programs ps k) =
-      absurd (not_both apps ps was k h other)
-  same_found apps was (refused m e h other) (refused n f k also) =
-      let same = same_first apps was h k other also in
+      → Found apps r → Found apps s → r ≡ s
+  same_found apps (programs ps h) (programs qs k) =
+      ap (λ x. Ok x) (same_programs apps ps qs h k)
+  same_found apps (programs ps h) (refused n e k other) =
+      absurd (not_both apps ps h k other)
+  same_found apps (refused n e h other) (programs ps k) =
+      absurd (not_both apps ps k h other)
+  same_found apps (refused m e h other) (refused n f k also) =
+      let same = same_first apps h k other also in
       ap (λ (i : ℕ). Err (in_app i e)) same.0 ∙ ap (λ (x : AppFault). Err (in_app n x)) same.1
 
   pub one_judgement : HasOneJudgement
-  one_judgement = λ apps r s was h k other also.
-      same_found apps was (found apps r h other) (found apps s k also)
+  one_judgement = λ apps r s h k other also.
+      same_found apps (found apps r h other) (found apps s k also)

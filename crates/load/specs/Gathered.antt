@@ -1,5 +1,6 @@
 -- What is gathered of a manifest and its files before any app is judged.
 use Rattle.std.specs.Prelude.{◌≡◌, ℕ, ◌+◌, ◌^◌, ◌<◌, ◌≤◌, List, [], ◌∷◌, length, Ok}
+use Rattle.std.specs.List.{count_by}
 use Rattle.bounded_files.specs.Files.{KnownFiles}
 use Rattle.cells.specs.Directory.{Declaration}
 use Rattle.cells.specs.declared.array.ArrayNo.{ArrayNo}
@@ -18,7 +19,7 @@ use Rattle.load.specs.declared.gathering.Gathered.{Gathered}
 use Rattle.load.specs.declared.gathering.GatheredApp.{GatheredApp}
 use Rattle.load.specs.declared.gathering.Ungathered.{Ungathered}
 use Rattle.load.specs.App.{IsShapeOf}
-use Rattle.load.specs.Kept.{IsKeptFrom, long_count}
+use Rattle.load.specs.Kept.{IsKeptFrom, is_unread, long_count}
 use Rattle.load.specs.Load.{IsLoadFault}
 
 -- past so many bytes of files that are too long no further file is read: 64 MiB
@@ -49,6 +50,10 @@ module _ (known : KnownFiles) (directory : List CellArray) (numbers : List Array
         {app : GatheredApp} {unread : ℕ} → long ≤ most_long → IsGatheredApp entry app
         → AreTaken (long + long_count app.kept) entries apps unread
         → AreTaken long (entry ∷ entries) (app ∷ apps) unread
+
+-- how many files of these apps couldn't be read
+abbrev pub failures_in : List GatheredApp → ℕ
+failures_in apps = count_by (λ app. is_unread app.kept) apps
 
 -- its shape has as many releases as it has
 abbrev pub HasItsReleases : GatheredApp → Type 0
@@ -82,7 +87,7 @@ abbrev pub IsParsedBeside : List ℕ → LoadFault → Parsed → Type 0
 IsParsedBeside bytes (NoManifest fault) parsed = IsParsed bytes fault parsed
 IsParsedBeside bytes fault parsed = parsed ≡ Nothing
 
--- why no file is asked for, whatever it would give
+-- why nothing is gathered, whatever the files would give
 pub record IsUngathered (old : List CellArray) (bytes : List ℕ) (u : Ungathered) : Type 0 where
   pub fault_is : (known : KnownFiles) → IsLoadFault known old bytes u.fault
   pub arrays_are : AreArraysOf bytes u.arrays.items

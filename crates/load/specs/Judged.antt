@@ -1,5 +1,5 @@
 -- What apps that were gathered come to, by what is kept of their files alone.
-use Rattle.std.specs.Prelude.{◌≡◌, ℕ, suc, List, [], ◌∷◌, All}
+use Rattle.std.specs.Prelude.{◌≡◌, ◌<◌, ℕ, suc, List, [], ◌∷◌, All}
 use Rattle.bounded_files.specs.Files.{KnownFiles}
 use Rattle.bpf_semantics.specs.Program.{ShapedProgram}
 use Rattle.cells.specs.declared.array.ArrayNo.{ArrayNo}
@@ -14,21 +14,18 @@ use Rattle.load.specs.declared.gathering.Gathered.{Gathered}
 use Rattle.load.specs.declared.gathering.GatheredApp.{GatheredApp}
 use Rattle.load.specs.App.{IsAppOf, RefusesApp}
 use Rattle.load.specs.Gathered.{AreGathered, HasItsReleases, IsGathered, IsGatheredApp}
-use Rattle.load.specs.Kept.{Keeps, most_of}
+use Rattle.load.specs.Gathered.{failures_in}
+use Rattle.load.specs.Kept.{IsProgramKept, RefusesKept}
 use Rattle.load.specs.Load.{IsLoadFault, IsRulesetOf}
-use Rattle.load.specs.Source.{Given, IsProgramGiven, RefusesGiven}
 
--- the program of an app, whatever its file gave of which this is kept
+-- the program of an app: that of what is kept of its file
 pub record IsJudged (app : GatheredApp) (program : ShapedProgram) : Type 0 where
   pub shape_is : program.shape ≡ app.shape
-  pub program_is : (given : Given) → Keeps (most_of app.entry.source) given app.kept
-      → IsProgramGiven app.entry.source given program
+  pub program_is : IsProgramKept app.entry.source app.kept program
 
 -- why it has none
 abbrev pub RefusesGathered : GatheredApp → AppFault → Type 0
-RefusesGathered app fault =
-    (given : Given) → Keeps (most_of app.entry.source) given app.kept
-    → RefusesGiven app.entry.source given app.shape fault
+RefusesGathered app fault = RefusesKept app.entry.source app.kept app.shape fault
 
 -- each app has its own
 pub data AreJudged : List GatheredApp → List ShapedProgram → Type 0 where
@@ -85,6 +82,9 @@ pub record IsLoadOf (known : KnownFiles) (old : List CellArray) (bytes : List �
       (record { server = is.manifest.server; apps = apps_of g.apps.items programs }) g.directory
   pub refused : (fault : LoadFault) → RefusesFirst g.apps.items fault
       → IsLoadFault known old bytes fault
+  -- a file is the fault only where one couldn't be read
+  pub failed : (number : ℕ) → RefusesFirst g.apps.items (File number)
+      → 0 < failures_in g.apps.items
 
 pub record GatheredIsLoaded : Type 0 where
   pub app : (known : KnownFiles) (directory : List CellArray) (numbers : List ArrayNo)

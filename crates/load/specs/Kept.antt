@@ -1,16 +1,18 @@
 -- What is kept of a file that an app names: enough to judge it, whatever its length.
 use Rattle.std.specs.Prelude.{◌≡◌, ◌≢◌, ◌↔◌, ℕ, ◌+◌, ◌<◌, List, length}
-use Rattle.std.specs.Prelude.{Bool, Some, None, Result, Ok, Err, IsTrue, IsUtf8}
+use Rattle.std.specs.Prelude.{Bool, true, false, Some, None, Result, Ok, Err, IsTrue, IsUtf8}
 use Rattle.bounded_files.specs.Files.{KnownFiles, Gives}
 use Rattle.bounded_files.specs.Kept.{IsKeptOf}
 use Rattle.bounded_files.specs.declared.kept.KeptBytes.TheVariants as kept
+use Rattle.bpf_semantics.specs.Program.{ShapedProgram}
+use Rattle.cells.specs.Arrays.{AppShape}
 use Rattle.manifest.specs.declared.app.ProgramSource.{ProgramSource}
 use Rattle.manifest.specs.declared.app.ProgramSource.TheVariants as source
 use Rattle.load.specs.declared.fault.AppFault.{AppFault}
 use Rattle.load.specs.declared.fault.AppFault.TheVariants as app
 use Rattle.load.specs.declared.kept.KeptFile.{KeptFile}
 use Rattle.load.specs.declared.kept.KeptFile.TheVariants.{Unread, Whole, Longer}
-use Rattle.load.specs.Source.{Given, file_of}
+use Rattle.load.specs.Source.{Given, IsProgramFrom, RefusesFile, file_of}
 
 -- how many bytes a program, and the text of a rule, have at most
 abbrev pub most_of : ProgramSource → ℕ
@@ -35,10 +37,30 @@ IsKeptFrom known from kept =
 abbrev pub IsLonger : ProgramSource → Bool → List ℕ → Type 0
 IsLonger from is_text bytes = (most_of from < length bytes) × (IsTrue is_text ↔ IsUtf8 bytes)
 
+-- the program of what is kept: that of all bytes of the file
+abbrev pub IsProgramKept : ProgramSource → KeptFile → ShapedProgram → Type 0
+IsProgramKept from (Whole v) p = IsProgramFrom from v.items p
+IsProgramKept from kept p = ⊥
+
+-- why there is none: the file couldn't be read; or its bytes have this fault; or it is longer than
+-- it may be, and all such bytes have it; of want of memory nothing is said
+abbrev pub RefusesKept : ProgramSource → KeptFile → AppShape → AppFault → Type 0
+RefusesKept from Unread shape app.File = Unit {0}
+RefusesKept from Unread shape app.Memory = Unit {0}
+RefusesKept from Unread shape fault = ⊥
+RefusesKept from (Whole v) shape fault = RefusesFile from v.items shape fault
+RefusesKept from (Longer v count is_text) shape fault =
+    (bytes : List ℕ) → IsLonger from is_text bytes → RefusesFile from bytes shape fault
+
 -- how many bytes a file has, if they are more than it may have; else 0
 abbrev pub long_count : KeptFile → ℕ
 long_count (Longer v count is_text) = count
 long_count kept = 0
+
+-- nothing is kept, since the file couldn't be read
+abbrev pub is_unread : KeptFile → Bool
+is_unread Unread = true
+is_unread kept = false
 
 -- a file that couldn't be read is counted
 abbrev pub CountsFile : ℕ → ℕ → KeptFile → Type 0

@@ -1,6 +1,5 @@
 -- A manifest has one load, and what is gathered of one has one judgement.
 use Rattle.std.specs.Prelude.{◌≡◌, ◌≢◌, ℕ, List, Option, Some, Result, Ok, Err}
-use Rattle.std.specs.List.{AllByRecursion}
 use Rattle.bounded_files.specs.Files.{KnownFile}
 use Rattle.bpf_semantics.specs.Program.{ShapedProgram}
 use Rattle.cells.specs.Directory.{IsDirectory}
@@ -13,10 +12,8 @@ use Rattle.load.specs.declared.fault.PathFault.TheVariants as path
 use Rattle.bounded_files.specs.declared.fault.ResourceFault.TheVariants as resource
 use Rattle.load.specs.declared.gathering.GatheredApp.{GatheredApp}
 use Rattle.load.specs.Judged.{AreJudged, RefusesFirst}
-use Rattle.load.specs.Kept.{Keeps, most_of}
 use Rattle.load.specs.Load.{Loads}
 use Rattle.load.specs.Loaded.{LoadsFrom}
-use Rattle.load.specs.Source.{Given}
 
 -- of files that tell their bytes, one directory and one manifest have one load, want of memory
 -- aside: one ruleset, or one fault, and one directory after it
@@ -26,19 +23,14 @@ HasOneLoad = (files : List ℕ → Option KnownFile) (old : List CellArray) (byt
     → Loads (Some files) old bytes r new → Loads (Some files) old bytes s last
     → r ≢ Err Memory → s ≢ Err Memory → (r ≡ s) × (new ≡ last)
 
--- what is gathered of apps, of files that gave something, has one judgement: one program each, or
--- one first fault
+-- what is gathered of apps has one judgement: one program each, or one first fault
 abbrev pub Judges : List GatheredApp → Result (List ShapedProgram) LoadFault → Type 0
 Judges apps (Ok programs) = AreJudged apps programs
 Judges apps (Err fault) = RefusesFirst apps fault
 
-abbrev pub WasGiven : GatheredApp → Type 0
-WasGiven app = (given : Given) × Keeps (most_of app.entry.source) given app.kept
-
 abbrev pub HasOneJudgement : Type 0
 HasOneJudgement = (apps : List GatheredApp) (r s : Result (List ShapedProgram) LoadFault)
-    → AllByRecursion WasGiven apps → Judges apps r → Judges apps s
-    → r ≢ Err Memory → s ≢ Err Memory → r ≡ s
+    → Judges apps r → Judges apps s → r ≢ Err Memory → s ≢ Err Memory → r ≡ s
 
 -- no growth was refused for it
 abbrev pub IsUntroubled : Result (Rules × List CellArray) PathFault → Type 0

@@ -43,18 +43,7 @@ RefusesFile (source.Rule file) bytes shape fault = RefusesText bytes shape fault
 abbrev pub Given : Type 0
 Given = Option (List ℕ)
 
--- the program that it gives, and why it gives none
-abbrev pub IsProgramGiven : ProgramSource → Given → ShapedProgram → Type 0
-IsProgramGiven from None p = ⊥
-IsProgramGiven from (Some bytes) p = IsProgramFrom from bytes p
-
-abbrev pub RefusesGiven : ProgramSource → Given → AppShape → AppFault → Type 0
-RefusesGiven from None shape app.File = Unit {0}
-RefusesGiven from None shape app.Memory = Unit {0}
-RefusesGiven from None shape fault = ⊥
-RefusesGiven from (Some bytes) shape fault = RefusesFile from bytes shape fault
-
--- the same of the file to which an app's name leads
+-- the program of the file to which an app's name leads
 abbrev pub IsProgramIn : KnownFiles → ProgramSource → ShapedProgram → Type 0
 IsProgramIn known from p =
     (bytes : List ℕ) × Gives known (file_of from) (Some bytes) × IsProgramFrom from bytes p

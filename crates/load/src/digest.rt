@@ -1,19 +1,26 @@
 //! The digest of a manifest and of its apps' files: whether what a server serves is what lies in a
 //! folder is one comparison.
 
-ghost use Rattle.std.specs.Prelude.{◌≡◌, ◌++◌, ℕ, List};
+ghost use Rattle.std.specs.Prelude.{◌≡◌, ◌++◌, ℕ, List, Some};
+ghost use Rattle.std.specs.Option.{IsSome};
+ghost use Rattle.bpf_semantics.specs.Program.{ShapedProgram};
 ghost use Rattle.sha2.specs.Hashers.{Holds256};
 ghost use Rattle.load.specs.Digest as specs;
+ghost use Rattle.load.specs.Judged.{AreJudged};
 
 use crate::gathering::GatheredApp;
 use crate::kept::KeptFile;
+use bpf_verify::Verified;
 use sha2::{Digest, Sha256};
 
 /// SHA-256 (FIPS 180-4) of a manifest's bytes, and of the bytes of its apps' files in their order,
 /// each piece behind its length in 8 bytes, of which the high one is the first. None where not all
-/// bytes of a file are kept; then some app has no program.
+/// bytes of a file are kept.
 pub fn digest_of(manifest: &[u8], apps: &[GatheredApp]) -> Option<[u8; 32]>
-    ensures { result ≡ specs.digest_of manifest.now apps.now }
+    ensures digest { result ≡ specs.digest_of manifest.now apps.now }
+    // Where each app has its program all are.
+    ensures judged { (programs : List ShapedProgram) → AreJudged apps.now programs
+        → IsSome result }
 {
     let mut hasher = Sha256::new();
     add_piece(&mut hasher, manifest);
@@ -26,6 +33,18 @@ pub fn digest_of(manifest: &[u8], apps: &[GatheredApp]) -> Option<[u8; 32]>
         left = others;
     }
     Some(hasher.finalize())
+}
+
+/// The same of apps that have these programs.
+pub fn judged_digest(manifest: &[u8], apps: &[GatheredApp], programs: &[Verified]) -> [u8; 32]
+    requires { AreJudged apps.now programs.now }
+    ensures { specs.digest_of manifest.now apps.now ≡ Some result }
+{
+    let _judged = programs;
+    match digest_of(manifest, apps) {
+        Some(digest) => digest,
+        None => unreachable!(),
+    }
 }
 
 // Adds a piece to the message.

@@ -1,12 +1,13 @@
 //! All that is taken of a manifest and its files, gathered before any app is judged.
 
-ghost use Rattle.std.specs.Prelude.{◌≡◌, ◌^◌, ◌-◌, ◌<◌, ℕ, List, length};
+ghost use Rattle.std.specs.Prelude.{◌≡◌, ◌^◌, ◌+◌, ◌-◌, ◌<◌, ℕ, List, length};
 ghost use Rattle.std.specs.Prelude.{All, IsTrue, IfOk, IfErr, Ok};
 ghost use mathlib.Core.List.{IsPrefix};
 ghost use Rattle.cells.specs.declared.array.CellArray.{CellArray};
 ghost use Rattle.load.specs.Gathered.{AreArraysOf, AreTaken, IsGathered, IsGatheredApp};
-ghost use Rattle.load.specs.Gathered.{IsUngathered};
+ghost use Rattle.load.specs.Gathered.{IsUngathered, failures_in};
 ghost use Rattle.load.specs.Gathered as specs;
+ghost use Rattle.load.specs.Kept.{CountsFile};
 ghost use Rattle.manifest.specs.Manifest.{ReadsManifest};
 ghost use Rattle.manifest.specs.Parsed.{IsRefused};
 
@@ -26,8 +27,8 @@ use std::alloc::{AllocError, Global};
 /// is read: 64 MiB.
 const MOST_LONG: u128 = 0x400_0000;
 
-/// An app of a manifest, its shape, what is kept of its file, and whether that was behind a
-/// symbolic link when it was read.
+/// An app of a manifest, its shape, what is kept of its file, and whether that lay behind a
+/// symbolic link when it was about to be read.
 #[derive(Drop)]
 pub struct GatheredApp {
     pub entry: AppEntry,
@@ -57,8 +58,9 @@ struct ReadApps {
     unread: usize,
 }
 
-/// Why no files are asked for, M1 to M3, M7 or M8; the arrays of the manifest if it was read, and
-/// what its bytes were parsed as if they are none.
+/// Why nothing is gathered: M1 to M3 and M7, of which no file is asked for, or M8, also where some
+/// were read; the arrays of the manifest if it was read, and what its bytes were parsed as if they
+/// are none.
 #[derive(Drop)]
 pub struct Ungathered {
     pub fault: LoadFault,
@@ -67,8 +69,8 @@ pub struct Ungathered {
 }
 
 /// Gathers a manifest and its files, each of which is read once, and none behind more than 64 MiB
-/// of files that are longer than they may be. M8 comes, too, where as many files
-/// couldn't be read as can be counted.
+/// of files that are longer than they may be. M8 comes, too, where as many files couldn't be read
+/// as can be counted.
 pub fn gather<F: Files>(
     alloc: Global,
     manifest: &[u8],
@@ -78,6 +80,9 @@ pub fn gather<F: Files>(
     ensures known { F.known files.new ≡ F.known files.old }
     ensures gathered { IfOk result (IsGathered (F.known files.old) directory.now manifest.now) }
     ensures grown { IfOk result (λ g. IsPrefix directory.now g.directory) }
+    // A file that couldn't be read is counted, and no other.
+    ensures count { IfOk result (λ g.
+        F.failed files.new ≡ F.failed files.old + failures_in g.apps.items) }
     ensures fault { IfErr result (IsUngathered directory.now manifest.now) }
 {
     let manifest = match parse(alloc, manifest) {
@@ -172,6 +177,8 @@ fn gather_apps<F: Files>(
     ensures apps { IfOk result (λ read.
         AreTaken (F.known files.old) directory.now numbers.now 0 entries.items read.apps.items
         read.unread) }
+    ensures count { IfOk result (λ read.
+        F.failed files.new ≡ F.failed files.old + failures_in read.apps.items) }
 {
     let count = entries.len();
     let mut apps = Vec::new(alloc);
@@ -199,6 +206,8 @@ fn gather_app<F: Files>(
     ensures known { F.known files.new ≡ F.known files.old }
     ensures app { IfOk result
         (IsGatheredApp (F.known files.old) directory.now numbers.now entry) }
+    ensures count { IfOk result (λ app.
+        CountsFile (F.failed files.old) (F.failed files.new) app.kept) }
 {
     if !can_count(files) {
         return Err(AllocError);

@@ -5,9 +5,8 @@ ghost use Rattle.std.specs.Prelude.{IsTrue, IsUtf8};
 ghost use Rattle.acceptance.specs.Program.{IsProgramOf};
 ghost use Rattle.acceptance.specs.Rule.{IsProgramOfRule};
 ghost use Rattle.cells.specs.Arrays.{AppShape};
-ghost use Rattle.load.specs.Kept.{FailsIfUnread, IsLonger, Keeps, most_of};
-ghost use Rattle.load.specs.Source.{Given, IsProgramFrom, IsProgramGiven, RefusesBytes};
-ghost use Rattle.load.specs.Source.{RefusesFile, RefusesGiven, RefusesText};
+ghost use Rattle.load.specs.Kept.{FailsIfUnread, IsLonger, IsProgramKept, RefusesKept};
+ghost use Rattle.load.specs.Source.{IsProgramFrom, RefusesBytes, RefusesFile, RefusesText};
 
 use crate::fault::AppFault;
 use crate::kept::KeptFile;
@@ -20,8 +19,8 @@ use rule_lang::{RuleFault, RuleFaultKind};
 use std::alloc::Global;
 
 /// The program of an app, by what is kept of its file: M4 where it couldn't be read, M5 where its
-/// bytes are no program, M6 where its text is no rule, and M8 where memory is refused. Whatever the
-/// file gave of which this is kept, that is what it comes to.
+/// bytes are no program, M6 where its text is no rule, and M8 where memory is refused. So it is of
+/// any bytes of which this is kept.
 pub fn judge_file(
     alloc: Global,
     source: &ProgramSource,
@@ -29,11 +28,8 @@ pub fn judge_file(
     shape: &Shape,
 ) -> Result<Verified, AppFault>
     ensures shape { IfOk result (λ program. program.shape ≡ shape.now) }
-    ensures program { IfOk result (λ program. (given : Given)
-        → Keeps (most_of source.now) given kept.now → IsProgramGiven source.now given program) }
-    ensures fault { IfErr result (λ fault. (given : Given)
-        → Keeps (most_of source.now) given kept.now
-        → RefusesGiven source.now given shape.now fault) }
+    ensures program { IfOk result (IsProgramKept source.now kept.now) }
+    ensures fault { IfErr result (RefusesKept source.now kept.now shape.now) }
     ensures unread { FailsIfUnread kept.now result }
 {
     match kept {

@@ -9,8 +9,8 @@
 // What was gathered is judged in the order of the apps (`programs.rt`), as often as one likes, and
 // no file is read again: each is taken as a program and verified, or as the text of a rule and
 // compiled (`judging.rt`), and the first fault counts. Where all apps have their programs a ruleset
-// is made of them, with the digest of the very bytes that were judged (`made.rt`, `digest.rt`). Only
-// then is the directory exchanged for the copy, so a load that is refused declares nothing.
+// is made of them, with the digest of the very bytes that were judged (`made.rt`, `digest.rt`).
+// Only then is the directory exchanged for the copy, so a load that is refused declares nothing.
 //
 // `load_over` comes to the same ruleset or fault, app by app (`apps.rt`): it keeps no file longer
 // than it takes to judge it, and reads none behind the first that is refused.
@@ -42,7 +42,7 @@ mod refusal;
 
 pub use apps::in_app;
 pub use bounded_files::{Device, Disk};
-pub use digest::digest_of;
+pub use digest::{digest_of, judged_digest};
 pub use fault::{AppFault, LoadFault, PathFault};
 pub use files::Files;
 pub use folder::FolderFiles;

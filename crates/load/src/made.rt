@@ -7,7 +7,7 @@ ghost use Rattle.load.specs.Judged.{AreJudged, RefusesFirst, apps_of};
 ghost use Rattle.load.specs.Made.{IsMadeOf};
 ghost use Rattle.ruleset.specs.Rules.{HasTwice, appids_of};
 
-use crate::digest::digest_of;
+use crate::digest::judged_digest;
 use crate::fault::LoadFault;
 use crate::gathering::Gathered;
 use crate::programs::{judge, supply};
@@ -24,8 +24,8 @@ pub struct MadeRuleset {
     pub digest: [u8; 32],
 }
 
-/// The ruleset of what was gathered of a manifest of these bytes, or the fault of the first app that
-/// has no program.
+/// The ruleset of what was gathered of a manifest of these bytes, or the fault of the first app
+/// that has no program.
 // open: whether memory is refused (M8).
 pub fn make_ruleset(
     alloc: Global,
@@ -39,9 +39,7 @@ pub fn make_ruleset(
     ensures fault { IfErr result (RefusesFirst gathered.apps.items) }
 {
     let programs = judge(alloc, &gathered.apps)?;
-    let Some(digest) = digest_of(manifest, &gathered.apps) else {
-        return Err(LoadFault::Memory);
-    };
+    let digest = judged_digest(manifest, &gathered.apps, &programs);
     let Gathered {
         server,
         arrays: _arrays,

@@ -79,8 +79,8 @@ pub fn load_told<D: Disk>(
     }
 }
 
-/// The bytes of the manifest at a path, at most 1048576: M1 where it has more, and B3 where it is no
-/// regular file, or can't be read.
+/// The bytes of the manifest at a path, at most 1048576: M1 where it has more, and B3 where it is
+/// no regular file, or can't be read.
 // open: whether memory is refused (B4); what a device's files give.
 pub fn manifest_bytes<D: Disk>(disk: &D, path: &str) -> Result<Vec<u8>, PathFault>
     ensures given { IfOk result

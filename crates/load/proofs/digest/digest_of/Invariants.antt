@@ -1,4 +1,4 @@
-use Rattle.std.proofs.Common.{◌≡◌, length}
+use Rattle.std.proofs.Common.{length}
 use Rattle.load.specs.Digest.{digest_of}
 use Rattle.load.proofs.Framing.{GoesOn}
 use Rattle.load.proofs.digest.digest_of.Given as goal

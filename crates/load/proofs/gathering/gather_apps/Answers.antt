@@ -1,4 +1,5 @@
 use Rattle.std.proofs.Common.{◌∙◌, length, length-append, refl, sym, ap, arith, rules}
+use Rattle.load.proofs.Failing.{failed_more, none_failed}
 use Rattle.load.proofs.Gathers.{read_all, read_enough, read_more, read_none}
 use Rattle.load.proofs.Slices.{none_left}
 use Rattle.load.proofs.gathering.gather_apps.Goals as goal
@@ -11,6 +12,7 @@ loop-entry-init g c =
       read_none _ _ _ _ _ _ gives.0 empty,
       omega (arith, c.len-count.ensures, c.args.entries.ok.0, ap length gives.0, ap length empty),
       gives.1 ∙ c.args.entries.ok.0 ∙ ap length (sym gives.0),
+      none_failed _ _ empty,
     )
 
 pub returns-then-long-gt-MOST_LONG-clause-known : goal.returns-then-long-gt-MOST_LONG-clause-known
@@ -20,6 +22,9 @@ pub returns-then-long-gt-MOST_LONG-clause-apps : goal.returns-then-long-gt-MOST_
 returns-then-long-gt-MOST_LONG-clause-apps g c =
     let i = c.loop-entry.invariant in
     read_enough _ _ _ _ _ _ _ i.1 _ c.if-long-gt-MOST_LONG.true (search rules)
+
+pub returns-then-long-gt-MOST_LONG-clause-count : goal.returns-then-long-gt-MOST_LONG-clause-count
+returns-then-long-gt-MOST_LONG-clause-count g c = c.loop-entry.invariant.4
 
 pub loop-entry-preserved : goal.loop-entry-preserved
 loop-entry-preserved g c =
@@ -32,6 +37,7 @@ loop-entry-preserved g c =
           (omega (arith, c.long_count-long.ensures.count)),
       omega (arith, i.2, ap length left, ap length more ∙ length-append c.loop-entry.apps.items _),
       search rules,
+      failed_more _ _ _ _ _ c.in_ok-app.app i.4 c.in_ok-app.ensures.count more,
     )
 
 pub returns-clause-known : goal.returns-clause-known
@@ -42,3 +48,6 @@ returns-clause-apps g c =
     let i = c.loop-entry.invariant in
     read_all _ _ _ _ _ _ _ i.1
     (none_left _ (omega (arith, i.3, c.in-None.ensures.steps.0)))
+
+pub returns-clause-count : goal.returns-clause-count
+returns-clause-count g c = c.loop-entry.invariant.4

@@ -1,9 +1,11 @@
 use Rattle.std.proofs.Common.{◌≡◌, ◌+◌, length}
 use Rattle.std.specs.Vec.Iter.{into_iter_items, into_iter_len}
+use Rattle.load.specs.Gathered.{failures_in}
 use Rattle.load.proofs.Gathers.{ReadsOn}
 use Rattle.load.proofs.gathering.gather_apps.Given as goal
 
--- whatever is read of the entries that are left, behind the apps so far, is read of all
+-- whatever is read of the entries that are left, behind the apps so far, is read of all; and the
+-- files that couldn't be read are counted
 abbrev pub invariant-loop-entry : goal.invariant-loop-entry
 invariant-loop-entry g l =
     (g.F.Files.known l.files ≡ g.F.Files.known l.fn.files)
@@ -11,3 +13,4 @@ invariant-loop-entry g l =
     l.long (into_iter_items l.entry-iterator)
     × (l.count ≡ length l.apps.items + length (into_iter_items l.entry-iterator))
     × (into_iter_len l.entry-iterator ≡ length (into_iter_items l.entry-iterator))
+    × (g.F.Files.failed l.files ≡ g.F.Files.failed l.fn.files + failures_in l.apps.items)

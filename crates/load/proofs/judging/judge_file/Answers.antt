@@ -5,24 +5,24 @@ use Rattle.load.proofs.judging.judge_file.Goals as goal
 
 pub returns-in-Unread-clause-fault : goal.returns-in-Unread-clause-fault
 returns-in-Unread-clause-fault c =
-    unread_fault c.args.source.now _ c.args.kept.now c.args.shape.now c.in-Unread.is
+    unread_fault c.args.source.now c.args.kept.now c.args.shape.now c.in-Unread.is
 
 pub returns-in-Unread-clause-unread : goal.returns-in-Unread-clause-unread
 returns-in-Unread-clause-unread c = rw c.in-Unread.is refl
 
 pub returns-in-Whole-clause-program : goal.returns-in-Whole-clause-program
 returns-in-Whole-clause-program c =
-    whole_program c.args.source.now _ c.args.kept.now _ _ c.in-Whole.is c.as_slice.ensures.value
+    whole_program c.args.source.now c.args.kept.now _ _ c.in-Whole.is c.as_slice.ensures.value
     c.judge_bytes.result c.judge_bytes.ensures.program
 
 pub returns-in-Whole-clause-fault : goal.returns-in-Whole-clause-fault
 returns-in-Whole-clause-fault c =
-    whole_fault c.args.source.now _ c.args.kept.now _ _ c.in-Whole.is c.as_slice.ensures.value
+    whole_fault c.args.source.now c.args.kept.now _ _ c.in-Whole.is c.as_slice.ensures.value
     c.args.shape.now c.judge_bytes.result c.judge_bytes.ensures.fault
 
 pub returns-in-Whole-clause-unread : goal.returns-in-Whole-clause-unread
 returns-in-Whole-clause-unread c =
-    whole_read c.args.source.now 0 c.args.kept.now _ _ c.in-Whole.is c.as_slice.ensures.value
+    whole_read c.args.source.now c.args.kept.now _ _ c.in-Whole.is c.as_slice.ensures.value
     c.args.shape.now c.judge_bytes.result c.judge_bytes.ensures.fault
 
 pub returns-in-Longer-clause-fault : goal.returns-in-Longer-clause-fault

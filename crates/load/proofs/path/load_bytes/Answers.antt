@@ -1,4 +1,4 @@
-use Rattle.std.proofs.Common.{rules, ℕ, List, sym, ◌∙◌, subst}
+use Rattle.std.proofs.Common.{rules, List, sym, ◌∙◌, subst}
 use Rattle.cells.specs.Directory.{IsDirectory}
 use Rattle.cells.specs.declared.array.CellArray.{CellArray}
 use Rattle.load.specs.Folder.{known_beside}
